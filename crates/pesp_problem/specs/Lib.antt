@@ -1,0 +1,9 @@
+pub mod Sums
+pub mod Timetables
+pub mod Limits
+pub mod Arcs
+pub mod Walks
+pub mod Nodes
+pub mod Forests
+pub mod Families
+pub mod Scores

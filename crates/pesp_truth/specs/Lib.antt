@@ -1,0 +1,4 @@
+pub mod Trees
+pub mod Paths
+pub mod Truth
+pub mod Certificates

@@ -1,0 +1,80 @@
+-- Trees of leaves and cuts, when they are sound, and their lines in preorder.
+use Rattle.std.specs.Prelude.{ℕ, zero, suc, ◌-◌, List, [], ◌∷◌, ◌++◌, length, ℤ, pos, ◌≤ℤ◌, ◌<ℤ◌, All, Option, Some, None, IsNone, IsSomeAnd, Bool, true, false}
+use Rattle.pesp_problem.specs.declared.row.SignedRow.{SignedRow}
+use Rattle.pesp_problem.specs.declared.pair.Pair.{Pair}
+use Rattle.pesp_problem.specs.declared.cut.Cut.{Cut}
+use Rattle.pesp_problem.specs.declared.cut.Cut.TheVariants.{Slack, Offset}
+use Rattle.pesp_problem.specs.Arcs.{Net}
+use Rattle.pesp_problem.specs.Walks.{Names}
+use Rattle.pesp_problem.specs.Nodes.{Node, leaf_value, offsets_left, low_part, high_part}
+
+-- the end of a way through a tree: a bound by pairs, pairs that show that nothing lies there, or a cycle with no offset left
+pub data Leaf : Type 0 where
+  Bound : List Pair → Leaf
+  Nothing : List Pair → Leaf
+  Gap : ℕ → Leaf
+
+-- a branch has the part of 'at most k' first
+pub data Tree : Type 0 where
+  Ends : Leaf → Tree
+  Branch : Cut → Tree → Tree → Tree
+
+-- a line of a tree in preorder
+pub data Line : Type 0 where
+  EndLine : Leaf → Line
+  CutLine : Cut → Line
+
+-- a branch's cut, then its first part, then its second part
+abbrev pub preorder : Tree → List Line
+preorder (Ends leaf) = EndLine leaf ∷ []
+preorder (Branch cut low high) = CutLine cut ∷ (preorder low ++ preorder high)
+
+-- the row or the cycle of the cut exists
+abbrev pub CutExists : Net → List (List SignedRow) → Cut → Type 0
+CutExists n table (Slack row k) = Names (length n.arcs) row
+CutExists n table (Offset cycle k) = Names (length table) cycle
+
+-- the cycles of the pairs exist
+abbrev pub PairsExist : List (List SignedRow) → List Pair → Type 0
+PairsExist table pairs = All (λ pair. Names (length table) pair.cycle) pairs
+
+-- there is a value and it is at least the least cost wanted; where none is wanted no value is enough
+abbrev pub IsAtLeast : Option ℤ → Option ℕ → Type 0
+IsAtLeast value None = ⊥
+IsAtLeast value (Some least) = IsSomeAnd value (λ v. pos least ≤ℤ v)
+
+-- the leaf is sound at a node for a least cost; where none is wanted, it shows that no timetable lies in the node
+abbrev pub IsSoundLeaf : Net → List (List SignedRow) → Option ℕ → Leaf → Node → Type 0
+IsSoundLeaf n table least (Bound pairs) node = PairsExist table pairs × IsAtLeast (leaf_value n table node pairs true) least
+IsSoundLeaf n table least (Nothing pairs) node = PairsExist table pairs × IsSomeAnd (leaf_value n table node pairs false) (λ v. pos 0 <ℤ v)
+IsSoundLeaf n table least (Gap cycle) node = Names (length table) cycle × IsNone (offsets_left n table node (cycle - 1))
+
+-- each leaf is sound at its node, and what the branches cut exists
+abbrev pub IsSound : Net → List (List SignedRow) → Option ℕ → Tree → Node → Type 0
+IsSound n table least (Ends leaf) node = IsSoundLeaf n table least leaf node
+IsSound n table least (Branch cut low high) node = CutExists n table cut × IsSound n table least low (low_part node cut) × IsSound n table least high (high_part node cut)
+
+-- no leaf of the tree is a bound leaf
+abbrev pub HasNoBound : Tree → Type 0
+HasNoBound (Ends (Bound pairs)) = ⊥
+HasNoBound (Ends (Nothing pairs)) = Unit {0}
+HasNoBound (Ends (Gap cycle)) = Unit {0}
+HasNoBound (Branch cut low high) = HasNoBound low × HasNoBound high
+
+-- ---- the same over lines
+
+-- the lines are one sound tree after the other, one for each of the nodes that wait, in order
+abbrev pub AreSound : Net → List (List SignedRow) → Option ℕ → List Line → List Node → Type 0
+AreSound n table least [] [] = Unit {0}
+AreSound n table least [] (node ∷ nodes) = ⊥
+AreSound n table least (line ∷ lines) [] = ⊥
+AreSound n table least (EndLine leaf ∷ lines) (node ∷ nodes) = IsSoundLeaf n table least leaf node × AreSound n table least lines nodes
+AreSound n table least (CutLine cut ∷ lines) (node ∷ nodes) = CutExists n table cut × AreSound n table least lines (low_part node cut ∷ high_part node cut ∷ nodes)
+
+-- the lines are this many whole trees, one after the other
+abbrev pub are_trees : ℕ → List Line → Bool
+are_trees zero [] = true
+are_trees zero (line ∷ lines) = false
+are_trees (suc n) [] = false
+are_trees (suc n) (EndLine leaf ∷ lines) = are_trees n lines
+are_trees (suc n) (CutLine cut ∷ lines) = are_trees (suc (suc n)) lines

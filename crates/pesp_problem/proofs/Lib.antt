@@ -1,1 +1,6 @@
 pub mod Judging
+pub mod Integers
+pub mod Walks
+pub mod Arcs
+pub mod Nodes
+pub mod Offsets

@@ -1,0 +1,5 @@
+pub mod Trees
+pub mod Lines
+pub mod NoBound
+pub mod Paths
+pub mod Certificates

@@ -3,3 +3,4 @@ pub mod Lines
 pub mod NoBound
 pub mod Paths
 pub mod Certificates
+pub mod Opening

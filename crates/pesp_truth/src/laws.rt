@@ -9,7 +9,7 @@ ghost use Rattle.pesp_problem.specs.declared.cut.Side.TheVariants.{Low, High};
 ghost use Rattle.pesp_problem.specs.Timetables.{Pesp};
 ghost use Rattle.pesp_problem.specs.Arcs.{Net};
 ghost use Rattle.pesp_problem.specs.Nodes.{Node, high_part};
-ghost use Rattle.pesp_truth.specs.Trees.{Tree, Line, preorder, IsSound, AreSound, HasNoBound, are_trees};
+ghost use Rattle.pesp_truth.specs.Trees.{Tree, Line, Ends, Bound, preorder, IsSound, AreSound, HasNoBound, are_trees};
 ghost use Rattle.pesp_truth.specs.Paths.{along, waiting};
 ghost use Rattle.pesp_truth.specs.Truth.{IsTrueAnswer};
 ghost use Rattle.pesp_truth.specs.Certificates.{Content, IsValid, shown_times};
@@ -46,4 +46,10 @@ pub fn paths_keep_what_waits()
     ensures go_low { (node : Node) (path : List (Cut × Side)) (cut : Cut) → waiting node (path ++ (cut, Low) ∷ []) ≡ high_part (along node path) cut ∷ waiting node path }
     ensures leave_high { (node : Node) (path : List (Cut × Side)) (cut : Cut) → waiting node (path ++ (cut, High) ∷ []) ≡ waiting node path }
     ensures turn { (node : Node) (path : List (Cut × Side)) (cut : Cut) → waiting node (path ++ (cut, Low) ∷ []) ≡ along node (path ++ (cut, High) ∷ []) ∷ waiting node (path ++ (cut, High) ∷ []) }
+{}
+
+/// A bound leaf without pairs is sound for the least cost 0, at every node.
+#[tactic(auto, using(crate::proofs::Opening::no_pairs))]
+pub fn no_pairs_are_sound()
+    ensures { (n : Net) (table : List (List SignedRow)) (node : Node) → IsSound n table (Some 0) (Ends (Bound [])) node }
 {}

@@ -1,0 +1,5 @@
+pub mod Counting
+pub mod Counts
+pub mod Printing
+pub mod Reading
+pub mod Writing

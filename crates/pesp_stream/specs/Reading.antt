@@ -1,0 +1,17 @@
+-- What reading a whole text gives and what it takes from a reader.
+use Rattle.std.specs.Prelude.{◌≡◌, ℕ, ◌<◌, ◌≤◌, List, Option, length, take, IfSome}
+use Rattle.std.specs.Io.KnownBytes.{Consumes, IsAtEnd}
+use Rattle.pesp_stream.specs.declared.reading.ReadFault.{ReadFault}
+use Rattle.pesp_stream.specs.declared.reading.ReadFault.TheVariants.{Memory, Device}
+
+-- the bytes that were read, of a reader's told bytes before and after
+pub record ReadsText (old new : Option (List ℕ)) (limit : ℕ) (bytes : List ℕ) : Type 0 where
+  pub within : length bytes ≤ limit
+  pub front : IfSome old (λ xs. bytes ≡ take limit xs)
+  pub consumed : Consumes old new bytes
+  pub ended : length bytes < limit → IsAtEnd new
+
+-- a device is blamed only where it failed
+abbrev pub ReadFaults : ReadFault → Type 0 → Type 0
+ReadFaults Memory failed = Unit {0}
+ReadFaults Device failed = failed

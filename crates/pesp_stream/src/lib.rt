@@ -1,0 +1,28 @@
+//! Bytes in, bytes out: readers and writers that count their failed and interrupted calls, the loop that reads a whole
+//! text, the loop that writes one, and texts that are printed piece by piece.
+#![tactic(auto)]
+
+pub mod counted;
+pub mod output;
+pub mod page;
+pub mod pieces;
+pub mod printed;
+pub mod printer;
+pub mod reading;
+pub mod sink;
+pub mod source;
+pub mod writing;
+
+pub use counted::Counted;
+pub use output::Output;
+pub use page::Page;
+pub use pieces::Bytes;
+pub use printed::Printed;
+pub use printer::print_to;
+pub use reading::{MOST_INTERRUPTED, ReadFault, read_all};
+pub use sink::Sink;
+pub use source::Source;
+pub use writing::{WriteFault, write_all};
+
+#[cfg(test)]
+mod tests;

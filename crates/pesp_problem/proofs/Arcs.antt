@@ -1,13 +1,13 @@
 -- The arcs of an instance's rows, and what they say of its times.
-use Rattle.std.proofs.Common.{◌≡◌, ℕ, suc, zero, ◌+◌, ◌-◌, ◌*◌, ◌<◌, ◌≤◌, List, length, get_or, refl, ap, arith, ◌∙◌, add-one, take}
-use Rattle.std.specs.Prelude.{ℤ, pos, ◌-ℤ◌, ◌*ℤ◌, ◌≤ℤ◌, ◌↔◌, map, sum_by}
+use Rattle.std.proofs.Common.{◌≡◌, ℕ, suc, zero, ◌*◌, ◌<◌, ◌≤◌, List, length, get_or, refl, ap, arith, ◌∙◌, add-one, take}
+use Rattle.std.specs.Prelude.{pos, ◌-ℤ◌, ◌*ℤ◌, ◌≤ℤ◌, ◌↔◌, sum_by}
 use Rattle.std.proofs.lemmas.Int.{ints}
 use Rattle.std.proofs.lemmas.List.Sums.{sum_by_more}
 use Rattle.std.proofs.lemmas.List.{take_all, get_or-map, length-map}
 use Rattle.pesp_problem.specs.declared.row.Row.{Row}
 use Rattle.pesp_problem.specs.Sums.{sum_below}
 use Rattle.pesp_problem.specs.Timetables.{Pesp, row_at, no_row, difference, slack, cost, IsSatisfied}
-use Rattle.pesp_problem.specs.Arcs.{Net, no_arc, arc_at, span, arc_of, arcs_of, net_of, over_arcs, arc_slack, slacks_at}
+use Rattle.pesp_problem.specs.Arcs.{no_arc, arc_at, span, arc_of, arcs_of, net_of, over_arcs, arc_slack, slacks_at}
 use Rattle.pesp_problem.proofs.Integers.{remainder-lt, sum_below-same}
 
 pub length-arcs_of : (p : Pesp) → length (arcs_of p) ≡ length p.rows

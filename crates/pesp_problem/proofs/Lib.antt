@@ -4,3 +4,4 @@ pub mod Walks
 pub mod Arcs
 pub mod Nodes
 pub mod Offsets
+pub mod Worked

@@ -1,19 +1,18 @@
 -- What lies in the root and in the parts of a branch, which offsets are left there, and why a leaf's value is at most each cost.
-use Rattle.std.proofs.Common.{◌≡◌, ℕ, zero, suc, ◌+◌, ◌-◌, ◌≤◌, ◌<◌, ◌⊎◌, Bool, true, false, List, [], ◌∷◌, length, get_or, set, refl, sym, ap, arith, ◌∙◌, inl, inr, zero-le}
-use Rattle.std.specs.Prelude.{ℤ, pos, ◌+ℤ◌, ◌-ℤ◌, ◌*ℤ◌, ◌≤ℤ◌, ◌<ℤ◌, int_le, All, Some, option_map, IsSomeAnd, IsNone}
+use Rattle.std.proofs.Common.{◌≡◌, ℕ, zero, suc, ◌+◌, ◌-◌, ◌≤◌, ◌<◌, ◌⊎◌, Bool, true, false, List, [], ◌∷◌, length, get_or, set, refl, ap, arith, ◌∙◌, inl, inr, zero-le}
+use Rattle.std.specs.Prelude.{ℤ, pos, ◌+ℤ◌, ◌-ℤ◌, ◌*ℤ◌, ◌≤ℤ◌, int_le, All, Some, option_map, IsSomeAnd}
 use Rattle.std.proofs.lemmas.Int.{ints}
 use Rattle.std.proofs.lemmas.List.Elements.{All-head, All-tail}
 use Rattle.std.proofs.lemmas.List.{get_or-map}
 use Rattle.pesp_problem.specs.declared.arc.Arc.{Arc}
 use Rattle.pesp_problem.specs.declared.row.SignedRow.{SignedRow}
 use Rattle.pesp_problem.specs.declared.pair.Pair.{Pair}
-use Rattle.pesp_problem.specs.declared.cut.Cut.{Cut}
 use Rattle.pesp_problem.specs.declared.cut.Cut.TheVariants.{Slack, Offset}
 use Rattle.pesp_problem.specs.Sums.{scaled}
-use Rattle.pesp_problem.specs.Timetables.{Pesp, row_at, no_row, slack, cost, IsTimetable}
-use Rattle.pesp_problem.specs.Arcs.{Net, no_arc, arc_at, span, arc_of, arcs_of, net_of, over_arcs, slacks_at}
+use Rattle.pesp_problem.specs.Timetables.{Pesp, row_at, no_row, cost, IsTimetable}
+use Rattle.pesp_problem.specs.Arcs.{Net, no_arc, arc_at, arcs_of, net_of, over_arcs, slacks_at}
 use Rattle.pesp_problem.specs.Walks.{Names, IsWalk, net_count, HasOffset, HasWholeOffset}
-use Rattle.pesp_problem.specs.Nodes.{Node, slack_range, offset_range, cycle_at, SlacksIn, OffsetsIn, LieIn, weight_of, flow, offset_part, slack_part, leaf_value, least_sum, greatest_sum, odijk_range, offsets_left, range_or_none, root_slacks, root, low_part, high_part}
+use Rattle.pesp_problem.specs.Nodes.{Node, slack_range, cycle_at, SlacksIn, OffsetsIn, LieIn, weight_of, flow, offset_part, slack_part, leaf_value, least_sum, greatest_sum, odijk_range, offsets_left, range_or_none, root_slacks, root, low_part, high_part}
 use Rattle.pesp_problem.proofs.Integers.{mul-le, scaled-le, le-scaled, min_scaled-le, le-cases, le-min, max-le, ceil_div-le, le-floor_div, swap_left, sum_below-le, sum_below-same, sum_below-add, sum_below-sub, sum_below-mul, sum_below-zero, mul-add, add-mul, sub-mul, mul_assoc, zero-mul}
 use Rattle.pesp_problem.proofs.Walks.{has_offset}
 use Rattle.pesp_problem.proofs.Arcs.{length-arcs_of, arc_at-arcs_of, slacks_at-net_of, slack-le-span, cost_is}

@@ -1,5 +1,5 @@
 -- Cycle periodicity: over a closed walk the differences of times cancel, so the durations add up to a multiple of the period.
-use Rattle.std.proofs.Common.{◌≡◌, ℕ, ◌+◌, ◌-◌, ◌<◌, ◌≢◌, Bool, true, false, cond, not, List, [], ◌∷◌, length, refl, ap, arith, sym, ◌∙◌}
+use Rattle.std.proofs.Common.{◌≡◌, ℕ, ◌+◌, ◌-◌, ◌<◌, ◌≢◌, Bool, true, false, cond, not, List, [], ◌∷◌, length, refl, ap, arith, ◌∙◌}
 use Rattle.std.specs.Prelude.{ℤ, pos, negsuc, ◌+ℤ◌, ◌-ℤ◌, ◌*ℤ◌, neg_ℤ, slice_index, ◌&&◌, ◌==◌, if◌then◌else◌}
 use Rattle.std.specs.Int.{int_div_euclid}
 use Rattle.std.proofs.lemmas.Int.{ints}
@@ -11,8 +11,8 @@ use Rattle.pesp_problem.specs.declared.row.SignedRow.{SignedRow}
 use Rattle.pesp_problem.specs.Sums.{sum_below}
 use Rattle.pesp_problem.specs.Timetables.{difference}
 use Rattle.pesp_problem.specs.Arcs.{Net, arc_at, over_arcs, slacks_at}
-use Rattle.pesp_problem.specs.Walks.{RowExists, start, finish, Leads, AreRows, IsWalk, sign, net_count, HasOffset, HasWholeOffset}
-use Rattle.pesp_problem.proofs.Integers.{mul_comm, mul_assoc, mul-neg, mul-sub, add-mul, zero-mul, swap_left, sum_below-same, sum_below-add, sum_below-sub, sum_below-mul, sum_below-zero, sum_below-single, quotient-remainder}
+use Rattle.pesp_problem.specs.Walks.{RowExists, start, finish, Leads, AreRows, IsWalk, sign, net_count, HasWholeOffset}
+use Rattle.pesp_problem.proofs.Integers.{mul-neg, mul-sub, add-mul, zero-mul, swap_left, sum_below-same, sum_below-add, sum_below-sub, sum_below-mul, sum_below-zero, sum_below-single, quotient-remainder}
 
 -- ---- net counts
 

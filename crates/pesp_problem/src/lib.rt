@@ -22,3 +22,6 @@ pub use pair::{Pair, Pairs};
 pub use row::{Row, SignedRow};
 pub use scoring::{score, slack_of};
 pub use walk::Walk;
+
+#[cfg(test)]
+mod tests;

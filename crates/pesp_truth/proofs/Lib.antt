@@ -3,4 +3,5 @@ pub mod Lines
 pub mod NoBound
 pub mod Paths
 pub mod Certificates
+pub mod Worked
 pub mod Opening

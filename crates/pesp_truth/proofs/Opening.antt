@@ -1,12 +1,11 @@
 -- A bound leaf without pairs is sound for the least cost 0 at every node.
-use Rattle.std.proofs.Common.{◌≡◌, ℕ, ◌<◌, List, [], length, refl, arith, true}
-use Rattle.std.specs.Prelude.{ℤ, pos, ◌-ℤ◌, ◌*ℤ◌, ◌≤ℤ◌, slice_index_or, Some, All}
+use Rattle.std.proofs.Common.{ℕ, List, [], length, refl, arith, true}
+use Rattle.std.specs.Prelude.{pos, ◌-ℤ◌, ◌*ℤ◌, ◌≤ℤ◌, Some}
 use Rattle.std.proofs.lemmas.Int.{ints}
 use Rattle.std.proofs.lemmas.List.Elements.{All-nil}
 use Rattle.pesp_problem.specs.declared.pair.Pair.{Pair}
 use Rattle.pesp_problem.specs.declared.row.SignedRow.{SignedRow}
-use Rattle.pesp_problem.specs.Sums.{sum_below}
-use Rattle.pesp_problem.specs.Arcs.{Net, arc_at, over_arcs}
+use Rattle.pesp_problem.specs.Arcs.{Net, arc_at}
 use Rattle.pesp_problem.specs.Walks.{Names}
 use Rattle.pesp_problem.specs.Nodes.{Node, slack_part}
 use Rattle.pesp_problem.proofs.Integers.{mul-le, le-min, sum_below-le, sum_below-zero, zero-mul}

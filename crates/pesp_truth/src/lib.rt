@@ -2,8 +2,8 @@
 #![tactic(auto)]
 
 mod answer;
-mod tree;
 pub mod laws;
+mod tree;
 
 pub use answer::Answer;
 pub use tree::TreeLine;

@@ -1,0 +1,19 @@
+//! Instances of the periodic event scheduling problem, read from a text.
+#![tactic(auto)]
+
+mod activity;
+mod number;
+mod reading;
+mod records;
+mod refusal;
+mod table;
+
+pub use pesp_problem::{
+    Arc, Cut, Instance, Memory, Pair, Pairs, Row, Score, Side, SignedRow, Walk, score,
+};
+pub use pesp_stream::{Counted, ReadFault, Sink, Source, WriteFault, read_all, write_all};
+pub use reading::read_instance;
+pub use refusal::ReadRefusal;
+
+#[cfg(test)]
+mod tests;

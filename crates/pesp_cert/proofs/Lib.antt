@@ -1,0 +1,10 @@
+pub mod LimitLoops
+pub mod LimitFacts
+pub mod Runs
+pub mod PrintLaws
+pub mod DraftLaws
+pub mod ShortLaws
+pub mod RunLaws
+pub mod TextSteps
+pub mod TextLoop
+pub mod TextLaws

@@ -1,0 +1,236 @@
+-- The whole text: what is read is spelt so, and what is spelt is read. No text begins another.
+use Rattle.std.proofs.Common.{◌≡◌, ℕ, zero, suc, ◌+◌, Bool, true, false, cond, not, List, [], ◌∷◌, ◌++◌, length, Result, Ok, Err, refl, sym, subst, ap, ◌∙◌, arith, inl, inr, append_assoc}
+use Rattle.std.specs.Prelude.{IsErrAnd, nat_lt, ◌==◌}
+use Rattle.std.specs.List.{list_all, All, join_with_byte, flat_map, AllByRecursion}
+use Rattle.std.specs.Str.{bytes_eq}
+use Rattle.std.proofs.lemmas.Bool.Decides.{nat_tests}
+use Rattle.std.proofs.lemmas.List.{append-nil}
+use Rattle.std.proofs.lemmas.List.Concat.{flat_map-cons}
+use Rattle.std.proofs.lemmas.List.Splits.{slice_split_at, join_with_byte-slice_split}
+use Rattle.std.proofs.lemmas.Slice.Eq.{bytes_eq-Decides}
+use Rattle.pesp_lines.specs.declared.fault.LineFault.{LineFault}
+use Rattle.pesp_cert.specs.declared.refusal.CertRefusal.{CertRefusal}
+use Rattle.pesp_cert.specs.declared.refusal.CertRefusal.TheVariants as refusals
+use Rattle.pesp_lines.specs.declared.progress.Progress.{Progress}
+use Rattle.pesp_text.specs.Words.{is_byte, pieces, spaced, line_of}
+use Rattle.pesp_lines.specs.declared.item.Item.{Item}
+use Rattle.pesp_lines.specs.Items.{item_words, item_line}
+use Rattle.pesp_lines.specs.Counts.{start, after, CanStand}
+use Rattle.pesp_lines.specs.Lines.{LONGEST, line_at}
+use Rattle.pesp_cert.specs.Texts.{HEADER, is_end, IsRun, text_of, items_of, spelling, NoneBeginsAnother}
+use Rattle.pesp_cert.specs.Refusals.{items_from, items_in, items_behind, items_of_text, onto, is_nothing, refusal_at, IsTextOf, ReadsTexts}
+use Rattle.pesp_lines.proofs.Tests.{cases, and_left, and_right}
+use Rattle.pesp_cert.proofs.TextSteps.{nonempty, at_end, at_item, nothing_more}
+use Rattle.pesp_truth.specs.Certificates.{Content}
+use Rattle.pesp_cert.specs.Drafts.{blank, all_added, ReadsItems}
+use Rattle.pesp_cert.proofs.DraftLaws.{all_added-items_of}
+use Rattle.pesp_cert.proofs.RunLaws.{run_content}
+use Rattle.pesp_cert.proofs.ShortLaws.{IsShort, run_short}
+use Rattle.pesp_lines.proofs.LineLaws.{line_found, line_read, item_plain, is_plain, is_inner, all_plain}
+
+-- what one step of reading that gives items says
+is_ok : (b : Bool) (r : CertRefusal) (q : Result (List Item) CertRefusal) (items : List Item) → cond b (Err r) q ≡ Ok items → q ≡ Ok items
+is_ok true r q items h = absurd cc
+is_ok false r q items h = h
+
+onto_ok : (item : Item) (q : Result (List Item) CertRefusal) (items : List Item) → onto item q ≡ Ok items → (rest : List Item) × (q ≡ Ok rest) × (items ≡ item ∷ rest)
+onto_ok item (Err r) items h = absurd cc
+onto_ok item (Ok rest) items h = (rest, refl, cc)
+
+-- the items that were found: their lines are the text, and they are a run
+pub record AreFound (p : Progress) (pcs : List (List ℕ)) (items : List Item) : Type 0 where
+  pub text : join_with_byte 10 pcs ≡ flat_map item_line items
+  pub run : IsRun p items
+
+nothing_is : (next : List ℕ) (more : List (List ℕ)) → is_nothing (next ∷ more) ≡ true → (next ≡ []) × (more ≡ [])
+nothing_is [] [] h = (refl, refl)
+nothing_is [] (m ∷ ms) h = absurd (grind (arith, nat_tests, h))
+nothing_is (c ∷ cs) more h = absurd (grind (arith, nat_tests, h))
+
+ends : (p : Progress) (line next : List ℕ) (more : List (List ℕ)) (item : Item) (n : ℕ) (items : List Item) → (line ≡ line_of (item_words item)) × CanStand p item → is_end item ≡ true
+    → cond (is_nothing (next ∷ more)) (Ok (item ∷ [])) (Err (refusals.Trailing n)) ≡ Ok items → AreFound p (line ∷ next ∷ more) items
+ends p line next more item n items found e h = go (is_nothing (next ∷ more)) refl h
+  where
+    go : (b : Bool) → is_nothing (next ∷ more) ≡ b → cond b (Ok (item ∷ [])) (Err (refusals.Trailing n)) ≡ Ok items → AreFound p (line ∷ next ∷ more) items
+    go false t h = absurd cc
+    go true t h =
+        let nothing = nothing_is next more t in
+        let same : item ∷ [] ≡ items = cc in
+        rw (← same, nothing.0, nothing.1) (record { text = rw (found.0, flat_map-cons item_line item [], append-nil) refl; run = (found.1, e) })
+
+run_onto : (p : Progress) (item : Item) (rest : List Item) → CanStand p item → is_end item ≡ false → IsRun (after p item) rest → IsRun p (item ∷ rest)
+run_onto p item [] can e h = absurd h
+run_onto p item (next ∷ more) can e h = (can, e, h)
+
+goes_on : (p : Progress) (line next : List ℕ) (more : List (List ℕ)) (item : Item) (rest items : List Item) → (line ≡ line_of (item_words item)) × CanStand p item → is_end item ≡ false
+    → AreFound (after p item) (next ∷ more) rest → items ≡ item ∷ rest → AreFound p (line ∷ next ∷ more) items
+goes_on p line next more item rest items found e others same =
+    rw same (record { text = rw (flat_map-cons item_line item rest) (rw (found.0, others.text) (sym (append_assoc (line_of (item_words item)) (10 ∷ []) (flat_map item_line rest)))); run = run_onto p item rest found.1 e others.run })
+
+pub items_found : (n : ℕ) (p : Progress) (pcs : List (List ℕ)) (items : List Item) → items_from n p pcs ≡ Ok items → AreFound p pcs items
+unfolding items_from
+items_found n p [] items h = absurd cc
+items_found n p (line ∷ []) items h = go (nat_lt LONGEST (length line)) h
+  where
+    go : (b : Bool) → cond b (Err (refusals.Limit n)) (Err refusals.Truncated) ≡ Ok items → AreFound p (line ∷ []) items
+    go true h = absurd cc
+    go false h = absurd cc
+items_found n p (line ∷ next ∷ more) items h = at (line_at p line) refl (λ q rest e. items_found (n + 1) q (next ∷ more) rest e) (is_ok (nat_lt LONGEST (length line)) (refusals.Limit n) _ items h)
+  where
+    at : (r : Result Item LineFault) → line_at p line ≡ r → ((q : Progress) (rest : List Item) → items_from (n + 1) q (next ∷ more) ≡ Ok rest → AreFound q (next ∷ more) rest) → elim r as (λ r. Result (List Item) CertRefusal) [
+      | Err f ↦ Err (refusal_at n f)
+      | Ok item ↦ cond (is_end item) (cond (is_nothing (next ∷ more)) (Ok (item ∷ [])) (Err (refusals.Trailing (n + 1)))) (onto item (items_from (n + 1) (after p item) (next ∷ more)))
+    ] ≡ Ok items → AreFound p (line ∷ next ∷ more) items
+    at (Err f) e others h = absurd cc
+    at (Ok item) e others h =
+        elim (cases (is_end item)) [
+          | inl last ↦ ends p line next more item (n + 1) items (line_found p line item e) last (rw last at h)
+          | inr goes ↦
+              let o = onto_ok item (items_from (n + 1) (after p item) (next ∷ more)) items (rw goes at h) in
+              goes_on p line next more item o.0 items (line_found p line item e) goes (others (after p item) o.0 o.1) o.2
+        ]
+
+-- ---- what is spelt is read, whatever stands behind it
+
+all_append : (t : ℕ → Bool) (xs ys : List ℕ) → list_all t xs ≡ true → list_all t ys ≡ true → list_all t (xs ++ ys) ≡ true
+all_append t [] ys h k = k
+all_append t (x ∷ xs) ys h k = rw (and_left (t x) (list_all t xs) h, all_append t xs ys (and_right (t x) (list_all t xs) h) k) refl
+
+abbrev not_lf : ℕ → Bool
+not_lf b = not (b == 10)
+
+word_lf : (w : List ℕ) → list_all is_inner w ≡ true → list_all not_lf w ≡ true
+word_lf [] h = refl
+word_lf (b ∷ bs) h = rw (and_right (not (b == 32)) (not (b == 10)) (and_left (is_inner b) (list_all is_inner bs) h), word_lf bs (and_right (is_inner b) (list_all is_inner bs) h)) refl
+
+plain_lf : (w : List ℕ) → is_plain w ≡ true → list_all not_lf w ≡ true
+plain_lf w h = word_lf w (and_right (not (length w == 0)) (list_all is_inner w) h)
+
+spaced_lf : (ws : List (List ℕ)) → all_plain ws ≡ true → list_all not_lf (spaced ws) ≡ true
+spaced_lf [] h = refl
+spaced_lf (w ∷ ws) h = all_append not_lf (32 ∷ w) (spaced ws) (plain_lf w (and_left (is_plain w) (all_plain ws) h)) (spaced_lf ws (and_right (is_plain w) (all_plain ws) h))
+
+line_lf : (ws : List (List ℕ)) → all_plain ws ≡ true → list_all not_lf (line_of ws) ≡ true
+line_lf [] h = refl
+line_lf (w ∷ ws) h = all_append not_lf w (spaced ws) (plain_lf w (and_left (is_plain w) (all_plain ws) h)) (spaced_lf ws (and_right (is_plain w) (all_plain ws) h))
+
+no_lf : (w : List ℕ) → list_all not_lf w ≡ true → All (λ b. is_byte 10 b ≡ false) w
+no_lf [] h k d lt = absurd (omega arith)
+no_lf (b ∷ bs) h zero d lt = grind (arith, nat_tests, and_left (not_lf b) (list_all not_lf bs) h)
+no_lf (b ∷ bs) h (suc k) d lt = no_lf bs (and_right (not_lf b) (list_all not_lf bs) h) k d (omega arith)
+
+pub line_cut : (p : Progress) (item : Item) (rest : List ℕ) → CanStand p item → pieces 10 (item_line item ++ rest) ≡ line_of (item_words item) ∷ pieces 10 rest
+line_cut p item rest can =
+    rw append_assoc (slice_split_at (is_byte 10) (line_of (item_words item)) 10 rest (no_lf (line_of (item_words item)) (line_lf (item_words item) (item_plain item can.proper can.within))) refl)
+
+pub items_read : (items : List Item) (n m : ℕ) (p : Progress) (more : List ℕ) → IsRun p items → AllByRecursion IsShort items → m ≡ n + length items
+    → items_from n p (pieces 10 (flat_map item_line items ++ more)) ≡ cond (length more == 0) (Ok items) (Err (refusals.Trailing m))
+items_read [] n m p more run short last = absurd run
+items_read (item ∷ []) n m p more run short last =
+    let some = nonempty more in
+    let cut : pieces 10 (flat_map item_line (item ∷ []) ++ more) ≡ line_of (item_words item) ∷ some.0 ∷ some.1 = ap (λ (t : List ℕ). pieces 10 (t ++ more)) (flat_map-cons item_line item [] ∙ append-nil (item_line item)) ∙ line_cut p item more run.0 ∙ ap (λ (ps : List (List ℕ)). line_of (item_words item) ∷ ps) some.2 in
+    let test : is_nothing (some.0 ∷ some.1) ≡ (length more == 0) = ap is_nothing (sym some.2) ∙ nothing_more more in
+    let number : n + 1 ≡ m = omega (arith, last) in
+    rw cut (at_end n p (line_of (item_words item)) some.0 some.1 item short.0 (line_read p item run.0) run.1 ∙ rw (test, number) refl)
+items_read (item ∷ next ∷ others) n m p more run short last =
+    let rest : List ℕ = flat_map item_line (next ∷ others) ++ more in
+    let some = nonempty rest in
+    let cut : pieces 10 (flat_map item_line (item ∷ next ∷ others) ++ more) ≡ line_of (item_words item) ∷ some.0 ∷ some.1 = ap (λ (t : List ℕ). pieces 10 (t ++ more)) (flat_map-cons item_line item (next ∷ others)) ∙ ap (pieces 10) (append_assoc (item_line item) (flat_map item_line (next ∷ others)) more) ∙ line_cut p item rest run.0 ∙ ap (λ (ps : List (List ℕ)). line_of (item_words item) ∷ ps) some.2 in
+    let later = items_read (next ∷ others) (n + 1) m (after p item) more run.2 short.1 (omega (arith, last)) in
+    let step = at_item n p (line_of (item_words item)) some.0 some.1 item short.0 (line_read p item run.0) run.1 in
+    rw cut (step ∙ ap (onto item) (ap (items_from (n + 1) (after p item)) (sym some.2) ∙ later) ∙ through item (length more == 0) (next ∷ others) m)
+  where
+    through : (item : Item) (b : Bool) (rest : List Item) (m : ℕ) → onto item (cond b (Ok rest) (Err (refusals.Trailing m))) ≡ cond b (Ok (item ∷ rest)) (Err (refusals.Trailing m))
+    through item true rest m = refl
+    through item false rest m = refl
+
+-- ---- whole texts
+
+header_cut : (rest : List ℕ) → pieces 10 (HEADER ++ 10 ∷ rest) ≡ HEADER ∷ pieces 10 rest
+header_cut rest = slice_split_at (is_byte 10) HEADER 10 rest (no_lf HEADER refl) refl
+
+header_is : (ps : List (List ℕ)) (w : List ℕ) (ws : List (List ℕ)) → ps ≡ w ∷ ws → items_behind HEADER ps ≡ items_from 2 start ps
+header_is ps w ws e = rw e refl
+
+pub text_read : (items : List Item) (more : List ℕ) → IsRun start items → items_of_text (text_of items ++ more) ≡ cond (length more == 0) (Ok items) (Err (refusals.Trailing (2 + length items)))
+unfolding items_of_text
+text_read items more run =
+    let rest : List ℕ = flat_map item_line items ++ more in
+    let some = nonempty rest in
+    let cut : pieces 10 (text_of items ++ more) ≡ HEADER ∷ pieces 10 rest = ap (pieces 10) (append_assoc HEADER (10 ∷ flat_map item_line items) more) ∙ header_cut rest in
+    ap items_in cut ∙ header_is (pieces 10 rest) some.0 some.1 some.2 ∙ items_read items 2 (2 + length items) start more run (run_short start items run) refl
+
+text_behind : (line : List ℕ) (ps : List (List ℕ)) (items : List Item) → items_behind line ps ≡ Ok items → (join_with_byte 10 (line ∷ ps) ≡ text_of items) × IsRun start items
+text_behind line [] items h = absurd cc
+text_behind line (next ∷ more) items h =
+    elim (cases (bytes_eq line HEADER)) [
+      | inl is ↦
+          let found = items_found 2 start (next ∷ more) items (rw is at h) in
+          let head : line ≡ HEADER = (bytes_eq-Decides line HEADER).0 is in
+          (rw (head, found.text) refl, found.run)
+      | inr isnt ↦ let bad : Err refusals.Header ≡ Ok items = rw isnt at h in absurd cc
+    ]
+
+text_in : (pcs : List (List ℕ)) (items : List Item) → items_in pcs ≡ Ok items → (join_with_byte 10 pcs ≡ text_of items) × IsRun start items
+text_in [] items h = absurd cc
+text_in (line ∷ rest) items h = text_behind line rest items (is_ok (nat_lt LONGEST (length line)) (refusals.Limit 1) (items_behind line rest) items h)
+
+pub text_found : (text : List ℕ) (items : List Item) → items_of_text text ≡ Ok items → (text ≡ text_of items) × IsRun start items
+unfolding items_of_text
+text_found text items h =
+    let t = text_in (pieces 10 text) items h in
+    (sym (join_with_byte-slice_split 10 text) ∙ t.0, t.1)
+
+-- ---- no text begins another
+
+begun : (b : Bool) (items others : List Item) (m : ℕ) → cond b (Ok items) (Err (refusals.Trailing m)) ≡ Ok others → (b ≡ true) × (items ≡ others)
+begun true items others m h = (refl, cc)
+begun false items others m h = absurd cc
+
+nil_is : (more : List ℕ) → (length more == 0) ≡ true → more ≡ []
+nil_is [] h = refl
+nil_is (c ∷ cs) h = absurd (grind (arith, nat_tests, h))
+
+pub none_begins : (a b : List Item) (more : List ℕ) → IsRun start a → IsRun start b → text_of a ++ more ≡ text_of b → (a ≡ b) × (more ≡ [])
+none_begins a b more run_a run_b same =
+    let whole : items_of_text (text_of b) ≡ Ok b = ap items_of_text (sym (append-nil (text_of b))) ∙ text_read b [] run_b in
+    let both : cond (length more == 0) (Ok a) (Err (refusals.Trailing (2 + length a))) ≡ Ok b = sym (text_read a more run_a) ∙ ap items_of_text same ∙ whole in
+    let t = begun (length more == 0) a b (2 + length a) both in
+    (t.1, nil_is more t.0)
+
+-- ---- contents
+
+-- what is read whole is some content's text
+pub text_found_of : (text : List ℕ) (items : List Item) → items_of_text text ≡ Ok items → (c : Content) × (items ≡ items_of c) × IsTextOf text c
+text_found_of text items h =
+    let t = text_found text items h in
+    let c = run_content items t.1 in
+    let run : IsRun start (items_of c.0) = let P : List Item → Type 0 = λ is. IsRun start is in subst P c.1 t.1 in
+    (c.0, c.1, record { has_text = record { run = run }; spelt = t.0 ∙ ap text_of c.1 })
+
+pub text_read_of : (text : List ℕ) (c : Content) → IsTextOf text c → items_of_text text ≡ Ok (items_of c)
+text_read_of text c is = ap items_of_text (is.spelt ∙ sym (append-nil (spelling c))) ∙ text_read (items_of c) [] is.has_text.run
+
+pub none_begins_another : NoneBeginsAnother
+none_begins_another a b more text_a text_b same =
+    let t = none_begins (items_of a) (items_of b) more text_a.run text_b.run same in
+    (sym (all_added-items_of a) ∙ ap (all_added blank) t.0 ∙ all_added-items_of b, t.1)
+
+-- ---- what a reader answers
+
+pub reads_found : (text : List ℕ) (d : Content) → ReadsItems (Ok d) (items_of_text text) → IsTextOf text d
+reads_found text d r =
+    let t = text_found_of text r.0 r.1 in
+    let same : d ≡ t.0 = r.2 ∙ ap (all_added blank) t.1 ∙ all_added-items_of t.0 in
+    rw same t.2
+
+pub reads_only : (text : List ℕ) (r : Result Content CertRefusal) → ReadsItems r (items_of_text text) → ReadsTexts text r
+reads_only text (Ok d) r c is =
+    let items : r.0 ≡ items_of c = let e : Ok r.0 ≡ Ok (items_of c) = sym r.1 ∙ text_read_of text c is in cc in
+    inl (ap Ok (r.2 ∙ ap (all_added blank) items ∙ all_added-items_of c))
+reads_only text (Err e) (inl memory) c is = inr (ap Err memory)
+reads_only text (Err e) (inr first) c is = let bad : Err e ≡ Ok (items_of c) = sym first ∙ text_read_of text c is in absurd cc
+
+pub err_is : (r : Result Content CertRefusal) (e : CertRefusal) → IsErrAnd r (λ x. x ≡ e) → r ≡ Err e
+err_is (Ok c) e h = absurd h
+err_is (Err x) e h = ap Err h

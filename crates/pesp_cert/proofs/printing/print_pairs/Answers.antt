@@ -1,0 +1,6 @@
+use Rattle.pesp_stream.proofs.Printing.{sends_more}
+use Rattle.pesp_cert.specs.Print.{pair_text}
+use Rattle.pesp_cert.proofs.printing.print_pairs.Goals as goal
+
+pub loop-pair-preserved : goal.loop-pair-preserved
+loop-pair-preserved g c = sends_more pair_text c.args.pairs.now c.loop-pair.pair-index _ c.loop-pair-test.true c.loop-pair.invariant c.print_pair.ensures

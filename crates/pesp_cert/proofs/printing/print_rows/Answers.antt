@@ -1,0 +1,6 @@
+use Rattle.pesp_stream.proofs.Printing.{sends_more}
+use Rattle.pesp_cert.specs.Print.{row_text}
+use Rattle.pesp_cert.proofs.printing.print_rows.Goals as goal
+
+pub loop-row-preserved : goal.loop-row-preserved
+loop-row-preserved g c = sends_more row_text c.args.rows.now c.loop-row.row-index _ c.loop-row-test.true c.loop-row.invariant c.print_row.ensures

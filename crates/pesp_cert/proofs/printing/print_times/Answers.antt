@@ -1,0 +1,6 @@
+use Rattle.pesp_stream.proofs.Printing.{sends_more}
+use Rattle.pesp_cert.specs.Print.{time_line}
+use Rattle.pesp_cert.proofs.printing.print_times.Goals as goal
+
+pub loop-time-preserved : goal.loop-time-preserved
+loop-time-preserved g c = sends_more time_line c.args.times.now c.loop-time.time-index _ c.loop-time-test.true c.loop-time.invariant c.print_time.ensures

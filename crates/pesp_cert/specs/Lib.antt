@@ -1,0 +1,5 @@
+pub mod Limits
+pub mod Texts
+pub mod Print
+pub mod Drafts
+pub mod Refusals

@@ -1,0 +1,100 @@
+-- The limits that every certificate keeps.
+use Rattle.std.specs.Prelude.{◌≡◌, ℕ, ◌+◌, ◌≤◌, Bool, true, false, ◌&&◌, not, ◌==◌, nat_lt, nat_le, ℤ, nat_abs, Option, Some, None, List, [], ◌∷◌, length, map}
+use Rattle.std.specs.List.{list_all, sum_by}
+use Rattle.pesp_problem.specs.declared.row.SignedRow.{SignedRow}
+use Rattle.pesp_problem.specs.declared.pair.Pair.{Pair}
+use Rattle.pesp_truth.specs.declared.answer.Answer.{Answer}
+use Rattle.pesp_truth.specs.declared.answer.Answer.TheVariants.{Optimal, Infeasible, Bounded}
+use Rattle.pesp_truth.specs.declared.tree.TreeLine.{TreeLine}
+use Rattle.pesp_truth.specs.declared.tree.TreeLine.TheVariants.{Slack, Offset, Bound, Nothing, Gap}
+use Rattle.pesp_truth.specs.Trees.{are_trees}
+use Rattle.pesp_truth.specs.Certificates.{Content, line_of, lines_of}
+use Rattle.pesp_text.specs.Number.{NATURALS}
+use Rattle.pesp_lines.specs.Rows.{is_name, rows_are_named}
+use Rattle.pesp_lines.specs.Pairs.{all_within}
+
+-- costs have at most 18 digits
+abbrev pub is_cost : Option ℕ → Bool
+is_cost None = true
+is_cost (Some c) = nat_lt c NATURALS
+
+abbrev pub has_costs : Answer → Bool
+has_costs (Optimal c) = nat_lt c NATURALS
+has_costs Infeasible = true
+has_costs (Bounded least cost) = nat_lt least NATURALS && is_cost cost
+
+abbrev pub is_period : ℕ → Bool
+is_period period = nat_le 1 period && nat_le period 10000
+
+-- the label of an event, and a time
+abbrev pub is_time : ℤ × ℕ → Bool
+is_time t = nat_le (nat_abs t.0) 1000000000000 && nat_le t.1 9999
+
+abbrev pub are_times : List (ℤ × ℕ) → Bool
+are_times times = nat_le (length times) 100000 && list_all is_time times
+
+-- at least one row, each with a number that a row may have
+abbrev pub is_cycle : List SignedRow → Bool
+is_cycle rows = nat_le 1 (length rows) && rows_are_named rows
+
+-- how many signed rows the table has
+abbrev pub total_rows : List (List SignedRow) → ℕ
+total_rows cycles = sum_by (λ rows. length rows) cycles
+
+abbrev pub are_cycles : List (List SignedRow) → Bool
+are_cycles cycles = nat_le (length cycles) 100000 && nat_le (total_rows cycles) 10000000 && list_all is_cycle cycles
+
+-- a cycle number of at least `least`, and a multiplier other than 0
+abbrev pub follows : ℕ → Pair → Bool
+follows least p = nat_le least p.cycle && not (nat_abs p.mult == 0)
+
+-- the cycle numbers rise from least on, and no multiplier is 0
+abbrev pub rise_from : ℕ → List Pair → Bool
+rise_from least [] = true
+rise_from least (p ∷ ps) = follows least p && rise_from (p.cycle + 1) ps
+
+abbrev pub are_pairs : List Pair → Bool
+are_pairs ps = rise_from 0 ps && all_within ps
+
+abbrev pub is_line : TreeLine → Bool
+is_line (Slack row k) = is_name row && nat_le k 9999
+is_line (Offset cycle k) = is_name cycle && nat_le (nat_abs k) 100000000000000
+is_line (Bound ps) = are_pairs ps
+is_line (Nothing ps) = are_pairs ps
+is_line (Gap cycle) = is_name cycle
+
+abbrev pub is_branch : TreeLine → Bool
+is_branch (Slack row k) = true
+is_branch (Offset cycle k) = true
+is_branch _ = false
+
+abbrev pub pairs_in : TreeLine → ℕ
+pairs_in (Bound ps) = length ps
+pairs_in (Nothing ps) = length ps
+pairs_in _ = 0
+
+-- how many pairs the tree has
+abbrev pub total_pairs : List TreeLine → ℕ
+total_pairs lines = sum_by pairs_in lines
+
+-- one whole tree
+abbrev pub are_lines : List TreeLine → Bool
+are_lines lines = nat_le (length lines) 1000000 && nat_le (total_pairs lines) 20000000 && list_all is_line lines && are_trees 1 (map line_of lines)
+
+-- what a certificate may hold
+unfoldable pub keeps_limits : Content → Bool
+keeps_limits c = is_period c.period && has_costs c.answer && are_times c.times && are_cycles c.cycles && are_lines c.tree
+
+-- the same as facts
+pub record KeepsLimits (c : Content) : Type 0 where
+  pub period : (1 ≤ c.period) × (c.period ≤ 10000)
+  pub answer : has_costs c.answer ≡ true
+  pub times : length c.times ≤ 100000
+  pub each_time : list_all is_time c.times ≡ true
+  pub cycles : length c.cycles ≤ 100000
+  pub rows : total_rows c.cycles ≤ 10000000
+  pub each_cycle : list_all is_cycle c.cycles ≡ true
+  pub lines : length c.tree ≤ 1000000
+  pub pairs : total_pairs c.tree ≤ 20000000
+  pub each_line : list_all is_line c.tree ≡ true
+  pub whole : are_trees 1 (lines_of c) ≡ true

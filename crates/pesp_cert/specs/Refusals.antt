@@ -1,0 +1,69 @@
+-- What a text says as a whole, or which refusal it gives: the first line with a fault decides.
+use Rattle.std.specs.Prelude.{◌≡◌, ℕ, ◌+◌, Bool, true, ◌&&◌, ◌==◌, nat_lt, if◌then◌else◌, Result, Ok, Err, List, [], ◌∷◌, ◌⊎◌, length}
+use Rattle.std.specs.Str.{bytes_eq}
+use Rattle.pesp_truth.specs.Certificates.{Content}
+use Rattle.pesp_text.specs.Words.{pieces}
+use Rattle.pesp_lines.specs.declared.fault.LineFault.{LineFault}
+use Rattle.pesp_lines.specs.declared.fault.LineFault.TheVariants as faults
+use Rattle.pesp_lines.specs.declared.item.Item.{Item}
+use Rattle.pesp_lines.specs.declared.progress.Progress.{Progress}
+use Rattle.pesp_lines.specs.Counts.{after, start}
+use Rattle.pesp_lines.specs.Lines.{line_at, LONGEST}
+use Rattle.pesp_cert.specs.declared.refusal.CertRefusal.{CertRefusal}
+use Rattle.pesp_cert.specs.declared.refusal.CertRefusal.TheVariants as refusals
+use Rattle.pesp_cert.specs.Texts.{HEADER, is_end, HasText, spelling}
+
+-- the fault of line n as one of the text
+abbrev pub refusal_at : ℕ → LineFault → CertRefusal
+refusal_at n faults.Truncated = refusals.Truncated
+refusal_at n faults.Line = refusals.Line n
+refusal_at n faults.Number = refusals.Number n
+refusal_at n faults.Limit = refusals.Limit n
+
+abbrev pub is_nothing : List (List ℕ) → Bool
+is_nothing [] = true
+is_nothing (w ∷ ws) = length w == 0 && length ws == 0
+
+abbrev pub onto : Item → Result (List Item) CertRefusal → Result (List Item) CertRefusal
+onto item (Ok items) = Ok (item ∷ items)
+onto item (Err r) = Err r
+
+-- The pieces of a text cut at each LF; the first of them is line n. The last piece has no LF.
+unfoldable pub items_from : ℕ → Progress → List (List ℕ) → Result (List Item) CertRefusal
+items_from n p [] = Err refusals.Truncated
+items_from n p (line ∷ []) = if nat_lt LONGEST (length line) then Err (refusals.Limit n) else Err refusals.Truncated
+items_from n p (line ∷ next ∷ more) = if nat_lt LONGEST (length line) then Err (refusals.Limit n) else
+    elim (line_at p line) as (λ r. Result (List Item) CertRefusal) [
+      | Err f ↦ Err (refusal_at n f)
+      | Ok item ↦ if is_end item then (if is_nothing (next ∷ more) then Ok (item ∷ []) else Err (refusals.Trailing (n + 1)))
+          else onto item (items_from (n + 1) (after p item) (next ∷ more))
+    ]
+
+-- ---- the first line
+
+abbrev pub items_behind : List ℕ → List (List ℕ) → Result (List Item) CertRefusal
+items_behind line [] = Err refusals.Truncated
+items_behind line (next ∷ more) = if bytes_eq line HEADER then items_from 2 start (next ∷ more) else Err refusals.Header
+
+abbrev pub items_in : List (List ℕ) → Result (List Item) CertRefusal
+items_in [] = Err refusals.Truncated
+items_in (line ∷ rest) = if nat_lt LONGEST (length line) then Err (refusals.Limit 1) else items_behind line rest
+
+-- the items of a whole text, or its first fault
+unfoldable pub items_of_text : List ℕ → Result (List Item) CertRefusal
+items_of_text text = items_in (pieces 10 text)
+
+-- ---- what a reader of a text answers
+
+-- the text is this content's
+pub record IsTextOf (text : List ℕ) (c : Content) : Type 0 where
+  pub has_text : HasText c
+  pub spelt : text ≡ spelling c
+
+-- where the text is a content's, that content is read, unless a growth was refused
+abbrev pub ReadsTexts : List ℕ → Result Content CertRefusal → Type 0
+ReadsTexts text r = (c : Content) → IsTextOf text c → (r ≡ Ok c) ⊎ (r ≡ Err refusals.Memory)
+
+-- the refusal is the text's first fault, unless a growth was refused
+abbrev pub RefusesFirst : List ℕ → CertRefusal → Type 0
+RefusesFirst text r = (r ≡ refusals.Memory) ⊎ (items_of_text text ≡ Err r)

@@ -1,0 +1,54 @@
+-- The one text of a certificate.
+use Rattle.std.specs.Prelude.{◌≡◌, ℕ, true, false, List, [], ◌∷◌, ◌++◌, codes, map, ℤ, Bool}
+use Rattle.std.specs.List.{flat_map}
+use Rattle.pesp_truth.specs.declared.tree.TreeLine.{TreeLine}
+use Rattle.pesp_truth.specs.declared.tree.TreeLine.TheVariants as lines
+use Rattle.pesp_truth.specs.Certificates.{Content}
+use Rattle.pesp_lines.specs.declared.item.Item.{Item}
+use Rattle.pesp_lines.specs.declared.item.Item.TheVariants.{Period, Answer as Says, Time, Cycle, Slack, Offset, Bound, Nothing, Gap, End}
+use Rattle.pesp_lines.specs.declared.progress.Progress.{Progress}
+use Rattle.pesp_lines.specs.Items.{item_line}
+use Rattle.pesp_lines.specs.Counts.{after, start, CanStand}
+
+abbrev pub HEADER : List ℕ
+HEADER = codes "pesp-certificate 1"
+
+-- the first line, and a line for each item
+abbrev pub text_of : List Item → List ℕ
+text_of items = HEADER ++ 10 ∷ flat_map item_line items
+
+abbrev pub is_end : Item → Bool
+is_end End = true
+is_end _ = false
+
+-- the items may stand one behind the other, and the last one ends the text
+abbrev pub IsRun : Progress → List Item → Type 0
+IsRun p [] = ⊥
+IsRun p (item ∷ []) = CanStand p item × (is_end item ≡ true)
+IsRun p (item ∷ next ∷ more) = CanStand p item × (is_end item ≡ false) × IsRun (after p item) (next ∷ more)
+
+abbrev pub time_item : ℤ × ℕ → Item
+time_item t = Time t.0 t.1
+
+abbrev pub tree_item : TreeLine → Item
+tree_item (lines.Slack row k) = Slack row k
+tree_item (lines.Offset cycle k) = Offset cycle k
+tree_item (lines.Bound ps) = Bound ps
+tree_item (lines.Nothing ps) = Nothing ps
+tree_item (lines.Gap cycle) = Gap cycle
+
+-- period, answer, times, cycles, tree and end
+abbrev pub items_of : Content → List Item
+items_of c = Period c.period ∷ Says c.answer ∷ map time_item c.times ++ map Cycle c.cycles ++ map tree_item c.tree ++ End ∷ []
+
+-- the one text of a certificate
+abbrev pub spelling : Content → List ℕ
+spelling c = text_of (items_of c)
+
+-- what has a text
+pub record HasText (c : Content) : Type 0 where
+  pub run : IsRun start (items_of c)
+
+-- no text begins another, and each has one meaning
+abbrev pub NoneBeginsAnother : Type 0
+NoneBeginsAnother = (a b : Content) (more : List ℕ) → HasText a → HasText b → spelling a ++ more ≡ spelling b → (a ≡ b) × (more ≡ [])

@@ -1,0 +1,78 @@
+//! The parts of a certificate while its text is read.
+
+ghost use Rattle.std.specs.Prelude.{◌≡◌, IfOk, OnOk};
+ghost use Rattle.pesp_cert.specs.Drafts.{blank, added};
+
+use pesp_lines::{Item, LinePairs, SignedRows};
+use pesp_problem::{Memory, Pairs, Walk};
+use pesp_truth::{Answer, TreeLine};
+use std::alloc::Global;
+use std::marker::Model;
+
+/// What the lines of a text said so far.
+#[derive(Drop)]
+pub(crate) struct Draft {
+    pub(crate) period: u32,
+    pub(crate) answer: Answer,
+    pub(crate) times: Vec<(i64, u32)>,
+    pub(crate) cycles: Vec<Walk>,
+    pub(crate) tree: Vec<TreeLine>,
+}
+
+impl Model for Draft {
+    ghost use Rattle.pesp_truth.specs.Certificates.{Content};
+
+    ghost Value = { Content };
+
+    ghost view = { λ d. record { period = d.period; answer = d.answer; times = d.times.items; cycles = d.cycles.items; tree = d.tree.items } };
+}
+
+/// The walk along these rows.
+fn walk_of(alloc: Global, rows: SignedRows<'_>) -> Result<Walk, Memory>
+    ensures { IfOk result (λ walk. walk ≡ rows.entry) }
+{
+    let rows = rows.collect(alloc)?;
+    Ok(Walk::new(rows))
+}
+
+/// The list of these pairs.
+fn pairs_of(alloc: Global, pairs: LinePairs<'_>) -> Result<Pairs, Memory>
+    ensures { IfOk result (λ list. list ≡ pairs.entry) }
+{
+    let pairs = pairs.collect(alloc)?;
+    Ok(Pairs::new(pairs))
+}
+
+impl Draft {
+    /// Nothing was said so far.
+    pub(crate) fn new(alloc: Global) -> Draft
+        ensures { result ≡ blank }
+    {
+        Draft {
+            period: 0,
+            answer: Answer::Infeasible,
+            times: Vec::new(alloc),
+            cycles: Vec::new(alloc),
+            tree: Vec::new(alloc),
+        }
+    }
+
+    /// Adds what the next line says.
+    pub(crate) fn add(&mut self, alloc: Global, item: Item<'_>) -> Result<(), Memory>
+        ensures { OnOk result (self.new ≡ added self.old item.entry) }
+    {
+        match item {
+            Item::Period(period) => self.period = period,
+            Item::Answer(answer) => self.answer = answer,
+            Item::Time(label, time) => self.times.push((label, time))?,
+            Item::Cycle(rows) => self.cycles.push(walk_of(alloc, rows)?)?,
+            Item::Slack { row, k } => self.tree.push(TreeLine::Slack { row, k })?,
+            Item::Offset { cycle, k } => self.tree.push(TreeLine::Offset { cycle, k })?,
+            Item::Bound(pairs) => self.tree.push(TreeLine::Bound(pairs_of(alloc, pairs)?))?,
+            Item::Nothing(pairs) => self.tree.push(TreeLine::Nothing(pairs_of(alloc, pairs)?))?,
+            Item::Gap(cycle) => self.tree.push(TreeLine::Gap(cycle))?,
+            Item::End => {}
+        }
+        Ok(())
+    }
+}

@@ -1,0 +1,20 @@
+//! Certificates: what a solver claims with what shows it, as one value with one text.
+#![tactic(auto)]
+
+mod certificate;
+mod draft;
+pub mod laws;
+mod limits;
+mod parsing;
+mod printing;
+mod refusal;
+
+pub use certificate::{Certificate, NotACertificate};
+pub use parsing::parse;
+pub use pesp_problem::{Pair, Pairs, SignedRow, Walk};
+pub use pesp_truth::{Answer, TreeLine};
+pub use printing::print;
+pub use refusal::CertRefusal;
+
+#[cfg(test)]
+mod tests;

@@ -1,0 +1,225 @@
+//! The limits of a certificate's parts.
+
+ghost use Rattle.std.specs.Prelude.{◌≡◌, nat_le, map};
+ghost use Rattle.pesp_lines.specs.Rows.{is_name, rows_are_named};
+ghost use Rattle.pesp_lines.specs.Pairs.{all_within, is_pair_within};
+ghost use Rattle.pesp_truth.specs.Trees.{are_trees};
+ghost use Rattle.pesp_truth.specs.Certificates.{line_of, Content};
+ghost use Rattle.pesp_cert.specs.Limits.{is_period, is_cost, has_costs, is_time, are_times, is_cycle, total_rows, are_cycles, follows, rise_from, are_pairs, is_line, is_branch, pairs_in, total_pairs, are_lines, keeps_limits};
+ghost use Rattle.std.specs.List.{list_all};
+
+use pesp_problem::{Pair, SignedRow, Walk};
+use pesp_truth::{Answer, TreeLine};
+
+/// Costs below this number have at most 18 digits.
+const COSTS: u64 = 1_000_000_000_000_000_000;
+
+fn has_costs(answer: Answer) -> bool
+    ensures { result ≡ has_costs answer }
+{
+    match answer {
+        Answer::Optimal(cost) => cost < COSTS,
+        Answer::Infeasible => true,
+        Answer::Bounded { least, cost: None } => least < COSTS,
+        Answer::Bounded {
+            least,
+            cost: Some(cost),
+        } => least < COSTS && cost < COSTS,
+    }
+}
+
+fn is_period(period: u32) -> bool
+    ensures { result ≡ is_period period }
+{
+    1 <= period && period <= 10_000
+}
+
+fn is_time(time: &(i64, u32)) -> bool
+    ensures { result ≡ is_time time.now }
+{
+    time.0.unsigned_abs() <= 1_000_000_000_000 && time.1 <= 9_999
+}
+
+fn each_is_time(times: &[(i64, u32)]) -> bool
+    ensures { result ≡ list_all is_time times.now }
+{
+    times.iter().all(|time| is_time(time))
+}
+
+fn are_times(times: &[(i64, u32)]) -> bool
+    ensures { result ≡ are_times times.now }
+{
+    times.len() <= 100_000 && each_is_time(times)
+}
+
+/// Whether a row or a cycle may have this number.
+fn is_name(number: u32) -> bool
+    ensures { result ≡ is_name number }
+{
+    1 <= number && number <= 100_000
+}
+
+fn each_is_named(rows: &[SignedRow]) -> bool
+    ensures { result ≡ rows_are_named rows.now }
+{
+    rows.iter().all(|row| is_name(row.row))
+}
+
+fn is_cycle(walk: &Walk) -> bool
+    ensures { result ≡ is_cycle walk.now }
+{
+    1 <= walk.rows().len() && each_is_named(walk.rows())
+}
+
+fn each_is_cycle(cycles: &[Walk]) -> bool
+    ensures { result ≡ list_all is_cycle cycles.now }
+{
+    cycles.iter().all(|walk| is_cycle(walk))
+}
+
+/// Whether the table has at most 10,000,000 signed rows.
+fn has_few_rows(cycles: &[Walk]) -> bool
+    ensures { result ≡ nat_le (total_rows cycles.now) 10000000 }
+{
+    let mut left = 10_000_000usize;
+    for walk in cycles {
+        match left.checked_sub(walk.rows().len()) {
+            None => return false,
+            Some(others) => left = others,
+        }
+    }
+    true
+}
+
+fn are_cycles(cycles: &[Walk]) -> bool
+    ensures { result ≡ are_cycles cycles.now }
+{
+    cycles.len() <= 100_000 && has_few_rows(cycles) && each_is_cycle(cycles)
+}
+
+/// Whether the pair has a cycle number of at least `least` and a multiplier other than 0.
+fn follows(least: u64, pair: &Pair) -> bool
+    ensures { result ≡ follows least pair.now }
+{
+    least <= u64::from(pair.cycle) && pair.mult != 0
+}
+
+/// Whether the cycle numbers rise and no multiplier is 0.
+fn rise(pairs: &[Pair]) -> bool
+    ensures { result ≡ rise_from 0 pairs.now }
+{
+    let mut least = 0u64;
+    for pair in pairs {
+        if !follows(least, pair) {
+            return false;
+        }
+        least = u64::from(pair.cycle) + 1;
+    }
+    true
+}
+
+fn is_pair_within(pair: &Pair) -> bool
+    ensures { result ≡ is_pair_within pair.now }
+{
+    1 <= pair.cycle && pair.cycle <= 100_000 && pair.mult.unsigned_abs() <= 1_000_000_000_000
+}
+
+fn each_is_within(pairs: &[Pair]) -> bool
+    ensures { result ≡ all_within pairs.now }
+{
+    pairs.iter().all(|pair| is_pair_within(pair))
+}
+
+fn are_pairs(pairs: &[Pair]) -> bool
+    ensures { result ≡ are_pairs pairs.now }
+{
+    rise(pairs) && each_is_within(pairs)
+}
+
+fn is_line(line: &TreeLine) -> bool
+    ensures { result ≡ is_line line.now }
+{
+    match line {
+        TreeLine::Slack { row, k } => is_name(*row) && *k <= 9_999,
+        TreeLine::Offset { cycle, k } => is_name(*cycle) && k.unsigned_abs() <= 100_000_000_000_000,
+        TreeLine::Bound(pairs) | TreeLine::Nothing(pairs) => are_pairs(pairs.as_slice()),
+        TreeLine::Gap(cycle) => is_name(*cycle),
+    }
+}
+
+fn pairs_in(line: &TreeLine) -> usize
+    ensures { result ≡ pairs_in line.now }
+{
+    match line {
+        TreeLine::Bound(pairs) | TreeLine::Nothing(pairs) => pairs.as_slice().len(),
+        TreeLine::Slack { .. } | TreeLine::Offset { .. } | TreeLine::Gap(_) => 0,
+    }
+}
+
+/// Whether the tree has at most 20,000,000 pairs.
+fn has_few_pairs(lines: &[TreeLine]) -> bool
+    ensures { result ≡ nat_le (total_pairs lines.now) 20000000 }
+{
+    let mut left = 20_000_000usize;
+    for line in lines {
+        match left.checked_sub(pairs_in(line)) {
+            None => return false,
+            Some(others) => left = others,
+        }
+    }
+    true
+}
+
+fn is_branch(line: &TreeLine) -> bool
+    ensures { result ≡ is_branch line.now }
+{
+    matches!(line, TreeLine::Slack { .. } | TreeLine::Offset { .. })
+}
+
+/// Whether the lines are one tree in preorder.
+fn are_one_tree(lines: &[TreeLine]) -> bool
+    ensures { result ≡ are_trees 1 (map line_of lines.now) }
+{
+    let mut needs = 1usize;
+    for line in lines {
+        if needs == 0 {
+            return false;
+        }
+        if is_branch(line) {
+            needs += 1;
+        } else {
+            needs -= 1;
+        }
+    }
+    needs == 0
+}
+
+fn each_is_line(lines: &[TreeLine]) -> bool
+    ensures { result ≡ list_all is_line lines.now }
+{
+    lines.iter().all(|line| is_line(line))
+}
+
+fn are_lines(lines: &[TreeLine]) -> bool
+    ensures { result ≡ are_lines lines.now }
+{
+    lines.len() <= 1_000_000 && has_few_pairs(lines) && each_is_line(lines) && are_one_tree(lines)
+}
+
+/// Whether these parts may be a certificate's.
+#[tactic(auto, unfolding(crate::specs::Limits::keeps_limits))]
+pub(crate) fn keep_limits(
+    period: u32,
+    answer: Answer,
+    times: &[(i64, u32)],
+    cycles: &[Walk],
+    tree: &[TreeLine],
+) -> bool
+    ensures { result ≡ keeps_limits (record { period = period; answer = answer; times = times.now; cycles = cycles.now; tree = tree.now }) }
+{
+    is_period(period)
+        && has_costs(answer)
+        && are_times(times)
+        && are_cycles(cycles)
+        && are_lines(tree)
+}

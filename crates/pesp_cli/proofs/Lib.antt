@@ -1,0 +1,2 @@
+pub mod FirstPaths
+pub mod RunLemmas

@@ -1,0 +1,84 @@
+-- Each fault's line and exit status.
+use Rattle.std.specs.Prelude.{ℕ, List, ◌++◌, codes, decimal}
+use Rattle.pesp_instance.specs.declared.refusal.ReadRefusal.{ReadRefusal}
+use Rattle.pesp_instance.specs.declared.refusal.ReadRefusal.TheVariants.{Period, TextTooLong, FieldCount, NotANumber, OutOfRange, BoundsCrossed, TooManyRows, TooManyEvents, Memory as NoMemory}
+use Rattle.pesp_stream.specs.declared.reading.ReadFault.{ReadFault}
+use Rattle.pesp_stream.specs.declared.reading.ReadFault.TheVariants.{Memory as ReadMemory, Device}
+use Rattle.pesp_report.specs.declared.refusal.TimesRefusal.{TimesRefusal}
+use Rattle.pesp_report.specs.declared.refusal.TimesRefusal.TheVariants.{BadLine, WrongCount, Memory as TimesMemory}
+use Rattle.pesp_report.specs.declared.refusal.ReportRefusal.{ReportRefusal}
+use Rattle.pesp_report.specs.declared.refusal.ReportRefusal.TheVariants.{Violates, NotTimes, Memory as ReportMemory, Write as ReportWrite}
+use Rattle.pesp_cli.specs.declared.fault.Fault.{Fault}
+use Rattle.pesp_cli.specs.declared.fault.Fault.TheVariants.{Instance, Times, Report, Memory, Read, Write, NoFile}
+
+-- a refusal of memory is told as such
+abbrev pub instance_fault : ReadRefusal → Fault
+instance_fault NoMemory = Memory
+instance_fault refusal = Instance refusal
+
+abbrev pub times_fault : TimesRefusal → Fault
+times_fault TimesMemory = Memory
+times_fault refusal = Times refusal
+
+-- and a writer's fault too
+abbrev pub report_fault : ReportRefusal → Fault
+report_fault ReportMemory = Memory
+report_fault ReportWrite = Write
+report_fault refusal = Report refusal
+
+abbrev pub read_fault : ReadFault → Fault
+read_fault ReadMemory = Memory
+read_fault Device = Read
+
+-- the record's number
+abbrev pub at_record : ℕ → List ℕ
+at_record at = codes " record " ++ decimal at
+
+-- the record's number and the field's
+abbrev pub at_field : ℕ → ℕ → List ℕ
+at_field at field = codes " record " ++ decimal at ++ codes " field " ++ decimal field
+
+-- number, name and place of a refusal of an instance's text
+abbrev pub instance_line : ReadRefusal → List ℕ
+instance_line Period = codes "1 Period"
+instance_line TextTooLong = codes "2 TextTooLong"
+instance_line (FieldCount at) = codes "3 FieldCount" ++ at_record at
+instance_line (NotANumber at field) = codes "4 NotANumber" ++ at_field at field
+instance_line (OutOfRange at field) = codes "5 OutOfRange" ++ at_field at field
+instance_line (BoundsCrossed at) = codes "6 BoundsCrossed" ++ at_record at
+instance_line (TooManyRows at) = codes "7 TooManyRows" ++ at_record at
+instance_line (TooManyEvents at) = codes "8 TooManyEvents" ++ at_record at
+instance_line NoMemory = codes "9 Memory"
+
+-- number, name and line of a refusal of a times text
+abbrev pub times_line : TimesRefusal → List ℕ
+times_line (BadLine n) = codes "1 BadLine line " ++ decimal n
+times_line WrongCount = codes "2 WrongCount"
+times_line TimesMemory = codes "3 Memory"
+
+-- number, name and row of a refusal of a report
+abbrev pub report_line : ReportRefusal → List ℕ
+report_line (Violates row) = codes "1 Violates row " ++ decimal row
+report_line NotTimes = codes "2 NotTimes"
+report_line ReportMemory = codes "3 Memory"
+report_line ReportWrite = codes "4 Write"
+
+-- the line of a fault, without its line feed
+abbrev pub fault_line : Fault → List ℕ
+fault_line (Instance refusal) = codes "instance: " ++ instance_line refusal
+fault_line (Times refusal) = codes "times: " ++ times_line refusal
+fault_line (Report refusal) = codes "report: " ++ report_line refusal
+fault_line Memory = codes "memory"
+fault_line Read = codes "device: read"
+fault_line Write = codes "device: write"
+fault_line NoFile = codes "device: no file"
+
+-- 1 for times that violate a row, 3 for a text that is refused, 4 for memory and devices
+abbrev pub exit_status : Fault → ℕ
+exit_status (Instance refusal) = 3
+exit_status (Times refusal) = 3
+exit_status (Report refusal) = 1
+exit_status Memory = 4
+exit_status Read = 4
+exit_status Write = 4
+exit_status NoFile = 4

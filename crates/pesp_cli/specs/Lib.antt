@@ -1,0 +1,4 @@
+pub mod FirstPath
+pub mod Runs
+pub mod FaultLines
+pub mod Requests

@@ -1,0 +1,123 @@
+-- What runs read and write, and when they tell which fault.
+use Rattle.std.specs.Prelude.{◌≡◌, ℕ, List, Option, Ok, Err, IfSome}
+use Rattle.std.specs.Io.KnownBytes.{Consumes, IsAtEnd}
+use Rattle.pesp_stream.specs.Reading.{ReadsText}
+use Rattle.pesp_stream.specs.Writing.{AppendsFront}
+use Rattle.pesp_problem.specs.Timetables.{Pesp, IsTimetable}
+use Rattle.pesp_problem.specs.Scores.{IsFirstViolated}
+use Rattle.pesp_instance.specs.Instance.{instance_of}
+use Rattle.pesp_instance.specs.declared.refusal.ReadRefusal.{ReadRefusal}
+use Rattle.pesp_truth.specs.Truth.{IsTrueAnswer}
+use Rattle.pesp_truth.specs.Certificates.{Content, IsValid, shown_times}
+use Rattle.pesp_cert.specs.Texts.{spelling}
+use Rattle.pesp_report.specs.TimesText.{times_of}
+use Rattle.pesp_report.specs.Report.{IsReport}
+use Rattle.pesp_report.specs.declared.refusal.TimesRefusal.{TimesRefusal}
+use Rattle.pesp_report.specs.declared.refusal.ReportRefusal.{ReportRefusal}
+use Rattle.pesp_report.specs.declared.refusal.ReportRefusal.TheVariants.{Violates, NotTimes, Memory as ReportMemory, Write as ReportWrite}
+use Rattle.pesp_cli.specs.FirstPath.{IsFirst}
+use Rattle.pesp_cli.specs.declared.fault.Fault.{Fault}
+use Rattle.pesp_cli.specs.declared.fault.Fault.TheVariants.{Instance, Times, Report, Memory, Read, Write, NoFile}
+
+-- ---- the instance, which each run reads first
+
+-- the text is all that the reader had, and it has no more; where it tells its bytes, they are the text
+pub record ReadsAll (told left : Option (List ℕ)) (text : List ℕ) : Type 0 where
+  pub consumed : Consumes told left text
+  pub ended : IsAtEnd left
+  pub whole : IfSome told (λ bytes. bytes ≡ text)
+
+-- the reader's text is this instance with the period
+pub record ReadsInstance (told left : Option (List ℕ)) (period : ℕ) (p : Pesp) : Type 0 where
+  pub text : List ℕ
+  pub read : ReadsAll told left text
+  pub is_instance : instance_of text period ≡ Ok p
+
+-- the bytes that were read are no instance for this reason, and where the reader tells its bytes, all of them aren't either
+pub record RefusesInstance (told left : Option (List ℕ)) (period : ℕ) (refusal : ReadRefusal) : Type 0 where
+  pub bytes : List ℕ
+  pub read : ReadsText told left 16777217 bytes
+  pub refused : instance_of bytes period ≡ Err refusal
+  pub whole : IfSome told (λ text. instance_of text period ≡ Err refusal)
+
+-- why there is no instance: its text, or the reader's device; what memory is refused is the runtime's matter
+abbrev pub InstanceCause : Fault → Option (List ℕ) → Option (List ℕ) → ℕ → Type 0 → Type 0
+InstanceCause (Instance refusal) told left period failed = RefusesInstance told left period refusal
+InstanceCause (Times refusal) told left period failed = ⊥
+InstanceCause (Report refusal) told left period failed = ⊥
+InstanceCause Memory told left period failed = Unit {0}
+InstanceCause Read told left period failed = failed
+InstanceCause Write told left period failed = ⊥
+InstanceCause NoFile told left period failed = ⊥
+
+-- ---- solve
+
+-- the reader's text has an instance, and the writer got what the relation says of the text of its first certificate, which is valid and so true
+pub record Solves (told left : Option (List ℕ)) (period : ℕ) (Gets : List ℕ → Type 0) : Type 0 where
+  pub instance : Pesp
+  pub read : ReadsInstance told left period instance
+  pub certificate : Content
+  pub first : IsFirst instance certificate
+  pub valid : IsValid instance certificate
+  pub is_true : IsTrueAnswer instance certificate.answer (shown_times certificate)
+  pub written : Gets (spelling certificate)
+
+-- each fault of `solve` and its cause
+abbrev pub SolveCause : Fault → Option (List ℕ) → Option (List ℕ) → ℕ → Option (List ℕ) → Option (List ℕ) → Type 0 → Type 0 → Type 0
+SolveCause (Instance refusal) told left period old new read_failed write_failed = RefusesInstance told left period refusal
+SolveCause (Times refusal) told left period old new read_failed write_failed = ⊥
+SolveCause (Report refusal) told left period old new read_failed write_failed = ⊥
+SolveCause Memory told left period old new read_failed write_failed = Unit {0}
+SolveCause Read told left period old new read_failed write_failed = read_failed
+SolveCause Write told left period old new read_failed write_failed = write_failed × Solves told left period (AppendsFront old new)
+SolveCause NoFile told left period old new read_failed write_failed = ⊥
+
+-- ---- report
+
+-- the readers' texts have an instance and its times
+pub record ReadsTimes (told left told_times left_times : Option (List ℕ)) (period : ℕ) (p : Pesp) (times : List ℕ) : Type 0 where
+  pub read : ReadsInstance told left period p
+  pub text : List ℕ
+  pub read_times : ReadsText told_times left_times 1073741824 text
+  pub are_times : times_of p text ≡ Ok times
+
+-- the readers' texts have an instance and a timetable of it, and the writer got what the relation says of its report
+pub record Reports (told left told_times left_times : Option (List ℕ)) (period : ℕ) (Gets : List ℕ → Type 0) : Type 0 where
+  pub instance : Pesp
+  pub times : List ℕ
+  pub read : ReadsTimes told left told_times left_times period instance times
+  pub timetable : IsTimetable instance times
+  pub report : List ℕ
+  pub is_report : IsReport instance times report
+  pub written : Gets report
+
+-- the first text has an instance, and the bytes that were read of the second one give no times to it, for this reason
+pub record RefusesTimes (told left told_times left_times : Option (List ℕ)) (period : ℕ) (refusal : TimesRefusal) : Type 0 where
+  pub instance : Pesp
+  pub read : ReadsInstance told left period instance
+  pub bytes : List ℕ
+  pub read_times : ReadsText told_times left_times 1073741824 bytes
+  pub refused : times_of instance bytes ≡ Err refusal
+
+-- the texts have an instance and times, and this is the first row that the times leave unsatisfied
+pub record ViolatesRow (told left told_times left_times : Option (List ℕ)) (period row : ℕ) : Type 0 where
+  pub instance : Pesp
+  pub times : List ℕ
+  pub read : ReadsTimes told left told_times left_times period instance times
+  pub first : IsFirstViolated instance times row
+
+abbrev pub ReportRefused : ReportRefusal → Option (List ℕ) → Option (List ℕ) → Option (List ℕ) → Option (List ℕ) → ℕ → Type 0
+ReportRefused (Violates row) told left told_times left_times period = ViolatesRow told left told_times left_times period row
+ReportRefused NotTimes told left told_times left_times period = ⊥
+ReportRefused ReportMemory told left told_times left_times period = ⊥
+ReportRefused ReportWrite told left told_times left_times period = ⊥
+
+-- each fault of `report` and its cause; the second reader is called only where the first text has an instance
+abbrev pub ReportCause : Fault → Option (List ℕ) → Option (List ℕ) → Option (List ℕ) → Option (List ℕ) → ℕ → Option (List ℕ) → Option (List ℕ) → Type 0 → Type 0 → Type 0
+ReportCause (Instance refusal) told left told_times left_times period old new read_failed write_failed = RefusesInstance told left period refusal
+ReportCause (Times refusal) told left told_times left_times period old new read_failed write_failed = RefusesTimes told left told_times left_times period refusal
+ReportCause (Report refusal) told left told_times left_times period old new read_failed write_failed = ReportRefused refusal told left told_times left_times period
+ReportCause Memory told left told_times left_times period old new read_failed write_failed = Unit {0}
+ReportCause Read told left told_times left_times period old new read_failed write_failed = read_failed
+ReportCause Write told left told_times left_times period old new read_failed write_failed = write_failed × Reports told left told_times left_times period (AppendsFront old new)
+ReportCause NoFile told left told_times left_times period old new read_failed write_failed = ⊥

@@ -1,0 +1,218 @@
+//! Faults, as lines and as exit statuses.
+
+ghost use Rattle.std.specs.Prelude.{◌≡◌};
+ghost use Rattle.pesp_cli.specs.FaultLines.{exit_status};
+
+use pesp_instance::ReadRefusal;
+use pesp_problem::Memory as NoMemory;
+use pesp_report::{ReportRefusal, TimesRefusal};
+use pesp_stream::{ReadFault, WriteFault};
+use std::fmt;
+
+/// Why a run didn't write its whole answer. A lower layer's refusal of memory is told as `Memory`, and its fault of a
+/// writer as `Write`.
+#[derive(Debug, Drop)]
+pub enum Fault {
+    /// The text of the instance is refused.
+    Instance(ReadRefusal),
+    /// The text of the times is refused.
+    Times(TimesRefusal),
+    /// There is no report of the times.
+    Report(ReportRefusal),
+    /// A growth of memory was refused.
+    Memory,
+    /// A reader failed, or was interrupted more than 1000 times.
+    Read,
+    /// A writer failed, took no byte, or was interrupted more than 1000 times.
+    Write,
+    /// A file that was named can't be opened.
+    NoFile,
+}
+
+impl From<ReadRefusal> for Fault {
+    ghost use Rattle.std.specs.Prelude.{◌≡◌};
+    ghost use Rattle.pesp_cli.specs.FaultLines.{instance_fault};
+
+    ghost from_gives = { λ refusal fault. fault ≡ instance_fault refusal };
+
+    fn from(refusal: ReadRefusal) -> Fault {
+        match refusal {
+            ReadRefusal::Memory => Fault::Memory,
+            _ => Fault::Instance(refusal),
+        }
+    }
+}
+
+impl From<TimesRefusal> for Fault {
+    ghost use Rattle.std.specs.Prelude.{◌≡◌};
+    ghost use Rattle.pesp_cli.specs.FaultLines.{times_fault};
+
+    ghost from_gives = { λ refusal fault. fault ≡ times_fault refusal };
+
+    fn from(refusal: TimesRefusal) -> Fault {
+        match refusal {
+            TimesRefusal::Memory => Fault::Memory,
+            _ => Fault::Times(refusal),
+        }
+    }
+}
+
+impl From<ReportRefusal> for Fault {
+    ghost use Rattle.std.specs.Prelude.{◌≡◌};
+    ghost use Rattle.pesp_cli.specs.FaultLines.{report_fault};
+
+    ghost from_gives = { λ refusal fault. fault ≡ report_fault refusal };
+
+    fn from(refusal: ReportRefusal) -> Fault {
+        match refusal {
+            ReportRefusal::Memory => Fault::Memory,
+            ReportRefusal::Write => Fault::Write,
+            _ => Fault::Report(refusal),
+        }
+    }
+}
+
+impl From<ReadFault> for Fault {
+    ghost use Rattle.std.specs.Prelude.{◌≡◌};
+    ghost use Rattle.pesp_cli.specs.FaultLines.{read_fault};
+
+    ghost from_gives = { λ refused fault. fault ≡ read_fault refused };
+
+    fn from(refused: ReadFault) -> Fault {
+        match refused {
+            ReadFault::Memory => Fault::Memory,
+            ReadFault::Device => Fault::Read,
+        }
+    }
+}
+
+impl From<WriteFault> for Fault {
+    ghost use Rattle.std.specs.Prelude.{◌≡◌};
+    ghost use Rattle.pesp_cli.specs.declared.fault.Fault.TheVariants.{Write};
+
+    ghost from_gives = { λ _ fault. fault ≡ Write };
+
+    fn from(_refused: WriteFault) -> Fault {
+        Fault::Write
+    }
+}
+
+impl From<NoMemory> for Fault {
+    ghost use Rattle.std.specs.Prelude.{◌≡◌};
+    ghost use Rattle.pesp_cli.specs.declared.fault.Fault.TheVariants.{Memory};
+
+    ghost from_gives = { λ _ fault. fault ≡ Memory };
+
+    fn from(_refused: NoMemory) -> Fault {
+        Fault::Memory
+    }
+}
+
+/// A refusal of an instance's text: its number, its name and its place.
+#[derive(Drop)]
+struct InstanceLine<'a>(&'a ReadRefusal);
+
+impl fmt::Display for InstanceLine<'_> {
+    ghost use Rattle.std.specs.Prelude.{Some};
+    ghost use Rattle.pesp_cli.specs.FaultLines.{instance_line};
+
+    ghost output = { λ line. Some (instance_line line.0.now) };
+
+    fn fmt<W: fmt::Write>(&self, f: &mut fmt::Formatter<W>) -> fmt::Result {
+        match self.0 {
+            ReadRefusal::Period => f.write_str("1 Period"),
+            ReadRefusal::TextTooLong => f.write_str("2 TextTooLong"),
+            ReadRefusal::FieldCount { at } => write!(f, "3 FieldCount record {at}"),
+            ReadRefusal::NotANumber { at, field } => {
+                write!(f, "4 NotANumber record {at} field {field}")
+            }
+            ReadRefusal::OutOfRange { at, field } => {
+                write!(f, "5 OutOfRange record {at} field {field}")
+            }
+            ReadRefusal::BoundsCrossed { at } => write!(f, "6 BoundsCrossed record {at}"),
+            ReadRefusal::TooManyRows { at } => write!(f, "7 TooManyRows record {at}"),
+            ReadRefusal::TooManyEvents { at } => write!(f, "8 TooManyEvents record {at}"),
+            ReadRefusal::Memory => f.write_str("9 Memory"),
+        }
+    }
+}
+
+/// A refusal of a times text: its number, its name and its line.
+#[derive(Drop)]
+struct TimesLine<'a>(&'a TimesRefusal);
+
+impl fmt::Display for TimesLine<'_> {
+    ghost use Rattle.std.specs.Prelude.{Some};
+    ghost use Rattle.pesp_cli.specs.FaultLines.{times_line};
+
+    ghost output = { λ line. Some (times_line line.0.now) };
+
+    fn fmt<W: fmt::Write>(&self, f: &mut fmt::Formatter<W>) -> fmt::Result {
+        match self.0 {
+            TimesRefusal::BadLine { n } => write!(f, "1 BadLine line {n}"),
+            TimesRefusal::WrongCount => f.write_str("2 WrongCount"),
+            TimesRefusal::Memory => f.write_str("3 Memory"),
+        }
+    }
+}
+
+/// A refusal of a report: its number, its name and its row.
+#[derive(Drop)]
+struct ReportLine<'a>(&'a ReportRefusal);
+
+impl fmt::Display for ReportLine<'_> {
+    ghost use Rattle.std.specs.Prelude.{Some};
+    ghost use Rattle.pesp_cli.specs.FaultLines.{report_line};
+
+    ghost output = { λ line. Some (report_line line.0.now) };
+
+    fn fmt<W: fmt::Write>(&self, f: &mut fmt::Formatter<W>) -> fmt::Result {
+        match self.0 {
+            ReportRefusal::Violates { row } => write!(f, "1 Violates row {row}"),
+            ReportRefusal::NotTimes => f.write_str("2 NotTimes"),
+            ReportRefusal::Memory => f.write_str("3 Memory"),
+            ReportRefusal::Write => f.write_str("4 Write"),
+        }
+    }
+}
+
+/// The fault's line, without the line feed at its end.
+impl fmt::Display for Fault {
+    ghost use Rattle.std.specs.Prelude.{Some};
+    ghost use Rattle.pesp_cli.specs.FaultLines.{fault_line};
+
+    ghost output = { λ fault. Some (fault_line fault) };
+
+    fn fmt<W: fmt::Write>(&self, f: &mut fmt::Formatter<W>) -> fmt::Result {
+        match self {
+            Fault::Instance(refusal) => {
+                let line = InstanceLine(refusal);
+                write!(f, "instance: {line}")
+            }
+            Fault::Times(refusal) => {
+                let line = TimesLine(refusal);
+                write!(f, "times: {line}")
+            }
+            Fault::Report(refusal) => {
+                let line = ReportLine(refusal);
+                write!(f, "report: {line}")
+            }
+            Fault::Memory => f.write_str("memory"),
+            Fault::Read => f.write_str("device: read"),
+            Fault::Write => f.write_str("device: write"),
+            Fault::NoFile => f.write_str("device: no file"),
+        }
+    }
+}
+
+/// The exit status of the program for a fault: 1 for times that violate a row, 3 for a text that is refused, 4 for memory
+/// and devices.
+pub fn status_of(fault: &Fault) -> u8
+    ensures { result ≡ exit_status fault.now }
+{
+    match fault {
+        Fault::Report(_) => 1,
+        Fault::Instance(_) | Fault::Times(_) => 3,
+        Fault::Memory | Fault::Read | Fault::Write | Fault::NoFile => 4,
+    }
+}

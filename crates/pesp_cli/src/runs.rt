@@ -1,0 +1,106 @@
+//! The runs: whole texts in, whole texts out.
+
+ghost use Rattle.std.specs.Prelude.{◌≡◌, ◌≢◌, ◌⊎◌, ◌<◌, ◌≤◌, ◌^◌, OnOk, IfOk, IfErr};
+ghost use Rattle.std.specs.Io.KnownBytes.{Appends};
+ghost use Rattle.pesp_stream.specs.Counts.{DeviceFailed};
+ghost use Rattle.pesp_cli.specs.Runs.{ReadsInstance, InstanceCause, Solves, SolveCause, Reports, ReportCause};
+
+use crate::fault::Fault;
+use crate::first::first_certificate;
+use pesp_cert::print;
+use pesp_instance::read_instance;
+use pesp_problem::Instance;
+use pesp_report::{read_times, report};
+use pesp_stream::{Sink, Source, read_all};
+use std::alloc::Global;
+
+/// The longest text of an instance.
+const MOST_INSTANCE: usize = 16_777_216;
+
+/// How many bytes of a times text are read and judged.
+const MOST_TIMES: usize = 1_073_741_824;
+
+/// Reads an instance from all that the reader has; one byte more than the longest text is read, so that a longer one is
+/// refused.
+fn read_whole_instance<R: Source>(
+    alloc: Global,
+    reader: &mut R,
+    period: u32,
+) -> Result<Instance, Fault>
+    requires failed { R.failed reader.old < 2 ^ 63 }
+    requires interrupted { R.interrupted reader.old < 2 ^ 63 }
+    ensures ok { IfOk result (ReadsInstance (R.remaining reader.old) (R.remaining reader.new) period) }
+    ensures cause { IfErr result (λ fault. InstanceCause fault (R.remaining reader.old) (R.remaining reader.new) period
+        (DeviceFailed (R.failed reader.old) (R.interrupted reader.old) (R.failed reader.new) (R.interrupted reader.new))) }
+{
+    let text = read_all(alloc, reader, MOST_INSTANCE + 1)?;
+    let instance = read_instance(alloc, &text, period)?;
+    Ok(instance)
+}
+
+/// Reads an instance and writes a certificate for it; nothing is written before the whole certificate stands. `steps` is 0
+/// for now: the certificate is that of the times that are 0 for every event.
+///
+/// Where it answers Ok, the bytes written are the text of that certificate, it is valid for the instance of the bytes read,
+/// and its answer is true.
+pub fn run_solve<R: Source, W: Sink>(
+    alloc: Global,
+    reader: &mut R,
+    writer: &mut W,
+    period: u32,
+    steps: u32,
+) -> Result<(), Fault>
+    requires steps { steps ≤ 100000 }
+    requires failed_reads { R.failed reader.old < 2 ^ 62 }
+    requires interrupted_reads { R.interrupted reader.old < 2 ^ 62 }
+    requires failed_writes { W.failed writer.old < 2 ^ 62 }
+    requires interrupted_writes { W.interrupted writer.old < 2 ^ 62 }
+    ensures ok { OnOk result (Solves (R.remaining reader.old) (R.remaining reader.new) period
+        (Appends (W.contents writer.old) (W.contents writer.new))) }
+    ensures cause { IfErr result (λ fault. SolveCause fault (R.remaining reader.old) (R.remaining reader.new) period
+        (W.contents writer.old) (W.contents writer.new)
+        (DeviceFailed (R.failed reader.old) (R.interrupted reader.old) (R.failed reader.new) (R.interrupted reader.new))
+        (DeviceFailed (W.failed writer.old) (W.interrupted writer.old) (W.failed writer.new) (W.interrupted writer.new))) }
+
+    // Before the certificate stands the writer isn't called.
+    ensures silent { IfErr result (λ fault. fault ≢ Fault.Write → writer.new ≡ writer.old) }
+{
+    let _ = steps;
+    let instance = read_whole_instance(alloc, reader, period)?;
+    let certificate = first_certificate(alloc, &instance)?;
+    print(&certificate, writer)?;
+    Ok(())
+}
+
+/// Reads an instance and then times for its events, and writes the report of these times; the instance is judged before the
+/// times are read, and nothing is written where they are no timetable.
+pub fn run_report<R: Source, T: Source, W: Sink>(
+    alloc: Global,
+    instance_reader: &mut R,
+    times_reader: &mut T,
+    writer: &mut W,
+    period: u32,
+) -> Result<(), Fault>
+    requires failed_reads { R.failed instance_reader.old < 2 ^ 62 }
+    requires interrupted_reads { R.interrupted instance_reader.old < 2 ^ 62 }
+    requires failed_times_reads { T.failed times_reader.old < 2 ^ 62 }
+    requires interrupted_times_reads { T.interrupted times_reader.old < 2 ^ 62 }
+    requires failed_writes { W.failed writer.old < 2 ^ 62 }
+    requires interrupted_writes { W.interrupted writer.old < 2 ^ 62 }
+    ensures ok { OnOk result (Reports (R.remaining instance_reader.old) (R.remaining instance_reader.new)
+        (T.remaining times_reader.old) (T.remaining times_reader.new) period
+        (Appends (W.contents writer.old) (W.contents writer.new))) }
+    ensures cause { IfErr result (λ fault. ReportCause fault (R.remaining instance_reader.old) (R.remaining instance_reader.new)
+        (T.remaining times_reader.old) (T.remaining times_reader.new) period
+        (W.contents writer.old) (W.contents writer.new)
+        (DeviceFailed (R.failed instance_reader.old) (R.interrupted instance_reader.old) (R.failed instance_reader.new) (R.interrupted instance_reader.new)
+            ⊎ DeviceFailed (T.failed times_reader.old) (T.interrupted times_reader.old) (T.failed times_reader.new) (T.interrupted times_reader.new))
+        (DeviceFailed (W.failed writer.old) (W.interrupted writer.old) (W.failed writer.new) (W.interrupted writer.new))) }
+    ensures silent { IfErr result (λ fault. fault ≢ Fault.Write → writer.new ≡ writer.old) }
+{
+    let instance = read_whole_instance(alloc, instance_reader, period)?;
+    let text = read_all(alloc, times_reader, MOST_TIMES)?;
+    let times = read_times(alloc, &instance, &text)?;
+    report(alloc, &instance, &times, writer)?;
+    Ok(())
+}

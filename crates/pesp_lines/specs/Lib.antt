@@ -1,0 +1,5 @@
+pub mod Rows
+pub mod Pairs
+pub mod Items
+pub mod Counts
+pub mod Lines

@@ -1,0 +1,23 @@
+//! What one line says.
+
+use crate::pairs::LinePairs;
+use crate::rows::SignedRows;
+use pesp_truth::Answer;
+
+/// What one line behind the first says. The lists are read from the line itself.
+///
+/// `Time` has an event's label and its time. `Slack` and `Offset` are branches of the tree, with the part of 'at most `k`'
+/// first; `Bound`, `Nothing` and `Gap` are its leaves.
+#[derive(Debug, Drop)]
+pub enum Item<'a> {
+    Period(u32),
+    Answer(Answer),
+    Time(i64, u32),
+    Cycle(SignedRows<'a>),
+    Slack { row: u32, k: u32 },
+    Offset { cycle: u32, k: i64 },
+    Bound(LinePairs<'a>),
+    Nothing(LinePairs<'a>),
+    Gap(u32),
+    End,
+}

@@ -1,0 +1,16 @@
+//! The kinds of line.
+
+/// What the first word of a line says about it.
+#[derive(Clone, Copy, Debug, PartialEq, Eq)]
+pub enum Kind {
+    Period,
+    Answer,
+    Time,
+    Cycle,
+    Slack,
+    Offset,
+    Bound,
+    Nothing,
+    Gap,
+    End,
+}

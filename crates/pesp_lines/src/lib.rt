@@ -1,0 +1,19 @@
+//! The lines of a certificate's text: what one line says at its place, or its first fault.
+#![tactic(auto)]
+
+mod fault;
+mod item;
+mod judge;
+mod kind;
+mod kinds;
+mod line;
+mod pairs;
+mod progress;
+mod rows;
+
+pub use fault::LineFault;
+pub use item::Item;
+pub use line::take_line;
+pub use pairs::LinePairs;
+pub use progress::{Place, Progress};
+pub use rows::SignedRows;

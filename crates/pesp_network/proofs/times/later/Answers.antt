@@ -1,0 +1,11 @@
+use Rattle.std.proofs.Common.{◌≡◌, ℕ, ◌+◌, ◌*◌, ◌<◌, ◌≤◌, ◌-ℤ◌, ◌+ℤ◌, pos, arith, ap, ◌∙◌, ℤ}
+use Rattle.std.proofs.lemmas.Int.{ints}
+use Rattle.std.specs.Int.{int_rem_euclid}
+use Rattle.pesp_network.specs.Times.{IsSame}
+use Rattle.pesp_network.proofs.Timing.{later_is}
+use Rattle.pesp_network.proofs.times.later.Goals as goal
+
+pub returns-clause-same : goal.returns-clause-same
+returns-clause-same c =
+    let l = c.requires.lower in let m = c.requires.most in let s = c.requires.slack in let t = c.requires.time in
+    later_is c.args.period c.wrapped.result c.args.time c.args.slack c.args.row.now.lower _ c.requires.some c.wrapped.ensures.value (omega (arith, ints))

@@ -1,0 +1,11 @@
+use Rattle.std.proofs.Common.{◌≡◌, ◌<◌, ℕ, All}
+use Rattle.std.specs.Prelude.{Contains}
+use Rattle.pesp_network.specs.Growing.{at}
+use Rattle.pesp_network.specs.Rooted.{IsTreeRow}
+use Rattle.pesp_network.proofs.walks.forest_rows.Given as goal
+
+abbrev pub invariant-loop-event : goal.invariant-loop-event
+invariant-loop-event l = record {
+  tree : All (IsTreeRow l.forest) l.found.items;
+  all : (x : ℕ) → x < l.event → 0 < at l.forest.by.items x → Contains l.found.items (at l.forest.by.items x);
+}

@@ -1,0 +1,8 @@
+pub mod Networks
+pub mod Ends
+pub mod Growing
+pub mod Floods
+pub mod Rooted
+pub mod Ways
+pub mod Times
+pub mod Held

@@ -1,0 +1,51 @@
+//! The rows at each event.
+
+ghost use Rattle.std.specs.Prelude.{◌≡◌, ℕ, ◌+◌, ◌-◌, ◌<◌, ◌≤◌, ◌⊎◌, length, IfOk, vec_len};
+ghost use Rattle.pesp_network.specs.Networks.{arcs_of_network};
+ghost use Rattle.pesp_network.specs.Ends.{tail_of, head_of, HaveEnds};
+ghost use Rattle.pesp_network.specs.Growing.{IsNext};
+ghost use Rattle.pesp_network.specs.Floods.{AreChains};
+
+use crate::parts::Chains;
+use crate::row::NetRow;
+use std::alloc::{AllocError, Global};
+
+/// The chains of the rows between so many events.
+pub fn chain_rows(alloc: Global, events: usize, rows: &[NetRow]) -> Result<Chains, AllocError>
+    requires ends { HaveEnds events (arcs_of_network rows.now) }
+    requires count { length rows.now ≤ 100000 }
+    ensures { IfOk result (AreChains (arcs_of_network rows.now) events) }
+{
+    let mut first = vec![in alloc; 0usize; events]?;
+    let mut at_tail = vec![in alloc; 0usize; rows.len() + 1]?;
+    let mut at_head = vec![in alloc; 0usize; rows.len() + 1]?;
+    for (i, row) in rows.iter().enumerate() {
+        let tail = row.tail as usize;
+        let head = row.head as usize;
+        at_tail[i + 1] = first[tail];
+        at_head[i + 1] = first[head];
+        first[tail] = i + 1;
+        first[head] = i + 1;
+    }
+    Ok(Chains {
+        first,
+        at_tail,
+        at_head,
+    })
+}
+
+/// Which row comes next after the row k at an event, and the event at the other end of the row k.
+pub fn beyond(rows: &[NetRow], chains: &Chains, events: usize, event: usize, k: usize) -> (usize, usize)
+    requires row { (1 ≤ k) × (k ≤ length rows.now) }
+    requires at_event { (tail_of (arcs_of_network rows.now) k ≡ event) ⊎ (head_of (arcs_of_network rows.now) k ≡ event) }
+    requires chains { AreChains (arcs_of_network rows.now) events chains.now }
+    ensures next { IsNext (tail_of (arcs_of_network rows.now)) (head_of (arcs_of_network rows.now)) event k result.0 }
+    ensures ends { ((tail_of (arcs_of_network rows.now) k ≡ result.1) × (head_of (arcs_of_network rows.now) k ≡ event)) ⊎ ((head_of (arcs_of_network rows.now) k ≡ result.1) × (tail_of (arcs_of_network rows.now) k ≡ event)) }
+{
+    let row = rows[k - 1];
+    if row.tail as usize == event {
+        (chains.at_tail[k], row.head as usize)
+    } else {
+        (chains.at_head[k], row.tail as usize)
+    }
+}

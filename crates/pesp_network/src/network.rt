@@ -1,0 +1,199 @@
+//! Networks.
+
+ghost use Rattle.std.specs.Prelude.{◌≡◌, ℕ, ◌+◌, ◌<◌, ◌≤◌, ◌↔◌, length, slice_index, IsTrue, IfOk, IfErr, IfSome, IfNone, All, vec_len};
+ghost use Rattle.pesp_problem.specs.Arcs.{arcs_of, slacks_at};
+ghost use Rattle.pesp_problem.specs.Walks.{Names};
+ghost use Rattle.pesp_problem.specs.Forests.{IsSpanningForest, AreFundamental, IsSimple, IsBridge, IsFirstOf};
+ghost use Rattle.pesp_network.specs.Networks.{arcs_of_network, net_of_network, net_row_at, KeepsSizes, RowKeepsNetLimits, KeepsNetLimits, IsNewRefusal, IsTableRefusal, HasOpenRow, signed_rows};
+
+use crate::limits::{bad_row, rows_of};
+use crate::parts::{Forest, Reaches};
+use crate::refusal::NetRefusal;
+use crate::row::NetRow;
+use crate::{bridges, forest, times, walks};
+use pesp_problem::{Instance, Memory, Walk};
+use std::alloc::Global;
+use std::marker::Model;
+
+/// Rows between events, within their limits, with a spanning forest that is chosen when the network is made.
+#[derive(Drop)]
+pub struct Network {
+    period: u32,
+    events: usize,
+    rows: Vec<NetRow>,
+    forest: Forest,
+    reaches: Reaches,
+    kept: Vec<u32>,
+}
+
+impl Model for Network {
+    ghost use Rattle.pesp_network.specs.Networks.{NetworkValue};
+    ghost use Rattle.pesp_network.specs.Held.{IsHeld};
+
+    ghost Value = { NetworkValue };
+
+    ghost view = { λ n. record { period = n.period; events = n.events; rows = n.rows.items; forest = n.kept.items } };
+
+    ghost invariant = { λ n. IsHeld (record { period = n.period; events = n.events; rows = n.rows.items; forest = n.kept.items }) n.forest n.reaches };
+}
+
+impl Network {
+    // the network of these parts, which keep the limits
+    fn make(
+        alloc: Global,
+        period: u32,
+        events: u32,
+        rows: Vec<NetRow>,
+    ) -> Result<Network, Memory>
+        requires sizes { KeepsSizes period events }
+        requires few { length rows.items ≤ 100000 }
+        requires each { All (RowKeepsNetLimits period events) rows.items }
+        ensures period { IfOk result (λ n. n.period ≡ period) }
+        ensures events { IfOk result (λ n. n.events ≡ events) }
+        ensures rows { IfOk result (λ n. n.rows ≡ rows.items) }
+    {
+        let events = events as usize;
+        let forest = forest::forest_of(alloc, events, rows.as_slice())?;
+        let reaches = bridges::reach(alloc, events, rows.as_slice(), &forest)?;
+        let kept = walks::forest_rows(alloc, events, rows.as_slice(), &forest)?;
+        Ok(Network {
+            period,
+            events,
+            rows,
+            forest,
+            reaches,
+            kept,
+        })
+    }
+
+    /// The network of an instance: its period, its events and its rows in order, each with its span and with its number
+    /// as origin.
+    pub fn of(alloc: Global, instance: &Instance) -> Result<Network, Memory>
+        ensures period { IfOk result (λ n. n.period ≡ instance.now.period) }
+        ensures events { IfOk result (λ n. n.events ≡ length instance.now.events) }
+        ensures rows { IfOk result (λ n. arcs_of_network n.rows ≡ arcs_of instance.now) }
+        ensures origins { IfOk result (λ n. (i : ℕ) → i < length n.rows → (net_row_at n.rows i).origin ≡ i + 1) }
+    {
+        let period = instance.period();
+        let events = instance.events().len() as u32;
+        let rows = rows_of(alloc, period, events, instance.rows())?;
+        let network = Network::make(alloc, period, events, rows)?;
+        Ok(network)
+    }
+
+    /// The network of these parts. Refused as `BadRow { row: 0 }` where the period isn't 1 to 10000 or there are more
+    /// than 100000 events, else with the number of the first row that has an end that is no event, a span not below the
+    /// period, a lower bound beyond 1020000 by amount, a weight above 1000000000 or a place in the list above 100000.
+    pub fn new(
+        alloc: Global,
+        period: u32,
+        events: u32,
+        rows: Vec<NetRow>,
+    ) -> Result<Network, NetRefusal>
+        ensures period { IfOk result (λ n. n.period ≡ period) }
+        ensures events { IfOk result (λ n. n.events ≡ events) }
+        ensures rows { IfOk result (λ n. n.rows ≡ rows.items) }
+        ensures limits { IfOk result KeepsNetLimits }
+        ensures refused { IfErr result (IsNewRefusal period events rows.items) }
+    {
+        if let Some(row) = bad_row(period, events, rows.as_slice()) {
+            return Err(NetRefusal::BadRow { row });
+        }
+        let network = Network::make(alloc, period, events, rows)?;
+        Ok(network)
+    }
+
+    /// The period, in the instance's own unit.
+    pub fn period(&self) -> u32
+        ensures period { result ≡ self.now.period }
+        ensures limits { KeepsNetLimits self.now }
+    {
+        self.period
+    }
+
+    /// How many events there are.
+    pub fn events(&self) -> u32
+        ensures events { result ≡ self.now.events }
+        ensures limits { KeepsNetLimits self.now }
+    {
+        self.events as u32
+    }
+
+    /// The rows in order.
+    pub fn rows(&self) -> &[NetRow]
+        ensures rows { result.now ≡ self.now.rows }
+        ensures limits { KeepsNetLimits self.now }
+        ensures spans { IsSpanningForest (arcs_of_network self.now.rows) self.now.forest }
+    {
+        &self.rows
+    }
+
+    /// The rows of the network's spanning forest, by their numbers from 1; every call gives the same.
+    pub fn forest(&self, alloc: Global) -> Result<Vec<u32>, Memory>
+        ensures forest { IfOk result (λ rows. rows.items ≡ self.now.forest) }
+        ensures spans { IsSpanningForest (arcs_of_network self.now.rows) self.now.forest }
+    {
+        let rows = Vec::from_slice(alloc, self.kept.as_slice())?;
+        Ok(rows)
+    }
+
+    /// Whether a row, numbered from 1, is in no cycle: each walk passes it as often one way as the other.
+    pub fn is_bridge(&self, row: u32) -> bool
+        requires { Names (length self.now.rows) row }
+        ensures { IsTrue result ↔ IsBridge (arcs_of_network self.now.rows) row }
+    {
+        bridges::is_bridge(
+            self.events,
+            self.rows.as_slice(),
+            &self.forest,
+            &self.reaches,
+            row as usize,
+        )
+    }
+
+    /// The first event, in order, of those that are joined with this one.
+    pub fn first_of(&self, event: u32) -> u32
+        requires { event < self.now.events }
+        ensures { IsFirstOf (arcs_of_network self.now.rows) event result }
+    {
+        self.forest.root[event as usize] as u32
+    }
+
+    /// For each row outside the forest, by rising row, the walk that begins with this row under a plus sign and goes
+    /// back through rows of the forest alone (its fundamental walk). No walk passes an event or a row twice.
+    /// `TableTooLarge` only where these walks have more than 10000000 signed rows.
+    pub fn cycles(&self, alloc: Global) -> Result<Vec<Walk>, NetRefusal>
+        ensures fundamental { IfOk result (λ table. AreFundamental (arcs_of_network self.now.rows) self.now.forest table.items) }
+        ensures simple { IfOk result (λ table. All (IsSimple (arcs_of_network self.now.rows)) table.items) }
+        ensures small { IfOk result (λ table. signed_rows table.items ≤ 10000000) }
+        ensures refused { IfErr result (IsTableRefusal (arcs_of_network self.now.rows) self.now.forest) }
+    {
+        walks::walks(
+            alloc,
+            self.events,
+            self.rows.as_slice(),
+            &self.forest,
+        )
+    }
+
+    /// Times below the period with exactly these slacks, one for each row in order, or None where a fundamental walk has
+    /// no whole offset (cycle periodicity: Serafini and Ukovich 1989; Odijk 1996).
+    pub fn timetable_of(&self, alloc: Global, slacks: &[u32]) -> Result<Option<Vec<u32>>, Memory>
+        requires count { length slacks.now ≡ length self.now.rows }
+        requires below { All (λ y. y < self.now.period) slacks.now }
+        ensures count { IfOk result (λ o. IfSome o (λ times. vec_len times ≡ self.now.events)) }
+        ensures below { IfOk result (λ o. IfSome o (λ times. All (λ t. t < self.now.period) times.items)) }
+        ensures slacks { IfOk result (λ o. IfSome o (λ times. (i : ℕ) → i < length self.now.rows → slacks_at (net_of_network self.now) times.items i ≡ slice_index slacks.now i)) }
+        ensures none { IfOk result (λ o. IfNone o (HasOpenRow (net_of_network self.now) self.now.forest (slice_index slacks.now))) }
+    {
+        let found = times::timetable_of(
+            alloc,
+            self.period,
+            self.events,
+            self.rows.as_slice(),
+            &self.forest,
+            slacks,
+        )?;
+        Ok(found)
+    }
+}

@@ -1,0 +1,187 @@
+//! Fundamental walks.
+
+ghost use Rattle.std.specs.Prelude.{◌≡◌, ℕ, ◌+◌, ◌-◌, ◌<◌, ◌≤◌, ◌++◌, ◌==◌, ◌||◌, length, reverse, IfOk, IfErr, OnOk, All, vec_len};
+ghost use Rattle.pesp_problem.specs.Walks.{Names};
+ghost use Rattle.pesp_network.specs.Networks.{arcs_of_network, signed_rows};
+ghost use Rattle.pesp_network.specs.Growing.{at};
+ghost use Rattle.pesp_network.specs.Rooted.{Under, IsForest, AreTreeRows};
+ghost use Rattle.pesp_network.specs.Ways.{step_up, step_down, is_under, up_way, top, down_way, walk_of, walks_of, IsTooMany};
+
+use crate::parts::Forest;
+use crate::refusal::NetRefusal;
+use crate::row::NetRow;
+use pesp_problem::{SignedRow, Walk};
+use std::alloc::{AllocError, Global};
+
+/// How many signed rows a table of walks may have in all.
+const MOST_SIGNED_ROWS: usize = 10_000_000;
+
+// the row that joins an event to the one above it, from the event upwards
+fn upward(rows: &[NetRow], forest: &Forest, event: usize) -> SignedRow
+    requires event { event < vec_len forest.now.up }
+    requires row { Names (length rows.now) (at forest.now.by.items event) }
+    requires few { length rows.now ≤ 100000 }
+    ensures { result ≡ step_up (arcs_of_network rows.now) forest.now event }
+{
+    let by = forest.by[event];
+    SignedRow {
+        row: by as u32,
+        plus: rows[by - 1].tail as usize == event,
+    }
+}
+
+// the row that joins an event to the one above it, from there down to the event
+fn downward(rows: &[NetRow], forest: &Forest, event: usize) -> SignedRow
+    requires event { event < vec_len forest.now.up }
+    requires row { Names (length rows.now) (at forest.now.by.items event) }
+    requires few { length rows.now ≤ 100000 }
+    ensures { result ≡ step_down (arcs_of_network rows.now) forest.now event }
+{
+    let by = forest.by[event];
+    SignedRow {
+        row: by as u32,
+        plus: rows[by - 1].head as usize == event,
+    }
+}
+
+// whether an event is another one or lies below it in its tree
+fn is_above(forest: &Forest, upper: usize, lower: usize) -> bool
+    requires upper { upper < vec_len forest.now.up }
+    requires lower { lower < vec_len forest.now.up }
+    ensures { result ≡ is_under forest.now upper lower }
+{
+    let place = forest.place[lower];
+    forest.place[upper] <= place && place <= forest.last[upper]
+}
+
+// goes up from an event until it is above another one of its tree, and gives the event where it stops
+fn climb(
+    events: usize,
+    rows: &[NetRow],
+    forest: &Forest,
+    walk: &mut Vec<SignedRow>,
+    from: usize,
+    to: usize,
+) -> Result<usize, AllocError>
+    requires forest { IsForest events (arcs_of_network rows.now) forest.now }
+    requires from { from < events }
+    requires to { to < events }
+    requires one_tree { at forest.now.root.items from ≡ at forest.now.root.items to }
+    ensures walk { OnOk result (walk.new.items ≡ walk.old.items ++ up_way (arcs_of_network rows.now) forest.now to (at forest.now.place.items from) from) }
+    ensures top { IfOk result (λ u. u ≡ top forest.now to (at forest.now.place.items from) from) }
+{
+    let mut upper = from;
+    'climb: while !is_above(forest, upper, to) {
+        walk.push(upward(rows, forest, upper))?;
+        upper = forest.up[upper];
+    }
+    Ok(upper)
+}
+
+// the way from an event up to one above it, each row signed as the way down passes it
+fn descend(
+    alloc: Global,
+    events: usize,
+    rows: &[NetRow],
+    forest: &Forest,
+    from: usize,
+    to: usize,
+) -> Result<Vec<SignedRow>, AllocError>
+    requires forest { IsForest events (arcs_of_network rows.now) forest.now }
+    requires from { from < events }
+    requires to { to < events }
+    requires above { Under forest.now from to }
+    ensures { IfOk result (λ way. reverse way.items ≡ down_way (arcs_of_network rows.now) forest.now from (at forest.now.place.items to) to) }
+{
+    let mut way = Vec::new(alloc);
+    let mut lower = to;
+    'descent: while lower != from {
+        way.push(downward(rows, forest, lower))?;
+        lower = forest.up[lower];
+    }
+    Ok(way)
+}
+
+/// The walk that begins with the row k and goes back through rows of the forest.
+pub fn walk_back(
+    alloc: Global,
+    events: usize,
+    rows: &[NetRow],
+    forest: &Forest,
+    k: usize,
+) -> Result<Vec<SignedRow>, AllocError>
+    requires forest { IsForest events (arcs_of_network rows.now) forest.now }
+    requires row { Names (length rows.now) k }
+    ensures { IfOk result (λ walk. walk.items ≡ walk_of (arcs_of_network rows.now) forest.now k) }
+{
+    let row = rows[k - 1];
+    let tail = row.tail as usize;
+    let mut walk = Vec::new(alloc);
+    walk.push(SignedRow {
+        row: k as u32,
+        plus: true,
+    })?;
+    let upper = climb(events, rows, forest, &mut walk, row.head as usize, tail)?;
+    let mut down = descend(alloc, events, rows, forest, upper, tail)?;
+    down.reverse();
+    walk.extend_from_slice(down.as_slice())?;
+    Ok(walk)
+}
+
+// whether the row k joins one of its ends to the event above it
+fn is_kept(forest: &Forest, row: &NetRow, k: usize) -> bool
+    requires tail { row.now.tail < vec_len forest.now.up }
+    requires head { row.now.head < vec_len forest.now.up }
+    ensures { result ≡ ((at forest.now.by.items row.now.tail == k) || (at forest.now.by.items row.now.head == k)) }
+{
+    forest.by[row.tail as usize] == k || forest.by[row.head as usize] == k
+}
+
+/// The walks of the rows outside the forest, by rising row.
+pub fn walks(
+    alloc: Global,
+    events: usize,
+    rows: &[NetRow],
+    forest: &Forest,
+) -> Result<Vec<Walk>, NetRefusal>
+    requires { IsForest events (arcs_of_network rows.now) forest.now }
+    ensures table { IfOk result (λ table. table.items ≡ walks_of (arcs_of_network rows.now) forest.now (length rows.now)) }
+    ensures small { IfOk result (λ table. signed_rows table.items ≤ 10000000) }
+    ensures refused { IfErr result (IsTooMany (arcs_of_network rows.now) forest.now (length rows.now)) }
+{
+    let mut table = Vec::new(alloc);
+    let mut total: usize = 0;
+    for (i, row) in rows.iter().enumerate() {
+        if is_kept(forest, row, i + 1) {
+            continue;
+        }
+        let walk = walk_back(alloc, events, rows, forest, i + 1)?;
+        total += walk.len();
+        if total > MOST_SIGNED_ROWS {
+            return Err(NetRefusal::TableTooLarge);
+        }
+        table.push(Walk::new(walk))?;
+    }
+    Ok(table)
+}
+
+/// The rows of the forest.
+pub fn forest_rows(
+    alloc: Global,
+    events: usize,
+    rows: &[NetRow],
+    forest: &Forest,
+) -> Result<Vec<u32>, AllocError>
+    requires { IsForest events (arcs_of_network rows.now) forest.now }
+    ensures { IfOk result (λ found. AreTreeRows events forest.now found.items) }
+{
+    let mut found = Vec::new(alloc);
+    for event in 0..events {
+        let row = forest.by[event];
+        if row == 0 {
+            continue;
+        }
+        found.push(row as u32)?;
+    }
+    Ok(found)
+}

@@ -1,0 +1,3 @@
+pub mod TimeLines
+pub mod Told
+pub mod Order

@@ -1,0 +1,4 @@
+pub mod TimesText
+pub mod Report
+pub mod Written
+pub mod Reporting

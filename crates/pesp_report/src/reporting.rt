@@ -1,0 +1,64 @@
+//! The report of a timetable.
+
+ghost use Rattle.std.specs.Prelude.{◌≡◌, ◌<◌, ◌^◌, ℕ, List, IfOk, IfErr, OnOk};
+ghost use Rattle.std.specs.Io.KnownBytes.{Appends};
+ghost use Rattle.pesp_stream.specs.Counts.{DeviceFailed};
+ghost use Rattle.pesp_stream.specs.Writing.{AppendsFront};
+ghost use Rattle.pesp_problem.specs.Timetables.{AreTimes, IsTimetable, IsTimetableOfCost};
+ghost use Rattle.pesp_report.specs.Report.{IsReport};
+ghost use Rattle.pesp_report.specs.Reporting.{IfBlamed, Refuses, UnlessBlamed};
+
+use crate::line::{lines_of, slack_sum, sort_lines};
+use crate::records::text_of;
+use crate::refusal::ReportRefusal;
+use pesp_problem::{Instance, Memory, Score, score};
+use pesp_stream::{Bytes, Sink, print_to};
+use std::alloc::Global;
+
+/// Writes the report of a timetable, as records of csv: a header, a record for each row with its duration, its slack and
+/// its slack times its weight, the greatest of these first, and the sums.
+///
+/// `NotTimes` where there isn't one time below the period for each event, and `Violates` with the first row that isn't
+/// satisfied. After `Write` a front of the report is written, and after any other refusal nothing.
+pub fn report<W: Sink>(
+    alloc: Global,
+    instance: &Instance,
+    times: &[u32],
+    sink: &mut W,
+) -> Result<(), ReportRefusal>
+    requires failed_fits { W.failed sink.old < 2 ^ 63 }
+    requires interrupted_fits { W.interrupted sink.old < 2 ^ 63 }
+    ensures timetable { OnOk result (IsTimetable instance.now times.now) }
+    ensures refused { IfErr result (Refuses instance.now times.now) }
+
+    // The whole report is written at Ok, a front of it where the writer failed, and else nothing.
+    ensures text { OnOk result ((text : List ℕ) × IsReport instance.now times.now text
+        × Appends (W.contents sink.old) (W.contents sink.new) text) }
+    ensures front { IfErr result (λ e. IfBlamed e ((text : List ℕ) × IsReport instance.now times.now text
+        × AppendsFront (W.contents sink.old) (W.contents sink.new) text)) }
+    ensures fault { IfErr result (λ e. IfBlamed e
+        (DeviceFailed (W.failed sink.old) (W.interrupted sink.old) (W.failed sink.new) (W.interrupted sink.new))) }
+    ensures silent { IfErr result (λ e. UnlessBlamed e (sink.new ≡ sink.old)) }
+{
+    match score(instance, times) {
+        Score::NotTimes => Err(ReportRefusal::NotTimes),
+        Score::Violates { row, .. } => Err(ReportRefusal::Violates { row }),
+        Score::Feasible { cost } => {
+            let text = text_for(alloc, instance, times, cost)?;
+            match print_to(sink, &Bytes(text.as_slice())) {
+                Ok(()) => Ok(()),
+                Err(_) => Err(ReportRefusal::Write),
+            }
+        }
+    }
+}
+
+/// The text of the report of times of this cost.
+fn text_for(alloc: Global, instance: &Instance, times: &[u32], cost: u64) -> Result<Vec<u8>, Memory>
+    requires { IsTimetableOfCost instance.now times.now cost }
+    ensures { IfOk result (λ text. IsReport instance.now times.now text.items) }
+{
+    let mut lines = lines_of(alloc, instance, times)?;
+    sort_lines(&mut lines);
+    text_of(alloc, &lines, slack_sum(instance, times), cost)
+}

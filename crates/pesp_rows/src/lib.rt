@@ -1,0 +1,5 @@
+//! Worked rows that cross the crates: whole runs over readers and writers in memory, as tables.
+#![tactic(auto)]
+
+#[cfg(test)]
+mod solving;

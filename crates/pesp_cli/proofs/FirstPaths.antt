@@ -33,10 +33,10 @@ cost-le : (period : ℕ) (times : List ℕ) (events : ℕ) (rows : List Row) →
 cost-le period times events rows some small limits =
     sum_by-le (λ row. row.weight * slack period times row) 9999000000000 rows
     (λ k d l.
-        let row = get_or rows k d in
-        let below = remainder-lt (difference times row.tail row.head -ℤ row.lower) period some in
-        let least : slack period times row ≤ 9999 = omega (arith, below) in
-        mul-le-mul (limits k d l).weight least)
+    let row = get_or rows k d in
+    let below = remainder-lt (difference times row.tail row.head -ℤ row.lower) period some in
+    let least : slack period times row ≤ 9999 = omega (arith, below) in
+    mul-le-mul (limits k d l).weight least)
 
 cost_fits : (p : Pesp) (times : List ℕ) (c : ℕ) → KeepsLimits p → cost p.period p.rows times ≡ c → nat_lt c NATURALS ≡ true
 cost_fits p times c limits is =

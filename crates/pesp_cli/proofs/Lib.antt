@@ -1,2 +1,3 @@
 pub mod FirstPaths
 pub mod RunLemmas
+pub mod Joining

@@ -4,17 +4,23 @@ use Rattle.pesp_instance.specs.declared.refusal.ReadRefusal.{ReadRefusal}
 use Rattle.pesp_instance.specs.declared.refusal.ReadRefusal.TheVariants.{Period, TextTooLong, FieldCount, NotANumber, OutOfRange, BoundsCrossed, TooManyRows, TooManyEvents, Memory as NoMemory}
 use Rattle.pesp_stream.specs.declared.reading.ReadFault.{ReadFault}
 use Rattle.pesp_stream.specs.declared.reading.ReadFault.TheVariants.{Memory as ReadMemory, Device}
+use Rattle.pesp_cert.specs.declared.refusal.CertRefusal.{CertRefusal}
+use Rattle.pesp_cert.specs.declared.refusal.CertRefusal.TheVariants.{Header, Line, Number, Limit, Truncated, Trailing, Memory as CertMemory}
 use Rattle.pesp_report.specs.declared.refusal.TimesRefusal.{TimesRefusal}
 use Rattle.pesp_report.specs.declared.refusal.TimesRefusal.TheVariants.{BadLine, WrongCount, Memory as TimesMemory}
 use Rattle.pesp_report.specs.declared.refusal.ReportRefusal.{ReportRefusal}
 use Rattle.pesp_report.specs.declared.refusal.ReportRefusal.TheVariants.{Violates, NotTimes, Memory as ReportMemory, Write as ReportWrite}
 use Rattle.pesp_cli.specs.declared.fault.Fault.{Fault}
-use Rattle.pesp_cli.specs.declared.fault.Fault.TheVariants.{Instance, Times, Report, Memory, Read, Write, NoFile}
+use Rattle.pesp_cli.specs.declared.fault.Fault.TheVariants.{Instance, Certificate, Times, Report, Memory, Read, Write, NoFile}
 
 -- a refusal of memory is told as such
 abbrev pub instance_fault : ReadRefusal → Fault
 instance_fault NoMemory = Memory
 instance_fault refusal = Instance refusal
+
+abbrev pub certificate_fault : CertRefusal → Fault
+certificate_fault CertMemory = Memory
+certificate_fault refusal = Certificate refusal
 
 abbrev pub times_fault : TimesRefusal → Fault
 times_fault TimesMemory = Memory
@@ -50,6 +56,16 @@ instance_line (TooManyRows at) = codes "7 TooManyRows" ++ at_record at
 instance_line (TooManyEvents at) = codes "8 TooManyEvents" ++ at_record at
 instance_line NoMemory = codes "9 Memory"
 
+-- number, name and line of a refusal of a certificate's text
+abbrev pub certificate_line : CertRefusal → List ℕ
+certificate_line Header = codes "1 Header"
+certificate_line (Line n) = codes "2 Line line " ++ decimal n
+certificate_line (Number n) = codes "3 Number line " ++ decimal n
+certificate_line (Limit n) = codes "4 Limit line " ++ decimal n
+certificate_line Truncated = codes "5 Truncated"
+certificate_line (Trailing n) = codes "6 Trailing line " ++ decimal n
+certificate_line CertMemory = codes "7 Memory"
+
 -- number, name and line of a refusal of a times text
 abbrev pub times_line : TimesRefusal → List ℕ
 times_line (BadLine n) = codes "1 BadLine line " ++ decimal n
@@ -66,6 +82,7 @@ report_line ReportWrite = codes "4 Write"
 -- the line of a fault, without its line feed
 abbrev pub fault_line : Fault → List ℕ
 fault_line (Instance refusal) = codes "instance: " ++ instance_line refusal
+fault_line (Certificate refusal) = codes "certificate: " ++ certificate_line refusal
 fault_line (Times refusal) = codes "times: " ++ times_line refusal
 fault_line (Report refusal) = codes "report: " ++ report_line refusal
 fault_line Memory = codes "memory"
@@ -76,6 +93,7 @@ fault_line NoFile = codes "device: no file"
 -- 1 for times that violate a row, 3 for a text that is refused, 4 for memory and devices
 abbrev pub exit_status : Fault → ℕ
 exit_status (Instance refusal) = 3
+exit_status (Certificate refusal) = 3
 exit_status (Times refusal) = 3
 exit_status (Report refusal) = 1
 exit_status Memory = 4

@@ -1,4 +1,5 @@
 pub mod FirstPath
 pub mod Runs
+pub mod Verdicts
 pub mod FaultLines
 pub mod Requests

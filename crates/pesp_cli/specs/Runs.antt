@@ -1,5 +1,5 @@
 -- What runs read and write, and when they tell which fault.
-use Rattle.std.specs.Prelude.{◌≡◌, ℕ, List, Option, Ok, Err, IfSome}
+use Rattle.std.specs.Prelude.{◌≡◌, ◌↔◌, ℕ, List, Option, Ok, Err, IfSome}
 use Rattle.std.specs.Io.KnownBytes.{Consumes, IsAtEnd}
 use Rattle.pesp_stream.specs.Reading.{ReadsText}
 use Rattle.pesp_stream.specs.Writing.{AppendsFront}
@@ -9,15 +9,21 @@ use Rattle.pesp_instance.specs.Instance.{instance_of}
 use Rattle.pesp_instance.specs.declared.refusal.ReadRefusal.{ReadRefusal}
 use Rattle.pesp_truth.specs.Truth.{IsTrueAnswer}
 use Rattle.pesp_truth.specs.Certificates.{Content, IsValid, shown_times}
-use Rattle.pesp_cert.specs.Texts.{spelling}
+use Rattle.pesp_cert.specs.Texts.{spelling, HasText}
+use Rattle.pesp_cert.specs.Refusals.{IsTextOf, RefusesFirst}
+use Rattle.pesp_cert.specs.declared.refusal.CertRefusal.{CertRefusal}
+use Rattle.pesp_check.specs.Faults.{IsVerdict}
+use Rattle.pesp_check.specs.declared.refusal.Verdict.{Verdict}
+use Rattle.pesp_check.specs.declared.refusal.Verdict.TheVariants.{Accepted}
 use Rattle.pesp_report.specs.TimesText.{times_of}
 use Rattle.pesp_report.specs.Report.{IsReport}
 use Rattle.pesp_report.specs.declared.refusal.TimesRefusal.{TimesRefusal}
 use Rattle.pesp_report.specs.declared.refusal.ReportRefusal.{ReportRefusal}
 use Rattle.pesp_report.specs.declared.refusal.ReportRefusal.TheVariants.{Violates, NotTimes, Memory as ReportMemory, Write as ReportWrite}
+use Rattle.pesp_cli.specs.Verdicts.{verdict_line}
 use Rattle.pesp_cli.specs.FirstPath.{IsFirst}
 use Rattle.pesp_cli.specs.declared.fault.Fault.{Fault}
-use Rattle.pesp_cli.specs.declared.fault.Fault.TheVariants.{Instance, Times, Report, Memory, Read, Write, NoFile}
+use Rattle.pesp_cli.specs.declared.fault.Fault.TheVariants.{Instance, Certificate, Times, Report, Memory, Read, Write, NoFile}
 
 -- ---- the instance, which each run reads first
 
@@ -43,6 +49,7 @@ pub record RefusesInstance (told left : Option (List ℕ)) (period : ℕ) (refus
 -- why there is no instance: its text, or the reader's device; what memory is refused is the runtime's matter
 abbrev pub InstanceCause : Fault → Option (List ℕ) → Option (List ℕ) → ℕ → Type 0 → Type 0
 InstanceCause (Instance refusal) told left period failed = RefusesInstance told left period refusal
+InstanceCause (Certificate refusal) told left period failed = ⊥
 InstanceCause (Times refusal) told left period failed = ⊥
 InstanceCause (Report refusal) told left period failed = ⊥
 InstanceCause Memory told left period failed = Unit {0}
@@ -58,6 +65,7 @@ pub record Solves (told left : Option (List ℕ)) (period : ℕ) (Gets : List �
   pub read : ReadsInstance told left period instance
   pub certificate : Content
   pub first : IsFirst instance certificate
+  pub has_text : HasText certificate
   pub valid : IsValid instance certificate
   pub is_true : IsTrueAnswer instance certificate.answer (shown_times certificate)
   pub written : Gets (spelling certificate)
@@ -65,12 +73,48 @@ pub record Solves (told left : Option (List ℕ)) (period : ℕ) (Gets : List �
 -- each fault of `solve` and its cause
 abbrev pub SolveCause : Fault → Option (List ℕ) → Option (List ℕ) → ℕ → Option (List ℕ) → Option (List ℕ) → Type 0 → Type 0 → Type 0
 SolveCause (Instance refusal) told left period old new read_failed write_failed = RefusesInstance told left period refusal
+SolveCause (Certificate refusal) told left period old new read_failed write_failed = ⊥
 SolveCause (Times refusal) told left period old new read_failed write_failed = ⊥
 SolveCause (Report refusal) told left period old new read_failed write_failed = ⊥
 SolveCause Memory told left period old new read_failed write_failed = Unit {0}
 SolveCause Read told left period old new read_failed write_failed = read_failed
 SolveCause Write told left period old new read_failed write_failed = write_failed × Solves told left period (AppendsFront old new)
 SolveCause NoFile told left period old new read_failed write_failed = ⊥
+
+-- ---- check
+
+-- the readers' texts have an instance and a certificate, the verdict is that of the definition, a yes means that the certificate is valid and its answer true, and the writer got what the relation says of the verdict's line
+pub record Checks (told left told_certificate left_certificate : Option (List ℕ)) (period : ℕ) (verdict : Verdict) (Gets : List ℕ → Type 0) : Type 0 where
+  pub instance : Pesp
+  pub read : ReadsInstance told left period instance
+  pub text : List ℕ
+  pub read_certificate : ReadsText told_certificate left_certificate 1073741824 text
+  pub certificate : Content
+  pub is_text : IsTextOf text certificate
+  pub is_verdict : IsVerdict instance certificate verdict
+  pub exactly : (verdict ≡ Accepted) ↔ IsValid instance certificate
+  pub is_true : verdict ≡ Accepted → IsTrueAnswer instance certificate.answer (shown_times certificate)
+  pub written : Gets (verdict_line certificate.answer verdict)
+
+-- the first text has an instance, and the bytes that were read of the second one are no certificate's, for this reason
+pub record RefusesCertificate (told left told_certificate left_certificate : Option (List ℕ)) (period : ℕ) (refusal : CertRefusal) : Type 0 where
+  pub instance : Pesp
+  pub read : ReadsInstance told left period instance
+  pub bytes : List ℕ
+  pub read_certificate : ReadsText told_certificate left_certificate 1073741824 bytes
+  pub refused : RefusesFirst bytes refusal
+
+-- each fault of `check` and its cause
+abbrev pub CheckCause : Fault → Option (List ℕ) → Option (List ℕ) → Option (List ℕ) → Option (List ℕ) → ℕ → Option (List ℕ) → Option (List ℕ) → Type 0 → Type 0 → Type 0
+CheckCause (Instance refusal) told left told_certificate left_certificate period old new read_failed write_failed = RefusesInstance told left period refusal
+CheckCause (Certificate refusal) told left told_certificate left_certificate period old new read_failed write_failed = RefusesCertificate told left told_certificate left_certificate period refusal
+CheckCause (Times refusal) told left told_certificate left_certificate period old new read_failed write_failed = ⊥
+CheckCause (Report refusal) told left told_certificate left_certificate period old new read_failed write_failed = ⊥
+CheckCause Memory told left told_certificate left_certificate period old new read_failed write_failed = Unit {0}
+CheckCause Read told left told_certificate left_certificate period old new read_failed write_failed = read_failed
+CheckCause Write told left told_certificate left_certificate period old new read_failed write_failed =
+    write_failed × ((verdict : Verdict) × Checks told left told_certificate left_certificate period verdict (AppendsFront old new))
+CheckCause NoFile told left told_certificate left_certificate period old new read_failed write_failed = ⊥
 
 -- ---- report
 
@@ -115,6 +159,7 @@ ReportRefused ReportWrite told left told_times left_times period = ⊥
 -- each fault of `report` and its cause; the second reader is called only where the first text has an instance
 abbrev pub ReportCause : Fault → Option (List ℕ) → Option (List ℕ) → Option (List ℕ) → Option (List ℕ) → ℕ → Option (List ℕ) → Option (List ℕ) → Type 0 → Type 0 → Type 0
 ReportCause (Instance refusal) told left told_times left_times period old new read_failed write_failed = RefusesInstance told left period refusal
+ReportCause (Certificate refusal) told left told_times left_times period old new read_failed write_failed = ⊥
 ReportCause (Times refusal) told left told_times left_times period old new read_failed write_failed = RefusesTimes told left told_times left_times period refusal
 ReportCause (Report refusal) told left told_times left_times period old new read_failed write_failed = ReportRefused refusal told left told_times left_times period
 ReportCause Memory told left told_times left_times period old new read_failed write_failed = Unit {0}

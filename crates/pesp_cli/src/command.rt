@@ -8,8 +8,10 @@ use std::alloc::{AllocError, Global};
 
 /// What the words of a command line ask for.
 #[derive(Debug, PartialEq, Drop)]
-pub enum Request {
+pub enum Request<'a> {
     Solve { period: u32, steps: u32 },
+    Check { period: u32, file: &'a str },
+    Report { period: u32, file: &'a str },
 }
 
 const INSTANCES: &str = "\
@@ -36,17 +38,40 @@ fn steps_option<'a>(alloc: Global) -> Arg<'a> {
         .help("How many leaves of the search are split; 0 alone for now")
 }
 
+fn file_argument<'a>(alloc: Global) -> Arg<'a> {
+    Arg::new(alloc, "file")
+        .value_name("FILE")
+        .required(true)
+        .help("The file with the instance")
+}
+
 fn pesp<'a>(alloc: Global) -> Result<Command<'a>, AllocError> {
     let solve = Command::new(alloc, "solve")
         .about("Reads an instance from standard input and writes a certificate")
         .after_help(INSTANCES)
         .arg(period_option(alloc))?
         .arg(steps_option(alloc))?;
+    let check = Command::new(alloc, "check")
+        .about(
+            "Reads a certificate from standard input and says whether it is valid for the instance in FILE",
+        )
+        .after_help(INSTANCES)
+        .arg(period_option(alloc))?
+        .arg(file_argument(alloc))?;
+    let report = Command::new(alloc, "report")
+        .about(
+            "Reads time lines or a certificate from standard input and lists the slack of each activity in FILE",
+        )
+        .after_help(INSTANCES)
+        .arg(period_option(alloc))?
+        .arg(file_argument(alloc))?;
     Command::new(alloc, "pesp")
         .about("Periodic timetables with certificates that can be checked")
         .after_help(INSTANCES)
         .subcommand_required(true)
-        .subcommand(solve)
+        .subcommand(solve)?
+        .subcommand(check)?
+        .subcommand(report)
 }
 
 fn period_of(matches: &ArgMatches<'_>) -> u32
@@ -66,11 +91,19 @@ fn steps_of(matches: &ArgMatches<'_>) -> u32
 }
 
 /// What the words ask for, the program's name first; or clap's error, with the text that it prints.
-pub fn request_of(alloc: Global, words: &[String]) -> Result<Request, Error>
+pub fn request_of<'a>(alloc: Global, words: &'a [String]) -> Result<Request<'a>, Error>
     ensures { IfOk result IsWithinLimits }
 {
     let matches = pesp(alloc)?.try_get_matches_from(words)?;
     match matches.subcommand() {
+        Some(("check", found)) => Ok(Request::Check {
+            period: period_of(found),
+            file: found.get_str("file").unwrap_or(""),
+        }),
+        Some(("report", found)) => Ok(Request::Report {
+            period: period_of(found),
+            file: found.get_str("file").unwrap_or(""),
+        }),
         Some((_, found)) => Ok(Request::Solve {
             period: period_of(found),
             steps: steps_of(found),

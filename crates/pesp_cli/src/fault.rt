@@ -3,10 +3,12 @@
 ghost use Rattle.std.specs.Prelude.{◌≡◌};
 ghost use Rattle.pesp_cli.specs.FaultLines.{exit_status};
 
+use pesp_cert::CertRefusal;
 use pesp_instance::ReadRefusal;
 use pesp_problem::Memory as NoMemory;
 use pesp_report::{ReportRefusal, TimesRefusal};
 use pesp_stream::{ReadFault, WriteFault};
+use std::alloc::AllocError;
 use std::fmt;
 
 /// Why a run didn't write its whole answer. A lower layer's refusal of memory is told as `Memory`, and its fault of a
@@ -15,6 +17,8 @@ use std::fmt;
 pub enum Fault {
     /// The text of the instance is refused.
     Instance(ReadRefusal),
+    /// The text of the certificate is refused.
+    Certificate(CertRefusal),
     /// The text of the times is refused.
     Times(TimesRefusal),
     /// There is no report of the times.
@@ -39,6 +43,20 @@ impl From<ReadRefusal> for Fault {
         match refusal {
             ReadRefusal::Memory => Fault::Memory,
             _ => Fault::Instance(refusal),
+        }
+    }
+}
+
+impl From<CertRefusal> for Fault {
+    ghost use Rattle.std.specs.Prelude.{◌≡◌};
+    ghost use Rattle.pesp_cli.specs.FaultLines.{certificate_fault};
+
+    ghost from_gives = { λ refusal fault. fault ≡ certificate_fault refusal };
+
+    fn from(refusal: CertRefusal) -> Fault {
+        match refusal {
+            CertRefusal::Memory => Fault::Memory,
+            other => Fault::Certificate(other),
         }
     }
 }
@@ -97,6 +115,17 @@ impl From<WriteFault> for Fault {
     }
 }
 
+impl From<AllocError> for Fault {
+    ghost use Rattle.std.specs.Prelude.{◌≡◌};
+    ghost use Rattle.pesp_cli.specs.declared.fault.Fault.TheVariants.{Memory};
+
+    ghost from_gives = { λ _ fault. fault ≡ Memory };
+
+    fn from(_refused: AllocError) -> Fault {
+        Fault::Memory
+    }
+}
+
 impl From<NoMemory> for Fault {
     ghost use Rattle.std.specs.Prelude.{◌≡◌};
     ghost use Rattle.pesp_cli.specs.declared.fault.Fault.TheVariants.{Memory};
@@ -133,6 +162,29 @@ impl fmt::Display for InstanceLine<'_> {
             ReadRefusal::TooManyRows { at } => write!(f, "7 TooManyRows record {at}"),
             ReadRefusal::TooManyEvents { at } => write!(f, "8 TooManyEvents record {at}"),
             ReadRefusal::Memory => f.write_str("9 Memory"),
+        }
+    }
+}
+
+/// A refusal of a certificate's text: its number, its name and its line.
+#[derive(Drop)]
+struct CertificateLine<'a>(&'a CertRefusal);
+
+impl fmt::Display for CertificateLine<'_> {
+    ghost use Rattle.std.specs.Prelude.{Some};
+    ghost use Rattle.pesp_cli.specs.FaultLines.{certificate_line};
+
+    ghost output = { λ line. Some (certificate_line line.0.now) };
+
+    fn fmt<W: fmt::Write>(&self, f: &mut fmt::Formatter<W>) -> fmt::Result {
+        match self.0 {
+            CertRefusal::Header => f.write_str("1 Header"),
+            CertRefusal::Line { n } => write!(f, "2 Line line {n}"),
+            CertRefusal::Number { n } => write!(f, "3 Number line {n}"),
+            CertRefusal::Limit { n } => write!(f, "4 Limit line {n}"),
+            CertRefusal::Truncated => f.write_str("5 Truncated"),
+            CertRefusal::Trailing { n } => write!(f, "6 Trailing line {n}"),
+            CertRefusal::Memory => f.write_str("7 Memory"),
         }
     }
 }
@@ -189,6 +241,10 @@ impl fmt::Display for Fault {
                 let line = InstanceLine(refusal);
                 write!(f, "instance: {line}")
             }
+            Fault::Certificate(refusal) => {
+                let line = CertificateLine(refusal);
+                write!(f, "certificate: {line}")
+            }
             Fault::Times(refusal) => {
                 let line = TimesLine(refusal);
                 write!(f, "times: {line}")
@@ -212,7 +268,7 @@ pub fn status_of(fault: &Fault) -> u8
 {
     match fault {
         Fault::Report(_) => 1,
-        Fault::Instance(_) | Fault::Times(_) => 3,
+        Fault::Instance(_) | Fault::Certificate(_) | Fault::Times(_) => 3,
         Fault::Memory | Fault::Read | Fault::Write | Fault::NoFile => 4,
     }
 }

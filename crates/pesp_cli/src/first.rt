@@ -2,6 +2,7 @@
 
 ghost use Rattle.std.specs.Prelude.{◌≡◌, ◌≤◌, IfOk, length, map, ℤ};
 ghost use Rattle.pesp_truth.specs.Certificates.{IsValid};
+ghost use Rattle.pesp_cert.specs.Texts.{HasText};
 ghost use Rattle.pesp_cli.specs.FirstPath.{IsFirst, zeros, first_answer, first_times};
 
 use pesp_cert::{Answer, Certificate, TreeLine};
@@ -29,7 +30,11 @@ fn answer_of(score: Score) -> Answer
 fn labelled_zeros(alloc: Global, instance: &Instance) -> Result<Vec<(i64, u32)>, AllocError>
     ensures { IfOk result (λ times. times.items ≡ map (λ label. (label, 0)) instance.now.events) }
 {
-    instance.events().iter().map(|label| (*label, 0)).collect(alloc)
+    instance
+        .events()
+        .iter()
+        .map(|label| (*label, 0))
+        .collect(alloc)
 }
 
 /// The times that are shown, where they are a timetable.
@@ -50,6 +55,7 @@ fn shown_times(
 pub fn first_certificate(alloc: Global, instance: &Instance) -> Result<Certificate, Memory>
     ensures first { IfOk result (IsFirst instance.now) }
     ensures valid { IfOk result (IsValid instance.now) }
+    ensures text { IfOk result HasText }
 {
     let zeros = vec![in alloc; 0u32; instance.events().len()]?;
     let score = score(instance, &zeros);

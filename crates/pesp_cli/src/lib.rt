@@ -1,16 +1,19 @@
 //! The runs of the program over any readers and writers, its command line, its fault lines and exit statuses.
 #![tactic(auto)]
 
+mod command;
 mod fault;
 mod first;
-mod runs;
-mod command;
+pub mod laws;
 mod program;
+mod runs;
+mod verdict;
 
 pub use command::{Request, request_of};
 pub use fault::{Fault, status_of};
 pub use program::{exit_of_program, status_of_words};
-pub use runs::{run_report, run_solve};
+pub use runs::{run_check, run_report, run_solve};
+pub use verdict::status_of_verdict;
 
 #[cfg(test)]
 mod tests;

@@ -4,16 +4,19 @@ ghost use Rattle.pesp_cli.specs.Requests.{IsWithinLimits};
 
 use crate::command::{Request, request_of};
 use crate::fault::{Fault, status_of};
-use crate::runs::run_solve;
+use crate::runs::{run_check, run_report, run_solve};
+use crate::verdict::status_of_verdict;
 use clap::error::ErrorKind;
 use pesp_stream::Counted;
+use std::fs::File;
 use std::process::ExitCode;
-use std::rt::Env;
+use std::rt::{Env, Files};
 use std::{env, io};
 
-/// Does what the command line asks for, and gives the exit status: 0 where the answer is written, 2 for a command line
+/// Does what the command line asks for, and gives the exit status: 0 where the answer is written,
+/// 1 for a certificate that is refused or times that violate a row, 2 for a command line
 /// that asks for nothing, 3 for a text that is refused, 4 for memory and devices.
-pub fn exit_of_program<R: AllocGlobal + Env + Input + Print + Eprint>(rt: &R) -> ExitCode {
+pub fn exit_of_program<R: AllocGlobal + Env + Input + Print + Eprint + Files>(rt: &R) -> ExitCode {
     let words = match env::args(rt) {
         Ok(args) => args.collect::<Vec<String>>(rt.alloc()),
         Err(error) if error.kind() == io::ErrorKind::OutOfMemory => {
@@ -29,10 +32,13 @@ pub fn exit_of_program<R: AllocGlobal + Env + Input + Print + Eprint>(rt: &R) ->
 }
 
 /// Does what the words ask for, the program's name first, and gives the exit status.
-pub fn status_of_words<R: AllocGlobal + Input + Print + Eprint>(rt: &R, words: &[String]) -> u8 {
+pub fn status_of_words<R: AllocGlobal + Input + Print + Eprint + Files>(
+    rt: &R,
+    words: &[String],
+) -> u8 {
     match request_of(rt.alloc(), words) {
-        Ok(request) => match answer(rt, &request) {
-            Ok(()) => 0,
+        Ok(request) => match answer(rt, request) {
+            Ok(status) => status,
             Err(fault) => told(rt, &fault),
         },
         Err(error) if error.kind() == ErrorKind::OutOfMemory => told(rt, &Fault::Memory),
@@ -50,14 +56,34 @@ fn told<R: Eprint>(rt: &R, fault: &Fault) -> u8 {
     status_of(fault)
 }
 
-fn answer<R: AllocGlobal + Input + Print>(rt: &R, request: &Request) -> Result<(), Fault>
-    requires { IsWithinLimits request.now }
+/// Does what a request within the limits asks for, and gives the exit status.
+fn answer<R: AllocGlobal + Input + Print + Files>(rt: &R, request: Request<'_>) -> Result<u8, Fault>
+    requires { IsWithinLimits request }
 {
     let mut writer = Counted::new(io::writer(rt));
-    match *request {
+    let mut reader = Counted::new(rt.reader());
+    match request {
         Request::Solve { period, steps } => {
-            let mut reader = Counted::new(rt.reader());
-            run_solve(rt.alloc(), &mut reader, &mut writer, period, steps)
+            run_solve(rt.alloc(), &mut reader, &mut writer, period, steps)?;
+            Ok(0)
         }
+        Request::Check { period, file } => {
+            let mut instance = Counted::new(opened(rt, file)?);
+            let verdict = run_check(rt.alloc(), &mut instance, &mut reader, &mut writer, period)?;
+            Ok(status_of_verdict(verdict))
+        }
+        Request::Report { period, file } => {
+            let mut instance = Counted::new(opened(rt, file)?);
+            run_report(rt.alloc(), &mut instance, &mut reader, &mut writer, period)?;
+            Ok(0)
+        }
+    }
+}
+
+/// Opens a file; where it can't be opened for any cause, that is told.
+fn opened<R: Files>(rt: &R, file: &str) -> Result<R::File, Fault> {
+    match File::open(rt, file) {
+        Ok(opened) => Ok(opened),
+        Err(_) => Err(Fault::NoFile),
     }
 }

@@ -3,11 +3,13 @@
 ghost use Rattle.std.specs.Prelude.{◌≡◌, ◌≢◌, ◌⊎◌, ◌<◌, ◌≤◌, ◌^◌, OnOk, IfOk, IfErr};
 ghost use Rattle.std.specs.Io.KnownBytes.{Appends};
 ghost use Rattle.pesp_stream.specs.Counts.{DeviceFailed};
-ghost use Rattle.pesp_cli.specs.Runs.{ReadsInstance, InstanceCause, Solves, SolveCause, Reports, ReportCause};
+ghost use Rattle.pesp_cli.specs.Runs.{ReadsInstance, InstanceCause, Solves, SolveCause, Checks, CheckCause, Reports, ReportCause};
 
 use crate::fault::Fault;
 use crate::first::first_certificate;
-use pesp_cert::print;
+use crate::verdict::write_verdict;
+use pesp_cert::{parse, print};
+use pesp_check::{Verdict, check};
 use pesp_instance::read_instance;
 use pesp_problem::Instance;
 use pesp_report::{read_times, report};
@@ -16,6 +18,9 @@ use std::alloc::Global;
 
 /// The longest text of an instance.
 const MOST_INSTANCE: usize = 16_777_216;
+
+/// How many bytes of a certificate are read and judged.
+const MOST_CERTIFICATE: usize = 1_073_741_824;
 
 /// How many bytes of a times text are read and judged.
 const MOST_TIMES: usize = 1_073_741_824;
@@ -72,6 +77,41 @@ pub fn run_solve<R: Source, W: Sink>(
     Ok(())
 }
 
+/// Reads an instance and then a certificate, and writes the line of the checker's verdict; the instance is judged before the
+/// certificate is read. `Accepted` says that the certificate is valid for the instance of the bytes read, and that its answer
+/// is true of it.
+pub fn run_check<R: Source, C: Source, W: Sink>(
+    alloc: Global,
+    instance_reader: &mut R,
+    certificate_reader: &mut C,
+    writer: &mut W,
+    period: u32,
+) -> Result<Verdict, Fault>
+    requires failed_reads { R.failed instance_reader.old < 2 ^ 62 }
+    requires interrupted_reads { R.interrupted instance_reader.old < 2 ^ 62 }
+    requires failed_certificate_reads { C.failed certificate_reader.old < 2 ^ 62 }
+    requires interrupted_certificate_reads { C.interrupted certificate_reader.old < 2 ^ 62 }
+    requires failed_writes { W.failed writer.old < 2 ^ 62 }
+    requires interrupted_writes { W.interrupted writer.old < 2 ^ 62 }
+    ensures ok { IfOk result (λ verdict. Checks (R.remaining instance_reader.old) (R.remaining instance_reader.new)
+        (C.remaining certificate_reader.old) (C.remaining certificate_reader.new) period verdict
+        (Appends (W.contents writer.old) (W.contents writer.new))) }
+    ensures cause { IfErr result (λ fault. CheckCause fault (R.remaining instance_reader.old) (R.remaining instance_reader.new)
+        (C.remaining certificate_reader.old) (C.remaining certificate_reader.new) period
+        (W.contents writer.old) (W.contents writer.new)
+        (DeviceFailed (R.failed instance_reader.old) (R.interrupted instance_reader.old) (R.failed instance_reader.new) (R.interrupted instance_reader.new)
+        ⊎ DeviceFailed (C.failed certificate_reader.old) (C.interrupted certificate_reader.old) (C.failed certificate_reader.new) (C.interrupted certificate_reader.new))
+        (DeviceFailed (W.failed writer.old) (W.interrupted writer.old) (W.failed writer.new) (W.interrupted writer.new))) }
+    ensures silent { IfErr result (λ fault. fault ≢ Fault.Write → writer.new ≡ writer.old) }
+{
+    let instance = read_whole_instance(alloc, instance_reader, period)?;
+    let text = read_all(alloc, certificate_reader, MOST_CERTIFICATE)?;
+    let certificate = parse(alloc, &text)?;
+    let verdict = check(alloc, &instance, &certificate)?;
+    write_verdict(alloc, writer, certificate.answer(), verdict)?;
+    Ok(verdict)
+}
+
 /// Reads an instance and then times for its events, and writes the report of these times; the instance is judged before the
 /// times are read, and nothing is written where they are no timetable.
 pub fn run_report<R: Source, T: Source, W: Sink>(
@@ -94,7 +134,7 @@ pub fn run_report<R: Source, T: Source, W: Sink>(
         (T.remaining times_reader.old) (T.remaining times_reader.new) period
         (W.contents writer.old) (W.contents writer.new)
         (DeviceFailed (R.failed instance_reader.old) (R.interrupted instance_reader.old) (R.failed instance_reader.new) (R.interrupted instance_reader.new)
-            ⊎ DeviceFailed (T.failed times_reader.old) (T.interrupted times_reader.old) (T.failed times_reader.new) (T.interrupted times_reader.new))
+        ⊎ DeviceFailed (T.failed times_reader.old) (T.interrupted times_reader.old) (T.failed times_reader.new) (T.interrupted times_reader.new))
         (DeviceFailed (W.failed writer.old) (W.interrupted writer.old) (W.failed writer.new) (W.interrupted writer.new))) }
     ensures silent { IfErr result (λ fault. fault ≢ Fault.Write → writer.new ≡ writer.old) }
 {

@@ -26,10 +26,10 @@ use Rattle.pesp_network.proofs.Firsts.{first_event}
 pub ends_kept : (period events : ℕ) (rows view : List NetRow) → view ≡ rows → All (RowKeepsNetLimits period events) rows → HaveEnds events (arcs_of_network view)
 ends_kept period events rows view e each =
     let have : HaveEnds events (arcs_of_network rows) = λ k h.
-        let c = count rows in
-        let l : k < length rows = omega arith in
-        let r = All-get_or (RowKeepsNetLimits period events) rows k no_net_row l each in
-        let t = tail_more rows k l in let d = head_more rows k l in let rt = r.tail in let rh = r.head in (omega arith, omega arith) in
+    let c = count rows in
+    let l : k < length rows = omega arith in
+    let r = All-get_or (RowKeepsNetLimits period events) rows k no_net_row l each in
+    let t = tail_more rows k l in let d = head_more rows k l in let rt = r.tail in let rh = r.head in (omega arith, omega arith) in
     let P : List NetRow → Type 0 = λ x. HaveEnds events (arcs_of_network x) in
     subst P (sym e) have
 

@@ -64,15 +64,15 @@ low_is n arcs g x f j =
       | inl w ↦ let e : (at g.by.items t == k) ≡ true = eq-eqb _ _ (ap (at g.by.items) w.0) in ends_by t h (at g.by.items t == k) true e ∙ w.0
       | inr w ↦
           let e : (at g.by.items t == k) ≡ false = ne_eqb _ _ (λ q.
-              let u = at g.up.items x in
-              let same : at g.by.items u ≡ k = ap (at g.by.items) (sym w.1) ∙ q in
-              let b : 0 < at g.by.items u = omega arith in
-              let d = f.grown.climbs u b in
-              let pt = ap (tail_of arcs) same in let ph = ap (head_of arcs) same in
-              elim (f.grown.by_ends u b) [
-                | inl v ↦ let p = ap (at g.place.items) (sym v.1 ∙ ph ∙ w.0) in omega arith
-                | inr v ↦ let p = ap (at g.place.items) (sym v.0 ∙ ph ∙ w.0) in omega arith
-              ]) in
+          let u = at g.up.items x in
+          let same : at g.by.items u ≡ k = ap (at g.by.items) (sym w.1) ∙ q in
+          let b : 0 < at g.by.items u = omega arith in
+          let d = f.grown.climbs u b in
+          let pt = ap (tail_of arcs) same in let ph = ap (head_of arcs) same in
+          elim (f.grown.by_ends u b) [
+            | inl v ↦ let p = ap (at g.place.items) (sym v.1 ∙ ph ∙ w.0) in omega arith
+            | inr v ↦ let p = ap (at g.place.items) (sym v.0 ∙ ph ∙ w.0) in omega arith
+          ]) in
           ends_by t h (at g.by.items t == k) false e ∙ w.0
     ]
 
@@ -248,12 +248,12 @@ way_facts n arcs g most x t f room bx bt r =
     let row : SignedRow → ℕ = λ s. s.row in
     let rx = room x in
     let rises : Rises arcs g most t up 0 most 0 most =
-        elim (cases_Bool (is_under g x t)) [
-          | inl q ↦
-              let P : List SignedRow → Type 0 = λ v. Rises arcs g most t v 0 most 0 most in
-              subst P (sym (a.none (under_true g x t q))) (record { tree = All-nil T; starts = omega arith; rows = omega arith })
-          | inr q ↦ a.rises 0 (under_false g x t q) (omega arith)
-        ] in
+    elim (cases_Bool (is_under g x t)) [
+      | inl q ↦
+          let P : List SignedRow → Type 0 = λ v. Rises arcs g most t v 0 most 0 most in
+          subst P (sym (a.none (under_true g x t q))) (record { tree = All-nil T; starts = omega arith; rows = omega arith })
+      | inr q ↦ a.rises 0 (under_false g x t q) (omega arith)
+    ] in
     let P : List ℕ → Type 0 = λ z. IsChain (rank most g t) 0 z (most + at g.place.items t - 1) in
     let Q : List ℕ → Type 0 = λ z. IsChain R 0 z (most + at g.place.items t) in
     record {
@@ -317,5 +317,5 @@ walk_is arcs g k h t u walk rest final eh et eu ew er ef =
     let s : SignedRow = record { row = k; plus = true } in
     let up = up_way arcs g t (at g.place.items h) h in
     ef ∙ ap (λ (w : List SignedRow). w ++ rest) ew ∙ ap (λ (w : List SignedRow). (s ∷ up) ++ w) er
-        ∙ ap (λ v. s ∷ (up ++ down_way arcs g v (at g.place.items t) t)) eu
-        ∙ ap (λ x. s ∷ way_between arcs g x t) eh ∙ ap (λ y. s ∷ way_between arcs g (head_of arcs k) y) et
+    ∙ ap (λ v. s ∷ (up ++ down_way arcs g v (at g.place.items t) t)) eu
+    ∙ ap (λ x. s ∷ way_between arcs g x t) eh ∙ ap (λ y. s ∷ way_between arcs g (head_of arcs k) y) et

@@ -90,9 +90,9 @@ counted_alike arcs forest row walk other i none f g =
     let s : SignedRow = record { row = row; plus = true } in
     let there = v.back in let back = undo w.back in
     let z = way_closes arcs forest (head_of arcs row) i (there ++ back) none
-        (All-append (RowExists arcs) there back v.rows (undo_all (λ k. RowExists arcs (record { row = k; plus = true })) w.back w.rows))
-        (All-append (λ (x : SignedRow). Contains forest x.row) there back v.keeps (undo_all (λ k. Contains forest k) w.back w.keeps))
-        (leads_append arcs (head_of arcs row) (tail_of arcs row) (head_of arcs row) there back v.leads (undo_leads arcs (head_of arcs row) (tail_of arcs row) w.back w.leads)) in
+    (All-append (RowExists arcs) there back v.rows (undo_all (λ k. RowExists arcs (record { row = k; plus = true })) w.back w.rows))
+    (All-append (λ (x : SignedRow). Contains forest x.row) there back v.keeps (undo_all (λ k. Contains forest k) w.back w.keeps))
+    (leads_append arcs (head_of arcs row) (tail_of arcs row) (head_of arcs row) there back v.leads (undo_leads arcs (head_of arcs row) (tail_of arcs row) w.back w.leads)) in
     let p = plus-append r there back in let m = minus-append r there back in
     let u = undo_counts r w.back in let u0 = u.0 in let u1 = u.1 in
     let a = ap (plus_count r) v.begins in let b = ap (minus_count r) v.begins in let c = ap (plus_count r) w.begins in let d = ap (minus_count r) w.begins in

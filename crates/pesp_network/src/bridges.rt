@@ -111,7 +111,13 @@ fn is_cut(forest: &Forest, reaches: &Reaches, event: usize) -> bool
 
 /// Whether every walk passes the row k as often one way as the other: it joins an event to the one above it, and nothing
 /// else leads out from below it.
-pub fn is_bridge(events: usize, rows: &[NetRow], forest: &Forest, reaches: &Reaches, k: usize) -> bool
+pub fn is_bridge(
+    events: usize,
+    rows: &[NetRow],
+    forest: &Forest,
+    reaches: &Reaches,
+    k: usize,
+) -> bool
     requires forest { IsForest events (arcs_of_network rows.now) forest.now }
     requires reaches { AreReaches events (arcs_of_network rows.now) forest.now reaches.now.low.items reaches.now.high.items }
     requires sized { vec_len reaches.now.low ≡ vec_len forest.now.up }

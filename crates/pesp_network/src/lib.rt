@@ -1,22 +1,21 @@
 //! Networks of periodic rows: a spanning forest of each, the walks that it gives, bridges, and times from slacks.
 #![tactic(auto)]
 
-mod row;
-mod refusal;
-mod network;
-mod limits;
-mod parts;
-mod chains;
-mod growth;
-mod proposal;
-mod forest;
-mod walks;
 mod bridges;
-mod times;
+mod chains;
+mod forest;
+mod growth;
 pub mod laws;
-
+mod limits;
+mod network;
+mod parts;
+mod proposal;
+mod refusal;
+mod row;
 #[cfg(test)]
 mod tests;
+mod times;
+mod walks;
 
 pub use network::Network;
 pub use refusal::NetRefusal;

@@ -39,12 +39,7 @@ impl Model for Network {
 
 impl Network {
     // the network of these parts, which keep the limits
-    fn make(
-        alloc: Global,
-        period: u32,
-        events: u32,
-        rows: Vec<NetRow>,
-    ) -> Result<Network, Memory>
+    fn make(alloc: Global, period: u32, events: u32, rows: Vec<NetRow>) -> Result<Network, Memory>
         requires sizes { KeepsSizes period events }
         requires few { length rows.items ≤ 100000 }
         requires each { All (RowKeepsNetLimits period events) rows.items }
@@ -168,12 +163,7 @@ impl Network {
         ensures small { IfOk result (λ table. signed_rows table.items ≤ 10000000) }
         ensures refused { IfErr result (IsTableRefusal (arcs_of_network self.now.rows) self.now.forest) }
     {
-        walks::walks(
-            alloc,
-            self.events,
-            self.rows.as_slice(),
-            &self.forest,
-        )
+        walks::walks(alloc, self.events, self.rows.as_slice(), &self.forest)
     }
 
     /// Times below the period with exactly these slacks, one for each row in order, or None where a fundamental walk has

@@ -11,7 +11,10 @@ fn solved(alloc: Global, text: &[u8], period: u32) -> Result<(String, u8), Fail>
     let mut reader = Counted::new(text);
     let mut writer = Counted::new(Vec::new(alloc));
     match run_solve(alloc, &mut reader, &mut writer, period, 0) {
-        Ok(()) => Ok((String::from_utf8(writer.into_inner()).map_err(|_| "no text")?, 0)),
+        Ok(()) => Ok((
+            String::from_utf8(writer.into_inner()).map_err(|_| "no text")?,
+            0,
+        )),
         Err(fault) => Ok((format!(in alloc; "{fault}")?, status_of(&fault))),
     }
 }

@@ -38,6 +38,7 @@ returns c =
     let row = named rows k c.requires.row in let t = (slice_index_or rows (k - 1) no_net_row).tail in let h = (slice_index_or rows (k - 1) no_net_row).head in
     let e = ends_of c.args.events (arcs_of_network rows) k f.ends row in let qt = tail_at rows k c.requires.row in let qh = head_at rows k c.requires.row in let n = f.events in let s = g.sized in let l = g.by.ok.0 in let e0 = e.0 in let e1 = e.1 in
     let r = get_or_read g.by.items t _ (omega arith) c.index-tail_row.ensures 0 in
-    let q = get_or_read g.by.items h _ (omega arith) c.index-head_row.ensures 0 in
-    ((λ z. absurd (false≢true z)),
-      (λ b. absurd (tells_outside c.args.events (arcs_of_network rows) g k f row (λ w. c.if-tail_row-k.false (r ∙ ap (at g.by.items) qt ∙ w)) (λ w. c.if-head_row-k.false (q ∙ ap (at g.by.items) qh ∙ w)) b)))
+    let q = get_or_read g.by.items h _ (omega arith) c.index-head_row.ensures 0 in (
+      (λ z. absurd (false≢true z)),
+      (λ b. absurd (tells_outside c.args.events (arcs_of_network rows) g k f row (λ w. c.if-tail_row-k.false (r ∙ ap (at g.by.items) qt ∙ w)) (λ w. c.if-head_row-k.false (q ∙ ap (at g.by.items) qh ∙ w)) b)),
+    )

@@ -1,0 +1,17 @@
+-- What a row adds to the value of a leaf.
+use Rattle.std.specs.Prelude.{ℕ, ℤ, pos, ◌-ℤ◌, ◌*ℤ◌, Bool, List}
+use Rattle.std.specs.Int.{int_min}
+use Rattle.pesp_problem.specs.declared.arc.Arc.{Arc}
+use Rattle.pesp_problem.specs.Arcs.{arc_at}
+use Rattle.pesp_problem.specs.Nodes.{weight_of, slack_range}
+
+-- the lesser of a factor times each end of a range
+abbrev pub lesser : ℤ → ℕ × ℕ → ℤ
+lesser factor range = int_min (factor *ℤ pos range.0) (factor *ℤ pos range.1)
+
+-- the least that the slack costs beyond the flow, less the flow times the lower bound
+abbrev pub row_term : Arc → ℕ × ℕ → Bool → ℤ → ℤ
+row_term arc range weighted flow = lesser (weight_of weighted arc -ℤ flow) range -ℤ flow *ℤ arc.lower
+
+abbrev pub row_term_at : List Arc → List (ℕ × ℕ) → Bool → ℕ → ℤ → ℤ
+row_term_at arcs slacks weighted i flow = row_term (arc_at arcs i) (slack_range slacks i) weighted flow

@@ -1,0 +1,180 @@
+//! The best leaf that is found at a node.
+
+ghost use Rattle.std.specs.Prelude.{◌≡◌, ℕ, ◌⊎◌, ◌-◌, ◌<◌, ◌≤◌, [], List, length, pos, ◌≤ℤ◌, ◌<ℤ◌, true, false, Some, None, unsigned_abs, All, IsTrue, IfOk, IfSome, IsSomeAnd, MatchOption};
+ghost use Rattle.pesp_problem.specs.Walks.{Names};
+ghost use Rattle.pesp_problem.specs.Nodes as spec;
+ghost use Rattle.pesp_bound.specs.Leaves.{IsGapAt, HasNoGap, IsLeafOf, IsNoLess};
+ghost use Rattle.pesp_bound.specs.Problems.{net_of, IsNodeOf, IsPairOf, ArePairs, Rise};
+
+use crate::leaf::Leaf;
+use crate::node::Node;
+use crate::problem::Problem;
+use crate::proposing::propose;
+use crate::value::{leaf_value, left_at};
+use pesp_problem::{Memory, Pair, Pairs};
+use std::alloc::Global;
+
+// the first cycle that has no offset left
+fn first_gap(problem: &Problem, node: &Node) -> Option<u32>
+    requires { IsNodeOf problem.now node.now }
+    ensures { MatchOption result (HasNoGap problem.now node.now) (λ cycle. Names (length problem.now.table) cycle × IsGapAt problem.now node.now (cycle - 1)) }
+{
+    for place in 0..problem.table().len() {
+        if left_at(problem, node, place).is_none() {
+            return Some(place as u32 + 1);
+        }
+    }
+    None
+}
+
+// whether a pair names one of so many cycles and keeps its limit
+fn is_pair(pair: &Pair, cycles: usize) -> bool
+    ensures { IsTrue result → IsPairOf cycles pair.now }
+{
+    if pair.cycle == 0 || pair.cycle as usize > cycles {
+        return false;
+    }
+    let amount = pair.mult.unsigned_abs();
+    1 <= amount && amount <= 1000000000000
+}
+
+/// Whether pairs rise and keep their limits.
+pub fn are_pairs(pairs: &[Pair], cycles: usize) -> bool
+    ensures { IsTrue result → ArePairs cycles pairs.now }
+{
+    let mut last = 0;
+    for pair in pairs {
+        if !is_pair(pair, cycles) {
+            return false;
+        }
+        if pair.cycle <= last {
+            return false;
+        }
+        last = pair.cycle;
+    }
+    true
+}
+
+// the value of pairs, where they are pairs of the problem and have one
+fn judged(problem: &Problem, node: &Node, pairs: &[Pair], weighted: bool) -> Option<i128>
+    requires { IsNodeOf problem.now node.now }
+    ensures pairs { IfSome result (λ _. ArePairs (length problem.now.table) pairs.now) }
+    ensures value { IfSome result (λ v. spec.leaf_value (net_of problem.now) problem.now.table node.now pairs.now weighted ≡ Some v) }
+{
+    if !are_pairs(pairs, problem.table().len()) {
+        return None;
+    }
+    leaf_value(problem, node, pairs, weighted)
+}
+
+// pairs with their value
+#[derive(Debug, Drop)]
+struct Best {
+    pairs: Vec<Pair>,
+    value: i128,
+}
+
+// the pairs of the greater value, the ones kept where equal or where the others have none
+fn better(best: Best, pairs: Vec<Pair>, value: Option<i128>) -> Best
+    ensures which { ((result.pairs.items ≡ best.pairs.items) × (result.value ≡ best.value)) ⊎ ((result.pairs.items ≡ pairs.items) × (value ≡ Some result.value)) }
+    ensures no_less { best.value ≤ℤ result.value }
+    ensures value { IfSome value (λ v. v ≤ℤ result.value) }
+{
+    match value {
+        Some(value) if value > best.value => Best { pairs, value },
+        _ => best,
+    }
+}
+
+// no pairs, with their value
+fn no_pairs(alloc: Global, problem: &Problem, node: &Node) -> Best
+    requires { IsNodeOf problem.now node.now }
+    ensures pairs { result.pairs.items ≡ [] }
+    ensures value { spec.leaf_value (net_of problem.now) problem.now.table node.now [] true ≡ Some result.value }
+{
+    match leaf_value(problem, node, &[], true) {
+        Some(value) => Best {
+            pairs: Vec::new(alloc),
+            value,
+        },
+        None => unreachable!(),
+    }
+}
+
+// pairs of value above 0 without weights, where some are found
+fn proof_of_nothing(
+    alloc: Global,
+    problem: &Problem,
+    node: &Node,
+) -> Result<Option<Vec<Pair>>, Memory>
+    requires { IsNodeOf problem.now node.now }
+    ensures pairs { IfOk result (λ o. IfSome o (λ v. ArePairs (length problem.now.table) v.items)) }
+    ensures value { IfOk result (λ o. IfSome o (λ v. IsSomeAnd (spec.leaf_value (net_of problem.now) problem.now.table node.now v.items false) (λ z. pos 0 <ℤ z))) }
+{
+    let pairs = propose(alloc, problem, node, &[], false, 1)?;
+    match judged(problem, node, &pairs, false) {
+        Some(value) if value > 0 => Ok(Some(pairs)),
+        _ => Ok(None),
+    }
+}
+
+// the best of no pairs, the start and what is found from it
+fn best_pairs(
+    alloc: Global,
+    problem: &Problem,
+    node: &Node,
+    start: &[Pair],
+    rounds: u32,
+) -> Result<Best, Memory>
+    requires node { IsNodeOf problem.now node.now }
+    requires start { ArePairs (length problem.now.table) start.now }
+    ensures pairs { IfOk result (λ b. ArePairs (length problem.now.table) b.pairs.items) }
+    ensures value { IfOk result (λ b. spec.leaf_value (net_of problem.now) problem.now.table node.now b.pairs.items true ≡ Some b.value) }
+    ensures none { IfOk result (λ b. IfSome (spec.leaf_value (net_of problem.now) problem.now.table node.now [] true) (λ v. v ≤ℤ b.value)) }
+    ensures start { IfOk result (λ b. IfSome (spec.leaf_value (net_of problem.now) problem.now.table node.now start.now true) (λ v. v ≤ℤ b.value)) }
+{
+    let none = no_pairs(alloc, problem, node);
+    let kept = start.to_vec(alloc)?;
+    let started = better(none, kept, leaf_value(problem, node, start, true));
+    let found = propose(alloc, problem, node, start, true, rounds)?;
+    let value = judged(problem, node, &found, true);
+    Ok(better(started, found, value))
+}
+
+/// The best leaf that is found at a node, from the pairs of another leaf, by so many improving changes of a circulation: a
+/// `Gap` wherever some cycle has no offset left; else a `Nothing` where pairs of value above 0 with all weights 0 were found,
+/// or a `Bound` whose value is at least that of no pairs, and at least that of the start where it has one at this node.
+pub fn best_leaf_from(
+    alloc: Global,
+    problem: &Problem,
+    node: &Node,
+    start: &[Pair],
+    rounds: u32,
+) -> Result<Leaf, Memory>
+    requires node { IsNodeOf problem.now node.now }
+    requires start { ArePairs (length problem.now.table) start.now }
+    ensures leaf { IfOk result (IsLeafOf problem.now node.now) }
+    ensures none { IfOk result (IsNoLess problem.now node.now []) }
+    ensures start { IfOk result (IsNoLess problem.now node.now start.now) }
+{
+    if let Some(cycle) = first_gap(problem, node) {
+        return Ok(Leaf::Gap { cycle });
+    }
+    if let Some(pairs) = proof_of_nothing(alloc, problem, node)? {
+        let pairs = Pairs::new(pairs);
+        return Ok(Leaf::Nothing { pairs });
+    }
+    let Best { pairs, value } = best_pairs(alloc, problem, node, start, rounds)?;
+    let pairs = Pairs::new(pairs);
+    Ok(Leaf::Bound { pairs, value })
+}
+
+/// The best leaf that is found at a node from no pairs: a `Gap` wherever some cycle has no offset left; else a `Nothing` where
+/// pairs of value above 0 with all weights 0 were found, or a `Bound` whose value is at least that of no pairs.
+pub fn best_leaf(alloc: Global, problem: &Problem, node: &Node, rounds: u32) -> Result<Leaf, Memory>
+    requires { IsNodeOf problem.now node.now }
+    ensures leaf { IfOk result (IsLeafOf problem.now node.now) }
+    ensures none { IfOk result (IsNoLess problem.now node.now []) }
+{
+    best_leaf_from(alloc, problem, node, &[], rounds)
+}

@@ -1,0 +1,73 @@
+-- Walks that are followed row by row, and tables of walks.
+use Rattle.std.proofs.Common.{◌≡◌, ℕ, zero, suc, ◌+◌, ◌-◌, ◌<◌, ◌≤◌, arith, refl, ap, sym, ◌∙◌, List, [], ◌∷◌, length, get_or, drop, subst, inl, inr, ◌⊎◌}
+use Rattle.std.specs.Prelude.{All, ◌↔◌}
+use Rattle.std.proofs.Common.{below_more}
+use Rattle.std.proofs.lemmas.List.{drop_more, drop_all, get_or_default}
+use Rattle.pesp_problem.specs.declared.arc.Arc.{Arc}
+use Rattle.pesp_problem.specs.declared.row.SignedRow.{SignedRow}
+use Rattle.pesp_problem.specs.Walks.{AreRows, IsWalk, Leads, start, finish}
+use Rattle.pesp_problem.specs.Nodes.{cycle_at}
+use Rattle.pesp_check.specs.declared.refusal.Refusal.TheVariants.{OpenWalk, NoSuch}
+use Rattle.pesp_check.specs.Faults.{IsFirstOpen, IsCycleFault}
+
+-- where the way that is left leads back exactly where the whole does
+abbrev pub SameWay : List Arc → List SignedRow → ℕ → ℕ → ℕ → Type 0
+SameWay arcs walk begin at k = Leads arcs at (drop k walk) begin ↔ Leads arcs begin walk begin
+
+module _ (arcs : List Arc) (walk : List SignedRow) (begin at k : ℕ) (d : SignedRow) (within : k < length walk) where
+  pub way_more : start arcs (get_or walk k d) ≡ at → SameWay arcs walk begin at k → SameWay arcs walk begin (finish arcs (get_or walk k d)) (k + 1)
+  way_more e same =
+      let P : List SignedRow → Type 0 = λ w. Leads arcs at w begin in
+      (λ rest. same.0 (subst P (sym (drop_more walk k d within)) (e, rest)), λ whole. let here = subst P (drop_more walk k d within) (same.1 whole) in here.1)
+
+  pub way_breaks : (start arcs (get_or walk k d) ≡ at → ⊥) → SameWay arcs walk begin at k → Leads arcs begin walk begin → ⊥
+  way_breaks ne same whole =
+      let P : List SignedRow → Type 0 = λ w. Leads arcs at w begin in
+      let here = subst P (drop_more walk k d within) (same.1 whole) in ne here.0
+
+pub way_ends : (arcs : List Arc) (walk : List SignedRow) (begin at k : ℕ) → length walk ≤ k → SameWay arcs walk begin at k → (at ≡ begin) ↔ Leads arcs begin walk begin
+way_ends arcs walk begin at k done same =
+    let P : List SignedRow → Type 0 = λ w. Leads arcs at w begin in
+    (λ e. same.0 (subst P (sym (drop_all k walk done)) e), λ whole. subst P (drop_all k walk done) (same.1 whole))
+
+-- a walk is rows that lead from where the first begins back to it
+pub walk_leads : (arcs : List Arc) (walk : List SignedRow) (d : SignedRow) → 0 < length walk → AreRows arcs walk → Leads arcs (start arcs (get_or walk 0 d)) walk (start arcs (get_or walk 0 d)) ↔ IsWalk arcs walk
+walk_leads arcs [] d h rows = absurd (omega arith)
+walk_leads arcs (s ∷ walk) d h rows = (λ l. (rows, l), λ w. w.1)
+
+-- ---- the first cycle that is no walk
+
+module _ (arcs : List Arc) (cycles : List (List SignedRow)) (line k : ℕ) (cycle read : List SignedRow) (within : k < length cycles) (is : read ≡ get_or cycles k read) (same : cycle ≡ read) (before : (c : ℕ) → c < k → IsWalk arcs (cycle_at cycles c)) where
+  pub cycle_is : cycle ≡ cycle_at cycles k
+  cycle_is = same ∙ is ∙ get_or_default cycles k read [] within
+
+  here : cycle_at cycles k ≡ cycle_at cycles (k + 1 - 1)
+  here = ap (cycle_at cycles) (omega arith)
+
+  first_open : (IsWalk arcs cycle → ⊥) → IsFirstOpen arcs cycles (k + 1)
+  first_open never = record {
+    exists = (omega arith, omega arith);
+    before = λ c l. before c (omega arith);
+    open_ends = λ w. let P : List SignedRow → Type 0 = IsWalk arcs in never (subst P (sym (cycle_is ∙ here)) w);
+  }
+
+  no_rows : (AreRows arcs cycle → ⊥) → IsWalk arcs cycle → ⊥
+  no_rows never w = never (rows_of cycle w)
+    where
+      rows_of : (walk : List SignedRow) → IsWalk arcs walk → AreRows arcs walk
+      rows_of [] h = absurd h
+      rows_of (s ∷ walk) h = h.0
+
+  pub row_fault : (AreRows arcs cycle → ⊥) → IsCycleFault arcs cycles line (NoSuch (line + (k + 1)))
+  row_fault never = (k + 1, first_open (no_rows never), inl (refl, λ r. let P : List SignedRow → Type 0 = AreRows arcs in never (subst P (sym (cycle_is ∙ here)) r)))
+
+  pub open_fault : AreRows arcs cycle → (IsWalk arcs cycle → ⊥) → IsCycleFault arcs cycles line (OpenWalk (k + 1))
+  open_fault rows never = (k + 1, first_open never, inr (refl, let P : List SignedRow → Type 0 = AreRows arcs in subst P (cycle_is ∙ here) rows))
+
+pub all_walks : (arcs : List Arc) (cycles : List (List SignedRow)) (k : ℕ) → length cycles ≤ k → ((c : ℕ) → c < k → IsWalk arcs (cycle_at cycles c)) → All (IsWalk arcs) cycles
+all_walks arcs cycles k done walks = λ c d l. let P : List SignedRow → Type 0 = IsWalk arcs in subst P (get_or_default cycles c [] d l) (walks c (omega arith))
+
+-- one walk more
+pub walks_more : (arcs : List Arc) (cycles : List (List SignedRow)) (k : ℕ) (cycle : List SignedRow) → cycle ≡ cycle_at cycles k → ((c : ℕ) → c < k → IsWalk arcs (cycle_at cycles c)) → IsWalk arcs cycle → (c : ℕ) → c < k + 1 → IsWalk arcs (cycle_at cycles c)
+walks_more arcs cycles k cycle e before walk =
+    let P : List SignedRow → Type 0 = IsWalk arcs in below_more (λ c. IsWalk arcs (cycle_at cycles c)) k before (subst P e walk)

@@ -1,0 +1,15 @@
+pub mod Sums
+pub mod Counts
+pub mod Collecting
+pub mod Durations
+pub mod Idle
+pub mod Walking
+pub mod Flowing
+pub mod Taking
+pub mod Leaves
+pub mod Closing
+pub mod Tables
+pub mod Judged
+pub mod Faults
+pub mod Limits
+pub mod Options

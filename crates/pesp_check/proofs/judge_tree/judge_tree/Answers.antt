@@ -1,0 +1,31 @@
+use Rattle.std.proofs.Common.{◌≡◌, ◌+◌, ◌∙◌, ap, sym, subst, length, refl, true, false, Option, Some, None}
+use Rattle.std.specs.Prelude.{is_some, IfNone, MatchOption}
+use Rattle.pesp_problem.specs.Arcs.{net_of}
+use Rattle.pesp_problem.specs.Nodes.{root}
+use Rattle.pesp_truth.specs.Certificates.{line_of}
+use Rattle.pesp_check.specs.declared.refusal.Refusal.{Refusal}
+use Rattle.pesp_check.proofs.Judged.{open_there, whole_more, judged_more, fault_here, judged_all}
+use Rattle.pesp_check.proofs.judge_tree.judge_tree.Goals as goal
+
+-- what holds of none holds of what is not some
+of_none : (found : Option Refusal) (P : Type 0) → is_some found ≡ false → IfNone found P → P
+of_none None P e h = h
+of_none (Some x) P e h = cc
+
+of_match : (found : Option Refusal) (P : Type 0) (Q : Refusal → Type 0) → is_some found ≡ false → MatchOption found P Q → P
+of_match None P Q e h = h
+of_match (Some x) P Q e h = cc
+
+pub loop-place-preserved : goal.loop-place-preserved
+loop-place-preserved c =
+    let none : is_some c.in_ok-found.found ≡ false = sym c.is_some.ensures ∙ c.if-is_some.false in
+    let nodes = of_none c.in_ok-found.found _ none c.in_ok-found.ensures.nodes in
+    record {
+      problem = c.in_ok-found.ensures.problem;
+      cycles = c.in_ok-found.ensures.cycles;
+      zeros = c.in_ok-found.ensures.zeros;
+      whole = whole_more c.args.lines.now c.loop-place.place c.index-lines-place.result c.loop-place-test.true c.index-lines-place.is c.loop-place.walk.nodes c.take_line.new.walk.nodes nodes c.loop-place.invariant.whole;
+      judged = λ walks nets.
+          let sound = of_match c.in_ok-found.found _ _ none (c.in_ok-found.ensures.verdict walks nets) in
+          judged_more c.args.lines.now c.loop-place.place c.index-lines-place.result c.loop-place-test.true c.index-lines-place.is (net_of c.args.instance.now) walks c.args.least (root (net_of c.args.instance.now) walks) c.args.first c.loop-place.walk.nodes (c.loop-place.invariant.judged walks nets) c.take_line.new.walk.nodes sound.0 nodes;
+    }

@@ -1,0 +1,19 @@
+use Rattle.std.proofs.Common.{◌≡◌, List, length, map, drop, true}
+use Rattle.pesp_problem.specs.declared.row.SignedRow.{SignedRow}
+use Rattle.pesp_problem.specs.Arcs.{net_of}
+use Rattle.pesp_problem.specs.Nodes.{root}
+use Rattle.pesp_truth.specs.Trees.{are_trees}
+use Rattle.pesp_truth.specs.Certificates.{line_of}
+use Rattle.pesp_check.specs.Nets.{AreZeros}
+use Rattle.pesp_check.specs.Flows.{AreNets}
+use Rattle.pesp_check.proofs.Judged.{AreJudged}
+use Rattle.pesp_check.proofs.judge_tree.judge_tree.Given as goal
+
+abbrev pub invariant-loop-place : goal.invariant-loop-place
+invariant-loop-place l = record {
+  problem : l.walk.problem ≡ l.instance;
+  cycles : l.walk.cycles ≡ length l.table;
+  zeros : AreZeros l.working;
+  whole : are_trees (length l.walk.nodes) (map line_of (drop l.place l.lines)) ≡ true;
+  judged : (walks : List (List SignedRow)) → AreNets (length l.instance.rows) walks l.table → AreJudged (net_of l.instance) walks l.fn.least l.lines (root (net_of l.instance) walks) l.fn.first l.walk.nodes l.place;
+}

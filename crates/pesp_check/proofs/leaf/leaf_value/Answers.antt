@@ -1,0 +1,35 @@
+use Rattle.std.proofs.Common.{ℕ, arith, rules, unsigned_abs, FitsSigned, to_z, of_z, ◌≡◌, ◌≤◌, ◌<◌, ◌+◌, ◌*◌, ◌^◌, ◌∙◌, ap, sym, length, List}
+use Rattle.std.specs.Prelude.{ℤ, pos, ◌+ℤ◌}
+use Rattle.std.specs.Int.{w128}
+use Rattle.std.proofs.lemmas.Int.{ints, to_z-of_z}
+use Rattle.pesp_problem.specs.Arcs.{net_of, arcs_of}
+use Rattle.pesp_check.specs.Flows.{flow_sum, AreNets}
+use Rattle.pesp_check.specs.Ranges.{node_of}
+use Rattle.pesp_check.proofs.Leaves.{value_is, value_none}
+use Rattle.pesp_check.proofs.leaf.leaf_value.Goals as goal
+
+pub plus-requires : goal.plus-requires
+plus-requires c =
+    let a = c.take_flows-moved.ensures.size in
+    let b = c.idle_part-idle.ensures.size in
+    omega (arith, ints)
+
+pub plus-requires-2 : goal.plus-requires-2
+plus-requires-2 c =
+    let a = c.take_flows-moved.ensures.size in
+    let b = c.idle_part-idle.ensures.size in
+    let o = c.in_ok-offsets.ensures.size in
+    let s = c.plus.ensures.size in
+    omega (arith, ints)
+
+pub returns-clause-value : goal.returns-clause-value
+returns-clause-value c walks nets =
+    let a = c.take_flows-moved.ensures.size in
+    let b = c.idle_part-idle.ensures.size in
+    let o = c.in_ok-offsets.ensures.size in
+    let s = c.plus.ensures.value in
+    let t = c.plus-2.ensures.value in
+    let e : to_z w128 (of_z w128 c.plus-2.result) ≡ c.in_ok-offsets.offsets +ℤ (c.take_flows-moved.result +ℤ c.idle_part-idle.result) = omega (arith, ints) in
+    let nets' : AreNets (length c.args.working.now) walks c.args.table.now = rw c.requires.long nets in
+    value_is c.args.instance.now walks (node_of c.args.ranges.now) c.args.pairs.now c.args.weighted c.add_flows.new.flows c.in_ok-offsets.offsets c.take_flows-moved.result c.idle_part-idle.result _
+    (c.add_flows.auto.flows ∙ c.requires.long) (λ i l. c.add_flows.ensures.flows walks nets' i (omega (arith, c.add_flows.auto.flows))) (c.in_ok-offsets.ensures.value walks nets) (c.take_flows-moved.ensures.sum ∙ ap (λ (x : List (ℕ × ℕ)). flow_sum (arcs_of c.args.instance.now) x c.args.weighted c.add_flows.new.flows) c.deref.ensures.value) c.idle_part-idle.ensures.value e

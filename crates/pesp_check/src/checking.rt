@@ -1,0 +1,119 @@
+//! The check of a certificate as a whole.
+
+ghost use Rattle.std.specs.Prelude.{◌≡◌, ◌↔◌, ℕ, ◌+◌, List, [], ◌∷◌, length, map, All, Ok, IfOk, MatchOption};
+ghost use Rattle.pesp_problem.specs.declared.row.SignedRow.{SignedRow};
+ghost use Rattle.pesp_problem.specs.Arcs.{arcs_of, net_of};
+ghost use Rattle.pesp_problem.specs.Limits.{KeepsLimits};
+ghost use Rattle.pesp_problem.specs.Walks.{IsWalk};
+ghost use Rattle.pesp_problem.specs.Nodes as nodes;
+ghost use Rattle.pesp_truth.specs.Trees.{AreSound};
+ghost use Rattle.pesp_truth.specs.Truth.{IsTrueAnswer};
+ghost use Rattle.pesp_truth.specs.Certificates.{IsValid, lines_of, shown_times};
+ghost use Rattle.pesp_truth.specs.Certificates as spec;
+ghost use Rattle.pesp_check.specs.Nets.{AreZeros};
+ghost use Rattle.pesp_check.specs.Faults.{IsVerdict, IsFirstFault, line_before_cycles, first_tree_line};
+ghost use Rattle.pesp_check.specs.Lines.{IsLinesFault};
+
+use crate::judge_answer::judge_answer;
+use crate::judge_tree::judge_tree;
+use crate::refusal::{Refusal, Verdict};
+use crate::table::table_of;
+use crate::walks::judge_cycles;
+use pesp_cert::Certificate;
+use pesp_problem::{Instance, Memory};
+use pesp_truth::Answer;
+use pesp_truth::laws::valid_is_true;
+use std::alloc::{AllocError, Global};
+
+/// The least cost for which the tree has to be sound.
+fn least_of(answer: Answer) -> Option<u64>
+    ensures { result ≡ spec.least_of answer }
+{
+    match answer {
+        Answer::Optimal(cost) => Some(cost),
+        Answer::Infeasible => None,
+        Answer::Bounded { least, .. } => Some(least),
+    }
+}
+
+/// Working numbers, all 0.
+fn zeros(alloc: Global, count: usize) -> Result<Vec<i128>, AllocError>
+    ensures long { IfOk result (λ numbers. length numbers.items ≡ count) }
+    ensures zeros { IfOk result (λ numbers. AreZeros numbers.items) }
+{
+    vec![in alloc; 0; count]
+}
+
+/// The first fault of the tree, where all cycles are walks.
+fn tree_fault(
+    alloc: Global,
+    instance: &Instance,
+    certificate: &Certificate,
+) -> Result<Option<Refusal>, AllocError>
+    requires { All (IsWalk (arcs_of instance.now)) certificate.now.cycles }
+    ensures { IfOk result (λ found. MatchOption found
+        (AreSound (net_of instance.now) certificate.now.cycles (spec.least_of certificate.now.answer) (lines_of certificate.now) (nodes.root (net_of instance.now) certificate.now.cycles ∷ []))
+        (λ refusal. IsLinesFault (net_of instance.now) certificate.now.cycles (spec.least_of certificate.now.answer) (lines_of certificate.now) (nodes.root (net_of instance.now) certificate.now.cycles ∷ []) (first_tree_line certificate.now) refusal)) }
+{
+    let cycles = certificate.cycles();
+    let mut working = zeros(alloc, instance.rows().len())?;
+    let table = table_of(alloc, instance, cycles, &mut working)?;
+    let first = 4 + certificate.times().len() as u64 + cycles.len() as u64;
+    let least = least_of(certificate.answer());
+    judge_tree(
+        alloc,
+        instance,
+        &table,
+        certificate.tree(),
+        least,
+        first,
+        &mut working,
+    )
+}
+
+/// The first fault of a certificate.
+fn first_fault(
+    alloc: Global,
+    instance: &Instance,
+    certificate: &Certificate,
+) -> Result<Option<Refusal>, AllocError>
+    ensures found { IfOk result (λ found. MatchOption found (IsValid instance.now certificate.now) (λ refusal. IsFirstFault instance.now certificate.now refusal)) }
+    ensures limits { KeepsLimits instance.now }
+{
+    if certificate.period() != instance.period() {
+        return Ok(Some(Refusal::OtherPeriod));
+    }
+    let times = certificate.times();
+    let found = judge_answer(alloc, instance, certificate.answer(), times)?;
+    if found.is_some() {
+        return Ok(found);
+    }
+    let found = judge_cycles(instance, certificate.cycles(), 3 + times.len() as u64);
+    if found.is_some() {
+        return Ok(found);
+    }
+    tree_fault(alloc, instance, certificate)
+}
+
+/// Judges a certificate, whoever made it: `Accepted` exactly where it is valid for the instance, and then its answer is true
+/// of the instance's own activities; else `Refused` with the first thing that is wrong. `Memory` only where a growth was
+/// refused.
+///
+/// It looks at the period, the shape of the answer, the shown times, then at the cycles in order, then at the lines of the
+/// tree in order. A leaf's work depends on the rows that its cycles pass, a branch takes constant work, and no call depth
+/// grows with the tree.
+pub fn check(
+    alloc: Global,
+    instance: &Instance,
+    certificate: &Certificate,
+) -> Result<Verdict, Memory>
+    ensures verdict { IfOk result (λ verdict. IsVerdict instance.now certificate.now verdict) }
+    ensures exactly { IfOk result (λ verdict. (verdict ≡ Verdict.Accepted) ↔ IsValid instance.now certificate.now) }
+    ensures truth { result ≡ Ok Verdict.Accepted → IsTrueAnswer instance.now certificate.now.answer (shown_times certificate.now) }
+{
+    valid_is_true();
+    match first_fault(alloc, instance, certificate)? {
+        None => Ok(Verdict::Accepted),
+        Some(refusal) => Ok(Verdict::Refused(refusal)),
+    }
+}

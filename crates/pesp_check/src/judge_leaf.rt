@@ -1,0 +1,146 @@
+//! Whether a leaf is sound at a node.
+
+ghost use Rattle.std.specs.Prelude.{◌≡◌, ◌↔◌, ◌≤◌, ◌≤ℤ◌, ◌<ℤ◌, IsTrue, List, length, pos, All, IsSomeAnd};
+ghost use Rattle.pesp_problem.specs.declared.row.SignedRow.{SignedRow};
+ghost use Rattle.pesp_problem.specs.Arcs.{net_of};
+ghost use Rattle.pesp_problem.specs.Walks.{Names};
+ghost use Rattle.pesp_truth.specs.Trees as trees;
+ghost use Rattle.pesp_check.specs.Nets.{AreZeros, AreSmallCounts};
+ghost use Rattle.pesp_check.specs.Flows.{AreNets};
+ghost use Rattle.pesp_check.specs.Ranges.{node_of, AreRanges};
+ghost use Rattle.pesp_check.specs.Lines.{IsLeafVerdict, ArePairLimits};
+
+use crate::leaf::{leaf_value, offsets_left};
+use crate::nets::Nets;
+use crate::ranges::Ranges;
+use crate::refusal::Refusal;
+use pesp_problem::{Instance, Pair};
+
+/// Whether this is the number, from 1, of one of so many things.
+pub fn names(count: usize, number: u32) -> bool
+    ensures { IsTrue result ↔ Names count number }
+{
+    1 <= number && number as usize <= count
+}
+
+/// Whether the cycles of the pairs exist.
+fn pairs_exist(cycles: usize, pairs: &[Pair]) -> bool
+    ensures { IsTrue result ↔ All (λ pair. Names cycles pair.cycle) pairs.now }
+{
+    pairs.iter().all(|pair| names(cycles, pair.cycle))
+}
+
+/// Whether there is a value and it is at least the least cost.
+fn is_at_least(value: Option<i128>, least: u64) -> bool
+    ensures { IsTrue result ↔ IsSomeAnd value (λ v. pos least ≤ℤ v) }
+{
+    match value {
+        Some(v) => i128::from(least) <= v,
+        None => false,
+    }
+}
+
+/// Whether there is a value and it is above 0.
+fn is_positive(value: Option<i128>) -> bool
+    ensures { IsTrue result ↔ IsSomeAnd value (λ v. pos 0 <ℤ v) }
+{
+    match value {
+        Some(v) => 0 < v,
+        None => false,
+    }
+}
+
+/// What is wrong with a leaf that should show that each timetable in the node costs at least `least`.
+pub fn judge_bound(
+    instance: &Instance,
+    table: &[Nets],
+    ranges: &Ranges,
+    pairs: &[Pair],
+    least: Option<u64>,
+    line: u64,
+    working: &mut [i128],
+) -> Option<Refusal>
+    requires ranges { AreRanges instance.now ranges.now }
+    requires table { All (AreSmallCounts (length instance.now.rows)) table.now }
+    requires cycles { length ranges.now.offsets.items ≡ length table.now }
+    requires pairs { ArePairLimits pairs.now }
+    requires long { length working.old ≡ length instance.now.rows }
+    requires zeros { AreZeros working.old }
+    ensures verdict { (walks : List (List SignedRow)) → AreNets (length instance.now.rows) walks table.now
+        → IsLeafVerdict (net_of instance.now) walks least (trees.Bound pairs.now) (node_of ranges.now) line result }
+    ensures zeros { AreZeros working.new }
+{
+    if !pairs_exist(table.len(), pairs) {
+        return Some(Refusal::NoSuch { line });
+    }
+    let Some(least) = least else {
+        return Some(Refusal::BoundInInfeasible { line });
+    };
+    if !is_at_least(
+        leaf_value(instance, table, ranges, pairs, true, working),
+        least,
+    ) {
+        return Some(Refusal::LeafBelow { line });
+    }
+    None
+}
+
+/// What is wrong with a leaf that should show that no timetable lies in the node.
+pub fn judge_nothing(
+    instance: &Instance,
+    table: &[Nets],
+    ranges: &Ranges,
+    pairs: &[Pair],
+    least: Option<u64>,
+    line: u64,
+    working: &mut [i128],
+) -> Option<Refusal>
+    requires ranges { AreRanges instance.now ranges.now }
+    requires table { All (AreSmallCounts (length instance.now.rows)) table.now }
+    requires cycles { length ranges.now.offsets.items ≡ length table.now }
+    requires pairs { ArePairLimits pairs.now }
+    requires long { length working.old ≡ length instance.now.rows }
+    requires zeros { AreZeros working.old }
+    ensures verdict { (walks : List (List SignedRow)) → AreNets (length instance.now.rows) walks table.now
+        → IsLeafVerdict (net_of instance.now) walks least (trees.Nothing pairs.now) (node_of ranges.now) line result }
+    ensures zeros { AreZeros working.new }
+{
+    if !pairs_exist(table.len(), pairs) {
+        return Some(Refusal::NoSuch { line });
+    }
+    if !is_positive(leaf_value(instance, table, ranges, pairs, false, working)) {
+        return Some(Refusal::NotEmpty { line });
+    }
+    None
+}
+
+/// What is wrong with a leaf that should name a cycle with no offset left.
+pub fn judge_gap(
+    instance: &Instance,
+    table: &[Nets],
+    ranges: &Ranges,
+    cycle: u32,
+    least: Option<u64>,
+    line: u64,
+) -> Option<Refusal>
+    requires ranges { AreRanges instance.now ranges.now }
+    requires table { All (AreSmallCounts (length instance.now.rows)) table.now }
+    requires cycles { length ranges.now.offsets.items ≡ length table.now }
+    ensures { (walks : List (List SignedRow)) → AreNets (length instance.now.rows) walks table.now
+        → IsLeafVerdict (net_of instance.now) walks least (trees.Gap cycle) (node_of ranges.now) line result }
+{
+    if !names(table.len(), cycle) {
+        return Some(Refusal::NoSuch { line });
+    }
+    let place = cycle as usize - 1;
+    let left = offsets_left(
+        instance,
+        table[place].counts(),
+        &ranges.slacks,
+        ranges.offsets[place],
+    );
+    if left.is_some() {
+        return Some(Refusal::NotAGap { line });
+    }
+    None
+}

@@ -1,0 +1,52 @@
+//! Whether the lines of a certificate are a tree that is sound at the root.
+
+ghost use Rattle.std.specs.Prelude.{◌≡◌, ℕ, ◌+◌, ◌≤◌, ◌<◌, ◌^◌, List, [], ◌∷◌, length, true, map, All, IfOk, MatchOption};
+ghost use Rattle.pesp_problem.specs.declared.row.SignedRow.{SignedRow};
+ghost use Rattle.pesp_problem.specs.Arcs.{net_of};
+ghost use Rattle.pesp_problem.specs.Nodes as nodes;
+ghost use Rattle.pesp_truth.specs.Trees.{AreSound, are_trees};
+ghost use Rattle.pesp_truth.specs.Certificates.{line_of};
+ghost use Rattle.pesp_check.specs.Nets.{AreZeros, AreSmallCounts};
+ghost use Rattle.pesp_check.specs.Flows.{AreNets};
+ghost use Rattle.pesp_check.specs.Lines.{IsLinesFault, KeepsLineLimits};
+
+use crate::nets::Nets;
+use crate::node_walk::NodeWalk;
+use crate::refusal::Refusal;
+use crate::table::root;
+use crate::tree::take_line;
+use pesp_problem::Instance;
+use pesp_truth::TreeLine;
+use std::alloc::{AllocError, Global};
+
+/// The first fault of a tree at the root; its lines begin with the line `first`.
+pub fn judge_tree(
+    alloc: Global,
+    instance: &Instance,
+    table: &[Nets],
+    lines: &[TreeLine],
+    least: Option<u64>,
+    first: u64,
+    working: &mut [i128],
+) -> Result<Option<Refusal>, AllocError>
+    requires table { All (AreSmallCounts (length instance.now.rows)) table.now }
+    requires lines { All KeepsLineLimits lines.now }
+    requires whole { are_trees 1 (map line_of lines.now) ≡ true }
+    requires first { first < 2 ^ 62 }
+    requires few { length lines.now ≤ 1000000 }
+    requires long { length working.old ≡ length instance.now.rows }
+    requires zeros { AreZeros working.old }
+    ensures { IfOk result (λ found. (walks : List (List SignedRow)) → AreNets (length instance.now.rows) walks table.now → MatchOption found
+        (AreSound (net_of instance.now) walks least (map line_of lines.now) (nodes.root (net_of instance.now) walks ∷ []))
+        (λ refusal. IsLinesFault (net_of instance.now) walks least (map line_of lines.now) (nodes.root (net_of instance.now) walks ∷ []) first refusal)) }
+{
+    let mut walk = NodeWalk::new(alloc, instance, root(alloc, instance, table)?);
+    for (place, tree_line) in lines.iter().enumerate() {
+        let line = first + place as u64;
+        let found = take_line(instance, table, &mut walk, tree_line, least, line, working)?;
+        if found.is_some() {
+            return Ok(found);
+        }
+    }
+    Ok(None)
+}

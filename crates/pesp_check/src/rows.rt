@@ -1,0 +1,19 @@
+//! Rows as walks, nodes and leaves see them.
+
+ghost use Rattle.std.specs.Prelude.{◌≡◌, ◌<◌, ◌≤◌, length, unsigned_abs};
+ghost use Rattle.pesp_problem.specs.Arcs.{arcs_of, arc_at};
+ghost use Rattle.pesp_problem.specs.Limits.{KeepsLimits};
+
+use pesp_problem::{Arc, Instance, arc_of};
+
+/// The row at a place, from 0, as walks, nodes and leaves see it.
+pub fn arc_at(instance: &Instance, place: usize) -> Arc
+    requires { place < length instance.now.rows }
+    ensures arc { result ≡ arc_at (arcs_of instance.now) place }
+    ensures lower { unsigned_abs result.lower ≤ 1000000 }
+    ensures span { result.span ≤ 9999 }
+    ensures weight { result.weight ≤ 1000000000 }
+    ensures limits { KeepsLimits instance.now }
+{
+    arc_of(instance.period(), &instance.rows()[place])
+}

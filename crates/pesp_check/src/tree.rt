@@ -1,0 +1,200 @@
+//! The tree of a certificate, line by line.
+
+ghost use Rattle.std.specs.Prelude.{◌≡◌, ◌≢◌, ◌↔◌, ℕ, ◌+◌, ◌≤◌, ◌<◌, ◌^◌, IsTrue, List, [], ◌∷◌, length, true, map, All, IfOk, IfNone, Option};
+ghost use Rattle.pesp_problem.specs.declared.row.SignedRow.{SignedRow};
+ghost use Rattle.pesp_problem.specs.Arcs.{net_of};
+ghost use Rattle.pesp_truth.specs.Trees.{CutLine, EndLine};
+ghost use Rattle.pesp_truth.specs.Trees as trees;
+ghost use Rattle.pesp_truth.specs.Certificates.{line_of};
+ghost use Rattle.pesp_check.specs.Nets.{AreZeros, AreSmallCounts};
+ghost use Rattle.pesp_check.specs.Flows.{AreNets};
+ghost use Rattle.pesp_check.specs.Lines.{after, IsLineVerdict, KeepsLineLimits, ArePairLimits, CutIsNamed, IsSmallCut};
+
+use crate::judge_leaf::{judge_bound, judge_gap, judge_nothing, names};
+use crate::nets::Nets;
+use crate::node_walk::NodeWalk;
+use crate::refusal::Refusal;
+use pesp_problem::{Cut, Instance, Pair};
+use pesp_truth::TreeLine;
+use std::alloc::{AllocError, Global};
+
+/// Whether the row or the cycle of a cut exists.
+fn cut_exists(instance: &Instance, cycles: usize, cut: Cut) -> bool
+    ensures { IsTrue result ↔ CutIsNamed (length instance.now.rows) cycles cut }
+{
+    match cut {
+        Cut::Slack { row, .. } => names(instance.rows().len(), row),
+        Cut::Offset { cycle, .. } => names(cycles, cycle),
+    }
+}
+
+/// Takes a branch: it is judged at the first of the nodes that wait, and its two parts wait in place of it then.
+fn take_branch(
+    instance: &Instance,
+    table: &[Nets],
+    walk: &mut NodeWalk<'_>,
+    cut: Cut,
+    line: u64,
+) -> Result<Option<Refusal>, AllocError>
+    requires problem { walk.old.problem ≡ instance.now }
+    requires cycles { walk.old.cycles ≡ length table.now }
+    requires open { walk.old.nodes ≢ [] }
+    requires limits { IsSmallCut cut }
+    ensures problem { walk.new.problem ≡ instance.now }
+    ensures cycles { walk.new.cycles ≡ length table.now }
+    ensures verdict { IfOk result (λ found. (walks : List (List SignedRow)) (least : Option ℕ) → AreNets (length instance.now.rows) walks table.now
+        → IsLineVerdict (net_of instance.now) walks least (CutLine cut) walk.old.nodes walk.new.nodes line found) }
+    ensures nodes { IfOk result (λ found. IfNone found (walk.new.nodes ≡ after (CutLine cut) walk.old.nodes)) }
+{
+    if !cut_exists(instance, table.len(), cut) {
+        return Ok(Some(Refusal::NoSuch { line }));
+    }
+    walk.branch(cut)?;
+    Ok(None)
+}
+
+/// Takes a bound leaf: it is judged at the first of the nodes that wait, and the next one is the first then.
+fn take_bound(
+    instance: &Instance,
+    table: &[Nets],
+    walk: &mut NodeWalk<'_>,
+    pairs: &[Pair],
+    least: Option<u64>,
+    line: u64,
+    working: &mut [i128],
+) -> Option<Refusal>
+    requires problem { walk.old.problem ≡ instance.now }
+    requires table { All (AreSmallCounts (length instance.now.rows)) table.now }
+    requires cycles { walk.old.cycles ≡ length table.now }
+    requires open { walk.old.nodes ≢ [] }
+    requires limits { ArePairLimits pairs.now }
+    requires long { length working.old ≡ length instance.now.rows }
+    requires zeros { AreZeros working.old }
+    ensures problem { walk.new.problem ≡ instance.now }
+    ensures cycles { walk.new.cycles ≡ length table.now }
+    ensures verdict { (walks : List (List SignedRow)) → AreNets (length instance.now.rows) walks table.now
+        → IsLineVerdict (net_of instance.now) walks least (EndLine (trees.Bound pairs.now)) walk.old.nodes walk.new.nodes line result }
+    ensures nodes { IfNone result (walk.new.nodes ≡ after (EndLine (trees.Bound pairs.now)) walk.old.nodes) }
+    ensures zeros { AreZeros working.new }
+{
+    let found = judge_bound(instance, table, walk.ranges(), pairs, least, line, working);
+    walk.leaf();
+    found
+}
+
+/// Takes a leaf that should show that no timetable lies in the first of the nodes that wait; the next one is the first then.
+fn take_nothing(
+    instance: &Instance,
+    table: &[Nets],
+    walk: &mut NodeWalk<'_>,
+    pairs: &[Pair],
+    least: Option<u64>,
+    line: u64,
+    working: &mut [i128],
+) -> Option<Refusal>
+    requires problem { walk.old.problem ≡ instance.now }
+    requires table { All (AreSmallCounts (length instance.now.rows)) table.now }
+    requires cycles { walk.old.cycles ≡ length table.now }
+    requires open { walk.old.nodes ≢ [] }
+    requires limits { ArePairLimits pairs.now }
+    requires long { length working.old ≡ length instance.now.rows }
+    requires zeros { AreZeros working.old }
+    ensures problem { walk.new.problem ≡ instance.now }
+    ensures cycles { walk.new.cycles ≡ length table.now }
+    ensures verdict { (walks : List (List SignedRow)) → AreNets (length instance.now.rows) walks table.now
+        → IsLineVerdict (net_of instance.now) walks least (EndLine (trees.Nothing pairs.now)) walk.old.nodes walk.new.nodes line result }
+    ensures nodes { IfNone result (walk.new.nodes ≡ after (EndLine (trees.Nothing pairs.now)) walk.old.nodes) }
+    ensures zeros { AreZeros working.new }
+{
+    let found = judge_nothing(instance, table, walk.ranges(), pairs, least, line, working);
+    walk.leaf();
+    found
+}
+
+/// Takes a gap leaf: it is judged at the first of the nodes that wait, and the next one is the first then.
+fn take_gap(
+    instance: &Instance,
+    table: &[Nets],
+    walk: &mut NodeWalk<'_>,
+    cycle: u32,
+    least: Option<u64>,
+    line: u64,
+) -> Option<Refusal>
+    requires problem { walk.old.problem ≡ instance.now }
+    requires table { All (AreSmallCounts (length instance.now.rows)) table.now }
+    requires cycles { walk.old.cycles ≡ length table.now }
+    requires open { walk.old.nodes ≢ [] }
+    ensures problem { walk.new.problem ≡ instance.now }
+    ensures cycles { walk.new.cycles ≡ length table.now }
+    ensures verdict { (walks : List (List SignedRow)) → AreNets (length instance.now.rows) walks table.now
+        → IsLineVerdict (net_of instance.now) walks least (EndLine (trees.Gap cycle)) walk.old.nodes walk.new.nodes line result }
+    ensures nodes { IfNone result (walk.new.nodes ≡ after (EndLine (trees.Gap cycle)) walk.old.nodes) }
+{
+    let found = judge_gap(instance, table, walk.ranges(), cycle, least, line);
+    walk.leaf();
+    found
+}
+
+/// Takes a line of the tree: what is wrong with it at the first of the nodes that wait. The next nodes wait then.
+pub fn take_line(
+    instance: &Instance,
+    table: &[Nets],
+    walk: &mut NodeWalk<'_>,
+    tree_line: &TreeLine,
+    least: Option<u64>,
+    line: u64,
+    working: &mut [i128],
+) -> Result<Option<Refusal>, AllocError>
+    requires problem { walk.old.problem ≡ instance.now }
+    requires table { All (AreSmallCounts (length instance.now.rows)) table.now }
+    requires cycles { walk.old.cycles ≡ length table.now }
+    requires open { walk.old.nodes ≢ [] }
+    requires limits { KeepsLineLimits tree_line.now }
+    requires long { length working.old ≡ length instance.now.rows }
+    requires zeros { AreZeros working.old }
+    ensures problem { walk.new.problem ≡ instance.now }
+    ensures cycles { walk.new.cycles ≡ length table.now }
+    ensures verdict { IfOk result (λ found. (walks : List (List SignedRow)) → AreNets (length instance.now.rows) walks table.now
+        → IsLineVerdict (net_of instance.now) walks least (line_of tree_line.now) walk.old.nodes walk.new.nodes line found) }
+    ensures nodes { IfOk result (λ found. IfNone found (walk.new.nodes ≡ after (line_of tree_line.now) walk.old.nodes)) }
+    ensures zeros { AreZeros working.new }
+{
+    match tree_line {
+        TreeLine::Slack { row, k } => take_branch(
+            instance,
+            table,
+            walk,
+            Cut::Slack { row: *row, k: *k },
+            line,
+        ),
+        TreeLine::Offset { cycle, k } => take_branch(
+            instance,
+            table,
+            walk,
+            Cut::Offset {
+                cycle: *cycle,
+                k: *k,
+            },
+            line,
+        ),
+        TreeLine::Bound(pairs) => Ok(take_bound(
+            instance,
+            table,
+            walk,
+            pairs.as_slice(),
+            least,
+            line,
+            working,
+        )),
+        TreeLine::Nothing(pairs) => Ok(take_nothing(
+            instance,
+            table,
+            walk,
+            pairs.as_slice(),
+            least,
+            line,
+            working,
+        )),
+        TreeLine::Gap(cycle) => Ok(take_gap(instance, table, walk, *cycle, least, line)),
+    }
+}

@@ -1,0 +1,11 @@
+pub mod Bits
+pub mod Sets
+pub mod Domains
+pub mod Ends
+pub mod Waiting
+pub mod Outcomes
+pub mod Visits
+pub mod Times
+pub mod Rows
+pub mod Full
+pub mod Filling

@@ -1,0 +1,12 @@
+-- The rows of a network, made ready for propagation.
+use Rattle.std.specs.Prelude.{ℕ, List}
+use Rattle.pesp_problem.specs.declared.arc.Arc.{Arc}
+use Rattle.pesp_network.specs.Networks.{NetworkValue, arcs_of_network}
+
+pub record RowsValue : Type 0 where
+  pub period : ℕ
+  pub events : ℕ
+  pub arcs : List Arc
+
+abbrev pub rows_of : NetworkValue → RowsValue
+rows_of n = record { period = n.period; events = n.events; arcs = arcs_of_network n.rows }

@@ -1,0 +1,126 @@
+//! Which event is fixed next, and to which of its differences.
+
+ghost use Rattle.std.specs.Prelude.{◌≡◌, ℕ, ◌<◌, ◌≤◌, IfSome};
+
+use crate::chance::Chance;
+use crate::domains::Domains;
+use crate::rows::Rows;
+use pesp_problem::{Arc, Memory};
+use std::alloc::Global;
+
+/// What one try leaves to the next: how often each event could not take the value that was tried, and chance.
+#[derive(Debug, Drop)]
+pub struct Experience {
+    failures: Vec<u32>,
+    costs: Vec<u64>,
+    chance: Chance,
+}
+
+impl Experience {
+    /// Nothing has failed yet.
+    pub fn new(alloc: Global, events: u32, period: u32) -> Result<Experience, Memory> {
+        Ok(Experience {
+            failures: vec![in alloc; 0u32; events as usize]?,
+            costs: vec![in alloc; 0u64; period as usize]?,
+            chance: Chance::new(),
+        })
+    }
+
+    /// An event could not take the value that was tried.
+    pub fn note_failure(&mut self, event: u32) {
+        if let Some(count) = self.failures.get_mut(event as usize) {
+            *count = count.saturating_add(1);
+        }
+    }
+
+    /// The event with the fewest differences left among those with at least two. Past failures make an event come sooner.
+    pub fn choose_event(&self, domains: &Domains) -> Option<u32>
+        ensures { IfSome result (λ event. event < domains.now.events) }
+    {
+        let mut best = None;
+        let mut least = u64::MAX;
+        for event in 0..domains.events() {
+            let count = domains.count(event);
+            let failed = self.failures.get(event as usize).copied().unwrap_or(0);
+            let rank = 10_000 * u64::from(count) / (10 + 3 * u64::from(failed));
+            if count > 1 && rank < least {
+                least = rank;
+                best = Some(event);
+            }
+        }
+        best
+    }
+
+    /// The difference of an event that costs least by what is left of its neighbours: the sum over its rows of weight
+    /// times least slack. Chance makes each cost greater, by up to so many sixteenths.
+    pub fn choose_difference(
+        &mut self,
+        domains: &Domains,
+        rows: &Rows,
+        event: u32,
+        sixteenths: u32,
+    ) -> u32 {
+        add_up_costs(&mut self.costs, domains, rows, event);
+        let mut best = 0;
+        let mut least = None;
+        for (difference, cost) in self.costs.iter().enumerate() {
+            let difference = u32::try_from(difference).unwrap_or(0);
+            if domains.has(event, difference) {
+                let more = self.chance.next() % sixteenths.saturating_add(1).max(1);
+                let cost = cost.saturating_mul(16 + u64::from(more));
+                if least.is_none_or(|least| cost < least) {
+                    least = Some(cost);
+                    best = difference;
+                }
+            }
+        }
+        best
+    }
+}
+
+// for each difference of an event, the sum over its rows of weight times least slack to what is left at the other end
+fn add_up_costs(costs: &mut [u64], domains: &Domains, rows: &Rows, event: u32) {
+    costs.fill(0);
+    let mut row = rows.last_at(event);
+    for _ in 0..rows.arcs().len() {
+        let Some(arc) = rows.arcs().get((row as usize).wrapping_sub(1)) else {
+            return
+        };
+        let is_tail = arc.tail == event;
+        if arc.tail != arc.head && arc.weight > 0 {
+            add_costs(costs, domains, arc, is_tail);
+        }
+        row = rows.before(row, is_tail);
+    }
+}
+
+// adds what one arc costs. The other end's set is gone through twice against the arc, so that the way to the nearest
+// difference that is left is known at each place the second time
+fn add_costs(costs: &mut [u64], domains: &Domains, arc: &Arc, is_tail: bool) {
+    let period = costs.len();
+    let other = if is_tail { arc.head } else { arc.tail };
+    let shift = shift_of(arc, domains.period()) as usize;
+    let mut slack = 0u64;
+    for step in 0..period.saturating_mul(2) {
+        let ahead = step % period;
+        let place = if is_tail { period - 1 - ahead } else { ahead };
+        let is_left = domains.has(other, u32::try_from(place).unwrap_or(0));
+        slack = if is_left { 0 } else { slack.saturating_add(1) };
+        let own = if is_tail {
+            place.wrapping_add(period).wrapping_sub(shift)
+        } else {
+            place.wrapping_add(shift)
+        };
+        if step >= period
+            && let Some(cost) = costs.get_mut(own % period)
+        {
+            *cost = cost.saturating_add(arc.weight.saturating_mul(slack));
+        }
+    }
+}
+
+// a lower bound as a shift round the period
+fn shift_of(arc: &Arc, period: u32) -> u32 {
+    let shift = arc.lower.checked_rem_euclid(i64::from(period)).unwrap_or(0);
+    u32::try_from(shift).unwrap_or(0)
+}

@@ -1,0 +1,121 @@
+//! A first timetable, by fixing one event after another.
+
+ghost use Rattle.std.specs.Prelude.{◌≡◌, ℕ, ◌<◌, ◌≤◌, length, IfOk, IfSome};
+ghost use Rattle.pesp_network.specs.Networks.{net_of_network};
+ghost use Rattle.pesp_propagate.specs.Domains.{HaveSizes};
+ghost use Rattle.pesp_propagate.specs.Times.{AreFeasible};
+
+use crate::choice::Experience;
+use crate::domains::Domains;
+use crate::outcome::Outcome;
+use crate::rows::Rows;
+use crate::slacks::are_feasible;
+use pesp_network::Network;
+use pesp_problem::{Arc, Memory};
+use std::alloc::Global;
+
+// how many values a try may find impossible before it gives up
+const MOST_FAILURES: u32 = 60;
+
+// by how many sixteenths chance may raise what a difference costs, from the second try on
+const MOST_CHANCE: u32 = 8;
+
+// the slack range of an arc from 0 to its span
+fn range_of(arc: &Arc) -> (u32, u32) {
+    (0, arc.span)
+}
+
+// the differences of an event with one each, as times: each component's first event is at time 0
+fn times_of(alloc: Global, domains: &Domains) -> Result<Vec<u32>, Memory> {
+    let mut times = Vec::new(alloc);
+    for event in 0..domains.events() {
+        times.push(domains.least(event))?;
+    }
+    Ok(times)
+}
+
+// fixes an event to a value, or takes the value away where some set would be empty; tells whether it is fixed
+fn fix(
+    alloc: Global,
+    rows: &Rows,
+    ranges: &[(u32, u32)],
+    domains: &mut Domains,
+    saved: &mut Domains,
+    event: u32,
+    difference: u32,
+) -> Result<bool, Memory>
+    requires sizes { HaveSizes rows.now.period rows.now.events domains.old }
+    requires saved { HaveSizes rows.now.period rows.now.events saved.old }
+    requires ranges { length ranges.now ≡ length rows.now.arcs }
+    requires event { event < rows.now.events }
+    ensures sizes { HaveSizes rows.now.period rows.now.events domains.new }
+    ensures saved { HaveSizes rows.now.period rows.now.events saved.new }
+{
+    saved.copy_from(domains);
+    domains.keep_alone(event, difference);
+    if rows.settle_at(alloc, domains, ranges, event)? == Outcome::Stable {
+        return Ok(true);
+    }
+    domains.copy_from(saved);
+    domains.remove(event, difference);
+    Ok(false)
+}
+
+// one try: a timetable, or None where too many values were impossible
+fn descend(
+    alloc: Global,
+    rows: &Rows,
+    ranges: &[(u32, u32)],
+    start: &Domains,
+    experience: &mut Experience,
+    sixteenths: u32,
+) -> Result<Option<Vec<u32>>, Memory>
+    requires start { HaveSizes rows.now.period rows.now.events start.now }
+    requires ranges { length ranges.now ≡ length rows.now.arcs }
+{
+    let mut domains = start.copy(alloc)?;
+    let mut saved = start.copy(alloc)?;
+    let mut failed = 0u32;
+    'turns: for _ in 0..domains.events().saturating_add(MOST_FAILURES) {
+        let Some(event) = experience.choose_event(&domains) else {
+            return Ok(Some(times_of(alloc, &domains)?));
+        };
+        let value = experience.choose_difference(&domains, rows, event, sixteenths);
+        if fix(alloc, rows, ranges, &mut domains, &mut saved, event, value)? {
+            continue;
+        }
+        experience.note_failure(event);
+        failed = failed.saturating_add(1);
+        let outcome = rows.settle_at(alloc, &mut domains, ranges, event)?;
+        if failed > MOST_FAILURES || outcome != Outcome::Stable {
+            return Ok(None);
+        }
+    }
+    Ok(None)
+}
+
+/// Looks for a timetable, in so many tries at most: one time for each event at which each row's slack is at most its span.
+/// None says nothing. Every call gives the same.
+///
+/// A try fixes the event with the fewest differences left to the one that costs least by what is left of its neighbours,
+/// propagates from there, and takes a value away that turns out to be impossible.
+pub fn dive(alloc: Global, network: &Network, tries: u32) -> Result<Option<Vec<u32>>, Memory>
+    ensures { IfOk result (λ found. IfSome found (λ times. AreFeasible (net_of_network network.now) network.now.events times.items)) }
+{
+    let rows = Rows::of(alloc, network)?;
+    let ranges: Vec<(u32, u32)> = rows.arcs().iter().map(range_of).collect(alloc)?;
+    let mut start = Domains::full(alloc, network)?;
+    if rows.settle_all(alloc, &mut start, &ranges)? != Outcome::Stable {
+        return Ok(None);
+    }
+    let mut experience = Experience::new(alloc, network.events(), network.period())?;
+    for attempt in 0..tries {
+        let sixteenths = if attempt == 0 { 0 } else { MOST_CHANCE };
+        let found = descend(alloc, &rows, &ranges, &start, &mut experience, sixteenths)?;
+        let Some(times) = found else { continue };
+        if are_feasible(network.period(), network.events(), rows.arcs(), &times) {
+            return Ok(Some(times));
+        }
+    }
+    Ok(None)
+}

@@ -1,0 +1,25 @@
+//! Which time differences to the first event of a component are still possible, and a first timetable.
+#![tactic(auto)]
+
+mod chains;
+mod chance;
+mod choice;
+mod diving;
+mod domains;
+mod lanes;
+mod outcome;
+mod propagation;
+mod revise;
+mod rows;
+mod settle;
+mod slacks;
+pub mod step;
+mod waiting;
+
+pub use diving::dive;
+pub use domains::Domains;
+pub use outcome::Outcome;
+pub use propagation::propagate;
+
+#[cfg(test)]
+mod tests;

@@ -1,0 +1,13 @@
+pub mod Congruences
+pub mod Ways
+pub mod Lists
+pub mod Trees
+pub mod Standings
+pub mod Flags
+pub mod Contracting
+pub mod Fating
+pub mod Keeping
+pub mod Bridges
+pub mod Reducing
+pub mod Results
+pub mod Lifting

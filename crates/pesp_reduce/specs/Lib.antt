@@ -1,0 +1,7 @@
+pub mod Congruences
+pub mod Rows
+pub mod Contractions
+pub mod Contracting
+pub mod Fates
+pub mod Reductions
+pub mod Times

@@ -1,0 +1,74 @@
+-- Reduced networks, and what they keep of the instance.
+use Rattle.std.specs.Prelude.{◌≡◌, ℕ, ◌+◌, ◌-◌, ◌*◌, ◌<◌, ◌≤◌, List, length, map, pos, ◌+ℤ◌, ◌-ℤ◌, All, true, slice_index, sum_by}
+use Rattle.pesp_problem.specs.declared.arc.Arc.{Arc}
+use Rattle.pesp_problem.specs.declared.row.SignedRow.{SignedRow}
+use Rattle.pesp_problem.specs.Timetables.{Pesp}
+use Rattle.pesp_problem.specs.Arcs.{arc_at, arcs_of, arc_slack}
+use Rattle.pesp_problem.specs.Walks.{IsWalk, net_count, Names}
+use Rattle.pesp_problem.specs.Forests.{IsBridge}
+use Rattle.pesp_network.specs.declared.row.NetRow.{NetRow}
+use Rattle.pesp_network.specs.Networks.{NetworkValue, net_row_at, arc_of_net, arcs_of_network}
+use Rattle.pesp_reduce.specs.declared.fate.Fate.{Fate}
+use Rattle.pesp_reduce.specs.declared.fate.Fate.TheVariants.{Free, Contracted, Bridge, Kept}
+use Rattle.pesp_reduce.specs.declared.contraction.Contraction.{Contraction}
+use Rattle.pesp_reduce.specs.Rows.{IsFree, flag}
+use Rattle.pesp_reduce.specs.Contracting.{IsContraction}
+use Rattle.pesp_reduce.specs.Fates.{fate_at, mapped_row, kept_below}
+
+-- an instance, what becomes of each of its rows, for each of its events the event that it becomes and how much later it
+-- is than that one, and the network that is left
+pub record ReducedValue : Type 0 where
+  pub original : Pesp
+  pub fates : List Fate
+  pub stands : List ℕ
+  pub shifts : List ℕ
+  pub network : NetworkValue
+
+-- the parts of a reduced network fit together
+pub record IsReduction (p : Pesp) (fates : List Fate) (whole : NetworkValue) (c : Contraction) (network : NetworkValue) : Type 0 where
+  pub whole_period : whole.period ≡ p.period
+  pub whole_events : whole.events ≡ length p.events
+  pub whole_count : length whole.rows ≡ length p.rows
+  pub fates_count : length fates ≡ length p.rows
+  pub contraction : IsContraction p.period (length p.events) whole.rows c
+  pub free : (i : ℕ) → i < length p.rows → fate_at fates i ≡ Free → IsFree p.period (arc_at (arcs_of p) i)
+  pub others : (i : ℕ) → i < length p.rows → (fate_at fates i ≡ Free → ⊥) → (arc_at (arcs_of_network whole.rows) i ≡ arc_at (arcs_of p) i) × (IsFree p.period (arc_at (arcs_of p) i) → ⊥)
+  pub contracted : (i : ℕ) → i < length p.rows → fate_at fates i ≡ Contracted → flag c.contracted.items i ≡ true
+  pub flagged : (i : ℕ) → flag c.contracted.items i ≡ true → fate_at fates i ≡ Contracted
+  pub bridges : (i : ℕ) (walk : List SignedRow) → i < length p.rows → fate_at fates i ≡ Bridge → IsWalk (arcs_of_network whole.rows) walk → net_count walk i ≡ pos 0
+  pub origins : (i : ℕ) → i < length p.rows → (net_row_at whole.rows i).origin ≡ i + 1
+  pub period : network.period ≡ p.period
+  pub events : network.events ≡ length c.firsts.items
+  pub rows : network.rows ≡ kept_below fates (map (mapped_row c.stands.items c.shifts.items) whole.rows) (length p.rows)
+  pub no_bridge : (row : ℕ) → Names (length network.rows) row → IsBridge (arcs_of_network network.rows) row → ⊥
+
+-- the cost of times over a network's rows
+abbrev pub network_cost : NetworkValue → List ℕ → ℕ
+network_cost n times = sum_by (λ row. row.weight * arc_slack n.period times (arc_of_net row)) n.rows
+
+-- one time below the period for each event, and no slack above its row's span
+pub record IsNetworkTimetable (n : NetworkValue) (times : List ℕ) : Type 0 where
+  pub count : length times ≡ n.events
+  pub below : All (λ t. t < n.period) times
+  pub within : (j : ℕ) → j < length n.rows → arc_slack n.period times (arc_of_net (net_row_at n.rows j)) ≤ (net_row_at n.rows j).span
+
+-- the place, from 0, of the row of the instance from which the network's row at a place comes
+abbrev pub origin_place : NetworkValue → ℕ → ℕ
+origin_place n j = (net_row_at n.rows j).origin - 1
+
+-- a row of the network: it is a kept row of the instance, with its span and weight, between the events that its ends
+-- become; its lower bound is changed by the shifts of its two ends
+pub record IsReducedRow (r : ReducedValue) (j : ℕ) : Type 0 where
+  pub names : Names (length r.original.rows) (net_row_at r.network.rows j).origin
+  pub kept : fate_at r.fates (origin_place r.network j) ≡ Kept
+  pub tail : (net_row_at r.network.rows j).tail ≡ slice_index r.stands (arc_at (arcs_of r.original) (origin_place r.network j)).tail
+  pub head : (net_row_at r.network.rows j).head ≡ slice_index r.stands (arc_at (arcs_of r.original) (origin_place r.network j)).head
+  pub lower : (net_row_at r.network.rows j).lower
+      ≡ ((arc_at (arcs_of r.original) (origin_place r.network j)).lower +ℤ pos (slice_index r.shifts (arc_at (arcs_of r.original) (origin_place r.network j)).tail))
+      -ℤ pos (slice_index r.shifts (arc_at (arcs_of r.original) (origin_place r.network j)).head)
+  pub span : (net_row_at r.network.rows j).span ≡ (arc_at (arcs_of r.original) (origin_place r.network j)).span
+  pub weight : (net_row_at r.network.rows j).weight ≡ (arc_at (arcs_of r.original) (origin_place r.network j)).weight
+
+-- no walk along contracted rows alone passes a row more often one way than the other
+abbrev pub HaveNoContractedCycle : ReducedValue → Type 0
+HaveNoContractedCycle r = (walk : List SignedRow) (i : ℕ) → IsWalk (arcs_of r.original) walk → All (λ s. fate_at r.fates (s.row - 1) ≡ Contracted) walk → net_count walk i ≡ pos 0

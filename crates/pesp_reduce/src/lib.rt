@@ -1,0 +1,15 @@
+//! Reduction of an instance: what can be decided without searching is decided, and every result comes back at equal cost.
+#![tactic(auto)]
+
+mod contraction;
+mod fate;
+mod fates;
+mod reduction;
+mod rows;
+mod times;
+
+pub use fate::Fate;
+pub use reduction::{Reduced, reduce};
+
+#[cfg(test)]
+mod tests;

@@ -1,0 +1,122 @@
+//! Reduced networks.
+
+ghost use Rattle.std.specs.Prelude.{◌≡◌, ℕ, ◌-◌, ◌<◌, ◌≤◌, length, IfOk, All};
+ghost use Rattle.pesp_problem.specs.Timetables.{slack, cost, row_at, IsTimetable};
+ghost use Rattle.pesp_problem.specs.Arcs.{arc_at, arcs_of, arc_slack};
+ghost use Rattle.pesp_problem.specs.Walks.{Names};
+ghost use Rattle.pesp_problem.specs.Forests.{IsBridge};
+ghost use Rattle.pesp_network.specs.Networks.{net_row_at, arc_of_net, arcs_of_network};
+ghost use Rattle.pesp_reduce.specs.Rows.{IsFree};
+ghost use Rattle.pesp_reduce.specs.Reductions.{IsReducedRow, HaveNoContractedCycle, IsNetworkTimetable, origin_place, network_cost};
+
+use crate::contraction::{Contraction, contract};
+use crate::fate::Fate;
+use crate::fates::{fates_of, kept_rows, mapped_rows};
+use crate::rows::{network_of, rows_that_matter};
+use crate::times::{lifted_slacks, lowered_times};
+use pesp_network::Network;
+use pesp_problem::{Instance, Memory};
+use std::alloc::Global;
+use std::marker::Model;
+
+/// What is left of an instance where free rows of weight 0 are dropped, fixed rows are contracted and then bridges are
+/// dropped.
+#[derive(Drop)]
+pub struct Reduced {
+    original: Instance,
+    whole: Network,
+    contraction: Contraction,
+    fates: Vec<Fate>,
+    network: Network,
+}
+
+impl Model for Reduced {
+    ghost use Rattle.pesp_reduce.specs.Reductions.{ReducedValue, IsReduction};
+
+    ghost Value = { ReducedValue };
+
+    ghost view = { λ r. record { original = r.original; fates = r.fates.items; stands = r.contraction.stands.items; shifts = r.contraction.shifts.items; network = r.network } };
+
+    ghost invariant = { λ r. IsReduction r.original r.fates.items r.whole r.contraction r.network };
+}
+
+/// Decides what can be decided without searching: drops free rows of weight 0, contracts fixed rows with shifts from 0 to
+/// the period less 1, and then drops the bridges of what is left. A fixed row that closes a cycle of fixed rows stays as a
+/// loop.
+pub fn reduce(alloc: Global, instance: &Instance) -> Result<Reduced, Memory>
+    ensures original { IfOk result (λ r. r.original ≡ instance.now) }
+    ensures period { IfOk result (λ r. r.network.period ≡ instance.now.period) }
+    ensures no_bridge { IfOk result (λ r. (row : ℕ) → Names (length r.network.rows) row → IsBridge (arcs_of_network r.network.rows) row → ⊥) }
+    ensures no_free { IfOk result (λ r. (j : ℕ) → j < length r.network.rows → IsFree r.network.period (arc_of_net (net_row_at r.network.rows j)) → ⊥) }
+    ensures no_fixed { IfOk result (λ r. (j : ℕ) → j < length r.network.rows → (net_row_at r.network.rows j).span ≡ 0 → (net_row_at r.network.rows j).tail ≡ (net_row_at r.network.rows j).head) }
+    ensures rows { IfOk result (λ r. (j : ℕ) → j < length r.network.rows → IsReducedRow r j) }
+    ensures shifts { IfOk result (λ r. All (λ t. t < instance.now.period) r.shifts) }
+    ensures no_cycle { IfOk result HaveNoContractedCycle }
+{
+    let own = instance.period();
+    let given = Network::of(alloc, instance)?;
+    let period = given.period();
+    let matter = rows_that_matter(alloc, period, given.rows())?;
+    let whole = network_of(alloc, period, given.events(), matter)?;
+    let contraction = contract(alloc, &whole)?;
+    let stands = contraction.stands.as_slice();
+    let shifts = contraction.shifts.as_slice();
+    let events = contraction.firsts.len() as u32;
+    let mapped = mapped_rows(alloc, stands, shifts, whole.rows())?;
+    let left = network_of(alloc, period, events, mapped)?;
+    let contracted = contraction.contracted.as_slice();
+    let fates = fates_of(alloc, period, given.rows(), contracted, &left)?;
+    let rows = kept_rows(alloc, left.rows(), fates.as_slice())?;
+    let network = network_of(alloc, period, events, rows)?;
+    let labels = Vec::from_slice(alloc, instance.events())?;
+    let copied = Vec::from_slice(alloc, instance.rows())?;
+    let original = Instance::new(own, labels, copied);
+    Ok(Reduced {
+        original,
+        whole,
+        contraction,
+        fates,
+        network,
+    })
+}
+
+impl Reduced {
+    /// What is left: rows between the events that are left, each with the instance's row that it comes from.
+    pub fn network(&self) -> &Network
+        ensures { result.now ≡ self.now.network }
+    {
+        &self.network
+    }
+
+    /// From times of the instance to times of what is left: each row that is left has its original's slack.
+    pub fn lower_times(&self, alloc: Global, times: &[u32]) -> Result<Vec<u32>, Memory>
+        requires { IsTimetable self.now.original times.now }
+        ensures timetable { IfOk result (λ lowered. IsNetworkTimetable self.now.network lowered.items) }
+        ensures slacks { IfOk result (λ lowered. (j : ℕ) → j < length self.now.network.rows → arc_slack self.now.network.period lowered.items (arc_of_net (net_row_at self.now.network.rows j)) ≡ slack self.now.original.period times.now (row_at self.now.original.rows (origin_place self.now.network j))) }
+    {
+        let period = self.original.period();
+        let shifts = self.contraction.shifts.as_slice();
+        let firsts = self.contraction.firsts.as_slice();
+        Ok(lowered_times(alloc, period, times, shifts, firsts)?)
+    }
+
+    /// From times of what is left to times of the instance at equal cost: each row that is left has its slack, contracted
+    /// rows and bridges have slack 0.
+    pub fn lift_times(&self, alloc: Global, times: &[u32]) -> Result<Vec<u32>, Memory>
+        requires { IsNetworkTimetable self.now.network times.now }
+        ensures timetable { IfOk result (λ lifted. IsTimetable self.now.original lifted.items) }
+        ensures slacks { IfOk result (λ lifted. (j : ℕ) → j < length self.now.network.rows → slack self.now.original.period lifted.items (row_at self.now.original.rows (origin_place self.now.network j)) ≡ arc_slack self.now.network.period times.now (arc_of_net (net_row_at self.now.network.rows j))) }
+        ensures cost { IfOk result (λ lifted. cost self.now.original.period self.now.original.rows lifted.items ≡ network_cost self.now.network times.now) }
+    {
+        let period = self.original.period();
+        let stands = self.contraction.stands.as_slice();
+        let shifts = self.contraction.shifts.as_slice();
+        let rows = self.whole.rows();
+        let fates = self.fates.as_slice();
+        let slacks = lifted_slacks(alloc, period, stands, shifts, times, rows, fates)?;
+        match self.whole.timetable_of(alloc, slacks.as_slice())? {
+            Some(lifted) => Ok(lifted),
+            None => unreachable!(),
+        }
+    }
+}

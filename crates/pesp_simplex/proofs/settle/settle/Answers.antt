@@ -1,0 +1,17 @@
+use Rattle.std.proofs.Common.{◌≡◌, ◌≤◌, arith, refl, sym}
+use Rattle.pesp_simplex.specs.Rooted.{roots_of}
+use Rattle.pesp_simplex.specs.Costs.{net_cost}
+use Rattle.pesp_simplex.proofs.Spanning.{roots_span}
+use Rattle.pesp_simplex.proofs.settle.settle.Goals as goal
+
+pub returns : goal.returns
+returns c =
+    let cost = rw c.deref.ensures.value at c.cost_of-cost.ensures in
+    let trees = c.if-not-is_rooted.ensures.trees refl in
+    record {
+      timetable = c.requires.times;
+      cost = cost;
+      never_dearer = omega arith;
+      forest = roots_span c.args.events c.args.arcs.now (roots_of c.args.rooted.now) c.in_ok-forest.forest.items trees c.in_ok-forest.ensures;
+      ended = λ e. (let local = c.in_ok-local.ensures (c.stop_of.ensures.0 e) c.in_ok-forest.forest.items c.in_ok-forest.ensures in rw (sym c.deref-2.ensures.value) local);
+    }

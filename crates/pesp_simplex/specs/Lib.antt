@@ -1,0 +1,11 @@
+pub mod Limits
+pub mod Costs
+pub mod Shifts
+pub mod Tallies
+pub mod Entries
+pub mod Roots
+pub mod Rooted
+pub mod Cuts
+pub mod Lists
+pub mod Local
+pub mod Improvements

@@ -1,0 +1,309 @@
+//! Shifts of cuts that make times cheaper, tried over forests drawn at random.
+
+use crate::crossing::Entry;
+use crate::cuts::{Cuts, MOST_ENTRIES, lay_out, list};
+use crate::drawing::Drawing;
+use crate::guarded::fill;
+use crate::low::{Low, count_rows, list_low};
+use crate::moves::{cheapest, shift, warm};
+use crate::numbers::Numbers;
+use crate::random::Random;
+use crate::rooted::Rooted;
+use crate::shift::shift_costs;
+use crate::stars::{empty_lists, stars_of};
+use pesp_problem::{Arc, Memory};
+use std::alloc::Global;
+
+/// How many forests in turn may show no cheaper shift before the descent ends.
+const QUIET: u32 = 4;
+
+/// A set of events that is shifted: all that hang below an event of the forest, or an event alone.
+#[derive(Clone, Copy)]
+enum Side {
+    Below(u32),
+    Alone(u32),
+}
+
+/// Slacks and their cost, the best that were met, the forest in use and the lists of its cuts, and the rows at each event.
+#[derive(Drop)]
+pub(crate) struct Descent {
+    period: u32,
+    slacks: Vec<u32>,
+    cost: i64,
+    best: Vec<u32>,
+    best_cost: i64,
+    drawing: Drawing,
+    counts: Vec<u32>,
+    heights: Vec<u32>,
+    cuts: Cuts,
+    stars: Cuts,
+    sides: Vec<Side>,
+    numbers: Numbers,
+    random: Random,
+}
+
+/// The sides that are tried in each round.
+fn sides_of(alloc: Global, events: u32) -> Result<Vec<Side>, Memory> {
+    let mut sides = Vec::new(alloc);
+    for event in 0..events {
+        sides.push(Side::Below(event))?;
+        sides.push(Side::Alone(event))?;
+    }
+    Ok(sides)
+}
+
+/// The rows that cross between a side and the rest.
+fn entries_at<'a>(cuts: &'a Cuts, stars: &'a Cuts, side: Side) -> Option<&'a [Entry]> {
+    match side {
+        Side::Below(event) => list(cuts, event),
+        Side::Alone(event) => list(stars, event),
+    }
+}
+
+/// Makes room for so many entries.
+fn make_room(entries: &mut Vec<Entry>, room: usize) -> Option<()> {
+    for _ in entries.len()..room {
+        entries
+            .push(Entry {
+                row: 0,
+                inward: false,
+            })
+            .ok()?;
+    }
+    Some(())
+}
+
+/// Copies numbers over others.
+fn copy(from: &[u32], to: &mut [u32]) {
+    for (number, place) in from.iter().zip(to.iter_mut()) {
+        *place = *number;
+    }
+}
+
+/// The heat in a round of a cycle that begins at `top` and falls by so many halves.
+fn heat_at(top: u64, halves: u32, round: u32, rounds: u32) -> u64 {
+    let sixteenths = u64::from(round)
+        .wrapping_mul(u64::from(halves))
+        .wrapping_mul(16)
+        / u64::from(rounds.max(1));
+    let whole = (sixteenths / 16).min(63) as u32;
+    let full = top >> whole;
+    let rest = (full / 2).wrapping_mul(sixteenths % 16) / 16;
+    full.wrapping_sub(rest).max(1)
+}
+
+impl Descent {
+    /// A descent from these slacks, which cost so much.
+    pub(crate) fn new(
+        alloc: Global,
+        period: u32,
+        events: u32,
+        arcs: &[Arc],
+        slacks: Vec<u32>,
+        cost: i64,
+    ) -> Result<Descent, Memory> {
+        let count = events as usize;
+        Ok(Descent {
+            period,
+            best: slacks.clone()?,
+            slacks,
+            cost,
+            best_cost: cost,
+            drawing: Drawing::new(alloc, events, arcs)?,
+            counts: vec![in alloc; 0u32; count]?,
+            heights: vec![in alloc; 0u32; count]?,
+            cuts: empty_lists(alloc, count, 0)?,
+            stars: stars_of(alloc, count, arcs)?,
+            sides: sides_of(alloc, events)?,
+            numbers: Numbers {
+                costs: vec![in alloc; 0i64; period as usize + 1]?,
+                bars: vec![in alloc; 0i64; period as usize + 1]?,
+            },
+            random: Random::new(),
+        })
+    }
+
+    /// The forest in use.
+    pub(crate) fn rooted(&self) -> &Rooted {
+        &self.drawing.rooted
+    }
+
+    /// The times of the slacks, along the forest in use.
+    pub(crate) fn times(&self, alloc: Global, arcs: &[Arc]) -> Result<Option<Vec<u32>>, Memory> {
+        self.drawing
+            .times_of(alloc, self.period, arcs, &self.slacks)
+    }
+
+    /// Draws a forest and lists its cuts, or the low ones where that is too much.
+    fn plant(&mut self, arcs: &[Arc]) -> Option<()> {
+        self.drawing.draw(arcs, &self.slacks, &mut self.random)?;
+        self.drawing.measure(&mut self.heights)?;
+        for most in [u32::MAX, 64, 16, 4, 1] {
+            if let Some(room) = self.count(arcs, most) {
+                make_room(&mut self.cuts.entries, room)?;
+                return self.list(arcs, most);
+            }
+        }
+        None
+    }
+
+    /// How many rows cross the cuts below which no event hangs more rows down than `most`, in all.
+    fn count(&mut self, arcs: &[Arc], most: u32) -> Option<usize> {
+        fill(&mut self.counts, 0);
+        let low = Low {
+            heights: &self.heights,
+            most,
+        };
+        count_rows(
+            &self.drawing.rooted,
+            &low,
+            &mut self.counts,
+            arcs,
+            MOST_ENTRIES,
+        )
+    }
+
+    /// Lists the rows that were counted.
+    fn list(&mut self, arcs: &[Arc], most: u32) -> Option<()> {
+        if !lay_out(&mut self.cuts, &self.counts) {
+            return None;
+        }
+        let low = Low {
+            heights: &self.heights,
+            most,
+        };
+        list_low(&self.drawing.rooted, &low, &mut self.cuts, arcs)
+    }
+
+    /// Tries the shifts of a side, and gives by how much the one that was taken is dearer.
+    fn try_side(&mut self, arcs: &[Arc], side: Side, heat: u64) -> Option<i64> {
+        let entries = entries_at(&self.cuts, &self.stars, side)?;
+        if entries.is_empty() {
+            return Some(0);
+        }
+        let numbers = &mut self.numbers;
+        if !shift_costs(
+            self.period,
+            arcs,
+            &self.slacks,
+            entries,
+            &mut numbers.costs,
+            &mut numbers.bars,
+        ) {
+            return None;
+        }
+        let amount = if heat == 0 {
+            cheapest(self.period, &self.numbers)
+        } else {
+            warm(self.period, &self.numbers, heat, &mut self.random)
+        };
+        if amount == 0 {
+            return Some(0);
+        }
+        let dearer = *self.numbers.costs.get(amount as usize)?;
+        shift(self.period, &mut self.slacks, entries, amount);
+        self.cost = self.cost.wrapping_add(dearer);
+        Some(dearer)
+    }
+
+    /// Puts the sides into a random order.
+    fn shuffle(&mut self) {
+        let count = self.sides.len();
+        for at in 0..count {
+            let other = self.random.below(at as u64 + 1) as usize;
+            if other < count {
+                self.sides.swap(at, other);
+            }
+        }
+    }
+
+    /// Tries all sides in a random order, and tells whether one became cheaper.
+    fn sweep(&mut self, arcs: &[Arc], heat: u64) -> Option<bool> {
+        self.shuffle();
+        let mut gained = false;
+        for at in 0..self.sides.len() {
+            let side = *self.sides.get(at)?;
+            gained |= self.try_side(arcs, side, heat)? < 0;
+        }
+        if self.cost < self.best_cost {
+            self.best_cost = self.cost;
+            copy(&self.slacks, &mut self.best);
+        }
+        Some(gained)
+    }
+
+    /// Goes back to the best slacks.
+    fn recall(&mut self) {
+        if self.best_cost < self.cost {
+            self.cost = self.best_cost;
+            copy(&self.best, &mut self.slacks);
+        }
+    }
+
+    /// The mean cost of a row.
+    fn mean(&self) -> u64 {
+        let rows = (self.slacks.len() as u64).max(1);
+        (self.cost.unsigned_abs() / rows).max(1)
+    }
+
+    /// Takes shifts at random by a heat that falls, a forest a round, in cycles of which the first begins the hottest.
+    fn anneal(&mut self, arcs: &[Arc], rounds: u32) -> Option<()> {
+        let cycle = rounds.clamp(1, 2000);
+        let mut top: u64 = 0;
+        for round in 0..rounds {
+            let place = round % cycle;
+            let first = round < cycle;
+            if place == 0 {
+                top = if first {
+                    self.mean().saturating_mul(8)
+                } else {
+                    self.mean()
+                };
+            }
+            if self.best_cost == 0 {
+                return Some(());
+            }
+            let halves = if first { 8 } else { 5 };
+            self.plant(arcs)?;
+            self.sweep(arcs, heat_at(top, halves, place, cycle))?;
+        }
+        Some(())
+    }
+
+    /// Takes the cheapest shifts until some forests in turn show none, or the rounds are spent.
+    fn cool(&mut self, arcs: &[Arc], rounds: u32) -> Option<()> {
+        let mut quiet: u32 = 0;
+        self.plant(arcs)?;
+        for round in 0..rounds {
+            if self.cost == 0 {
+                return Some(());
+            }
+            if self.sweep(arcs, 0)? {
+                quiet = 0;
+                continue;
+            }
+            quiet = quiet.wrapping_add(1);
+            if quiet >= QUIET || round >= rounds / 2 {
+                return Some(());
+            }
+            self.plant(arcs)?;
+        }
+        Some(())
+    }
+
+    /// Makes the slacks cheaper in so many rounds: first by cheaper shifts alone, then by heat, and then by cheaper shifts
+    /// again. None where it gave up.
+    pub(crate) fn run(&mut self, arcs: &[Arc], rounds: u32) -> Option<()> {
+        let reserve = (rounds / 4).clamp(16, 400);
+        let first = rounds.min(16);
+        self.cool(arcs, first)?;
+        let rest = rounds.wrapping_sub(first);
+        if rest == 0 || self.cost == 0 {
+            return Some(());
+        }
+        let annealed = self.anneal(arcs, rest.saturating_sub(reserve));
+        self.recall();
+        annealed?;
+        self.cool(arcs, rest.min(reserve))
+    }
+}

@@ -1,0 +1,172 @@
+//! Times and a forest that were found are judged.
+
+ghost use Rattle.std.specs.Prelude.{◌≡◌, ℕ, ◌<◌, ◌≤◌, ◌↔◌, List, IsTrue, IfOk, IfSome, IfErr, length, vec_len};
+ghost use Rattle.pesp_problem.specs.Forests.{IsSpanningForest};
+ghost use Rattle.pesp_simplex.specs.Limits.{KeepArcLimits};
+ghost use Rattle.pesp_simplex.specs.Costs.{IsNetTimetable, net_cost};
+ghost use Rattle.pesp_simplex.specs.Roots.{AreRoots, AreTreeRows};
+ghost use Rattle.pesp_simplex.specs.Rooted.{roots_of, IsFor};
+ghost use Rattle.pesp_simplex.specs.Lists.{AreListed};
+ghost use Rattle.pesp_simplex.specs.Local.{IsLocal};
+ghost use Rattle.pesp_simplex.specs.Improvements.{IsImproved};
+
+use crate::crossing::Entry;
+use crate::cuts::{Cuts, MOST_ENTRIES, lay_out, list_rows};
+use crate::descent::Descent;
+use crate::improved::{Improved, Stop};
+use crate::judge::are_cuts_best;
+use crate::low::{Low, count_rows};
+use crate::numbers::Numbers;
+use crate::rooted::{Rooted, is_rooted, tree_rows};
+use crate::slacks::{cost_of, is_timetable, slacks_of};
+use pesp_problem::{Arc, Memory};
+use std::alloc::Global;
+
+/// The lists of all cuts of a rooted forest; None where they have more than `MOST_ENTRIES` entries.
+fn cuts_of(
+    alloc: Global,
+    events: u32,
+    arcs: &[Arc],
+    rooted: &Rooted,
+) -> Result<Option<Cuts>, Memory>
+    requires lists { IsFor events rooted.now }
+    requires trees { AreRoots events arcs.now (roots_of rooted.now) }
+    requires few { length arcs.now ≤ 100000 }
+    ensures { IfOk result (λ o. IfSome o (AreListed events arcs.now (roots_of rooted.now) (length arcs.now))) }
+{
+    let mut counts = vec![in alloc; 0u32; events as usize]?;
+    let all = Low {
+        heights: &[],
+        most: u32::MAX,
+    };
+    let Some(total) = count_rows(rooted, &all, &mut counts, arcs, MOST_ENTRIES) else {
+        return Ok(None);
+    };
+    let none = Entry {
+        row: 0,
+        inward: false,
+    };
+    let mut cuts = Cuts {
+        starts: vec![in alloc; 0usize; events as usize + 1]?,
+        ends: vec![in alloc; 0usize; events as usize]?,
+        entries: vec![in alloc; none; total]?,
+    };
+    if !lay_out(&mut cuts, &counts) || !list_rows(events, arcs, rooted, &mut cuts) {
+        return Ok(None);
+    }
+    Ok(Some(cuts))
+}
+
+/// Whether no shift of one side of a fundamental cut of the forest is cheaper; false also where the lists of the cuts
+/// would be too long.
+fn is_local(
+    alloc: Global,
+    period: u32,
+    events: u32,
+    arcs: &[Arc],
+    times: &[u32],
+    rooted: &Rooted,
+) -> Result<bool, Memory>
+    requires limits { KeepArcLimits period events arcs.now }
+    requires count { length times.now ≡ events }
+    requires lists { IsFor events rooted.now }
+    requires trees { AreRoots events arcs.now (roots_of rooted.now) }
+    ensures { IfOk result (λ yes. IsTrue yes → (forest : List ℕ) → AreTreeRows events (roots_of rooted.now) forest → IsLocal (record { period = period; arcs = arcs.now }) events forest times.now) }
+{
+    let slacks = slacks_of(alloc, period, events, arcs, times)?;
+    let Some(cuts) = cuts_of(alloc, events, arcs, rooted)? else {
+        return Ok(false);
+    };
+    let mut numbers = Numbers {
+        costs: vec![in alloc; 0i64; period as usize + 1]?,
+        bars: vec![in alloc; 0i64; period as usize + 1]?,
+    };
+    Ok(are_cuts_best(period, arcs, &slacks, rooted, &cuts, &mut numbers))
+}
+
+/// Why an improvement ended whose times were judged.
+fn stop_of(local: bool) -> Stop
+    ensures { (result ≡ Stop.Local) ↔ IsTrue local }
+{
+    if local { Stop::Local } else { Stop::Rounds }
+}
+
+/// Takes times and a rooted forest as found, judged; another forest stands in where these aren't trees that join all.
+pub(crate) fn settle(
+    alloc: Global,
+    period: u32,
+    events: u32,
+    arcs: &[Arc],
+    times: Vec<u32>,
+    rooted: &Rooted,
+    other: Vec<u32>,
+) -> Result<Improved, Memory>
+    requires limits { KeepArcLimits period events arcs.now }
+    requires times { IsNetTimetable (record { period = period; arcs = arcs.now }) events times.items }
+    requires other { IsSpanningForest arcs.now other.items }
+    ensures { IfOk result (IsImproved (record { period = period; arcs = arcs.now }) events times.items) }
+{
+    let cost = cost_of(period, events, arcs, &times);
+    if !is_rooted(events, arcs, rooted) {
+        return Ok(Improved {
+            times,
+            cost,
+            forest: other,
+            stop: Stop::Rounds,
+        });
+    }
+    let forest = tree_rows(alloc, events, arcs, rooted)?;
+    let local = is_local(alloc, period, events, arcs, &times, rooted)?;
+    Ok(Improved {
+        times,
+        cost,
+        forest,
+        stop: stop_of(local),
+    })
+}
+
+/// The cheaper of two lists of times: the first where it is a timetable that is no dearer, else the second.
+pub(crate) fn cheaper(
+    alloc: Global,
+    period: u32,
+    events: u32,
+    arcs: &[Arc],
+    found: Vec<u32>,
+    times: &[u32],
+) -> Result<Vec<u32>, Memory>
+    requires limits { KeepArcLimits period events arcs.now }
+    requires times { IsNetTimetable (record { period = period; arcs = arcs.now }) events times.now }
+    ensures timetable { IfOk result (λ v. IsNetTimetable (record { period = period; arcs = arcs.now }) events v.items) }
+    ensures no_dearer { IfOk result (λ v. net_cost (record { period = period; arcs = arcs.now }) v.items ≤ net_cost (record { period = period; arcs = arcs.now }) times.now) }
+{
+    if is_timetable(period, events, arcs, &found)
+        && cost_of(period, events, arcs, &found) <= cost_of(period, events, arcs, times)
+    {
+        return Ok(found);
+    }
+    Ok(Vec::from_slice(alloc, times)?)
+}
+
+/// Makes times cheaper in so many rounds, and judges what was found.
+pub(crate) fn improve_times(
+    alloc: Global,
+    period: u32,
+    events: u32,
+    arcs: &[Arc],
+    times: &[u32],
+    other: Vec<u32>,
+    rounds: u32,
+) -> Result<Improved, Memory>
+    requires limits { KeepArcLimits period events arcs.now }
+    requires times { IsNetTimetable (record { period = period; arcs = arcs.now }) events times.now }
+    requires other { IsSpanningForest arcs.now other.items }
+    ensures { IfOk result (IsImproved (record { period = period; arcs = arcs.now }) events times.now) }
+{
+    let slacks = slacks_of(alloc, period, events, arcs, times)?;
+    let cost = i64::try_from(cost_of(period, events, arcs, times)).unwrap_or(i64::MAX);
+    let mut descent = Descent::new(alloc, period, events, arcs, slacks, cost)?;
+    let _ended = descent.run(arcs, rounds);
+    let found = descent.times(alloc, arcs)?.unwrap_or(Vec::new(alloc));
+    let best = cheaper(alloc, period, events, arcs, found, times)?;
+    settle(alloc, period, events, arcs, best, descent.rooted(), other)
+}

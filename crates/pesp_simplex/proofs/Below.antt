@@ -1,11 +1,9 @@
 -- What hangs below an event of a rooted forest.
-use Rattle.std.proofs.Common.{◌≡◌, ◌≢◌, ◌⊎◌, inl, inr, ℕ, ◌+◌, ◌-◌, ◌<◌, ◌≤◌, zero, suc, refl, ap, sym, ◌∙◌, arith, List, length, true, false, Bool, cond, ◌==◌, eqb}
+use Rattle.std.proofs.Common.{◌≡◌, ◌≢◌, inl, inr, ℕ, ◌-◌, ◌<◌, ◌≤◌, zero, suc, refl, ap, sym, ◌∙◌, arith, List, true, false}
 use Rattle.std.proofs.lemmas.Bool.{false≢true, cases_eq}
-use Rattle.std.proofs.lemmas.Bool.Decides.{nat_tests, eqb_tells}
 use Rattle.pesp_problem.specs.declared.arc.Arc.{Arc}
-use Rattle.pesp_problem.specs.Arcs.{arc_at}
-use Rattle.pesp_simplex.specs.Roots.{Roots, AreRoots, HasEnds, meets, below}
-use Rattle.pesp_simplex.proofs.Tests.{true_or_false, same_test, other_test, some_or_none}
+use Rattle.pesp_simplex.specs.Roots.{Roots, AreRoots, meets, below}
+use Rattle.pesp_simplex.proofs.Cases.{true_or_false, same_test, other_test, some_or_none}
 
 meets_here : (r : Roots) (fuel c x : ℕ) → x ≡ c → meets r fuel c x ≡ true
 unfolding meets

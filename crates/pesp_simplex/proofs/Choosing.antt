@@ -1,6 +1,6 @@
 -- The choice among all amounts.
-use Rattle.std.proofs.Common.{◌≡◌, ◌≢◌, ◌⊎◌, inl, inr, ℕ, ℤ, pos, negsuc, ◌+◌, ◌*◌, ◌-◌, ◌<◌, ◌≤◌, ◌+ℤ◌, ◌*ℤ◌, ◌-ℤ◌, zero, suc, refl, ap, sym, ◌∙◌, arith, List, length, true, false}
-use Rattle.std.specs.Prelude.{unsigned_abs, neg_ℤ, Bool, ◌≤ℤ◌, All}
+use Rattle.std.proofs.Common.{◌≡◌, ◌⊎◌, inl, inr, ℕ, ℤ, pos, ◌<◌, ◌≤◌, ◌-ℤ◌, zero, suc, refl, ap, sym, ◌∙◌, arith, List, length, true, false}
+use Rattle.std.specs.Prelude.{Bool, ◌≤ℤ◌, All}
 use Rattle.std.proofs.lemmas.Int.{ints}
 use Rattle.pesp_simplex.specs.declared.crossing.Crossing.{Crossing}
 use Rattle.pesp_simplex.specs.Shifts.{number_at, Became, moved, barred, bars_of, change, row_change, crossing_at, no_crossing, AllFit, IsCrossing, IsBestShift}

@@ -1,5 +1,5 @@
 -- A row is climbed from both its ends until they meet, and each cut that it crosses is passed once.
-use Rattle.std.proofs.Common.{◌≡◌, ◌≢◌, ◌⊎◌, inl, inr, ℕ, ◌+◌, ◌-◌, ◌<◌, ◌≤◌, zero, suc, refl, ap, sym, ◌∙◌, arith, subst, List, [], ◌∷◌, ◌++◌, length, true, false, Bool, add-one, append-nil}
+use Rattle.std.proofs.Common.{◌≡◌, ◌≢◌, ◌⊎◌, inl, inr, ℕ, ◌+◌, ◌<◌, ◌≤◌, suc, refl, ap, sym, ◌∙◌, arith, subst, List, [], ◌∷◌, ◌++◌, true, false, Bool, add-one, append-nil}
 use Rattle.std.proofs.lemmas.Bool.{false≢true, cases_eq}
 use Rattle.pesp_problem.specs.declared.arc.Arc.{Arc}
 use Rattle.pesp_problem.specs.Arcs.{arc_at}
@@ -7,7 +7,7 @@ use Rattle.pesp_simplex.specs.declared.crossing.Entry.{Entry}
 use Rattle.pesp_simplex.specs.declared.cuts.Cuts.{Cuts}
 use Rattle.pesp_simplex.specs.Entries.{entry_if, entries_of}
 use Rattle.pesp_simplex.specs.Roots.{Roots, AreRoots, below}
-use Rattle.pesp_simplex.specs.Lists.{Hold, pushed, Puts, if_same, IsClimbed, IsStep, AreListed}
+use Rattle.pesp_simplex.specs.Lists.{pushed, Puts, if_same, IsClimbed, IsStep, AreListed}
 use Rattle.pesp_simplex.proofs.Below.{below_here, below_up, not_below}
 use Rattle.pesp_simplex.proofs.Listing.{pushed_here, pushed_other, same_lists}
 

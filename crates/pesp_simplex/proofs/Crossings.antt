@@ -1,10 +1,10 @@
 -- A row of the network at a cut: it crosses, and moves as a crossing row does, or it stays.
-use Rattle.std.proofs.Common.{◌≡◌, ◌≢◌, ◌⊎◌, inl, inr, ℕ, ℤ, pos, ◌+◌, ◌*◌, ◌-◌, ◌<◌, ◌≤◌, ◌+ℤ◌, ◌*ℤ◌, ◌-ℤ◌, zero, suc, refl, ap, sym, ◌∙◌, arith, List, true, false}
+use Rattle.std.proofs.Common.{◌≡◌, ℕ, ℤ, pos, ◌<◌, ◌+ℤ◌, ap, ◌∙◌, arith, List, true, false}
 use Rattle.std.specs.Prelude.{unsigned_abs, neg_ℤ, Bool}
 use Rattle.std.specs.Int.{int_rem_euclid}
 use Rattle.std.proofs.lemmas.Int.{ints}
 use Rattle.pesp_simplex.specs.declared.crossing.Crossing.{Crossing}
-use Rattle.pesp_simplex.specs.Shifts.{growth, moved}
+use Rattle.pesp_simplex.specs.Shifts.{moved}
 use Rattle.pesp_problem.specs.declared.arc.Arc.{Arc}
 use Rattle.pesp_problem.specs.Arcs.{arc_slack}
 use Rattle.pesp_simplex.specs.Cuts.{arc_growth, arc_moved}

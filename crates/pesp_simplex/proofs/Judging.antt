@@ -1,17 +1,16 @@
 -- The list of a cut tells what a shift of what hangs below it costs.
-use Rattle.std.proofs.Common.{◌≡◌, ◌≢◌, ◌⊎◌, inl, inr, ℕ, ℤ, pos, ◌+◌, ◌*◌, ◌-◌, ◌<◌, ◌≤◌, ◌+ℤ◌, ◌*ℤ◌, ◌-ℤ◌, zero, suc, refl, ap, sym, ◌∙◌, arith, subst, List, [], ◌∷◌, ◌++◌, length, get_or, map, true, false, Bool}
-use Rattle.std.specs.Prelude.{◌≤ℤ◌, slice_index, All}
+use Rattle.std.proofs.Common.{◌≡◌, ◌≢◌, inl, inr, ℕ, ℤ, pos, ◌-◌, ◌<◌, ◌≤◌, ◌+ℤ◌, ◌*ℤ◌, ◌-ℤ◌, zero, suc, refl, ap, sym, ◌∙◌, arith, subst, List, [], ◌∷◌, ◌++◌, length, get_or, true, false, Bool}
+use Rattle.std.specs.Prelude.{◌≤ℤ◌}
 use Rattle.std.proofs.lemmas.Bool.{false≢true}
 use Rattle.std.proofs.lemmas.Int.{ints}
 use Rattle.std.proofs.lemmas.List.{length_push, get_or-append_right, get_or_append_left, append-nil}
-use Rattle.std.proofs.lemmas.List.Elements.{Contains-push_cases}
 use Rattle.pesp_problem.specs.declared.arc.Arc.{Arc}
 use Rattle.pesp_problem.specs.Sums.{sum_below}
-use Rattle.pesp_problem.specs.Arcs.{Net, arc_at, no_arc, arc_slack}
+use Rattle.pesp_problem.specs.Arcs.{Net, arc_at, arc_slack}
 use Rattle.pesp_simplex.specs.declared.crossing.Crossing.{Crossing}
 use Rattle.pesp_simplex.specs.declared.crossing.Entry.{Entry}
 use Rattle.pesp_simplex.specs.Costs.{AreSlacks}
-use Rattle.pesp_simplex.specs.Cuts.{arc_moved, cut_change, IsCutBest}
+use Rattle.pesp_simplex.specs.Cuts.{arc_moved, IsCutBest}
 use Rattle.pesp_simplex.specs.Shifts.{moved, change, row_change, AllFit, crossing_at, IsBestShift}
 use Rattle.pesp_simplex.specs.Entries.{crossing_of, crossings_of, entry_if, entries_of, entry_at, no_entry}
 use Rattle.pesp_simplex.specs.Roots.{Roots, below}

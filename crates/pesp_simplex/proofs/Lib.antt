@@ -1,4 +1,4 @@
-pub mod Tests
+pub mod Cases
 pub mod Prefixes
 pub mod Moving
 pub mod Taking

@@ -1,12 +1,11 @@
 -- How the lists of cuts grow.
-use Rattle.std.proofs.Common.{◌≡◌, ◌≢◌, ◌⊎◌, inl, inr, ℕ, ◌+◌, ◌-◌, ◌<◌, ◌≤◌, zero, suc, refl, ap, sym, ◌∙◌, arith, subst, List, [], ◌∷◌, ◌++◌, length, set, get_or, true, false, Bool, cond, ◌==◌, take, drop, length-drop}
-use Rattle.std.proofs.lemmas.Bool.Decides.{nat_tests}
+use Rattle.std.proofs.Common.{◌≡◌, ◌≢◌, inl, inr, ℕ, ◌+◌, ◌-◌, ◌<◌, ◌≤◌, refl, ap, sym, ◌∙◌, arith, subst, List, [], ◌∷◌, ◌++◌, length, set, get_or, take, drop, length-drop}
 use Rattle.std.proofs.lemmas.Grind.{get_or-set_at}
-use Rattle.std.proofs.lemmas.List.{get_or-set_other, length-set, length_push, get_or-append_right, get_or_append_left, get_or-take, get_or-drop, ext_get_or, length-take-le}
+use Rattle.std.proofs.lemmas.List.{get_or-set_other, length_push, get_or-append_right, get_or_append_left, get_or-take, get_or-drop, ext_get_or, length-take-le}
 use Rattle.pesp_simplex.specs.declared.crossing.Entry.{Entry}
 use Rattle.pesp_simplex.specs.Entries.{entry_at, no_entry}
 use Rattle.pesp_simplex.specs.Lists.{HaveLists, pushed}
-use Rattle.pesp_simplex.proofs.Tests.{same_test, other_test}
+use Rattle.pesp_simplex.proofs.Cases.{same_test, other_test}
 use Rattle.std.proofs.lemmas.Bool.{cases_eq, cases_lt}
 
 pub pushed_here : (lists : ℕ → List Entry) (cut : ℕ) (e : Entry) (c : ℕ) → c ≡ cut → pushed lists cut e c ≡ lists c ++ e ∷ []

@@ -1,20 +1,19 @@
 -- Where the cuts of a rooted forest have no cheaper shift, the times are local for it.
-use Rattle.std.proofs.Common.{◌≡◌, ◌≢◌, ◌⊎◌, inl, inr, ℕ, ℤ, pos, negsuc, ◌+◌, ◌*◌, ◌-◌, ◌/◌, ◌<◌, ◌≤◌, ◌+ℤ◌, ◌*ℤ◌, ◌-ℤ◌, zero, suc, refl, ap, sym, ◌∙◌, arith, List, length, true, false, cond}
-use Rattle.std.specs.Prelude.{unsigned_abs, neg_ℤ, Bool, ◌≤ℤ◌, ◌%◌, slice_index, if◌then◌else◌, Contains}
+use Rattle.std.proofs.Common.{◌≡◌, ◌≢◌, ◌⊎◌, inl, inr, ℕ, ℤ, pos, ◌<◌, ◌≤◌, ◌+ℤ◌, ◌*ℤ◌, ◌-ℤ◌, suc, refl, ap, sym, ◌∙◌, arith, List, length, true, false}
+use Rattle.std.specs.Prelude.{unsigned_abs, neg_ℤ, Bool, ◌≤ℤ◌, if◌then◌else◌}
 use Rattle.std.specs.Int.{int_rem_euclid, int_div_euclid}
 use Rattle.std.proofs.lemmas.Int.{ints}
 use Rattle.std.proofs.lemmas.Bool.{false≢true}
-use Rattle.pesp_problem.specs.Sums.{sum_below}
 use Rattle.pesp_problem.specs.declared.arc.Arc.{Arc}
 use Rattle.pesp_problem.specs.Arcs.{Net, arc_at, no_arc, arc_slack}
-use Rattle.pesp_simplex.specs.Costs.{IsNetTimetable, net_cost}
-use Rattle.pesp_simplex.specs.Cuts.{arc_growth, arc_moved, cut_change, IsCutBest, AreCutsBest}
-use Rattle.pesp_simplex.specs.Local.{IsShifted, IsLocal, IsFundamentalSide}
+use Rattle.pesp_simplex.specs.Costs.{net_cost}
+use Rattle.pesp_simplex.specs.Cuts.{arc_growth, arc_moved, cut_change, AreCutsBest}
+use Rattle.pesp_simplex.specs.Local.{IsLocal, IsFundamentalSide}
 use Rattle.pesp_simplex.specs.Roots.{Roots, AreRoots, AreTreeRows, below}
 use Rattle.pesp_problem.proofs.Integers.{mul-add, mul-sub, mul-neg, sum_below-same, quotient-remainder, remainder-lt}
 use Rattle.pesp_simplex.proofs.Shifting.{remainder_of, slack_shifts, cost_shifts}
 use Rattle.pesp_simplex.proofs.Sides.{outside, within, parted}
-use Rattle.pesp_simplex.proofs.Tests.{true_or_false}
+use Rattle.pesp_simplex.proofs.Cases.{true_or_false}
 
 -- multiples of the period don't count
 laps : (period : ℕ) (y a b w : ℤ) → 0 < period → a ≡ b +ℤ pos period *ℤ w → unsigned_abs (int_rem_euclid (y +ℤ a) (pos period)) ≡ unsigned_abs (int_rem_euclid (y +ℤ b) (pos period))

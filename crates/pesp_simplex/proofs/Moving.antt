@@ -1,10 +1,10 @@
 -- What the slack of a crossing row becomes, by cases.
-use Rattle.std.proofs.Common.{◌≡◌, ◌≢◌, ◌⊎◌, inl, inr, ℕ, ℤ, pos, negsuc, ◌+◌, ◌*◌, ◌-◌, ◌<◌, ◌≤◌, ◌+ℤ◌, ◌*ℤ◌, ◌-ℤ◌, zero, suc, refl, ap, sym, ◌∙◌, arith, List, length, true, false}
-use Rattle.std.specs.Prelude.{unsigned_abs, neg_ℤ, ◌%◌}
+use Rattle.std.proofs.Common.{◌≡◌, ℕ, ℤ, pos, ◌+◌, ◌*◌, ◌-◌, ◌<◌, ◌≤◌, ◌+ℤ◌, refl, ap, ◌∙◌, arith, true, false}
+use Rattle.std.specs.Prelude.{unsigned_abs, neg_ℤ}
 use Rattle.std.specs.Int.{int_rem_euclid}
 use Rattle.std.proofs.lemmas.Int.{ints, int_rem_euclid_is}
 use Rattle.std.proofs.Math.Nat.{mod-eq_of_lt, add-mod_right}
-use Rattle.pesp_simplex.specs.Shifts.{growth, moved, row_change, barred}
+use Rattle.pesp_simplex.specs.Shifts.{moved}
 use Rattle.pesp_simplex.specs.declared.crossing.Crossing.{Crossing}
 
 -- the remainder is known from one multiple of the period

@@ -1,11 +1,9 @@
 -- Sums of the first numbers of a list.
-use Rattle.std.proofs.Common.{◌≡◌, ◌≢◌, ◌⊎◌, inl, inr, ℕ, ℤ, pos, ◌+◌, ◌*◌, ◌-◌, ◌<◌, ◌≤◌, ◌+ℤ◌, ◌*ℤ◌, ◌-ℤ◌, zero, suc, refl, ap, sym, ◌∙◌, arith, List, length, get_or, set}
+use Rattle.std.proofs.Common.{◌≡◌, inl, inr, ℕ, ℤ, pos, ◌+◌, ◌<◌, ◌≤◌, ◌+ℤ◌, zero, suc, ap, sym, arith, List, length, set}
 use Rattle.std.specs.Prelude.{unsigned_abs}
 use Rattle.std.proofs.lemmas.Int.{ints}
 use Rattle.std.proofs.lemmas.Grind.{get_or-set_at}
-use Rattle.std.proofs.lemmas.List.{get_or-set_other, length-set}
-use Rattle.std.proofs.lemmas.Bool.Decides.{nat_tests, eqb_tells}
-use Rattle.pesp_problem.specs.Sums.{sum_below}
+use Rattle.std.proofs.lemmas.List.{get_or-set_other}
 use Rattle.pesp_simplex.specs.Shifts.{number_at}
 use Rattle.pesp_simplex.specs.Tallies.{prefix}
 use Rattle.pesp_problem.proofs.Integers.{sum_below-same, lt-or-same}

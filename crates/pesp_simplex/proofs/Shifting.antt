@@ -1,6 +1,6 @@
 -- Times with one side shifted: their slacks and their cost.
-use Rattle.std.proofs.Common.{◌≡◌, ◌≢◌, ◌⊎◌, inl, inr, ℕ, ℤ, pos, negsuc, ◌+◌, ◌*◌, ◌-◌, ◌/◌, ◌<◌, ◌≤◌, ◌+ℤ◌, ◌*ℤ◌, ◌-ℤ◌, zero, suc, refl, ap, sym, ◌∙◌, arith, List, length, true, false, cond, take, sum_by, add-one}
-use Rattle.std.specs.Prelude.{unsigned_abs, neg_ℤ, Bool, ◌≤ℤ◌, ◌%◌, slice_index, if◌then◌else◌}
+use Rattle.std.proofs.Common.{◌≡◌, ℕ, ℤ, pos, negsuc, ◌+◌, ◌*◌, ◌/◌, ◌<◌, ◌≤◌, ◌+ℤ◌, ◌*ℤ◌, ◌-ℤ◌, zero, suc, refl, ap, sym, ◌∙◌, arith, List, length, true, false, take, sum_by, add-one}
+use Rattle.std.specs.Prelude.{unsigned_abs, Bool, ◌%◌, slice_index, if◌then◌else◌}
 use Rattle.std.specs.Int.{int_rem_euclid, int_div_euclid}
 use Rattle.std.proofs.lemmas.Int.{ints}
 use Rattle.std.proofs.lemmas.List.{take_all}
@@ -12,7 +12,7 @@ use Rattle.pesp_problem.specs.Arcs.{Net, no_arc, arc_at, arc_slack, over_arcs}
 use Rattle.pesp_simplex.specs.Costs.{net_cost}
 use Rattle.pesp_simplex.specs.Cuts.{arc_growth, arc_moved, cut_change}
 use Rattle.pesp_simplex.specs.Local.{IsShifted}
-use Rattle.pesp_problem.proofs.Integers.{mul-add, mul-sub, add-mul, sum_below-same, sum_below-sub, quotient-remainder, remainder-lt}
+use Rattle.pesp_problem.proofs.Integers.{mul-add, mul-sub, sum_below-same, sum_below-sub, quotient-remainder, remainder-lt}
 use Rattle.pesp_simplex.proofs.Moving.{remainder_is}
 
 -- the remainder, from any multiple of the period

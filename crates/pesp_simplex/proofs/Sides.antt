@@ -1,13 +1,13 @@
 -- Each side of a fundamental cut is, but for whole components, what hangs below a forest row or the rest.
-use Rattle.std.proofs.Common.{◌≡◌, ◌≢◌, ◌⊎◌, inl, inr, ℕ, ◌+◌, ◌-◌, ◌<◌, ◌≤◌, zero, suc, refl, ap, sym, ◌∙◌, arith, List, length, true, false}
-use Rattle.std.specs.Prelude.{Bool, Contains}
+use Rattle.std.proofs.Common.{◌≡◌, ◌≢◌, inl, inr, ℕ, ◌-◌, ◌<◌, zero, suc, refl, ap, sym, ◌∙◌, arith, List, true, false}
+use Rattle.std.specs.Prelude.{Bool}
 use Rattle.std.proofs.lemmas.Bool.{false≢true, cases_eq}
 use Rattle.pesp_problem.specs.declared.arc.Arc.{Arc}
 use Rattle.pesp_problem.specs.Arcs.{arc_at}
 use Rattle.pesp_simplex.specs.Local.{IsFundamentalSide}
-use Rattle.pesp_simplex.specs.Roots.{Roots, AreRoots, AreTreeRows, HasEnds, below}
+use Rattle.pesp_simplex.specs.Roots.{Roots, AreRoots, AreTreeRows, below}
 use Rattle.pesp_simplex.proofs.Below.{below_here, below_up, below_root, not_below}
-use Rattle.pesp_simplex.proofs.Tests.{some_or_none}
+use Rattle.pesp_simplex.proofs.Cases.{some_or_none}
 
 differ : (a b : Bool) → a ≡ true → b ≡ false → a ≡ b → {A : Type 0} → A
 differ a b e f g = absurd (false≢true (sym f ∙ sym g ∙ e))

@@ -1,7 +1,6 @@
 -- The rows of a rooted forest have no cycle, and join what the arcs join.
-use Rattle.std.proofs.Common.{◌≡◌, ◌≢◌, ℕ, zero, suc, ◌+◌, ◌-◌, ◌<◌, ◌≤◌, ◌⊎◌, inl, inr, refl, sym, ◌∙◌, ap, arith, subst, List, [], ◌∷◌, ◌++◌, length, get_or, All, true, false, Bool, cond, not, ◌&&◌, ◌==◌, count_by, ℤ, pos, ◌-ℤ◌}
+use Rattle.std.proofs.Common.{◌≡◌, ◌≢◌, ℕ, zero, suc, ◌+◌, ◌-◌, ◌<◌, ◌⊎◌, inl, inr, refl, sym, ◌∙◌, ap, arith, subst, List, [], ◌∷◌, ◌++◌, length, get_or, All, true, false, Bool, cond, not, ◌&&◌, ◌==◌, count_by, pos}
 use Rattle.std.specs.Prelude.{Contains}
-use Rattle.std.proofs.lemmas.Bool.Decides.{nat_tests}
 use Rattle.std.proofs.lemmas.List.Sums.{sum_by-cons}
 use Rattle.std.proofs.lemmas.List.Elements.{All-head, All-tail, All-append, All-cons, All-nil, All-weaker, Contains-get_or}
 use Rattle.std.proofs.lemmas.Int.{ints}
@@ -9,11 +8,10 @@ use Rattle.pesp_problem.specs.declared.arc.Arc.{Arc}
 use Rattle.pesp_problem.specs.declared.row.SignedRow.{SignedRow}
 use Rattle.pesp_problem.specs.Arcs.{arc_at}
 use Rattle.pesp_problem.specs.Walks.{Names, RowExists, AreRows, start, finish, Leads, IsWalk, net_count}
-use Rattle.pesp_problem.specs.Forests.{KeepsTo, HaveNoCycle, JoinAll, IsSpanningForest}
-use Rattle.pesp_simplex.specs.Roots.{Roots, AreRoots, AreTreeRows, IsTreeRow, HasEnds, below}
-use Rattle.pesp_simplex.proofs.Below.{below_here, below_up, below_root, not_below}
-use Rattle.pesp_simplex.proofs.Sides.{once}
-use Rattle.pesp_simplex.proofs.Tests.{same_test, other_test, some_or_none}
+use Rattle.pesp_problem.specs.Forests.{IsSpanningForest}
+use Rattle.pesp_simplex.specs.Roots.{Roots, AreRoots, AreTreeRows, IsTreeRow, below}
+use Rattle.pesp_simplex.proofs.Below.{below_here, below_up, not_below}
+use Rattle.pesp_simplex.proofs.Cases.{same_test, other_test, some_or_none}
 use Rattle.std.proofs.lemmas.Bool.{cases_eq}
 
 abbrev tail_of : List Arc → ℕ → ℕ

@@ -1,15 +1,12 @@
 -- Loops over the numbers for all amounts.
-use Rattle.std.proofs.Common.{◌≡◌, ◌≢◌, ◌⊎◌, inl, inr, ℕ, ℤ, pos, negsuc, ◌+◌, ◌*◌, ◌-◌, ◌<◌, ◌≤◌, ◌+ℤ◌, ◌*ℤ◌, ◌-ℤ◌, zero, suc, refl, ap, sym, ◌∙◌, arith, List, length, set, [], ◌∷◌, true, false, cond, replicate, add-one}
-use Rattle.std.specs.Prelude.{unsigned_abs, neg_ℤ, Bool, ◌≤ℤ◌}
+use Rattle.std.proofs.Common.{◌≡◌, inl, inr, ℕ, ℤ, pos, negsuc, ◌+◌, ◌*◌, ◌-◌, ◌<◌, ◌≤◌, ◌+ℤ◌, ◌*ℤ◌, zero, suc, refl, ap, sym, ◌∙◌, arith, List, length, set, [], ◌∷◌, add-one}
+use Rattle.std.specs.Prelude.{unsigned_abs, neg_ℤ, ◌≤ℤ◌}
 use Rattle.std.proofs.lemmas.Int.{ints}
-use Rattle.std.proofs.lemmas.Bool.{le-leb, lt-leb, cases_eq, cases_lt}
+use Rattle.std.proofs.lemmas.Bool.{cases_eq, cases_lt}
 use Rattle.std.proofs.lemmas.Grind.{get_or-set_at}
 use Rattle.std.proofs.lemmas.List.{get_or-set_other, length-set}
-use Rattle.pesp_simplex.specs.declared.crossing.Crossing.{Crossing}
-use Rattle.pesp_simplex.specs.Shifts.{number_at, Became}
+use Rattle.pesp_simplex.specs.Shifts.{number_at}
 use Rattle.pesp_simplex.specs.Tallies.{prefix}
-use Rattle.pesp_problem.specs.Sums.{sum_below}
-use Rattle.pesp_problem.proofs.Integers.{lt-or-same}
 
 -- the numbers below i, and at least the first, became sums, and the others are as they were
 pub record SumsUp (old now : List ℤ) (i : ℕ) : Type 0 where

@@ -1,13 +1,12 @@
 -- One row's part of the sums.
-use Rattle.std.proofs.Common.{◌≡◌, ◌≢◌, ◌⊎◌, inl, inr, ℕ, ℤ, pos, negsuc, ◌+◌, ◌*◌, ◌-◌, ◌<◌, ◌≤◌, ◌+ℤ◌, ◌*ℤ◌, ◌-ℤ◌, zero, suc, refl, ap, subst, sym, ◌∙◌, arith, List, length, set, true, false, cond, replicate, add-one}
+use Rattle.std.proofs.Common.{◌≡◌, inl, inr, ℕ, ℤ, pos, ◌+◌, ◌*◌, ◌-◌, ◌<◌, ◌≤◌, ◌+ℤ◌, ◌*ℤ◌, ◌-ℤ◌, refl, ap, subst, sym, ◌∙◌, arith, List, length, set, true, false, add-one}
 use Rattle.std.specs.Prelude.{unsigned_abs, neg_ℤ, Bool}
 use Rattle.std.proofs.lemmas.Int.{ints}
 use Rattle.std.proofs.lemmas.Bool.{le-leb, lt-leb, cases_lt}
-use Rattle.std.proofs.lemmas.List.{length-set, length-replicate}
+use Rattle.std.proofs.lemmas.List.{length-set}
 use Rattle.pesp_simplex.specs.declared.crossing.Crossing.{Crossing}
 use Rattle.pesp_simplex.specs.Shifts.{growth, moved, row_change, barred, number_at, IsCrossing, crossing_at}
 use Rattle.pesp_simplex.specs.Tallies.{prefix, TakesRow, TakesRows}
-use Rattle.pesp_problem.specs.Sums.{sum_below}
 use Rattle.pesp_problem.proofs.Integers.{lt-or-same, mul-sub, mul-add, add-mul, mul_assoc, sum_below-zero}
 use Rattle.pesp_simplex.proofs.Prefixes.{abs-add, prefix-past, prefix-within, prefix-raised, raised-small}
 use Rattle.pesp_simplex.proofs.Moving.{moved_in, moved_in-wrapped, moved_out, moved_out-wrapped}

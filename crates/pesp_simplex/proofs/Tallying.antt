@@ -1,15 +1,11 @@
 -- The rows of a list's entries.
-use Rattle.std.proofs.Common.{◌≡◌, ℕ, ◌<◌, List, length, sym, ◌∙◌, refl}
-use Rattle.std.specs.Prelude.{All}
+use Rattle.std.proofs.Common.{◌≡◌, ℕ, ◌<◌, List, length}
 use Rattle.std.proofs.lemmas.List.{get_or-map}
 use Rattle.std.proofs.Math.ListN.{length-map}
-use Rattle.std.proofs.lemmas.List.Elements.{All-from_get_or}
 use Rattle.pesp_problem.specs.declared.arc.Arc.{Arc}
-use Rattle.pesp_simplex.specs.declared.crossing.Crossing.{Crossing}
 use Rattle.pesp_simplex.specs.declared.crossing.Entry.{Entry}
 use Rattle.pesp_simplex.specs.Entries.{crossing_of, crossings_of, entry_at, no_entry}
-use Rattle.pesp_simplex.specs.Shifts.{crossing_at, no_crossing, IsCrossing}
-use Rattle.pesp_simplex.specs.Tallies.{TakesRows}
+use Rattle.pesp_simplex.specs.Shifts.{crossing_at, no_crossing}
 
 pub crossing_at-entry : (arcs : List Arc) (slacks : List ℕ) (entries : List Entry) (i : ℕ) → i < length entries → crossing_at (crossings_of arcs slacks entries) i ≡ crossing_of arcs slacks (entry_at entries i)
 crossing_at-entry arcs slacks entries i l = get_or-map (crossing_of arcs slacks) entries i no_entry no_crossing l

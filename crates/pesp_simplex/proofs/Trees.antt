@@ -1,10 +1,10 @@
 -- The rows of a rooted forest, as a list.
-use Rattle.std.proofs.Common.{◌≡◌, ◌≢◌, ◌⊎◌, inl, inr, ℕ, ◌+◌, ◌-◌, ◌<◌, ◌≤◌, zero, suc, refl, ap, sym, ◌∙◌, arith, List, [], ◌∷◌, ◌++◌, length, subst}
+use Rattle.std.proofs.Common.{◌≡◌, ◌⊎◌, inl, inr, ℕ, ◌+◌, ◌-◌, ◌<◌, ◌≤◌, ap, arith, List, [], ◌∷◌, ◌++◌, length, subst}
 use Rattle.std.specs.Prelude.{Contains}
 use Rattle.std.proofs.lemmas.List.Elements.{Contains-append_left, Contains-push, Contains-push_cases}
 use Rattle.pesp_problem.specs.declared.arc.Arc.{Arc}
 use Rattle.pesp_problem.specs.Arcs.{arc_at}
-use Rattle.pesp_simplex.specs.Roots.{Roots, AreRoots, AreTreeRows, HasEnds, IsTreeRow, IsJoined, IsSpanned}
+use Rattle.pesp_simplex.specs.Roots.{Roots, AreRoots, AreTreeRows, IsJoined, IsSpanned}
 
 -- the row of this number joins one of its ends upwards
 abbrev pub JoinsEnd : List Arc → Roots → ℕ → Type 0

@@ -1,4 +1,4 @@
-use Rattle.std.proofs.Common.{◌≡◌, ◌+◌, ◌<◌, ◌≤◌, length, vec_len}
+use Rattle.std.proofs.Common.{◌≡◌, ◌<◌, ◌≤◌, length, vec_len}
 use Rattle.pesp_simplex.specs.Lists.{AreLaidOut}
 use Rattle.pesp_simplex.proofs.cuts.lay_out.Given as goal
 

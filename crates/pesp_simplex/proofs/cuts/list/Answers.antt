@@ -1,4 +1,4 @@
-use Rattle.std.proofs.Common.{◌≡◌, ◌<◌, ◌≤◌, ◌+◌, arith, sym, ◌∙◌, get_or, length, ap}
+use Rattle.std.proofs.Common.{◌<◌, arith, length}
 use Rattle.std.proofs.lemmas.List.{get_or_read}
 use Rattle.pesp_simplex.proofs.Listing.{list_is}
 use Rattle.pesp_simplex.proofs.cuts.list.Goals as goal

@@ -1,4 +1,4 @@
-use Rattle.std.proofs.Common.{◌≡◌, arith}
+use Rattle.std.proofs.Common.{arith}
 use Rattle.pesp_simplex.specs.Rooted.{roots_of}
 use Rattle.pesp_simplex.proofs.Climbing.{begins, met}
 use Rattle.pesp_simplex.proofs.cuts.list_row.Goals as goal

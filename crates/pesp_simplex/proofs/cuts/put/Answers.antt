@@ -1,4 +1,4 @@
-use Rattle.std.proofs.Common.{◌≡◌, ◌<◌, ◌+◌, arith, sym, ◌∙◌, get_or, length, ap}
+use Rattle.std.proofs.Common.{◌≡◌, ◌<◌, ◌+◌, arith, get_or, length}
 use Rattle.std.proofs.lemmas.List.{get_or_read}
 use Rattle.pesp_simplex.proofs.Listing.{put_holds}
 use Rattle.pesp_simplex.proofs.cuts.put.Goals as goal

@@ -1,4 +1,4 @@
-use Rattle.std.proofs.Common.{◌≡◌, ◌<◌, ◌≤◌, arith, get_or, length}
+use Rattle.std.proofs.Common.{◌<◌, arith, length}
 use Rattle.std.proofs.lemmas.List.{get_or_read}
 use Rattle.pesp_simplex.specs.Rooted.{roots_of}
 use Rattle.pesp_simplex.proofs.Climbing.{step_head, step_tail}

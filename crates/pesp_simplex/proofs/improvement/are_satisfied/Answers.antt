@@ -1,4 +1,4 @@
-use Rattle.std.proofs.Common.{◌≡◌, ◌<◌, ◌≤◌, arith, sym, ◌∙◌}
+use Rattle.std.proofs.Common.{◌<◌, ◌≤◌, arith}
 use Rattle.pesp_problem.specs.Arcs.{arc_slack}
 use Rattle.pesp_simplex.proofs.Networks.{fits_more, all_fit, one_breaks}
 use Rattle.pesp_simplex.proofs.improvement.are_satisfied.Goals as goal

@@ -1,4 +1,4 @@
-use Rattle.std.proofs.Common.{◌≡◌, ◌<◌, ℕ, List, length}
+use Rattle.std.proofs.Common.{◌<◌, ℕ, List, length}
 use Rattle.pesp_simplex.specs.Costs.{AreSlacks}
 use Rattle.pesp_simplex.specs.Cuts.{IsCutBest}
 use Rattle.pesp_simplex.specs.Rooted.{roots_of, IsFor}

@@ -1,4 +1,4 @@
-use Rattle.std.proofs.Common.{◌≡◌, ◌<◌, ◌∙◌, arith, sym, refl, subst, length, ℕ, ap, List, true, eqb}
+use Rattle.std.proofs.Common.{◌≡◌, arith, subst, length, ℕ, List, true, eqb}
 use Rattle.std.proofs.lemmas.Bool.Decides.{nat_tests}
 use Rattle.pesp_simplex.specs.declared.crossing.Entry.{Entry}
 use Rattle.pesp_simplex.specs.Shifts.{IsBestShift}

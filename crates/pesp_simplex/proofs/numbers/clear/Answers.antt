@@ -1,4 +1,4 @@
-use Rattle.std.proofs.Common.{◌≡◌, ◌+◌, ◌-◌, ◌≤◌, arith, rules}
+use Rattle.std.proofs.Common.{arith}
 use Rattle.pesp_simplex.proofs.Summing.{clears_all}
 use Rattle.pesp_simplex.proofs.numbers.clear.Goals as goal
 

@@ -1,4 +1,3 @@
-use Rattle.std.proofs.Common.{◌≡◌, ◌+◌, ◌-◌, ◌≤◌, arith, rules}
 use Rattle.pesp_simplex.proofs.Summing.{sums_next}
 use Rattle.pesp_simplex.proofs.numbers.sum_up.Goals as goal
 

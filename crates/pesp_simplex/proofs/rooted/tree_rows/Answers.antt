@@ -1,4 +1,4 @@
-use Rattle.std.proofs.Common.{arith, refl, ◌+◌, vec_len, rules}
+use Rattle.std.proofs.Common.{arith, refl}
 use Rattle.std.proofs.lemmas.Bool.{false≢true}
 use Rattle.pesp_simplex.specs.Rooted.{roots_of}
 use Rattle.pesp_simplex.proofs.Trees.{joins_here, joins_there, tree_rows-more, tree_rows-skip, tree_rows-from_all}

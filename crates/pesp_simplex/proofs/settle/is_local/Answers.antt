@@ -1,4 +1,3 @@
-use Rattle.std.proofs.Common.{◌≡◌, ◌<◌, arith}
 use Rattle.pesp_simplex.specs.Rooted.{roots_of}
 use Rattle.pesp_simplex.proofs.Locals.{cuts_are_local}
 use Rattle.pesp_simplex.proofs.settle.is_local.Goals as goal

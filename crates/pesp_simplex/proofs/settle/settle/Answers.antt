@@ -1,6 +1,5 @@
-use Rattle.std.proofs.Common.{◌≡◌, ◌≤◌, arith, refl, sym}
+use Rattle.std.proofs.Common.{arith, refl, sym}
 use Rattle.pesp_simplex.specs.Rooted.{roots_of}
-use Rattle.pesp_simplex.specs.Costs.{net_cost}
 use Rattle.pesp_simplex.proofs.Spanning.{roots_span}
 use Rattle.pesp_simplex.proofs.settle.settle.Goals as goal
 

@@ -1,4 +1,4 @@
-use Rattle.std.proofs.Common.{◌≡◌, ◌∙◌, sym, refl, arith, ◌<◌}
+use Rattle.std.proofs.Common.{◌∙◌, refl, arith, ◌<◌}
 use Rattle.pesp_simplex.specs.Entries.{crossings_of}
 use Rattle.pesp_simplex.proofs.Choosing.{best_none, best_is_best, fits_free, none_fits}
 use Rattle.pesp_simplex.proofs.shift.best_shift.Goals as goal

@@ -1,4 +1,4 @@
-use Rattle.std.proofs.Common.{arith, refl, sym, ◌∙◌, length, length}
+use Rattle.std.proofs.Common.{arith, refl}
 use Rattle.std.proofs.lemmas.List.Elements.{All-from_get_or}
 use Rattle.pesp_simplex.specs.Shifts.{no_crossing, IsCrossing}
 use Rattle.pesp_simplex.specs.Entries.{crossings_of}

@@ -1,5 +1,4 @@
-use Rattle.std.proofs.Common.{◌≡◌, ◌+◌, ◌-◌, ◌*◌, ◌≤◌, ◌∙◌, arith, ap, rules, false}
-use Rattle.pesp_simplex.specs.Shifts.{number_at}
+use Rattle.std.proofs.Common.{◌*◌, ◌≤◌, arith}
 use Rattle.pesp_simplex.proofs.Taking.{takes_in, takes_out}
 use Rattle.pesp_simplex.proofs.shift.take_row.Goals as goal
 

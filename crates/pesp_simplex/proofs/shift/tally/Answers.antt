@@ -1,4 +1,4 @@
-use Rattle.std.proofs.Common.{arith, sym, ◌∙◌}
+use Rattle.std.proofs.Common.{sym, ◌∙◌}
 use Rattle.pesp_simplex.specs.Entries.{crossings_of}
 use Rattle.pesp_simplex.proofs.Taking.{takes_next}
 use Rattle.pesp_simplex.proofs.Tallying.{crossing_at-entry}

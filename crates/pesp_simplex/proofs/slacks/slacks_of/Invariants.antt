@@ -1,4 +1,4 @@
-use Rattle.std.proofs.Common.{◌≡◌, ◌<◌, ℕ, vec_len, slice_index, length}
+use Rattle.std.proofs.Common.{◌≡◌, ◌<◌, ℕ, slice_index, length}
 use Rattle.pesp_problem.specs.Arcs.{arc_at, arc_slack}
 use Rattle.pesp_simplex.proofs.slacks.slacks_of.Given as goal
 

@@ -10,6 +10,3 @@ mod times;
 
 pub use fate::Fate;
 pub use reduction::{Reduced, reduce};
-
-#[cfg(test)]
-mod tests;

@@ -49,16 +49,16 @@ abbrev pub fns_with : Forest → (ℕ → ℕ) → (ℕ → ℕ) → Fns
 fns_with f b l = record { up = at f.up.items; by = b; place = at f.place.items; last = at f.last.items; root = at f.root.items; left = l; order = at f.order.items; count = vec_len f.order }
 
 -- the rows of the forest have other names
-pub record Renamed (m : ℕ) (T H T2 H2 b : ℕ → ℕ) (f : Forest) : Type 0 where
+pub record Renamed (m : ℕ) (T H new_tail new_head b : ℕ → ℕ) (f : Forest) : Type 0 where
   pub none : (x : ℕ) → b x ≡ 0 → at f.by.items x ≡ 0
-  pub some : (x : ℕ) → 0 < b x → (0 < at f.by.items x) × (at f.by.items x ≤ m) × (T2 (at f.by.items x) ≡ T (b x)) × (H2 (at f.by.items x) ≡ H (b x))
+  pub some : (x : ℕ) → 0 < b x → (0 < at f.by.items x) × (at f.by.items x ≤ m) × (new_tail (at f.by.items x) ≡ T (b x)) × (new_head (at f.by.items x) ≡ H (b x))
 
-was : (m : ℕ) (T H T2 H2 b : ℕ → ℕ) (f : Forest) → Renamed m T H T2 H2 b f → (x : ℕ) → 0 < at f.by.items x → 0 < b x
-was m T H T2 H2 b f r x h = elim (cases_lt 0 (b x)) [ inl s ↦ s | inr z ↦ absurd (let n = r.none x (omega arith) in omega arith) ]
+was : (m : ℕ) (T H new_tail new_head b : ℕ → ℕ) (f : Forest) → Renamed m T H new_tail new_head b f → (x : ℕ) → 0 < at f.by.items x → 0 < b x
+was m T H new_tail new_head b f r x h = elim (cases_lt 0 (b x)) [ inl s ↦ s | inr z ↦ absurd (let n = r.none x (omega arith) in omega arith) ]
 
-pub rooted_as : (n m m2 : ℕ) (T H T2 H2 b l : ℕ → ℕ) (f : Forest) → Grown n m OPEN_END T H (fns_with f b l) → ((x : ℕ) → 0 < at f.place.items x → at f.last.items x < OPEN_END) → Renamed m2 T H T2 H2 b f → IsRooted n m2 T2 H2 f
-rooted_as n m m2 T H T2 H2 b l f g closed r =
-    let old = was m2 T H T2 H2 b f r in
+pub rooted_as : (n m m2 : ℕ) (T H new_tail new_head b l : ℕ → ℕ) (f : Forest) → Grown n m OPEN_END T H (fns_with f b l) → ((x : ℕ) → 0 < at f.place.items x → at f.last.items x < OPEN_END) → Renamed m2 T H new_tail new_head b f → IsRooted n m2 new_tail new_head f
+rooted_as n m m2 T H new_tail new_head b l f g closed r =
+    let old = was m2 T H new_tail new_head b f r in
     record {
       seen_below = g.seen_below;
       places = g.places;

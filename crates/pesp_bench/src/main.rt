@@ -3,6 +3,7 @@
 #![tactic(auto)]
 
 mod certificates;
+mod leaves;
 mod networks;
 
 use certificates::{parse_again, print_again};

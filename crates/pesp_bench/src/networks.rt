@@ -1,5 +1,6 @@
 //! Tasks over a network.
 
+use crate::leaves::{child_leaf, root_leaf};
 use pesp_instance::read_instance;
 use pesp_network::Network;
 use pesp_problem::{Instance, Score, score};
@@ -7,8 +8,8 @@ use pesp_propagate::{Domains, Outcome, dive, propagate};
 use pesp_simplex::improve;
 use std::alloc::Global;
 
-/// What is done over an instance or its network; a dive and an improvement with the tries of the dive and the rounds of the
-/// improvement.
+/// What is done over an instance or its network, with the tries of a dive and the rounds of an improvement or of a leaf. A
+/// child is a part of a branch at the root.
 #[derive(Clone, Copy, Debug, PartialEq, Eq)]
 pub enum Task {
     Read,
@@ -17,6 +18,8 @@ pub enum Task {
     Propagate,
     Dive { tries: u32 },
     Improve { rounds: u32 },
+    Leaf { rounds: u32 },
+    Child { rounds: u32 },
 }
 
 /// The task of a word, with its own number.
@@ -28,6 +31,8 @@ pub fn task_of(word: &str, own: u32) -> Option<Task> {
         "propagate" => Some(Task::Propagate),
         "dive" => Some(Task::Dive { tries: own }),
         "improve" => Some(Task::Improve { rounds: own }),
+        "leaf" => Some(Task::Leaf { rounds: own }),
+        "child" => Some(Task::Child { rounds: own }),
         _ => None,
     }
 }
@@ -83,6 +88,8 @@ fn figure(alloc: Global, task: Task, instance: &Instance) -> Option<u64> {
         Task::Propagate => settled(alloc, &network),
         Task::Dive { tries } => dived(alloc, instance, &network, tries),
         Task::Improve { rounds } => improved(alloc, &network, rounds),
+        Task::Leaf { rounds } => root_leaf(alloc, network, rounds),
+        Task::Child { rounds } => child_leaf(alloc, network, rounds),
         _ => Some(u64::from(network.events())),
     }
 }

@@ -1,11 +1,6 @@
-pub mod Sums
-pub mod Counts
-pub mod Collecting
-pub mod Durations
-pub mod Searching
-pub mod Flows
-pub mod Following
-pub mod Tables
-pub mod Keeping
-pub mod Leaves
-pub mod Rising
+pub mod Ways
+pub mod Owners
+pub mod Levels
+pub mod Circulations
+pub mod Gathering
+pub mod Systems

@@ -5,7 +5,7 @@ use Rattle.pesp_problem.specs.Walks.{Names}
 use Rattle.pesp_problem.specs.Nodes.{Node, offsets_left, leaf_value}
 use Rattle.pesp_bound.specs.declared.leaf.Leaf.{Leaf}
 use Rattle.pesp_bound.specs.declared.leaf.Leaf.TheVariants.{Gap, Nothing, Bound}
-use Rattle.pesp_bound.specs.Problems.{ProblemValue, net_of, ArePairs}
+use Rattle.pesp_nodes.specs.Problems.{ProblemValue, net_of, ArePairs}
 
 -- no offset of the cycle at place c is left
 abbrev pub IsGapAt : ProblemValue → Node → ℕ → Type 0

@@ -1,7 +1,3 @@
-pub mod Nets
-pub mod Passages
-pub mod Offsets
-pub mod Problems
-pub mod Prepared
-pub mod Values
 pub mod Leaves
+pub mod Decided
+pub mod Differences

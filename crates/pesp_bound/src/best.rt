@@ -1,16 +1,16 @@
 //! The best leaf that is found at a node.
 
-ghost use Rattle.std.specs.Prelude.{◌≡◌, ℕ, ◌⊎◌, ◌-◌, ◌<◌, ◌≤◌, [], List, length, pos, ◌≤ℤ◌, ◌<ℤ◌, true, false, Some, None, unsigned_abs, All, IsTrue, IfOk, IfSome, IsSomeAnd, MatchOption};
+ghost use Rattle.std.specs.Prelude.{◌≡◌, ℕ, ◌⊎◌, ◌-◌, ◌<◌, ◌≤◌, [], List, length, pos, ◌≤ℤ◌, ◌<ℤ◌, true, false, Some, None, unsigned_abs, All, IsTrue, IfOk, IfSome, IsSome, IsSomeAnd, MatchOption};
 ghost use Rattle.pesp_problem.specs.Walks.{Names};
 ghost use Rattle.pesp_problem.specs.Nodes as spec;
 ghost use Rattle.pesp_bound.specs.Leaves.{IsGapAt, HasNoGap, IsLeafOf, IsNoLess};
-ghost use Rattle.pesp_bound.specs.Problems.{net_of, IsNodeOf, IsPairOf, ArePairs, Rise};
+ghost use Rattle.pesp_bound.specs.Decided.{IsDecided, IsNothing};
+ghost use Rattle.pesp_nodes.specs.Problems.{net_of, IsNodeOf, ArePairs, Rise};
 
+use crate::deciding::closing_pairs;
 use crate::leaf::Leaf;
-use crate::node::Node;
-use crate::problem::Problem;
 use crate::proposing::propose;
-use crate::value::{leaf_value, left_at};
+use pesp_nodes::{Node, Problem, are_pairs, leaf_value, offset_range};
 use pesp_problem::{Memory, Pair, Pairs};
 use std::alloc::Global;
 
@@ -20,39 +20,12 @@ fn first_gap(problem: &Problem, node: &Node) -> Option<u32>
     ensures { MatchOption result (HasNoGap problem.now node.now) (λ cycle. Names (length problem.now.table) cycle × IsGapAt problem.now node.now (cycle - 1)) }
 {
     for place in 0..problem.table().len() {
-        if left_at(problem, node, place).is_none() {
-            return Some(place as u32 + 1);
+        let cycle = place as u32 + 1;
+        if offset_range(problem, node, cycle).is_none() {
+            return Some(cycle);
         }
     }
     None
-}
-
-// whether a pair names one of so many cycles and keeps its limit
-fn is_pair(pair: &Pair, cycles: usize) -> bool
-    ensures { IsTrue result → IsPairOf cycles pair.now }
-{
-    if pair.cycle == 0 || pair.cycle as usize > cycles {
-        return false;
-    }
-    let amount = pair.mult.unsigned_abs();
-    1 <= amount && amount <= 1000000000000
-}
-
-/// Whether pairs rise and keep their limits.
-pub fn are_pairs(pairs: &[Pair], cycles: usize) -> bool
-    ensures { IsTrue result → ArePairs cycles pairs.now }
-{
-    let mut last = 0;
-    for pair in pairs {
-        if !is_pair(pair, cycles) {
-            return false;
-        }
-        if pair.cycle <= last {
-            return false;
-        }
-        last = pair.cycle;
-    }
-    true
 }
 
 // the value of pairs, where they are pairs of the problem and have one
@@ -101,7 +74,7 @@ fn no_pairs(alloc: Global, problem: &Problem, node: &Node) -> Best
     }
 }
 
-// pairs of value above 0 without weights, where some are found
+// pairs of value above 0 without weights, where some are found; at a decided node they are
 fn proof_of_nothing(
     alloc: Global,
     problem: &Problem,
@@ -110,9 +83,12 @@ fn proof_of_nothing(
     requires { IsNodeOf problem.now node.now }
     ensures pairs { IfOk result (λ o. IfSome o (λ v. ArePairs (length problem.now.table) v.items)) }
     ensures value { IfOk result (λ o. IfSome o (λ v. IsSomeAnd (spec.leaf_value (net_of problem.now) problem.now.table node.now v.items false) (λ z. pos 0 <ℤ z))) }
+    ensures decided { IfOk result (λ o. IsDecided problem.now node.now → IsSome o) }
 {
-    let pairs = propose(alloc, problem, node, &[], false, 1)?;
-    match judged(problem, node, &pairs, false) {
+    let Some(pairs) = closing_pairs(alloc, problem, node)? else {
+        return Ok(None);
+    };
+    match leaf_value(problem, node, &pairs, false) {
         Some(value) if value > 0 => Ok(Some(pairs)),
         _ => Ok(None),
     }
@@ -156,6 +132,7 @@ pub fn best_leaf_from(
     ensures leaf { IfOk result (IsLeafOf problem.now node.now) }
     ensures none { IfOk result (IsNoLess problem.now node.now []) }
     ensures start { IfOk result (IsNoLess problem.now node.now start.now) }
+    ensures decided { IfOk result (λ leaf. IsDecided problem.now node.now → IsNothing leaf) }
 {
     if let Some(cycle) = first_gap(problem, node) {
         return Ok(Leaf::Gap { cycle });
@@ -175,6 +152,7 @@ pub fn best_leaf(alloc: Global, problem: &Problem, node: &Node, rounds: u32) -> 
     requires { IsNodeOf problem.now node.now }
     ensures leaf { IfOk result (IsLeafOf problem.now node.now) }
     ensures none { IfOk result (IsNoLess problem.now node.now []) }
+    ensures decided { IfOk result (λ leaf. IsDecided problem.now node.now → IsNothing leaf) }
 {
     best_leaf_from(alloc, problem, node, &[], rounds)
 }

@@ -4,24 +4,14 @@
 
 mod best;
 mod circulation;
-mod closing;
-mod flow;
+mod deciding;
+mod differences;
 mod leaf;
-mod nets;
-mod node;
-mod offsets;
-mod passages;
-mod problem;
 mod proposing;
-mod refusal;
 mod residual;
-mod table;
-mod value;
+mod shifts;
+mod turning;
 
 pub use best::{best_leaf, best_leaf_from};
 pub use leaf::Leaf;
-pub use node::Node;
-pub use pesp_problem::{Cut, Pair, Pairs, Side};
-pub use problem::Problem;
-pub use refusal::ProblemRefusal;
-pub use value::{leaf_value, offset_range};
+pub use pesp_nodes::{Cut, Node, Pair, Pairs, Problem, ProblemRefusal, Side, leaf_value, offset_range};

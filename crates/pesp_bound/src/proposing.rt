@@ -1,15 +1,11 @@
 //! Multipliers for a leaf. Nothing is promised of them: a proposal is judged by the value that it has.
 
 ghost use Rattle.std.specs.Prelude.{◌≤◌, length, unsigned_abs, All, sum_by};
-ghost use Rattle.pesp_bound.specs.Problems.{IsNodeOf, Rise, ArePairs};
+ghost use Rattle.pesp_nodes.specs.Problems.{IsNodeOf, Rise, ArePairs};
 
 use crate::circulation::{LIMIT, Line, idle_line, send};
-use crate::flow::flow_on;
-use crate::node::Node;
-use crate::passages::Passage;
-use crate::problem::Problem;
 use crate::residual::improving;
-use crate::value::left_at;
+use pesp_nodes::{Node, Passage, Problem, flow_on, offset_range};
 use pesp_problem::{Arc, Memory, Pair};
 use std::alloc::{AllocError, Global};
 
@@ -37,7 +33,7 @@ fn owner(passages: &[Passage]) -> Option<(usize, bool)> {
 // a row of its own for each cycle that has one
 fn own_rows(alloc: Global, problem: &Problem) -> Result<Vec<Option<Own>>, AllocError> {
     let mut owns: Vec<Option<Own>> = vec![in alloc; None; problem.table().len()]?;
-    let by_row = problem.by_row();
+    let by_row = problem.passages();
     for place in 0..by_row.len() {
         if let Some((cycle, plus)) = owner(by_row[place].as_slice()) {
             if let Some(own) = owns.get_mut(cycle) {
@@ -113,7 +109,7 @@ fn lines_of(
 {
     let arcs = problem.arcs();
     let slacks = node.slacks();
-    let by_row = problem.by_row();
+    let by_row = problem.passages();
     let mut lines = Vec::new(alloc);
     for place in 0..arcs.len() {
         let passages = by_row[place].as_slice();
@@ -136,9 +132,9 @@ fn with_offsets(
 {
     for place in 0..problem.table().len() {
         let own = owns.get(place).copied()??;
-        let left = left_at(problem, node, place)?;
+        let left = offset_range(problem, node, place as u32 + 1)?;
         let line = lines.get_mut(own.place)?;
-        set_offsets(line, problem.period(), left, own.plus)?;
+        set_offsets(line, problem.network().period(), left, own.plus)?;
     }
     Some(())
 }

@@ -1,5 +1,5 @@
 -- Which arcs are bridges.
-use Rattle.std.proofs.Common.{◌≡◌, ◌≢◌, ℕ, zero, suc, ◌+◌, ◌-◌, ◌<◌, ◌≤◌, ◌⊎◌, inl, inr, refl, sym, ◌∙◌, ap, arith, subst, List, [], ◌∷◌, ◌++◌, length, vec_len, All, true, false, ℤ, pos, Bool, IsTrue, ◌↔◌}
+use Rattle.std.proofs.Common.{◌≡◌, ◌≢◌, ℕ, zero, suc, ◌-◌, ◌<◌, ◌≤◌, ◌⊎◌, inl, inr, refl, sym, ◌∙◌, ap, arith, List, ◌∷◌, length, true, Bool, IsTrue, ◌↔◌}
 use Rattle.std.proofs.lemmas.Bool.{cases_eq, cases_lt}
 use Rattle.std.proofs.lemmas.List.Elements.{All-cons, All-weaker}
 use Rattle.std.proofs.lemmas.Bool.Decides.{nat_tests}
@@ -7,14 +7,14 @@ use Rattle.pesp_problem.specs.declared.arc.Arc.{Arc}
 use Rattle.pesp_problem.specs.declared.row.SignedRow.{SignedRow}
 use Rattle.pesp_problem.specs.declared.row.SignedRow.{SignedRow}
 use Rattle.pesp_problem.specs.declared.arc.Arc.{Arc}
-use Rattle.pesp_problem.specs.Walks.{Names, RowExists, AreRows, Leads, IsWalk, start, finish, net_count}
-use Rattle.pesp_problem.specs.Forests.{KeepsTo, HaveNoCycle, JoinAll, IsBridge}
+use Rattle.pesp_problem.specs.Walks.{Names, RowExists, IsWalk}
+use Rattle.pesp_problem.specs.Forests.{IsBridge}
 use Rattle.pesp_network.specs.declared.parts.Forest.{Forest}
 use Rattle.pesp_network.specs.Growing.{at}
-use Rattle.pesp_network.specs.Ends.{tail_of, head_of, HaveEnds, HasEnds}
-use Rattle.pesp_network.specs.Rooted.{Under, IsForest, IsTreeRow, AreReaches, IsReached, TakesRows, Takes, TakesUp}
-use Rattle.pesp_network.proofs.Climbing.{self_inside, ends_of, one_tree, up_below}
-use Rattle.pesp_network.proofs.Cuts.{KeepsSide, Closed, closed, is_walk, cut_walk, crossing, crossing_back, some_net, plus_count, minus_count, plus_cons, minus_cons, none_of_other, up_by, down_by}
+use Rattle.pesp_network.specs.Ends.{tail_of, head_of, HasEnds}
+use Rattle.pesp_network.specs.Rooted.{Under, IsForest, IsTreeRow, AreReaches, IsReached}
+use Rattle.pesp_network.proofs.Climbing.{self_inside, ends_of, one_tree}
+use Rattle.pesp_network.proofs.Cuts.{KeepsSide, closed, is_walk, cut_walk, crossing, crossing_back, some_net, plus_cons, minus_cons, none_of_other, up_by, down_by}
 use Rattle.pesp_network.proofs.Spanning.{side, side_in, side_out, side_same, own_cut, tree_keeps, passes, TreeWay, tree_way, seen_joined}
 
 pub tree_is_row : (n : ℕ) (arcs : List Arc) (g : Forest) → IsForest n arcs g → (s : SignedRow) → IsTreeRow g s.row → Names (length arcs) s.row

@@ -1,18 +1,15 @@
 -- Up and down in a rooted forest.
-use Rattle.std.proofs.Common.{◌≡◌, ◌≢◌, ℕ, zero, suc, ◌+◌, ◌-◌, ◌<◌, ◌≤◌, ◌⊎◌, inl, inr, refl, sym, ◌∙◌, ap, arith, subst, List, [], ◌∷◌, ◌++◌, length, vec_len, reverse, All, true}
-use Rattle.std.proofs.lemmas.Bool.{cases_eq, cases_lt}
-use Rattle.std.proofs.lemmas.List.{nil_from_length, append-nil, reverse-append, append_assoc, length_push}
-use Rattle.std.proofs.lemmas.List.Elements.{All-append, All-cons, All-nil, All-same, All-push}
+use Rattle.std.proofs.Common.{◌≡◌, ◌≢◌, ℕ, zero, suc, ◌+◌, ◌-◌, ◌<◌, ◌≤◌, inl, inr, sym, ◌∙◌, ap, arith, subst, List, [], ◌∷◌, ◌++◌, length}
+use Rattle.std.proofs.lemmas.Bool.{cases_lt}
 use Rattle.pesp_problem.specs.declared.arc.Arc.{Arc}
 use Rattle.pesp_problem.specs.declared.row.SignedRow.{SignedRow}
 use Rattle.pesp_problem.specs.declared.row.SignedRow.{SignedRow}
 use Rattle.pesp_problem.specs.declared.arc.Arc.{Arc}
-use Rattle.pesp_problem.specs.Walks.{Names, RowExists, AreRows, Leads, IsWalk, start, finish, net_count}
-use Rattle.pesp_problem.specs.Forests.{KeepsTo, HaveNoCycle, JoinAll, IsBridge}
+use Rattle.pesp_problem.specs.Walks.{Names, Leads, finish}
 use Rattle.pesp_network.specs.declared.parts.Forest.{Forest}
 use Rattle.pesp_network.specs.Growing.{at}
-use Rattle.pesp_network.specs.Ends.{tail_of, head_of, HaveEnds, HasEnds}
-use Rattle.pesp_network.specs.Rooted.{Under, IsForest, IsTreeRow, AreReaches, IsReached, TakesRows, Takes, TakesUp}
+use Rattle.pesp_network.specs.Ends.{tail_of, head_of, HaveEnds}
+use Rattle.pesp_network.specs.Rooted.{Under, IsForest}
 
 pub self_inside : (n : ℕ) (arcs : List Arc) (g : Forest) (x : ℕ) → IsForest n arcs g → 0 < at g.place.items x → Under g x x
 self_inside n arcs g x f s = (omega arith, f.grown.lasts x s)

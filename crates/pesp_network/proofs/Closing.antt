@@ -1,8 +1,8 @@
 -- The forest stays one as the current event is closed, or a row at an event is looked at.
-use Rattle.std.proofs.Common.{◌≡◌, ◌≢◌, ℕ, ◌+◌, ◌-◌, ◌<◌, ◌≤◌, ◌⊎◌, inl, inr, refl, sym, ◌∙◌, ap, arith, subst}
+use Rattle.std.proofs.Common.{◌≡◌, ℕ, ◌-◌, ◌<◌, ◌≤◌, inl, inr, sym, ◌∙◌, ap, arith, subst}
 use Rattle.std.proofs.lemmas.Bool.{cases_eq, cases_lt}
-use Rattle.pesp_network.specs.Growing.{Fns, Inside, IsMet, Grown, OpenAt, Opens, OpensRoot, Closes, ClosesCurrent, IsNext, Looks, LooksAt}
-use Rattle.pesp_network.proofs.Opening.{ends_moved, left_moved, still_open, other}
+use Rattle.pesp_network.specs.Growing.{Fns, Inside, IsMet, Grown, OpenAt, ClosesCurrent, Looks, LooksAt}
+use Rattle.pesp_network.proofs.Opening.{ends_moved, left_moved}
 
 pub inside_self : (n m M : ℕ) (T H : ℕ → ℕ) (s : Fns) (x : ℕ) → Grown n m M T H s → s.count < M → Inside s x x
 inside_self n m M T H s x g room =

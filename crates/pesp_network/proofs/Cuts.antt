@@ -1,6 +1,6 @@
 -- A walk crosses a cut as often one way as the other.
-use Rattle.std.proofs.Common.{◌≡◌, ◌≢◌, ℕ, zero, suc, ◌+◌, ◌-◌, ◌<◌, ◌≤◌, ◌⊎◌, inl, inr, refl, sym, ◌∙◌, ap, arith, subst, List, [], ◌∷◌, ◌++◌, length, vec_len, All, true, false, Bool, cond, not, ◌&&◌, ◌==◌, count_by, eq-eqb, ℤ, pos, ◌-ℤ◌}
-use Rattle.std.proofs.lemmas.Bool.{cases_eq, cases_lt, false≢true}
+use Rattle.std.proofs.Common.{◌≡◌, ◌≢◌, ℕ, ◌+◌, ◌⊎◌, inl, inr, refl, sym, ap, arith, subst, List, [], ◌∷◌, All, true, false, Bool, cond, not, ◌&&◌, ◌==◌, count_by, pos}
+use Rattle.std.proofs.lemmas.Bool.{cases_eq}
 use Rattle.std.proofs.lemmas.Bool.Decides.{nat_tests}
 use Rattle.std.proofs.lemmas.List.Sums.{sum_by-cons}
 use Rattle.std.proofs.lemmas.List.Elements.{All-head, All-tail}
@@ -9,12 +9,8 @@ use Rattle.std.specs.Prelude.{if◌then◌else◌}
 use Rattle.pesp_problem.specs.declared.row.SignedRow.{SignedRow}
 use Rattle.pesp_problem.specs.declared.row.SignedRow.{SignedRow}
 use Rattle.pesp_problem.specs.declared.arc.Arc.{Arc}
-use Rattle.pesp_problem.specs.Walks.{Names, RowExists, AreRows, Leads, IsWalk, start, finish, net_count}
-use Rattle.pesp_problem.specs.Forests.{KeepsTo, HaveNoCycle, JoinAll, IsBridge}
-use Rattle.pesp_network.specs.declared.parts.Forest.{Forest}
-use Rattle.pesp_network.specs.Growing.{at}
-use Rattle.pesp_network.specs.Ends.{tail_of, head_of, HaveEnds, HasEnds}
-use Rattle.pesp_network.specs.Rooted.{Under, IsForest, IsTreeRow, AreReaches, IsReached, TakesRows, Takes, TakesUp}
+use Rattle.pesp_problem.specs.Walks.{AreRows, Leads, IsWalk, start, finish, net_count}
+use Rattle.pesp_network.specs.Ends.{tail_of, head_of}
 
 abbrev pub plus_count : ℕ → List SignedRow → ℕ
 plus_count r walk = count_by (λ (s : SignedRow). s.plus && (s.row == r)) walk

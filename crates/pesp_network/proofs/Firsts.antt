@@ -1,5 +1,5 @@
 -- The root of a tree is the first event of its component.
-use Rattle.std.proofs.Common.{◌≡◌, ℕ, ◌+◌, ◌<◌, ◌≤◌, refl, sym, ◌∙◌, ap, arith, List, length}
+use Rattle.std.proofs.Common.{ℕ, ◌<◌, arith, List}
 use Rattle.std.proofs.lemmas.List.Elements.{All-weaker}
 use Rattle.pesp_problem.specs.declared.row.SignedRow.{SignedRow}
 use Rattle.pesp_problem.specs.declared.arc.Arc.{Arc}

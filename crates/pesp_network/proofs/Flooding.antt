@@ -1,13 +1,13 @@
 -- One flood, from an event that isn't seen.
-use Rattle.std.proofs.Common.{◌≡◌, ◌≢◌, ℕ, ◌+◌, ◌-◌, ◌<◌, ◌≤◌, ◌⊎◌, inl, inr, refl, sym, ◌∙◌, ap, arith, subst, List, length, vec_len, get_or, set, sum, count_by, cond, ◌==◌, replicate, []}
-use Rattle.std.proofs.lemmas.List.{get_or_read, get_or-replicate, get_or_past, length-replicate}
+use Rattle.std.proofs.Common.{◌≡◌, ℕ, ◌<◌, ◌≤◌, inl, inr, sym, ◌∙◌, ap, arith, subst, List, length, vec_len, set, sum, count_by, cond, ◌==◌, replicate, []}
+use Rattle.std.proofs.lemmas.List.{get_or-replicate, get_or_past}
 use Rattle.std.proofs.lemmas.List.Sums.{sum_by-set}
 use Rattle.std.proofs.lemmas.Bool.{cases_eq, cases_lt}
 use Rattle.pesp_problem.specs.declared.arc.Arc.{Arc}
 use Rattle.pesp_network.specs.declared.parts.Growth.{Growth}
 use Rattle.pesp_network.specs.declared.parts.Chains.{Chains}
-use Rattle.pesp_network.specs.Growing.{Fns, IsMet, Grown, OpenAt, Opens, OpensRoot, Closes, ClosesCurrent, Chained, at}
-use Rattle.pesp_network.specs.Ends.{tail_of, head_of, HaveEnds}
+use Rattle.pesp_network.specs.Growing.{Fns, Grown, Opens, OpensRoot, Closes, ClosesCurrent, Chained, at}
+use Rattle.pesp_network.specs.Ends.{tail_of, head_of}
 use Rattle.pesp_network.specs.Floods.{AreChains, OPEN_END, fns_of, GrownOver, IsCurrent, AllClosed, KeepsSeen, work_left}
 use Rattle.pesp_network.proofs.Rooting.{rooted, rooted_at}
 use Rattle.pesp_network.proofs.Closing.{closed_grown, closed_at, all_closed, current_open}

@@ -1,25 +1,31 @@
 -- What a network holds, in the words of its value.
-use Rattle.std.proofs.Common.{◌≡◌, ℕ, ◌+◌, ◌-◌, ◌<◌, ◌≤◌, inl, inr, refl, sym, ◌∙◌, ap, arith, subst, List, length, All}
-use Rattle.std.specs.Prelude.{unsigned_abs, pos, slice_index}
+use Rattle.std.proofs.Common.{◌≡◌, ◌≢◌, ℕ, ◌<◌, inl, inr, sym, ◌∙◌, ap, arith, subst, List, length, All}
+use Rattle.std.specs.Prelude.{unsigned_abs, Option, Some, None, IfNone}
 use Rattle.std.proofs.lemmas.Bool.{cases_lt}
 use Rattle.std.proofs.lemmas.List.{get_or_past}
-use Rattle.std.proofs.lemmas.List.Elements.{All-get_or, All-from_get_or}
+use Rattle.std.proofs.lemmas.List.Elements.{All-get_or, All-weaker}
 use Rattle.pesp_problem.specs.declared.row.SignedRow.{SignedRow}
 use Rattle.pesp_problem.specs.declared.arc.Arc.{Arc}
-use Rattle.pesp_problem.specs.Arcs.{arc_at, no_arc}
-use Rattle.pesp_problem.specs.Forests.{IsFirstOf, IsSpanningForest}
+use Rattle.pesp_problem.specs.Arcs.{no_arc}
+use Rattle.pesp_problem.specs.Walks.{RowExists, AreRows, Leads, start}
+use Rattle.pesp_problem.specs.Forests.{KeepsTo, IsSimple, AreJoined, IsFirstOf}
 use Rattle.pesp_network.specs.declared.row.NetRow.{NetRow}
 use Rattle.pesp_network.specs.declared.refusal.NetRefusal.{NetRefusal}
 use Rattle.pesp_network.specs.declared.refusal.NetRefusal.TheVariants.{Memory, TableTooLarge, BadRow}
 use Rattle.pesp_network.specs.declared.parts.Forest.{Forest}
-use Rattle.pesp_network.specs.Networks.{NetworkValue, arcs_of_network, arc_of_net, no_net_row, RowKeepsNetLimits, KeepsNetLimits, IsTableRefusal, signed_rows}
+use Rattle.pesp_network.specs.declared.parts.Reaches.{Reaches}
+use Rattle.pesp_network.specs.Held.{IsHeld}
+use Rattle.pesp_network.specs.Networks.{NetworkValue, arcs_of_network, no_net_row, RowKeepsNetLimits, KeepsNetLimits, IsTableRefusal, signed_rows}
 use Rattle.pesp_network.specs.Growing.{at}
 use Rattle.pesp_network.specs.Ends.{HaveEnds}
-use Rattle.pesp_network.specs.Rooted.{IsForest, AreTreeRows}
-use Rattle.pesp_network.specs.Ways.{walks_of, IsTooMany}
+use Rattle.pesp_network.specs.Rooted.{IsForest, IsTreeRow, AreTreeRows}
+use Rattle.pesp_network.specs.Ways.{way_between, IsForestWay, walks_of, IsTooMany}
 use Rattle.pesp_network.specs.Times.{AreSlacks}
-use Rattle.pesp_network.proofs.Places.{count, arc_is, tail_more, head_more, lower_at}
-use Rattle.pesp_network.proofs.Tables.{too_many}
+use Rattle.pesp_network.proofs.Places.{count, tail_more, head_more, lower_at}
+use Rattle.pesp_network.proofs.Spanning.{along}
+use Rattle.pesp_network.proofs.Bridging.{tree_is_row}
+use Rattle.pesp_network.proofs.Paths.{is_path}
+use Rattle.pesp_network.proofs.Tables.{keeps_to, too_many}
 use Rattle.pesp_network.proofs.Firsts.{first_event}
 
 -- the ends of rows that keep their limits are events
@@ -60,3 +66,39 @@ pub refusal_is : (n : ℕ) (rows view : List NetRow) (g : Forest) (kept : List �
 refusal_is n rows view g kept f t q Memory h = tt
 refusal_is n rows view g kept f t q TableTooLarge h = let e = ap (λ (x : List NetRow). signed_rows (walks_of (arcs_of_network x) g (length x))) q ∙ ap (λ m. signed_rows (walks_of (arcs_of_network rows) g m)) (sym (count rows)) in too_many n (arcs_of_network rows) g kept f t (omega arith)
 refusal_is n rows view g kept f t q (BadRow row) h = absurd h
+
+-- a way along the forest, in the words of the network's value
+pub record IsWayHeld (n : NetworkValue) (from to : ℕ) (way : List SignedRow) : Type 0 where
+  pub rows : AreRows (arcs_of_network n.rows) way
+  pub leads : Leads (arcs_of_network n.rows) from way to
+  pub keeps : KeepsTo n.forest way
+  pub simple : IsSimple (arcs_of_network n.rows) way
+  pub end_once : All (λ s. start (arcs_of_network n.rows) s ≢ to) way
+
+pub way_held : (v n : NetworkValue) (g : Forest) (r : Reaches) (view : List NetRow) (from to : ℕ) (way : List SignedRow) → v ≡ n → IsHeld v g r → view ≡ v.rows → from < n.events → to < n.events → IsForestWay (arcs_of_network view) g from to way → IsWayHeld n from to way
+way_held v n g r view from to way same k e bx bt w =
+    let arcs = arcs_of_network v.rows in let f = k.forest in
+    let events = ap (λ (x : NetworkValue). x.events) same in
+    let p = is_path v.events arcs g from to f (omega arith) (omega arith) w.one_tree in
+    let P : List SignedRow → Type 0 = λ y. IsWayHeld v from to y in
+    let Q : NetworkValue → Type 0 = λ x. IsWayHeld x from to way in
+    let q : way ≡ way_between arcs g from to = w.way_is ∙ ap (λ (x : List NetRow). way_between (arcs_of_network x) g from to) e in
+    subst Q same (subst P (sym q) (record {
+      rows = All-weaker (λ (s : SignedRow). IsTreeRow g s.row) (RowExists arcs) (tree_is_row v.events arcs g f) (way_between arcs g from to) p.tree;
+      leads = p.leads;
+      keeps = keeps_to v.events arcs g v.forest f k.kept (way_between arcs g from to) p.tree;
+      simple = (p.starts, p.rows);
+      end_once = p.end_once;
+    }))
+
+-- events of two trees aren't joined
+pub apart_held : (v n : NetworkValue) (g : Forest) (r : Reaches) (from to : ℕ) → v ≡ n → IsHeld v g r → from < n.events → at g.root.items from ≢ at g.root.items to → AreJoined (arcs_of_network n.rows) from to → ⊥
+apart_held v n g r from to same k b ne h =
+    let events = ap (λ (x : NetworkValue). x.events) same in
+    let P : NetworkValue → Type 0 = λ x. AreJoined (arcs_of_network x.rows) from to in
+    let j = subst P (sym same) h in
+    ne (along v.events (arcs_of_network v.rows) g from to j.0 k.forest (omega arith) j.1 j.2).1
+
+pub none_then : {T : Type 0} {P Q : Type 0} (o : Option T) → IfNone o P → (P → Q) → IfNone o Q
+none_then None h f = f h
+none_then (Some x) h f = h

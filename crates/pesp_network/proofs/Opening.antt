@@ -1,7 +1,7 @@
 -- The forest stays one as an event is opened below the current one.
-use Rattle.std.proofs.Common.{◌≡◌, ◌≢◌, ℕ, ◌+◌, ◌-◌, ◌<◌, ◌≤◌, ◌⊎◌, inl, inr, refl, sym, ◌∙◌, ap, arith, subst}
+use Rattle.std.proofs.Common.{◌≡◌, ◌≢◌, ℕ, ◌-◌, ◌<◌, ◌⊎◌, inl, inr, sym, ◌∙◌, ap, arith}
 use Rattle.std.proofs.lemmas.Bool.{cases_eq, cases_lt}
-use Rattle.pesp_network.specs.Growing.{Fns, Inside, IsMet, Grown, OpenAt, Opens, OpensChild}
+use Rattle.pesp_network.specs.Growing.{Fns, Inside, IsMet, Grown, OpenAt, OpensChild}
 
 -- an event whose end lies beyond all that is seen is open
 pub still_open : (n m M : ℕ) (T H : ℕ → ℕ) (s : Fns) (x : ℕ) → Grown n m M T H s → s.count < s.last x → s.last x ≡ M

@@ -1,24 +1,23 @@
 -- The ways up and down a rooted forest.
-use Rattle.std.proofs.Common.{◌≡◌, ◌≢◌, ℕ, zero, suc, ◌+◌, ◌-◌, ◌<◌, ◌≤◌, ◌⊎◌, inl, inr, refl, sym, ◌∙◌, ap, arith, subst, List, [], ◌∷◌, ◌++◌, length, vec_len, map, true, false, Bool, cond, All, ◌==◌, ◌||◌}
-use Rattle.std.specs.Prelude.{nat_eq, nat_le, if◌then◌else◌, ◌&&◌, Contains}
-use Rattle.std.specs.List.{IsDistinct}
-use Rattle.std.proofs.lemmas.Bool.{cases_eq, cases_lt, cases_Bool, eq-eqb, ne_eqb, eqb-true, leb-true, leb-false, le-leb, lt-leb, and_parts, and_from, and_left, and_right, and_cases, or_cases, or_parts, or_left, or_right, or_from, cond-true, cond-false}
-use Rattle.std.proofs.lemmas.List.{append_assoc, append-nil, map-append}
+use Rattle.std.proofs.Common.{◌≡◌, ◌≢◌, ℕ, zero, suc, ◌+◌, ◌-◌, ◌<◌, ◌≤◌, inl, inr, refl, sym, ◌∙◌, ap, arith, subst, List, [], ◌∷◌, ◌++◌, length, vec_len, map, true, false, Bool, All, ◌==◌}
+use Rattle.std.specs.Prelude.{nat_eq, nat_le, if◌then◌else◌}
+use Rattle.std.specs.List.{AllByRecursion, IsDistinct}
+use Rattle.std.proofs.lemmas.Bool.{cases_eq, cases_Bool, eq-eqb, ne_eqb, leb-true, le-leb, and_parts, and_from, cond-true, cond-false}
+use Rattle.std.proofs.lemmas.List.{append_assoc, map-append}
 use Rattle.std.proofs.lemmas.List.Elements.{All-append, All-cons, All-nil, All-push, All-weaker, All-map}
 use Rattle.pesp_problem.specs.declared.row.SignedRow.{SignedRow}
 use Rattle.pesp_problem.specs.declared.arc.Arc.{Arc}
-use Rattle.pesp_problem.specs.Walks.{Names, RowExists, AreRows, Leads, IsWalk, start, finish}
-use Rattle.pesp_problem.specs.Forests.{KeepsTo, IsFundamental, IsSimple}
+use Rattle.pesp_problem.specs.Walks.{Names, RowExists, Leads, IsWalk, start, finish}
+use Rattle.pesp_problem.specs.Forests.{IsSimple}
 use Rattle.pesp_network.specs.declared.parts.Forest.{Forest}
 use Rattle.pesp_network.specs.Growing.{at}
 use Rattle.pesp_network.specs.Ends.{tail_of, head_of}
-use Rattle.pesp_network.specs.Rooted.{Under, IsForest, IsTreeRow, AreTreeRows}
+use Rattle.pesp_network.specs.Rooted.{Under, IsForest, IsTreeRow}
 use Rattle.pesp_network.specs.Ways.{step_up, step_down, is_under, up_way, top, down_way, way_between, walk_of}
-use Rattle.pesp_network.proofs.Climbing.{self_inside, climbs_on, descends_on, up_below, still_above, leads_append, leads_from, leads_to, ends_of, one_tree}
+use Rattle.pesp_network.proofs.Climbing.{self_inside, climbs_on, descends_on, up_below, still_above, leads_append, leads_from, ends_of, one_tree}
 use Rattle.pesp_network.proofs.Cuts.{is_walk}
-use Rattle.pesp_network.proofs.Spanning.{seen_joined}
 use Rattle.pesp_network.proofs.Bridging.{inside_trans, tree_is_row}
-use Rattle.pesp_network.proofs.Distinct.{IsChain, chain_append, chain_higher, chain_lower, chain_distinct, chain_bounds, apart_below, apart_all, distinct_cons}
+use Rattle.pesp_network.proofs.Distinct.{IsChain, chain_append, chain_distinct, chain_bounds, apart_below, apart_all, distinct_cons}
 
 pub under_true : (g : Forest) (x y : ℕ) → is_under g x y ≡ true → Under g x y
 under_true g x y e = let w = and_parts (nat_le (at g.place.items x) (at g.place.items y)) (nat_le (at g.place.items y) (at g.last.items x)) e in (leb-true _ _ w.0, leb-true _ _ w.1)
@@ -286,21 +285,51 @@ walk_facts n arcs g k f r =
       tree = w.tree;
     }
 
+-- the rank of the end is above that of every start
+end_once : (arcs : List Arc) (r : ℕ → ℕ) (t low high : ℕ) (way : List SignedRow) → high < r t → IsChain r low (map (start arcs) way) high → All (λ (s : SignedRow). start arcs s ≢ t) way
+end_once arcs r t low high [] l h = All-nil (λ (s : SignedRow). start arcs s ≢ t)
+end_once arcs r t low high (s ∷ way) l h =
+    let b = chain_bounds r (r (start arcs s)) high (map (start arcs) way) h.1 in
+    All-cons (λ (z : SignedRow). start arcs z ≢ t) s way (λ e. let q = ap r e in omega arith) (end_once arcs r t (r (start arcs s)) high way l h.1)
+
+-- no event and no row twice on a way along the forest, the event at its end included
+pub record IsPath (arcs : List Arc) (g : Forest) (x t : ℕ) (way : List SignedRow) : Type 0 where
+  pub leads : Leads arcs x way t
+  pub tree : All (λ (s : SignedRow). IsTreeRow g s.row) way
+  pub end_once : All (λ (s : SignedRow). start arcs s ≢ t) way
+  pub apart : AllByRecursion (λ y. nat_eq t y ≡ false) (map (start arcs) way)
+  pub starts : IsDistinct nat_eq (map (start arcs) way)
+  pub rows : IsDistinct nat_eq (map (λ (s : SignedRow). s.row) way)
+
+pub is_path : (n : ℕ) (arcs : List Arc) (g : Forest) (x t : ℕ) → IsForest n arcs g → x < n → t < n → at g.root.items x ≡ at g.root.items t → IsPath arcs g x t (way_between arcs g x t)
+is_path n arcs g x t f bx bt r =
+    let most = vec_len g.order + 1 in
+    let w = way_facts n arcs g most x t f (room_of n arcs g f) bx bt r in
+    let way = way_between arcs g x t in
+    let R : ℕ → ℕ = λ j. rank most g t (low_of arcs g j) in
+    let st = f.all_seen t bt in
+    let own = rank_on most g t t (true_under g t t (self_inside n arcs g t f st)) in
+    let high = most + at g.place.items t - 1 in
+    record {
+      leads = w.leads;
+      tree = w.tree;
+      end_once = end_once arcs (rank most g t) t 0 high way (omega arith) w.starts;
+      apart = apart_below (rank most g t) t 0 high (map (start arcs) way) (omega arith) w.starts;
+      starts = chain_distinct (rank most g t) 0 high (map (start arcs) way) w.starts;
+      rows = chain_distinct R 0 (most + at g.place.items t) (map (λ (s : SignedRow). s.row) way) w.rows;
+    }
+
 pub walk_simple : (n : ℕ) (arcs : List Arc) (g : Forest) (k : ℕ) → IsForest n arcs g → Names (length arcs) k → (IsTreeRow g k → ⊥) → IsSimple arcs (walk_of arcs g k)
 walk_simple n arcs g k f r out =
     let e = ends_of n arcs k f.ends r in
-    let most = vec_len g.order + 1 in
     let t = tail_of arcs k in
-    let w = way_facts n arcs g most (head_of arcs k) t f (room_of n arcs g f) e.1 e.0 (one_tree n arcs g k f r) in
+    let w = is_path n arcs g (head_of arcs k) t f e.1 e.0 (one_tree n arcs g k f r) in
     let way = way_between arcs g (head_of arcs k) t in
-    let R : ℕ → ℕ = λ j. rank most g t (low_of arcs g j) in
-    let row : SignedRow → ℕ = λ s. s.row in
-    let st = f.all_seen t e.0 in
-    let own = rank_on most g t t (true_under g t t (self_inside n arcs g t f st)) in (
-      distinct_cons t (map (start arcs) way) (apart_below (rank most g t) t 0 (most + at g.place.items t - 1) (map (start arcs) way) (omega arith) w.starts) (chain_distinct (rank most g t) 0 (most + at g.place.items t - 1) (map (start arcs) way) w.starts),
+    let row : SignedRow → ℕ = λ s. s.row in (
+      distinct_cons t (map (start arcs) way) w.apart w.starts,
       distinct_cons k (map row way)
           (apart_all k (map row way) (All-map (λ j. k ≢ j) row way (All-weaker (λ (s : SignedRow). IsTreeRow g s.row) (λ (s : SignedRow). k ≢ s.row) (λ s tr q. out (let P : ℕ → Type 0 = λ j. IsTreeRow g j in subst P (sym q) tr)) way w.tree)))
-          (chain_distinct R 0 (most + at g.place.items t) (map row way) w.rows),
+          w.rows,
     )
 
 -- the event where the way up stops
@@ -310,12 +339,16 @@ top_facts n arcs g x t f bx bt r = let a = goes_up n arcs g (vec_len g.order + 1
 pub above_at : (g : Forest) (u v t : ℕ) → u ≡ v → Under g v t → Under g u t
 above_at g u v t e i = let P : ℕ → Type 0 = λ z. Under g z t in subst P (sym e) i
 
--- a row, the way up from its head, and the way down to its tail
-pub walk_is : (arcs : List Arc) (g : Forest) (k h t u : ℕ) (walk rest final : List SignedRow) → h ≡ head_of arcs k → t ≡ tail_of arcs k → u ≡ top g t (at g.place.items h) h
-    → walk ≡ record { row = k; plus = true } ∷ up_way arcs g t (at g.place.items h) h → rest ≡ down_way arcs g u (at g.place.items t) t → final ≡ walk ++ rest → final ≡ walk_of arcs g k
-walk_is arcs g k h t u walk rest final eh et eu ew er ef =
+-- what was there, the way up, and then the way down
+pub goes_on : (arcs : List Arc) (g : Forest) (x t u : ℕ) (before walk rest final : List SignedRow) → u ≡ top g t (at g.place.items x) x → walk ≡ before ++ up_way arcs g t (at g.place.items x) x
+    → rest ≡ down_way arcs g u (at g.place.items t) t → final ≡ walk ++ rest → final ≡ before ++ way_between arcs g x t
+goes_on arcs g x t u before walk rest final eu ew er ef =
+    let up = up_way arcs g t (at g.place.items x) x in
+    ef ∙ ap (λ (w : List SignedRow). w ++ rest) ew ∙ ap (λ (w : List SignedRow). (before ++ up) ++ w) (er ∙ ap (λ v. down_way arcs g v (at g.place.items t) t) eu)
+    ∙ append_assoc before up (down_way arcs g (top g t (at g.place.items x) x) (at g.place.items t) t)
+
+-- a row, and then the way from its head back to its tail
+pub walk_is : (arcs : List Arc) (g : Forest) (k h t : ℕ) (first final : List SignedRow) → h ≡ head_of arcs k → t ≡ tail_of arcs k → first ≡ record { row = k; plus = true } ∷ [] → final ≡ first ++ way_between arcs g h t → final ≡ walk_of arcs g k
+walk_is arcs g k h t first final eh et e1 ef =
     let s : SignedRow = record { row = k; plus = true } in
-    let up = up_way arcs g t (at g.place.items h) h in
-    ef ∙ ap (λ (w : List SignedRow). w ++ rest) ew ∙ ap (λ (w : List SignedRow). (s ∷ up) ++ w) er
-    ∙ ap (λ v. s ∷ (up ++ down_way arcs g v (at g.place.items t) t)) eu
-    ∙ ap (λ x. s ∷ way_between arcs g x t) eh ∙ ap (λ y. s ∷ way_between arcs g (head_of arcs k) y) et
+    ef ∙ ap (λ (w : List SignedRow). w ++ way_between arcs g h t) e1 ∙ ap (λ x. s ∷ way_between arcs g x t) eh ∙ ap (λ y. s ∷ way_between arcs g (head_of arcs k) y) et

@@ -1,7 +1,7 @@
 -- A forest over some rows of a network is one of the network.
-use Rattle.std.proofs.Common.{◌≡◌, ◌≢◌, ℕ, ◌+◌, ◌-◌, ◌<◌, ◌≤◌, ◌⊎◌, inl, inr, refl, sym, ◌∙◌, ap, subst, arith, List, length, vec_len, map, get_or, All, ◌==◌, cond, slice_index_or}
-use Rattle.std.specs.Prelude.{slice_index, if◌then◌else◌}
-use Rattle.std.proofs.lemmas.Bool.{cases_eq, cases_lt}
+use Rattle.std.proofs.Common.{◌≡◌, ℕ, ◌+◌, ◌-◌, ◌<◌, ◌≤◌, inl, inr, refl, sym, ◌∙◌, ap, subst, arith, List, length, vec_len, map, All, slice_index_or}
+use Rattle.std.specs.Prelude.{slice_index}
+use Rattle.std.proofs.lemmas.Bool.{cases_lt}
 use Rattle.std.proofs.lemmas.Bool.Decides.{nat_tests}
 use Rattle.std.proofs.lemmas.List.{get_or-map, get_or_past, length-map}
 use Rattle.std.proofs.lemmas.List.Elements.{All-from_get_or}
@@ -15,7 +15,7 @@ use Rattle.pesp_network.specs.Networks.{arcs_of_network, arc_of_net, net_row_at,
 use Rattle.pesp_network.specs.Ends.{tail_of, head_of, HaveEnds}
 use Rattle.pesp_network.specs.Growing.{Fns, Grown, at}
 use Rattle.pesp_network.specs.Floods.{OPEN_END, fns_of, GrownOver, AllClosed}
-use Rattle.pesp_network.specs.Rooted.{Under, IsRooted, IsGrown, IsForest, IsMetBy, number_of}
+use Rattle.pesp_network.specs.Rooted.{IsRooted, IsGrown, IsForest, IsMetBy, number_of}
 use Rattle.pesp_network.proofs.Places.{count, arc_is, tail_more, head_more}
 
 -- the rows of these numbers

@@ -1,11 +1,11 @@
 -- Rows by their numbers.
-use Rattle.std.proofs.Common.{◌≡◌, ◌≢◌, ℕ, ◌+◌, ◌-◌, ◌<◌, ◌≤◌, refl, sym, ◌∙◌, ap, arith, List, length, slice_index_or, map}
+use Rattle.std.proofs.Common.{◌≡◌, ℕ, ◌+◌, ◌-◌, ◌<◌, sym, ◌∙◌, ap, arith, List, length, slice_index_or}
 use Rattle.std.proofs.lemmas.List.{get_or-map, length-map}
 use Rattle.pesp_problem.specs.declared.arc.Arc.{Arc}
 use Rattle.pesp_problem.specs.Arcs.{arc_at, no_arc}
 use Rattle.pesp_problem.specs.Walks.{Names}
 use Rattle.pesp_network.specs.declared.row.NetRow.{NetRow}
-use Rattle.pesp_network.specs.Networks.{arcs_of_network, arc_of_net, net_row_at, no_net_row}
+use Rattle.pesp_network.specs.Networks.{arcs_of_network, arc_of_net, no_net_row}
 use Rattle.pesp_network.specs.Ends.{tail_of, head_of, HaveEnds}
 
 pub count : (rows : List NetRow) → length (arcs_of_network rows) ≡ length rows

@@ -1,16 +1,14 @@
 -- The places that are reached, taken in row by row and then upwards.
-use Rattle.std.proofs.Common.{◌≡◌, ◌≢◌, ℕ, zero, suc, ◌+◌, ◌-◌, ◌<◌, ◌≤◌, ◌⊎◌, inl, inr, refl, sym, ◌∙◌, ap, arith, subst, List, length, vec_len}
+use Rattle.std.proofs.Common.{◌≡◌, ◌≢◌, ℕ, ◌+◌, ◌-◌, ◌<◌, ◌≤◌, inl, inr, refl, sym, ◌∙◌, ap, arith, subst, List, length, vec_len}
 use Rattle.std.proofs.lemmas.Bool.{cases_eq, cases_lt}
 use Rattle.pesp_problem.specs.declared.arc.Arc.{Arc}
-use Rattle.pesp_problem.specs.declared.row.SignedRow.{SignedRow}
 use Rattle.pesp_problem.specs.declared.arc.Arc.{Arc}
-use Rattle.pesp_problem.specs.Walks.{Names, RowExists, AreRows, Leads, IsWalk, start, finish, net_count}
-use Rattle.pesp_problem.specs.Forests.{KeepsTo, HaveNoCycle, JoinAll, IsBridge}
+use Rattle.pesp_problem.specs.Walks.{Names}
 use Rattle.pesp_network.specs.declared.parts.Forest.{Forest}
 use Rattle.pesp_network.specs.Growing.{at}
-use Rattle.pesp_network.specs.Ends.{tail_of, head_of, HaveEnds, HasEnds}
-use Rattle.pesp_network.specs.Rooted.{Under, IsForest, IsTreeRow, AreReaches, IsReached, TakesRows, Takes, TakesUp}
-use Rattle.pesp_network.proofs.Climbing.{self_inside, up_below}
+use Rattle.pesp_network.specs.Ends.{tail_of, head_of, HasEnds}
+use Rattle.pesp_network.specs.Rooted.{IsForest, AreReaches, IsReached, TakesRows, Takes, TakesUp}
+use Rattle.pesp_network.proofs.Climbing.{self_inside}
 use Rattle.pesp_network.proofs.Bridging.{reached_up, end_seen}
 
 pub record TakenRow (g : Forest) (k x y : ℕ) (low high low2 high2 : List ℕ) : Type 0 where

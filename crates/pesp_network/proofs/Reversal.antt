@@ -1,18 +1,18 @@
 -- Ways passed backwards, and what two fundamental walks of one row have in common.
-use Rattle.std.proofs.Common.{◌≡◌, ◌≢◌, ℕ, ◌+◌, ◌-◌, ◌<◌, ◌≤◌, refl, sym, ◌∙◌, ap, arith, subst, List, [], ◌∷◌, ◌++◌, length, map, true, false, Bool, not, cond, All, ◌&&◌, ◌==◌, count_by, get_or}
-use Rattle.std.specs.Prelude.{pos, Contains, slice_index_or}
+use Rattle.std.proofs.Common.{◌≡◌, ℕ, ◌+◌, ◌<◌, refl, sym, ◌∙◌, ap, arith, subst, List, [], ◌∷◌, ◌++◌, length, true, false, Bool, not, cond, All, ◌&&◌, ◌==◌}
+use Rattle.std.specs.Prelude.{Contains, slice_index_or}
 use Rattle.std.proofs.lemmas.Int.{ints}
 use Rattle.std.proofs.lemmas.List.{get_or-map, length-map}
 use Rattle.std.proofs.lemmas.List.Sums.{sum_by-append}
-use Rattle.std.proofs.lemmas.List.Elements.{All-append, All-head, All-tail, All-push, All-same, All-get_or}
+use Rattle.std.proofs.lemmas.List.Elements.{All-append, All-head, All-tail, All-push, All-get_or}
 use Rattle.pesp_problem.specs.declared.row.SignedRow.{SignedRow}
 use Rattle.pesp_problem.specs.declared.arc.Arc.{Arc}
-use Rattle.pesp_problem.specs.Arcs.{Net, arc_at}
+use Rattle.pesp_problem.specs.Arcs.{Net}
 use Rattle.pesp_problem.specs.Walks.{RowExists, AreRows, Leads, IsWalk, start, finish, net_count, HasWholeOffset}
 use Rattle.pesp_problem.specs.Forests.{KeepsTo, HaveNoCycle, IsFundamental, AreFundamental, own_row}
 use Rattle.pesp_network.specs.Ends.{tail_of, head_of}
 use Rattle.pesp_network.specs.Networks.{HasOpenRow}
-use Rattle.pesp_network.proofs.Climbing.{leads_append, leads_from, leads_to}
+use Rattle.pesp_network.proofs.Climbing.{leads_append, leads_to}
 use Rattle.pesp_network.proofs.Cuts.{plus_count, minus_count, plus_cons, minus_cons, up_by, down_by, is_walk, closed}
 
 -- passed the other way

@@ -1,7 +1,7 @@
 -- The forest stays one as an event is opened as a root, while none is open.
-use Rattle.std.proofs.Common.{◌≡◌, ◌≢◌, ℕ, ◌+◌, ◌-◌, ◌<◌, ◌≤◌, ◌⊎◌, inl, inr, refl, sym, ◌∙◌, ap, arith, subst}
+use Rattle.std.proofs.Common.{◌≡◌, ◌≢◌, ℕ, ◌-◌, ◌<◌, inl, inr, sym, ◌∙◌, ap, arith}
 use Rattle.std.proofs.lemmas.Bool.{cases_eq, cases_lt}
-use Rattle.pesp_network.specs.Growing.{Fns, Inside, IsMet, Grown, OpenAt, Opens, OpensRoot}
+use Rattle.pesp_network.specs.Growing.{Fns, Inside, IsMet, Grown, OpenAt, OpensRoot}
 use Rattle.pesp_network.proofs.Opening.{ends_moved, left_moved, other}
 
 -- an event that is joined to another isn't the new one, and both were seen before

@@ -1,20 +1,20 @@
 -- The forest has no cycle, and joins what the arcs join.
-use Rattle.std.proofs.Common.{◌≡◌, ◌≢◌, ℕ, zero, suc, ◌+◌, ◌-◌, ◌<◌, ◌≤◌, ◌⊎◌, inl, inr, refl, sym, ◌∙◌, ap, arith, subst, List, [], ◌∷◌, ◌++◌, length, vec_len, All, true, false, Bool, cond, ◌&&◌, nat_le, ℤ, pos, le-leb}
+use Rattle.std.proofs.Common.{◌≡◌, ◌≢◌, ℕ, zero, suc, ◌+◌, ◌<◌, ◌≤◌, ◌⊎◌, inl, inr, refl, sym, ◌∙◌, ap, arith, subst, List, [], ◌∷◌, ◌++◌, length, All, true, false, Bool, cond, ◌&&◌, nat_le, pos}
 use Rattle.std.proofs.lemmas.Bool.{cases_eq, cases_lt}
 use Rattle.std.proofs.lemmas.Bool.Decides.{nat_tests}
-use Rattle.std.proofs.lemmas.List.Elements.{All-head, All-tail, All-append, All-cons, All-nil, All-weaker, All-push, All-contains}
+use Rattle.std.proofs.lemmas.List.Elements.{All-head, All-tail, All-append, All-cons, All-nil, All-weaker, All-contains}
 use Rattle.std.specs.Prelude.{Contains}
 use Rattle.pesp_problem.specs.declared.arc.Arc.{Arc}
 use Rattle.pesp_problem.specs.declared.row.SignedRow.{SignedRow}
 use Rattle.pesp_problem.specs.declared.row.SignedRow.{SignedRow}
 use Rattle.pesp_problem.specs.declared.arc.Arc.{Arc}
-use Rattle.pesp_problem.specs.Walks.{Names, RowExists, AreRows, Leads, IsWalk, start, finish, net_count}
-use Rattle.pesp_problem.specs.Forests.{KeepsTo, HaveNoCycle, JoinAll, IsBridge}
+use Rattle.pesp_problem.specs.Walks.{Names, AreRows, Leads, IsWalk, start, finish, net_count}
+use Rattle.pesp_problem.specs.Forests.{HaveNoCycle, JoinAll}
 use Rattle.pesp_network.specs.declared.parts.Forest.{Forest}
 use Rattle.pesp_network.specs.Growing.{at}
-use Rattle.pesp_network.specs.Ends.{tail_of, head_of, HaveEnds, HasEnds}
-use Rattle.pesp_network.specs.Rooted.{Under, IsForest, IsTreeRow, AreReaches, IsReached, TakesRows, Takes, TakesUp}
-use Rattle.pesp_network.proofs.Climbing.{self_inside, leads_append, leads_from, leads_to, ends_of, one_tree, up_below}
+use Rattle.pesp_network.specs.Ends.{tail_of, head_of}
+use Rattle.pesp_network.specs.Rooted.{Under, IsForest, IsTreeRow}
+use Rattle.pesp_network.proofs.Climbing.{self_inside, leads_append, ends_of, one_tree, up_below}
 use Rattle.pesp_network.proofs.Cuts.{KeepsSide, closed, cut_walk, no_net, plus_count, minus_count, plus_cons, minus_cons, none_of_other}
 
 -- 1 at e and below it, 0 elsewhere

@@ -1,15 +1,15 @@
 -- The table of the fundamental walks.
-use Rattle.std.proofs.Common.{◌≡◌, ◌≢◌, ℕ, zero, suc, ◌+◌, ◌-◌, ◌<◌, ◌≤◌, ◌⊎◌, inl, inr, refl, sym, ◌∙◌, ap, arith, subst, List, [], ◌∷◌, ◌++◌, length, vec_len, map, get_or, true, false, Bool, All, add-one}
-use Rattle.std.specs.Prelude.{if◌then◌else◌, ◌==◌, ◌||◌, Contains, sum_by, slice_index}
+use Rattle.std.proofs.Common.{◌≡◌, ℕ, zero, suc, ◌+◌, ◌-◌, ◌<◌, ◌≤◌, inl, inr, refl, sym, ◌∙◌, ap, arith, subst, List, [], ◌∷◌, ◌++◌, length, map, get_or, true, false, Bool, All, add-one}
+use Rattle.std.specs.Prelude.{if◌then◌else◌, ◌==◌, ◌||◌, Contains}
 use Rattle.std.specs.List.Sorted.{IsStrictlyIncreasing}
-use Rattle.std.proofs.lemmas.Bool.{cases_eq, cases_lt, cases_Bool, eq-eqb, eqb-true, or_cases, or_parts, or_left, or_right, cond-true, cond-false, false≢true}
-use Rattle.std.proofs.lemmas.List.{map-append, length_push, get_or-append_right, length-append}
+use Rattle.std.proofs.lemmas.Bool.{cases_lt, cases_Bool, eq-eqb, eqb-true, or_cases, or_parts, cond-true, cond-false}
+use Rattle.std.proofs.lemmas.List.{map-append, length_push, get_or-append_right}
 use Rattle.std.proofs.lemmas.List.Sums.{sum_by-append}
 use Rattle.std.proofs.lemmas.Grind.{common_steps}
-use Rattle.std.proofs.lemmas.List.Elements.{All-append, All-cons, All-nil, All-push, All-weaker, All-map, All-same, All-contains, All-get_or, Contains-append_left, Contains-push}
+use Rattle.std.proofs.lemmas.List.Elements.{All-nil, All-push, All-weaker, All-map, All-contains, All-get_or, Contains-append_left, Contains-push}
 use Rattle.pesp_problem.specs.declared.row.SignedRow.{SignedRow}
 use Rattle.pesp_problem.specs.declared.arc.Arc.{Arc}
-use Rattle.pesp_problem.specs.Walks.{Names, IsWalk}
+use Rattle.pesp_problem.specs.Walks.{Names}
 use Rattle.pesp_problem.specs.Forests.{KeepsTo, IsFundamental, AreFundamental, IsSimple, IsSpanningForest, own_row}
 use Rattle.pesp_network.specs.declared.row.NetRow.{NetRow}
 use Rattle.pesp_network.specs.declared.parts.Forest.{Forest}
@@ -18,10 +18,10 @@ use Rattle.pesp_network.specs.Growing.{at}
 use Rattle.pesp_network.specs.Ends.{tail_of, head_of}
 use Rattle.pesp_network.specs.Rooted.{IsForest, IsTreeRow, AreTreeRows}
 use Rattle.pesp_network.specs.Ways.{is_kept, outside, walk_of, walks_of}
-use Rattle.pesp_network.proofs.Places.{count, tail_more, head_more}
+use Rattle.pesp_network.proofs.Places.{tail_more, head_more}
 use Rattle.pesp_network.proofs.Spanning.{seen_joined, listed_no_cycle, listed_joins}
 use Rattle.pesp_network.proofs.Bridging.{tree_is_row}
-use Rattle.pesp_network.proofs.Paths.{IsWalkOf, walk_facts, walk_simple}
+use Rattle.pesp_network.proofs.Paths.{walk_facts, walk_simple}
 
 -- ---- rows of the forest and rows outside it
 

@@ -1,5 +1,5 @@
 -- A forest that grows depth first, as functions of the events.
-use Rattle.std.specs.Prelude.{◌≡◌, ◌≢◌, ℕ, ◌+◌, ◌-◌, ◌<◌, ◌≤◌, ◌⊎◌, length, slice_index, All, List}
+use Rattle.std.specs.Prelude.{◌≡◌, ◌≢◌, ℕ, ◌+◌, ◌-◌, ◌<◌, ◌≤◌, ◌⊎◌, slice_index, List}
 
 -- by is the row that joins an event to the event up, or 0 at a root; the place is 0 where it isn't seen;
 -- last is the last place below it, or the limit while it is open; left is the last row that isn't looked at

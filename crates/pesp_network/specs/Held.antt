@@ -1,6 +1,5 @@
 -- What a network holds beside its rows.
-use Rattle.std.specs.Prelude.{◌≡◌, ℕ, List, vec_len}
-use Rattle.pesp_network.specs.declared.row.NetRow.{NetRow}
+use Rattle.std.specs.Prelude.{◌≡◌, vec_len}
 use Rattle.pesp_network.specs.declared.parts.Forest.{Forest}
 use Rattle.pesp_network.specs.declared.parts.Reaches.{Reaches}
 use Rattle.pesp_network.specs.Networks.{NetworkValue, KeepsNetLimits, arcs_of_network}

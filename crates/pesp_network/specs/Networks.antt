@@ -1,10 +1,10 @@
 -- Networks: what clauses see of one, its arcs, its limits, and when its calls refuse.
-use Rattle.std.specs.Prelude.{◌≡◌, ⊤, ℕ, ◌-◌, ◌<◌, ◌≤◌, ◌⊎◌, List, length, map, slice_index_or, slice_index, pos, unsigned_abs, All, Contains, sum_by}
+use Rattle.std.specs.Prelude.{◌≡◌, ⊤, ℕ, ◌-◌, ◌<◌, ◌≤◌, ◌⊎◌, List, length, map, slice_index_or, pos, unsigned_abs, All, Contains, sum_by}
 use Rattle.pesp_problem.specs.declared.row.SignedRow.{SignedRow}
 use Rattle.pesp_problem.specs.declared.arc.Arc.{Arc}
 use Rattle.pesp_problem.specs.Arcs.{Net}
 use Rattle.pesp_problem.specs.Walks.{Names, HasWholeOffset}
-use Rattle.pesp_problem.specs.Forests.{IsSpanningForest, IsFundamental, AreFundamental, IsSimple}
+use Rattle.pesp_problem.specs.Forests.{IsFundamental, AreFundamental, IsSimple}
 use Rattle.pesp_network.specs.declared.row.NetRow.{NetRow}
 use Rattle.pesp_network.specs.declared.refusal.NetRefusal.{NetRefusal}
 use Rattle.pesp_network.specs.declared.refusal.NetRefusal.TheVariants.{Memory, TableTooLarge, BadRow}

@@ -1,5 +1,5 @@
 -- The fundamental walks of a rooted forest, as functions of it.
-use Rattle.std.specs.Prelude.{⊤, ◌<◌, ℕ, zero, suc, ◌+◌, List, [], ◌∷◌, ◌++◌, map, Bool, ◌&&◌, ◌||◌, ◌==◌, nat_le, true, if◌then◌else◌}
+use Rattle.std.specs.Prelude.{◌≡◌, ⊤, ◌<◌, ℕ, zero, suc, List, [], ◌∷◌, ◌++◌, map, Bool, ◌&&◌, ◌||◌, ◌==◌, nat_le, true, if◌then◌else◌}
 use Rattle.pesp_problem.specs.declared.row.SignedRow.{SignedRow}
 use Rattle.pesp_problem.specs.declared.arc.Arc.{Arc}
 use Rattle.pesp_network.specs.declared.parts.Forest.{Forest}
@@ -37,6 +37,11 @@ down_way arcs g u (suc most) y = if y == u then [] else down_way arcs g u most (
 -- from x up and then down to t
 abbrev pub way_between : List Arc → Forest → ℕ → ℕ → List SignedRow
 way_between arcs g x t = up_way arcs g t (at g.place.items x) x ++ down_way arcs g (top g t (at g.place.items x) x) (at g.place.items t) t
+
+-- two events of one tree and the way between them
+pub record IsForestWay (arcs : List Arc) (g : Forest) (from to : ℕ) (way : List SignedRow) : Type 0 where
+  pub one_tree : at g.root.items from ≡ at g.root.items to
+  pub way_is : way ≡ way_between arcs g from to
 
 -- the row of this number, and the way from its head back to its tail
 abbrev pub walk_of : List Arc → Forest → ℕ → List SignedRow

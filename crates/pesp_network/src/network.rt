@@ -1,9 +1,9 @@
 //! Networks.
 
-ghost use Rattle.std.specs.Prelude.{◌≡◌, ℕ, ◌+◌, ◌<◌, ◌≤◌, ◌↔◌, length, slice_index, IsTrue, IfOk, IfErr, IfSome, IfNone, All, vec_len};
+ghost use Rattle.std.specs.Prelude.{◌≡◌, ◌≢◌, ℕ, ◌+◌, ◌<◌, ◌≤◌, ◌↔◌, length, slice_index, IsTrue, IfOk, IfErr, IfSome, IfNone, All, vec_len};
 ghost use Rattle.pesp_problem.specs.Arcs.{arcs_of, slacks_at};
-ghost use Rattle.pesp_problem.specs.Walks.{Names};
-ghost use Rattle.pesp_problem.specs.Forests.{IsSpanningForest, AreFundamental, IsSimple, IsBridge, IsFirstOf};
+ghost use Rattle.pesp_problem.specs.Walks.{Names, AreRows, Leads, start};
+ghost use Rattle.pesp_problem.specs.Forests.{KeepsTo, IsSpanningForest, AreFundamental, IsSimple, IsBridge, AreJoined, IsFirstOf};
 ghost use Rattle.pesp_network.specs.Networks.{arcs_of_network, net_of_network, net_row_at, KeepsSizes, RowKeepsNetLimits, KeepsNetLimits, IsNewRefusal, IsTableRefusal, HasOpenRow, signed_rows};
 
 use crate::limits::{bad_row, rows_of};
@@ -11,7 +11,7 @@ use crate::parts::{Forest, Reaches};
 use crate::refusal::NetRefusal;
 use crate::row::NetRow;
 use crate::{bridges, forest, times, walks};
-use pesp_problem::{Instance, Memory, Walk};
+use pesp_problem::{Instance, Memory, SignedRow, Walk};
 use std::alloc::Global;
 use std::marker::Model;
 
@@ -164,6 +164,29 @@ impl Network {
         ensures refused { IfErr result (IsTableRefusal (arcs_of_network self.now.rows) self.now.forest) }
     {
         walks::walks(alloc, self.events, self.rows.as_slice(), &self.forest)
+    }
+
+    /// A way through rows of the forest alone that leads from one event to another, without an event or a row twice;
+    /// between an event and itself it has no rows. None where no way of any rows joins the two.
+    pub fn way(&self, alloc: Global, from: u32, to: u32) -> Result<Option<Vec<SignedRow>>, Memory>
+        requires from { from < self.now.events }
+        requires to { to < self.now.events }
+        ensures rows { IfOk result (λ o. IfSome o (λ way. AreRows (arcs_of_network self.now.rows) way.items)) }
+        ensures leads { IfOk result (λ o. IfSome o (λ way. Leads (arcs_of_network self.now.rows) from way.items to)) }
+        ensures forest { IfOk result (λ o. IfSome o (λ way. KeepsTo self.now.forest way.items)) }
+        ensures simple { IfOk result (λ o. IfSome o (λ way. IsSimple (arcs_of_network self.now.rows) way.items)) }
+        ensures end_once { IfOk result (λ o. IfSome o (λ way. All (λ s. start (arcs_of_network self.now.rows) s ≢ to) way.items)) }
+        ensures none { IfOk result (λ o. IfNone o (AreJoined (arcs_of_network self.now.rows) from to → ⊥)) }
+    {
+        let found = walks::way(
+            alloc,
+            self.events,
+            self.rows.as_slice(),
+            &self.forest,
+            from as usize,
+            to as usize,
+        )?;
+        Ok(found)
     }
 
     /// Times below the period with exactly these slacks, one for each row in order, or None where a fundamental walk has

@@ -93,6 +93,19 @@ fn first(network: &Network, event: u32) -> Result<u32, Fail> {
     Ok(network.first_of(event))
 }
 
+fn way(
+    alloc: Global,
+    network: &Network,
+    from: u32,
+    to: u32,
+) -> Result<Option<Vec<SignedRow>>, Fail> {
+    if from >= network.events() || to >= network.events() {
+        Err("no such event")?;
+    }
+    let found = network.way(alloc, from, to)?;
+    Ok(found)
+}
+
 fn times_of(alloc: Global, network: &Network, slacks: &[u32]) -> Result<Option<Vec<u32>>, Fail> {
     let period = network.period();
     if slacks.len() != network.rows().len() || !slacks.iter().all(|slack| *slack < period) {
@@ -189,8 +202,10 @@ fn bad_rows(rt: HostRuntime) -> Result<(), Fail> {
         weight: 1_000_000_001,
         ..row(0, 1)
     };
+    let made = Network::new(alloc, 10, 2, [wide].to_vec(alloc)?);
+    assert!(rt; made.err() == Some(NetRefusal::BadRow { row: 1 }));
     for (bad, at) in [
-        ([wide, wide], 1),
+        ([wide, row(0, 1)], 1),
         ([row(0, 1), row(0, 2)], 2),
         ([row(0, 1), row(2, 0)], 2),
         ([row(0, 1), far], 2),
@@ -203,6 +218,38 @@ fn bad_rows(rt: HostRuntime) -> Result<(), Fail> {
         let made = Network::new(alloc, period, events, Vec::new(alloc));
         assert!(rt; made.err() == Some(NetRefusal::BadRow { row: 0 }));
     }
+    Ok(())
+}
+
+#[test]
+fn too_many_rows(rt: HostRuntime) -> Result<(), Fail> {
+    let alloc = rt.alloc();
+    let rows = vec![in alloc; row(0, 0); 100_001]?;
+    let made = Network::new(alloc, 10, 1, rows);
+    assert!(rt; made.err() == Some(NetRefusal::BadRow { row: 100_001 }));
+    Ok(())
+}
+
+// a tree of two rows that both lead to the event 4, and two events without rows
+#[test]
+fn ways(rt: HostRuntime) -> Result<(), Fail> {
+    let alloc = rt.alloc();
+    let network = network(alloc, 5, &[row(1, 4), row(2, 4)])?;
+    let there = way(alloc, &network, 1, 2)?.ok_or("no way")?;
+    assert!(rt; is_way(&there, [1, 2], [true, false]));
+    let back = way(alloc, &network, 2, 1)?.ok_or("no way")?;
+    assert!(rt; is_way(&back, [2, 1], [true, false]));
+    let down = way(alloc, &network, 4, 2)?.ok_or("no way")?;
+    assert_eq!(rt; down.len(), 1);
+    assert_eq!(rt;
+        down[0],
+        SignedRow {
+            row: 2,
+            plus: false
+        }
+    );
+    assert!(rt; way(alloc, &network, 3, 3)?.ok_or("no way")?.is_empty());
+    assert!(rt; way(alloc, &network, 0, 3)?.is_none());
     Ok(())
 }
 
@@ -255,6 +302,16 @@ fn back_to_first(alloc: Global, count: u32) -> Result<Network, Fail> {
     network(alloc, 5000, &rows)
 }
 
+// how many signed rows the walks of such a network have, by its forest: it is the path, or misses one row of it
+fn signed_rows(forest: &[u32], count: usize) -> usize
+    requires { count ≤ 100000 }
+{
+    if forest.iter().all(|row| *row < 5000) {
+        return count * 5000;
+    }
+    5000 + count.saturating_sub(1) * 2
+}
+
 #[test]
 fn large_tables(rt: HostRuntime) -> Result<(), Fail> {
     let alloc = rt.alloc();
@@ -265,8 +322,28 @@ fn large_tables(rt: HostRuntime) -> Result<(), Fail> {
     let table = table_of(alloc, &most)?;
     assert_eq!(rt; table.len(), 2000);
     assert!(rt; table.iter().all(|walk| walk.rows().len() == 5000));
-    let larger = back_to_first(alloc, 2001)?;
-    assert!(rt; larger.cycles(alloc).err() == Some(NetRefusal::TableTooLarge));
+    Ok(())
+}
+
+// whether the table is refused exactly where these are too many
+fn is_judged(alloc: Global, count: u32) -> Result<bool, Fail>
+    requires { count ≤ 100000 }
+{
+    let network = back_to_first(alloc, count)?;
+    let forest = network.forest(alloc)?;
+    let refused = network.cycles(alloc).err() == Some(NetRefusal::TableTooLarge);
+    Ok(refused == (signed_rows(&forest, count as usize) > 10_000_000))
+}
+
+#[test]
+fn one_row_too_many(rt: HostRuntime) -> Result<(), Fail> {
+    assert!(rt; is_judged(rt.alloc(), 2001)?);
+    Ok(())
+}
+
+#[test]
+fn far_too_many_rows(rt: HostRuntime) -> Result<(), Fail> {
+    assert!(rt; is_judged(rt.alloc(), 3000)?);
     Ok(())
 }
 

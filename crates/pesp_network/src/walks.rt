@@ -1,11 +1,11 @@
 //! Fundamental walks.
 
-ghost use Rattle.std.specs.Prelude.{◌≡◌, ℕ, ◌+◌, ◌-◌, ◌<◌, ◌≤◌, ◌++◌, ◌==◌, ◌||◌, length, reverse, IfOk, IfErr, OnOk, All, vec_len};
+ghost use Rattle.std.specs.Prelude.{◌≡◌, ◌≢◌, ℕ, ◌+◌, ◌-◌, ◌<◌, ◌≤◌, ◌++◌, ◌==◌, ◌||◌, length, reverse, IfOk, IfErr, IfSome, IfNone, OnOk, All, vec_len};
 ghost use Rattle.pesp_problem.specs.Walks.{Names};
 ghost use Rattle.pesp_network.specs.Networks.{arcs_of_network, signed_rows};
 ghost use Rattle.pesp_network.specs.Growing.{at};
 ghost use Rattle.pesp_network.specs.Rooted.{Under, IsForest, AreTreeRows};
-ghost use Rattle.pesp_network.specs.Ways.{step_up, step_down, is_under, up_way, top, down_way, walk_of, walks_of, IsTooMany};
+ghost use Rattle.pesp_network.specs.Ways.{step_up, step_down, is_under, up_way, top, down_way, way_between, IsForestWay, walk_of, walks_of, IsTooMany};
 
 use crate::parts::Forest;
 use crate::refusal::NetRefusal;
@@ -102,6 +102,52 @@ fn descend(
     Ok(way)
 }
 
+// goes on along the forest from an event to another one of its tree
+fn go_on(
+    alloc: Global,
+    events: usize,
+    rows: &[NetRow],
+    forest: &Forest,
+    walk: &mut Vec<SignedRow>,
+    from: usize,
+    to: usize,
+) -> Result<(), AllocError>
+    requires forest { IsForest events (arcs_of_network rows.now) forest.now }
+    requires from { from < events }
+    requires to { to < events }
+    requires one_tree { at forest.now.root.items from ≡ at forest.now.root.items to }
+    ensures { OnOk result (walk.new.items ≡ walk.old.items ++ way_between (arcs_of_network rows.now) forest.now from to) }
+{
+    let upper = climb(events, rows, forest, walk, from, to)?;
+    let mut down = descend(alloc, events, rows, forest, upper, to)?;
+    down.reverse();
+    walk.extend_from_slice(down.as_slice())?;
+    Ok(())
+}
+
+/// The way along the forest from one event to another, or None where they are in two trees.
+pub fn way(
+    alloc: Global,
+    events: usize,
+    rows: &[NetRow],
+    forest: &Forest,
+    from: usize,
+    to: usize,
+) -> Result<Option<Vec<SignedRow>>, AllocError>
+    requires forest { IsForest events (arcs_of_network rows.now) forest.now }
+    requires from { from < events }
+    requires to { to < events }
+    ensures way { IfOk result (λ found. IfSome found (λ way. IsForestWay (arcs_of_network rows.now) forest.now from to way.items)) }
+    ensures none { IfOk result (λ found. IfNone found (at forest.now.root.items from ≢ at forest.now.root.items to)) }
+{
+    if forest.root[from] != forest.root[to] {
+        return Ok(None);
+    }
+    let mut way = Vec::new(alloc);
+    go_on(alloc, events, rows, forest, &mut way, from, to)?;
+    Ok(Some(way))
+}
+
 /// The walk that begins with the row k and goes back through rows of the forest.
 pub fn walk_back(
     alloc: Global,
@@ -115,16 +161,14 @@ pub fn walk_back(
     ensures { IfOk result (λ walk. walk.items ≡ walk_of (arcs_of_network rows.now) forest.now k) }
 {
     let row = rows[k - 1];
-    let tail = row.tail as usize;
     let mut walk = Vec::new(alloc);
     walk.push(SignedRow {
         row: k as u32,
         plus: true,
     })?;
-    let upper = climb(events, rows, forest, &mut walk, row.head as usize, tail)?;
-    let mut down = descend(alloc, events, rows, forest, upper, tail)?;
-    down.reverse();
-    walk.extend_from_slice(down.as_slice())?;
+    let tail = row.tail as usize;
+    let head = row.head as usize;
+    go_on(alloc, events, rows, forest, &mut walk, head, tail)?;
     Ok(walk)
 }
 

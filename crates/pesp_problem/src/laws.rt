@@ -1,18 +1,25 @@
 //! Laws of the definitions. Each is a function without a body whose contract is the law: a caller that calls it has the
 //! law within reach.
 
-ghost use Rattle.std.specs.Prelude.{ℕ, ◌<◌, ◌≤◌, ◌≤ℤ◌, ◌*ℤ◌, ◌↔◌, List, length, ℤ, pos, Bool, false, true, IfSome, IsSomeAnd, All};
+ghost use Rattle.std.specs.Prelude.{◌≡◌, ℕ, ◌<◌, ◌≤◌, ◌≤ℤ◌, ◌*ℤ◌, ◌↔◌, List, length, ℤ, pos, Bool, false, true, IfSome, IsSomeAnd, All};
 ghost use Rattle.pesp_problem.specs.declared.pair.Pair.{Pair};
 ghost use Rattle.pesp_problem.specs.declared.row.Row.{Row};
 ghost use Rattle.pesp_problem.specs.declared.row.SignedRow.{SignedRow};
 ghost use Rattle.pesp_problem.specs.Timetables.{Pesp, slack, cost, IsSatisfied, IsTimetable};
 ghost use Rattle.pesp_problem.specs.Arcs.{Net, arc_at, span, arcs_of, net_of, over_arcs, slacks_at};
+ghost use Rattle.pesp_problem.specs.NetTimetables.{IsNetTimetable, net_cost};
 ghost use Rattle.pesp_problem.specs.Walks.{Names, IsWalk, HasWholeOffset};
 ghost use Rattle.pesp_problem.specs.Nodes.{Node, LieIn, root, offsets_left, IsOffsetLeft, weight_of, leaf_value};
 
 /// A row is satisfied exactly where its slack is at most its span.
 pub fn slack_is_within_span()
     ensures { (p : Pesp) (times : List ℕ) (row : Row) → 0 < p.period → row.lower ≤ℤ row.upper → IsSatisfied p times row ↔ (slack p.period times row ≤ span p.period row) }
+{}
+
+/// Where no row's bounds are crossed the timetables of an instance are those of its net, and each costs the same there.
+pub fn timetables_are_those_of_the_net()
+    ensures timetables { (p : Pesp) (times : List ℕ) → 0 < p.period → All (λ row. row.lower ≤ℤ row.upper) p.rows → IsTimetable p times ↔ IsNetTimetable (net_of p) (length p.events) times }
+    ensures costs { (p : Pesp) (times : List ℕ) → net_cost (net_of p) times ≡ cost p.period p.rows times }
 {}
 
 /// Cycle periodicity: at any times, along each closed walk, the durations add up to a whole number of periods (Odijk 1996;

@@ -1,6 +1,6 @@
 use Rattle.std.proofs.Common.{◌≡◌, inl, inr, length, rules}
-use Rattle.pesp_bound.specs.Problems.{ArePairs}
-use Rattle.pesp_bound.proofs.Rising.{nothing_rises}
+use Rattle.pesp_nodes.specs.Problems.{ArePairs}
+use Rattle.pesp_nodes.proofs.Rising.{nothing_rises}
 use Rattle.pesp_bound.proofs.best.best_pairs.Goals as goal
 
 pub returns-clause-pairs : goal.returns-clause-pairs

@@ -1,9 +1,8 @@
-use Rattle.std.proofs.Common.{◌≡◌, ℕ, ◌+◌, ◌-◌, ◌<◌, ◌≤◌, ◌≢◌, length, vec_len, arith, sym, ◌∙◌, ap, slice_index_or}
+use Rattle.std.proofs.Common.{◌-◌, ◌<◌, arith, sym, ◌∙◌, ap, slice_index_or}
 use Rattle.std.proofs.lemmas.Bool.{false≢true}
 use Rattle.std.proofs.lemmas.List.{get_or_read}
 use Rattle.pesp_network.specs.Networks.{arcs_of_network, no_net_row}
 use Rattle.pesp_network.specs.Growing.{at}
-use Rattle.pesp_network.specs.Ends.{tail_of, head_of}
 use Rattle.pesp_network.proofs.Climbing.{ends_of}
 use Rattle.pesp_network.proofs.Places.{named, tail_at, head_at}
 use Rattle.pesp_network.proofs.Bridging.{tells, tells_outside}

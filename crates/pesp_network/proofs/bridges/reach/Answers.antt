@@ -1,10 +1,8 @@
-use Rattle.std.proofs.Common.{rules, ◌≡◌, ℕ, ◌+◌, ◌-◌, ◌<◌, ◌≤◌, ◌≢◌, length, vec_len, arith, sym, ◌∙◌}
-use Rattle.pesp_network.specs.Growing.{at}
+use Rattle.std.proofs.Common.{◌-◌, arith, ◌∙◌}
 use Rattle.pesp_network.specs.Networks.{arcs_of_network}
-use Rattle.pesp_network.specs.Rooted.{IsForest, TakesUp}
 use Rattle.std.proofs.lemmas.List.{get_or_read}
 use Rattle.pesp_network.proofs.Climbing.{up_below}
-use Rattle.pesp_network.proofs.Reaching.{up_none, up_at, up_step, event_below, all_up}
+use Rattle.pesp_network.proofs.Reaching.{up_at, up_step, event_below, all_up}
 use Rattle.pesp_network.proofs.bridges.reach.Goals as goal
 
 pub take_up-requires-clause-event : goal.take_up-requires-clause-event

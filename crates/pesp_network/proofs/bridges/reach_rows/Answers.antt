@@ -1,10 +1,7 @@
-use Rattle.std.proofs.Common.{rules, ◌≡◌, ℕ, ◌+◌, ◌-◌, ◌<◌, ◌≤◌, ◌≢◌, length, vec_len, arith, sym, ◌∙◌}
-use Rattle.pesp_network.specs.Growing.{at}
+use Rattle.std.proofs.Common.{arith, ◌∙◌}
 use Rattle.pesp_network.specs.Networks.{arcs_of_network}
-use Rattle.pesp_network.specs.Ends.{tail_of, head_of}
-use Rattle.pesp_network.specs.Rooted.{IsForest, TakesRows}
 use Rattle.pesp_network.proofs.Places.{count, tail_below, head_below, tail_more, head_more}
-use Rattle.pesp_network.proofs.Reaching.{taken_more, taken_none, taken_all, TakenRow}
+use Rattle.pesp_network.proofs.Reaching.{taken_more, taken_all}
 use Rattle.pesp_network.proofs.bridges.reach_rows.Goals as goal
 
 pub take_row-requires-clause-event : goal.take_row-requires-clause-event

@@ -1,4 +1,4 @@
-use Rattle.std.proofs.Common.{◌≡◌, ℕ, vec_len}
+use Rattle.std.proofs.Common.{◌≡◌, vec_len}
 use Rattle.pesp_network.specs.Networks.{arcs_of_network}
 use Rattle.pesp_network.specs.Rooted.{TakesRows}
 use Rattle.pesp_network.proofs.bridges.reach_rows.Given as goal

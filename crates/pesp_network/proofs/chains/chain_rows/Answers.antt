@@ -1,6 +1,5 @@
-use Rattle.std.proofs.Common.{rules, ◌≡◌, ℕ, ◌+◌, ◌-◌, ◌<◌, ◌≤◌, length, OnOk, IfOk, vec_len, List, slice_index_or, arith, sym, ◌∙◌, ap, refl, subst}
+use Rattle.std.proofs.Common.{arith}
 use Rattle.std.proofs.lemmas.List.{get_or_read}
-use Rattle.pesp_network.specs.Growing.{Opens, Closes, at, Chained}
 use Rattle.pesp_network.specs.Networks.{arcs_of_network}
 use Rattle.pesp_network.specs.Ends.{tail_of, head_of}
 use Rattle.pesp_network.proofs.Places.{tail_below, head_below, tail_more, head_more}

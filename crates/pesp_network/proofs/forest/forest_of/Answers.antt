@@ -1,7 +1,7 @@
-use Rattle.std.proofs.Common.{◌≡◌, ℕ, ◌+◌, ◌<◌, ◌≤◌, vec_len, length, arith, sym, ◌∙◌, ap, refl}
+use Rattle.std.proofs.Common.{◌≡◌, ℕ, ◌+◌, ◌<◌, length, arith, ◌∙◌, ap}
 use Rattle.std.specs.Prelude.{slice_index}
 use Rattle.pesp_network.specs.Networks.{arcs_of_network}
-use Rattle.pesp_network.proofs.Picking.{met_forest, all_met, names_all}
+use Rattle.pesp_network.proofs.Picking.{met_forest, all_met}
 use Rattle.pesp_network.proofs.forest.forest_of.Goals as goal
 
 pub returns : goal.returns

@@ -1,6 +1,5 @@
-use Rattle.std.proofs.Common.{◌≡◌, ℕ, ◌+◌, ◌<◌, ◌≤◌, vec_len, length, arith, sym, ◌∙◌, ap, refl, map}
+use Rattle.std.proofs.Common.{◌∙◌, ap, map}
 use Rattle.pesp_network.specs.Rooted.{number_of}
-use Rattle.pesp_network.specs.Networks.{arcs_of_network}
 use Rattle.pesp_network.specs.Growing.{at}
 use Rattle.pesp_network.proofs.Picking.{bys_few, kept_ends, kept_grown, regrown, picked_met, grown_among}
 use Rattle.pesp_network.proofs.forest.grow_over.Goals as goal

@@ -1,7 +1,5 @@
-use Rattle.std.proofs.Common.{◌≡◌, ℕ, ◌+◌, ◌<◌, ◌≤◌, vec_len, length, arith, sym, ◌∙◌, ap}
+use Rattle.std.proofs.Common.{arith, sym, ◌∙◌}
 use Rattle.std.proofs.lemmas.List.{get_or_read}
-use Rattle.pesp_network.specs.Networks.{arcs_of_network}
-use Rattle.pesp_network.specs.Growing.{at}
 use Rattle.pesp_network.proofs.Places.{count, tail_below, head_below}
 use Rattle.pesp_network.proofs.Picking.{met_more}
 use Rattle.pesp_network.proofs.forest.meets_all.Goals as goal

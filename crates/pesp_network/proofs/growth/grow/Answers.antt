@@ -1,8 +1,5 @@
-use Rattle.std.proofs.Common.{below_more, rules, ◌≡◌, ℕ, ◌+◌, ◌-◌, ◌<◌, ◌≤◌, ◌⊎◌, inl, inr, length, vec_len, arith, sym, ◌∙◌, get_or, List}
-use Rattle.std.proofs.lemmas.Bool.{cases_lt}
-use Rattle.pesp_network.specs.Growing.{at}
+use Rattle.std.proofs.Common.{below_more, arith, ◌∙◌}
 use Rattle.pesp_network.specs.Networks.{arcs_of_network}
-use Rattle.pesp_network.specs.Floods.{GrownOver, AllClosed, fns_of}
 use Rattle.pesp_network.proofs.Flooding.{starts, none_seen}
 use Rattle.pesp_network.proofs.growth.grow.Goals as goal
 

@@ -1,5 +1,5 @@
 use Rattle.std.proofs.Common.{◌<◌, ◌≤◌, ℕ}
-use Rattle.pesp_network.specs.Networks.{KeepsSizes, IsGoodAt}
+use Rattle.pesp_network.specs.Networks.{IsGoodAt}
 use Rattle.pesp_network.proofs.limits.bad_row.Given as goal
 
 abbrev pub invariant-loop-i : goal.invariant-loop-i

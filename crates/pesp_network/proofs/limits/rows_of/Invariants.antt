@@ -1,4 +1,4 @@
-use Rattle.std.proofs.Common.{◌≡◌, ◌<◌, ◌≤◌, ◌+◌, ℕ, length, map, take, All}
+use Rattle.std.proofs.Common.{◌≡◌, ◌<◌, ◌+◌, ℕ, length, map, take, All}
 use Rattle.pesp_problem.specs.Arcs as spec
 use Rattle.pesp_network.specs.Networks.{arcs_of_network, net_row_at, RowKeepsNetLimits}
 use Rattle.pesp_network.proofs.limits.rows_of.Given as goal

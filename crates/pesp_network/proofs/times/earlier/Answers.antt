@@ -1,7 +1,5 @@
-use Rattle.std.proofs.Common.{◌≡◌, ℕ, ◌+◌, ◌*◌, ◌<◌, ◌≤◌, ◌-ℤ◌, ◌+ℤ◌, pos, arith, ap, ◌∙◌, ℤ}
+use Rattle.std.proofs.Common.{arith}
 use Rattle.std.proofs.lemmas.Int.{ints}
-use Rattle.std.specs.Int.{int_rem_euclid}
-use Rattle.pesp_network.specs.Times.{IsSame}
 use Rattle.pesp_network.proofs.Timing.{earlier_is}
 use Rattle.pesp_network.proofs.times.earlier.Goals as goal
 

@@ -1,8 +1,7 @@
-use Rattle.std.proofs.Common.{◌≡◌, ℕ, ◌+◌, ◌<◌, ◌≤◌, ◌-ℤ◌, ◌+ℤ◌, pos, arith, ap, ◌∙◌, ℤ}
+use Rattle.std.proofs.Common.{pos, arith, ap, ◌∙◌, ℤ}
 use Rattle.std.specs.Prelude.{unsigned_abs}
 use Rattle.std.proofs.lemmas.Int.{ints}
 use Rattle.std.specs.Int.{int_rem_euclid}
-use Rattle.pesp_network.specs.Growing.{at}
 use Rattle.pesp_network.proofs.times.slack_at.Goals as goal
 
 pub returns : goal.returns

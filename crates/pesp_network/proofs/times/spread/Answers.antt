@@ -1,7 +1,6 @@
-use Rattle.std.proofs.Common.{rules, ◌≡◌, ◌≢◌, ℕ, ◌+◌, ◌*◌, ◌<◌, ◌≤◌, pos, arith, List, replicate, vec_len, sym, ◌∙◌, ap, length}
+use Rattle.std.proofs.Common.{rules, ◌≡◌, arith, replicate, sym, ◌∙◌}
 use Rattle.std.proofs.lemmas.List.{get_or_read}
 use Rattle.pesp_network.specs.Networks.{arcs_of_network}
-use Rattle.pesp_network.specs.Growing.{at}
 use Rattle.pesp_network.proofs.Flooding.{at_zeros}
 use Rattle.pesp_network.proofs.Reaching.{event_below}
 use Rattle.pesp_network.proofs.Fitting.{fits_none, fits_root, fits_view, less_more, fits_all}

@@ -1,6 +1,6 @@
-use Rattle.std.proofs.Common.{◌≡◌, ◌≢◌, ℕ, ◌+◌, ◌-◌, ◌*◌, ◌<◌, ◌≤◌, pos, arith, ap, sym, ◌∙◌, ◌-ℤ◌, ◌+ℤ◌, slice_index_or}
+use Rattle.std.proofs.Common.{pos, ap, sym, ◌∙◌, ◌-ℤ◌}
 use Rattle.pesp_network.specs.Growing.{at}
-use Rattle.pesp_network.proofs.Fitting.{ReadsUp, reads_up, same_both}
+use Rattle.pesp_network.proofs.Fitting.{reads_up, same_both}
 use Rattle.pesp_network.proofs.times.time_of.Goals as goal
 
 pub later-requires-clause-lower : goal.later-requires-clause-lower

@@ -1,8 +1,5 @@
-use Rattle.std.proofs.Common.{◌≡◌, ◌≢◌, ℕ, ◌+◌, ◌-◌, ◌*◌, ◌<◌, ◌≤◌, pos, arith, List, vec_len, sym, ◌∙◌, ap, length}
-use Rattle.std.specs.Prelude.{slice_index}
+use Rattle.std.proofs.Common.{◌<◌, arith}
 use Rattle.std.proofs.lemmas.List.Elements.{All-from_get_or}
-use Rattle.pesp_network.specs.Networks.{arcs_of_network}
-use Rattle.pesp_network.specs.Growing.{at}
 use Rattle.pesp_network.proofs.Places.{count, tail_below, head_below}
 use Rattle.pesp_network.proofs.Fitting.{lower_small, slack_more, opens_row}
 use Rattle.pesp_network.proofs.times.timetable_of.Goals as goal

@@ -1,12 +1,9 @@
-use Rattle.std.proofs.Common.{◌≡◌, ℕ, ◌+◌, ◌-◌, ◌<◌, ◌≤◌, ◌++◌, ◌∷◌, [], length, vec_len, arith, ap, ◌∙◌, sym, true, false, List, not}
+use Rattle.std.proofs.Common.{◌++◌, ◌∷◌, [], arith, ap, ◌∙◌, sym}
 use Rattle.std.proofs.lemmas.List.{get_or_read}
-use Rattle.std.proofs.lemmas.Bool.{not-true, not-false}
-use Rattle.pesp_problem.specs.declared.row.SignedRow.{SignedRow}
 use Rattle.pesp_network.specs.Networks.{arcs_of_network}
 use Rattle.pesp_network.specs.Growing.{at}
-use Rattle.pesp_network.specs.Ways.{is_under}
 use Rattle.pesp_network.proofs.Places.{count}
-use Rattle.pesp_network.proofs.Stepping.{ClimbsOn, climbs_first, climbs_more, climbs_all, joined_up, moved_up}
+use Rattle.pesp_network.proofs.Stepping.{climbs_first, climbs_more, climbs_all, joined_up, moved_up}
 use Rattle.pesp_network.proofs.walks.climb.Goals as goal
 
 pub climb-init : goal.climb-init

@@ -1,4 +1,3 @@
-use Rattle.std.proofs.Common.{◌≡◌, ◌<◌}
 use Rattle.pesp_network.specs.Networks.{arcs_of_network}
 use Rattle.pesp_network.specs.Growing.{at}
 use Rattle.pesp_network.proofs.Stepping.{ClimbsOn}

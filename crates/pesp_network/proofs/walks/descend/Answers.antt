@@ -1,10 +1,9 @@
-use Rattle.std.proofs.Common.{◌≡◌, ℕ, ◌+◌, ◌-◌, ◌<◌, ◌≤◌, ◌++◌, ◌∷◌, [], length, vec_len, arith, ap, ◌∙◌, sym, true, List}
+use Rattle.std.proofs.Common.{◌++◌, ◌∷◌, [], arith, ap, ◌∙◌}
 use Rattle.std.proofs.lemmas.List.{get_or_read}
-use Rattle.pesp_problem.specs.declared.row.SignedRow.{SignedRow}
 use Rattle.pesp_network.specs.Networks.{arcs_of_network}
 use Rattle.pesp_network.specs.Growing.{at}
 use Rattle.pesp_network.proofs.Places.{count}
-use Rattle.pesp_network.proofs.Stepping.{DescendsOn, descends_first, descends_more, descends_all, joined_down, moved_down}
+use Rattle.pesp_network.proofs.Stepping.{descends_first, descends_more, descends_all, joined_down, moved_down}
 use Rattle.pesp_network.proofs.walks.descend.Goals as goal
 
 pub descent-init : goal.descent-init

@@ -1,4 +1,4 @@
-use Rattle.std.proofs.Common.{◌≡◌, ◌<◌, ℕ, All}
+use Rattle.std.proofs.Common.{◌<◌, ℕ, All}
 use Rattle.std.specs.Prelude.{Contains}
 use Rattle.pesp_network.specs.Growing.{at}
 use Rattle.pesp_network.specs.Rooted.{IsTreeRow}

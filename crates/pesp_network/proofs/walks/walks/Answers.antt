@@ -1,9 +1,8 @@
-use Rattle.std.proofs.Common.{◌≡◌, ℕ, ◌+◌, ◌-◌, ◌<◌, ◌≤◌, ◌++◌, ◌∷◌, [], length, vec_len, arith, ap, ◌∙◌, sym, true, false, List}
+use Rattle.std.proofs.Common.{◌≡◌, ◌+◌, ◌++◌, ◌∷◌, [], length, arith, ap, ◌∙◌, sym, true, false, List}
 use Rattle.pesp_problem.specs.declared.row.SignedRow.{SignedRow}
 use Rattle.pesp_network.specs.Networks.{arcs_of_network, signed_rows}
-use Rattle.pesp_network.specs.Growing.{at}
 use Rattle.pesp_network.specs.Ways.{is_kept, walks_of, walk_of}
-use Rattle.pesp_network.proofs.Places.{count, tail_below, head_below}
+use Rattle.pesp_network.proofs.Places.{tail_below, head_below}
 use Rattle.pesp_network.proofs.Tables.{kept_is, kept_next, free_next, total_more, total_at_most}
 use Rattle.pesp_network.proofs.walks.walks.Goals as goal
 

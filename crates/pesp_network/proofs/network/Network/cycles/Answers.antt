@@ -1,10 +1,9 @@
-use Rattle.std.proofs.Common.{◌≡◌, ◌∙◌, sym, ap, subst, length, List, All, IfOk}
+use Rattle.std.proofs.Common.{sym, subst, List, All, IfOk}
 use Rattle.std.specs.Prelude.{IfErr}
 use Rattle.std.proofs.lemmas.Result.{IfOk-weaker, MatchResult-weaker}
 use Rattle.pesp_problem.specs.declared.row.SignedRow.{SignedRow}
 use Rattle.pesp_problem.specs.Forests.{AreFundamental, IsSimple}
 use Rattle.pesp_network.specs.Networks.{NetworkValue, arcs_of_network, IsTableRefusal}
-use Rattle.pesp_network.specs.Ways.{walks_of}
 use Rattle.pesp_network.proofs.Tables.{table_fundamental, table_simple}
 use Rattle.pesp_network.proofs.Holding.{table_is, refusal_is}
 use Rattle.pesp_network.proofs.network.Network.cycles.Goals as goal

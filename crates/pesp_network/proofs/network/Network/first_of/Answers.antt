@@ -1,4 +1,4 @@
-use Rattle.std.proofs.Common.{◌≡◌, ◌<◌, ◌≤◌, arith, ap, subst, length, vec_len}
+use Rattle.std.proofs.Common.{arith, ap, subst}
 use Rattle.std.proofs.lemmas.List.{get_or_read}
 use Rattle.pesp_problem.specs.Forests.{IsFirstOf}
 use Rattle.pesp_network.specs.Networks.{NetworkValue, arcs_of_network}

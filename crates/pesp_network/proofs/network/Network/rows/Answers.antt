@@ -1,4 +1,4 @@
-use Rattle.std.proofs.Common.{◌≡◌, subst}
+use Rattle.std.proofs.Common.{subst}
 use Rattle.pesp_problem.specs.Forests.{IsSpanningForest}
 use Rattle.pesp_network.specs.Networks.{NetworkValue, arcs_of_network}
 use Rattle.pesp_network.proofs.Tables.{spanning}

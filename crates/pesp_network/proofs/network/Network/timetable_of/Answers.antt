@@ -1,6 +1,5 @@
-use Rattle.std.proofs.Common.{◌≡◌, ◌<◌, ◌≤◌, ◌∙◌, sym, arith, ap, subst, length, ℕ, List, All}
-use Rattle.pesp_network.specs.Networks.{NetworkValue, arcs_of_network}
-use Rattle.pesp_network.specs.Times.{AreSlacks}
+use Rattle.std.proofs.Common.{◌<◌, sym, arith, ap, subst, length, ℕ, All}
+use Rattle.pesp_network.specs.Networks.{NetworkValue}
 use Rattle.pesp_network.proofs.Holding.{slacks_kept}
 use Rattle.pesp_network.proofs.network.Network.timetable_of.Goals as goal
 

@@ -1,9 +1,6 @@
-use Rattle.std.proofs.Common.{rules, ◌≡◌, ℕ, ◌+◌, ◌-◌, ◌<◌, ◌≤◌, ◌⊎◌, length, sum, slice_set, vec_len, arith, sym, ◌∙◌, ap, refl}
-use Rattle.pesp_network.specs.Growing.{Opens, Closes, Looks, IsNext, at}
+use Rattle.std.proofs.Common.{arith}
 use Rattle.pesp_network.specs.Networks.{arcs_of_network}
-use Rattle.pesp_network.specs.Ends.{tail_of, head_of, HaveEnds}
-use Rattle.pesp_network.specs.Floods.{AreChains, fns_of, GrownOver, IsCurrent, AllClosed, KeepsSeen, work_left}
-use Rattle.pesp_network.proofs.Steps.{LeadsOn, leads_on, left_below, other_below, read_place, read_root, current_below, advance_seen, advance_new, sum_less}
+use Rattle.pesp_network.proofs.Steps.{leads_on, other_below, read_place, read_root, current_below, advance_seen, advance_new, sum_less}
 use Rattle.pesp_network.proofs.parts.Growth.advance.Goals as goal
 
 pub index-requires : goal.index-requires

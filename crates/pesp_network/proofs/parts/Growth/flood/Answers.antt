@@ -1,9 +1,6 @@
-use Rattle.std.proofs.Common.{rules, ◌≡◌, ℕ, ◌+◌, ◌-◌, ◌<◌, ◌≤◌, ◌⊎◌, length, sum, slice_set, OnOk, IfOk, vec_len, arith, sym, ◌∙◌, get_or}
+use Rattle.std.proofs.Common.{arith, sym, ◌∙◌}
 use Rattle.std.proofs.lemmas.List.{get_or_read}
-use Rattle.pesp_network.specs.Growing.{Opens, Closes, Looks, IsNext, at}
 use Rattle.pesp_network.specs.Networks.{arcs_of_network}
-use Rattle.pesp_network.specs.Ends.{tail_of, head_of, HaveEnds}
-use Rattle.pesp_network.specs.Floods.{AreChains, fns_of, GrownOver, IsCurrent, AllClosed, KeepsSeen, work_left}
 use Rattle.pesp_network.proofs.Steps.{read_left, current_below}
 use Rattle.pesp_network.proofs.Flooding.{start_flood, close_grown, close_root, close_up, keeps_closing, less_work}
 use Rattle.pesp_network.proofs.parts.Growth.flood.Goals as goal

@@ -1,0 +1,57 @@
+//! Tasks over a problem and its nodes.
+
+ghost use Rattle.std.specs.Prelude.{IfSome};
+ghost use Rattle.pesp_problem.specs.declared.cut.Cut.TheVariants.{Offset};
+ghost use Rattle.pesp_nodes.specs.Problems.{IsCutOf};
+
+use pesp_bound::{Cut, Leaf, Node, Problem, Side, best_leaf, best_leaf_from};
+use pesp_network::Network;
+use std::alloc::Global;
+
+// the problem of a network with its fundamental walks
+fn problem_of(alloc: Global, network: Network) -> Option<Problem> {
+    let table = network.cycles(alloc).ok()?;
+    Problem::new(alloc, network, table).ok()
+}
+
+// the value of a leaf that has one
+fn value_of(leaf: &Leaf) -> Option<u64> {
+    match leaf {
+        Leaf::Bound { value, .. } => u64::try_from(*value).ok(),
+        _ => None,
+    }
+}
+
+/// The value of the best leaf that is found at the root in so many rounds.
+pub fn root_leaf(alloc: Global, network: Network, rounds: u32) -> Option<u64> {
+    let problem = problem_of(alloc, network)?;
+    let root = problem.root(alloc).ok()?;
+    value_of(&best_leaf(alloc, &problem, &root, rounds).ok()?)
+}
+
+// the first cycle with more than one offset, numbered from 1, with the least
+fn wide_cycle(node: &Node) -> Option<(u32, i64)>
+    ensures { IfSome result (λ found. IsCutOf node.now (Offset found.0 found.1)) }
+{
+    let offsets = node.offsets();
+    for place in 0..offsets.len().min(100_000) {
+        let (low, high) = offsets[place];
+        if low < high && low.unsigned_abs() <= 100_000_000_000_000 {
+            return Some((place as u32 + 1, low));
+        }
+    }
+    None
+}
+
+/// The value of the best leaf that is found at the high part of a cut of the root, from the pairs of the root's leaf.
+pub fn child_leaf(alloc: Global, network: Network, rounds: u32) -> Option<u64> {
+    let problem = problem_of(alloc, network)?;
+    let mut node = problem.root(alloc).ok()?;
+    let pairs = match best_leaf(alloc, &problem, &node, rounds).ok()? {
+        Leaf::Bound { pairs, .. } => pairs,
+        _ => return None,
+    };
+    let (cycle, k) = wide_cycle(&node)?;
+    node.cut(Cut::Offset { cycle, k }, Side::High);
+    value_of(&best_leaf_from(alloc, &problem, &node, pairs.as_slice(), rounds).ok()?)
+}

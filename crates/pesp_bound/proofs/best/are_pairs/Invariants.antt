@@ -1,5 +1,0 @@
-use Rattle.pesp_bound.proofs.Rising.{AreRisen}
-use Rattle.pesp_bound.proofs.best.are_pairs.Given as goal
-
-abbrev pub invariant-loop-pair : goal.invariant-loop-pair
-invariant-loop-pair l = AreRisen l.fn.cycles l.pairs l.last l.pair-index

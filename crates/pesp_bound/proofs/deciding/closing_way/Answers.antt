@@ -1,0 +1,6 @@
+use Rattle.std.proofs.Common.{rules, ◌≡◌, ℕ}
+use Rattle.pesp_levels.specs.Settling.{at}
+use Rattle.pesp_bound.proofs.deciding.closing_way.Goals as goal
+
+pub returns-in-Levels : goal.returns-in-Levels
+returns-in-Levels c = (at c.in-Levels.field-0.items, search rules)

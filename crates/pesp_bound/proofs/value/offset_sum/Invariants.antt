@@ -1,6 +1,0 @@
-use Rattle.pesp_bound.specs.Problems.{net_of}
-use Rattle.pesp_bound.proofs.Leaves.{IsOffsetSum}
-use Rattle.pesp_bound.proofs.value.offset_sum.Given as goal
-
-abbrev pub invariant-loop-pair : goal.invariant-loop-pair
-invariant-loop-pair l = IsOffsetSum (net_of l.problem) l.problem.table l.node l.pairs l.pair-index l.sum

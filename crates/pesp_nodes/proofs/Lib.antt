@@ -1,0 +1,11 @@
+pub mod Sums
+pub mod Counts
+pub mod Collecting
+pub mod Durations
+pub mod Searching
+pub mod Flows
+pub mod Following
+pub mod Tables
+pub mod Keeping
+pub mod LeafValues
+pub mod Rising

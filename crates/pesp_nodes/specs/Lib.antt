@@ -1,0 +1,6 @@
+pub mod Nets
+pub mod Passages
+pub mod Offsets
+pub mod Problems
+pub mod Prepared
+pub mod Values

@@ -1,0 +1,49 @@
+//! Flows: for a row, the sum over a leaf's pairs of the multiplier times the net count.
+
+ghost use Rattle.std.specs.Prelude.{◌≡◌, ℕ, ◌+◌, ◌*◌, ◌^◌, ◌<◌, ◌≤◌, List, length, ◌*ℤ◌, unsigned_abs, All, sum_by};
+ghost use Rattle.pesp_nodes.specs.Passages.{mult_of, sum_over};
+ghost use Rattle.pesp_nodes.specs.Problems.{Rise};
+
+use crate::passages::Passage;
+use pesp_problem::Pair;
+use pesp_problem::exact::{plus, times};
+
+// the multiplier of a cycle, 0 where no pair has it
+fn mult_of(pairs: &[Pair], cycle: u32) -> i64
+    requires rise { Rise pairs.now }
+    requires mults { All (λ p. unsigned_abs p.mult ≤ 1000000000000) pairs.now }
+    ensures value { result ≡ mult_of pairs.now cycle }
+    ensures size { unsigned_abs result ≤ 1000000000000 }
+{
+    let mut from = 0;
+    let mut to = pairs.len();
+    while from < to {
+        let middle = from + (to - from) / 2;
+        if pairs[middle].cycle < cycle {
+            from = middle + 1;
+        } else {
+            to = middle;
+        }
+    }
+    if from < pairs.len() && pairs[from].cycle == cycle {
+        pairs[from].mult
+    } else {
+        0
+    }
+}
+
+/// The flow on a row by its passages.
+pub fn flow_on(passages: &[Passage], pairs: &[Pair]) -> i128
+    requires rise { Rise pairs.now }
+    requires mults { All (λ p. unsigned_abs p.mult ≤ 1000000000000) pairs.now }
+    requires small { sum_by (λ e. unsigned_abs e.count) passages.now ≤ 10000000 }
+    ensures value { result ≡ sum_over (λ c n. mult_of pairs.now c *ℤ n) passages.now }
+    ensures size { unsigned_abs result ≤ 10 ^ 19 }
+{
+    let mut flow = 0;
+    for passage in passages {
+        let mult = mult_of(pairs, passage.cycle);
+        flow = plus(flow, times(i128::from(mult), i128::from(passage.count)));
+    }
+    flow
+}

@@ -1,0 +1,24 @@
+//! Problems, a network with a table of closed walks, their nodes, and what the pairs of a leaf are worth at a node.
+#![tactic(auto)]
+
+mod closing;
+mod flow;
+mod nets;
+mod node;
+mod offsets;
+mod pairs;
+mod passages;
+mod problem;
+mod refusal;
+mod table;
+mod value;
+
+pub use flow::flow_on;
+pub use nets::count_rows;
+pub use node::Node;
+pub use pairs::are_pairs;
+pub use passages::{Passage, Passages};
+pub use pesp_problem::{Cut, Pair, Pairs, Side};
+pub use problem::Problem;
+pub use refusal::ProblemRefusal;
+pub use value::{leaf_value, offset_range};

@@ -1,0 +1,95 @@
+//! Nodes: the slacks and offsets that are still allowed.
+
+ghost use Rattle.std.specs.Prelude.{◌≡◌, ℕ, ◌-◌, ◌≤◌, List, length, unsigned_abs};
+ghost use Rattle.pesp_problem.specs.Nodes as spec;
+ghost use Rattle.pesp_problem.specs.Nodes.{part};
+ghost use Rattle.pesp_nodes.specs.Offsets.{AreSlackEnds};
+ghost use Rattle.pesp_nodes.specs.Problems.{ProblemValue, IsNodeOf, IsCutOf, cut_slack, cut_offset};
+
+use pesp_problem::{Cut, Side};
+use std::marker::Model;
+
+/// A range of slacks for each row, modulo the period, and a range of offsets for each cycle, with both ends in them. A range
+/// whose low end is above its high end is empty.
+#[derive(Debug, Drop)]
+pub struct Node {
+    slacks: Vec<(u32, u32)>,
+    offsets: Vec<(i64, i64)>,
+}
+
+impl Model for Node {
+    ghost use Rattle.pesp_problem.specs.Nodes.{Node as Ranges};
+    ghost use Rattle.pesp_nodes.specs.Offsets.{AreSlackEnds};
+
+    ghost Value = { Ranges };
+
+    ghost view = { λ n. record { slacks = n.slacks.items; offsets = n.offsets.items } };
+
+    ghost invariant = { λ n. AreSlackEnds n.slacks.items };
+}
+
+// a part of a slack range that is cut at k
+fn cut_slack(range: (u32, u32), k: u32, side: Side) -> (u32, u32)
+    requires { k ≤ 9999 }
+    ensures { result ≡ cut_slack range k side }
+{
+    match side {
+        Side::Low => (range.0, range.1.min(k)),
+        Side::High => (range.0.max(k + 1), range.1),
+    }
+}
+
+// a part of an offset range that is cut at k
+fn cut_offset(range: (i64, i64), k: i64, side: Side) -> (i64, i64)
+    requires { unsigned_abs k ≤ 100000000000000 }
+    ensures { result ≡ cut_offset range k side }
+{
+    match side {
+        Side::Low => (range.0, range.1.min(k)),
+        Side::High => (range.0.max(k + 1), range.1),
+    }
+}
+
+impl Node {
+    /// The node of these ranges.
+    pub(crate) fn new(slacks: Vec<(u32, u32)>, offsets: Vec<(i64, i64)>) -> Node
+        requires { AreSlackEnds slacks.items }
+        ensures { result ≡ record { slacks = slacks.items; offsets = offsets.items } }
+    {
+        Node { slacks, offsets }
+    }
+
+    /// The slack range of each row, in the instance's own unit.
+    pub fn slacks(&self) -> &[(u32, u32)]
+        ensures slacks { result.now ≡ self.now.slacks }
+        ensures ends { AreSlackEnds self.now.slacks }
+    {
+        &self.slacks
+    }
+
+    /// The offset range of each cycle.
+    pub fn offsets(&self) -> &[(i64, i64)]
+        ensures offsets { result.now ≡ self.now.offsets }
+    {
+        &self.offsets
+    }
+
+    /// Goes to a part of a branch: `Low` lowers the upper end of the cut range to at most `k`, `High` raises its lower end to
+    /// at least `k + 1`. Nothing else changes.
+    pub fn cut(&mut self, cut: Cut, side: Side)
+        requires { IsCutOf self.old cut }
+        ensures part { self.new ≡ part self.old cut side }
+        ensures keeps { (p : ProblemValue) → IsNodeOf p self.old → IsNodeOf p self.new }
+    {
+        match cut {
+            Cut::Slack { row, k } => {
+                let place = row as usize - 1;
+                self.slacks[place] = cut_slack(self.slacks[place], k, side);
+            }
+            Cut::Offset { cycle, k } => {
+                let place = cycle as usize - 1;
+                self.offsets[place] = cut_offset(self.offsets[place], k, side);
+            }
+        }
+    }
+}

@@ -1,0 +1,200 @@
+//! Problems: a network and a table of walks.
+
+ghost use Rattle.std.specs.Prelude.{◌≡◌, ℕ, ◌-◌, ◌<◌, ◌≤◌, List, map, length, unsigned_abs, All, IfOk, IfErr, OnOk, sum_by};
+ghost use Rattle.pesp_problem.specs.Nodes as spec;
+ghost use Rattle.pesp_problem.specs.Walks.{IsWalk};
+ghost use Rattle.pesp_network.specs.Networks.{arcs_of_network, arc_of_net, net_of_network, KeepsNetLimits};
+ghost use Rattle.pesp_problem.specs.declared.row.SignedRow.{SignedRow};
+ghost use Rattle.pesp_nodes.specs.Nets.{AreNets, AreSmallCounts};
+ghost use Rattle.pesp_nodes.specs.Passages.{ArePassages};
+ghost use Rattle.pesp_nodes.specs.Offsets.{AreArcs, AreSlackEnds};
+ghost use Rattle.pesp_nodes.specs.Problems.{net_of, IsNodeOf, IsProblemRefusal, IsSmallTable};
+
+use crate::closing::first_open;
+use crate::nets::Nets;
+use crate::node::Node;
+use crate::offsets::bounds_of;
+use crate::passages::Passages;
+use crate::refusal::ProblemRefusal;
+use crate::table::{is_small, nets_of_table, passages_of_table};
+use pesp_network::{NetRow, Network};
+use pesp_problem::{Arc, Memory, Walk};
+use std::alloc::{AllocError, Global};
+use std::marker::Model;
+
+/// A network and a table of closed walks along its rows, within their limits.
+#[derive(Drop)]
+pub struct Problem {
+    network: Network,
+    table: Vec<Walk>,
+    arcs: Vec<Arc>,
+    nets: Vec<Nets>,
+    by_row: Vec<Passages>,
+}
+
+impl Model for Problem {
+    ghost use Rattle.pesp_nodes.specs.Problems.{ProblemValue};
+    ghost use Rattle.pesp_nodes.specs.Prepared.{IsPrepared};
+
+    ghost Value = { ProblemValue };
+
+    ghost view = { λ p. record { network = p.network; table = p.table.items } };
+
+    ghost invariant = { λ p. IsPrepared (record { network = p.network; table = p.table.items }) p.arcs.items p.nets.items p.by_row.items };
+}
+
+// a row without its origin
+fn arc_of(row: &NetRow) -> Arc
+    ensures { result ≡ arc_of_net row.now }
+{
+    Arc {
+        tail: row.tail,
+        head: row.head,
+        lower: row.lower,
+        span: row.span,
+        weight: row.weight,
+    }
+}
+
+// the rows without their origins
+fn arcs_of(alloc: Global, rows: &[NetRow]) -> Result<Vec<Arc>, AllocError>
+    ensures { IfOk result (λ v. v.items ≡ arcs_of_network rows.now) }
+{
+    rows.iter().map(|row| arc_of(row)).collect(alloc)
+}
+
+// whether the walks of a table close, and are few enough
+fn judge(arcs: &[Arc], table: &[Walk]) -> Result<(), ProblemRefusal>
+    ensures closed { OnOk result (All (IsWalk arcs.now) table.now) }
+    ensures small { OnOk result (IsSmallTable table.now) }
+    ensures refused { IfErr result (IsProblemRefusal arcs.now table.now) }
+{
+    if let Some(cycle) = first_open(arcs, table) {
+        return Err(ProblemRefusal::OpenWalk { cycle });
+    }
+    if !is_small(table) {
+        return Err(ProblemRefusal::TableTooLarge);
+    }
+    Ok(())
+}
+
+// the slack ranges of a root
+fn root_slacks(alloc: Global, arcs: &[Arc]) -> Result<Vec<(u32, u32)>, AllocError>
+    requires { AreArcs arcs.now }
+    ensures slacks { IfOk result (λ v. v.items ≡ map (λ arc. (0, arc.span)) arcs.now) }
+    ensures ends { IfOk result (λ v. AreSlackEnds v.items) }
+    ensures long { IfOk result (λ v. length v.items ≡ length arcs.now) }
+{
+    arcs.iter().map(|arc| (0, arc.span)).collect(alloc)
+}
+
+// the offset ranges that slack ranges allow
+fn root_offsets(
+    alloc: Global,
+    period: u32,
+    arcs: &[Arc],
+    slacks: &[(u32, u32)],
+    nets: &[Nets],
+) -> Result<Vec<(i64, i64)>, AllocError>
+    requires period { 0 < period }
+    requires arcs { AreArcs arcs.now }
+    requires slacks { AreSlackEnds slacks.now }
+    requires long { length slacks.now ≡ length arcs.now }
+    requires counts { All (AreSmallCounts (length arcs.now)) nets.now }
+    ensures { (walks : List (List SignedRow)) → AreNets (length arcs.now) walks nets.now → IfOk result (λ v. v.items ≡ map (spec.odijk_range (record { period = period; arcs = arcs.now }) slacks.now) walks) }
+{
+    let mut offsets = Vec::new(alloc);
+    for counts in nets {
+        offsets.push(bounds_of(period, arcs, slacks, counts.counts()))?;
+    }
+    Ok(offsets)
+}
+
+impl Problem {
+    /// The problem of a network and a table of walks along its rows. `OpenWalk` names the first walk that doesn't close, by
+    /// its number from 1; an empty walk, or one along a row that doesn't exist, doesn't close. `TableTooLarge` where all walks
+    /// close and there are more than 100000 of them, or more than 10000000 signed rows in all.
+    pub fn new(alloc: Global, network: Network, table: Vec<Walk>) -> Result<Problem, ProblemRefusal>
+        ensures network { IfOk result (λ p. p.network ≡ network) }
+        ensures table { IfOk result (λ p. p.table ≡ table.items) }
+        ensures closed { IfOk result (λ p. All (IsWalk (net_of p).arcs) p.table) }
+        ensures small { IfOk result (λ p. IsSmallTable p.table) }
+        ensures refused { IfErr result (IsProblemRefusal (arcs_of_network network.rows) table.items) }
+    {
+        let arcs = arcs_of(alloc, network.rows())?;
+        judge(&arcs, &table)?;
+        let nets = nets_of_table(alloc, arcs.len(), &table)?;
+        let by_row = passages_of_table(alloc, arcs.len(), &nets)?;
+        Ok(Problem {
+            network,
+            table,
+            arcs,
+            nets,
+            by_row,
+        })
+    }
+
+    /// The network.
+    pub fn network(&self) -> &Network
+        ensures network { result.now ≡ self.now.network }
+    {
+        &self.network
+    }
+
+    /// The walks; cycles are numbered from 1 in this order.
+    pub fn table(&self) -> &[Walk]
+        ensures table { result.now ≡ self.now.table }
+        ensures closed { All (IsWalk (net_of self.now).arcs) self.now.table }
+        ensures small { IsSmallTable self.now.table }
+    {
+        &self.table
+    }
+
+    /// The node in which every timetable lies: slacks from 0 to the span of their row, and for each cycle the offsets that
+    /// these slacks allow (Odijk 1996).
+    pub fn root(&self, alloc: Global) -> Result<Node, Memory>
+        ensures root { IfOk result (λ node. node ≡ spec.root (net_of self.now) self.now.table) }
+        ensures node { IfOk result (IsNodeOf self.now) }
+    {
+        let arcs = self.arcs();
+        let slacks = root_slacks(alloc, arcs)?;
+        let offsets = root_offsets(alloc, self.period(), arcs, &slacks, self.nets())?;
+        Ok(Node::new(slacks, offsets))
+    }
+
+    // the period, in the instance's own unit
+    pub(crate) fn period(&self) -> u32
+        ensures period { result ≡ self.now.network.period }
+        ensures some { 1 ≤ result }
+        ensures most { result ≤ 10000 }
+    {
+        self.network.period()
+    }
+
+    /// The rows in order, without their origins.
+    pub fn arcs(&self) -> &[Arc]
+        ensures arcs { result.now ≡ (net_of self.now).arcs }
+        ensures limits { AreArcs result.now }
+        ensures few { length result.now ≤ 100000 }
+        ensures rows { length result.now ≡ length self.now.network.rows }
+        ensures table { length self.now.table ≤ 100000 }
+    {
+        &self.arcs
+    }
+
+    // the net counts of each cycle
+    pub(crate) fn nets(&self) -> &[Nets]
+        ensures nets { AreNets (length self.now.network.rows) self.now.table result.now }
+        ensures each { All (AreSmallCounts (length self.now.network.rows)) result.now }
+    {
+        &self.nets
+    }
+
+    /// For each row the cycles that pass it, with how often they do.
+    pub fn passages(&self) -> &[Passages]
+        ensures passages { ArePassages (length self.now.network.rows) (length self.now.table) self.now.table result.now }
+        ensures short { All (λ ps. sum_by (λ e. unsigned_abs e.count) ps ≤ 10000000) result.now }
+    {
+        &self.by_row
+    }
+}

@@ -1,10 +1,10 @@
 //! Tasks over a problem and its nodes.
 
-ghost use Rattle.std.specs.Prelude.{IfSome};
+ghost use Rattle.std.specs.Prelude.{IfSome, length};
 ghost use Rattle.pesp_problem.specs.declared.cut.Cut.TheVariants.{Offset};
-ghost use Rattle.pesp_nodes.specs.Problems.{IsCutOf};
+ghost use Rattle.pesp_nodes.specs.Problems.{IsCutOf, IsNodeOf, ArePairs};
 
-use pesp_bound::{Cut, Leaf, Node, Problem, Side, best_leaf, best_leaf_from};
+use pesp_bound::{Cut, Leaf, Node, Pairs, Problem, Side, best_leaf, best_leaf_from};
 use pesp_network::Network;
 use std::alloc::Global;
 
@@ -25,7 +25,7 @@ fn value_of(leaf: &Leaf) -> Option<u64> {
 /// The value of the best leaf that is found at the root in so many rounds.
 pub fn root_leaf(alloc: Global, network: Network, rounds: u32) -> Option<u64> {
     let problem = problem_of(alloc, network)?;
-    let root = problem.root(alloc).ok()?;
+    let root = root_of(alloc, &problem)?;
     value_of(&best_leaf(alloc, &problem, &root, rounds).ok()?)
 }
 
@@ -43,15 +43,42 @@ fn wide_cycle(node: &Node) -> Option<(u32, i64)>
     None
 }
 
+// the root
+fn root_of(alloc: Global, problem: &Problem) -> Option<Node>
+    ensures { IfSome result (IsNodeOf problem.now) }
+{
+    match problem.root(alloc) {
+        Ok(root) => Some(root),
+        Err(_) => None,
+    }
+}
+
+// the pairs of the best leaf that is found, where it is a bound
+fn bound_pairs(alloc: Global, problem: &Problem, node: &Node, rounds: u32) -> Option<Pairs>
+    requires { IsNodeOf problem.now node.now }
+    ensures { IfSome result (ArePairs (length problem.now.table)) }
+{
+    match best_leaf(alloc, problem, node, rounds) {
+        Ok(Leaf::Bound { pairs, .. }) => Some(pairs),
+        _ => None,
+    }
+}
+
+// goes to the high part of a cut
+fn go_high(problem: &Problem, node: &mut Node) -> Option<()>
+    requires { IsNodeOf problem.now node.old }
+    ensures { IsNodeOf problem.now node.new }
+{
+    let (cycle, k) = wide_cycle(node)?;
+    node.cut(Cut::Offset { cycle, k }, Side::High);
+    Some(())
+}
+
 /// The value of the best leaf that is found at the high part of a cut of the root, from the pairs of the root's leaf.
 pub fn child_leaf(alloc: Global, network: Network, rounds: u32) -> Option<u64> {
     let problem = problem_of(alloc, network)?;
-    let mut node = problem.root(alloc).ok()?;
-    let pairs = match best_leaf(alloc, &problem, &node, rounds).ok()? {
-        Leaf::Bound { pairs, .. } => pairs,
-        _ => return None,
-    };
-    let (cycle, k) = wide_cycle(&node)?;
-    node.cut(Cut::Offset { cycle, k }, Side::High);
+    let mut node = root_of(alloc, &problem)?;
+    let pairs = bound_pairs(alloc, &problem, &node, rounds)?;
+    go_high(&problem, &mut node)?;
     value_of(&best_leaf_from(alloc, &problem, &node, pairs.as_slice(), rounds).ok()?)
 }

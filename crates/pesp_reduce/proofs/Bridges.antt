@@ -1,5 +1,5 @@
 -- Walks without bridges.
-use Rattle.std.proofs.Common.{◌≡◌, ◌≢◌, ℕ, zero, suc, ◌+◌, ◌-◌, ◌<◌, ◌≤◌, ◌⊎◌, inl, inr, refl, sym, ◌∙◌, ap, arith, subst, List, [], ◌∷◌, ◌++◌, length, true, false, Bool, All, ℤ, pos, negsuc, ◌+ℤ◌}
+use Rattle.std.proofs.Common.{◌≡◌, ◌≢◌, ℕ, zero, suc, ◌+◌, ◌-◌, ◌<◌, ◌≤◌, ◌⊎◌, inl, inr, refl, sym, ◌∙◌, ap, arith, subst, List, [], ◌∷◌, ◌++◌, length, true, false, Bool, All, pos, negsuc, ◌+ℤ◌}
 use Rattle.std.specs.Prelude.{if◌then◌else◌}
 use Rattle.std.proofs.lemmas.Int.{ints}
 use Rattle.std.proofs.lemmas.Bool.{cases_Bool, cases_eq}
@@ -8,9 +8,9 @@ use Rattle.std.proofs.lemmas.List.Elements.{All-cons, All-nil, All-head, All-tai
 use Rattle.pesp_problem.specs.declared.arc.Arc.{Arc}
 use Rattle.pesp_problem.specs.declared.row.SignedRow.{SignedRow}
 use Rattle.pesp_problem.specs.Arcs.{arc_at}
-use Rattle.pesp_problem.specs.Walks.{RowExists, AreRows, Leads, IsWalk, start, finish, sign, net_count}
+use Rattle.pesp_problem.specs.Walks.{RowExists, AreRows, Leads, start, finish, sign, net_count}
 use Rattle.pesp_problem.specs.Forests.{IsBridge}
-use Rattle.pesp_problem.proofs.Walks.{step, net_count-cons, step_same, step_other}
+use Rattle.pesp_problem.proofs.Walks.{net_count-cons, step_same, step_other}
 use Rattle.pesp_reduce.proofs.Ways.{leads_append}
 use Rattle.pesp_reduce.proofs.Trees.{loop_stays}
 

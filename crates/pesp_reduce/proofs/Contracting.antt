@@ -1,20 +1,18 @@
 -- The contraction of fixed rows: limits, the tree, the shifts, and what becomes one.
-use Rattle.std.proofs.Common.{◌≡◌, ℕ, zero, suc, ◌+◌, ◌-◌, ◌<◌, ◌≤◌, ◌⊎◌, inl, inr, refl, sym, ◌∙◌, ap, arith, subst, List, [], ◌∷◌, length, get_or, map, true, false, Bool, cond, All, ℤ, pos, ◌-ℤ◌}
-use Rattle.std.specs.Prelude.{if◌then◌else◌, slice_index, Contains, ◌==◌, unsigned_abs}
+use Rattle.std.proofs.Common.{◌≡◌, ℕ, ◌+◌, ◌-◌, ◌<◌, ◌≤◌, ◌⊎◌, inl, inr, refl, sym, ◌∙◌, ap, arith, subst, List, [], ◌∷◌, length, get_or, map, true, false, Bool, All, pos, ◌-ℤ◌}
+use Rattle.std.specs.Prelude.{slice_index, Contains, ◌==◌}
 use Rattle.std.proofs.lemmas.Bool.{cases_Bool, cases_lt, eqb-true, eq-eqb}
 use Rattle.std.proofs.lemmas.List.{get_or_past, length-map}
-use Rattle.std.proofs.lemmas.List.Elements.{All-from_get_or, All-get_or, All-cons, All-nil, All-weaker, All-contains}
+use Rattle.std.proofs.lemmas.List.Elements.{All-from_get_or, All-get_or, All-cons, All-nil, All-contains}
 use Rattle.pesp_problem.specs.declared.arc.Arc.{Arc}
 use Rattle.pesp_problem.specs.declared.row.SignedRow.{SignedRow}
-use Rattle.pesp_problem.specs.Timetables.{remainder}
-use Rattle.pesp_problem.specs.Arcs.{Net, arc_at, slacks_at, arc_slack}
-use Rattle.pesp_problem.specs.Walks.{Names, RowExists, AreRows, Leads, IsWalk, start, finish, net_count}
+use Rattle.pesp_problem.specs.Arcs.{arc_at, slacks_at, arc_slack}
+use Rattle.pesp_problem.specs.Walks.{Names, RowExists, AreRows, Leads, IsWalk, start, net_count}
 use Rattle.pesp_problem.specs.Forests.{IsSpanningForest, KeepsTo, AreJoined}
 use Rattle.pesp_network.specs.declared.row.NetRow.{NetRow}
 use Rattle.pesp_network.specs.Networks.{net_row_at, no_net_row, arc_of_net, arcs_of_network, KeepsNetLimits, RowKeepsNetLimits}
-use Rattle.pesp_reduce.specs.Congruences.{IsSame}
 use Rattle.pesp_reduce.specs.Rows.{flag, part, loop_at, fixed_row}
-use Rattle.pesp_reduce.specs.Contractions.{HaveNoCycleAt, AreTree, AreShifts, AreTogether, AreFlags, IsStanding}
+use Rattle.pesp_reduce.specs.Contractions.{AreTree, AreShifts, AreTogether, AreFlags, IsStanding}
 use Rattle.pesp_reduce.proofs.Congruences.{none_left}
 use Rattle.pesp_reduce.proofs.Lists.{arc_at_net, arcs_length, row_of_map}
 use Rattle.pesp_reduce.proofs.Ways.{leads_same}

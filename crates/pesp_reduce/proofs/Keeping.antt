@@ -1,5 +1,5 @@
 -- The kept rows: how many there are before a row, where it stands, and sums over them.
-use Rattle.std.proofs.Common.{◌≡◌, ℕ, zero, suc, ◌+◌, ◌-◌, ◌*◌, ◌<◌, ◌≤◌, ◌⊎◌, inl, inr, refl, sym, ◌∙◌, ap, arith, subst, List, [], ◌∷◌, ◌++◌, length, get_or, take, true, false, Bool, cond, All, add-one, rules}
+use Rattle.std.proofs.Common.{◌≡◌, ℕ, zero, suc, ◌+◌, ◌<◌, ◌≤◌, ◌⊎◌, inl, inr, refl, sym, ◌∙◌, ap, arith, subst, List, [], ◌∷◌, ◌++◌, length, take, true, false, Bool, All, add-one, rules}
 use Rattle.std.specs.Prelude.{if◌then◌else◌, sum_by}
 use Rattle.std.proofs.lemmas.Bool.{cases_Bool, cases_lt}
 use Rattle.std.proofs.lemmas.List.{get_or_append_left, get_or_push, length_push, append-nil}
@@ -21,10 +21,10 @@ abbrev pub places : List Fate → ℕ → ℕ
 places fates zero = 0
 places fates (suc n) = places fates n + (if keeps fates n then 1 else 0)
 
-kept_yes : (fates : List Fate) (rows : List NetRow) (n : ℕ) → keeps fates n ≡ true → kept_below fates rows (suc n) ≡ kept_below fates rows n ++ net_row_at rows n ∷ []
+pub kept_yes : (fates : List Fate) (rows : List NetRow) (n : ℕ) → keeps fates n ≡ true → kept_below fates rows (suc n) ≡ kept_below fates rows n ++ net_row_at rows n ∷ []
 kept_yes fates rows n e = ap (λ (b : Bool). kept_below fates rows n ++ (if b then net_row_at rows n ∷ [] else [])) e
 
-kept_no : (fates : List Fate) (rows : List NetRow) (n : ℕ) → keeps fates n ≡ false → kept_below fates rows (suc n) ≡ kept_below fates rows n
+pub kept_no : (fates : List Fate) (rows : List NetRow) (n : ℕ) → keeps fates n ≡ false → kept_below fates rows (suc n) ≡ kept_below fates rows n
 kept_no fates rows n e = ap (λ (b : Bool). kept_below fates rows n ++ (if b then net_row_at rows n ∷ [] else [])) e ∙ append-nil (kept_below fates rows n)
 
 places_yes : (fates : List Fate) (n : ℕ) → keeps fates n ≡ true → places fates (suc n) ≡ places fates n + 1

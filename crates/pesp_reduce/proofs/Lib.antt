@@ -9,5 +9,10 @@ pub mod Fating
 pub mod Keeping
 pub mod Bridges
 pub mod Reducing
+pub mod WaysBack
 pub mod Results
+pub mod Fated
 pub mod Lifting
+pub mod LowerSums
+pub mod LiftedWalks
+pub mod LiftedResults

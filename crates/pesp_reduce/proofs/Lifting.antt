@@ -1,34 +1,33 @@
 -- Times that are lowered and times that are lifted.
-use Rattle.std.proofs.Common.{◌≡◌, ◌≢◌, ℕ, zero, suc, ◌+◌, ◌-◌, ◌*◌, ◌/◌, ◌%◌, ◌<◌, ◌≤◌, ◌⊎◌, inl, inr, refl, sym, ◌∙◌, ap, arith, subst, List, [], ◌∷◌, ◌++◌, length, get_or, map, take, true, false, Bool, All, ℤ, pos, ◌+ℤ◌, ◌-ℤ◌, ◌*ℤ◌}
-use Rattle.std.specs.Prelude.{if◌then◌else◌, slice_index, sum_by, ◌≤ℤ◌, ◌↔◌, neg_ℤ}
+use Rattle.std.proofs.Common.{◌≡◌, ℕ, ◌+◌, ◌-◌, ◌*◌, ◌/◌, ◌%◌, ◌<◌, ◌≤◌, ◌⊎◌, inl, inr, refl, sym, ◌∙◌, ap, arith, subst, List, [], ◌∷◌, length, map, true, false, Bool, All, ℤ, pos, ◌+ℤ◌, ◌-ℤ◌, ◌*ℤ◌}
+use Rattle.std.specs.Prelude.{if◌then◌else◌, slice_index, sum_by, neg_ℤ}
 use Rattle.std.proofs.lemmas.Int.{ints}
 use Rattle.std.proofs.lemmas.Bool.{cases_Bool}
 use Rattle.std.proofs.lemmas.List.{length-map, get_or-map, take_all}
-use Rattle.std.proofs.lemmas.List.Elements.{All-head, All-tail, All-get_or, All-from_get_or}
+use Rattle.std.proofs.lemmas.List.Elements.{All-get_or, All-from_get_or}
 use Rattle.pesp_problem.specs.declared.arc.Arc.{Arc}
 use Rattle.pesp_problem.specs.declared.row.Row.{Row}
 use Rattle.pesp_problem.specs.declared.row.SignedRow.{SignedRow}
 use Rattle.pesp_problem.specs.Sums.{sum_below, floor_div}
 use Rattle.pesp_problem.specs.Timetables.{Pesp, row_at, no_row, remainder, difference, slack, cost, IsSatisfied, IsTimetable}
 use Rattle.pesp_problem.specs.Limits.{KeepsLimits, RowKeepsLimits}
-use Rattle.pesp_problem.specs.Arcs.{Net, arc_at, arcs_of, arc_of, span, arc_slack, slacks_at, over_arcs}
-use Rattle.pesp_problem.specs.Walks.{Names, RowExists, AreRows, Leads, IsWalk, HasWholeOffset, start, finish, net_count}
-use Rattle.pesp_problem.specs.Forests.{IsFirstOf}
-use Rattle.pesp_problem.proofs.Integers.{mul-neg, mul-sub, swap_left, zero-mul, quotient-remainder, remainder-lt, sum_below-same, sum_below-sub, sum_below-mul}
+use Rattle.pesp_problem.specs.Arcs.{Net, arc_at, arcs_of, arc_of, span, arc_slack, slacks_at}
+use Rattle.pesp_problem.specs.Walks.{Leads, IsWalk, HasWholeOffset, start, finish, net_count}
+use Rattle.pesp_problem.proofs.Integers.{mul-neg, mul-sub, swap_left, zero-mul, quotient-remainder, sum_below-same, sum_below-sub, sum_below-mul}
 use Rattle.pesp_problem.proofs.Walks.{rise, rises_cancel}
 use Rattle.pesp_problem.proofs.Arcs.{arc_at-arcs_of, slack-lt-period, slack-le-span, within_span}
 use Rattle.pesp_network.specs.declared.row.NetRow.{NetRow}
-use Rattle.pesp_network.specs.Networks.{NetworkValue, net_row_at, no_net_row, arc_of_net, arcs_of_network}
+use Rattle.pesp_network.specs.Networks.{NetworkValue, net_row_at, arc_of_net, arcs_of_network}
 use Rattle.pesp_reduce.specs.declared.fate.Fate.{Fate}
 use Rattle.pesp_reduce.specs.declared.fate.Fate.TheVariants.{Free, Contracted, Bridge, Kept}
 use Rattle.pesp_reduce.specs.declared.contraction.Contraction.{Contraction}
 use Rattle.pesp_reduce.specs.Congruences.{IsSame}
 use Rattle.pesp_reduce.specs.Rows.{flag, IsFree}
-use Rattle.pesp_reduce.specs.Contractions.{AreTree, AreShifts, IsStanding}
-use Rattle.pesp_reduce.specs.Fates.{fate_at, is_kept, mapped_row, kept_below}
+use Rattle.pesp_reduce.specs.Contractions.{AreTree}
+use Rattle.pesp_reduce.specs.Fates.{fate_at, is_kept, mapped_row}
 use Rattle.pesp_reduce.specs.Reductions.{IsReduction, IsNetworkTimetable, network_cost, origin_place}
-use Rattle.pesp_reduce.specs.Times.{lowered_time, shifted, is_bridge, lifted_slack}
-use Rattle.pesp_reduce.proofs.Congruences.{same_trans, same_sym, same_add, same_sub, same_is, rem_same, same_remainders, none_left, none_left_of}
+use Rattle.pesp_reduce.specs.Times.{lowered_time, shifted, lifted_slack}
+use Rattle.pesp_reduce.proofs.Congruences.{same_trans, same_sym, same_is, same_remainders, none_left, none_left_of}
 use Rattle.pesp_reduce.proofs.Lists.{arc_at_net, arcs_length}
 use Rattle.pesp_reduce.proofs.Trees.{same_arc, loop_arc, loop_stays}
 use Rattle.pesp_reduce.proofs.Keeping.{keeps, places, places_before, sum_kept}

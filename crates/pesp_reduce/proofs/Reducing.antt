@@ -1,6 +1,6 @@
 -- A reduction: limits of the rows that are made, fates, and what is left.
-use Rattle.std.proofs.Common.{◌≡◌, ◌≢◌, ℕ, zero, suc, ◌+◌, ◌-◌, ◌<◌, ◌≤◌, ◌⊎◌, inl, inr, refl, sym, ◌∙◌, ap, arith, subst, List, [], ◌∷◌, ◌++◌, length, get_or, map, true, false, Bool, All, ℤ, pos, negsuc, ◌+ℤ◌, ◌-ℤ◌, rules}
-use Rattle.std.specs.Prelude.{if◌then◌else◌, slice_index, unsigned_abs, ◌&&◌, ◌==◌, ◌≤ℤ◌}
+use Rattle.std.proofs.Common.{◌≡◌, ◌≢◌, ℕ, ◌+◌, ◌-◌, ◌<◌, ◌≤◌, ◌⊎◌, inl, inr, refl, sym, ◌∙◌, ap, arith, subst, List, [], ◌∷◌, length, map, true, false, Bool, All, ℤ, pos, negsuc, ◌+ℤ◌, ◌-ℤ◌}
+use Rattle.std.specs.Prelude.{if◌then◌else◌, slice_index, unsigned_abs, ◌==◌, ◌≤ℤ◌}
 use Rattle.std.proofs.lemmas.Int.{ints}
 use Rattle.std.proofs.lemmas.Bool.{cases_Bool, cases_eq, eqb-true, eq-eqb, and_parts, and_from}
 use Rattle.std.proofs.lemmas.List.{length-map, get_or-map}
@@ -10,20 +10,20 @@ use Rattle.pesp_problem.specs.declared.row.SignedRow.{SignedRow}
 use Rattle.pesp_problem.specs.Timetables.{Pesp, row_at, no_row}
 use Rattle.pesp_problem.specs.Limits.{KeepsLimits, RowKeepsLimits}
 use Rattle.pesp_problem.specs.Arcs.{arc_at, arcs_of, arc_of}
-use Rattle.pesp_problem.specs.Walks.{Names, RowExists, AreRows, Leads, IsWalk, start, finish, sign, net_count}
+use Rattle.pesp_problem.specs.Walks.{Names, RowExists, AreRows, Leads, IsWalk, start, finish, net_count}
 use Rattle.pesp_problem.specs.Forests.{IsBridge}
-use Rattle.pesp_problem.proofs.Arcs.{arc_at-arcs_of, length-arcs_of}
+use Rattle.pesp_problem.proofs.Arcs.{arc_at-arcs_of}
 use Rattle.pesp_problem.proofs.Walks.{step, net_count-cons, step_same, step_other}
 use Rattle.pesp_network.specs.declared.row.NetRow.{NetRow}
 use Rattle.pesp_network.specs.Networks.{net_row_at, no_net_row, arc_of_net, arcs_of_network, KeepsNetLimits, RowKeepsNetLimits}
 use Rattle.pesp_reduce.specs.declared.fate.Fate.{Fate}
 use Rattle.pesp_reduce.specs.declared.fate.Fate.TheVariants.{Free, Contracted, Bridge, Kept}
-use Rattle.pesp_reduce.specs.Rows.{flag, part, loop_at, is_free, IsFree, row_that_matters}
-use Rattle.pesp_reduce.specs.Contractions.{HaveNoCycleAt, AreTree, AreShifts, AreTogether, IsStanding}
+use Rattle.pesp_reduce.specs.Rows.{flag, loop_at, is_free, IsFree, row_that_matters}
+use Rattle.pesp_reduce.specs.Contractions.{AreTree, AreTogether, IsStanding}
 use Rattle.pesp_reduce.specs.Fates.{fate_at, is_kept, IsFate, mapped_row, kept_below}
 use Rattle.pesp_reduce.proofs.Lists.{arc_at_net, arcs_length, row_of_map}
 use Rattle.pesp_reduce.proofs.Contracting.{keeps_parts}
-use Rattle.pesp_reduce.proofs.Keeping.{keeps, places, length_kept, places_before, one_place, kept_at, StandsAt, which, all_kept, few_kept}
+use Rattle.pesp_reduce.proofs.Keeping.{keeps, places, length_kept, places_before, one_place, kept_at, which, all_kept, few_kept}
 use Rattle.pesp_reduce.proofs.Bridges.{IsSorted, KeptCount, bridge_counts, without_bridges}
 
 -- ---- the rows that matter
@@ -38,10 +38,10 @@ matters_none period = by_test (is_free period no_net_row)
 pub matters_at : (period : ℕ) (rows : List NetRow) (i : ℕ) → net_row_at (map (row_that_matters period) rows) i ≡ row_that_matters period (net_row_at rows i)
 matters_at period rows i = row_of_map (row_that_matters period) rows i (matters_none period)
 
-matters_on : (period : ℕ) (row : NetRow) → is_free period row ≡ false → row_that_matters period row ≡ row
+pub matters_on : (period : ℕ) (row : NetRow) → is_free period row ≡ false → row_that_matters period row ≡ row
 matters_on period row e = ap (λ (b : Bool). if b then loop_at row else row) e
 
-matters_off : (period : ℕ) (row : NetRow) → is_free period row ≡ true → row_that_matters period row ≡ loop_at row
+pub matters_off : (period : ℕ) (row : NetRow) → is_free period row ≡ true → row_that_matters period row ≡ loop_at row
 matters_off period row e = ap (λ (b : Bool). if b then loop_at row else row) e
 
 matters_cases : (period : ℕ) (row : NetRow) → (row_that_matters period row ≡ row) ⊎ (row_that_matters period row ≡ loop_at row)
@@ -57,7 +57,7 @@ keeps_matters period events rows made forest k e =
 free_is : (period : ℕ) (row : NetRow) → is_free period row ≡ true → IsFree period (arc_of_net row)
 free_is period row e = let w = and_parts (row.span == period - 1) (row.weight == 0) e in (eqb-true row.span (period - 1) w.0, eqb-true row.weight 0 w.1)
 
-is_not_free : (period : ℕ) (row : NetRow) → is_free period row ≡ false → IsFree period (arc_of_net row) → ⊥
+pub is_not_free : (period : ℕ) (row : NetRow) → is_free period row ≡ false → IsFree period (arc_of_net row) → ⊥
 is_not_free period row e f =
     let t = and_from (row.span == period - 1) (row.weight == 0) (eq-eqb row.span (period - 1) f.0) (eq-eqb row.weight 0 f.1) in
     let q = sym e ∙ t in cc
@@ -84,6 +84,23 @@ matter_lower p rows i k e l =
     elim (matters_cases p.period (net_row_at rows i)) [
       | inl q ↦ subst Q (sym (at ∙ q)) (given_lower p rows i k e l)
       | inr q ↦ subst Q (sym (at ∙ q)) (omega arith)
+    ]
+
+given_ends : (p : Pesp) (rows : List NetRow) (i : ℕ) → KeepsLimits p → arcs_of_network rows ≡ arcs_of p → i < length p.rows → ((net_row_at rows i).tail < length p.events) × ((net_row_at rows i).head < length p.events)
+given_ends p rows i k e l =
+    let arc : arc_of_net (net_row_at rows i) ≡ arc_of p.period (row_at p.rows i) = sym (arc_at_net rows i) ∙ ap (λ arcs. arc_at arcs i) e ∙ arc_at-arcs_of p i l in
+    let r = All-get_or (RowKeepsLimits (length p.events)) p.rows i no_row l k.each in
+    (subst (λ (a : Arc). a.tail < length p.events) (sym arc) r.tail, subst (λ (a : Arc). a.head < length p.events) (sym arc) r.head)
+
+pub matter_ends : (p : Pesp) (rows : List NetRow) (i : ℕ) → KeepsLimits p → arcs_of_network rows ≡ arcs_of p → i < length p.rows
+    → ((net_row_at (map (row_that_matters p.period) rows) i).tail < length p.events) × ((net_row_at (map (row_that_matters p.period) rows) i).head < length p.events)
+matter_ends p rows i k e l =
+    let at = matters_at p.period rows i in
+    let Q : NetRow → Type 0 = λ row. (row.tail < length p.events) × (row.head < length p.events) in
+    let g = given_ends p rows i k e l in
+    elim (matters_cases p.period (net_row_at rows i)) [
+      | inl q ↦ subst Q (sym (at ∙ q)) g
+      | inr q ↦ subst Q (sym (at ∙ q)) (g.0, g.0)
     ]
 
 pub mapped_at : (stands shifts : List ℕ) (rows : List NetRow) (i : ℕ) → i < length rows → net_row_at (map (mapped_row stands shifts) rows) i ≡ mapped_row stands shifts (net_row_at rows i)
@@ -141,22 +158,26 @@ at_if false f x y = refl
 mapped_arc : (stands shifts : List ℕ) (rows : List NetRow) (i : ℕ) → i < length rows → arc_at (arcs_of_network (map (mapped_row stands shifts) rows)) i ≡ arc_of_net (mapped_row stands shifts (net_row_at rows i))
 mapped_arc stands shifts rows i l = arc_at_net (map (mapped_row stands shifts) rows) i ∙ ap arc_of_net (mapped_at stands shifts rows i l)
 
+-- the ends of a mapped row are what the ends of the row become
+pub mapped_ends : (stands shifts : List ℕ) (rows : List NetRow) (s : SignedRow) → RowExists (arcs_of_network rows) s
+    → (start (arcs_of_network (map (mapped_row stands shifts) rows)) s ≡ slice_index stands (start (arcs_of_network rows) s)) × (finish (arcs_of_network (map (mapped_row stands shifts) rows)) s ≡ slice_index stands (finish (arcs_of_network rows) s))
+mapped_ends stands shifts rows s x =
+    let i = s.row - 1 in
+    let mapped = mapped_arc stands shifts rows i (omega (arith, x, arcs_length rows)) in
+    let own = arc_at_net rows i in
+    let row = net_row_at rows i in (
+      ap (λ (arc : Arc). if s.plus then arc.tail else arc.head) mapped ∙ at_if s.plus (slice_index stands) row.tail row.head ∙ sym (ap (λ (arc : Arc). slice_index stands (if s.plus then arc.tail else arc.head)) own),
+      ap (λ (arc : Arc). if s.plus then arc.head else arc.tail) mapped ∙ at_if s.plus (slice_index stands) row.head row.tail ∙ sym (ap (λ (arc : Arc). slice_index stands (if s.plus then arc.head else arc.tail)) own),
+    )
+
 pub leads_mapped : (stands shifts : List ℕ) (rows : List NetRow) (way : List SignedRow) (a b : ℕ) → AreRows (arcs_of_network rows) way → Leads (arcs_of_network rows) a way b
     → Leads (arcs_of_network (map (mapped_row stands shifts) rows)) (slice_index stands a) way (slice_index stands b)
 leads_mapped stands shifts rows [] a b r h = ap (slice_index stands) h
 leads_mapped stands shifts rows (s ∷ way) a b r h =
     let W = arcs_of_network rows in let B = arcs_of_network (map (mapped_row stands shifts) rows) in
-    let x = All-head (RowExists W) s way r in
-    let i = s.row - 1 in
-    let mapped = mapped_arc stands shifts rows i (omega (arith, x, arcs_length rows)) in
-    let own = arc_at_net rows i in
-    let row = net_row_at rows i in
-    let starts : start B s ≡ slice_index stands (start W s) =
-    ap (λ (arc : Arc). if s.plus then arc.tail else arc.head) mapped ∙ at_if s.plus (slice_index stands) row.tail row.head ∙ sym (ap (λ (arc : Arc). slice_index stands (if s.plus then arc.tail else arc.head)) own) in
-    let ends : finish B s ≡ slice_index stands (finish W s) =
-    ap (λ (arc : Arc). if s.plus then arc.head else arc.tail) mapped ∙ at_if s.plus (slice_index stands) row.head row.tail ∙ sym (ap (λ (arc : Arc). slice_index stands (if s.plus then arc.head else arc.tail)) own) in
+    let ends = mapped_ends stands shifts rows s (All-head (RowExists W) s way r) in
     let rest = leads_mapped stands shifts rows way (finish W s) b (All-tail (RowExists W) s way r) h.1 in
-    (starts ∙ ap (slice_index stands) h.0, subst (λ y. Leads B y way (slice_index stands b)) (sym ends) rest)
+    (ends.0 ∙ ap (slice_index stands) h.0, subst (λ y. Leads B y way (slice_index stands b)) (sym ends.1) rest)
 
 pub bridge_below : (stands shifts : List ℕ) (rows : List NetRow) (i : ℕ) (walk : List SignedRow) → IsBridge (arcs_of_network (map (mapped_row stands shifts) rows)) (i + 1) → IsWalk (arcs_of_network rows) walk → net_count walk i ≡ pos 0
 bridge_below stands shifts rows i [] b w = absurd w
@@ -217,6 +238,9 @@ flagged_fate period row b left k Free f e n = absurd (n f)
 flagged_fate period row b left k Contracted f e n = refl
 flagged_fate period row b left k Bridge f e n = absurd (let q = sym e ∙ f.1 in cc)
 flagged_fate period row b left k Kept f e n = absurd (let q = sym e ∙ f.1 in cc)
+
+pub kept_parts : (period : ℕ) (row : NetRow) (b : Bool) (left : List Arc) (k : ℕ) (fate : Fate) → IsFate period row b left k fate → fate ≡ Kept → (is_free period row ≡ false) × (b ≡ false) × (IsBridge left k → ⊥)
+kept_parts period row b left k fate f e = subst (λ x. IsFate period row b left k x) e f
 
 kept_fate : (period : ℕ) (row : NetRow) (b : Bool) (left : List Arc) (k : ℕ) (fate : Fate) → IsFate period row b left k fate → is_kept fate ≡ true → IsBridge left k → ⊥
 kept_fate period row b left k Free f e = cc

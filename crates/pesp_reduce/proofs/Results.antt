@@ -1,13 +1,15 @@
 -- A reduction from its parts, and what it says of the instance.
-use Rattle.std.proofs.Common.{◌≡◌, ◌≢◌, ℕ, zero, suc, ◌+◌, ◌-◌, ◌<◌, ◌≤◌, ◌⊎◌, inl, inr, refl, sym, ◌∙◌, ap, arith, subst, List, [], ◌∷◌, ◌++◌, length, get_or, map, true, false, Bool, All, ℤ, pos, ◌+ℤ◌, ◌-ℤ◌}
+use Rattle.std.proofs.Common.{◌≡◌, ℕ, ◌+◌, ◌-◌, ◌<◌, inl, inr, refl, sym, ◌∙◌, ap, arith, subst, List, [], ◌∷◌, length, get_or, map, true, false, Bool, All, pos, ◌+ℤ◌, ◌-ℤ◌}
 use Rattle.std.specs.Prelude.{if◌then◌else◌, slice_index}
 use Rattle.std.proofs.lemmas.Bool.{cases_Bool}
 use Rattle.std.proofs.lemmas.List.{length-map}
+use Rattle.std.proofs.lemmas.List.Elements.{All-weaker}
 use Rattle.pesp_problem.specs.declared.arc.Arc.{Arc}
 use Rattle.pesp_problem.specs.declared.row.SignedRow.{SignedRow}
 use Rattle.pesp_problem.specs.Timetables.{Pesp}
+use Rattle.pesp_problem.specs.Limits.{KeepsLimits}
 use Rattle.pesp_problem.specs.Arcs.{arc_at, arcs_of}
-use Rattle.pesp_problem.specs.Walks.{Names, RowExists, AreRows, Leads, IsWalk, start, finish, net_count}
+use Rattle.pesp_problem.specs.Walks.{Names, AreRows, Leads, IsWalk, start}
 use Rattle.pesp_problem.specs.Forests.{IsBridge}
 use Rattle.pesp_problem.proofs.Arcs.{length-arcs_of}
 use Rattle.pesp_network.specs.declared.row.NetRow.{NetRow}
@@ -18,21 +20,58 @@ use Rattle.pesp_reduce.specs.declared.contraction.Contraction.{Contraction}
 use Rattle.pesp_reduce.specs.Rows.{flag, is_free, IsFree, loop_at, row_that_matters}
 use Rattle.pesp_reduce.specs.Contracting.{IsContraction}
 use Rattle.pesp_reduce.specs.Fates.{fate_at, is_kept, mapped_row, kept_below}
-use Rattle.pesp_reduce.specs.Reductions.{IsReduction, ReducedValue, IsReducedRow, HaveNoContractedCycle, origin_place}
+use Rattle.pesp_reduce.specs.Reductions.{IsReduction, IsReducedRow, HaveNoContractedCycle, IsOnNoCycle, origin_place}
 use Rattle.pesp_reduce.proofs.Lists.{arc_at_net, arcs_length}
-use Rattle.pesp_reduce.proofs.Ways.{leads_same}
-use Rattle.pesp_reduce.proofs.Keeping.{keeps, places, length_kept, kept_at, StandsAt, which}
-use Rattle.pesp_reduce.proofs.Reducing.{AreFates, matters_at, free_fate, other_fate, contracted_fate, bridge_fate, flagged_fate, flagged_matters, bridge_below, left_sorted, none_left_over, mapped_at}
+use Rattle.pesp_reduce.proofs.Ways.{leads_same, walk_same}
+use Rattle.pesp_reduce.proofs.Keeping.{keeps, places, length_kept, kept_at, which}
+use Rattle.pesp_reduce.proofs.WaysBack.{IsContractedApart, bridge_of_mapped}
+use Rattle.pesp_reduce.proofs.Reducing.{AreFates, matters_at, matters_on, matters_off, matter_ends, is_not_free, kept_parts, free_fate, other_fate, contracted_fate, bridge_fate, flagged_fate, flagged_matters, bridge_below, left_sorted, none_left_over, mapped_at}
 
 origin_stays : (b : Bool) (row : NetRow) → (if b then loop_at row else row).origin ≡ row.origin
 origin_stays true row = refl
 origin_stays false row = refl
 
-pub is_reduction : (p : Pesp) (given : List NetRow) (whole left network : NetworkValue) (c : Contraction) (fates : List Fate) → arcs_of_network given ≡ arcs_of p → ((i : ℕ) → i < length given → (net_row_at given i).origin ≡ i + 1)
+-- the contracted rows and the free ones among the rows that matter
+contracted_apart : (p : Pesp) (given : List NetRow) (c : Contraction) → KeepsLimits p → arcs_of_network given ≡ arcs_of p → length given ≡ length p.rows → IsContraction p.period (length p.events) (map (row_that_matters p.period) given) c
+    → IsContractedApart (map (row_that_matters p.period) given) c.tree.rows c.contracted.items (λ j. is_free p.period (net_row_at given j)) (length p.events) c.stands.items c.firsts.items
+contracted_apart p given c limits arcs_are count ic =
+    let T = p.period in
+    record {
+      tree_is = ic.tree;
+      standing = ic.standing;
+      ends = λ j l. matter_ends p given j limits arcs_are (omega (arith, length-map given (row_that_matters T)));
+      loops = λ j e. let at = matters_at T given j ∙ matters_off T (net_row_at given j) e in ap (λ (r : NetRow). r.tail) at ∙ sym (ap (λ (r : NetRow). r.head) at);
+      apart = λ j e. elim (cases_Bool (is_free T (net_row_at given j))) [
+        | inl t ↦ absurd (flagged_matters T given c.tree.rows c.contracted.items j ic.tree e t)
+        | inr f ↦ f
+      ];
+    }
+
+-- a kept row is on a cycle
+kept_on_cycle : (p : Pesp) (given : List NetRow) (c : Contraction) (fates : List Fate) (i : ℕ) → KeepsLimits p → arcs_of_network given ≡ arcs_of p → length given ≡ length p.rows → IsContraction p.period (length p.events) (map (row_that_matters p.period) given) c
+    → AreFates p.period given c.contracted.items (arcs_of_network (map (mapped_row c.stands.items c.shifts.items) (map (row_that_matters p.period) given))) fates → i < length p.rows → fate_at fates i ≡ Kept → IsOnNoCycle p i → ⊥
+kept_on_cycle p given c fates i limits arcs_are count ic f l e none =
+    let T = p.period in
+    let S = c.stands.items in let H = c.shifts.items in let flags = c.contracted.items in
+    let W = map (row_that_matters T) given in
+    let A = arcs_of p in let R = arcs_of_network W in
+    let free : ℕ → Bool = λ j. is_free T (net_row_at given j) in
+    let parts = kept_parts T (net_row_at given i) (flag flags i) (arcs_of_network (map (mapped_row S H) W)) (i + 1) (fate_at fates i) (f.each i (omega arith)) e in
+    let own : (k : ℕ) → arc_of_net (net_row_at given k) ≡ arc_at A k = λ k. sym (arc_at_net given k) ∙ ap (λ arcs. arc_at arcs k) arcs_are in
+    let same : (s : SignedRow) → free (s.row - 1) ≡ false → arc_at A (s.row - 1) ≡ arc_at R (s.row - 1) = λ s q.
+    let k = s.row - 1 in sym (arc_at_net W k ∙ ap arc_of_net (matters_at T given k ∙ matters_on T (net_row_at given k) q) ∙ own k) in
+    let matters : (s : SignedRow) → free (s.row - 1) ≡ false → IsFree T (arc_at A (s.row - 1)) → ⊥ = λ s q z.
+    is_not_free T (net_row_at given (s.row - 1)) q (subst (IsFree T) (sym (own (s.row - 1))) z) in
+    let sizes : length A ≡ length R = length-arcs_of p ∙ sym count ∙ sym (length-map given (row_that_matters T)) ∙ sym (arcs_length W) in
+    let F : SignedRow → Type 0 = λ s. free (s.row - 1) ≡ false in
+    parts.2 (bridge_of_mapped W c.tree.rows flags free (length p.events) S c.firsts.items H i (contracted_apart p given c limits arcs_are count ic) parts.0 parts.1
+    (λ walk w m. none walk (walk_same R A walk sizes (All-weaker F (λ s. arc_at A (s.row - 1) ≡ arc_at R (s.row - 1)) same walk m) w) (All-weaker F (λ s. IsFree T (arc_at A (s.row - 1)) → ⊥) matters walk m)))
+
+pub is_reduction : (p : Pesp) (given : List NetRow) (whole left network : NetworkValue) (c : Contraction) (fates : List Fate) → KeepsLimits p → arcs_of_network given ≡ arcs_of p → ((i : ℕ) → i < length given → (net_row_at given i).origin ≡ i + 1)
     → whole.period ≡ p.period → whole.events ≡ length p.events → whole.rows ≡ map (row_that_matters p.period) given → IsContraction p.period (length p.events) whole.rows c
     → left.rows ≡ map (mapped_row c.stands.items c.shifts.items) whole.rows → length fates ≡ length given → AreFates p.period given c.contracted.items (arcs_of_network left.rows) fates
     → network.period ≡ p.period → network.events ≡ length c.firsts.items → network.rows ≡ kept_below fates left.rows (length left.rows) → IsReduction p fates whole c network
-is_reduction p given whole left network c fates arcs_are origins period_is events_are whole_is contraction left_is fates_count fates_are net_period net_events net_rows =
+is_reduction p given whole left network c fates limits arcs_are origins period_is events_are whole_is contraction left_is fates_count fates_are net_period net_events net_rows =
     let T = p.period in
     let S = c.stands.items in let H = c.shifts.items in let flags = c.contracted.items in
     let W = map (row_that_matters T) given in
@@ -64,6 +103,7 @@ is_reduction p given whole left network c fates arcs_are origins period_is event
           let inside = (t.fixed i e).0 in
           flagged_fate T (net_row_at given i) (flag flags i) left_arcs (i + 1) (fate_at fates i) (fate i (omega arith)) e (flagged_matters T given c.tree.rows flags i t e);
       bridges = λ i walk l e w. bridge_below S H W i walk (bridge_fate T (net_row_at given i) (flag flags i) left_arcs (i + 1) (fate_at fates i) (fate i l) e) (subst (λ rows. IsWalk (arcs_of_network rows) walk) whole_is w);
+      kept = λ i l e none. kept_on_cycle p given c fates i limits arcs_are count_given ic f l e none;
       origins = λ i l. ap (λ rows. (net_row_at rows i).origin) whole_is ∙ ap (λ (r : NetRow). r.origin) (matters_at T given i) ∙ origin_stays (is_free T (net_row_at given i)) (net_row_at given i) ∙ origins i (omega arith);
       period = net_period;
       events = net_events;
@@ -84,7 +124,7 @@ kept_only Kept e = refl
 pub not_free : (fate : Fate) → fate ≡ Kept → fate ≡ Free → ⊥
 not_free fate e q = cc
 
-not_free_contracted : (fate : Fate) → fate ≡ Contracted → fate ≡ Free → ⊥
+pub not_free_contracted : (fate : Fate) → fate ≡ Contracted → fate ≡ Free → ⊥
 not_free_contracted fate e q = cc
 
 -- a row of the network and the row of the instance that it comes from

@@ -1,12 +1,12 @@
 -- Numbers of events that are joined by rows.
-use Rattle.std.proofs.Common.{◌≡◌, ℕ, zero, suc, ◌+◌, ◌-◌, ◌<◌, ◌≤◌, ◌⊎◌, inl, inr, refl, sym, ◌∙◌, ap, arith, subst, List, [], ◌∷◌, ◌++◌, length, get_or, All}
+use Rattle.std.proofs.Common.{◌≡◌, ℕ, ◌+◌, ◌<◌, inl, inr, refl, sym, ◌∙◌, ap, arith, subst, List, [], ◌∷◌, ◌++◌, length}
 use Rattle.std.specs.Prelude.{slice_index}
 use Rattle.std.proofs.lemmas.List.{get_or_append_left, get_or_push, length_push}
 use Rattle.pesp_problem.specs.declared.arc.Arc.{Arc}
 use Rattle.pesp_problem.specs.Forests.{AreJoined, IsFirstOf}
 use Rattle.pesp_problem.proofs.Integers.{lt-or-same}
 use Rattle.pesp_reduce.specs.Contractions.{IsStanding}
-use Rattle.pesp_reduce.proofs.Ways.{one_first, first_not_after, first_by}
+use Rattle.pesp_reduce.proofs.Ways.{one_first, first_by}
 
 pub standing_none : (arcs : List Arc) → IsStanding arcs 0 [] []
 standing_none arcs = record {

@@ -1,19 +1,19 @@
 -- Flagged rows: the walks along them, and the walks over a tree of flagged rows and loops.
-use Rattle.std.proofs.Common.{◌≡◌, ℕ, zero, suc, ◌+◌, ◌-◌, ◌*◌, ◌<◌, ◌≤◌, ◌⊎◌, inl, inr, refl, sym, ◌∙◌, ap, arith, subst, List, [], ◌∷◌, ◌++◌, length, get_or, map, true, false, Bool, cond, All, ℤ, pos, negsuc, ◌+ℤ◌, ◌-ℤ◌, ◌*ℤ◌}
-use Rattle.std.specs.Prelude.{if◌then◌else◌, slice_index, filter, Contains}
+use Rattle.std.proofs.Common.{◌≡◌, ℕ, ◌-◌, ◌≤◌, inl, inr, refl, sym, ◌∙◌, ap, arith, subst, List, [], ◌∷◌, length, true, false, Bool, cond, All, ℤ, pos, ◌+ℤ◌, ◌*ℤ◌}
+use Rattle.std.specs.Prelude.{if◌then◌else◌, filter, Contains}
 use Rattle.std.proofs.lemmas.Int.{ints}
 use Rattle.std.proofs.lemmas.Bool.{cases_Bool}
-use Rattle.std.proofs.lemmas.List.Elements.{All-cons, All-nil, All-head, All-tail, All-filter, filter_passes, All-contains}
+use Rattle.std.proofs.lemmas.List.Elements.{All-cons, All-nil, All-filter, filter_passes, All-contains}
 use Rattle.pesp_problem.specs.declared.arc.Arc.{Arc}
 use Rattle.pesp_problem.specs.declared.row.SignedRow.{SignedRow}
-use Rattle.pesp_problem.specs.Arcs.{Net, arc_at, over_arcs}
-use Rattle.pesp_problem.specs.Walks.{Names, RowExists, AreRows, Leads, IsWalk, HasOffset, HasWholeOffset, start, finish, sign, net_count}
-use Rattle.pesp_problem.specs.Forests.{IsSpanningForest, KeepsTo}
-use Rattle.pesp_problem.proofs.Walks.{step, net_count-cons, step_same, sum_along, net_count_sum}
+use Rattle.pesp_problem.specs.Arcs.{arc_at}
+use Rattle.pesp_problem.specs.Walks.{Names, RowExists, AreRows, Leads, IsWalk, HasWholeOffset, start, finish, sign, net_count}
+use Rattle.pesp_problem.specs.Forests.{IsSpanningForest}
+use Rattle.pesp_problem.proofs.Walks.{net_count-cons, step_same, sum_along, net_count_sum}
 use Rattle.pesp_problem.proofs.Integers.{sum_below-zero, zero-mul}
 use Rattle.pesp_network.specs.declared.row.NetRow.{NetRow}
 use Rattle.pesp_network.specs.Networks.{net_row_at, arc_of_net, arcs_of_network}
-use Rattle.pesp_reduce.specs.Rows.{flag, part, loop_at, fixed_row}
+use Rattle.pesp_reduce.specs.Rows.{flag, part, loop_at}
 use Rattle.pesp_reduce.specs.Contractions.{HaveNoCycleAt, AreTree}
 use Rattle.pesp_reduce.proofs.Lists.{arc_at_net, arcs_length}
 
@@ -76,10 +76,10 @@ both_ends false x y e = sym e
 pub loop_stays : (arcs : List Arc) (s : SignedRow) → (arc_at arcs (s.row - 1)).tail ≡ (arc_at arcs (s.row - 1)).head → start arcs s ≡ finish arcs s
 loop_stays arcs s e = both_ends s.plus (arc_at arcs (s.row - 1)).tail (arc_at arcs (s.row - 1)).head e
 
-filter_on : (p : SignedRow → Bool) (s : SignedRow) (way : List SignedRow) → p s ≡ true → filter p (s ∷ way) ≡ s ∷ filter p way
+pub filter_on : (p : SignedRow → Bool) (s : SignedRow) (way : List SignedRow) → p s ≡ true → filter p (s ∷ way) ≡ s ∷ filter p way
 filter_on p s way e = ap (λ (b : Bool). cond b (s ∷ filter p way) (filter p way)) e
 
-filter_off : (p : SignedRow → Bool) (s : SignedRow) (way : List SignedRow) → p s ≡ false → filter p (s ∷ way) ≡ filter p way
+pub filter_off : (p : SignedRow → Bool) (s : SignedRow) (way : List SignedRow) → p s ≡ false → filter p (s ∷ way) ≡ filter p way
 filter_off p s way e = ap (λ (b : Bool). cond b (s ∷ filter p way) (filter p way)) e
 
 pub leads_flagged : (rows tree : List NetRow) (flags : List Bool) (way : List SignedRow) (a b : ℕ) → AreTree rows tree flags → Leads (arcs_of_network tree) a way b → Leads (arcs_of_network rows) a (filter (is_flagged flags) way) b

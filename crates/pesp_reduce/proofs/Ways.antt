@@ -1,11 +1,11 @@
 -- Ways: joined end to end, turned round, and what they join.
-use Rattle.std.proofs.Common.{◌≡◌, ℕ, zero, suc, ◌+◌, ◌-◌, ◌<◌, ◌≤◌, refl, sym, ◌∙◌, ap, arith, subst, List, [], ◌∷◌, ◌++◌, length, true, false, Bool, not, All}
+use Rattle.std.proofs.Common.{◌≡◌, ℕ, ◌-◌, ◌≤◌, refl, sym, ◌∙◌, ap, arith, subst, List, [], ◌∷◌, ◌++◌, length, true, false, Bool, not, All}
 use Rattle.std.specs.Prelude.{if◌then◌else◌}
-use Rattle.std.proofs.lemmas.List.Elements.{All-append, All-cons, All-nil, All-push, All-head, All-tail}
+use Rattle.std.proofs.lemmas.List.Elements.{All-append, All-nil, All-push, All-head, All-tail}
 use Rattle.pesp_problem.specs.declared.row.SignedRow.{SignedRow}
 use Rattle.pesp_problem.specs.declared.arc.Arc.{Arc}
 use Rattle.pesp_problem.specs.Arcs.{arc_at}
-use Rattle.pesp_problem.specs.Walks.{RowExists, AreRows, Leads, start, finish}
+use Rattle.pesp_problem.specs.Walks.{Names, RowExists, Leads, IsWalk, start, finish}
 use Rattle.pesp_problem.specs.Forests.{AreJoined, IsFirstOf}
 
 pub leads_append : (arcs : List Arc) (v w : List SignedRow) (a b c : ℕ) → Leads arcs a v b → Leads arcs b w c → Leads arcs a (v ++ w) c
@@ -47,6 +47,14 @@ leads_same arcs others (s ∷ way) a b e h =
     let ends : finish others s ≡ finish arcs s = ap (λ (arc : Arc). if s.plus then arc.head else arc.tail) here in
     let rest = leads_same arcs others way (finish arcs s) b (All-tail Q s way e) h.1 in
     (starts ∙ h.0, subst (λ x. Leads others x way b) (sym ends) rest)
+
+-- a closed walk is one over other arcs that agree at its rows
+pub walk_same : (arcs others : List Arc) (walk : List SignedRow) → length others ≡ length arcs → All (λ s. arc_at others (s.row - 1) ≡ arc_at arcs (s.row - 1)) walk → IsWalk arcs walk → IsWalk others walk
+walk_same arcs others [] n e w = absurd w
+walk_same arcs others (s ∷ way) n e w =
+    let walk : List SignedRow = s ∷ way in
+    let leads = leads_same arcs others walk (start arcs s) (start arcs s) e w.1 in
+    (subst (λ (k : ℕ). All (λ (x : SignedRow). Names k x.row) walk) (sym n) w.0, subst (λ x. Leads others x walk x) (sym leads.0) leads)
 
 -- ---- joined events
 

@@ -1,7 +1,7 @@
 -- The contraction of the fixed rows of a network.
 use Rattle.std.specs.Prelude.{◌≡◌, ℕ, List}
 use Rattle.pesp_network.specs.declared.row.NetRow.{NetRow}
-use Rattle.pesp_network.specs.Networks.{NetworkValue, arcs_of_network}
+use Rattle.pesp_network.specs.Networks.{arcs_of_network}
 use Rattle.pesp_reduce.specs.declared.contraction.Contraction.{Contraction}
 use Rattle.pesp_reduce.specs.Contractions.{IsStanding, AreTree, AreShifts, AreTogether}
 

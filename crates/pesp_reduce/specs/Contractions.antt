@@ -5,7 +5,7 @@ use Rattle.pesp_problem.specs.declared.row.SignedRow.{SignedRow}
 use Rattle.pesp_problem.specs.Walks.{IsWalk, net_count}
 use Rattle.pesp_problem.specs.Forests.{IsFirstOf}
 use Rattle.pesp_network.specs.declared.row.NetRow.{NetRow}
-use Rattle.pesp_network.specs.Networks.{NetworkValue, net_row_at, arcs_of_network}
+use Rattle.pesp_network.specs.Networks.{net_row_at, arcs_of_network}
 use Rattle.pesp_reduce.specs.Congruences.{IsSame}
 use Rattle.pesp_reduce.specs.Rows.{flag, part}
 

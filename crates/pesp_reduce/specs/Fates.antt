@@ -1,5 +1,5 @@
 -- What becomes of rows, and the rows that are kept.
-use Rattle.std.specs.Prelude.{◌≡◌, ℕ, zero, suc, ◌+◌, ◌-◌, List, [], ◌∷◌, ◌++◌, slice_index, slice_index_or, Bool, true, false, pos, ◌+ℤ◌, ◌-ℤ◌, if◌then◌else◌}
+use Rattle.std.specs.Prelude.{◌≡◌, ℕ, zero, suc, List, [], ◌∷◌, ◌++◌, slice_index, slice_index_or, Bool, true, false, pos, ◌+ℤ◌, ◌-ℤ◌, if◌then◌else◌}
 use Rattle.pesp_problem.specs.declared.arc.Arc.{Arc}
 use Rattle.pesp_problem.specs.Forests.{IsBridge}
 use Rattle.pesp_network.specs.declared.row.NetRow.{NetRow}

@@ -5,3 +5,4 @@ pub mod Contracting
 pub mod Fates
 pub mod Reductions
 pub mod Times
+pub mod LiftedWalks

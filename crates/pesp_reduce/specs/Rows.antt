@@ -1,5 +1,5 @@
 -- Rows that never matter, fixed rows, and the rows that stand in their places.
-use Rattle.std.specs.Prelude.{◌≡◌, ℕ, ◌-◌, List, map, slice_index_or, Bool, true, false, pos, if◌then◌else◌, ◌&&◌, ◌==◌}
+use Rattle.std.specs.Prelude.{◌≡◌, ℕ, ◌-◌, List, slice_index_or, Bool, false, pos, if◌then◌else◌, ◌&&◌, ◌==◌}
 use Rattle.pesp_problem.specs.declared.arc.Arc.{Arc}
 use Rattle.pesp_network.specs.declared.row.NetRow.{NetRow}
 

@@ -6,7 +6,10 @@ mod fate;
 mod fates;
 mod reduction;
 mod rows;
+#[cfg(test)]
+mod tests;
 mod times;
+mod walks;
 
 pub use fate::Fate;
 pub use reduction::{Reduced, reduce};

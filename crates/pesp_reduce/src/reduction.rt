@@ -1,21 +1,24 @@
 //! Reduced networks.
 
-ghost use Rattle.std.specs.Prelude.{◌≡◌, ℕ, ◌-◌, ◌<◌, ◌≤◌, length, IfOk, All};
+ghost use Rattle.std.specs.Prelude.{◌≡◌, ℕ, ◌-◌, ◌<◌, ◌≤◌, length, map, filter, IfOk, All};
 ghost use Rattle.pesp_problem.specs.Timetables.{slack, cost, row_at, IsTimetable};
 ghost use Rattle.pesp_problem.specs.Arcs.{arc_at, arcs_of, arc_slack};
-ghost use Rattle.pesp_problem.specs.Walks.{Names};
-ghost use Rattle.pesp_problem.specs.Forests.{IsBridge};
+ghost use Rattle.pesp_problem.specs.Walks.{Names, IsWalk};
+ghost use Rattle.pesp_problem.specs.Forests.{IsBridge, IsSimple};
 ghost use Rattle.pesp_network.specs.Networks.{net_row_at, arc_of_net, arcs_of_network};
+ghost use Rattle.pesp_reduce.specs.Congruences.{IsSame};
 ghost use Rattle.pesp_reduce.specs.Rows.{IsFree};
-ghost use Rattle.pesp_reduce.specs.Reductions.{IsReducedRow, HaveNoContractedCycle, IsNetworkTimetable, origin_place, network_cost};
+ghost use Rattle.pesp_reduce.specs.LiftedWalks.{original_row, passes_kept, IsKeptOrContracted, lower_sum, HasNoRowTwice};
+ghost use Rattle.pesp_reduce.specs.Reductions.{IsReducedRow, AreKeptRows, AreFatesOf, AreMerged, HaveNoContractedCycle, IsNetworkTimetable, origin_place, network_cost};
 
 use crate::contraction::{Contraction, contract};
 use crate::fate::Fate;
 use crate::fates::{fates_of, kept_rows, mapped_rows};
 use crate::rows::{network_of, rows_that_matter};
 use crate::times::{lifted_slacks, lowered_times};
+use crate::walks::lifted;
 use pesp_network::Network;
-use pesp_problem::{Instance, Memory};
+use pesp_problem::{Instance, Memory, Walk};
 use std::alloc::Global;
 use std::marker::Model;
 
@@ -50,6 +53,9 @@ pub fn reduce(alloc: Global, instance: &Instance) -> Result<Reduced, Memory>
     ensures no_free { IfOk result (λ r. (j : ℕ) → j < length r.network.rows → IsFree r.network.period (arc_of_net (net_row_at r.network.rows j)) → ⊥) }
     ensures no_fixed { IfOk result (λ r. (j : ℕ) → j < length r.network.rows → (net_row_at r.network.rows j).span ≡ 0 → (net_row_at r.network.rows j).tail ≡ (net_row_at r.network.rows j).head) }
     ensures rows { IfOk result (λ r. (j : ℕ) → j < length r.network.rows → IsReducedRow r j) }
+    ensures kept { IfOk result AreKeptRows }
+    ensures fates { IfOk result (λ r. AreFatesOf r.original r.fates) }
+    ensures merged { IfOk result AreMerged }
     ensures shifts { IfOk result (λ r. All (λ t. t < instance.now.period) r.shifts) }
     ensures no_cycle { IfOk result HaveNoContractedCycle }
 {
@@ -118,5 +124,23 @@ impl Reduced {
             Some(lifted) => Ok(lifted),
             None => unreachable!(),
         }
+    }
+
+    /// From a walk of what is left to one of the instance: it closes, passes the rows from which the walk's rows come, in
+    /// order and with their signs, and between them contracted rows alone. Its sum of lower bounds, each times its net
+    /// count, differs from the walk's by a multiple of the period. Where the walk passes no event and no row twice, it
+    /// passes no row twice.
+    pub fn lift_walk(&self, alloc: Global, walk: &Walk) -> Result<Walk, Memory>
+        requires { IsWalk (arcs_of_network self.now.network.rows) walk.now }
+        ensures closes { IfOk result (IsWalk (arcs_of self.now.original)) }
+        ensures kept { IfOk result (λ lifted. filter (passes_kept self.now.fates) lifted ≡ map (original_row self.now.network.rows) walk.now) }
+        ensures others { IfOk result (All (IsKeptOrContracted self.now.fates)) }
+        ensures lower { IfOk result (λ lifted. IsSame self.now.original.period (lower_sum (arcs_of self.now.original) lifted) (lower_sum (arcs_of_network self.now.network.rows) walk.now)) }
+        ensures simple { IfOk result (λ lifted. IsSimple (arcs_of_network self.now.network.rows) walk.now → HasNoRowTwice lifted) }
+    {
+        let whole = self.whole.rows();
+        let left = self.network.rows();
+        let rows = lifted(alloc, whole, &self.contraction, left, walk.rows())?;
+        Ok(Walk::new(rows))
     }
 }

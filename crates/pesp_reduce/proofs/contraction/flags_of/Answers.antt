@@ -1,4 +1,4 @@
-use Rattle.std.proofs.Common.{◌≡◌, refl, arith, replicate, false, sym, subst, rules, List, Bool}
+use Rattle.std.proofs.Common.{◌≡◌, refl, replicate, false, sym, subst, rules, List, Bool}
 use Rattle.pesp_reduce.proofs.Flags.{AreFlaggedUpTo, flags_none, flags_more, flags_all}
 use Rattle.pesp_reduce.proofs.contraction.flags_of.Goals as goal
 

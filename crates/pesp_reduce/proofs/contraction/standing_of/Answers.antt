@@ -1,10 +1,10 @@
-use Rattle.std.proofs.Common.{◌≡◌, ◌≤◌, ◌<◌, ◌+◌, ℕ, length, ap, sym, ◌∙◌, arith, subst, List, ◌++◌, ◌∷◌, []}
+use Rattle.std.proofs.Common.{◌≡◌, ◌+◌, ℕ, length, sym, arith, subst, ◌++◌, ◌∷◌, []}
 use Rattle.std.proofs.lemmas.List.{get_or_read}
 use Rattle.pesp_problem.specs.Forests.{IsFirstOf}
 use Rattle.pesp_network.specs.Networks.{arcs_of_network}
 use Rattle.pesp_reduce.specs.Contractions.{IsStanding}
 use Rattle.pesp_reduce.proofs.Ways.{first_not_after}
-use Rattle.pesp_reduce.proofs.Standings.{standing_none, standing_old, standing_new}
+use Rattle.pesp_reduce.proofs.Standings.{standing_old, standing_new}
 use Rattle.pesp_reduce.proofs.contraction.standing_of.Goals as goal
 
 pub loop-event-preserved-then-first-event : goal.loop-event-preserved-then-first-event

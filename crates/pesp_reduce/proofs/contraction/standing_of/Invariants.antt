@@ -1,5 +1,4 @@
 -- the events that were read have numbers
-use Rattle.std.proofs.Common.{◌≡◌, ◌≤◌}
 use Rattle.pesp_network.specs.Networks.{arcs_of_network}
 use Rattle.pesp_reduce.specs.Contractions.{IsStanding}
 use Rattle.pesp_reduce.proofs.contraction.standing_of.Given as goal

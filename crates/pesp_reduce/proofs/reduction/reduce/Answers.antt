@@ -1,4 +1,4 @@
-use Rattle.std.proofs.Common.{◌≡◌, ◌+◌, ◌<◌, ℕ, length, map, ap, sym, ◌∙◌, arith, subst, refl, List, Bool}
+use Rattle.std.proofs.Common.{◌≡◌, ◌+◌, ◌<◌, ℕ, length, map, ap, sym, ◌∙◌, arith, subst, List, Bool}
 use Rattle.std.specs.Prelude.{ℤ, unsigned_abs, ◌≤◌, []}
 use Rattle.pesp_problem.specs.declared.arc.Arc.{Arc}
 use Rattle.pesp_problem.specs.declared.row.Row.{Row}
@@ -10,13 +10,14 @@ use Rattle.pesp_reduce.specs.declared.contraction.Contraction.{Contraction}
 use Rattle.pesp_reduce.specs.Rows.{flag, row_that_matters}
 use Rattle.pesp_reduce.specs.Contracting.{IsContraction}
 use Rattle.pesp_reduce.specs.Fates.{fate_at, IsFate, mapped_row, kept_below}
-use Rattle.pesp_reduce.specs.Reductions.{IsReduction, ReducedValue}
+use Rattle.pesp_reduce.specs.Reductions.{IsReduction}
 use Rattle.std.proofs.lemmas.List.{length-map}
 use Rattle.pesp_problem.specs.Limits.{KeepsLimits}
 use Rattle.pesp_problem.proofs.Arcs.{length-arcs_of}
 use Rattle.pesp_reduce.proofs.Lists.{arcs_length}
 use Rattle.pesp_reduce.proofs.Reducing.{AreFates, keeps_matters, keeps_mapped, keeps_kept, matter_lower}
 use Rattle.pesp_reduce.proofs.Results.{is_reduction, reduced_row, none_free, none_fixed, no_contracted_cycle}
+use Rattle.pesp_reduce.proofs.Fated.{kept_in_order, fates_are_right, are_merged}
 use Rattle.pesp_reduce.proofs.reduction.reduce.Goals as goal
 
 contraction_at : (period events own own_events : ℕ) (rows : List NetRow) (c : Contraction) → own ≡ period → own_events ≡ events → IsContraction own own_events rows c → IsContraction period events rows c
@@ -100,7 +101,7 @@ returns c =
     let net_events : network.events ≡ length k.firsts.items = c.in_ok-network.ensures.events ∙ (let a = c.len-events.ensures in let b = k.firsts.ok.0 in omega arith) in
     let net_rows : network.rows ≡ kept_below fates left.rows (length left.rows) = c.in_ok-network.ensures.rows ∙ c.in_ok-rows.ensures
     ∙ ap (λ xs. kept_below xs c.rows-4.result.now (length c.rows-4.result.now)) c.as_slice.ensures.value ∙ ap (λ rows. kept_below fates rows (length rows)) c.rows-4.ensures.rows in
-    let r = is_reduction p given whole left network k fates c.in_ok-given.ensures.rows c.in_ok-given.ensures.origins whole_period whole_events whole_rows contraction left_rows fates_count fates_are net_period net_events net_rows in
+    let r = is_reduction p given whole left network k fates c.period-own.ensures.limits c.in_ok-given.ensures.rows c.in_ok-given.ensures.origins whole_period whole_events whole_rows contraction left_rows fates_count fates_are net_period net_events net_rows in
     let same : c.new-original.result ≡ p = c.new-original.ensures ∙ copy_is p c.period-own.result c.in_ok-labels.labels.items c.in_ok-copied.copied.items c.period-own.ensures.period (c.in_ok-labels.ensures.items ∙ c.events-2.ensures.events) (c.in_ok-copied.ensures.items ∙ c.rows-5.ensures.rows) in
     let rn : IsReduction c.new-original.result fates whole k network = subst (λ q. IsReduction q fates whole k network) (sym same) r in
     record {
@@ -110,6 +111,9 @@ returns c =
       no_free = λ j l. none_free p fates whole network k j r l;
       no_fixed = λ j l. none_fixed p fates whole network k j r l;
       rows = λ j l. reduced_row c.new-original.result fates whole network k j rn l;
+      kept = kept_in_order c.new-original.result fates whole network k rn;
+      fates = fates_are_right c.new-original.result fates whole network k rn;
+      merged = are_merged c.new-original.result fates whole network k rn;
       shifts = r.contraction.shifts.below;
       no_cycle = no_contracted_cycle c.new-original.result fates whole network k rn;
     }
@@ -139,7 +143,7 @@ invariant_of-result c =
     let net_events : network.events ≡ length k.firsts.items = c.in_ok-network.ensures.events ∙ (let a = c.len-events.ensures in let b = k.firsts.ok.0 in omega arith) in
     let net_rows : network.rows ≡ kept_below fates left.rows (length left.rows) = c.in_ok-network.ensures.rows ∙ c.in_ok-rows.ensures
     ∙ ap (λ xs. kept_below xs c.rows-4.result.now (length c.rows-4.result.now)) c.as_slice.ensures.value ∙ ap (λ rows. kept_below fates rows (length rows)) c.rows-4.ensures.rows in
-    let r = is_reduction p given whole left network k fates c.in_ok-given.ensures.rows c.in_ok-given.ensures.origins whole_period whole_events whole_rows contraction left_rows fates_count fates_are net_period net_events net_rows in
+    let r = is_reduction p given whole left network k fates c.period-own.ensures.limits c.in_ok-given.ensures.rows c.in_ok-given.ensures.origins whole_period whole_events whole_rows contraction left_rows fates_count fates_are net_period net_events net_rows in
     let same : c.new-original.result ≡ p = c.new-original.ensures ∙ copy_is p c.period-own.result c.in_ok-labels.labels.items c.in_ok-copied.copied.items c.period-own.ensures.period (c.in_ok-labels.ensures.items ∙ c.events-2.ensures.events) (c.in_ok-copied.ensures.items ∙ c.rows-5.ensures.rows) in
     let rn : IsReduction c.new-original.result fates whole k network = subst (λ q. IsReduction q fates whole k network) (sym same) r in
     rn

@@ -1,9 +1,9 @@
-use Rattle.std.proofs.Common.{◌≡◌, ◌≤◌, ◌<◌, ◌+◌, ℕ, refl, arith, sym, ap, ◌∙◌, subst, length, List, [], ◌∷◌, ◌++◌}
-use Rattle.std.proofs.lemmas.List.{length_push, get_or_read}
+use Rattle.std.proofs.Common.{◌+◌, ℕ, refl, arith, sym, ap, ◌∙◌}
+use Rattle.std.proofs.lemmas.List.{length_push}
 use Rattle.pesp_network.specs.declared.row.NetRow.{NetRow}
 use Rattle.pesp_network.specs.Networks.{net_row_at, no_net_row}
 use Rattle.pesp_reduce.specs.Rows.{part, flag}
-use Rattle.pesp_reduce.proofs.Lists.{Holds, holds_none, holds_more}
+use Rattle.pesp_reduce.proofs.Lists.{holds_none, holds_more}
 use Rattle.pesp_reduce.proofs.rows.part_of.Goals as goal
 
 pub loop-i-init : goal.loop-i-init

@@ -1,5 +1,5 @@
 -- what was made is the parts of the rows that were read
-use Rattle.std.proofs.Common.{◌≡◌, ℕ, length}
+use Rattle.std.proofs.Common.{◌≡◌, length}
 use Rattle.pesp_network.specs.Networks.{net_row_at, no_net_row}
 use Rattle.pesp_reduce.specs.Rows.{part, flag}
 use Rattle.pesp_reduce.proofs.Lists.{Holds}

@@ -1,10 +1,10 @@
-use Rattle.std.proofs.Common.{◌≡◌, ◌≤◌, ◌<◌, ◌+◌, ℕ, refl, arith, sym, ap, ◌∙◌, length, All}
+use Rattle.std.proofs.Common.{◌<◌, ◌+◌, ℕ, refl, arith, sym, ap, ◌∙◌}
 use Rattle.std.proofs.lemmas.List.{length_push}
 use Rattle.std.proofs.lemmas.List.Elements.{All-nil, All-push}
 use Rattle.pesp_network.specs.Networks.{net_row_at}
 use Rattle.pesp_reduce.specs.Fates.{fate_at}
 use Rattle.pesp_reduce.specs.Times.{lifted_slack}
-use Rattle.pesp_reduce.proofs.Lists.{Holds, holds_none, holds_more}
+use Rattle.pesp_reduce.proofs.Lists.{holds_none, holds_more}
 use Rattle.pesp_reduce.proofs.times.lifted_slacks.Goals as goal
 
 pub loop-i-init : goal.loop-i-init

@@ -1,5 +1,5 @@
 -- what was made is the slacks of the rows that were read
-use Rattle.std.proofs.Common.{◌≡◌, ℕ, ◌<◌, length, All}
+use Rattle.std.proofs.Common.{◌≡◌, ◌<◌, length, All}
 use Rattle.pesp_network.specs.Networks.{net_row_at}
 use Rattle.pesp_reduce.specs.Fates.{fate_at}
 use Rattle.pesp_reduce.specs.Times.{lifted_slack}

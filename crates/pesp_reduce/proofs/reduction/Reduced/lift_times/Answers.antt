@@ -1,4 +1,4 @@
-use Rattle.std.proofs.Common.{◌≡◌, ◌<◌, ℕ, length, map, ap, sym, ◌∙◌, subst, arith, List, vec_len}
+use Rattle.std.proofs.Common.{◌≡◌, ◌<◌, ℕ, length, sym, subst, arith}
 use Rattle.std.specs.Prelude.{slice_index}
 use Rattle.pesp_problem.specs.Timetables.{IsTimetable, slack, cost, row_at}
 use Rattle.pesp_problem.specs.Arcs.{arc_slack}

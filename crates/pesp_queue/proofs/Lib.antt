@@ -1,0 +1,5 @@
+pub mod Heaping
+pub mod Parts
+pub mod Placing
+pub mod Limits
+pub mod Cancelling

@@ -1,0 +1,31 @@
+-- Queues as their callers see them. The order inside the two lists is of no promise.
+use Rattle.std.specs.Prelude.{◌≡◌, ℕ, ◌<◌, ◌≤◌, List, ◌++◌, length, map, All, if◌then◌else◌, ◌==◌}
+use Rattle.pesp_queue.specs.declared.entry.Entry.{Entry}
+use Rattle.pesp_queue.specs.Entries.{entry, ItemsDiffer}
+
+pub record QueueValue : Type 0 where
+  pub waiting : List Entry
+  pub parked : List Entry
+  -- items have lesser numbers
+  pub numbers : ℕ
+  -- how many items there is room for
+  pub room : ℕ
+
+-- the entries of all items
+abbrev pub all_of : QueueValue → List Entry
+all_of q = q.waiting ++ q.parked
+
+-- the entries with another value for one item
+abbrev pub revalued : ℕ → ℕ → List Entry → List Entry
+revalued item value = map (λ e. if e.item == item then entry item value else e)
+
+-- no item stands in a queue twice, all have lesser numbers, and there is room for all
+pub record KeepsLimits (q : QueueValue) : Type 0 where
+  pub differ : ItemsDiffer (all_of q)
+  pub numbered : All (λ e. e.item < q.numbers) (all_of q)
+  pub few : length (all_of q) ≤ q.room
+  pub room : q.room ≤ 4294967295
+
+-- what there is room for stays
+abbrev pub KeepsRoom : QueueValue → QueueValue → Type 0
+KeepsRoom old new = (new.numbers ≡ old.numbers) × (new.room ≡ old.room)

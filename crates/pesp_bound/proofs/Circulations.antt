@@ -1,7 +1,7 @@
 -- A closed walk of negative bound gives multipliers of value above 0.
 use Rattle.std.proofs.Common.{subst, ◌≡◌, ℕ, ◌+◌, ◌-◌, ◌<◌, ◌≤◌, ◌≢◌, inl, inr, Bool, true, false, List, [], ◌∷◌, ◌++◌, length, refl, ap, arith, sym, ◌∙◌}
-use Rattle.std.specs.Prelude.{ℤ, pos, negsuc, ◌+ℤ◌, ◌-ℤ◌, ◌*ℤ◌, ◌≤ℤ◌, ◌<ℤ◌, neg_ℤ, All, ◌==◌, if◌then◌else◌, Option, Some, None, option_map, option_and_then, IsSomeAnd}
-use Rattle.std.specs.Int.{int_min, int_max}
+use Rattle.std.specs.Prelude.{ℤ, pos, negsuc, ◌+ℤ◌, ◌-ℤ◌, ◌*ℤ◌, ◌≤ℤ◌, ◌<ℤ◌, neg_ℤ, All, ◌==◌, if◌then◌else◌, Option, Some, option_map, option_and_then, IsSomeAnd}
+use Rattle.std.specs.Int.{int_min}
 use Rattle.std.proofs.lemmas.Int.{ints, clamps}
 use Rattle.std.proofs.lemmas.List.Elements.{All-head, All-tail, All-cons, All-nil, All-append}
 use Rattle.pesp_problem.specs.declared.arc.Arc.{Arc}
@@ -15,7 +15,7 @@ use Rattle.pesp_problem.specs.Nodes.{Node, cycle_at, slack_range, offset_range, 
 use Rattle.pesp_problem.proofs.Integers.{mul-add, mul-neg, add-mul, zero-mul, sum_below-same, sum_below-le, sum_below-add, sum_below-zero, sum_below-single}
 use Rattle.pesp_problem.proofs.Walks.{step, step_same, step_other, net_count-cons, sum_along, net_count_sum}
 use Rattle.pesp_nodes.proofs.Counts.{eq-true, eq-false}
-use Rattle.pesp_bound.specs.Differences.{rise_bound, over_pairs, AreMultipliers, own_flow}
+use Rattle.pesp_bound.specs.Differences.{over_pairs, AreMultipliers, own_flow}
 use Rattle.pesp_bound.proofs.Ways.{back, net_count-append, net_count-one, net_count-back, Leads-append, Leads-back, All-back}
 use Rattle.pesp_bound.proofs.Owners.{none_or_some, InForest, plus_row, GoesBack, AreOwned}
 use Rattle.pesp_bound.proofs.Levels.{shift, bound, IsFixed}
@@ -156,8 +156,8 @@ others_turn arcs table owner s c t f h l ne =
     let own : own_row (cycle_at table c) ≡ g.row = ap own_row g.begins in
     let one = h.0 in
     let differ : s.row ≢ own_place table c + 1 = λ e.
-        let place : s.row - 1 ≡ g.row - 1 = omega (arith, e, own) in
-        ne (ap owner place ∙ g.owns) in
+    let place : s.row - 1 ≡ g.row - 1 = omega (arith, e, own) in
+    ne (ap owner place ∙ g.owns) in
     ap (λ z. z *ℤ t) (step_other s (own_place table c) differ) ∙ zero-mul t
 
 one_turn : (arcs : List Arc) (table : List (List SignedRow)) (owner : ℕ → ℕ) (s : SignedRow) (term : ℕ → ℤ) → AreOwned arcs table owner → RowExists arcs s → sum_below (length table) (λ c. step s (own_place table c) *ℤ term c) ≡ sign s *ℤ of_owner (owner (s.row - 1)) term

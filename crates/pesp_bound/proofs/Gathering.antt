@@ -1,6 +1,6 @@
 -- Rows, edges and pairs as they are gathered one after the other.
-use Rattle.std.proofs.Common.{subst, ◌≡◌, ℕ, zero, suc, ◌+◌, ◌-◌, ◌<◌, ◌≤◌, ◌≢◌, ◌⊎◌, inl, inr, Bool, true, false, List, [], ◌∷◌, ◌++◌, map, length, get_or, set, take, refl, ap, sym, ◌∙◌, arith, add-one}
-use Rattle.std.specs.Prelude.{ℤ, pos, ◌+ℤ◌, ◌*ℤ◌, unsigned_abs, All, Some, Option, slice_index_or, if◌then◌else◌, replicate}
+use Rattle.std.proofs.Common.{subst, ◌≡◌, ℕ, suc, ◌+◌, ◌-◌, ◌<◌, ◌≤◌, inl, inr, Bool, true, false, List, [], ◌∷◌, ◌++◌, map, length, get_or, set, refl, ap, sym, ◌∙◌, arith, add-one}
+use Rattle.std.specs.Prelude.{ℤ, pos, ◌+ℤ◌, ◌*ℤ◌, unsigned_abs, All, Some, if◌then◌else◌, replicate}
 use Rattle.std.proofs.lemmas.Int.{ints}
 use Rattle.std.proofs.lemmas.Bool.{cases_eq}
 use Rattle.std.proofs.lemmas.List.{length_push, get_or-set_same, get_or-set_other, length-set, get_or-replicate, get_or_default, get_or-map, length-map, take_all}
@@ -19,7 +19,7 @@ use Rattle.pesp_problem.proofs.Integers.{zero-mul}
 use Rattle.pesp_nodes.specs.declared.passages.Passage.{Passage}
 use Rattle.pesp_nodes.specs.Passages.{passages_at}
 use Rattle.pesp_nodes.specs.Offsets.{IsSmallOffset}
-use Rattle.pesp_nodes.specs.Problems.{IsPairOf, ArePairs, Rise}
+use Rattle.pesp_nodes.specs.Problems.{IsPairOf, Rise}
 use Rattle.pesp_nodes.proofs.Counts.{eq-true, eq-false, net_count_bound}
 use Rattle.pesp_levels.specs.declared.edge.Edge.{Edge}
 use Rattle.pesp_levels.specs.Settling.{edge_at, no_edge}

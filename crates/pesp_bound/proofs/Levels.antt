@@ -1,13 +1,13 @@
 -- Levels that keep every bound give slacks with the chosen offsets.
-use Rattle.std.proofs.Common.{subst, ◌≡◌, ℕ, ◌+◌, ◌-◌, ◌<◌, ◌≤◌, ◌≢◌, inl, inr, Bool, true, false, List, [], ◌∷◌, length, refl, ap, arith, sym, ◌∙◌}
-use Rattle.std.specs.Prelude.{ℤ, pos, negsuc, ◌+ℤ◌, ◌-ℤ◌, ◌*ℤ◌, ◌≤ℤ◌, neg_ℤ, unsigned_abs, All, ◌==◌, if◌then◌else◌, Some}
+use Rattle.std.proofs.Common.{subst, ◌≡◌, ℕ, ◌+◌, ◌-◌, ◌<◌, ◌≤◌, ◌≢◌, inl, inr, true, false, List, [], ◌∷◌, length, refl, ap, arith, sym, ◌∙◌}
+use Rattle.std.specs.Prelude.{ℤ, pos, ◌+ℤ◌, ◌-ℤ◌, ◌*ℤ◌, ◌≤ℤ◌, unsigned_abs, ◌==◌, if◌then◌else◌, Some}
 use Rattle.std.proofs.lemmas.Int.{ints}
 use Rattle.std.proofs.lemmas.List.Elements.{All-head, All-tail}
 use Rattle.pesp_problem.specs.declared.arc.Arc.{Arc}
 use Rattle.pesp_problem.specs.declared.row.SignedRow.{SignedRow}
 use Rattle.pesp_problem.specs.Arcs.{Net, arc_at, over_arcs}
-use Rattle.pesp_problem.specs.Walks.{RowExists, AreRows, start, finish, Leads, sign, net_count, HasOffset}
-use Rattle.pesp_problem.specs.Nodes.{Node, cycle_at, slack_range, offset_range, offsets_left, SlacksIn, OffsetsIn, LieIn}
+use Rattle.pesp_problem.specs.Walks.{RowExists, start, finish, sign, net_count, HasOffset}
+use Rattle.pesp_problem.specs.Nodes.{Node, cycle_at, slack_range, offset_range, offsets_left, SlacksIn, LieIn}
 use Rattle.pesp_problem.proofs.Integers.{mul-add, zero-mul, sum_below-same, sum_below-add}
 use Rattle.pesp_problem.proofs.Walks.{sum_along, rise, telescope, net_count_sum}
 use Rattle.pesp_nodes.proofs.Counts.{eq-true, eq-false}

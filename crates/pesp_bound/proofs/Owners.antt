@@ -1,5 +1,5 @@
 -- Which cycle of a table of fundamental walks owns a row: the one that begins with it.
-use Rattle.std.proofs.Common.{subst, ◌≡◌, ℕ, zero, suc, ◌+◌, ◌-◌, ◌<◌, ◌≤◌, ◌≢◌, ◌⊎◌, inl, inr, true, List, [], ◌∷◌, map, length, get_or, refl, ap, sym, ◌∙◌, arith}
+use Rattle.std.proofs.Common.{subst, ◌≡◌, ℕ, zero, suc, ◌+◌, ◌-◌, ◌<◌, ◌≤◌, ◌≢◌, ◌⊎◌, inl, inr, true, List, [], ◌∷◌, map, length, refl, ap, sym, ◌∙◌, arith}
 use Rattle.std.specs.Prelude.{pos, All, Contains, slice_index, slice_index_or, if◌then◌else◌}
 use Rattle.std.specs.List.Sorted.{IsStrictlyIncreasing}
 use Rattle.std.proofs.lemmas.Bool.{cases_eq}
@@ -9,7 +9,7 @@ use Rattle.pesp_problem.specs.declared.arc.Arc.{Arc}
 use Rattle.pesp_problem.specs.declared.row.SignedRow.{SignedRow}
 use Rattle.pesp_problem.specs.Arcs.{arc_at}
 use Rattle.pesp_problem.specs.Walks.{Names, RowExists, AreRows, IsWalk, Leads, net_count}
-use Rattle.pesp_problem.specs.Forests.{KeepsTo, HaveNoCycle, IsFundamental, AreFundamental, own_row}
+use Rattle.pesp_problem.specs.Forests.{HaveNoCycle, IsFundamental, AreFundamental, own_row}
 use Rattle.pesp_problem.specs.Nodes.{cycle_at}
 use Rattle.pesp_nodes.proofs.Counts.{eq-true, eq-false}
 use Rattle.pesp_bound.specs.Differences.{last_owner}

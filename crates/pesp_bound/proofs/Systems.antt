@@ -1,5 +1,5 @@
 -- What the outcome of the edges means at a decided node.
-use Rattle.std.proofs.Common.{subst, ◌≡◌, ℕ, zero, suc, ◌+◌, ◌-◌, ◌<◌, ◌≤◌, ◌≢◌, inl, inr, Bool, true, false, List, [], ◌∷◌, map, length, refl, ap, arith, sym, ◌∙◌}
+use Rattle.std.proofs.Common.{subst, ◌≡◌, ℕ, suc, ◌+◌, ◌-◌, ◌<◌, ◌≤◌, inl, inr, Bool, true, false, List, [], ◌∷◌, length, refl, ap, arith, sym, ◌∙◌}
 use Rattle.std.specs.Prelude.{ℤ, pos, ◌+ℤ◌, ◌*ℤ◌, ◌≤ℤ◌, ◌<ℤ◌, int_le, All, unsigned_abs, IsSomeAnd, Option, Some, None, if◌then◌else◌, ◌==◌, slice_index_or}
 use Rattle.std.specs.Int.{int_min, int_max}
 use Rattle.std.proofs.lemmas.Int.{ints, clamps}
@@ -9,7 +9,7 @@ use Rattle.pesp_problem.specs.declared.arc.Arc.{Arc}
 use Rattle.pesp_problem.specs.declared.row.SignedRow.{SignedRow}
 use Rattle.pesp_problem.specs.declared.pair.Pair.{Pair}
 use Rattle.pesp_problem.specs.Arcs.{Net, arc_at, no_arc}
-use Rattle.pesp_problem.specs.Walks.{Names, RowExists, AreRows, IsWalk, Leads, start, finish, net_count}
+use Rattle.pesp_problem.specs.Walks.{Names, RowExists, AreRows, IsWalk, Leads, net_count}
 use Rattle.pesp_problem.specs.Forests.{HaveNoCycle, own_row}
 use Rattle.pesp_problem.specs.Nodes.{Node, cycle_at, slack_range, offset_range, offsets_left, odijk_range, range_or_none, leaf_value}
 use Rattle.pesp_problem.proofs.Integers.{sum_below-same, sum_below-single}
@@ -21,7 +21,7 @@ use Rattle.pesp_nodes.proofs.Counts.{eq-true, eq-false}
 use Rattle.pesp_levels.specs.declared.edge.Edge.{Edge}
 use Rattle.pesp_levels.specs.Settling.{edge_at, AreWithin, AreSettled, IsWay, GainsForEver, gains, losses}
 use Rattle.pesp_bound.specs.Decided.{IsDecided}
-use Rattle.pesp_bound.specs.Differences.{IsShift, AreShifts, shift_at, rise_bound, bound_of, IsDemand, AreDemands, IsSystem, signed_at, no_signed, ArePassed, walk_along, own_flow, AreMultipliers}
+use Rattle.pesp_bound.specs.Differences.{IsShift, shift_at, rise_bound, bound_of, IsDemand, AreDemands, IsSystem, signed_at, no_signed, ArePassed, walk_along, own_flow, AreMultipliers}
 use Rattle.pesp_bound.proofs.Gathering.{own_row_names, small_counts}
 use Rattle.pesp_bound.proofs.Owners.{AreOwned, are_owned, owner_of}
 use Rattle.pesp_bound.proofs.Levels.{shift, bound, AreLevels, AreIdle, IsFixed, shift_free, shift_own, levels_give_slacks}
@@ -238,7 +238,7 @@ gains_are_nothing p node rows edges way flows pairs none closed y g counted are 
       falls = omega (arith, ints, all, more);
     } in
     let turns : AreMultipliers (length p.table) (own_flow p.table (net_count walk)) pairs = λ term.
-        mults term
-        ∙ sum_below-same (length p.table) (λ c. own_flow p.table (λ i. slice_index_or flows i (pos 0)) c *ℤ term c) (λ c. own_flow p.table (net_count walk) c *ℤ term c)
-        (λ c l. let names = own_row_names n.arcs (cycle_at p.table c) (closed c [] l) in ap (λ z. z *ℤ term c) (counted (own_row (cycle_at p.table c) - 1) (omega (arith, names)))) in
+    mults term
+    ∙ sum_below-same (length p.table) (λ c. own_flow p.table (λ i. slice_index_or flows i (pos 0)) c *ℤ term c) (λ c. own_flow p.table (net_count walk) c *ℤ term c)
+    (λ c l. let names = own_row_names n.arcs (cycle_at p.table c) (closed c [] l) in ap (λ z. z *ℤ term c) (counted (own_row (cycle_at p.table c) - 1) (omega (arith, names)))) in
     falls_is_nothing n p.table node owner walk pairs f fixed falls (λ k e l. (are.each k e l).names) turns

@@ -1,12 +1,12 @@
 -- Ways put together and turned back.
 use Rattle.std.proofs.Common.{subst, ◌≡◌, ℕ, ◌+◌, ◌-◌, Bool, true, false, not, List, [], ◌∷◌, ◌++◌, refl, sym, ◌∙◌, arith}
-use Rattle.std.specs.Prelude.{ℤ, pos, negsuc, ◌+ℤ◌, neg_ℤ, All, if◌then◌else◌, ◌==◌}
+use Rattle.std.specs.Prelude.{pos, negsuc, ◌+ℤ◌, neg_ℤ, All, if◌then◌else◌, ◌==◌}
 use Rattle.std.proofs.lemmas.Int.{ints}
 use Rattle.std.proofs.lemmas.List.Elements.{All-head, All-tail, All-push}
 use Rattle.pesp_problem.specs.declared.arc.Arc.{Arc}
 use Rattle.pesp_problem.specs.declared.row.SignedRow.{SignedRow}
 use Rattle.pesp_problem.specs.Arcs.{arc_at}
-use Rattle.pesp_problem.specs.Walks.{start, finish, Leads, net_count}
+use Rattle.pesp_problem.specs.Walks.{finish, Leads, net_count}
 use Rattle.pesp_problem.proofs.Walks.{step, net_count-cons}
 
 pub net_count-append : (a b : List SignedRow) (i : ℕ) → net_count (a ++ b) i ≡ net_count a i +ℤ net_count b i

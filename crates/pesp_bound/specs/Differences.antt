@@ -1,11 +1,11 @@
 -- The system of differences of a node: how far levels of events may rise along the rows that cycles pass.
-use Rattle.std.specs.Prelude.{◌≡◌, ℕ, zero, suc, ◌+◌, ◌-◌, ◌<◌, ◌≤◌, ◌⊎◌, List, [], ◌∷◌, map, length, slice_index_or, ℤ, pos, ◌+ℤ◌, ◌-ℤ◌, ◌*ℤ◌, Bool, true, false, All, Some, if◌then◌else◌, ◌==◌}
+use Rattle.std.specs.Prelude.{◌≡◌, ℕ, zero, suc, ◌+◌, ◌-◌, ◌<◌, ◌≤◌, ◌⊎◌, List, [], ◌∷◌, map, length, slice_index_or, ℤ, pos, ◌+ℤ◌, ◌-ℤ◌, ◌*ℤ◌, Bool, false, All, Some, if◌then◌else◌, ◌==◌}
 use Rattle.pesp_problem.specs.declared.row.SignedRow.{SignedRow}
 use Rattle.pesp_problem.specs.declared.arc.Arc.{Arc}
 use Rattle.pesp_problem.specs.declared.pair.Pair.{Pair}
 use Rattle.pesp_problem.specs.Sums.{sum_below}
 use Rattle.pesp_problem.specs.Arcs.{Net, arc_at}
-use Rattle.pesp_problem.specs.Walks.{Names, RowExists, start, finish}
+use Rattle.pesp_problem.specs.Walks.{Names, start, finish}
 use Rattle.pesp_problem.specs.Forests.{own_row}
 use Rattle.pesp_problem.specs.Nodes.{Node, cycle_at, slack_range, offsets_left}
 use Rattle.pesp_nodes.specs.declared.passages.Passage.{Passage}

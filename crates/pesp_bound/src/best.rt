@@ -74,12 +74,19 @@ fn no_pairs(alloc: Global, problem: &Problem, node: &Node) -> Best
     }
 }
 
-// pairs of value above 0 without weights, where some are found; at a decided node they are
-fn proof_of_nothing(
-    alloc: Global,
-    problem: &Problem,
-    node: &Node,
-) -> Result<Option<Vec<Pair>>, Memory>
+// whether each cycle begins with a row that no other cycle passes
+fn begin_apart(problem: &Problem) -> bool {
+    let by_row = problem.passages();
+    problem.table().iter().all(|walk| {
+        walk.rows()
+            .first()
+            .and_then(|s| by_row.get((s.row as usize).saturating_sub(1)))
+            .is_some_and(|passages| passages.as_slice().len() == 1)
+    })
+}
+
+// pairs of value above 0 without weights along a closed way; at a decided node there are some
+fn closing_proof(alloc: Global, problem: &Problem, node: &Node) -> Result<Option<Vec<Pair>>, Memory>
     requires { IsNodeOf problem.now node.now }
     ensures pairs { IfOk result (λ o. IfSome o (λ v. ArePairs (length problem.now.table) v.items)) }
     ensures value { IfOk result (λ o. IfSome o (λ v. IsSomeAnd (spec.leaf_value (net_of problem.now) problem.now.table node.now v.items false) (λ z. pos 0 <ℤ z))) }
@@ -92,6 +99,41 @@ fn proof_of_nothing(
         Some(value) if value > 0 => Ok(Some(pairs)),
         _ => Ok(None),
     }
+}
+
+// pairs of value above 0 without weights that one improving change finds
+fn proposed_proof(
+    alloc: Global,
+    problem: &Problem,
+    node: &Node,
+) -> Result<Option<Vec<Pair>>, Memory>
+    requires { IsNodeOf problem.now node.now }
+    ensures pairs { IfOk result (λ o. IfSome o (λ v. ArePairs (length problem.now.table) v.items)) }
+    ensures value { IfOk result (λ o. IfSome o (λ v. IsSomeAnd (spec.leaf_value (net_of problem.now) problem.now.table node.now v.items false) (λ z. pos 0 <ℤ z))) }
+{
+    let pairs = propose(alloc, problem, node, &[], false, 1)?;
+    match judged(problem, node, &pairs, false) {
+        Some(value) if value > 0 => Ok(Some(pairs)),
+        _ => Ok(None),
+    }
+}
+
+// pairs of value above 0 without weights, where some are found; at a decided node they are
+fn proof_of_nothing(
+    alloc: Global,
+    problem: &Problem,
+    node: &Node,
+) -> Result<Option<Vec<Pair>>, Memory>
+    requires { IsNodeOf problem.now node.now }
+    ensures pairs { IfOk result (λ o. IfSome o (λ v. ArePairs (length problem.now.table) v.items)) }
+    ensures value { IfOk result (λ o. IfSome o (λ v. IsSomeAnd (spec.leaf_value (net_of problem.now) problem.now.table node.now v.items false) (λ z. pos 0 <ℤ z))) }
+    ensures decided { IfOk result (λ o. IsDecided problem.now node.now → IsSome o) }
+{
+    let closing = closing_proof(alloc, problem, node)?;
+    if closing.is_some() || begin_apart(problem) {
+        return Ok(closing);
+    }
+    proposed_proof(alloc, problem, node)
 }
 
 // the best of no pairs, the start and what is found from it
@@ -119,7 +161,9 @@ fn best_pairs(
 
 /// The best leaf that is found at a node, from the pairs of another leaf, by so many improving changes of a circulation: a
 /// `Gap` wherever some cycle has no offset left; else a `Nothing` where pairs of value above 0 with all weights 0 were found,
-/// or a `Bound` whose value is at least that of no pairs, and at least that of the start where it has one at this node.
+/// or a `Bound` whose value is at least that of no pairs, and at least that of the start where it has one at this node. Where
+/// the cycles are the network's own, each slack range has a value, each offset range has one, and no slacks of the ranges
+/// have these offsets, it is a `Gap` or a `Nothing`, however few the changes.
 pub fn best_leaf_from(
     alloc: Global,
     problem: &Problem,
@@ -147,7 +191,9 @@ pub fn best_leaf_from(
 }
 
 /// The best leaf that is found at a node from no pairs: a `Gap` wherever some cycle has no offset left; else a `Nothing` where
-/// pairs of value above 0 with all weights 0 were found, or a `Bound` whose value is at least that of no pairs.
+/// pairs of value above 0 with all weights 0 were found, or a `Bound` whose value is at least that of no pairs. Where the
+/// cycles are the network's own, each slack range has a value, each offset range has one, and no slacks of the ranges have
+/// these offsets, it is a `Gap` or a `Nothing`, however few the changes.
 pub fn best_leaf(alloc: Global, problem: &Problem, node: &Node, rounds: u32) -> Result<Leaf, Memory>
     requires { IsNodeOf problem.now node.now }
     ensures leaf { IfOk result (IsLeafOf problem.now node.now) }

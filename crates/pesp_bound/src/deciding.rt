@@ -24,11 +24,7 @@ struct System {
 }
 
 // the system of differences of a node; None where some cycle has no offset left
-fn system_of(
-    alloc: Global,
-    problem: &Problem,
-    node: &Node,
-) -> Result<Option<System>, AllocError>
+fn system_of(alloc: Global, problem: &Problem, node: &Node) -> Result<Option<System>, AllocError>
     requires { IsNodeOf problem.now node.now }
     ensures system { IfOk result (λ o. IfSome o (λ s. IsSystem (net_of problem.now) problem.now.table node.now s.rows.items s.edges.items)) }
     ensures found { HasNoGap problem.now node.now → IfOk result (λ o. IsSome o) }

@@ -14,4 +14,9 @@ mod turning;
 
 pub use best::{best_leaf, best_leaf_from};
 pub use leaf::Leaf;
-pub use pesp_nodes::{Cut, Node, Pair, Pairs, Problem, ProblemRefusal, Side, leaf_value, offset_range};
+pub use pesp_nodes::{
+    Cut, Node, Pair, Pairs, Problem, ProblemRefusal, Side, leaf_value, offset_range,
+};
+
+#[cfg(test)]
+mod tests;

@@ -7,3 +7,6 @@ mod settling;
 
 pub use edge::{Edge, Outcome};
 pub use settling::settle;
+
+#[cfg(test)]
+mod tests;

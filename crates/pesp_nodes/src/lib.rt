@@ -22,3 +22,6 @@ pub use pesp_problem::{Cut, Pair, Pairs, Side};
 pub use problem::Problem;
 pub use refusal::ProblemRefusal;
 pub use value::{leaf_value, offset_range};
+
+#[cfg(test)]
+mod tests;

@@ -1,14 +1,12 @@
-use Rattle.std.proofs.Common.{rules, ◌≡◌, ℕ, ◌+◌, ◌-◌, ◌<◌, ◌≤◌, List, length, ap, sym, ◌∙◌, arith, subst}
-use Rattle.std.specs.Prelude.{ℤ, pos, All, IsSomeAnd, slice_index_or}
-use Rattle.pesp_problem.specs.declared.row.SignedRow.{SignedRow}
+use Rattle.std.proofs.Common.{◌≡◌, ℕ, ◌<◌, ◌≤◌, List, length, ap, arith, subst}
+use Rattle.std.specs.Prelude.{pos, slice_index_or}
 use Rattle.pesp_problem.specs.Walks.{net_count}
-use Rattle.pesp_problem.specs.Forests.{HaveNoCycle}
 use Rattle.pesp_network.specs.Networks.{NetworkValue}
 use Rattle.pesp_nodes.specs.Problems.{net_of, ArePairs}
 use Rattle.pesp_levels.specs.declared.edge.Edge.{Edge}
 use Rattle.pesp_levels.specs.Settling.{AreSettled, GainsForEver}
 use Rattle.pesp_bound.specs.Differences.{IsSystem, walk_along, own_flow, AreMultipliers}
-use Rattle.pesp_bound.proofs.Systems.{within_of, not_settled, way_places, small_along, own_rows, rows_exist, gains_are_nothing, length_arcs, counted_as, mults_as}
+use Rattle.pesp_bound.proofs.Systems.{within_of, not_settled, way_places, small_along, own_rows, gains_are_nothing, length_arcs, counted_as, mults_as}
 use Rattle.pesp_bound.proofs.deciding.closing_pairs.Goals as goal
 
 pub closing_way-requires-clause-within : goal.closing_way-requires-clause-within

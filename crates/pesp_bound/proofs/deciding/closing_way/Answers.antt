@@ -1,4 +1,4 @@
-use Rattle.std.proofs.Common.{rules, ◌≡◌, ℕ}
+use Rattle.std.proofs.Common.{rules}
 use Rattle.pesp_levels.specs.Settling.{at}
 use Rattle.pesp_bound.proofs.deciding.closing_way.Goals as goal
 

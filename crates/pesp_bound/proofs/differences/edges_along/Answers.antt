@@ -1,4 +1,3 @@
-use Rattle.std.proofs.Common.{◌≡◌, ℕ, ◌+◌, length, arith}
 use Rattle.pesp_problem.specs.Arcs.{Net}
 use Rattle.pesp_bound.proofs.Gathering.{demands_more}
 use Rattle.pesp_bound.proofs.differences.edges_along.Goals as goal

@@ -1,4 +1,3 @@
-use Rattle.std.proofs.Common.{ℕ}
 use Rattle.pesp_bound.proofs.Gathering.{DemandsTo}
 use Rattle.pesp_bound.proofs.differences.edges_along.Given as goal
 

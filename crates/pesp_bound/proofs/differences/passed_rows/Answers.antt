@@ -1,4 +1,4 @@
-use Rattle.std.proofs.Common.{◌≡◌, ℕ, ◌+◌, length, arith}
+use Rattle.std.proofs.Common.{arith}
 use Rattle.pesp_bound.proofs.Gathering.{passed_more}
 use Rattle.pesp_bound.proofs.differences.passed_rows.Goals as goal
 

@@ -1,4 +1,3 @@
-use Rattle.std.proofs.Common.{ℕ}
 use Rattle.pesp_bound.specs.Differences.{ArePassed}
 use Rattle.pesp_bound.proofs.differences.passed_rows.Given as goal
 

@@ -1,12 +1,8 @@
-use Rattle.std.proofs.Common.{◌≡◌, ℕ, ◌+◌, ◌-◌, ◌<◌, ◌≤◌, ◌≢◌, List, [], length, get_or, ap, sym, ◌∙◌, arith, subst, inl, inr, set}
-use Rattle.std.specs.Prelude.{ℤ, pos, Option}
-use Rattle.std.proofs.lemmas.Bool.{cases_eq}
-use Rattle.std.proofs.lemmas.List.{get_or_default, get_or-set_same, get_or-set_other, length-set}
+use Rattle.std.proofs.Common.{◌≡◌, ◌+◌, ◌-◌, ◌<◌, List, [], length, get_or, ap, sym, ◌∙◌, arith}
+use Rattle.std.proofs.lemmas.List.{get_or_default}
 use Rattle.pesp_problem.specs.declared.row.SignedRow.{SignedRow}
-use Rattle.pesp_problem.specs.Walks.{IsWalk, Names}
 use Rattle.pesp_problem.specs.Forests.{own_row}
 use Rattle.pesp_problem.specs.Nodes.{cycle_at, offsets_left}
-use Rattle.pesp_nodes.specs.Offsets.{IsSmallOffset}
 use Rattle.pesp_nodes.specs.Problems.{net_of}
 use Rattle.pesp_bound.proofs.Gathering.{shifts_more, own_row_names, small_set, as_shifts}
 use Rattle.pesp_bound.proofs.shifts.shifts_of.Goals as goal

@@ -1,4 +1,4 @@
-use Rattle.std.proofs.Common.{◌≡◌, ℕ, length, vec_len}
+use Rattle.std.proofs.Common.{◌≡◌, length, vec_len}
 use Rattle.std.specs.Prelude.{All}
 use Rattle.pesp_nodes.specs.Offsets.{IsSmallOffset}
 use Rattle.pesp_nodes.specs.Problems.{net_of}

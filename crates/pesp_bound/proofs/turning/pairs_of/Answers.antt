@@ -1,4 +1,4 @@
-use Rattle.std.proofs.Common.{◌≡◌, ℕ, ◌+◌, ◌-◌, ◌<◌, ◌≤◌, List, [], length, get_or, ap, sym, ◌∙◌, arith}
+use Rattle.std.proofs.Common.{◌≡◌, ℕ, ◌-◌, List, [], length, ap, ◌∙◌, arith}
 use Rattle.std.specs.Prelude.{ℤ, pos, unsigned_abs, slice_index_or}
 use Rattle.std.proofs.lemmas.List.{get_or_default}
 use Rattle.pesp_problem.specs.declared.row.SignedRow.{SignedRow}

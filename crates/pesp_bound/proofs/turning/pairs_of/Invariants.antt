@@ -1,4 +1,4 @@
-use Rattle.std.proofs.Common.{ℕ, length}
+use Rattle.std.proofs.Common.{length}
 use Rattle.std.specs.Prelude.{pos, slice_index_or}
 use Rattle.pesp_bound.specs.Differences.{own_flow}
 use Rattle.pesp_bound.proofs.Gathering.{PairsTo}

@@ -1,4 +1,4 @@
-use Rattle.std.proofs.Common.{◌≡◌, ℕ, take}
+use Rattle.std.proofs.Common.{◌≡◌, take}
 use Rattle.pesp_bound.specs.Differences.{walk_along}
 use Rattle.pesp_bound.proofs.turning.walk_along.Given as goal
 

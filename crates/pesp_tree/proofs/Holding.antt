@@ -1,0 +1,138 @@
+-- What holds of the lists of a tree under work, and after each change of them.
+use Rattle.std.proofs.Common.{◌≡◌, ◌≢◌, ℕ, ◌+◌, ◌*◌, ◌<◌, ◌≤◌, List, [], ◌∷◌, ◌++◌, length, get_or, set, map, refl, sym, ap, ◌∙◌, arith, subst}
+use Rattle.std.specs.Prelude.{Option, Some, None, IsSome, Result, Ok, Err, OnOk, OnErr}
+use Rattle.std.proofs.lemmas.List.{length-set, length-append}
+use Rattle.pesp_problem.specs.declared.cut.Cut.{Cut}
+use Rattle.pesp_problem.specs.declared.cut.Side.{Side}
+use Rattle.pesp_problem.specs.declared.cut.Side.TheVariants.{Low, High}
+use Rattle.pesp_truth.specs.Trees.{Tree, Leaf, Ends, Branch, preorder}
+use Rattle.pesp_tree.specs.declared.leaf.Leaf.{Leaf as OwnLeaf}
+use Rattle.pesp_tree.specs.declared.node.Branching.{Branching}
+use Rattle.pesp_tree.specs.declared.node.Kept.{Kept}
+use Rattle.pesp_tree.specs.declared.node.Kept.TheVariants.{Leaf as KeptLeaf, Branched}
+use Rattle.pesp_tree.specs.Leaves.{leaf_of, IsLeafAt, put}
+use Rattle.pesp_tree.specs.WorkTrees.{IsWhole, with_leaf, with_branch}
+use Rattle.pesp_tree.specs.Numbered.{IsAt, path_in, branch_off, grown, kept_leaf, leaf_or_gap, leaf_in, tree_of, value_of, AreNodes, AreNumbered, Stands, after_split}
+use Rattle.pesp_tree.proofs.Numbered.{filled_at, filled_from, one_at}
+use Rattle.pesp_tree.proofs.Changes.{grow-push, set_nodes, set_tree, split_nodes, split_tree}
+use Rattle.pesp_tree.proofs.Paths.{below_push, grown_count}
+use Rattle.pesp_tree.proofs.Standing.{not_none, is_some, some_of, in_range, map_set, map_split, length_leaves, stands_set, stands_split}
+
+-- ---- how many lines
+
+lines_put : (tree : Tree) (path : List (Cut × Side)) (leaf : Leaf) (new : Tree) → IsLeafAt tree path leaf → length (preorder (put tree path new)) + 1 ≡ length (preorder tree) + length (preorder new)
+lines_put (Ends other) [] leaf new h = omega arith
+lines_put (Ends other) (step ∷ path) leaf new h = absurd h
+lines_put (Branch cut low high) [] leaf new h = absurd h
+lines_put (Branch cut low high) ((c, Low) ∷ path) leaf new h =
+    omega (arith, lines_put low path leaf new h.1, length-append (preorder (put low path new)) (preorder high), length-append (preorder low) (preorder high))
+lines_put (Branch cut low high) ((c, High) ∷ path) leaf new h =
+    omega (arith, lines_put high path leaf new h.1, length-append (preorder low) (preorder (put high path new)), length-append (preorder low) (preorder high))
+
+-- ---- what callers see of the lists
+
+pub leaf_stands : (bs : List Branching) (leaves : List (Option Leaf)) (n : ℕ) → AreNodes bs leaves → get_or leaves n None ≢ None → IsLeafAt (tree_of bs leaves) (path_in (grown bs) n) (leaf_in leaves n)
+leaf_stands bs leaves n nodes h = filled_at (grown bs).tree (leaf_in leaves) (path_in (grown bs) n) n (nodes.stands n (in_range leaves n h) h)
+
+leaf_found : (bs : List Branching) (leaves : List (Option Leaf)) (path : List (Cut × Side)) (leaf : Leaf) → AreNodes bs leaves → IsLeafAt (tree_of bs leaves) path leaf → (n : ℕ) × (path_in (grown bs) n ≡ path) × (get_or leaves n None ≡ Some leaf)
+leaf_found bs leaves path leaf nodes h =
+    let at = filled_from (grown bs).tree (leaf_in leaves) path leaf h in
+    let there = nodes.only path at.0 at.1 in
+    (at.0, there.1, some_of (get_or leaves at.0 None) there.2 ∙ ap Some (at.2))
+
+one_node : (bs : List Branching) (leaves : List (Option Leaf)) (m n : ℕ) → AreNodes bs leaves → get_or leaves m None ≢ None → get_or leaves n None ≢ None → path_in (grown bs) m ≡ path_in (grown bs) n → m ≡ n
+one_node bs leaves m n nodes h k e = one_at (grown bs).tree (path_in (grown bs) n) m n (subst (λ path. IsAt (grown bs).tree path m) e (nodes.stands m (in_range leaves m h) h)) (nodes.stands n (in_range leaves n k) k)
+
+pub whole : (bs : List Branching) (kept : List Kept) → AreNumbered bs kept → IsWhole (value_of bs kept)
+whole bs kept a =
+    let leaves = map kept_leaf kept in
+    record {
+      counted = a.nodes.count;
+      lines = a.lines ∙ sym (length_leaves kept);
+      within = omega (arith, a.within, length_leaves kept);
+      stands = λ n leaf e. subst (λ x. IsLeafAt (tree_of bs leaves) (path_in (grown bs) n) x) (ap leaf_or_gap e) (leaf_stands bs leaves n a.nodes (is_some (get_or leaves n None) leaf e));
+      found = λ path leaf h. leaf_found bs leaves path leaf a.nodes h;
+      one = λ m n h k e. one_node bs leaves m n a.nodes (not_none (get_or leaves m None) h) (not_none (get_or leaves n None) k) e;
+    }
+
+pub count_is : (bs : List Branching) (kept : List Kept) → AreNumbered bs kept → length kept ≡ 1 + 2 * length bs
+count_is bs kept a = sym (length_leaves kept) ∙ sym (a.nodes.count) ∙ grown_count bs
+
+pub few_branchings : (bs : List Branching) (kept : List Kept) → AreNumbered bs kept → length bs < 1000000
+few_branchings bs kept a = omega (arith, count_is bs kept a, a.within)
+
+pub node_within : (bs : List Branching) (kept : List Kept) (n : ℕ) → IsSome (get_or (map kept_leaf kept) n None) → n < length kept
+node_within bs kept n h = omega (arith, in_range (map kept_leaf kept) n (not_none (get_or (map kept_leaf kept) n None) h), length_leaves kept)
+
+-- ---- another leaf at a node
+
+new_is_leaf : (leaf : OwnLeaf) → kept_leaf (KeptLeaf leaf) ≢ None
+new_is_leaf leaf = not_none (Some (leaf_of leaf)) refl
+
+set_tree_is : (bs : List Branching) (kept : List Kept) (n : ℕ) (leaf : OwnLeaf) → AreNumbered bs kept → get_or (map kept_leaf kept) n None ≢ None → tree_of bs (map kept_leaf (set kept n (KeptLeaf leaf))) ≡ put (tree_of bs (map kept_leaf kept)) (path_in (grown bs) n) (Ends (leaf_of leaf))
+set_tree_is bs kept n leaf a h = ap (λ x. tree_of bs x) (map_set kept n (KeptLeaf leaf)) ∙ set_tree bs (map kept_leaf kept) n (Some (leaf_of leaf)) a.nodes (in_range (map kept_leaf kept) n h) h
+
+pub put_numbered : (bs : List Branching) (kept : List Kept) (n : ℕ) (leaf : OwnLeaf) → AreNumbered bs kept → IsSome (get_or (map kept_leaf kept) n None) → AreNumbered bs (set kept n (KeptLeaf leaf))
+put_numbered bs kept n leaf a some =
+    let leaves = map kept_leaf kept in
+    let h : get_or leaves n None ≢ None = not_none (get_or leaves n None) some in
+    let count = lines_put (tree_of bs leaves) (path_in (grown bs) n) (leaf_in leaves n) (Ends (leaf_of leaf)) (leaf_stands bs leaves n a.nodes h) in
+    let same = length-set kept n (KeptLeaf leaf) in
+    record {
+      nodes = subst (λ x. AreNodes bs x) (sym (map_set kept n (KeptLeaf leaf))) (set_nodes bs leaves n (Some (leaf_of leaf)) a.nodes (in_range leaves n h) h (new_is_leaf leaf));
+      below = a.below;
+      stands = stands_set bs kept n (KeptLeaf leaf) (grown bs).tree 0 h a.stands;
+      lines = ap (λ t. length (preorder t)) (set_tree_is bs kept n leaf a h) ∙ omega (arith, count, a.lines, same);
+      within = omega (arith, a.within, same);
+    }
+
+pub put_value : (bs : List Branching) (kept : List Kept) (n : ℕ) (leaf : OwnLeaf) → AreNumbered bs kept → IsSome (get_or (map kept_leaf kept) n None) → value_of bs (set kept n (KeptLeaf leaf)) ≡ with_leaf (value_of bs kept) n (leaf_of leaf)
+put_value bs kept n leaf a some =
+    let tree = set_tree_is bs kept n leaf a (not_none (get_or (map kept_leaf kept) n None) some) in
+    let leaves = map_set kept n (KeptLeaf leaf) in
+    ap (λ x. record { tree = x; paths = (grown bs).paths; leaves = map kept_leaf (set kept n (KeptLeaf leaf)) }) tree
+    ∙ ap (λ x. record { tree = put (tree_of bs (map kept_leaf kept)) (path_in (grown bs) n) (Ends (leaf_of leaf)); paths = (grown bs).paths; leaves = x }) leaves
+
+-- ---- a split
+
+split_tree_is : (bs : List Branching) (kept : List Kept) (b : Branching) (low high : OwnLeaf) → AreNumbered bs kept → get_or (map kept_leaf kept) b.node None ≢ None → tree_of (bs ++ b ∷ []) (map kept_leaf (after_split kept b.node (length bs) (KeptLeaf low) (KeptLeaf high))) ≡ put (tree_of bs (map kept_leaf kept)) (path_in (grown bs) b.node) (Branch b.cut (Ends (leaf_of low)) (Ends (leaf_of high)))
+split_tree_is bs kept b low high a h =
+    ap (λ x. tree_of (bs ++ b ∷ []) x) (map_split kept b.node (length bs) low high)
+    ∙ split_tree bs (map kept_leaf kept) b (Some (leaf_of low)) (Some (leaf_of high)) a.nodes (in_range (map kept_leaf kept) b.node h) h
+
+after_count : (kept : List Kept) (n place : ℕ) (low high : Kept) → length (after_split kept n place low high) ≡ length kept + 2
+after_count kept n place low high = omega (arith, length-append (set kept n (Branched place)) (low ∷ high ∷ []), length-set kept n (Branched place))
+
+pub split_numbered : (bs : List Branching) (kept : List Kept) (b : Branching) (low high : OwnLeaf) → AreNumbered bs kept → IsSome (get_or (map kept_leaf kept) b.node None) → length (map kept_leaf kept) + 2 ≤ 1000000 → AreNumbered (bs ++ b ∷ []) (after_split kept b.node (length bs) (KeptLeaf low) (KeptLeaf high))
+split_numbered bs kept b low high a some room =
+    let leaves = map kept_leaf kept in
+    let h : get_or leaves b.node None ≢ None = not_none (get_or leaves b.node None) some in
+    let new = after_split kept b.node (length bs) (KeptLeaf low) (KeptLeaf high) in
+    let inside = node_within bs kept b.node some in
+    let count = lines_put (tree_of bs leaves) (path_in (grown bs) b.node) (leaf_in leaves b.node) (Branch b.cut (Ends (leaf_of low)) (Ends (leaf_of high))) (leaf_stands bs leaves b.node a.nodes h) in
+    let more = after_count kept b.node (length bs) (KeptLeaf low) (KeptLeaf high) in
+    record {
+      nodes = subst (λ x. AreNodes (bs ++ b ∷ []) x) (sym (map_split kept b.node (length bs) low high)) (split_nodes bs leaves b (Some (leaf_of low)) (Some (leaf_of high)) a.nodes (in_range leaves b.node h) h (new_is_leaf low) (new_is_leaf high));
+      below = below_push 1 bs b a.below (omega (arith, inside, count_is bs kept a));
+      stands = subst (λ g. Stands (bs ++ b ∷ []) new g.tree 0) (sym (grow-push _ bs b)) (stands_split bs kept b (length (grown bs).paths) (KeptLeaf low) (KeptLeaf high) (grown bs).tree 0 inside h (omega (arith, grown_count bs)) a.stands);
+      lines = ap (λ t. length (preorder t)) (split_tree_is bs kept b low high a h) ∙ omega (arith, count, a.lines, more);
+      within = omega (arith, room, more, length_leaves kept);
+    }
+
+pub split_value : (bs : List Branching) (kept : List Kept) (b : Branching) (low high : OwnLeaf) → AreNumbered bs kept → IsSome (get_or (map kept_leaf kept) b.node None) → value_of (bs ++ b ∷ []) (after_split kept b.node (length bs) (KeptLeaf low) (KeptLeaf high)) ≡ with_branch (value_of bs kept) b.node b.cut (leaf_of low) (leaf_of high)
+split_value bs kept b low high a some =
+    let new = after_split kept b.node (length bs) (KeptLeaf low) (KeptLeaf high) in
+    let tree = split_tree_is bs kept b low high a (not_none (get_or (map kept_leaf kept) b.node None) some) in
+    let after = put (tree_of bs (map kept_leaf kept)) (path_in (grown bs) b.node) (Branch b.cut (Ends (leaf_of low)) (Ends (leaf_of high))) in
+    ap (λ x. record { tree = x; paths = (grown (bs ++ b ∷ [])).paths; leaves = map kept_leaf new }) tree
+    ∙ ap (λ g. record { tree = after; paths = g.paths; leaves = map kept_leaf new }) (grow-push _ bs b)
+    ∙ ap (λ x. record { tree = after; paths = (branch_off (grown bs) b).paths; leaves = x }) (map_split kept b.node (length bs) low high)
+
+-- after a split that may have been refused
+pub split_holds : {T E : Type 0} (result : Result T E) (bs new_bs : List Branching) (kept new_kept : List Kept) (b : Branching) (low high : OwnLeaf) → AreNumbered bs kept → IsSome (get_or (map kept_leaf kept) b.node None) → length (map kept_leaf kept) + 2 ≤ 1000000 → OnOk result (new_bs ≡ bs ++ b ∷ []) → OnOk result (new_kept ≡ after_split kept b.node (length bs) (KeptLeaf low) (KeptLeaf high)) → OnErr result ((new_bs ≡ bs) × (new_kept ≡ kept)) → AreNumbered new_bs new_kept
+split_holds (Ok x) bs new_bs kept new_kept b low high a some room is_bs is_kept undone = rw is_bs (rw is_kept (split_numbered bs kept b low high a some room))
+split_holds (Err e) bs new_bs kept new_kept b low high a some room is_bs is_kept undone = rw (undone.0) (rw (undone.1) a)
+
+pub split_is : {T E : Type 0} (result : Result T E) (bs new_bs : List Branching) (kept new_kept : List Kept) (b : Branching) (low high : OwnLeaf) → AreNumbered bs kept → IsSome (get_or (map kept_leaf kept) b.node None) → OnOk result (new_bs ≡ bs ++ b ∷ []) → OnOk result (new_kept ≡ after_split kept b.node (length bs) (KeptLeaf low) (KeptLeaf high)) → OnOk result (value_of new_bs new_kept ≡ with_branch (value_of bs kept) b.node b.cut (leaf_of low) (leaf_of high))
+split_is (Ok x) bs new_bs kept new_kept b low high a some is_bs is_kept = rw is_bs (rw is_kept (split_value bs kept b low high a some))
+split_is (Err e) bs new_bs kept new_kept b low high a some is_bs is_kept = tt

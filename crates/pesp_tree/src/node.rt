@@ -1,0 +1,76 @@
+//! How a tree under work is kept: its nodes by number, and its branchings in the order in which they were made.
+
+ghost use Rattle.std.specs.Prelude.{◌≡◌, ◌<◌, ◌+◌, ◌*◌, [], ◌∷◌, ◌++◌, length, IfOk, OnOk, OnErr};
+ghost use Rattle.pesp_tree.specs.Numbered.{grown, path_in, AreBelow, IsSide, after_split};
+ghost use Rattle.pesp_tree.specs.declared.node.Kept.TheVariants.{Leaf as KeptLeaf};
+
+use crate::leaf::Leaf;
+use pesp_problem::{Cut, Memory, Side};
+use std::alloc::Global;
+
+/// A node that became a branch, and its cut. The branching at place `b` made the nodes `2b + 1`, its low part, and `2b + 2`.
+#[derive(Clone, Copy, Debug)]
+pub(crate) struct Branching {
+    pub(crate) node: u32,
+    pub(crate) cut: Cut,
+}
+
+/// What is kept of a node: its leaf, or the place of its branching.
+#[derive(Debug, Drop)]
+pub(crate) enum Kept {
+    Leaf(Leaf),
+    Branched(u32),
+}
+
+/// The part of its branching that a node is.
+fn side_of(node: u32) -> Side
+    requires { 0 < node }
+    ensures { IsSide node result }
+{
+    if node % 2 == 1 { Side::Low } else { Side::High }
+}
+
+/// The path to a node.
+pub(crate) fn path_of(
+    alloc: Global,
+    branchings: &[Branching],
+    node: u32,
+) -> Result<Vec<(Cut, Side)>, Memory>
+    requires below { AreBelow 1 branchings.now }
+    requires within { node < 1 + 2 * length branchings.now }
+    ensures { IfOk result (λ path. path.items ≡ path_in (grown branchings.now) node) }
+{
+    let mut path = Vec::new(alloc);
+    let mut at = node;
+    while at > 0 {
+        let branching = branchings[(at as usize - 1) / 2];
+        path.push((branching.cut, side_of(at)))?;
+        at = branching.node;
+    }
+    path.reverse();
+    Ok(path)
+}
+
+/// A leaf becomes a branch with two leaves; where memory is refused nothing has changed.
+pub(crate) fn branch_off(
+    branchings: &mut Vec<Branching>,
+    nodes: &mut Vec<Kept>,
+    branching: Branching,
+    low: Leaf,
+    high: Leaf,
+) -> Result<(), Memory>
+    requires node { branching.node < length nodes.old.items }
+    requires room { length branchings.old.items < 1000000 }
+    ensures branchings { OnOk result (branchings.new.items ≡ branchings.old.items ++ branching ∷ []) }
+    ensures nodes { OnOk result (nodes.new.items ≡ after_split nodes.old.items branching.node (length branchings.old.items) (KeptLeaf low) (KeptLeaf high)) }
+    ensures undone { OnErr result ((branchings.new.items ≡ branchings.old.items) × (nodes.new.items ≡ nodes.old.items)) }
+{
+    branchings.reserve(1)?;
+    nodes.reserve(2)?;
+    let place = branchings.len() as u32;
+    branchings.push(branching)?;
+    nodes[branching.node as usize] = Kept::Branched(place);
+    nodes.push(Kept::Leaf(low))?;
+    nodes.push(Kept::Leaf(high))?;
+    Ok(())
+}

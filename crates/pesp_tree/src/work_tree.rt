@@ -1,0 +1,115 @@
+//! Trees under work.
+
+ghost use Rattle.std.specs.Prelude.{◌≡◌, ◌<◌, ◌≤◌, ◌+◌, length, map, option_map, option_copied, IsSome, IfOk, OnOk, OnErr};
+ghost use Rattle.pesp_truth.specs.Trees.{preorder};
+ghost use Rattle.pesp_truth.specs.Certificates.{line_of};
+ghost use Rattle.pesp_tree.specs.Leaves.{leaf_of};
+ghost use Rattle.pesp_tree.specs.WorkTrees.{opening, path_to, leaf_at, with_leaf, with_branch, IsWhole};
+
+use crate::leaf::Leaf;
+use crate::node::{Branching, Kept, branch_off, path_of};
+use crate::preorder::lines_of;
+use pesp_problem::{Cut, Memory, Pairs, Side};
+use pesp_truth::TreeLine;
+use std::alloc::Global;
+use std::marker::Model;
+
+/// A tree whose leaves are still worked at.
+///
+/// Its nodes are numbered from 0, the root, in the order in which they are made, and keep their numbers: a split makes two
+/// nodes, first the low part and then the high part. A node is known by the path to it from the root, and keeps its leaf
+/// until it is split. Ranges aren't kept. A tree has at most 1,000,000 nodes.
+#[derive(Drop)]
+pub struct WorkTree {
+    branchings: Vec<Branching>,
+    nodes: Vec<Kept>,
+}
+
+impl Model for WorkTree {
+    ghost use Rattle.pesp_tree.specs.Codes.{work_tree_code};
+    ghost use Rattle.pesp_tree.specs.WorkTrees.{WorkTreeValue};
+    ghost use Rattle.pesp_tree.specs.Numbered.{value_of, AreNumbered};
+
+    ghost Value = { WorkTreeValue };
+
+    ghost coded = { work_tree_code };
+
+    ghost view = { λ t. value_of t.branchings.items t.nodes.items };
+
+    ghost invariant = { λ t. AreNumbered t.branchings.items t.nodes.items };
+}
+
+impl WorkTree {
+    /// A tree of one bound leaf without pairs. The one refusal is of memory.
+    pub fn new(alloc: Global) -> Result<WorkTree, Memory>
+        ensures tree { IfOk result (λ tree. tree ≡ opening) }
+        ensures whole { IfOk result IsWhole }
+    {
+        let none = Leaf::Bound(Pairs::new(Vec::new(alloc)));
+        let mut nodes = Vec::new(alloc);
+        nodes.push(Kept::Leaf(none))?;
+        Ok(WorkTree {
+            branchings: Vec::new(alloc),
+            nodes,
+        })
+    }
+
+    /// How many nodes there are: as many as the tree has lines in preorder.
+    pub fn nodes(&self) -> u32
+        ensures count { result ≡ length self.now.leaves }
+        ensures whole { IsWhole self.now }
+    {
+        self.nodes.len() as u32
+    }
+
+    /// The path from the root to a node. The one refusal is of memory.
+    pub fn path(&self, alloc: Global, node: u32) -> Result<Vec<(Cut, Side)>, Memory>
+        requires { node < length self.now.leaves }
+        ensures path { IfOk result (λ path. path.items ≡ path_to self.now node) }
+        ensures whole { IsWhole self.now }
+    {
+        path_of(alloc, &self.branchings, node)
+    }
+
+    /// The leaf of a node, none where the node was split.
+    pub fn leaf(&self, node: u32) -> Option<&Leaf>
+        requires { node < length self.now.leaves }
+        ensures leaf { option_map leaf_of (option_copied result) ≡ leaf_at self.now node }
+        ensures whole { IsWhole self.now }
+    {
+        match &self.nodes[node as usize] {
+            Kept::Leaf(leaf) => Some(leaf),
+            Kept::Branched(_) => None,
+        }
+    }
+
+    /// Puts another leaf in a leaf's place, at the same node.
+    pub fn put_leaf(&mut self, node: u32, leaf: Leaf)
+        requires { IsSome (leaf_at self.old node) }
+        ensures tree { self.new ≡ with_leaf self.old node (leaf_of leaf) }
+        ensures whole { IsWhole self.new }
+    {
+        self.nodes[node as usize] = Kept::Leaf(leaf);
+    }
+
+    /// Splits a leaf where there is room for two more nodes: it becomes a branch with these two leaves, which take the next
+    /// two numbers. The one refusal is of memory, after which nothing has changed.
+    pub fn split(&mut self, node: u32, cut: Cut, low: Leaf, high: Leaf) -> Result<(), Memory>
+        requires leaf { IsSome (leaf_at self.old node) }
+        requires room { length self.old.leaves + 2 ≤ 1000000 }
+        ensures tree { OnOk result (self.new ≡ with_branch self.old node cut (leaf_of low) (leaf_of high)) }
+        ensures same { OnErr result (self.new ≡ self.old) }
+        ensures whole { IsWhole self.new }
+    {
+        let branching = Branching { node, cut };
+        branch_off(&mut self.branchings, &mut self.nodes, branching, low, high)
+    }
+
+    /// The lines of the tree in preorder. The one refusal is of memory.
+    pub fn tree_lines(&self, alloc: Global) -> Result<Vec<TreeLine>, Memory>
+        ensures lines { IfOk result (λ lines. map line_of lines.items ≡ preorder self.now.tree) }
+        ensures whole { IsWhole self.now }
+    {
+        lines_of(alloc, &self.branchings, &self.nodes)
+    }
+}

@@ -1,0 +1,12 @@
+pub mod Places
+pub mod Opening
+pub mod Slots
+pub mod Queues
+pub mod Leasts
+pub mod Recalling
+pub mod Arcs
+pub mod Offering
+pub mod Lending
+pub mod Parking
+pub mod Lent
+pub mod Telling

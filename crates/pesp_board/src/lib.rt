@@ -1,0 +1,11 @@
+//! The tree under work, for solvers that nobody has to trust: leaves that are lent, and what is given for them.
+#![tactic(auto)]
+
+mod best;
+mod board;
+mod lend;
+mod slot;
+mod timetable;
+
+pub use board::Board;
+pub use pesp_machine::{GiveRefusal, Job, LendRefusal, Work};

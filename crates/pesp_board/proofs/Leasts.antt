@@ -14,7 +14,7 @@ use Rattle.pesp_machine.specs.States.{root_of, value_at, least}
 use Rattle.pesp_machine.proofs.Least.{least_is_had, least_is_under, least_is_none}
 use Rattle.pesp_board.specs.declared.slot.Slot.{Slot}
 use Rattle.pesp_board.specs.Insides.{state_of, IsQueue}
-use Rattle.pesp_board.proofs.Places.{stands, found, one_leaf}
+use Rattle.pesp_board.proofs.Places.{one_leaf}
 
 -- ---- what is told
 
@@ -41,7 +41,7 @@ same_told (Some u) v l e f = cc
 -- a value that a bound leaf has is told in the queue
 pub in_queue : (p : ProblemValue) (t : WorkTreeValue) (slots : List Slot) (q : QueueValue) (v : ℤ) → IsWhole t → IsQueue p t slots q → HasValue (net_of p) p.table t.tree (root_of p) v → (node : ℕ) × Contains (all_of q) (entry node (told v))
 in_queue p t slots q v w is h =
-    let at = found t h.path (Bound h.pairs) w h.leaf in
+    let at = w.found h.path (Bound h.pairs) h.leaf in
     let held = is.has at.0 h.pairs at.2 in
     let worth = is.each (entry at.0 held.0) held.1 in
     let pairs : worth.pairs ≡ h.pairs = one_leaf t at.0 worth.pairs h.pairs worth.leaf at.2 in
@@ -60,7 +60,7 @@ least_some : (p : ProblemValue) (t : WorkTreeValue) (slots : List Slot) (times :
 least_some p t slots times q l w is first =
     let worth = is.each (entry first.0 l) first.1.0 in
     let value = some_told (value_at p (path_to t first.0) worth.pairs) l worth.worth in
-    let had : HasValue (net_of p) p.table t.tree (root_of p) value.0 = record { path = path_to t first.0; pairs = worth.pairs; leaf = stands t first.0 (Bound worth.pairs) w worth.leaf; worth = value.1 } in
+    let had : HasValue (net_of p) p.table t.tree (root_of p) value.0 = record { path = path_to t first.0; pairs = worth.pairs; leaf = w.stands first.0 (Bound worth.pairs) worth.leaf; worth = value.1 } in
     let under = and_is (least_value (net_of p) p.table t.tree (root_of p)) (λ u. u ≤ℤ value.0) (least_is_under (net_of p) p.table t.tree (root_of p) value.0 had) in
     let held = in_queue p t slots q under.0 w is (least_is_had (net_of p) p.table t.tree (root_of p) under.0 under.1) in
     let above : l ≤ told under.0 = All-contains (λ (e : Entry). l ≤ e.value) (all_of q) (entry held.0 (told under.0)) first.1.1 held.1 in

@@ -14,7 +14,8 @@ use Rattle.pesp_tree.specs.WorkTrees.{WorkTreeValue, IsWhole, path_to, leaf_at}
 use Rattle.pesp_queue.specs.declared.entry.Entry.{Entry}
 use Rattle.pesp_queue.specs.Entries.{entry, HasItem, ItemsDiffer, IsFirst}
 use Rattle.pesp_queue.specs.Queues.{QueueValue, all_of}
-use Rattle.pesp_machine.specs.Leaves.{IsLeafAt, told}
+use Rattle.pesp_truth.specs.Leaves.{IsLeafAt}
+use Rattle.pesp_machine.specs.Leaves.{told}
 use Rattle.pesp_machine.specs.States.{Ticket, Lent, Given, Recalled, IsBelow, IsOpen, root_of, node_at, value_at, best_cost}
 use Rattle.pesp_machine.specs.Events.{IsCheaper}
 use Rattle.pesp_machine.proofs.Trees.{sound_leaf, value_of}
@@ -24,7 +25,7 @@ use Rattle.pesp_board.specs.declared.slot.Slot.{Slot}
 use Rattle.pesp_board.specs.declared.slot.Slot.TheVariants.{Lent as LentSlot}
 use Rattle.pesp_board.specs.Insides.{ticket_of, times_of, cost_of, state_of, slot_at, IsQueue, IsBoard}
 use Rattle.pesp_board.specs.Lending.{IsFirstOpen}
-use Rattle.pesp_board.proofs.Places.{stands, found, one_leaf}
+use Rattle.pesp_board.proofs.Places.{one_leaf}
 use Rattle.pesp_board.proofs.Slots.{ticket_is, lent_by}
 use Rattle.pesp_board.proofs.Queues.{apart}
 
@@ -46,7 +47,7 @@ worth_at p t slots q node value path pairs is held at leaf =
 
 open_waits : (p : ProblemValue) (t : WorkTreeValue) (slots : List Slot) (times : Option (List ℕ)) (q : QueueValue) (path : List (Cut × Side)) → IsWhole t → IsQueue p t slots q → (o : IsOpen p (state_of t slots times) path) → Waits p t q path o.pairs
 open_waits p t slots times q path w is o =
-    let at = found t path (Bound o.pairs) w o.leaf in
+    let at = w.found path (Bound o.pairs) o.leaf in
     let held = is.has at.0 o.pairs at.2 in
     elim (Contains-append_cases q.waiting q.parked (entry at.0 held.0) held.1) [
       | inl waits ↦ record { node = at.0; value = held.0; held = waits; worth = worth_at p t slots q at.0 held.0 path o.pairs is held.1 at.1 at.2 }
@@ -133,7 +134,7 @@ pub first_opens : (p : ProblemValue) (t : WorkTreeValue) (slots : List Slot) (q 
 first_opens p t slots q best count e b differ first cheap =
     let state = state_of t slots (times_of best) in
     let worth = b.queue.each e (Contains-append_left q.waiting q.parked e first.0) in
-    let leaf = stands t e.item (Bound worth.pairs) b.whole worth.leaf in
+    let leaf = b.whole.stands e.item (Bound worth.pairs) worth.leaf in
     let value = leaf_value_is p t slots q best count (path_to t e.item) worth.pairs b leaf in
     let told_so : told value.0 ≡ e.value = same_told (value_at p (path_to t e.item) worth.pairs) value.0 e.value value.1 worth.worth in
     let cheaper : IsCheaper (told value.0) (best_cost p state) = subst (λ n. IsCheaper n (best_cost p state)) (sym told_so) (subst (IsCheaper e.value) b.cost cheap) in

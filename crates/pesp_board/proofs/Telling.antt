@@ -13,7 +13,7 @@ use Rattle.pesp_machine.specs.Leaves.{told}
 use Rattle.pesp_board.specs.declared.best.Best.{Best}
 use Rattle.pesp_board.specs.declared.slot.Slot.{Slot}
 use Rattle.pesp_board.specs.Insides.{ticket_of, times_of, state_of, slot_at, LendsNode, IsBoard}
-use Rattle.pesp_board.proofs.Places.{stands, one_leaf}
+use Rattle.pesp_board.proofs.Places.{one_leaf}
 use Rattle.pesp_board.proofs.Lent.{leaf_within}
 use Rattle.pesp_board.proofs.Slots.{ticket_is, lent_by}
 
@@ -26,7 +26,7 @@ leaf_told p t slots q best count number node value pairs b h held leaf =
     let same = one_leaf t node worth.pairs pairs worth.leaf leaf in
     record {
       path = path_to t node;
-      leaf = (ticket_is t slots number ∙ ap (ticket_of t) h.1, stands t node (Bound pairs) b.whole leaf);
+      leaf = (ticket_is t slots number ∙ ap (ticket_of t) h.1, b.whole.stands node (Bound pairs) leaf);
       worth = subst (λ x. option_map told (value_at p (path_to t node) x) ≡ Some value) same worth.worth;
     }
 

@@ -9,7 +9,8 @@ use Rattle.pesp_problem.specs.NetTimetables.{net_cost}
 use Rattle.pesp_truth.specs.Trees.{Bound}
 use Rattle.pesp_network.specs.Networks.{KeepsNetLimits}
 use Rattle.pesp_nodes.specs.Problems.{ProblemValue, net_of}
-use Rattle.pesp_machine.specs.Leaves.{HasValue, IsLeafAt, least_value, told}
+use Rattle.pesp_truth.specs.Leaves.{IsLeafAt}
+use Rattle.pesp_machine.specs.Leaves.{HasValue, least_value, told}
 use Rattle.pesp_machine.specs.States.{State, IsAtMost, IsBelow, IsLentNumber, IsOpen, root_of, node_at, value_at, least, best_cost}
 use Rattle.pesp_machine.specs.Reached.{IsKept}
 use Rattle.pesp_machine.proofs.Trees.{sound_leaf, value_of}

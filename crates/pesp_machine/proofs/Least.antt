@@ -12,7 +12,8 @@ use Rattle.pesp_problem.specs.Arcs.{Net}
 use Rattle.pesp_problem.specs.Nodes.{Node, leaf_value, low_part, high_part}
 use Rattle.pesp_truth.specs.Trees.{Tree, Ends, Branch, Bound, Nothing, Gap}
 use Rattle.pesp_truth.specs.Paths.{along}
-use Rattle.pesp_machine.specs.Leaves.{IsLeafAt, HasValue, lesser, least_value}
+use Rattle.pesp_truth.specs.Leaves.{IsLeafAt}
+use Rattle.pesp_machine.specs.Leaves.{HasValue, lesser, least_value}
 use Rattle.pesp_machine.proofs.Trees.{IsUnder, under_same}
 
 -- the lesser of two is one of them

@@ -9,7 +9,7 @@ use Rattle.pesp_truth.specs.Trees.{Tree, Leaf, Ends, Branch, Bound}
 use Rattle.pesp_nodes.specs.Problems.{ProblemValue}
 use Rattle.pesp_machine.specs.declared.job.Job.{Job}
 use Rattle.pesp_machine.specs.declared.work.Work.{Work}
-use Rattle.pesp_machine.specs.Leaves.{IsLeafAt, put}
+use Rattle.pesp_truth.specs.Leaves.{IsLeafAt, put}
 use Rattle.pesp_machine.specs.States.{State, Ticket, Lent, Given, Recalled, ticket, opening}
 use Rattle.pesp_machine.specs.Reached.{AreLentApart}
 use Rattle.pesp_machine.specs.Events.{LendsLeaf, Takes}

@@ -14,7 +14,7 @@ use Rattle.pesp_truth.specs.Trees.{Tree, Leaf, Ends, Branch, Bound, Nothing, Gap
 use Rattle.pesp_nodes.specs.Problems.{ProblemValue, net_of}
 use Rattle.pesp_machine.specs.declared.work.Work.{Work}
 use Rattle.pesp_machine.specs.declared.work.Work.TheVariants as works
-use Rattle.pesp_machine.specs.Leaves.{IsLeafAt, put}
+use Rattle.pesp_truth.specs.Leaves.{IsLeafAt, put}
 use Rattle.pesp_machine.specs.Limits.{pairs_in, IsSmallTree}
 use Rattle.pesp_machine.specs.States.{State, Ticket, Lent, Given, Recalled, HasLeaf}
 use Rattle.pesp_machine.specs.Events.{Makes, Keeps, Uses}

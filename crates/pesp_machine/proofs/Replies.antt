@@ -9,7 +9,7 @@ use Rattle.pesp_nodes.specs.Problems.{ProblemValue}
 use Rattle.pesp_machine.specs.declared.work.Work.{Work}
 use Rattle.pesp_machine.specs.declared.refusal.GiveRefusal.{GiveRefusal}
 use Rattle.pesp_machine.specs.declared.refusal.GiveRefusal.TheVariants.{UnknownJob, AlreadyGiven, NotValid, Memory, TooLarge}
-use Rattle.pesp_machine.specs.Leaves.{put}
+use Rattle.pesp_truth.specs.Leaves.{put}
 use Rattle.pesp_machine.specs.Limits.{IsSmallTree}
 use Rattle.pesp_machine.specs.States.{State, Lent, Given, Recalled, ticket, HasLeaf, IsLentNumber, node_at}
 use Rattle.pesp_machine.specs.Events.{Makes, Takes, MakesNothing, MakesTooMuch, Gives}

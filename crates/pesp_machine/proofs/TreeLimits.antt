@@ -15,7 +15,7 @@ use Rattle.pesp_nodes.specs.Problems.{ProblemValue, net_of, ArePairs, IsPairOf, 
 use Rattle.pesp_nodes.proofs.Rising.{nothing_rises}
 use Rattle.pesp_machine.specs.declared.work.Work.{Work}
 use Rattle.pesp_machine.specs.declared.work.Work.TheVariants as works
-use Rattle.pesp_machine.specs.Leaves.{IsLeafAt, put}
+use Rattle.pesp_truth.specs.Leaves.{IsLeafAt, put}
 use Rattle.pesp_machine.specs.Limits.{IsLineOf, KeepsTreeLimits}
 use Rattle.pesp_machine.specs.States.{State, opening, node_at}
 use Rattle.pesp_machine.specs.Events.{Takes, Makes, Keeps, is_better, better_pairs}

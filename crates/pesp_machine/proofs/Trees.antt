@@ -11,7 +11,8 @@ use Rattle.pesp_problem.specs.Arcs.{Net}
 use Rattle.pesp_problem.specs.Nodes.{Node, leaf_value, low_part, high_part}
 use Rattle.pesp_truth.specs.Trees.{Tree, Leaf, Ends, Branch, Bound, Nothing, Gap, IsSoundLeaf, IsSound}
 use Rattle.pesp_truth.specs.Paths.{along}
-use Rattle.pesp_machine.specs.Leaves.{IsLeafAt, put, lesser, least_value}
+use Rattle.pesp_truth.specs.Leaves.{IsLeafAt, put}
+use Rattle.pesp_machine.specs.Leaves.{lesser, least_value}
 
 -- ---- sound trees
 

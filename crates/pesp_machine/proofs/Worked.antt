@@ -20,7 +20,7 @@ use Rattle.pesp_machine.specs.declared.job.Job.{Job}
 use Rattle.pesp_machine.specs.declared.work.Work.{Work}
 use Rattle.pesp_machine.specs.declared.work.Work.TheVariants as works
 use Rattle.pesp_machine.specs.declared.refusal.GiveRefusal.TheVariants.{UnknownJob, AlreadyGiven, NotValid}
-use Rattle.pesp_machine.specs.Leaves.{put}
+use Rattle.pesp_truth.specs.Leaves.{put}
 use Rattle.pesp_machine.specs.Limits.{IsSmallTree}
 use Rattle.pesp_machine.specs.States.{State, Ticket, Lent, Given, Recalled, opening, HasLeaf, IsOpen, node_at, least, best_cost}
 use Rattle.pesp_machine.specs.Events.{Event, Lend, Give, Recall, Offer, Step, Run, LendsLeaf, Makes, Takes}

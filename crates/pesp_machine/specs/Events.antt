@@ -15,7 +15,7 @@ use Rattle.pesp_machine.specs.declared.refusal.LendRefusal.{LendRefusal}
 use Rattle.pesp_machine.specs.declared.refusal.LendRefusal.TheVariants as lending
 use Rattle.pesp_machine.specs.declared.refusal.GiveRefusal.{GiveRefusal}
 use Rattle.pesp_machine.specs.declared.refusal.GiveRefusal.TheVariants.{UnknownJob, AlreadyGiven, NotValid, Memory, TooLarge}
-use Rattle.pesp_machine.specs.Leaves.{put}
+use Rattle.pesp_truth.specs.Leaves.{put}
 use Rattle.pesp_machine.specs.Limits.{IsSmallTree}
 use Rattle.pesp_machine.specs.States.{State, Lent, Given, Recalled, ticket, IsLentNumber, HasLeaf, IsOpen, node_at, best_cost}
 

@@ -1,31 +1,15 @@
--- Leaves by the paths to them from the root, and the least value of a tree's bound leaves.
+-- The values of a tree's bound leaves, and the least of them.
 use Rattle.std.specs.Prelude.{◌≡◌, ℕ, min, List, [], ◌∷◌, ℤ, pos, negsuc, Option, Some, None, true}
 use Rattle.std.specs.Int.{int_min}
 use Rattle.pesp_problem.specs.declared.row.SignedRow.{SignedRow}
 use Rattle.pesp_problem.specs.declared.pair.Pair.{Pair}
 use Rattle.pesp_problem.specs.declared.cut.Cut.{Cut}
 use Rattle.pesp_problem.specs.declared.cut.Side.{Side}
-use Rattle.pesp_problem.specs.declared.cut.Side.TheVariants.{Low, High}
 use Rattle.pesp_problem.specs.Arcs.{Net}
 use Rattle.pesp_problem.specs.Nodes.{Node, leaf_value, low_part, high_part}
-use Rattle.pesp_truth.specs.Trees.{Tree, Leaf, Ends, Branch, Bound, Nothing, Gap}
+use Rattle.pesp_truth.specs.Trees.{Tree, Ends, Branch, Bound, Nothing, Gap}
 use Rattle.pesp_truth.specs.Paths.{along}
-
--- the path leads through the branches that it names, each with its cut, and ends at this leaf
-abbrev pub IsLeafAt : Tree → List (Cut × Side) → Leaf → Type 0
-IsLeafAt (Ends leaf) [] end = leaf ≡ end
-IsLeafAt (Ends leaf) (step ∷ path) end = ⊥
-IsLeafAt (Branch cut low high) [] end = ⊥
-IsLeafAt (Branch cut low high) ((c, Low) ∷ path) end = (c ≡ cut) × IsLeafAt low path end
-IsLeafAt (Branch cut low high) ((c, High) ∷ path) end = (c ≡ cut) × IsLeafAt high path end
-
--- the tree with another one in the place to which a path leads
-abbrev pub put : Tree → List (Cut × Side) → Tree → Tree
-put (Ends leaf) [] new = new
-put (Ends leaf) (step ∷ path) new = Ends leaf
-put (Branch cut low high) [] new = new
-put (Branch cut low high) ((c, Low) ∷ path) new = Branch cut (put low path new) high
-put (Branch cut low high) ((c, High) ∷ path) new = Branch cut low (put high path new)
+use Rattle.pesp_truth.specs.Leaves.{IsLeafAt}
 
 -- a bound leaf of a tree that stands at a node has this value, with the rows' weights
 pub record HasValue (n : Net) (table : List (List SignedRow)) (tree : Tree) (node : Node) (value : ℤ) : Type 0 where

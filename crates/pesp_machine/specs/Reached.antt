@@ -6,7 +6,7 @@ use Rattle.pesp_problem.specs.declared.cut.Side.{Side}
 use Rattle.pesp_problem.specs.NetTimetables.{IsNetTimetable}
 use Rattle.pesp_truth.specs.Trees.{Bound, IsSound}
 use Rattle.pesp_nodes.specs.Problems.{ProblemValue, net_of}
-use Rattle.pesp_machine.specs.Leaves.{IsLeafAt}
+use Rattle.pesp_truth.specs.Leaves.{IsLeafAt}
 use Rattle.pesp_machine.specs.States.{State, Lent, ticket, root_of}
 use Rattle.pesp_machine.specs.Limits.{KeepsTreeLimits}
 

@@ -8,7 +8,8 @@ use Rattle.pesp_problem.specs.Nodes.{Node, leaf_value, root}
 use Rattle.pesp_truth.specs.Trees.{Tree, Ends, Bound}
 use Rattle.pesp_truth.specs.Paths.{along}
 use Rattle.pesp_nodes.specs.Problems.{ProblemValue, net_of}
-use Rattle.pesp_machine.specs.Leaves.{IsLeafAt, least_value, told}
+use Rattle.pesp_truth.specs.Leaves.{IsLeafAt}
+use Rattle.pesp_machine.specs.Leaves.{least_value, told}
 
 -- what became of a number: it is lent with the leaf at a path, something was taken for it, or it was recalled
 pub data Ticket : Type 0 where

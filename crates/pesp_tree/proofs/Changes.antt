@@ -7,7 +7,7 @@ use Rattle.pesp_problem.specs.declared.cut.Side.{Side}
 use Rattle.pesp_problem.specs.declared.cut.Side.TheVariants.{Low, High}
 use Rattle.pesp_truth.specs.Trees.{Leaf, Ends, Branch}
 use Rattle.pesp_tree.specs.declared.node.Branching.{Branching}
-use Rattle.pesp_tree.specs.Leaves.{put}
+use Rattle.pesp_truth.specs.Leaves.{put}
 use Rattle.pesp_tree.specs.Numbered.{fill, IsAt, Growth, path_in, branch_off, grow, grown, AreNodes, leaf_in, leaf_or_gap, tree_of}
 use Rattle.pesp_tree.proofs.Numbered.{child, split_at, others_stay, children_stand, fill_put, fill_split}
 

@@ -10,24 +10,15 @@ use Rattle.pesp_tree.specs.declared.leaf.Leaf.{Leaf as OwnLeaf}
 use Rattle.pesp_tree.specs.declared.node.Branching.{Branching}
 use Rattle.pesp_tree.specs.declared.node.Kept.{Kept}
 use Rattle.pesp_tree.specs.declared.node.Kept.TheVariants.{Leaf as KeptLeaf, Branched}
-use Rattle.pesp_tree.specs.Leaves.{leaf_of, IsLeafAt, put}
+use Rattle.pesp_truth.specs.Leaves.{IsLeafAt, put}
+use Rattle.pesp_truth.proofs.Leaves.{lines_after_put}
+use Rattle.pesp_tree.specs.Leaves.{leaf_of}
 use Rattle.pesp_tree.specs.WorkTrees.{IsWhole, with_leaf, with_branch}
 use Rattle.pesp_tree.specs.Numbered.{IsAt, path_in, branch_off, grown, kept_leaf, leaf_or_gap, leaf_in, tree_of, value_of, AreNodes, AreNumbered, Stands, after_split}
 use Rattle.pesp_tree.proofs.Numbered.{filled_at, filled_from, one_at}
 use Rattle.pesp_tree.proofs.Changes.{grow-push, set_nodes, set_tree, split_nodes, split_tree}
 use Rattle.pesp_tree.proofs.Paths.{below_push, grown_count}
 use Rattle.pesp_tree.proofs.Standing.{not_none, is_some, some_of, in_range, map_set, map_split, length_leaves, stands_set, stands_split}
-
--- ---- how many lines
-
-lines_put : (tree : Tree) (path : List (Cut × Side)) (leaf : Leaf) (new : Tree) → IsLeafAt tree path leaf → length (preorder (put tree path new)) + 1 ≡ length (preorder tree) + length (preorder new)
-lines_put (Ends other) [] leaf new h = omega arith
-lines_put (Ends other) (step ∷ path) leaf new h = absurd h
-lines_put (Branch cut low high) [] leaf new h = absurd h
-lines_put (Branch cut low high) ((c, Low) ∷ path) leaf new h =
-    omega (arith, lines_put low path leaf new h.1, length-append (preorder (put low path new)) (preorder high), length-append (preorder low) (preorder high))
-lines_put (Branch cut low high) ((c, High) ∷ path) leaf new h =
-    omega (arith, lines_put high path leaf new h.1, length-append (preorder low) (preorder (put high path new)), length-append (preorder low) (preorder high))
 
 -- ---- what callers see of the lists
 
@@ -76,7 +67,7 @@ pub put_numbered : (bs : List Branching) (kept : List Kept) (n : ℕ) (leaf : Ow
 put_numbered bs kept n leaf a some =
     let leaves = map kept_leaf kept in
     let h : get_or leaves n None ≢ None = not_none (get_or leaves n None) some in
-    let count = lines_put (tree_of bs leaves) (path_in (grown bs) n) (leaf_in leaves n) (Ends (leaf_of leaf)) (leaf_stands bs leaves n a.nodes h) in
+    let count = lines_after_put (tree_of bs leaves) (path_in (grown bs) n) (leaf_in leaves n) (Ends (leaf_of leaf)) (leaf_stands bs leaves n a.nodes h) in
     let same = length-set kept n (KeptLeaf leaf) in
     record {
       nodes = subst (λ x. AreNodes bs x) (sym (map_set kept n (KeptLeaf leaf))) (set_nodes bs leaves n (Some (leaf_of leaf)) a.nodes (in_range leaves n h) h (new_is_leaf leaf));
@@ -109,7 +100,7 @@ split_numbered bs kept b low high a some room =
     let h : get_or leaves b.node None ≢ None = not_none (get_or leaves b.node None) some in
     let new = after_split kept b.node (length bs) (KeptLeaf low) (KeptLeaf high) in
     let inside = node_within bs kept b.node some in
-    let count = lines_put (tree_of bs leaves) (path_in (grown bs) b.node) (leaf_in leaves b.node) (Branch b.cut (Ends (leaf_of low)) (Ends (leaf_of high))) (leaf_stands bs leaves b.node a.nodes h) in
+    let count = lines_after_put (tree_of bs leaves) (path_in (grown bs) b.node) (leaf_in leaves b.node) (Branch b.cut (Ends (leaf_of low)) (Ends (leaf_of high))) (leaf_stands bs leaves b.node a.nodes h) in
     let more = after_count kept b.node (length bs) (KeptLeaf low) (KeptLeaf high) in
     record {
       nodes = subst (λ x. AreNodes (bs ++ b ∷ []) x) (sym (map_split kept b.node (length bs) low high)) (split_nodes bs leaves b (Some (leaf_of low)) (Some (leaf_of high)) a.nodes (in_range leaves b.node h) h (new_is_leaf low) (new_is_leaf high));

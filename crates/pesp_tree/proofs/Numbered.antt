@@ -6,7 +6,7 @@ use Rattle.pesp_problem.specs.declared.cut.Cut.{Cut}
 use Rattle.pesp_problem.specs.declared.cut.Side.{Side}
 use Rattle.pesp_problem.specs.declared.cut.Side.TheVariants.{Low, High}
 use Rattle.pesp_truth.specs.Trees.{Leaf, Ends, Branch}
-use Rattle.pesp_tree.specs.Leaves.{IsLeafAt, put}
+use Rattle.pesp_truth.specs.Leaves.{IsLeafAt, put}
 use Rattle.pesp_tree.specs.Numbered.{Numbered, Number, Cuts, split, fill, IsAt}
 
 -- ---- split

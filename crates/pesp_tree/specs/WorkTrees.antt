@@ -4,7 +4,7 @@ use Rattle.pesp_problem.specs.declared.cut.Cut.{Cut}
 use Rattle.pesp_problem.specs.declared.cut.Side.{Side}
 use Rattle.pesp_problem.specs.declared.cut.Side.TheVariants.{Low, High}
 use Rattle.pesp_truth.specs.Trees.{Tree, Leaf, Ends, Branch, Bound, preorder}
-use Rattle.pesp_tree.specs.Leaves.{IsLeafAt, put}
+use Rattle.pesp_truth.specs.Leaves.{IsLeafAt, put}
 
 -- a tree, and for each of its nodes the path to it from the root and its leaf, none for a branch
 pub record WorkTreeValue : Type 0 where

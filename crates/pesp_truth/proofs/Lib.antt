@@ -5,3 +5,4 @@ pub mod Paths
 pub mod Certificates
 pub mod Worked
 pub mod Opening
+pub mod Leaves

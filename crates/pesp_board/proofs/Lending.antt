@@ -116,7 +116,7 @@ path_of (Lent path) = path
 path_of Given = []
 path_of Recalled = []
 
-some_leaf : (o : Option Leaf) (leaf : Leaf) → o ≡ Some leaf → IsSome o
+pub some_leaf : (o : Option Leaf) (leaf : Leaf) → o ≡ Some leaf → IsSome o
 some_leaf None leaf e = cc
 some_leaf (Some x) leaf e = refl
 

@@ -10,3 +10,12 @@ pub mod Lending
 pub mod Parking
 pub mod Lent
 pub mod Telling
+pub mod Counting
+pub mod Changing
+pub mod Changed
+pub mod Paths
+pub mod Gaps
+pub mod Replacing
+pub mod Sizing
+pub mod Giving
+pub mod Certified

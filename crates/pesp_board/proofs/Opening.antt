@@ -23,6 +23,7 @@ use Rattle.pesp_machine.specs.Leaves.{told}
 use Rattle.pesp_machine.proofs.Runs.{opening_is_orderly}
 use Rattle.pesp_board.specs.declared.slot.Slot.{Slot}
 use Rattle.pesp_board.specs.Insides.{IsWorth, IsQueue, IsBoard, IsLentNode}
+use Rattle.pesp_board.proofs.Queues.{none_held, one_held}
 
 -- ---- the value of no pairs at the root
 
@@ -57,13 +58,6 @@ no_pairs_value n table =
 
 nothing_lent : (node : ℕ) → IsLentNode [] node → ⊥
 nothing_lent node l = cc (l.1)
-
-none_held : {X : Type 0} (x : X) → Contains [] x → ⊥
-none_held x h = absurd (omega (arith, h.1))
-
-one_held : {X : Type 0} (x y : X) → Contains (y ∷ []) x → y ≡ x
-one_held x y (zero, l, e) = e
-one_held x y (suc k, l, e) = absurd (omega (arith, l))
 
 first_leaf : (node : ℕ) (pairs : List Pair) → leaf_at trees.opening node ≡ Some (Bound pairs) → node ≡ 0
 first_leaf zero pairs e = refl

@@ -16,7 +16,10 @@ use Rattle.pesp_board.specs.declared.slot.Slot.TheVariants.{Lent as LentSlot, Re
 use Rattle.pesp_board.specs.Insides.{slot_at, IsQueue}
 use Rattle.pesp_board.proofs.Slots.{ended, still_lent, recalled_is_not_lent, node_of_slot}
 
-one_held : {X : Type 0} (x y : X) → Contains (y ∷ []) x → y ≡ x
+pub none_held : {X : Type 0} (x : X) → Contains [] x → ⊥
+none_held x h = absurd (omega (arith, h.1))
+
+pub one_held : {X : Type 0} (x y : X) → Contains (y ∷ []) x → y ≡ x
 one_held x y (zero, l, e) = e
 one_held x y (suc k, l, e) = absurd (omega (arith, l))
 

@@ -1,3 +1,4 @@
 pub mod Insides
 pub mod Timetables
 pub mod Lending
+pub mod Giving

@@ -1,21 +1,25 @@
 //! Boards.
 
 ghost use Rattle.std.specs.Prelude.{◌≡◌, IfOk, option_map};
-ghost use Rattle.pesp_network.specs.Networks.{KeepsNetLimits};
-ghost use Rattle.pesp_nodes.specs.Problems.{IsSmallTable};
 ghost use Rattle.pesp_queue.specs.Entries.{ItemsDiffer};
 ghost use Rattle.pesp_queue.specs.Queues.{all_of};
 ghost use Rattle.pesp_machine.specs.States.{opening, best_cost, least, TellsLeaf};
-ghost use Rattle.pesp_machine.specs.Events.{Lends, Recalls, Offers};
+ghost use Rattle.pesp_machine.specs.Events.{Lends, Gives, Recalls, Offers};
+ghost use Rattle.pesp_machine.specs.Certificates.{IsProblemOf, IsCertificateOf};
+ghost use Rattle.pesp_truth.specs.Certificates.{IsValid};
 ghost use Rattle.pesp_board.specs.Lending.{LendsFirst};
 
 use crate::best::Best;
+use crate::certifying::{answer_of, copy_table, shown_times};
+use crate::give::{lent_with, make_at, take};
 use crate::lend::{bound_pairs, is_cheaper, is_lent, lend_entry};
+use crate::making::limits;
 use crate::slot::{Slot, lent_node};
 use crate::timetable::judge;
-use pesp_machine::{Job, LendRefusal};
+use pesp_cert::Certificate;
+use pesp_machine::{GiveRefusal, Job, LendRefusal, Work};
 use pesp_nodes::{Pair, Problem};
-use pesp_problem::Memory;
+use pesp_problem::{Instance, Memory};
 use pesp_queue::Queue;
 use pesp_tree::WorkTree;
 use std::alloc::Global;
@@ -44,15 +48,6 @@ impl Model for Board {
     ghost view = { λ b. record { problem = b.problem; state = state_of b.tree b.slots.items (times_of b.best) } };
 
     ghost invariant = { λ b. IsBoard b.problem b.tree b.slots.items b.queue b.best b.pairs };
-}
-
-// a problem keeps its limits
-fn limits(problem: &Problem)
-    ensures network { KeepsNetLimits problem.now.network }
-    ensures table { IsSmallTable problem.now.table }
-{
-    problem.network().period();
-    problem.table();
 }
 
 // no item stands in a queue twice
@@ -144,6 +139,29 @@ impl Board {
         reply
     }
 
+    /// Takes work on the leaf with which the number is lent, and the number is given: a `Leaf` keeps the pairs of the greater
+    /// value, the old ones where both are equal; `Nothing` and `Gap` close the leaf; a `Split` makes two leaves that keep the
+    /// pairs, or are gaps where one of the pairs' cycles has no offset left.
+    ///
+    /// Refused as `UnknownJob` where the number was never lent or was recalled, as `AlreadyGiven` where something was taken for
+    /// it, as `NotValid` where at the leaf's node the pairs of a `Leaf` have no value, a `Nothing` or a `Gap` isn't sound, or a
+    /// cut leaves a side of its range no value (and where pairs don't rise or break their limits, or a row or a cycle doesn't
+    /// exist), as `TooLarge` where the tree would have more than 1000000 lines or 20000000 pairs, and as `Memory` where a growth
+    /// was refused. Then nothing has changed.
+    pub fn give(&mut self, alloc: Global, number: u64, work: Work) -> Result<(), GiveRefusal>
+        ensures state { Gives self.old.problem self.old.state number work result self.new.state }
+        ensures problem { self.new.problem ≡ self.old.problem }
+    {
+        limits(&self.problem);
+        let node = lent_with(&self.slots, number)?;
+        let (made, pairs) = make_at(alloc, &self.problem, &self.tree, self.pairs, node, work)?;
+        items_differ(&self.queue);
+        take(&mut self.tree, &mut self.queue, node, made)?;
+        self.slots[number as usize] = Slot::Given;
+        self.pairs = pairs;
+        Ok(())
+    }
+
     /// Takes times, in the order of the network's events, and keeps them where they are a timetable that costs less than the
     /// best one; says whether they are kept. Takes no memory.
     pub fn offer(&mut self, times: Vec<u32>) -> bool
@@ -175,5 +193,22 @@ impl Board {
             return None;
         };
         Some((value, pairs))
+    }
+
+    /// What is known so far, as a certificate for the instance whose network the board has: optimal where the least value is
+    /// at least the best cost, infeasible where there is no bound leaf, else open; with the best times, the walks of the
+    /// problem as its cycles, and the tree with its pairs. The one refusal is of memory.
+    pub fn certificate(&self, alloc: Global, instance: &Instance) -> Result<Certificate, Memory>
+        requires { IsProblemOf instance.now self.now.problem }
+        ensures content { IfOk result (IsCertificateOf self.now.problem instance.now.events self.now.state) }
+        ensures valid { IfOk result (IsValid instance.now) }
+    {
+        let answer = answer_of(self.least(), self.best());
+        let times = shown_times(alloc, instance.events(), &self.best)?;
+        let cycles = copy_table(alloc, self.problem.table())?;
+        let tree = self.tree.tree_lines(alloc)?;
+        let period = self.problem.network().period();
+        let certificate = Certificate::new(period, answer, times, cycles, tree);
+        Ok(certificate.unwrap())
     }
 }

@@ -1,9 +1,13 @@
 //! The tree under work, for solvers that nobody has to trust: leaves that are lent, and what is given for them.
 #![tactic(auto)]
 
+mod along;
 mod best;
 mod board;
+mod certifying;
+mod give;
 mod lend;
+mod making;
 mod slot;
 mod timetable;
 

@@ -7,6 +7,3 @@ mod settling;
 
 pub use edge::{Edge, Outcome};
 pub use settling::settle;
-
-#[cfg(test)]
-mod tests;

@@ -17,7 +17,7 @@ use Rattle.pesp_machine.specs.States.{State, HasLeaf, node_at}
 use Rattle.pesp_machine.specs.Events.{Makes, Keeps, IsValidAt, MakesNothing, better_pairs}
 
 -- a pair's cycle with no offset left
-abbrev HasGap : Net → List (List SignedRow) → Node → List Pair → Type 0
+abbrev pub HasGap : Net → List (List SignedRow) → Node → List Pair → Type 0
 HasGap n table node pairs = (pair : Pair) × Contains pairs pair × (offsets_left n table node (pair.cycle - 1) ≡ None)
 
 one_is_none : {A : Type 0} (f : A → ℤ → ℤ) (o : Option A) (r : Option ℤ) → option_and_then (λ x. option_map (λ rest. f x rest) r) o ≡ None → (o ≡ None) ⊎ (r ≡ None)
@@ -25,7 +25,7 @@ one_is_none f None r e = inl refl
 one_is_none f (Some x) None e = inr refl
 one_is_none f (Some x) (Some rest) e = cc
 
-gap_of : (n : Net) (table : List (List SignedRow)) (node : Node) (pairs : List Pair) → offset_part n table node pairs ≡ None → HasGap n table node pairs
+pub gap_of : (n : Net) (table : List (List SignedRow)) (node : Node) (pairs : List Pair) → offset_part n table node pairs ≡ None → HasGap n table node pairs
 gap_of n table node [] e = cc
 gap_of n table node (pair ∷ pairs) e =
     elim (one_is_none (λ (left : ℤ × ℤ) (rest : ℤ). scaled pair.mult left.0 left.1 +ℤ rest) (offsets_left n table node (pair.cycle - 1)) (offset_part n table node pairs) e) [
@@ -33,7 +33,7 @@ gap_of n table node (pair ∷ pairs) e =
       | inr there ↦ (let gap = gap_of n table node pairs there in (gap.0, Contains-append_right (pair ∷ []) pairs gap.0 gap.1, gap.2))
     ]
 
-no_part : (f : ℤ → ℤ) (o : Option ℤ) → option_map f o ≡ None → o ≡ None
+pub no_part : (f : ℤ → ℤ) (o : Option ℤ) → option_map f o ≡ None → o ≡ None
 no_part f None e = refl
 no_part f (Some x) e = cc
 

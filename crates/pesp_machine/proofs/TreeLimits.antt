@@ -24,14 +24,14 @@ use Rattle.pesp_machine.proofs.Ranges.{cut_keeps_limits}
 
 -- ---- lines of trees
 
-All-first : {X : Type 0} (P : X → Type 0) (xs ys : List X) → All P (xs ++ ys) → All P xs
+pub All-first : {X : Type 0} (P : X → Type 0) (xs ys : List X) → All P (xs ++ ys) → All P xs
 All-first P xs ys h i d l = rw (← get_or_append_left xs ys d i l) (h i d (omega (arith, l, length-append xs ys)))
 
-All-second : {X : Type 0} (P : X → Type 0) (xs ys : List X) → All P (xs ++ ys) → All P ys
+pub All-second : {X : Type 0} (P : X → Type 0) (xs ys : List X) → All P (xs ++ ys) → All P ys
 All-second P xs ys h i d l = rw (← get_or-append-add xs ys i d) (h (length xs + i) d (omega (arith, l, length-append xs ys)))
 
 -- the line of a leaf is one of the tree's
-leaf_line : (P : Line → Type 0) (tree : Tree) (path : List (Cut × Side)) (leaf : Leaf) → IsLeafAt tree path leaf → All P (preorder tree) → P (EndLine leaf)
+pub leaf_line : (P : Line → Type 0) (tree : Tree) (path : List (Cut × Side)) (leaf : Leaf) → IsLeafAt tree path leaf → All P (preorder tree) → P (EndLine leaf)
 leaf_line P (Ends there) [] leaf h k = subst (λ x. P (EndLine x)) h (All-head P (EndLine there) [] k)
 leaf_line P (Ends there) (step ∷ path) leaf h k = absurd h
 leaf_line P (Branch cut low high) [] leaf h k = absurd h

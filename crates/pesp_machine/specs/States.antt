@@ -1,5 +1,5 @@
 -- The state of a board: a tree under work, what became of the numbers, and the best times.
-use Rattle.std.specs.Prelude.{◌≡◌, ℕ, ◌≤◌, List, [], slice_index_or, ℤ, pos, ◌≤ℤ◌, ◌<ℤ◌, Option, Some, None, IsSomeAnd, option_map, true}
+use Rattle.std.specs.Prelude.{◌≡◌, ℕ, ◌≤◌, List, [], slice_index_or, ℤ, pos, ◌<ℤ◌, Option, Some, None, IsSomeAnd, option_map, true}
 use Rattle.pesp_problem.specs.declared.pair.Pair.{Pair}
 use Rattle.pesp_problem.specs.declared.cut.Cut.{Cut}
 use Rattle.pesp_problem.specs.declared.cut.Side.{Side}
@@ -89,11 +89,6 @@ pub record IsOpen (p : ProblemValue) (state : State) (path : List (Cut × Side))
   pub leaf : IsLeafAt state.tree path (Bound pairs)
   pub unlent : IsLent state path → ⊥
   pub cheaper : IsBelow (value_at p path pairs) (best_cost p state)
-
--- the path leads to an open leaf, and no open leaf has a lesser value
-pub record IsLeastOpen (p : ProblemValue) (state : State) (path : List (Cut × Side)) : Type 0 where
-  pub opens : IsOpen p state path
-  pub least : (other : List (Cut × Side)) (o : IsOpen p state other) (v w : ℤ) → value_at p path opens.pairs ≡ Some v → value_at p other o.pairs ≡ Some w → v ≤ℤ w
 
 -- the number is lent with a leaf of these pairs, which has this value as it is told
 pub record IsJobLeaf (p : ProblemValue) (state : State) (number value : ℕ) (pairs : List Pair) : Type 0 where

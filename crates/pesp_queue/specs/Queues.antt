@@ -1,5 +1,6 @@
--- Queues as their callers see them. The order inside the two lists is of no promise.
-use Rattle.std.specs.Prelude.{◌≡◌, ℕ, ◌<◌, ◌≤◌, List, ◌++◌, length, map, All, if◌then◌else◌, ◌==◌}
+-- Queues as their callers see them. But for which item waits in front, the order inside the two lists is of no promise.
+use Rattle.std.specs.Prelude.{◌≡◌, ℕ, ◌<◌, ◌≤◌, List, ◌++◌, length, map, All, Option, if◌then◌else◌, ◌==◌}
+use Rattle.std.specs.List.{slice_get}
 use Rattle.pesp_queue.specs.declared.entry.Entry.{Entry}
 use Rattle.pesp_queue.specs.Entries.{entry, ItemsDiffer}
 
@@ -14,6 +15,10 @@ pub record QueueValue : Type 0 where
 -- the entries of all items
 abbrev pub all_of : QueueValue → List Entry
 all_of q = q.waiting ++ q.parked
+
+-- the item that waits in front, none where none waits
+abbrev pub front : QueueValue → Option Entry
+front q = slice_get q.waiting 0
 
 -- the entries with another value for one item
 abbrev pub revalued : ℕ → ℕ → List Entry → List Entry

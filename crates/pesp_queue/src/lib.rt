@@ -9,6 +9,3 @@ mod steps;
 
 pub use entry::Entry;
 pub use queue::Queue;
-
-#[cfg(test)]
-mod tests;

@@ -4,7 +4,7 @@ ghost use Rattle.std.specs.Prelude.{◌≡◌, ℕ, ◌+◌, ◌<◌, ◌≤◌,
 ghost use Rattle.std.specs.List.{Contains};
 ghost use Rattle.std.specs.List.Sorted.{IsPermutation};
 ghost use Rattle.pesp_queue.specs.Entries.{entry, HasItem, IsFirst, IsLeastValue};
-ghost use Rattle.pesp_queue.specs.Queues.{all_of, revalued, KeepsLimits, KeepsRoom};
+ghost use Rattle.pesp_queue.specs.Queues.{all_of, front, revalued, KeepsLimits, KeepsRoom};
 
 use crate::entry::Entry;
 use crate::heap::least_of;
@@ -103,6 +103,7 @@ impl Queue {
     #[tactic(auto, using(crate::proofs::Limits::limits))]
     pub fn first(&self) -> Option<Entry>
         ensures first { MatchOption result (self.now.waiting ≡ []) (IsFirst self.now.waiting) }
+        ensures front { result ≡ front self.now }
         ensures limits { KeepsLimits self.now }
     {
         if self.waiting == 0 {
@@ -111,9 +112,10 @@ impl Queue {
         Some(self.entries[0])
     }
 
-    /// Parks a waiting item of least value, and gives it; None where none waits. Takes no memory.
+    /// Parks the item that `first` gives, and gives it; None where none waits. Takes no memory.
     pub fn park(&mut self) -> Option<Entry>
         ensures first { MatchOption result (self.old.waiting ≡ []) (IsFirst self.old.waiting) }
+        ensures front { result ≡ front self.old }
         ensures waiting { IfSome result (λ e. IsPermutation self.old.waiting (e ∷ self.new.waiting)) }
         ensures parked { IfSome result (λ e. IsPermutation (e ∷ self.old.parked) self.new.parked) }
         ensures room { KeepsRoom self.old self.new }

@@ -9,6 +9,3 @@ mod work_tree;
 
 pub use leaf::Leaf;
 pub use work_tree::WorkTree;
-
-#[cfg(test)]
-mod tests;

@@ -2,7 +2,7 @@
 
 ghost use Rattle.std.specs.Prelude.{◌<◌, ◌≤◌, IsTrue};
 
-use crate::{Edge, Outcome, settle};
+use pesp_levels::{Edge, Outcome, settle};
 use std::alloc::Global;
 use std::test::Fail;
 

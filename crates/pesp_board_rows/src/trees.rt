@@ -1,7 +1,7 @@
 //! A small tree that is grown by hand: its paths, its leaves and its lines.
 
-use crate::{Leaf, WorkTree};
 use pesp_problem::{Cut, Pair, Pairs, Side};
+use pesp_tree::{Leaf, WorkTree};
 use pesp_truth::TreeLine;
 use std::alloc::Global;
 use std::process::Abort;

@@ -2,7 +2,7 @@
 
 ghost use Rattle.std.specs.Prelude.{◌<◌};
 
-use crate::{Entry, Queue};
+use pesp_queue::{Entry, Queue};
 use std::test::Fail;
 
 /// Adds an item that isn't there yet.

@@ -1,0 +1,68 @@
+-- Nodes along paths, and the cuts of the path to a leaf.
+use Rattle.std.proofs.Common.{◌≡◌, ℕ, suc, ◌<◌, List, [], ◌∷◌, ◌++◌, length, get_or, drop, sym, ap, ◌∙◌, arith, subst}
+use Rattle.std.proofs.Math.Seq.{drop-cons}
+use Rattle.std.specs.Prelude.{Some, All}
+use Rattle.std.proofs.lemmas.List.{length-map}
+use Rattle.std.proofs.lemmas.List.Elements.{All-cons, All-head, All-tail, All-nil}
+use Rattle.pesp_problem.specs.declared.arc.Arc.{Arc}
+use Rattle.pesp_problem.specs.declared.pair.Pair.{Pair}
+use Rattle.pesp_problem.specs.declared.cut.Cut.{Cut}
+use Rattle.pesp_problem.specs.declared.cut.Cut.TheVariants.{Slack, Offset}
+use Rattle.pesp_problem.specs.declared.cut.Side.{Side}
+use Rattle.pesp_problem.specs.declared.cut.Side.TheVariants.{Low, High}
+use Rattle.pesp_problem.specs.Nodes.{Node, part, odijk_range, root_slacks}
+use Rattle.pesp_truth.specs.Trees.{Tree, Leaf, Line, Ends, Branch, Bound, CutLine, CutExists, preorder}
+use Rattle.pesp_truth.specs.Leaves.{IsLeafAt}
+use Rattle.pesp_truth.specs.Paths.{along}
+use Rattle.pesp_network.specs.Networks.{KeepsNetLimits, arc_of_net}
+use Rattle.pesp_nodes.specs.Problems.{ProblemValue, net_of, IsSmallTable, IsNodeOf, IsCutOf, ArePairs}
+use Rattle.pesp_tree.specs.WorkTrees.{WorkTreeValue, IsWhole, path_to, leaf_at}
+use Rattle.pesp_machine.specs.Limits.{IsLineOf, KeepsTreeLimits}
+use Rattle.pesp_machine.specs.States.{root_of, node_at}
+use Rattle.pesp_machine.specs.Events.{LeavesBoth}
+use Rattle.pesp_machine.proofs.Ranges.{cut_keeps_limits}
+use Rattle.pesp_machine.proofs.TreeLimits.{All-first, All-second, leaf_line}
+use Rattle.pesp_board.specs.Giving.{AreCuts}
+
+-- what holds of the lines of a tree holds of the cuts of the path to a leaf
+cuts_along : (P : Line → Type 0) (tree : Tree) (path : List (Cut × Side)) (leaf : Leaf) → IsLeafAt tree path leaf → All P (preorder tree) → All (λ (step : Cut × Side). P (CutLine step.0)) path
+cuts_along P (Ends there) [] leaf h k = All-nil (λ (step : Cut × Side). P (CutLine step.0))
+cuts_along P (Ends there) (step ∷ path) leaf h k = absurd h
+cuts_along P (Branch cut low high) [] leaf h k = absurd h
+cuts_along P (Branch cut low high) ((c, Low) ∷ path) leaf h k =
+    let first = subst (λ (x : Cut). P (CutLine x)) (sym h.0) (All-head P (CutLine cut) (preorder low ++ preorder high) k) in
+    let rest = All-tail P (CutLine cut) (preorder low ++ preorder high) k in
+    All-cons (λ (step : Cut × Side). P (CutLine step.0)) (c, Low) path first (cuts_along P low path leaf h.1 (All-first P (preorder low) (preorder high) rest))
+cuts_along P (Branch cut low high) ((c, High) ∷ path) leaf h k =
+    let first = subst (λ (x : Cut). P (CutLine x)) (sym h.0) (All-head P (CutLine cut) (preorder low ++ preorder high) k) in
+    let rest = All-tail P (CutLine cut) (preorder low ++ preorder high) k in
+    All-cons (λ (step : Cut × Side). P (CutLine step.0)) (c, High) path first (cuts_along P high path leaf h.1 (All-second P (preorder low) (preorder high) rest))
+
+pub path_cuts : (p : ProblemValue) (t : WorkTreeValue) (node : ℕ) (leaf : Leaf) → IsWhole t → KeepsTreeLimits p t.tree → leaf_at t node ≡ Some leaf → AreCuts p (path_to t node)
+path_cuts p t node leaf w k e = cuts_along (IsLineOf p) t.tree (path_to t node) leaf (w.stands node leaf e) k.lines
+
+pub leaf_pairs : (p : ProblemValue) (t : WorkTreeValue) (node : ℕ) (pairs : List Pair) → IsWhole t → KeepsTreeLimits p t.tree → leaf_at t node ≡ Some (Bound pairs) → ArePairs (length p.table) pairs
+leaf_pairs p t node pairs w k e = leaf_line (IsLineOf p) t.tree (path_to t node) (Bound pairs) (w.stands node (Bound pairs) e) k.lines
+
+-- ---- the node that a path leads to
+
+root_is_node : (p : ProblemValue) → IsNodeOf p (root_of p)
+root_is_node p =
+    let full : Arc → ℕ × ℕ = λ arc. (0, arc.span) in
+    record {
+      slacks = length-map (net_of p).arcs full ∙ length-map p.network.rows arc_of_net;
+      offsets = length-map p.table (odijk_range (net_of p) (root_slacks (net_of p)));
+    }
+
+-- what a cut of one node names exists for the others
+pub cut_of_node : (p : ProblemValue) (node : Node) (cut : Cut) → IsNodeOf p node → IsCutOf (root_of p) cut → IsCutOf node cut
+cut_of_node p node (Slack row k) h c = let root = root_is_node p in let here = h.slacks in let there = root.slacks in let most = c.0.1 in ((c.0.0, omega (arith, here, there, most)), c.1)
+cut_of_node p node (Offset cycle k) h c = let root = root_is_node p in let here = h.offsets in let there = root.offsets in let most = c.0.1 in ((c.0.0, omega (arith, here, there, most)), c.1)
+
+-- a step along a path
+pub step_along : (node : Node) (path : List (Cut × Side)) (i : ℕ) (d : Cut × Side) → i < length path → along node (drop i path) ≡ along (part node (get_or path i d).0 (get_or path i d).1) (drop (suc i) path)
+step_along node path i d l = ap (along node) (drop-cons path i d l)
+
+-- a cut of what exists that leaves both sides a value at the end of a path cuts every node
+pub cut_at : (p : ProblemValue) (path : List (Cut × Side)) (there node : Node) (cut : Cut) → KeepsNetLimits p.network → IsSmallTable p.table → there ≡ node_at p path → CutExists (net_of p) p.table cut × LeavesBoth there cut → IsNodeOf p node → IsCutOf node cut
+cut_at p path there node cut limits small e both h = cut_of_node p node cut h (cut_keeps_limits p path cut limits small both.0 (subst (λ (n : Node). LeavesBoth n cut) e both.1))

@@ -4,12 +4,12 @@ ghost use Rattle.std.specs.Prelude.{IfSome, length};
 ghost use Rattle.pesp_problem.specs.declared.cut.Cut.TheVariants.{Offset};
 ghost use Rattle.pesp_nodes.specs.Problems.{IsCutOf, IsNodeOf, ArePairs};
 
-use pesp_bound::{Cut, Leaf, Node, Pairs, Problem, Side, best_leaf, best_leaf_from};
+use pesp_bound::{Cut, Leaf, Node, Pair, Pairs, Problem, Side, best_leaf, best_leaf_from};
 use pesp_network::Network;
 use std::alloc::Global;
 
 // the problem of a network with its fundamental walks
-fn problem_of(alloc: Global, network: Network) -> Option<Problem> {
+pub(crate) fn problem_of(alloc: Global, network: Network) -> Option<Problem> {
     let table = network.cycles(alloc).ok()?;
     Problem::new(alloc, network, table).ok()
 }
@@ -30,7 +30,7 @@ pub fn root_leaf(alloc: Global, network: Network, rounds: u32) -> Option<u64> {
 }
 
 // the first cycle with more than one offset, numbered from 1, with the least
-fn wide_cycle(node: &Node) -> Option<(u32, i64)>
+pub(crate) fn wide_cycle(node: &Node) -> Option<(u32, i64)>
     ensures { IfSome result (λ found. IsCutOf node.now (Offset found.0 found.1)) }
 {
     let offsets = node.offsets();
@@ -44,7 +44,7 @@ fn wide_cycle(node: &Node) -> Option<(u32, i64)>
 }
 
 // the root
-fn root_of(alloc: Global, problem: &Problem) -> Option<Node>
+pub(crate) fn root_of(alloc: Global, problem: &Problem) -> Option<Node>
     ensures { IfSome result (IsNodeOf problem.now) }
 {
     match problem.root(alloc) {
@@ -81,4 +81,57 @@ pub fn child_leaf(alloc: Global, network: Network, rounds: u32) -> Option<u64> {
     let pairs = bound_pairs(alloc, &problem, &node, rounds)?;
     go_high(&problem, &mut node)?;
     value_of(&best_leaf_from(alloc, &problem, &node, pairs.as_slice(), rounds).ok()?)
+}
+
+// more rounds than any leaf uses
+const MOST: u32 = 1_000_000;
+
+// the value of the best leaf that is found from pairs in so many rounds
+fn value_from(
+    alloc: Global,
+    problem: &Problem,
+    node: &Node,
+    start: &[Pair],
+    rounds: u32,
+) -> Option<u64>
+    requires node { IsNodeOf problem.now node.now }
+    requires start { ArePairs (length problem.now.table) start.now }
+{
+    value_of(&best_leaf_from(alloc, problem, node, start, rounds).ok()?)
+}
+
+// the fewest rounds that give a leaf its greatest value; more rounds never give less
+fn fewest(alloc: Global, problem: &Problem, node: &Node, start: &[Pair]) -> Option<u64>
+    requires node { IsNodeOf problem.now node.now }
+    requires start { ArePairs (length problem.now.table) start.now }
+{
+    let greatest = value_from(alloc, problem, node, start, MOST)?;
+    let mut low = 0u32;
+    let mut high = MOST;
+    for _ in 0..20 {
+        let middle = low.saturating_add(high.saturating_sub(low) / 2);
+        if value_from(alloc, problem, node, start, middle)? >= greatest {
+            high = middle;
+        } else {
+            low = middle.saturating_add(1);
+        }
+    }
+    Some(u64::from(high))
+}
+
+/// The fewest rounds that give the root's leaf its greatest value.
+pub fn root_rounds(alloc: Global, network: Network) -> Option<u64> {
+    let problem = problem_of(alloc, network)?;
+    let root = root_of(alloc, &problem)?;
+    fewest(alloc, &problem, &root, &[])
+}
+
+/// The fewest rounds that give the leaf at the high part of a cut of the root its greatest value, from the pairs of the
+/// root's leaf.
+pub fn child_rounds(alloc: Global, network: Network) -> Option<u64> {
+    let problem = problem_of(alloc, network)?;
+    let mut node = root_of(alloc, &problem)?;
+    let pairs = bound_pairs(alloc, &problem, &node, MOST)?;
+    go_high(&problem, &mut node)?;
+    fewest(alloc, &problem, &node, pairs.as_slice())
 }

@@ -2,6 +2,7 @@
 //! the last. The scripts of `bench/` time it.
 #![tactic(auto)]
 
+mod boards;
 mod certificates;
 mod leaves;
 mod networks;

@@ -1,6 +1,7 @@
 //! Tasks over a network.
 
-use crate::leaves::{child_leaf, root_leaf};
+use crate::boards::splits;
+use crate::leaves::{child_leaf, child_rounds, root_leaf, root_rounds};
 use pesp_instance::read_instance;
 use pesp_network::Network;
 use pesp_problem::{Instance, Score, score};
@@ -8,8 +9,8 @@ use pesp_propagate::{Domains, Outcome, dive, propagate};
 use pesp_simplex::improve;
 use std::alloc::Global;
 
-/// What is done over an instance or its network, with the tries of a dive and the rounds of an improvement or of a leaf. A
-/// child is a part of a branch at the root.
+/// What is done over an instance or its network, with the tries of a dive, the rounds of an improvement or of a leaf, and the
+/// splits of a board. A child is a part of a branch at the root.
 #[derive(Clone, Copy, Debug, PartialEq, Eq)]
 pub enum Task {
     Read,
@@ -20,6 +21,9 @@ pub enum Task {
     Improve { rounds: u32 },
     Leaf { rounds: u32 },
     Child { rounds: u32 },
+    LeafRounds,
+    ChildRounds,
+    Board { splits: u32 },
 }
 
 /// The task of a word, with its own number.
@@ -33,6 +37,9 @@ pub fn task_of(word: &str, own: u32) -> Option<Task> {
         "improve" => Some(Task::Improve { rounds: own }),
         "leaf" => Some(Task::Leaf { rounds: own }),
         "child" => Some(Task::Child { rounds: own }),
+        "leafrounds" => Some(Task::LeafRounds),
+        "childrounds" => Some(Task::ChildRounds),
+        "board" => Some(Task::Board { splits: own }),
         _ => None,
     }
 }
@@ -90,6 +97,9 @@ fn figure(alloc: Global, task: Task, instance: &Instance) -> Option<u64> {
         Task::Improve { rounds } => improved(alloc, &network, rounds),
         Task::Leaf { rounds } => root_leaf(alloc, network, rounds),
         Task::Child { rounds } => child_leaf(alloc, network, rounds),
+        Task::LeafRounds => root_rounds(alloc, network),
+        Task::ChildRounds => child_rounds(alloc, network),
+        Task::Board { splits: count } => splits(alloc, network, count),
         _ => Some(u64::from(network.events())),
     }
 }

@@ -143,9 +143,6 @@ workable p t slots q best count number node b l =
     let leaf = lent_leaf_is p t slots q best count number node b (l.within, l.slot) in
     record { pairs = leaf.0; leaf = leaf.1; limits = b.orderly.limits; count = b.pairs }
 
-pub has_some : (p : ProblemValue) (t : WorkTreeValue) (node count : ℕ) → IsWorkable p t node count → IsSome (leaf_at t node)
-has_some p t node count k = some_leaf (leaf_at t node) (Bound k.pairs) k.leaf
-
 pub is_lent_parked : (p : ProblemValue) (t : WorkTreeValue) (slots : List Slot) (q : QueueValue) (number node : ℕ) → IsQueue p t slots q → IsLentWith slots number node → HasItem q.parked node
 is_lent_parked p t slots q number node is l = is.lent node (number, l.slot)
 

@@ -1,6 +1,5 @@
 -- Nodes along paths, and the cuts of the path to a leaf.
-use Rattle.std.proofs.Common.{◌≡◌, ℕ, suc, ◌<◌, List, [], ◌∷◌, ◌++◌, length, get_or, drop, sym, ap, ◌∙◌, arith, subst}
-use Rattle.std.proofs.Math.Seq.{drop-cons}
+use Rattle.std.proofs.Common.{◌≡◌, ℕ, List, [], ◌∷◌, ◌++◌, length, sym, ◌∙◌, arith, subst}
 use Rattle.std.specs.Prelude.{Some, All}
 use Rattle.std.proofs.lemmas.List.{length-map}
 use Rattle.std.proofs.lemmas.List.Elements.{All-cons, All-head, All-tail, All-nil}
@@ -10,10 +9,9 @@ use Rattle.pesp_problem.specs.declared.cut.Cut.{Cut}
 use Rattle.pesp_problem.specs.declared.cut.Cut.TheVariants.{Slack, Offset}
 use Rattle.pesp_problem.specs.declared.cut.Side.{Side}
 use Rattle.pesp_problem.specs.declared.cut.Side.TheVariants.{Low, High}
-use Rattle.pesp_problem.specs.Nodes.{Node, part, odijk_range, root_slacks}
+use Rattle.pesp_problem.specs.Nodes.{Node, odijk_range, root_slacks}
 use Rattle.pesp_truth.specs.Trees.{Tree, Leaf, Line, Ends, Branch, Bound, CutLine, CutExists, preorder}
 use Rattle.pesp_truth.specs.Leaves.{IsLeafAt}
-use Rattle.pesp_truth.specs.Paths.{along}
 use Rattle.pesp_network.specs.Networks.{KeepsNetLimits, arc_of_net}
 use Rattle.pesp_nodes.specs.Problems.{ProblemValue, net_of, IsSmallTable, IsNodeOf, IsCutOf, ArePairs}
 use Rattle.pesp_tree.specs.WorkTrees.{WorkTreeValue, IsWhole, path_to, leaf_at}
@@ -58,10 +56,6 @@ root_is_node p =
 pub cut_of_node : (p : ProblemValue) (node : Node) (cut : Cut) → IsNodeOf p node → IsCutOf (root_of p) cut → IsCutOf node cut
 cut_of_node p node (Slack row k) h c = let root = root_is_node p in let here = h.slacks in let there = root.slacks in let most = c.0.1 in ((c.0.0, omega (arith, here, there, most)), c.1)
 cut_of_node p node (Offset cycle k) h c = let root = root_is_node p in let here = h.offsets in let there = root.offsets in let most = c.0.1 in ((c.0.0, omega (arith, here, there, most)), c.1)
-
--- a step along a path
-pub step_along : (node : Node) (path : List (Cut × Side)) (i : ℕ) (d : Cut × Side) → i < length path → along node (drop i path) ≡ along (part node (get_or path i d).0 (get_or path i d).1) (drop (suc i) path)
-step_along node path i d l = ap (along node) (drop-cons path i d l)
 
 -- a cut of what exists that leaves both sides a value at the end of a path cuts every node
 pub cut_at : (p : ProblemValue) (path : List (Cut × Side)) (there node : Node) (cut : Cut) → KeepsNetLimits p.network → IsSmallTable p.table → there ≡ node_at p path → CutExists (net_of p) p.table cut × LeavesBoth there cut → IsNodeOf p node → IsCutOf node cut

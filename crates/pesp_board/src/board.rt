@@ -148,8 +148,8 @@ impl Board {
     /// cut leaves a side of its range no value (and where pairs don't rise or break their limits, or a row or a cycle doesn't
     /// exist), as `TooLarge` where the tree would have more than 1000000 lines or 20000000 pairs, and as `Memory` where a growth
     /// was refused. Then nothing has changed.
-    pub fn give(&mut self, alloc: Global, number: u64, work: Work) -> Result<(), GiveRefusal>
-        ensures state { Gives self.old.problem self.old.state number work result self.new.state }
+    pub fn give(&mut self, alloc: Global, number: u64, work: &Work) -> Result<(), GiveRefusal>
+        ensures state { Gives self.old.problem self.old.state number work.now result self.new.state }
         ensures problem { self.new.problem ≡ self.old.problem }
     {
         limits(&self.problem);

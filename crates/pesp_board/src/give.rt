@@ -84,10 +84,10 @@ pub(crate) fn make_at(
     tree: &WorkTree,
     count: u64,
     node: u32,
-    work: Work,
+    work: &Work,
 ) -> Result<(Made, u64), GiveRefusal>
     requires { IsWorkable problem.now tree.now node count }
-    ensures { MakesAt problem.now tree.now node work result }
+    ensures { MakesAt problem.now tree.now node work.now result }
 {
     let lines = tree.nodes();
     let Some(old) = bound_pairs(tree, node) else {

@@ -1,6 +1,7 @@
 //! What a work makes of a bound leaf at a node, judged before anything changes.
 
-ghost use Rattle.std.specs.Prelude.{◌≡◌, ℤ, ◌↔◌, ◌-◌, ◌<◌, ◌+ℤ◌, ◌≤ℤ◌, ◌<ℤ◌, pos, length, true, false, Some, None, IsTrue, IsNone, IsSomeAnd, IfOk, MatchOption};
+ghost use Rattle.std.specs.Prelude.{List, ◌≡◌, ℤ, ◌↔◌, ◌-◌, ◌<◌, ◌+ℤ◌, ◌≤ℤ◌, ◌<ℤ◌, pos, length, true, false, Some, None, IsTrue, IsNone, IsSomeAnd, IfOk, MatchOption};
+ghost use Rattle.pesp_problem.specs.declared.pair.Pair.{Pair};
 ghost use Rattle.pesp_problem.specs.Walks.{Names};
 ghost use Rattle.pesp_problem.specs.Nodes as spec;
 ghost use Rattle.pesp_problem.specs.Nodes.{part, offsets_left};
@@ -88,33 +89,36 @@ fn make_bound(
     problem: &Problem,
     node: &Node,
     old: &[Pair],
-    pairs: Pairs,
+    pairs: &[Pair],
 ) -> Result<Made, GiveRefusal>
     requires node { IsNodeOf problem.now node.now }
     requires old { ArePairs (length problem.now.table) old.now }
-    ensures { MakesOf problem.now node.now old.now (works.Leaf pairs) result }
+    ensures { MakesOf problem.now node.now old.now (works.Leaf pairs.now) result }
 {
-    let Some(value) = judged(problem, node, pairs.as_slice(), true) else {
+    let Some(value) = judged(problem, node, pairs, true) else {
         return Err(GiveRefusal::NotValid);
     };
     match leaf_value(problem, node, old, true) {
         Some(kept) if value <= kept => Ok(Made::Leaf(bound(copy_of(alloc, old)?, kept))),
-        _ => Ok(Made::Leaf(bound(pairs, value))),
+        _ => Ok(Made::Leaf(bound(copy_of(alloc, pairs)?, value))),
     }
 }
 
 /// Pairs that show that no timetable lies in the node.
 fn make_nothing(
+    alloc: Global,
     problem: &Problem,
     node: &Node,
-    old: &[Pair],
-    pairs: Pairs,
+    pairs: &Pairs,
 ) -> Result<Made, GiveRefusal>
     requires { IsNodeOf problem.now node.now }
-    ensures { MakesOf problem.now node.now old.now (works.Nothing pairs) result }
+    ensures { (old : List Pair) → MakesOf problem.now node.now old (works.Nothing pairs.now) result }
 {
     match judged(problem, node, pairs.as_slice(), false) {
-        Some(value) if value > 0 => Ok(Made::Leaf(closed(Leaf::Nothing(pairs)))),
+        Some(value) if value > 0 => {
+            let copy = copy_of(alloc, pairs.as_slice())?;
+            Ok(Made::Leaf(closed(Leaf::Nothing(copy))))
+        }
         _ => Err(GiveRefusal::NotValid),
     }
 }
@@ -131,9 +135,9 @@ fn is_gap(problem: &Problem, node: &Node, cycle: u32) -> bool
 }
 
 /// A cycle that has no offset left.
-fn make_gap(problem: &Problem, node: &Node, old: &[Pair], cycle: u32) -> Result<Made, GiveRefusal>
+fn make_gap(problem: &Problem, node: &Node, cycle: u32) -> Result<Made, GiveRefusal>
     requires { IsNodeOf problem.now node.now }
-    ensures { MakesOf problem.now node.now old.now (works.Gap cycle) result }
+    ensures { (old : List Pair) → MakesOf problem.now node.now old (works.Gap cycle) result }
 {
     if !is_gap(problem, node, cycle) {
         return Err(GiveRefusal::NotValid);
@@ -259,17 +263,17 @@ pub(crate) fn make(
     problem: &Problem,
     path: &[(Cut, Side)],
     old: &[Pair],
-    work: Work,
+    work: &Work,
 ) -> Result<Made, GiveRefusal>
     requires path { AreCuts problem.now path.now }
     requires old { ArePairs (length problem.now.table) old.now }
-    ensures { MakesOf problem.now (node_at problem.now path.now) old.now work result }
+    ensures { MakesOf problem.now (node_at problem.now path.now) old.now work.now result }
 {
     let node = node_along(alloc, problem, path)?;
     match work {
-        Work::Leaf(pairs) => make_bound(alloc, problem, &node, old, pairs),
-        Work::Nothing(pairs) => make_nothing(problem, &node, old, pairs),
-        Work::Gap(cycle) => make_gap(problem, &node, old, cycle),
-        Work::Split(cut) => make_branch(alloc, problem, path, node, old, cut),
+        Work::Leaf(pairs) => make_bound(alloc, problem, &node, old, pairs.as_slice()),
+        Work::Nothing(pairs) => make_nothing(alloc, problem, &node, pairs),
+        Work::Gap(cycle) => make_gap(problem, &node, *cycle),
+        Work::Split(cut) => make_branch(alloc, problem, path, node, old, *cut),
     }
 }

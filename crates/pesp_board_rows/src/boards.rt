@@ -1,7 +1,7 @@
 //! A board of two rows beside each other, whose slacks differ by 5: each call once, and what is told.
 
 ghost use Rattle.std.specs.Prelude.{IsTrue, IfOk};
-ghost use Rattle.pesp_problem.specs.Limits.{RowKeepsLimits};
+ghost use Rattle.pesp_problem.specs.Limits.{IsLabel, RowKeepsLimits};
 ghost use Rattle.pesp_machine.specs.Certificates.{IsProblemOf};
 
 use pesp_board::{Board, LendRefusal};
@@ -13,16 +13,36 @@ use std::alloc::Global;
 use std::process::Abort;
 use std::test::Fail;
 
-fn is_within_limits(events: u32, row: &Row) -> bool
+fn is_label(label: i64) -> bool
+    ensures { IsTrue result → IsLabel label }
+{
+    (-1_000_000_000_000..=1_000_000_000_000).contains(&label)
+}
+
+fn is_within_limits(events: usize, row: &Row) -> bool
     ensures { IsTrue result → RowKeepsLimits events row.now }
 {
-    (-1_000_000_000_000..=1_000_000_000_000).contains(&row.label)
-        && row.tail < events
-        && row.head < events
+    is_label(row.label)
+        && (row.tail as usize) < events
+        && (row.head as usize) < events
         && row.lower >= -1_000_000
         && row.lower <= row.upper
         && row.upper <= 1_000_000
         && row.weight <= 1_000_000_000
+}
+
+/// The instance of these parts at period 10.
+fn instance_of(alloc: Global, events: &[i64], rows: &[Row]) -> Result<Instance, Fail> {
+    let count = events.len();
+    if !rows.iter().all(|row| is_within_limits(count, row))
+        || !events.iter().all(|label| is_label(*label))
+    {
+        Err("beyond the limits")?;
+    }
+    if rows.len() > 100_000 || count > 100_000 {
+        Err("too many")?;
+    }
+    Ok(Instance::new(10, events.to_vec(alloc)?, rows.to_vec(alloc)?))
 }
 
 /// A row of weight 1 from the first event to the second, whose slack may be any.
@@ -39,11 +59,7 @@ fn row(label: i64, lower: i64) -> Row {
 
 /// Two rows from event 1 to event 2, with lower bounds 0 and 5, at period 10.
 pub(crate) fn instance(alloc: Global) -> Result<Instance, Fail> {
-    let rows = [row(1, 0), row(2, 5)];
-    if !rows.iter().all(|row| is_within_limits(2, row)) {
-        Err("beyond the limits")?;
-    }
-    Ok(Instance::new(10, [1, 2].to_vec(alloc)?, rows.to_vec(alloc)?))
+    instance_of(alloc, &[1, 2], &[row(1, 0), row(2, 5)])
 }
 
 /// There along the first row and back along the second.

@@ -56,7 +56,7 @@ fn give(alloc: Global, board: &mut Board, event: Event) -> Result<(), Fail>
     ensures { board.new.problem ≡ board.old.problem }
 {
     if let Some((number, work)) = work_of(alloc, event)? {
-        let _reply = board.give(alloc, number, work);
+        let _reply = board.give(alloc, number, &work);
     }
     Ok(())
 }
@@ -106,19 +106,26 @@ fn board_of(alloc: Global, instance: &Instance, walk: &[SignedRow]) -> Result<Bo
 }
 
 /// What is certified once all events have happened; the checker accepts what is certified after each of them.
-fn played(
+fn after_all(
     alloc: Global,
-    text: &str,
-    walk: &[SignedRow],
+    instance: &Instance,
+    board: &mut Board,
     events: &[Event],
-) -> Result<String, Fail> {
+) -> Result<String, Fail>
+    requires { IsProblemOf instance.now board.old.problem }
+{
+    for event in events {
+        certified(alloc, instance, board)?;
+        play(alloc, board, *event)?;
+    }
+    certified(alloc, instance, board)
+}
+
+/// What is certified for the instance of a text and the table of one walk, once all events have happened.
+fn played(alloc: Global, text: &str, walk: &[SignedRow], events: &[Event]) -> Result<String, Fail> {
     let instance = read_instance(alloc, text.as_bytes(), 10)?;
     let mut board = board_of(alloc, &instance, walk)?;
-    for event in events {
-        certified(alloc, &instance, &board)?;
-        play(alloc, &mut board, *event)?;
-    }
-    certified(alloc, &instance, &board)
+    after_all(alloc, &instance, &mut board, events)
 }
 
 /// Judges what is certified of two rows side by side by what stands after the line of the period, 10.
@@ -134,12 +141,16 @@ fn judge(rt: &impl Abort, alloc: Global, events: &[Event], rest: &str) -> Result
     Ok(())
 }
 
-const DECIDED: &str =
-    "answer optimal 5\ntime 1 0\ntime 2 0\ncycle +1 -2\no 1 -1\nb 1 -1\nb 1 1\n";
+const DECIDED: &str = "answer optimal 5\ntime 1 0\ntime 2 0\ncycle +1 -2\no 1 -1\nb 1 -1\nb 1 1\n";
 
 #[test]
 fn lost_work(rt: HostRuntime) -> Result<(), Fail> {
-    let events = [Event::Offer([0, 0]), Event::Lend, Event::Lend, Event::Recall(1)];
+    let events = [
+        Event::Offer([0, 0]),
+        Event::Lend,
+        Event::Lend,
+        Event::Recall(1),
+    ];
     judge(
         &rt,
         rt.alloc(),

@@ -23,7 +23,7 @@ fn leaf(alloc: Global, mult: i64) -> Result<Work, Fail> {
 fn refusal(alloc: Global, board: &mut Board, number: u64, work: Work) -> Option<GiveRefusal>
     ensures { board.new.problem ≡ board.old.problem }
 {
-    match board.give(alloc, number, work) {
+    match board.give(alloc, number, &work) {
         Ok(()) => None,
         Err(refusal) => Some(refusal),
     }
@@ -93,19 +93,26 @@ fn both_parts_are_lent(rt: HostRuntime) -> Result<(), Fail> {
     let alloc = rt.alloc();
     let mut board = split_board(alloc)?;
     let (high, low) = lend_both(alloc, &mut board)?;
-    assert_eq!(rt; high + low, 3);
-    assert_eq!(rt; lend_part(alloc, &mut board)?, None);
+    assert!(rt; high != low);
+    assert!(rt; lends_nothing(alloc, &mut board)?);
     assert_eq!(rt; board.least(), Some(0));
     Ok(())
 }
 
-/// Work for the high part: a false gap, then a bound, twice, and a bound for a number that was never lent.
-fn close_high(rt: &impl Abort, alloc: Global, board: &mut Board, high: u64) -> Result<(), Fail>
+/// A false gap for the high part, then its bound.
+fn give_high(rt: &impl Abort, alloc: Global, board: &mut Board, high: u64) -> Result<(), Fail>
     ensures { board.new.problem ≡ board.old.problem }
 {
     let gap = refusal(alloc, board, high, Work::Gap(1));
     assert_eq!(rt; gap, Some(GiveRefusal::NotValid));
     assert_eq!(rt; leaf_refusal(alloc, board, high, 1)?, None);
+    Ok(())
+}
+
+/// The high part's bound once more, and a bound for a number that was never lent.
+fn give_again(rt: &impl Abort, alloc: Global, board: &mut Board, high: u64) -> Result<(), Fail>
+    ensures { board.new.problem ≡ board.old.problem }
+{
     let again = leaf_refusal(alloc, board, high, 1)?;
     assert_eq!(rt; again, Some(GiveRefusal::AlreadyGiven));
     let unknown = leaf_refusal(alloc, board, 7, 1)?;
@@ -118,7 +125,8 @@ fn close(rt: &impl Abort, alloc: Global, board: &mut Board) -> Result<(), Fail>
     ensures { board.new.problem ≡ board.old.problem }
 {
     let (high, low) = lend_both(alloc, board)?;
-    close_high(rt, alloc, board, high)?;
+    give_high(rt, alloc, board, high)?;
+    give_again(rt, alloc, board, high)?;
     assert_eq!(rt; leaf_refusal(alloc, board, low, -1)?, None);
     Ok(())
 }
@@ -138,13 +146,53 @@ fn both_parts_cost_five(rt: HostRuntime) -> Result<(), Fail> {
     Ok(())
 }
 
+fn offers(board: &mut Board, times: Vec<u32>) -> bool {
+    board.offer(times)
+}
+
+fn recalls(board: &mut Board, number: u64) -> bool {
+    board.recall(number)
+}
+
+/// Whether the next job has this number, and is this part of the root.
+fn lends(alloc: Global, board: &mut Board, number: u64, side: Side) -> Result<bool, Fail> {
+    Ok(lend_part(alloc, board)? == Some((number, side)))
+}
+
+fn lends_nothing(alloc: Global, board: &mut Board) -> Result<bool, Fail> {
+    Ok(lend_part(alloc, board)?.is_none())
+}
+
+/// Whether a multiplier of the one cycle is taken for a bound leaf.
+fn takes(alloc: Global, board: &mut Board, number: u64, mult: i64) -> Result<bool, Fail> {
+    Ok(leaf_refusal(alloc, board, number, mult)?.is_none())
+}
+
+/// Whether a multiplier of the one cycle is refused so.
+fn refuses(
+    alloc: Global,
+    board: &mut Board,
+    number: u64,
+    refusal: GiveRefusal,
+) -> Result<bool, Fail> {
+    Ok(leaf_refusal(alloc, board, number, 1)? == Some(refusal))
+}
+
+/// Whether a job's leaf has this value and so many pairs.
+fn tells(board: &Board, number: u64, value: u64, count: usize) -> bool {
+    match board.job_leaf(number) {
+        Some((told, pairs)) => told == value && pairs.len() == count,
+        None => false,
+    }
+}
+
 #[test]
 fn what_reaches_the_best_cost_is_not_open(rt: HostRuntime) -> Result<(), Fail> {
     let alloc = rt.alloc();
     let mut board = split_board(alloc)?;
-    assert!(rt; board.offer([0, 0].to_vec(alloc)?));
+    assert!(rt; offers(&mut board, [0, 0].to_vec(alloc)?));
     close(&rt, alloc, &mut board)?;
-    assert_eq!(rt; lend_part(alloc, &mut board)?, None);
+    assert!(rt; lends_nothing(alloc, &mut board)?);
     Ok(())
 }
 
@@ -153,16 +201,25 @@ fn the_least_leaf_is_lent_next(rt: HostRuntime) -> Result<(), Fail> {
     let alloc = rt.alloc();
     let mut board = split_board(alloc)?;
     let (high, low) = lend_both(alloc, &mut board)?;
-    assert_eq!(rt; leaf_refusal(alloc, &mut board, high, 1)?, None);
-    assert!(rt; board.recall(low));
-    assert_eq!(rt; lend_part(alloc, &mut board)?, Some((3, Side::Low)));
+    assert!(rt; takes(alloc, &mut board, high, 1)?);
+    assert!(rt; recalls(&mut board, low));
+    assert!(rt; lends(alloc, &mut board, 3, Side::Low)?);
     Ok(())
 }
 
-/// The value of a job's leaf, and how many pairs it has.
-fn leaf_of(board: &Board, number: u64) -> Option<(u64, usize)> {
-    let (value, pairs) = board.job_leaf(number)?;
-    Some((value, pairs.len()))
+/// Gives a multiplier for the high part, and sees that it is lent next with its better pairs.
+fn keeps_better(
+    rt: &impl Abort,
+    alloc: Global,
+    board: &mut Board,
+    number: u64,
+    mult: i64,
+    next: u64,
+) -> Result<(), Fail> {
+    assert!(rt; takes(alloc, board, number, mult)?);
+    assert!(rt; lends(alloc, board, next, Side::High)?);
+    assert!(rt; tells(board, next, 5, 1));
+    Ok(())
 }
 
 #[test]
@@ -170,13 +227,8 @@ fn the_better_pairs_are_kept(rt: HostRuntime) -> Result<(), Fail> {
     let alloc = rt.alloc();
     let mut board = split_board(alloc)?;
     let (high, _) = lend_both(alloc, &mut board)?;
-    assert_eq!(rt; leaf_refusal(alloc, &mut board, high, 1)?, None);
-    assert_eq!(rt; lend_part(alloc, &mut board)?, Some((3, Side::High)));
-    assert_eq!(rt; leaf_of(&board, 3), Some((5, 1)));
-    assert_eq!(rt; leaf_refusal(alloc, &mut board, 3, -1)?, None);
-    assert_eq!(rt; lend_part(alloc, &mut board)?, Some((4, Side::High)));
-    assert_eq!(rt; leaf_of(&board, 4), Some((5, 1)));
-    Ok(())
+    keeps_better(&rt, alloc, &mut board, high, 1, 3)?;
+    keeps_better(&rt, alloc, &mut board, 3, -1, 4)
 }
 
 #[test]
@@ -184,11 +236,9 @@ fn what_was_recalled_is_unknown(rt: HostRuntime) -> Result<(), Fail> {
     let alloc = rt.alloc();
     let mut board = split_board(alloc)?;
     let (high, _) = lend_both(alloc, &mut board)?;
-    assert!(rt; board.recall(high));
-    let late = leaf_refusal(alloc, &mut board, high, 1)?;
-    assert_eq!(rt; late, Some(GiveRefusal::UnknownJob));
-    let root = leaf_refusal(alloc, &mut board, 0, 1)?;
-    assert_eq!(rt; root, Some(GiveRefusal::AlreadyGiven));
+    assert!(rt; recalls(&mut board, high));
+    assert!(rt; refuses(alloc, &mut board, high, GiveRefusal::UnknownJob)?);
+    assert!(rt; refuses(alloc, &mut board, 0, GiveRefusal::AlreadyGiven)?);
     Ok(())
 }
 
@@ -249,7 +299,13 @@ fn false_proofs_close_nothing(rt: HostRuntime) -> Result<(), Fail> {
     let pairs = [Pair { cycle: 1, mult: 1 }];
     let nothing = Work::Nothing(Pairs::new(pairs.to_vec(alloc)?));
     assert_eq!(rt; root_refusal(alloc, nothing)?, Some(GiveRefusal::NotValid));
-    assert_eq!(rt; root_refusal(alloc, Work::Gap(1))?, Some(GiveRefusal::NotValid));
-    assert_eq!(rt; root_refusal(alloc, Work::Gap(0))?, Some(GiveRefusal::NotValid));
+    assert_eq!(rt;
+        root_refusal(alloc, Work::Gap(1))?,
+        Some(GiveRefusal::NotValid)
+    );
+    assert_eq!(rt;
+        root_refusal(alloc, Work::Gap(0))?,
+        Some(GiveRefusal::NotValid)
+    );
     Ok(())
 }

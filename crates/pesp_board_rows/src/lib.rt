@@ -1,4 +1,4 @@
-//! Worked rows of leaves, of trees under work, and of boards.
+//! Worked rows of trees under work and of boards.
 #![tactic(auto)]
 
 #[cfg(test)]
@@ -7,8 +7,6 @@ mod boards;
 mod certified;
 #[cfg(test)]
 mod giving;
-#[cfg(test)]
-mod levels;
 #[cfg(test)]
 mod queues;
 #[cfg(test)]

@@ -9,7 +9,7 @@ ghost use Rattle.pesp_nodes.specs.Problems.{net_of, IsNodeOf, ArePairs, Rise};
 
 use crate::deciding::closing_pairs;
 use crate::leaf::Leaf;
-use crate::proposing::propose;
+use crate::proposing::{Proposal, propose};
 use pesp_nodes::{Node, Problem, are_pairs, leaf_value, offset_range};
 use pesp_problem::{Memory, Pair, Pairs};
 use std::alloc::Global;
@@ -86,13 +86,18 @@ fn begin_apart(problem: &Problem) -> bool {
 }
 
 // pairs of value above 0 without weights along a closed way; at a decided node there are some
-fn closing_proof(alloc: Global, problem: &Problem, node: &Node) -> Result<Option<Vec<Pair>>, Memory>
+fn closing_proof(
+    alloc: Global,
+    problem: &Problem,
+    node: &Node,
+    levels: &[usize],
+) -> Result<Option<Vec<Pair>>, Memory>
     requires { IsNodeOf problem.now node.now }
     ensures pairs { IfOk result (λ o. IfSome o (λ v. ArePairs (length problem.now.table) v.items)) }
     ensures value { IfOk result (λ o. IfSome o (λ v. IsSomeAnd (spec.leaf_value (net_of problem.now) problem.now.table node.now v.items false) (λ z. pos 0 <ℤ z))) }
     ensures decided { IfOk result (λ o. IsDecided problem.now node.now → IsSome o) }
 {
-    let Some(pairs) = closing_pairs(alloc, problem, node)? else {
+    let Some(pairs) = closing_pairs(alloc, problem, node, levels)? else {
         return Ok(None);
     };
     match leaf_value(problem, node, &pairs, false) {
@@ -101,7 +106,7 @@ fn closing_proof(alloc: Global, problem: &Problem, node: &Node) -> Result<Option
     }
 }
 
-// pairs of value above 0 without weights that one improving change finds
+// pairs of value above 0 without weights that pivots find
 fn proposed_proof(
     alloc: Global,
     problem: &Problem,
@@ -111,9 +116,9 @@ fn proposed_proof(
     ensures pairs { IfOk result (λ o. IfSome o (λ v. ArePairs (length problem.now.table) v.items)) }
     ensures value { IfOk result (λ o. IfSome o (λ v. IsSomeAnd (spec.leaf_value (net_of problem.now) problem.now.table node.now v.items false) (λ z. pos 0 <ℤ z))) }
 {
-    let pairs = propose(alloc, problem, node, &[], false, 1)?;
-    match judged(problem, node, &pairs, false) {
-        Some(value) if value > 0 => Ok(Some(pairs)),
+    let found = propose(alloc, problem, node, &[], false, 1_000_000)?;
+    match judged(problem, node, &found.pairs, false) {
+        Some(value) if value > 0 => Ok(Some(found.pairs)),
         _ => Ok(None),
     }
 }
@@ -123,17 +128,33 @@ fn proof_of_nothing(
     alloc: Global,
     problem: &Problem,
     node: &Node,
+    levels: &[usize],
 ) -> Result<Option<Vec<Pair>>, Memory>
     requires { IsNodeOf problem.now node.now }
     ensures pairs { IfOk result (λ o. IfSome o (λ v. ArePairs (length problem.now.table) v.items)) }
     ensures value { IfOk result (λ o. IfSome o (λ v. IsSomeAnd (spec.leaf_value (net_of problem.now) problem.now.table node.now v.items false) (λ z. pos 0 <ℤ z))) }
     ensures decided { IfOk result (λ o. IsDecided problem.now node.now → IsSome o) }
 {
-    let closing = closing_proof(alloc, problem, node)?;
+    let closing = closing_proof(alloc, problem, node, levels)?;
     if closing.is_some() || begin_apart(problem) {
         return Ok(closing);
     }
     proposed_proof(alloc, problem, node)
+}
+
+// whether what is proposed has a value above 0 without weights
+fn is_endless(problem: &Problem, node: &Node, found: &Proposal) -> bool
+    requires { IsNodeOf problem.now node.now }
+    ensures pairs { IsTrue result → ArePairs (length problem.now.table) found.now.pairs.items }
+    ensures value { IsTrue result → IsSomeAnd (spec.leaf_value (net_of problem.now) problem.now.table node.now found.now.pairs.items false) (λ z. pos 0 <ℤ z) }
+{
+    if !found.endless {
+        return false;
+    }
+    match judged(problem, node, &found.pairs, false) {
+        Some(value) => value > 0,
+        None => false,
+    }
 }
 
 // the best of no pairs, the start and what is found from it
@@ -142,7 +163,7 @@ fn best_pairs(
     problem: &Problem,
     node: &Node,
     start: &[Pair],
-    rounds: u32,
+    found: Vec<Pair>,
 ) -> Result<Best, Memory>
     requires node { IsNodeOf problem.now node.now }
     requires start { ArePairs (length problem.now.table) start.now }
@@ -154,12 +175,11 @@ fn best_pairs(
     let none = no_pairs(alloc, problem, node);
     let kept = start.to_vec(alloc)?;
     let started = better(none, kept, leaf_value(problem, node, start, true));
-    let found = propose(alloc, problem, node, start, true, rounds)?;
     let value = judged(problem, node, &found, true);
     Ok(better(started, found, value))
 }
 
-/// The best leaf that is found at a node, from the pairs of another leaf, by so many improving changes of a circulation: a
+/// The best leaf that is found at a node, from the pairs of another leaf, by so many pivots of a circulation: a
 /// `Gap` wherever some cycle has no offset left; else a `Nothing` where pairs of value above 0 with all weights 0 were found,
 /// or a `Bound` whose value is at least that of no pairs, and at least that of the start where it has one at this node. Where
 /// the cycles are the network's own, each slack range has a value, each offset range has one, and no slacks of the ranges
@@ -181,11 +201,16 @@ pub fn best_leaf_from(
     if let Some(cycle) = first_gap(problem, node) {
         return Ok(Leaf::Gap { cycle });
     }
-    if let Some(pairs) = proof_of_nothing(alloc, problem, node)? {
+    let found = propose(alloc, problem, node, start, true, rounds)?;
+    if is_endless(problem, node, &found) {
+        let pairs = Pairs::new(found.pairs);
+        return Ok(Leaf::Nothing { pairs });
+    }
+    if let Some(pairs) = proof_of_nothing(alloc, problem, node, &found.levels)? {
         let pairs = Pairs::new(pairs);
         return Ok(Leaf::Nothing { pairs });
     }
-    let Best { pairs, value } = best_pairs(alloc, problem, node, start, rounds)?;
+    let Best { pairs, value } = best_pairs(alloc, problem, node, start, found.pairs)?;
     let pairs = Pairs::new(pairs);
     Ok(Leaf::Bound { pairs, value })
 }

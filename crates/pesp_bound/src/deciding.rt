@@ -11,7 +11,7 @@ ghost use Rattle.pesp_bound.specs.Differences.{IsSystem};
 use crate::differences::{MOST, edges_along, passed_rows};
 use crate::shifts::shifts_of;
 use crate::turning::{flows_along, pairs_of};
-use pesp_levels::{Edge, Outcome, settle};
+use pesp_levels::{Edge, Outcome, are_settled, settle};
 use pesp_nodes::{Node, Problem};
 use pesp_problem::{Pair, SignedRow};
 use std::alloc::{AllocError, Global};
@@ -39,27 +39,33 @@ fn system_of(alloc: Global, problem: &Problem, node: &Node) -> Result<Option<Sys
     Ok(Some(System { rows, edges }))
 }
 
-// a closed way along which no levels meet the demands of the edges
+// a closed way along which no levels meet the demands of the edges, where the given levels don't meet them
 fn closing_way(
     alloc: Global,
     edges: &[Edge],
     events: usize,
+    levels: &[usize],
 ) -> Result<Option<Vec<usize>>, AllocError>
     requires within { AreWithin events 10300001030000 edges.now }
     requires few { events ≤ 100000 }
     ensures { IfOk result (λ o. MatchOption o ((h : ℕ → ℕ) × AreSettled edges.now h) (λ way. GainsForEver edges.now way.items × (length way.items ≤ 100000))) }
 {
+    if are_settled(edges, levels) {
+        return Ok(None);
+    }
     match settle(alloc, edges, events, MOST)? {
         Outcome::Levels(_) => Ok(None),
         Outcome::Gains(way) => Ok(Some(way)),
     }
 }
 
-/// The multipliers of a closed way along which levels of events would have to rise for ever, where there is one.
+/// The multipliers of a closed way along which levels of events would have to rise for ever, where there is one. Levels
+/// that meet all demands, where they are given, show at once that there is none.
 pub fn closing_pairs(
     alloc: Global,
     problem: &Problem,
     node: &Node,
+    levels: &[usize],
 ) -> Result<Option<Vec<Pair>>, AllocError>
     requires { IsNodeOf problem.now node.now }
     ensures pairs { IfOk result (λ o. IfSome o (λ v. ArePairs (length problem.now.table) v.items)) }
@@ -71,7 +77,7 @@ pub fn closing_pairs(
     let Some(system) = system_of(alloc, problem, node)? else {
         return Ok(None);
     };
-    match closing_way(alloc, &system.edges, network.events() as usize)? {
+    match closing_way(alloc, &system.edges, network.events() as usize, levels)? {
         None => Ok(None),
         Some(way) => {
             let flows = flows_along(alloc, count, &system.rows, &way)?;

@@ -3,12 +3,10 @@
 #![tactic(auto)]
 
 mod best;
-mod circulation;
 mod deciding;
 mod differences;
 mod leaf;
 mod proposing;
-mod residual;
 mod shifts;
 mod turning;
 
@@ -17,6 +15,3 @@ pub use leaf::Leaf;
 pub use pesp_nodes::{
     Cut, Node, Pair, Pairs, Problem, ProblemRefusal, Side, leaf_value, offset_range,
 };
-
-#[cfg(test)]
-mod tests;

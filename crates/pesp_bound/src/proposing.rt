@@ -1,12 +1,11 @@
 //! Multipliers for a leaf. Nothing is promised of them: a proposal is judged by the value that it has.
 
-ghost use Rattle.std.specs.Prelude.{◌≤◌, length, unsigned_abs, All, sum_by};
-ghost use Rattle.pesp_nodes.specs.Problems.{IsNodeOf, Rise, ArePairs};
+ghost use Rattle.std.specs.Prelude.{◌≤◌, length};
+ghost use Rattle.pesp_nodes.specs.Problems.{IsNodeOf};
 
-use crate::circulation::{LIMIT, Line, idle_line, send};
-use crate::residual::improving;
-use pesp_nodes::{Node, Passage, Problem, flow_on, offset_range};
-use pesp_problem::{Arc, Memory, Pair};
+use pesp_circulation::{Found, Line, improve};
+use pesp_nodes::{Node, Passage, Problem, offset_range};
+use pesp_problem::{Arc, Memory, Pair, SignedRow, Walk};
 use std::alloc::{AllocError, Global};
 
 /// The row that a cycle alone passes, and whether it passes it under a plus sign.
@@ -44,76 +43,110 @@ fn own_rows(alloc: Global, problem: &Problem) -> Result<Vec<Option<Own>>, AllocE
     Ok(owns)
 }
 
-// a row with its costs at a slack range
-fn line_of(arc: &Arc, range: (u32, u32), weighted: bool, flow: i128) -> Option<Line> {
+// a line without events of its own and without a cost
+fn idle_line() -> Line {
+    Line {
+        tail: 0,
+        head: 0,
+        weight: 0,
+        below: 0,
+        between: 0,
+        above: 0,
+        flow: 0,
+    }
+}
+
+// a row with its costs at a slack range: a unit of flow up to the weight costs the least duration, one above it the greatest
+fn line_of(arc: &Arc, range: (u32, u32), weighted: bool, flow: i64) -> Option<Line> {
     let weight = if weighted {
         i64::try_from(arc.weight).ok()?
     } else {
         0
     };
+    let low = arc.lower.checked_add(i64::from(range.0.min(range.1)))?;
+    let high = arc.lower.checked_add(i64::from(range.0.max(range.1)))?;
     Some(Line {
         tail: arc.tail as usize,
         head: arc.head as usize,
         weight,
-        low: arc.lower.checked_add(i64::from(range.0))?,
-        high: arc.lower.checked_add(i64::from(range.1))?,
-        from: 0,
-        to: 0,
-        flow: i64::try_from(flow).ok()?,
+        below: low,
+        between: low,
+        above: high,
+        flow,
     })
 }
 
-// what a unit of flow on a cycle's own row brings
-fn set_offsets(line: &mut Line, period: u32, left: (i64, i64), plus: bool) -> Option<()> {
+// takes off what a unit of flow on a cycle's own row brings: the period times the least offset where the cycle's multiplier
+// is above 0, times the greatest below 0
+fn take_offsets(line: &mut Line, period: u32, left: (i64, i64), plus: bool) -> Option<()> {
     let low = left.0.checked_mul(i64::from(period))?;
     let high = left.1.checked_mul(i64::from(period))?;
-    if plus {
-        line.from = low;
-        line.to = high;
+    let (under, over) = if plus {
+        (high, low)
     } else {
-        line.from = high.checked_neg()?;
-        line.to = low.checked_neg()?;
+        (low.checked_neg()?, high.checked_neg()?)
+    };
+    line.below = line.below.checked_sub(under)?;
+    line.between = line.between.checked_sub(over)?;
+    line.above = line.above.checked_sub(over)?;
+    Some(())
+}
+
+// adds a multiplier to the flows along a walk
+fn add_walk(flows: &mut [i64], walk: &[SignedRow], mult: i64) -> Option<()> {
+    for s in walk {
+        let flow = flows.get_mut((s.row as usize).checked_sub(1)?)?;
+        *flow = if s.plus {
+            flow.checked_add(mult)?
+        } else {
+            flow.checked_sub(mult)?
+        };
     }
     Some(())
 }
 
-// a row with the flow of pairs; a row that no cycle passes has no part in a circulation
-fn line_at(
-    arc: &Arc,
-    range: (u32, u32),
-    passages: &[Passage],
-    pairs: &[Pair],
-    weighted: bool,
-) -> Option<Line>
-    requires rise { Rise pairs.now }
-    requires mults { All (λ p. unsigned_abs p.mult ≤ 1000000000000) pairs.now }
-    requires small { sum_by (λ e. unsigned_abs e.count) passages.now ≤ 10000000 }
-{
-    if passages.is_empty() {
-        return Some(idle_line());
-    }
-    line_of(arc, range, weighted, flow_on(passages, pairs))
+// adds the flow of a pair
+fn add_pair(flows: &mut [i64], table: &[Walk], pair: &Pair) -> Option<()> {
+    let walk = table.get((pair.cycle as usize).checked_sub(1)?)?;
+    add_walk(flows, walk.rows(), pair.mult)
 }
 
-// the rows with the flows of pairs
+// the flow of pairs on each row; None where one passes 64 bits
+fn flows_of(
+    alloc: Global,
+    problem: &Problem,
+    pairs: &[Pair],
+) -> Result<Option<Vec<i64>>, AllocError> {
+    let mut flows = vec![in alloc; 0i64; problem.arcs().len()]?;
+    for pair in pairs {
+        if add_pair(&mut flows, problem.table(), pair).is_none() {
+            return Ok(None);
+        }
+    }
+    Ok(Some(flows))
+}
+
+// the rows with flows; a row that no cycle passes has no part in a circulation
 fn lines_of(
     alloc: Global,
     problem: &Problem,
     node: &Node,
-    pairs: &[Pair],
+    flows: &[i64],
     weighted: bool,
 ) -> Result<Option<Vec<Line>>, AllocError>
-    requires node { IsNodeOf problem.now node.now }
-    requires rise { Rise pairs.now }
-    requires mults { All (λ p. unsigned_abs p.mult ≤ 1000000000000) pairs.now }
+    requires { IsNodeOf problem.now node.now }
 {
     let arcs = problem.arcs();
     let slacks = node.slacks();
     let by_row = problem.passages();
     let mut lines = Vec::new(alloc);
     for place in 0..arcs.len() {
-        let passages = by_row[place].as_slice();
-        let Some(line) = line_at(&arcs[place], slacks[place], passages, pairs, weighted) else {
+        if by_row[place].as_slice().is_empty() {
+            lines.push(idle_line())?;
+            continue;
+        }
+        let flow = flows.get(place).copied().unwrap_or(0);
+        let Some(line) = line_of(&arcs[place], slacks[place], weighted, flow) else {
             return Ok(None);
         };
         lines.push(line)?;
@@ -121,61 +154,42 @@ fn lines_of(
     Ok(Some(lines))
 }
 
-// sets what the cycles' own rows bring
+// takes off what the cycles' own rows bring
 fn with_offsets(
     problem: &Problem,
     node: &Node,
     owns: &[Option<Own>],
     lines: &mut [Line],
 ) -> Option<()>
-    requires node { IsNodeOf problem.now node.now }
+    requires { IsNodeOf problem.now node.now }
 {
     for place in 0..problem.table().len() {
         let own = owns.get(place).copied()??;
         let left = offset_range(problem, node, place as u32 + 1)?;
         let line = lines.get_mut(own.place)?;
-        set_offsets(line, problem.network().period(), left, own.plus)?;
+        take_offsets(line, problem.network().period(), left, own.plus)?;
     }
     Some(())
 }
 
-// so many improving changes, or as many as are found; one is of at most so many units
-fn improve(
-    alloc: Global,
-    lines: &mut [Line],
-    events: usize,
-    rounds: u32,
-    most: i64,
-) -> Result<(), AllocError> {
-    for _ in 0..rounds {
-        let Some(way) = improving(alloc, lines, events)? else {
-            return Ok(());
-        };
-        if send(lines, &way, most).is_none() {
-            return Ok(());
-        }
-    }
-    Ok(())
-}
-
 // the multiplier of a cycle: the flow on its own row
-fn mult_of(lines: &[Line], own: Option<Own>) -> Option<i64> {
+fn mult_of(flows: &[i64], own: Option<Own>) -> Option<i64> {
     let own = own?;
-    let line = lines.get(own.place)?;
+    let flow = flows.get(own.place).copied()?;
     if own.plus {
-        Some(line.flow)
+        Some(flow)
     } else {
-        line.flow.checked_neg()
+        flow.checked_neg()
     }
 }
 
 // the cycles whose own rows carry a flow
-fn pairs_of(alloc: Global, owns: &[Option<Own>], lines: &[Line]) -> Result<Vec<Pair>, AllocError>
+fn pairs_of(alloc: Global, owns: &[Option<Own>], flows: &[i64]) -> Result<Vec<Pair>, AllocError>
     requires { length owns.now ≤ 100000 }
 {
     let mut pairs = Vec::new(alloc);
     for place in 0..owns.len() {
-        let mult = mult_of(lines, owns[place]).unwrap_or(0);
+        let mult = mult_of(flows, owns[place]).unwrap_or(0);
         if mult != 0 {
             pairs.push(Pair {
                 cycle: place as u32 + 1,
@@ -186,8 +200,68 @@ fn pairs_of(alloc: Global, owns: &[Option<Own>], lines: &[Line]) -> Result<Vec<P
     Ok(pairs)
 }
 
-/// Pairs for a leaf, found from pairs by so many improving changes of their circulation. Without weights one unit along an
-/// improving way is enough.
+/// Pairs that are proposed for a leaf, whether their value grows without end as they are multiplied, and levels of events
+/// that may meet the demands of all rows; none where none were found.
+#[derive(Debug, Drop)]
+pub struct Proposal {
+    pub pairs: Vec<Pair>,
+    pub endless: bool,
+    pub levels: Vec<usize>,
+}
+
+// no pairs
+fn nothing_proposed(alloc: Global) -> Proposal {
+    Proposal {
+        pairs: Vec::new(alloc),
+        endless: false,
+        levels: Vec::new(alloc),
+    }
+}
+
+// the greatest of prices
+fn greatest(prices: &[i64]) -> i64 {
+    let mut greatest = 0;
+    for price in prices {
+        greatest = greatest.max(*price);
+    }
+    greatest
+}
+
+// levels that rise where prices fall
+fn levels_of(alloc: Global, prices: &[i64]) -> Result<Vec<usize>, AllocError> {
+    let top = greatest(prices);
+    let mut levels = Vec::new(alloc);
+    for price in prices {
+        let level = usize::try_from(top.saturating_sub(*price)).unwrap_or(0);
+        levels.push(level)?;
+    }
+    Ok(levels)
+}
+
+// the rows with the flows of pairs, and what they cost and bring
+fn network_of(
+    alloc: Global,
+    problem: &Problem,
+    node: &Node,
+    owns: &[Option<Own>],
+    start: &[Pair],
+    weighted: bool,
+) -> Result<Option<Vec<Line>>, AllocError>
+    requires { IsNodeOf problem.now node.now }
+{
+    let Some(flows) = flows_of(alloc, problem, start)? else {
+        return Ok(None);
+    };
+    let Some(mut lines) = lines_of(alloc, problem, node, &flows, weighted)? else {
+        return Ok(None);
+    };
+    if with_offsets(problem, node, owns, &mut lines).is_none() {
+        return Ok(None);
+    }
+    Ok(Some(lines))
+}
+
+/// Pairs for a leaf, found from pairs by so many pivots of their circulation.
 pub fn propose(
     alloc: Global,
     problem: &Problem,
@@ -195,23 +269,26 @@ pub fn propose(
     start: &[Pair],
     weighted: bool,
     rounds: u32,
-) -> Result<Vec<Pair>, Memory>
-    requires node { IsNodeOf problem.now node.now }
-    requires rise { Rise start.now }
-    requires mults { All (λ p. unsigned_abs p.mult ≤ 1000000000000) start.now }
+) -> Result<Proposal, Memory>
+    requires { IsNodeOf problem.now node.now }
 {
     let owns = own_rows(alloc, problem)?;
-    let Some(mut lines) = lines_of(alloc, problem, node, start, weighted)? else {
-        return Ok(Vec::new(alloc));
+    let Some(lines) = network_of(alloc, problem, node, &owns, start, weighted)? else {
+        return Ok(nothing_proposed(alloc));
     };
-    if with_offsets(problem, node, &owns, &mut lines).is_none() {
-        return Ok(Vec::new(alloc));
-    }
     let events = problem.network().events() as usize;
-    let most = if weighted { LIMIT } else { 1 };
-    improve(alloc, &mut lines, events, rounds, most)?;
+    let (flows, endless, levels) = match improve(alloc, lines, events, rounds)? {
+        Some(Found::Flows { flows, prices }) => (flows, false, levels_of(alloc, &prices)?),
+        Some(Found::Ray { flows }) => (flows, true, Vec::new(alloc)),
+        None => return Ok(nothing_proposed(alloc)),
+    };
     if owns.len() > 100000 {
-        return Ok(Vec::new(alloc));
+        return Ok(nothing_proposed(alloc));
     }
-    Ok(pairs_of(alloc, &owns, &lines)?)
+    let pairs = pairs_of(alloc, &owns, &flows)?;
+    Ok(Proposal {
+        pairs,
+        endless,
+        levels,
+    })
 }

@@ -15,6 +15,3 @@ pub use pesp_problem::{Pair, Pairs, SignedRow, Walk};
 pub use pesp_truth::{Answer, TreeLine};
 pub use printing::print;
 pub use refusal::CertRefusal;
-
-#[cfg(test)]
-mod tests;

@@ -20,6 +20,3 @@ mod walks;
 
 pub use checking::check;
 pub use refusal::{Refusal, Verdict};
-
-#[cfg(test)]
-mod tests;

@@ -14,6 +14,3 @@ pub use fault::{Fault, status_of};
 pub use program::{exit_of_program, status_of_words};
 pub use runs::{run_check, run_report, run_solve};
 pub use verdict::status_of_verdict;
-
-#[cfg(test)]
-mod tests;

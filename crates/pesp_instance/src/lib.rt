@@ -14,6 +14,3 @@ pub use pesp_problem::{
 pub use pesp_stream::{Counted, ReadFault, Sink, Source, WriteFault, read_all, write_all};
 pub use reading::read_instance;
 pub use refusal::ReadRefusal;
-
-#[cfg(test)]
-mod tests;

@@ -3,7 +3,9 @@
 #![tactic(auto)]
 
 mod edge;
+mod meeting;
 mod settling;
 
 pub use edge::{Edge, Outcome};
+pub use meeting::are_settled;
 pub use settling::settle;

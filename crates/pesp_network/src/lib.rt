@@ -12,8 +12,6 @@ mod parts;
 mod proposal;
 mod refusal;
 mod row;
-#[cfg(test)]
-mod tests;
 mod times;
 mod walks;
 

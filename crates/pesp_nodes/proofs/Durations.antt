@@ -1,6 +1,6 @@
 -- Sums along a walk by its net counts, and the offsets between two sums.
 use Rattle.std.proofs.Common.{◌≡◌, ℕ, ◌+◌, ◌*◌, ◌<◌, ◌≤◌, arith, refl, ap, sym, ◌∙◌, List, length, get_or, take, Bool, true, false, Some, None}
-use Rattle.std.specs.Prelude.{ℤ, pos, ◌+ℤ◌, ◌≤ℤ◌, int_le, unsigned_abs, IfSome, if◌then◌else◌}
+use Rattle.std.specs.Prelude.{ℤ, pos, ◌+ℤ◌, ◌≤ℤ◌, ◌*ℤ◌, int_le, unsigned_abs, IfSome, if◌then◌else◌}
 use Rattle.std.specs.Int.{int_min, int_max}
 use Rattle.std.proofs.lemmas.Int.{ints, clamps}
 use Rattle.std.proofs.lemmas.List.Sums.{fold_more, sum_by_more, sum_by_more_le, get_or-le-sum_by}
@@ -8,10 +8,12 @@ use Rattle.pesp_problem.specs.declared.arc.Arc.{Arc}
 use Rattle.pesp_problem.specs.declared.row.SignedRow.{SignedRow}
 use Rattle.pesp_problem.specs.Sums.{floor_div, ceil_div}
 use Rattle.pesp_problem.specs.Arcs.{arc_at}
-use Rattle.pesp_problem.specs.Nodes.{least_sum, greatest_sum, range_or_none, slack_range}
+use Rattle.pesp_problem.specs.Nodes.{range_or_none, slack_range}
 use Rattle.pesp_nodes.specs.declared.nets.NetCount.{NetCount}
 use Rattle.pesp_nodes.specs.Nets.{sum_of, amount, AreSmallCounts, AreNetCounts}
-use Rattle.pesp_nodes.specs.Offsets.{least_term, greatest_term, IsSmallOffset}
+use Rattle.pesp_nodes.specs.declared.ends.End.{End}
+use Rattle.pesp_nodes.specs.declared.ends.End.TheVariants.{Low, High}
+use Rattle.pesp_nodes.specs.Offsets.{end_term, end_sum}
 use Rattle.pesp_problem.proofs.Integers.{zero-mul, mul-le, floor_div-le, le-ceil_div, le_trans}
 
 pub small_count : (n : ℕ) (counts : List NetCount) (k : ℕ) (d : NetCount) → k < length counts → AreSmallCounts n counts → unsigned_abs (get_or counts k d).count ≤ 10000000
@@ -37,32 +39,29 @@ small_sum term n counts k d sum here h small s before =
     let size = before.size in
     omega arith
 
-no_least : (arcs : List Arc) (slacks : List (ℕ × ℕ)) (i : ℕ) → least_term arcs slacks i (pos 0) ≡ pos 0
-no_least arcs slacks i = zero-mul ((arc_at arcs i).lower +ℤ pos (slack_range slacks i).0)
+no_term : (end : End) (arcs : List Arc) (slacks : List (ℕ × ℕ)) (i : ℕ) → end_term end arcs slacks i (pos 0) ≡ pos 0
+no_term Low arcs slacks i = zero-mul ((arc_at arcs i).lower +ℤ pos (slack_range slacks i).0)
+no_term High arcs slacks i = zero-mul ((arc_at arcs i).lower +ℤ pos (slack_range slacks i).1)
 
-no_greatest : (arcs : List Arc) (slacks : List (ℕ × ℕ)) (i : ℕ) → greatest_term arcs slacks i (pos 0) ≡ pos 0
-no_greatest arcs slacks i = zero-mul ((arc_at arcs i).lower +ℤ pos (slack_range slacks i).1)
-
-pub least_is : (arcs : List Arc) (slacks : List (ℕ × ℕ)) (walk : List SignedRow) (counts : List NetCount) → AreNetCounts (length arcs) walk counts → sum_of (least_term arcs slacks) counts ≡ least_sum arcs slacks walk
-least_is arcs slacks walk counts h = h.sums (least_term arcs slacks) (λ i. no_least arcs slacks i)
-
-pub greatest_is : (arcs : List Arc) (slacks : List (ℕ × ℕ)) (walk : List SignedRow) (counts : List NetCount) → AreNetCounts (length arcs) walk counts → sum_of (greatest_term arcs slacks) counts ≡ greatest_sum arcs slacks walk
-greatest_is arcs slacks walk counts h = h.sums (greatest_term arcs slacks) (λ i. no_greatest arcs slacks i)
+pub sum_is : (end : End) (arcs : List Arc) (slacks : List (ℕ × ℕ)) (walk : List SignedRow) (counts : List NetCount) → AreNetCounts (length arcs) walk counts → sum_of (end_term end arcs slacks) counts ≡ end_sum end arcs slacks walk
+sum_is Low arcs slacks walk counts h = h.sums (end_term Low arcs slacks) (λ i. no_term Low arcs slacks i)
+sum_is High arcs slacks walk counts h = h.sums (end_term High arcs slacks) (λ i. no_term High arcs slacks i)
 
 -- what lies between two small sums
-small_between : (period : ℕ) (low high z : ℤ) → 0 < period → unsigned_abs low ≤ 10300000000000 → unsigned_abs high ≤ 10300000000000 → ceil_div low period ≤ℤ z → z ≤ℤ floor_div high period → IsSmallOffset period z
-small_between period low high z some small small' from to =
+pub small_between : (period most : ℕ) (low high z : ℤ) → 0 < period → unsigned_abs low ≤ most → unsigned_abs high ≤ most → ceil_div low period ≤ℤ z → z ≤ℤ floor_div high period → unsigned_abs (pos period *ℤ z) ≤ most
+small_between period most low high z some small small' from to =
     let a = le_trans _ _ _ (le-ceil_div low period some) (mul-le period _ z from) in
     let b = le_trans _ _ _ (mul-le period z _ to) (floor_div-le high period some) in
     omega (arith, ints)
 
-pub left_small : (period : ℕ) (low high from to : ℤ) → 0 < period → unsigned_abs low ≤ 10300000000000 → unsigned_abs high ≤ 10300000000000
-    → IfSome (range_or_none (int_max from (ceil_div low period)) (int_min to (floor_div high period))) (λ left. IsSmallOffset period left.0 × IsSmallOffset period left.1)
-left_small period low high from to some small small' = go (int_le (int_max from (ceil_div low period)) (int_min to (floor_div high period))) refl
+-- the offsets left between two sums
+pub left_small : (period most : ℕ) (low high from to : ℤ) → 0 < period → unsigned_abs low ≤ most → unsigned_abs high ≤ most
+    → IfSome (range_or_none (int_max from (ceil_div low period)) (int_min to (floor_div high period))) (λ left. (unsigned_abs (pos period *ℤ left.0) ≤ most) × (unsigned_abs (pos period *ℤ left.1) ≤ most))
+left_small period most low high from to some small small' = go (int_le (int_max from (ceil_div low period)) (int_min to (floor_div high period))) refl
   where
-    go : (b : Bool) → int_le (int_max from (ceil_div low period)) (int_min to (floor_div high period)) ≡ b → IfSome {T = ℤ × ℤ} (if b then Some (int_max from (ceil_div low period), int_min to (floor_div high period)) else None) (λ left. IsSmallOffset period left.0 × IsSmallOffset period left.1)
+    go : (b : Bool) → int_le (int_max from (ceil_div low period)) (int_min to (floor_div high period)) ≡ b → IfSome {T = ℤ × ℤ} (if b then Some (int_max from (ceil_div low period), int_min to (floor_div high period)) else None) (λ left. (unsigned_abs (pos period *ℤ left.0) ≤ most) × (unsigned_abs (pos period *ℤ left.1) ≤ most))
     go true e = let le : int_max from (ceil_div low period) ≤ℤ int_min to (floor_div high period) = omega (arith, ints) in (
-      small_between period low high _ some small small' (omega (arith, ints, clamps)) (omega (arith, ints, clamps)),
-      small_between period low high _ some small small' (omega (arith, ints, clamps)) (omega (arith, ints, clamps)),
+      small_between period most low high _ some small small' (omega (arith, ints, clamps)) (omega (arith, ints, clamps)),
+      small_between period most low high _ some small small' (omega (arith, ints, clamps)) (omega (arith, ints, clamps)),
     )
     go false e = tt

@@ -1,6 +1,6 @@
-pub mod Sums
 pub mod Counts
-pub mod Collecting
+pub mod Passing
+pub mod Transposing
 pub mod Durations
 pub mod Searching
 pub mod Flows
@@ -9,3 +9,4 @@ pub mod Tables
 pub mod Keeping
 pub mod LeafValues
 pub mod Rising
+pub mod Sizes

@@ -1,10 +1,12 @@
 -- Net counts of a walk, each row once, and working numbers.
-use Rattle.std.specs.Prelude.{◌≡◌, ℕ, ◌<◌, ◌≤◌, List, [], fold, length, slice_index_or, ℤ, pos, ◌+ℤ◌, unsigned_abs, All, sum_by}
+use Rattle.std.specs.Prelude.{◌≡◌, ℕ, ◌+◌, ◌<◌, ◌≤◌, List, [], fold, if◌then◌else◌, ◌==◌, length, slice_index_or, ℤ, pos, ◌+ℤ◌, unsigned_abs, All, sum_by}
 use Rattle.pesp_problem.specs.declared.row.SignedRow.{SignedRow}
 use Rattle.pesp_problem.specs.Sums.{sum_below}
 use Rattle.pesp_problem.specs.Walks.{net_count}
 use Rattle.pesp_problem.specs.Nodes.{cycle_at}
 use Rattle.pesp_nodes.specs.declared.nets.NetCount.{NetCount}
+use Rattle.pesp_nodes.specs.declared.passages.Passage.{Passage}
+use Rattle.pesp_nodes.specs.Passages.{sum_over}
 
 -- all numbers are 0
 abbrev pub AreZeros : List ℤ → Type 0
@@ -34,3 +36,13 @@ nets_at table c = slice_index_or table c []
 pub record AreNets (n : ℕ) (walks : List (List SignedRow)) (table : List (List NetCount)) : Type 0 where
   pub long : length table ≡ length walks
   pub each : (c : ℕ) → c < length table → AreNetCounts n (cycle_at walks c) (nets_at table c)
+
+-- a term of a row, for the passages of the cycle at place c alone
+abbrev pub of_cycle : (ℕ → ℤ → ℤ) → ℕ → ℕ → ℕ → ℤ → ℤ
+of_cycle term place c cycle count = if cycle == c + 1 then term place count else pos 0
+
+-- the net counts of the cycles have the passages of one row more
+pub record IsRowAdded (place : ℕ) (passages : List Passage) (before after : List (List NetCount)) : Type 0 where
+  pub long : length after ≡ length before
+  pub sums : (c : ℕ) → c < length before → (term : ℕ → ℤ → ℤ) → sum_of term (nets_at after c) ≡ sum_of term (nets_at before c) +ℤ sum_over (of_cycle term place c) passages
+  pub places : (n : ℕ) → place < n → All (All (λ e. e.place < n)) before → All (All (λ e. e.place < n)) after

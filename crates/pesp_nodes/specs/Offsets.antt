@@ -5,7 +5,9 @@ use Rattle.pesp_problem.specs.declared.arc.Arc.{Arc}
 use Rattle.pesp_problem.specs.declared.row.SignedRow.{SignedRow}
 use Rattle.pesp_problem.specs.Sums.{scaled}
 use Rattle.pesp_problem.specs.Arcs.{Net, arc_at}
-use Rattle.pesp_problem.specs.Nodes.{slack_range, odijk_range, range_or_none}
+use Rattle.pesp_problem.specs.Nodes.{slack_range, least_sum, greatest_sum, odijk_range, range_or_none}
+use Rattle.pesp_nodes.specs.declared.ends.End.{End}
+use Rattle.pesp_nodes.specs.declared.ends.End.TheVariants.{Low, High}
 
 -- arcs of a network: bounds, spans and weights are within their limits
 abbrev pub AreArcs : List Arc → Type 0
@@ -15,13 +17,24 @@ AreArcs arcs = All (λ arc. (unsigned_abs arc.lower ≤ 1020000) × (arc.span �
 abbrev pub AreSlackEnds : List (ℕ × ℕ) → Type 0
 AreSlackEnds slacks = All (λ range. (range.0 ≤ 10000) × (range.1 ≤ 10000)) slacks
 
--- a count times the least duration of the row at place i, or the greatest where the count is negative
-abbrev pub least_term : List Arc → List (ℕ × ℕ) → ℕ → ℤ → ℤ
-least_term arcs slacks i count = scaled count ((arc_at arcs i).lower +ℤ pos (slack_range slacks i).0) ((arc_at arcs i).lower +ℤ pos (slack_range slacks i).1)
+-- the number at an end of a range
+abbrev pub at_end : End → ℤ → ℤ → ℤ
+at_end Low low high = low
+at_end High low high = high
 
--- a count times the greatest duration, or the least where the count is negative
-abbrev pub greatest_term : List Arc → List (ℕ × ℕ) → ℕ → ℤ → ℤ
-greatest_term arcs slacks i count = scaled count ((arc_at arcs i).lower +ℤ pos (slack_range slacks i).1) ((arc_at arcs i).lower +ℤ pos (slack_range slacks i).0)
+-- the least of a factor times a number of a range, or the greatest
+abbrev pub extreme : End → ℤ → ℤ → ℤ → ℤ
+extreme Low factor low high = scaled factor low high
+extreme High factor low high = scaled factor high low
+
+-- the least of a count times the durations of the row at place i, or the greatest
+abbrev pub end_term : End → List Arc → List (ℕ × ℕ) → ℕ → ℤ → ℤ
+end_term end arcs slacks i count = extreme end count ((arc_at arcs i).lower +ℤ pos (slack_range slacks i).0) ((arc_at arcs i).lower +ℤ pos (slack_range slacks i).1)
+
+-- the least sum of net count times duration along a walk, or the greatest
+abbrev pub end_sum : End → List Arc → List (ℕ × ℕ) → List SignedRow → ℤ
+end_sum Low arcs slacks walk = least_sum arcs slacks walk
+end_sum High arcs slacks walk = greatest_sum arcs slacks walk
 
 -- the period times an offset is no more than a sum along a walk
 abbrev pub IsSmallOffset : ℕ → ℤ → Type 0

@@ -2,6 +2,7 @@
 #![tactic(auto)]
 
 mod closing;
+mod ends;
 mod flow;
 mod nets;
 mod node;
@@ -22,6 +23,3 @@ pub use pesp_problem::{Cut, Pair, Pairs, Side};
 pub use problem::Problem;
 pub use refusal::ProblemRefusal;
 pub use value::{leaf_value, offset_range};
-
-#[cfg(test)]
-mod tests;

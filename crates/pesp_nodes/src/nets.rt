@@ -1,9 +1,10 @@
 //! Net counts of a walk, each row once.
 
-ghost use Rattle.std.specs.Prelude.{◌≡◌, ℕ, ◌+◌, ◌<◌, ◌≤◌, pos, length, unsigned_abs, All, slice_index_or, slice_set, IfOk};
+ghost use Rattle.std.specs.Prelude.{◌≡◌, ℕ, ◌+ℤ◌, ◌<◌, ◌≤◌, ◌++◌, ◌∷◌, [], pos, length, vec_len, unsigned_abs, All, OnOk, slice_index_or};
 ghost use Rattle.pesp_problem.specs.Walks.{Names, sign, net_count};
-ghost use Rattle.pesp_nodes.specs.Nets.{AreZeros, AreNetCounts};
+ghost use Rattle.pesp_nodes.specs.Nets.{AreZeros, IsRowAdded};
 
+use crate::passages::Passage;
 use pesp_problem::SignedRow;
 use std::alloc::{AllocError, Global};
 use std::marker::Model;
@@ -31,19 +32,37 @@ impl Model for Nets {
 }
 
 impl Nets {
-    /// The net counts in the order in which the walk first passes their rows.
+    /// No net counts.
+    pub fn new(alloc: Global) -> Nets
+        ensures { result ≡ [] }
+    {
+        Nets {
+            counts: Vec::new(alloc),
+        }
+    }
+
+    /// The net counts in the order of their rows.
     pub fn counts(&self) -> &[NetCount]
         ensures { result.now ≡ self.now }
     {
         &self.counts
     }
+
+    /// One net count more.
+    pub fn push(&mut self, net: NetCount) -> Result<(), AllocError>
+        ensures { OnOk result (self.new ≡ self.old ++ net ∷ []) }
+    {
+        self.counts.push(net)?;
+        Ok(())
+    }
 }
 
-// 1 under a plus sign, -1 under a minus sign
-fn sign_of(s: &SignedRow) -> i64
-    ensures { result ≡ sign s.now }
+/// A count after one signed row more.
+pub fn with_sign(count: i64, s: &SignedRow) -> i64
+    requires { unsigned_abs count ≤ 10000000 }
+    ensures { result ≡ count +ℤ sign s.now }
 {
-    if s.plus { 1 } else { -1 }
+    if s.plus { count + 1 } else { count - 1 }
 }
 
 /// Adds the signs of a walk to working numbers, one a row, that are 0: 1 for each plus sign, -1 for each minus sign.
@@ -55,54 +74,18 @@ pub fn count_rows(walk: &[SignedRow], working: &mut [i64])
 {
     for s in walk {
         let at = s.row as usize - 1;
-        let count = working[at] + sign_of(s);
-        working[at] = count;
+        working[at] = with_sign(working[at], s);
     }
 }
 
-// a working number, which is 0 afterwards
-fn take(working: &mut [i64], at: usize) -> i64
-    requires { at < length working.old }
-    ensures value { result ≡ slice_index_or working.old at (pos 0) }
-    ensures zero { working.new ≡ slice_set working.old at (pos 0) }
+/// Adds the passages of a row to the net counts of their cycles.
+pub fn add_row(nets: &mut Vec<Nets>, place: u32, passages: &[Passage]) -> Result<(), AllocError>
+    requires { All (λ e. Names (vec_len nets.old) e.cycle) passages.now }
+    ensures { OnOk result (IsRowAdded place passages.now nets.old.items nets.new.items) }
 {
-    let number = working[at];
-    working[at] = 0;
-    number
-}
-
-// the net counts of a walk's rows that are not 0
-fn net_counts(
-    alloc: Global,
-    walk: &[SignedRow],
-    working: &mut [i64],
-) -> Result<Vec<NetCount>, AllocError>
-    requires exist { All (λ s. Names (length working.old) s.row) walk.now }
-    requires short { length walk.now ≤ 10000000 }
-    requires zeros { AreZeros working.old }
-    ensures counts { IfOk result (λ v. AreNetCounts (length working.old) walk.now v.items) }
-    ensures zeros { IfOk result (λ _. AreZeros working.new) }
-{
-    count_rows(walk, working);
-    let mut counts = Vec::new(alloc);
-    for s in walk {
-        let place = s.row - 1;
-        let count = take(working, place as usize);
-        if count != 0 {
-            counts.push(NetCount { place, count })?;
-        }
+    for passage in passages {
+        let count = passage.count;
+        nets[passage.cycle as usize - 1].push(NetCount { place, count })?;
     }
-    Ok(counts)
-}
-
-/// The net counts of a walk. The working numbers, one a row, are 0 before and after.
-pub fn nets_of(alloc: Global, walk: &[SignedRow], working: &mut [i64]) -> Result<Nets, AllocError>
-    requires exist { All (λ s. Names (length working.old) s.row) walk.now }
-    requires short { length walk.now ≤ 10000000 }
-    requires zeros { AreZeros working.old }
-    ensures counts { IfOk result (λ nets. AreNetCounts (length working.old) walk.now nets) }
-    ensures zeros { IfOk result (λ _. AreZeros working.new) }
-{
-    let counts = net_counts(alloc, walk, working)?;
-    Ok(Nets { counts })
+    Ok(())
 }

@@ -1,143 +1,79 @@
 //! The offsets that slack ranges leave to a cycle.
 
-ghost use Rattle.std.specs.Prelude.{◌≡◌, ℕ, ◌*◌, ◌^◌, ◌+ℤ◌, ◌<◌, ◌≤◌, ◌≤ℤ◌, ◌<ℤ◌, List, length, pos, neg_ℤ, unsigned_abs, IfSome};
+ghost use Rattle.std.specs.Prelude.{◌≡◌, ℕ, ℤ, ◌*◌, ◌+ℤ◌, ◌<◌, ◌≤◌, ◌≤ℤ◌, List, length, pos, unsigned_abs, IfSome};
 ghost use Rattle.std.specs.Int.{int_min, int_max};
 ghost use Rattle.pesp_problem.specs.declared.row.SignedRow.{SignedRow};
 ghost use Rattle.pesp_problem.specs.Sums as sums;
-ghost use Rattle.pesp_problem.specs.Nodes.{least_sum, greatest_sum, odijk_range, range_or_none};
+ghost use Rattle.pesp_problem.specs.Arcs.{arc_at};
+ghost use Rattle.pesp_problem.specs.Nodes.{slack_range, odijk_range, range_or_none};
 ghost use Rattle.pesp_nodes.specs.Nets.{AreSmallCounts, AreNetCounts};
-ghost use Rattle.pesp_nodes.specs.Offsets.{AreArcs, AreSlackEnds, IsSmallOffset, least_term, greatest_term, left_of};
+ghost use Rattle.pesp_nodes.specs.Offsets.{AreArcs, AreSlackEnds, IsSmallOffset, at_end, end_term, end_sum, left_of};
 
+use crate::ends::{End, end_for};
 use crate::nets::NetCount;
 use pesp_problem::Arc;
-use pesp_problem::exact::{ceil_div, floor_div, times};
+use pesp_problem::exact::{ceil_div, floor_div, plus, times};
 
-/// A factor times the low end of a range, or times the high end where the factor is negative.
-pub fn scaled(factor: i128, low: i128, high: i128) -> i128
-    requires low { unsigned_abs factor * unsigned_abs low < 2 ^ 127 }
-    requires high { unsigned_abs factor * unsigned_abs high < 2 ^ 127 }
-    ensures value { result ≡ sums.scaled factor low high }
-    ensures size { (m n : ℕ) → unsigned_abs factor ≤ m → unsigned_abs low ≤ n → unsigned_abs high ≤ n → unsigned_abs result ≤ m * n }
-{
-    if factor < 0 {
-        times(factor, high)
-    } else {
-        times(factor, low)
-    }
-}
-
-// the duration of a row at a slack
-fn duration(lower: i64, slack: u32) -> i128
-    requires lower { unsigned_abs lower ≤ 1020000 }
-    requires slack { slack ≤ 10000 }
-    ensures value { result ≡ lower +ℤ pos slack }
+// the duration of the row at a place, at an end of its slack range
+fn duration_at(arcs: &[Arc], slacks: &[(u32, u32)], place: u32, end: End) -> i128
+    requires arcs { AreArcs arcs.now }
+    requires slacks { AreSlackEnds slacks.now }
+    requires long { length slacks.now ≡ length arcs.now }
+    requires exists { place < length arcs.now }
+    ensures value { result ≡ at_end end ((arc_at arcs.now place).lower +ℤ pos (slack_range slacks.now place).0) ((arc_at arcs.now place).lower +ℤ pos (slack_range slacks.now place).1) }
     ensures size { unsigned_abs result ≤ 1030000 }
 {
-    i128::from(lower) + i128::from(slack)
+    let range = slacks[place as usize];
+    let slack = match end {
+        End::Low => range.0,
+        End::High => range.1,
+    };
+    i128::from(arcs[place as usize].lower) + i128::from(slack)
 }
 
-// the least of a net count times the durations of its row that a slack range allows, and the greatest
-fn duration_terms(arcs: &[Arc], slacks: &[(u32, u32)], net: &NetCount) -> (i128, i128)
+// the least of a net count times the durations of its row that a slack range allows, or the greatest
+fn term_at(arcs: &[Arc], slacks: &[(u32, u32)], net: &NetCount, end: End) -> i128
     requires arcs { AreArcs arcs.now }
     requires slacks { AreSlackEnds slacks.now }
     requires long { length slacks.now ≡ length arcs.now }
     requires exists { net.now.place < length arcs.now }
     requires small { unsigned_abs net.now.count ≤ 10000000 }
-    ensures least { result.0 ≡ least_term arcs.now slacks.now net.now.place net.now.count }
-    ensures greatest { result.1 ≡ greatest_term arcs.now slacks.now net.now.place net.now.count }
-    ensures least_size { unsigned_abs result.0 ≤ unsigned_abs net.now.count * 1030000 }
-    ensures greatest_size { unsigned_abs result.1 ≤ unsigned_abs net.now.count * 1030000 }
+    ensures value { result ≡ end_term end arcs.now slacks.now net.now.place net.now.count }
+    ensures size { unsigned_abs result ≤ unsigned_abs net.now.count * 1030000 }
 {
-    let range = slacks[net.place as usize];
-    let lower = arcs[net.place as usize].lower;
-    let count = i128::from(net.count);
-    let low = duration(lower, range.0);
-    let high = duration(lower, range.1);
-    (scaled(count, low, high), scaled(count, high, low))
+    let taken = end_for(net.count, end);
+    times(
+        i128::from(net.count),
+        duration_at(arcs, slacks, net.place, taken),
+    )
 }
 
-/// The least sum of net count times duration that the slack ranges allow along a walk, and the greatest.
-pub fn duration_sums(arcs: &[Arc], slacks: &[(u32, u32)], counts: &[NetCount]) -> (i128, i128)
+// the least sum of net count times duration that the slack ranges allow along a walk, or the greatest
+fn sum_at(arcs: &[Arc], slacks: &[(u32, u32)], counts: &[NetCount], end: End) -> i128
     requires arcs { AreArcs arcs.now }
     requires slacks { AreSlackEnds slacks.now }
     requires long { length slacks.now ≡ length arcs.now }
     requires counts { AreSmallCounts (length arcs.now) counts.now }
-    ensures least { (walk : List SignedRow) → AreNetCounts (length arcs.now) walk counts.now → result.0 ≡ least_sum arcs.now slacks.now walk }
-    ensures greatest { (walk : List SignedRow) → AreNetCounts (length arcs.now) walk counts.now → result.1 ≡ greatest_sum arcs.now slacks.now walk }
-    ensures least_size { unsigned_abs result.0 ≤ 10300000000000 }
-    ensures greatest_size { unsigned_abs result.1 ≤ 10300000000000 }
+    ensures value { (walk : List SignedRow) → AreNetCounts (length arcs.now) walk counts.now → result ≡ end_sum end arcs.now slacks.now walk }
+    ensures size { unsigned_abs result ≤ 10300000000000 }
 {
-    let mut least = 0;
-    let mut greatest = 0;
+    let mut sum = 0;
     for net in counts {
-        let terms = duration_terms(arcs, slacks, net);
-        least += terms.0;
-        greatest += terms.1;
+        sum = plus(sum, term_at(arcs, slacks, net, end));
     }
-    (least, greatest)
+    sum
 }
 
-// the greater of a range's low end and what a sum allows
-fn low_end(period: u32, least: i128, low: i64) -> i128
+// the least offset that a sum allows, or the greatest
+fn offset_at(period: u32, sum: i128, end: End) -> i64
     requires period { 0 < period }
-    requires least { unsigned_abs least ≤ 10300000000000 }
-    ensures { result ≡ int_max low (sums.ceil_div least period) }
+    requires small { unsigned_abs sum ≤ 10300000000000 }
+    ensures { result ≡ at_end end (sums.ceil_div sum period) (sums.floor_div sum period) }
 {
-    i128::from(low).max(ceil_div(least, period))
-}
-
-// the lesser of a range's high end and what a sum allows
-fn high_end(period: u32, greatest: i128, high: i64) -> i128
-    requires period { 0 < period }
-    requires greatest { unsigned_abs greatest ≤ 10300000000000 }
-    ensures { result ≡ int_min high (sums.floor_div greatest period) }
-{
-    i128::from(high).min(floor_div(greatest, period))
-}
-
-// the range, or none where it is empty
-fn range_of(from: i128, to: i128) -> Option<(i64, i64)>
-    requires from { neg_ℤ (pos (2 ^ 63)) ≤ℤ from }
-    requires to { to <ℤ pos (2 ^ 63) }
-    ensures { result ≡ range_or_none from to }
-{
-    if from <= to {
-        Some((from as i64, to as i64))
-    } else {
-        None
+    match end {
+        End::Low => ceil_div(sum, period) as i64,
+        End::High => floor_div(sum, period) as i64,
     }
-}
-
-/// The least and the greatest offset of a range for which the period times the offset lies between two sums.
-pub fn left_between(period: u32, ends: (i128, i128), range: (i64, i64)) -> Option<(i64, i64)>
-    requires period { 0 < period }
-    requires least { unsigned_abs ends.0 ≤ 10300000000000 }
-    requires greatest { unsigned_abs ends.1 ≤ 10300000000000 }
-    ensures value { result ≡ range_or_none (int_max range.0 (sums.ceil_div ends.0 period)) (int_min range.1 (sums.floor_div ends.1 period)) }
-    ensures small { IfSome result (λ left. IsSmallOffset period left.0 × IsSmallOffset period left.1) }
-{
-    range_of(
-        low_end(period, ends.0, range.0),
-        high_end(period, ends.1, range.1),
-    )
-}
-
-// the least offset that a sum allows
-fn offset_from(period: u32, least: i128) -> i64
-    requires period { 0 < period }
-    requires least { unsigned_abs least ≤ 10300000000000 }
-    ensures { result ≡ sums.ceil_div least period }
-{
-    ceil_div(least, period) as i64
-}
-
-// the greatest offset that a sum allows
-fn offset_to(period: u32, greatest: i128) -> i64
-    requires period { 0 < period }
-    requires greatest { unsigned_abs greatest ≤ 10300000000000 }
-    ensures { result ≡ sums.floor_div greatest period }
-{
-    floor_div(greatest, period) as i64
 }
 
 /// The range of offsets that slack ranges allow to a walk with these net counts (Odijk 1996).
@@ -154,9 +90,27 @@ pub fn bounds_of(
     requires counts { AreSmallCounts (length arcs.now) counts.now }
     ensures low { (walk : List SignedRow) → AreNetCounts (length arcs.now) walk counts.now → result.0 ≡ (odijk_range (record { period = period; arcs = arcs.now }) slacks.now walk).0 }
     ensures high { (walk : List SignedRow) → AreNetCounts (length arcs.now) walk counts.now → result.1 ≡ (odijk_range (record { period = period; arcs = arcs.now }) slacks.now walk).1 }
+    ensures small { (z : ℤ) → result.0 ≤ℤ z → z ≤ℤ result.1 → IsSmallOffset period z }
 {
-    let (least, greatest) = duration_sums(arcs, slacks, counts);
-    (offset_from(period, least), offset_to(period, greatest))
+    let least = sum_at(arcs, slacks, counts, End::Low);
+    let greatest = sum_at(arcs, slacks, counts, End::High);
+    (
+        offset_at(period, least, End::Low),
+        offset_at(period, greatest, End::High),
+    )
+}
+
+// what two ranges share
+fn shared(range: (i64, i64), bounds: (i64, i64)) -> Option<(i64, i64)>
+    ensures value { result ≡ range_or_none (int_max range.0 bounds.0) (int_min range.1 bounds.1) }
+    ensures within { IfSome result (λ left. (bounds.0 ≤ℤ left.0) × (left.0 ≤ℤ left.1) × (left.1 ≤ℤ bounds.1)) }
+{
+    let low = range.0.max(bounds.0);
+    let high = range.1.min(bounds.1);
+    if low > high {
+        return None;
+    }
+    Some((low, high))
 }
 
 /// The least and the greatest offset that an offset range and slack ranges leave to a walk with these net counts.
@@ -175,5 +129,5 @@ pub fn left_of(
     ensures value { (walk : List SignedRow) → AreNetCounts (length arcs.now) walk counts.now → result ≡ left_of (record { period = period; arcs = arcs.now }) slacks.now range walk }
     ensures small { IfSome result (λ left. IsSmallOffset period left.0 × IsSmallOffset period left.1) }
 {
-    left_between(period, duration_sums(arcs, slacks, counts), range)
+    shared(range, bounds_of(period, arcs, slacks, counts))
 }

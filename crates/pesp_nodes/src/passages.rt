@@ -1,12 +1,12 @@
 //! The rows of a table: which cycles pass a row, and how often.
 
-ghost use Rattle.std.specs.Prelude.{◌≡◌, ℕ, ◌+◌, ◌<◌, ◌≤◌, ◌++◌, ◌∷◌, [], List, All, OnOk, length, vec_len};
-ghost use Rattle.pesp_problem.specs.declared.row.SignedRow.{SignedRow};
-ghost use Rattle.pesp_problem.specs.Nodes.{cycle_at};
-ghost use Rattle.pesp_nodes.specs.Nets.{AreNetCounts, AreSmallCounts};
-ghost use Rattle.pesp_nodes.specs.Passages.{ArePassages};
+ghost use Rattle.std.specs.Prelude.{◌≡◌, ℕ, ℤ, ◌+ℤ◌, ◌<◌, ◌≤◌, [], List, All, OnOk, length, vec_len, unsigned_abs};
+ghost use Rattle.pesp_problem.specs.Walks.{Names, sign, net_count};
+ghost use Rattle.pesp_nodes.specs.declared.passages.Passage as declared;
+ghost use Rattle.pesp_nodes.specs.Passages.{AreBefore, IsPassed, passages_at};
 
-use crate::nets::NetCount;
+use crate::nets::with_sign;
+use pesp_problem::SignedRow;
 use std::alloc::{AllocError, Global};
 use std::marker::Model;
 
@@ -49,31 +49,52 @@ impl Passages {
         &self.passages
     }
 
-    /// One passage more.
-    pub fn push(&mut self, passage: Passage) -> Result<(), AllocError>
-        ensures { OnOk result (self.new ≡ self.old ++ passage ∷ []) }
+    // one signed row more of a cycle; no passage but the last is of it
+    pub(crate) fn pass(&mut self, cycle: u32, s: &SignedRow) -> Result<(), AllocError>
+        requires { All (λ e. unsigned_abs e.count ≤ 10000000) self.old }
+        ensures { (before : List declared.Passage) (count : ℤ) → AreBefore cycle before → IsPassed cycle count before self.old → OnOk result (IsPassed cycle (count +ℤ sign s.now) before self.new) }
     {
-        self.passages.push(passage)?;
+        let count = with_sign(take_last(&mut self.passages, cycle), s);
+        if count != 0 {
+            self.passages.push(Passage { cycle, count })?;
+        }
         Ok(())
     }
 }
 
-/// Adds the passages of the next cycle to those of the cycles before it.
-pub fn add_cycle(
+// takes off the last passage where it is of this cycle; its count, or 0
+fn take_last(passages: &mut Vec<Passage>, cycle: u32) -> i64
+    requires { All (λ e. unsigned_abs e.count ≤ 10000000) passages.old.items }
+    ensures value { (before : List declared.Passage) (count : ℤ) → AreBefore cycle before → IsPassed cycle count before passages.old.items → result ≡ count }
+    ensures rest { (before : List declared.Passage) (count : ℤ) → AreBefore cycle before → IsPassed cycle count before passages.old.items → passages.new.items ≡ before }
+    ensures size { unsigned_abs result ≤ 10000000 }
+{
+    if passages.is_empty() {
+        return 0;
+    }
+    let end = passages.len() - 1;
+    let last = passages[end];
+    if last.cycle != cycle {
+        return 0;
+    }
+    passages.truncate(end);
+    last.count
+}
+
+/// Adds the passages of a walk, the next cycle, to those of the cycles before it.
+pub fn add_walk(
     by_row: &mut Vec<Passages>,
     cycle: u32,
-    counts: &[NetCount],
+    walk: &[SignedRow],
 ) -> Result<(), AllocError>
-    requires cycle { 1 ≤ cycle }
-    requires places { All (λ e. e.place < vec_len by_row.old) counts.now }
-    ensures long { OnOk result (vec_len by_row.new ≡ vec_len by_row.old) }
-    ensures passages { (walks : List (List SignedRow)) (n m : ℕ) → m + 1 ≡ cycle → ArePassages n m walks by_row.old.items → AreNetCounts n (cycle_at walks m) counts.now → OnOk result (ArePassages n (m + 1) walks by_row.new.items) }
+    requires exist { All (λ s. Names (vec_len by_row.old) s.row) walk.now }
+    requires short { length walk.now ≤ 10000000 }
+    requires before { All (AreBefore cycle) by_row.old.items }
+    ensures long { OnOk result (length by_row.new.items ≡ length by_row.old.items) }
+    ensures passed { OnOk result ((i : ℕ) → i < length by_row.old.items → IsPassed cycle (net_count walk.now i) (passages_at by_row.old.items i) (passages_at by_row.new.items i)) }
 {
-    for net in counts {
-        by_row[net.place as usize].push(Passage {
-            cycle,
-            count: net.count,
-        })?;
+    for s in walk {
+        by_row[s.row as usize - 1].pass(cycle, s)?;
     }
     Ok(())
 }

@@ -16,7 +16,7 @@ use crate::node::Node;
 use crate::offsets::bounds_of;
 use crate::passages::Passages;
 use crate::refusal::ProblemRefusal;
-use crate::table::{is_small, nets_of_table, passages_of_table};
+use crate::table::{is_small, nets_of_passages, passages_of_table};
 use pesp_network::{NetRow, Network};
 use pesp_problem::{Arc, Memory, Walk};
 use std::alloc::{AllocError, Global};
@@ -123,8 +123,8 @@ impl Problem {
     {
         let arcs = arcs_of(alloc, network.rows())?;
         judge(&arcs, &table)?;
-        let nets = nets_of_table(alloc, arcs.len(), &table)?;
-        let by_row = passages_of_table(alloc, arcs.len(), &nets)?;
+        let by_row = passages_of_table(alloc, arcs.len(), &table)?;
+        let nets = nets_of_passages(alloc, table.len(), &by_row)?;
         Ok(Problem {
             network,
             table,
@@ -180,6 +180,14 @@ impl Problem {
         ensures table { length self.now.table ≤ 100000 }
     {
         &self.arcs
+    }
+
+    // the network and the table keep their limits
+    pub(crate) fn keeps_limits(&self)
+        ensures network { KeepsNetLimits self.now.network }
+        ensures table { IsSmallTable self.now.table }
+    {
+        let _ = &self.nets;
     }
 
     // the net counts of each cycle

@@ -1,15 +1,14 @@
-//! Tables of walks: their limits, their net counts by cycle, and their passages by row.
+//! Tables of walks: their limits, their passages by row, and their net counts by cycle.
 
-ghost use Rattle.std.specs.Prelude.{◌≡◌, ℕ, ◌<◌, ◌≤◌, ◌↔◌, List, [], length, replicate, All, IsTrue, IfOk};
+ghost use Rattle.std.specs.Prelude.{◌≡◌, ℕ, ◌+◌, ◌<◌, ◌≤◌, ◌↔◌, List, [], length, replicate, All, IsTrue, IfOk};
 ghost use Rattle.pesp_problem.specs.declared.row.SignedRow.{SignedRow};
 ghost use Rattle.pesp_problem.specs.Walks.{Names};
-ghost use Rattle.pesp_nodes.specs.Nets.{AreNets, AreSmallCounts, AreZeros};
-ghost use Rattle.pesp_nodes.specs.Passages.{ArePassages};
+ghost use Rattle.pesp_nodes.specs.Nets.{AreNets};
+ghost use Rattle.pesp_nodes.specs.Passages.{AreBefore, ArePassages};
 ghost use Rattle.pesp_nodes.specs.Problems.{IsSmallTable};
-ghost use Rattle.std.specs.Prelude.{pos};
 
-use crate::nets::{Nets, nets_of};
-use crate::passages::{Passages, add_cycle};
+use crate::nets::{Nets, add_row};
+use crate::passages::{Passages, add_walk};
 use pesp_problem::Walk;
 use std::alloc::{AllocError, Global};
 
@@ -30,31 +29,6 @@ pub fn is_small(table: &[Walk]) -> bool
     true
 }
 
-// the net counts of each walk; the working numbers, one a row, are 0
-fn collect_nets(alloc: Global, table: &[Walk], working: &mut [i64]) -> Result<Vec<Nets>, AllocError>
-    requires exist { All (λ walk. All (λ s. Names (length working.old) s.row) walk) table.now }
-    requires short { All (λ walk. length walk ≤ 10000000) table.now }
-    requires zeros { AreZeros working.old }
-    ensures { IfOk result (λ v. AreNets (length working.old) table.now v.items) }
-{
-    let mut nets = Vec::new(alloc);
-    for walk in table {
-        let counts = nets_of(alloc, walk.rows(), working)?;
-        nets.push(counts)?;
-    }
-    Ok(nets)
-}
-
-/// The net counts of each walk, over so many rows.
-pub fn nets_of_table(alloc: Global, rows: usize, table: &[Walk]) -> Result<Vec<Nets>, AllocError>
-    requires exist { All (λ walk. All (λ s. Names rows s.row) walk) table.now }
-    requires short { All (λ walk. length walk ≤ 10000000) table.now }
-    ensures { IfOk result (λ v. AreNets rows table.now v.items) }
-{
-    let mut working = vec![in alloc; 0i64; rows]?;
-    collect_nets(alloc, table, &mut working)
-}
-
 // no passages of any row
 fn no_passages(alloc: Global, rows: usize) -> Result<Vec<Passages>, AllocError>
     ensures { IfOk result (λ v. v.items ≡ replicate rows []) }
@@ -66,19 +40,49 @@ fn no_passages(alloc: Global, rows: usize) -> Result<Vec<Passages>, AllocError>
     Ok(by_row)
 }
 
-/// The passages of each of so many rows, from the net counts of the cycles.
+/// The passages of each of so many rows by the cycles of a table.
 pub fn passages_of_table(
     alloc: Global,
     rows: usize,
-    nets: &[Nets],
+    table: &[Walk],
 ) -> Result<Vec<Passages>, AllocError>
-    requires places { All (AreSmallCounts rows) nets.now }
-    requires few { length nets.now ≤ 100000 }
-    ensures { (walks : List (List SignedRow)) → AreNets rows walks nets.now → IfOk result (λ v. ArePassages rows (length nets.now) walks v.items) }
+    requires exist { All (λ walk. All (λ s. Names rows s.row) walk) table.now }
+    requires short { All (λ walk. length walk ≤ 10000000) table.now }
+    requires few { length table.now ≤ 100000 }
+    ensures passages { IfOk result (λ v. ArePassages rows (length table.now) table.now v.items) }
+    ensures before { IfOk result (λ v. All (AreBefore (length table.now + 1)) v.items) }
 {
     let mut by_row = no_passages(alloc, rows)?;
-    for (place, counts) in nets.iter().enumerate() {
-        add_cycle(&mut by_row, place as u32 + 1, counts.counts())?;
+    for place in 0..table.len() {
+        add_walk(&mut by_row, place as u32 + 1, table[place].rows())?;
     }
     Ok(by_row)
+}
+
+// no net counts of any cycle
+fn no_nets(alloc: Global, cycles: usize) -> Result<Vec<Nets>, AllocError>
+    ensures { IfOk result (λ v. v.items ≡ replicate cycles []) }
+{
+    let mut nets = Vec::new(alloc);
+    for _ in 0..cycles {
+        nets.push(Nets::new(alloc))?;
+    }
+    Ok(nets)
+}
+
+/// The net counts of each of so many cycles, from the passages of the rows.
+pub fn nets_of_passages(
+    alloc: Global,
+    cycles: usize,
+    by_row: &[Passages],
+) -> Result<Vec<Nets>, AllocError>
+    requires before { All (AreBefore (cycles + 1)) by_row.now }
+    requires few { length by_row.now ≤ 100000 }
+    ensures { (walks : List (List SignedRow)) → length walks ≡ cycles → All (λ walk. length walk ≤ 10000000) walks → ArePassages (length by_row.now) cycles walks by_row.now → IfOk result (λ v. AreNets (length by_row.now) walks v.items) }
+{
+    let mut nets = no_nets(alloc, cycles)?;
+    for place in 0..by_row.len() {
+        add_row(&mut nets, place as u32, by_row[place].as_slice())?;
+    }
+    Ok(nets)
 }

@@ -12,9 +12,10 @@ ghost use Rattle.pesp_nodes.specs.Passages.{ArePassages};
 ghost use Rattle.pesp_nodes.specs.Problems.{net_of, IsNodeOf, Rise, ArePairs};
 ghost use Rattle.pesp_nodes.specs.Values.{lesser, row_term, row_term_at};
 
+use crate::ends::{End, end_for};
 use crate::flow::flow_on;
 use crate::node::Node;
-use crate::offsets::{left_of, scaled};
+use crate::offsets::left_of;
 use crate::passages::Passages;
 use crate::problem::Problem;
 use pesp_problem::exact::{minus, plus, times};
@@ -66,9 +67,8 @@ fn offset_term(period: u32, mult: i64, left: (i64, i64)) -> i128
     ensures value { result ≡ pos period *ℤ sums.scaled mult left.0 left.1 }
     ensures size { unsigned_abs result ≤ 1000000000000 * 10300000000000 }
 {
-    let low = period_times(period, left.0);
-    let high = period_times(period, left.1);
-    scaled(i128::from(mult), low, high)
+    let offset = end_for(mult, End::Low).of(left);
+    times(i128::from(mult), period_times(period, offset))
 }
 
 // what the offsets of the pairs' cycles add up to, times the period
@@ -165,12 +165,14 @@ fn row_sum(
 /// it is above 0, a proof that there is none. It takes the period times each multiplier times its cycle's least offset left,
 /// or its greatest where the multiplier is negative, less what the circulation of the pairs pays for lower bounds, and for
 /// each row the least that its slack can cost beyond the circulation (weak duality for circulations). None where a used cycle
-/// has no offset left. In the instance's own unit of weight times slack.
+/// has no offset left. In the instance's own unit of weight times slack, and below 10^26 by amount.
 pub fn leaf_value(problem: &Problem, node: &Node, pairs: &[Pair], weighted: bool) -> Option<i128>
     requires node { IsNodeOf problem.now node.now }
     requires pairs { ArePairs (length problem.now.table) pairs.now }
     ensures value { result ≡ spec.leaf_value (net_of problem.now) problem.now.table node.now pairs.now weighted }
+    ensures small { IfSome result (λ value. unsigned_abs value < 10 ^ 26) }
 {
+    problem.keeps_limits();
     let arcs = problem.arcs();
     let offsets = offset_sum(problem, node, pairs)?;
     let rows = row_sum(arcs, node.slacks(), problem.passages(), pairs, weighted);

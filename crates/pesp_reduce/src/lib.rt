@@ -6,8 +6,6 @@ mod fate;
 mod fates;
 mod reduction;
 mod rows;
-#[cfg(test)]
-mod tests;
 mod times;
 mod walks;
 

@@ -10,6 +10,3 @@ mod times;
 pub use refusal::{ReportRefusal, TimesRefusal};
 pub use reporting::report;
 pub use times::read_times;
-
-#[cfg(test)]
-mod tests;

@@ -9,7 +9,7 @@ use Rattle.pesp_problem.specs.Sums.{sum_below}
 use Rattle.pesp_problem.specs.Arcs.{Net, arc_at, arc_slack}
 use Rattle.pesp_simplex.specs.declared.crossing.Crossing.{Crossing}
 use Rattle.pesp_simplex.specs.declared.crossing.Entry.{Entry}
-use Rattle.pesp_simplex.specs.Costs.{AreSlacks}
+use Rattle.pesp_simplex.specs.Slacks.{AreSlacks}
 use Rattle.pesp_simplex.specs.Cuts.{arc_moved, IsCutBest}
 use Rattle.pesp_simplex.specs.Shifts.{moved, change, row_change, AllFit, crossing_at, IsBestShift}
 use Rattle.pesp_simplex.specs.Entries.{crossing_of, crossings_of, entry_if, entries_of, entry_at, no_entry}

@@ -6,7 +6,7 @@ use Rattle.std.proofs.lemmas.Int.{ints}
 use Rattle.std.proofs.lemmas.Bool.{false≢true}
 use Rattle.pesp_problem.specs.declared.arc.Arc.{Arc}
 use Rattle.pesp_problem.specs.Arcs.{Net, arc_at, no_arc, arc_slack}
-use Rattle.pesp_simplex.specs.Costs.{net_cost}
+use Rattle.pesp_problem.specs.NetTimetables.{net_cost}
 use Rattle.pesp_simplex.specs.Cuts.{arc_growth, arc_moved, cut_change, AreCutsBest}
 use Rattle.pesp_simplex.specs.Local.{IsLocal, IsFundamentalSide}
 use Rattle.pesp_simplex.specs.Roots.{Roots, AreRoots, AreTreeRows, below}

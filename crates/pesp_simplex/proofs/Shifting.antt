@@ -9,7 +9,7 @@ use Rattle.std.proofs.Math.Nat.{mod-eq_of_lt, add-mul-mod_self_right}
 use Rattle.pesp_problem.specs.Sums.{sum_below}
 use Rattle.pesp_problem.specs.declared.arc.Arc.{Arc}
 use Rattle.pesp_problem.specs.Arcs.{Net, no_arc, arc_at, arc_slack, over_arcs}
-use Rattle.pesp_simplex.specs.Costs.{net_cost}
+use Rattle.pesp_problem.specs.NetTimetables.{net_cost}
 use Rattle.pesp_simplex.specs.Cuts.{arc_growth, arc_moved, cut_change}
 use Rattle.pesp_simplex.specs.Local.{IsShifted}
 use Rattle.pesp_problem.proofs.Integers.{mul-add, mul-sub, sum_below-same, sum_below-sub, quotient-remainder, remainder-lt}

@@ -1,5 +1,5 @@
 pub mod Limits
-pub mod Costs
+pub mod Slacks
 pub mod Shifts
 pub mod Tallies
 pub mod Entries

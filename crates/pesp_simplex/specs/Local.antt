@@ -2,7 +2,7 @@
 use Rattle.std.specs.Prelude.{◌≡◌, ◌≢◌, ℕ, ◌+◌, ◌%◌, ◌-◌, ◌<◌, ◌≤◌, List, length, slice_index, Bool, if◌then◌else◌, Contains}
 use Rattle.pesp_problem.specs.declared.arc.Arc.{Arc}
 use Rattle.pesp_problem.specs.Arcs.{Net, arc_at}
-use Rattle.pesp_simplex.specs.Costs.{IsNetTimetable, net_cost}
+use Rattle.pesp_problem.specs.NetTimetables.{IsNetTimetable, net_cost}
 
 -- of the forest's rows, named by their numbers, this one alone joins the side to the rest
 pub record IsFundamentalSide (arcs : List Arc) (forest : List ℕ) (row : ℕ) (side : ℕ → Bool) : Type 0 where

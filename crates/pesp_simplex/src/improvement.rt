@@ -4,7 +4,7 @@ ghost use Rattle.std.specs.Prelude.{◌≡◌, ◌≤◌, ◌↔◌, IsTrue, IsE
 ghost use Rattle.pesp_problem.specs.Forests.{IsSpanningForest};
 ghost use Rattle.pesp_network.specs.Networks.{arc_of_net, arcs_of_network, net_of_network};
 ghost use Rattle.pesp_problem.specs.Arcs as spec;
-ghost use Rattle.pesp_simplex.specs.Costs.{IsNetTimetable, net_cost};
+ghost use Rattle.pesp_problem.specs.NetTimetables.{IsNetTimetable, net_cost};
 ghost use Rattle.pesp_simplex.specs.Local.{IsLocal};
 
 use crate::improved::{Improved, SimplexRefusal, Stop};

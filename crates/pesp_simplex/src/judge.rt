@@ -1,7 +1,7 @@
 //! Whether no shift of a fundamental cut is cheaper.
 
 ghost use Rattle.std.specs.Prelude.{◌≡◌, ℕ, ◌<◌, ◌≤◌, List, IsTrue, length, vec_len};
-ghost use Rattle.pesp_simplex.specs.Costs.{AreSlacks};
+ghost use Rattle.pesp_simplex.specs.Slacks.{AreSlacks};
 ghost use Rattle.pesp_simplex.specs.Cuts.{IsCutBest, AreCutsBest};
 ghost use Rattle.pesp_simplex.specs.Roots.{Roots, AreRoots};
 ghost use Rattle.pesp_simplex.specs.Rooted.{roots_of, IsFor};

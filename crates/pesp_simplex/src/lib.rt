@@ -21,6 +21,3 @@ mod stars;
 
 pub use improved::{Improved, SimplexRefusal, Stop};
 pub use improvement::improve;
-
-#[cfg(test)]
-mod tests;

@@ -3,7 +3,7 @@
 ghost use Rattle.std.specs.Prelude.{◌≡◌, ℕ, ◌<◌, ◌≤◌, ◌↔◌, List, IsTrue, IfOk, IfSome, IfErr, length, vec_len};
 ghost use Rattle.pesp_problem.specs.Forests.{IsSpanningForest};
 ghost use Rattle.pesp_simplex.specs.Limits.{KeepArcLimits};
-ghost use Rattle.pesp_simplex.specs.Costs.{IsNetTimetable, net_cost};
+ghost use Rattle.pesp_problem.specs.NetTimetables.{IsNetTimetable, net_cost};
 ghost use Rattle.pesp_simplex.specs.Roots.{AreRoots, AreTreeRows};
 ghost use Rattle.pesp_simplex.specs.Rooted.{roots_of, IsFor};
 ghost use Rattle.pesp_simplex.specs.Lists.{AreListed};

@@ -2,7 +2,8 @@
 
 ghost use Rattle.std.specs.Prelude.{◌≡◌, ℕ, ◌*◌, ◌<◌, ◌≤◌, ◌↔◌, IsTrue, IfOk, All, length, unsigned_abs};
 ghost use Rattle.pesp_simplex.specs.Limits.{KeepArcLimits};
-ghost use Rattle.pesp_simplex.specs.Costs.{AreSlacks, IsNetTimetable, net_cost};
+ghost use Rattle.pesp_problem.specs.NetTimetables.{IsNetTimetable, net_cost};
+ghost use Rattle.pesp_simplex.specs.Slacks.{AreSlacks};
 ghost use Rattle.pesp_problem.specs.Arcs as spec;
 
 use pesp_problem::{Arc, Memory};

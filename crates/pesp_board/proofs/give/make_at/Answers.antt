@@ -21,7 +21,7 @@ pub returns-in-Some-size_with : goal.returns-in-Some-size_with
 returns-in-Some-size_with c =
     let few = pairs_few c.args.tree.now c.args.node c.in-Some.old.now c.nodes-lines.ensures.whole c.in-Some.ensures in
     let count = c.requires.count in
-    part_made c.args.problem.now c.args.tree.now c.args.node c.nodes-lines.result _ c.in-Some-size_with.count c.deref.result.now c.in-Some.old.now c.args.work c.in_ok-made.made
+    part_made c.args.problem.now c.args.tree.now c.args.node c.nodes-lines.result _ c.in-Some-size_with.count c.deref.result.now c.in-Some.old.now c.args.work.now c.in_ok-made.made
     (record { whole = c.nodes-lines.ensures.whole; leaf = c.in-Some.ensures; path = c.deref.ensures.value ∙ c.in_ok-path.ensures.path; long = c.nodes-lines.ensures.count; count = omega (arith, few, count); makes = c.in_ok-made.ensures })
     c.in-Some-size_with.ensures.0 c.in-Some-size_with.ensures.1
 
@@ -29,6 +29,6 @@ pub returns : goal.returns
 returns c =
     let few = pairs_few c.args.tree.now c.args.node c.in-Some.old.now c.nodes-lines.ensures.whole c.in-Some.ensures in
     let count = c.requires.count in
-    part_large c.args.problem.now c.args.tree.now c.args.node c.nodes-lines.result _ c.deref.result.now c.in-Some.old.now c.args.work c.in_ok-made.made
+    part_large c.args.problem.now c.args.tree.now c.args.node c.nodes-lines.result _ c.deref.result.now c.in-Some.old.now c.args.work.now c.in_ok-made.made
     (record { whole = c.nodes-lines.ensures.whole; leaf = c.in-Some.ensures; path = c.deref.ensures.value ∙ c.in_ok-path.ensures.path; long = c.nodes-lines.ensures.count; count = omega (arith, few, count); makes = c.in_ok-made.ensures })
     c.in-None.ensures

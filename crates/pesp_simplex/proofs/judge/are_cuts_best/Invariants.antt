@@ -1,5 +1,5 @@
 use Rattle.std.proofs.Common.{◌<◌, ℕ, List, length}
-use Rattle.pesp_simplex.specs.Costs.{AreSlacks}
+use Rattle.pesp_simplex.specs.Slacks.{AreSlacks}
 use Rattle.pesp_simplex.specs.Cuts.{IsCutBest}
 use Rattle.pesp_simplex.specs.Rooted.{roots_of, IsFor}
 use Rattle.pesp_simplex.specs.Lists.{AreListed}

@@ -1,0 +1,11 @@
+use Rattle.std.proofs.Common.{subst}
+use Rattle.pesp_problem.specs.Nodes.{Node}
+use Rattle.pesp_machine.specs.declared.work.Work.TheVariants as works
+use Rattle.pesp_board.specs.Giving.{MakesOf}
+use Rattle.pesp_board.proofs.making.make.Goals as goal
+
+pub returns-in-Nothing : goal.returns-in-Nothing
+returns-in-Nothing c = rw (c.in-Nothing.is) (subst (λ (n : Node). MakesOf c.args.problem.now n c.args.old.now (works.Nothing c.in-Nothing.pairs) c.make_nothing.result) c.in_ok-node.ensures.at (c.make_nothing.ensures c.args.old.now))
+
+pub returns-in-Gap : goal.returns-in-Gap
+returns-in-Gap c = rw (c.in-Gap.is) (subst (λ (n : Node). MakesOf c.args.problem.now n c.args.old.now (works.Gap c.in-Gap.cycle) c.make_gap.result) c.in_ok-node.ensures.at (c.make_gap.ensures c.args.old.now))

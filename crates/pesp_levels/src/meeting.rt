@@ -1,0 +1,35 @@
+//! Whether levels that someone else found meet the demands of edges.
+
+ghost use Rattle.std.specs.Prelude.{◌≡◌, ℕ, ◌<◌, ◌↔◌, length, IsTrue};
+ghost use Rattle.pesp_levels.specs.Settling.{at, Settles, AreSettled};
+
+use crate::edge::Edge;
+
+// the level of an event, 0 where it has none
+fn level_of(levels: &[usize], event: usize) -> usize
+    ensures { result ≡ at levels.now event }
+{
+    levels.get(event).copied().unwrap_or(0)
+}
+
+// whether levels meet the demand of one edge
+fn is_settled(edges: &[Edge], k: usize, levels: &[usize]) -> bool
+    requires { k < length edges.now }
+    ensures { IsTrue result ↔ Settles edges.now (at levels.now) k }
+{
+    let edge = edges[k];
+    let demanded = level_of(levels, edge.finish) as u128 + edge.gain as u128;
+    demanded <= level_of(levels, edge.start) as u128 + edge.loss as u128
+}
+
+/// Whether levels meet the demands of all edges. An event without a level is at 0.
+pub fn are_settled(edges: &[Edge], levels: &[usize]) -> bool
+    ensures { IsTrue result ↔ AreSettled edges.now (at levels.now) }
+{
+    for k in 0..edges.len() {
+        if !is_settled(edges, k, levels) {
+            return false;
+        }
+    }
+    true
+}

@@ -35,21 +35,50 @@ fn node_along(alloc: Global, problem: &Problem, path: &[(Cut, Side)]) -> Option<
     Some(node)
 }
 
-// lends a leaf and splits it
-fn split_first(alloc: Global, board: &mut Board) -> Option<()> {
-    let Job { number, path } = board.lend(alloc).ok()??;
-    let node = node_along(alloc, board.problem(), &path)?;
-    let (cycle, k) = wide_cycle(&node)?;
-    let cut = Cut::Offset { cycle, k };
-    board.give(alloc, number, &Work::Split(cut)).ok()
+// the jobs of all open leaves
+fn lend_all(alloc: Global, board: &mut Board) -> Option<Vec<Job>> {
+    let mut jobs = Vec::new(alloc);
+    for _ in 0..1_000_000 {
+        let Some(job) = board.lend(alloc).ok()? else {
+            return Some(jobs);
+        };
+        jobs.push(job).ok()?;
+    }
+    None
 }
 
-/// Lends and splits so many leaves of a board, one after the other: the least value that is left.
+// splits the leaf of a job
+fn split_job(alloc: Global, board: &mut Board, job: &Job) -> Option<()> {
+    let node = node_along(alloc, board.problem(), &job.path)?;
+    let (cycle, k) = wide_cycle(&node)?;
+    let cut = Cut::Offset { cycle, k };
+    board.give(alloc, job.number, &Work::Split(cut)).ok()
+}
+
+// splits the leaves of the first of some jobs; how many
+fn split_some(alloc: Global, board: &mut Board, jobs: &[Job], most: u32) -> Option<u32> {
+    let mut done = 0u32;
+    for job in jobs {
+        if done == most {
+            return Some(done);
+        }
+        split_job(alloc, board, job)?;
+        done = done.saturating_add(1);
+    }
+    Some(done)
+}
+
+/// Lends all open leaves and splits them, again and again, until so many are split: the least value that is left.
 pub fn splits(alloc: Global, network: Network, count: u32) -> Option<u64> {
     let problem = problem_of(alloc, network)?;
     let mut board = Board::new(alloc, problem).ok()?;
+    let mut left = count;
     for _ in 0..count {
-        split_first(alloc, &mut board)?;
+        if left == 0 {
+            return board.least();
+        }
+        let jobs = lend_all(alloc, &mut board)?;
+        left = left.saturating_sub(split_some(alloc, &mut board, &jobs, left)?);
     }
     board.least()
 }

@@ -69,7 +69,7 @@ fn split_some(alloc: Global, board: &mut Board, jobs: &[Job], most: u32) -> Opti
 }
 
 /// Lends all open leaves and splits them, again and again, until so many are split: the least value that is left.
-pub fn splits(alloc: Global, network: Network, count: u32) -> Option<u64> {
+pub(crate) fn splits(alloc: Global, network: Network, count: u32) -> Option<u64> {
     let problem = problem_of(alloc, network)?;
     let mut board = Board::new(alloc, problem).ok()?;
     let mut left = count;

@@ -5,7 +5,7 @@ use pesp_stream::Counted;
 use std::alloc::Global;
 
 /// Parses a certificate so many times: how many lines its tree has.
-pub fn parse_again(alloc: Global, text: &[u8], times: u32) -> Option<u64> {
+pub(crate) fn parse_again(alloc: Global, text: &[u8], times: u32) -> Option<u64> {
     let mut lines = 0;
     for _ in 0..times {
         lines = parse(alloc, text).ok()?.tree().len() as u64;
@@ -14,7 +14,7 @@ pub fn parse_again(alloc: Global, text: &[u8], times: u32) -> Option<u64> {
 }
 
 /// Parses a certificate and prints it so many times: how many bytes it has.
-pub fn print_again(alloc: Global, text: &[u8], times: u32) -> Option<u64> {
+pub(crate) fn print_again(alloc: Global, text: &[u8], times: u32) -> Option<u64> {
     let certificate = parse(alloc, text).ok()?;
     let mut bytes = 0;
     for _ in 0..times {

@@ -23,7 +23,7 @@ fn value_of(leaf: &Leaf) -> Option<u64> {
 }
 
 /// The value of the best leaf that is found at the root in so many rounds.
-pub fn root_leaf(alloc: Global, network: Network, rounds: u32) -> Option<u64> {
+pub(crate) fn root_leaf(alloc: Global, network: Network, rounds: u32) -> Option<u64> {
     let problem = problem_of(alloc, network)?;
     let root = root_of(alloc, &problem)?;
     value_of(&best_leaf(alloc, &problem, &root, rounds).ok()?)
@@ -75,7 +75,7 @@ fn go_high(problem: &Problem, node: &mut Node) -> Option<()>
 }
 
 /// The value of the best leaf that is found at the high part of a cut of the root, from the pairs of the root's leaf.
-pub fn child_leaf(alloc: Global, network: Network, rounds: u32) -> Option<u64> {
+pub(crate) fn child_leaf(alloc: Global, network: Network, rounds: u32) -> Option<u64> {
     let problem = problem_of(alloc, network)?;
     let mut node = root_of(alloc, &problem)?;
     let pairs = bound_pairs(alloc, &problem, &node, rounds)?;
@@ -120,7 +120,7 @@ fn fewest(alloc: Global, problem: &Problem, node: &Node, start: &[Pair]) -> Opti
 }
 
 /// The fewest rounds that give the root's leaf its greatest value.
-pub fn root_rounds(alloc: Global, network: Network) -> Option<u64> {
+pub(crate) fn root_rounds(alloc: Global, network: Network) -> Option<u64> {
     let problem = problem_of(alloc, network)?;
     let root = root_of(alloc, &problem)?;
     fewest(alloc, &problem, &root, &[])
@@ -128,7 +128,7 @@ pub fn root_rounds(alloc: Global, network: Network) -> Option<u64> {
 
 /// The fewest rounds that give the leaf at the high part of a cut of the root its greatest value, from the pairs of the
 /// root's leaf.
-pub fn child_rounds(alloc: Global, network: Network) -> Option<u64> {
+pub(crate) fn child_rounds(alloc: Global, network: Network) -> Option<u64> {
     let problem = problem_of(alloc, network)?;
     let mut node = root_of(alloc, &problem)?;
     let pairs = bound_pairs(alloc, &problem, &node, MOST)?;

@@ -12,7 +12,7 @@ use std::alloc::Global;
 /// What is done over an instance or its network, with the tries of a dive, the rounds of an improvement or of a leaf, and the
 /// splits of a board. A child is a part of a branch at the root.
 #[derive(Clone, Copy, Debug, PartialEq, Eq)]
-pub enum Task {
+pub(crate) enum Task {
     Read,
     Network,
     Cycles,
@@ -27,7 +27,7 @@ pub enum Task {
 }
 
 /// The task of a word, with its own number.
-pub fn task_of(word: &str, own: u32) -> Option<Task> {
+pub(crate) fn task_of(word: &str, own: u32) -> Option<Task> {
     match word {
         "read" => Some(Task::Read),
         "network" => Some(Task::Network),
@@ -105,7 +105,13 @@ fn figure(alloc: Global, task: Task, instance: &Instance) -> Option<u64> {
 }
 
 /// Reads an instance and does a task over it so many times: the figure that came out of the last.
-pub fn measure(alloc: Global, task: Task, text: &[u8], period: u32, times: u32) -> Option<u64> {
+pub(crate) fn measure(
+    alloc: Global,
+    task: Task,
+    text: &[u8],
+    period: u32,
+    times: u32,
+) -> Option<u64> {
     let instance = read_instance(alloc, text, period).ok()?;
     let mut last = 0;
     for _ in 0..times {

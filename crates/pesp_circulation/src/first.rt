@@ -51,12 +51,18 @@ struct Growth {
     waiting: Waiting,
 }
 
-// the steps that end at each event
-fn stars_of(alloc: Global, lines: &[Line], events: usize) -> Result<Vec<Vec<Step>>, AllocError> {
+// a list without a step for each event
+fn empty_stars(alloc: Global, events: usize) -> Result<Vec<Vec<Step>>, AllocError> {
     let mut stars = Vec::with_capacity(alloc, events)?;
     for _ in 0..events {
         stars.push(Vec::new(alloc))?;
     }
+    Ok(stars)
+}
+
+// the steps that end at each event
+fn stars_of(alloc: Global, lines: &[Line], events: usize) -> Result<Vec<Vec<Step>>, AllocError> {
+    let mut stars = empty_stars(alloc, events)?;
     for place in 0..lines.len() {
         add_ends(&mut stars, &lines[place], place)?;
     }

@@ -3,9 +3,9 @@
 ghost use Rattle.std.specs.Prelude.{◌≡◌, ◌≤◌, IsTrue, IfOk};
 ghost use Rattle.pesp_problem.specs.Limits.{IsLabel, RowKeepsLimits};
 ghost use Rattle.pesp_problem.specs.Timetables.{IsTimetable};
+ghost use Rattle.pesp_problem.specs.NetTimetables.{IsNetTimetable};
 ghost use Rattle.pesp_problem.specs.Walks.{IsWalk};
-ghost use Rattle.pesp_network.specs.Networks.{arcs_of_network};
-ghost use Rattle.pesp_reduce.specs.Reductions.{IsNetworkTimetable};
+ghost use Rattle.pesp_network.specs.Networks.{arcs_of_network, net_of_network};
 
 use pesp_network::{NetRow, Network};
 use pesp_problem::{Instance, Row, Score, SignedRow, Walk, score};
@@ -104,7 +104,7 @@ fn is_timetable(instance: &Instance, times: &[u32]) -> bool
 // times of what is left, from a timetable of the instance
 fn low_timetable(alloc: Global, left: &Reduced, times: &[u32]) -> Result<Vec<u32>, Fail>
     requires { IsTimetable left.now.original times.now }
-    ensures { IfOk result (λ lowered. IsNetworkTimetable left.now.network lowered.items) }
+    ensures { IfOk result (λ lowered. IsNetTimetable (net_of_network left.now.network) left.now.network.events lowered.items) }
 {
     match left.lower_times(alloc, times) {
         Ok(lowered) => Ok(lowered),

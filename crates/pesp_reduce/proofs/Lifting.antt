@@ -5,19 +5,21 @@ use Rattle.std.proofs.lemmas.Int.{ints}
 use Rattle.std.proofs.lemmas.Bool.{cases_Bool}
 use Rattle.std.proofs.lemmas.List.{length-map, get_or-map, take_all}
 use Rattle.std.proofs.lemmas.List.Elements.{All-get_or, All-from_get_or}
+use Rattle.std.proofs.lemmas.List.Sums.{sum_by-cons}
 use Rattle.pesp_problem.specs.declared.arc.Arc.{Arc}
 use Rattle.pesp_problem.specs.declared.row.Row.{Row}
 use Rattle.pesp_problem.specs.declared.row.SignedRow.{SignedRow}
 use Rattle.pesp_problem.specs.Sums.{sum_below, floor_div}
 use Rattle.pesp_problem.specs.Timetables.{Pesp, row_at, no_row, remainder, difference, slack, cost, IsSatisfied, IsTimetable}
 use Rattle.pesp_problem.specs.Limits.{KeepsLimits, RowKeepsLimits}
-use Rattle.pesp_problem.specs.Arcs.{Net, arc_at, arcs_of, arc_of, span, arc_slack, slacks_at}
+use Rattle.pesp_problem.specs.Arcs.{Net, no_arc, arc_at, arcs_of, arc_of, span, arc_slack, slacks_at}
+use Rattle.pesp_problem.specs.NetTimetables.{IsNetTimetable, net_cost}
 use Rattle.pesp_problem.specs.Walks.{Leads, IsWalk, HasWholeOffset, start, finish, net_count}
 use Rattle.pesp_problem.proofs.Integers.{mul-neg, mul-sub, swap_left, zero-mul, quotient-remainder, sum_below-same, sum_below-sub, sum_below-mul}
 use Rattle.pesp_problem.proofs.Walks.{rise, rises_cancel}
 use Rattle.pesp_problem.proofs.Arcs.{arc_at-arcs_of, slack-lt-period, slack-le-span, within_span}
 use Rattle.pesp_network.specs.declared.row.NetRow.{NetRow}
-use Rattle.pesp_network.specs.Networks.{NetworkValue, net_row_at, arc_of_net, arcs_of_network}
+use Rattle.pesp_network.specs.Networks.{NetworkValue, net_row_at, arc_of_net, arcs_of_network, net_of_network}
 use Rattle.pesp_reduce.specs.declared.fate.Fate.{Fate}
 use Rattle.pesp_reduce.specs.declared.fate.Fate.TheVariants.{Free, Contracted, Bridge, Kept}
 use Rattle.pesp_reduce.specs.declared.contraction.Contraction.{Contraction}
@@ -25,7 +27,7 @@ use Rattle.pesp_reduce.specs.Congruences.{IsSame}
 use Rattle.pesp_reduce.specs.Rows.{flag, IsFree}
 use Rattle.pesp_reduce.specs.Contractions.{AreTree}
 use Rattle.pesp_reduce.specs.Fates.{fate_at, is_kept, mapped_row}
-use Rattle.pesp_reduce.specs.Reductions.{IsReduction, IsNetworkTimetable, network_cost, origin_place}
+use Rattle.pesp_reduce.specs.Reductions.{IsReduction, origin_place}
 use Rattle.pesp_reduce.specs.Times.{lowered_time, shifted, lifted_slack}
 use Rattle.pesp_reduce.proofs.Congruences.{same_trans, same_sym, same_is, same_remainders, none_left, none_left_of}
 use Rattle.pesp_reduce.proofs.Lists.{arc_at_net, arcs_length}
@@ -146,7 +148,7 @@ lowered_slack p fates whole network c times j k r t f =
     at ∙ same_w ∙ same_remainders T ((pos (slice_index made (slice_index c.stands.items row.head)) -ℤ pos (slice_index made (slice_index c.stands.items row.tail))) -ℤ ((row.lower +ℤ pos (slice_index c.shifts.items row.tail)) -ℤ pos (slice_index c.shifts.items row.head))) (difference times row.tail row.head -ℤ row.lower) some m
 
 pub lowered_is_timetable : (p : Pesp) (fates : List Fate) (whole network : NetworkValue) (c : Contraction) (times : List ℕ) → KeepsLimits p → IsReduction p fates whole c network → IsTimetable p times
-    → IsNetworkTimetable network (map (lowered_time p.period times c.shifts.items) c.firsts.items)
+    → IsNetTimetable (net_of_network network) network.events (map (lowered_time p.period times c.shifts.items) c.firsts.items)
 lowered_is_timetable p fates whole network c times k r t =
     let T = p.period in
     let some : 0 < T = let q = k.some_period in omega arith in
@@ -157,12 +159,14 @@ lowered_is_timetable p fates whole network c times k r t =
           let b : i < length c.firsts.items = omega (arith, length-map c.firsts.items (lowered_time T times c.shifts.items)) in
           let e = slice_index c.firsts.items i in
           subst (λ y. y < T) (sym (get_or-map (lowered_time T times c.shifts.items) c.firsts.items i 0 0 b)) (lowered_below T (slice_index times e) (slice_index c.shifts.items e) some)));
-      within = λ j l.
+      slacks = All-from_get_or (λ arc. arc_slack network.period made arc ≤ arc.span) (arcs_of_network network.rows) no_arc (λ j inside.
+          let l : j < length network.rows = omega (arith, arcs_length network.rows) in
           let f = comes_from p fates whole network c j r l in
           let same = ap (λ m. arc_slack m made (arc_of_net (net_row_at network.rows j))) r.period ∙ lowered_slack p fates whole network c times j k r t f in
           let small = slack-le-span p times (row_at p.rows f.place) some (All-get_or (IsSatisfied p times) p.rows f.place no_row f.below t.1) in
           let span_is = ap (λ (x : NetRow). x.span) f.row ∙ ap (λ (a : Arc). a.span) (f.arc ∙ arc_at-arcs_of p f.place f.below) in
-          omega arith;
+          let within : arc_slack network.period made (arc_of_net (net_row_at network.rows j)) ≤ (net_row_at network.rows j).span = omega arith in
+          subst (λ arc. arc_slack network.period made arc ≤ arc.span) (sym (arc_at_net network.rows j)) within);
     }
 
 -- ---- lifted times
@@ -343,13 +347,19 @@ unfolding kept_row
 row_of_kept p fates whole network c i r l e =
     (kept_row p fates whole network c i r l e).row ∙ sym (mapped_at c.stands.items c.shifts.items whole.rows i (omega (arith, r.whole_count)))
 
-kept_slack_is : (p : Pesp) (fates : List Fate) (whole network : NetworkValue) (c : Contraction) (times lifted : List ℕ) (i : ℕ) → IsReduction p fates whole c network → IsNetworkTimetable network times → i < length p.rows → fate_at fates i ≡ Kept
+slack_within : (network : NetworkValue) (times : List ℕ) (j : ℕ) → IsNetTimetable (net_of_network network) network.events times → j < length network.rows
+    → arc_slack network.period times (arc_of_net (net_row_at network.rows j)) ≤ (net_row_at network.rows j).span
+slack_within network times j nt l =
+    let P : Arc → Type 0 = λ arc. arc_slack network.period times arc ≤ arc.span in
+    subst P (arc_at_net network.rows j) (All-get_or P (arcs_of_network network.rows) j no_arc (omega (arith, arcs_length network.rows)) nt.slacks)
+
+kept_slack_is : (p : Pesp) (fates : List Fate) (whole network : NetworkValue) (c : Contraction) (times lifted : List ℕ) (i : ℕ) → IsReduction p fates whole c network → IsNetTimetable (net_of_network network) network.events times → i < length p.rows → fate_at fates i ≡ Kept
     → slack p.period lifted (row_at p.rows i) ≡ lifted_slack p.period c.stands.items c.shifts.items times (net_row_at whole.rows i) (fate_at fates i) → SlackIs p fates network times lifted i
 kept_slack_is p fates whole network c times lifted i r nt l e is =
     let f = kept_row p fates whole network c i r l (ap is_kept e) in
     let x = kept_at_place p fates whole network c times i r l (ap is_kept e) in
     let span_is : (net_row_at network.rows (places fates i)).span ≡ span p.period (row_at p.rows i) = span_at p fates whole network c i r l (ap is_kept e) in
-    let small = nt.within (places fates i) (omega (arith, size_of p fates whole network c r, places_before fates (length p.rows) i l (ap is_kept e))) in
+    let small = slack_within network times (places fates i) nt (omega (arith, size_of p fates whole network c r, places_before fates (length p.rows) i l (ap is_kept e))) in
     record {
       within = omega (arith, is, x);
       kept = λ q. is ∙ x;
@@ -370,7 +380,7 @@ cost_term p fates whole network c times lifted i r l s =
       | inr e ↦ s.dropped e ∙ sym (ap (λ (b : Bool). if b then f (net_row_at B i) else 0) e)
     ]
 
-pub slack_is : (p : Pesp) (fates : List Fate) (whole network : NetworkValue) (c : Contraction) (times lifted : List ℕ) (i : ℕ) → KeepsLimits p → IsReduction p fates whole c network → IsNetworkTimetable network times → LiftedTo p fates whole network c times lifted → i < length p.rows → SlackIs p fates network times lifted i
+pub slack_is : (p : Pesp) (fates : List Fate) (whole network : NetworkValue) (c : Contraction) (times lifted : List ℕ) (i : ℕ) → KeepsLimits p → IsReduction p fates whole c network → IsNetTimetable (net_of_network network) network.events times → LiftedTo p fates whole network c times lifted → i < length p.rows → SlackIs p fates network times lifted i
 slack_is p fates whole network c times lifted i k r nt lt l =
     let T = p.period in
     let some : 0 < T = let q = k.some_period in omega arith in
@@ -399,7 +409,7 @@ slack_is p fates whole network c times lifted i k r nt lt l =
     ]
 
 -- lifted times are a timetable
-pub lifted_is_timetable : (p : Pesp) (fates : List Fate) (whole network : NetworkValue) (c : Contraction) (times lifted : List ℕ) → KeepsLimits p → IsReduction p fates whole c network → IsNetworkTimetable network times → LiftedTo p fates whole network c times lifted → IsTimetable p lifted
+pub lifted_is_timetable : (p : Pesp) (fates : List Fate) (whole network : NetworkValue) (c : Contraction) (times lifted : List ℕ) → KeepsLimits p → IsReduction p fates whole c network → IsNetTimetable (net_of_network network) network.events times → LiftedTo p fates whole network c times lifted → IsTimetable p lifted
 lifted_is_timetable p fates whole network c times lifted k r nt lt = (
   (lt.count, lt.below),
   All-from_get_or (IsSatisfied p lifted) p.rows no_row (λ i l.
@@ -408,14 +418,18 @@ lifted_is_timetable p fates whole network c times lifted k r nt lt = (
 )
 
 -- each row of the network has its original's slack
-pub lifted_row_slack : (p : Pesp) (fates : List Fate) (whole network : NetworkValue) (c : Contraction) (times lifted : List ℕ) (j : ℕ) → KeepsLimits p → IsReduction p fates whole c network → IsNetworkTimetable network times → LiftedTo p fates whole network c times lifted
+pub lifted_row_slack : (p : Pesp) (fates : List Fate) (whole network : NetworkValue) (c : Contraction) (times lifted : List ℕ) (j : ℕ) → KeepsLimits p → IsReduction p fates whole c network → IsNetTimetable (net_of_network network) network.events times → LiftedTo p fates whole network c times lifted
     → (f : ComesFrom p fates whole c network j) → slack p.period lifted (row_at p.rows f.place) ≡ arc_slack network.period times (arc_of_net (net_row_at network.rows j))
 lifted_row_slack p fates whole network c times lifted j k r nt lt f =
     (slack_is p fates whole network c times lifted f.place k r nt lt f.below).kept f.keeps_it ∙ ap (λ m. arc_slack network.period times (arc_of_net (net_row_at network.rows m))) f.stands
 
+sum_over_arcs : (f : Arc → ℕ) (rows : List NetRow) → sum_by (λ row. f (arc_of_net row)) rows ≡ sum_by f (arcs_of_network rows)
+sum_over_arcs f [] = refl
+sum_over_arcs f (row ∷ rows) = sum_by-cons (λ r. f (arc_of_net r)) row rows ∙ ap (λ y. f (arc_of_net row) + y) (sum_over_arcs f rows) ∙ sym (sum_by-cons f (arc_of_net row) (arcs_of_network rows))
+
 -- the costs are equal
-pub lifted_cost : (p : Pesp) (fates : List Fate) (whole network : NetworkValue) (c : Contraction) (times lifted : List ℕ) → KeepsLimits p → IsReduction p fates whole c network → IsNetworkTimetable network times → LiftedTo p fates whole network c times lifted
-    → cost p.period p.rows lifted ≡ network_cost network times
+pub lifted_cost : (p : Pesp) (fates : List Fate) (whole network : NetworkValue) (c : Contraction) (times lifted : List ℕ) → KeepsLimits p → IsReduction p fates whole c network → IsNetTimetable (net_of_network network) network.events times → LiftedTo p fates whole network c times lifted
+    → cost p.period p.rows lifted ≡ net_cost (net_of_network network) times
 lifted_cost p fates whole network c times lifted k r nt lt =
     let T = p.period in
     let B = map (mapped_row c.stands.items c.shifts.items) whole.rows in
@@ -423,6 +437,7 @@ lifted_cost p fates whole network c times lifted k r nt lt =
     let f : NetRow → ℕ = λ row. row.weight * arc_slack network.period times (arc_of_net row) in
     let terms = λ (i : ℕ) (l : i < length p.rows). let s = slack_is p fates whole network c times lifted i k r nt lt l in cost_term p fates whole network c times lifted i r l s in
     ap (sum_by g) (sym (take_all (length p.rows) p.rows (omega arith))) ∙ sum_kept fates p.rows B g f (length p.rows) (omega arith) terms ∙ sym (ap (sum_by f) r.rows)
+    ∙ sum_over_arcs (λ arc. arc.weight * arc_slack network.period times arc) network.rows
 
 -- ---- by the rows of the network
 
@@ -434,7 +449,7 @@ lowered_slacks p fates whole network c times j k r t l =
     let place : f.place ≡ origin_place network j = omega (arith, f.origin) in
     ap (λ m. arc_slack m made (arc_of_net (net_row_at network.rows j))) r.period ∙ lowered_slack p fates whole network c times j k r t f ∙ ap (λ i. slack p.period times (row_at p.rows i)) place
 
-pub lifted_row_slacks : (p : Pesp) (fates : List Fate) (whole network : NetworkValue) (c : Contraction) (times lifted : List ℕ) (j : ℕ) → KeepsLimits p → IsReduction p fates whole c network → IsNetworkTimetable network times → LiftedTo p fates whole network c times lifted → j < length network.rows
+pub lifted_row_slacks : (p : Pesp) (fates : List Fate) (whole network : NetworkValue) (c : Contraction) (times lifted : List ℕ) (j : ℕ) → KeepsLimits p → IsReduction p fates whole c network → IsNetTimetable (net_of_network network) network.events times → LiftedTo p fates whole network c times lifted → j < length network.rows
     → slack p.period lifted (row_at p.rows (origin_place network j)) ≡ arc_slack network.period times (arc_of_net (net_row_at network.rows j))
 lifted_row_slacks p fates whole network c times lifted j k r nt lt l =
     let f = comes_from p fates whole network c j r l in

@@ -1,12 +1,12 @@
 -- Reduced networks, and what they keep of the instance.
-use Rattle.std.specs.Prelude.{◌≡◌, ℕ, ◌+◌, ◌-◌, ◌*◌, ◌<◌, ◌≤◌, List, length, map, pos, ◌+ℤ◌, ◌-ℤ◌, ◌↔◌, All, Contains, true, slice_index, sum_by}
+use Rattle.std.specs.Prelude.{◌≡◌, ℕ, ◌+◌, ◌-◌, ◌<◌, List, length, map, pos, ◌+ℤ◌, ◌-ℤ◌, ◌↔◌, All, Contains, true, slice_index}
 use Rattle.std.specs.List.Sorted.{IsStrictlyIncreasing}
 use Rattle.pesp_problem.specs.declared.row.SignedRow.{SignedRow}
 use Rattle.pesp_problem.specs.Timetables.{Pesp}
-use Rattle.pesp_problem.specs.Arcs.{arc_at, arcs_of, arc_slack}
+use Rattle.pesp_problem.specs.Arcs.{arc_at, arcs_of}
 use Rattle.pesp_problem.specs.Walks.{AreRows, Leads, IsWalk, net_count, Names}
 use Rattle.pesp_problem.specs.Forests.{IsBridge}
-use Rattle.pesp_network.specs.Networks.{NetworkValue, net_row_at, arc_of_net, arcs_of_network}
+use Rattle.pesp_network.specs.Networks.{NetworkValue, net_row_at, arcs_of_network}
 use Rattle.pesp_reduce.specs.declared.fate.Fate.{Fate}
 use Rattle.pesp_reduce.specs.declared.fate.Fate.TheVariants.{Free, Contracted, Bridge, Kept}
 use Rattle.pesp_reduce.specs.declared.contraction.Contraction.{Contraction}
@@ -77,16 +77,6 @@ pub record IsReduction (p : Pesp) (fates : List Fate) (whole : NetworkValue) (c 
   pub events : network.events ≡ length c.firsts.items
   pub rows : network.rows ≡ kept_below fates (map (mapped_row c.stands.items c.shifts.items) whole.rows) (length p.rows)
   pub no_bridge : (row : ℕ) → Names (length network.rows) row → IsBridge (arcs_of_network network.rows) row → ⊥
-
--- the cost of times over a network's rows
-abbrev pub network_cost : NetworkValue → List ℕ → ℕ
-network_cost n times = sum_by (λ row. row.weight * arc_slack n.period times (arc_of_net row)) n.rows
-
--- one time below the period for each event, and no slack above its row's span
-pub record IsNetworkTimetable (n : NetworkValue) (times : List ℕ) : Type 0 where
-  pub count : length times ≡ n.events
-  pub below : All (λ t. t < n.period) times
-  pub within : (j : ℕ) → j < length n.rows → arc_slack n.period times (arc_of_net (net_row_at n.rows j)) ≤ (net_row_at n.rows j).span
 
 -- the place, from 0, of the row of the instance from which the network's row at a place comes
 abbrev pub origin_place : NetworkValue → ℕ → ℕ

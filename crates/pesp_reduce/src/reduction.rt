@@ -3,13 +3,14 @@
 ghost use Rattle.std.specs.Prelude.{◌≡◌, ℕ, ◌-◌, ◌<◌, ◌≤◌, length, map, filter, IfOk, All};
 ghost use Rattle.pesp_problem.specs.Timetables.{slack, cost, row_at, IsTimetable};
 ghost use Rattle.pesp_problem.specs.Arcs.{arc_at, arcs_of, arc_slack};
+ghost use Rattle.pesp_problem.specs.NetTimetables.{IsNetTimetable, net_cost};
 ghost use Rattle.pesp_problem.specs.Walks.{Names, IsWalk};
 ghost use Rattle.pesp_problem.specs.Forests.{IsBridge, IsSimple};
-ghost use Rattle.pesp_network.specs.Networks.{net_row_at, arc_of_net, arcs_of_network};
+ghost use Rattle.pesp_network.specs.Networks.{net_row_at, arc_of_net, arcs_of_network, net_of_network};
 ghost use Rattle.pesp_reduce.specs.Congruences.{IsSame};
 ghost use Rattle.pesp_reduce.specs.Rows.{IsFree};
 ghost use Rattle.pesp_reduce.specs.LiftedWalks.{original_row, passes_kept, IsKeptOrContracted, lower_sum, HasNoRowTwice};
-ghost use Rattle.pesp_reduce.specs.Reductions.{IsReducedRow, AreKeptRows, AreFatesOf, AreMerged, HaveNoContractedCycle, IsNetworkTimetable, origin_place, network_cost};
+ghost use Rattle.pesp_reduce.specs.Reductions.{IsReducedRow, AreKeptRows, AreFatesOf, AreMerged, HaveNoContractedCycle, origin_place};
 
 use crate::contraction::{Contraction, contract};
 use crate::fate::Fate;
@@ -97,7 +98,7 @@ impl Reduced {
     /// From times of the instance to times of what is left: each row that is left has its original's slack.
     pub fn lower_times(&self, alloc: Global, times: &[u32]) -> Result<Vec<u32>, Memory>
         requires { IsTimetable self.now.original times.now }
-        ensures timetable { IfOk result (λ lowered. IsNetworkTimetable self.now.network lowered.items) }
+        ensures timetable { IfOk result (λ lowered. IsNetTimetable (net_of_network self.now.network) self.now.network.events lowered.items) }
         ensures slacks { IfOk result (λ lowered. (j : ℕ) → j < length self.now.network.rows → arc_slack self.now.network.period lowered.items (arc_of_net (net_row_at self.now.network.rows j)) ≡ slack self.now.original.period times.now (row_at self.now.original.rows (origin_place self.now.network j))) }
     {
         let period = self.original.period();
@@ -109,10 +110,10 @@ impl Reduced {
     /// From times of what is left to times of the instance at equal cost: each row that is left has its slack, contracted
     /// rows and bridges have slack 0.
     pub fn lift_times(&self, alloc: Global, times: &[u32]) -> Result<Vec<u32>, Memory>
-        requires { IsNetworkTimetable self.now.network times.now }
+        requires { IsNetTimetable (net_of_network self.now.network) self.now.network.events times.now }
         ensures timetable { IfOk result (λ lifted. IsTimetable self.now.original lifted.items) }
         ensures slacks { IfOk result (λ lifted. (j : ℕ) → j < length self.now.network.rows → slack self.now.original.period lifted.items (row_at self.now.original.rows (origin_place self.now.network j)) ≡ arc_slack self.now.network.period times.now (arc_of_net (net_row_at self.now.network.rows j))) }
-        ensures cost { IfOk result (λ lifted. cost self.now.original.period self.now.original.rows lifted.items ≡ network_cost self.now.network times.now) }
+        ensures cost { IfOk result (λ lifted. cost self.now.original.period self.now.original.rows lifted.items ≡ net_cost (net_of_network self.now.network) times.now) }
     {
         let period = self.original.period();
         let stands = self.contraction.stands.as_slice();

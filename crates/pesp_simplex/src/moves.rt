@@ -33,8 +33,8 @@ fn weight(dearer: u64, heat: u64) -> u64 {
     full.wrapping_sub(rest)
 }
 
-/// An amount at random, the likelier the cheaper it is, under which all rows are satisfied.
-pub(crate) fn warm(period: u32, numbers: &Numbers, heat: u64, random: &mut Random) -> u32 {
+/// The least cost of an amount below the period under which all rows are satisfied; 0 where none is below 0.
+fn least_cost(period: u32, numbers: &Numbers) -> i64 {
     let mut least: i64 = 0;
     for (cost, bars) in numbers
         .costs
@@ -46,6 +46,11 @@ pub(crate) fn warm(period: u32, numbers: &Numbers, heat: u64, random: &mut Rando
             least = least.min(*cost);
         }
     }
+    least
+}
+
+/// The weights of all amounts below the period under which all rows are satisfied, added up.
+fn weight_of_all(period: u32, numbers: &Numbers, least: i64, heat: u64) -> u64 {
     let mut sum: u64 = 0;
     for (cost, bars) in numbers
         .costs
@@ -57,7 +62,12 @@ pub(crate) fn warm(period: u32, numbers: &Numbers, heat: u64, random: &mut Rando
             sum = sum.wrapping_add(weight(cost.abs_diff(least), heat));
         }
     }
-    let mut left = random.below(sum);
+    sum
+}
+
+/// The amount at which the weights, added up in order, pass a number; 0 where they don't.
+fn amount_at(period: u32, numbers: &Numbers, least: i64, heat: u64, number: u64) -> u32 {
+    let mut left = number;
     let mut amount: u32 = 0;
     for (cost, bars) in numbers
         .costs
@@ -75,6 +85,13 @@ pub(crate) fn warm(period: u32, numbers: &Numbers, heat: u64, random: &mut Rando
         amount = amount.wrapping_add(1);
     }
     0
+}
+
+/// An amount at random, the likelier the cheaper it is, under which all rows are satisfied.
+pub(crate) fn warm(period: u32, numbers: &Numbers, heat: u64, random: &mut Random) -> u32 {
+    let least = least_cost(period, numbers);
+    let number = random.below(weight_of_all(period, numbers, least, heat));
+    amount_at(period, numbers, least, heat, number)
 }
 
 /// Changes the slacks of the rows that cross a side as the side is shifted.

@@ -185,6 +185,12 @@ fn the_first_fault_decides(rt: HostRuntime) -> Result<(), Fail> {
         let text = changed(alloc, FIVE, old, new)?;
         assert_eq!(rt; refused(alloc, text.as_slice()), refusal, "{old} to {new}");
     }
+    Ok(())
+}
+
+#[test]
+fn the_first_fault_of_a_tree_decides(rt: HostRuntime) -> Result<(), Fail> {
+    let alloc = rt.alloc();
     for (old, new, refusal) in [
         ("b 1 1\n", "", Some(CertRefusal::Truncated)),
         ("b 1 1\n", "b 1 0\n", Some(CertRefusal::Number { n: 9 })),
@@ -198,14 +204,20 @@ fn the_first_fault_decides(rt: HostRuntime) -> Result<(), Fail> {
     Ok(())
 }
 
+/// Pushes a part so many times.
+fn push_many(bytes: &mut Vec<u8>, part: &str, count: u32) -> Result<(), Fail> {
+    for _ in 0..count {
+        bytes.extend_from_slice(part.as_bytes())?;
+    }
+    Ok(())
+}
+
 /// The text with `count` times the part in place of `old`.
 fn repeated(alloc: Global, text: &str, old: &str, part: &str, count: u32) -> Result<Vec<u8>, Fail> {
     let (front, back) = text.split_once(old).ok_or("the part is not there")?;
     let mut bytes = Vec::new(alloc);
     bytes.extend_from_slice(front.as_bytes())?;
-    for _ in 0..count {
-        bytes.extend_from_slice(part.as_bytes())?;
-    }
+    push_many(&mut bytes, part, count)?;
     bytes.extend_from_slice(back.as_bytes())?;
     Ok(bytes)
 }
@@ -254,13 +266,9 @@ fn deep(alloc: Global, depth: u32) -> Result<Vec<u8>, Fail> {
     let (front, _) = SIX.split_once("o 1 -1").ok_or("no tree")?;
     let mut bytes = Vec::new(alloc);
     bytes.extend_from_slice(front.as_bytes())?;
-    for _ in 0..depth {
-        bytes.extend_from_slice(b"o 1 -1\n")?;
-    }
+    push_many(&mut bytes, "o 1 -1\n", depth)?;
     bytes.extend_from_slice(b"b 1 -1\n")?;
-    for _ in 1..depth {
-        bytes.extend_from_slice(b"g 1\n")?;
-    }
+    push_many(&mut bytes, "g 1\n", depth.saturating_sub(1))?;
     bytes.extend_from_slice(b"b 1 1\nend\n")?;
     Ok(bytes)
 }

@@ -1,8 +1,9 @@
 use Rattle.std.proofs.Common.{◌≡◌, ◌<◌, ℕ, length, map, ap, sym, ◌∙◌, subst, List}
 use Rattle.pesp_problem.specs.Timetables.{IsTimetable, slack, row_at}
 use Rattle.pesp_problem.specs.Arcs.{arc_slack}
-use Rattle.pesp_network.specs.Networks.{net_row_at, arc_of_net}
-use Rattle.pesp_reduce.specs.Reductions.{ReducedValue, IsNetworkTimetable, origin_place}
+use Rattle.pesp_problem.specs.NetTimetables.{IsNetTimetable}
+use Rattle.pesp_network.specs.Networks.{net_row_at, arc_of_net, net_of_network}
+use Rattle.pesp_reduce.specs.Reductions.{ReducedValue, origin_place}
 use Rattle.pesp_reduce.specs.Times.{lowered_time}
 use Rattle.pesp_reduce.proofs.Lifting.{lowered_is_timetable, lowered_slacks}
 use Rattle.pesp_reduce.proofs.reduction.Reduced.lower_times.Goals as goal
@@ -21,7 +22,7 @@ returns c =
     ∙ ap (λ xs. map (lowered_time p.period times xs) c.as_slice-firsts.result.now) c.as_slice-shifts.ensures.value
     ∙ ap (map (lowered_time p.period times H)) c.as_slice-firsts.ensures.value in
     let given = subst (λ (r : ReducedValue). IsTimetable r.original times) (sym c.self.view_is) c.requires in
-    let P : ReducedValue → List ℕ → Type 0 = λ r xs. IsNetworkTimetable r.network xs in
+    let P : ReducedValue → List ℕ → Type 0 = λ r xs. IsNetTimetable (net_of_network r.network) r.network.events xs in
     let Q : ReducedValue → List ℕ → Type 0 = λ r xs. (j : ℕ) → j < length r.network.rows → arc_slack r.network.period xs (arc_of_net (net_row_at r.network.rows j)) ≡ slack r.original.period times (row_at r.original.rows (origin_place r.network j)) in
     let V : ReducedValue = record { original = p; fates = v.fates.items; stands = v.contraction.stands.items; shifts = H; network = v.network } in
     let is_timetable : P V made = subst (P V) (sym made_is) (lowered_is_timetable p v.fates.items v.whole v.network v.contraction times k c.self.invariant given) in

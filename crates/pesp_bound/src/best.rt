@@ -183,7 +183,7 @@ fn best_pairs(
 /// `Gap` wherever some cycle has no offset left; else a `Nothing` where pairs of value above 0 with all weights 0 were found,
 /// or a `Bound` whose value is at least that of no pairs, and at least that of the start where it has one at this node. Where
 /// the cycles are the network's own, each slack range has a value, each offset range has one, and no slacks of the ranges
-/// have these offsets, it is a `Gap` or a `Nothing`, however few the changes.
+/// have these offsets, it is a `Gap` or a `Nothing`, however few the pivots.
 pub fn best_leaf_from(
     alloc: Global,
     problem: &Problem,
@@ -218,7 +218,7 @@ pub fn best_leaf_from(
 /// The best leaf that is found at a node from no pairs: a `Gap` wherever some cycle has no offset left; else a `Nothing` where
 /// pairs of value above 0 with all weights 0 were found, or a `Bound` whose value is at least that of no pairs. Where the
 /// cycles are the network's own, each slack range has a value, each offset range has one, and no slacks of the ranges have
-/// these offsets, it is a `Gap` or a `Nothing`, however few the changes.
+/// these offsets, it is a `Gap` or a `Nothing`, however few the pivots.
 pub fn best_leaf(alloc: Global, problem: &Problem, node: &Node, rounds: u32) -> Result<Leaf, Memory>
     requires { IsNodeOf problem.now node.now }
     ensures leaf { IfOk result (IsLeafOf problem.now node.now) }

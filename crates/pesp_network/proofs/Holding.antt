@@ -1,12 +1,13 @@
 -- What a network holds, in the words of its value.
 use Rattle.std.proofs.Common.{◌≡◌, ◌≢◌, ℕ, ◌<◌, inl, inr, sym, ◌∙◌, ap, arith, subst, List, length, All}
-use Rattle.std.specs.Prelude.{unsigned_abs, Option, Some, None, IfNone}
+use Rattle.std.specs.Prelude.{◌≤◌, unsigned_abs, slice_index, Option, Some, None, IfSome, IfNone}
 use Rattle.std.proofs.lemmas.Bool.{cases_lt}
-use Rattle.std.proofs.lemmas.List.{get_or_past}
-use Rattle.std.proofs.lemmas.List.Elements.{All-get_or, All-weaker}
+use Rattle.std.proofs.lemmas.List.{get_or_past, get_or-map, length-map}
+use Rattle.std.proofs.lemmas.List.Elements.{All-get_or, All-weaker, All-from_get_or}
 use Rattle.pesp_problem.specs.declared.row.SignedRow.{SignedRow}
 use Rattle.pesp_problem.specs.declared.arc.Arc.{Arc}
-use Rattle.pesp_problem.specs.Arcs.{no_arc}
+use Rattle.pesp_problem.specs.Arcs.{no_arc, arc_at, arc_slack}
+use Rattle.pesp_problem.specs.NetTimetables.{IsNetTimetable}
 use Rattle.pesp_problem.specs.Walks.{RowExists, AreRows, Leads, start}
 use Rattle.pesp_problem.specs.Forests.{KeepsTo, IsSimple, AreJoined, IsFirstOf}
 use Rattle.pesp_network.specs.declared.row.NetRow.{NetRow}
@@ -15,7 +16,7 @@ use Rattle.pesp_network.specs.declared.refusal.NetRefusal.TheVariants.{Memory, T
 use Rattle.pesp_network.specs.declared.parts.Forest.{Forest}
 use Rattle.pesp_network.specs.declared.parts.Reaches.{Reaches}
 use Rattle.pesp_network.specs.Held.{IsHeld}
-use Rattle.pesp_network.specs.Networks.{NetworkValue, arcs_of_network, no_net_row, RowKeepsNetLimits, KeepsNetLimits, IsTableRefusal, signed_rows}
+use Rattle.pesp_network.specs.Networks.{NetworkValue, arc_of_net, arcs_of_network, net_of_network, net_row_at, no_net_row, RowKeepsNetLimits, KeepsNetLimits, IsTableRefusal, signed_rows}
 use Rattle.pesp_network.specs.Growing.{at}
 use Rattle.pesp_network.specs.Ends.{HaveEnds}
 use Rattle.pesp_network.specs.Rooted.{IsForest, IsTreeRow, AreTreeRows}
@@ -102,3 +103,22 @@ apart_held v n g r from to same k b ne h =
 pub none_then : {T : Type 0} {P Q : Type 0} (o : Option T) → IfNone o P → (P → Q) → IfNone o Q
 none_then None h f = f h
 none_then (Some x) h f = h
+
+-- times with slacks within the spans are a timetable
+pub within_spans : (n : NetworkValue) (view : List NetRow) (slacks times : List ℕ) → view ≡ n.rows → length times ≡ n.events → All (λ t. t < n.period) times
+    → ((i : ℕ) → i < length view → arc_slack n.period times (arc_at (arcs_of_network view) i) ≡ slice_index slacks i)
+    → ((i : ℕ) → i < length n.rows → slice_index slacks i ≤ (net_row_at n.rows i).span) → IsNetTimetable (net_of_network n) n.events times
+within_spans n view slacks times e count below same within =
+    let own = subst (λ rows. (i : ℕ) → i < length rows → arc_slack n.period times (arc_at (arcs_of_network rows) i) ≡ slice_index slacks i) e same in
+    record {
+      count = count;
+      below = below;
+      slacks = All-from_get_or (λ arc. arc_slack n.period times arc ≤ arc.span) (arcs_of_network n.rows) no_arc (λ i l.
+          let inside : i < length n.rows = omega (arith, length-map n.rows arc_of_net) in
+          let span = ap (λ (a : Arc). a.span) (get_or-map arc_of_net n.rows i no_net_row no_arc inside) in
+          omega (arith, own i inside, within i inside, span));
+    }
+
+pub all_three : {T : Type 0} {P Q R S : T → Type 0} (o : Option T) → IfSome o P → IfSome o Q → IfSome o R → ((x : T) → P x → Q x → R x → S x) → IfSome o S
+all_three None p q r f = tt
+all_three (Some x) p q r f = f x p q r

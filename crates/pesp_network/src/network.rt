@@ -2,6 +2,7 @@
 
 ghost use Rattle.std.specs.Prelude.{◌≡◌, ◌≢◌, ℕ, ◌+◌, ◌<◌, ◌≤◌, ◌↔◌, length, slice_index, IsTrue, IfOk, IfErr, IfSome, IfNone, All, vec_len};
 ghost use Rattle.pesp_problem.specs.Arcs.{arcs_of, slacks_at};
+ghost use Rattle.pesp_problem.specs.NetTimetables.{IsNetTimetable};
 ghost use Rattle.pesp_problem.specs.Walks.{Names, AreRows, Leads, start};
 ghost use Rattle.pesp_problem.specs.Forests.{KeepsTo, IsSpanningForest, AreFundamental, IsSimple, IsBridge, AreJoined, IsFirstOf};
 ghost use Rattle.pesp_network.specs.Networks.{arcs_of_network, net_of_network, net_row_at, KeepsSizes, RowKeepsNetLimits, KeepsNetLimits, IsNewRefusal, IsTableRefusal, HasOpenRow, signed_rows};
@@ -190,13 +191,15 @@ impl Network {
     }
 
     /// Times below the period with exactly these slacks, one for each row in order, or None where a fundamental walk has
-    /// no whole offset (cycle periodicity: Serafini and Ukovich 1989; Odijk 1996).
+    /// no whole offset (cycle periodicity: Serafini and Ukovich 1989; Odijk 1996). Where no slack is above its row's span
+    /// they are a timetable.
     pub fn timetable_of(&self, alloc: Global, slacks: &[u32]) -> Result<Option<Vec<u32>>, Memory>
         requires count { length slacks.now ≡ length self.now.rows }
         requires below { All (λ y. y < self.now.period) slacks.now }
         ensures count { IfOk result (λ o. IfSome o (λ times. vec_len times ≡ self.now.events)) }
         ensures below { IfOk result (λ o. IfSome o (λ times. All (λ t. t < self.now.period) times.items)) }
         ensures slacks { IfOk result (λ o. IfSome o (λ times. (i : ℕ) → i < length self.now.rows → slacks_at (net_of_network self.now) times.items i ≡ slice_index slacks.now i)) }
+        ensures timetable { IfOk result (λ o. IfSome o (λ times. ((i : ℕ) → i < length self.now.rows → slice_index slacks.now i ≤ (net_row_at self.now.rows i).span) → IsNetTimetable (net_of_network self.now) self.now.events times.items)) }
         ensures none { IfOk result (λ o. IfNone o (HasOpenRow (net_of_network self.now) self.now.forest (slice_index slacks.now))) }
     {
         let found = times::timetable_of(

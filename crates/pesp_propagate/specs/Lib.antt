@@ -5,7 +5,6 @@ pub mod Ends
 pub mod Waiting
 pub mod Outcomes
 pub mod Visits
-pub mod Times
 pub mod Rows
 pub mod Full
 pub mod Filling

@@ -1,9 +1,9 @@
 //! A first timetable, by fixing one event after another.
 
 ghost use Rattle.std.specs.Prelude.{◌≡◌, ℕ, ◌<◌, ◌≤◌, length, IfOk, IfSome};
+ghost use Rattle.pesp_problem.specs.NetTimetables.{IsNetTimetable};
 ghost use Rattle.pesp_network.specs.Networks.{net_of_network};
 ghost use Rattle.pesp_propagate.specs.Domains.{HaveSizes};
-ghost use Rattle.pesp_propagate.specs.Times.{AreFeasible};
 
 use crate::choice::Experience;
 use crate::domains::Domains;
@@ -100,7 +100,7 @@ fn descend(
 /// A try fixes the event with the fewest differences left to the one that costs least by what is left of its neighbours,
 /// propagates from there, and takes a value away that turns out to be impossible.
 pub fn dive(alloc: Global, network: &Network, tries: u32) -> Result<Option<Vec<u32>>, Memory>
-    ensures { IfOk result (λ found. IfSome found (λ times. AreFeasible (net_of_network network.now) network.now.events times.items)) }
+    ensures { IfOk result (λ found. IfSome found (λ times. IsNetTimetable (net_of_network network.now) network.now.events times.items)) }
 {
     let rows = Rows::of(alloc, network)?;
     let ranges: Vec<(u32, u32)> = rows.arcs().iter().map(range_of).collect(alloc)?;

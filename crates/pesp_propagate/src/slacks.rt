@@ -2,7 +2,7 @@
 
 ghost use Rattle.std.specs.Prelude.{◌≡◌, ℕ, ◌<◌, ◌≤◌, ◌↔◌, length, true, ◌-ℤ◌, pos};
 ghost use Rattle.pesp_problem.specs.Arcs.{arc_slack};
-ghost use Rattle.pesp_propagate.specs.Times.{AreFeasible};
+ghost use Rattle.pesp_problem.specs.NetTimetables.{IsNetTimetable};
 ghost use Rattle.pesp_propagate.specs.Visits.{net_at};
 
 use pesp_problem::Arc;
@@ -22,7 +22,7 @@ fn slack_at(period: u32, times: &[u32], arc: &Arc) -> u32
 
 /// Whether these are times, one for each event, at which each arc's slack is at most its span.
 pub fn are_feasible(period: u32, events: u32, arcs: &[Arc], times: &[u32]) -> bool
-    ensures { result ≡ true → AreFeasible (net_at period arcs.now) events times.now }
+    ensures { result ≡ true → IsNetTimetable (net_at period arcs.now) events times.now }
 {
     if times.len() != events as usize || !times.iter().all(|time| *time < period) {
         return false;

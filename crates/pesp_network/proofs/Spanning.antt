@@ -13,7 +13,7 @@ use Rattle.pesp_problem.specs.Forests.{HaveNoCycle, JoinAll}
 use Rattle.pesp_network.specs.declared.parts.Forest.{Forest}
 use Rattle.pesp_network.specs.Growing.{at}
 use Rattle.pesp_network.specs.Ends.{tail_of, head_of}
-use Rattle.pesp_network.specs.Rooted.{Under, IsForest, IsTreeRow}
+use Rattle.pesp_network.specs.Rooted.{Under, IsRooted, IsForest, IsTreeRow}
 use Rattle.pesp_network.proofs.Climbing.{self_inside, leads_append, ends_of, one_tree, up_below}
 use Rattle.pesp_network.proofs.Cuts.{KeepsSide, closed, cut_walk, no_net, plus_count, minus_count, plus_cons, minus_cons, none_of_other}
 
@@ -197,3 +197,30 @@ listed_joins n arcs g found f a p q way r h =
           (λ s t. subst P t.2 (a t.0 (let v = f.grown.seen_below t.0 (seen_joined n arcs g t.0 f t.1) in let e = f.events in omega arith) t.1)) w.way w.tree,
       w.leads,
     )
+
+-- a row joins one event at most to the one above it
+pub one_below : (n m : ℕ) (T H : ℕ → ℕ) (g : Forest) (x y : ℕ) → IsRooted n m T H g → 0 < at g.by.items x → at g.by.items x ≡ at g.by.items y → x ≡ y
+one_below n m T H g x y r h e =
+    let j : 0 < at g.by.items y = omega arith in
+    let tails = ap T e in
+    let heads = ap H e in
+    let above = r.climbs x h in
+    let below = r.climbs y j in
+    elim (r.by_ends x h) [
+      | inl a ↦
+          elim (r.by_ends y j) [
+            | inl b ↦ sym a.0 ∙ tails ∙ b.0
+            | inr b ↦
+                let up = ap (at g.place.items) (sym a.1 ∙ heads ∙ b.0) in
+                let down = ap (at g.place.items) (sym b.1 ∙ sym tails ∙ a.0) in
+                absurd (omega (arith, up, down, above, below))
+          ]
+      | inr a ↦
+          elim (r.by_ends y j) [
+            | inl b ↦
+                let up = ap (at g.place.items) (sym a.1 ∙ tails ∙ b.0) in
+                let down = ap (at g.place.items) (sym b.1 ∙ sym heads ∙ a.0) in
+                absurd (omega (arith, up, down, above, below))
+            | inr b ↦ sym a.0 ∙ heads ∙ b.0
+          ]
+    ]

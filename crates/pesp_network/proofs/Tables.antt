@@ -2,6 +2,8 @@
 use Rattle.std.proofs.Common.{◌≡◌, ℕ, zero, suc, ◌+◌, ◌-◌, ◌<◌, ◌≤◌, inl, inr, refl, sym, ◌∙◌, ap, arith, subst, List, [], ◌∷◌, ◌++◌, length, map, get_or, true, false, Bool, All, add-one}
 use Rattle.std.specs.Prelude.{if◌then◌else◌, ◌==◌, ◌||◌, Contains}
 use Rattle.std.specs.List.Sorted.{IsStrictlyIncreasing}
+use Rattle.std.proofs.lemmas.Bool.Decides.{Decides-eqb}
+use Rattle.std.proofs.lemmas.Map.Made.{IsDistinct-from_AllPairs}
 use Rattle.std.proofs.lemmas.Bool.{cases_lt, cases_Bool, eq-eqb, eqb-true, or_cases, or_parts, cond-true, cond-false}
 use Rattle.std.proofs.lemmas.List.{map-append, length_push, get_or-append_right}
 use Rattle.std.proofs.lemmas.List.Sums.{sum_by-append}
@@ -122,6 +124,7 @@ names_of arcs g k o = (o.some, o.most)
 pub spanning : (n : ℕ) (arcs : List Arc) (g : Forest) (rows : List ℕ) → IsForest n arcs g → AreTreeRows n g rows → IsSpanningForest arcs rows
 spanning n arcs g rows f t = record {
   exist = All-weaker (IsTreeRow g) (Names (length arcs)) (λ k h. tree_is_row n arcs g f (record { row = k; plus = true }) h) rows t.tree;
+  once = IsDistinct-from_AllPairs Decides-eqb rows t.apart;
   no_cycle = listed_no_cycle n arcs g rows f t.tree;
   joins = listed_joins n arcs g rows f t.all;
 }

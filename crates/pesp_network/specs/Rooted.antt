@@ -1,5 +1,6 @@
 -- Rooted spanning forests, with the events in preorder.
 use Rattle.std.specs.Prelude.{◌≡◌, ◌≢◌, ℕ, ◌+◌, ◌-◌, ◌<◌, ◌≤◌, ◌⊎◌, List, length, vec_len, All, Contains, slice_index, if◌then◌else◌, ◌==◌}
+use Rattle.std.specs.List.{AllPairs}
 use Rattle.pesp_problem.specs.declared.arc.Arc.{Arc}
 use Rattle.pesp_problem.specs.Walks.{Names}
 use Rattle.pesp_network.specs.declared.parts.Forest.{Forest}
@@ -57,8 +58,9 @@ pub record IsForest (n : ℕ) (arcs : List Arc) (g : Forest) : Type 0 where
 abbrev pub IsTreeRow : Forest → ℕ → Type 0
 IsTreeRow g r = (x : ℕ) × (0 < at g.by.items x) × (at g.by.items x ≡ r)
 
--- these are the rows of the forest
+-- these are the rows of the forest, each once
 pub record AreTreeRows (n : ℕ) (g : Forest) (rows : List ℕ) : Type 0 where
+  pub apart : AllPairs (λ a b. a ≢ b) rows
   pub tree : All (IsTreeRow g) rows
   pub all : (x : ℕ) → x < n → 0 < at g.by.items x → Contains rows (at g.by.items x)
 

@@ -6,3 +6,4 @@ pub mod NetTimetables
 pub mod Nodes
 pub mod Offsets
 pub mod Worked
+pub mod Counting

@@ -18,9 +18,10 @@ HaveNoCycle arcs rows = (walk : List SignedRow) (i : ℕ) → IsWalk arcs walk �
 abbrev pub JoinAll : List Arc → List ℕ → Type 0
 JoinAll arcs rows = (a b : ℕ) (way : List SignedRow) → AreRows arcs way → Leads arcs a way b → (other : List SignedRow) × KeepsTo rows other × Leads arcs a other b
 
--- rows that have no cycle and join what the arcs join
+-- rows, none of them twice, that have no cycle and join what the arcs join
 pub record IsSpanningForest (arcs : List Arc) (rows : List ℕ) : Type 0 where
   pub exist : All (Names (length arcs)) rows
+  pub once : IsDistinct nat_eq rows
   pub no_cycle : HaveNoCycle arcs rows
   pub joins : JoinAll arcs rows
 

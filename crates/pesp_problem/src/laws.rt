@@ -1,14 +1,17 @@
 //! Laws of the definitions. Each is a function without a body whose contract is the law: a caller that calls it has the
 //! law within reach.
 
-ghost use Rattle.std.specs.Prelude.{◌≡◌, ℕ, ◌<◌, ◌≤◌, ◌≤ℤ◌, ◌*ℤ◌, ◌↔◌, List, length, ℤ, pos, Bool, false, true, IfSome, IsSomeAnd, All};
+ghost use Rattle.std.specs.Prelude.{◌≡◌, ℕ, ◌<◌, ◌≤◌, ◌≤ℤ◌, ◌*ℤ◌, ◌↔◌, List, length, map, nat_eq, ℤ, pos, Bool, false, true, IfSome, IsSomeAnd, All};
+ghost use Rattle.std.specs.List.{IsDistinct};
+ghost use Rattle.pesp_problem.specs.declared.arc.Arc.{Arc};
 ghost use Rattle.pesp_problem.specs.declared.pair.Pair.{Pair};
 ghost use Rattle.pesp_problem.specs.declared.row.Row.{Row};
 ghost use Rattle.pesp_problem.specs.declared.row.SignedRow.{SignedRow};
 ghost use Rattle.pesp_problem.specs.Timetables.{Pesp, slack, cost, IsSatisfied, IsTimetable};
 ghost use Rattle.pesp_problem.specs.Arcs.{Net, arc_at, span, arcs_of, net_of, over_arcs, slacks_at};
 ghost use Rattle.pesp_problem.specs.NetTimetables.{IsNetTimetable, net_cost};
-ghost use Rattle.pesp_problem.specs.Walks.{Names, IsWalk, HasWholeOffset};
+ghost use Rattle.pesp_problem.specs.Walks.{Names, AreRows, IsWalk, HasWholeOffset};
+ghost use Rattle.pesp_problem.specs.Forests.{IsSpanningForest, AreFundamental};
 ghost use Rattle.pesp_problem.specs.Nodes.{Node, LieIn, root, offsets_left, IsOffsetLeft, weight_of, leaf_value};
 
 /// A row is satisfied exactly where its slack is at most its span.
@@ -46,4 +49,12 @@ pub fn leaf_values_are_bounds()
     ensures bound { (n : Net) (table : List (List SignedRow)) (slacks : ℕ → ℕ) (node : Node) (pairs : List Pair) (weighted : Bool) → 0 < n.period → All (λ pair. Names (length table) pair.cycle) pairs → LieIn n table slacks node → IsSomeAnd (leaf_value n table node pairs weighted) (λ v. v ≤ℤ over_arcs n.arcs (λ i. weight_of weighted (arc_at n.arcs i) *ℤ pos (slacks i))) }
     ensures cost { (p : Pesp) (table : List (List SignedRow)) (times : List ℕ) (node : Node) (pairs : List Pair) → 0 < p.period → All (λ pair. Names (length table) pair.cycle) pairs → LieIn (net_of p) table (slacks_at (net_of p) times) node → IsSomeAnd (leaf_value (net_of p) table node pairs true) (λ v. v ≤ℤ pos (cost p.period p.rows times)) }
     ensures none { (n : Net) (table : List (List SignedRow)) (slacks : ℕ → ℕ) (node : Node) (pairs : List Pair) → 0 < n.period → All (λ pair. Names (length table) pair.cycle) pairs → LieIn n table slacks node → IsSomeAnd (leaf_value n table node pairs false) (λ v. v ≤ℤ pos 0) }
+{}
+
+/// A way that passes no row twice has at most as many signed rows as there are rows; a spanning forest has at most so many
+/// rows, and a table of fundamental walks at most so many walks.
+pub fn rows_bound_ways_and_tables()
+    ensures ways { (arcs : List Arc) (way : List SignedRow) → AreRows arcs way → IsDistinct nat_eq (map (λ s. s.row) way) → length way ≤ length arcs }
+    ensures forests { (arcs : List Arc) (forest : List ℕ) → IsSpanningForest arcs forest → length forest ≤ length arcs }
+    ensures tables { (arcs : List Arc) (forest : List ℕ) (table : List (List SignedRow)) → AreFundamental arcs forest table → length table ≤ length arcs }
 {}

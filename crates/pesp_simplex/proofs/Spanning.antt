@@ -4,6 +4,8 @@ use Rattle.std.specs.Prelude.{Contains}
 use Rattle.std.proofs.lemmas.List.Sums.{sum_by-cons}
 use Rattle.std.proofs.lemmas.List.Elements.{All-head, All-tail, All-append, All-cons, All-nil, All-weaker, Contains-get_or}
 use Rattle.std.proofs.lemmas.Int.{ints}
+use Rattle.std.proofs.lemmas.Bool.Decides.{Decides-eqb}
+use Rattle.std.proofs.lemmas.Map.Made.{IsDistinct-from_AllPairs}
 use Rattle.pesp_problem.specs.declared.arc.Arc.{Arc}
 use Rattle.pesp_problem.specs.declared.row.SignedRow.{SignedRow}
 use Rattle.pesp_problem.specs.Arcs.{arc_at}
@@ -267,6 +269,7 @@ joins n arcs r a b (s ∷ way) t rows h =
 pub roots_span : (n : ℕ) (arcs : List Arc) (r : Roots) (forest : List ℕ) → AreRoots n arcs r → AreTreeRows n r forest → IsSpanningForest arcs forest
 roots_span n arcs r forest a t = record {
   exist = λ i d l. (let k = get_or forest i d in let w = t.joined k (Contains-get_or forest i d l) in let m = a.row w.0 w.1 in let some = w.2 in let e = w.3 in (omega arith, omega arith));
+  once = IsDistinct-from_AllPairs Decides-eqb forest t.apart;
   no_cycle = λ walk i w keeps. no_cycle n arcs r walk i a w (All-weaker (λ (s : SignedRow). Contains forest s.row) (KeepsTree n r) (λ s c. t.joined s.row c) walk keeps);
   joins = λ p q way rows h.
       let w = joins n arcs r p q way a rows h in

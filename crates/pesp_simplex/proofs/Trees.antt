@@ -1,7 +1,9 @@
 -- The rows of a rooted forest, as a list.
-use Rattle.std.proofs.Common.{◌≡◌, ◌⊎◌, inl, inr, ℕ, ◌+◌, ◌-◌, ◌<◌, ◌≤◌, ap, arith, List, [], ◌∷◌, ◌++◌, length, subst}
+use Rattle.std.proofs.Common.{◌≡◌, ◌≢◌, ◌⊎◌, inl, inr, ℕ, ◌+◌, ◌-◌, ◌<◌, ◌≤◌, ap, arith, List, [], ◌∷◌, ◌++◌, length, get_or, subst}
+use Rattle.std.specs.List.{AllPairs}
 use Rattle.std.specs.Prelude.{Contains}
-use Rattle.std.proofs.lemmas.List.Elements.{Contains-append_left, Contains-push, Contains-push_cases}
+use Rattle.std.proofs.lemmas.List.Elements.{Contains-append_left, Contains-get_or, Contains-push, Contains-push_cases}
+use Rattle.std.proofs.lemmas.List.Quantifiers.{all_pairs_push}
 use Rattle.pesp_problem.specs.declared.arc.Arc.{Arc}
 use Rattle.pesp_problem.specs.Arcs.{arc_at}
 use Rattle.pesp_simplex.specs.Roots.{Roots, AreRoots, AreTreeRows, IsJoined, IsSpanned}
@@ -12,6 +14,7 @@ JoinsEnd arcs r k = (r.by (arc_at arcs (k - 1)).tail ≡ k) ⊎ (r.by (arc_at ar
 
 -- the list has those of the first rows that join events upwards
 pub record AreTreeRowsTo (count : ℕ) (arcs : List Arc) (r : Roots) (rows : List ℕ) : Type 0 where
+  pub apart : AllPairs (λ a b. a ≢ b) rows
   pub listed : (k : ℕ) → 0 < k → k ≤ count → JoinsEnd arcs r k → Contains rows k
   pub joined : (k : ℕ) → Contains rows k → (0 < k) × (k ≤ count) × JoinsEnd arcs r k
 
@@ -32,6 +35,7 @@ joins_own n arcs r x a l b = elim (a.ends x l b) [ inl e ↦ inl (ap r.by e.0) |
 
 pub tree_rows-from_all : (n : ℕ) (arcs : List Arc) (r : Roots) (rows : List ℕ) (count : ℕ) → AreRoots n arcs r → length arcs ≤ count → count ≤ length arcs → AreTreeRowsTo count arcs r rows → AreTreeRows n r rows
 tree_rows-from_all n arcs r rows count a all most t = record {
+  apart = t.apart;
   listed = λ x l b. t.listed (r.by x) b (let m = a.row x l in omega arith) (joins_own n arcs r x a l b);
   joined = λ k c.
       let w = t.joined k c in let some = w.0 in let few = w.1 in
@@ -47,6 +51,7 @@ le-or-same k n h = grind arith
 
 pub tree_rows-more : (count : ℕ) (arcs : List Arc) (r : Roots) (rows : List ℕ) → AreTreeRowsTo count arcs r rows → JoinsEnd arcs r (count + 1) → AreTreeRowsTo (count + 1) arcs r (rows ++ (count + 1) ∷ [])
 tree_rows-more count arcs r rows t j = record {
+  apart = all_pairs_push (λ (a : ℕ) (b : ℕ). a ≢ b) rows (count + 1) t.apart (λ k d l e. let w = t.joined (get_or rows k d) (Contains-get_or rows k d l) in let most = w.1 in omega (arith, most, e));
   listed = λ k some l e. elim (le-or-same k count l) [
     | inl m ↦ Contains-append_left rows ((count + 1) ∷ []) k (t.listed k some m e)
     | inr q ↦ rw q (Contains-push rows (count + 1))
@@ -59,6 +64,7 @@ tree_rows-more count arcs r rows t j = record {
 
 pub tree_rows-skip : (count : ℕ) (arcs : List Arc) (r : Roots) (rows : List ℕ) → AreTreeRowsTo count arcs r rows → (JoinsEnd arcs r (count + 1) → ⊥) → AreTreeRowsTo (count + 1) arcs r rows
 tree_rows-skip count arcs r rows t no_end = record {
+  apart = t.apart;
   listed = λ k some l e. elim (le-or-same k count l) [
     | inl m ↦ t.listed k some m e
     | inr q ↦ let P : ℕ → Type 0 = JoinsEnd arcs r in absurd (no_end (subst P q e))

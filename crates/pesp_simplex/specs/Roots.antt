@@ -1,5 +1,6 @@
 -- Forests with roots.
-use Rattle.std.specs.Prelude.{◌≡◌, ℕ, ◌-◌, ◌<◌, ◌≤◌, ◌⊎◌, List, length, Contains, zero, suc, Bool, true, false, ◌==◌, if◌then◌else◌}
+use Rattle.std.specs.Prelude.{◌≡◌, ◌≢◌, ℕ, ◌-◌, ◌<◌, ◌≤◌, ◌⊎◌, List, length, Contains, zero, suc, Bool, true, false, ◌==◌, if◌then◌else◌}
+use Rattle.std.specs.List.{AllPairs}
 use Rattle.pesp_problem.specs.declared.arc.Arc.{Arc}
 use Rattle.pesp_problem.specs.Arcs.{arc_at}
 
@@ -29,8 +30,9 @@ pub record AreRoots (n : ℕ) (arcs : List Arc) (r : Roots) : Type 0 where
 abbrev pub IsTreeRow : ℕ → Roots → ℕ → Type 0
 IsTreeRow n r k = (x : ℕ) × (x < n) × (0 < r.by x) × (r.by x ≡ k)
 
--- the list has the rows that join events upwards, and no others
+-- the list has the rows that join events upwards, each once, and no others
 pub record AreTreeRows (n : ℕ) (r : Roots) (forest : List ℕ) : Type 0 where
+  pub apart : AllPairs (λ a b. a ≢ b) forest
   pub listed : (x : ℕ) → x < n → 0 < r.by x → Contains forest (r.by x)
   pub joined : (k : ℕ) → Contains forest k → IsTreeRow n r k
 

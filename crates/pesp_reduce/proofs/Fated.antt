@@ -64,7 +64,7 @@ fate_is_right p fates whole network c i Contracted r l e =
     let o = r.others i l (not_free_contracted (fate_at fates i) e) in
     let fixed = (r.contraction.tree.fixed i (r.contracted i l e)).1 in
     (o.1, ap (λ (a : Arc). a.span) (sym o.0 ∙ arc_at_net whole.rows i) ∙ fixed)
-fate_is_right p fates whole network c i Bridge r l e = ((r.others i l (bridge_not_free (fate_at fates i) e)).1, λ walk w m. bridge_is_right p fates whole network c i walk r l e w m)
+fate_is_right p fates whole network c i Bridge r l e = ((r.others i l (bridge_not_free (fate_at fates i) e)).1, r.loose i l e, λ walk w m. bridge_is_right p fates whole network c i walk r l e w m)
 fate_is_right p fates whole network c i Kept r l e = ((r.others i l (kept_not_free (fate_at fates i) e)).1, r.kept i l e)
 
 pub fates_are_right : (p : Pesp) (fates : List Fate) (whole network : NetworkValue) (c : Contraction) → IsReduction p fates whole c network → AreFatesOf p fates

@@ -190,6 +190,27 @@ bridge_below stands shifts rows i (s ∷ way) b w =
     let a = slice_index stands (start W s) in
     sym (ap (net_count walk) place) ∙ bridge_counts B (i + 1) a walk b exists (leads_mapped stands shifts rows walk (start W s) (start W s) w.0 w.1)
 
+-- a row between one event and itself is no bridge
+loop_no_bridge : (arcs : List Arc) (i : ℕ) → i < length arcs → (arc_at arcs i).tail ≡ (arc_at arcs i).head → IsBridge arcs (i + 1) → ⊥
+loop_no_bridge arcs i inside loop b =
+    let s : SignedRow = record { row = i + 1; plus = true } in
+    let place : (i + 1) - 1 ≡ i = omega arith in
+    let exists = All-cons (RowExists arcs) s [] (omega arith, omega arith) (All-nil (RowExists arcs)) in
+    let closes : finish arcs s ≡ start arcs s = ap (λ (k : ℕ). (arc_at arcs k).head) place ∙ sym loop ∙ sym (ap (λ (k : ℕ). (arc_at arcs k).tail) place) in
+    let none = sym (ap (net_count (s ∷ [])) place) ∙ b (s ∷ []) (exists, (refl, closes)) in
+    let one = step_same s i refl in
+    let first = net_count-cons s [] i in
+    let clash : pos 1 ≡ pos 0 = omega (arith, ints, none, one, first) in
+    cc
+
+-- a row whose ends become one event is no bridge of what is left
+pub together_no_bridge : (stands shifts : List ℕ) (rows : List NetRow) (i : ℕ) → i < length rows → slice_index stands (net_row_at rows i).tail ≡ slice_index stands (net_row_at rows i).head → IsBridge (arcs_of_network (map (mapped_row stands shifts) rows)) (i + 1) → ⊥
+together_no_bridge stands shifts rows i l e b =
+    let B = map (mapped_row stands shifts) rows in
+    let arc = mapped_arc stands shifts rows i l in
+    let count = length-map rows (mapped_row stands shifts) in
+    loop_no_bridge (arcs_of_network B) i (omega (arith, arcs_length B, count)) (ap (λ (a : Arc). a.tail) arc ∙ e ∙ sym (ap (λ (a : Arc). a.head) arc)) b
+
 -- ---- flagged rows join different events
 
 flagged_no_loop : (rows tree : List NetRow) (flags : List Bool) (i : ℕ) → AreTree rows tree flags → flag flags i ≡ true → (net_row_at rows i).tail ≡ (net_row_at rows i).head → ⊥

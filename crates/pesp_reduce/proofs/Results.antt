@@ -25,11 +25,14 @@ use Rattle.pesp_reduce.proofs.Lists.{arc_at_net, arcs_length}
 use Rattle.pesp_reduce.proofs.Ways.{leads_same, walk_same}
 use Rattle.pesp_reduce.proofs.Keeping.{keeps, places, length_kept, kept_at, which}
 use Rattle.pesp_reduce.proofs.WaysBack.{IsContractedApart, bridge_of_mapped}
-use Rattle.pesp_reduce.proofs.Reducing.{AreFates, matters_at, matters_on, matters_off, matter_ends, is_not_free, kept_parts, free_fate, other_fate, contracted_fate, bridge_fate, flagged_fate, flagged_matters, bridge_below, left_sorted, none_left_over, mapped_at}
+use Rattle.pesp_reduce.proofs.Reducing.{AreFates, matters_at, matters_on, matters_off, matter_ends, is_not_free, kept_parts, free_fate, other_fate, contracted_fate, bridge_fate, flagged_fate, flagged_matters, bridge_below, together_no_bridge, left_sorted, none_left_over, mapped_at}
 
 origin_stays : (b : Bool) (row : NetRow) → (if b then loop_at row else row).origin ≡ row.origin
 origin_stays true row = refl
 origin_stays false row = refl
+
+bridge_not_free : (fate : Fate) → fate ≡ Bridge → fate ≡ Free → ⊥
+bridge_not_free fate e q = cc
 
 -- the contracted rows and the free ones among the rows that matter
 contracted_apart : (p : Pesp) (given : List NetRow) (c : Contraction) → KeepsLimits p → arcs_of_network given ≡ arcs_of p → length given ≡ length p.rows → IsContraction p.period (length p.events) (map (row_that_matters p.period) given) c
@@ -103,6 +106,11 @@ is_reduction p given whole left network c fates limits arcs_are origins period_i
           let inside = (t.fixed i e).0 in
           flagged_fate T (net_row_at given i) (flag flags i) left_arcs (i + 1) (fate_at fates i) (fate i (omega arith)) e (flagged_matters T given c.tree.rows flags i t e);
       bridges = λ i walk l e w. bridge_below S H W i walk (bridge_fate T (net_row_at given i) (flag flags i) left_arcs (i + 1) (fate_at fates i) (fate i l) e) (subst (λ rows. IsWalk (arcs_of_network rows) walk) whole_is w);
+      loose = λ i l e z.
+          let o = other_fate T (net_row_at given i) (flag flags i) left_arcs (i + 1) (fate_at fates i) (fate i l) (bridge_not_free (fate_at fates i) e) in
+          let inside : i < length W = omega (arith, count_whole, count_given) in
+          let fixed = ap (λ (r : NetRow). r.span) (matters_at T given i ∙ o.0) ∙ ap (λ (a : Arc). a.span) (own i) ∙ z in
+          together_no_bridge S H W i inside (ic.together i inside fixed) (bridge_fate T (net_row_at given i) (flag flags i) left_arcs (i + 1) (fate_at fates i) (fate i l) e);
       kept = λ i l e none. kept_on_cycle p given c fates i limits arcs_are count_given ic f l e none;
       origins = λ i l. ap (λ rows. (net_row_at rows i).origin) whole_is ∙ ap (λ (r : NetRow). r.origin) (matters_at T given i) ∙ origin_stays (is_free T (net_row_at given i)) (net_row_at given i) ∙ origins i (omega arith);
       period = net_period;

@@ -28,12 +28,12 @@ pub record ReducedValue : Type 0 where
 abbrev pub IsOnNoCycle : Pesp → ℕ → Type 0
 IsOnNoCycle p i = (walk : List SignedRow) → IsWalk (arcs_of p) walk → All (λ s. IsFree p.period (arc_at (arcs_of p) (s.row - 1)) → ⊥) walk → net_count walk i ≡ pos 0
 
--- what becomes of the row at a place: it is free and of weight 0; or it is fixed, and contracted; or it is on no cycle, and
--- dropped; or it is on a cycle, and kept
+-- what becomes of the row at a place: it is free and of weight 0; or it is fixed, and contracted; or it isn't fixed and is on
+-- no cycle, and dropped; or it is on a cycle, and kept
 abbrev pub IsFateOf : Pesp → ℕ → Fate → Type 0
 IsFateOf p i Free = IsFree p.period (arc_at (arcs_of p) i)
 IsFateOf p i Contracted = (IsFree p.period (arc_at (arcs_of p) i) → ⊥) × ((arc_at (arcs_of p) i).span ≡ 0)
-IsFateOf p i Bridge = (IsFree p.period (arc_at (arcs_of p) i) → ⊥) × IsOnNoCycle p i
+IsFateOf p i Bridge = (IsFree p.period (arc_at (arcs_of p) i) → ⊥) × ((arc_at (arcs_of p) i).span ≡ 0 → ⊥) × IsOnNoCycle p i
 IsFateOf p i Kept = (IsFree p.period (arc_at (arcs_of p) i) → ⊥) × (IsOnNoCycle p i → ⊥)
 
 -- one fate for each row, and each is right
@@ -71,6 +71,7 @@ pub record IsReduction (p : Pesp) (fates : List Fate) (whole : NetworkValue) (c 
   pub contracted : (i : ℕ) → i < length p.rows → fate_at fates i ≡ Contracted → flag c.contracted.items i ≡ true
   pub flagged : (i : ℕ) → flag c.contracted.items i ≡ true → fate_at fates i ≡ Contracted
   pub bridges : (i : ℕ) (walk : List SignedRow) → i < length p.rows → fate_at fates i ≡ Bridge → IsWalk (arcs_of_network whole.rows) walk → net_count walk i ≡ pos 0
+  pub loose : (i : ℕ) → i < length p.rows → fate_at fates i ≡ Bridge → (arc_at (arcs_of p) i).span ≡ 0 → ⊥
   pub kept : (i : ℕ) → i < length p.rows → fate_at fates i ≡ Kept → IsOnNoCycle p i → ⊥
   pub origins : (i : ℕ) → i < length p.rows → (net_row_at whole.rows i).origin ≡ i + 1
   pub period : network.period ≡ p.period

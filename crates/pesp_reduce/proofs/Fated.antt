@@ -20,7 +20,7 @@ use Rattle.pesp_reduce.specs.declared.contraction.Contraction.{Contraction}
 use Rattle.pesp_reduce.specs.Congruences.{IsSame}
 use Rattle.pesp_reduce.specs.Rows.{flag, IsFree}
 use Rattle.pesp_reduce.specs.Fates.{fate_at, is_kept, mapped_row, kept_below}
-use Rattle.pesp_reduce.specs.Reductions.{IsReduction, ReducedValue, IsFateOf, AreFatesOf, AreKeptRows, AreMerged, AreJoinedByContracted}
+use Rattle.pesp_reduce.specs.Reductions.{IsReduction, ReducedValue, IsFateOf, AreFatesOf, AreKeptRows, AreMerged, AreForEvents, AreJoinedByContracted}
 use Rattle.pesp_reduce.proofs.Lists.{arc_at_net, arcs_length}
 use Rattle.pesp_reduce.proofs.Ways.{leads_same, walk_same}
 use Rattle.pesp_reduce.proofs.Trees.{same_arc}
@@ -168,3 +168,6 @@ are_merged p fates whole network c r = record {
       let o = (r.others i l (not_free_contracted (fate_at fates i) e)).0 in
       subst (λ (arc : Arc). IsSame p.period (pos (slice_index c.shifts.items arc.head) -ℤ pos (slice_index c.shifts.items arc.tail)) arc.lower) (sym (arc_at_net whole.rows i) ∙ o) (r.contraction.shifts.tight i (r.contracted i l e));
 }
+
+pub are_for_events : (p : Pesp) (fates : List Fate) (whole network : NetworkValue) (c : Contraction) → IsReduction p fates whole c network → AreForEvents (value_of p fates c network)
+are_for_events p fates whole network c r = record { stands = r.contraction.standing.stands_count; shifts = r.contraction.shifts.count }

@@ -16,3 +16,4 @@ pub mod Lifting
 pub mod LowerSums
 pub mod LiftedWalks
 pub mod LiftedResults
+pub mod LiftedOffsets

@@ -40,7 +40,7 @@ sum_filtered period test g (s ∷ way) h =
     ]
 
 -- rows that come from others have their terms
-sum_of_originals : (left : List NetRow) (g h : ℕ → ℤ) (walk : List SignedRow) → All (λ s. g ((original_row left s).row - 1) ≡ h (s.row - 1)) walk → sum_along (map (original_row left) walk) g ≡ sum_along walk h
+pub sum_of_originals : (left : List NetRow) (g h : ℕ → ℤ) (walk : List SignedRow) → All (λ s. g ((original_row left s).row - 1) ≡ h (s.row - 1)) walk → sum_along (map (original_row left) walk) g ≡ sum_along walk h
 sum_of_originals left g h [] e = refl
 sum_of_originals left g h (s ∷ walk) e =
     let P : SignedRow → Type 0 = λ q. g ((original_row left q).row - 1) ≡ h (q.row - 1) in

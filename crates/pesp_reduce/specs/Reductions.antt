@@ -59,6 +59,11 @@ pub record AreMerged (r : ReducedValue) : Type 0 where
   pub tight : (i : ℕ) → i < length r.original.rows → fate_at r.fates i ≡ Contracted
       → IsSame r.original.period (pos (slice_index r.shifts (arc_at (arcs_of r.original) i).head) -ℤ pos (slice_index r.shifts (arc_at (arcs_of r.original) i).tail)) (arc_at (arcs_of r.original) i).lower
 
+-- for each event of the instance there is the event that it becomes, and its shift
+pub record AreForEvents (r : ReducedValue) : Type 0 where
+  pub stands : length r.stands ≡ length r.original.events
+  pub shifts : length r.shifts ≡ length r.original.events
+
 -- the parts of a reduced network fit together
 pub record IsReduction (p : Pesp) (fates : List Fate) (whole : NetworkValue) (c : Contraction) (network : NetworkValue) : Type 0 where
   pub whole_period : whole.period ≡ p.period
@@ -99,3 +104,11 @@ pub record IsReducedRow (r : ReducedValue) (j : ℕ) : Type 0 where
 -- no walk along contracted rows alone passes a row more often one way than the other
 abbrev pub HaveNoContractedCycle : ReducedValue → Type 0
 HaveNoContractedCycle r = (walk : List SignedRow) (i : ℕ) → IsWalk (arcs_of r.original) walk → All (λ s. fate_at r.fates (s.row - 1) ≡ Contracted) walk → net_count walk i ≡ pos 0
+
+-- contracted rows have slack 0
+abbrev pub AreTightAtContracted : ReducedValue → (ℕ → ℕ) → Type 0
+AreTightAtContracted r slacks = (i : ℕ) → i < length r.original.rows → fate_at r.fates i ≡ Contracted → slacks i ≡ 0
+
+-- the slacks of the network's rows, each that of the row from which it comes
+abbrev pub left_slacks : ReducedValue → (ℕ → ℕ) → ℕ → ℕ
+left_slacks r slacks j = slacks (origin_place r.network j)

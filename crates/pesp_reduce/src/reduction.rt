@@ -1,16 +1,16 @@
 //! Reduced networks.
 
-ghost use Rattle.std.specs.Prelude.{◌≡◌, ℕ, ◌-◌, ◌<◌, ◌≤◌, length, map, filter, IfOk, All};
+ghost use Rattle.std.specs.Prelude.{◌≡◌, ◌↔◌, ℕ, ◌-◌, ◌<◌, ◌≤◌, length, map, filter, IfOk, All};
 ghost use Rattle.pesp_problem.specs.Timetables.{slack, cost, row_at, IsTimetable};
-ghost use Rattle.pesp_problem.specs.Arcs.{arc_at, arcs_of, arc_slack};
+ghost use Rattle.pesp_problem.specs.Arcs.{arc_at, arcs_of, net_of, arc_slack};
 ghost use Rattle.pesp_problem.specs.NetTimetables.{IsNetTimetable, net_cost};
-ghost use Rattle.pesp_problem.specs.Walks.{Names, IsWalk};
+ghost use Rattle.pesp_problem.specs.Walks.{Names, IsWalk, net_count, HasWholeOffset};
 ghost use Rattle.pesp_problem.specs.Forests.{IsBridge, IsSimple};
 ghost use Rattle.pesp_network.specs.Networks.{net_row_at, arc_of_net, arcs_of_network, net_of_network};
 ghost use Rattle.pesp_reduce.specs.Congruences.{IsSame};
 ghost use Rattle.pesp_reduce.specs.Rows.{IsFree};
 ghost use Rattle.pesp_reduce.specs.LiftedWalks.{original_row, passes_kept, IsKeptOrContracted, lower_sum, HasNoRowTwice};
-ghost use Rattle.pesp_reduce.specs.Reductions.{IsReducedRow, AreKeptRows, AreFatesOf, AreMerged, HaveNoContractedCycle, origin_place};
+ghost use Rattle.pesp_reduce.specs.Reductions.{IsReducedRow, AreKeptRows, AreFatesOf, AreMerged, AreForEvents, HaveNoContractedCycle, AreTightAtContracted, left_slacks, origin_place};
 
 use crate::contraction::{Contraction, contract};
 use crate::fate::Fate;
@@ -57,6 +57,7 @@ pub fn reduce(alloc: Global, instance: &Instance) -> Result<Reduced, Memory>
     ensures kept { IfOk result AreKeptRows }
     ensures fates { IfOk result (λ r. AreFatesOf r.original r.fates) }
     ensures merged { IfOk result AreMerged }
+    ensures lengths { IfOk result AreForEvents }
     ensures shifts { IfOk result (λ r. All (λ t. t < instance.now.period) r.shifts) }
     ensures no_cycle { IfOk result HaveNoContractedCycle }
 {
@@ -90,7 +91,18 @@ pub fn reduce(alloc: Global, instance: &Instance) -> Result<Reduced, Memory>
 impl Reduced {
     /// What is left: rows between the events that are left, each with the instance's row that it comes from.
     pub fn network(&self) -> &Network
-        ensures { result.now ≡ self.now.network }
+        ensures network { result.now ≡ self.now.network }
+        ensures period { self.now.network.period ≡ self.now.original.period }
+        ensures no_bridge { (row : ℕ) → Names (length self.now.network.rows) row → IsBridge (arcs_of_network self.now.network.rows) row → ⊥ }
+        ensures no_free { (j : ℕ) → j < length self.now.network.rows → IsFree self.now.network.period (arc_of_net (net_row_at self.now.network.rows j)) → ⊥ }
+        ensures no_fixed { (j : ℕ) → j < length self.now.network.rows → (net_row_at self.now.network.rows j).span ≡ 0 → (net_row_at self.now.network.rows j).tail ≡ (net_row_at self.now.network.rows j).head }
+        ensures rows { (j : ℕ) → j < length self.now.network.rows → IsReducedRow self.now j }
+        ensures kept { AreKeptRows self.now }
+        ensures fates { AreFatesOf self.now.original self.now.fates }
+        ensures merged { AreMerged self.now }
+        ensures lengths { AreForEvents self.now }
+        ensures shifts { All (λ t. t < self.now.original.period) self.now.shifts }
+        ensures no_cycle { HaveNoContractedCycle self.now }
     {
         &self.network
     }
@@ -128,8 +140,9 @@ impl Reduced {
     }
 
     /// From a walk of what is left to one of the instance: it closes, passes the rows from which the walk's rows come, in
-    /// order and with their signs, and between them contracted rows alone. Its sum of lower bounds, each times its net
-    /// count, differs from the walk's by a multiple of the period. Where the walk passes no event and no row twice, it
+    /// order and with their signs, and between them contracted rows alone. So its net count of each kept row is the walk's.
+    /// Its sum of lower bounds, each times its net count, differs from the walk's by a multiple of the period, so slacks that
+    /// are 0 at contracted rows give both a whole offset or neither. Where the walk passes no event and no row twice, it
     /// passes no row twice.
     pub fn lift_walk(&self, alloc: Global, walk: &Walk) -> Result<Walk, Memory>
         requires { IsWalk (arcs_of_network self.now.network.rows) walk.now }
@@ -138,6 +151,8 @@ impl Reduced {
         ensures others { IfOk result (All (IsKeptOrContracted self.now.fates)) }
         ensures lower { IfOk result (λ lifted. IsSame self.now.original.period (lower_sum (arcs_of self.now.original) lifted) (lower_sum (arcs_of_network self.now.network.rows) walk.now)) }
         ensures simple { IfOk result (λ lifted. IsSimple (arcs_of_network self.now.network.rows) walk.now → HasNoRowTwice lifted) }
+        ensures counts { IfOk result (λ lifted. (j : ℕ) → j < length self.now.network.rows → net_count lifted (origin_place self.now.network j) ≡ net_count walk.now j) }
+        ensures offsets { IfOk result (λ lifted. (slacks : ℕ → ℕ) → AreTightAtContracted self.now slacks → HasWholeOffset (net_of self.now.original) slacks lifted ↔ HasWholeOffset (net_of_network self.now.network) (left_slacks self.now slacks) walk.now) }
     {
         let whole = self.whole.rows();
         let left = self.network.rows();

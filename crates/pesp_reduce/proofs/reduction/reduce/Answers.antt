@@ -17,7 +17,7 @@ use Rattle.pesp_problem.proofs.Arcs.{length-arcs_of}
 use Rattle.pesp_reduce.proofs.Lists.{arcs_length}
 use Rattle.pesp_reduce.proofs.Reducing.{AreFates, keeps_matters, keeps_mapped, keeps_kept, matter_lower}
 use Rattle.pesp_reduce.proofs.Results.{is_reduction, reduced_row, none_free, none_fixed, no_contracted_cycle}
-use Rattle.pesp_reduce.proofs.Fated.{kept_in_order, fates_are_right, are_merged}
+use Rattle.pesp_reduce.proofs.Fated.{kept_in_order, fates_are_right, are_merged, are_for_events}
 use Rattle.pesp_reduce.proofs.reduction.reduce.Goals as goal
 
 contraction_at : (period events own own_events : ℕ) (rows : List NetRow) (c : Contraction) → own ≡ period → own_events ≡ events → IsContraction own own_events rows c → IsContraction period events rows c
@@ -114,6 +114,7 @@ returns c =
       kept = kept_in_order c.new-original.result fates whole network k rn;
       fates = fates_are_right c.new-original.result fates whole network k rn;
       merged = are_merged c.new-original.result fates whole network k rn;
+      lengths = are_for_events c.new-original.result fates whole network k rn;
       shifts = r.contraction.shifts.below;
       no_cycle = no_contracted_cycle c.new-original.result fates whole network k rn;
     }

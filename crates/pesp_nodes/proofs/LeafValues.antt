@@ -47,10 +47,10 @@ offset_sum_none n table node pairs = record { is = none_added (pos n.period) (of
 left : (pairs : List Pair) (k : ℕ) (d : Pair) → k < length pairs → drop k pairs ≡ get_or pairs k d ∷ drop (k + 1) pairs
 left pairs k d l = rw (add-one, drop-cons pairs k d) refl
 
-part_some : (n : Net) (table : List (List SignedRow)) (node : Node) (p : Pair) (rest : List Pair) (ends : ℤ × ℤ) → offsets_left n table node (p.cycle - 1) ≡ Some ends → offset_part n table node (p ∷ rest) ≡ option_map (λ z. scaled p.mult ends.0 ends.1 +ℤ z) (offset_part n table node rest)
+pub part_some : (n : Net) (table : List (List SignedRow)) (node : Node) (p : Pair) (rest : List Pair) (ends : ℤ × ℤ) → offsets_left n table node (p.cycle - 1) ≡ Some ends → offset_part n table node (p ∷ rest) ≡ option_map (λ z. scaled p.mult ends.0 ends.1 +ℤ z) (offset_part n table node rest)
 part_some n table node p rest ends e = ap (option_and_then (λ (left : ℤ × ℤ). option_map (λ z. scaled p.mult left.0 left.1 +ℤ z) (offset_part n table node rest))) e
 
-part_none : (n : Net) (table : List (List SignedRow)) (node : Node) (p : Pair) (rest : List Pair) → offsets_left n table node (p.cycle - 1) ≡ None → offset_part n table node (p ∷ rest) ≡ None
+pub part_none : (n : Net) (table : List (List SignedRow)) (node : Node) (p : Pair) (rest : List Pair) → offsets_left n table node (p.cycle - 1) ≡ None → offset_part n table node (p ∷ rest) ≡ None
 part_none n table node p rest e = ap (option_and_then (λ (left : ℤ × ℤ). option_map (λ z. scaled p.mult left.0 left.1 +ℤ z) (offset_part n table node rest))) e
 
 one_added : (t sum sum' s : ℤ) (o : Option ℤ) → sum' ≡ sum +ℤ t *ℤ s → option_map (λ rest. sum' +ℤ t *ℤ rest) o ≡ option_map (λ rest. sum +ℤ t *ℤ rest) (option_map (λ z. s +ℤ z) o)

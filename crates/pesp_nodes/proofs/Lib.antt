@@ -10,3 +10,4 @@ pub mod Keeping
 pub mod LeafValues
 pub mod Rising
 pub mod Sizes
+pub mod Singles

@@ -1,5 +1,5 @@
 -- What a row adds to the value of a leaf.
-use Rattle.std.specs.Prelude.{ℕ, ℤ, pos, ◌-ℤ◌, ◌*ℤ◌, Bool, List}
+use Rattle.std.specs.Prelude.{ℕ, ℤ, pos, ◌-ℤ◌, ◌*ℤ◌, Bool, true, List}
 use Rattle.std.specs.Int.{int_min}
 use Rattle.pesp_problem.specs.declared.arc.Arc.{Arc}
 use Rattle.pesp_problem.specs.Arcs.{arc_at}
@@ -15,3 +15,7 @@ row_term arc range weighted flow = lesser (weight_of weighted arc -ℤ flow) ran
 
 abbrev pub row_term_at : List Arc → List (ℕ × ℕ) → Bool → ℕ → ℤ → ℤ
 row_term_at arcs slacks weighted i flow = row_term (arc_at arcs i) (slack_range slacks i) weighted flow
+
+-- what the row at place i adds with this flow beyond what it adds with none
+abbrev pub gain_at : List Arc → List (ℕ × ℕ) → ℕ → ℤ → ℤ
+gain_at arcs slacks i flow = row_term_at arcs slacks true i flow -ℤ row_term_at arcs slacks true i (pos 0)

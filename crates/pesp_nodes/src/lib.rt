@@ -11,6 +11,7 @@ mod pairs;
 mod passages;
 mod problem;
 mod refusal;
+mod single;
 mod table;
 mod value;
 
@@ -22,4 +23,5 @@ pub use passages::{Passage, Passages};
 pub use pesp_problem::{Cut, Pair, Pairs, Side};
 pub use problem::Problem;
 pub use refusal::ProblemRefusal;
+pub use single::single_value;
 pub use value::{leaf_value, offset_range};

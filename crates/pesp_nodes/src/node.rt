@@ -1,12 +1,13 @@
 //! Nodes: the slacks and offsets that are still allowed.
 
-ghost use Rattle.std.specs.Prelude.{◌≡◌, ℕ, ◌-◌, ◌≤◌, List, length, unsigned_abs};
+ghost use Rattle.std.specs.Prelude.{◌≡◌, ℕ, ◌-◌, ◌≤◌, List, length, unsigned_abs, IfOk};
 ghost use Rattle.pesp_problem.specs.Nodes as spec;
 ghost use Rattle.pesp_problem.specs.Nodes.{part};
 ghost use Rattle.pesp_nodes.specs.Offsets.{AreSlackEnds};
 ghost use Rattle.pesp_nodes.specs.Problems.{ProblemValue, IsNodeOf, IsCutOf, cut_slack, cut_offset};
 
-use pesp_problem::{Cut, Side};
+use pesp_problem::{Cut, Memory, Side};
+use std::alloc::Global;
 use std::marker::Model;
 
 /// A range of slacks for each row, modulo the period, and a range of offsets for each cycle, with both ends in them. A range
@@ -57,6 +58,15 @@ impl Node {
         ensures { result ≡ record { slacks = slacks.items; offsets = offsets.items } }
     {
         Node { slacks, offsets }
+    }
+
+    /// The same node once more. The one refusal is of memory.
+    pub fn copy(&self, alloc: Global) -> Result<Node, Memory>
+        ensures { IfOk result (λ node. node ≡ self.now) }
+    {
+        let slacks = self.slacks.as_slice().to_vec(alloc)?;
+        let offsets = self.offsets.as_slice().to_vec(alloc)?;
+        Ok(Node::new(slacks, offsets))
     }
 
     /// The slack range of each row, in the instance's own unit.

@@ -60,7 +60,7 @@ fn period_times(period: u32, offset: i64) -> i128
 }
 
 // the period times a multiplier times the least offset left, or the greatest where the multiplier is negative
-fn offset_term(period: u32, mult: i64, left: (i64, i64)) -> i128
+pub(crate) fn offset_term(period: u32, mult: i64, left: (i64, i64)) -> i128
     requires mult { unsigned_abs mult ≤ 1000000000000 }
     requires low { IsSmallOffset period left.0 }
     requires high { IsSmallOffset period left.1 }
@@ -120,7 +120,7 @@ fn lower_part(flow: i128, lower: i64) -> i128
 }
 
 // what a row adds to the value
-fn row_term(arc: &Arc, range: (u32, u32), weighted: bool, flow: i128) -> i128
+pub(crate) fn row_term(arc: &Arc, range: (u32, u32), weighted: bool, flow: i128) -> i128
     requires weight { arc.now.weight ≤ 1000000000 }
     requires lower { unsigned_abs arc.now.lower ≤ 1020000 }
     requires low { range.0 ≤ 10000 }

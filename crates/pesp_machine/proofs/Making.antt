@@ -52,7 +52,7 @@ kept_leaf p pairs node None e =
     (Gap gap.0.cycle, ((gap.0, gap.1, refl), is_none _ gap.2))
 kept_leaf p pairs node (Some v) e = (Bound pairs, (refl, value_is_some _ v e))
 
-made : (p : ProblemValue) (node : Node) (old : List Pair) (work : Work) → IsValidAt p node work → (new : Tree) × Makes p node old work new
+made : (p : ProblemValue) (node : Node) (old : List Pair) (work : Work) → IsValidAt p node old work → (new : Tree) × Makes p node old work new
 made p node old (works.Leaf pairs) h = (Ends (Bound (better_pairs p node old pairs)), (h.0, h.1, refl))
 made p node old (works.Nothing pairs) h = (Ends (Nothing pairs), (h.0, h.1, refl))
 made p node old (works.Gap cycle) h = (Ends (Gap cycle), (h, refl))
@@ -60,16 +60,18 @@ made p node old (works.Split cut) h =
     let first = kept_leaf p old (low_part node cut) _ refl in
     let second = kept_leaf p old (high_part node cut) _ refl in
     (Branch cut (Ends first.0) (Ends second.0), record { exists = h.0; both = h.1; low = first.0; high = second.0; keeps_low = first.1; keeps_high = second.1; tree = refl })
+made p node old (works.Tree lines) h = h
 
-valid : (p : ProblemValue) (node : Node) (old : List Pair) (work : Work) (new : Tree) → Makes p node old work new → IsValidAt p node work
+valid : (p : ProblemValue) (node : Node) (old : List Pair) (work : Work) (new : Tree) → Makes p node old work new → IsValidAt p node old work
 valid p node old (works.Leaf pairs) new m = (m.0, m.1)
 valid p node old (works.Nothing pairs) new m = (m.0, m.1)
 valid p node old (works.Gap cycle) new m = m.0
 valid p node old (works.Split cut) new m = (m.exists, m.both)
+valid p node old (works.Tree lines) new m = (new, m)
 
-pub valid_works_make : (p : ProblemValue) (node : Node) (old : List Pair) (work : Work) → ((new : Tree) × Makes p node old work new) ↔ IsValidAt p node work
+pub valid_works_make : (p : ProblemValue) (node : Node) (old : List Pair) (work : Work) → ((new : Tree) × Makes p node old work new) ↔ IsValidAt p node old work
 valid_works_make p node old work = (λ m. valid p node old work m.0 m.1, made p node old work)
 
 -- and so a work isn't valid exactly where the number is lent with a leaf at which it isn't
-pub not_valid_is : (p : ProblemValue) (old : State) (number : ℕ) (work : Work) (path : List (Cut × Side)) (pairs : List Pair) → HasLeaf old number path pairs → (IsValidAt p (node_at p path) work → ⊥) → MakesNothing p old number work
+pub not_valid_is : (p : ProblemValue) (old : State) (number : ℕ) (work : Work) (path : List (Cut × Side)) (pairs : List Pair) → HasLeaf old number path pairs → (IsValidAt p (node_at p path) pairs work → ⊥) → MakesNothing p old number work
 not_valid_is p old number work path pairs h k = record { path = path; pairs = pairs; leaf = h; none = λ new m. k (valid p (node_at p path) pairs work new m) }

@@ -10,7 +10,7 @@ use Rattle.pesp_problem.specs.declared.cut.Side.TheVariants.{Low, High}
 use Rattle.pesp_problem.specs.Sums.{scaled}
 use Rattle.pesp_problem.specs.Arcs.{Net}
 use Rattle.pesp_problem.specs.Nodes.{Node, leaf_value, offset_part, offsets_left}
-use Rattle.pesp_truth.specs.Trees.{Tree, Leaf, Ends, Branch, Bound, Nothing, Gap, EndLine, preorder}
+use Rattle.pesp_truth.specs.Trees.{Tree, Leaf, Line, Ends, Branch, Bound, Nothing, Gap, EndLine, preorder}
 use Rattle.pesp_nodes.specs.Problems.{ProblemValue, net_of}
 use Rattle.pesp_machine.specs.declared.work.Work.{Work}
 use Rattle.pesp_machine.specs.declared.work.Work.TheVariants as works
@@ -102,6 +102,9 @@ made_same p node old (works.Gap cycle) a b h k = same_size a b (h.1 ∙ sym k.1)
 made_same p node old (works.Split cut) a b h k =
     subst (λ x. AreOfOneSize x b) (sym h.tree) (subst (λ y. AreOfOneSize (Branch cut (Ends h.low) (Ends h.high)) y) (sym k.tree)
     (split_size cut h.low h.high k.low k.high (kept_same p old _ h.low k.low h.keeps_low k.keeps_low) (kept_same p old _ h.high k.high h.keeps_high k.keeps_high)))
+made_same p node old (works.Tree lines) a b h k =
+    let same : preorder a ≡ preorder b = h.0 ∙ sym k.0 in
+    record { lines = ap (λ (x : List Line). length x) same; pairs = ap (λ (x : List Line). sum_by pairs_in x) same }
 
 pub small_same : (tree : Tree) (path : List (Cut × Side)) (leaf : Leaf) (a b : Tree) → IsLeafAt tree path leaf → AreOfOneSize a b → IsSmallTree (put tree path a) → IsSmallTree (put tree path b)
 small_same tree path leaf a b h s k = record {

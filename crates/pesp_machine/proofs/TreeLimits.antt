@@ -1,6 +1,6 @@
 -- However the events go, the tree keeps the limits of a certificate's.
 use Rattle.std.proofs.Common.{ℕ, ◌+◌, List, [], ◌∷◌, ◌++◌, length, sym, arith, subst, Bool, true, false}
-use Rattle.std.specs.Prelude.{All, if◌then◌else◌}
+use Rattle.std.specs.Prelude.{ℤ, Option, All, if◌then◌else◌}
 use Rattle.std.proofs.lemmas.List.{get_or_append_left, get_or-append-add, length-append}
 use Rattle.std.proofs.lemmas.List.Elements.{All-cons, All-head, All-tail, All-nil, All-append, All-contains}
 use Rattle.pesp_problem.specs.declared.pair.Pair.{Pair}
@@ -16,9 +16,10 @@ use Rattle.pesp_nodes.proofs.Rising.{nothing_rises}
 use Rattle.pesp_machine.specs.declared.work.Work.{Work}
 use Rattle.pesp_machine.specs.declared.work.Work.TheVariants as works
 use Rattle.pesp_truth.specs.Leaves.{IsLeafAt, put}
+use Rattle.pesp_truth.proofs.Paths.{along-push}
 use Rattle.pesp_machine.specs.Limits.{IsLineOf, KeepsTreeLimits}
-use Rattle.pesp_machine.specs.States.{State, opening, node_at}
-use Rattle.pesp_machine.specs.Events.{Takes, Makes, Keeps, is_better, better_pairs}
+use Rattle.pesp_machine.specs.States.{State, opening, root_of, node_at}
+use Rattle.pesp_machine.specs.Events.{Takes, Makes, Keeps, IsGraft, is_better, better_pairs}
 use Rattle.pesp_machine.proofs.Changes.{Change, Lends_leaf, Takes_work, Recalls_number, Keeps_times, Same}
 use Rattle.pesp_machine.proofs.Ranges.{cut_keeps_limits}
 
@@ -39,7 +40,7 @@ leaf_line P (Branch cut low high) ((c, Low) ∷ path) leaf h k = leaf_line P low
 leaf_line P (Branch cut low high) ((c, High) ∷ path) leaf h k = leaf_line P high path leaf h.1 (All-second P (preorder low) (preorder high) (All-tail P (CutLine cut) (preorder low ++ preorder high) k))
 
 -- what holds of the lines of a tree and of those of another holds where that one takes the place of a leaf
-put_lines : (P : Line → Type 0) (tree : Tree) (path : List (Cut × Side)) (new : Tree) → All P (preorder tree) → All P (preorder new) → All P (preorder (put tree path new))
+pub put_lines : (P : Line → Type 0) (tree : Tree) (path : List (Cut × Side)) (new : Tree) → All P (preorder tree) → All P (preorder new) → All P (preorder (put tree path new))
 put_lines P (Ends there) [] new k n = n
 put_lines P (Ends there) (step ∷ path) new k n = k
 put_lines P (Branch cut low high) [] new k n = n
@@ -66,7 +67,16 @@ either_pairs : (P : List Pair → Type 0) (b : Bool) (new old : List Pair) → P
 either_pairs P true new old h k = h
 either_pairs P false new old h k = k
 
-made_lines : (p : ProblemValue) (path : List (Cut × Side)) (old : List Pair) (work : Work) (new : Tree) → KeepsNetLimits p.network → IsSmallTable p.table → ArePairs (length p.table) old → Makes p (node_at p path) old work new → All (IsLineOf p) (preorder new)
+pub graft_lines : (p : ProblemValue) (worth : Option ℤ) (tree : Tree) (path : List (Cut × Side)) → KeepsNetLimits p.network → IsSmallTable p.table → IsGraft p worth (node_at p path) tree → All (IsLineOf p) (preorder tree)
+graft_lines p worth (Ends (Bound pairs)) path limits small g = one_line (IsLineOf p) (Bound pairs) g.0
+graft_lines p worth (Ends (Nothing pairs)) path limits small g = one_line (IsLineOf p) (Nothing pairs) g.0
+graft_lines p worth (Ends (Gap cycle)) path limits small g = one_line (IsLineOf p) (Gap cycle) g.0
+graft_lines p worth (Branch cut low high) path limits small g =
+    let first = graft_lines p worth low (path ++ (cut, Low) ∷ []) limits small (subst (λ (n : Node). IsGraft p worth n low) (sym (along-push (root_of p) path cut Low)) g.2) in
+    let second = graft_lines p worth high (path ++ (cut, High) ∷ []) limits small (subst (λ (n : Node). IsGraft p worth n high) (sym (along-push (root_of p) path cut High)) g.3) in
+    All-cons (IsLineOf p) (CutLine cut) (preorder low ++ preorder high) (cut_keeps_limits p path cut limits small g.0 g.1) (All-append (IsLineOf p) (preorder low) (preorder high) first second)
+
+pub made_lines : (p : ProblemValue) (path : List (Cut × Side)) (old : List Pair) (work : Work) (new : Tree) → KeepsNetLimits p.network → IsSmallTable p.table → ArePairs (length p.table) old → Makes p (node_at p path) old work new → All (IsLineOf p) (preorder new)
 made_lines p path old (works.Leaf pairs) new limits small h m =
     let node = node_at p path in
     let worse = is_better (leaf_value (net_of p) p.table node old true) (leaf_value (net_of p) p.table node pairs true) in
@@ -77,6 +87,7 @@ made_lines p path old (works.Split cut) new limits small h m =
     subst (λ tree. All (IsLineOf p) (preorder tree)) (sym m.tree)
     (All-cons (IsLineOf p) (CutLine cut) (preorder (Ends m.low) ++ preorder (Ends m.high)) (cut_keeps_limits p path cut limits small m.exists m.both)
     (All-append (IsLineOf p) (preorder (Ends m.low)) (preorder (Ends m.high)) (one_line (IsLineOf p) m.low (kept_line p old _ m.low h m.keeps_low)) (one_line (IsLineOf p) m.high (kept_line p old _ m.high h m.keeps_high))))
+made_lines p path old (works.Tree lines) new limits small h m = graft_lines p _ new path limits small m.1
 
 -- ---- events
 

@@ -83,7 +83,7 @@ put_least n table (Branch cut low high) ((c, High) ∷ path) leaf new node h u =
 
 -- ---- what the least value says of a sound tree
 
-and_is : (o : Option ℤ) (P : ℤ → Type 0) → IsSomeAnd o P → (v : ℤ) × (o ≡ Some v) × P v
+pub and_is : (o : Option ℤ) (P : ℤ → Type 0) → IsSomeAnd o P → (v : ℤ) × (o ≡ Some v) × P v
 and_is None P h = absurd h
 and_is (Some v) P h = (v, refl, h)
 

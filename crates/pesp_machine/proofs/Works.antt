@@ -9,15 +9,15 @@ use Rattle.pesp_problem.specs.declared.cut.Cut.{Cut}
 use Rattle.pesp_problem.specs.declared.cut.Side.{Side}
 use Rattle.pesp_problem.specs.declared.cut.Side.TheVariants.{Low, High}
 use Rattle.pesp_problem.specs.Walks.{Names}
-use Rattle.pesp_problem.specs.Nodes.{Node, leaf_value, part}
+use Rattle.pesp_problem.specs.Nodes.{Node, leaf_value, part, low_part, high_part}
 use Rattle.pesp_truth.specs.Trees.{Tree, Leaf, Ends, Branch, Bound, Nothing, Gap, IsSoundLeaf, IsSound, PairsExist}
 use Rattle.pesp_nodes.specs.Problems.{ProblemValue, net_of, ArePairs}
 use Rattle.pesp_machine.specs.declared.work.Work.{Work}
 use Rattle.pesp_machine.specs.declared.work.Work.TheVariants as works
 use Rattle.pesp_machine.specs.Leaves.{least_value}
-use Rattle.pesp_machine.specs.Events.{Makes, Splits, Uses, Keeps, LeavesBoth, is_better}
+use Rattle.pesp_machine.specs.Events.{Makes, Splits, Uses, Keeps, LeavesBoth, IsGraft, is_better}
 use Rattle.pesp_machine.proofs.Parts.{parts_shrink, leaf_value_shrinks}
-use Rattle.pesp_machine.proofs.Trees.{IsUnder, under_lesser, value_of}
+use Rattle.pesp_machine.proofs.Trees.{IsUnder, under_lesser, value_of, and_is}
 
 -- the tree is sound at the node, and its least value isn't below this one
 pub record Follows (p : ProblemValue) (node : Node) (value : Option ℤ) (new : Tree) : Type 0 where
@@ -69,6 +69,21 @@ splits_follow p node old cut new w h s e is k =
       under = under_lesser (Some w) _ _ first.under second.under;
     })
 
+-- a tree in the place of a leaf whose worth isn't negative
+graft_follows : (p : ProblemValue) (w : ℤ) (tree : Tree) (node : Node) → pos 0 ≤ℤ w → IsGraft p (Some w) node tree → Follows p node (Some w) tree
+graft_follows p w (Ends (Bound pairs)) node k g =
+    let value = and_is (leaf_value (net_of p) p.table node pairs true) (λ v. w ≤ℤ v) g.1 in
+    bound_follows p node pairs value.0 w (pairs_exist p.table pairs g.0) value.1 k value.2
+graft_follows p w (Ends (Nothing pairs)) node k g = record { sound = g.1; under = tt }
+graft_follows p w (Ends (Gap cycle)) node k g = record { sound = g; under = tt }
+graft_follows p w (Branch cut low high) node k g =
+    let first = graft_follows p w low (low_part node cut) k g.2 in
+    let second = graft_follows p w high (high_part node cut) k g.3 in
+    record {
+      sound = (g.0, first.sound, second.sound);
+      under = under_lesser (Some w) _ _ first.under second.under;
+    }
+
 made_follows : (p : ProblemValue) (node : Node) (old : List Pair) (work : Work) (new : Tree) (w : ℤ) → 0 < (net_of p).period → Makes p node old work new → PairsExist p.table old → leaf_value (net_of p) p.table node old true ≡ Some w → pos 0 ≤ℤ w → Follows p node (Some w) new
 made_follows p node old (works.Leaf pairs) new w h m e is k =
     let value = some_is (leaf_value (net_of p) p.table node pairs true) (m.1) in
@@ -78,6 +93,7 @@ made_follows p node old (works.Leaf pairs) new w h m e is k =
 made_follows p node old (works.Nothing pairs) new w h m e is k = as_made p node (Some w) (Ends (Nothing pairs)) new m.2 (record { sound = m.1; under = tt })
 made_follows p node old (works.Gap cycle) new w h m e is k = as_made p node (Some w) (Ends (Gap cycle)) new m.1 (record { sound = m.0; under = tt })
 made_follows p node old (works.Split cut) new w h m e is k = splits_follow p node old cut new w h m e is k
+made_follows p node old (works.Tree lines) new w h m e is k = graft_follows p w new node k (subst (λ worth. IsGraft p worth node new) is m.1)
 
 pub makes_follows : (p : ProblemValue) (node : Node) (old : List Pair) (work : Work) (new : Tree) → 0 < (net_of p).period → Makes p node old work new → IsSoundLeaf (net_of p) p.table (Some 0) (Bound old) node → Follows p node (leaf_value (net_of p) p.table node old true) new
 makes_follows p node old work new h m s =

@@ -1,12 +1,14 @@
 -- The events of a board, and what each does to its state.
-use Rattle.std.specs.Prelude.{◌≡◌, ℕ, ◌+◌, ◌-◌, ◌<◌, ◌≤◌, List, Contains, [], ◌∷◌, ◌++◌, length, slice_set, ℤ, pos, ◌+ℤ◌, ◌≤ℤ◌, int_lt, Option, Some, None, IsNone, IsSome, Result, Ok, Err, Bool, true, false, if◌then◌else◌}
+use Rattle.std.specs.Prelude.{◌≡◌, ℕ, ◌+◌, ◌-◌, ◌<◌, ◌≤◌, List, Contains, [], ◌∷◌, ◌++◌, length, map, slice_set, ℤ, pos, ◌+ℤ◌, ◌≤ℤ◌, int_lt, Option, Some, None, IsNone, IsSome, IsSomeAnd, IfSome, Result, Ok, Err, Bool, true, false, if◌then◌else◌}
 use Rattle.pesp_problem.specs.declared.pair.Pair.{Pair}
 use Rattle.pesp_problem.specs.declared.cut.Cut.{Cut}
 use Rattle.pesp_problem.specs.declared.cut.Cut.TheVariants.{Slack, Offset}
 use Rattle.pesp_problem.specs.declared.cut.Side.{Side}
 use Rattle.pesp_problem.specs.NetTimetables.{IsNetTimetable, net_cost}
 use Rattle.pesp_problem.specs.Nodes.{Node, leaf_value, offsets_left, slack_range, offset_range, low_part, high_part}
-use Rattle.pesp_truth.specs.Trees.{Tree, Leaf, Ends, Branch, Bound, Nothing, Gap, CutExists, IsSoundLeaf}
+use Rattle.pesp_truth.specs.Trees.{Tree, Leaf, Ends, Branch, Bound, Nothing, Gap, CutExists, IsSoundLeaf, preorder}
+use Rattle.pesp_truth.specs.declared.tree.TreeLine.{TreeLine}
+use Rattle.pesp_truth.specs.Certificates.{line_of}
 use Rattle.pesp_nodes.specs.Problems.{ProblemValue, net_of, ArePairs}
 use Rattle.pesp_machine.specs.declared.job.Job.{Job}
 use Rattle.pesp_machine.specs.declared.work.Work.{Work}
@@ -72,20 +74,34 @@ pub record Splits (p : ProblemValue) (node : Node) (pairs : List Pair) (cut : Cu
   pub keeps_high : Keeps p pairs (high_part node cut) high
   pub tree : new ≡ Branch cut (Ends low) (Ends high)
 
+-- a tree may stand at a node in the place of a bound leaf that is worth so much: its cuts leave both sides a value, its nothing
+-- leaves and gap leaves are sound at their nodes, and its bound leaves have a value there that isn't below that worth
+abbrev pub IsGraft : ProblemValue → Option ℤ → Node → Tree → Type 0
+IsGraft p worth node (Ends (Bound pairs)) = ArePairs (length p.table) pairs × IsSomeAnd (leaf_value (net_of p) p.table node pairs true) (λ v. IfSome worth (λ w. w ≤ℤ v))
+IsGraft p worth node (Ends (Nothing pairs)) = ArePairs (length p.table) pairs × IsSoundLeaf (net_of p) p.table None (Nothing pairs) node
+IsGraft p worth node (Ends (Gap cycle)) = IsSoundLeaf (net_of p) p.table None (Gap cycle) node
+IsGraft p worth node (Branch cut low high) = CutExists (net_of p) p.table cut × LeavesBoth node cut × IsGraft p worth (low_part node cut) low × IsGraft p worth (high_part node cut) high
+
+-- the lines are a tree that may stand in the place of a bound leaf with these pairs
+abbrev pub Grafts : ProblemValue → Node → List Pair → List TreeLine → Tree → Type 0
+Grafts p node old lines new = (preorder new ≡ map line_of lines) × IsGraft p (leaf_value (net_of p) p.table node old true) node new
+
 -- what a work makes of a bound leaf with these pairs at a node: pairs that rise, keep their limits and have a value there;
--- a nothing leaf or a gap leaf that is sound there; or a split
+-- a nothing leaf or a gap leaf that is sound there; a split; or a whole tree
 abbrev pub Makes : ProblemValue → Node → List Pair → Work → Tree → Type 0
 Makes p node old (works.Leaf pairs) new = ArePairs (length p.table) pairs × IsSome (leaf_value (net_of p) p.table node pairs true) × (new ≡ Ends (Bound (better_pairs p node old pairs)))
 Makes p node old (works.Nothing pairs) new = ArePairs (length p.table) pairs × IsSoundLeaf (net_of p) p.table None (Nothing pairs) node × (new ≡ Ends (Nothing pairs))
 Makes p node old (works.Gap cycle) new = IsSoundLeaf (net_of p) p.table None (Gap cycle) node × (new ≡ Ends (Gap cycle))
 Makes p node old (works.Split cut) new = Splits p node old cut new
+Makes p node old (works.Tree lines) new = Grafts p node old lines.items new
 
--- what a work has to be to make something of a bound leaf at a node
-abbrev pub IsValidAt : ProblemValue → Node → Work → Type 0
-IsValidAt p node (works.Leaf pairs) = ArePairs (length p.table) pairs × IsSome (leaf_value (net_of p) p.table node pairs true)
-IsValidAt p node (works.Nothing pairs) = ArePairs (length p.table) pairs × IsSoundLeaf (net_of p) p.table None (Nothing pairs) node
-IsValidAt p node (works.Gap cycle) = IsSoundLeaf (net_of p) p.table None (Gap cycle) node
-IsValidAt p node (works.Split cut) = CutExists (net_of p) p.table cut × LeavesBoth node cut
+-- what a work has to be to make something of a bound leaf with these pairs at a node
+abbrev pub IsValidAt : ProblemValue → Node → List Pair → Work → Type 0
+IsValidAt p node old (works.Leaf pairs) = ArePairs (length p.table) pairs × IsSome (leaf_value (net_of p) p.table node pairs true)
+IsValidAt p node old (works.Nothing pairs) = ArePairs (length p.table) pairs × IsSoundLeaf (net_of p) p.table None (Nothing pairs) node
+IsValidAt p node old (works.Gap cycle) = IsSoundLeaf (net_of p) p.table None (Gap cycle) node
+IsValidAt p node old (works.Split cut) = CutExists (net_of p) p.table cut × LeavesBoth node cut
+IsValidAt p node old (works.Tree lines) = (tree : Tree) × Grafts p node old lines.items tree
 
 -- what the work makes of the leaf for which the number is lent stands in its place, and the number is given
 pub record Takes (p : ProblemValue) (old : State) (number : ℕ) (work : Work) (new : State) : Type 0 where

@@ -1,5 +1,5 @@
 -- The values of a tree's bound leaves, and the least of them.
-use Rattle.std.specs.Prelude.{◌≡◌, ℕ, min, List, [], ◌∷◌, ℤ, pos, negsuc, Option, Some, None, true}
+use Rattle.std.specs.Prelude.{◌≡◌, ℕ, min, List, ℤ, pos, negsuc, Option, Some, None, true}
 use Rattle.std.specs.Int.{int_min}
 use Rattle.pesp_problem.specs.declared.row.SignedRow.{SignedRow}
 use Rattle.pesp_problem.specs.declared.pair.Pair.{Pair}

@@ -86,9 +86,9 @@ pub fn refusals_change_nothing()
     ensures lent { (p : ProblemValue) (old new : State) (number : ℕ) (work : Work) (refusal : GiveRefusal) → Gives p old number work (Err refusal) new → (refusal ≡ UnknownJob → ⊥) → (refusal ≡ AlreadyGiven → ⊥) → IsLentNumber new number }
 {}
 
-/// A work makes something of a bound leaf exactly where it is valid at the leaf's node, whatever pairs the leaf has.
+/// A work makes something of a bound leaf exactly where it is valid at the leaf's node for the leaf's pairs.
 pub fn valid_works_make()
-    ensures { (p : ProblemValue) (node : Node) (old : List Pair) (work : Work) → ((new : Tree) × Makes p node old work new) ↔ IsValidAt p node work }
+    ensures { (p : ProblemValue) (node : Node) (old : List Pair) (work : Work) → ((new : Tree) × Makes p node old work new) ↔ IsValidAt p node old work }
 {}
 
 /// But for refusals of memory, the state and the work decide which reply a give has.

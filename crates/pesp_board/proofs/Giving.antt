@@ -51,7 +51,7 @@ no_memory p t u slots times number node work l e = (ap (λ (x : WorkTreeValue). 
 pub not_made : (p : ProblemValue) (t : WorkTreeValue) (slots : List Slot) (q : ℕ) (times : Option (List ℕ)) (number node : ℕ) (work : Work) (refusal : GiveRefusal) → IsWhole t → IsLentWith slots number node → IsWorkable p t node q → MakesAt p t node work (Err refusal) → Gives p (state_of t slots times) number work (Err refusal) (state_of t slots times)
 not_made p t slots q times number node work UnknownJob w l k m = absurd m
 not_made p t slots q times number node work AlreadyGiven w l k m = absurd m
-not_made p t slots q times number node work NotValid w l k m = (refl, not_valid_is p (state_of t slots times) number work (path_to t node) k.pairs (has_leaf t slots times number node k.pairs w l k.leaf) m)
+not_made p t slots q times number node work NotValid w l k m = (refl, not_valid_is p (state_of t slots times) number work (path_to t node) m.0 (has_leaf t slots times number node m.0 w l m.1) m.2)
 not_made p t slots q times number node work Memory w l k m = no_memory p t t slots times number node work l refl
 not_made p t slots q times number node work TooLarge w l k m = (refl, record { path = path_to t node; pairs = m.pairs; leaf = has_leaf t slots times number node m.pairs w l m.leaf; part = tree_of m.made; makes = m.makes; large = m.large })
 

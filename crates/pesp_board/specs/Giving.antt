@@ -71,7 +71,7 @@ AreValued p node (MadeBranch cut low high) = IsValued p (low_part node cut) low 
 -- what a work makes of a bound leaf with these pairs at a node, or that it makes nothing
 abbrev pub MakesOf : ProblemValue → Node → List Pair → Work → Result Made GiveRefusal → Type 0
 MakesOf p node old work (Ok made) = Makes p node old work (tree_of made) × AreValued p node made
-MakesOf p node old work (Err NotValid) = IsValidAt p node work → ⊥
+MakesOf p node old work (Err NotValid) = IsValidAt p node old work → ⊥
 MakesOf p node old work (Err Memory) = Unit {0}
 MakesOf p node old work (Err UnknownJob) = ⊥
 MakesOf p node old work (Err AlreadyGiven) = ⊥
@@ -115,7 +115,7 @@ pub record MakesLarge (p : ProblemValue) (t : WorkTreeValue) (node : ℕ) (work 
 -- what a work makes of a node's bound leaf, with the number of pairs of the tree then, or why it isn't taken
 abbrev pub MakesAt : ProblemValue → WorkTreeValue → ℕ → Work → Result (Made × ℕ) GiveRefusal → Type 0
 MakesAt p t node work (Ok part) = MakesPart p t node work part.0 part.1
-MakesAt p t node work (Err NotValid) = IsValidAt p (node_at p (path_to t node)) work → ⊥
+MakesAt p t node work (Err NotValid) = (pairs : List Pair) × (leaf_at t node ≡ Some (Bound pairs)) × (IsValidAt p (node_at p (path_to t node)) pairs work → ⊥)
 MakesAt p t node work (Err Memory) = Unit {0}
 MakesAt p t node work (Err TooLarge) = MakesLarge p t node work
 MakesAt p t node work (Err UnknownJob) = ⊥

@@ -10,11 +10,7 @@ use pesp_problem::{Cut, Memory, Side};
 use std::alloc::Global;
 
 /// The node to which a path leads from the root.
-pub(crate) fn node_along(
-    alloc: Global,
-    problem: &Problem,
-    path: &[(Cut, Side)],
-) -> Result<Node, Memory>
+pub fn node_along(alloc: Global, problem: &Problem, path: &[(Cut, Side)]) -> Result<Node, Memory>
     requires { AreCuts problem.now path.now }
     ensures at { IfOk result (λ node. node ≡ node_at problem.now path.now) }
     ensures node { IfOk result (IsNodeOf problem.now) }

@@ -11,5 +11,6 @@ mod making;
 mod slot;
 mod timetable;
 
+pub use along::node_along;
 pub use board::Board;
 pub use pesp_machine::{GiveRefusal, Job, LendRefusal, Work};

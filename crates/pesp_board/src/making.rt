@@ -275,5 +275,7 @@ pub(crate) fn make(
         Work::Nothing(pairs) => make_nothing(alloc, problem, &node, pairs),
         Work::Gap(cycle) => make_gap(problem, &node, *cycle),
         Work::Split(cut) => make_branch(alloc, problem, path, node, old, *cut),
+        // a stub, until whole trees are taken
+        Work::Tree(_) => Err(GiveRefusal::Memory),
     }
 }

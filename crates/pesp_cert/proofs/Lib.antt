@@ -4,6 +4,7 @@ pub mod Runs
 pub mod PrintLaws
 pub mod DraftLaws
 pub mod ShortLaws
+pub mod TextLengths
 pub mod RunLaws
 pub mod TextSteps
 pub mod TextLoop

@@ -26,10 +26,10 @@ use Rattle.pesp_lines.proofs.WordLaws.{cycle_below, mult_below}
 abbrev pub IsShort : Item → Type 0
 IsShort item = length (line_of (item_words item)) ≤ LONGEST
 
-nat_len : (n : ℕ) → n < NATURALS → length (decimal n) ≤ 18
+pub nat_len : (n : ℕ) → n < NATURALS → length (decimal n) ≤ 18
 nat_len n lt = length-decimal-le 18 n (omega arith) (omega (arith, lt)) (omega (arith, lt))
 
-int_len : (z : ℤ) → nat_abs z < NATURALS → length (signed_decimal z) ≤ 19
+pub int_len : (z : ℤ) → nat_abs z < NATURALS → length (signed_decimal z) ≤ 19
 int_len (pos n) lt = omega (arith, nat_len n lt)
 int_len (negsuc n) lt = omega (arith, nat_len (suc n) lt)
 
@@ -41,7 +41,7 @@ pairs_few least (p ∷ ps) le h k =
     let small : p.cycle ≤ 100000 = grind (arith, nat_tests, within) in
     omega (arith, h.0, pairs_few (p.cycle + 1) ps (omega (arith, small)) h.2 (and_right (is_pair_within p) (all_within ps) k))
 
-pairs_len : (ps : List Pair) → all_within ps ≡ true → length (spaced (pair_words ps)) ≤ 39 * length ps
+pub pairs_len : (ps : List Pair) → all_within ps ≡ true → length (spaced (pair_words ps)) ≤ 39 * length ps
 pairs_len [] h = omega arith
 pairs_len (p ∷ ps) h =
     let one = and_left (is_pair_within p) (all_within ps) h in
@@ -59,7 +59,7 @@ row_len r h = omega (arith, length-decimal-le 6 r.row (omega arith) (named h) (o
     named : is_name r.row ≡ true → r.row < 10 ^ 6
     named h = grind (arith, nat_tests, h)
 
-rows_len : (rs : List SignedRow) → rows_are_named rs ≡ true → length (spaced (row_words rs)) ≤ 8 * length rs
+pub rows_len : (rs : List SignedRow) → rows_are_named rs ≡ true → length (spaced (row_words rs)) ≤ 8 * length rs
 rows_len [] h = omega arith
 rows_len (r ∷ rs) h =
     let first : length (row_word r ++ spaced (row_words rs)) ≡ length (row_word r) + length (spaced (row_words rs)) = length-append (row_word r) (spaced (row_words rs)) in

@@ -7,9 +7,10 @@ ghost use Rattle.pesp_stream.specs.Counts.{DeviceFailed};
 ghost use Rattle.pesp_stream.specs.Printing.{Sending, Sends};
 ghost use Rattle.pesp_stream.specs.Writing.{Writes};
 ghost use Rattle.pesp_cert.specs.Print.{period_line, time_line, pair_text, pairs_text, row_text, rows_text, cycle_line, tree_line, cost_text, answer_line};
-ghost use Rattle.pesp_cert.specs.Texts.{spelling};
+ghost use Rattle.pesp_cert.specs.Texts.{HasText, spelling};
 
 use crate::certificate::Certificate;
+use crate::laws::limits_are_those_of_texts;
 use itoa::{Buffer, Integer};
 use pesp_problem::{Pair, SignedRow, Walk};
 use pesp_stream::{Output, Printed, Sink, WriteFault, print_to};
@@ -177,15 +178,25 @@ impl Printed for Certificate {
     }
 }
 
+// every certificate has a text
+fn has_text(certificate: &Certificate)
+    ensures { HasText certificate.now }
+{
+    limits_are_those_of_texts();
+    certificate.period();
+}
+
 /// Writes the certificate's one text, a page at a time. An interrupted write is repeated, at most 1000 times in all, and a
 /// write that takes no byte is a fault. After a fault a front of the text went out. It takes no memory.
 pub fn print<W: Sink>(certificate: &Certificate, sink: &mut W) -> Result<(), WriteFault>
     requires failed_fits { W.failed sink.old < 2 ^ 63 }
     requires interrupted_fits { W.interrupted sink.old < 2 ^ 63 }
+    ensures has_text { HasText certificate.now }
     ensures text { Writes (W.contents sink.old) (W.contents sink.new) (spelling certificate.now) result }
     ensures counts { OnOk result ((W.failed sink.new ≡ W.failed sink.old) × (W.interrupted sink.new ≤ W.interrupted sink.old + 1000)) }
     // The device is blamed only where it failed.
     ensures fault { OnErr result (DeviceFailed (W.failed sink.old) (W.interrupted sink.old) (W.failed sink.new) (W.interrupted sink.new)) }
 {
+    has_text(certificate);
     print_to(sink, certificate)
 }

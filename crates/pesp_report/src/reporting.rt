@@ -1,6 +1,6 @@
 //! The report of a timetable.
 
-ghost use Rattle.std.specs.Prelude.{◌≡◌, ◌<◌, ◌^◌, ℕ, List, IfOk, IfErr, OnOk};
+ghost use Rattle.std.specs.Prelude.{◌≡◌, ◌+◌, ◌<◌, ◌≤◌, ◌^◌, ℕ, List, IfOk, IfErr, OnOk};
 ghost use Rattle.std.specs.Io.KnownBytes.{Appends};
 ghost use Rattle.pesp_stream.specs.Counts.{DeviceFailed};
 ghost use Rattle.pesp_stream.specs.Writing.{AppendsFront};
@@ -19,7 +19,8 @@ use std::alloc::Global;
 /// its slack times its weight, the greatest of these first, and the sums.
 ///
 /// `NotTimes` where there isn't one time below the period for each event, and `Violates` with the first row that isn't
-/// satisfied. After `Write` a front of the report is written, and after any other refusal nothing.
+/// satisfied. An interrupted write is repeated, at most 1000 times in all. After `Write` a front of the report is written,
+/// and after any other refusal nothing.
 pub fn report<W: Sink>(
     alloc: Global,
     instance: &Instance,
@@ -34,6 +35,7 @@ pub fn report<W: Sink>(
     // The whole report is written at Ok, a front of it where the writer failed, and else nothing.
     ensures text { OnOk result ((text : List ℕ) × IsReport instance.now times.now text
         × Appends (W.contents sink.old) (W.contents sink.new) text) }
+    ensures counts { OnOk result ((W.failed sink.new ≡ W.failed sink.old) × (W.interrupted sink.new ≤ W.interrupted sink.old + 1000)) }
     ensures front { IfErr result (λ e. IfBlamed e ((text : List ℕ) × IsReport instance.now times.now text
         × AppendsFront (W.contents sink.old) (W.contents sink.new) text)) }
     ensures fault { IfErr result (λ e. IfBlamed e

@@ -1,13 +1,12 @@
 -- The certificate of the first path has a text and is valid.
-use Rattle.std.proofs.Common.{◌≡◌, ◌∙◌, get_or, ℕ, zero, suc, ◌+◌, ◌*◌, ◌<◌, ◌≤◌, List, [], ◌∷◌, length, map, refl, sym, ap, arith, true, false}
-use Rattle.std.specs.Prelude.{Result, Ok, Err, OnErr, IsOk, ℤ, pos, ◌-ℤ◌, All, Some, None, sum_by, nat_le, nat_lt, replicate, unsigned_abs, ◌&&◌}
+use Rattle.std.proofs.Common.{◌≡◌, get_or, ℕ, zero, suc, ◌*◌, ◌<◌, ◌≤◌, List, [], ◌∷◌, length, map, refl, ap, arith, true}
+use Rattle.std.specs.Prelude.{Result, Ok, Err, OnErr, IsOk, ℤ, ◌-ℤ◌, All, Some, nat_le, nat_lt, replicate, unsigned_abs}
 use Rattle.std.specs.List.{list_all}
 use Rattle.std.proofs.Math.Nat.{mul-le-mul}
 use Rattle.std.proofs.lemmas.Bool.Decides.{nat_tests}
 use Rattle.std.proofs.lemmas.List.Sums.{sum_by-le}
 use Rattle.std.proofs.lemmas.List.Elements.{All-head, All-tail, All-nil}
 use Rattle.pesp_problem.specs.declared.row.Row.{Row}
-use Rattle.pesp_problem.specs.declared.row.SignedRow.{SignedRow}
 use Rattle.pesp_problem.specs.declared.grade.Score.{Score}
 use Rattle.pesp_problem.specs.declared.grade.Score.TheVariants.{NotTimes, Violates, Feasible}
 use Rattle.pesp_problem.specs.Timetables.{Pesp, slack, difference, cost, IsTimetableOfCost}
@@ -18,7 +17,7 @@ use Rattle.pesp_problem.specs.Nodes.{root}
 use Rattle.pesp_problem.specs.Scores.{IsScore}
 use Rattle.pesp_problem.proofs.Integers.{remainder-lt}
 use Rattle.pesp_truth.specs.Trees.{Ends, Bound}
-use Rattle.pesp_truth.specs.Certificates.{Content, IsValid, least_of, ShowsAnswer, ShowsTimetable, shown_times, shown_labels}
+use Rattle.pesp_truth.specs.Certificates.{Content, IsValid, least_of, ShowsAnswer, ShowsTimetable}
 use Rattle.pesp_truth.proofs.Opening.{no_pairs}
 use Rattle.pesp_text.specs.Number.{NATURALS}
 use Rattle.pesp_cert.specs.Limits.{has_costs, is_time}

@@ -1,17 +1,24 @@
--- What is solved is accepted.
-use Rattle.std.proofs.Common.{◌≡◌, ◌∙◌, ℕ, List, ◌++◌, take, drop, refl, sym, ap, subst, Some, Ok}
+-- What is solved is read and accepted.
+use Rattle.std.proofs.Common.{◌≡◌, ◌∙◌, ℕ, ◌≤◌, List, ◌++◌, length, take, drop, sym, ap, arith, Some, Ok, Err}
 use Rattle.std.specs.Prelude.{Option, Result, ◌↔◌}
-use Rattle.std.proofs.lemmas.List.{take-append-drop}
+use Rattle.std.specs.Io.KnownBytes.{Appends}
+use Rattle.std.proofs.lemmas.List.{append_cancel_left, take-append-drop, take_all}
 use Rattle.pesp_problem.specs.Timetables.{Pesp}
 use Rattle.pesp_instance.specs.Instance.{instance_of}
 use Rattle.pesp_instance.specs.declared.refusal.ReadRefusal.{ReadRefusal}
 use Rattle.pesp_truth.specs.Certificates.{Content, IsValid}
-use Rattle.pesp_cert.specs.Texts.{spelling, HasText}
-use Rattle.pesp_cert.specs.Refusals.{IsTextOf}
-use Rattle.pesp_cert.proofs.TextLaws.{none_begins_another}
+use Rattle.pesp_cert.specs.declared.refusal.CertRefusal.{CertRefusal}
+use Rattle.pesp_cert.specs.Texts.{spelling, items_of, HasText}
+use Rattle.pesp_cert.specs.Refusals.{IsTextOf, items_of_text}
+use Rattle.pesp_cert.proofs.TextLaws.{none_begins_another, text_read_of}
+use Rattle.pesp_cert.proofs.TextLengths.{texts_short}
 use Rattle.pesp_check.specs.declared.refusal.Verdict.{Verdict}
 use Rattle.pesp_check.specs.declared.refusal.Verdict.TheVariants.{Accepted}
-use Rattle.pesp_cli.specs.Runs.{Solves, Checks}
+use Rattle.pesp_cli.specs.Runs.{Solves, Checks, RefusesInstance, RefusesCertificate}
+
+-- what a writer got behind what it held before
+appended_is : (before bytes text : List ℕ) → Appends (Some before) (Some (before ++ bytes)) text → text ≡ bytes
+appended_is before bytes text e = append_cancel_left before text bytes (sym e)
 
 same_instance : (text : List ℕ) (period : ℕ) (p q : Pesp) → instance_of text period ≡ Ok p → instance_of text period ≡ Ok q → p ≡ q
 same_instance text period p q is also = let same : ◌≡◌ {A = Result Pesp ReadRefusal} (Ok p) (Ok q) = sym is ∙ also in cc
@@ -25,11 +32,12 @@ same_content bytes front limit c d text spelt is read =
 accepted : (p q : Pesp) (c d : Content) (verdict : Verdict) → p ≡ q → d ≡ c → IsValid p c → (verdict ≡ Accepted) ↔ IsValid q d → verdict ≡ Accepted
 accepted p q c d verdict same is valid exactly = exactly.1 (rw (← same, is) valid)
 
-pub accepts_what_is_solved : (text bytes : List ℕ) (left left_instance left_certificate : Option (List ℕ)) (period : ℕ) (verdict : Verdict) (line : List ℕ) → Solves (Some text) left period (λ written. written ≡ bytes)
-    → Checks (Some text) left_instance (Some bytes) left_certificate period verdict (λ written. written ≡ line) → verdict ≡ Accepted
-accepts_what_is_solved text bytes left left_instance left_certificate period verdict line solved checked =
+pub accepts_what_is_solved : (text before bytes : List ℕ) (left left_instance left_certificate old new : Option (List ℕ)) (period : ℕ) (verdict : Verdict)
+    → Solves (Some text) left period (Appends (Some before) (Some (before ++ bytes))) → Checks (Some text) left_instance (Some bytes) left_certificate period verdict (Appends old new) → verdict ≡ Accepted
+accepts_what_is_solved text before bytes left left_instance left_certificate old new period verdict solved checked =
     let one = ap (λ t. instance_of t period) (solved.read.read.whole) ∙ solved.read.is_instance in
     let other = ap (λ t. instance_of t period) (checked.read.read.whole) ∙ checked.read.is_instance in
+    let written = appended_is before bytes (spelling solved.certificate) solved.written in
     accepted
     solved.instance
     checked.instance
@@ -37,6 +45,27 @@ accepts_what_is_solved text bytes left left_instance left_certificate period ver
     checked.certificate
     verdict
     (same_instance text period solved.instance checked.instance one other)
-    (same_content bytes checked.text 1073741824 solved.certificate checked.certificate solved.has_text solved.written checked.read_certificate.front checked.is_text)
+    (same_content bytes checked.text 1073741824 solved.certificate checked.certificate solved.has_text written checked.read_certificate.front checked.is_text)
     solved.valid
     checked.exactly
+
+pub instance_is_read : (text : List ℕ) (left left_instance old new : Option (List ℕ)) (period : ℕ) (refusal : ReadRefusal) → Solves (Some text) left period (Appends old new) → RefusesInstance (Some text) left_instance period refusal → ⊥
+instance_is_read text left left_instance old new period refusal solved refused =
+    let one = ap (λ t. instance_of t period) (solved.read.read.whole) ∙ solved.read.is_instance in
+    let bad : ◌≡◌ {A = Result Pesp ReadRefusal} (Ok solved.instance) (Err refusal) = sym one ∙ refused.whole in
+    cc
+
+-- all bytes of a certificate's text are read
+certificate_read : (bytes front : List ℕ) (c : Content) → HasText c → spelling c ≡ bytes → front ≡ take 1073741824 bytes → items_of_text front ≡ Ok (items_of c)
+certificate_read bytes front c text spelt is =
+    let short = texts_short c text in
+    let few : length bytes ≤ 1073741824 = omega (arith, short, ap length spelt) in
+    ap items_of_text (is ∙ take_all 1073741824 bytes few) ∙ text_read_of bytes c (record { has_text = text; spelt = sym spelt })
+
+pub certificate_is_read : (text before bytes : List ℕ) (left left_instance left_certificate : Option (List ℕ)) (period : ℕ) (refusal : CertRefusal)
+    → Solves (Some text) left period (Appends (Some before) (Some (before ++ bytes))) → RefusesCertificate (Some text) left_instance (Some bytes) left_certificate period refusal → ⊥
+certificate_is_read text before bytes left left_instance left_certificate period refusal solved refused =
+    let written = appended_is before bytes (spelling solved.certificate) solved.written in
+    let read = certificate_read bytes refused.bytes solved.certificate solved.has_text written refused.read_certificate.front in
+    let bad = sym read ∙ refused.refused in
+    cc

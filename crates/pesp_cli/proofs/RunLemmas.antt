@@ -1,7 +1,6 @@
 -- Reading one byte more than a text may have decides what the whole text would.
-use Rattle.std.proofs.Common.{◌≡◌, ◌∙◌, ℕ, ◌≤◌, ◌<◌, List, length, take, refl, subst, ap, sym, arith, Bool, true, false, nat_le, ◌&&◌, if◌then◌else◌, Some, None, Ok, Err, IfSome, ◌⊎◌, inl, inr}
+use Rattle.std.proofs.Common.{◌≡◌, ◌∙◌, ℕ, ◌≤◌, ◌<◌, List, length, take, refl, subst, ap, sym, arith, Bool, true, false, nat_le, ◌&&◌, Some, None, Ok, Err, IfSome, ◌⊎◌, inl, inr}
 use Rattle.std.specs.Prelude.{Option, Result, IfErr, IsErrAnd, ◌↔◌}
-use Rattle.std.specs.Io.KnownBytes.{Consumes, IsAtEnd}
 use Rattle.std.proofs.lemmas.List.{length-take, take_all}
 use Rattle.std.proofs.lemmas.Bool.Decides.{nat_tests}
 use Rattle.pesp_problem.specs.Timetables.{Pesp}
@@ -106,9 +105,9 @@ pub is_instance : (r : Result Pesp ReadRefusal) (p : Pesp) (bytes : List ℕ) (p
 is_instance r p bytes period is exact = elim exact [ inl e ↦ sym e ∙ is | inr e ↦ cc ]
 
 -- a fault of the verdict's line: memory, or the writer's device after a front of it
-pub line_has_cause : (fault : Fault) (told left told_certificate left_certificate : Option (List ℕ)) (period : ℕ) (old new : Option (List ℕ)) (X R W F : Type 0) → ((fault ≡ Memory) × X) ⊎ ((fault ≡ Write) × W × F)
-    → (F → (verdict : Verdict) × Checks told left told_certificate left_certificate period verdict (AppendsFront old new)) → CheckCause fault told left told_certificate left_certificate period old new R W
-line_has_cause fault told left told_certificate left_certificate period old new X R W F cause checks =
+pub line_has_cause : (fault : Fault) (told left told_certificate left_certificate : Option (List ℕ)) (period : ℕ) (old new : Option (List ℕ)) (X R U S W F : Type 0) → ((fault ≡ Memory) × X) ⊎ ((fault ≡ Write) × W × F)
+    → (F → (verdict : Verdict) × Checks told left told_certificate left_certificate period verdict (AppendsFront old new)) → CheckCause fault told left told_certificate left_certificate period old new R U S W
+line_has_cause fault told left told_certificate left_certificate period old new X R U S W F cause checks =
     elim cause [
       | inl e ↦ rw e.0 tt
       | inr e ↦ rw e.0 (e.1, checks e.2)

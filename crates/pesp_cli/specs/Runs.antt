@@ -1,5 +1,5 @@
 -- What runs read and write, and when they tell which fault.
-use Rattle.std.specs.Prelude.{◌≡◌, ◌↔◌, ℕ, List, Option, Ok, Err, IfSome}
+use Rattle.std.specs.Prelude.{◌≡◌, ◌↔◌, ◌⊎◌, ℕ, ◌+◌, ◌≤◌, List, Option, Ok, Err, IfSome}
 use Rattle.std.specs.Io.KnownBytes.{Consumes, IsAtEnd}
 use Rattle.pesp_stream.specs.Reading.{ReadsText}
 use Rattle.pesp_stream.specs.Writing.{AppendsFront}
@@ -10,7 +10,7 @@ use Rattle.pesp_instance.specs.declared.refusal.ReadRefusal.{ReadRefusal}
 use Rattle.pesp_truth.specs.Truth.{IsTrueAnswer}
 use Rattle.pesp_truth.specs.Certificates.{Content, IsValid, shown_times}
 use Rattle.pesp_cert.specs.Texts.{spelling, HasText}
-use Rattle.pesp_cert.specs.Refusals.{IsTextOf, RefusesFirst}
+use Rattle.pesp_cert.specs.Refusals.{IsTextOf, items_of_text}
 use Rattle.pesp_cert.specs.declared.refusal.CertRefusal.{CertRefusal}
 use Rattle.pesp_check.specs.Faults.{IsVerdict}
 use Rattle.pesp_check.specs.declared.refusal.Verdict.{Verdict}
@@ -24,6 +24,10 @@ use Rattle.pesp_cli.specs.Verdicts.{verdict_line}
 use Rattle.pesp_cli.specs.FirstPath.{IsFirst}
 use Rattle.pesp_cli.specs.declared.fault.Fault.{Fault}
 use Rattle.pesp_cli.specs.declared.fault.Fault.TheVariants.{Instance, Certificate, Times, Report, Memory, Read, Write, NoFile}
+
+-- no call of a reader or a writer failed, and no more than 1000 were interrupted
+abbrev pub HasWorked : ℕ → ℕ → ℕ → ℕ → Type 0
+HasWorked failed interrupted failed' interrupted' = (failed' ≡ failed) × (interrupted' ≤ interrupted + 1000)
 
 -- ---- the instance, which each run reads first
 
@@ -56,6 +60,10 @@ InstanceCause Memory told left period failed = Unit {0}
 InstanceCause Read told left period failed = failed
 InstanceCause Write told left period failed = ⊥
 InstanceCause NoFile told left period failed = ⊥
+
+-- the first reader failed before the second was called, or the first text has an instance and the second reader failed
+abbrev pub FailsInTurn : Option (List ℕ) → Option (List ℕ) → ℕ → Type 0 → Type 0 → Type 0 → Type 0
+FailsInTurn told left period first_failed uncalled second_failed = (first_failed × uncalled) ⊎ ((p : Pesp) × ReadsInstance told left period p × second_failed)
 
 -- ---- solve
 
@@ -102,19 +110,19 @@ pub record RefusesCertificate (told left told_certificate left_certificate : Opt
   pub read : ReadsInstance told left period instance
   pub bytes : List ℕ
   pub read_certificate : ReadsText told_certificate left_certificate 1073741824 bytes
-  pub refused : RefusesFirst bytes refusal
+  pub refused : items_of_text bytes ≡ Err refusal
 
--- each fault of `check` and its cause
-abbrev pub CheckCause : Fault → Option (List ℕ) → Option (List ℕ) → Option (List ℕ) → Option (List ℕ) → ℕ → Option (List ℕ) → Option (List ℕ) → Type 0 → Type 0 → Type 0
-CheckCause (Instance refusal) told left told_certificate left_certificate period old new read_failed write_failed = RefusesInstance told left period refusal
-CheckCause (Certificate refusal) told left told_certificate left_certificate period old new read_failed write_failed = RefusesCertificate told left told_certificate left_certificate period refusal
-CheckCause (Times refusal) told left told_certificate left_certificate period old new read_failed write_failed = ⊥
-CheckCause (Report refusal) told left told_certificate left_certificate period old new read_failed write_failed = ⊥
-CheckCause Memory told left told_certificate left_certificate period old new read_failed write_failed = Unit {0}
-CheckCause Read told left told_certificate left_certificate period old new read_failed write_failed = read_failed
-CheckCause Write told left told_certificate left_certificate period old new read_failed write_failed =
+-- each fault of `check` and its cause; the second reader is called only where the first text has an instance
+abbrev pub CheckCause : Fault → Option (List ℕ) → Option (List ℕ) → Option (List ℕ) → Option (List ℕ) → ℕ → Option (List ℕ) → Option (List ℕ) → Type 0 → Type 0 → Type 0 → Type 0 → Type 0
+CheckCause (Instance refusal) told left told_certificate left_certificate period old new first_failed uncalled second_failed write_failed = RefusesInstance told left period refusal × uncalled
+CheckCause (Certificate refusal) told left told_certificate left_certificate period old new first_failed uncalled second_failed write_failed = RefusesCertificate told left told_certificate left_certificate period refusal
+CheckCause (Times refusal) told left told_certificate left_certificate period old new first_failed uncalled second_failed write_failed = ⊥
+CheckCause (Report refusal) told left told_certificate left_certificate period old new first_failed uncalled second_failed write_failed = ⊥
+CheckCause Memory told left told_certificate left_certificate period old new first_failed uncalled second_failed write_failed = Unit {0}
+CheckCause Read told left told_certificate left_certificate period old new first_failed uncalled second_failed write_failed = FailsInTurn told left period first_failed uncalled second_failed
+CheckCause Write told left told_certificate left_certificate period old new first_failed uncalled second_failed write_failed =
     write_failed × ((verdict : Verdict) × Checks told left told_certificate left_certificate period verdict (AppendsFront old new))
-CheckCause NoFile told left told_certificate left_certificate period old new read_failed write_failed = ⊥
+CheckCause NoFile told left told_certificate left_certificate period old new first_failed uncalled second_failed write_failed = ⊥
 
 -- ---- report
 
@@ -157,12 +165,12 @@ ReportRefused ReportMemory told left told_times left_times period = ⊥
 ReportRefused ReportWrite told left told_times left_times period = ⊥
 
 -- each fault of `report` and its cause; the second reader is called only where the first text has an instance
-abbrev pub ReportCause : Fault → Option (List ℕ) → Option (List ℕ) → Option (List ℕ) → Option (List ℕ) → ℕ → Option (List ℕ) → Option (List ℕ) → Type 0 → Type 0 → Type 0
-ReportCause (Instance refusal) told left told_times left_times period old new read_failed write_failed = RefusesInstance told left period refusal
-ReportCause (Certificate refusal) told left told_times left_times period old new read_failed write_failed = ⊥
-ReportCause (Times refusal) told left told_times left_times period old new read_failed write_failed = RefusesTimes told left told_times left_times period refusal
-ReportCause (Report refusal) told left told_times left_times period old new read_failed write_failed = ReportRefused refusal told left told_times left_times period
-ReportCause Memory told left told_times left_times period old new read_failed write_failed = Unit {0}
-ReportCause Read told left told_times left_times period old new read_failed write_failed = read_failed
-ReportCause Write told left told_times left_times period old new read_failed write_failed = write_failed × Reports told left told_times left_times period (AppendsFront old new)
-ReportCause NoFile told left told_times left_times period old new read_failed write_failed = ⊥
+abbrev pub ReportCause : Fault → Option (List ℕ) → Option (List ℕ) → Option (List ℕ) → Option (List ℕ) → ℕ → Option (List ℕ) → Option (List ℕ) → Type 0 → Type 0 → Type 0 → Type 0 → Type 0
+ReportCause (Instance refusal) told left told_times left_times period old new first_failed uncalled second_failed write_failed = RefusesInstance told left period refusal × uncalled
+ReportCause (Certificate refusal) told left told_times left_times period old new first_failed uncalled second_failed write_failed = ⊥
+ReportCause (Times refusal) told left told_times left_times period old new first_failed uncalled second_failed write_failed = RefusesTimes told left told_times left_times period refusal
+ReportCause (Report refusal) told left told_times left_times period old new first_failed uncalled second_failed write_failed = ReportRefused refusal told left told_times left_times period
+ReportCause Memory told left told_times left_times period old new first_failed uncalled second_failed write_failed = Unit {0}
+ReportCause Read told left told_times left_times period old new first_failed uncalled second_failed write_failed = FailsInTurn told left period first_failed uncalled second_failed
+ReportCause Write told left told_times left_times period old new first_failed uncalled second_failed write_failed = write_failed × Reports told left told_times left_times period (AppendsFront old new)
+ReportCause NoFile told left told_times left_times period old new first_failed uncalled second_failed write_failed = ⊥

@@ -1,15 +1,29 @@
 //! Laws of the runs. Each is a function without a body whose contract is the law.
 
-ghost use Rattle.std.specs.Prelude.{◌≡◌, ℕ, List, Option, Some};
+ghost use Rattle.std.specs.Prelude.{◌≡◌, ℕ, List, ◌++◌, Option, Some};
+ghost use Rattle.std.specs.Io.KnownBytes.{Appends};
+ghost use Rattle.pesp_instance.specs.declared.refusal.ReadRefusal.{ReadRefusal};
+ghost use Rattle.pesp_cert.specs.declared.refusal.CertRefusal.{CertRefusal};
 ghost use Rattle.pesp_check.specs.declared.refusal.Verdict.{Verdict};
 ghost use Rattle.pesp_check.specs.declared.refusal.Verdict.TheVariants.{Accepted};
-ghost use Rattle.pesp_cli.specs.Runs.{Solves, Checks};
+ghost use Rattle.pesp_cli.specs.Runs.{Solves, Checks, RefusesInstance, RefusesCertificate};
 
-/// What `run_solve` writes for an instance's text `run_check` accepts for the same text and period, where it reads both texts
-/// to their ends.
+/// The bytes that `run_solve` appended for an instance's text `run_check` accepts for the same text and period, where it
+/// answers Ok.
 pub fn what_is_solved_is_accepted()
-    ensures { (text bytes : List ℕ) (left left_instance left_certificate : Option (List ℕ)) (period : ℕ) (verdict : Verdict) (line : List ℕ)
-        → Solves (Some text) left period (λ written. written ≡ bytes)
-        → Checks (Some text) left_instance (Some bytes) left_certificate period verdict (λ written. written ≡ line)
+    ensures { (text before bytes : List ℕ) (left left_instance left_certificate old new : Option (List ℕ)) (period : ℕ) (verdict : Verdict)
+        → Solves (Some text) left period (Appends (Some before) (Some (before ++ bytes)))
+        → Checks (Some text) left_instance (Some bytes) left_certificate period verdict (Appends old new)
         → verdict ≡ Accepted }
+{}
+
+/// And `run_check` refuses neither of the two texts: for them no `Instance` fault and no `Certificate` fault has a cause, so
+/// that memory and devices alone can keep it from its verdict.
+pub fn what_is_solved_is_read()
+    ensures instance { (text : List ℕ) (left left_instance old new : Option (List ℕ)) (period : ℕ) (refusal : ReadRefusal)
+        → Solves (Some text) left period (Appends old new)
+        → RefusesInstance (Some text) left_instance period refusal → ⊥ }
+    ensures certificate { (text before bytes : List ℕ) (left left_instance left_certificate : Option (List ℕ)) (period : ℕ) (refusal : CertRefusal)
+        → Solves (Some text) left period (Appends (Some before) (Some (before ++ bytes)))
+        → RefusesCertificate (Some text) left_instance (Some bytes) left_certificate period refusal → ⊥ }
 {}

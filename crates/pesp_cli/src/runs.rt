@@ -1,9 +1,9 @@
 //! The runs: whole texts in, whole texts out.
 
-ghost use Rattle.std.specs.Prelude.{◌≡◌, ◌≢◌, ◌⊎◌, ◌<◌, ◌≤◌, ◌^◌, OnOk, IfOk, IfErr};
+ghost use Rattle.std.specs.Prelude.{◌≡◌, ◌≢◌, ◌<◌, ◌≤◌, ◌^◌, OnOk, IfOk, IfErr};
 ghost use Rattle.std.specs.Io.KnownBytes.{Appends};
 ghost use Rattle.pesp_stream.specs.Counts.{DeviceFailed};
-ghost use Rattle.pesp_cli.specs.Runs.{ReadsInstance, InstanceCause, Solves, SolveCause, Checks, CheckCause, Reports, ReportCause};
+ghost use Rattle.pesp_cli.specs.Runs.{HasWorked, ReadsInstance, InstanceCause, Solves, SolveCause, Checks, CheckCause, Reports, ReportCause};
 
 use crate::fault::Fault;
 use crate::first::first_certificate;
@@ -35,6 +35,7 @@ fn read_whole_instance<R: Source>(
     requires failed { R.failed reader.old < 2 ^ 63 }
     requires interrupted { R.interrupted reader.old < 2 ^ 63 }
     ensures ok { IfOk result (ReadsInstance (R.remaining reader.old) (R.remaining reader.new) period) }
+    ensures counts { OnOk result (HasWorked (R.failed reader.old) (R.interrupted reader.old) (R.failed reader.new) (R.interrupted reader.new)) }
     ensures cause { IfErr result (λ fault. InstanceCause fault (R.remaining reader.old) (R.remaining reader.new) period
         (DeviceFailed (R.failed reader.old) (R.interrupted reader.old) (R.failed reader.new) (R.interrupted reader.new))) }
 {
@@ -62,6 +63,8 @@ pub fn run_solve<R: Source, W: Sink>(
     requires interrupted_writes { W.interrupted writer.old < 2 ^ 62 }
     ensures ok { OnOk result (Solves (R.remaining reader.old) (R.remaining reader.new) period
         (Appends (W.contents writer.old) (W.contents writer.new))) }
+    ensures reads { OnOk result (HasWorked (R.failed reader.old) (R.interrupted reader.old) (R.failed reader.new) (R.interrupted reader.new)) }
+    ensures writes { OnOk result (HasWorked (W.failed writer.old) (W.interrupted writer.old) (W.failed writer.new) (W.interrupted writer.new)) }
     ensures cause { IfErr result (λ fault. SolveCause fault (R.remaining reader.old) (R.remaining reader.new) period
         (W.contents writer.old) (W.contents writer.new)
         (DeviceFailed (R.failed reader.old) (R.interrupted reader.old) (R.failed reader.new) (R.interrupted reader.new))
@@ -96,14 +99,19 @@ pub fn run_check<R: Source, C: Source, W: Sink>(
     ensures ok { IfOk result (λ verdict. Checks (R.remaining instance_reader.old) (R.remaining instance_reader.new)
         (C.remaining certificate_reader.old) (C.remaining certificate_reader.new) period verdict
         (Appends (W.contents writer.old) (W.contents writer.new))) }
+    ensures reads { OnOk result (HasWorked (R.failed instance_reader.old) (R.interrupted instance_reader.old) (R.failed instance_reader.new) (R.interrupted instance_reader.new)) }
+    ensures certificate_reads { OnOk result (HasWorked (C.failed certificate_reader.old) (C.interrupted certificate_reader.old) (C.failed certificate_reader.new) (C.interrupted certificate_reader.new)) }
+    ensures writes { OnOk result (HasWorked (W.failed writer.old) (W.interrupted writer.old) (W.failed writer.new) (W.interrupted writer.new)) }
     ensures cause { IfErr result (λ fault. CheckCause fault (R.remaining instance_reader.old) (R.remaining instance_reader.new)
         (C.remaining certificate_reader.old) (C.remaining certificate_reader.new) period
         (W.contents writer.old) (W.contents writer.new)
-        (DeviceFailed (R.failed instance_reader.old) (R.interrupted instance_reader.old) (R.failed instance_reader.new) (R.interrupted instance_reader.new)
-        ⊎ DeviceFailed (C.failed certificate_reader.old) (C.interrupted certificate_reader.old) (C.failed certificate_reader.new) (C.interrupted certificate_reader.new))
+        (DeviceFailed (R.failed instance_reader.old) (R.interrupted instance_reader.old) (R.failed instance_reader.new) (R.interrupted instance_reader.new))
+        (certificate_reader.new ≡ certificate_reader.old)
+        (DeviceFailed (C.failed certificate_reader.old) (C.interrupted certificate_reader.old) (C.failed certificate_reader.new) (C.interrupted certificate_reader.new))
         (DeviceFailed (W.failed writer.old) (W.interrupted writer.old) (W.failed writer.new) (W.interrupted writer.new))) }
     ensures silent { IfErr result (λ fault. fault ≢ Fault.Write → writer.new ≡ writer.old) }
 {
+    // The instance is judged before the certificate is read.
     let instance = read_whole_instance(alloc, instance_reader, period)?;
     let text = read_all(alloc, certificate_reader, MOST_CERTIFICATE)?;
     let certificate = parse(alloc, &text)?;
@@ -130,14 +138,19 @@ pub fn run_report<R: Source, T: Source, W: Sink>(
     ensures ok { OnOk result (Reports (R.remaining instance_reader.old) (R.remaining instance_reader.new)
         (T.remaining times_reader.old) (T.remaining times_reader.new) period
         (Appends (W.contents writer.old) (W.contents writer.new))) }
+    ensures reads { OnOk result (HasWorked (R.failed instance_reader.old) (R.interrupted instance_reader.old) (R.failed instance_reader.new) (R.interrupted instance_reader.new)) }
+    ensures times_reads { OnOk result (HasWorked (T.failed times_reader.old) (T.interrupted times_reader.old) (T.failed times_reader.new) (T.interrupted times_reader.new)) }
+    ensures writes { OnOk result (HasWorked (W.failed writer.old) (W.interrupted writer.old) (W.failed writer.new) (W.interrupted writer.new)) }
     ensures cause { IfErr result (λ fault. ReportCause fault (R.remaining instance_reader.old) (R.remaining instance_reader.new)
         (T.remaining times_reader.old) (T.remaining times_reader.new) period
         (W.contents writer.old) (W.contents writer.new)
-        (DeviceFailed (R.failed instance_reader.old) (R.interrupted instance_reader.old) (R.failed instance_reader.new) (R.interrupted instance_reader.new)
-        ⊎ DeviceFailed (T.failed times_reader.old) (T.interrupted times_reader.old) (T.failed times_reader.new) (T.interrupted times_reader.new))
+        (DeviceFailed (R.failed instance_reader.old) (R.interrupted instance_reader.old) (R.failed instance_reader.new) (R.interrupted instance_reader.new))
+        (times_reader.new ≡ times_reader.old)
+        (DeviceFailed (T.failed times_reader.old) (T.interrupted times_reader.old) (T.failed times_reader.new) (T.interrupted times_reader.new))
         (DeviceFailed (W.failed writer.old) (W.interrupted writer.old) (W.failed writer.new) (W.interrupted writer.new))) }
     ensures silent { IfErr result (λ fault. fault ≢ Fault.Write → writer.new ≡ writer.old) }
 {
+    // The instance is judged before the times are read.
     let instance = read_whole_instance(alloc, instance_reader, period)?;
     let text = read_all(alloc, times_reader, MOST_TIMES)?;
     let times = read_times(alloc, &instance, &text)?;

@@ -1,4 +1,4 @@
-use Rattle.std.proofs.Common.{◌≡◌, sym, ◌∙◌, ap, refl, rules}
+use Rattle.std.proofs.Common.{◌≡◌, rules}
 use Rattle.pesp_truth.specs.Certificates.{Content}
 use Rattle.pesp_problem.specs.Scores.{IsScore}
 use Rattle.pesp_cert.specs.Texts.{HasText}

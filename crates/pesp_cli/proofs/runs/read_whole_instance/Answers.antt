@@ -1,5 +1,4 @@
-use Rattle.std.proofs.Common.{refl}
-use Rattle.pesp_cli.proofs.RunLemmas.{refusal_has_cause, reads_instance, told_as, is_instance}
+use Rattle.pesp_cli.proofs.RunLemmas.{refusal_has_cause, told_as}
 use Rattle.pesp_cli.proofs.runs.read_whole_instance.Goals as goal
 
 pub returns-in_err-instance-clause-cause : goal.returns-in_err-instance-clause-cause

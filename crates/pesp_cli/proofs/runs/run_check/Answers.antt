@@ -9,7 +9,7 @@ returns-in_err-write_verdict-clause-cause g c =
     _ _ _
     c.from_residual-in_err-write_verdict.ensures.1
     (line_has_cause
-    _ _ _ _ _ _ _ _ _ _ _ _
+    _ _ _ _ _ _ _ _ _ _ _ _ _ _
     c.in_err-write_verdict.ensures.fault
     (λ front. (
       c.in_ok-verdict.verdict,

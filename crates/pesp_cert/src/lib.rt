@@ -14,4 +14,4 @@ pub use parsing::parse;
 pub use pesp_problem::{Pair, Pairs, SignedRow, Walk};
 pub use pesp_truth::{Answer, TreeLine};
 pub use printing::print;
-pub use refusal::CertRefusal;
+pub use refusal::{CertRefusal, refusal_at};

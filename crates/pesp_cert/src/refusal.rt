@@ -8,7 +8,7 @@ use pesp_problem::Memory;
 use thiserror::Error;
 
 /// Why a text is no certificate's: the first fault of its first line with a fault. Lines are numbered from 1.
-#[derive(Debug, PartialEq, Eq, Drop, Error)]
+#[derive(Clone, Copy, Debug, PartialEq, Eq, Error)]
 pub enum CertRefusal {
     /// The first line is not that of a certificate.
     #[error("the first line is not that of a certificate")]
@@ -45,7 +45,7 @@ impl From<Memory> for CertRefusal {
 }
 
 /// The fault of line `n` as one of the text.
-pub(crate) fn refusal_at(n: u64, fault: LineFault) -> CertRefusal
+pub fn refusal_at(n: u64, fault: LineFault) -> CertRefusal
     ensures { result ≡ refusal_at n fault }
 {
     match fault {

@@ -19,7 +19,7 @@ pub use page::Page;
 pub use pieces::Bytes;
 pub use printed::Printed;
 pub use printer::print_to;
-pub use reading::{MOST_INTERRUPTED, ReadFault, read_all};
+pub use reading::{MOST_INTERRUPTED, ReadFault, Unread, read_all, read_repeating};
 pub use sink::Sink;
 pub use source::Source;
 pub use writing::{WriteFault, write_all};

@@ -25,14 +25,16 @@ pub enum ReadFault {
 
 /// The reader failed, or was interrupted once too often.
 #[derive(Debug, Drop)]
-struct Unread;
+pub struct Unread;
 
-/// One read, repeated while it is interrupted and no more than `most` calls of the reader were.
-fn read_repeating<S: Source>(source: &mut S, buf: &mut [u8], most: u64) -> Result<usize, Unread>
+/// One read, repeated while it is interrupted and no more than `most` calls of the reader were. It gives how many bytes were
+/// read into the front of `buf`; 0, where `buf` has room, at the end.
+pub fn read_repeating<S: Source>(source: &mut S, buf: &mut [u8], most: u64) -> Result<usize, Unread>
     requires failed_fits { S.failed source.old < u64.MAX }
     requires interrupted_fits { S.interrupted source.old ≤ most }
     requires most_fits { most < u64.MAX }
     ensures bound { IfOk result (λ n. n ≤ length buf.new) }
+    ensures length { length buf.new ≡ length buf.old }
     ensures bytes { ReadConsumes (S.remaining source.old) (S.remaining source.new) result buf.new }
     ensures counts { OnOk result ((S.failed source.new ≡ S.failed source.old) × (S.interrupted source.new ≤ most)) }
     ensures fault { OnErr result (Failed (S.failed source.old) most (S.failed source.new) (S.interrupted source.new)) }

@@ -1,0 +1,6 @@
+pub mod Fronts
+pub mod Cuts
+pub mod Readings
+pub mod Texts
+pub mod Views
+pub mod ItemLines

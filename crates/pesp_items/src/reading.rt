@@ -1,0 +1,234 @@
+//! The items of a text whose reader is lent for each call.
+ghost use Rattle.std.specs.Prelude.{List, ℕ, Option, ◌≡◌, ◌≢◌, ◌+◌, ◌<◌, ◌≤◌, ◌^◌, ◌↔◌, [], true, false, length, IsOk, OnOk, OnErr, IfOk, IfErr, MatchResult, codes, Ok, Err};
+ghost use Rattle.std.specs.Str.{bytes_eq};
+ghost use Rattle.std.below.core.specs.declared.int.u64.TheConstants.{MAX};
+ghost use Rattle.std.specs.Borrow.{sem};
+ghost use Rattle.std.specs.Io.BufRead.{Rests};
+ghost use Rattle.pesp_stream.specs.Counts.{Failed};
+ghost use Rattle.pesp_lines.specs.Counts.{IsKept, start, after};
+ghost use Rattle.pesp_lines.specs.Lines.{LONGEST, line_at};
+ghost use Rattle.pesp_cert.specs.Texts.{is_end};
+ghost use Rattle.pesp_items.specs.declared.stage.Stage.TheVariants as stages;
+ghost use Rattle.pesp_items.specs.Readings.{is_open};
+
+use crate::fault::ItemFault;
+use crate::item_line::ItemLine;
+use crate::lines::{LineBuffer, LinesFault, Next};
+use crate::stage::Stage;
+use pesp_cert::{CertRefusal, refusal_at};
+use pesp_lines::{Progress, take_line};
+use pesp_stream::Source;
+use pesp_text::is_word;
+use std::alloc::Global;
+
+/// The items of a text that are still to come. The text comes from a reader that is lent for each call, the same each time.
+#[derive(Drop)]
+pub struct ItemReader {
+    lines: LineBuffer,
+    most: u64,
+    n: u64,
+    before: Progress,
+    progress: Progress,
+    stage: Stage,
+    ghost most_fits: { most < MAX },
+    ghost kept_before: { IsKept before },
+    ghost kept: { IsKept progress },
+    ghost counted: { is_open stage ≡ true → n + (lines.left + length lines.chunk) ≤ 1073741824 },
+    ghost begun: { stage ≡ stages.First → n ≡ 0 },
+    ghost blank: { stage ≡ stages.First → progress ≡ start },
+}
+
+impl ItemReader {
+    ghost use Rattle.pesp_items.specs.contracts.reading.ItemReader.{the_row};
+    ghost use Rattle.pesp_items.specs.Views.{reading, reading_line};
+    ghost use Rattle.pesp_items.specs.ItemLines.{said_by};
+    ghost use Rattle.pesp_items.specs.Readings.{Answers, Goes, same, Lines, Faults, Blamed, Steps, StepsAt};
+
+    /// The items of a reader's text; no more than `most` of its calls may be interrupted.
+    pub fn new(alloc: Global, most: u64) -> ItemReader
+        requires most_fits { most < u64.MAX }
+        ensures most { result.most ≡ most }
+        ensures begins { (told : Option (List ℕ)) → reading told result ≡ record { told = told; left = 1073741824; held = []; n = 0; progress = start; stage = stages.First } }
+    {
+        ItemReader {
+            lines: LineBuffer::new(alloc),
+            most,
+            n: 0,
+            before: Progress::new(),
+            progress: Progress::new(),
+            stage: Stage::First,
+        }
+    }
+
+    /// Reads the next line.
+    fn read_line<S: Source>(&mut self, source: &mut S) -> Result<(), ItemFault>
+        requires open { is_open self.old.stage ≡ true }
+        requires failed_fits { S.failed source.old < u64.MAX }
+        requires interrupted_fits { S.interrupted source.old ≤ self.old.most }
+        ensures most { self.new.most ≡ self.old.most }
+        ensures failed { OnOk result ((S.failed source.new ≡ S.failed source.old) × (S.interrupted source.new ≤ self.old.most)) }
+        ensures same { OnOk result ((self.new.stage ≡ self.old.stage) × (self.new.progress ≡ self.old.progress) × (self.new.n ≡ self.old.n)) }
+        ensures counted { OnOk result ((self.new.n + 1) + (self.new.lines.left + length self.new.lines.chunk) ≤ 1073741824) }
+        ensures line { OnOk result (Lines (reading (S.remaining source.old) self.old)
+            (reading_line (S.remaining source.new) self.new) self.new.lines.line.items) }
+        ensures stage { IfErr result (λ fault. self.new.stage ≡ stages.Failed fault) }
+        ensures fault { IfErr result (λ fault. Faults (reading (S.remaining source.old) self.old)
+            (reading (S.remaining source.new) self.new) fault) }
+        ensures blamed { IfErr result (λ fault. Blamed fault (Failed (S.failed source.old) self.old.most (S.failed source.new) (S.interrupted source.new))) }
+    {
+        let n = self.n + 1;
+        match self.lines.advance(source, self.most) {
+            Ok(Next::Line) => Ok(()),
+            Ok(Next::Long) => {
+                let fault = ItemFault::Text(CertRefusal::Limit { n });
+                self.stage = Stage::Failed(fault);
+                Err(fault)
+            }
+            Ok(Next::End) => {
+                let fault = ItemFault::Text(CertRefusal::Truncated);
+                self.stage = Stage::Failed(fault);
+                Err(fault)
+            }
+            Err(LinesFault::Memory) => {
+                let fault = ItemFault::Text(CertRefusal::Memory);
+                self.stage = Stage::Failed(fault);
+                Err(fault)
+            }
+            Err(LinesFault::Device) => {
+                self.stage = Stage::Failed(ItemFault::Read);
+                Err(ItemFault::Read)
+            }
+        }
+    }
+
+    /// Reads the first line.
+    fn open<S: Source>(&mut self, source: &mut S) -> Result<(), ItemFault>
+        requires first { self.old.stage ≡ stages.First }
+        requires failed_fits { S.failed source.old < u64.MAX }
+        requires interrupted_fits { S.interrupted source.old ≤ self.old.most }
+        ensures most { self.new.most ≡ self.old.most }
+        ensures failed { OnOk result ((S.failed source.new ≡ S.failed source.old) × (S.interrupted source.new ≤ self.old.most)) }
+        ensures going { OnOk result (self.new.stage ≡ stages.Going) }
+        ensures behind { OnOk result (Goes (reading (S.remaining source.old) self.old)
+            (reading (S.remaining source.new) self.new) same) }
+        ensures stage { IfErr result (λ fault. self.new.stage ≡ stages.Failed fault) }
+        ensures fault { IfErr result (λ fault. Faults (reading (S.remaining source.old) self.old)
+            (reading (S.remaining source.new) self.new) fault) }
+        ensures blamed { IfErr result (λ fault. Blamed fault (Failed (S.failed source.old) self.old.most (S.failed source.new) (S.interrupted source.new))) }
+    {
+        self.read_line(source)?;
+        if is_word(self.lines.line(), "pesp-certificate 1") {
+            self.n += 1;
+            self.stage = Stage::Going;
+            return Ok(());
+        }
+        let fault = ItemFault::Text(CertRefusal::Header);
+        self.stage = Stage::Failed(fault);
+        Err(fault)
+    }
+
+    /// Reads and judges the next line behind the first; false where it is the last one and nothing stands behind it.
+    fn go<S: Source>(&mut self, source: &mut S) -> Result<bool, ItemFault>
+        requires going { self.old.stage ≡ stages.Going }
+        requires failed_fits { S.failed source.old < u64.MAX }
+        requires interrupted_fits { S.interrupted source.old ≤ self.old.most }
+        ensures most { self.new.most ≡ self.old.most }
+        ensures failed { OnOk result ((S.failed source.new ≡ S.failed source.old) × (S.interrupted source.new ≤ self.old.most)) }
+        ensures steps { Steps (reading (S.remaining source.old) self.old)
+            (reading (S.remaining source.new) self.new) (line_at self.new.before self.new.lines.line.items) result }
+        ensures short { IfOk result (λ more. more ≡ true → length self.new.lines.line.items ≤ LONGEST) }
+        ensures blamed { IfErr result (λ fault. Blamed fault (Failed (S.failed source.old) self.old.most (S.failed source.new) (S.interrupted source.new))) }
+    {
+        self.read_line(source)?;
+        self.n += 1;
+        if is_word(self.lines.line(), "end") {
+            if self.progress.needs != 0 {
+                let fault = ItemFault::Text(CertRefusal::Truncated);
+                self.stage = Stage::Failed(fault);
+                return Err(fault);
+            }
+            let n = self.n + 1;
+            return match self.lines.is_over(source, self.most) {
+                Ok(true) => {
+                    self.stage = Stage::Ended;
+                    Ok(false)
+                }
+                Ok(false) => {
+                    let fault = ItemFault::Text(CertRefusal::Trailing { n });
+                    self.stage = Stage::Failed(fault);
+                    Err(fault)
+                }
+                Err(_) => {
+                    self.stage = Stage::Failed(ItemFault::Read);
+                    Err(ItemFault::Read)
+                }
+            };
+        }
+        let before = self.progress;
+        match take_line(&mut self.progress, self.lines.line()) {
+            Ok(_item) => {
+                self.before = before;
+                Ok(true)
+            }
+            Err(fault) => {
+                let fault = ItemFault::Text(refusal_at(self.n, fault));
+                self.stage = Stage::Failed(fault);
+                Err(fault)
+            }
+        }
+    }
+
+    /// Reads and judges the next line that is an item's; false where none comes any more.
+    pub fn step<S: Source>(&mut self, source: &mut S) -> Result<bool, ItemFault>
+        requires failed_fits { is_open self.old.stage ≡ true → S.failed source.old < u64.MAX }
+        requires interrupted_fits { is_open self.old.stage ≡ true → S.interrupted source.old ≤ self.old.most }
+        ensures most { self.new.most ≡ self.old.most }
+        ensures failed { OnOk result ((S.failed source.new ≡ S.failed source.old) × (is_open self.old.stage ≡ true → S.interrupted source.new ≤ self.old.most)) }
+        ensures steps { StepsAt self.old.stage (reading (S.remaining source.old) self.old)
+            (reading (S.remaining source.new) self.new) (line_at self.new.before self.new.lines.line.items) result }
+        ensures short { IfOk result (λ more. more ≡ true → length self.new.lines.line.items ≤ LONGEST) }
+        ensures blamed { is_open self.old.stage ≡ true → IfErr result (λ fault. Blamed fault (Failed (S.failed source.old) self.old.most (S.failed source.new) (S.interrupted source.new))) }
+    {
+        match self.stage {
+            Stage::First => {
+                self.open(source)?;
+                self.go(source)
+            }
+            Stage::Going => self.go(source),
+            Stage::Ended => Ok(false),
+            Stage::Failed(fault) => Err(fault),
+        }
+    }
+
+    /// The line that was read last.
+    pub fn judged(&self) -> ItemLine<'_>
+        requires short { length self.now.lines.line.items ≤ LONGEST }
+        requires said { IsOk (line_at self.now.before self.now.lines.line.items) }
+        ensures line { result.line.now ≡ self.now.lines.line.items }
+        ensures before { result.before ≡ self.now.before }
+    {
+        ItemLine {
+            line: self.lines.line(),
+            before: self.before,
+        }
+    }
+
+    /// The next item's line; None behind the last one. After a fault each call answers that fault, after None it answers None.
+    pub fn next_from<S: Source>(
+        &mut self,
+        source: &mut S,
+    ) -> Result<Option<ItemLine<'_>>, ItemFault>
+        requires failed_fits { is_open self.old.stage ≡ true → S.failed source.old < u64.MAX }
+        requires interrupted_fits { is_open self.old.stage ≡ true → S.interrupted source.old ≤ self.old.most }
+        ensures* after_borrow { sem 𝓛 (Rests the_row self.entry (λ new. (new.most ≡ self.old.most)
+            × OnOk result ((S.failed source.new ≡ S.failed source.old) × (is_open self.old.stage ≡ true → S.interrupted source.new ≤ self.old.most))
+            × Answers self.old.stage (reading (S.remaining source.old) self.old)
+            (reading (S.remaining source.new) new) (said_by result)
+            × (is_open self.old.stage ≡ true → IfErr result (λ fault. Blamed fault (Failed (S.failed source.old) self.old.most (S.failed source.new) (S.interrupted source.new)))))) }
+    {
+        if !self.step(source)? {
+            return Ok(None);
+        }
+        Ok(Some(self.judged()))
+    }
+}

@@ -1,0 +1,100 @@
+//! Events of a board.
+
+ghost use Rattle.std.specs.Prelude.{◌≡◌};
+ghost use Rattle.pesp_machine.specs.Certificates.{IsProblemOf};
+
+use crate::lent::{Lent, number_of};
+use pesp_board::{Board, Work};
+use pesp_cases::{cut_of, pairs_of, small};
+use pesp_problem::{Instance, Pairs};
+use std::alloc::Global;
+
+/// An event and what is answered.
+pub(crate) fn change(
+    alloc: Global,
+    board: &mut Board,
+    lent: &mut Vec<Lent>,
+    words: &[&str],
+) -> Option<String>
+    ensures { board.new.problem ≡ board.old.problem }
+{
+    match *words.get(0)? {
+        "lend" => lend(alloc, board, lent),
+        "recall" => {
+            let number = number_of(lent, words)?;
+            let recalled = board.recall(number);
+            format!(in alloc; "{recalled}").ok()
+        }
+        "offer" => {
+            let times = times_of(alloc, words)?;
+            let kept = board.offer(times);
+            format!(in alloc; "{kept}").ok()
+        }
+        _ => give(alloc, board, lent, words),
+    }
+}
+
+/// The times behind the first word.
+fn times_of(alloc: Global, words: &[&str]) -> Option<Vec<u32>> {
+    let mut times = Vec::new(alloc);
+    for place in 1..words.len() {
+        times.push(small(words, place)?).ok()?;
+    }
+    Some(times)
+}
+
+/// Lends a leaf, and keeps its number and its path.
+fn lend(alloc: Global, board: &mut Board, lent: &mut Vec<Lent>) -> Option<String>
+    ensures { board.new.problem ≡ board.old.problem }
+{
+    match board.lend(alloc) {
+        Ok(Some(job)) => {
+            let number = job.number;
+            lent.push(Lent::of(alloc, &job)?).ok()?;
+            format!(in alloc; "job {number}").ok()
+        }
+        Ok(None) => String::from_str(alloc, "none").ok(),
+        Err(refusal) => format!(in alloc; "{refusal:?}").ok(),
+    }
+}
+
+/// The work of the words, as a certificate's line of a leaf or a branch.
+fn work_of(alloc: Global, words: &[&str]) -> Option<Work> {
+    let (first, rest) = words.split_first()?;
+    match *first {
+        "b" => Some(Work::Leaf(Pairs::new(pairs_of(alloc, rest)?))),
+        "n" => Some(Work::Nothing(Pairs::new(pairs_of(alloc, rest)?))),
+        "g" => Some(Work::Gap(small(rest, 0)?)),
+        _ => Some(Work::Split(cut_of(words)?)),
+    }
+}
+
+/// Gives work for a job.
+fn give(alloc: Global, board: &mut Board, lent: &[Lent], words: &[&str]) -> Option<String>
+    ensures { board.new.problem ≡ board.old.problem }
+{
+    let number = number_of(lent, words)?;
+    let work = work_of(alloc, words.get(2..)?)?;
+    match board.give(alloc, number, &work) {
+        Ok(()) => String::from_str(alloc, "taken").ok(),
+        Err(refusal) => format!(in alloc; "{refusal:?}").ok(),
+    }
+}
+
+/// Lends and recalls so many times.
+pub(crate) fn spend(
+    alloc: Global,
+    instance: &Instance,
+    board: &mut Board,
+    words: &[&str],
+) -> Option<String>
+    requires { IsProblemOf instance.now board.old.problem }
+    ensures { IsProblemOf instance.now board.new.problem }
+{
+    for number in 0..small(words, 1)? {
+        if board.lend(alloc).ok()?.is_none() || !board.recall(u64::from(number)) {
+            return None;
+        }
+    }
+    String::from_str(alloc, "recalled").ok()
+}

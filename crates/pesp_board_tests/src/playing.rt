@@ -1,0 +1,81 @@
+//! A case from its first line to its last.
+
+ghost use Rattle.std.specs.Prelude.{◌≡◌};
+ghost use Rattle.pesp_machine.specs.Certificates.{IsProblemOf};
+
+use crate::asking::{ask, certified, fault_of};
+use crate::board::{board_of, instance_of};
+use crate::changing::{change, spend};
+use crate::lent::Lent;
+use pesp_board::Board;
+use pesp_cases::{split_word, words_of};
+use pesp_problem::Instance;
+use std::alloc::Global;
+
+/// What is told of a case: its name, and each event and question with its answer.
+pub(crate) fn play(alloc: Global, lines: &[&str]) -> Option<String> {
+    let instance = instance_of(alloc, lines)?;
+    let mut board = board_of(alloc, &instance, lines)?;
+    let mut lent = Vec::new(alloc);
+    play_on(alloc, &instance, &mut board, &mut lent, lines)
+}
+
+/// Plays the lines on the board of the instance.
+fn play_on(
+    alloc: Global,
+    instance: &Instance,
+    board: &mut Board,
+    lent: &mut Vec<Lent>,
+    lines: &[&str],
+) -> Option<String>
+    requires { IsProblemOf instance.now board.old.problem }
+{
+    let mut told = String::new(alloc);
+    for line in lines {
+        let answer = play_line(alloc, instance, board, lent, line)?;
+        told.push_str(answer.as_str()).ok()?;
+    }
+    Some(told)
+}
+
+/// Plays one line: the line and its answer; nothing of what makes the board.
+fn play_line(
+    alloc: Global,
+    instance: &Instance,
+    board: &mut Board,
+    lent: &mut Vec<Lent>,
+    line: &str,
+) -> Option<String>
+    requires { IsProblemOf instance.now board.old.problem }
+    ensures { IsProblemOf instance.now board.new.problem }
+{
+    match split_word(line).0 {
+        "row" | "cycle" | "period" => Some(String::new(alloc)),
+        "case" => format!(in alloc; "{line}\n").ok(),
+        _ => {
+            let answer = answer_of(alloc, instance, board, lent, line)?;
+            let fault = fault_of(alloc, instance, board)?;
+            format!(in alloc; "{line}: {answer}{fault}\n").ok()
+        }
+    }
+}
+
+/// The answer to an event or a question.
+fn answer_of(
+    alloc: Global,
+    instance: &Instance,
+    board: &mut Board,
+    lent: &mut Vec<Lent>,
+    line: &str,
+) -> Option<String>
+    requires { IsProblemOf instance.now board.old.problem }
+    ensures { IsProblemOf instance.now board.new.problem }
+{
+    let words = words_of(alloc, line)?;
+    match *words.get(0)? {
+        "certificate" => certified(alloc, instance, board),
+        "spend" => spend(alloc, instance, board, &words),
+        "lend" | "recall" | "offer" | "give" => change(alloc, board, lent, &words),
+        _ => ask(alloc, board, lent, &words),
+    }
+}

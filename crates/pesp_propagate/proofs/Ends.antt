@@ -18,7 +18,7 @@ both_ends t w l arc low high m n xs ys zs em en p ne c el one two =
     revised t w arc low high ((l + low) % t) ((2 * t - l - m) % t) n xs ys zs p ne c (subst Q (sym en) (subst P (sym em) (lead_both t l arc low high p el))) one two
 
 -- at a loop the remainder is one for all
-loop_remainder : (t l : ℕ) (arc : Arc) (d : ℕ) → 0 < t → pos l ≡ int_rem_euclid arc.lower (pos t) → d < t → remainder_of t arc d d ≡ (t - l) % t
+pub loop_remainder : (t l : ℕ) (arc : Arc) (d : ℕ) → 0 < t → pos l ≡ int_rem_euclid arc.lower (pos t) → d < t → remainder_of t arc d d ≡ (t - l) % t
 loop_remainder t l arc d p e ld =
     let ll : l < t = shift_lt t l arc.lower p e in
     let r : d + (l + (t - l) % t) ≡ d + l + (t - l) % t = omega arith in

@@ -16,3 +16,4 @@ pub mod Propagating
 pub mod Masking
 pub mod Remainders
 pub mod Joining
+pub mod Partnering

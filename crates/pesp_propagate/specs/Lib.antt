@@ -8,3 +8,4 @@ pub mod Visits
 pub mod Rows
 pub mod Full
 pub mod Filling
+pub mod Partners

@@ -84,7 +84,9 @@ impl Domains {
     /// Whether a time difference of an event to the first event of its component is still possible; false for an event or
     /// a difference that doesn't exist.
     pub fn has(&self, event: u32, difference: u32) -> bool
-        ensures { result ≡ family_of self.now event difference }
+        ensures has { result ≡ family_of self.now event difference }
+        ensures event { self.now.events ≤ event → result ≡ false }
+        ensures difference { self.now.period ≤ difference → result ≡ false }
     {
         if event >= self.events || difference >= self.period {
             return false;

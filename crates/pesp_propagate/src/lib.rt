@@ -7,6 +7,7 @@ mod choice;
 mod diving;
 mod domains;
 mod lanes;
+pub mod laws;
 mod outcome;
 mod propagation;
 mod revise;

@@ -63,7 +63,7 @@ rises least (p ∷ ps) h =
     let one = and_left (follows least p) (rise_from (p.cycle + 1) ps) h in
     (grind (arith, nat_tests, one), grind (arith, nat_tests, one), rises (p.cycle + 1) ps (and_right (follows least p) (rise_from (p.cycle + 1) ps) h))
 
-do_rise : (least : ℕ) (ps : List Pair) → RiseFrom least ps → rise_from least ps ≡ true
+pub do_rise : (least : ℕ) (ps : List Pair) → RiseFrom least ps → rise_from least ps ≡ true
 do_rise least [] h = refl
 do_rise least (p ∷ ps) h = and_both (follows least p) (rise_from (p.cycle + 1) ps) (grind (arith, nat_tests, h.0, h.1)) (do_rise (p.cycle + 1) ps h.2)
 

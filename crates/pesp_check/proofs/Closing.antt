@@ -7,8 +7,9 @@ use Rattle.pesp_problem.specs.declared.arc.Arc.{Arc}
 use Rattle.pesp_problem.specs.declared.row.SignedRow.{SignedRow}
 use Rattle.pesp_problem.specs.Walks.{AreRows, IsWalk, Leads, start, finish}
 use Rattle.pesp_problem.specs.Nodes.{cycle_at}
+use Rattle.pesp_check.specs.declared.refusal.Refusal.{Refusal}
 use Rattle.pesp_check.specs.declared.refusal.Refusal.TheVariants.{OpenWalk, NoSuch}
-use Rattle.pesp_check.specs.Faults.{IsFirstOpen, IsCycleFault}
+use Rattle.pesp_check.specs.Faults.{IsFirstOpen, IsWalkFault, IsCycleFault}
 
 -- where the way that is left leads back exactly where the whole does
 abbrev pub SameWay : List Arc → List SignedRow → ℕ → ℕ → ℕ → Type 0
@@ -35,6 +36,11 @@ pub walk_leads : (arcs : List Arc) (walk : List SignedRow) (d : SignedRow) → 0
 walk_leads arcs [] d h rows = absurd (omega arith)
 walk_leads arcs (s ∷ walk) d h rows = (λ l. (rows, l), λ w. w.1)
 
+-- rows that don't exist are no walk
+pub no_rows : (arcs : List Arc) (walk : List SignedRow) → (AreRows arcs walk → ⊥) → IsWalk arcs walk → ⊥
+no_rows arcs [] never h = h
+no_rows arcs (s ∷ walk) never h = never h.0
+
 -- ---- the first cycle that is no walk
 
 module _ (arcs : List Arc) (cycles : List (List SignedRow)) (line k : ℕ) (cycle read : List SignedRow) (within : k < length cycles) (is : read ≡ get_or cycles k read) (same : cycle ≡ read) (before : (c : ℕ) → c < k → IsWalk arcs (cycle_at cycles c)) where
@@ -51,18 +57,13 @@ module _ (arcs : List Arc) (cycles : List (List SignedRow)) (line k : ℕ) (cycl
     open_ends = λ w. let P : List SignedRow → Type 0 = IsWalk arcs in never (subst P (sym (cycle_is ∙ here)) w);
   }
 
-  no_rows : (AreRows arcs cycle → ⊥) → IsWalk arcs cycle → ⊥
-  no_rows never w = never (rows_of cycle w)
-    where
-      rows_of : (walk : List SignedRow) → IsWalk arcs walk → AreRows arcs walk
-      rows_of [] h = absurd h
-      rows_of (s ∷ walk) h = h.0
-
-  pub row_fault : (AreRows arcs cycle → ⊥) → IsCycleFault arcs cycles line (NoSuch (line + (k + 1)))
-  row_fault never = (k + 1, first_open (no_rows never), inl (refl, λ r. let P : List SignedRow → Type 0 = AreRows arcs in never (subst P (sym (cycle_is ∙ here)) r)))
-
-  pub open_fault : AreRows arcs cycle → (IsWalk arcs cycle → ⊥) → IsCycleFault arcs cycles line (OpenWalk (k + 1))
-  open_fault rows never = (k + 1, first_open never, inr (refl, let P : List SignedRow → Type 0 = AreRows arcs in subst P (cycle_is ∙ here) rows))
+  pub walk_fault : (refusal : Refusal) (number at : ℕ) → number ≡ k + 1 → at ≡ line + (k + 1) → IsWalkFault arcs cycle number at refusal → IsCycleFault arcs cycles line refusal
+  walk_fault refusal number at e e' (never, inl (f, rows)) =
+      let P : List SignedRow → Type 0 = AreRows arcs in
+      (k + 1, first_open never, inl (f ∙ ap NoSuch e', λ r. rows (subst P (sym (cycle_is ∙ here)) r)))
+  walk_fault refusal number at e e' (never, inr (f, rows)) =
+      let P : List SignedRow → Type 0 = AreRows arcs in
+      (k + 1, first_open never, inr (f ∙ ap OpenWalk e, subst P (cycle_is ∙ here) rows))
 
 pub all_walks : (arcs : List Arc) (cycles : List (List SignedRow)) (k : ℕ) → length cycles ≤ k → ((c : ℕ) → c < k → IsWalk arcs (cycle_at cycles c)) → All (IsWalk arcs) cycles
 all_walks arcs cycles k done walks = λ c d l. let P : List SignedRow → Type 0 = IsWalk arcs in subst P (get_or_default cycles c [] d l) (walks c (omega arith))

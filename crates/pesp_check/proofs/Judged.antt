@@ -9,7 +9,7 @@ use Rattle.pesp_truth.specs.declared.tree.TreeLine.{TreeLine}
 use Rattle.pesp_truth.specs.Trees.{Line, EndLine, CutLine, AreSound, are_trees}
 use Rattle.pesp_truth.specs.Certificates.{line_of}
 use Rattle.pesp_check.specs.declared.refusal.Refusal.{Refusal}
-use Rattle.pesp_check.specs.Lines.{after, IsSoundLine, IsLineFault, IsLineVerdict, IsLinesFault}
+use Rattle.pesp_check.specs.Lines.{after, IsSoundLine, IsLineFault, IsLineVerdict, IsLinesFault, AreJudged}
 
 -- ---- one line
 
@@ -32,10 +32,6 @@ trees_done n table least [] e = tt
 trees_done n table least (node ∷ nodes) e = cc
 
 -- ---- the lines that are left
-
-pub record AreJudged (n : Net) (table : List (List SignedRow)) (least : Option ℕ) (lines : List TreeLine) (node : Node) (first : ℕ) (nodes : List Node) (k : ℕ) : Type 0 where
-  pub sound : AreSound n table least (map line_of (drop k lines)) nodes → AreSound n table least (map line_of lines) (node ∷ [])
-  pub fault : (refusal : Refusal) → IsLinesFault n table least (map line_of (drop k lines)) nodes (first + k) refusal → IsLinesFault n table least (map line_of lines) (node ∷ []) first refusal
 
 pub judged_none : (n : Net) (table : List (List SignedRow)) (least : Option ℕ) (lines : List TreeLine) (node : Node) (first : ℕ) → AreJudged n table least lines node first (node ∷ []) 0
 judged_none n table least lines node first = record {

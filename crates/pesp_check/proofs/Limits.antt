@@ -38,7 +38,7 @@ mults_of (pair ∷ pairs) w =
     let numbers = both (nat_le 1 pair.cycle && nat_le pair.cycle 100000) (nat_le (nat_abs pair.mult) 1000000000000) within.0 in
     All-cons (λ (pair : Pair). unsigned_abs pair.mult ≤ 1000000000000) pair pairs (le_of (nat_abs pair.mult) 1000000000000 numbers.1) (mults_of pairs within.1)
 
-pair_limits : (pairs : List Pair) → are_pairs pairs ≡ true → ArePairLimits pairs
+pub pair_limits : (pairs : List Pair) → are_pairs pairs ≡ true → ArePairLimits pairs
 pair_limits pairs e =
     let split = both (rise_from 0 pairs) (all_within pairs) e in
     (mults_of pairs split.1, few pairs split.0 split.1)

@@ -64,6 +64,10 @@ pub record IsFirstOpen (arcs : List Arc) (cycles : List (List SignedRow)) (numbe
   pub before : (c : ℕ) → c < number - 1 → IsWalk arcs (cycle_at cycles c)
   pub open_ends : IsWalk arcs (cycle_at cycles (number - 1)) → ⊥
 
+-- what is wrong with a cycle that has this number and stands in this line
+abbrev pub IsWalkFault : List Arc → List SignedRow → ℕ → ℕ → Refusal → Type 0
+IsWalkFault arcs walk number line refusal = (IsWalk arcs walk → ⊥) × (((refusal ≡ NoSuch line) × (AreRows arcs walk → ⊥)) ⊎ ((refusal ≡ OpenWalk number) × AreRows arcs walk))
+
 -- the first cycle that is no walk: a row of it doesn't exist, or its ends don't meet. Cycle 1 stands in the line after `line`
 abbrev pub IsCycleFault : List Arc → List (List SignedRow) → ℕ → Refusal → Type 0
 IsCycleFault arcs cycles line refusal =

@@ -1,5 +1,5 @@
 -- A tree by its lines: each is judged at the first of the nodes that wait.
-use Rattle.std.specs.Prelude.{◌≡◌, ◌⊎◌, ℕ, ◌+◌, ◌^◌, ◌≤◌, List, [], ◌∷◌, length, ℤ, unsigned_abs, All, Option, MatchOption}
+use Rattle.std.specs.Prelude.{◌≡◌, ◌⊎◌, ℕ, ◌+◌, ◌^◌, ◌≤◌, List, [], ◌∷◌, length, map, drop, ℤ, unsigned_abs, All, Option, MatchOption}
 use Rattle.pesp_problem.specs.declared.row.SignedRow.{SignedRow}
 use Rattle.pesp_problem.specs.declared.pair.Pair.{Pair}
 use Rattle.pesp_problem.specs.declared.cut.Cut.{Cut}
@@ -9,7 +9,8 @@ use Rattle.pesp_problem.specs.Walks.{Names}
 use Rattle.pesp_problem.specs.Nodes.{Node, low_part, high_part}
 use Rattle.pesp_truth.specs.declared.tree.TreeLine.{TreeLine}
 use Rattle.pesp_truth.specs.declared.tree.TreeLine.TheVariants.{Slack, Offset, Bound, Nothing, Gap}
-use Rattle.pesp_truth.specs.Trees.{Leaf, Line, EndLine, CutLine, CutExists, IsSoundLeaf}
+use Rattle.pesp_truth.specs.Trees.{Leaf, Line, EndLine, CutLine, CutExists, IsSoundLeaf, AreSound}
+use Rattle.pesp_truth.specs.Certificates.{line_of}
 use Rattle.pesp_check.specs.declared.refusal.Refusal.{Refusal}
 use Rattle.pesp_check.specs.declared.refusal.Refusal.TheVariants.{NoSuch}
 use Rattle.pesp_check.specs.Faults.{IsLeafFault}
@@ -45,6 +46,11 @@ abbrev pub IsLinesFault : Net → List (List SignedRow) → Option ℕ → List 
 IsLinesFault n table least [] nodes at refusal = ⊥
 IsLinesFault n table least (line ∷ lines) nodes at refusal =
     IsLineFault n table least line nodes at refusal ⊎ (IsSoundLine n table least line nodes × IsLinesFault n table least lines (after line nodes) (at + 1) refusal)
+
+-- k lines were judged, and these nodes wait: what the lines that are left say there decides of all lines at the first node
+pub record AreJudged (n : Net) (table : List (List SignedRow)) (least : Option ℕ) (lines : List TreeLine) (node : Node) (first : ℕ) (nodes : List Node) (k : ℕ) : Type 0 where
+  pub sound : AreSound n table least (map line_of (drop k lines)) nodes → AreSound n table least (map line_of lines) (node ∷ [])
+  pub fault : (refusal : Refusal) → IsLinesFault n table least (map line_of (drop k lines)) nodes (first + k) refusal → IsLinesFault n table least (map line_of lines) (node ∷ []) first refusal
 
 -- few enough pairs, with multipliers within their limit
 abbrev pub ArePairLimits : List Pair → Type 0

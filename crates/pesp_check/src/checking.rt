@@ -26,7 +26,7 @@ use pesp_truth::laws::valid_is_true;
 use std::alloc::{AllocError, Global};
 
 /// The least cost for which the tree has to be sound.
-fn least_of(answer: Answer) -> Option<u64>
+pub fn least_of(answer: Answer) -> Option<u64>
     ensures { result ≡ spec.least_of answer }
 {
     match answer {
@@ -37,7 +37,7 @@ fn least_of(answer: Answer) -> Option<u64>
 }
 
 /// Working numbers, all 0.
-fn zeros(alloc: Global, count: usize) -> Result<Vec<i128>, AllocError>
+pub fn zeros(alloc: Global, count: usize) -> Result<Vec<i128>, AllocError>
     ensures long { IfOk result (λ numbers. length numbers.items ≡ count) }
     ensures zeros { IfOk result (λ numbers. AreZeros numbers.items) }
 {

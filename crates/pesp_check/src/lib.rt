@@ -11,6 +11,7 @@ mod leaf;
 mod nets;
 mod node_walk;
 mod offsets;
+pub mod parts;
 mod ranges;
 mod refusal;
 mod rows;

@@ -4,7 +4,7 @@ ghost use Rattle.std.specs.Prelude.{◌≡◌, ◌↔◌, ℕ, ◌+◌, ◌≤�
 ghost use Rattle.pesp_problem.specs.Arcs.{arcs_of};
 ghost use Rattle.pesp_problem.specs.Walks.{RowExists, AreRows, IsWalk, Leads};
 ghost use Rattle.pesp_problem.specs.Walks as spec;
-ghost use Rattle.pesp_check.specs.Faults.{IsCycleFault};
+ghost use Rattle.pesp_check.specs.Faults.{IsCycleFault, IsWalkFault};
 
 use crate::refusal::Refusal;
 use crate::rows::arc_at;
@@ -69,6 +69,25 @@ fn closes(instance: &Instance, walk: &[SignedRow]) -> bool
     leads_back(instance, walk, start(instance, &walk[0]))
 }
 
+/// What is wrong with a cycle that has this number and stands in this line.
+pub fn judge_cycle(
+    instance: &Instance,
+    walk: &[SignedRow],
+    number: u32,
+    line: u64,
+) -> Option<Refusal>
+    ensures { MatchOption result (IsWalk (arcs_of instance.now) walk.now)
+        (λ refusal. IsWalkFault (arcs_of instance.now) walk.now number line refusal) }
+{
+    if !rows_exist(instance, walk) {
+        return Some(Refusal::NoSuch { line });
+    }
+    if !closes(instance, walk) {
+        return Some(Refusal::OpenWalk { cycle: number });
+    }
+    None
+}
+
 /// The first cycle that is no walk, and why; cycle 1 stands in the line after `line`.
 pub fn judge_cycles(instance: &Instance, cycles: &[Walk], line: u64) -> Option<Refusal>
     requires few { length cycles.now ≤ 100000 }
@@ -78,14 +97,9 @@ pub fn judge_cycles(instance: &Instance, cycles: &[Walk], line: u64) -> Option<R
 {
     for (place, cycle) in cycles.iter().enumerate() {
         let number = place as u32 + 1;
-        let walk = cycle.rows();
-        if !rows_exist(instance, walk) {
-            return Some(Refusal::NoSuch {
-                line: line + u64::from(number),
-            });
-        }
-        if !closes(instance, walk) {
-            return Some(Refusal::OpenWalk { cycle: number });
+        let found = judge_cycle(instance, cycle.rows(), number, line + u64::from(number));
+        if found.is_some() {
+            return found;
         }
     }
     None

@@ -6,7 +6,7 @@ use Rattle.pesp_truth.specs.Trees.{are_trees}
 use Rattle.pesp_truth.specs.Certificates.{line_of}
 use Rattle.pesp_check.specs.Nets.{AreZeros}
 use Rattle.pesp_check.specs.Flows.{AreNets}
-use Rattle.pesp_check.proofs.Judged.{AreJudged}
+use Rattle.pesp_check.specs.Lines.{AreJudged}
 use Rattle.pesp_check.proofs.judge_tree.judge_tree.Given as goal
 
 abbrev pub invariant-loop-place : goal.invariant-loop-place

@@ -1,23 +1,20 @@
-use Rattle.std.proofs.Common.{◌∙◌, refl, ◌≡◌, true, false}
+use Rattle.std.proofs.Common.{◌∙◌, ◌+◌, ap, refl, sym, ◌≡◌}
 use Rattle.pesp_problem.specs.Arcs.{arcs_of}
-use Rattle.pesp_check.proofs.Closing.{cycle_is, row_fault, open_fault, all_walks, walks_more}
+use Rattle.pesp_check.proofs.Closing.{cycle_is, walk_fault, all_walks, walks_more}
+use Rattle.pesp_check.proofs.Options.{match_some, match_none}
 use Rattle.pesp_check.proofs.walks.judge_cycles.Goals as goal
 
-pub returns-then-not-rows_exist : goal.returns-then-not-rows_exist
-returns-then-not-rows_exist c =
-    rw c.from.ensures (row_fault (arcs_of c.args.instance.now) c.args.cycles.now c.args.line c.loop-place.place c.rows-walk.result.now c.index-cycles-place.result c.loop-place-test.true c.index-cycles-place.is c.rows-walk.ensures c.loop-place.invariant
-    (λ w. let e : false ≡ true = c.if-not-rows_exist.ensures.1 w in cc))
-
-pub returns-then-not-closes : goal.returns-then-not-closes
-returns-then-not-closes c =
-    open_fault (arcs_of c.args.instance.now) c.args.cycles.now c.args.line c.loop-place.place c.rows-walk.result.now c.index-cycles-place.result c.loop-place-test.true c.index-cycles-place.is c.rows-walk.ensures c.loop-place.invariant
-    (c.if-not-rows_exist.ensures.0 refl) (λ w. let e : false ≡ true = c.if-not-closes.ensures.1 w in cc)
+pub returns-then-is_some : goal.returns-then-is_some
+returns-then-is_some c =
+    match_some c.judge_cycle-found.result _ _ _ _ (sym c.is_some.ensures ∙ c.if-is_some.true)
+    (λ refusal f. walk_fault (arcs_of c.args.instance.now) c.args.cycles.now c.args.line c.loop-place.place c.rows.result.now c.index-cycles-place.result c.loop-place-test.true c.index-cycles-place.is c.rows.ensures c.loop-place.invariant refusal _ _ refl (ap (λ n. c.args.line + n) c.from.ensures) f)
+    c.judge_cycle-found.ensures
 
 pub loop-place-preserved : goal.loop-place-preserved
 loop-place-preserved c =
-    walks_more (arcs_of c.args.instance.now) c.args.cycles.now c.loop-place.place c.rows-walk.result.now
-    (cycle_is (arcs_of c.args.instance.now) c.args.cycles.now c.args.line c.loop-place.place c.rows-walk.result.now c.index-cycles-place.result c.loop-place-test.true c.index-cycles-place.is c.rows-walk.ensures c.loop-place.invariant)
-    c.loop-place.invariant (c.if-not-closes.ensures.0 refl)
+    walks_more (arcs_of c.args.instance.now) c.args.cycles.now c.loop-place.place c.rows.result.now
+    (cycle_is (arcs_of c.args.instance.now) c.args.cycles.now c.args.line c.loop-place.place c.rows.result.now c.index-cycles-place.result c.loop-place-test.true c.index-cycles-place.is c.rows.ensures c.loop-place.invariant)
+    c.loop-place.invariant (match_none c.judge_cycle-found.result _ _ (sym c.is_some.ensures ∙ c.if-is_some.false) c.judge_cycle-found.ensures)
 
 pub returns : goal.returns
 returns c = all_walks (arcs_of c.args.instance.now) c.args.cycles.now c.loop-place.place c.loop-place-test.false c.loop-place.invariant

@@ -1,7 +1,8 @@
 -- Sums along a walk by its net counts, and the offsets between two sums.
 use Rattle.std.proofs.Common.{◌≡◌, ℕ, ◌+◌, ◌*◌, ◌<◌, ◌≤◌, arith, refl, ap, sym, ◌∙◌, List, length, get_or, take, Bool, true, false, Some, None}
-use Rattle.std.specs.Prelude.{ℤ, pos, ◌+ℤ◌, ◌≤ℤ◌, ◌*ℤ◌, int_le, unsigned_abs, IfSome, if◌then◌else◌}
+use Rattle.std.specs.Prelude.{ℤ, pos, negsuc, neg_ℤ, ◌+ℤ◌, ◌≤ℤ◌, ◌*ℤ◌, int_le, unsigned_abs, IfSome, if◌then◌else◌}
 use Rattle.std.specs.Int.{int_min, int_max}
+use Rattle.std.proofs.Math.Nat.{div-le_self}
 use Rattle.std.proofs.lemmas.Int.{ints, clamps}
 use Rattle.std.proofs.lemmas.List.Sums.{fold_more, sum_by_more, sum_by_more_le, get_or-le-sum_by}
 use Rattle.pesp_problem.specs.declared.arc.Arc.{Arc}
@@ -13,7 +14,7 @@ use Rattle.pesp_nodes.specs.declared.nets.NetCount.{NetCount}
 use Rattle.pesp_nodes.specs.Nets.{sum_of, amount, AreSmallCounts, AreNetCounts}
 use Rattle.pesp_nodes.specs.declared.ends.End.{End}
 use Rattle.pesp_nodes.specs.declared.ends.End.TheVariants.{Low, High}
-use Rattle.pesp_nodes.specs.Offsets.{end_term, end_sum}
+use Rattle.pesp_nodes.specs.Offsets.{at_end, end_term, end_sum}
 use Rattle.pesp_problem.proofs.Integers.{zero-mul, mul-le, floor_div-le, le-ceil_div, le_trans}
 
 pub small_count : (n : ℕ) (counts : List NetCount) (k : ℕ) (d : NetCount) → k < length counts → AreSmallCounts n counts → unsigned_abs (get_or counts k d).count ≤ 10000000
@@ -65,3 +66,18 @@ left_small period most low high from to some small small' = go (int_le (int_max 
       small_between period most low high _ some small small' (omega (arith, ints, clamps)) (omega (arith, ints, clamps)),
     )
     go false e = tt
+
+floor_div-size : (z : ℤ) (n : ℕ) → unsigned_abs (floor_div z n) ≤ unsigned_abs z
+floor_div-size (pos a) n = div-le_self a n
+floor_div-size (negsuc a) n = omega (arith, div-le_self a n)
+
+neg-size : (z : ℤ) → unsigned_abs (neg_ℤ z) ≡ unsigned_abs z
+neg-size z = omega (arith, ints)
+
+ceil_div-size : (z : ℤ) (n : ℕ) → unsigned_abs (ceil_div z n) ≤ unsigned_abs z
+ceil_div-size z n = omega (arith, neg-size (floor_div (neg_ℤ z) n), floor_div-size (neg_ℤ z) n, neg-size z)
+
+-- a quotient is no greater than what is divided
+pub quotients_small : (end : End) (z : ℤ) (n most : ℕ) → unsigned_abs z ≤ most → unsigned_abs (at_end end (ceil_div z n) (floor_div z n)) ≤ most
+quotients_small Low z n most h = omega (arith, ceil_div-size z n, h)
+quotients_small High z n most h = omega (arith, floor_div-size z n, h)

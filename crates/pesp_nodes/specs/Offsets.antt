@@ -1,5 +1,5 @@
 -- What slack ranges allow of sums along a walk, by its net counts.
-use Rattle.std.specs.Prelude.{ℕ, ◌≤◌, List, ℤ, pos, ◌+ℤ◌, ◌*ℤ◌, unsigned_abs, All, Option}
+use Rattle.std.specs.Prelude.{ℕ, ◌≤◌, List, ℤ, pos, neg_ℤ, ◌+ℤ◌, ◌*ℤ◌, ◌≤ℤ◌, unsigned_abs, All, Option}
 use Rattle.std.specs.Int.{int_min, int_max}
 use Rattle.pesp_problem.specs.declared.arc.Arc.{Arc}
 use Rattle.pesp_problem.specs.declared.row.SignedRow.{SignedRow}
@@ -16,6 +16,13 @@ AreArcs arcs = All (λ arc. (unsigned_abs arc.lower ≤ 1020000) × (arc.span �
 -- slack ranges with ends that a cut can make
 abbrev pub AreSlackEnds : List (ℕ × ℕ) → Type 0
 AreSlackEnds slacks = All (λ range. (range.0 ≤ 10000) × (range.1 ≤ 10000)) slacks
+
+-- an offset range within the limits of the number of a cut
+abbrev pub IsOffsetEnds : ℤ × ℤ → Type 0
+IsOffsetEnds range = (neg_ℤ (pos 100000000000000) ≤ℤ range.0) × (range.1 ≤ℤ pos 100000000000000)
+
+abbrev pub AreOffsetEnds : List (ℤ × ℤ) → Type 0
+AreOffsetEnds offsets = All IsOffsetEnds offsets
 
 -- the number at an end of a range
 abbrev pub at_end : End → ℤ → ℤ → ℤ

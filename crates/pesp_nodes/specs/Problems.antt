@@ -35,9 +35,9 @@ pub record IsFirstOpen (arcs : List Arc) (table : List (List SignedRow)) (cycle 
   pub before : (c : ℕ) → c < cycle - 1 → IsWalk arcs (cycle_at table c)
   pub opens : IsWalk arcs (cycle_at table (cycle - 1)) → ⊥
 
--- the table passes a limit, and each walk that a number of 32 bits names is closed
+-- all walks of the table close, and it passes a limit
 pub record IsTooLarge (arcs : List Arc) (table : List (List SignedRow)) : Type 0 where
-  pub closed : (c : ℕ) → c < length table → c < 4294967295 → IsWalk arcs (cycle_at table c)
+  pub closed : (c : ℕ) → c < length table → IsWalk arcs (cycle_at table c)
   pub large : IsSmallTable table → ⊥
 
 -- when a problem isn't made

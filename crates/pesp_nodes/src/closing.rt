@@ -63,14 +63,13 @@ fn closes(arcs: &[Arc], walk: &[SignedRow]) -> bool
     leads(arcs, event, walk, event)
 }
 
-/// The first walk of a table that doesn't close, by its number from 1, of those that a number can name.
-pub fn first_open(arcs: &[Arc], table: &[Walk]) -> Option<u32>
-    ensures { MatchOption result ((c : ℕ) → c < length table.now → c < 4294967295 → IsWalk arcs.now (cycle_at table.now c)) (λ cycle. IsFirstOpen arcs.now table.now cycle) }
+/// The first walk of a table that doesn't close, by its number from 1.
+pub fn first_open(arcs: &[Arc], table: &[Walk]) -> Option<u64>
+    ensures { MatchOption result ((c : ℕ) → c < length table.now → IsWalk arcs.now (cycle_at table.now c)) (λ cycle. IsFirstOpen arcs.now table.now cycle) }
 {
-    let named = table.len().min(4294967295);
-    for place in 0..named {
+    for place in 0..table.len() {
         if !closes(arcs, table[place].rows()) {
-            return Some(place as u32 + 1);
+            return Some(place as u64 + 1);
         }
     }
     None

@@ -4,6 +4,7 @@
 mod closing;
 mod ends;
 mod flow;
+pub mod laws;
 mod nets;
 mod node;
 mod offsets;

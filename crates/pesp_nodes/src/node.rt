@@ -3,7 +3,7 @@
 ghost use Rattle.std.specs.Prelude.{◌≡◌, ℕ, ◌-◌, ◌≤◌, List, length, unsigned_abs, IfOk};
 ghost use Rattle.pesp_problem.specs.Nodes as spec;
 ghost use Rattle.pesp_problem.specs.Nodes.{part};
-ghost use Rattle.pesp_nodes.specs.Offsets.{AreSlackEnds};
+ghost use Rattle.pesp_nodes.specs.Offsets.{AreSlackEnds, IsOffsetEnds, AreOffsetEnds};
 ghost use Rattle.pesp_nodes.specs.Problems.{ProblemValue, IsNodeOf, IsCutOf, cut_slack, cut_offset};
 
 use pesp_problem::{Cut, Memory, Side};
@@ -20,41 +20,43 @@ pub struct Node {
 
 impl Model for Node {
     ghost use Rattle.pesp_problem.specs.Nodes.{Node as Ranges};
-    ghost use Rattle.pesp_nodes.specs.Offsets.{AreSlackEnds};
+    ghost use Rattle.pesp_nodes.specs.Offsets.{AreSlackEnds, AreOffsetEnds};
 
     ghost Value = { Ranges };
 
     ghost view = { λ n. record { slacks = n.slacks.items; offsets = n.offsets.items } };
 
-    ghost invariant = { λ n. AreSlackEnds n.slacks.items };
+    ghost invariant = { λ n. AreSlackEnds n.slacks.items × AreOffsetEnds n.offsets.items };
 }
 
 // a part of a slack range that is cut at k
-fn cut_slack(range: (u32, u32), k: u32, side: Side) -> (u32, u32)
+fn cut_slack(slacks: (u32, u32), k: u32, side: Side) -> (u32, u32)
     requires { k ≤ 9999 }
-    ensures { result ≡ cut_slack range k side }
+    ensures { result ≡ cut_slack slacks k side }
 {
     match side {
-        Side::Low => (range.0, range.1.min(k)),
-        Side::High => (range.0.max(k + 1), range.1),
+        Side::Low => (slacks.0, slacks.1.min(k)),
+        Side::High => (slacks.0.max(k + 1), slacks.1),
     }
 }
 
 // a part of an offset range that is cut at k
-fn cut_offset(range: (i64, i64), k: i64, side: Side) -> (i64, i64)
+fn cut_offset(offsets: (i64, i64), k: i64, side: Side) -> (i64, i64)
     requires { unsigned_abs k ≤ 100000000000000 }
-    ensures { result ≡ cut_offset range k side }
+    ensures part { result ≡ cut_offset offsets k side }
+    ensures ends { IsOffsetEnds offsets → IsOffsetEnds result }
 {
     match side {
-        Side::Low => (range.0, range.1.min(k)),
-        Side::High => (range.0.max(k + 1), range.1),
+        Side::Low => (offsets.0, offsets.1.min(k)),
+        Side::High => (offsets.0.max(k + 1), offsets.1),
     }
 }
 
 impl Node {
     /// The node of these ranges.
     pub(crate) fn new(slacks: Vec<(u32, u32)>, offsets: Vec<(i64, i64)>) -> Node
-        requires { AreSlackEnds slacks.items }
+        requires slacks { AreSlackEnds slacks.items }
+        requires offsets { AreOffsetEnds offsets.items }
         ensures { result ≡ record { slacks = slacks.items; offsets = offsets.items } }
     {
         Node { slacks, offsets }
@@ -77,9 +79,10 @@ impl Node {
         &self.slacks
     }
 
-    /// The offset range of each cycle.
+    /// The offset range of each cycle. A cut of an offset range that leaves both sides a value keeps the limit of a cut.
     pub fn offsets(&self) -> &[(i64, i64)]
         ensures offsets { result.now ≡ self.now.offsets }
+        ensures ends { AreOffsetEnds self.now.offsets }
     {
         &self.offsets
     }

@@ -7,7 +7,7 @@ ghost use Rattle.pesp_problem.specs.Sums as sums;
 ghost use Rattle.pesp_problem.specs.Arcs.{arc_at};
 ghost use Rattle.pesp_problem.specs.Nodes.{slack_range, odijk_range, range_or_none};
 ghost use Rattle.pesp_nodes.specs.Nets.{AreSmallCounts, AreNetCounts};
-ghost use Rattle.pesp_nodes.specs.Offsets.{AreArcs, AreSlackEnds, IsSmallOffset, at_end, end_term, end_sum, left_of};
+ghost use Rattle.pesp_nodes.specs.Offsets.{AreArcs, AreSlackEnds, IsSmallOffset, IsOffsetEnds, at_end, end_term, end_sum, left_of};
 
 use crate::ends::{End, end_for};
 use crate::nets::NetCount;
@@ -68,7 +68,8 @@ fn sum_at(arcs: &[Arc], slacks: &[(u32, u32)], counts: &[NetCount], end: End) ->
 fn offset_at(period: u32, sum: i128, end: End) -> i64
     requires period { 0 < period }
     requires small { unsigned_abs sum ≤ 10300000000000 }
-    ensures { result ≡ at_end end (sums.ceil_div sum period) (sums.floor_div sum period) }
+    ensures value { result ≡ at_end end (sums.ceil_div sum period) (sums.floor_div sum period) }
+    ensures size { unsigned_abs result ≤ 10300000000000 }
 {
     match end {
         End::Low => ceil_div(sum, period) as i64,
@@ -91,6 +92,7 @@ pub fn bounds_of(
     ensures low { (walk : List SignedRow) → AreNetCounts (length arcs.now) walk counts.now → result.0 ≡ (odijk_range (record { period = period; arcs = arcs.now }) slacks.now walk).0 }
     ensures high { (walk : List SignedRow) → AreNetCounts (length arcs.now) walk counts.now → result.1 ≡ (odijk_range (record { period = period; arcs = arcs.now }) slacks.now walk).1 }
     ensures small { (z : ℤ) → result.0 ≤ℤ z → z ≤ℤ result.1 → IsSmallOffset period z }
+    ensures ends { IsOffsetEnds result }
 {
     let least = sum_at(arcs, slacks, counts, End::Low);
     let greatest = sum_at(arcs, slacks, counts, End::High);

@@ -7,7 +7,7 @@ ghost use Rattle.pesp_network.specs.Networks.{arcs_of_network, arc_of_net, net_o
 ghost use Rattle.pesp_problem.specs.declared.row.SignedRow.{SignedRow};
 ghost use Rattle.pesp_nodes.specs.Nets.{AreNets, AreSmallCounts};
 ghost use Rattle.pesp_nodes.specs.Passages.{ArePassages};
-ghost use Rattle.pesp_nodes.specs.Offsets.{AreArcs, AreSlackEnds};
+ghost use Rattle.pesp_nodes.specs.Offsets.{AreArcs, AreSlackEnds, AreOffsetEnds};
 ghost use Rattle.pesp_nodes.specs.Problems.{net_of, IsNodeOf, IsProblemRefusal, IsSmallTable};
 
 use crate::closing::first_open;
@@ -101,7 +101,8 @@ fn root_offsets(
     requires slacks { AreSlackEnds slacks.now }
     requires long { length slacks.now ≡ length arcs.now }
     requires counts { All (AreSmallCounts (length arcs.now)) nets.now }
-    ensures { (walks : List (List SignedRow)) → AreNets (length arcs.now) walks nets.now → IfOk result (λ v. v.items ≡ map (spec.odijk_range (record { period = period; arcs = arcs.now }) slacks.now) walks) }
+    ensures ends { IfOk result (λ v. AreOffsetEnds v.items) }
+    ensures offsets { (walks : List (List SignedRow)) → AreNets (length arcs.now) walks nets.now → IfOk result (λ v. v.items ≡ map (spec.odijk_range (record { period = period; arcs = arcs.now }) slacks.now) walks) }
 {
     let mut offsets = Vec::new(alloc);
     for counts in nets {

@@ -12,7 +12,7 @@ use std::alloc::{AllocError, AllocFailed};
 #[derive(Clone, Copy, Debug, PartialEq, Eq)]
 pub enum ProblemRefusal {
     Memory,
-    OpenWalk { cycle: u32 },
+    OpenWalk { cycle: u64 },
     TableTooLarge,
 }
 

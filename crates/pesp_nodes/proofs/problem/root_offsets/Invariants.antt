@@ -2,7 +2,11 @@ use Rattle.std.proofs.Common.{◌≡◌, List, map, length, take}
 use Rattle.pesp_problem.specs.Nodes as spec
 use Rattle.pesp_problem.specs.declared.row.SignedRow.{SignedRow}
 use Rattle.pesp_nodes.specs.Nets.{AreNets}
+use Rattle.pesp_nodes.specs.Offsets.{AreOffsetEnds}
 use Rattle.pesp_nodes.proofs.problem.root_offsets.Given as goal
 
 abbrev pub invariant-loop-counts : goal.invariant-loop-counts
-invariant-loop-counts l = (walks : List (List SignedRow)) → AreNets (length l.arcs) walks l.nets → l.offsets.items ≡ map (spec.odijk_range (record { period = l.fn.period; arcs = l.arcs }) l.slacks) (take l.counts-index walks)
+invariant-loop-counts l = record {
+  ends : AreOffsetEnds l.offsets.items;
+  offsets : (walks : List (List SignedRow)) → AreNets (length l.arcs) walks l.nets → l.offsets.items ≡ map (spec.odijk_range (record { period = l.fn.period; arcs = l.arcs }) l.slacks) (take l.counts-index walks);
+}

@@ -106,29 +106,31 @@ fn closing_proof(
     }
 }
 
-// pairs of value above 0 without weights that pivots find
+// pairs of value above 0 without weights that so many pivots find
 fn proposed_proof(
     alloc: Global,
     problem: &Problem,
     node: &Node,
+    rounds: u32,
 ) -> Result<Option<Vec<Pair>>, Memory>
     requires { IsNodeOf problem.now node.now }
     ensures pairs { IfOk result (λ o. IfSome o (λ v. ArePairs (length problem.now.table) v.items)) }
     ensures value { IfOk result (λ o. IfSome o (λ v. IsSomeAnd (spec.leaf_value (net_of problem.now) problem.now.table node.now v.items false) (λ z. pos 0 <ℤ z))) }
 {
-    let found = propose(alloc, problem, node, &[], false, 1_000_000)?;
+    let found = propose(alloc, problem, node, &[], false, rounds)?;
     match judged(problem, node, &found.pairs, false) {
         Some(value) if value > 0 => Ok(Some(found.pairs)),
         _ => Ok(None),
     }
 }
 
-// pairs of value above 0 without weights, where some are found; at a decided node they are
+// pairs of value above 0 without weights, where some are found by so many pivots; at a decided node they are
 fn proof_of_nothing(
     alloc: Global,
     problem: &Problem,
     node: &Node,
     levels: &[usize],
+    rounds: u32,
 ) -> Result<Option<Vec<Pair>>, Memory>
     requires { IsNodeOf problem.now node.now }
     ensures pairs { IfOk result (λ o. IfSome o (λ v. ArePairs (length problem.now.table) v.items)) }
@@ -139,7 +141,7 @@ fn proof_of_nothing(
     if closing.is_some() || begin_apart(problem) {
         return Ok(closing);
     }
-    proposed_proof(alloc, problem, node)
+    proposed_proof(alloc, problem, node, rounds)
 }
 
 // whether what is proposed has a value above 0 without weights
@@ -179,11 +181,14 @@ fn best_pairs(
     Ok(better(started, found, value))
 }
 
-/// The best leaf that is found at a node, from the pairs of another leaf, by so many pivots of a circulation: a
-/// `Gap` wherever some cycle has no offset left; else a `Nothing` where pairs of value above 0 with all weights 0 were found,
-/// or a `Bound` whose value is at least that of no pairs, and at least that of the start where it has one at this node. Where
-/// the cycles are the network's own, each slack range has a value, each offset range has one, and no slacks of the ranges
-/// have these offsets, it is a `Gap` or a `Nothing`, however few the pivots.
+/// The best leaf that is found at a node, from the pairs of another leaf: a `Gap` wherever some cycle has no offset left; else
+/// a `Nothing` where pairs of value above 0 with all weights 0 were found, or a `Bound` whose value is at least that of no
+/// pairs, and at least that of the start where it has one at this node. Where the cycles are the network's own, each slack
+/// range has a value, each offset range has one, and no slacks of the ranges have these offsets, it is a `Gap` or a `Nothing`,
+/// however few the rounds.
+///
+/// A circulation with the weights takes at most so many rounds, one pivot each; where a cycle doesn't begin with a row of its
+/// own, one without weights may take as many again.
 pub fn best_leaf_from(
     alloc: Global,
     problem: &Problem,
@@ -206,7 +211,7 @@ pub fn best_leaf_from(
         let pairs = Pairs::new(found.pairs);
         return Ok(Leaf::Nothing { pairs });
     }
-    if let Some(pairs) = proof_of_nothing(alloc, problem, node, &found.levels)? {
+    if let Some(pairs) = proof_of_nothing(alloc, problem, node, &found.levels, rounds)? {
         let pairs = Pairs::new(pairs);
         return Ok(Leaf::Nothing { pairs });
     }
@@ -218,7 +223,7 @@ pub fn best_leaf_from(
 /// The best leaf that is found at a node from no pairs: a `Gap` wherever some cycle has no offset left; else a `Nothing` where
 /// pairs of value above 0 with all weights 0 were found, or a `Bound` whose value is at least that of no pairs. Where the
 /// cycles are the network's own, each slack range has a value, each offset range has one, and no slacks of the ranges have
-/// these offsets, it is a `Gap` or a `Nothing`, however few the pivots.
+/// these offsets, it is a `Gap` or a `Nothing`, however few the rounds, which bound the pivots as in `best_leaf_from`.
 pub fn best_leaf(alloc: Global, problem: &Problem, node: &Node, rounds: u32) -> Result<Leaf, Memory>
     requires { IsNodeOf problem.now node.now }
     ensures leaf { IfOk result (IsLeafOf problem.now node.now) }

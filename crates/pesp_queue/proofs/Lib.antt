@@ -3,3 +3,4 @@ pub mod Parts
 pub mod Placing
 pub mod Limits
 pub mod Cancelling
+pub mod Counting

@@ -15,5 +15,6 @@ limits entries waiting places room memory h q is = subst KeepsLimits is (record 
   differ = subst ItemsDiffer (sym (take-append-drop waiting entries)) (differ entries places h.placed);
   numbered = subst (All (λ e. e.item < length places)) (sym (take-append-drop waiting entries)) (All-from_get_or (λ e. e.item < length places) entries (entry 0 0) (λ i lt. (h.placed i lt).0));
   few = subst (λ l. length l ≤ room) (sym (take-append-drop waiting entries)) h.few;
-  room = h.small;
+  fewer = subst (λ l. length l ≤ length places) (sym (take-append-drop waiting entries)) h.fewer;
+  numbers = h.small;
 })

@@ -10,4 +10,5 @@ pub record IsHeld (entries : List Entry) (waiting : ℕ) (places : List ℕ) (ro
   pub placed : ArePlaced entries places
   pub few : length entries ≤ room
   pub fits : room ≤ memory
-  pub small : room ≤ 4294967295
+  pub fewer : length entries ≤ length places
+  pub small : length places ≤ 4294967295

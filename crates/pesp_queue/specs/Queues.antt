@@ -24,12 +24,13 @@ front q = slice_get q.waiting 0
 abbrev pub revalued : ℕ → ℕ → List Entry → List Entry
 revalued item value = map (λ e. if e.item == item then entry item value else e)
 
--- no item stands in a queue twice, all have lesser numbers, and there is room for all
+-- no item stands in a queue twice, all have lesser numbers, none above 4294967294, and there is room for all
 pub record KeepsLimits (q : QueueValue) : Type 0 where
   pub differ : ItemsDiffer (all_of q)
   pub numbered : All (λ e. e.item < q.numbers) (all_of q)
   pub few : length (all_of q) ≤ q.room
-  pub room : q.room ≤ 4294967295
+  pub fewer : length (all_of q) ≤ q.numbers
+  pub numbers : q.numbers ≤ 4294967295
 
 -- what there is room for stays
 abbrev pub KeepsRoom : QueueValue → QueueValue → Type 0

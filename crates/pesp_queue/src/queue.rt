@@ -23,7 +23,7 @@ pub struct Queue {
     entries: Vec<Entry>,
     waiting: usize,
     places: Vec<u32>,
-    room: u32,
+    room: usize,
 }
 
 impl Model for Queue {
@@ -52,7 +52,7 @@ impl Queue {
     }
 
     /// Makes room for so many more items than there are, of numbers below `numbers`. Refused as Memory where a growth is
-    /// refused, or where the items would be more than 4294967295; the queue is as it was then.
+    /// refused; the queue is as it was then.
     pub fn reserve(&mut self, numbers: u32, more: u32) -> Result<(), Memory>
         ensures waiting { self.new.waiting ≡ self.old.waiting }
         ensures parked { self.new.parked ≡ self.old.parked }
@@ -63,10 +63,7 @@ impl Queue {
         ensures refused { OnErr result (self.new ≡ self.old) }
         ensures succeeds { numbers ≤ self.old.numbers → length (all_of self.old) + more ≤ self.old.room → IsOk result }
     {
-        let len = self.entries.len() as u32;
-        let Some(room) = len.checked_add(more) else {
-            return Err(Memory);
-        };
+        let room = self.entries.len() + more as usize;
         self.entries.reserve(more as usize)?;
         if self.places.len() < numbers as usize {
             self.places.resize(numbers as usize, 0)?;

@@ -11,3 +11,4 @@ pub mod LeafValues
 pub mod Rising
 pub mod Sizes
 pub mod Singles
+pub mod Walking

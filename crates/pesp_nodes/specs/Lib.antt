@@ -4,3 +4,4 @@ pub mod Offsets
 pub mod Problems
 pub mod Prepared
 pub mod Values
+pub mod Pending

@@ -15,6 +15,7 @@ mod refusal;
 mod single;
 mod table;
 mod value;
+mod walk;
 
 pub use flow::flow_on;
 pub use nets::count_rows;
@@ -26,3 +27,4 @@ pub use problem::Problem;
 pub use refusal::ProblemRefusal;
 pub use single::single_value;
 pub use value::{leaf_value, offset_range};
+pub use walk::NodeWalk;

@@ -5,6 +5,7 @@ ghost use Rattle.pesp_problem.specs.Nodes as spec;
 ghost use Rattle.pesp_problem.specs.Nodes.{part};
 ghost use Rattle.pesp_nodes.specs.Offsets.{AreSlackEnds, IsOffsetEnds, AreOffsetEnds};
 ghost use Rattle.pesp_nodes.specs.Problems.{ProblemValue, IsNodeOf, IsCutOf, cut_slack, cut_offset};
+ghost use Rattle.pesp_nodes.specs.Pending.{cut_of, change_of, restored, IsChange};
 
 use pesp_problem::{Cut, Memory, Side};
 use std::alloc::Global;
@@ -27,6 +28,25 @@ impl Model for Node {
     ghost view = { λ n. record { slacks = n.slacks.items; offsets = n.offsets.items } };
 
     ghost invariant = { λ n. AreSlackEnds n.slacks.items × AreOffsetEnds n.offsets.items };
+}
+
+/// A cut, and the range that it cuts as it was.
+#[derive(Clone, Copy, Debug, PartialEq, Eq)]
+pub(crate) enum Change {
+    Slack { row: u32, k: u32, was: (u32, u32) },
+    Offset { cycle: u32, k: i64, was: (i64, i64) },
+}
+
+impl Change {
+    /// The cut.
+    pub(crate) fn to_cut(self) -> Cut
+        ensures { result ≡ cut_of self }
+    {
+        match self {
+            Change::Slack { row, k, .. } => Cut::Slack { row, k },
+            Change::Offset { cycle, k, .. } => Cut::Offset { cycle, k },
+        }
+    }
 }
 
 // a part of a slack range that is cut at k
@@ -103,6 +123,38 @@ impl Node {
                 let place = cycle as usize - 1;
                 self.offsets[place] = cut_offset(self.offsets[place], k, side);
             }
+        }
+    }
+    /// What a cut is going to change.
+    pub(crate) fn change_of(&self, cut: Cut) -> Change
+        requires { IsCutOf self.now cut }
+        ensures change { result ≡ change_of self.now cut }
+        ensures limits { IsChange (length self.now.slacks) (length self.now.offsets) result }
+    {
+        match cut {
+            Cut::Slack { row, k } => Change::Slack {
+                row,
+                k,
+                was: self.slacks[row as usize - 1],
+            },
+            Cut::Offset { cycle, k } => Change::Offset {
+                cycle,
+                k,
+                was: self.offsets[cycle as usize - 1],
+            },
+        }
+    }
+
+    /// Puts a changed range back.
+    pub(crate) fn put_back(&mut self, change: Change)
+        requires { IsChange (length self.old.slacks) (length self.old.offsets) change }
+        ensures node { self.new ≡ restored self.old change }
+        ensures rows { length self.new.slacks ≡ length self.old.slacks }
+        ensures cycles { length self.new.offsets ≡ length self.old.offsets }
+    {
+        match change {
+            Change::Slack { row, was, .. } => self.slacks[row as usize - 1] = was,
+            Change::Offset { cycle, was, .. } => self.offsets[cycle as usize - 1] = was,
         }
     }
 }

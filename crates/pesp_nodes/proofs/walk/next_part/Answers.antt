@@ -1,0 +1,14 @@
+use Rattle.std.proofs.Common.{◌≡◌, ◌+◌, ◌-◌, ◌∙◌, ap, length, arith}
+use Rattle.std.proofs.lemmas.Bool.Decides.{nat_tests}
+use Rattle.pesp_problem.specs.declared.cut.Side.TheVariants.{High}
+use Rattle.pesp_problem.specs.declared.cut.Cut.{Cut}
+use Rattle.pesp_problem.specs.Nodes.{part}
+use Rattle.pesp_nodes.proofs.Walking.{turn_parts}
+use Rattle.pesp_nodes.proofs.walk.next_part.Goals as goal
+
+pub returns-in-Low-clause-parts : goal.returns-in-Low-clause-parts
+returns-in-Low-clause-parts c =
+    let top : c.len-top.result - 1 + 1 ≡ length c.loop-path.path.items = grind (arith, nat_tests, c.loop-path.path.ok.0, c.is_empty.ensures, c.len-top.ensures) in
+    turn_parts c.loop-path.node c.put_back.new.self c.cut.new.self c.loop-path.path.items (c.len-top.result - 1) c.index-last.result.now top c.index-last.ensures c.in-Low.is c.put_back.ensures.node
+    (c.cut.ensures.part ∙ ap (λ (cut : Cut). part c.put_back.new.self cut High) c.to_cut.ensures)
+    ∙ c.loop-path.invariant.parts

@@ -1,7 +1,8 @@
 -- What holds of the lists of a tree under work, and after each change of them.
-use Rattle.std.proofs.Common.{◌≡◌, ◌≢◌, ℕ, ◌+◌, ◌*◌, ◌<◌, ◌≤◌, List, [], ◌∷◌, ◌++◌, length, get_or, set, map, refl, sym, ap, ◌∙◌, arith, subst}
-use Rattle.std.specs.Prelude.{Option, Some, None, IsSome, Result, Ok, Err, OnOk, OnErr}
+use Rattle.std.proofs.Common.{◌≡◌, ◌≢◌, ℕ, ◌+◌, ◌*◌, ◌/◌, max, ◌<◌, ◌≤◌, List, [], ◌∷◌, ◌++◌, length, get_or, set, map, refl, sym, ap, ◌∙◌, arith, subst}
+use Rattle.std.specs.Prelude.{Option, Some, None, IsSome}
 use Rattle.std.proofs.lemmas.List.{length-set, length-append}
+use Rattle.std.proofs.lemmas.Int.{clamps}
 use Rattle.pesp_problem.specs.declared.cut.Cut.{Cut}
 use Rattle.pesp_problem.specs.declared.cut.Side.{Side}
 use Rattle.pesp_problem.specs.declared.cut.Side.TheVariants.{Low, High}
@@ -14,7 +15,7 @@ use Rattle.pesp_truth.specs.Leaves.{IsLeafAt, put}
 use Rattle.pesp_truth.proofs.Leaves.{lines_after_put}
 use Rattle.pesp_tree.specs.Leaves.{leaf_of}
 use Rattle.pesp_tree.specs.WorkTrees.{IsWhole, with_leaf, with_branch}
-use Rattle.pesp_tree.specs.Numbered.{IsAt, path_in, branch_off, grown, kept_leaf, leaf_or_gap, leaf_in, tree_of, value_of, AreNodes, AreNumbered, Stands, after_split}
+use Rattle.pesp_tree.specs.Numbered.{IsAt, path_in, branch_off, grown, kept_leaf, leaf_or_gap, leaf_in, tree_of, value_of, AreNodes, AreNumbered, AreKept, Stands, after_split}
 use Rattle.pesp_tree.proofs.Numbered.{filled_at, filled_from, one_at}
 use Rattle.pesp_tree.proofs.Changes.{grow-push, set_nodes, set_tree, split_nodes, split_tree}
 use Rattle.pesp_tree.proofs.Paths.{below_push, grown_count}
@@ -34,8 +35,8 @@ leaf_found bs leaves path leaf nodes h =
 one_node : (bs : List Branching) (leaves : List (Option Leaf)) (m n : ℕ) → AreNodes bs leaves → get_or leaves m None ≢ None → get_or leaves n None ≢ None → path_in (grown bs) m ≡ path_in (grown bs) n → m ≡ n
 one_node bs leaves m n nodes h k e = one_at (grown bs).tree (path_in (grown bs) n) m n (subst (λ path. IsAt (grown bs).tree path m) e (nodes.stands m (in_range leaves m h) h)) (nodes.stands n (in_range leaves n k) k)
 
-pub whole : (bs : List Branching) (kept : List Kept) → AreNumbered bs kept → IsWhole (value_of bs kept)
-whole bs kept a =
+pub whole : (bs : List Branching) (kept : List Kept) (room : ℕ) → AreNumbered bs kept → IsWhole (value_of bs kept room)
+whole bs kept room a =
     let leaves = map kept_leaf kept in
     record {
       counted = a.nodes.count;
@@ -77,12 +78,12 @@ put_numbered bs kept n leaf a some =
       within = omega (arith, a.within, same);
     }
 
-pub put_value : (bs : List Branching) (kept : List Kept) (n : ℕ) (leaf : OwnLeaf) → AreNumbered bs kept → IsSome (get_or (map kept_leaf kept) n None) → value_of bs (set kept n (KeptLeaf leaf)) ≡ with_leaf (value_of bs kept) n (leaf_of leaf)
-put_value bs kept n leaf a some =
+pub put_value : (bs : List Branching) (kept : List Kept) (room n : ℕ) (leaf : OwnLeaf) → AreNumbered bs kept → IsSome (get_or (map kept_leaf kept) n None) → value_of bs (set kept n (KeptLeaf leaf)) room ≡ with_leaf (value_of bs kept room) n (leaf_of leaf)
+put_value bs kept room n leaf a some =
     let tree = set_tree_is bs kept n leaf a (not_none (get_or (map kept_leaf kept) n None) some) in
     let leaves = map_set kept n (KeptLeaf leaf) in
-    ap (λ x. record { tree = x; paths = (grown bs).paths; leaves = map kept_leaf (set kept n (KeptLeaf leaf)) }) tree
-    ∙ ap (λ x. record { tree = put (tree_of bs (map kept_leaf kept)) (path_in (grown bs) n) (Ends (leaf_of leaf)); paths = (grown bs).paths; leaves = x }) leaves
+    ap (λ x. record { tree = x; paths = (grown bs).paths; leaves = map kept_leaf (set kept n (KeptLeaf leaf)); room = room }) tree
+    ∙ ap (λ x. record { tree = put (tree_of bs (map kept_leaf kept)) (path_in (grown bs) n) (Ends (leaf_of leaf)); paths = (grown bs).paths; leaves = x; room = room }) leaves
 
 -- ---- a split
 
@@ -110,20 +111,32 @@ split_numbered bs kept b low high a some room =
       within = omega (arith, room, more, length_leaves kept);
     }
 
-pub split_value : (bs : List Branching) (kept : List Kept) (b : Branching) (low high : OwnLeaf) → AreNumbered bs kept → IsSome (get_or (map kept_leaf kept) b.node None) → value_of (bs ++ b ∷ []) (after_split kept b.node (length bs) (KeptLeaf low) (KeptLeaf high)) ≡ with_branch (value_of bs kept) b.node b.cut (leaf_of low) (leaf_of high)
-split_value bs kept b low high a some =
+pub split_value : (bs : List Branching) (kept : List Kept) (room : ℕ) (b : Branching) (low high : OwnLeaf) → AreNumbered bs kept → IsSome (get_or (map kept_leaf kept) b.node None) → value_of (bs ++ b ∷ []) (after_split kept b.node (length bs) (KeptLeaf low) (KeptLeaf high)) room ≡ with_branch (value_of bs kept room) b.node b.cut (leaf_of low) (leaf_of high)
+split_value bs kept room b low high a some =
     let new = after_split kept b.node (length bs) (KeptLeaf low) (KeptLeaf high) in
     let tree = split_tree_is bs kept b low high a (not_none (get_or (map kept_leaf kept) b.node None) some) in
     let after = put (tree_of bs (map kept_leaf kept)) (path_in (grown bs) b.node) (Branch b.cut (Ends (leaf_of low)) (Ends (leaf_of high))) in
-    ap (λ x. record { tree = x; paths = (grown (bs ++ b ∷ [])).paths; leaves = map kept_leaf new }) tree
-    ∙ ap (λ g. record { tree = after; paths = g.paths; leaves = map kept_leaf new }) (grow-push _ bs b)
-    ∙ ap (λ x. record { tree = after; paths = (branch_off (grown bs) b).paths; leaves = x }) (map_split kept b.node (length bs) low high)
+    ap (λ x. record { tree = x; paths = (grown (bs ++ b ∷ [])).paths; leaves = map kept_leaf new; room = room }) tree
+    ∙ ap (λ g. record { tree = after; paths = g.paths; leaves = map kept_leaf new; room = room }) (grow-push _ bs b)
+    ∙ ap (λ x. record { tree = after; paths = (branch_off (grown bs) b).paths; leaves = x; room = room }) (map_split kept b.node (length bs) low high)
 
--- after a split that may have been refused
-pub split_holds : {T E : Type 0} (result : Result T E) (bs new_bs : List Branching) (kept new_kept : List Kept) (b : Branching) (low high : OwnLeaf) → AreNumbered bs kept → IsSome (get_or (map kept_leaf kept) b.node None) → length (map kept_leaf kept) + 2 ≤ 1000000 → OnOk result (new_bs ≡ bs ++ b ∷ []) → OnOk result (new_kept ≡ after_split kept b.node (length bs) (KeptLeaf low) (KeptLeaf high)) → OnErr result ((new_bs ≡ bs) × (new_kept ≡ kept)) → AreNumbered new_bs new_kept
-split_holds (Ok x) bs new_bs kept new_kept b low high a some room is_bs is_kept undone = rw is_bs (rw is_kept (split_numbered bs kept b low high a some room))
-split_holds (Err e) bs new_bs kept new_kept b low high a some room is_bs is_kept undone = rw (undone.0) (rw (undone.1) a)
+-- ---- room
 
-pub split_is : {T E : Type 0} (result : Result T E) (bs new_bs : List Branching) (kept new_kept : List Kept) (b : Branching) (low high : OwnLeaf) → AreNumbered bs kept → IsSome (get_or (map kept_leaf kept) b.node None) → OnOk result (new_bs ≡ bs ++ b ∷ []) → OnOk result (new_kept ≡ after_split kept b.node (length bs) (KeptLeaf low) (KeptLeaf high)) → OnOk result (value_of new_bs new_kept ≡ with_branch (value_of bs kept) b.node b.cut (leaf_of low) (leaf_of high))
-split_is (Ok x) bs new_bs kept new_kept b low high a some is_bs is_kept = rw is_bs (rw is_kept (split_value bs kept b low high a some))
-split_is (Err e) bs new_bs kept new_kept b low high a some is_bs is_kept = tt
+-- where there is room for two more nodes there is memory for one more branching
+pub branching_fits : (bs : List Branching) (kept : List Kept) (room branchings nodes : ℕ) → AreKept bs kept room branchings nodes → length (map kept_leaf kept) + 2 ≤ room → length bs < branchings
+branching_fits bs kept room branchings nodes a h =
+    let pairs = a.pairs in
+    omega (arith, h, pairs, count_is bs kept a.numbered, length_leaves kept)
+
+-- memory for more nodes and half as many branchings makes room for them
+pub room_is_kept : (bs new_bs : List Branching) (kept new_kept : List Kept) (old more new branchings nodes more_branchings more_nodes : ℕ) → AreKept bs kept old branchings nodes → new_bs ≡ bs → new_kept ≡ kept
+    → branchings ≤ more_branchings → nodes ≤ more_nodes → length bs + (more / 2 + 1) ≤ more_branchings → length kept + more ≤ more_nodes → new ≡ max old (length kept + more) → AreKept new_bs new_kept new more_branchings more_nodes
+room_is_kept bs new_bs kept new_kept old more new branchings nodes more_branchings more_nodes a is_bs is_kept l m h k e =
+    let pairs = a.pairs in
+    let each = a.each in
+    let count = count_is bs kept a.numbered in
+    rw (is_bs, is_kept) (record {
+      numbered = a.numbered;
+      pairs = omega (arith, clamps, pairs, count, l, h, e);
+      each = omega (arith, clamps, each, m, k, e);
+    })

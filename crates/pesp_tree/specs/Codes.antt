@@ -1,6 +1,6 @@
 -- How proofs store the value of a tree under work, so that they can tell values apart.
-use Rattle.std.specs.Prelude.{List, Option, refl}
-use Rattle.std.specs.Coded.{Coded, code_by, coded×, coded_list, coded_option}
+use Rattle.std.specs.Prelude.{ℕ, List, Option, refl}
+use Rattle.std.specs.Coded.{Coded, code_by, coded_ℕ, coded×, coded_list, coded_option}
 use Rattle.pesp_problem.specs.declared.cut.Cut.{Cut}
 use Rattle.pesp_problem.specs.declared.cut.Side.{Side}
 use Rattle.pesp_truth.specs.Trees.{Tree, Leaf}
@@ -9,6 +9,6 @@ use Rattle.pesp_tree.specs.WorkTrees.{WorkTreeValue}
 
 abbrev pub work_tree_code : Coded WorkTreeValue
 work_tree_code =
-    code_by (Tree × (List (List (Cut × Side)) × List (Option Leaf)))
-    (coded× tree_code (coded× (coded_list (coded_list (coded× cut_code side_code))) (coded_list (coded_option leaf_code))))
-    (λ t. (t.tree, (t.paths, t.leaves))) (λ x. record { tree = x.0; paths = x.1.0; leaves = x.1.1 }) (λ _. refl)
+    code_by (Tree × (List (List (Cut × Side)) × (List (Option Leaf) × ℕ)))
+    (coded× tree_code (coded× (coded_list (coded_list (coded× cut_code side_code))) (coded× (coded_list (coded_option leaf_code)) coded_ℕ)))
+    (λ t. (t.tree, (t.paths, (t.leaves, t.room)))) (λ x. record { tree = x.0; paths = x.1.0; leaves = x.1.1.0; room = x.1.1.1 }) (λ _. refl)

@@ -80,9 +80,9 @@ leaf_in leaves n = leaf_or_gap (slice_index_or leaves n None)
 abbrev pub tree_of : List Branching → List (Option Leaf) → Tree
 tree_of bs leaves = fill (grown bs).tree (leaf_in leaves)
 
--- the tree under work that is kept by these branchings and nodes
-abbrev pub value_of : List Branching → List Kept → WorkTreeValue
-value_of bs kept = record { tree = tree_of bs (map kept_leaf kept); paths = (grown bs).paths; leaves = map kept_leaf kept }
+-- the tree under work that is kept by these branchings and nodes, with room for so many nodes
+abbrev pub value_of : List Branching → List Kept → ℕ → WorkTreeValue
+value_of bs kept room = record { tree = tree_of bs (map kept_leaf kept); paths = (grown bs).paths; leaves = map kept_leaf kept; room = room }
 
 -- ---- what holds of the lists
 
@@ -122,6 +122,12 @@ pub record AreNumbered (bs : List Branching) (kept : List Kept) : Type 0 where
   pub stands : Stands bs kept (grown bs).tree 0
   pub lines : length (preorder (tree_of bs (map kept_leaf kept))) ≡ length kept
   pub within : length kept ≤ 1000000
+
+-- the lists are those of a tree, with memory for so many branchings and so many nodes, of which this many make the room
+pub record AreKept (bs : List Branching) (kept : List Kept) (room branchings nodes : ℕ) : Type 0 where
+  pub numbered : AreNumbered bs kept
+  pub pairs : room ≤ 2 * branchings + 1
+  pub each : room ≤ nodes
 
 -- the node n becomes the branch of this place, and its two leaves take the next places
 abbrev pub after_split : List Kept → ℕ → ℕ → Kept → Kept → List Kept

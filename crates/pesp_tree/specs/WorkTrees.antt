@@ -6,11 +6,13 @@ use Rattle.pesp_problem.specs.declared.cut.Side.TheVariants.{Low, High}
 use Rattle.pesp_truth.specs.Trees.{Tree, Leaf, Ends, Branch, Bound, preorder}
 use Rattle.pesp_truth.specs.Leaves.{IsLeafAt, put}
 
--- a tree, and for each of its nodes the path to it from the root and its leaf, none for a branch
+-- a tree, for each of its nodes the path to it from the root and its leaf, none for a branch, and for how many nodes there is
+-- room
 pub record WorkTreeValue : Type 0 where
   pub tree : Tree
   pub paths : List (List (Cut × Side))
   pub leaves : List (Option Leaf)
+  pub room : ℕ
 
 -- the path to a node
 abbrev pub path_to : WorkTreeValue → ℕ → List (Cut × Side)
@@ -20,9 +22,9 @@ path_to t node = slice_index_or t.paths node []
 abbrev pub leaf_at : WorkTreeValue → ℕ → Option Leaf
 leaf_at t node = slice_index_or t.leaves node None
 
--- one bound leaf without pairs, which is node 0
+-- one bound leaf without pairs, which is node 0, with room for itself
 abbrev pub opening : WorkTreeValue
-opening = record { tree = Ends (Bound []); paths = [] ∷ []; leaves = Some (Bound []) ∷ [] }
+opening = record { tree = Ends (Bound []); paths = [] ∷ []; leaves = Some (Bound []) ∷ []; room = 1 }
 
 -- another leaf at a node
 abbrev pub with_leaf : WorkTreeValue → ℕ → Leaf → WorkTreeValue
@@ -30,6 +32,7 @@ with_leaf t node leaf = record {
   tree = put t.tree (path_to t node) (Ends leaf);
   paths = t.paths;
   leaves = slice_set t.leaves node (Some leaf);
+  room = t.room;
 }
 
 -- a branch at a node, with two leaves that take the next two numbers
@@ -38,7 +41,12 @@ with_branch t node cut low high = record {
   tree = put t.tree (path_to t node) (Branch cut (Ends low) (Ends high));
   paths = t.paths ++ (path_to t node ++ (cut, Low) ∷ []) ∷ (path_to t node ++ (cut, High) ∷ []) ∷ [];
   leaves = slice_set t.leaves node None ++ Some low ∷ Some high ∷ [];
+  room = t.room;
 }
+
+-- with room for so many nodes
+abbrev pub with_room : WorkTreeValue → ℕ → WorkTreeValue
+with_room t room = record { tree = t.tree; paths = t.paths; leaves = t.leaves; room = room }
 
 -- each leaf of the tree is that of exactly one node, and stands where the node's path leads
 pub record IsWhole (t : WorkTreeValue) : Type 0 where

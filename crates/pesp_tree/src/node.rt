@@ -1,6 +1,6 @@
 //! How a tree under work is kept: its nodes by number, and its branchings in the order in which they were made.
 
-ghost use Rattle.std.specs.Prelude.{◌≡◌, ◌<◌, ◌+◌, ◌*◌, [], ◌∷◌, ◌++◌, length, IfOk, OnOk, OnErr};
+ghost use Rattle.std.specs.Prelude.{◌≡◌, ◌<◌, ◌≤◌, ◌+◌, ◌*◌, [], ◌∷◌, ◌++◌, length, IfOk, vec_len, vec_capacity};
 ghost use Rattle.pesp_tree.specs.Numbered.{grown, path_in, AreBelow, IsSide, after_split};
 ghost use Rattle.pesp_tree.specs.declared.node.Kept.TheVariants.{Leaf as KeptLeaf};
 
@@ -51,26 +51,36 @@ pub(crate) fn path_of(
     Ok(path)
 }
 
-/// A leaf becomes a branch with two leaves; where memory is refused nothing has changed.
+/// Adds an item where there is memory for it.
+fn add<T: Drop>(items: &mut Vec<T>, item: T)
+    requires { vec_len items.old < vec_capacity items.old }
+    ensures items { items.new.items ≡ items.old.items ++ item ∷ [] }
+    ensures memory { vec_capacity items.old ≤ vec_capacity items.new }
+{
+    if items.push(item).is_err() {
+        unreachable!();
+    }
+}
+
+/// A leaf becomes a branch with two leaves, where there is memory for it.
 pub(crate) fn branch_off(
     branchings: &mut Vec<Branching>,
     nodes: &mut Vec<Kept>,
     branching: Branching,
     low: Leaf,
     high: Leaf,
-) -> Result<(), Memory>
+)
     requires node { branching.node < length nodes.old.items }
-    requires room { length branchings.old.items < 1000000 }
-    ensures branchings { OnOk result (branchings.new.items ≡ branchings.old.items ++ branching ∷ []) }
-    ensures nodes { OnOk result (nodes.new.items ≡ after_split nodes.old.items branching.node (length branchings.old.items) (KeptLeaf low) (KeptLeaf high)) }
-    ensures undone { OnErr result ((branchings.new.items ≡ branchings.old.items) × (nodes.new.items ≡ nodes.old.items)) }
+    requires few { length branchings.old.items < 1000000 }
+    requires place { vec_len branchings.old < vec_capacity branchings.old }
+    requires places { vec_len nodes.old + 2 ≤ vec_capacity nodes.old }
+    ensures branchings { branchings.new.items ≡ branchings.old.items ++ branching ∷ [] }
+    ensures nodes { nodes.new.items ≡ after_split nodes.old.items branching.node (length branchings.old.items) (KeptLeaf low) (KeptLeaf high) }
+    ensures memory { (vec_capacity branchings.old ≤ vec_capacity branchings.new) × (vec_capacity nodes.old ≤ vec_capacity nodes.new) }
 {
-    branchings.reserve(1)?;
-    nodes.reserve(2)?;
     let place = branchings.len() as u32;
-    branchings.push(branching)?;
+    add(branchings, branching);
     nodes[branching.node as usize] = Kept::Branched(place);
-    nodes.push(Kept::Leaf(low))?;
-    nodes.push(Kept::Leaf(high))?;
-    Ok(())
+    add(nodes, Kept::Leaf(low));
+    add(nodes, Kept::Leaf(high));
 }

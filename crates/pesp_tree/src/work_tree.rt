@@ -4,7 +4,7 @@ ghost use Rattle.std.specs.Prelude.{◌≡◌, ◌<◌, ◌≤◌, ◌+◌, leng
 ghost use Rattle.pesp_truth.specs.Trees.{preorder};
 ghost use Rattle.pesp_truth.specs.Certificates.{line_of};
 ghost use Rattle.pesp_tree.specs.Leaves.{leaf_of};
-ghost use Rattle.pesp_tree.specs.WorkTrees.{opening, path_to, leaf_at, with_leaf, with_branch, IsWhole};
+ghost use Rattle.pesp_tree.specs.WorkTrees.{opening, path_to, leaf_at, with_leaf, with_branch, with_room, IsWhole};
 
 use crate::leaf::Leaf;
 use crate::node::{Branching, Kept, branch_off, path_of};
@@ -18,25 +18,27 @@ use std::marker::Model;
 ///
 /// Its nodes are numbered from 0, the root, in the order in which they are made, and keep their numbers: a split makes two
 /// nodes, first the low part and then the high part. A node is known by the path to it from the root, and keeps its leaf
-/// until it is split. Ranges aren't kept. A tree has at most 1,000,000 nodes.
+/// until it is split. Ranges aren't kept. A tree has at most 1,000,000 nodes. Room for nodes is made before they are.
 #[derive(Drop)]
 pub struct WorkTree {
     branchings: Vec<Branching>,
     nodes: Vec<Kept>,
+    room: u32,
 }
 
 impl Model for WorkTree {
     ghost use Rattle.pesp_tree.specs.Codes.{work_tree_code};
     ghost use Rattle.pesp_tree.specs.WorkTrees.{WorkTreeValue};
-    ghost use Rattle.pesp_tree.specs.Numbered.{value_of, AreNumbered};
+    ghost use Rattle.std.specs.Prelude.{vec_capacity};
+    ghost use Rattle.pesp_tree.specs.Numbered.{value_of, AreKept};
 
     ghost Value = { WorkTreeValue };
 
     ghost coded = { work_tree_code };
 
-    ghost view = { λ t. value_of t.branchings.items t.nodes.items };
+    ghost view = { λ t. value_of t.branchings.items t.nodes.items t.room };
 
-    ghost invariant = { λ t. AreNumbered t.branchings.items t.nodes.items };
+    ghost invariant = { λ t. AreKept t.branchings.items t.nodes.items t.room (vec_capacity t.branchings) (vec_capacity t.nodes) };
 }
 
 impl WorkTree {
@@ -51,6 +53,7 @@ impl WorkTree {
         Ok(WorkTree {
             branchings: Vec::new(alloc),
             nodes,
+            room: 1,
         })
     }
 
@@ -92,17 +95,31 @@ impl WorkTree {
         self.nodes[node as usize] = Kept::Leaf(leaf);
     }
 
-    /// Splits a leaf where there is room for two more nodes: it becomes a branch with these two leaves, which take the next
-    /// two numbers. The one refusal is of memory, after which nothing has changed.
-    pub fn split(&mut self, node: u32, cut: Cut, low: Leaf, high: Leaf) -> Result<(), Memory>
-        requires leaf { IsSome (leaf_at self.old node) }
-        requires room { length self.old.leaves + 2 ≤ 1000000 }
-        ensures tree { OnOk result (self.new ≡ with_branch self.old node cut (leaf_of low) (leaf_of high)) }
+    /// Makes room for so many more nodes than there are. The one refusal is of memory, after which nothing has changed.
+    pub fn reserve(&mut self, more: u32) -> Result<(), Memory>
+        requires { length self.old.leaves + more ≤ 1000000 }
+        ensures room { OnOk result (length self.old.leaves + more ≤ self.new.room) }
+        ensures tree { self.new ≡ with_room self.old self.new.room }
         ensures same { OnErr result (self.new ≡ self.old) }
+    {
+        let room = self.nodes() + more;
+        self.branchings.reserve(more as usize / 2 + 1)?;
+        self.nodes.reserve(more as usize)?;
+        self.room = self.room.max(room);
+        Ok(())
+    }
+
+    /// Splits a leaf where there is room for two more nodes: it becomes a branch with these two leaves, which take the next
+    /// two numbers. Takes no memory.
+    pub fn split(&mut self, node: u32, cut: Cut, low: Leaf, high: Leaf)
+        requires leaf { IsSome (leaf_at self.old node) }
+        requires room { length self.old.leaves + 2 ≤ self.old.room }
+        requires few { length self.old.leaves + 2 ≤ 1000000 }
+        ensures tree { self.new ≡ with_branch self.old node cut (leaf_of low) (leaf_of high) }
         ensures whole { IsWhole self.new }
     {
         let branching = Branching { node, cut };
-        branch_off(&mut self.branchings, &mut self.nodes, branching, low, high)
+        branch_off(&mut self.branchings, &mut self.nodes, branching, low, high);
     }
 
     /// The lines of the tree in preorder. The one refusal is of memory.

@@ -12,14 +12,15 @@ use Rattle.pesp_problem.specs.Nodes.{Node, part, low_part, high_part}
 use Rattle.pesp_truth.specs.Trees.{Leaf, Bound, Nothing, Gap}
 use Rattle.pesp_truth.specs.Paths.{along}
 use Rattle.pesp_nodes.specs.Problems.{ProblemValue}
-use Rattle.pesp_tree.specs.WorkTrees.{WorkTreeValue, IsWhole, path_to, leaf_at, with_leaf, with_branch}
+use Rattle.pesp_tree.specs.WorkTrees.{WorkTreeValue, path_to, leaf_at, with_leaf, with_branch}
 use Rattle.pesp_tree.proofs.Effects.{put_here, put_others, split_here, split_low, split_high, split_others, path_low, path_high, path_others}
 use Rattle.pesp_queue.specs.declared.entry.Entry.{Entry}
 use Rattle.pesp_queue.specs.Entries.{entry, HasItem}
 use Rattle.pesp_machine.specs.Leaves.{told}
 use Rattle.pesp_machine.specs.States.{root_of, node_at, value_at}
 use Rattle.pesp_board.specs.Insides.{IsWorth}
-use Rattle.pesp_board.specs.Giving.{IsWorthAt, waits}
+use Rattle.pesp_board.specs.Parts.{IsWorthAt}
+use Rattle.pesp_board.specs.Growing.{waits}
 use Rattle.pesp_board.proofs.Changing.{IsChanged}
 use Rattle.pesp_board.proofs.Lent.{leaf_within}
 use Rattle.pesp_board.proofs.Queues.{none_held, one_held, held_first}
@@ -75,24 +76,24 @@ record IsPart (p : ProblemValue) (u : WorkTreeValue) (n : ℕ) (leaf : Leaf) (va
   is : leaf_at u n ≡ Some leaf
   worth : IsWorthAt p (node_at p path) leaf value
 
-low_is : (p : ProblemValue) (t : WorkTreeValue) (node : ℕ) (cut : Cut) (low high : Leaf) (value : Option ℕ) → IsWhole t → IsWorthAt p (low_part (node_at p (path_to t node)) cut) low value → IsPart p (with_branch t node cut low high) (length t.leaves) low value
+low_is : (p : ProblemValue) (t : WorkTreeValue) (node : ℕ) (cut : Cut) (low high : Leaf) (value : Option ℕ) → length t.paths ≡ length t.leaves → IsWorthAt p (low_part (node_at p (path_to t node)) cut) low value → IsPart p (with_branch t node cut low high) (length t.leaves) low value
 low_is p t node cut low high value w worth =
     let u = with_branch t node cut low high in
     let path = path_to t node ++ (cut, Low) ∷ [] in
     record {
       path = path;
-      at = subst (λ (n : ℕ). path_to u n ≡ path) w.counted (path_low t node cut low high);
+      at = subst (λ (n : ℕ). path_to u n ≡ path) w (path_low t node cut low high);
       is = split_low t node cut low high;
       worth = subst (λ (x : Node). IsWorthAt p x low value) (sym (along_step (root_of p) (path_to t node) cut Low)) worth;
     }
 
-high_is : (p : ProblemValue) (t : WorkTreeValue) (node : ℕ) (cut : Cut) (low high : Leaf) (value : Option ℕ) → IsWhole t → IsWorthAt p (high_part (node_at p (path_to t node)) cut) high value → IsPart p (with_branch t node cut low high) (length t.leaves + 1) high value
+high_is : (p : ProblemValue) (t : WorkTreeValue) (node : ℕ) (cut : Cut) (low high : Leaf) (value : Option ℕ) → length t.paths ≡ length t.leaves → IsWorthAt p (high_part (node_at p (path_to t node)) cut) high value → IsPart p (with_branch t node cut low high) (length t.leaves + 1) high value
 high_is p t node cut low high value w worth =
     let u = with_branch t node cut low high in
     let path = path_to t node ++ (cut, High) ∷ [] in
     record {
       path = path;
-      at = subst (λ (n : ℕ). path_to u (n + 1) ≡ path) w.counted (path_high t node cut low high);
+      at = subst (λ (n : ℕ). path_to u (n + 1) ≡ path) w (path_high t node cut low high);
       is = split_high t node cut low high;
       worth = subst (λ (x : Node). IsWorthAt p x high value) (sym (along_step (root_of p) (path_to t node) cut High)) worth;
     }
@@ -103,17 +104,17 @@ part_worth p u n leaf value is = new_worth p u n is.path leaf value is.at is.is 
 part_has : (p : ProblemValue) (u : WorkTreeValue) (m n : ℕ) (leaf : Leaf) (value : Option ℕ) (pairs : List Pair) → IsPart p u n leaf value → m ≡ n → leaf_at u m ≡ Some (Bound pairs) → HasItem (waits n value) m
 part_has p u m n leaf value pairs is same e = subst (HasItem (waits n value)) (sym same) (new_has p u n (node_at p is.path) leaf value pairs is.is is.worth (ap (leaf_at u) (sym same) ∙ e))
 
-pub branch_changed : (p : ProblemValue) (t : WorkTreeValue) (node : ℕ) (cut : Cut) (low high : Leaf) (v w : Option ℕ) → IsWhole t → node < length t.leaves
+pub branch_changed : (p : ProblemValue) (t : WorkTreeValue) (node : ℕ) (cut : Cut) (low high : Leaf) (v w : Option ℕ) → length t.paths ≡ length t.leaves → node < length t.leaves
     → IsWorthAt p (low_part (node_at p (path_to t node)) cut) low v → IsWorthAt p (high_part (node_at p (path_to t node)) cut) high w
     → IsChanged p t (with_branch t node cut low high) node (waits (length t.leaves + 1) w ++ waits (length t.leaves) v)
-branch_changed p t node cut low high v w whole within worth_low worth_high =
+branch_changed p t node cut low high v w counted within worth_low worth_high =
     let u = with_branch t node cut low high in
     let k = length t.leaves in
-    let first = low_is p t node cut low high v whole worth_low in
-    let second = high_is p t node cut low high w whole worth_high in
+    let first = low_is p t node cut low high v counted worth_low in
+    let second = high_is p t node cut low high w counted worth_high in
     record {
       leaves = λ other l n. split_others t node cut low high other l n;
-      paths = λ other l. path_others t node cut low high other (let counted = whole.counted in omega (arith, l, counted));
+      paths = λ other l. path_others t node cut low high other (omega (arith, l, counted));
       each = λ e h. elim (Contains-append_cases (waits (k + 1) w) (waits k v) e h) [
         | inl high_one ↦ part_worth p u (k + 1) high w second e high_one
         | inr low_one ↦ part_worth p u k low v first e low_one

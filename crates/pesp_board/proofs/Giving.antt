@@ -1,18 +1,20 @@
 -- What is given is taken or refused, and what becomes of the board.
-use Rattle.std.proofs.Common.{◌≡◌, ℕ, zero, suc, ◌+◌, ◌<◌, ◌≤◌, List, [], ◌∷◌, ◌++◌, length, set, map, refl, sym, ap, ◌∙◌, arith, subst}
-use Rattle.std.specs.Prelude.{Option, Some, IsSome, Result, Ok, Err, IsErrAnd, Contains, sum_by}
+use Rattle.std.proofs.Common.{◌≡◌, ℕ, zero, suc, ◌+◌, ◌<◌, ◌≤◌, List, [], ◌∷◌, ◌++◌, length, set, map, refl, sym, ap, ◌∙◌, arith, subst, true}
+use Rattle.std.specs.Prelude.{Option, Some, Result, Ok, Err, IsErrAnd, Contains, sum_by}
 use Rattle.pesp_problem.specs.declared.pair.Pair.{Pair}
-use Rattle.pesp_truth.specs.Trees.{Bound, preorder}
+use Rattle.std.proofs.lemmas.List.{length-map}
+use Rattle.pesp_truth.specs.Trees.{Line, Bound, preorder, are_trees}
+use Rattle.pesp_truth.specs.Leaves.{put}
+use Rattle.pesp_truth.proofs.Lines.{whole_tree}
 use Rattle.pesp_nodes.specs.Problems.{ProblemValue}
-use Rattle.pesp_tree.specs.Leaves.{leaf_of}
-use Rattle.pesp_tree.specs.WorkTrees.{WorkTreeValue, IsWhole, path_to, leaf_at}
+use Rattle.pesp_tree.specs.WorkTrees.{WorkTreeValue, IsWhole, path_to, leaf_at, with_room}
 use Rattle.pesp_queue.specs.Entries.{entry, HasItem, ItemsDiffer}
 use Rattle.pesp_queue.specs.Queues.{QueueValue, all_of}
 use Rattle.pesp_machine.specs.declared.work.Work.{Work}
 use Rattle.pesp_machine.specs.declared.refusal.GiveRefusal.{GiveRefusal}
 use Rattle.pesp_machine.specs.declared.refusal.GiveRefusal.TheVariants.{UnknownJob, AlreadyGiven, NotValid, Memory, TooLarge}
 use Rattle.pesp_machine.specs.Limits.{pairs_in}
-use Rattle.pesp_machine.specs.States.{State, Lent, Given, HasLeaf, node_at}
+use Rattle.pesp_machine.specs.States.{State, Lent, Given, HasLeaf}
 use Rattle.pesp_machine.specs.Events.{Gives, Takes, Give}
 use Rattle.pesp_machine.proofs.Making.{not_valid_is}
 use Rattle.pesp_machine.proofs.Sizes.{put_lines_add_up}
@@ -20,16 +22,17 @@ use Rattle.pesp_machine.proofs.Runs.{step_is_orderly}
 use Rattle.pesp_board.specs.declared.best.Best.{Best}
 use Rattle.pesp_board.specs.declared.slot.Slot.{Slot}
 use Rattle.pesp_board.specs.declared.slot.Slot.TheVariants.{Lent as LentSlot, Given as GivenSlot, Recalled as RecalledSlot}
-use Rattle.pesp_board.specs.declared.making.Made.{Made}
-use Rattle.pesp_board.specs.declared.making.Made.TheVariants.{Leaf as MadeLeaf, Branch as MadeBranch}
+use Rattle.pesp_board.specs.declared.part.Part.{Part}
 use Rattle.pesp_board.specs.Insides.{ticket_of, times_of, state_of, slot_at, IsBoard, IsQueue}
-use Rattle.pesp_board.specs.Giving.{LendsOrRefuses, tree_of, MakesAt, MakesPart, IsWorkable, with_made, made_tree, entries_of, Replaces, IsSameQueue, AreValued}
+use Rattle.pesp_board.specs.Parts.{part_line, part_lines}
+use Rattle.pesp_board.specs.Giving.{LendsOrRefuses, MakesAt, MakesPart, IsWorkable, IsSameQueue}
+use Rattle.pesp_board.specs.Growing.{grown, news, IsPlanted}
 use Rattle.pesp_board.proofs.Slots.{ticket_is, map_set, one_number}
 use Rattle.pesp_board.proofs.Lending.{some_leaf}
 use Rattle.pesp_board.proofs.Lent.{leaf_within}
 use Rattle.pesp_board.proofs.Telling.{lent_leaf_is}
 use Rattle.pesp_board.proofs.Changing.{IsChanged, changed_queue}
-use Rattle.pesp_board.proofs.Changed.{leaf_changed, branch_changed}
+use Rattle.pesp_board.proofs.Growing.{one_changed, one_tree_grown}
 
 -- the number is lent with this node
 pub record IsLentWith (slots : List Slot) (number node : ℕ) : Type 0 where
@@ -53,7 +56,7 @@ not_made p t slots q times number node work UnknownJob w l k m = absurd m
 not_made p t slots q times number node work AlreadyGiven w l k m = absurd m
 not_made p t slots q times number node work NotValid w l k m = (refl, not_valid_is p (state_of t slots times) number work (path_to t node) m.0 (has_leaf t slots times number node m.0 w l m.1) m.2)
 not_made p t slots q times number node work Memory w l k m = no_memory p t t slots times number node work l refl
-not_made p t slots q times number node work TooLarge w l k m = (refl, record { path = path_to t node; pairs = m.pairs; leaf = has_leaf t slots times number node m.pairs w l m.leaf; part = tree_of m.made; makes = m.makes; large = m.large })
+not_made p t slots q times number node work TooLarge w l k m = (refl, record { path = path_to t node; pairs = m.pairs; leaf = has_leaf t slots times number node m.pairs w l m.leaf; part = m.new; makes = m.makes; large = m.large })
 
 -- a refusal that is told on
 pub told_as : (p : ProblemValue) (old new : State) (number : ℕ) (work : Work) (result : Result (Unit {0}) GiveRefusal) (refusal : GiveRefusal) → IsErrAnd result (λ told. told ≡ refusal) → Gives p old number work (Err refusal) new → Gives p old number work result new
@@ -75,10 +78,6 @@ tickets_same t u (s ∷ slots) h =
     let rest = tickets_same t u slots (λ i n e. h (suc i) n e) in
     cc
 
-tree_with : (t : WorkTreeValue) (node : ℕ) (made : Made) → (with_made t node made).tree ≡ made_tree t node made
-tree_with t node (MadeLeaf part) = refl
-tree_with t node (MadeBranch cut low high) = refl
-
 -- a lent node is one of the tree's
 lent_within : (p : ProblemValue) (t : WorkTreeValue) (slots : List Slot) (q : QueueValue) (best : Option Best) (count number node : ℕ) → IsBoard p t slots q best count → IsLentWith slots number node → node < length t.leaves
 lent_within p t slots q best count number node b l = (lent_leaf_is p t slots q best count number node b (l.within, l.slot)).2
@@ -95,45 +94,52 @@ state_with p t u slots q best count number b same =
 
 -- ---- what is taken
 
-changed : (p : ProblemValue) (t : WorkTreeValue) (node : ℕ) (made : Made) → IsWhole t → IsSome (leaf_at t node) → node < length t.leaves → AreValued p (node_at p (path_to t node)) made → IsChanged p t (with_made t node made) node (entries_of node (length t.leaves) made)
-changed p t node (MadeLeaf part) w some within v = leaf_changed p t node (leaf_of part.leaf) part.value some v
-changed p t node (MadeBranch cut low high) w some within v = branch_changed p t node cut (leaf_of low.leaf) (leaf_of high.leaf) low.value high.value w within v.0 v.1
+-- the parts are whole trees
+pub parts_shape : (p : ProblemValue) (t : WorkTreeValue) (node count : ℕ) (work : Work) (parts : List Part) → MakesPart p t node work parts count → are_trees 1 (part_lines parts) ≡ true
+parts_shape p t node count work parts m = (whole_tree (part_lines parts)).1 (m.made.tree, m.made.lines)
 
 -- what the lent leaf becomes
-part_changed : (p : ProblemValue) (t : WorkTreeValue) (node count : ℕ) (work : Work) (made : Made) → IsWhole t → MakesPart p t node work made count → IsChanged p t (with_made t node made) node (entries_of node (length t.leaves) made)
-part_changed p t node count work made w m = changed p t node made w (some_leaf (leaf_at t node) (Bound m.pairs) m.leaf) (leaf_within t.leaves node (Bound m.pairs) m.leaf) m.valued
+parts_changed : (p : ProblemValue) (t : WorkTreeValue) (node count room : ℕ) (work : Work) (parts : List Part) → IsWhole t → MakesPart p t node work parts count → IsChanged p t (grown (with_room t room) (node ∷ []) parts) node (news (with_room t room) (node ∷ []) parts)
+parts_changed p t node count room work parts w m =
+    let c = one_changed p (with_room t room) node parts w.counted (some_leaf (leaf_at t node) (Bound m.pairs) m.leaf) (parts_shape p t node count work parts m) m.made.valued in
+    record { leaves = c.leaves; paths = c.paths; each = c.each; has = c.has }
 
-taken : (p : ProblemValue) (t : WorkTreeValue) (slots : List Slot) (q : QueueValue) (best : Option Best) (old count number node : ℕ) (work : Work) (made : Made) → IsBoard p t slots q best old → IsLentWith slots number node → MakesPart p t node work made count
-    → Takes p (state_of t slots (times_of best)) number work (state_of (with_made t node made) (set slots number GivenSlot) (times_of best))
-taken p t slots q best old count number node work made b l m =
-    let c = part_changed p t node count work made b.whole m in
-    let tickets = state_with p t (with_made t node made) slots q best old number b c.paths in
+tree_with : (p : ProblemValue) (t : WorkTreeValue) (node count room : ℕ) (work : Work) (parts : List Part) → IsWhole t → (m : MakesPart p t node work parts count) → (grown (with_room t room) (node ∷ []) parts).tree ≡ put t.tree (path_to t node) m.made.tree
+tree_with p t node count room work parts w m = one_tree_grown (with_room t room) node parts m.made.tree w.counted (some_leaf (leaf_at t node) (Bound m.pairs) m.leaf) m.made.lines
+
+taken : (p : ProblemValue) (t : WorkTreeValue) (slots : List Slot) (q : QueueValue) (best : Option Best) (old count number node room : ℕ) (work : Work) (parts : List Part) → IsBoard p t slots q best old → IsLentWith slots number node → MakesPart p t node work parts count
+    → Takes p (state_of t slots (times_of best)) number work (state_of (grown (with_room t room) (node ∷ []) parts) (set slots number GivenSlot) (times_of best))
+taken p t slots q best old count number node room work parts b l m =
+    let c = parts_changed p t node count room work parts b.whole m in
+    let tickets = state_with p t (grown (with_room t room) (node ∷ []) parts) slots q best old number b c.paths in
     record {
       path = path_to t node;
       pairs = m.pairs;
       leaf = has_leaf t slots (times_of best) number node m.pairs b.whole l m.leaf;
-      part = tree_of made;
-      makes = m.makes;
+      part = m.made.tree;
+      makes = m.made.makes;
       small = m.small;
-      state = λ i. record { tree = tree_with t node made i; numbers = tickets i; best = times_of best };
+      state = λ i. record { tree = tree_with p t node count room work parts b.whole m i; numbers = tickets i; best = times_of best };
     }
 
 -- what is given and taken
-pub given : (p : ProblemValue) (t u : WorkTreeValue) (slots : List Slot) (q : QueueValue) (best : Option Best) (old count number node : ℕ) (work : Work) (made : Made) (done : Unit {0}) → IsBoard p t slots q best old → IsLentWith slots number node → MakesPart p t node work made count
-    → u ≡ with_made t node made → Gives p (state_of t slots (times_of best)) number work (Ok done) (state_of u (set slots number GivenSlot) (times_of best))
-given p t u slots q best old count number node work made done b l m e = rw e (taken p t slots q best old count number node work made b l m)
+pub given : (p : ProblemValue) (t u : WorkTreeValue) (slots : List Slot) (q r : QueueValue) (best : Option Best) (old count number node : ℕ) (work : Work) (parts : List Part) (done : Unit {0}) → IsBoard p t slots q best old → IsLentWith slots number node → MakesPart p t node work parts count
+    → IsPlanted t q node parts u r → Gives p (state_of t slots (times_of best)) number work (Ok done) (state_of u (set slots number GivenSlot) (times_of best))
+given p t u slots q r best old count number node work parts done b l m k = rw (k.tree) (taken p t slots q best old count number node k.room work parts b l m)
 
-pub given_board : (p : ProblemValue) (t u : WorkTreeValue) (slots : List Slot) (q r : QueueValue) (best : Option Best) (old count number node : ℕ) (work : Work) (made : Made) → IsBoard p t slots q best old → IsLentWith slots number node → ItemsDiffer (all_of q) → MakesPart p t node work made count
-    → u ≡ with_made t node made → IsWhole u → Replaces q node (entries_of node (length t.leaves) made) r → IsBoard p u (set slots number GivenSlot) r best count
-given_board p t u slots q r best old count number node work made b l differ m e whole k = rw e (record {
-  network = b.network;
-  table = b.table;
-  whole = subst IsWhole e whole;
-  orderly = step_is_orderly p (state_of t slots (times_of best)) (Give number work (Ok tt)) (state_of (with_made t node made) (set slots number GivenSlot) (times_of best)) b.network b.table b.orderly (taken p t slots q best old count number node work made b l m);
-  queue = changed_queue p t (with_made t node made) slots q r number node (entries_of node (length t.leaves) made) b.queue (one_number p t slots (times_of best) b.orderly) differ l.within l.slot (part_changed p t node count work made b.whole m) k;
-  cost = b.cost;
-  pairs = m.count ∙ ap (λ tree. sum_by pairs_in (preorder tree)) (sym (tree_with t node made));
-})
+pub given_board : (p : ProblemValue) (t u : WorkTreeValue) (slots : List Slot) (q r : QueueValue) (best : Option Best) (old count number node : ℕ) (work : Work) (parts : List Part) → IsBoard p t slots q best old → IsLentWith slots number node → ItemsDiffer (all_of q) → MakesPart p t node work parts count
+    → IsPlanted t q node parts u r → IsWhole u → IsBoard p u (set slots number GivenSlot) r best count
+given_board p t u slots q r best old count number node work parts b l differ m k whole =
+    let new = grown (with_room t k.room) (node ∷ []) parts in
+    rw (k.tree) (record {
+      network = b.network;
+      table = b.table;
+      whole = subst IsWhole k.tree whole;
+      orderly = step_is_orderly p (state_of t slots (times_of best)) (Give number work (Ok tt)) (state_of new (set slots number GivenSlot) (times_of best)) b.network b.table b.orderly (taken p t slots q best old count number node k.room work parts b l m);
+      queue = changed_queue p t new slots q r number node (news (with_room t k.room) (node ∷ []) parts) b.queue (one_number p t slots (times_of best) b.orderly) differ l.within l.slot (parts_changed p t node count k.room work parts b.whole m) k.queue;
+      cost = b.cost;
+      pairs = m.count ∙ ap (λ tree. sum_by pairs_in (preorder tree)) (sym (tree_with p t node count k.room work parts b.whole m));
+    })
 
 -- ---- what is left
 
@@ -154,12 +160,14 @@ none_beyond p t slots q is item past has =
     omega (arith, past, within)
 
 -- room for lines
-pub lines_fit : (p : ProblemValue) (t : WorkTreeValue) (node count : ℕ) (work : Work) (made : Made) → IsWhole t → MakesPart p t node work made count → length t.leaves + length (preorder (tree_of made)) ≤ 1000001
-lines_fit p t node count work made w m =
-    let added = put_lines_add_up t.tree (path_to t node) (Bound m.pairs) (tree_of made) (w.stands node (Bound m.pairs) m.leaf) in
+pub lines_fit : (p : ProblemValue) (t : WorkTreeValue) (node count : ℕ) (work : Work) (parts : List Part) → IsWhole t → MakesPart p t node work parts count → length t.leaves + length parts ≤ 1000001
+lines_fit p t node count work parts w m =
+    let added = put_lines_add_up t.tree (path_to t node) (Bound m.pairs) m.made.tree (w.stands node (Bound m.pairs) m.leaf) in
     let most = m.small.lines in
     let lines = w.lines in
-    omega (arith, added, most, lines)
+    let own : length (preorder m.made.tree) ≡ length (part_lines parts) = ap (λ (l : List Line). length l) m.made.lines in
+    let counted = length-map parts part_line in
+    omega (arith, added, most, lines, own, counted)
 
 same_queue : (p : ProblemValue) (t : WorkTreeValue) (slots : List Slot) (q r : QueueValue) → IsQueue p t slots q → IsSameQueue q r → IsQueue p t slots r
 same_queue p t slots q r is same =

@@ -1,14 +1,14 @@
 -- A parked node's entry goes, and other entries wait.
-use Rattle.std.proofs.Common.{◌≡◌, ℕ, ◌+◌, ◌<◌, ◌≤◌, List, ◌∷◌, ◌++◌, length, append_assoc, sym, ap, subst, arith, ◌⊎◌, inl, inr}
+use Rattle.std.proofs.Common.{◌≡◌, ℕ, ◌+◌, ◌<◌, ◌≤◌, List, ◌∷◌, ◌++◌, length, sym, ap, subst, arith, ◌⊎◌, inl, inr}
 use Rattle.std.specs.Prelude.{Option, Some, None, Contains}
 use Rattle.std.specs.List.Sorted.{IsPermutation}
 use Rattle.std.proofs.lemmas.List.{length-append}
 use Rattle.std.proofs.lemmas.List.Elements.{All-contains, Contains-append_cases, Contains-append_left, Contains-append_right}
-use Rattle.std.proofs.lemmas.List.Sorted.{IsPermutation-refl, IsPermutation-sym, IsPermutation-trans, IsPermutation-cons, IsPermutation-append, length_permutation, Contains-permutation}
+use Rattle.std.proofs.lemmas.List.Sorted.{IsPermutation-sym, length_permutation, Contains-permutation}
 use Rattle.pesp_queue.specs.declared.entry.Entry.{Entry}
 use Rattle.pesp_queue.specs.Entries.{entry, HasItem}
 use Rattle.pesp_queue.specs.Queues.{QueueValue, all_of, KeepsLimits}
-use Rattle.pesp_board.specs.Giving.{waits, Replaces}
+use Rattle.pesp_board.specs.Growing.{waits}
 use Rattle.pesp_board.proofs.Counting.{gone}
 use Rattle.pesp_board.proofs.Queues.{none_held, one_held, held_more}
 
@@ -55,12 +55,12 @@ was_held q r node value e k h =
 pub still_fresh : (q r : QueueValue) (node value item : ℕ) → IsWithout q r node value → (HasItem (all_of q) item → ⊥) → HasItem (all_of r) item → ⊥
 still_fresh q r node value item k fresh h = fresh (h.0, was_held q r node value (entry item h.0) k h.1)
 
-waits_item : (node : ℕ) (value : Option ℕ) (e : Entry) → Contains (waits node value) e → e.item ≡ node
+pub waits_item : (node : ℕ) (value : Option ℕ) (e : Entry) → Contains (waits node value) e → e.item ≡ node
 waits_item node None e h = absurd (none_held e h)
 waits_item node (Some value) e h = sym (ap (λ (x : Entry). x.item) (one_held e (entry node value) h))
 
 -- what is there with one more was there, or is that one
-with_held : (r s : QueueValue) (node : ℕ) (value : Option ℕ) (item : ℕ) → IsWith r s node value → HasItem (all_of s) item → (item ≡ node) ⊎ HasItem (all_of r) item
+pub with_held : (r s : QueueValue) (node : ℕ) (value : Option ℕ) (item : ℕ) → IsWith r s node value → HasItem (all_of s) item → (item ≡ node) ⊎ HasItem (all_of r) item
 with_held r s node value item k h =
     let e = entry item h.0 in
     elim (Contains-append_cases s.waiting s.parked e h.1) [
@@ -70,28 +70,6 @@ with_held r s node value item k h =
       ]
       | inr lies ↦ inr (h.0, Contains-append_right r.waiting r.parked e (Contains-permutation _ _ e (IsPermutation-sym _ _ k.parked) lies))
     ]
-
-pub second_fresh : (q r s : QueueValue) (node value first : ℕ) (low : Option ℕ) → IsWithout q r node value → IsWith r s first low → (HasItem (all_of q) (first + 1) → ⊥) → HasItem (all_of s) (first + 1) → ⊥
-second_fresh q r s node value first low k j fresh h =
-    elim (with_held r s first low (first + 1) j h) [ inl same ↦ absurd (omega (arith, same)) | inr old ↦ still_fresh q r node value (first + 1) k fresh old ]
-
--- ---- what is replaced
-
-pub replaced_one : (q r s : QueueValue) (node value : ℕ) (new : Option ℕ) → IsWithout q r node value → IsWith r s node new → Replaces q node (waits node new) s
-replaced_one q r s node value new k j = record {
-  value = value;
-  parked = IsPermutation-trans _ _ _ k.parked (IsPermutation-cons (entry node value) _ _ j.parked);
-  waiting = subst (λ (xs : List Entry). IsPermutation (waits node new ++ xs) s.waiting) k.waiting j.waiting;
-}
-
-pub replaced_by_two : (q r s u : QueueValue) (node value m n : ℕ) (low high : Option ℕ) → IsWithout q r node value → IsWith r s m low → IsWith s u n high → Replaces q node (waits n high ++ waits m low) u
-replaced_by_two q r s u node value m n low high k j i =
-    let more : IsPermutation (waits n high ++ (waits m low ++ r.waiting)) u.waiting = IsPermutation-trans _ _ _ (IsPermutation-append (waits n high) (waits n high) (waits m low ++ r.waiting) s.waiting (IsPermutation-refl (waits n high)) j.waiting) i.waiting in
-    record {
-      value = value;
-      parked = IsPermutation-trans _ _ _ k.parked (IsPermutation-cons (entry node value) _ _ (IsPermutation-trans _ _ _ j.parked i.parked));
-      waiting = subst (λ (xs : List Entry). IsPermutation ((waits n high ++ waits m low) ++ xs) u.waiting) k.waiting (rw append_assoc more);
-    }
 
 -- with more room the same items are there
 pub same_fresh : (q r : QueueValue) (item : ℕ) → r.waiting ≡ q.waiting → r.parked ≡ q.parked → (HasItem (all_of q) item → ⊥) → HasItem (all_of r) item → ⊥

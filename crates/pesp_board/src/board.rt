@@ -11,9 +11,10 @@ ghost use Rattle.pesp_board.specs.Lending.{LendsFirst};
 
 use crate::best::Best;
 use crate::certifying::{answer_of, copy_table, shown_times};
-use crate::give::{lent_with, make_at, take};
+use crate::give::{lent_with, make_at};
 use crate::lend::{bound_pairs, is_cheaper, is_lent, lend_entry};
 use crate::making::limits;
+use crate::planting::take;
 use crate::slot::{Slot, lent_node};
 use crate::timetable::judge;
 use pesp_cert::Certificate;
@@ -154,9 +155,9 @@ impl Board {
     {
         limits(&self.problem);
         let node = lent_with(&self.slots, number)?;
-        let (made, pairs) = make_at(alloc, &self.problem, &self.tree, self.pairs, node, work)?;
+        let (parts, pairs) = make_at(alloc, &self.problem, &self.tree, self.pairs, node, work)?;
         items_differ(&self.queue);
-        take(&mut self.tree, &mut self.queue, node, made)?;
+        take(alloc, &mut self.tree, &mut self.queue, node, parts)?;
         self.slots[number as usize] = Slot::Given;
         self.pairs = pairs;
         Ok(())

@@ -6,8 +6,11 @@ mod best;
 mod board;
 mod certifying;
 mod give;
+mod grafting;
 mod lend;
 mod making;
+mod part;
+mod planting;
 mod slot;
 mod timetable;
 

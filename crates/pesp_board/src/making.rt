@@ -13,28 +13,18 @@ ghost use Rattle.pesp_machine.specs.declared.work.Work.TheVariants as works;
 ghost use Rattle.pesp_machine.specs.Leaves.{told};
 ghost use Rattle.pesp_machine.specs.States.{node_at};
 ghost use Rattle.pesp_machine.specs.Events.{Uses, Keeps, LeavesBoth};
-ghost use Rattle.pesp_board.specs.Giving.{AreCuts, HaveValue, IsValued, MakesOf};
+ghost use Rattle.pesp_board.specs.Parts.{IsValued};
+ghost use Rattle.pesp_board.specs.Giving.{AreCuts, HaveValue, MakesOf};
 
 use crate::along::node_along;
+use crate::grafting::judge_lines;
+use crate::part::{Made, Valued};
 use pesp_machine::{GiveRefusal, Work};
 use pesp_nodes::{Node, Problem, are_pairs, leaf_value, offset_range};
 use pesp_problem::{Cut, Memory, Pair, Pairs, Side};
 use pesp_tree::Leaf;
+use pesp_truth::TreeLine;
 use std::alloc::Global;
-
-/// A leaf, and the value under which its node waits, as it is told; there is one for a bound leaf alone.
-#[derive(Debug, Drop)]
-pub(crate) struct Valued {
-    pub(crate) leaf: Leaf,
-    pub(crate) value: Option<u64>,
-}
-
-/// What a work makes of a leaf: another leaf, or a branch with two.
-#[derive(Debug, Drop)]
-pub(crate) enum Made {
-    Leaf(Valued),
-    Branch { cut: Cut, low: Valued, high: Valued },
-}
 
 /// A value as it is told.
 fn tell(value: i128) -> u64
@@ -47,7 +37,7 @@ fn tell(value: i128) -> u64
 }
 
 /// A bound leaf of this value.
-fn bound(pairs: Pairs, value: i128) -> Valued
+pub(crate) fn bound(pairs: Pairs, value: i128) -> Valued
     ensures leaf { leaf_of result.leaf ≡ Bound pairs }
     ensures value { result.value ≡ Some (told value) }
 {
@@ -58,7 +48,7 @@ fn bound(pairs: Pairs, value: i128) -> Valued
 }
 
 /// A leaf that no node waits with.
-fn closed(leaf: Leaf) -> Valued
+pub(crate) fn closed(leaf: Leaf) -> Valued
     ensures leaf { result.leaf ≡ leaf }
     ensures value { result.value ≡ None }
 {
@@ -66,14 +56,14 @@ fn closed(leaf: Leaf) -> Valued
 }
 
 /// The same pairs once more.
-fn copy_of(alloc: Global, pairs: &[Pair]) -> Result<Pairs, Memory>
+pub(crate) fn copy_of(alloc: Global, pairs: &[Pair]) -> Result<Pairs, Memory>
     ensures { IfOk result (λ copy. copy ≡ pairs.now) }
 {
     Ok(Pairs::new(pairs.to_vec(alloc)?))
 }
 
 /// The value of pairs at a node; None where they don't rise, break a limit or have no value there.
-fn judged(problem: &Problem, node: &Node, pairs: &[Pair], weighted: bool) -> Option<i128>
+pub(crate) fn judged(problem: &Problem, node: &Node, pairs: &[Pair], weighted: bool) -> Option<i128>
     requires { IsNodeOf problem.now node.now }
     ensures { MatchOption result ((v : ℤ) → HaveValue problem.now node.now pairs.now weighted v → ⊥) (HaveValue problem.now node.now pairs.now weighted) }
 {
@@ -124,7 +114,7 @@ fn make_nothing(
 }
 
 /// Whether a cycle exists and has no offset left at a node.
-fn is_gap(problem: &Problem, node: &Node, cycle: u32) -> bool
+pub(crate) fn is_gap(problem: &Problem, node: &Node, cycle: u32) -> bool
     requires { IsNodeOf problem.now node.now }
     ensures { IsTrue result ↔ IsSoundLeaf (net_of problem.now) problem.now.table None (Gap cycle) node.now }
 {
@@ -153,7 +143,7 @@ fn splits(range: &(i64, i64), k: &i64) -> bool
 }
 
 /// Whether what a cut names exists, and both sides of the cut have a value of the range.
-fn leaves_both(problem: &Problem, node: &Node, cut: Cut) -> bool
+pub(crate) fn leaves_both(problem: &Problem, node: &Node, cut: Cut) -> bool
     requires { IsNodeOf problem.now node.now }
     ensures { IsTrue result ↔ (CutExists (net_of problem.now) problem.now.table cut × LeavesBoth node.now cut) }
 {
@@ -257,6 +247,25 @@ fn make_branch(
     Ok(Made::Branch { cut, low, high })
 }
 
+/// A whole tree, whose bound leaves aren't below the leaf.
+fn make_tree(
+    alloc: Global,
+    problem: &Problem,
+    path: &[(Cut, Side)],
+    node: Node,
+    old: &[Pair],
+    lines: &Vec<TreeLine>,
+) -> Result<Made, GiveRefusal>
+    requires node { IsNodeOf problem.now node }
+    requires at { node ≡ node_at problem.now path.now }
+    requires old { ArePairs (length problem.now.table) old.now }
+    ensures { MakesOf problem.now node old.now (works.Tree lines.now) result }
+{
+    let worth = leaf_value(problem, &node, old, true);
+    let parts = judge_lines(alloc, problem, path, node, worth, lines)?;
+    Ok(Made::Tree(parts))
+}
+
 /// What a work makes of a bound leaf with these pairs at the end of a path; refused as `NotValid` where it makes nothing.
 pub(crate) fn make(
     alloc: Global,
@@ -275,7 +284,6 @@ pub(crate) fn make(
         Work::Nothing(pairs) => make_nothing(alloc, problem, &node, pairs),
         Work::Gap(cycle) => make_gap(problem, &node, *cycle),
         Work::Split(cut) => make_branch(alloc, problem, path, node, old, *cut),
-        // a stub, until whole trees are taken
-        Work::Tree(_) => Err(GiveRefusal::Memory),
+        Work::Tree(lines) => make_tree(alloc, problem, path, node, old, lines),
     }
 }

@@ -32,9 +32,9 @@ same_content bytes front limit c d text spelt is read =
 accepted : (p q : Pesp) (c d : Content) (verdict : Verdict) → p ≡ q → d ≡ c → IsValid p c → (verdict ≡ Accepted) ↔ IsValid q d → verdict ≡ Accepted
 accepted p q c d verdict same is valid exactly = exactly.1 (rw (← same, is) valid)
 
-pub accepts_what_is_solved : (text before bytes : List ℕ) (left left_instance left_certificate old new : Option (List ℕ)) (period : ℕ) (verdict : Verdict)
-    → Solves (Some text) left period (Appends (Some before) (Some (before ++ bytes))) → Checks (Some text) left_instance (Some bytes) left_certificate period verdict (Appends old new) → verdict ≡ Accepted
-accepts_what_is_solved text before bytes left left_instance left_certificate old new period verdict solved checked =
+pub accepts_what_is_solved : (text before bytes : List ℕ) (left left_instance left_certificate old new : Option (List ℕ)) (period steps : ℕ) (verdict : Verdict)
+    → Solves (Some text) left period steps (Appends (Some before) (Some (before ++ bytes))) → Checks (Some text) left_instance (Some bytes) left_certificate period verdict (Appends old new) → verdict ≡ Accepted
+accepts_what_is_solved text before bytes left left_instance left_certificate old new period steps verdict solved checked =
     let one = ap (λ t. instance_of t period) (solved.read.read.whole) ∙ solved.read.is_instance in
     let other = ap (λ t. instance_of t period) (checked.read.read.whole) ∙ checked.read.is_instance in
     let written = appended_is before bytes (spelling solved.certificate) solved.written in
@@ -46,11 +46,11 @@ accepts_what_is_solved text before bytes left left_instance left_certificate old
     verdict
     (same_instance text period solved.instance checked.instance one other)
     (same_content bytes checked.text 1073741824 solved.certificate checked.certificate solved.has_text written checked.read_certificate.front checked.is_text)
-    solved.valid
+    solved.solved.valid
     checked.exactly
 
-pub instance_is_read : (text : List ℕ) (left left_instance old new : Option (List ℕ)) (period : ℕ) (refusal : ReadRefusal) → Solves (Some text) left period (Appends old new) → RefusesInstance (Some text) left_instance period refusal → ⊥
-instance_is_read text left left_instance old new period refusal solved refused =
+pub instance_is_read : (text : List ℕ) (left left_instance old new : Option (List ℕ)) (period steps : ℕ) (refusal : ReadRefusal) → Solves (Some text) left period steps (Appends old new) → RefusesInstance (Some text) left_instance period refusal → ⊥
+instance_is_read text left left_instance old new period steps refusal solved refused =
     let one = ap (λ t. instance_of t period) (solved.read.read.whole) ∙ solved.read.is_instance in
     let bad : ◌≡◌ {A = Result Pesp ReadRefusal} (Ok solved.instance) (Err refusal) = sym one ∙ refused.whole in
     cc
@@ -62,9 +62,9 @@ certificate_read bytes front c text spelt is =
     let few : length bytes ≤ 1073741824 = omega (arith, short, ap length spelt) in
     ap items_of_text (is ∙ take_all 1073741824 bytes few) ∙ text_read_of bytes c (record { has_text = text; spelt = sym spelt })
 
-pub certificate_is_read : (text before bytes : List ℕ) (left left_instance left_certificate : Option (List ℕ)) (period : ℕ) (refusal : CertRefusal)
-    → Solves (Some text) left period (Appends (Some before) (Some (before ++ bytes))) → RefusesCertificate (Some text) left_instance (Some bytes) left_certificate period refusal → ⊥
-certificate_is_read text before bytes left left_instance left_certificate period refusal solved refused =
+pub certificate_is_read : (text before bytes : List ℕ) (left left_instance left_certificate : Option (List ℕ)) (period steps : ℕ) (refusal : CertRefusal)
+    → Solves (Some text) left period steps (Appends (Some before) (Some (before ++ bytes))) → RefusesCertificate (Some text) left_instance (Some bytes) left_certificate period refusal → ⊥
+certificate_is_read text before bytes left left_instance left_certificate period steps refusal solved refused =
     let written = appended_is before bytes (spelling solved.certificate) solved.written in
     let read = certificate_read bytes refused.bytes solved.certificate solved.has_text written refused.read_certificate.front in
     let bad = sym read ∙ refused.refused in

@@ -1,3 +1,2 @@
-pub mod FirstPaths
 pub mod RunLemmas
 pub mod Joining

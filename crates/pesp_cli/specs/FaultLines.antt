@@ -6,12 +6,14 @@ use Rattle.pesp_stream.specs.declared.reading.ReadFault.{ReadFault}
 use Rattle.pesp_stream.specs.declared.reading.ReadFault.TheVariants.{Memory as ReadMemory, Device}
 use Rattle.pesp_cert.specs.declared.refusal.CertRefusal.{CertRefusal}
 use Rattle.pesp_cert.specs.declared.refusal.CertRefusal.TheVariants.{Header, Line, Number, Limit, Truncated, Trailing, Memory as CertMemory}
+use Rattle.pesp_search.specs.declared.refusal.SolveRefusal.{SolveRefusal}
+use Rattle.pesp_search.specs.declared.refusal.SolveRefusal.TheVariants.{Memory as SearchMemory, TableTooLarge, PairsTooMany}
 use Rattle.pesp_report.specs.declared.refusal.TimesRefusal.{TimesRefusal}
 use Rattle.pesp_report.specs.declared.refusal.TimesRefusal.TheVariants.{BadLine, WrongCount, Memory as TimesMemory}
 use Rattle.pesp_report.specs.declared.refusal.ReportRefusal.{ReportRefusal}
 use Rattle.pesp_report.specs.declared.refusal.ReportRefusal.TheVariants.{Violates, NotTimes, Memory as ReportMemory, Write as ReportWrite}
 use Rattle.pesp_cli.specs.declared.fault.Fault.{Fault}
-use Rattle.pesp_cli.specs.declared.fault.Fault.TheVariants.{Instance, Certificate, Times, Report, Memory, Read, Write, NoFile}
+use Rattle.pesp_cli.specs.declared.fault.Fault.TheVariants.{Instance, Certificate, Times, Search, Report, Memory, Read, Write, NoFile}
 
 -- a refusal of memory is told as such
 abbrev pub instance_fault : ReadRefusal → Fault
@@ -25,6 +27,10 @@ certificate_fault refusal = Certificate refusal
 abbrev pub times_fault : TimesRefusal → Fault
 times_fault TimesMemory = Memory
 times_fault refusal = Times refusal
+
+abbrev pub search_fault : SolveRefusal → Fault
+search_fault SearchMemory = Memory
+search_fault refusal = Search refusal
 
 -- and a writer's fault too
 abbrev pub report_fault : ReportRefusal → Fault
@@ -72,6 +78,12 @@ times_line (BadLine n) = codes "1 BadLine line " ++ decimal n
 times_line WrongCount = codes "2 WrongCount"
 times_line TimesMemory = codes "3 Memory"
 
+-- number and name of a refusal of the search
+abbrev pub search_line : SolveRefusal → List ℕ
+search_line SearchMemory = codes "1 Memory"
+search_line TableTooLarge = codes "2 TableTooLarge"
+search_line PairsTooMany = codes "3 PairsTooMany"
+
 -- number, name and row of a refusal of a report
 abbrev pub report_line : ReportRefusal → List ℕ
 report_line (Violates row) = codes "1 Violates row " ++ decimal row
@@ -84,17 +96,19 @@ abbrev pub fault_line : Fault → List ℕ
 fault_line (Instance refusal) = codes "instance: " ++ instance_line refusal
 fault_line (Certificate refusal) = codes "certificate: " ++ certificate_line refusal
 fault_line (Times refusal) = codes "times: " ++ times_line refusal
+fault_line (Search refusal) = codes "search: " ++ search_line refusal
 fault_line (Report refusal) = codes "report: " ++ report_line refusal
 fault_line Memory = codes "memory"
 fault_line Read = codes "device: read"
 fault_line Write = codes "device: write"
 fault_line NoFile = codes "device: no file"
 
--- 1 for times that violate a row, 3 for a text that is refused, 4 for memory and devices
+-- 1 for times that violate a row, 3 for a text that is refused, 4 for memory, devices and a search that passes its limits
 abbrev pub exit_status : Fault → ℕ
 exit_status (Instance refusal) = 3
 exit_status (Certificate refusal) = 3
 exit_status (Times refusal) = 3
+exit_status (Search refusal) = 4
 exit_status (Report refusal) = 1
 exit_status Memory = 4
 exit_status Read = 4

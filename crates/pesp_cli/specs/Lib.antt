@@ -1,4 +1,3 @@
-pub mod FirstPath
 pub mod Runs
 pub mod Verdicts
 pub mod FaultLines

@@ -15,15 +15,17 @@ use Rattle.pesp_cert.specs.declared.refusal.CertRefusal.{CertRefusal}
 use Rattle.pesp_check.specs.Faults.{IsVerdict}
 use Rattle.pesp_check.specs.declared.refusal.Verdict.{Verdict}
 use Rattle.pesp_check.specs.declared.refusal.Verdict.TheVariants.{Accepted}
+use Rattle.pesp_search.specs.Solving.{IsSolved, IsSearchRefusal}
+use Rattle.pesp_search.specs.declared.refusal.SolveRefusal.{SolveRefusal}
+use Rattle.pesp_search.specs.declared.refusal.SolveRefusal.TheVariants.{Memory as SearchMemory}
 use Rattle.pesp_report.specs.TimesText.{times_of}
 use Rattle.pesp_report.specs.Report.{IsReport}
 use Rattle.pesp_report.specs.declared.refusal.TimesRefusal.{TimesRefusal}
 use Rattle.pesp_report.specs.declared.refusal.ReportRefusal.{ReportRefusal}
 use Rattle.pesp_report.specs.declared.refusal.ReportRefusal.TheVariants.{Violates, NotTimes, Memory as ReportMemory, Write as ReportWrite}
 use Rattle.pesp_cli.specs.Verdicts.{verdict_line}
-use Rattle.pesp_cli.specs.FirstPath.{IsFirst}
 use Rattle.pesp_cli.specs.declared.fault.Fault.{Fault}
-use Rattle.pesp_cli.specs.declared.fault.Fault.TheVariants.{Instance, Certificate, Times, Report, Memory, Read, Write, NoFile}
+use Rattle.pesp_cli.specs.declared.fault.Fault.TheVariants.{Instance, Certificate, Times, Search, Report, Memory, Read, Write, NoFile}
 
 -- no call of a reader or a writer failed, and no more than 1000 were interrupted
 abbrev pub HasWorked : ℕ → ℕ → ℕ → ℕ → Type 0
@@ -55,6 +57,7 @@ abbrev pub InstanceCause : Fault → Option (List ℕ) → Option (List ℕ) →
 InstanceCause (Instance refusal) told left period failed = RefusesInstance told left period refusal
 InstanceCause (Certificate refusal) told left period failed = ⊥
 InstanceCause (Times refusal) told left period failed = ⊥
+InstanceCause (Search refusal) told left period failed = ⊥
 InstanceCause (Report refusal) told left period failed = ⊥
 InstanceCause Memory told left period failed = Unit {0}
 InstanceCause Read told left period failed = failed
@@ -67,27 +70,39 @@ FailsInTurn told left period first_failed uncalled second_failed = (first_failed
 
 -- ---- solve
 
--- the reader's text has an instance, and the writer got what the relation says of the text of its first certificate, which is valid and so true
-pub record Solves (told left : Option (List ℕ)) (period : ℕ) (Gets : List ℕ → Type 0) : Type 0 where
+-- the reader's text has an instance, and the writer got what the relation says of the text of a certificate that solves it within so many steps; its answer is true
+pub record Solves (told left : Option (List ℕ)) (period steps : ℕ) (Gets : List ℕ → Type 0) : Type 0 where
   pub instance : Pesp
   pub read : ReadsInstance told left period instance
+  pub used : ℕ
   pub certificate : Content
-  pub first : IsFirst instance certificate
-  pub has_text : HasText certificate
-  pub valid : IsValid instance certificate
+  pub solved : IsSolved instance steps used certificate
   pub is_true : IsTrueAnswer instance certificate.answer (shown_times certificate)
+  pub has_text : HasText certificate
   pub written : Gets (spelling certificate)
 
+-- a limit that the search of the instance passes; memory is told as such
+abbrev pub PassesLimit : Pesp → ℕ → SolveRefusal → Type 0
+PassesLimit p steps SearchMemory = ⊥
+PassesLimit p steps refusal = IsSearchRefusal p steps refusal
+
+-- the reader's text has an instance, and its search within so many steps passes a limit
+pub record RefusesSearch (told left : Option (List ℕ)) (period steps : ℕ) (refusal : SolveRefusal) : Type 0 where
+  pub instance : Pesp
+  pub read : ReadsInstance told left period instance
+  pub refused : PassesLimit instance steps refusal
+
 -- each fault of `solve` and its cause
-abbrev pub SolveCause : Fault → Option (List ℕ) → Option (List ℕ) → ℕ → Option (List ℕ) → Option (List ℕ) → Type 0 → Type 0 → Type 0
-SolveCause (Instance refusal) told left period old new read_failed write_failed = RefusesInstance told left period refusal
-SolveCause (Certificate refusal) told left period old new read_failed write_failed = ⊥
-SolveCause (Times refusal) told left period old new read_failed write_failed = ⊥
-SolveCause (Report refusal) told left period old new read_failed write_failed = ⊥
-SolveCause Memory told left period old new read_failed write_failed = Unit {0}
-SolveCause Read told left period old new read_failed write_failed = read_failed
-SolveCause Write told left period old new read_failed write_failed = write_failed × Solves told left period (AppendsFront old new)
-SolveCause NoFile told left period old new read_failed write_failed = ⊥
+abbrev pub SolveCause : Fault → Option (List ℕ) → Option (List ℕ) → ℕ → ℕ → Option (List ℕ) → Option (List ℕ) → Type 0 → Type 0 → Type 0
+SolveCause (Instance refusal) told left period steps old new read_failed write_failed = RefusesInstance told left period refusal
+SolveCause (Certificate refusal) told left period steps old new read_failed write_failed = ⊥
+SolveCause (Times refusal) told left period steps old new read_failed write_failed = ⊥
+SolveCause (Search refusal) told left period steps old new read_failed write_failed = RefusesSearch told left period steps refusal
+SolveCause (Report refusal) told left period steps old new read_failed write_failed = ⊥
+SolveCause Memory told left period steps old new read_failed write_failed = Unit {0}
+SolveCause Read told left period steps old new read_failed write_failed = read_failed
+SolveCause Write told left period steps old new read_failed write_failed = write_failed × Solves told left period steps (AppendsFront old new)
+SolveCause NoFile told left period steps old new read_failed write_failed = ⊥
 
 -- ---- check
 
@@ -117,6 +132,7 @@ abbrev pub CheckCause : Fault → Option (List ℕ) → Option (List ℕ) → Op
 CheckCause (Instance refusal) told left told_certificate left_certificate period old new first_failed uncalled second_failed write_failed = RefusesInstance told left period refusal × uncalled
 CheckCause (Certificate refusal) told left told_certificate left_certificate period old new first_failed uncalled second_failed write_failed = RefusesCertificate told left told_certificate left_certificate period refusal
 CheckCause (Times refusal) told left told_certificate left_certificate period old new first_failed uncalled second_failed write_failed = ⊥
+CheckCause (Search refusal) told left told_certificate left_certificate period old new first_failed uncalled second_failed write_failed = ⊥
 CheckCause (Report refusal) told left told_certificate left_certificate period old new first_failed uncalled second_failed write_failed = ⊥
 CheckCause Memory told left told_certificate left_certificate period old new first_failed uncalled second_failed write_failed = Unit {0}
 CheckCause Read told left told_certificate left_certificate period old new first_failed uncalled second_failed write_failed = FailsInTurn told left period first_failed uncalled second_failed
@@ -169,6 +185,7 @@ abbrev pub ReportCause : Fault → Option (List ℕ) → Option (List ℕ) → O
 ReportCause (Instance refusal) told left told_times left_times period old new first_failed uncalled second_failed write_failed = RefusesInstance told left period refusal × uncalled
 ReportCause (Certificate refusal) told left told_times left_times period old new first_failed uncalled second_failed write_failed = ⊥
 ReportCause (Times refusal) told left told_times left_times period old new first_failed uncalled second_failed write_failed = RefusesTimes told left told_times left_times period refusal
+ReportCause (Search refusal) told left told_times left_times period old new first_failed uncalled second_failed write_failed = ⊥
 ReportCause (Report refusal) told left told_times left_times period old new first_failed uncalled second_failed write_failed = ReportRefused refusal told left told_times left_times period
 ReportCause Memory told left told_times left_times period old new first_failed uncalled second_failed write_failed = Unit {0}
 ReportCause Read told left told_times left_times period old new first_failed uncalled second_failed write_failed = FailsInTurn told left period first_failed uncalled second_failed

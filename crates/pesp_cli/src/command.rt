@@ -33,9 +33,9 @@ fn steps_option<'a>(alloc: Global) -> Arg<'a> {
     Arg::new(alloc, "steps")
         .long("steps")
         .value_name("N")
-        .value_parser(value_parser!(u32).range(0..=0))
-        .default_value("0")
-        .help("How many leaves of the search are split; 0 alone for now")
+        .value_parser(value_parser!(u32).range(0..=100000))
+        .default_value("1000")
+        .help("How many leaves of the search are split at most, 0 to 100000")
 }
 
 fn file_argument<'a>(alloc: Global) -> Arg<'a> {
@@ -47,7 +47,9 @@ fn file_argument<'a>(alloc: Global) -> Arg<'a> {
 
 fn pesp<'a>(alloc: Global) -> Result<Command<'a>, AllocError> {
     let solve = Command::new(alloc, "solve")
-        .about("Reads an instance from standard input and writes a certificate")
+        .about(
+            "Reads an instance from standard input and writes a best timetable with its certificate",
+        )
         .after_help(INSTANCES)
         .arg(period_option(alloc))?
         .arg(steps_option(alloc))?;
@@ -87,7 +89,7 @@ fn period_of(matches: &ArgMatches<'_>) -> u32
 fn steps_of(matches: &ArgMatches<'_>) -> u32
     ensures { result ≤ 100000 }
 {
-    matches.get_one::<u32>("steps").unwrap_or(0).min(100000)
+    matches.get_one::<u32>("steps").unwrap_or(1000).min(100000)
 }
 
 /// What the words ask for, the program's name first; or clap's error, with the text that it prints.
@@ -110,7 +112,7 @@ pub fn request_of<'a>(alloc: Global, words: &'a [String]) -> Result<Request<'a>,
         }),
         None => Ok(Request::Solve {
             period: 60,
-            steps: 0,
+            steps: 1000,
         }),
     }
 }

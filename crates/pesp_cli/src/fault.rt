@@ -7,6 +7,7 @@ use pesp_cert::CertRefusal;
 use pesp_instance::ReadRefusal;
 use pesp_problem::Memory as NoMemory;
 use pesp_report::{ReportRefusal, TimesRefusal};
+use pesp_search::SolveRefusal;
 use pesp_stream::{ReadFault, WriteFault};
 use std::alloc::AllocError;
 use std::fmt;
@@ -21,6 +22,8 @@ pub enum Fault {
     Certificate(CertRefusal),
     /// The text of the times is refused.
     Times(TimesRefusal),
+    /// The search passes a limit: its table of cycles is too large, or its tree has too many pairs.
+    Search(SolveRefusal),
     /// There is no report of the times.
     Report(ReportRefusal),
     /// A growth of memory was refused.
@@ -71,6 +74,20 @@ impl From<TimesRefusal> for Fault {
         match refusal {
             TimesRefusal::Memory => Fault::Memory,
             _ => Fault::Times(refusal),
+        }
+    }
+}
+
+impl From<SolveRefusal> for Fault {
+    ghost use Rattle.std.specs.Prelude.{◌≡◌};
+    ghost use Rattle.pesp_cli.specs.FaultLines.{search_fault};
+
+    ghost from_gives = { λ refusal fault. fault ≡ search_fault refusal };
+
+    fn from(refusal: SolveRefusal) -> Fault {
+        match refusal {
+            SolveRefusal::Memory => Fault::Memory,
+            _ => Fault::Search(refusal),
         }
     }
 }
@@ -208,6 +225,25 @@ impl fmt::Display for TimesLine<'_> {
     }
 }
 
+/// A refusal of the search: its number and its name.
+#[derive(Drop)]
+struct SearchLine<'a>(&'a SolveRefusal);
+
+impl fmt::Display for SearchLine<'_> {
+    ghost use Rattle.std.specs.Prelude.{Some};
+    ghost use Rattle.pesp_cli.specs.FaultLines.{search_line};
+
+    ghost output = { λ line. Some (search_line line.0.now) };
+
+    fn fmt<W: fmt::Write>(&self, f: &mut fmt::Formatter<W>) -> fmt::Result {
+        match self.0 {
+            SolveRefusal::Memory => f.write_str("1 Memory"),
+            SolveRefusal::TableTooLarge => f.write_str("2 TableTooLarge"),
+            SolveRefusal::PairsTooMany => f.write_str("3 PairsTooMany"),
+        }
+    }
+}
+
 /// A refusal of a report: its number, its name and its row.
 #[derive(Drop)]
 struct ReportLine<'a>(&'a ReportRefusal);
@@ -249,6 +285,10 @@ impl fmt::Display for Fault {
                 let line = TimesLine(refusal);
                 write!(f, "times: {line}")
             }
+            Fault::Search(refusal) => {
+                let line = SearchLine(refusal);
+                write!(f, "search: {line}")
+            }
             Fault::Report(refusal) => {
                 let line = ReportLine(refusal);
                 write!(f, "report: {line}")
@@ -261,14 +301,14 @@ impl fmt::Display for Fault {
     }
 }
 
-/// The exit status of the program for a fault: 1 for times that violate a row, 3 for a text that is refused, 4 for memory
-/// and devices.
+/// The exit status of the program for a fault: 1 for times that violate a row, 3 for a text that is refused, 4 for memory,
+/// devices and a search that passes its limits.
 pub fn status_of(fault: &Fault) -> u8
     ensures { result ≡ exit_status fault.now }
 {
     match fault {
         Fault::Report(_) => 1,
         Fault::Instance(_) | Fault::Certificate(_) | Fault::Times(_) => 3,
-        Fault::Memory | Fault::Read | Fault::Write | Fault::NoFile => 4,
+        Fault::Search(_) | Fault::Memory | Fault::Read | Fault::Write | Fault::NoFile => 4,
     }
 }

@@ -8,11 +8,11 @@ ghost use Rattle.pesp_check.specs.declared.refusal.Verdict.{Verdict};
 ghost use Rattle.pesp_check.specs.declared.refusal.Verdict.TheVariants.{Accepted};
 ghost use Rattle.pesp_cli.specs.Runs.{Solves, Checks, RefusesInstance, RefusesCertificate};
 
-/// The bytes that `run_solve` appended for an instance's text `run_check` accepts for the same text and period, where it
-/// answers Ok.
+/// The bytes that `run_solve` appended for an instance's text, within whichever number of steps, `run_check` accepts for the
+/// same text and period, where it answers Ok.
 pub fn what_is_solved_is_accepted()
-    ensures { (text before bytes : List ℕ) (left left_instance left_certificate old new : Option (List ℕ)) (period : ℕ) (verdict : Verdict)
-        → Solves (Some text) left period (Appends (Some before) (Some (before ++ bytes)))
+    ensures { (text before bytes : List ℕ) (left left_instance left_certificate old new : Option (List ℕ)) (period steps : ℕ) (verdict : Verdict)
+        → Solves (Some text) left period steps (Appends (Some before) (Some (before ++ bytes)))
         → Checks (Some text) left_instance (Some bytes) left_certificate period verdict (Appends old new)
         → verdict ≡ Accepted }
 {}
@@ -20,10 +20,10 @@ pub fn what_is_solved_is_accepted()
 /// And `run_check` refuses neither of the two texts: for them no `Instance` fault and no `Certificate` fault has a cause, so
 /// that memory and devices alone can keep it from its verdict.
 pub fn what_is_solved_is_read()
-    ensures instance { (text : List ℕ) (left left_instance old new : Option (List ℕ)) (period : ℕ) (refusal : ReadRefusal)
-        → Solves (Some text) left period (Appends old new)
+    ensures instance { (text : List ℕ) (left left_instance old new : Option (List ℕ)) (period steps : ℕ) (refusal : ReadRefusal)
+        → Solves (Some text) left period steps (Appends old new)
         → RefusesInstance (Some text) left_instance period refusal → ⊥ }
-    ensures certificate { (text before bytes : List ℕ) (left left_instance left_certificate : Option (List ℕ)) (period : ℕ) (refusal : CertRefusal)
-        → Solves (Some text) left period (Appends (Some before) (Some (before ++ bytes)))
+    ensures certificate { (text before bytes : List ℕ) (left left_instance left_certificate : Option (List ℕ)) (period steps : ℕ) (refusal : CertRefusal)
+        → Solves (Some text) left period steps (Appends (Some before) (Some (before ++ bytes)))
         → RefusesCertificate (Some text) left_instance (Some bytes) left_certificate period refusal → ⊥ }
 {}

@@ -3,7 +3,6 @@
 
 mod command;
 mod fault;
-mod first;
 pub mod laws;
 mod program;
 mod runs;

@@ -1,19 +1,23 @@
 //! The runs: whole texts in, whole texts out.
 
-ghost use Rattle.std.specs.Prelude.{◌≡◌, ◌≢◌, ◌<◌, ◌≤◌, ◌^◌, OnOk, IfOk, IfErr};
+ghost use Rattle.std.specs.Prelude.{◌≡◌, ◌≢◌, ℕ, ◌<◌, ◌≤◌, ◌^◌, OnOk, IfOk, IfErr};
 ghost use Rattle.std.specs.Io.KnownBytes.{Appends};
 ghost use Rattle.pesp_stream.specs.Counts.{DeviceFailed};
+ghost use Rattle.pesp_truth.specs.Truth.{IsTrueAnswer};
+ghost use Rattle.pesp_truth.specs.Certificates.{shown_times};
+ghost use Rattle.pesp_search.specs.Solving.{IsSolved, IsSearchRefusal};
 ghost use Rattle.pesp_cli.specs.Runs.{HasWorked, ReadsInstance, InstanceCause, Solves, SolveCause, Checks, CheckCause, Reports, ReportCause};
 
 use crate::fault::Fault;
-use crate::first::first_certificate;
 use crate::verdict::write_verdict;
-use pesp_cert::{parse, print};
+use pesp_cert::{Certificate, parse, print};
 use pesp_check::{Verdict, check};
 use pesp_instance::read_instance;
 use pesp_problem::Instance;
 use pesp_report::{read_times, report};
+use pesp_search::{SolveRefusal, solve};
 use pesp_stream::{Sink, Source, read_all};
+use pesp_truth::laws::valid_is_true;
 use std::alloc::Global;
 
 /// The longest text of an instance.
@@ -44,11 +48,26 @@ fn read_whole_instance<R: Source>(
     Ok(instance)
 }
 
-/// Reads an instance and writes a certificate for it; nothing is written before the whole certificate stands. `steps` is 0
-/// for now: the certificate is that of the times that are 0 for every event.
+/// A certificate of what the search finds within so many steps.
+fn solved(alloc: Global, instance: &Instance, steps: u32) -> Result<Certificate, SolveRefusal>
+    requires { steps ≤ 100000 }
+    ensures solved { IfOk result (λ certificate. (used : ℕ) × IsSolved instance.now steps used certificate) }
+    ensures is_true { IfOk result (λ certificate. IsTrueAnswer instance.now certificate.answer (shown_times certificate)) }
+    ensures refused { IfErr result (IsSearchRefusal instance.now steps) }
+{
+    valid_is_true();
+    instance.period();
+    let found = solve(alloc, instance, steps)?;
+    Ok(found.certificate)
+}
+
+/// Reads an instance, searches for a best timetable by at most so many splits of a leaf, and writes a certificate of what was
+/// found; nothing is written before the whole certificate stands.
 ///
-/// Where it answers Ok, the bytes written are the text of that certificate, it is valid for the instance of the bytes read,
-/// and its answer is true.
+/// Where it answers Ok, the bytes written are the text of a certificate that is valid for the instance of the bytes read, so
+/// its answer is true. An answer that is open has used all steps. `Search` where the instance's cycles or the search's tree
+/// pass their limits: only with more than 10000000 for the square of the number of rows, or more than 20000000 for the
+/// number of rows times one more than the steps.
 pub fn run_solve<R: Source, W: Sink>(
     alloc: Global,
     reader: &mut R,
@@ -61,11 +80,11 @@ pub fn run_solve<R: Source, W: Sink>(
     requires interrupted_reads { R.interrupted reader.old < 2 ^ 62 }
     requires failed_writes { W.failed writer.old < 2 ^ 62 }
     requires interrupted_writes { W.interrupted writer.old < 2 ^ 62 }
-    ensures ok { OnOk result (Solves (R.remaining reader.old) (R.remaining reader.new) period
+    ensures ok { OnOk result (Solves (R.remaining reader.old) (R.remaining reader.new) period steps
         (Appends (W.contents writer.old) (W.contents writer.new))) }
     ensures reads { OnOk result (HasWorked (R.failed reader.old) (R.interrupted reader.old) (R.failed reader.new) (R.interrupted reader.new)) }
     ensures writes { OnOk result (HasWorked (W.failed writer.old) (W.interrupted writer.old) (W.failed writer.new) (W.interrupted writer.new)) }
-    ensures cause { IfErr result (λ fault. SolveCause fault (R.remaining reader.old) (R.remaining reader.new) period
+    ensures cause { IfErr result (λ fault. SolveCause fault (R.remaining reader.old) (R.remaining reader.new) period steps
         (W.contents writer.old) (W.contents writer.new)
         (DeviceFailed (R.failed reader.old) (R.interrupted reader.old) (R.failed reader.new) (R.interrupted reader.new))
         (DeviceFailed (W.failed writer.old) (W.interrupted writer.old) (W.failed writer.new) (W.interrupted writer.new))) }
@@ -73,9 +92,8 @@ pub fn run_solve<R: Source, W: Sink>(
     // Before the certificate stands the writer isn't called.
     ensures silent { IfErr result (λ fault. fault ≢ Fault.Write → writer.new ≡ writer.old) }
 {
-    let _ = steps;
     let instance = read_whole_instance(alloc, reader, period)?;
-    let certificate = first_certificate(alloc, &instance)?;
+    let certificate = solved(alloc, &instance, steps)?;
     print(&certificate, writer)?;
     Ok(())
 }

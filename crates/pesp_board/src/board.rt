@@ -3,7 +3,9 @@
 ghost use Rattle.std.specs.Prelude.{◌≡◌, IfOk, option_map};
 ghost use Rattle.pesp_queue.specs.Entries.{ItemsDiffer};
 ghost use Rattle.pesp_queue.specs.Queues.{all_of};
+ghost use Rattle.pesp_network.specs.Networks.{KeepsNetLimits};
 ghost use Rattle.pesp_machine.specs.States.{opening, best_cost, least, TellsLeaf};
+ghost use Rattle.pesp_machine.specs.Reached.{IsOrderly};
 ghost use Rattle.pesp_machine.specs.Events.{Lends, Gives, Recalls, Offers};
 ghost use Rattle.pesp_machine.specs.Certificates.{IsProblemOf, IsCertificateOf};
 ghost use Rattle.pesp_truth.specs.Certificates.{IsValid};
@@ -87,7 +89,9 @@ impl Board {
 
     /// The cost of the best times; None where there are none.
     pub fn best(&self) -> Option<u64>
-        ensures { result ≡ best_cost self.now.problem self.now.state }
+        ensures cost { result ≡ best_cost self.now.problem self.now.state }
+        ensures orderly { IsOrderly self.now.problem self.now.state }
+        ensures limits { KeepsNetLimits self.now.problem.network }
     {
         match &self.best {
             None => None,
@@ -98,7 +102,9 @@ impl Board {
     /// The least value of a bound leaf, lent or not, one above 999999999999999999 told as that number; None where there is
     /// no bound leaf.
     pub fn least(&self) -> Option<u64>
-        ensures { result ≡ least self.now.problem self.now.state }
+        ensures value { result ≡ least self.now.problem self.now.state }
+        ensures orderly { IsOrderly self.now.problem self.now.state }
+        ensures limits { KeepsNetLimits self.now.problem.network }
     {
         self.queue.least()
     }

@@ -23,11 +23,11 @@ states_are_kept p events state h r = (run_goes_on p events opening state h (open
 pub runs_are_valid : (i : Pesp) (p : ProblemValue) (events : List Event) (state : State) (content : Content) → KeepsLimits i → IsProblemOf i p → All (IsWalk (net_of p).arcs) p.table → Run p opening events state → IsCertificateOf p i.events state content → IsValid i content
 runs_are_valid i p events state content l o w r c = kept_is_valid i p state content l o w (states_are_kept p events state (let e : p.network.period ≡ i.period = o.period in let some = l.some_period in omega arith) r) c
 
-pub least_never_falls : (p : ProblemValue) (before after : List Event) (old new : State) → 0 < p.network.period → Run p opening before old → Run p old after new → IsAtMost (least p old) (least p new)
-least_never_falls p before after old new h b a = (run_goes_on p after old new h (states_are_kept p before old h b) a).tightens.least
+pub least_never_falls : (p : ProblemValue) (events : List Event) (old new : State) → 0 < p.network.period → IsKept p old → Run p old events new → IsAtMost (least p old) (least p new)
+least_never_falls p events old new h k r = (run_goes_on p events old new h k r).tightens.least
 
-pub best_never_rises : (p : ProblemValue) (before after : List Event) (old new : State) → 0 < p.network.period → Run p opening before old → Run p old after new → IsAtMost (best_cost p new) (best_cost p old)
-best_never_rises p before after old new h b a = (run_goes_on p after old new h (states_are_kept p before old h b) a).tightens.best
+pub best_never_rises : (p : ProblemValue) (events : List Event) (old new : State) → 0 < p.network.period → IsKept p old → Run p old events new → IsAtMost (best_cost p new) (best_cost p old)
+best_never_rises p events old new h k r = (run_goes_on p events old new h k r).tightens.best
 
 -- ---- all that holds of every state
 

@@ -34,12 +34,13 @@ pub fn runs_are_valid()
     ensures { (instance : Pesp) (p : ProblemValue) (events : List Event) (state : State) (content : Content) → KeepsLimits instance → IsProblemOf instance p → All (IsWalk (net_of p).arcs) p.table → Run p opening events state → IsCertificateOf p instance.events state content → IsValid instance content }
 {}
 
-/// However the events go on, the least value doesn't fall, no least value counting as above every number; and the best cost
-/// doesn't rise and, once it is there, is never gone.
+/// From any state whose tree is sound for a least cost of 0 and whose best times are a timetable, however the events go on:
+/// the least value doesn't fall, no least value counting as above every number; and the best cost doesn't rise and, once it is
+/// there, is never gone.
 #[tactic(auto, using(crate::proofs::Runs::least_never_falls, crate::proofs::Runs::best_never_rises))]
 pub fn bounds_only_tighten()
-    ensures least { (p : ProblemValue) (before after : List Event) (old new : State) → 0 < p.network.period → Run p opening before old → Run p old after new → IsAtMost (least p old) (least p new) }
-    ensures best { (p : ProblemValue) (before after : List Event) (old new : State) → 0 < p.network.period → Run p opening before old → Run p old after new → IsAtMost (best_cost p new) (best_cost p old) }
+    ensures least { (p : ProblemValue) (events : List Event) (old new : State) → 0 < p.network.period → IsKept p old → Run p old events new → IsAtMost (least p old) (least p new) }
+    ensures best { (p : ProblemValue) (events : List Event) (old new : State) → 0 < p.network.period → IsKept p old → Run p old events new → IsAtMost (best_cost p new) (best_cost p old) }
 {}
 
 /// In every state that events lead to, the tree is sound for a least cost of 0 and the best times are a timetable.

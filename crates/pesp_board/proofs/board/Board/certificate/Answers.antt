@@ -19,7 +19,7 @@ made c = record { period = c.period-period.result; answer = c.answer_of-answer.r
 made_is : (c : After-new-certificate) → IsCertificateOf c.self.inside.problem c.args.instance.now.events (state c) (made c)
 made_is c =
     says c.self.inside.problem (state c) c.args.instance.now.events c.args.self.now c.least.result c.best.result c.events.result.now c.table.result.now c.network.result.now (made c)
-    c.self.view_is c.network.ensures.network c.period-period.ensures.period c.least.ensures c.best.ensures c.answer_of-answer.ensures c.events.ensures.events c.in_ok-times.ensures c.table.ensures.table c.in_ok-cycles.ensures c.in_ok-tree.ensures.lines
+    c.self.view_is c.network.ensures.network c.period-period.ensures.period c.least.ensures.value c.best.ensures.cost c.answer_of-answer.ensures c.events.ensures.events c.in_ok-times.ensures c.table.ensures.table c.in_ok-cycles.ensures c.in_ok-tree.ensures.lines
 
 pub unwrap-requires : goal.unwrap-requires
 unwrap-requires c =

@@ -39,7 +39,8 @@ fn read_whole_instance<R: Source>(
     requires failed { R.failed reader.old < 2 ^ 63 }
     requires interrupted { R.interrupted reader.old < 2 ^ 63 }
     ensures ok { IfOk result (ReadsInstance (R.remaining reader.old) (R.remaining reader.new) period) }
-    ensures counts { OnOk result (HasWorked (R.failed reader.old) (R.interrupted reader.old) (R.failed reader.new) (R.interrupted reader.new)) }
+    ensures counts { OnOk result (HasWorked (R.failed reader.old) (R.interrupted reader.old)
+        (R.failed reader.new) (R.interrupted reader.new)) }
     ensures cause { IfErr result (λ fault. InstanceCause fault (R.remaining reader.old) (R.remaining reader.new) period
         (DeviceFailed (R.failed reader.old) (R.interrupted reader.old) (R.failed reader.new) (R.interrupted reader.new))) }
 {
@@ -66,8 +67,8 @@ fn solved(alloc: Global, instance: &Instance, steps: u32) -> Result<Certificate,
 ///
 /// Where it answers Ok, the bytes written are the text of a certificate that is valid for the instance of the bytes read, so
 /// its answer is true. An answer that is open has used all steps. `Search` where the instance's cycles or the search's tree
-/// pass their limits: only with more than 10000000 for the square of the number of rows, or more than 20000000 for the
-/// number of rows times one more than the steps.
+/// pass their limits, which they can only where the square of the number of rows is above 10000000, or the number of rows
+/// times one more than the steps above 20000000.
 pub fn run_solve<R: Source, W: Sink>(
     alloc: Global,
     reader: &mut R,
@@ -82,8 +83,10 @@ pub fn run_solve<R: Source, W: Sink>(
     requires interrupted_writes { W.interrupted writer.old < 2 ^ 62 }
     ensures ok { OnOk result (Solves (R.remaining reader.old) (R.remaining reader.new) period steps
         (Appends (W.contents writer.old) (W.contents writer.new))) }
-    ensures reads { OnOk result (HasWorked (R.failed reader.old) (R.interrupted reader.old) (R.failed reader.new) (R.interrupted reader.new)) }
-    ensures writes { OnOk result (HasWorked (W.failed writer.old) (W.interrupted writer.old) (W.failed writer.new) (W.interrupted writer.new)) }
+    ensures reads { OnOk result (HasWorked (R.failed reader.old) (R.interrupted reader.old)
+        (R.failed reader.new) (R.interrupted reader.new)) }
+    ensures writes { OnOk result (HasWorked (W.failed writer.old) (W.interrupted writer.old)
+        (W.failed writer.new) (W.interrupted writer.new)) }
     ensures cause { IfErr result (λ fault. SolveCause fault (R.remaining reader.old) (R.remaining reader.new) period steps
         (W.contents writer.old) (W.contents writer.new)
         (DeviceFailed (R.failed reader.old) (R.interrupted reader.old) (R.failed reader.new) (R.interrupted reader.new))
@@ -117,9 +120,12 @@ pub fn run_check<R: Source, C: Source, W: Sink>(
     ensures ok { IfOk result (λ verdict. Checks (R.remaining instance_reader.old) (R.remaining instance_reader.new)
         (C.remaining certificate_reader.old) (C.remaining certificate_reader.new) period verdict
         (Appends (W.contents writer.old) (W.contents writer.new))) }
-    ensures reads { OnOk result (HasWorked (R.failed instance_reader.old) (R.interrupted instance_reader.old) (R.failed instance_reader.new) (R.interrupted instance_reader.new)) }
-    ensures certificate_reads { OnOk result (HasWorked (C.failed certificate_reader.old) (C.interrupted certificate_reader.old) (C.failed certificate_reader.new) (C.interrupted certificate_reader.new)) }
-    ensures writes { OnOk result (HasWorked (W.failed writer.old) (W.interrupted writer.old) (W.failed writer.new) (W.interrupted writer.new)) }
+    ensures reads { OnOk result (HasWorked (R.failed instance_reader.old) (R.interrupted instance_reader.old)
+        (R.failed instance_reader.new) (R.interrupted instance_reader.new)) }
+    ensures certificate_reads { OnOk result (HasWorked (C.failed certificate_reader.old) (C.interrupted certificate_reader.old)
+        (C.failed certificate_reader.new) (C.interrupted certificate_reader.new)) }
+    ensures writes { OnOk result (HasWorked (W.failed writer.old) (W.interrupted writer.old)
+        (W.failed writer.new) (W.interrupted writer.new)) }
     ensures cause { IfErr result (λ fault. CheckCause fault (R.remaining instance_reader.old) (R.remaining instance_reader.new)
         (C.remaining certificate_reader.old) (C.remaining certificate_reader.new) period
         (W.contents writer.old) (W.contents writer.new)
@@ -156,9 +162,12 @@ pub fn run_report<R: Source, T: Source, W: Sink>(
     ensures ok { OnOk result (Reports (R.remaining instance_reader.old) (R.remaining instance_reader.new)
         (T.remaining times_reader.old) (T.remaining times_reader.new) period
         (Appends (W.contents writer.old) (W.contents writer.new))) }
-    ensures reads { OnOk result (HasWorked (R.failed instance_reader.old) (R.interrupted instance_reader.old) (R.failed instance_reader.new) (R.interrupted instance_reader.new)) }
-    ensures times_reads { OnOk result (HasWorked (T.failed times_reader.old) (T.interrupted times_reader.old) (T.failed times_reader.new) (T.interrupted times_reader.new)) }
-    ensures writes { OnOk result (HasWorked (W.failed writer.old) (W.interrupted writer.old) (W.failed writer.new) (W.interrupted writer.new)) }
+    ensures reads { OnOk result (HasWorked (R.failed instance_reader.old) (R.interrupted instance_reader.old)
+        (R.failed instance_reader.new) (R.interrupted instance_reader.new)) }
+    ensures times_reads { OnOk result (HasWorked (T.failed times_reader.old) (T.interrupted times_reader.old)
+        (T.failed times_reader.new) (T.interrupted times_reader.new)) }
+    ensures writes { OnOk result (HasWorked (W.failed writer.old) (W.interrupted writer.old)
+        (W.failed writer.new) (W.interrupted writer.new)) }
     ensures cause { IfErr result (λ fault. ReportCause fault (R.remaining instance_reader.old) (R.remaining instance_reader.new)
         (T.remaining times_reader.old) (T.remaining times_reader.new) period
         (W.contents writer.old) (W.contents writer.new)

@@ -1,4 +1,5 @@
 use Rattle.std.proofs.Common.{◌≡◌, ◌+◌, ◌-◌, [], ◌∷◌, ◌++◌, length, take, drop, arith, sym, ap, subst, ◌∙◌}
+use Rattle.std.proofs.lemmas.Grind.{common_steps}
 use Rattle.std.proofs.lemmas.List.{length-append}
 use Rattle.std.specs.List.{swap}
 use Rattle.std.specs.List.Sorted.{IsPermutation}
@@ -24,3 +25,6 @@ returns-clause-parked c =
     let moved : IsPermutation (drop n xs) (drop (n + 1) c.join.new.entries) = subst (IsPermutation (drop n xs)) (sym is) (rest_kept xs x x n c.self.invariant.within) in
     subst (λ l. IsPermutation l (drop (n + 1) (take c.add.new.entries.len (c.join.new.entries ++ drop (length c.join.new.entries) c.add.new.entries.items)))) v
     (subst (λ l. IsPermutation (drop n xs) (drop (n + 1) l)) (sym after) moved)
+
+pub returns-clause-waiting : goal.returns-clause-waiting
+returns-clause-waiting c = grind (arith, common_steps)

@@ -1,0 +1,47 @@
+//! What the lines of a case give.
+
+use crate::devices::Device;
+use crate::pieces::{add_piece, is_piece};
+use pesp_cases::{small, split_word, words_of};
+use std::alloc::Global;
+
+/// The text whose pieces stand behind the line of this name, `instance` or `input`.
+pub(crate) fn text_of(alloc: Global, lines: &[&str], name: &str) -> Option<Vec<u8>> {
+    let mut bytes = Vec::new(alloc);
+    let mut within = false;
+    for line in lines {
+        if !is_piece(line) {
+            within = *line == name;
+        } else if within {
+            add_piece(alloc, &mut bytes, line)?;
+        }
+    }
+    Some(bytes)
+}
+
+/// The period of the line `period N`, or 10.
+pub(crate) fn period_of(lines: &[&str]) -> Option<u32> {
+    for line in lines {
+        let (word, rest) = split_word(line);
+        if word == "period" {
+            return rest.parse().ok();
+        }
+    }
+    Some(10)
+}
+
+/// The device of the line `device NAME PIECE INTERRUPTED CALLS END`, or one that never fails.
+pub(crate) fn device_of(alloc: Global, lines: &[&str], name: &str) -> Option<Device> {
+    for line in lines {
+        let words = words_of(alloc, line)?;
+        if words.first().copied() == Some("device") && words.get(1).copied() == Some(name) {
+            return Some(Device {
+                piece: usize::try_from(small(&words, 2)?).ok()?,
+                interrupted: small(&words, 3)?,
+                calls: small(&words, 4)?,
+                takes_none: words.get(5).copied() == Some("none"),
+            });
+        }
+    }
+    Some(Device::whole())
+}

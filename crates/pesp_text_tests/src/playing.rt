@@ -1,0 +1,59 @@
+//! A case from its first line to its last.
+
+use crate::certificates::{ask_certificate, make_certificate};
+use crate::commands::ask_command;
+use crate::instances::{ask_instance, ask_score};
+use crate::pieces::is_piece;
+use crate::reports::{ask_report, ask_times};
+use crate::runs::{ask_check, ask_run_report, ask_solve};
+use crate::spellings::{ask_lines, ask_number, ask_words};
+use crate::streams::{ask_bytes, ask_pages};
+use pesp_cases::split_word;
+use std::alloc::Global;
+
+/// What is told of a case: its name, and each question with its answer.
+pub(crate) fn play(alloc: Global, lines: &[&str]) -> Option<String> {
+    let mut told = String::new(alloc);
+    for line in lines {
+        told.push_str(tell(alloc, lines, line)?.as_str()).ok()?;
+    }
+    Some(told)
+}
+
+/// A line with its answer; nothing of what is given.
+fn tell(alloc: Global, lines: &[&str], line: &str) -> Option<String> {
+    if is_piece(line) {
+        return Some(String::new(alloc));
+    }
+    let (word, rest) = split_word(line);
+    match word {
+        "instance" | "input" | "period" | "device" => Some(String::new(alloc)),
+        "case" => format!(in alloc; "{line}\n").ok(),
+        _ => {
+            let answer = answer_of(alloc, lines, word, rest)?;
+            format!(in alloc; "{line}: {answer}\n").ok()
+        }
+    }
+}
+
+/// The answer to a question.
+fn answer_of(alloc: Global, lines: &[&str], word: &str, rest: &str) -> Option<String> {
+    match word {
+        "solve" => ask_solve(alloc, lines, rest),
+        "check" => ask_check(alloc, lines),
+        "report" => ask_run_report(alloc, lines),
+        "command" => ask_command(alloc, rest),
+        "read" => ask_instance(alloc, lines),
+        "score" => ask_score(alloc, lines, rest),
+        "times" => ask_times(alloc, lines),
+        "reported" => ask_report(alloc, lines, rest),
+        "parse" => ask_certificate(alloc, lines, rest),
+        "made" => make_certificate(alloc, rest),
+        "number" => ask_number(alloc, rest),
+        "words" => ask_words(alloc, rest),
+        "lines" => ask_lines(alloc, lines),
+        "bytes" => ask_bytes(alloc, lines, rest),
+        "pages" => ask_pages(alloc, lines),
+        _ => None,
+    }
+}

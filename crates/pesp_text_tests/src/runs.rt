@@ -1,0 +1,64 @@
+//! Whole runs.
+
+use crate::drain::drain_of;
+use crate::feed::feed_of;
+use crate::given::{device_of, period_of, text_of};
+use crate::telling::{tell_fault, tell_written};
+use pesp_cli::{run_check, run_report, run_solve, status_of_verdict};
+use std::alloc::Global;
+
+/// What `solve` writes in so many steps.
+pub(crate) fn ask_solve(alloc: Global, lines: &[&str], steps: &str) -> Option<String> {
+    let instance = text_of(alloc, lines, "instance")?;
+    let steps = steps.parse::<u32>().ok()?.min(100_000);
+    let mut reader = feed_of(&instance, device_of(alloc, lines, "instance")?);
+    let mut writer = drain_of(alloc, device_of(alloc, lines, "output")?);
+    let answer = run_solve(alloc, &mut reader, &mut writer, period_of(lines)?, steps);
+    let taken = writer.into_inner().taken;
+    match answer {
+        Ok(()) => tell_written(alloc, 0, &taken),
+        Err(fault) => tell_fault(alloc, &fault, &taken),
+    }
+}
+
+/// What `check` writes.
+pub(crate) fn ask_check(alloc: Global, lines: &[&str]) -> Option<String> {
+    let instance = text_of(alloc, lines, "instance")?;
+    let input = text_of(alloc, lines, "input")?;
+    let mut first = feed_of(&instance, device_of(alloc, lines, "instance")?);
+    let mut second = feed_of(&input, device_of(alloc, lines, "input")?);
+    let mut writer = drain_of(alloc, device_of(alloc, lines, "output")?);
+    let answer = run_check(
+        alloc,
+        &mut first,
+        &mut second,
+        &mut writer,
+        period_of(lines)?,
+    );
+    let taken = writer.into_inner().taken;
+    match answer {
+        Ok(verdict) => tell_written(alloc, status_of_verdict(verdict), &taken),
+        Err(fault) => tell_fault(alloc, &fault, &taken),
+    }
+}
+
+/// What `report` writes.
+pub(crate) fn ask_run_report(alloc: Global, lines: &[&str]) -> Option<String> {
+    let instance = text_of(alloc, lines, "instance")?;
+    let input = text_of(alloc, lines, "input")?;
+    let mut first = feed_of(&instance, device_of(alloc, lines, "instance")?);
+    let mut second = feed_of(&input, device_of(alloc, lines, "input")?);
+    let mut writer = drain_of(alloc, device_of(alloc, lines, "output")?);
+    let answer = run_report(
+        alloc,
+        &mut first,
+        &mut second,
+        &mut writer,
+        period_of(lines)?,
+    );
+    let taken = writer.into_inner().taken;
+    match answer {
+        Ok(()) => tell_written(alloc, 0, &taken),
+        Err(fault) => tell_fault(alloc, &fault, &taken),
+    }
+}

@@ -1,0 +1,46 @@
+//! Numbers, words and lines.
+
+use crate::given::text_of;
+use crate::pieces::bytes_of;
+use pesp_text::{Lines, Words, count_words, is_word, natural, whole};
+use std::alloc::Global;
+
+/// The natural and the whole number that a word spells.
+pub(crate) fn ask_number(alloc: Global, rest: &str) -> Option<String> {
+    let word = bytes_of(alloc, rest)?;
+    let first = match natural(&word) {
+        Some(number) => format!(in alloc; "{number}").ok()?,
+        None => String::from_str(alloc, "none").ok()?,
+    };
+    match whole(&word) {
+        Some(number) => format!(in alloc; "{first}, {number}").ok(),
+        None => format!(in alloc; "{first}, none").ok(),
+    }
+}
+
+/// How many words a line has, where single spaces part them, and how many of them are `time`.
+pub(crate) fn ask_words(alloc: Global, rest: &str) -> Option<String> {
+    let line = bytes_of(alloc, rest)?;
+    let Some(count) = count_words(&line) else {
+        return String::from_str(alloc, "none").ok();
+    };
+    let mut named = 0u32;
+    for word in Words::new(&line) {
+        if is_word(word, "time") {
+            named = named.saturating_add(1);
+        }
+    }
+    format!(in alloc; "{count}, {named} of them time").ok()
+}
+
+/// How many lines the input has, and how many bytes are in them.
+pub(crate) fn ask_lines(alloc: Global, lines: &[&str]) -> Option<String> {
+    let text = text_of(alloc, lines, "input")?;
+    let mut count = 0usize;
+    let mut bytes = 0usize;
+    for line in Lines::new(&text) {
+        count = count.wrapping_add(1);
+        bytes = bytes.wrapping_add(line.len());
+    }
+    format!(in alloc; "{count} lines, {bytes} bytes").ok()
+}

@@ -1,0 +1,34 @@
+//! Answers of runs.
+
+use pesp_cli::{Fault, status_of};
+use std::alloc::Global;
+
+/// The lines of a text, each with a `/` for its end.
+pub(crate) fn joined(alloc: Global, bytes: &[u8]) -> Option<String> {
+    let mut text = String::new(alloc);
+    for byte in bytes {
+        let letter = if *byte == b'\n' {
+            '/'
+        } else {
+            char::from(*byte)
+        };
+        text.push(letter).ok()?;
+    }
+    Some(text)
+}
+
+/// The status and what was written.
+pub(crate) fn tell_written(alloc: Global, status: u8, taken: &[u8]) -> Option<String> {
+    let text = joined(alloc, taken)?;
+    format!(in alloc; "{status} {text}").ok()
+}
+
+/// The status and the line of a fault, and what was written before it.
+pub(crate) fn tell_fault(alloc: Global, fault: &Fault, taken: &[u8]) -> Option<String> {
+    let status = status_of(fault);
+    if taken.is_empty() {
+        return format!(in alloc; "{status} {fault}").ok();
+    }
+    let text = joined(alloc, taken)?;
+    format!(in alloc; "{status} {fault}, behind {text}").ok()
+}

@@ -22,6 +22,3 @@ pub use pair::{Pair, Pairs};
 pub use row::{Row, SignedRow};
 pub use scoring::{score, slack_of};
 pub use walk::Walk;
-
-#[cfg(test)]
-mod tests;

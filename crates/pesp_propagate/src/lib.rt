@@ -21,6 +21,3 @@ pub use diving::dive;
 pub use domains::Domains;
 pub use outcome::Outcome;
 pub use propagation::propagate;
-
-#[cfg(test)]
-mod tests;

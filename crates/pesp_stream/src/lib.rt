@@ -23,6 +23,3 @@ pub use reading::{MOST_INTERRUPTED, ReadFault, Unread, read_all, read_repeating}
 pub use sink::Sink;
 pub use source::Source;
 pub use writing::{WriteFault, write_all};
-
-#[cfg(test)]
-mod tests;

@@ -10,6 +10,3 @@ pub use lines::Lines;
 pub use number::{natural, whole};
 pub use split::split_at_byte;
 pub use words::{Words, count_words, is_word};
-
-#[cfg(test)]
-mod tests;

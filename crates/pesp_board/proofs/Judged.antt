@@ -18,7 +18,7 @@ use Rattle.pesp_nodes.specs.Problems.{ProblemValue, net_of, IsNodeOf, IsSmallTab
 use Rattle.pesp_machine.specs.declared.work.Work.TheVariants as works
 use Rattle.pesp_machine.specs.declared.refusal.GiveRefusal.{GiveRefusal}
 use Rattle.pesp_machine.specs.declared.refusal.GiveRefusal.TheVariants.{UnknownJob, AlreadyGiven, NotValid, Memory, TooLarge}
-use Rattle.pesp_machine.specs.States.{root_of, node_at}
+use Rattle.pesp_machine.specs.States.{root_of}
 use Rattle.pesp_machine.specs.Events.{IsGraft}
 use Rattle.pesp_board.specs.declared.part.Part.{Part}
 use Rattle.pesp_board.specs.declared.part.Part.TheVariants.{Cut as CutPart, Leaf as LeafPart}
@@ -107,13 +107,13 @@ pub record AreJudged (p : ProblemValue) (worth : Option ℤ) (node : Node) (line
   pub valued : (rest : List Part) → AreValued p nodes rest → AreValued p (node ∷ []) (parts ++ rest)
   pub reached : AreReached p nodes
 
-pub judged_none : (p : ProblemValue) (worth : Option ℤ) (node : Node) (lines : List Line) (path : List (Cut × Side)) → node ≡ node_at p path → IsNodeOf p node → AreJudged p worth node lines lines (node ∷ []) []
-judged_none p worth node lines path e h = record {
+pub judged_none : (p : ProblemValue) (worth : Option ℤ) (node : Node) (lines : List Line) → IsReached p node → AreJudged p worth node lines lines (node ∷ []) []
+judged_none p worth node lines r = record {
   grafts = λ a. a;
   needed = λ a. a;
   said = refl;
   valued = λ rest v. v;
-  reached = (record { path = path; at = e; fits = h }, tt);
+  reached = (r, tt);
 }
 
 lines_more : (parts : List Part) (part : Part) → part_lines (parts ++ part ∷ []) ≡ part_lines parts ++ part_line part ∷ []

@@ -148,13 +148,15 @@ impl Board {
 
     /// Takes work on the leaf with which the number is lent, and the number is given: a `Leaf` keeps the pairs of the greater
     /// value, the old ones where both are equal; `Nothing` and `Gap` close the leaf; a `Split` makes two leaves that keep the
-    /// pairs, or are gaps where one of the pairs' cycles has no offset left.
+    /// pairs, or are gaps where one of the pairs' cycles has no offset left; the lines of a `Tree`, in preorder, take the leaf's
+    /// place.
     ///
     /// Refused as `UnknownJob` where the number was never lent or was recalled, as `AlreadyGiven` where something was taken for
     /// it, as `NotValid` where at the leaf's node the pairs of a `Leaf` have no value, a `Nothing` or a `Gap` isn't sound, or a
     /// cut leaves a side of its range no value (and where pairs don't rise or break their limits, or a row or a cycle doesn't
-    /// exist), as `TooLarge` where the tree would have more than 1000000 lines or 20000000 pairs, and as `Memory` where a growth
-    /// was refused. Then nothing has changed.
+    /// exist), or the lines of a `Tree` aren't one whole tree, or a bound leaf of it has no value at its node or one below that
+    /// of the leaf that is replaced; as `TooLarge` where the tree would have more than 1000000 lines or 20000000 pairs, and as
+    /// `Memory` where a growth was refused. Then nothing has changed.
     pub fn give(&mut self, alloc: Global, number: u64, work: &Work) -> Result<(), GiveRefusal>
         ensures state { Gives self.old.problem self.old.state number work.now result self.new.state }
         ensures problem { self.new.problem ≡ self.old.problem }

@@ -4,15 +4,14 @@ ghost use Rattle.std.specs.Prelude.{◌≡◌, ◌↔◌, ◌≤ℤ◌, map, IsT
 ghost use Rattle.pesp_truth.specs.Trees.{Bound, Nothing, Gap, EndLine, CutLine};
 ghost use Rattle.pesp_truth.specs.Certificates.{line_of};
 ghost use Rattle.pesp_nodes.specs.Problems.{IsNodeOf};
-ghost use Rattle.pesp_machine.specs.States.{node_at};
 ghost use Rattle.pesp_board.specs.Parts.{part_line};
-ghost use Rattle.pesp_board.specs.Grafting.{MakesPartOf, IsJudged, after_first, StandsFirst};
+ghost use Rattle.pesp_board.specs.Grafting.{MakesPartOf, IsReached, IsJudged, after_first, StandsFirst};
 
 use crate::making::{bound, closed, copy_of, is_gap, judged, leaves_both, limits};
 use crate::part::Part;
 use pesp_machine::GiveRefusal;
 use pesp_nodes::{Node, NodeWalk, Problem};
-use pesp_problem::{Cut, Memory, Pair, Side};
+use pesp_problem::{Cut, Memory, Pair};
 use pesp_tree::Leaf;
 use pesp_truth::TreeLine;
 use std::alloc::Global;
@@ -141,18 +140,16 @@ fn pass(walk: &mut NodeWalk, part: &Part) -> Result<(), Memory>
     }
 }
 
-/// The parts that lines make of a bound leaf of this worth, or of one without a worth, at the end of a path; refused as
-/// `NotValid` where they aren't one whole tree that may stand there.
+/// The parts that lines make of a bound leaf of this worth, or of one without a worth, at a node that a path leads to; refused
+/// as `NotValid` where they aren't one whole tree that may stand there.
 pub(crate) fn judge_lines(
     alloc: Global,
     problem: &Problem,
-    path: &[(Cut, Side)],
     node: Node,
     worth: Option<i128>,
     lines: &[TreeLine],
 ) -> Result<Vec<Part>, GiveRefusal>
-    requires node { IsNodeOf problem.now node }
-    requires at { node ≡ node_at problem.now path.now }
+    requires { IsReached problem.now node }
     ensures { IsJudged problem.now worth node (map line_of lines.now) result }
 {
     limits(problem);

@@ -14,6 +14,7 @@ ghost use Rattle.pesp_machine.specs.Leaves.{told};
 ghost use Rattle.pesp_machine.specs.States.{node_at};
 ghost use Rattle.pesp_machine.specs.Events.{Uses, Keeps, LeavesBoth};
 ghost use Rattle.pesp_board.specs.Parts.{IsValued};
+ghost use Rattle.pesp_board.specs.Grafting.{IsReached};
 ghost use Rattle.pesp_board.specs.Giving.{AreCuts, HaveValue, MakesOf};
 
 use crate::along::node_along;
@@ -251,18 +252,16 @@ fn make_branch(
 fn make_tree(
     alloc: Global,
     problem: &Problem,
-    path: &[(Cut, Side)],
     node: Node,
     old: &[Pair],
     lines: &Vec<TreeLine>,
 ) -> Result<Made, GiveRefusal>
-    requires node { IsNodeOf problem.now node }
-    requires at { node ≡ node_at problem.now path.now }
+    requires node { IsReached problem.now node }
     requires old { ArePairs (length problem.now.table) old.now }
     ensures { MakesOf problem.now node old.now (works.Tree lines.now) result }
 {
     let worth = leaf_value(problem, &node, old, true);
-    let parts = judge_lines(alloc, problem, path, node, worth, lines)?;
+    let parts = judge_lines(alloc, problem, node, worth, lines)?;
     Ok(Made::Tree(parts))
 }
 
@@ -284,6 +283,6 @@ pub(crate) fn make(
         Work::Nothing(pairs) => make_nothing(alloc, problem, &node, pairs),
         Work::Gap(cycle) => make_gap(problem, &node, *cycle),
         Work::Split(cut) => make_branch(alloc, problem, path, node, old, *cut),
-        Work::Tree(lines) => make_tree(alloc, problem, path, node, old, lines),
+        Work::Tree(lines) => make_tree(alloc, problem, node, old, lines),
     }
 }

@@ -9,3 +9,6 @@ returns-in-Nothing c = rw (c.in-Nothing.is) (subst (λ (n : Node). MakesOf c.arg
 
 pub returns-in-Gap : goal.returns-in-Gap
 returns-in-Gap c = rw (c.in-Gap.is) (subst (λ (n : Node). MakesOf c.args.problem.now n c.args.old.now (works.Gap c.in-Gap.cycle) c.make_gap.result) c.in_ok-node.ensures.at (c.make_gap.ensures c.args.old.now))
+
+pub make_tree-requires-clause-node : goal.make_tree-requires-clause-node
+make_tree-requires-clause-node c = record { path = c.args.path.now; at = c.in_ok-node.ensures.at; fits = c.in_ok-node.ensures.node }

@@ -1,0 +1,23 @@
+-- What came was judged, the working numbers are 0, and the reader worked.
+use Rattle.std.proofs.Common.{◌≡◌, ◌-◌, ◌+◌, ◌≤◌, length}
+use Rattle.pesp_items.specs.Views.{reading}
+use Rattle.pesp_items.proofs.Telling.{at_first}
+use Rattle.pesp_check.specs.Nets.{AreZeros}
+use Rattle.pesp_check_text.specs.Views.{kept}
+use Rattle.pesp_check_text.proofs.Texts.{IsCheckedTo}
+use Rattle.pesp_check_text.proofs.checking.check_text.Given as goal
+
+abbrev pub invariant-loop-judge : goal.invariant-loop-judge
+invariant-loop-judge g l = record {
+  checked : IsCheckedTo l.instance (at_first (g.S.Source.remaining l.initial.source) 1073741824) (reading (g.S.Source.remaining l.source) l.items) l.judge.stage (kept l.judge);
+  instance : l.judge.instance.now ≡ l.instance;
+  line : l.judge.line ≤ l.items.n + 1;
+  zeros : AreZeros l.working.items;
+  long : length l.working.items ≡ length l.instance.rows;
+  most : l.items.most ≡ l.initial.items.most;
+  failed : g.S.Source.failed l.source ≡ g.S.Source.failed l.initial.source;
+  interrupted : g.S.Source.interrupted l.source ≤ l.items.most;
+}
+
+abbrev pub decreases-loop-judge : goal.decreases-loop-judge
+decreases-loop-judge g l = 1073741824 - l.items.n

@@ -1,0 +1,30 @@
+use Rattle.std.proofs.Common.{◌∙◌, refl, sym, subst, length, List}
+use Rattle.pesp_check_text.specs.Views.{kept}
+use Rattle.pesp_check.specs.declared.nets.NetCount.{NetCount}
+use Rattle.pesp_check.specs.Flows.{AreNets}
+use Rattle.pesp_check_text.proofs.Fronts.{of_none}
+use Rattle.pesp_check_text.proofs.Lines.{nets_are, line_found, line_taken, line_refused}
+use Rattle.pesp_check_text.proofs.judge.Judge.judge_line.Goals as goal
+
+pub returns-in-Some-found-clause-judged : goal.returns-in-Some-found-clause-judged
+returns-in-Some-found-clause-judged c c' rest whole before =
+    let j = c.args.self.now in
+    let p = c.args.self.now.instance.now in
+    let line = c.args.tree_line.now in
+    let P : List (List NetCount) → Type 0 = AreNets (length p.rows) c'.cycles in
+    let nets = subst P (sym c.deref.ensures.value) (nets_are p c' line rest (kept j) j.stage c.requires.stage before) in
+    let walk = sym c.take.ensures.value ∙ c.in-Some.is in
+    let verdict = line_found p c' line rest (kept j) j.stage c.requires.stage before c.in-Some.walk c.take_line.new.walk _ _ c.in_ok-found.found walk c.least_of-least.ensures (c.in_ok-found.ensures.verdict c'.cycles nets) in
+    line_refused p c' line rest (kept j) j.stage c.requires.stage before c.in-Some-found.refusal _ _ refl refl whole (rw c.in-Some-found.is at verdict)
+
+pub returns-clause-judged : goal.returns-clause-judged
+returns-clause-judged c c' rest whole before =
+    let j = c.args.self.now in
+    let p = c.args.self.now.instance.now in
+    let line = c.args.tree_line.now in
+    let P : List (List NetCount) → Type 0 = AreNets (length p.rows) c'.cycles in
+    let nets = subst P (sym c.deref.ensures.value) (nets_are p c' line rest (kept j) j.stage c.requires.stage before) in
+    let walk = sym c.take.ensures.value ∙ c.in-Some.is in
+    let verdict = line_found p c' line rest (kept j) j.stage c.requires.stage before c.in-Some.walk c.take_line.new.walk _ _ c.in_ok-found.found walk c.least_of-least.ensures (c.in_ok-found.ensures.verdict c'.cycles nets) in
+    let sound = of_none c.in_ok-found.found _ _ c.in_default-found.not-Some verdict in
+    line_taken p c' line rest (kept j) j.stage c.requires.stage before c.take_line.new.walk _ refl sound.0 sound.1

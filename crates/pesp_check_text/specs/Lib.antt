@@ -1,0 +1,5 @@
+pub mod Items
+pub mod CheckFaults
+pub mod Texts
+pub mod Judging
+pub mod Views

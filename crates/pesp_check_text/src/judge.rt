@@ -1,0 +1,345 @@
+//! The judge of a text's items, one after another.
+
+ghost use Rattle.std.specs.Prelude.{◌≡◌, ℕ, ◌+◌, ◌<◌, ◌≤◌, ◌^◌, List, ◌∷◌, ◌++◌, [], true, false, length, map, All, Option, IfOk, OnOk, IfNone, ◌≢◌, MatchOption, ◌⊎◌};
+ghost use Rattle.std.specs.Option.{ForSome, is_some};
+ghost use Rattle.pesp_truth.specs.Trees.{are_trees};
+ghost use Rattle.pesp_truth.specs.Certificates.{Content, lines_of, ShowsAnswer};
+ghost use Rattle.pesp_lines.specs.declared.item.Item.{Item};
+ghost use Rattle.pesp_lines.specs.declared.item.Item.TheVariants as items;
+ghost use Rattle.pesp_cert.specs.Texts.{tree_item, is_end};
+ghost use Rattle.pesp_check.specs.Nets.{AreZeros, AreSmallCounts};
+ghost use Rattle.pesp_check.specs.Lines.{KeepsLineLimits};
+ghost use Rattle.pesp_check.specs.Faults.{IsVerdict};
+ghost use Rattle.pesp_check_text.specs.Items.{KeepsItemLimits, begins_later, begins_tree};
+ghost use Rattle.pesp_check_text.specs.declared.stage.Stage.TheVariants as stages;
+ghost use Rattle.pesp_check_text.specs.Judging.{Kept, JudgedAt, behind, IsFrontFault, is_front, is_before_tree};
+
+use crate::stage::Stage;
+use pesp_check::parts::{
+    Nets, NodeWalk, judge_answer, judge_cycle, least_of, nets_of, root, take_line,
+};
+use pesp_check::{Refusal, Verdict};
+use pesp_lines::{Item, LinePairs, SignedRows};
+use pesp_problem::{Instance, Pairs, Walk};
+use pesp_truth::{Answer, TreeLine};
+use std::alloc::{AllocError, Global};
+
+/// What is kept of a text while its items come: the number of the last line, the period, the answer, the times, the net
+/// counts of the cycles, and the present node of the tree with the way to it.
+#[derive(Drop)]
+pub struct Judge<'a> {
+    instance: &'a Instance,
+    line: u64,
+    period: u32,
+    answer: Answer,
+    times: Vec<(i64, u32)>,
+    table: Vec<Nets>,
+    walk: Option<NodeWalk<'a>>,
+    stage: Stage,
+    ghost small: { All (AreSmallCounts (length instance.now.rows)) table.items },
+    ghost few: { length table.items ≤ line },
+    ghost begun: { is_before_tree stage ≡ true → is_some walk ≡ false },
+    ghost standing: { ForSome walk (λ w. (w.problem ≡ instance.now) × (w.cycles ≡ length table.items)) },
+}
+
+/// What is wrong with a period, or with an answer and the times that are shown with it.
+fn front_fault(
+    alloc: Global,
+    instance: &Instance,
+    period: u32,
+    answer: Answer,
+    times: &[(i64, u32)],
+) -> Result<Option<Refusal>, AllocError>
+    ensures { IfOk result (λ found. MatchOption found
+        ((period ≡ instance.now.period) × ShowsAnswer instance.now answer (map (λ t. t.0) times.now) (map (λ t. t.1) times.now))
+        (λ refusal. IsFrontFault instance.now period answer (map (λ t. t.0) times.now) (map (λ t. t.1) times.now) refusal)) }
+{
+    if period != instance.period() {
+        return Ok(Some(Refusal::OtherPeriod));
+    }
+    judge_answer(alloc, instance, answer, times)
+}
+
+/// The walk along these rows.
+fn walk_of(alloc: Global, rows: SignedRows<'_>) -> Result<Walk, AllocError>
+    ensures { IfOk result (λ walk. walk ≡ rows.entry) }
+{
+    let rows = rows.collect(alloc)?;
+    Ok(Walk::new(rows))
+}
+
+/// The list of these pairs.
+fn pairs_of(alloc: Global, pairs: LinePairs<'_>) -> Result<Pairs, AllocError>
+    ensures { IfOk result (λ list. list ≡ pairs.entry) }
+{
+    let pairs = pairs.collect(alloc)?;
+    Ok(Pairs::new(pairs))
+}
+
+/// Adds the net counts of one more cycle.
+fn add_nets(instance: &Instance, table: &mut Vec<Nets>, nets: Nets) -> Result<(), AllocError>
+    requires table { All (AreSmallCounts (length instance.now.rows)) table.old.items }
+    requires nets { AreSmallCounts (length instance.now.rows) nets }
+    ensures small { All (AreSmallCounts (length instance.now.rows)) table.new.items }
+    ensures long { length table.new.items ≤ length table.old.items + 1 }
+    ensures items { OnOk result (table.new.items ≡ table.old.items ++ nets ∷ []) }
+{
+    let _ = instance;
+    table.push(nets)?;
+    Ok(())
+}
+
+impl<'a> Judge<'a> {
+    ghost use Rattle.pesp_check_text.specs.Views.{kept};
+
+    /// Nothing came so far but the first line.
+    pub fn new(alloc: Global, instance: &'a Instance) -> Judge<'a>
+        ensures instance { result.instance.now ≡ instance.now }
+        ensures line { result.line ≡ 1 }
+        ensures judged { (c : Content) → JudgedAt result.stage instance.now c (behind c) (kept result) }
+    {
+        Judge {
+            instance,
+            line: 1,
+            period: 0,
+            answer: Answer::Infeasible,
+            times: Vec::new(alloc),
+            table: Vec::new(alloc),
+            walk: None,
+            stage: Stage::Front,
+        }
+    }
+
+    /// All times came: judges the period, the answer and the times, where they are not judged yet.
+    fn end_front(&mut self, alloc: Global) -> Result<(), AllocError>
+        ensures instance { self.new.instance.now ≡ self.old.instance.now }
+        ensures line { self.new.line ≡ self.old.line }
+        ensures past { OnOk result (is_front self.new.stage ≡ false) }
+        ensures judged { OnOk result ((c : Content) (rest : List Item) → begins_later rest ≡ true
+            → JudgedAt self.old.stage self.old.instance.now c rest (kept self.old)
+            → JudgedAt self.new.stage self.old.instance.now c rest (kept self.new)) }
+    {
+        if self.stage != Stage::Front {
+            return Ok(());
+        }
+        let found = front_fault(alloc, self.instance, self.period, self.answer, &self.times)?;
+        if let Some(refusal) = found {
+            self.stage = Stage::Refused(refusal);
+            return Ok(());
+        }
+        self.stage = Stage::Cycles;
+        Ok(())
+    }
+
+    /// All cycles came: goes to the root of the tree, where it has not gone there yet.
+    fn end_cycles(&mut self, alloc: Global) -> Result<(), AllocError>
+        requires past { is_front self.old.stage ≡ false }
+        ensures instance { self.new.instance.now ≡ self.old.instance.now }
+        ensures line { self.new.line ≡ self.old.line }
+        ensures past { OnOk result (is_before_tree self.new.stage ≡ false) }
+        ensures judged { OnOk result ((c : Content) (rest : List Item) → are_trees 1 (lines_of c) ≡ true → begins_tree rest ≡ true
+            → JudgedAt self.old.stage self.old.instance.now c rest (kept self.old)
+            → JudgedAt self.new.stage self.old.instance.now c rest (kept self.new)) }
+    {
+        if self.stage != Stage::Cycles {
+            return Ok(());
+        }
+        let ranges = root(alloc, self.instance, &self.table)?;
+        self.walk = Some(NodeWalk::new(alloc, self.instance, ranges));
+        self.stage = Stage::Tree;
+        Ok(())
+    }
+
+    /// Judges a cycle, and keeps its net counts.
+    fn judge_walk(
+        &mut self,
+        alloc: Global,
+        walk: &Walk,
+        working: &mut [i128],
+    ) -> Result<(), AllocError>
+        requires stage { self.old.stage ≡ stages.Cycles }
+        requires short { length walk.now ≤ 10000000 }
+        requires few { self.old.line < 2 ^ 31 }
+        requires long { length working.old ≡ length self.old.instance.now.rows }
+        requires zeros { AreZeros working.old }
+        ensures instance { self.new.instance.now ≡ self.old.instance.now }
+        ensures line { OnOk result (self.new.line ≡ self.old.line + 1) }
+        ensures zeros { OnOk result (AreZeros working.new) }
+        ensures judged { OnOk result ((c : Content) (rest : List Item)
+            → JudgedAt self.old.stage self.old.instance.now c (items.Cycle walk.now ∷ rest) (kept self.old)
+            → JudgedAt self.new.stage self.old.instance.now c rest (kept self.new)) }
+    {
+        let number = self.table.len() as u32 + 1;
+        self.line += 1;
+        if let Some(refusal) = judge_cycle(self.instance, walk.rows(), number, self.line) {
+            self.stage = Stage::Refused(refusal);
+            return Ok(());
+        }
+        let nets = nets_of(alloc, walk.rows(), working)?;
+        add_nets(self.instance, &mut self.table, nets)?;
+        Ok(())
+    }
+
+    /// Takes a cycle.
+    fn take_cycle(
+        &mut self,
+        alloc: Global,
+        rows: SignedRows<'_>,
+        working: &mut [i128],
+    ) -> Result<(), AllocError>
+        requires short { length rows ≤ 10000000 }
+        requires few { self.old.line < 2 ^ 31 }
+        requires long { length working.old ≡ length self.old.instance.now.rows }
+        requires zeros { AreZeros working.old }
+        ensures instance { self.new.instance.now ≡ self.old.instance.now }
+        ensures line { OnOk result (self.new.line ≡ self.old.line + 1) }
+        ensures zeros { OnOk result (AreZeros working.new) }
+        ensures judged { OnOk result ((c : Content) (rest : List Item)
+            → JudgedAt self.old.stage self.old.instance.now c (items.Cycle rows.entry ∷ rest) (kept self.old)
+            → JudgedAt self.new.stage self.old.instance.now c rest (kept self.new)) }
+    {
+        self.end_front(alloc)?;
+        if self.stage == Stage::Cycles {
+            let walk = walk_of(alloc, rows)?;
+            return self.judge_walk(alloc, &walk, working);
+        }
+        self.line += 1;
+        Ok(())
+    }
+
+    /// Judges a line of the tree at the first of the nodes that wait.
+    fn judge_line(&mut self, tree_line: &TreeLine, working: &mut [i128]) -> Result<(), AllocError>
+        requires stage { self.old.stage ≡ stages.Tree }
+        requires limits { KeepsLineLimits tree_line.now }
+        requires few { self.old.line < 2 ^ 31 }
+        requires long { length working.old ≡ length self.old.instance.now.rows }
+        requires zeros { AreZeros working.old }
+        ensures instance { self.new.instance.now ≡ self.old.instance.now }
+        ensures line { OnOk result (self.new.line ≡ self.old.line + 1) }
+        ensures zeros { OnOk result (AreZeros working.new) }
+        ensures judged { OnOk result ((c : Content) (rest : List Item) → are_trees 1 (lines_of c) ≡ true
+            → JudgedAt self.old.stage self.old.instance.now c (tree_item tree_line.now ∷ rest) (kept self.old)
+            → JudgedAt self.new.stage self.old.instance.now c rest (kept self.new)) }
+    {
+        let least = least_of(self.answer);
+        self.line += 1;
+        let Some(mut walk) = self.walk.take() else {
+            return Ok(());
+        };
+        if walk.is_done() {
+            return Ok(());
+        }
+        let found = take_line(
+            self.instance,
+            &self.table,
+            &mut walk,
+            tree_line,
+            least,
+            self.line,
+            working,
+        )?;
+        self.walk = Some(walk);
+        if let Some(refusal) = found {
+            self.stage = Stage::Refused(refusal);
+            return Ok(());
+        }
+        Ok(())
+    }
+
+    /// Takes a line of the tree.
+    fn take_line(
+        &mut self,
+        alloc: Global,
+        tree_line: &TreeLine,
+        working: &mut [i128],
+    ) -> Result<(), AllocError>
+        requires limits { KeepsLineLimits tree_line.now }
+        requires few { self.old.line < 2 ^ 31 }
+        requires long { length working.old ≡ length self.old.instance.now.rows }
+        requires zeros { AreZeros working.old }
+        ensures instance { self.new.instance.now ≡ self.old.instance.now }
+        ensures line { OnOk result (self.new.line ≡ self.old.line + 1) }
+        ensures zeros { OnOk result (AreZeros working.new) }
+        ensures judged { OnOk result ((c : Content) (rest : List Item) → are_trees 1 (lines_of c) ≡ true
+            → JudgedAt self.old.stage self.old.instance.now c (tree_item tree_line.now ∷ rest) (kept self.old)
+            → JudgedAt self.new.stage self.old.instance.now c rest (kept self.new)) }
+    {
+        self.end_front(alloc)?;
+        self.end_cycles(alloc)?;
+        if self.stage == Stage::Tree {
+            return self.judge_line(tree_line, working);
+        }
+        self.line += 1;
+        Ok(())
+    }
+
+    /// Takes the next item. The working numbers, one a row, are 0 before and after.
+    pub fn take(
+        &mut self,
+        alloc: Global,
+        item: Item<'_>,
+        working: &mut [i128],
+    ) -> Result<(), AllocError>
+        requires limits { KeepsItemLimits item }
+        requires goes { is_end item ≡ false }
+        requires few { self.old.line < 2 ^ 31 }
+        requires long { length working.old ≡ length self.old.instance.now.rows }
+        requires zeros { AreZeros working.old }
+        ensures instance { self.new.instance.now ≡ self.old.instance.now }
+        ensures line { OnOk result (self.new.line ≡ self.old.line + 1) }
+        ensures zeros { OnOk result (AreZeros working.new) }
+        ensures judged { OnOk result ((c : Content) (rest : List Item) → are_trees 1 (lines_of c) ≡ true
+            → JudgedAt self.old.stage self.old.instance.now c (item.entry ∷ rest) (kept self.old)
+            → JudgedAt self.new.stage self.old.instance.now c rest (kept self.new)) }
+    {
+        match item {
+            Item::Period(period) => {
+                self.period = period;
+                self.line += 1;
+                Ok(())
+            }
+            Item::Answer(answer) => {
+                self.answer = answer;
+                self.line += 1;
+                Ok(())
+            }
+            Item::Time(label, time) => {
+                self.times.push((label, time))?;
+                self.line += 1;
+                Ok(())
+            }
+            Item::Cycle(rows) => self.take_cycle(alloc, rows, working),
+            Item::Slack { row, k } => self.take_line(alloc, &TreeLine::Slack { row, k }, working),
+            Item::Offset { cycle, k } => {
+                self.take_line(alloc, &TreeLine::Offset { cycle, k }, working)
+            }
+            Item::Bound(pairs) => {
+                self.take_line(alloc, &TreeLine::Bound(pairs_of(alloc, pairs)?), working)
+            }
+            Item::Nothing(pairs) => {
+                self.take_line(alloc, &TreeLine::Nothing(pairs_of(alloc, pairs)?), working)
+            }
+            Item::Gap(cycle) => self.take_line(alloc, &TreeLine::Gap(cycle), working),
+            Item::End => Ok(()),
+        }
+    }
+
+    /// The answer of the text.
+    pub fn answer(&self) -> Answer
+        ensures { (c : Content) → are_trees 1 (lines_of c) ≡ true → JudgedAt self.now.stage self.now.instance.now c (items.End ∷ []) (kept self.now)
+            → result ≡ c.answer }
+    {
+        self.answer
+    }
+
+    /// What the checker says of the text, where all its items came.
+    pub fn verdict(&self) -> Verdict
+        ensures { (c : Content) → are_trees 1 (lines_of c) ≡ true → JudgedAt self.now.stage self.now.instance.now c (items.End ∷ []) (kept self.now)
+            → IsVerdict self.now.instance.now c result }
+    {
+        match self.stage {
+            Stage::Refused(refusal) => Verdict::Refused(refusal),
+            Stage::Front | Stage::Cycles | Stage::Tree => Verdict::Accepted,
+        }
+    }
+}

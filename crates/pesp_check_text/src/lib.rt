@@ -1,0 +1,10 @@
+//! The check of a certificate's text while it is read.
+#![tactic(auto)]
+
+mod checking;
+mod fault;
+mod judge;
+mod stage;
+
+pub use checking::check_text;
+pub use fault::CheckFault;

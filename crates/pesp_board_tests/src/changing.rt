@@ -5,7 +5,8 @@ ghost use Rattle.pesp_machine.specs.Certificates.{IsProblemOf};
 
 use crate::lent::{Lent, number_of};
 use pesp_board::{Board, Work};
-use pesp_cases::{cut_of, pairs_of, small};
+use pesp_cases::{cut_of, pairs_of, small, whole};
+use pesp_cert::TreeLine;
 use pesp_problem::{Instance, Pairs};
 use std::alloc::Global;
 
@@ -58,10 +59,43 @@ fn lend(alloc: Global, board: &mut Board, lent: &mut Vec<Lent>) -> Option<String
     }
 }
 
-/// The work of the words, as a certificate's line of a leaf or a branch.
+/// A line of a tree, as a certificate has it.
+fn tree_line_of(alloc: Global, words: &[&str]) -> Option<TreeLine> {
+    let (first, rest) = words.split_first()?;
+    match *first {
+        "b" => Some(TreeLine::Bound(Pairs::new(pairs_of(alloc, rest)?))),
+        "n" => Some(TreeLine::Nothing(Pairs::new(pairs_of(alloc, rest)?))),
+        "g" => Some(TreeLine::Gap(small(rest, 0)?)),
+        "o" => Some(TreeLine::Offset {
+            cycle: small(rest, 0)?,
+            k: whole(rest, 1)?,
+        }),
+        _ => Some(TreeLine::Slack {
+            row: small(rest, 0)?,
+            k: small(rest, 1)?,
+        }),
+    }
+}
+
+/// The lines of a tree, each with a `/` behind it.
+fn tree_lines_of(alloc: Global, words: &[&str]) -> Option<Vec<TreeLine>> {
+    let mut lines = Vec::new(alloc);
+    let mut from = 0;
+    for place in 0..words.len() {
+        if *words.get(place)? == "/" {
+            let line = words.get(from..place)?;
+            lines.push(tree_line_of(alloc, line)?).ok()?;
+            from = place + 1;
+        }
+    }
+    Some(lines)
+}
+
+/// The work of the words, as a certificate's line of a leaf or a branch, or `tree` with the lines of a tree.
 fn work_of(alloc: Global, words: &[&str]) -> Option<Work> {
     let (first, rest) = words.split_first()?;
     match *first {
+        "tree" => Some(Work::Tree(tree_lines_of(alloc, rest)?)),
         "b" => Some(Work::Leaf(Pairs::new(pairs_of(alloc, rest)?))),
         "n" => Some(Work::Nothing(Pairs::new(pairs_of(alloc, rest)?))),
         "g" => Some(Work::Gap(small(rest, 0)?)),

@@ -105,17 +105,33 @@ fn all_numbers(alloc: Global, count: usize) -> Result<Vec<u32>, AllocError>
 
 /// A spanning forest of the rows between so many events: of the rows that are proposed, or of all where these don't join
 /// what all join.
-pub fn forest_of(alloc: Global, events: usize, rows: &[NetRow]) -> Result<Forest, AllocError>
+pub fn forest_from(
+    alloc: Global,
+    events: usize,
+    rows: &[NetRow],
+    proposed: &[u32],
+) -> Result<Forest, AllocError>
     requires ends { HaveEnds events (arcs_of_network rows.now) }
     requires few { length rows.now ≤ 100000 }
+    requires few_proposed { length proposed.now ≤ 100000 }
+    requires names { All (Names (length rows.now)) proposed.now }
     ensures { IfOk result (IsForest events (arcs_of_network rows.now)) }
 {
-    let proposed = propose(alloc, events, rows)?;
-    let forest = grow_over(alloc, events, rows, proposed.as_slice())?;
+    let forest = grow_over(alloc, events, rows, proposed)?;
     if meets_all(events, rows, &forest) {
         return Ok(forest);
     }
     let all = all_numbers(alloc, rows.len())?;
     let whole = grow_over(alloc, events, rows, all.as_slice())?;
     Ok(whole)
+}
+
+/// A spanning forest of the rows between so many events, of the rows that are proposed for any network.
+pub fn forest_of(alloc: Global, events: usize, rows: &[NetRow]) -> Result<Forest, AllocError>
+    requires ends { HaveEnds events (arcs_of_network rows.now) }
+    requires few { length rows.now ≤ 100000 }
+    ensures { IfOk result (IsForest events (arcs_of_network rows.now)) }
+{
+    let proposed = propose(alloc, events, rows)?;
+    forest_from(alloc, events, rows, proposed.as_slice())
 }

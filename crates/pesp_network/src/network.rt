@@ -5,10 +5,12 @@ ghost use Rattle.pesp_problem.specs.Arcs.{arcs_of, slacks_at};
 ghost use Rattle.pesp_problem.specs.NetTimetables.{IsNetTimetable};
 ghost use Rattle.pesp_problem.specs.Walks.{Names, AreRows, Leads, start};
 ghost use Rattle.pesp_problem.specs.Forests.{KeepsTo, IsSpanningForest, AreFundamental, IsSimple, IsBridge, AreJoined, IsFirstOf};
+ghost use Rattle.pesp_network.specs.Rooted.{IsForest};
 ghost use Rattle.pesp_network.specs.Networks.{arcs_of_network, net_of_network, net_row_at, KeepsSizes, RowKeepsNetLimits, KeepsNetLimits, IsNewRefusal, IsTableRefusal, HasOpenRow, signed_rows};
 
 use crate::limits::{bad_row, rows_of};
 use crate::parts::{Forest, Reaches};
+use crate::proposal::numbers_or_none;
 use crate::refusal::NetRefusal;
 use crate::row::NetRow;
 use crate::{bridges, forest, times, walks};
@@ -50,6 +52,25 @@ impl Network {
     {
         let events = events as usize;
         let forest = forest::forest_of(alloc, events, rows.as_slice())?;
+        Network::with(alloc, period, events, rows, forest)
+    }
+
+    // the network of these parts, which keep the limits, and of a forest of them
+    fn with(
+        alloc: Global,
+        period: u32,
+        events: usize,
+        rows: Vec<NetRow>,
+        forest: Forest,
+    ) -> Result<Network, Memory>
+        requires sizes { KeepsSizes period events }
+        requires few { length rows.items ≤ 100000 }
+        requires each { All (RowKeepsNetLimits period events) rows.items }
+        requires forest { IsForest events (arcs_of_network rows.items) forest }
+        ensures period { IfOk result (λ n. n.period ≡ period) }
+        ensures events { IfOk result (λ n. n.events ≡ events) }
+        ensures rows { IfOk result (λ n. n.rows ≡ rows.items) }
+    {
         let reaches = bridges::reach(alloc, events, rows.as_slice(), &forest)?;
         let kept = walks::forest_rows(alloc, events, rows.as_slice(), &forest)?;
         Ok(Network {
@@ -97,6 +118,25 @@ impl Network {
         }
         let network = Network::make(alloc, period, events, rows)?;
         Ok(network)
+    }
+
+    /// The same network with a forest of these rows, by their numbers from 1. Where they aren't numbers of its rows, or don't
+    /// join what all rows join, it has some other forest.
+    pub fn with_forest(&self, alloc: Global, forest: &[u32]) -> Result<Network, Memory>
+        ensures period { IfOk result (λ n. n.period ≡ self.now.period) }
+        ensures events { IfOk result (λ n. n.events ≡ self.now.events) }
+        ensures rows { IfOk result (λ n. n.rows ≡ self.now.rows) }
+    {
+        let Network {
+            period,
+            events,
+            rows,
+            ..
+        } = self;
+        let kept = Vec::from_slice(alloc, rows.as_slice())?;
+        let proposed = numbers_or_none(kept.len(), forest);
+        let trees = forest::forest_from(alloc, *events, kept.as_slice(), proposed)?;
+        Network::with(alloc, *period, *events, kept, trees)
     }
 
     /// The period, in the instance's own unit.

@@ -1,7 +1,7 @@
 //! Which rows a spanning forest is to be made of. Nothing depends on the choice but the strength of bounds and the length
 //! of walks, so it is safe and otherwise unproved.
 
-ghost use Rattle.std.specs.Prelude.{◌≡◌, ◌≤◌, length, IfOk, All, vec_len};
+ghost use Rattle.std.specs.Prelude.{◌≡◌, ◌≤◌, length, IfOk, IsTrue, All, vec_len};
 ghost use Rattle.pesp_problem.specs.Walks.{Names};
 
 use crate::row::NetRow;
@@ -105,4 +105,28 @@ pub fn propose(alloc: Global, events: usize, rows: &[NetRow]) -> Result<Vec<u32>
         }
     }
     Ok(numbers)
+}
+
+// whether these are numbers of rows, no more than a network can have
+fn are_numbers(count: usize, numbers: &[u32]) -> bool
+    ensures names { IsTrue result → All (Names count) numbers.now }
+    ensures few { IsTrue result → length numbers.now ≤ 100000 }
+{
+    if numbers.len() > 100_000 {
+        return false;
+    }
+    numbers
+        .iter()
+        .all(|number| 1 <= *number && *number as usize <= count)
+}
+
+/// These numbers, or none where they aren't numbers of so many rows, or are more than a network can have rows.
+pub fn numbers_or_none(count: usize, numbers: &[u32]) -> &[u32]
+    ensures names { All (Names count) result.now }
+    ensures few { length result.now ≤ 100000 }
+{
+    if are_numbers(count, numbers) {
+        return numbers;
+    }
+    &[]
 }

@@ -1,0 +1,287 @@
+//! A circulation with a spanning tree of its rows: prices by the tree, and the rows along which more flow or less would
+//! cost less.
+
+use crate::frame::Frame;
+use crate::listed::Listed;
+use crate::numbers::{amount, set_amount};
+use crate::row::{Bend, Part, Row, Slopes, Step};
+use crate::tree::{NONE, Tree};
+use std::alloc::{AllocError, Global};
+
+/// Where pivots end: nothing is cheaper; along some closed way more flow costs less without end; or there are to be no more.
+#[derive(Clone, Copy, Debug, PartialEq, Eq)]
+pub enum Ended {
+    Best,
+    Endless,
+    Open,
+}
+
+/// A circulation. The price of an event is the time at which it would be, were offsets no whole numbers: along a row of the
+/// tree prices rise by the cost of one more unit of flow.
+#[derive(Debug, Drop)]
+pub struct Basis {
+    pub(crate) rows: Vec<Row>,
+    pub(crate) tree: Tree,
+    prices: Vec<i64>,
+    violated: Listed,
+    is_stale: bool,
+}
+
+// a row without a flow and without costs
+fn idle_row(weight: u64, tail: u32, head: u32) -> Row {
+    Row {
+        slopes: Slopes {
+            below: 0,
+            between: 0,
+            above: 0,
+        },
+        weight: i64::try_from(weight).unwrap_or(i64::MAX),
+        flow: 0,
+        tail,
+        head,
+        part: Part::Between,
+        bend: Bend::Zero,
+        is_basic: false,
+    }
+}
+
+impl Basis {
+    /// No flow on the rows of a frame, and no tree.
+    pub fn idle(alloc: Global, frame: &Frame) -> Result<Basis, AllocError> {
+        let mut rows = Vec::with_capacity(alloc, frame.rows().len())?;
+        for row in frame.rows() {
+            rows.push(idle_row(row.weight, row.tail, row.head))?;
+        }
+        let events = frame.events();
+        Ok(Basis {
+            violated: Listed::none(alloc, rows.len())?,
+            rows,
+            tree: Tree::apart(alloc, events)?,
+            prices: vec![in alloc; 0i64; events]?,
+            is_stale: true,
+        })
+    }
+
+    /// Takes over all of another basis on the same rows.
+    pub fn copy_from(&mut self, other: &Basis) -> Option<()> {
+        if self.rows.len() != other.rows.len() || self.prices.len() != other.prices.len() {
+            return None;
+        }
+        self.rows.copy_from_slice(&other.rows);
+        self.prices.copy_from_slice(&other.prices);
+        self.tree.copy_from(&other.tree)?;
+        self.violated.copy_from(&other.violated)?;
+        self.is_stale = other.is_stale;
+        Some(())
+    }
+
+    /// The price of an event.
+    pub fn price(&self, event: u32) -> Option<i64> {
+        amount(&self.prices, event)
+    }
+
+    /// The prices of the events.
+    pub fn prices(&self) -> &[i64] {
+        &self.prices
+    }
+
+    /// The flow on a row.
+    pub fn flow(&self, row: u32) -> Option<i64> {
+        Some(self.rows.get(row as usize)?.flow)
+    }
+
+    /// What a unit of flow on a row costs.
+    pub fn slopes(&self, row: u32) -> Option<Slopes> {
+        Some(self.rows.get(row as usize)?.slopes)
+    }
+
+    /// By how much prices rise along a row.
+    pub fn rise(&self, row: u32) -> Option<i64> {
+        let row = self.rows.get(row as usize)?;
+        self.price(row.head)?.checked_sub(self.price(row.tail)?)
+    }
+
+    /// What all flows cost.
+    pub fn cost(&self) -> i128 {
+        let mut cost = 0i128;
+        for row in &self.rows {
+            cost = cost.saturating_add(row.cost());
+        }
+        cost
+    }
+
+    // the step along a row outside the tree that costs less than nothing, and what it costs
+    fn paying(&self, place: u32) -> Option<(i64, Step)> {
+        let row = self.rows.get(place as usize)?;
+        if row.is_basic {
+            return None;
+        }
+        let (cost, forward) = row.cheaper(self.price(row.tail)?, self.price(row.head)?);
+        if cost >= 0 {
+            return None;
+        }
+        Some((
+            cost,
+            Step {
+                row: place,
+                forward,
+            },
+        ))
+    }
+
+    // lists a row where a step along it costs less than nothing
+    fn note(&mut self, row: u32) {
+        if !self.violated.has(row) && self.paying(row).is_some() {
+            self.violated.put(row);
+        }
+    }
+
+    // lists all rows along which a step costs less than nothing
+    fn note_all(&mut self) {
+        for place in 0..self.rows.len() {
+            self.note(u32::try_from(place).unwrap_or(NONE));
+        }
+        self.is_stale = false;
+    }
+
+    // lists such rows at an event
+    fn note_star(&mut self, frame: &Frame, event: u32) {
+        for row in frame.star(event) {
+            self.note(*row);
+        }
+    }
+
+    // lists such rows at the events of the part below one
+    fn note_below(&mut self, frame: &Frame, top: u32) {
+        let mut event = top;
+        for _ in 0..self.prices.len() {
+            self.note_star(frame, event);
+            event = self.tree.following(event, top);
+            if event == NONE {
+                return;
+            }
+        }
+    }
+
+    /// The step that costs least, less than nothing.
+    pub(crate) fn entering(&mut self) -> Option<Step> {
+        if self.is_stale {
+            self.note_all();
+        }
+        let mut least = 0;
+        let mut found = None;
+        let mut place = 0u32;
+        for _ in 0..self.violated.count() {
+            let row = self.violated.at(place)?;
+            let Some((cost, step)) = self.paying(row) else {
+                self.violated.take(place)?;
+                continue;
+            };
+            if cost < least {
+                least = cost;
+                found = Some(step);
+            }
+            place = place.checked_add(1)?;
+        }
+        found
+    }
+
+    // the price that the row upwards from an event gives it
+    fn price_by_row(&self, event: u32) -> Option<i64> {
+        let place = self.tree.place(event)?;
+        let row = self.rows.get(place.by as usize)?;
+        let slope = row.slopes.of(row.part);
+        let above = self.price(place.up)?;
+        if row.head == event {
+            above.checked_add(slope)
+        } else {
+            above.checked_sub(slope)
+        }
+    }
+
+    // sets the depths of an event and of the part below it and adds to their prices; how many they are
+    fn settle(&mut self, top: u32, change: i64) -> Option<u32> {
+        let mut event = top;
+        let mut count = 0u32;
+        for _ in 0..self.prices.len() {
+            self.tree.set_depth(event)?;
+            let price = self.price(event)?.checked_add(change)?;
+            set_amount(&mut self.prices, event, price)?;
+            count = count.checked_add(1)?;
+            event = self.tree.following(event, top);
+            if event == NONE {
+                return Some(count);
+            }
+        }
+        None
+    }
+
+    /// Puts right the depths and prices of an event that was hung anew and of what is below it.
+    pub(crate) fn settle_below(&mut self, frame: &Frame, top: u32) -> Option<()> {
+        let change = self.price_by_row(top)?.checked_sub(self.price(top)?)?;
+        let count = self.settle(top, change)?;
+        if (count as usize).saturating_mul(3) > self.prices.len().saturating_mul(2) {
+            self.is_stale = true;
+        } else {
+            self.note_below(frame, top);
+        }
+        Some(())
+    }
+
+    // puts right the prices of the part below a root
+    fn reprice_below(&mut self, root: u32) -> Option<()> {
+        let mut event = root;
+        for _ in 0..self.prices.len() {
+            let price = if event == root {
+                0
+            } else {
+                self.price_by_row(event)?
+            };
+            set_amount(&mut self.prices, event, price)?;
+            event = self.tree.following(event, root);
+            if event == NONE {
+                return Some(());
+            }
+        }
+        None
+    }
+
+    /// Puts right all prices.
+    pub fn reprice(&mut self) -> Option<()> {
+        for place in 0..self.prices.len() {
+            let event = u32::try_from(place).ok()?;
+            if self.tree.is_root(event) {
+                self.reprice_below(event)?;
+            }
+        }
+        self.is_stale = true;
+        Some(())
+    }
+
+    /// Takes each row off the list of those along which a step pays.
+    pub(crate) fn forget_violated(&mut self) -> Option<()> {
+        self.violated.clear()
+    }
+
+    /// Changes what flow on a row costs; prices stay as they are.
+    pub fn set_slopes(&mut self, row: u32, slopes: Slopes) -> Option<()> {
+        self.rows.get_mut(row as usize)?.slopes = slopes;
+        Some(())
+    }
+
+    /// Changes what flow on a row costs, and the prices that depend on it.
+    pub fn change_slopes(&mut self, frame: &Frame, place: u32, slopes: Slopes) -> Option<()> {
+        self.set_slopes(place, slopes)?;
+        let row = *self.rows.get(place as usize)?;
+        if !row.is_basic {
+            self.note(place);
+            return Some(());
+        }
+        let event = if self.tree.place(row.head)?.by == place {
+            row.head
+        } else {
+            row.tail
+        };
+        self.settle_below(frame, event)
+    }
+}

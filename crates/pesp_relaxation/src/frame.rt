@@ -1,0 +1,93 @@
+//! A network's rows, and the rows at each event.
+
+use pesp_network::{NetRow, Network};
+use std::alloc::{AllocError, Global};
+
+/// What a relaxation reads of a network: its period, its rows, named by their places from 0, and for each event the rows at
+/// it, without loops.
+#[derive(Debug, Drop)]
+pub struct Frame {
+    period: u32,
+    rows: Vec<NetRow>,
+    stars: Vec<Vec<u32>>,
+}
+
+// a list without a row for each event
+fn empty_stars(alloc: Global, events: u32) -> Result<Vec<Vec<u32>>, AllocError> {
+    let mut stars = Vec::with_capacity(alloc, events as usize)?;
+    for _ in 0..events {
+        stars.push(Vec::new(alloc))?;
+    }
+    Ok(stars)
+}
+
+// a row at an event
+fn put_at(stars: &mut [Vec<u32>], event: u32, row: u32) -> Result<(), AllocError> {
+    if let Some(star) = stars.get_mut(event as usize) {
+        star.push(row)?;
+    }
+    Ok(())
+}
+
+// the rows at each event
+fn stars_of(alloc: Global, events: u32, rows: &[NetRow]) -> Result<Vec<Vec<u32>>, AllocError> {
+    let mut stars = empty_stars(alloc, events)?;
+    for (place, row) in rows.iter().enumerate() {
+        let number = u32::try_from(place).unwrap_or(u32::MAX);
+        if row.tail != row.head {
+            put_at(&mut stars, row.tail, number)?;
+            put_at(&mut stars, row.head, number)?;
+        }
+    }
+    Ok(stars)
+}
+
+/// The end of a row that isn't this one.
+pub fn other_end(row: &NetRow, event: u32) -> u32 {
+    if row.tail == event {
+        row.head
+    } else {
+        row.tail
+    }
+}
+
+impl Frame {
+    /// The frame of a network.
+    pub fn new(alloc: Global, network: &Network) -> Result<Frame, AllocError> {
+        let rows = Vec::from_slice(alloc, network.rows())?;
+        let stars = stars_of(alloc, network.events(), &rows)?;
+        Ok(Frame {
+            period: network.period(),
+            rows,
+            stars,
+        })
+    }
+
+    /// The period, in the instance's own unit.
+    pub fn period(&self) -> u32 {
+        self.period
+    }
+
+    /// How many events there are.
+    pub fn events(&self) -> usize {
+        self.stars.len()
+    }
+
+    /// The rows in order.
+    pub fn rows(&self) -> &[NetRow] {
+        &self.rows
+    }
+
+    /// The row at a place.
+    pub fn row(&self, row: u32) -> Option<&NetRow> {
+        self.rows.get(row as usize)
+    }
+
+    /// The rows at an event.
+    pub fn star(&self, event: u32) -> &[u32] {
+        match self.stars.get(event as usize) {
+            Some(star) => star.as_slice(),
+            None => &[],
+        }
+    }
+}

@@ -1,0 +1,44 @@
+//! Events in groups that are joined.
+
+use crate::numbers::{number, set_number};
+use std::alloc::{AllocError, Global};
+
+/// Each event leads to another event of its group, and the group's last one to itself.
+#[derive(Debug, Drop)]
+pub(crate) struct Groups {
+    next: Vec<u32>,
+}
+
+impl Groups {
+    /// Each of so many events by itself.
+    pub(crate) fn apart(alloc: Global, events: u32) -> Result<Groups, AllocError> {
+        let next = (0..events).collect(alloc)?;
+        Ok(Groups { next })
+    }
+
+    // the last event of an event's group; the way there is halved
+    fn last_of(&mut self, event: u32) -> Option<u32> {
+        let mut current = event;
+        for _ in 0..self.next.len() {
+            let next = number(&self.next, current)?;
+            if next == current {
+                return Some(current);
+            }
+            let beyond = number(&self.next, next)?;
+            set_number(&mut self.next, current, beyond)?;
+            current = beyond;
+        }
+        None
+    }
+
+    /// Makes one group of two; whether they were two.
+    pub(crate) fn join(&mut self, one: u32, other: u32) -> Option<bool> {
+        let here = self.last_of(one)?;
+        let there = self.last_of(other)?;
+        if here == there {
+            return Some(false);
+        }
+        set_number(&mut self.next, here, there)?;
+        Some(true)
+    }
+}

@@ -1,0 +1,199 @@
+//! Pivots (Cunningham 1976: strongly feasible trees).
+
+use crate::basis::{Basis, Ended};
+use crate::frame::Frame;
+use crate::row::{FREE, Part, Step};
+use crate::tree::NONE;
+
+/// A closed way: a step, from where it ends up to an event of the tree, and from there down to where it begins.
+#[derive(Clone, Copy, Debug, PartialEq, Eq)]
+struct Round {
+    step: Step,
+    from: u32,
+    to: u32,
+    top: u32,
+}
+
+/// How many units one side of a closed way takes, and the event whose row upwards takes no more.
+#[derive(Clone, Copy, Debug, PartialEq, Eq)]
+struct Room {
+    event: u32,
+    units: i64,
+}
+
+/// What became of a pivot.
+#[derive(Clone, Copy, Debug, PartialEq, Eq)]
+enum Pivot {
+    Done,
+    Endless,
+}
+
+impl Basis {
+    // the closed way of a step
+    fn round(&self, step: Step) -> Option<Round> {
+        let row = self.rows.get(step.row as usize)?;
+        let (from, to) = if step.forward {
+            (row.tail, row.head)
+        } else {
+            (row.head, row.tail)
+        };
+        let top = self.tree.meeting(from, to)?;
+        Some(Round {
+            step,
+            from,
+            to,
+            top,
+        })
+    }
+
+    // the room down to where a step begins, at the lowest of the rows that have least
+    fn room_down(&self, round: Round) -> Option<Room> {
+        let mut room = Room {
+            event: NONE,
+            units: FREE,
+        };
+        let mut event = round.from;
+        for _ in 0..self.tree.events() {
+            if event == round.top {
+                return Some(room);
+            }
+            let place = self.tree.place(event)?;
+            let row = self.rows.get(place.by as usize)?;
+            let units = row.room(row.head == event);
+            if units < room.units {
+                room = Room { event, units };
+            }
+            event = place.up;
+        }
+        None
+    }
+
+    // the room up from where a step ends, at the highest of the rows that have least
+    fn room_up(&self, round: Round) -> Option<Room> {
+        let mut room = Room {
+            event: NONE,
+            units: FREE,
+        };
+        let mut event = round.to;
+        for _ in 0..self.tree.events() {
+            if event == round.top {
+                return Some(room);
+            }
+            let place = self.tree.place(event)?;
+            let row = self.rows.get(place.by as usize)?;
+            let units = row.room(row.tail == event);
+            if units <= room.units {
+                room = Room { event, units };
+            }
+            event = place.up;
+        }
+        None
+    }
+
+    // more flow on a row, or less
+    fn add(&mut self, row: u32, more: bool, units: i64) -> Option<()> {
+        let row = self.rows.get_mut(row as usize)?;
+        row.flow = if more {
+            row.flow.checked_add(units)?
+        } else {
+            row.flow.checked_sub(units)?
+        };
+        Some(())
+    }
+
+    // so many units more up from an event to another, or down from there
+    fn send_along(&mut self, from: u32, top: u32, upwards: bool, units: i64) -> Option<()> {
+        let mut event = from;
+        for _ in 0..self.tree.events() {
+            if event == top {
+                return Some(());
+            }
+            let place = self.tree.place(event)?;
+            let leads_up = self.rows.get(place.by as usize)?.tail == event;
+            self.add(place.by, leads_up == upwards, units)?;
+            event = place.up;
+        }
+        None
+    }
+
+    // so many units more along a closed way
+    fn send(&mut self, round: Round, units: i64) -> Option<()> {
+        self.add(round.step.row, round.step.forward, units)?;
+        self.send_along(round.to, round.top, true, units)?;
+        self.send_along(round.from, round.top, false, units)
+    }
+
+    // takes the row up from an event out of the tree, and a step's row in; `inner` is the step's end below the event
+    fn swap(
+        &mut self,
+        frame: &Frame,
+        event: u32,
+        upwards: bool,
+        enters: u32,
+        inner: u32,
+        outer: u32,
+    ) -> Option<()> {
+        let by = self.tree.place(event)?.by;
+        let leaving = self.rows.get_mut(by as usize)?;
+        let leads_up = leaving.tail == event;
+        leaving.bend = leaving.bend_at(leads_up == upwards);
+        leaving.is_basic = false;
+        self.rows.get_mut(enters as usize)?.is_basic = true;
+        self.tree.rehang(inner, event, outer, enters)?;
+        self.settle_below(frame, inner)
+    }
+
+    // sends what a step's closed way takes, and takes the step's row into the tree in place of the last one along the way
+    // that takes no more
+    fn pivot(&mut self, frame: &Frame, step: Step) -> Option<Pivot> {
+        let round = self.round(step)?;
+        let row = self.rows.get_mut(step.row as usize)?;
+        row.part = row.part_of(step.forward);
+        let own = if row.part == Part::Between {
+            row.weight
+        } else {
+            FREE
+        };
+        let down = self.room_down(round)?;
+        let up = self.room_up(round)?;
+        let units = own.min(down.units).min(up.units);
+        if units == FREE {
+            self.keep_only(round)?;
+            return Some(Pivot::Endless);
+        }
+        self.send(round, units)?;
+        if up.units == units {
+            self.swap(frame, up.event, true, step.row, round.to, round.from)?;
+        } else if own == units {
+            let row = self.rows.get_mut(step.row as usize)?;
+            row.bend = row.bend_at(step.forward);
+        } else {
+            self.swap(frame, down.event, false, step.row, round.from, round.to)?;
+        }
+        Some(Pivot::Done)
+    }
+
+    // no flow but one unit along a closed way
+    fn keep_only(&mut self, round: Round) -> Option<()> {
+        for row in self.rows.iter_mut() {
+            row.flow = 0;
+        }
+        self.send(round, 1)
+    }
+
+    /// Makes the circulation cheaper by so many pivots at most. Where it ends `Endless` the flow is one unit along a closed
+    /// way that costs less than nothing, and the basis is no longer one.
+    pub fn solve(&mut self, frame: &Frame, most: u32) -> Ended {
+        for _ in 0..most {
+            let Some(step) = self.entering() else {
+                return Ended::Best;
+            };
+            match self.pivot(frame, step) {
+                Some(Pivot::Done) => {}
+                Some(Pivot::Endless) => return Ended::Endless,
+                None => return Ended::Open,
+            }
+        }
+        Ended::Open
+    }
+}

@@ -1,0 +1,161 @@
+//! Rows whose cost bends twice.
+
+/// What a unit of flow on a row costs: below 0, from 0 to the row's weight, and above it.
+#[derive(Clone, Copy, Debug, PartialEq, Eq)]
+pub struct Slopes {
+    pub below: i64,
+    pub between: i64,
+    pub above: i64,
+}
+
+/// The room of a part without an end.
+pub(crate) const FREE: i64 = i64::MAX;
+
+/// A part of a row's cost between its bends.
+#[derive(Clone, Copy, Debug, PartialEq, Eq)]
+pub(crate) enum Part {
+    Below,
+    Between,
+    Above,
+}
+
+/// A bend of a row's cost.
+#[derive(Clone, Copy, Debug, PartialEq, Eq)]
+pub(crate) enum Bend {
+    Zero,
+    Weight,
+}
+
+/// A row with its flow from tail to head. A row of the basis has the part that its flow lies in, another one the bend at
+/// which its flow is.
+#[derive(Clone, Copy, Debug, PartialEq, Eq)]
+pub(crate) struct Row {
+    pub(crate) slopes: Slopes,
+    pub(crate) weight: i64,
+    pub(crate) flow: i64,
+    pub(crate) tail: u32,
+    pub(crate) head: u32,
+    pub(crate) part: Part,
+    pub(crate) bend: Bend,
+    pub(crate) is_basic: bool,
+}
+
+/// More flow along a row that isn't in the basis, or less.
+#[derive(Clone, Copy, Debug, PartialEq, Eq)]
+pub(crate) struct Step {
+    pub(crate) row: u32,
+    pub(crate) forward: bool,
+}
+
+impl Slopes {
+    // the slope of a part
+    pub(crate) fn of(&self, part: Part) -> i64 {
+        match part {
+            Part::Below => self.below,
+            Part::Between => self.between,
+            Part::Above => self.above,
+        }
+    }
+}
+
+impl Row {
+    /// The part into which more flow leads from the row's bend.
+    pub(crate) fn part_ahead(&self) -> Part {
+        if self.bend == Bend::Zero && self.weight > 0 {
+            Part::Between
+        } else {
+            Part::Above
+        }
+    }
+
+    /// The part into which less flow leads from the row's bend.
+    pub(crate) fn part_behind(&self) -> Part {
+        if self.bend == Bend::Weight && self.weight > 0 {
+            Part::Between
+        } else {
+            Part::Below
+        }
+    }
+
+    /// The part into which a step leads.
+    pub(crate) fn part_of(&self, forward: bool) -> Part {
+        if forward {
+            self.part_ahead()
+        } else {
+            self.part_behind()
+        }
+    }
+
+    /// How much more flow, or less, the row's part takes.
+    pub(crate) fn room(&self, more: bool) -> i64 {
+        match (self.part, more) {
+            (Part::Below, true) => 0i64.saturating_sub(self.flow),
+            (Part::Between, true) => self.weight.saturating_sub(self.flow),
+            (Part::Between, false) => self.flow,
+            (Part::Above, false) => self.flow.saturating_sub(self.weight),
+            _ => FREE,
+        }
+    }
+
+    /// The bend to which the flow comes in its part as it grows, or as it falls.
+    pub(crate) fn bend_at(&self, more: bool) -> Bend {
+        match (self.part, more) {
+            (Part::Below, true) => Bend::Zero,
+            (Part::Between, false) => Bend::Zero,
+            _ => Bend::Weight,
+        }
+    }
+
+    /// The cheaper of more flow and less, and what a unit costs by the prices: less than 0 where it pays.
+    pub(crate) fn cheaper(&self, tail_price: i64, head_price: i64) -> (i64, bool) {
+        let difference = tail_price.saturating_sub(head_price);
+        let ahead = self.slopes.of(self.part_ahead()).saturating_add(difference);
+        let behind = self
+            .slopes
+            .of(self.part_behind())
+            .saturating_add(difference);
+        let back = 0i64.saturating_sub(behind);
+        if ahead <= back {
+            (ahead, true)
+        } else {
+            (back, false)
+        }
+    }
+
+    /// Whether the flow lies between two bends.
+    pub(crate) fn is_between(&self) -> bool {
+        self.flow != 0 && self.flow != self.weight
+    }
+
+    /// The part of a row of the basis whose flow may also be at a bend; then the part in which the flow can grow upwards.
+    pub(crate) fn part_upwards(&self, leads_up: bool) -> Part {
+        if self.flow < 0 {
+            return Part::Below;
+        }
+        if self.flow > self.weight {
+            return Part::Above;
+        }
+        match (leads_up, self.flow == 0, self.flow == self.weight) {
+            (true, _, true) => Part::Above,
+            (false, true, _) => Part::Below,
+            _ => Part::Between,
+        }
+    }
+
+    /// What the flow costs.
+    pub(crate) fn cost(&self) -> i128 {
+        let flow = i128::from(self.flow);
+        let weight = i128::from(self.weight);
+        let (low, middle, high) = if flow < 0 {
+            (flow, 0, 0)
+        } else if flow <= weight {
+            (0, flow, 0)
+        } else {
+            (0, weight, flow.saturating_sub(weight))
+        };
+        let below = low.saturating_mul(i128::from(self.slopes.below));
+        let between = middle.saturating_mul(i128::from(self.slopes.between));
+        let above = high.saturating_mul(i128::from(self.slopes.above));
+        below.saturating_add(between).saturating_add(above)
+    }
+}

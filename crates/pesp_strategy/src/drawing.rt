@@ -1,0 +1,84 @@
+//! Which rows are exchanged.
+
+use crate::random::Random;
+use crate::table::Table;
+use pesp_network::NetRow;
+use pesp_relaxation::{Forest, Frame};
+
+/// A row that goes into the forest, its place among those outside, and the row that goes out.
+#[derive(Clone, Copy)]
+pub(crate) struct Exchange {
+    pub(crate) place: u32,
+    pub(crate) enters: u32,
+    pub(crate) leaves: u32,
+}
+
+// whether a row costs what it must by the prices of the root: it has no weight, its prices rise by more or less than open
+// offsets allow, or by as much as a slack of 0 gives
+fn is_paid(frame: &Frame, table: &Table, place: u32) -> Option<bool> {
+    let row = frame.row(place)?;
+    let rise = table.basis.rise(place)?;
+    let slopes = table.basis.slopes(place)?;
+    if row.weight == 0 || rise < slopes.below || rise > slopes.between {
+        return Some(true);
+    }
+    let slack = rise.checked_sub(row.lower)?;
+    Some(slack.checked_rem_euclid(i64::from(frame.period()))? == 0)
+}
+
+// the row upwards from the event so many rows above another
+fn row_above(forest: &Forest, event: u32, steps: u32) -> Option<u32> {
+    let mut current = event;
+    for _ in 0..steps {
+        current = forest.tree().place(current)?.up;
+    }
+    Some(forest.tree().place(current)?.by)
+}
+
+// a row of the way along the forest between the ends of another
+fn draw_between(random: &mut Random, forest: &Forest, row: &NetRow) -> Option<u32> {
+    let top = forest.tree().meeting(row.head, row.tail)?;
+    let depth = forest.tree().place(top)?.depth;
+    let from_head = forest.tree().place(row.head)?.depth.checked_sub(depth)?;
+    let from_tail = forest.tree().place(row.tail)?.depth.checked_sub(depth)?;
+    let drawn = random.below(from_head.checked_add(from_tail)?);
+    match drawn.checked_sub(from_head) {
+        None => row_above(forest, row.head, drawn),
+        Some(rest) => {
+            let steps = from_tail.checked_sub(rest)?.checked_sub(1)?;
+            row_above(forest, row.tail, steps)
+        }
+    }
+}
+
+// whether it looks bad to have one row in the forest in place of another: its span is far greater by its weight
+fn looks_bad(enters: &NetRow, leaves: &NetRow) -> bool {
+    let out = u128::from(leaves.span).saturating_mul(u128::from(enters.weight).saturating_add(1));
+    let into = u128::from(enters.span).saturating_mul(u128::from(leaves.weight).saturating_add(1));
+    out.saturating_mul(8) < into
+}
+
+/// Draws an exchange; None where what was drawn isn't to be tried.
+pub(crate) fn draw(
+    random: &mut Random,
+    frame: &Frame,
+    table: &Table,
+    outside: &[u32],
+) -> Option<Exchange> {
+    let count = u32::try_from(outside.len()).ok()?;
+    let place = random.below(count);
+    let enters = outside.get(place as usize).copied()?;
+    if is_paid(frame, table, enters)? && random.below(4) != 0 {
+        return None;
+    }
+    let row = frame.row(enters)?;
+    let leaves = draw_between(random, &table.forest, row)?;
+    if looks_bad(row, frame.row(leaves)?) && random.below(4) != 0 {
+        return None;
+    }
+    Some(Exchange {
+        place,
+        enters,
+        leaves,
+    })
+}

@@ -1,0 +1,136 @@
+//! The search for a forest whose cycles give a strong bound.
+
+use crate::drawing::{Exchange, draw};
+use crate::goal::Goal;
+use crate::heat::Heat;
+use crate::random::Random;
+use crate::table::Table;
+use pesp_network::Network;
+use pesp_problem::Memory;
+use pesp_relaxation::Frame;
+use std::alloc::{AllocError, Global};
+
+/// A search: where it stands, the rows outside its forest, what the forest is worth, and the best rows so far.
+#[derive(Drop)]
+struct Search {
+    table: Table,
+    outside: Vec<u32>,
+    goal: Goal,
+    heat: Heat,
+    random: Random,
+    worth: i128,
+    best: i128,
+    rows: Vec<u32>,
+    count: u32,
+}
+
+// numbers of rows from 1, from places from 0
+fn numbered(alloc: Global, places: &[u32]) -> Result<Vec<u32>, AllocError> {
+    let mut numbers = Vec::with_capacity(alloc, places.len())?;
+    for place in places {
+        numbers.push(place.saturating_add(1))?;
+    }
+    Ok(numbers)
+}
+
+impl Search {
+    // a search of so many exchanges from a table
+    fn new(
+        alloc: Global,
+        frame: &Frame,
+        table: Table,
+        seed: u32,
+        most: u32,
+    ) -> Result<Search, AllocError> {
+        let outside = table.forest.rows(alloc, false)?;
+        let goal = Goal::new(outside.len());
+        let worth = goal.worth(frame, &table.basis);
+        Ok(Search {
+            heat: Heat::new(frame, goal, outside.len(), most),
+            rows: table.forest.rows(alloc, true)?,
+            table,
+            outside,
+            goal,
+            random: Random::new(seed),
+            worth,
+            best: worth,
+            count: 0,
+        })
+    }
+
+    // keeps an exchange that was made, and its rows where they are the best
+    fn keep(
+        &mut self,
+        alloc: Global,
+        exchange: Exchange,
+        worth: i128,
+    ) -> Result<Option<()>, AllocError> {
+        let Some(slot) = self.outside.get_mut(exchange.place as usize) else {
+            return Ok(None);
+        };
+        *slot = exchange.leaves;
+        self.worth = worth;
+        if worth > self.best {
+            self.best = worth;
+            self.rows = self.table.forest.rows(alloc, true)?;
+        }
+        Ok(Some(()))
+    }
+
+    // tries an exchange: keeps it, or takes it back; None where the search ends, with the forest as it stands then
+    fn attempt(
+        &mut self,
+        alloc: Global,
+        frame: &Frame,
+        exchange: Exchange,
+    ) -> Result<Option<()>, AllocError> {
+        let Exchange { enters, leaves, .. } = exchange;
+        if self.table.exchange(frame, enters, leaves).is_none() {
+            self.rows = self.table.forest.rows(alloc, true)?;
+            return Ok(None);
+        }
+        let worth = self.goal.worth(frame, &self.table.basis);
+        self.count = self.count.saturating_add(1);
+        let loss = self.worth.saturating_sub(worth);
+        if self.heat.takes(&mut self.random, self.count, loss) {
+            return self.keep(alloc, exchange, worth);
+        }
+        Ok(self.table.restore(frame, enters, leaves))
+    }
+
+    // tries so many exchanges, of fifty times as many drawn at most
+    fn run(&mut self, alloc: Global, frame: &Frame, most: u32) -> Result<(), AllocError> {
+        for _ in 0..most.saturating_mul(50) {
+            if self.count >= most {
+                return Ok(());
+            }
+            let drawn = draw(&mut self.random, frame, &self.table, &self.outside);
+            if let Some(exchange) = drawn {
+                if self.attempt(alloc, frame, exchange)?.is_none() {
+                    return Ok(());
+                }
+            }
+        }
+        Ok(())
+    }
+}
+
+/// The rows of a spanning forest, by their numbers from 1, whose cycles promise a strong bound: found from the network's own
+/// forest by so many exchanges of a row, drawn by a seed. Where some root on the way has no timetable, that forest. Every
+/// call with the same seed gives the same.
+pub fn search_forest(
+    alloc: Global,
+    network: &Network,
+    seed: u32,
+    exchanges: u32,
+) -> Result<Vec<u32>, Memory> {
+    let frame = Frame::new(alloc, network)?;
+    let numbers = network.forest(alloc)?;
+    let Some(table) = Table::new(alloc, &frame, &numbers)? else {
+        return Ok(numbers);
+    };
+    let mut search = Search::new(alloc, &frame, table, seed, exchanges)?;
+    search.run(alloc, &frame, exchanges)?;
+    let rows = numbered(alloc, &search.rows)?;
+    Ok(rows)
+}

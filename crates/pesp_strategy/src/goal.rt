@@ -1,0 +1,68 @@
+//! What a forest is worth: the value of the root's leaf, less a penalty on offsets that are left open.
+
+use pesp_relaxation::{Basis, Frame, Slopes};
+
+/// 128 times the logarithm to the base 2 of 0 to 16, of 0 for 0.
+const LOGARITHMS: [u64; 17] = [
+    0, 0, 128, 202, 256, 297, 330, 359, 384, 405, 425, 442, 458, 473, 487, 500, 512,
+];
+
+/// 128 times the logarithm to the base 2, between powers of two by a line.
+fn logarithm(count: u64) -> u64 {
+    if let Some(found) = LOGARITHMS.get(usize::try_from(count).unwrap_or(usize::MAX)) {
+        return *found;
+    }
+    let whole = 63u32.saturating_sub(count.leading_zeros());
+    let part = count.saturating_mul(128).wrapping_shr(whole);
+    u64::from(whole)
+        .saturating_mul(128)
+        .saturating_add(part)
+        .saturating_sub(128)
+}
+
+/// How many offsets are left to the cycle of a row.
+fn count_of(slopes: Slopes, period: u32) -> u64 {
+    let wide = slopes.between.saturating_sub(slopes.below);
+    let periods = wide.checked_div(i64::from(period)).unwrap_or(0);
+    u64::try_from(periods.saturating_add(1)).unwrap_or(0)
+}
+
+/// How much an open offset counts, in units of 1/4096: the less the more cycles there are.
+#[derive(Clone, Copy)]
+pub(crate) struct Goal {
+    pub(crate) share: u64,
+}
+
+impl Goal {
+    /// The goal with so many cycles.
+    pub(crate) fn new(cycles: usize) -> Goal {
+        let most = 409u64;
+        let share = 32_768u64.checked_div(cycles as u64).unwrap_or(most);
+        Goal {
+            share: share.min(most),
+        }
+    }
+
+    // the sum over the rows of their weights and 1, times the logarithm of how many offsets are left
+    fn open(frame: &Frame, basis: &Basis) -> u64 {
+        let mut sum = 0u64;
+        for (place, row) in frame.rows().iter().enumerate() {
+            let slopes = basis.slopes(u32::try_from(place).unwrap_or(0));
+            let count = slopes.map_or(1, |slopes| count_of(slopes, frame.period()));
+            let heavy = row.weight.saturating_add(1);
+            sum = sum.saturating_add(heavy.saturating_mul(logarithm(count)));
+        }
+        sum
+    }
+
+    /// What a forest is worth by the basis of its root.
+    pub(crate) fn worth(self, frame: &Frame, basis: &Basis) -> i128 {
+        let open = u128::from(Goal::open(frame, basis));
+        let penalty = open
+            .saturating_mul(u128::from(self.share))
+            .saturating_mul(u128::from(frame.period()))
+            / 524_288;
+        let penalty = i128::try_from(penalty).unwrap_or(i128::MAX);
+        0i128.saturating_sub(basis.cost()).saturating_sub(penalty)
+    }
+}

@@ -1,0 +1,59 @@
+//! How much worse a forest may be than the one before it.
+
+use crate::goal::Goal;
+use crate::random::Random;
+use pesp_relaxation::Frame;
+
+/// The greatest loss at the start; it falls by seven halvings until the last exchange.
+#[derive(Clone, Copy)]
+pub(crate) struct Heat {
+    top: u64,
+    most: u32,
+}
+
+// the mean of the rows' weights, and 1
+fn mean_weight(frame: &Frame) -> u64 {
+    let mut sum = 0u64;
+    for row in frame.rows() {
+        sum = sum.saturating_add(row.weight);
+    }
+    let rows = frame.rows().len() as u64;
+    sum.checked_div(rows).unwrap_or(0).saturating_add(1)
+}
+
+impl Heat {
+    /// The heat of so many exchanges; none where they are fewer than 15 for each cycle.
+    pub(crate) fn new(frame: &Frame, goal: Goal, cycles: usize, most: u32) -> Heat {
+        if (most as usize) < cycles.saturating_mul(15) {
+            return Heat { top: 0, most };
+        }
+        let scaled = goal
+            .share
+            .saturating_mul(u64::from(frame.period()))
+            .saturating_mul(mean_weight(frame));
+        Heat {
+            top: scaled / 4096,
+            most,
+        }
+    }
+
+    // the heat after so many exchanges, halved step by step along lines
+    fn after(self, count: u32) -> u64 {
+        let steps = u64::from(count).saturating_mul(112);
+        let step = steps.checked_div(u64::from(self.most)).unwrap_or(0);
+        let halved = self
+            .top
+            .wrapping_shr(u32::try_from(step / 16).unwrap_or(63));
+        halved.saturating_sub((halved / 2).saturating_mul(step % 16) / 16)
+    }
+
+    /// Whether a loss is taken after so many exchanges: always where there is none.
+    pub(crate) fn takes(self, random: &mut Random, count: u32, loss: i128) -> bool {
+        let drawn = u128::from(random.halvings());
+        let Ok(loss) = u128::try_from(loss) else {
+            return true;
+        };
+        let room = u128::from(self.after(count)).saturating_mul(drawn);
+        loss.saturating_mul(185) <= room
+    }
+}

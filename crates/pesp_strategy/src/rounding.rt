@@ -1,0 +1,45 @@
+//! Prices as times.
+
+use pesp_relaxation::{Basis, Frame};
+use std::alloc::{AllocError, Global};
+
+// what the slack of a row costs at the prices; None where it is beyond the row's span
+fn row_cost(frame: &Frame, basis: &Basis, place: u32) -> Option<i128> {
+    let row = frame.row(place)?;
+    let slack = basis
+        .rise(place)?
+        .checked_sub(row.lower)?
+        .checked_rem_euclid(i64::from(frame.period()))?;
+    if slack > i64::from(row.span) {
+        return None;
+    }
+    i128::from(slack).checked_mul(i128::from(row.weight))
+}
+
+/// What the prices cost as times; None where a row's slack is beyond its span, or where they cost as much as a limit.
+pub(crate) fn rounded_cost(frame: &Frame, basis: &Basis, limit: i128) -> Option<i128> {
+    let mut cost = 0i128;
+    for place in 0..frame.rows().len() {
+        let row = u32::try_from(place).ok()?;
+        cost = cost.checked_add(row_cost(frame, basis, row)?)?;
+        if cost >= limit {
+            return None;
+        }
+    }
+    Some(cost)
+}
+
+/// The prices as times below the period.
+pub(crate) fn rounded_times(
+    alloc: Global,
+    frame: &Frame,
+    basis: &Basis,
+) -> Result<Vec<u32>, AllocError> {
+    let period = i64::from(frame.period());
+    let mut times = Vec::with_capacity(alloc, basis.prices().len())?;
+    for price in basis.prices() {
+        let time = price.checked_rem_euclid(period).unwrap_or(0);
+        times.push(u32::try_from(time).unwrap_or(0))?;
+    }
+    Ok(times)
+}

@@ -8,20 +8,29 @@ use crate::rows::Rows;
 use pesp_problem::{Arc, Memory};
 use std::alloc::Global;
 
-/// What one try leaves to the next: how often each event could not take the value that was tried, and chance.
+/// What one try leaves to the next: how often each event could not take the value that was tried, and chance; and the
+/// difference that each event is to have, where such are given.
 #[derive(Debug, Drop)]
 pub struct Experience {
     failures: Vec<u32>,
     costs: Vec<u64>,
+    targets: Vec<u32>,
     chance: Chance,
 }
 
 impl Experience {
-    /// Nothing has failed yet.
-    pub fn new(alloc: Global, events: u32, period: u32) -> Result<Experience, Memory> {
+    /// Nothing has failed yet. Where targets are given, one for each event, differences near to them cost least; else those
+    /// that cost least by the neighbours.
+    pub fn new(
+        alloc: Global,
+        events: u32,
+        period: u32,
+        targets: Vec<u32>,
+    ) -> Result<Experience, Memory> {
         Ok(Experience {
             failures: vec![in alloc; 0u32; events as usize]?,
             costs: vec![in alloc; 0u64; period as usize]?,
+            targets,
             chance: Chance::new(),
         })
     }
@@ -51,8 +60,8 @@ impl Experience {
         best
     }
 
-    /// The difference of an event that costs least by what is left of its neighbours: the sum over its rows of weight
-    /// times least slack. Chance makes each cost greater, by up to so many sixteenths.
+    /// The difference of an event that costs least: by what is left of its neighbours, the sum over its rows of weight times
+    /// least slack; or by how far it is from the event's target. Chance makes each cost greater, by up to so many sixteenths.
     pub fn choose_difference(
         &mut self,
         domains: &Domains,
@@ -60,7 +69,10 @@ impl Experience {
         event: u32,
         sixteenths: u32,
     ) -> u32 {
-        add_up_costs(&mut self.costs, domains, rows, event);
+        match self.targets.get(event as usize).copied() {
+            Some(target) => measure_distances(&mut self.costs, target),
+            None => add_up_costs(&mut self.costs, domains, rows, event),
+        }
         let mut best = 0;
         let mut least = None;
         for (difference, cost) in self.costs.iter().enumerate() {
@@ -75,6 +87,15 @@ impl Experience {
             }
         }
         best
+    }
+}
+
+// for each difference how far it is from a target round the period, and 1
+fn measure_distances(costs: &mut [u64], target: u32) {
+    let period = costs.len() as u64;
+    for (difference, cost) in costs.iter_mut().enumerate() {
+        let one = (difference as u64).abs_diff(u64::from(target));
+        *cost = one.min(period.saturating_sub(one)).saturating_add(1);
     }
 }
 

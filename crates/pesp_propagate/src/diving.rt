@@ -94,12 +94,13 @@ fn descend(
     Ok(None)
 }
 
-/// Looks for a timetable, in so many tries at most: one time for each event at which each row's slack is at most its span.
-/// None says nothing. Every call gives the same.
-///
-/// A try fixes the event with the fewest differences left to the one that costs least by what is left of its neighbours,
-/// propagates from there, and takes a value away that turns out to be impossible.
-pub fn dive(alloc: Global, network: &Network, tries: u32) -> Result<Option<Vec<u32>>, Memory>
+// so many tries with some experience
+fn try_again(
+    alloc: Global,
+    network: &Network,
+    tries: u32,
+    targets: Vec<u32>,
+) -> Result<Option<Vec<u32>>, Memory>
     ensures { IfOk result (λ found. IfSome found (λ times. IsNetTimetable (net_of_network network.now) network.now.events times.items)) }
 {
     let rows = Rows::of(alloc, network)?;
@@ -108,7 +109,7 @@ pub fn dive(alloc: Global, network: &Network, tries: u32) -> Result<Option<Vec<u
     if rows.settle_all(alloc, &mut start, &ranges)? != Outcome::Stable {
         return Ok(None);
     }
-    let mut experience = Experience::new(alloc, network.events(), network.period())?;
+    let mut experience = Experience::new(alloc, network.events(), network.period(), targets)?;
     for attempt in 0..tries {
         let sixteenths = if attempt == 0 { 0 } else { MOST_CHANCE };
         let found = descend(alloc, &rows, &ranges, &start, &mut experience, sixteenths)?;
@@ -118,4 +119,46 @@ pub fn dive(alloc: Global, network: &Network, tries: u32) -> Result<Option<Vec<u
         }
     }
     Ok(None)
+}
+
+// the differences to the first event of their component that prices give, at the period
+fn targets_of(alloc: Global, network: &Network, prices: &[i64]) -> Result<Vec<u32>, Memory> {
+    let period = i64::from(network.period());
+    let mut targets = Vec::new(alloc);
+    for event in 0..network.events() {
+        let first = network.first_of(event);
+        let price = prices.get(event as usize).copied().unwrap_or(0);
+        let least = prices.get(first as usize).copied().unwrap_or(0);
+        let target = price
+            .saturating_sub(least)
+            .checked_rem_euclid(period)
+            .unwrap_or(0);
+        targets.push(u32::try_from(target).unwrap_or(0))?;
+    }
+    Ok(targets)
+}
+
+/// Looks for a timetable, in so many tries at most: one time for each event at which each row's slack is at most its span.
+/// None says nothing. Every call gives the same.
+///
+/// A try fixes the event with the fewest differences left to the one that costs least by what is left of its neighbours,
+/// propagates from there, and takes a value away that turns out to be impossible.
+pub fn dive(alloc: Global, network: &Network, tries: u32) -> Result<Option<Vec<u32>>, Memory>
+    ensures { IfOk result (λ found. IfSome found (λ times. IsNetTimetable (net_of_network network.now) network.now.events times.items)) }
+{
+    try_again(alloc, network, tries, Vec::new(alloc))
+}
+
+/// Looks for a timetable near to prices, one for each event, as `dive` does but that a try fixes an event to the difference
+/// nearest to that of the prices at the period. An event without a price has the price 0.
+pub fn dive_to(
+    alloc: Global,
+    network: &Network,
+    prices: &[i64],
+    tries: u32,
+) -> Result<Option<Vec<u32>>, Memory>
+    ensures { IfOk result (λ found. IfSome found (λ times. IsNetTimetable (net_of_network network.now) network.now.events times.items)) }
+{
+    let targets = targets_of(alloc, network, prices)?;
+    try_again(alloc, network, tries, targets)
 }

@@ -17,7 +17,7 @@ mod slacks;
 pub mod step;
 mod waiting;
 
-pub use diving::dive;
+pub use diving::{dive, dive_to};
 pub use domains::Domains;
 pub use outcome::Outcome;
 pub use propagation::propagate;

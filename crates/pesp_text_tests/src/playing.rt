@@ -5,7 +5,7 @@ use crate::commands::ask_command;
 use crate::instances::{ask_instance, ask_score};
 use crate::pieces::is_piece;
 use crate::reports::{ask_report, ask_times};
-use crate::runs::{ask_check, ask_run_report, ask_solve};
+use crate::runs::{ask_check, ask_run_report, ask_solve, ask_solved};
 use crate::spellings::{ask_lines, ask_number, ask_words};
 use crate::streams::{ask_bytes, ask_pages};
 use pesp_cases::split_word;
@@ -40,6 +40,7 @@ fn tell(alloc: Global, lines: &[&str], line: &str) -> Option<String> {
 fn answer_of(alloc: Global, lines: &[&str], word: &str, rest: &str) -> Option<String> {
     match word {
         "solve" => ask_solve(alloc, lines, rest),
+        "solved" => ask_solved(alloc, lines, rest),
         "check" => ask_check(alloc, lines),
         "report" => ask_run_report(alloc, lines),
         "command" => ask_command(alloc, rest),

@@ -1,5 +1,6 @@
 //! Whole runs.
 
+use crate::devices::Device;
 use crate::drain::drain_of;
 use crate::feed::feed_of;
 use crate::given::{device_of, period_of, text_of};
@@ -17,6 +18,31 @@ pub(crate) fn ask_solve(alloc: Global, lines: &[&str], steps: &str) -> Option<St
     let taken = writer.into_inner().taken;
     match answer {
         Ok(()) => tell_written(alloc, 0, &taken),
+        Err(fault) => tell_fault(alloc, &fault, &taken),
+    }
+}
+
+/// The certificate that `solve` writes in so many steps.
+fn solved(alloc: Global, instance: &[u8], period: u32, steps: u32) -> Option<Vec<u8>> {
+    let mut reader = feed_of(instance, Device::whole());
+    let mut writer = drain_of(alloc, Device::whole());
+    run_solve(alloc, &mut reader, &mut writer, period, steps).ok()?;
+    Some(writer.into_inner().taken)
+}
+
+/// What `check` says of the certificate that `solve` writes in so many steps.
+pub(crate) fn ask_solved(alloc: Global, lines: &[&str], steps: &str) -> Option<String> {
+    let instance = text_of(alloc, lines, "instance")?;
+    let period = period_of(lines)?;
+    let steps = steps.parse::<u32>().ok()?.min(100_000);
+    let certificate = solved(alloc, &instance, period, steps)?;
+    let mut first = feed_of(&instance, Device::whole());
+    let mut second = feed_of(&certificate, Device::whole());
+    let mut writer = drain_of(alloc, Device::whole());
+    let answer = run_check(alloc, &mut first, &mut second, &mut writer, period);
+    let taken = writer.into_inner().taken;
+    match answer {
+        Ok(verdict) => tell_written(alloc, status_of_verdict(verdict), &taken),
         Err(fault) => tell_fault(alloc, &fault, &taken),
     }
 }

@@ -1,5 +1,5 @@
 -- Numbers that rise, and numbers without one twice: how many there are.
-use Rattle.std.proofs.Common.{◌≡◌, ℕ, zero, suc, ◌+◌, ◌-◌, ◌<◌, ◌≤◌, ◌⊎◌, Bool, true, false, List, [], ◌∷◌, length, map, refl, ap, arith, sym, ◌∙◌, inl, inr, subst}
+use Rattle.std.proofs.Common.{◌≡◌, ℕ, zero, suc, ◌+◌, ◌<◌, ◌≤◌, ◌⊎◌, Bool, true, false, List, [], ◌∷◌, length, map, refl, ap, arith, sym, inl, inr, subst}
 use Rattle.std.specs.Prelude.{slice_index, nat_eq, ◌||◌, All}
 use Rattle.std.specs.List.{IsDistinct, list_any, range_with_len}
 use Rattle.std.specs.List.Sorted.{IsStrictlyIncreasing}
@@ -12,7 +12,7 @@ use Rattle.std.proofs.lemmas.List.FromFn.{length-range_with_len}
 use Rattle.std.proofs.lemmas.List.Elements.{All-head, All-tail, All-map, All-get_or}
 use Rattle.pesp_problem.specs.declared.arc.Arc.{Arc}
 use Rattle.pesp_problem.specs.declared.row.SignedRow.{SignedRow}
-use Rattle.pesp_problem.specs.Walks.{Names, RowExists, AreRows, IsWalk}
+use Rattle.pesp_problem.specs.Walks.{Names, RowExists, AreRows}
 use Rattle.pesp_problem.specs.Forests.{IsSpanningForest, IsFundamental, AreFundamental, own_row}
 
 -- ---- numbers that rise

@@ -9,6 +9,7 @@ use Rattle.pesp_problem.specs.Nodes.{Node, slack_range, offset_range, low_part, 
 use Rattle.pesp_nodes.specs.declared.node.Change.{Change}
 use Rattle.pesp_nodes.specs.declared.node.Change.TheVariants.{Slack as SlackChange, Offset as OffsetChange}
 use Rattle.pesp_nodes.specs.declared.walk.Branch.{Branch}
+use Rattle.pesp_nodes.specs.Offsets.{IsOffsetEnds}
 use Rattle.pesp_nodes.specs.Problems.{IsCutOf}
 
 -- the cut that made a change
@@ -54,7 +55,7 @@ IsCut rows cycles (Offset cycle k) = Names cycles cycle × (unsigned_abs k ≤ 1
 -- a change that a cut can make among so many rows and cycles
 abbrev pub IsChange : ℕ → ℕ → Change → Type 0
 IsChange rows cycles (SlackChange row k was) = IsCut rows cycles (Slack row k) × (was.0 ≤ 10000) × (was.1 ≤ 10000)
-IsChange rows cycles (OffsetChange cycle k was) = IsCut rows cycles (Offset cycle k)
+IsChange rows cycles (OffsetChange cycle k was) = IsCut rows cycles (Offset cycle k) × IsOffsetEnds was
 
 abbrev pub AreChanges : ℕ → ℕ → List Branch → Type 0
 AreChanges rows cycles path = All (λ branch. IsChange rows cycles branch.change) path

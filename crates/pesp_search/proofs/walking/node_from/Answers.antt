@@ -1,0 +1,5 @@
+use Rattle.pesp_search.proofs.PathNodes.{at_root, one_step, cut_there, at_end, node_there}
+use Rattle.pesp_search.proofs.walking.node_from.Goals as goal
+
+pub loop-step-init : goal.loop-step-init
+loop-step-init c = at_root c.args.root.now c.in_ok-node.node c.args.path.now c.in_ok-node.ensures

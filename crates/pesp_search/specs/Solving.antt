@@ -1,0 +1,29 @@
+-- What the solver answers.
+use Rattle.std.specs.Prelude.{◌≡◌, ⊤, ℕ, ◌+◌, ◌*◌, ◌<◌, ◌≤◌, length, Option}
+use Rattle.pesp_problem.specs.Timetables.{Pesp}
+use Rattle.pesp_problem.specs.Arcs.{net_of}
+use Rattle.pesp_problem.specs.Nodes.{root}
+use Rattle.pesp_truth.specs.declared.answer.Answer.TheVariants.{Bounded}
+use Rattle.pesp_truth.specs.Certificates.{Content, IsValid}
+use Rattle.pesp_room.specs.Rooms.{room}
+use Rattle.pesp_turns.specs.Turns.{IsOpenAnswer, HasBranches}
+use Rattle.pesp_lifting.specs.Lifted.{IsFrugal}
+use Rattle.pesp_search.specs.Singles.{IsAboveSingles}
+use Rattle.pesp_search.specs.declared.refusal.SolveRefusal.{SolveRefusal}
+use Rattle.pesp_search.specs.declared.refusal.SolveRefusal.TheVariants.{Memory, TableTooLarge, PairsTooMany}
+
+-- a valid certificate for the instance, after so many splits of at most so many
+pub record IsSolved (p : Pesp) (steps used : ℕ) (content : Content) : Type 0 where
+  pub valid : IsValid p content
+  pub few : used ≤ steps
+  pub finished : IsOpenAnswer content.answer → used ≡ steps
+  pub least : (l : ℕ) (cost : Option ℕ) → content.answer ≡ Bounded l cost → IsAboveSingles (net_of p) content.cycles l
+  pub branches : HasBranches (net_of p) content used
+  pub frugal : IsFrugal content.cycles
+  pub room : used < room (net_of p) content.cycles (root (net_of p) content.cycles)
+
+-- when nothing is answered
+abbrev pub IsSearchRefusal : Pesp → ℕ → SolveRefusal → Type 0
+IsSearchRefusal p steps Memory = ⊤
+IsSearchRefusal p steps TableTooLarge = 10000000 < length p.rows * length p.rows
+IsSearchRefusal p steps PairsTooMany = 20000000 < (steps + 1) * length p.rows

@@ -1,0 +1,54 @@
+//! A search that begins.
+
+ghost use Rattle.std.specs.Prelude.{IfOk, IfErr};
+ghost use Rattle.pesp_search.specs.Beginning.{IsBegun};
+ghost use Rattle.pesp_search.specs.Solving.{IsSearchRefusal};
+
+use crate::passing::passed_rows;
+use crate::preparing::{Prepared, prepare};
+use crate::refusal::SolveRefusal;
+use pesp_board::Board;
+use pesp_nodes::Node;
+use pesp_problem::{Instance, Walk};
+use pesp_reduce::Reduced;
+use std::alloc::Global;
+
+/// What stays as it is through a search: what is left of the instance, with its fundamental walks; for each row of the
+/// instance whether some cycle passes it; and the root.
+#[derive(Drop)]
+pub(crate) struct Known {
+    pub(crate) reduced: Reduced,
+    pub(crate) walks: Vec<Walk>,
+    pub(crate) passed: Vec<bool>,
+    pub(crate) root: Node,
+}
+
+/// A board on which nothing is done yet, and what is known of its problem.
+#[derive(Drop)]
+pub(crate) struct Begun {
+    pub(crate) known: Known,
+    pub(crate) board: Board,
+}
+
+/// Begins the search for an instance: the board's problem is its network with the lifted walks of what is left of it.
+pub(crate) fn begin(alloc: Global, instance: &Instance) -> Result<Begun, SolveRefusal>
+    ensures begun { IfOk result (IsBegun instance.now) }
+    ensures refused { IfErr result (IsSearchRefusal instance.now 0) }
+{
+    let _limits = instance.rows();
+    let Prepared {
+        reduced,
+        walks,
+        problem,
+    } = prepare(alloc, instance)?;
+    let passed = passed_rows(alloc, &problem)?;
+    let root = problem.root(alloc)?;
+    let board = Board::new(alloc, problem)?;
+    let known = Known {
+        reduced,
+        walks,
+        passed,
+        root,
+    };
+    Ok(Begun { known, board })
+}

@@ -1,0 +1,60 @@
+//! Solutions.
+
+ghost use Rattle.std.specs.Prelude.{◌≡◌, ℕ, ◌≤◌, IfOk, IfErr};
+ghost use Rattle.pesp_machine.specs.States.{opening};
+ghost use Rattle.pesp_machine.specs.Certificates.{IsProblemOf};
+ghost use Rattle.pesp_lifting.specs.Lifted.{IsFrugal};
+ghost use Rattle.pesp_search.specs.Solving.{IsSolved};
+ghost use Rattle.pesp_search.specs.Beginning.{IsKnown};
+ghost use Rattle.pesp_search.specs.Turning.{IsSearchedThrough, AreTurnsRefused};
+
+use crate::begun::Known;
+use crate::offering::offer_times;
+use crate::refusal::SolveRefusal;
+use crate::rooting::look_at_root;
+use crate::running::run_turns;
+use crate::turning::limits;
+use pesp_board::Board;
+use pesp_cert::Certificate;
+use pesp_problem::{Instance, Memory};
+use std::alloc::Global;
+
+/// What is known of an instance, and how many leaves were split to find it.
+#[derive(Debug, Drop)]
+pub struct Solved {
+    pub certificate: Certificate,
+    pub steps_used: u32,
+}
+
+// searches on a new board; says how many leaves were split
+fn search(alloc: Global, board: &mut Board, known: &Known, steps: u32) -> Result<u32, SolveRefusal>
+    requires known { IsKnown board.old.problem known.now }
+    requires opening { board.old.state ≡ opening }
+    requires few { steps ≤ 100000 }
+    ensures problem { board.new.problem ≡ board.old.problem }
+    ensures searched { IfOk result (λ used. IsSearchedThrough board.old.problem steps used board.new.state) }
+    ensures refused { IfErr result (AreTurnsRefused board.old.problem steps) }
+{
+    look_at_root(alloc, board, &known.root)?;
+    offer_times(alloc, board, &known.reduced)?;
+    run_turns(alloc, board, known, steps)
+}
+
+// what the board certifies after a search
+fn certify(
+    alloc: Global,
+    instance: &Instance,
+    board: &Board,
+    steps_used: u32,
+) -> Result<Solved, Memory>
+    requires of { IsProblemOf instance.now board.now.problem }
+    requires frugal { IsFrugal board.now.problem.table }
+    ensures { (steps : ℕ) → IsSearchedThrough board.now.problem steps steps_used board.now.state → IfOk result (λ s. IsSolved instance.now steps s.steps_used s.certificate) }
+{
+    limits(board.problem());
+    let certificate = board.certificate(alloc, instance)?;
+    Ok(Solved {
+        certificate,
+        steps_used,
+    })
+}

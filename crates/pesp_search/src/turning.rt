@@ -1,0 +1,171 @@
+//! One turn of the search.
+
+ghost use Rattle.std.specs.Prelude.{◌≡◌, ◌<◌, ◌≤◌, ◌-◌, ℕ, length, IfOk, IfErr, OnOk, IfSome, IfNone, MatchOption, Some, None, Ok};
+ghost use Rattle.pesp_problem.specs.Walks.{Names};
+ghost use Rattle.pesp_problem.specs.Nodes.{offsets_left};
+ghost use Rattle.pesp_truth.specs.Trees.{Gap, CutExists, IsSoundLeaf};
+ghost use Rattle.pesp_nodes.specs.Problems.{net_of, IsNodeOf, IsSmallTable};
+ghost use Rattle.pesp_network.specs.Networks.{KeepsNetLimits};
+ghost use Rattle.pesp_machine.specs.States.{State, node_at};
+ghost use Rattle.pesp_machine.specs.Events.{LeavesBoth, Lends, Takes};
+ghost use Rattle.pesp_machine.specs.declared.work.Work.TheVariants.{Gap as GivesGap};
+ghost use Rattle.pesp_room.specs.Rooms.{IsCounted};
+ghost use Rattle.pesp_room.specs.Settled.{IsSettled, HaveOffsetsLeft};
+ghost use Rattle.pesp_turns.specs.Turns.{IsWorked};
+ghost use Rattle.pesp_search.specs.declared.refusal.SolveRefusal.TheVariants.{Memory as Refused};
+ghost use Rattle.pesp_search.specs.Beginning.{ArePassedRows, IsKnown};
+ghost use Rattle.pesp_search.specs.Turning.{IsJustLent, IsSplitAt, TakesStep, IsTurn, IsTurnRefusal};
+
+use crate::begun::Known;
+use crate::choosing::{offset_to_cut, slack_to_cut};
+use crate::expanding::expand;
+use crate::handing::hand_in;
+use crate::refusal::SolveRefusal;
+use crate::settling::settle;
+use crate::walking::node_from;
+use pesp_board::{Board, Job, LendRefusal, Work};
+use pesp_nodes::{Node, Problem, offset_range};
+use pesp_problem::Cut;
+use pesp_turns::laws::turns_begin;
+use std::alloc::Global;
+
+/// What a turn did: it split a leaf; it closed one, by a gap or by times that cost no more than it is worth; or no leaf is
+/// open.
+#[derive(Clone, Copy, Debug, PartialEq, Eq)]
+pub(crate) enum Turn {
+    Split,
+    Closed,
+    Over,
+}
+
+// a problem keeps its limits
+pub(crate) fn limits(problem: &Problem)
+    ensures network { KeepsNetLimits problem.now.network }
+    ensures table { IsSmallTable problem.now.table }
+{
+    problem.network().period();
+    problem.table();
+}
+
+// a cut that counts and leaves both sides a value; None where nothing is left to cut
+fn cut_at(problem: &Problem, node: &Node, passed: &[bool]) -> Option<Cut>
+    requires node { IsNodeOf problem.now node.now }
+    requires passed { ArePassedRows problem.now passed.now }
+    ensures exists { IfSome result (CutExists (net_of problem.now) problem.now.table) }
+    ensures both { IfSome result (LeavesBoth node.now) }
+    ensures counted { IfSome result (IsCounted (net_of problem.now) problem.now.table) }
+    ensures none { IfNone result (IsSettled (net_of problem.now) problem.now.table node.now) }
+{
+    let _few = problem.arcs();
+    if let Some((cycle, k)) = offset_to_cut(node.offsets()) {
+        return Some(Cut::Offset { cycle, k });
+    }
+    let (row, k) = slack_to_cut(node.slacks(), passed)?;
+    Some(Cut::Slack { row, k })
+}
+
+// the first cycle that has no offset left
+fn gap_at(problem: &Problem, node: &Node) -> Option<u32>
+    requires { IsNodeOf problem.now node.now }
+    ensures { MatchOption result (HaveOffsetsLeft (net_of problem.now) problem.now.table node.now) (λ cycle. IsSoundLeaf (net_of problem.now) problem.now.table None (Gap cycle) node.now) }
+{
+    let _few = problem.arcs();
+    for place in 0..problem.table().len() {
+        let cycle = place as u32 + 1;
+        if offset_range(problem, node, cycle).is_none() {
+            return Some(cycle);
+        }
+    }
+    None
+}
+
+// lends a leaf, where one is open
+pub(crate) fn lend_next(
+    alloc: Global,
+    board: &mut Board,
+    used: u32,
+) -> Result<Option<Job>, SolveRefusal>
+    requires worked { IsWorked board.old.problem used board.old.state }
+    requires few { used ≤ 100000 }
+    ensures problem { board.new.problem ≡ board.old.problem }
+    ensures lends { IfOk result (λ job. Lends board.old.problem board.old.state (Ok job) board.new.state) }
+    ensures refused { IfErr result (λ refusal. refusal ≡ Refused) }
+{
+    turns_begin();
+    match board.lend(alloc) {
+        Ok(job) => Ok(job),
+        Err(LendRefusal::Memory) => Err(SolveRefusal::Memory),
+        Err(LendRefusal::NumbersSpent) => unreachable!(),
+    }
+}
+
+// splits the leaf that was just lent, at this node
+fn split_leaf(
+    alloc: Global,
+    board: &mut Board,
+    job: &Job,
+    node: Node,
+    cut: Cut,
+    used: u32,
+) -> Result<(), SolveRefusal>
+    requires split { IsSplitAt board.old.problem used board.old.state job.now cut }
+    requires node { IsNodeOf board.old.problem node }
+    requires at { node ≡ node_at board.old.problem job.now.path.items }
+    ensures problem { board.new.problem ≡ board.old.problem }
+    ensures takes { OnOk result (TakesStep board.old.problem board.old.state job.now.number cut board.new.state) }
+    ensures refused { IfErr result (IsTurnRefusal board.old.problem used) }
+{
+    let Some((_, start)) = board.job_leaf(job.number) else {
+        unreachable!();
+    };
+    let lines = expand(alloc, board.problem(), node, cut, start)?;
+    hand_in(alloc, board, job, &Work::Tree(lines), used)
+}
+
+// closes the leaf that was just lent by a cycle that has no offset left
+fn close_leaf(
+    alloc: Global,
+    board: &mut Board,
+    job: &Job,
+    cycle: u32,
+    used: u32,
+) -> Result<(), SolveRefusal>
+    requires lent { IsJustLent board.old.problem used board.old.state job.now }
+    requires gap { IsSoundLeaf (net_of board.old.problem) board.old.problem.table None (Gap cycle) (node_at board.old.problem job.now.path.items) }
+    ensures problem { board.new.problem ≡ board.old.problem }
+    ensures takes { OnOk result (Takes board.old.problem board.old.state job.now.number (GivesGap cycle) board.new.state) }
+    ensures refused { IfErr result (IsTurnRefusal board.old.problem used) }
+{
+    hand_in(alloc, board, job, &Work::Gap(cycle), used)
+}
+
+/// Lends an open leaf, and splits it where something is left to cut at its node; else closes it.
+pub(crate) fn take_turn(
+    alloc: Global,
+    board: &mut Board,
+    known: &Known,
+    used: u32,
+) -> Result<Turn, SolveRefusal>
+    requires known { IsKnown board.old.problem known.now }
+    requires worked { IsWorked board.old.problem used board.old.state }
+    requires few { used ≤ 100000 }
+    ensures problem { board.new.problem ≡ board.old.problem }
+    ensures goes { IfOk result (λ turn. IsTurn board.old.problem used board.old.state turn board.new.state) }
+    ensures refused { IfErr result (IsTurnRefusal board.old.problem used) }
+{
+    limits(board.problem());
+    let Some(job) = lend_next(alloc, board, used)? else {
+        return Ok(Turn::Over);
+    };
+    let node = node_from(alloc, &known.root, &job.path)?;
+    if let Some(cut) = cut_at(board.problem(), &node, &known.passed) {
+        split_leaf(alloc, board, &job, node, cut, used)?;
+        return Ok(Turn::Split);
+    }
+    if let Some(cycle) = gap_at(board.problem(), &node) {
+        close_leaf(alloc, board, &job, cycle, used)?;
+        return Ok(Turn::Closed);
+    }
+    settle(alloc, board, &known.reduced, &known.walks, &job, &node)?;
+    Ok(Turn::Closed)
+}

@@ -127,7 +127,7 @@ pub(crate) fn best_cut(
         };
         offer_parts(alloc, leaf.frame, kept, &bases.looked_at, &looked)?;
         experience.note(&looked);
-        let score = score(looked.low, looked.high, kept.cap(leaf.value));
+        let score = score(kept, leaf.value, looked.low, looked.high);
         if score > greatest {
             greatest = score;
             best = Some(looked);

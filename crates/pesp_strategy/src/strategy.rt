@@ -256,6 +256,12 @@ impl Strategy {
         Ok(Some(Strategy { setting, work }))
     }
 
+    /// A price for each event of the network, from the last leaf that was looked at: along each row of a spanning tree prices
+    /// rise by a duration that is best there, were offsets no whole numbers. Times near to them tend to be good.
+    pub fn prices(&self) -> &[i64] {
+        self.work.bases.leaf.prices()
+    }
+
     /// What is proposed for a leaf: of these slack ranges, one for each row of the network, these offset ranges, one for each
     /// cycle as they are named, and these pairs, where the best timetable so far costs so much. None where nothing is to be
     /// said, as of a leaf that has no ranges for some row or cycle, or numbers beyond 64 bits.

@@ -17,13 +17,11 @@ pub(crate) struct Leaf<'a> {
     pub(crate) value: i128,
 }
 
-/// What a part of a leaf is worth: its value, and by how much that is above the leaf's; whether it closes; and whether that
-/// is because it has no timetable.
+/// What a part of a leaf is worth: its value, and by how much that is above the leaf's; or whether it has no timetable.
 #[derive(Clone, Copy)]
 pub(crate) struct Weight {
     pub(crate) value: i128,
     pub(crate) gain: u128,
-    pub(crate) is_closed: bool,
     pub(crate) is_endless: bool,
 }
 
@@ -71,7 +69,6 @@ impl Leaf<'_> {
             return Some(Weight {
                 value: 0,
                 gain: cap,
-                is_closed: true,
                 is_endless: true,
             });
         }
@@ -80,19 +77,31 @@ impl Leaf<'_> {
         Some(Weight {
             value,
             gain: gain.min(cap),
-            is_closed: kept.closes(value),
             is_endless: false,
         })
     }
 }
 
-/// How good a cut is whose parts are worth this, where gains beyond the cap don't count: the product of both gains; better
-/// than any product, and then by the lesser gain, where one part closes.
-pub(crate) fn score(low: Weight, high: Weight, cap: u128) -> u128 {
-    let below = low.gain.min(cap).saturating_mul(1 << 20).checked_div(cap);
-    let above = high.gain.min(cap).saturating_mul(1 << 20).checked_div(cap);
-    let (below, above) = (below.unwrap_or(0), above.unwrap_or(0));
-    if low.is_closed || high.is_closed {
+impl Weight {
+    // whether the part has no timetable that costs less than the best one
+    fn is_closed(self, kept: &Kept) -> bool {
+        self.is_endless || kept.closes(self.value)
+    }
+
+    // the gain up to a cap, in 1/1048576 of it
+    fn share(self, cap: u128) -> u128 {
+        let scaled = self.gain.min(cap).saturating_mul(1_048_576);
+        scaled.checked_div(cap).unwrap_or(0)
+    }
+}
+
+/// How good a cut of a leaf of this value is whose parts are worth this: the product of both gains, as far as they count;
+/// better than any product, and then by the lesser gain, where one part closes.
+pub(crate) fn score(kept: &Kept, value: i128, low: Weight, high: Weight) -> u128 {
+    let cap = kept.cap(value);
+    let below = low.share(cap);
+    let above = high.share(cap);
+    if low.is_closed(kept) || high.is_closed(kept) {
         return below.min(above).saturating_add(1 << 50);
     }
     below

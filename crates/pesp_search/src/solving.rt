@@ -1,10 +1,10 @@
 //! Solutions.
 
-ghost use Rattle.std.specs.Prelude.{◌≡◌, ℕ, ◌≤◌, IfOk, IfErr};
+ghost use Rattle.std.specs.Prelude.{◌≡◌, ℕ, ◌≤◌, IfOk, IfErr, length};
 ghost use Rattle.pesp_machine.specs.States.{opening};
 ghost use Rattle.pesp_machine.specs.Certificates.{IsProblemOf};
 ghost use Rattle.pesp_lifting.specs.Lifted.{IsFrugal};
-ghost use Rattle.pesp_search.specs.Solving.{IsSolved};
+ghost use Rattle.pesp_search.specs.Solving.{IsSolved, IsSearchRefusal};
 ghost use Rattle.pesp_search.specs.Beginning.{IsKnown};
 ghost use Rattle.pesp_search.specs.Turning.{IsSearchedThrough, AreTurnsRefused};
 
@@ -57,4 +57,25 @@ fn certify(
         certificate,
         steps_used,
     })
+}
+
+// searches on the opening board of an instance, and certifies what is known then
+fn solve_on(
+    alloc: Global,
+    instance: &Instance,
+    board: &mut Board,
+    known: &Known,
+    steps: u32,
+) -> Result<Solved, SolveRefusal>
+    requires known { IsKnown board.old.problem known.now }
+    requires opening { board.old.state ≡ opening }
+    requires of { IsProblemOf instance.now board.old.problem }
+    requires frugal { IsFrugal board.old.problem.table }
+    requires few { length board.old.problem.table ≤ length instance.now.rows }
+    requires most { steps ≤ 100000 }
+    ensures solved { IfOk result (λ s. IsSolved instance.now steps s.steps_used s.certificate) }
+    ensures refused { IfErr result (IsSearchRefusal instance.now steps) }
+{
+    let steps_used = search(alloc, board, known, steps)?;
+    Ok(certify(alloc, instance, board, steps_used)?)
 }

@@ -1,5 +1,5 @@
 -- How a search begins, and what of it is known throughout.
-use Rattle.std.proofs.Common.{◌≡◌, ℕ, ◌≤◌, List, length, ap, arith, sym, subst, Bool}
+use Rattle.std.proofs.Common.{◌≡◌, ◌≤◌, length, ap, arith, sym, subst, Bool}
 use Rattle.std.specs.Global.{Vec}
 use Rattle.pesp_problem.specs.Timetables.{Pesp}
 use Rattle.pesp_problem.specs.Limits.{KeepsLimits}
@@ -13,7 +13,6 @@ use Rattle.pesp_lifting.specs.Lifted.{IsReduced, AreLifted, IsFrugal}
 use Rattle.pesp_lifting.proofs.Tables.{short_table, fewer_rows, count_arcs}
 use Rattle.pesp_search.specs.declared.preparing.Prepared.{Prepared}
 use Rattle.pesp_search.specs.declared.begun.Known.{Known}
-use Rattle.pesp_search.specs.declared.begun.Begun.{Begun}
 use Rattle.pesp_search.specs.Beginning.{ArePassedRows, IsKnown, IsBegun}
 
 few_cycles : (x : Prepared) → IsReduced x.reduced → AreFundamental (arcs_of_network x.reduced.network.rows) x.reduced.network.forest x.walks.items → AreLifted x.reduced x.walks.items x.problem.table → length x.problem.table ≤ length x.reduced.original.rows

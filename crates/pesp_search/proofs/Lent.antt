@@ -1,30 +1,27 @@
 -- What is known of a leaf that was just lent, and what a turn leaves.
-use Rattle.std.proofs.Common.{◌≡◌, ℕ, ◌+◌, ◌*◌, ◌<◌, ◌≤◌, List, [], ◌∷◌, length, map, refl, ap, arith, sym, ◌∙◌, subst}
+use Rattle.std.proofs.Common.{◌≡◌, ℕ, ◌+◌, ◌<◌, ◌≤◌, List, length, refl, ap, arith, sym, ◌∙◌, subst}
 use Rattle.std.specs.Global.{Vec}
-use Rattle.std.specs.Prelude.{Option, Some, None, Result, Ok, Err, OnOk, option_map, All}
+use Rattle.std.specs.Prelude.{Option, Some, None, Result, Ok, Err, OnOk, option_map}
 use Rattle.pesp_problem.specs.declared.pair.Pair.{Pair}
 use Rattle.pesp_problem.specs.declared.cut.Cut.{Cut}
-use Rattle.pesp_problem.specs.declared.cut.Side.{Side}
 use Rattle.pesp_problem.specs.Nodes.{Node}
 use Rattle.pesp_network.specs.Networks.{KeepsNetLimits}
 use Rattle.pesp_truth.specs.declared.tree.TreeLine.{TreeLine}
-use Rattle.pesp_truth.specs.Trees.{Tree, Bound, Gap, CutExists, IsSoundLeaf}
-use Rattle.pesp_truth.specs.Certificates.{line_of}
-use Rattle.pesp_nodes.specs.Problems.{ProblemValue, net_of, IsSmallTable, IsNodeOf, IsCutOf, ArePairs}
+use Rattle.pesp_truth.specs.Trees.{Tree, Bound, Gap, IsSoundLeaf}
+use Rattle.pesp_nodes.specs.Problems.{ProblemValue, net_of, IsNodeOf, IsCutOf, ArePairs}
 use Rattle.pesp_machine.specs.declared.job.Job.{Job}
 use Rattle.pesp_machine.specs.declared.work.Work.{Work}
 use Rattle.pesp_machine.specs.declared.work.Work.TheVariants as works
 use Rattle.pesp_machine.specs.Leaves.{told, least_value}
 use Rattle.pesp_machine.specs.States.{State, IsAtMost, IsJobLeaf, root_of, node_at, least}
-use Rattle.pesp_machine.specs.Reached.{IsOrderly}
-use Rattle.pesp_machine.specs.Events.{LeavesBoth, LendsLeaf, Takes, Lend, Give, IsValidAt}
+use Rattle.pesp_machine.specs.Events.{Takes, Lend, Give, IsValidAt}
 use Rattle.pesp_machine.proofs.Runs.{step_is_orderly}
 use Rattle.pesp_machine.proofs.Ranges.{cut_keeps_limits}
 use Rattle.pesp_machine.proofs.OneSize.{same_pairs}
 use Rattle.pesp_board.specs.Giving.{AreCuts}
 use Rattle.pesp_board.proofs.Paths.{cut_of_node}
 use Rattle.pesp_room.specs.Rooms.{branches, branch_lines, IsCounted}
-use Rattle.pesp_turns.specs.Turns.{IsWorked, AreStep, splits_of}
+use Rattle.pesp_turns.specs.Turns.{IsWorked, splits_of}
 use Rattle.pesp_turns.proofs.Replies.{lent_leaf}
 use Rattle.pesp_turns.proofs.Sizes.{path_cuts, leaf_pairs}
 use Rattle.pesp_turns.proofs.Found.{found_is_valid}
@@ -32,9 +29,8 @@ use Rattle.pesp_turns.proofs.Turns.{steps, closes_by_gap}
 use Rattle.pesp_turns.proofs.Ends.{step_tightens}
 use Rattle.pesp_turns.proofs.Spent.{given_one}
 use Rattle.pesp_search.specs.declared.refusal.SolveRefusal.{SolveRefusal}
-use Rattle.pesp_search.specs.declared.refusal.SolveRefusal.TheVariants.{Memory, TableTooLarge, PairsTooMany}
-use Rattle.pesp_search.specs.Handing.{IsHandedIn, IsHandedBack}
-use Rattle.pesp_search.specs.Turning.{IsExpanded, IsJustLent, IsSplitAt, TakesStep, IsTurnRefusal, GoesOn}
+use Rattle.pesp_search.specs.Handing.{IsHandedIn}
+use Rattle.pesp_search.specs.Turning.{IsExpanded, IsJustLent, IsSplitAt, TakesStep, GoesOn}
 
 some_period : (p : ProblemValue) → KeepsNetLimits p.network → 0 < p.network.period
 some_period p limits = let some = limits.some_period in omega (arith, some)

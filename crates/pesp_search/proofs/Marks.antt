@@ -1,6 +1,6 @@
 -- Rows that are marked, walk by walk.
-use Rattle.std.proofs.Common.{◌≡◌, ◌≢◌, ℕ, ◌+◌, ◌-◌, ◌<◌, ◌≤◌, List, [], ◌∷◌, length, take, get_or, set, refl, ap, arith, sym, ◌∙◌, subst, ◌⊎◌, inl, inr, Bool, true, false}
-use Rattle.std.specs.Prelude.{◌||◌, ◌==◌, All, slice_index_or}
+use Rattle.std.proofs.Common.{◌≡◌, ℕ, ◌+◌, ◌-◌, ◌<◌, ◌≤◌, List, length, take, get_or, set, refl, ap, arith, sym, ◌∙◌, inl, inr, Bool, true, false}
+use Rattle.std.specs.Prelude.{◌||◌, ◌==◌, slice_index_or}
 use Rattle.std.specs.List.{list_any}
 use Rattle.std.proofs.lemmas.Bool.{cases_eq}
 use Rattle.std.proofs.lemmas.Bool.Decides.{nat_tests}

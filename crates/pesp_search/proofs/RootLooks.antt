@@ -1,5 +1,5 @@
 -- The root of a new board: it is open, what is found there is valid work, and its value bounds every later answer.
-use Rattle.std.proofs.Common.{◌≡◌, ℕ, ◌+◌, ◌*◌, ◌<◌, ◌≤◌, List, [], ◌∷◌, length, true, refl, ap, arith, sym, ◌∙◌, subst, ◌⊎◌, inl, inr}
+use Rattle.std.proofs.Common.{◌≡◌, ℕ, ◌+◌, ◌*◌, ◌<◌, ◌≤◌, List, [], ◌∷◌, length, true, refl, ap, arith, sym, ◌∙◌, subst, inl, inr}
 use Rattle.std.specs.Prelude.{ℤ, pos, negsuc, ◌+ℤ◌, ◌-ℤ◌, ◌*ℤ◌, ◌≤ℤ◌, Option, Some, None, IsNone, IsSome, IfSome, IsSomeAnd, Result, Ok, Err, OnOk, IfErr, option_map}
 use Rattle.std.specs.Int.{int_min}
 use Rattle.std.proofs.lemmas.Int.{ints, clamps}
@@ -11,12 +11,11 @@ use Rattle.pesp_problem.proofs.Integers.{zero-mul, sum_below-le, sum_below-zero}
 use Rattle.pesp_problem.specs.declared.pair.Pair.{Pair}
 use Rattle.pesp_problem.specs.declared.cut.Cut.{Cut}
 use Rattle.pesp_problem.specs.declared.cut.Side.{Side}
-use Rattle.pesp_problem.specs.Walks.{Names}
 use Rattle.pesp_problem.specs.Nodes.{Node, slack_range, root_slacks, weight_of, slack_part, leaf_value}
 use Rattle.pesp_network.specs.Networks.{KeepsNetLimits}
 use Rattle.pesp_truth.specs.Trees.{Tree, Leaf, Ends, Bound as BoundLeaf, Gap as GapLeaf, Nothing as NothingLeaf}
 use Rattle.pesp_truth.specs.Leaves.{IsLeafAt}
-use Rattle.pesp_nodes.specs.Problems.{ProblemValue, net_of, IsSmallTable, ArePairs}
+use Rattle.pesp_nodes.specs.Problems.{ProblemValue, net_of, IsSmallTable}
 use Rattle.pesp_bound.specs.declared.leaf.Leaf.{Leaf as Found}
 use Rattle.pesp_bound.specs.declared.leaf.Leaf.TheVariants.{Gap, Nothing, Bound}
 use Rattle.pesp_bound.specs.Leaves.{IsLeafOf, IsNoLess}
@@ -24,7 +23,7 @@ use Rattle.pesp_machine.specs.declared.job.Job.{Job}
 use Rattle.pesp_machine.specs.declared.work.Work.{Work}
 use Rattle.pesp_machine.specs.declared.work.Work.TheVariants as works
 use Rattle.pesp_machine.specs.Leaves.{told, least_value}
-use Rattle.pesp_machine.specs.States.{State, Lent, Recalled, opening, IsLent, IsOpen, IsAtMost, root_of, node_at, least}
+use Rattle.pesp_machine.specs.States.{State, opening, IsLent, IsOpen, IsAtMost, root_of, node_at, least}
 use Rattle.pesp_machine.specs.Events.{Lends, LendsLeaf, Takes, IsValidAt}
 use Rattle.pesp_machine.proofs.Works.{pairs_exist}
 use Rattle.pesp_turns.specs.Turns.{IsWorked, splits_of}
@@ -33,7 +32,7 @@ use Rattle.pesp_turns.proofs.Ends.{root_sets_least}
 use Rattle.pesp_turns.proofs.Singles.{single_small}
 use Rattle.pesp_search.specs.declared.refusal.SolveRefusal.{SolveRefusal}
 use Rattle.pesp_search.specs.declared.refusal.SolveRefusal.TheVariants.{Memory, TableTooLarge, PairsTooMany}
-use Rattle.pesp_search.specs.Singles.{IsSingle, IsBestSingle, plus_pair, minus_pair}
+use Rattle.pesp_search.specs.Singles.{IsSingle, IsBestSingle}
 use Rattle.pesp_search.specs.Rooting.{work_of, IsRootBound}
 use Rattle.pesp_search.specs.Handing.{IsHandedIn, IsHandedBack}
 use Rattle.pesp_search.specs.Turning.{AreTurnsRefused}

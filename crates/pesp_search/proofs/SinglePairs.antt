@@ -1,6 +1,6 @@
 -- The single pair that is worth most, cycle by cycle.
-use Rattle.std.proofs.Common.{◌≡◌, ℕ, zero, suc, ◌+◌, ◌-◌, ◌<◌, ◌≤◌, List, [], ◌∷◌, ◌++◌, length, get_or, true, refl, ap, arith, sym, ◌∙◌, subst, ◌⊎◌, inl, inr, Option, Some, None}
-use Rattle.std.specs.Prelude.{ℤ, pos, negsuc, ◌≤ℤ◌, unsigned_abs, IfSome, IsSomeAnd, IfOk, Result, Ok, Err}
+use Rattle.std.proofs.Common.{◌≡◌, ℕ, ◌+◌, ◌<◌, ◌≤◌, List, [], ◌∷◌, length, true, ap, arith, sym, ◌∙◌, subst, ◌⊎◌, inl, inr, Option, Some, None}
+use Rattle.std.specs.Prelude.{ℤ, ◌≤ℤ◌, unsigned_abs, IfSome, IsSomeAnd, IfOk, Result, Ok, Err}
 use Rattle.std.proofs.lemmas.Int.{ints}
 use Rattle.std.proofs.lemmas.List.Elements.{All-cons, All-nil}
 use Rattle.pesp_problem.specs.declared.pair.Pair.{Pair}

@@ -1,7 +1,7 @@
 -- What is certified after the turns.
-use Rattle.std.proofs.Common.{◌≡◌, ℕ, ◌+◌, ◌*◌, ◌<◌, ◌≤◌, ◌⊎◌, inl, inr, Bool, true, false, List, length, refl, ap, arith, sym, ◌∙◌, subst}
-use Rattle.std.specs.Prelude.{ℤ, nat_le, Option, Some, None, option_map, Result, IfOk, if◌then◌else◌}
-use Rattle.std.proofs.Math.Nat.{mul-le-mul_left}
+use Rattle.std.proofs.Common.{◌≡◌, ℕ, ◌+◌, ◌*◌, ◌≤◌, ◌⊎◌, inl, inr, Bool, true, false, List, length, arith, sym, ◌∙◌, subst}
+use Rattle.std.specs.Prelude.{nat_le, Option, Some, None, option_map, Result, IfOk, if◌then◌else◌}
+use Rattle.std.proofs.Math.Nat.{mul-le-mul_left, mul-le-mul_right}
 use Rattle.pesp_problem.specs.declared.row.SignedRow.{SignedRow}
 use Rattle.pesp_problem.specs.declared.cut.Cut.{Cut}
 use Rattle.pesp_problem.specs.declared.cut.Side.{Side}
@@ -9,8 +9,7 @@ use Rattle.pesp_problem.specs.Timetables.{Pesp}
 use Rattle.pesp_problem.specs.Arcs.{Net, net_of as instance_net}
 use Rattle.pesp_network.specs.Networks.{KeepsNetLimits}
 use Rattle.pesp_truth.specs.Trees.{Tree}
-use Rattle.pesp_truth.specs.declared.answer.Answer.{Answer}
-use Rattle.pesp_truth.specs.declared.answer.Answer.TheVariants.{Optimal, Infeasible, Bounded}
+use Rattle.pesp_truth.specs.declared.answer.Answer.TheVariants.{Optimal, Bounded}
 use Rattle.pesp_truth.specs.Certificates.{Content, IsValid}
 use Rattle.pesp_nodes.specs.Problems.{ProblemValue, net_of}
 use Rattle.pesp_machine.specs.Leaves.{told, least_value}
@@ -79,3 +78,11 @@ pub refused_for_rows : (instance : Pesp) (p : ProblemValue) (steps : ℕ) (r : S
 refused_for_rows instance p steps Memory few h = tt
 refused_for_rows instance p steps TableTooLarge few h = absurd h
 refused_for_rows instance p steps PairsTooMany few h = let more = mul-le-mul_left (steps + 1) few in omega (arith, h, more)
+
+pub refused_at_once : (instance : Pesp) (steps : ℕ) (r : SolveRefusal) → IsSearchRefusal instance 0 r → IsSearchRefusal instance steps r
+refused_at_once instance steps Memory h = tt
+refused_at_once instance steps TableTooLarge h = h
+refused_at_once instance steps PairsTooMany h = let more : 1 * length instance.rows ≤ (steps + 1) * length instance.rows = mul-le-mul_right (length instance.rows) (one_more steps) in omega (arith, h, more)
+  where
+    one_more : (n : ℕ) → 1 ≤ n + 1
+    one_more n = omega arith

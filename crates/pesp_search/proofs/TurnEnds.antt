@@ -1,6 +1,6 @@
 -- How a turn ends: what holds of the board's problem before holds of the one after.
-use Rattle.std.proofs.Common.{◌≡◌, ℕ, ◌+◌, ◌<◌, ◌≤◌, List, [], ◌∷◌, ◌++◌, length, length-append, refl, ap, sym, ◌∙◌, subst}
-use Rattle.std.specs.Prelude.{Bool, Option, Some, None, Ok, All}
+use Rattle.std.proofs.Common.{◌≡◌, ℕ, ◌+◌, ◌≤◌, List, [], ◌∷◌, length, length-append, ap, sym, ◌∙◌, subst}
+use Rattle.std.specs.Prelude.{Bool, Option, Some, Ok, All}
 use Rattle.pesp_problem.specs.declared.row.SignedRow.{SignedRow}
 use Rattle.pesp_problem.specs.declared.cut.Cut.{Cut}
 use Rattle.pesp_problem.specs.declared.cut.Side.{Side}

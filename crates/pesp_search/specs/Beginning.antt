@@ -6,7 +6,7 @@ use Rattle.pesp_problem.specs.Limits.{KeepsLimits}
 use Rattle.pesp_problem.specs.Forests.{AreFundamental}
 use Rattle.pesp_network.specs.Networks.{arcs_of_network}
 use Rattle.pesp_nodes.specs.Problems.{ProblemValue, IsNodeOf}
-use Rattle.pesp_machine.specs.States.{BoardValue, opening, root_of}
+use Rattle.pesp_machine.specs.States.{opening, root_of}
 use Rattle.pesp_machine.specs.Certificates.{IsProblemOf}
 use Rattle.pesp_reduce.specs.Reductions.{ReducedValue}
 use Rattle.pesp_room.specs.Rooms.{is_passed}

@@ -1,5 +1,5 @@
 -- No pairs, and single pairs whose multiplier is 1 or -1.
-use Rattle.std.specs.Prelude.{◌≡◌, ◌⊎◌, ℕ, List, [], ◌∷◌, length, ℤ, pos, negsuc, ◌≤ℤ◌, IfSome, IsSomeAnd, true}
+use Rattle.std.specs.Prelude.{◌≡◌, ◌⊎◌, ℕ, List, [], ◌∷◌, length, pos, negsuc, ◌≤ℤ◌, IfSome, IsSomeAnd, true}
 use Rattle.pesp_problem.specs.declared.row.SignedRow.{SignedRow}
 use Rattle.pesp_problem.specs.declared.pair.Pair.{Pair}
 use Rattle.pesp_problem.specs.Arcs.{Net}

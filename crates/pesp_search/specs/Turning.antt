@@ -1,33 +1,24 @@
 -- A turn: a leaf is lent, and closed, settled or split.
-use Rattle.std.specs.Prelude.{◌≡◌, ◌⊎◌, ⊤, ℕ, ◌+◌, ◌*◌, ◌-◌, ◌<◌, ◌≤◌, List, length, slice_index_or, Bool, true, false, Option, Some, None}
+use Rattle.std.specs.Prelude.{◌≡◌, ◌⊎◌, ⊤, ℕ, ◌+◌, ◌*◌, ◌<◌, ◌≤◌, List, length}
 use Rattle.std.specs.Global.{Vec}
-use Rattle.pesp_problem.specs.declared.row.SignedRow.{SignedRow}
 use Rattle.pesp_problem.specs.declared.pair.Pair.{Pair}
 use Rattle.pesp_problem.specs.declared.cut.Cut.{Cut}
 use Rattle.pesp_problem.specs.declared.cut.Side.{Side}
 use Rattle.pesp_problem.specs.declared.cut.Side.TheVariants.{Low, High}
-use Rattle.pesp_problem.specs.Limits.{KeepsLimits}
-use Rattle.pesp_problem.specs.Forests.{AreFundamental}
 use Rattle.pesp_problem.specs.Nodes.{Node, part}
-use Rattle.pesp_network.specs.Networks.{KeepsNetLimits, arcs_of_network}
+use Rattle.pesp_network.specs.Networks.{KeepsNetLimits}
 use Rattle.pesp_truth.specs.declared.tree.TreeLine.{TreeLine}
 use Rattle.pesp_truth.specs.Trees.{Leaf, EndLine, CutExists}
 use Rattle.pesp_truth.specs.Trees as trees
 use Rattle.pesp_truth.specs.Certificates.{line_of}
-use Rattle.pesp_nodes.specs.Problems.{ProblemValue, net_of, IsSmallTable, ArePairs}
+use Rattle.pesp_nodes.specs.Problems.{ProblemValue, net_of, IsSmallTable}
 use Rattle.pesp_bound.specs.declared.leaf.Leaf.{Leaf as Found}
 use Rattle.pesp_bound.specs.declared.leaf.Leaf.TheVariants.{Gap, Nothing, Bound}
 use Rattle.pesp_machine.specs.declared.job.Job.{Job}
 use Rattle.pesp_machine.specs.declared.work.Work.TheVariants as works
-use Rattle.pesp_machine.specs.States.{State, Lent, ticket, IsOpen, IsAtMost, node_at, least}
-use Rattle.pesp_machine.specs.Reached.{IsOrderly}
+use Rattle.pesp_machine.specs.States.{State, IsOpen, IsAtMost, node_at, least}
 use Rattle.pesp_machine.specs.Events.{LeavesBoth, LendsLeaf, Takes}
-use Rattle.pesp_machine.specs.Certificates.{IsProblemOf}
-use Rattle.pesp_board.specs.Giving.{AreCuts}
-use Rattle.pesp_reduce.specs.Reductions.{ReducedValue}
-use Rattle.pesp_room.specs.Rooms.{is_passed, branches, IsCounted}
 use Rattle.pesp_turns.specs.Turns.{IsWorked, AreStep, IsFoundAt}
-use Rattle.pesp_lifting.specs.Lifted.{IsReduced, AreLifted}
 use Rattle.pesp_search.specs.Rooting.{IsRootBound}
 use Rattle.pesp_search.specs.declared.turning.Turn.{Turn}
 use Rattle.pesp_search.specs.declared.turning.Turn.TheVariants.{Split, Closed, Over}

@@ -19,4 +19,4 @@ mod turning;
 mod walking;
 
 pub use refusal::SolveRefusal;
-pub use solving::Solved;
+pub use solving::{Solved, solve};

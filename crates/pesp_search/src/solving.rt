@@ -5,10 +5,10 @@ ghost use Rattle.pesp_machine.specs.States.{opening};
 ghost use Rattle.pesp_machine.specs.Certificates.{IsProblemOf};
 ghost use Rattle.pesp_lifting.specs.Lifted.{IsFrugal};
 ghost use Rattle.pesp_search.specs.Solving.{IsSolved, IsSearchRefusal};
-ghost use Rattle.pesp_search.specs.Beginning.{IsKnown};
+ghost use Rattle.pesp_search.specs.Beginning.{IsKnown, IsBegun};
 ghost use Rattle.pesp_search.specs.Turning.{IsSearchedThrough, AreTurnsRefused};
 
-use crate::begun::Known;
+use crate::begun::{Begun, Known, begin};
 use crate::offering::offer_times;
 use crate::refusal::SolveRefusal;
 use crate::rooting::look_at_root;
@@ -78,4 +78,35 @@ fn solve_on(
 {
     let steps_used = search(alloc, board, known, steps)?;
     Ok(certify(alloc, instance, board, steps_used)?)
+}
+
+// searches on what was begun, and certifies what is known then
+fn solve_begun(
+    alloc: Global,
+    instance: &Instance,
+    begun: &mut Begun,
+    steps: u32,
+) -> Result<Solved, SolveRefusal>
+    requires begun { IsBegun instance.now begun.old }
+    requires most { steps ≤ 100000 }
+    ensures solved { IfOk result (λ s. IsSolved instance.now steps s.steps_used s.certificate) }
+    ensures refused { IfErr result (IsSearchRefusal instance.now steps) }
+{
+    solve_on(alloc, instance, &mut begun.board, &begun.known, steps)
+}
+
+/// Searches for a best timetable, by at most so many splits of a leaf. The certificate is valid for the instance. An answer
+/// that is open has used all splits; its bound is at least the value at the root of no pairs and of each single pair whose
+/// multiplier is 1 or -1. The tree has as many branches as splits were used, fewer than the room of its root, and each of them
+/// leaves both its parts a value. Each cycle passes no row twice, and some row that no other cycle passes.
+///
+/// Refused as `TableTooLarge` only where the square of the number of activities is above 10000000, as `PairsTooMany` only
+/// where that number times one more than the steps is above 20000000, and else as `Memory`, where a growth was refused.
+pub fn solve(alloc: Global, instance: &Instance, steps: u32) -> Result<Solved, SolveRefusal>
+    requires { steps ≤ 100000 }
+    ensures solved { IfOk result (λ s. IsSolved instance.now steps s.steps_used s.certificate) }
+    ensures refused { IfErr result (IsSearchRefusal instance.now steps) }
+{
+    let mut begun = begin(alloc, instance)?;
+    solve_begun(alloc, instance, &mut begun, steps)
 }

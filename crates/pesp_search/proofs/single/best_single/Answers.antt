@@ -1,6 +1,6 @@
 use Rattle.std.proofs.Common.{◌≡◌, List, length, ap, arith}
 use Rattle.pesp_problem.specs.declared.row.SignedRow.{SignedRow}
-use Rattle.pesp_search.proofs.SinglePairs.{none_best, one_more, all_best}
+use Rattle.pesp_search.proofs.SinglePairs.{one_more, all_best}
 use Rattle.pesp_search.proofs.single.best_single.Goals as goal
 
 pub loop-place-preserved : goal.loop-place-preserved

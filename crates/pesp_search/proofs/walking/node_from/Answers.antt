@@ -1,4 +1,4 @@
-use Rattle.pesp_search.proofs.PathNodes.{at_root, one_step, cut_there, at_end, node_there}
+use Rattle.pesp_search.proofs.PathNodes.{at_root}
 use Rattle.pesp_search.proofs.walking.node_from.Goals as goal
 
 pub loop-step-init : goal.loop-step-init

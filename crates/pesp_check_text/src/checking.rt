@@ -1,6 +1,6 @@
 //! The check of a text as a whole.
 
-ghost use Rattle.std.specs.Prelude.{◌≡◌, ◌<◌, ◌^◌, IfOk, IfErr};
+ghost use Rattle.std.specs.Prelude.{◌≡◌, ◌+◌, ◌<◌, ◌≤◌, ◌^◌, IfOk, IfErr, OnOk};
 ghost use Rattle.pesp_stream.specs.Counts.{DeviceFailed};
 ghost use Rattle.pesp_check_text.specs.Texts.{ChecksText, Faults};
 
@@ -30,6 +30,7 @@ pub fn check_text<S: Source>(
     requires failed_fits { S.failed source.old < 2 ^ 63 }
     requires interrupted_fits { S.interrupted source.old < 2 ^ 63 }
     ensures ok { IfOk result (λ found. ChecksText (S.remaining source.old) (S.remaining source.new) instance.now found.0 found.1) }
+    ensures counts { OnOk result ((S.failed source.new ≡ S.failed source.old) × (S.interrupted source.new ≤ S.interrupted source.old + 1000)) }
     ensures fault { IfErr result (λ fault. Faults fault (S.remaining source.old) (S.remaining source.new)
         (DeviceFailed (S.failed source.old) (S.interrupted source.old) (S.failed source.new) (S.interrupted source.new))) }
 {

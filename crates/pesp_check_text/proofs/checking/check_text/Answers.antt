@@ -32,6 +32,12 @@ returns-in-Ok-None-clause-ok g c =
     checked_all c.args.instance.now _ _ _ judge.stage (kept judge) c.verdict.result c.answer.result inv.checked gives (rw inv.instance at c.verdict.ensures) (rw inv.instance at c.answer.ensures)
     (λ content valid. c.valid_is_true.ensures c.args.instance.now content (omega (arith, c.rows.ensures.limits.some_period)) valid)
 
+pub returns-in-Ok-None-clause-counts : goal.returns-in-Ok-None-clause-counts
+returns-in-Ok-None-clause-counts g c =
+    let inv = c.loop-judge.invariant in
+    let counts = on_ok _ c.next_from.result _ c.in-Ok-None.is c.next_from.follows.holds-at-none.1 in
+    (counts.0 ∙ inv.failed, omega (arith, counts.1 inv.checked.going, inv.most, c.new-items.ensures.most, c.interrupted_reads-most.ensures))
+
 pub take-requires-clause-limits : goal.take-requires-clause-limits
 take-requires-clause-limits g c = item_limits c.in-Ok-Some.line.before c.item.result c.item.ensures.stands
 

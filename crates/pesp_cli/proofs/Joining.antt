@@ -1,17 +1,18 @@
 -- What is solved is read and accepted.
-use Rattle.std.proofs.Common.{◌≡◌, ◌∙◌, ℕ, ◌≤◌, List, ◌++◌, length, take, drop, sym, ap, arith, Some, Ok, Err}
+use Rattle.std.proofs.Common.{◌≡◌, ◌⊎◌, inl, inr, ◌∙◌, ℕ, ◌<◌, List, [], ◌++◌, length, take, drop, sym, ap, arith, length-append, Some, None, Ok, Err}
 use Rattle.std.specs.Prelude.{Option, Result, ◌↔◌}
 use Rattle.std.specs.Io.KnownBytes.{Appends}
-use Rattle.std.proofs.lemmas.List.{append_cancel_left, take-append-drop, take_all}
+use Rattle.std.proofs.lemmas.List.{append_cancel_left, take-append-drop}
 use Rattle.pesp_problem.specs.Timetables.{Pesp}
 use Rattle.pesp_instance.specs.Instance.{instance_of}
 use Rattle.pesp_instance.specs.declared.refusal.ReadRefusal.{ReadRefusal}
 use Rattle.pesp_truth.specs.Certificates.{Content, IsValid}
 use Rattle.pesp_cert.specs.declared.refusal.CertRefusal.{CertRefusal}
-use Rattle.pesp_cert.specs.Texts.{spelling, items_of, HasText}
+use Rattle.pesp_cert.specs.Texts.{spelling, HasText}
 use Rattle.pesp_cert.specs.Refusals.{IsTextOf, items_of_text}
 use Rattle.pesp_cert.proofs.TextLaws.{none_begins_another, text_read_of}
 use Rattle.pesp_cert.proofs.TextLengths.{texts_short}
+use Rattle.pesp_items.specs.Texts.{RefusesText}
 use Rattle.pesp_check.specs.declared.refusal.Verdict.{Verdict}
 use Rattle.pesp_check.specs.declared.refusal.Verdict.TheVariants.{Accepted}
 use Rattle.pesp_cli.specs.Runs.{Solves, Checks, RefusesInstance, RefusesCertificate}
@@ -55,17 +56,22 @@ instance_is_read text left left_instance old new period steps refusal solved ref
     let bad : ◌≡◌ {A = Result Pesp ReadRefusal} (Ok solved.instance) (Err refusal) = sym one ∙ refused.whole in
     cc
 
--- all bytes of a certificate's text are read
-certificate_read : (bytes front : List ℕ) (c : Content) → HasText c → spelling c ≡ bytes → front ≡ take 1073741824 bytes → items_of_text front ≡ Ok (items_of c)
-certificate_read bytes front c text spelt is =
-    let short = texts_short c text in
-    let few : length bytes ≤ 1073741824 = omega (arith, short, ap length spelt) in
-    ap items_of_text (is ∙ take_all 1073741824 bytes few) ∙ text_read_of bytes c (record { has_text = text; spelt = sym spelt })
+-- a text that is shorter than the limit has nothing behind what was read, where no more of it is read
+nothing_behind : (bytes read rest : List ℕ) → length bytes < 1073741824 → bytes ≡ read ++ rest → (length read ≡ 1073741824) ⊎ (rest ≡ []) → rest ≡ []
+nothing_behind bytes read rest short is (inl full) = absurd (omega (arith, short, full, ap length is, length-append read rest))
+nothing_behind bytes read rest short is (inr e) = e
+
+-- the text of a certificate isn't refused
+never_refused : (bytes : List ℕ) (left : Option (List ℕ)) (c : Content) (refusal : CertRefusal) → IsTextOf bytes c → RefusesText (Some bytes) left 1073741824 refusal → ⊥
+never_refused bytes None c refusal is refused = refused.consumed
+never_refused bytes (Some rest) c refusal is refused =
+    let short : length bytes < 1073741824 = omega (arith, texts_short c is.has_text, ap length is.spelt) in
+    let first = refused.first rest (nothing_behind bytes refused.read rest short refused.consumed) in
+    let bad = sym (text_read_of bytes c is) ∙ ap items_of_text refused.consumed ∙ first in
+    cc
 
 pub certificate_is_read : (text before bytes : List ℕ) (left left_instance left_certificate : Option (List ℕ)) (period steps : ℕ) (refusal : CertRefusal)
     → Solves (Some text) left period steps (Appends (Some before) (Some (before ++ bytes))) → RefusesCertificate (Some text) left_instance (Some bytes) left_certificate period refusal → ⊥
 certificate_is_read text before bytes left left_instance left_certificate period steps refusal solved refused =
     let written = appended_is before bytes (spelling solved.certificate) solved.written in
-    let read = certificate_read bytes refused.bytes solved.certificate solved.has_text written refused.read_certificate.front in
-    let bad = sym read ∙ refused.refused in
-    cc
+    never_refused bytes left_certificate solved.certificate refusal (record { has_text = solved.has_text; spelt = sym written }) refused.refused

@@ -1,6 +1,6 @@
 -- Reading one byte more than a text may have decides what the whole text would.
-use Rattle.std.proofs.Common.{◌≡◌, ◌∙◌, ℕ, ◌≤◌, ◌<◌, List, length, take, refl, subst, ap, sym, arith, Bool, true, false, nat_le, ◌&&◌, Some, None, Ok, Err, IfSome, ◌⊎◌, inl, inr}
-use Rattle.std.specs.Prelude.{Option, Result, IfErr, IsErrAnd, ◌↔◌}
+use Rattle.std.proofs.Common.{◌≡◌, ◌∙◌, ℕ, ◌≤◌, ◌<◌, List, length, take, refl, ap, sym, arith, Bool, true, false, nat_le, ◌&&◌, Some, None, Ok, Err, IfSome, ◌⊎◌, inl, inr}
+use Rattle.std.specs.Prelude.{Option, Result, IfErr, IsErrAnd}
 use Rattle.std.proofs.lemmas.List.{length-take, take_all}
 use Rattle.std.proofs.lemmas.Bool.Decides.{nat_tests}
 use Rattle.pesp_problem.specs.Timetables.{Pesp}
@@ -9,18 +9,7 @@ use Rattle.pesp_instance.specs.declared.refusal.ReadRefusal.{ReadRefusal}
 use Rattle.pesp_instance.specs.declared.refusal.ReadRefusal.TheVariants.{Period, TextTooLong, FieldCount, NotANumber, OutOfRange, BoundsCrossed, TooManyRows, TooManyEvents, Memory as NoMemory}
 use Rattle.pesp_instance.specs.Instance.{instance_of}
 use Rattle.pesp_cli.specs.FaultLines.{instance_fault}
-use Rattle.pesp_stream.specs.Writing.{AppendsFront}
-use Rattle.pesp_truth.specs.declared.answer.Answer.{Answer}
-use Rattle.pesp_truth.specs.Truth.{IsTrueAnswer}
-use Rattle.pesp_truth.specs.Certificates.{Content, IsValid, shown_times}
-use Rattle.pesp_cert.specs.Refusals.{IsTextOf}
-use Rattle.pesp_check.specs.Faults.{IsVerdict}
-use Rattle.pesp_check.specs.declared.refusal.Verdict.{Verdict}
-use Rattle.pesp_check.specs.declared.refusal.Verdict.TheVariants.{Accepted}
-use Rattle.pesp_cli.specs.declared.fault.Fault.{Fault}
-use Rattle.pesp_cli.specs.declared.fault.Fault.TheVariants.{Memory, Write}
-use Rattle.pesp_cli.specs.Verdicts.{verdict_line}
-use Rattle.pesp_cli.specs.Runs.{ReadsAll, ReadsInstance, RefusesInstance, InstanceCause, Checks, CheckCause}
+use Rattle.pesp_cli.specs.Runs.{ReadsAll, ReadsInstance, RefusesInstance, InstanceCause}
 
 -- a text that is too long is refused before its records are looked at
 too_long : (text : List ℕ) (period : ℕ) → nat_le 1 period && nat_le period 10000 ≡ true → 16777216 < length text → instance_of text period ≡ Err TextTooLong
@@ -103,29 +92,3 @@ told_as (Err f) e P is holds = rw is holds
 -- an instance that isn't a refusal of memory is that of the text
 pub is_instance : (r : Result Pesp ReadRefusal) (p : Pesp) (bytes : List ℕ) (period : ℕ) → r ≡ Ok p → (r ≡ instance_of bytes period) ⊎ (r ≡ Err NoMemory) → instance_of bytes period ≡ Ok p
 is_instance r p bytes period is exact = elim exact [ inl e ↦ sym e ∙ is | inr e ↦ cc ]
-
--- a fault of the verdict's line: memory, or the writer's device after a front of it
-pub line_has_cause : (fault : Fault) (told left told_certificate left_certificate : Option (List ℕ)) (period : ℕ) (old new : Option (List ℕ)) (X R U S W F : Type 0) → ((fault ≡ Memory) × X) ⊎ ((fault ≡ Write) × W × F)
-    → (F → (verdict : Verdict) × Checks told left told_certificate left_certificate period verdict (AppendsFront old new)) → CheckCause fault told left told_certificate left_certificate period old new R U S W
-line_has_cause fault told left told_certificate left_certificate period old new X R U S W F cause checks =
-    elim cause [
-      | inl e ↦ rw e.0 tt
-      | inr e ↦ rw e.0 (e.1, checks e.2)
-    ]
-
--- what was read and judged, with a line that is the verdict's
-pub checks : (told left told_certificate left_certificate : Option (List ℕ)) (period : ℕ) (verdict : Verdict) (Gets : List ℕ → Type 0) (p : Pesp) (text : List ℕ) (content : Content) (answer : Answer)
-    → ReadsInstance told left period p → ReadsText told_certificate left_certificate 1073741824 text → IsTextOf text content → IsVerdict p content verdict → (verdict ≡ Accepted) ↔ IsValid p content
-    → (verdict ≡ Accepted → IsTrueAnswer p content.answer (shown_times content)) → answer ≡ content.answer → Gets (verdict_line answer verdict) → Checks told left told_certificate left_certificate period verdict Gets
-checks told left told_certificate left_certificate period verdict Gets p text content answer read read_certificate is_text is_verdict exactly is_true is_answer written = record {
-  instance = p;
-  read = read;
-  text = text;
-  read_certificate = read_certificate;
-  certificate = content;
-  is_text = is_text;
-  is_verdict = is_verdict;
-  exactly = exactly;
-  is_true = is_true;
-  written = subst (λ a. Gets (verdict_line a verdict)) is_answer written;
-}

@@ -6,6 +6,8 @@ use Rattle.pesp_stream.specs.declared.reading.ReadFault.{ReadFault}
 use Rattle.pesp_stream.specs.declared.reading.ReadFault.TheVariants.{Memory as ReadMemory, Device}
 use Rattle.pesp_cert.specs.declared.refusal.CertRefusal.{CertRefusal}
 use Rattle.pesp_cert.specs.declared.refusal.CertRefusal.TheVariants.{Header, Line, Number, Limit, Truncated, Trailing, Memory as CertMemory}
+use Rattle.pesp_check_text.specs.declared.fault.CheckFault.{CheckFault}
+use Rattle.pesp_check_text.specs.declared.fault.CheckFault.TheVariants.{Text, Read as CheckRead, Memory as CheckMemory}
 use Rattle.pesp_search.specs.declared.refusal.SolveRefusal.{SolveRefusal}
 use Rattle.pesp_search.specs.declared.refusal.SolveRefusal.TheVariants.{Memory as SearchMemory, TableTooLarge, PairsTooMany}
 use Rattle.pesp_report.specs.declared.refusal.TimesRefusal.{TimesRefusal}
@@ -20,9 +22,10 @@ abbrev pub instance_fault : ReadRefusal → Fault
 instance_fault NoMemory = Memory
 instance_fault refusal = Instance refusal
 
-abbrev pub certificate_fault : CertRefusal → Fault
-certificate_fault CertMemory = Memory
-certificate_fault refusal = Certificate refusal
+abbrev pub check_fault : CheckFault → Fault
+check_fault (Text refusal) = Certificate refusal
+check_fault CheckRead = Read
+check_fault CheckMemory = Memory
 
 abbrev pub times_fault : TimesRefusal → Fault
 times_fault TimesMemory = Memory

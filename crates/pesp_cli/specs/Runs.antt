@@ -10,8 +10,9 @@ use Rattle.pesp_instance.specs.declared.refusal.ReadRefusal.{ReadRefusal}
 use Rattle.pesp_truth.specs.Truth.{IsTrueAnswer}
 use Rattle.pesp_truth.specs.Certificates.{Content, IsValid, shown_times}
 use Rattle.pesp_cert.specs.Texts.{spelling, HasText}
-use Rattle.pesp_cert.specs.Refusals.{IsTextOf, items_of_text}
+use Rattle.pesp_cert.specs.Refusals.{IsTextOf}
 use Rattle.pesp_cert.specs.declared.refusal.CertRefusal.{CertRefusal}
+use Rattle.pesp_items.specs.Texts.{RefusesText}
 use Rattle.pesp_check.specs.Faults.{IsVerdict}
 use Rattle.pesp_check.specs.declared.refusal.Verdict.{Verdict}
 use Rattle.pesp_check.specs.declared.refusal.Verdict.TheVariants.{Accepted}
@@ -119,13 +120,11 @@ pub record Checks (told left told_certificate left_certificate : Option (List �
   pub is_true : verdict ≡ Accepted → IsTrueAnswer instance certificate.answer (shown_times certificate)
   pub written : Gets (verdict_line certificate.answer verdict)
 
--- the first text has an instance, and the bytes that were read of the second one are no certificate's, for this reason
+-- the first text has an instance, and the second one is no certificate's, for this reason, whatever stands behind what was read of it
 pub record RefusesCertificate (told left told_certificate left_certificate : Option (List ℕ)) (period : ℕ) (refusal : CertRefusal) : Type 0 where
   pub instance : Pesp
   pub read : ReadsInstance told left period instance
-  pub bytes : List ℕ
-  pub read_certificate : ReadsText told_certificate left_certificate 1073741824 bytes
-  pub refused : items_of_text bytes ≡ Err refusal
+  pub refused : RefusesText told_certificate left_certificate 1073741824 refusal
 
 -- each fault of `check` and its cause; the second reader is called only where the first text has an instance
 abbrev pub CheckCause : Fault → Option (List ℕ) → Option (List ℕ) → Option (List ℕ) → Option (List ℕ) → ℕ → Option (List ℕ) → Option (List ℕ) → Type 0 → Type 0 → Type 0 → Type 0 → Type 0

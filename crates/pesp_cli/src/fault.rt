@@ -4,6 +4,7 @@ ghost use Rattle.std.specs.Prelude.{◌≡◌};
 ghost use Rattle.pesp_cli.specs.FaultLines.{exit_status};
 
 use pesp_cert::CertRefusal;
+use pesp_check_text::CheckFault;
 use pesp_instance::ReadRefusal;
 use pesp_problem::Memory as NoMemory;
 use pesp_report::{ReportRefusal, TimesRefusal};
@@ -50,16 +51,17 @@ impl From<ReadRefusal> for Fault {
     }
 }
 
-impl From<CertRefusal> for Fault {
+impl From<CheckFault> for Fault {
     ghost use Rattle.std.specs.Prelude.{◌≡◌};
-    ghost use Rattle.pesp_cli.specs.FaultLines.{certificate_fault};
+    ghost use Rattle.pesp_cli.specs.FaultLines.{check_fault};
 
-    ghost from_gives = { λ refusal fault. fault ≡ certificate_fault refusal };
+    ghost from_gives = { λ found fault. fault ≡ check_fault found };
 
-    fn from(refusal: CertRefusal) -> Fault {
-        match refusal {
-            CertRefusal::Memory => Fault::Memory,
-            other => Fault::Certificate(other),
+    fn from(found: CheckFault) -> Fault {
+        match found {
+            CheckFault::Text(refusal) => Fault::Certificate(refusal),
+            CheckFault::Read => Fault::Read,
+            CheckFault::Memory => Fault::Memory,
         }
     }
 }

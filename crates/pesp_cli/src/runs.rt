@@ -10,8 +10,9 @@ ghost use Rattle.pesp_cli.specs.Runs.{HasWorked, ReadsInstance, InstanceCause, S
 
 use crate::fault::Fault;
 use crate::verdict::write_verdict;
-use pesp_cert::{Certificate, parse, print};
-use pesp_check::{Verdict, check};
+use pesp_cert::{Certificate, print};
+use pesp_check::Verdict;
+use pesp_check_text::check_text;
 use pesp_instance::read_instance;
 use pesp_problem::Instance;
 use pesp_report::{read_times, report};
@@ -22,9 +23,6 @@ use std::alloc::Global;
 
 /// The longest text of an instance.
 const MOST_INSTANCE: usize = 16_777_216;
-
-/// How many bytes of a certificate are read and judged.
-const MOST_CERTIFICATE: usize = 1_073_741_824;
 
 /// How many bytes of a times text are read and judged.
 const MOST_TIMES: usize = 1_073_741_824;
@@ -102,7 +100,8 @@ pub fn run_solve<R: Source, W: Sink>(
 }
 
 /// Reads an instance and then a certificate, and writes the line of the checker's verdict; the instance is judged before the
-/// certificate is read. `Accepted` says that the certificate is valid for the instance of the bytes read, and that its answer
+/// certificate is read. The certificate is judged while it is read, at most 1,073,741,824 bytes of it, and is not held as a
+/// whole. `Certificate` is the first fault of its text, also where an item before it is wrong. `Accepted` says that the certificate is valid for the instance of the bytes read, and that its answer
 /// is true of it.
 pub fn run_check<R: Source, C: Source, W: Sink>(
     alloc: Global,
@@ -137,10 +136,8 @@ pub fn run_check<R: Source, C: Source, W: Sink>(
 {
     // The instance is judged before the certificate is read.
     let instance = read_whole_instance(alloc, instance_reader, period)?;
-    let text = read_all(alloc, certificate_reader, MOST_CERTIFICATE)?;
-    let certificate = parse(alloc, &text)?;
-    let verdict = check(alloc, &instance, &certificate)?;
-    write_verdict(alloc, writer, certificate.answer(), verdict)?;
+    let (verdict, answer) = check_text(alloc, &instance, certificate_reader)?;
+    write_verdict(alloc, writer, answer, verdict)?;
     Ok(verdict)
 }
 

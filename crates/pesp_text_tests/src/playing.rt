@@ -41,7 +41,7 @@ fn answer_of(alloc: Global, lines: &[&str], word: &str, rest: &str) -> Option<St
     match word {
         "solve" => ask_solve(alloc, lines, rest),
         "solved" => ask_solved(alloc, lines, rest),
-        "check" => ask_check(alloc, lines),
+        "check" => ask_check(alloc, lines, rest),
         "report" => ask_run_report(alloc, lines),
         "command" => ask_command(alloc, rest),
         "read" => ask_instance(alloc, lines),

@@ -47,12 +47,21 @@ pub(crate) fn ask_solved(alloc: Global, lines: &[&str], steps: &str) -> Option<S
     }
 }
 
-/// What `check` writes.
-pub(crate) fn ask_check(alloc: Global, lines: &[&str]) -> Option<String> {
+/// The device of the certificate, which gives at most `piece` bytes at a call where a piece is named.
+fn certificate_device(alloc: Global, lines: &[&str], piece: &str) -> Option<Device> {
+    let mut device = device_of(alloc, lines, "input")?;
+    if !piece.is_empty() {
+        device.piece = piece.parse().ok()?;
+    }
+    Some(device)
+}
+
+/// What `check` writes of a certificate that comes in pieces, where their length is named.
+pub(crate) fn ask_check(alloc: Global, lines: &[&str], piece: &str) -> Option<String> {
     let instance = text_of(alloc, lines, "instance")?;
     let input = text_of(alloc, lines, "input")?;
     let mut first = feed_of(&instance, device_of(alloc, lines, "instance")?);
-    let mut second = feed_of(&input, device_of(alloc, lines, "input")?);
+    let mut second = feed_of(&input, certificate_device(alloc, lines, piece)?);
     let mut writer = drain_of(alloc, device_of(alloc, lines, "output")?);
     let answer = run_check(
         alloc,

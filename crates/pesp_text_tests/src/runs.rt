@@ -26,6 +26,7 @@ pub(crate) fn ask_solve(alloc: Global, lines: &[&str], steps: &str) -> Option<St
 fn solved(alloc: Global, instance: &[u8], period: u32, steps: u32) -> Option<Vec<u8>> {
     let mut reader = feed_of(instance, Device::whole());
     let mut writer = drain_of(alloc, Device::whole());
+    let steps = steps.min(100_000);
     run_solve(alloc, &mut reader, &mut writer, period, steps).ok()?;
     Some(writer.into_inner().taken)
 }
@@ -34,7 +35,7 @@ fn solved(alloc: Global, instance: &[u8], period: u32, steps: u32) -> Option<Vec
 pub(crate) fn ask_solved(alloc: Global, lines: &[&str], steps: &str) -> Option<String> {
     let instance = text_of(alloc, lines, "instance")?;
     let period = period_of(lines)?;
-    let steps = steps.parse::<u32>().ok()?.min(100_000);
+    let steps = steps.parse().ok()?;
     let certificate = solved(alloc, &instance, period, steps)?;
     let mut first = feed_of(&instance, Device::whole());
     let mut second = feed_of(&certificate, Device::whole());

@@ -7,6 +7,7 @@ mod refusal;
 mod reporting;
 mod times;
 
+pub use line::{Line, lines_by_cost};
 pub use refusal::{ReportRefusal, TimesRefusal};
 pub use reporting::report;
 pub use times::read_times;

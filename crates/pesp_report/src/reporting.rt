@@ -8,7 +8,7 @@ ghost use Rattle.pesp_problem.specs.Timetables.{AreTimes, IsTimetable, IsTimetab
 ghost use Rattle.pesp_report.specs.Report.{IsReport};
 ghost use Rattle.pesp_report.specs.Reporting.{IfBlamed, Refuses, UnlessBlamed};
 
-use crate::line::{lines_of, slack_sum, sort_lines};
+use crate::line::{lines_by_cost, slack_sum};
 use crate::records::text_of;
 use crate::refusal::ReportRefusal;
 use pesp_problem::{Instance, Memory, Score, score};
@@ -60,7 +60,6 @@ fn text_for(alloc: Global, instance: &Instance, times: &[u32], cost: u64) -> Res
     requires { IsTimetableOfCost instance.now times.now cost }
     ensures { IfOk result (λ text. IsReport instance.now times.now text.items) }
 {
-    let mut lines = lines_of(alloc, instance, times)?;
-    sort_lines(&mut lines);
+    let lines = lines_by_cost(alloc, instance, times)?;
     text_of(alloc, &lines, slack_sum(instance, times), cost)
 }

@@ -1,0 +1,116 @@
+//! The picture of a timetable.
+
+ghost use Rattle.std.specs.Prelude.{◌≡◌, ◌+◌, ◌<◌, ◌≤◌, ◌^◌, ℕ, List, IfErr, OnOk};
+ghost use Rattle.std.specs.Io.KnownBytes.{Appends};
+ghost use Rattle.pesp_stream.specs.Counts.{DeviceFailed};
+ghost use Rattle.pesp_stream.specs.Writing.{AppendsFront};
+ghost use Rattle.pesp_problem.specs.Timetables.{IsTimetable, AreTimes};
+ghost use Rattle.pesp_report.specs.Reporting.{IfBlamed, Refuses, UnlessBlamed};
+
+use crate::columns::Columns;
+use crate::frame::{
+    write_activities_left, write_event_headings, write_events_left, write_front, write_headings,
+};
+use crate::rows::{Heights, first, write_activities, write_events};
+use crate::scale::write_scale;
+use pesp_problem::{Instance, Score, score};
+use pesp_report::{ReportRefusal, lines_by_cost};
+use pesp_stream::{Bytes, Sink, print_to};
+use std::alloc::{AllocError, Global};
+
+/// Writes a picture of a timetable in SVG: over one period, a row for each activity with a bar from its tail's time over
+/// its least duration and on over its slack, the dearest activity first, and a row for each event with a dot at its time.
+/// A bar that reaches the period's end goes on from 0. At most `most` activities and `most` events are drawn; how many are
+/// not is said in words.
+///
+/// `NotTimes` where there isn't one time below the period for each event, and `Violates` with the first row that isn't
+/// satisfied. An interrupted write is repeated, at most 1000 times in all. After `Write` a front of the picture is written,
+/// and after any other refusal nothing.
+pub fn draw<W: Sink>(
+    alloc: Global,
+    instance: &Instance,
+    times: &[u32],
+    most: u32,
+    sink: &mut W,
+) -> Result<(), ReportRefusal>
+    requires failed_fits { W.failed sink.old < 2 ^ 63 }
+    requires interrupted_fits { W.interrupted sink.old < 2 ^ 63 }
+    ensures timetable { OnOk result (IsTimetable instance.now times.now) }
+    ensures refused { IfErr result (Refuses instance.now times.now) }
+
+    // Something is written at Ok, a front of it where the writer failed, and else nothing.
+    ensures text { OnOk result ((text : List ℕ) × Appends (W.contents sink.old) (W.contents sink.new) text) }
+    ensures counts { OnOk result ((W.failed sink.new ≡ W.failed sink.old) × (W.interrupted sink.new ≤ W.interrupted sink.old + 1000)) }
+    ensures front { IfErr result (λ e. IfBlamed e ((text : List ℕ) × AppendsFront (W.contents sink.old) (W.contents sink.new) text)) }
+    ensures fault { IfErr result (λ e. IfBlamed e
+        (DeviceFailed (W.failed sink.old) (W.interrupted sink.old) (W.failed sink.new) (W.interrupted sink.new))) }
+    ensures silent { IfErr result (λ e. UnlessBlamed e (sink.new ≡ sink.old)) }
+{
+    match score(instance, times) {
+        Score::NotTimes => Err(ReportRefusal::NotTimes),
+        Score::Violates { row, .. } => Err(ReportRefusal::Violates { row }),
+        Score::Feasible { cost } => {
+            let Ok(text) = picture_of(alloc, instance, times, most, cost) else {
+                return Err(ReportRefusal::Memory);
+            };
+            match print_to(sink, &Bytes(text.as_bytes())) {
+                Ok(()) => Ok(()),
+                Err(_) => Err(ReportRefusal::Write),
+            }
+        }
+    }
+}
+
+/// The picture of a timetable of this cost.
+fn picture_of(
+    alloc: Global,
+    instance: &Instance,
+    times: &[u32],
+    most: u32,
+    cost: u64,
+) -> Result<String, AllocError>
+    requires { AreTimes instance.now times.now }
+{
+    let lines = lines_by_cost(alloc, instance, times)?;
+    let drawn = first(&lines, most);
+    let events = first(instance.events(), most);
+    let columns = Columns::of(drawn, instance.events());
+    let heights = Heights::of(drawn.len(), events.len());
+    let period = instance.period();
+    let mut text = String::new(alloc);
+    write_front(&mut text, columns.edge, heights.bottom, period, cost)?;
+    write_headings(&mut text, &columns, heights.activities)?;
+    write_scale(
+        &mut text,
+        &columns,
+        period,
+        heights.activities,
+        heights.activities_end,
+    )?;
+    write_activities(
+        &mut text,
+        &columns,
+        instance,
+        times,
+        drawn,
+        heights.activities,
+    )?;
+    write_activities_left(&mut text, &lines, drawn.len(), heights.activities_end)?;
+    write_event_headings(&mut text, &columns, heights.events)?;
+    write_scale(
+        &mut text,
+        &columns,
+        period,
+        heights.events,
+        heights.events_end,
+    )?;
+    write_events(&mut text, &columns, period, events, times, heights.events)?;
+    write_events_left(
+        &mut text,
+        instance.events().len(),
+        events.len(),
+        heights.events_end,
+    )?;
+    text.push_str("</svg>\n")?;
+    Ok(text)
+}

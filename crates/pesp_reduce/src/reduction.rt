@@ -107,6 +107,34 @@ impl Reduced {
         &self.network
     }
 
+    /// The same reduction with a forest of these rows of what is left, by their numbers from 1. Where they aren't numbers of
+    /// its rows, or don't join what all its rows join, it has some other forest.
+    pub fn with_forest(self, alloc: Global, forest: &[u32]) -> Result<Reduced, Memory>
+        ensures original { IfOk result (λ r. r.original ≡ self.original) }
+        ensures fates { IfOk result (λ r. r.fates ≡ self.fates) }
+        ensures stands { IfOk result (λ r. r.stands ≡ self.stands) }
+        ensures shifts { IfOk result (λ r. r.shifts ≡ self.shifts) }
+        ensures period { IfOk result (λ r. r.network.period ≡ self.network.period) }
+        ensures events { IfOk result (λ r. r.network.events ≡ self.network.events) }
+        ensures rows { IfOk result (λ r. r.network.rows ≡ self.network.rows) }
+    {
+        let Reduced {
+            original,
+            whole,
+            contraction,
+            fates,
+            network,
+        } = self;
+        let network = network.with_forest(alloc, forest)?;
+        Ok(Reduced {
+            original,
+            whole,
+            contraction,
+            fates,
+            network,
+        })
+    }
+
     /// From times of the instance to times of what is left: each row that is left has its original's slack.
     pub fn lower_times(&self, alloc: Global, times: &[u32]) -> Result<Vec<u32>, Memory>
         requires { IsTimetable self.now.original times.now }

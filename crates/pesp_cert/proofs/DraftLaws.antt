@@ -22,7 +22,7 @@ added_line c (lines.Bound ps) = refl
 added_line c (lines.Nothing ps) = refl
 added_line c (lines.Gap cycle) = refl
 
-times_added : (c : Content) (ts : List (ℤ × ℕ)) (more : List Item) → all_added c (map time_item ts ++ more) ≡ all_added (record c { times = c.times ++ ts }) more
+pub times_added : (c : Content) (ts : List (ℤ × ℕ)) (more : List Item) → all_added c (map time_item ts ++ more) ≡ all_added (record c { times = c.times ++ ts }) more
 times_added c [] more = ap (λ (ts : List (ℤ × ℕ)). all_added (record c { times = ts }) more) (sym (append-nil c.times))
 times_added c (t ∷ ts) more =
     times_added (record c { times = c.times ++ t ∷ [] }) ts more ∙ ap (λ (us : List (ℤ × ℕ)). all_added (record c { times = us }) more) (append_assoc c.times (t ∷ []) ts)
@@ -32,7 +32,7 @@ cycles_added c [] more = ap (λ (ws : List (List SignedRow)). all_added (record 
 cycles_added c (w ∷ cs) more =
     cycles_added (record c { cycles = c.cycles ++ w ∷ [] }) cs more ∙ ap (λ (ws : List (List SignedRow)). all_added (record c { cycles = ws }) more) (append_assoc c.cycles (w ∷ []) cs)
 
-tree_added : (c : Content) (ls : List TreeLine) (more : List Item) → all_added c (map tree_item ls ++ more) ≡ all_added (record c { tree = c.tree ++ ls }) more
+pub tree_added : (c : Content) (ls : List TreeLine) (more : List Item) → all_added c (map tree_item ls ++ more) ≡ all_added (record c { tree = c.tree ++ ls }) more
 tree_added c [] more = ap (λ (ks : List TreeLine). all_added (record c { tree = ks }) more) (sym (append-nil c.tree))
 tree_added c (line ∷ ls) more =
     ap (λ (d : Content). all_added d (map tree_item ls ++ more)) (added_line c line) ∙ tree_added (with_line c line) ls more ∙ ap (λ (ks : List TreeLine). all_added (record c { tree = ks }) more) (append_assoc c.tree (line ∷ []) ls)

@@ -60,20 +60,20 @@ answer_is answers.Infeasible = refl
 answer_is (answers.Bounded least None) = two_words (codes "answer open") (decimal least) (codes "none")
 answer_is (answers.Bounded least (Some c)) = two_words (codes "answer open") (decimal least) (decimal c)
 
-time_is : (t : ℤ × ℕ) → item_line (time_item t) ≡ time_line t
+pub time_is : (t : ℤ × ℕ) → item_line (time_item t) ≡ time_line t
 time_is t = two_words (codes "time") (signed_decimal t.0) (decimal t.1)
 
 cycle_is : (rs : List SignedRow) → item_line (Cycle rs) ≡ cycle_line rs
 cycle_is rs = ap (λ (t : List ℕ). (codes "cycle" ++ t) ++ 10 ∷ []) (rows_are rs)
 
-tree_is : (line : TreeLine) → item_line (tree_item line) ≡ tree_line line
+pub tree_is : (line : TreeLine) → item_line (tree_item line) ≡ tree_line line
 tree_is (lines.Slack row k) = two_words (codes "s") (decimal row) (decimal k)
 tree_is (lines.Offset cycle k) = two_words (codes "o") (decimal cycle) (signed_decimal k)
 tree_is (lines.Bound ps) = ap (λ (t : List ℕ). (codes "b" ++ t) ++ 10 ∷ []) (pairs_are ps)
 tree_is (lines.Nothing ps) = ap (λ (t : List ℕ). (codes "n" ++ t) ++ 10 ∷ []) (pairs_are ps)
 tree_is (lines.Gap cycle) = one_word (codes "g") (decimal cycle)
 
-mapped : {A : Type 0} (f : A → Item) (g : A → List ℕ) → ((x : A) → item_line (f x) ≡ g x) → (xs : List A) → flat_map item_line (map f xs) ≡ flat_map g xs
+pub mapped : {A : Type 0} (f : A → Item) (g : A → List ℕ) → ((x : A) → item_line (f x) ≡ g x) → (xs : List A) → flat_map item_line (map f xs) ≡ flat_map g xs
 mapped f g same [] = refl
 mapped f g same (x ∷ xs) = flat_map-cons item_line (f x) (map f xs) ∙ ap (λ (t : List ℕ). t ++ flat_map item_line (map f xs)) (same x) ∙ ap (λ (t : List ℕ). g x ++ t) (mapped f g same xs) ∙ sym (flat_map-cons g x xs)
 

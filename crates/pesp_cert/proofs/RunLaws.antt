@@ -108,7 +108,7 @@ cycle_run p (Period n ∷ more) at needs run = let h = follows p places.Cycles (
 cycle_run p (Says a ∷ more) at needs run = let h = follows p places.Cycles (Says a) at needs (first p (Says a) more run) in absurd cc
 cycle_run p (Time l t ∷ more) at needs run = let h = follows p places.Cycles (Time l t) at needs (first p (Time l t) more run) in absurd cc
 
-abbrev TimeItems : List Item → Type 0
+abbrev pub TimeItems : List Item → Type 0
 TimeItems items = (ts : List (ℤ × ℕ)) × (cs : List (List SignedRow)) × (ls : List TreeLine) × (items ≡ map time_item ts ++ (map Cycle cs ++ (map tree_item ls ++ End ∷ [])))
 
 time_more : (l : ℤ) (t : ℕ) (items : List Item) → TimeItems items → TimeItems (Time l t ∷ items)
@@ -117,7 +117,7 @@ time_more l t items h = ((l, t) ∷ h.0, h.1, h.2, ap (λ (is : List Item). Time
 times_none : (items : List Item) → CycleItems items → TimeItems items
 times_none items h = ([], h.0, h.1, h.2)
 
-time_run : (p : Progress) (items : List Item) → p.place ≡ places.Times → p.needs ≡ 1 → IsRun p items → TimeItems items
+pub time_run : (p : Progress) (items : List Item) → p.place ≡ places.Times → p.needs ≡ 1 → IsRun p items → TimeItems items
 time_run p [] at needs run = absurd run
 time_run p (Time l t ∷ []) at needs run = absurd cc
 time_run p (Time l t ∷ next ∷ more) at needs run = time_more l t (next ∷ more) (time_run (after p (Time l t)) (next ∷ more) at needs run.2)

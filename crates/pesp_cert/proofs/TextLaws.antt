@@ -110,11 +110,11 @@ spaced_lf : (ws : List (List ℕ)) → all_plain ws ≡ true → list_all not_lf
 spaced_lf [] h = refl
 spaced_lf (w ∷ ws) h = all_append not_lf (32 ∷ w) (spaced ws) (plain_lf w (and_left (is_plain w) (all_plain ws) h)) (spaced_lf ws (and_right (is_plain w) (all_plain ws) h))
 
-line_lf : (ws : List (List ℕ)) → all_plain ws ≡ true → list_all not_lf (line_of ws) ≡ true
+pub line_lf : (ws : List (List ℕ)) → all_plain ws ≡ true → list_all not_lf (line_of ws) ≡ true
 line_lf [] h = refl
 line_lf (w ∷ ws) h = all_append not_lf w (spaced ws) (plain_lf w (and_left (is_plain w) (all_plain ws) h)) (spaced_lf ws (and_right (is_plain w) (all_plain ws) h))
 
-no_lf : (w : List ℕ) → list_all not_lf w ≡ true → All (λ b. is_byte 10 b ≡ false) w
+pub no_lf : (w : List ℕ) → list_all not_lf w ≡ true → All (λ b. is_byte 10 b ≡ false) w
 no_lf [] h k d lt = absurd (omega arith)
 no_lf (b ∷ bs) h zero d lt = grind (arith, nat_tests, and_left (not_lf b) (list_all not_lf bs) h)
 no_lf (b ∷ bs) h (suc k) d lt = no_lf bs (and_right (not_lf b) (list_all not_lf bs) h) k d (omega arith)

@@ -58,7 +58,7 @@ read_fault all rest line more n p draft f so_far cut short h =
     let some = nonempty more in
     read_err all rest n p draft (refusal_at n f) so_far (rw (cut, some.2) (at_fault n p line some.0 some.1 f short h))
 
-end_adds : (c : Content) (item : Item) → is_end item ≡ true → added c item ≡ c
+pub end_adds : (c : Content) (item : Item) → is_end item ≡ true → added c item ≡ c
 end_adds c (Period n) h = absurd cc
 end_adds c (Says a) h = absurd cc
 end_adds c (Time l t) h = absurd cc

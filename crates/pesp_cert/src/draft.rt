@@ -1,4 +1,4 @@
-//! The parts of a certificate while its text is read.
+//! The parts of a text while it is read.
 
 ghost use Rattle.std.specs.Prelude.{◌≡◌, IfOk, OnOk};
 ghost use Rattle.pesp_cert.specs.Drafts.{blank, added};
@@ -9,14 +9,15 @@ use pesp_truth::{Answer, TreeLine};
 use std::alloc::Global;
 use std::marker::Model;
 
-/// What the lines of a text said so far.
+/// What the lines of a text said so far. Lines that were judged may be added in any order; whether they are a whole
+/// certificate isn't looked at.
 #[derive(Drop)]
-pub(crate) struct Draft {
-    pub(crate) period: u32,
-    pub(crate) answer: Answer,
-    pub(crate) times: Vec<(i64, u32)>,
-    pub(crate) cycles: Vec<Walk>,
-    pub(crate) tree: Vec<TreeLine>,
+pub struct Draft {
+    pub period: u32,
+    pub answer: Answer,
+    pub times: Vec<(i64, u32)>,
+    pub cycles: Vec<Walk>,
+    pub tree: Vec<TreeLine>,
 }
 
 impl Model for Draft {
@@ -45,7 +46,7 @@ fn pairs_of(alloc: Global, pairs: LinePairs<'_>) -> Result<Pairs, Memory>
 
 impl Draft {
     /// Nothing was said so far.
-    pub(crate) fn new(alloc: Global) -> Draft
+    pub fn new(alloc: Global) -> Draft
         ensures { result ≡ blank }
     {
         Draft {
@@ -58,7 +59,7 @@ impl Draft {
     }
 
     /// Adds what the next line says.
-    pub(crate) fn add(&mut self, alloc: Global, item: Item<'_>) -> Result<(), Memory>
+    pub fn add(&mut self, alloc: Global, item: Item<'_>) -> Result<(), Memory>
         ensures { OnOk result (self.new ≡ added self.old item.entry) }
     {
         match item {

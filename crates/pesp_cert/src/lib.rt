@@ -10,8 +10,9 @@ mod printing;
 mod refusal;
 
 pub use certificate::{Certificate, NotACertificate};
+pub use draft::Draft;
 pub use parsing::parse;
 pub use pesp_problem::{Pair, Pairs, SignedRow, Walk};
 pub use pesp_truth::{Answer, TreeLine};
-pub use printing::print;
+pub use printing::{print, print_times, print_tree};
 pub use refusal::{CertRefusal, refusal_at};

@@ -63,8 +63,9 @@ fn print_time<O: Output>(time: &(i64, u32), out: &mut O)
     ("time ", Whole(&time.0), " ", Number(time.1), "\n").print(out);
 }
 
+/// The lines of these labels with their times.
 #[tactic(auto, using(pesp_stream::proofs::Printing::sends_nothing, pesp_stream::proofs::Printing::sends_next, pesp_stream::proofs::Printing::sends_all))]
-fn print_times<O: Output>(times: &[(i64, u32)], out: &mut O)
+pub fn print_times<O: Output>(times: &[(i64, u32)], out: &mut O)
     ensures { Sends (O.sending out.old) (O.sending out.new) (flat_map time_line times.now) }
 {
     for time in times {
@@ -131,8 +132,9 @@ fn print_line<O: Output>(line: &TreeLine, out: &mut O)
     }
 }
 
+/// These lines of a tree.
 #[tactic(auto, using(pesp_stream::proofs::Printing::sends_nothing, pesp_stream::proofs::Printing::sends_next, pesp_stream::proofs::Printing::sends_all))]
-fn print_tree<O: Output>(lines: &[TreeLine], out: &mut O)
+pub fn print_tree<O: Output>(lines: &[TreeLine], out: &mut O)
     ensures { Sends (O.sending out.old) (O.sending out.new) (flat_map tree_line lines.now) }
 {
     for line in lines {

@@ -31,7 +31,7 @@ pub fn write_front(
     )?;
     writeln!(
         text,
-        "<g transform=\"translate(14 30)\"><rect class=\"least\" width=\"24\" height=\"12\"/><text x=\"30\" y=\"10\">least duration</text><rect class=\"slack\" x=\"130\" width=\"24\" height=\"12\"/><text x=\"160\" y=\"10\">slack</text><circle class=\"event\" cx=\"222\" cy=\"6\" r=\"4\"/><text x=\"234\" y=\"10\">event</text></g>"
+        "<g transform=\"translate(14 30)\"><rect class=\"least\" width=\"24\" height=\"12\"/><text x=\"30\" y=\"10\">least duration</text><rect class=\"slack\" width=\"24\" height=\"12\" x=\"130\"/><text x=\"160\" y=\"10\">slack</text><circle class=\"event\" cx=\"222\" cy=\"6\" r=\"4\"/><text x=\"234\" y=\"10\">event</text></g>"
     )
 }
 

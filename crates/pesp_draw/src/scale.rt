@@ -25,7 +25,7 @@ pub fn write_scale(
     to: u32,
 ) -> Result<(), AllocError> {
     let step = step_for(period);
-    let above = from.saturating_sub(4);
+    let above = from.saturating_sub(6);
     for place in 0..13_u32 {
         let time = step.saturating_mul(place);
         if time <= period {

@@ -14,6 +14,6 @@ mod rows;
 pub use fault::LineFault;
 pub use item::Item;
 pub use line::take_line;
-pub use pairs::LinePairs;
+pub use pairs::{LinePairs, first_pair};
 pub use progress::{Place, Progress};
-pub use rows::SignedRows;
+pub use rows::{SignedRows, first_row};

@@ -1,12 +1,14 @@
 //! The pairs of a leaf line.
 
-ghost use Rattle.std.specs.Prelude.{◌≡◌, ◌≤◌, ◌<◌, IfOk, IfSome, true, length};
+ghost use Rattle.std.specs.Prelude.{◌≡◌, ◌≤◌, ◌<◌, IfOk, IfSome, Some, true, length};
+ghost use Rattle.std.specs.Option.{option_copied};
 ghost use Rattle.pesp_text.specs.Number.{NATURALS};
+ghost use Rattle.pesp_text.specs.Words.{words_of, pieces_left};
 ghost use Rattle.pesp_lines.specs.Pairs.{pair_at, pairs_from, is_pair_within, pairs_within, count_of_pairs, pairs_are_good, BeginsPairs};
 
 use crate::fault::LineFault;
 use pesp_problem::Pair;
-use pesp_text::{Words, natural, whole};
+use pesp_text::{Words, natural, split_at_byte, whole};
 use std::marker::Model;
 
 /// The pairs of a leaf that are left in a line that was judged.
@@ -118,6 +120,26 @@ pub(crate) fn judge_pairs(words: Words<'_>) -> Result<LinePairs<'_>, LineFault>
         least: 0,
         count,
     })
+}
+
+/// The first pair of words that were judged, and what stands behind its words.
+pub fn first_pair(words: &[u8], least: u64) -> (Pair, Option<&[u8]>)
+    requires { pairs_are_good (pairs_from least (words_of words.now)) ≡ true }
+    ensures { BeginsPairs (Some result.0) least (words_of words.now) (pieces_left 32 (option_copied result.1)) }
+{
+    let (first, behind) = split_at_byte(b' ', words);
+    let Some(words) = behind else {
+        unreachable!()
+    };
+    let (second, rest) = split_at_byte(b' ', words);
+    let Some((cycle, mult)) = pair_at(least, first, second) else {
+        unreachable!()
+    };
+    let pair = Pair {
+        cycle: cycle as u32,
+        mult,
+    };
+    (pair, rest)
 }
 
 /// The next pair of words that were judged.

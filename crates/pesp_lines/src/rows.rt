@@ -1,12 +1,14 @@
 //! The signed rows of a cycle line.
 
-ghost use Rattle.std.specs.Prelude.{◌≡◌, ◌≤◌, IfOk, true, length, drop};
+ghost use Rattle.std.specs.Prelude.{◌≡◌, ◌≤◌, IfOk, Some, true, length, drop};
+ghost use Rattle.std.specs.Option.{option_copied};
 ghost use Rattle.pesp_text.specs.Number.{natural_of};
+ghost use Rattle.pesp_text.specs.Words.{words_of, pieces_left};
 ghost use Rattle.pesp_lines.specs.Rows.{is_name, row_at, signed, rows_of, rows_within, count_of_rows, rows_are_good, BeginsRows};
 
 use crate::fault::LineFault;
 use pesp_problem::SignedRow;
-use pesp_text::{Words, natural};
+use pesp_text::{Words, natural, split_at_byte};
 use std::marker::Model;
 
 /// The signed rows of a walk that are left in a line that was judged.
@@ -125,6 +127,22 @@ pub(crate) fn judge_rows(words: Words<'_>) -> Result<SignedRows<'_>, LineFault>
 {
     let count = count_rows(words.again())?;
     Ok(SignedRows { words, count })
+}
+
+/// The first row of words that were judged, and what stands behind its word.
+pub fn first_row(words: &[u8]) -> (SignedRow, Option<&[u8]>)
+    requires { rows_are_good (rows_of (words_of words.now)) ≡ true }
+    ensures { BeginsRows (Some result.0) (rows_of (words_of words.now)) (rows_of (pieces_left 32 (option_copied result.1))) }
+{
+    let (word, rest) = split_at_byte(b' ', words);
+    let Some((row, plus)) = row_at(word) else {
+        unreachable!()
+    };
+    let row = SignedRow {
+        row: row as u32,
+        plus,
+    };
+    (row, rest)
 }
 
 /// The next row of words that were judged.

@@ -42,7 +42,7 @@ pub fn check_text<S: Source>(
     loop {
         match items.next_from(source) {
             Ok(None) => return Ok((judge.verdict(), judge.answer())),
-            Ok(Some(line)) => judge.take(alloc, line.item(), &mut working)?,
+            Ok(Some(item)) => judge.take(alloc, item, &mut working)?,
             Err(fault) => return Err(CheckFault::from(fault)),
         }
     }

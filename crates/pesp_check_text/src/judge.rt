@@ -4,9 +4,10 @@ ghost use Rattle.std.specs.Prelude.{◌≡◌, ℕ, ◌+◌, ◌<◌, ◌≤◌,
 ghost use Rattle.std.specs.Option.{ForSome, is_some};
 ghost use Rattle.pesp_truth.specs.Trees.{are_trees};
 ghost use Rattle.pesp_truth.specs.Certificates.{Content, lines_of, ShowsAnswer};
-ghost use Rattle.pesp_lines.specs.declared.item.Item.{Item};
+ghost use Rattle.pesp_lines.specs.declared.item.Item.{Item as LineItem};
 ghost use Rattle.pesp_lines.specs.declared.item.Item.TheVariants as items;
-ghost use Rattle.pesp_cert.specs.Texts.{tree_item, is_end};
+ghost use Rattle.pesp_cert.specs.Texts.{tree_item};
+ghost use Rattle.pesp_items.specs.Lent.{listed, rows_in, pairs_in};
 ghost use Rattle.pesp_check.specs.Nets.{AreZeros, AreSmallCounts};
 ghost use Rattle.pesp_check.specs.Lines.{KeepsLineLimits};
 ghost use Rattle.pesp_check.specs.Faults.{IsVerdict};
@@ -19,7 +20,7 @@ use pesp_check::parts::{
     Nets, NodeWalk, judge_answer, judge_cycle, least_of, nets_of, root, take_line,
 };
 use pesp_check::{Refusal, Verdict};
-use pesp_lines::{Item, LinePairs, SignedRows};
+use pesp_items::{Item, LinePairs, SignedRows};
 use pesp_problem::{Instance, Pairs, Walk};
 use pesp_truth::{Answer, TreeLine};
 use std::alloc::{AllocError, Global};
@@ -62,7 +63,7 @@ fn front_fault(
 
 /// The walk along these rows.
 fn walk_of(alloc: Global, rows: SignedRows<'_>) -> Result<Walk, AllocError>
-    ensures { IfOk result (λ walk. walk ≡ rows.entry) }
+    ensures { IfOk result (λ walk. walk ≡ rows_in rows.entry) }
 {
     let rows = rows.collect(alloc)?;
     Ok(Walk::new(rows))
@@ -70,7 +71,7 @@ fn walk_of(alloc: Global, rows: SignedRows<'_>) -> Result<Walk, AllocError>
 
 /// The list of these pairs.
 fn pairs_of(alloc: Global, pairs: LinePairs<'_>) -> Result<Pairs, AllocError>
-    ensures { IfOk result (λ list. list ≡ pairs.entry) }
+    ensures { IfOk result (λ list. list ≡ pairs_in pairs.entry) }
 {
     let pairs = pairs.collect(alloc)?;
     Ok(Pairs::new(pairs))
@@ -115,7 +116,7 @@ impl<'a> Judge<'a> {
         ensures instance { self.new.instance.now ≡ self.old.instance.now }
         ensures line { self.new.line ≡ self.old.line }
         ensures past { OnOk result (is_front self.new.stage ≡ false) }
-        ensures judged { OnOk result ((c : Content) (rest : List Item) → begins_later rest ≡ true
+        ensures judged { OnOk result ((c : Content) (rest : List LineItem) → begins_later rest ≡ true
             → JudgedAt self.old.stage self.old.instance.now c rest (kept self.old)
             → JudgedAt self.new.stage self.old.instance.now c rest (kept self.new)) }
     {
@@ -137,7 +138,7 @@ impl<'a> Judge<'a> {
         ensures instance { self.new.instance.now ≡ self.old.instance.now }
         ensures line { self.new.line ≡ self.old.line }
         ensures past { OnOk result (is_before_tree self.new.stage ≡ false) }
-        ensures judged { OnOk result ((c : Content) (rest : List Item) → are_trees 1 (lines_of c) ≡ true → begins_tree rest ≡ true
+        ensures judged { OnOk result ((c : Content) (rest : List LineItem) → are_trees 1 (lines_of c) ≡ true → begins_tree rest ≡ true
             → JudgedAt self.old.stage self.old.instance.now c rest (kept self.old)
             → JudgedAt self.new.stage self.old.instance.now c rest (kept self.new)) }
     {
@@ -165,7 +166,7 @@ impl<'a> Judge<'a> {
         ensures instance { self.new.instance.now ≡ self.old.instance.now }
         ensures line { OnOk result (self.new.line ≡ self.old.line + 1) }
         ensures zeros { OnOk result (AreZeros working.new) }
-        ensures judged { OnOk result ((c : Content) (rest : List Item)
+        ensures judged { OnOk result ((c : Content) (rest : List LineItem)
             → JudgedAt self.old.stage self.old.instance.now c (items.Cycle walk.now ∷ rest) (kept self.old)
             → JudgedAt self.new.stage self.old.instance.now c rest (kept self.new)) }
     {
@@ -187,15 +188,15 @@ impl<'a> Judge<'a> {
         rows: SignedRows<'_>,
         working: &mut [i128],
     ) -> Result<(), AllocError>
-        requires short { length rows ≤ 10000000 }
+        requires short { length (rows_in rows) ≤ 10000000 }
         requires few { self.old.line < 2 ^ 31 }
         requires long { length working.old ≡ length self.old.instance.now.rows }
         requires zeros { AreZeros working.old }
         ensures instance { self.new.instance.now ≡ self.old.instance.now }
         ensures line { OnOk result (self.new.line ≡ self.old.line + 1) }
         ensures zeros { OnOk result (AreZeros working.new) }
-        ensures judged { OnOk result ((c : Content) (rest : List Item)
-            → JudgedAt self.old.stage self.old.instance.now c (items.Cycle rows.entry ∷ rest) (kept self.old)
+        ensures judged { OnOk result ((c : Content) (rest : List LineItem)
+            → JudgedAt self.old.stage self.old.instance.now c (items.Cycle (rows_in rows.entry) ∷ rest) (kept self.old)
             → JudgedAt self.new.stage self.old.instance.now c rest (kept self.new)) }
     {
         self.end_front(alloc)?;
@@ -217,7 +218,7 @@ impl<'a> Judge<'a> {
         ensures instance { self.new.instance.now ≡ self.old.instance.now }
         ensures line { OnOk result (self.new.line ≡ self.old.line + 1) }
         ensures zeros { OnOk result (AreZeros working.new) }
-        ensures judged { OnOk result ((c : Content) (rest : List Item) → are_trees 1 (lines_of c) ≡ true
+        ensures judged { OnOk result ((c : Content) (rest : List LineItem) → are_trees 1 (lines_of c) ≡ true
             → JudgedAt self.old.stage self.old.instance.now c (tree_item tree_line.now ∷ rest) (kept self.old)
             → JudgedAt self.new.stage self.old.instance.now c rest (kept self.new)) }
     {
@@ -260,7 +261,7 @@ impl<'a> Judge<'a> {
         ensures instance { self.new.instance.now ≡ self.old.instance.now }
         ensures line { OnOk result (self.new.line ≡ self.old.line + 1) }
         ensures zeros { OnOk result (AreZeros working.new) }
-        ensures judged { OnOk result ((c : Content) (rest : List Item) → are_trees 1 (lines_of c) ≡ true
+        ensures judged { OnOk result ((c : Content) (rest : List LineItem) → are_trees 1 (lines_of c) ≡ true
             → JudgedAt self.old.stage self.old.instance.now c (tree_item tree_line.now ∷ rest) (kept self.old)
             → JudgedAt self.new.stage self.old.instance.now c rest (kept self.new)) }
     {
@@ -280,16 +281,15 @@ impl<'a> Judge<'a> {
         item: Item<'_>,
         working: &mut [i128],
     ) -> Result<(), AllocError>
-        requires limits { KeepsItemLimits item }
-        requires goes { is_end item ≡ false }
+        requires limits { KeepsItemLimits (listed item) }
         requires few { self.old.line < 2 ^ 31 }
         requires long { length working.old ≡ length self.old.instance.now.rows }
         requires zeros { AreZeros working.old }
         ensures instance { self.new.instance.now ≡ self.old.instance.now }
         ensures line { OnOk result (self.new.line ≡ self.old.line + 1) }
         ensures zeros { OnOk result (AreZeros working.new) }
-        ensures judged { OnOk result ((c : Content) (rest : List Item) → are_trees 1 (lines_of c) ≡ true
-            → JudgedAt self.old.stage self.old.instance.now c (item.entry ∷ rest) (kept self.old)
+        ensures judged { OnOk result ((c : Content) (rest : List LineItem) → are_trees 1 (lines_of c) ≡ true
+            → JudgedAt self.old.stage self.old.instance.now c (listed item.entry ∷ rest) (kept self.old)
             → JudgedAt self.new.stage self.old.instance.now c rest (kept self.new)) }
     {
         match item {
@@ -320,7 +320,6 @@ impl<'a> Judge<'a> {
                 self.take_line(alloc, &TreeLine::Nothing(pairs_of(alloc, pairs)?), working)
             }
             Item::Gap(cycle) => self.take_line(alloc, &TreeLine::Gap(cycle), working),
-            Item::End => Ok(()),
         }
     }
 

@@ -1,5 +1,5 @@
 -- The items of a text, line by line, while more of it is still to be read.
-use Rattle.std.proofs.Common.{◌≡◌, inl, inr, true≢false, cond, ℕ, zero, suc, ◌+◌, ◌<◌, ◌≤◌, Bool, true, false, List, [], ◌∷◌, ◌++◌, length, refl, sym, ap, subst, ◌∙◌, arith, append_assoc, append-nil, length-append, Option, None, Ok, Err, Result}
+use Rattle.std.proofs.Common.{◌≡◌, inl, inr, true≢false, cond, ℕ, zero, suc, ◌+◌, ◌<◌, ◌≤◌, Bool, true, false, List, [], ◌∷◌, ◌++◌, length, refl, sym, ap, subst, ◌∙◌, arith, append_assoc, append-nil, length-append, Option, Some, None, Ok, Err, Result}
 use Rattle.std.specs.Prelude.{◌==◌, codes, ◌≢◌}
 use Rattle.std.specs.Str.{bytes_eq}
 use Rattle.std.specs.List.{onto_first}
@@ -32,7 +32,7 @@ use Rattle.pesp_items.specs.declared.stage.Stage.TheVariants as stages
 use Rattle.pesp_items.specs.declared.fault.ItemFault.{ItemFault}
 use Rattle.pesp_items.specs.declared.fault.ItemFault.TheVariants.{Text, Read}
 use Rattle.pesp_items.specs.Cuts.{Clean, Reads, Advances, EndsHere}
-use Rattle.pesp_items.specs.Readings.{Reading, items_at, items_behind, is_open, Goes, same, Lines, Ends, Refuses, Faults, Steps}
+use Rattle.pesp_items.specs.Readings.{Reading, items_at, items_behind, is_open, Goes, same, Lines, Ends, Refuses, Faults, Gives}
 
 -- ---- pieces
 
@@ -259,10 +259,10 @@ goes_faults a b c (Text r) p (inl m) = inl m
 goes_faults a b c (Text r) p (inr q) = inr (goes_refused a b c r p q)
 goes_faults a b c Read p q = tt
 
-pub goes_steps : (a b c : Reading) (said : Result Item LineFault) (r : Result Bool ItemFault) → Goes a b same → Steps b c said r → Steps a c said r
-goes_steps a b c said (Ok true) p q = (q.0, q.1, q.2, q.3, goes_then a b c q.0 p q.4)
-goes_steps a b c said (Ok false) p q = (q.0, goes_ends a b c p q.1)
-goes_steps a b c said (Err f) p q = (q.0, goes_faults a b c f p q.1)
+pub goes_gives : (a b c : Reading) (r : Result (Option Item) ItemFault) → Goes a b same → Gives b c r → Gives a c r
+goes_gives a b c (Ok (Some item)) p q = (q.0, q.1, goes_then a b c item p q.2, q.3)
+goes_gives a b c (Ok None) p q = (q.0, goes_ends a b c p q.1)
+goes_gives a b c (Err f) p q = (q.0, goes_faults a b c f p q.1)
 
 pub of_going : (old : Reading) (told' : Option (List ℕ)) (left' : ℕ) (held' line : List ℕ) (n : ℕ) (p : Progress) (stage : Stage) → stage ≡ stages.Going
     → Lines old (record { told = told'; left = left'; held = held'; n = n; progress = p; stage = stage }) line → Lines old (record { told = told'; left = left'; held = held'; n = n; progress = p; stage = stages.Going }) line

@@ -3,4 +3,4 @@ pub mod Cuts
 pub mod Readings
 pub mod Texts
 pub mod Views
-pub mod ItemLines
+pub mod Lent

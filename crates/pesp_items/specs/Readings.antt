@@ -5,7 +5,7 @@ use Rattle.pesp_text.specs.Words.{pieces}
 use Rattle.pesp_lines.specs.declared.item.Item.{Item}
 use Rattle.pesp_lines.specs.declared.item.Item.TheVariants.{End}
 use Rattle.pesp_lines.specs.declared.progress.Progress.{Progress}
-use Rattle.pesp_lines.specs.declared.fault.LineFault.{LineFault}
+use Rattle.pesp_lines.specs.Counts.{CanStand}
 use Rattle.pesp_lines.specs.Lines.{LONGEST}
 use Rattle.pesp_cert.specs.declared.refusal.CertRefusal.{CertRefusal}
 use Rattle.pesp_cert.specs.declared.refusal.CertRefusal.TheVariants as refusals
@@ -95,22 +95,15 @@ abbrev pub Blamed : ItemFault → Type 0 → Type 0
 Blamed (Text r) failed = Unit {0}
 Blamed Read failed = failed
 
--- what the line that was read last says, where there is one
-abbrev pub Steps : Reading → Reading → Result Item LineFault → Result Bool ItemFault → Type 0
-Steps old new said (Ok true) = (item : Item) × (said ≡ Ok item) × (new.stage ≡ stages.Going) × (is_end item ≡ false) × Goes old new (onto item)
-Steps old new said (Ok false) = (new.stage ≡ stages.Ended) × Ends old new
-Steps old new said (Err fault) = (new.stage ≡ stages.Failed fault) × Faults old new fault
+-- what is answered where a line was read, and it says this item
+abbrev pub stepped : Item → Result Bool ItemFault → Result (Option Item) ItemFault
+stepped item (Ok true) = Ok (Some item)
+stepped item (Ok false) = Ok None
+stepped item (Err fault) = Err fault
 
--- the same, also where none came before
-abbrev pub StepsAt : Stage → Reading → Reading → Result Item LineFault → Result Bool ItemFault → Type 0
-StepsAt stages.First old new said result = Steps old new said result
-StepsAt stages.Going old new said result = Steps old new said result
-StepsAt stages.Ended old new said result = (result ≡ Ok false) × (new ≡ old)
-StepsAt (stages.Failed fault) old new said result = (result ≡ Err fault) × (new ≡ old)
-
--- what the next item is, or that none comes any more, and why
+-- what the next item is, which may stand somewhere in a text, or that none comes any more, and why
 abbrev pub Gives : Reading → Reading → Result (Option Item) ItemFault → Type 0
-Gives old new (Ok (Some item)) = (new.stage ≡ stages.Going) × (is_end item ≡ false) × Goes old new (onto item)
+Gives old new (Ok (Some item)) = (new.stage ≡ stages.Going) × (is_end item ≡ false) × Goes old new (onto item) × ((p : Progress) × CanStand p item)
 Gives old new (Ok None) = (new.stage ≡ stages.Ended) × Ends old new
 Gives old new (Err fault) = (new.stage ≡ stages.Failed fault) × Faults old new fault
 

@@ -10,7 +10,7 @@ ghost use Rattle.pesp_items.specs.declared.stage.Stage.TheVariants as stages;
 ghost use Rattle.pesp_items.specs.Readings.{is_open};
 
 use crate::fault::ItemFault;
-use crate::item_line::ItemLine;
+use crate::item::Item;
 use crate::reading::ItemReader;
 use pesp_stream::{MOST_INTERRUPTED, Source};
 use std::alloc::Global;
@@ -28,7 +28,7 @@ pub struct Items<S: Source> {
 impl<S: Source> Items<S> {
     ghost use Rattle.pesp_items.specs.contracts.items.Items.{the_row};
     ghost use Rattle.pesp_items.specs.Views.{reading};
-    ghost use Rattle.pesp_items.specs.ItemLines.{said_by};
+    ghost use Rattle.pesp_items.specs.Lent.{said_by};
     ghost use Rattle.pesp_items.specs.Readings.{Answers, Blamed};
 
     /// The items of the reader's text. Nothing is read so far.
@@ -46,10 +46,10 @@ impl<S: Source> Items<S> {
         }
     }
 
-    /// The next item's line, which is lent until the next call; None exactly where the whole text is a certificate's and all
+    /// The next item, which is lent until the next call; None exactly where the whole text is a certificate's and all
     /// its items came. `Text` is the text's first fault, or says that a growth was refused; `Read` that the reader failed.
     /// After a fault each call answers that fault, and after None it answers None.
-    pub fn next(&mut self) -> Result<Option<ItemLine<'_>>, ItemFault>
+    pub fn next(&mut self) -> Result<Option<Item<'_>>, ItemFault>
         ensures* after_borrow { sem 𝓛 (Rests (the_row S.row S.Source) self.entry (λ new. (new.reader.most ≡ self.old.reader.most)
             × OnOk result (S.failed new.source ≡ S.failed self.old.source)
             × Answers self.old.reader.stage (reading (S.remaining self.old.source) self.old.reader) (reading (S.remaining new.source) new.reader) (said_by result)
@@ -58,6 +58,6 @@ impl<S: Source> Items<S> {
         if !self.reader.step(&mut self.source)? {
             return Ok(None);
         }
-        Ok(Some(self.reader.judged()))
+        Ok(Some(self.reader.item()))
     }
 }

@@ -3,14 +3,18 @@
 
 mod chunk;
 mod fault;
-mod item_line;
+mod item;
 mod items;
+mod lending;
 mod lines;
+mod pairs;
 mod reading;
+mod rows;
 mod stage;
 
 pub use fault::ItemFault;
-pub use item_line::ItemLine;
+pub use item::Item;
 pub use items::Items;
-pub use pesp_lines::{Item, LinePairs, SignedRows};
+pub use pairs::LinePairs;
 pub use reading::ItemReader;
+pub use rows::SignedRows;

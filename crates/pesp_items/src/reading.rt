@@ -5,14 +5,13 @@ ghost use Rattle.std.below.core.specs.declared.int.u64.TheConstants.{MAX};
 ghost use Rattle.std.specs.Borrow.{sem};
 ghost use Rattle.std.specs.Io.BufRead.{Rests};
 ghost use Rattle.pesp_stream.specs.Counts.{Failed};
-ghost use Rattle.pesp_lines.specs.Counts.{IsKept, start, after};
-ghost use Rattle.pesp_lines.specs.Lines.{LONGEST, line_at};
-ghost use Rattle.pesp_cert.specs.Texts.{is_end};
+ghost use Rattle.pesp_lines.specs.Counts.{IsKept, start};
 ghost use Rattle.pesp_items.specs.declared.stage.Stage.TheVariants as stages;
 ghost use Rattle.pesp_items.specs.Readings.{is_open};
 
 use crate::fault::ItemFault;
-use crate::item_line::ItemLine;
+use crate::item::Item;
+use crate::lending::{bare_item, item_in};
 use crate::lines::{LineBuffer, LinesFault, Next};
 use crate::stage::Stage;
 use pesp_cert::{CertRefusal, refusal_at};
@@ -27,11 +26,10 @@ pub struct ItemReader {
     lines: LineBuffer,
     most: u64,
     n: u64,
-    before: Progress,
     progress: Progress,
+    said: Item<'static>,
     stage: Stage,
     ghost most_fits: { most < MAX },
-    ghost kept_before: { IsKept before },
     ghost kept: { IsKept progress },
     ghost counted: { is_open stage ≡ true → n + (lines.left + length lines.chunk) ≤ 1073741824 },
     ghost begun: { stage ≡ stages.First → n ≡ 0 },
@@ -41,8 +39,8 @@ pub struct ItemReader {
 impl ItemReader {
     ghost use Rattle.pesp_items.specs.contracts.reading.ItemReader.{the_row};
     ghost use Rattle.pesp_items.specs.Views.{reading, reading_line};
-    ghost use Rattle.pesp_items.specs.ItemLines.{said_by};
-    ghost use Rattle.pesp_items.specs.Readings.{Answers, Goes, same, Lines, Faults, Blamed, Steps, StepsAt};
+    ghost use Rattle.pesp_items.specs.Lent.{listed, read_back, IsSpelt, said_by};
+    ghost use Rattle.pesp_items.specs.Readings.{Answers, Gives, Goes, same, Lines, Faults, Blamed, stepped};
 
     /// The items of a reader's text; no more than `most` of its calls may be interrupted.
     pub fn new(alloc: Global, most: u64) -> ItemReader
@@ -54,8 +52,8 @@ impl ItemReader {
             lines: LineBuffer::new(alloc),
             most,
             n: 0,
-            before: Progress::new(),
             progress: Progress::new(),
+            said: Item::Gap(0),
             stage: Stage::First,
         }
     }
@@ -134,9 +132,9 @@ impl ItemReader {
         requires interrupted_fits { S.interrupted source.old ≤ self.old.most }
         ensures most { self.new.most ≡ self.old.most }
         ensures failed { OnOk result ((S.failed source.new ≡ S.failed source.old) × (S.interrupted source.new ≤ self.old.most)) }
-        ensures steps { Steps (reading (S.remaining source.old) self.old)
-            (reading (S.remaining source.new) self.new) (line_at self.new.before self.new.lines.line.items) result }
-        ensures short { IfOk result (λ more. more ≡ true → length self.new.lines.line.items ≤ LONGEST) }
+        ensures gives { Gives (reading (S.remaining source.old) self.old)
+            (reading (S.remaining source.new) self.new) (stepped (read_back self.new.said self.new.lines.line.items) result) }
+        ensures spelt { IfOk result (λ more. more ≡ true → IsSpelt self.new.said self.new.lines.line.items) }
         ensures blamed { IfErr result (λ fault. Blamed fault (Failed (S.failed source.old) self.old.most (S.failed source.new) (S.interrupted source.new))) }
     {
         self.read_line(source)?;
@@ -164,10 +162,9 @@ impl ItemReader {
                 }
             };
         }
-        let before = self.progress;
         match take_line(&mut self.progress, self.lines.line()) {
-            Ok(_item) => {
-                self.before = before;
+            Ok(item) => {
+                self.said = bare_item(&item);
                 Ok(true)
             }
             Err(fault) => {
@@ -184,9 +181,9 @@ impl ItemReader {
         requires interrupted_fits { is_open self.old.stage ≡ true → S.interrupted source.old ≤ self.old.most }
         ensures most { self.new.most ≡ self.old.most }
         ensures failed { OnOk result ((S.failed source.new ≡ S.failed source.old) × (is_open self.old.stage ≡ true → S.interrupted source.new ≤ self.old.most)) }
-        ensures steps { StepsAt self.old.stage (reading (S.remaining source.old) self.old)
-            (reading (S.remaining source.new) self.new) (line_at self.new.before self.new.lines.line.items) result }
-        ensures short { IfOk result (λ more. more ≡ true → length self.new.lines.line.items ≤ LONGEST) }
+        ensures answers { Answers self.old.stage (reading (S.remaining source.old) self.old)
+            (reading (S.remaining source.new) self.new) (stepped (read_back self.new.said self.new.lines.line.items) result) }
+        ensures spelt { IfOk result (λ more. more ≡ true → IsSpelt self.new.said self.new.lines.line.items) }
         ensures blamed { is_open self.old.stage ≡ true → IfErr result (λ fault. Blamed fault (Failed (S.failed source.old) self.old.most (S.failed source.new) (S.interrupted source.new))) }
     {
         match self.stage {
@@ -200,24 +197,17 @@ impl ItemReader {
         }
     }
 
-    /// The line that was read last.
-    pub fn judged(&self) -> ItemLine<'_>
-        requires short { length self.now.lines.line.items ≤ LONGEST }
-        requires said { IsOk (line_at self.now.before self.now.lines.line.items) }
-        ensures line { result.line.now ≡ self.now.lines.line.items }
-        ensures before { result.before ≡ self.now.before }
+    /// The item of the line that was read last.
+    pub(crate) fn item(&self) -> Item<'_>
+        requires { IsSpelt self.now.said self.now.lines.line.items }
+        ensures { listed result ≡ read_back self.now.said self.now.lines.line.items }
     {
-        ItemLine {
-            line: self.lines.line(),
-            before: self.before,
-        }
+        item_in(&self.said, self.lines.line())
     }
 
-    /// The next item's line; None behind the last one. After a fault each call answers that fault, after None it answers None.
-    pub fn next_from<S: Source>(
-        &mut self,
-        source: &mut S,
-    ) -> Result<Option<ItemLine<'_>>, ItemFault>
+    /// The next item, which is lent until the next call; None behind the last one. After a fault each call answers that
+    /// fault, after None it answers None.
+    pub fn next_from<S: Source>(&mut self, source: &mut S) -> Result<Option<Item<'_>>, ItemFault>
         requires failed_fits { is_open self.old.stage ≡ true → S.failed source.old < u64.MAX }
         requires interrupted_fits { is_open self.old.stage ≡ true → S.interrupted source.old ≤ self.old.most }
         ensures* after_borrow { sem 𝓛 (Rests the_row self.entry (λ new. (new.most ≡ self.old.most)
@@ -229,6 +219,6 @@ impl ItemReader {
         if !self.step(source)? {
             return Ok(None);
         }
-        Ok(Some(self.judged()))
+        Ok(Some(self.item()))
     }
 }

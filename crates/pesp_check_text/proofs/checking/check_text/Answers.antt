@@ -1,4 +1,5 @@
 use Rattle.std.proofs.Common.{◌≡◌, ◌+◌, refl, sym, ap, ◌∙◌, subst, arith, length}
+use Rattle.pesp_items.specs.Lent.{listed}
 use Rattle.pesp_items.specs.Readings.{Reading}
 use Rattle.pesp_items.proofs.Running.{gives_of, on_ok}
 use Rattle.pesp_items.proofs.Telling.{at_first}
@@ -39,13 +40,16 @@ returns-in-Ok-None-clause-counts g c =
     (counts.0 ∙ inv.failed, omega (arith, counts.1 inv.checked.going, inv.most, c.new-items.ensures.most, c.interrupted_reads-most.ensures))
 
 pub take-requires-clause-limits : goal.take-requires-clause-limits
-take-requires-clause-limits g c = item_limits c.in-Ok-Some.line.before c.item.result c.item.ensures.stands
+take-requires-clause-limits g c =
+    let answers = rw (c.in-Ok-Some.is, c.in-Ok-Some.field-0-is) at c.next_from.follows.holds-at-none.2 in
+    let gives = gives_of _ _ _ _ c.loop-judge.invariant.checked.going answers in
+    item_limits gives.3.0 (listed c.in-Ok-Some.item) gives.3.1
 
 pub loop-judge-preserved : goal.loop-judge-preserved
 loop-judge-preserved g c =
     let inv = c.loop-judge.invariant in
     let holds = c.next_from.follows.holds-at-none in
-    let answers = rw (c.in-Ok-Some.is, c.in-Ok-Some.field-0-is, c.item.ensures.says) at holds.2 in
+    let answers = rw (c.in-Ok-Some.is, c.in-Ok-Some.field-0-is) at holds.2 in
     let gives = gives_of _ _ _ _ inv.checked.going answers in
     let counts = on_ok _ c.next_from.result _ c.in-Ok-Some.is holds.1 in
     let few = counts.1 inv.checked.going in
@@ -55,7 +59,7 @@ loop-judge-preserved g c =
     let same : length c.take.new.working ≡ length c.loop-judge.working.items = c.take.auto.working ∙ ap length c.deref_mut.ensures.value in
     let written = writes_all c.loop-judge.working.len c.take.new.working c.loop-judge.working.items same (let s = c.loop-judge.working.ok.0 in omega (arith, s)) in
     record {
-      checked = checked_more c.args.instance.now _ _ _ old.stage new.stage (kept old) (kept new) c.item.result inv.checked gives (rw inv.instance at took.judged);
+      checked = checked_more c.args.instance.now _ _ _ old.stage new.stage (kept old) (kept new) (listed c.in-Ok-Some.item) inv.checked gives (rw inv.instance at took.judged);
       instance = took.instance ∙ inv.instance;
       line = omega (arith, inv.line, took.line, gives.2.later);
       zeros = subst AreZeros (sym written) took.zeros;

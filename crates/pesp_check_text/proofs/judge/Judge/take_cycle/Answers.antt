@@ -1,4 +1,5 @@
 use Rattle.std.proofs.Common.{rules, ◌≡◌, refl}
+use Rattle.pesp_items.specs.Lent.{rows_in}
 use Rattle.pesp_check_text.specs.declared.stage.Stage.TheVariants as stages
 use Rattle.pesp_check_text.specs.Views.{kept}
 use Rattle.pesp_check_text.proofs.Cycles.{cycle_passed}
@@ -8,4 +9,4 @@ pub returns-clause-judged : goal.returns-clause-judged
 returns-clause-judged c c' rest before =
     let other : c.end_front.new.self.stage ≡ stages.Cycles → ⊥ = search rules in
     let front = c.in_ok-end_front.ensures in
-    cycle_passed c.end_front.new.self.stage c.args.self.now.instance.now c' c.args.rows rest (kept c.end_front.new.self) _ front.past other refl (front.judged c' _ refl before)
+    cycle_passed c.end_front.new.self.stage c.args.self.now.instance.now c' (rows_in c.args.rows) rest (kept c.end_front.new.self) _ front.past other refl (front.judged c' _ refl before)

@@ -19,7 +19,6 @@ invariant_of-self g c =
     let counted = line_counted _ _ _ _ _ _ _ _ (rw c.in-Ok-Line.field-0-is at c.in-Ok-Line.ensures.ok) (c.args.self.now.counted c.requires.open) in
     record {
       most_fits = c.args.self.now.most_fits;
-      kept_before = c.args.self.now.kept_before;
       kept = c.args.self.now.kept;
       counted = λ _. omega (arith, counted);
       begun = c.args.self.now.begun;

@@ -21,7 +21,7 @@ use Rattle.pesp_machine.proofs.Changes.{Change, Lends_leaf, Takes_work, Recalls_
 abbrev pub ticket_in : List Ticket → ℕ → Ticket
 ticket_in tickets number = get_or tickets number Recalled
 
-none_is_lent : (number : ℕ) (path : List (Cut × Side)) → ticket_in [] number ≡ Lent path → ⊥
+pub none_is_lent : (number : ℕ) (path : List (Cut × Side)) → ticket_in [] number ≡ Lent path → ⊥
 none_is_lent number path e = cc
 
 lent_within : (tickets : List Ticket) (number : ℕ) (path : List (Cut × Side)) → ticket_in tickets number ≡ Lent path → number < length tickets
@@ -38,7 +38,7 @@ ended tickets number other new path h never e =
     ]
 
 -- a number that is lent once one more is lent was lent before, or is that one
-lent_more : (tickets : List Ticket) (number : ℕ) (path q : List (Cut × Side)) → ticket_in (tickets ++ Lent q ∷ []) number ≡ Lent path → (ticket_in tickets number ≡ Lent path) ⊎ ((number ≡ length tickets) × (path ≡ q))
+pub lent_more : (tickets : List Ticket) (number : ℕ) (path q : List (Cut × Side)) → ticket_in (tickets ++ Lent q ∷ []) number ≡ Lent path → (ticket_in tickets number ≡ Lent path) ⊎ ((number ≡ length tickets) × (path ≡ q))
 lent_more [] zero path q e = inr (refl, cc)
 lent_more [] (suc number) path q e = absurd (none_is_lent number path e)
 lent_more (t ∷ tickets) zero path q e = inl e

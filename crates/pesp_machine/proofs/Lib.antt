@@ -16,4 +16,5 @@ pub mod Lending
 pub mod Certified
 pub mod Decided
 pub mod Runs
+pub mod Adopting
 pub mod Worked

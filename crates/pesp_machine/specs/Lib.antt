@@ -5,3 +5,4 @@ pub mod Events
 pub mod Reached
 pub mod Certificates
 pub mod Codes
+pub mod Adopting

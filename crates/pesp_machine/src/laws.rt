@@ -23,10 +23,12 @@ ghost use Rattle.pesp_machine.specs.declared.refusal.GiveRefusal.TheVariants.{Un
 ghost use Rattle.pesp_truth.specs.Leaves.{IsLeafAt, put};
 ghost use Rattle.pesp_machine.specs.Leaves.{HasValue, least_value, told};
 ghost use Rattle.pesp_machine.specs.States.{State, opening, root_of, node_at, least, best_cost, IsAtMost, IsLentNumber, IsOpen};
-ghost use Rattle.pesp_machine.specs.Limits.{pairs_in};
+ghost use Rattle.pesp_machine.specs.Limits.{pairs_in, KeepsTreeLimits};
 ghost use Rattle.pesp_machine.specs.Reached.{IsKept, IsOrderly};
 ghost use Rattle.pesp_machine.specs.Events.{Event, Step, Run, Lends, Gives, Makes, LeavesBoth, IsValidAt};
 ghost use Rattle.pesp_machine.specs.Certificates.{IsProblemOf, IsCertificateOf};
+ghost use Rattle.pesp_machine.specs.declared.job.Job.{Job};
+ghost use Rattle.pesp_machine.specs.Adopting.{Adopts, LendsEach, lends_of};
 
 /// After any list of events, whatever was given, what the board certifies is valid for an instance whose network the problem
 /// has: optimal where the least value is at least the best cost, infeasible where there is no least value, else open.
@@ -118,4 +120,19 @@ pub fn least_value_is_the_least()
 pub fn sizes_add_up()
     ensures lines { (tree : Tree) (path : List (Cut × Side)) (leaf : Leaf) (new : Tree) → IsLeafAt tree path leaf → length (preorder (put tree path new)) + 1 ≡ length (preorder tree) + length (preorder new) }
     ensures pairs { (tree : Tree) (path : List (Cut × Side)) (leaf : Leaf) (new : Tree) → IsLeafAt tree path leaf → sum_by pairs_in (preorder (put tree path new)) + pairs_in (EndLine leaf) ≡ sum_by pairs_in (preorder tree) + sum_by pairs_in (preorder new) }
+{}
+
+/// A board that takes a valid certificate up has a tree that is sound for a least cost of 0, and its best times are a timetable;
+/// so `bounds_only_tighten` and `kept_states_are_valid` speak of it, and all that holds of every state that events lead to holds
+/// of it where its tree keeps the limits of a certificate's. After any list of events from such a state what the board certifies
+/// is valid.
+pub fn adopted_certificates_are_kept()
+    ensures kept { (instance : Pesp) (p : ProblemValue) (content : Content) (state : State) → KeepsLimits instance → IsProblemOf instance p → content.cycles ≡ p.table → IsValid instance content → Adopts content state → IsKept p state }
+    ensures orderly { (instance : Pesp) (p : ProblemValue) (content : Content) (state : State) → KeepsLimits instance → IsProblemOf instance p → content.cycles ≡ p.table → IsValid instance content → KeepsTreeLimits p state.tree → Adopts content state → IsOrderly p state }
+    ensures valid { (instance : Pesp) (p : ProblemValue) (events : List Event) (old new : State) (content : Content) → KeepsLimits instance → IsProblemOf instance p → All (IsWalk (net_of p).arcs) p.table → IsKept p old → Run p old events new → IsCertificateOf p instance.events new content → IsValid instance content }
+{}
+
+/// To lend all open leaves at once is to lend one after the other, in preorder.
+pub fn all_lent_is_a_run_of_lends()
+    ensures { (p : ProblemValue) (old new : State) (jobs : List Job) → LendsEach p old jobs new → Run p old (lends_of jobs) new }
 {}

@@ -1,17 +1,18 @@
 -- How a turn ends: what holds of the board's problem before holds of the one after.
 use Rattle.std.proofs.Common.{◌≡◌, ℕ, ◌+◌, ◌≤◌, List, [], ◌∷◌, length, length-append, ap, sym, ◌∙◌, subst}
-use Rattle.std.specs.Prelude.{Bool, Option, Some, Ok, All}
+use Rattle.std.specs.Prelude.{Bool, Option, Some, Ok, All, option_map}
 use Rattle.pesp_problem.specs.declared.row.SignedRow.{SignedRow}
 use Rattle.pesp_problem.specs.declared.cut.Cut.{Cut}
 use Rattle.pesp_problem.specs.declared.cut.Side.{Side}
 use Rattle.pesp_problem.specs.Nodes.{Node}
 use Rattle.pesp_network.specs.Networks.{KeepsNetLimits}
-use Rattle.pesp_truth.specs.Trees.{Bound}
+use Rattle.pesp_truth.specs.Trees.{Tree, Bound}
 use Rattle.pesp_truth.specs.Paths.{along}
 use Rattle.pesp_nodes.specs.Problems.{ProblemValue, net_of, IsSmallTable, IsCutOf}
 use Rattle.pesp_machine.specs.declared.job.Job.{Job}
 use Rattle.pesp_machine.specs.declared.work.Work.TheVariants as works
-use Rattle.pesp_machine.specs.States.{State, Lent, root_of, node_at}
+use Rattle.pesp_machine.specs.Leaves.{told, least_value}
+use Rattle.pesp_machine.specs.States.{State, Lent, IsAtMost, root_of, node_at, least}
 use Rattle.pesp_machine.specs.Events.{Lends, LendsLeaf, Takes}
 use Rattle.pesp_board.specs.Giving.{AreCuts}
 use Rattle.pesp_reduce.specs.Reductions.{ReducedValue}
@@ -81,3 +82,11 @@ pub settled_done : (p q : ProblemValue) (used : ℕ) (old mid new : State) (job 
 settled_done p q used old mid new job node e at l works tree numbers =
     let after : (x : ProblemValue) → q ≡ x → KeepsNetLimits x.network → IsSmallTable x.table → node ≡ node_at x job.path.items → IsWorked x used old → LendsLeaf x old job mid → IsWorked x used new = λ x h. subst (λ (y : ProblemValue). KeepsNetLimits y.network → IsSmallTable y.table → node ≡ node_at y job.path.items → IsWorked y used old → LendsLeaf y old job mid → IsWorked y used new) h works in
     settled_goes_on p used mid new job (just p used old mid job l) (after p e l.limits l.small at l.worked l.lends) tree numbers (ap (λ (s : State). length s.numbers) l.lends.state ∙ length-append old.numbers (Lent job.path.items ∷ []))
+
+-- times that are offered after a turn change neither its tree nor its numbers
+pub offered_after : (p q : ProblemValue) (used : ℕ) (old mid new : State) → q ≡ p → GoesOn p used old mid → new.tree ≡ mid.tree → length new.numbers ≡ length mid.numbers → (IsWorked q used mid → IsWorked q used new) → GoesOn p used old new
+offered_after p q used old mid new e g tree numbers works = record {
+  worked = subst (λ (x : ProblemValue). IsWorked x used mid → IsWorked x used new) e works g.worked;
+  spent = numbers ∙ g.spent;
+  least = subst (λ (t : Tree). IsAtMost (least p old) (option_map told (least_value (net_of p) p.table t (root_of p)))) (sym tree) g.least;
+}

@@ -5,11 +5,15 @@ ghost use Rattle.pesp_problem.specs.Nodes.{part};
 ghost use Rattle.pesp_truth.specs.Trees.{EndLine, CutLine, CutExists};
 ghost use Rattle.pesp_truth.specs.Certificates.{line_of};
 ghost use Rattle.pesp_nodes.specs.Problems.{net_of, IsNodeOf, IsCutOf, ArePairs};
+ghost use Rattle.pesp_bound.specs.Leaves.{IsLeafOf, IsNoLess};
 ghost use Rattle.pesp_search.specs.Turning.{leaf_of, IsFoundLine, IsExpanded};
 
+use crate::choosing::Choice;
+use crate::judging::leaf_of_part;
 use pesp_bound::{Leaf, best_leaf_from};
 use pesp_nodes::{Node, Problem};
 use pesp_problem::{Cut, Memory, Pair, Side};
+use pesp_strategy::Part;
 use pesp_truth::TreeLine;
 use std::alloc::Global;
 
@@ -37,40 +41,68 @@ fn cut_line(cut: Cut) -> TreeLine
     }
 }
 
-// the leaf that is found at a node
+// the leaf of a part: the one that is proposed for it where it is one, else the best that is found
+fn leaf_at(
+    alloc: Global,
+    problem: &Problem,
+    node: &Node,
+    start: &[Pair],
+    part: Option<Part>,
+) -> Result<Leaf, Memory>
+    requires node { IsNodeOf problem.now node.now }
+    requires start { ArePairs (length problem.now.table) start.now }
+    ensures leaf { IfOk result (IsLeafOf problem.now node.now) }
+    ensures start { IfOk result (IsNoLess problem.now node.now start.now) }
+{
+    if let Some(part) = part {
+        if let Some(leaf) = leaf_of_part(problem, node, start, part) {
+            return Ok(leaf);
+        }
+    }
+    best_leaf_from(alloc, problem, node, start, ROUNDS)
+}
+
+// the line of the leaf at a node
 fn found_at(
     alloc: Global,
     problem: &Problem,
     node: &Node,
     start: &[Pair],
+    part: Option<Part>,
 ) -> Result<TreeLine, Memory>
     requires node { IsNodeOf problem.now node.now }
     requires start { ArePairs (length problem.now.table) start.now }
     ensures { IfOk result (IsFoundLine problem.now start.now node.now) }
 {
-    let leaf = best_leaf_from(alloc, problem, node, start, ROUNDS)?;
+    let leaf = leaf_at(alloc, problem, node, start, part)?;
     Ok(leaf_line(leaf))
 }
 
-/// The lines of a cut at a node, with the leaf that is found on either side, each from the pairs of the leaf at the node.
+/// The lines of a cut at a node, with the leaf that is proposed or found on either side, never worth less there than the
+/// pairs of the leaf at the node.
 pub(crate) fn expand(
     alloc: Global,
     problem: &Problem,
     node: Node,
-    cut: Cut,
+    choice: Choice,
     start: &[Pair],
 ) -> Result<Vec<TreeLine>, Memory>
     requires node { IsNodeOf problem.now node }
-    requires cut { IsCutOf node cut }
+    requires cut { IsCutOf node choice.cut }
     requires start { ArePairs (length problem.now.table) start.now }
-    ensures { IfOk result (λ lines. IsExpanded problem.now start.now node cut lines.items) }
+    ensures { IfOk result (λ lines. IsExpanded problem.now start.now node choice.cut lines.items) }
 {
+    let Choice {
+        cut,
+        low: low_part,
+        high: high_part,
+    } = choice;
     let mut low = node.copy(alloc)?;
     low.cut(cut, Side::Low);
     let mut high = node;
     high.cut(cut, Side::High);
-    let first = found_at(alloc, problem, &low, start)?;
-    let second = found_at(alloc, problem, &high, start)?;
+    let first = found_at(alloc, problem, &low, start, low_part)?;
+    let second = found_at(alloc, problem, &high, start, high_part)?;
     let mut lines = Vec::new(alloc);
     lines.push(cut_line(cut))?;
     lines.push(first)?;

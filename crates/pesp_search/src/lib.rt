@@ -2,10 +2,12 @@
 //! Opitz 2008; Liebchen 2006).
 #![tactic(auto)]
 
+mod advising;
 mod begun;
 mod choosing;
 mod expanding;
 mod handing;
+mod judging;
 mod offering;
 mod passing;
 mod preparing;

@@ -9,6 +9,7 @@ use crate::begun::Known;
 use crate::refusal::SolveRefusal;
 use crate::turning::{Turn, take_turn};
 use pesp_board::Board;
+use pesp_strategy::Strategy;
 use std::alloc::Global;
 
 /// Takes turns until so many leaves were split or no leaf is open; says how many were split.
@@ -16,6 +17,7 @@ pub(crate) fn run_turns(
     alloc: Global,
     board: &mut Board,
     known: &Known,
+    strategy: &mut Option<Strategy>,
     steps: u32,
 ) -> Result<u32, SolveRefusal>
     requires known { IsKnown board.old.problem known.now }
@@ -30,7 +32,7 @@ pub(crate) fn run_turns(
         if used == steps {
             return Ok(used);
         }
-        match take_turn(alloc, board, known, used)? {
+        match take_turn(alloc, board, known, strategy, used)? {
             Turn::Split => used += 1,
             Turn::Closed => {}
             Turn::Over => return Ok(used),

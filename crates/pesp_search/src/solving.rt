@@ -4,6 +4,7 @@ ghost use Rattle.std.specs.Prelude.{◌≡◌, ℕ, ◌≤◌, IfOk, IfErr, leng
 ghost use Rattle.pesp_machine.specs.States.{opening};
 ghost use Rattle.pesp_machine.specs.Certificates.{IsProblemOf};
 ghost use Rattle.pesp_lifting.specs.Lifted.{IsFrugal};
+ghost use Rattle.pesp_search.specs.declared.refusal.SolveRefusal.TheVariants.{Memory as Refused};
 ghost use Rattle.pesp_search.specs.Solving.{IsSolved, IsSearchRefusal};
 ghost use Rattle.pesp_search.specs.Beginning.{IsKnown, IsBegun};
 ghost use Rattle.pesp_search.specs.Turning.{IsSearchedThrough, AreTurnsRefused};
@@ -17,6 +18,7 @@ use crate::turning::limits;
 use pesp_board::Board;
 use pesp_cert::Certificate;
 use pesp_problem::{Instance, Memory};
+use pesp_strategy::Strategy;
 use std::alloc::Global;
 
 /// What is known of an instance, and how many leaves were split to find it.
@@ -27,7 +29,13 @@ pub struct Solved {
 }
 
 // searches on a new board; says how many leaves were split
-fn search(alloc: Global, board: &mut Board, known: &Known, steps: u32) -> Result<u32, SolveRefusal>
+fn search(
+    alloc: Global,
+    board: &mut Board,
+    known: &Known,
+    strategy: &mut Option<Strategy>,
+    steps: u32,
+) -> Result<u32, SolveRefusal>
     requires known { IsKnown board.old.problem known.now }
     requires opening { board.old.state ≡ opening }
     requires few { steps ≤ 100000 }
@@ -37,7 +45,7 @@ fn search(alloc: Global, board: &mut Board, known: &Known, steps: u32) -> Result
 {
     look_at_root(alloc, board, &known.root)?;
     offer_times(alloc, board, &known.reduced)?;
-    run_turns(alloc, board, known, steps)
+    run_turns(alloc, board, known, strategy, steps)
 }
 
 // what the board certifies after a search
@@ -65,6 +73,7 @@ fn solve_on(
     instance: &Instance,
     board: &mut Board,
     known: &Known,
+    strategy: &mut Option<Strategy>,
     steps: u32,
 ) -> Result<Solved, SolveRefusal>
     requires known { IsKnown board.old.problem known.now }
@@ -76,8 +85,18 @@ fn solve_on(
     ensures solved { IfOk result (λ s. IsSolved instance.now steps s.steps_used s.certificate) }
     ensures refused { IfErr result (IsSearchRefusal instance.now steps) }
 {
-    let steps_used = search(alloc, board, known, steps)?;
+    let steps_used = search(alloc, board, known, strategy, steps)?;
     Ok(certify(alloc, instance, board, steps_used)?)
+}
+
+// a strategy for the network of what is left, where there is one
+fn strategy_for(alloc: Global, known: &Known) -> Result<Option<Strategy>, SolveRefusal>
+    ensures { IfErr result (λ refusal. refusal ≡ Refused) }
+{
+    match Strategy::new(alloc, known.reduced.network(), known.root.offsets()) {
+        Ok(strategy) => Ok(strategy),
+        Err(Memory) => Err(SolveRefusal::Memory),
+    }
 }
 
 // searches on what was begun, and certifies what is known then
@@ -92,7 +111,15 @@ fn solve_begun(
     ensures solved { IfOk result (λ s. IsSolved instance.now steps s.steps_used s.certificate) }
     ensures refused { IfErr result (IsSearchRefusal instance.now steps) }
 {
-    solve_on(alloc, instance, &mut begun.board, &begun.known, steps)
+    let mut strategy = strategy_for(alloc, &begun.known)?;
+    solve_on(
+        alloc,
+        instance,
+        &mut begun.board,
+        &begun.known,
+        &mut strategy,
+        steps,
+    )
 }
 
 /// Searches for a best timetable, by at most so many splits of a leaf. The certificate is valid for the instance. An answer

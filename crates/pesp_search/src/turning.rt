@@ -16,16 +16,19 @@ ghost use Rattle.pesp_search.specs.declared.refusal.SolveRefusal.TheVariants.{Me
 ghost use Rattle.pesp_search.specs.Beginning.{ArePassedRows, IsKnown};
 ghost use Rattle.pesp_search.specs.Turning.{IsJustLent, IsSplitAt, TakesStep, IsTurn, IsTurnRefusal};
 
+use crate::advising::{Advised, ask};
 use crate::begun::Known;
-use crate::choosing::{offset_to_cut, slack_to_cut};
+use crate::choosing::{Choice, choose};
 use crate::expanding::expand;
 use crate::handing::hand_in;
+use crate::judging::gap_at;
+use crate::offering::offer_met;
 use crate::refusal::SolveRefusal;
 use crate::settling::settle;
 use crate::walking::node_from;
 use pesp_board::{Board, Job, LendRefusal, Work};
-use pesp_nodes::{Node, Problem, offset_range};
-use pesp_problem::Cut;
+use pesp_nodes::{Node, Problem};
+use pesp_strategy::Strategy;
 use pesp_turns::laws::turns_begin;
 use std::alloc::Global;
 
@@ -45,38 +48,6 @@ pub(crate) fn limits(problem: &Problem)
 {
     problem.network().period();
     problem.table();
-}
-
-// a cut that counts and leaves both sides a value; None where nothing is left to cut
-fn cut_at(problem: &Problem, node: &Node, passed: &[bool]) -> Option<Cut>
-    requires node { IsNodeOf problem.now node.now }
-    requires passed { ArePassedRows problem.now passed.now }
-    ensures exists { IfSome result (CutExists (net_of problem.now) problem.now.table) }
-    ensures both { IfSome result (LeavesBoth node.now) }
-    ensures counted { IfSome result (IsCounted (net_of problem.now) problem.now.table) }
-    ensures none { IfNone result (IsSettled (net_of problem.now) problem.now.table node.now) }
-{
-    let _few = problem.arcs();
-    if let Some((cycle, k)) = offset_to_cut(node.offsets()) {
-        return Some(Cut::Offset { cycle, k });
-    }
-    let (row, k) = slack_to_cut(node.slacks(), passed)?;
-    Some(Cut::Slack { row, k })
-}
-
-// the first cycle that has no offset left
-fn gap_at(problem: &Problem, node: &Node) -> Option<u32>
-    requires { IsNodeOf problem.now node.now }
-    ensures { MatchOption result (HaveOffsetsLeft (net_of problem.now) problem.now.table node.now) (λ cycle. IsSoundLeaf (net_of problem.now) problem.now.table None (Gap cycle) node.now) }
-{
-    let _few = problem.arcs();
-    for place in 0..problem.table().len() {
-        let cycle = place as u32 + 1;
-        if offset_range(problem, node, cycle).is_none() {
-            return Some(cycle);
-        }
-    }
-    None
 }
 
 // lends a leaf, where one is open
@@ -105,20 +76,20 @@ fn split_leaf(
     board: &mut Board,
     job: &Job,
     node: Node,
-    cut: Cut,
+    choice: Choice,
     used: u32,
 ) -> Result<(), SolveRefusal>
-    requires split { IsSplitAt board.old.problem used board.old.state job.now cut }
+    requires split { IsSplitAt board.old.problem used board.old.state job.now choice.cut }
     requires node { IsNodeOf board.old.problem node }
     requires at { node ≡ node_at board.old.problem job.now.path.items }
     ensures problem { board.new.problem ≡ board.old.problem }
-    ensures takes { OnOk result (TakesStep board.old.problem board.old.state job.now.number cut board.new.state) }
+    ensures takes { OnOk result (TakesStep board.old.problem board.old.state job.now.number choice.cut board.new.state) }
     ensures refused { IfErr result (IsTurnRefusal board.old.problem used) }
 {
     let Some((_, start)) = board.job_leaf(job.number) else {
         unreachable!();
     };
-    let lines = expand(alloc, board.problem(), node, cut, start)?;
+    let lines = expand(alloc, board.problem(), node, choice, start)?;
     hand_in(alloc, board, job, &Work::Tree(lines), used)
 }
 
@@ -139,11 +110,12 @@ fn close_leaf(
     hand_in(alloc, board, job, &Work::Gap(cycle), used)
 }
 
-/// Lends an open leaf, and splits it where something is left to cut at its node; else closes it.
+/// Lends an open leaf, and splits it where something is left to cut at its node, as the strategy proposes; else closes it.
 pub(crate) fn take_turn(
     alloc: Global,
     board: &mut Board,
     known: &Known,
+    strategy: &mut Option<Strategy>,
     used: u32,
 ) -> Result<Turn, SolveRefusal>
     requires known { IsKnown board.old.problem known.now }
@@ -158,8 +130,10 @@ pub(crate) fn take_turn(
         return Ok(Turn::Over);
     };
     let node = node_from(alloc, &known.root, &job.path)?;
-    if let Some(cut) = cut_at(board.problem(), &node, &known.passed) {
-        split_leaf(alloc, board, &job, node, cut, used)?;
+    let Advised { cut, times } = ask(alloc, strategy, board, &known.reduced, &job, &node)?;
+    if let Some(choice) = choose(board.problem(), &node, &known.passed, cut) {
+        split_leaf(alloc, board, &job, node, choice, used)?;
+        offer_met(alloc, board, &known.reduced, times)?;
         return Ok(Turn::Split);
     }
     if let Some(cycle) = gap_at(board.problem(), &node) {

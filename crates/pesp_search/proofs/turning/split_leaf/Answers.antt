@@ -2,13 +2,13 @@ use Rattle.pesp_search.proofs.Lent.{lent_pairs, split_cut, handed_step, step_tak
 use Rattle.pesp_search.proofs.turning.split_leaf.Goals as goal
 
 pub expand-requires-clause-cut : goal.expand-requires-clause-cut
-expand-requires-clause-cut c = split_cut c.args.board.now.problem c.args.used c.args.board.now.state c.args.job.now c.args.cut c.args.node c.requires.node c.requires.split
+expand-requires-clause-cut c = split_cut c.args.board.now.problem c.args.used c.args.board.now.state c.args.job.now c.args.choice.cut c.args.node c.requires.node c.requires.split
 
 pub expand-requires-clause-start : goal.expand-requires-clause-start
 expand-requires-clause-start c = lent_pairs c.args.board.now.problem c.problem.result.now c.args.used c.args.board.now.state c.args.job.now c.in-Some.field-0-0 c.in-Some.start.now c.problem.ensures c.requires.split.lent c.in-Some.ensures
 
 pub hand_in-requires : goal.hand_in-requires
-hand_in-requires c = handed_step c.args.board.now.problem c.problem.result.now c.args.used c.args.board.now.state c.args.job.now c.args.cut c.args.node c.in-Some.field-0-0 c.in-Some.start.now c.in_ok-lines.lines c.problem.ensures c.requires.at c.requires.split c.in-Some.ensures c.in_ok-lines.ensures
+hand_in-requires c = handed_step c.args.board.now.problem c.problem.result.now c.args.used c.args.board.now.state c.args.job.now c.args.choice.cut c.args.node c.in-Some.field-0-0 c.in-Some.start.now c.in_ok-lines.lines c.problem.ensures c.requires.at c.requires.split c.in-Some.ensures c.in_ok-lines.ensures
 
 pub returns-clause-takes : goal.returns-clause-takes
-returns-clause-takes c = step_taken c.args.board.now.problem c.problem.result.now c.args.board.now.state c.hand_in.new.board.state c.args.job.now.number c.in-Some.start.now _ c.args.cut c.in_ok-lines.lines c.hand_in.result c.in_ok-lines.ensures c.hand_in.ensures.taken
+returns-clause-takes c = step_taken c.args.board.now.problem c.problem.result.now c.args.board.now.state c.hand_in.new.board.state c.args.job.now.number c.in-Some.start.now _ c.args.choice.cut c.in_ok-lines.lines c.hand_in.result c.in_ok-lines.ensures c.hand_in.ensures.taken

@@ -1,6 +1,6 @@
 -- The state in which a board takes a certificate up, and all open leaves lent at once.
-use Rattle.std.proofs.Common.{◌≡◌, ◌≢◌, ℕ, ◌+◌, ◌<◌, ◌≤◌, List, [], ◌∷◌, ◌++◌, length, refl, sym, ap, ◌∙◌, subst, arith, true, inl, inr, append_assoc, append-nil, length-append, Some, None}
-use Rattle.std.specs.Prelude.{ℤ, pos, ◌≤ℤ◌, All, Option, IfSome, map}
+use Rattle.std.proofs.Common.{◌≡◌, ◌≢◌, ℕ, ◌+◌, ◌<◌, ◌≤◌, List, [], ◌∷◌, ◌++◌, length, refl, sym, ap, ◌∙◌, subst, arith, true, inl, inr, append_assoc, append-nil, length-append, Some, None, zero, suc}
+use Rattle.std.specs.Prelude.{◌⊎◌, ℤ, pos, ◌≤ℤ◌, All, Option, IfSome, map}
 use Rattle.std.proofs.lemmas.Int.{ints}
 use Rattle.pesp_problem.specs.declared.row.SignedRow.{SignedRow}
 use Rattle.pesp_problem.specs.declared.cut.Cut.{Cut}
@@ -16,8 +16,9 @@ use Rattle.pesp_problem.specs.Nodes.{Node, leaf_value, low_part, high_part, root
 use Rattle.pesp_problem.proofs.NetTimetables.{net_timetables, limits_in_order}
 use Rattle.pesp_truth.specs.declared.answer.Answer.{Answer}
 use Rattle.pesp_truth.specs.declared.answer.Answer.TheVariants.{Optimal, Infeasible, Bounded}
-use Rattle.pesp_truth.specs.Trees.{Tree, Ends, Branch, Bound, Nothing, Gap, IsSound}
+use Rattle.pesp_truth.specs.Trees.{Tree, Leaf, Ends, Branch, Bound, Nothing, Gap, IsSound}
 use Rattle.pesp_truth.specs.Certificates.{Content, IsValid, ShowsAnswer, shown_times}
+use Rattle.pesp_truth.specs.Leaves.{IsLeafAt}
 use Rattle.pesp_truth.proofs.Lines.{one_tree}
 use Rattle.pesp_nodes.specs.Problems.{ProblemValue, net_of}
 use Rattle.pesp_machine.specs.declared.job.Job.{Job}
@@ -30,7 +31,7 @@ use Rattle.pesp_machine.specs.Adopting.{shown_best, Adopts, leaf_paths, AreOpenO
 use Rattle.pesp_machine.proofs.Trees.{and_is}
 use Rattle.pesp_machine.proofs.Steps.{run_goes_on}
 use Rattle.pesp_machine.proofs.Certified.{same_net, kept_is_valid}
-use Rattle.pesp_machine.proofs.Lending.{none_is_lent, lent_more}
+use Rattle.pesp_machine.proofs.Lending.{ticket_in, none_is_lent, lent_more}
 
 -- ---- a certificate that is taken up
 
@@ -199,3 +200,67 @@ lends_run p old new (job ∷ jobs) paths o d numbered left is =
 
 pub lends_each_run : (p : ProblemValue) (old new : State) (jobs : List Job) → LendsEach p old jobs new → Run p old (lends_of jobs) new
 lends_each_run p old new jobs s = lends_run p old new jobs s.paths (opens_open p old (leaf_paths old.tree) s.paths s.opens) (opens_differ p old (leaf_paths old.tree) s.paths (leaves_differ old.tree) s.opens) s.numbered s.left s.state
+
+-- ---- then no leaf is open
+
+-- the path is one of these
+abbrev Has : Path → List Path → Type 0
+Has path [] = ⊥
+Has path (q ∷ paths) = (path ≡ q) ⊎ Has path paths
+
+has_first : (path : Path) (xs ys : List Path) → Has path xs → Has path (xs ++ ys)
+has_first path [] ys h = absurd h
+has_first path (x ∷ xs) ys (inl same) = inl same
+has_first path (x ∷ xs) ys (inr h) = inr (has_first path xs ys h)
+
+has_second : (path : Path) (xs ys : List Path) → Has path ys → Has path (xs ++ ys)
+has_second path [] ys h = h
+has_second path (x ∷ xs) ys h = inr (has_second path xs ys h)
+
+has_behind : (step : Cut × Side) (path : Path) (paths : List Path) → Has path paths → Has (step ∷ path) (map (λ (q : Path). step ∷ q) paths)
+has_behind step path [] h = absurd h
+has_behind step path (q ∷ paths) (inl same) = inl (ap (λ (x : Path). step ∷ x) same)
+has_behind step path (q ∷ paths) (inr h) = inr (has_behind step path paths h)
+
+has_leaf : (tree : Tree) (path : Path) (leaf : Leaf) → IsLeafAt tree path leaf → Has path (leaf_paths tree)
+has_leaf (Ends there) [] leaf h = inl refl
+has_leaf (Ends there) (step ∷ path) leaf h = absurd h
+has_leaf (Branch cut low high) [] leaf h = absurd h
+has_leaf (Branch cut low high) ((c, Low) ∷ path) leaf h =
+    let lows = map (λ (q : Path). (cut, Low) ∷ q) (leaf_paths low) in
+    let highs = map (λ (q : Path). (cut, High) ∷ q) (leaf_paths high) in
+    rw (h.0) (has_first ((cut, Low) ∷ path) lows highs (has_behind (cut, Low) path (leaf_paths low) (has_leaf low path leaf h.1)))
+has_leaf (Branch cut low high) ((c, High) ∷ path) leaf h =
+    let lows = map (λ (q : Path). (cut, Low) ∷ q) (leaf_paths low) in
+    let highs = map (λ (q : Path). (cut, High) ∷ q) (leaf_paths high) in
+    rw (h.0) (has_second ((cut, High) ∷ path) lows highs (has_behind (cut, High) path (leaf_paths high) (has_leaf high path leaf h.1)))
+
+has_open : (p : ProblemValue) (state : State) (path : Path) (paths opens : List Path) → IsOpen p state path → Has path paths → AreOpenOf p state paths opens → Has path opens
+has_open p state path [] opens is h o = absurd h
+has_open p state path (q ∷ paths) opens is (inl same) (inl found) = rw (found.2) (inl same)
+has_open p state path (q ∷ paths) opens is (inr h) (inl found) = rw (found.2) (inr (has_open p state path paths found.0 is h found.3))
+has_open p state path (q ∷ paths) opens is (inl same) (inr not) = let P : Path → Type 0 = λ x. IsOpen p state x in absurd (not.0 (subst P same is))
+has_open p state path (q ∷ paths) opens is (inr h) (inr not) = has_open p state path paths opens is h not.1
+
+-- what was lent is lent still, and what is lent also is
+lent_still : (tickets more : List Ticket) (number : ℕ) (path : Path) → ticket_in tickets number ≡ Lent path → ticket_in (tickets ++ more) number ≡ Lent path
+lent_still [] more number path e = absurd (none_is_lent number path e)
+lent_still (t ∷ tickets) more zero path e = e
+lent_still (t ∷ tickets) more (suc number) path e = lent_still tickets more number path e
+
+lent_first : (paths : List Path) (path : Path) → Has path paths → (number : ℕ) × (ticket_in (map Lent paths) number ≡ Lent path)
+lent_first [] path h = absurd h
+lent_first (q ∷ paths) path (inl same) = (zero, ap Lent (sym same))
+lent_first (q ∷ paths) path (inr h) = let rest = lent_first paths path h in (suc rest.0, rest.1)
+
+lent_there : (tickets : List Ticket) (paths : List Path) (path : Path) → Has path paths → (number : ℕ) × (ticket_in (tickets ++ map Lent paths) number ≡ Lent path)
+lent_there [] paths path h = lent_first paths path h
+lent_there (t ∷ tickets) paths path h = let rest = lent_there tickets paths path h in (suc rest.0, rest.1)
+
+pub none_open_then : (p : ProblemValue) (old new : State) (jobs : List Job) (path : Path) → LendsEach p old jobs new → IsOpen p new path → ⊥
+none_open_then p old new jobs path s o =
+    let P : State → Type 0 = λ state. IsOpen p state path in
+    let is : IsOpen p (record old { numbers = old.numbers ++ map Lent s.paths }) path = subst P s.state o in
+    let before : IsOpen p old path = record { pairs = is.pairs; leaf = is.leaf; unlent = λ lent. is.unlent (lent.0, lent_still old.numbers (map Lent s.paths) lent.0 path lent.1); cheaper = is.cheaper } in
+    let has = has_open p old path (leaf_paths old.tree) s.paths before (has_leaf old.tree path (Bound is.pairs) is.leaf) s.opens in
+    is.unlent (lent_there old.numbers s.paths path has)

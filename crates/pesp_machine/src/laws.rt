@@ -132,7 +132,8 @@ pub fn adopted_certificates_are_kept()
     ensures valid { (instance : Pesp) (p : ProblemValue) (events : List Event) (old new : State) (content : Content) → KeepsLimits instance → IsProblemOf instance p → All (IsWalk (net_of p).arcs) p.table → IsKept p old → Run p old events new → IsCertificateOf p instance.events new content → IsValid instance content }
 {}
 
-/// To lend all open leaves at once is to lend one after the other, in preorder.
+/// To lend all open leaves at once is to lend one after the other, in preorder; and then no leaf is open.
 pub fn all_lent_is_a_run_of_lends()
-    ensures { (p : ProblemValue) (old new : State) (jobs : List Job) → LendsEach p old jobs new → Run p old (lends_of jobs) new }
+    ensures run { (p : ProblemValue) (old new : State) (jobs : List Job) → LendsEach p old jobs new → Run p old (lends_of jobs) new }
+    ensures none { (p : ProblemValue) (old new : State) (jobs : List Job) (path : List (Cut × Side)) → LendsEach p old jobs new → IsOpen p new path → ⊥ }
 {}

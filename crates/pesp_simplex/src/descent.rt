@@ -61,16 +61,14 @@ fn entries_at<'a>(cuts: &'a Cuts, stars: &'a Cuts, side: Side) -> Option<&'a [En
 }
 
 /// Makes room for so many entries.
-fn make_room(entries: &mut Vec<Entry>, room: usize) -> Option<()> {
+fn make_room(entries: &mut Vec<Entry>, room: usize) -> Result<(), Memory> {
     for _ in entries.len()..room {
-        entries
-            .push(Entry {
-                row: 0,
-                inward: false,
-            })
-            .ok()?;
+        entries.push(Entry {
+            row: 0,
+            inward: false,
+        })?;
     }
-    Some(())
+    Ok(())
 }
 
 /// Copies numbers over others.
@@ -134,17 +132,24 @@ impl Descent {
             .times_of(alloc, self.period, arcs, &self.slacks)
     }
 
-    /// Draws a forest and lists its cuts, or the low ones where that is too much.
-    fn plant(&mut self, arcs: &[Arc]) -> Option<()> {
+    /// Draws a forest.
+    fn draw(&mut self, arcs: &[Arc]) -> Option<()> {
         self.drawing.draw(arcs, &self.slacks, &mut self.random)?;
-        self.drawing.measure(&mut self.heights)?;
+        self.drawing.measure(&mut self.heights)
+    }
+
+    /// Draws a forest and lists its cuts, or the low ones where that is too much. False where it gave up.
+    fn plant(&mut self, arcs: &[Arc]) -> Result<bool, Memory> {
+        if self.draw(arcs).is_none() {
+            return Ok(false);
+        }
         for most in [u32::MAX, 64, 16, 4, 1] {
             if let Some(room) = self.count(arcs, most) {
                 make_room(&mut self.cuts.entries, room)?;
-                return self.list(arcs, most);
+                return Ok(self.list(arcs, most).is_some());
             }
         }
-        None
+        Ok(false)
     }
 
     /// How many rows cross the cuts below which no event hangs more rows down than `most`, in all.
@@ -246,8 +251,9 @@ impl Descent {
         (self.cost.unsigned_abs() / rows).max(1)
     }
 
-    /// Takes shifts at random by a heat that falls, a forest a round, in cycles of which the first begins the hottest.
-    fn anneal(&mut self, arcs: &[Arc], rounds: u32) -> Option<()> {
+    /// Takes shifts at random by a heat that falls, a forest a round, in cycles of which the first begins the hottest. False
+    /// where it gave up.
+    fn anneal(&mut self, arcs: &[Arc], rounds: u32) -> Result<bool, Memory> {
         let cycle = rounds.clamp(1, 2000);
         let mut top: u64 = 0;
         for round in 0..rounds {
@@ -261,49 +267,55 @@ impl Descent {
                 };
             }
             if self.best_cost == 0 {
-                return Some(());
+                return Ok(true);
             }
-            let halves = if first { 8 } else { 5 };
-            self.plant(arcs)?;
-            self.sweep(arcs, heat_at(top, halves, place, cycle))?;
+            let heat = heat_at(top, if first { 8 } else { 5 }, place, cycle);
+            if !self.plant(arcs)? || self.sweep(arcs, heat).is_none() {
+                return Ok(false);
+            }
         }
-        Some(())
+        Ok(true)
     }
 
-    /// Takes the cheapest shifts until some forests in turn show none, or the rounds are spent.
-    fn cool(&mut self, arcs: &[Arc], rounds: u32) -> Option<()> {
+    /// Takes the cheapest shifts until some forests in turn show none, or the rounds are spent. False where it gave up.
+    fn cool(&mut self, arcs: &[Arc], rounds: u32) -> Result<bool, Memory> {
         let mut quiet: u32 = 0;
-        self.plant(arcs)?;
+        let mut is_planted = self.plant(arcs)?;
         for round in 0..rounds {
-            if self.cost == 0 {
-                return Some(());
+            if !is_planted || self.cost == 0 {
+                break;
             }
-            if self.sweep(arcs, 0)? {
+            let Some(gained) = self.sweep(arcs, 0) else {
+                return Ok(false);
+            };
+            if gained {
                 quiet = 0;
                 continue;
             }
             quiet = quiet.wrapping_add(1);
             if quiet >= QUIET || round >= rounds / 2 {
-                return Some(());
+                break;
             }
-            self.plant(arcs)?;
+            is_planted = self.plant(arcs)?;
         }
-        Some(())
+        Ok(is_planted)
     }
 
     /// Makes the slacks cheaper in so many rounds: first by cheaper shifts alone, then by heat, and then by cheaper shifts
-    /// again. None where it gave up.
-    pub(crate) fn run(&mut self, arcs: &[Arc], rounds: u32) -> Option<()> {
+    /// again. It may give up before.
+    pub(crate) fn run(&mut self, arcs: &[Arc], rounds: u32) -> Result<(), Memory> {
         let reserve = (rounds / 4).clamp(16, 400);
         let first = rounds.min(16);
-        self.cool(arcs, first)?;
+        let cooled = self.cool(arcs, first)?;
         let rest = rounds.wrapping_sub(first);
-        if rest == 0 || self.cost == 0 {
-            return Some(());
+        if !cooled || rest == 0 || self.cost == 0 {
+            return Ok(());
         }
-        let annealed = self.anneal(arcs, rest.saturating_sub(reserve));
+        let annealed = self.anneal(arcs, rest.saturating_sub(reserve))?;
         self.recall();
-        annealed?;
-        self.cool(arcs, rest.min(reserve))
+        if annealed {
+            self.cool(arcs, rest.min(reserve))?;
+        }
+        Ok(())
     }
 }

@@ -165,7 +165,7 @@ pub(crate) fn improve_times(
     let slacks = slacks_of(alloc, period, events, arcs, times)?;
     let cost = i64::try_from(cost_of(period, events, arcs, times)).unwrap_or(i64::MAX);
     let mut descent = Descent::new(alloc, period, events, arcs, slacks, cost)?;
-    let _ended = descent.run(arcs, rounds);
+    descent.run(arcs, rounds)?;
     let found = descent.times(alloc, arcs)?.unwrap_or(Vec::new(alloc));
     let best = cheaper(alloc, period, events, arcs, found, times)?;
     settle(alloc, period, events, arcs, best, descent.rooted(), other)

@@ -7,3 +7,5 @@ pub mod Nodes
 pub mod Offsets
 pub mod Worked
 pub mod Counting
+pub mod Shifts
+pub mod Joined

@@ -41,3 +41,7 @@ IsWithin s t = (event difference : ℕ) → s event difference ≡ true → t ev
 -- no set is empty
 abbrev pub HasNoEmpty : ℕ → Family → Type 0
 HasNoEmpty events s = (event : ℕ) → event < events → (difference : ℕ) × (s event difference ≡ true)
+
+-- no family without an empty set is supported
+abbrev pub NoFamilyIsSupported : Net → List (ℕ × ℕ) → ℕ → Type 0
+NoFamilyIsSupported n ranges events = (s : Family) → IsFamily n events s → IsSupported n ranges s → HasNoEmpty events s → ⊥

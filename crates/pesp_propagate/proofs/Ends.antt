@@ -1,14 +1,14 @@
 -- An arc's ends after the code's own steps.
-use Rattle.std.proofs.Common.{◌≡◌, ℕ, zero, suc, ◌+◌, ◌-◌, ◌*◌, ◌/◌, ◌%◌, ◌<◌, ◌≤◌, ◌⊎◌, ◌≢◌, List, refl, ap, arith, sym, ◌∙◌, inl, inr, subst, Bool, true, false}
-use Rattle.std.specs.Prelude.{ℤ, pos, min, nat_eq}
+use Rattle.std.proofs.Common.{◌≡◌, ℕ, ◌+◌, ◌-◌, ◌*◌, ◌%◌, ◌<◌, ◌≤◌, ◌≢◌, List, refl, ap, arith, sym, ◌∙◌, inl, inr, subst, true}
+use Rattle.std.specs.Prelude.{pos, min}
 use Rattle.std.specs.Int.{int_rem_euclid}
 use Rattle.std.proofs.Math.Nat.{mod-eq_of_lt}
 use Rattle.pesp_problem.specs.declared.arc.Arc.{Arc}
-use Rattle.pesp_propagate.specs.Bits.{bit, KeepsSupported}
-use Rattle.pesp_problem.specs.Families.{remainder_of, Family, IsSupportedBy}
+use Rattle.pesp_propagate.specs.Bits.{bit}
+use Rattle.pesp_problem.specs.Families.{remainder_of}
 use Rattle.pesp_propagate.specs.Sets.{set_of, IsClear, Narrows, Revises, family}
-use Rattle.pesp_propagate.proofs.Revising.{LeadBoth, revised, is_one, one_is, below, in_other, same_event, narrow_within, still_clear}
-use Rattle.pesp_propagate.proofs.Rounding.{lead_both, mod_more, mod_same, mod_inner, remainder_is, shift_lt}
+use Rattle.pesp_propagate.proofs.Revising.{revised, is_one, one_is, below, in_other, same_event, narrow_within, still_clear}
+use Rattle.pesp_problem.proofs.Shifts.{LeadBoth, lead_both, loop_remainder, mod_same}
 
 pub both_ends : (t w l : ℕ) (arc : Arc) (low high m n : ℕ) (xs ys zs : List ℕ) → m ≡ min high (t - 1) → n ≡ m + 1 - low → 0 < t → arc.tail ≢ arc.head → IsClear t w xs → pos l ≡ int_rem_euclid arc.lower (pos t)
     → Narrows t w arc.tail arc.head ((l + low) % t) n xs ys → Narrows t w arc.head arc.tail ((2 * t - l - m) % t) n ys zs → Revises t w arc (low, high) xs zs
@@ -16,14 +16,6 @@ both_ends t w l arc low high m n xs ys zs em en p ne c el one two =
     let P : ℕ → Type 0 = λ m. LeadBoth t arc low high ((l + low) % t) ((2 * t - l - m) % t) (m + 1 - low) in
     let Q : ℕ → Type 0 = λ n. LeadBoth t arc low high ((l + low) % t) ((2 * t - l - m) % t) n in
     revised t w arc low high ((l + low) % t) ((2 * t - l - m) % t) n xs ys zs p ne c (subst Q (sym en) (subst P (sym em) (lead_both t l arc low high p el))) one two
-
--- at a loop the remainder is one for all
-pub loop_remainder : (t l : ℕ) (arc : Arc) (d : ℕ) → 0 < t → pos l ≡ int_rem_euclid arc.lower (pos t) → d < t → remainder_of t arc d d ≡ (t - l) % t
-loop_remainder t l arc d p e ld =
-    let ll : l < t = shift_lt t l arc.lower p e in
-    let r : d + (l + (t - l) % t) ≡ d + l + (t - l) % t = omega arith in
-    let s : d + l + (t - l) ≡ d + t = omega arith in
-    remainder_is t l arc d d ((t - l) % t) p e ld ld (omega arith) (sym (mod_same _ _ t r ∙ (mod_inner (d + l) (t - l) t p ∙ (mod_same _ _ t s ∙ (mod_more d t ∙ mod-eq_of_lt ld)))))
 
 pub loop_kept : (t w l : ℕ) (arc : Arc) (low high m back : ℕ) (xs ys : List ℕ) → m ≡ min high (t - 1) → back ≡ (t - l) % t → 0 < t → arc.tail ≡ arc.head → IsClear t w xs → pos l ≡ int_rem_euclid arc.lower (pos t)
     → low ≤ back → back ≤ m → Narrows t w arc.tail arc.tail 0 1 xs ys → Revises t w arc (low, high) xs ys

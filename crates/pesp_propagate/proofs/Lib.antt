@@ -2,8 +2,6 @@ pub mod Words
 pub mod Eights
 pub mod Narrowing
 pub mod Revising
-pub mod Integers
-pub mod Rounding
 pub mod Ends
 pub mod Places
 pub mod Chaining

@@ -1,9 +1,8 @@
 -- The shifts of the step lead to partners.
-use Rattle.std.proofs.Common.{◌≡◌, ℕ, zero, suc, ◌+◌, ◌-◌, ◌*◌, ◌%◌, ◌<◌, ◌≤◌, ◌⊎◌, ◌≢◌, List, refl, ap, sym, ◌∙◌, arith, inl, inr, subst, Bool, true, false}
-use Rattle.std.specs.Prelude.{ℤ, pos, negsuc, unsigned_abs, nat_le, ◌&&◌, if◌then◌else◌}
+use Rattle.std.proofs.Common.{◌≡◌, ℕ, ◌+◌, ◌%◌, ◌<◌, ◌≤◌, ◌⊎◌, ◌≢◌, List, refl, ap, sym, ◌∙◌, arith, inl, inr, subst, Bool, true, false}
+use Rattle.std.specs.Prelude.{ℤ, pos, negsuc, nat_le, ◌&&◌, if◌then◌else◌}
 use Rattle.std.specs.Int.{int_rem_euclid}
 use Rattle.std.proofs.Math.Nat.{mod-eq_of_lt}
-use Rattle.std.proofs.lemmas.Bool.{cases_Bool}
 use Rattle.std.proofs.lemmas.Bool.Decides.{nat_tests}
 use Rattle.pesp_problem.specs.declared.arc.Arc.{Arc}
 use Rattle.pesp_problem.specs.Timetables.{remainder}
@@ -11,9 +10,7 @@ use Rattle.pesp_problem.specs.Families.{ArePartners, remainder_of}
 use Rattle.pesp_propagate.specs.Bits.{bit, KeepsSupported}
 use Rattle.pesp_propagate.specs.Partners.{AreBelow, KeepsTails, KeepsHeads, greatest, first_ahead, first_back, count_of, loop_count}
 use Rattle.pesp_propagate.specs.Partners as spec
-use Rattle.pesp_propagate.proofs.Ends.{loop_remainder}
-use Rattle.pesp_propagate.proofs.Revising.{LeadBoth}
-use Rattle.pesp_propagate.proofs.Rounding.{lead_both, mod_same}
+use Rattle.pesp_problem.proofs.Shifts.{LeadBoth, lead_both, loop_remainder, mod_same}
 
 -- a remainder is at least 0
 remainder_is : (t : ℕ) (z : ℤ) → pos (remainder t z) ≡ int_rem_euclid z (pos t)

@@ -1,5 +1,5 @@
 -- What propagation answers, in the words of networks.
-use Rattle.std.proofs.Common.{◌≡◌, ◌≢◌, ℕ, ◌+◌, ◌<◌, ◌≤◌, ◌⊎◌, inl, inr, List, length, map, refl, ap, arith, sym, ◌∙◌, subst, Bool, true, false}
+use Rattle.std.proofs.Common.{◌≡◌, ℕ, ◌<◌, ◌⊎◌, inl, inr, List, length, refl, ap, arith, sym, ◌∙◌, subst, Bool, true, false}
 use Rattle.std.specs.Prelude.{Result, Ok, Err, IfOk, ◌↔◌, nat_lt, ◌&&◌}
 use Rattle.std.proofs.lemmas.Bool.{cases_lt}
 use Rattle.std.proofs.lemmas.Bool.Decides.{nat_tests}
@@ -7,21 +7,20 @@ use Rattle.std.proofs.lemmas.List.{get_or-map, length-map}
 use Rattle.pesp_problem.specs.declared.arc.Arc.{Arc}
 use Rattle.pesp_problem.specs.declared.memory.Memory.{Memory}
 use Rattle.pesp_problem.specs.Arcs.{Net, arc_at, no_arc}
-use Rattle.pesp_problem.specs.Nodes.{slack_range}
 use Rattle.pesp_problem.specs.Forests.{IsFirstOf}
-use Rattle.pesp_problem.specs.Families.{Family, IsFamily, IsSupportedBy, IsSupported, IsWithin, HasNoEmpty}
+use Rattle.pesp_problem.specs.Families.{Family, IsFamily, IsSupported, IsWithin, HasNoEmpty, NoFamilyIsSupported}
 use Rattle.pesp_network.specs.declared.row.NetRow.{NetRow}
 use Rattle.pesp_network.specs.Networks.{NetworkValue, net_row_at, no_net_row, arc_of_net, arcs_of_network, net_of_network, KeepsNetLimits, RowKeepsNetLimits}
 use Rattle.pesp_propagate.specs.declared.outcome.Outcome.{Outcome}
 use Rattle.pesp_propagate.specs.declared.outcome.Outcome.TheVariants.{Stable, Empty}
 use Rattle.pesp_propagate.specs.declared.waiting.Waiting.{Waiting}
-use Rattle.pesp_propagate.specs.Domains.{SetRows, family_of, HaveSizes}
+use Rattle.pesp_propagate.specs.Domains.{SetRows, family_of}
 use Rattle.pesp_propagate.specs.Ends.{HaveEnds}
 use Rattle.pesp_propagate.specs.Waiting.{waits_at}
 use Rattle.pesp_propagate.specs.Outcomes.{Shrinks, IsOutcome, HasNone, TellsEmpty, LeavesSupported}
 use Rattle.pesp_propagate.specs.Visits.{net_at, sets_at, RestIsSupported}
 use Rattle.pesp_propagate.specs.Rows.{RowsValue, rows_of}
-use Rattle.pesp_propagate.specs.Full.{IsFull, NoFamilyIsSupported}
+use Rattle.pesp_propagate.specs.Full.{IsFull}
 
 arc_is : (rows : List NetRow) (k : ℕ) → k < length rows → arc_at (arcs_of_network rows) k ≡ arc_of_net (net_row_at rows k)
 arc_is rows k l = get_or-map arc_of_net rows k no_net_row no_arc l

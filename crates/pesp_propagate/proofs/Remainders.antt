@@ -1,10 +1,10 @@
 -- Remainders of whole numbers.
-use Rattle.std.proofs.Common.{◌≡◌, ℕ, zero, suc, ◌+◌, ◌-◌, ◌*◌, ◌<◌, ◌≤◌, refl, ap, arith, sym, ◌∙◌, subst}
-use Rattle.std.specs.Prelude.{ℤ, pos, negsuc, ◌+ℤ◌, ◌-ℤ◌, ◌*ℤ◌, unsigned_abs}
-use Rattle.std.specs.Int.{int_rem_euclid, int_div_euclid}
+use Rattle.std.proofs.Common.{◌≡◌, ℕ, zero, suc, ◌<◌, ap, arith, ◌∙◌}
+use Rattle.std.specs.Prelude.{ℤ, pos, negsuc, ◌+ℤ◌, ◌-ℤ◌, ◌*ℤ◌}
+use Rattle.std.specs.Int.{int_div_euclid}
 use Rattle.std.proofs.lemmas.Int.{ints}
 use Rattle.pesp_problem.specs.Timetables.{remainder}
-use Rattle.pesp_propagate.proofs.Integers.{mul-add, quotient-remainder, remainder-lt}
+use Rattle.pesp_problem.proofs.Integers.{mul-add, quotient-remainder, remainder-lt}
 
 apart : (t r s : ℕ) (d : ℤ) → 0 < t → r < t → s < t → pos t *ℤ d ≡ pos s -ℤ pos r → s ≡ r
 apart t r s (pos zero) p lr ls e = omega (arith, ints)

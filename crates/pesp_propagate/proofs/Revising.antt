@@ -1,19 +1,12 @@
 -- Both ends of an arc are narrowed.
-use Rattle.std.proofs.Common.{◌≡◌, ℕ, zero, suc, ◌+◌, ◌-◌, ◌*◌, ◌/◌, ◌%◌, ◌^◌, ◌<◌, ◌≤◌, ◌⊎◌, ◌≢◌, List, length, get_or, refl, ap, sym, ◌∙◌, arith, inl, inr, rules, subst, Bool, true, false}
+use Rattle.std.proofs.Common.{◌≡◌, ℕ, ◌+◌, ◌%◌, ◌<◌, ◌≤◌, ◌⊎◌, ◌≢◌, List, ap, sym, ◌∙◌, arith, inl, inr, subst, true}
 use Rattle.std.specs.Prelude.{nat_eq}
 use Rattle.std.proofs.lemmas.Bool.Decides.{nat_tests}
 use Rattle.pesp_problem.specs.declared.arc.Arc.{Arc}
-use Rattle.pesp_propagate.specs.Bits.{bit, KeepsSupported, HasPartner, IsLess}
-use Rattle.pesp_problem.specs.Families.{Family, IsSupportedBy, IsWithin, ArePartners, remainder_of}
-use Rattle.pesp_propagate.specs.Sets.{set_of, IsClear, Narrows, Revises, family}
+use Rattle.pesp_propagate.specs.Bits.{bit}
+use Rattle.pesp_propagate.specs.Sets.{set_of, IsClear, Narrows, Revises}
+use Rattle.pesp_problem.proofs.Shifts.{LeadBoth}
 use Rattle.pesp_propagate.proofs.Words.{bit-lt}
-
--- the shifts of an interval lead from each difference at the tail to its partners at the head, and those of another back
-pub record LeadBoth (t : ℕ) (arc : Arc) (low high ahead back count : ℕ) : Type 0 where
-  pub out : (a j : ℕ) → a < t → j < count → (low ≤ remainder_of t arc a ((a + (ahead + j)) % t)) × (remainder_of t arc a ((a + (ahead + j)) % t) ≤ high)
-  pub out_back : (b j : ℕ) → b < t → j < count → (low ≤ remainder_of t arc ((b + (back + j)) % t) b) × (remainder_of t arc ((b + (back + j)) % t) b ≤ high)
-  pub into : (a b : ℕ) → a < t → b < t → low ≤ remainder_of t arc a b → remainder_of t arc a b ≤ high → (j : ℕ) × (j < count) × ((a + (ahead + j)) % t ≡ b)
-  pub into_back : (a b : ℕ) → a < t → b < t → low ≤ remainder_of t arc a b → remainder_of t arc a b ≤ high → (j : ℕ) × (j < count) × ((b + (back + j)) % t ≡ a)
 
 pub is_one : (n : ℕ) → nat_eq n 1 ≡ true → n ≡ 1
 is_one n h = grind (arith, nat_tests)

@@ -3,11 +3,11 @@
 ghost use Rattle.std.specs.Prelude.{◌≡◌, ℕ, ◌<◌, ◌≤◌, ◌↔◌, length, List, IfOk, Ok, false};
 ghost use Rattle.pesp_problem.specs.Arcs.{slacks_at};
 ghost use Rattle.pesp_problem.specs.Nodes.{SlacksIn};
-ghost use Rattle.pesp_problem.specs.Families.{Family, IsSupported, IsWithin, HasNoEmpty};
+ghost use Rattle.pesp_problem.specs.Families.{Family, IsSupported, IsWithin, HasNoEmpty, NoFamilyIsSupported};
 ghost use Rattle.pesp_network.specs.Networks.{net_of_network};
 ghost use Rattle.pesp_propagate.specs.Domains.{family_of, HaveSizes};
 ghost use Rattle.pesp_propagate.specs.Outcomes.{HasNone, TellsEmpty};
-ghost use Rattle.pesp_propagate.specs.Full.{IsFull, NoFamilyIsSupported, HasDifferences};
+ghost use Rattle.pesp_propagate.specs.Full.{IsFull, HasDifferences};
 
 use crate::domains::Domains;
 use crate::outcome::Outcome;

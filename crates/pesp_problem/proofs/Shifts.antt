@@ -1,13 +1,12 @@
 -- Shifts round the period, and the remainders of an arc.
-use Rattle.std.proofs.Common.{◌≡◌, ℕ, zero, suc, ◌+◌, ◌-◌, ◌*◌, ◌/◌, ◌%◌, ◌<◌, ◌≤◌, ◌⊎◌, ◌≢◌, refl, ap, arith, sym, ◌∙◌, inl, inr, subst}
+use Rattle.std.proofs.Common.{◌≡◌, ℕ, zero, suc, ◌+◌, ◌-◌, ◌*◌, ◌/◌, ◌%◌, ◌<◌, ◌≤◌, ◌⊎◌, ap, arith, sym, ◌∙◌, inl, inr}
 use Rattle.std.specs.Prelude.{ℤ, pos, negsuc, ◌+ℤ◌, ◌-ℤ◌, ◌*ℤ◌, unsigned_abs, min}
 use Rattle.std.specs.Int.{int_rem_euclid, int_div_euclid}
 use Rattle.std.proofs.lemmas.Int.{ints}
 use Rattle.std.proofs.Math.Nat.{add-mul-mod_self_left, mod-eq_of_lt, mul-le-mul_left}
 use Rattle.pesp_problem.specs.declared.arc.Arc.{Arc}
 use Rattle.pesp_problem.specs.Families.{remainder_of}
-use Rattle.pesp_propagate.proofs.Integers.{mul-add, quotient-remainder, remainder-lt}
-use Rattle.pesp_propagate.proofs.Revising.{LeadBoth}
+use Rattle.pesp_problem.proofs.Integers.{mul-add, quotient-remainder, remainder-lt}
 
 pub mod_more : (d t : ℕ) → (d + t) % t ≡ d % t
 mod_more d t = let e : d + t * 1 ≡ d + t = omega arith in ap (λ (m : ℕ). m % t) (sym e) ∙ add-mul-mod_self_left d t 1
@@ -55,7 +54,7 @@ leads t l arc a b p e la lb =
     sums x y xy low b a l r f g h = omega (arith, ints)
 
 -- two shifts below the period that lead to one place are one
-cancel : (x r s t : ℕ) → 0 < t → r < t → s < t → (x + r) % t ≡ (x + s) % t → r ≡ s
+pub cancel : (x r s t : ℕ) → 0 < t → r < t → s < t → (x + r) % t ≡ (x + s) % t → r ≡ s
 cancel x r s t p lr ls e =
     elim (order ((x + r) / t) ((x + s) / t)) [
       | inl h ↦ let m : t * ((x + r) / t + 1) ≤ t * ((x + s) / t) = mul-le-mul_left t h in absurd (omega arith)
@@ -74,6 +73,13 @@ remainder_is t l arc a b r p e la lb lr h =
     let x : a + (l + remainder_of t arc a b) ≡ a + l + remainder_of t arc a b = omega arith in
     let y : a + (l + r) ≡ a + l + r = omega arith in
     cancel (a + l) (remainder_of t arc a b) r t p (remainder_lt t arc a b p) lr (mod_same _ _ t (sym x) ∙ (sym (leads t l arc a b p e la lb) ∙ (h ∙ mod_same _ _ t y)))
+
+-- the shifts of an interval lead from each difference at the tail to its partners at the head, and those of another back
+pub record LeadBoth (t : ℕ) (arc : Arc) (low high ahead back count : ℕ) : Type 0 where
+  pub out : (a j : ℕ) → a < t → j < count → (low ≤ remainder_of t arc a ((a + (ahead + j)) % t)) × (remainder_of t arc a ((a + (ahead + j)) % t) ≤ high)
+  pub out_back : (b j : ℕ) → b < t → j < count → (low ≤ remainder_of t arc ((b + (back + j)) % t) b) × (remainder_of t arc ((b + (back + j)) % t) b ≤ high)
+  pub into : (a b : ℕ) → a < t → b < t → low ≤ remainder_of t arc a b → remainder_of t arc a b ≤ high → (j : ℕ) × (j < count) × ((a + (ahead + j)) % t ≡ b)
+  pub into_back : (a b : ℕ) → a < t → b < t → low ≤ remainder_of t arc a b → remainder_of t arc a b ≤ high → (j : ℕ) × (j < count) × ((b + (back + j)) % t ≡ a)
 
 pub lead_both : (t l : ℕ) (arc : Arc) (low high : ℕ) → 0 < t → pos l ≡ int_rem_euclid arc.lower (pos t)
     → LeadBoth t arc low high ((l + low) % t) ((2 * t - l - min high (t - 1)) % t) (min high (t - 1) + 1 - low)
@@ -113,3 +119,11 @@ lead_both t l arc low high p e = let m : ℕ = min high (t - 1) in let ml : m < 
         let u : a + (x % t + j) ≡ a + j + x % t = omega arith in
         let v : a + j + x ≡ a + (x + j) = omega arith in
         mod_same _ _ t u ∙ (mod_inner (a + j) x t p ∙ mod_same _ _ t v)
+
+-- at a loop the remainder is one for all
+pub loop_remainder : (t l : ℕ) (arc : Arc) (d : ℕ) → 0 < t → pos l ≡ int_rem_euclid arc.lower (pos t) → d < t → remainder_of t arc d d ≡ (t - l) % t
+loop_remainder t l arc d p e ld =
+    let ll : l < t = shift_lt t l arc.lower p e in
+    let r : d + (l + (t - l) % t) ≡ d + l + (t - l) % t = omega arith in
+    let s : d + l + (t - l) ≡ d + t = omega arith in
+    remainder_is t l arc d d ((t - l) % t) p e ld ld (omega arith) (sym (mod_same _ _ t r ∙ (mod_inner (d + l) (t - l) t p ∙ (mod_same _ _ t s ∙ (mod_more d t ∙ mod-eq_of_lt ld)))))

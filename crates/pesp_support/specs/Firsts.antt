@@ -1,0 +1,1 @@
+-- What a visit of one row does to the sets at its ends.

@@ -1,0 +1,122 @@
+//! The sets at the ends of one row.
+
+ghost use Rattle.std.specs.Prelude.{◌≡◌, ◌≢◌, ◌↔◌, ℕ, ◌+◌, ◌-◌, ◌*◌, ◌%◌, ◌<◌, ◌≤◌, length, pos, min, true, false, IsTrue};
+ghost use Rattle.std.specs.Int.{int_rem_euclid};
+ghost use Rattle.pesp_support.specs.Sets.{family_at, IsLess};
+ghost use Rattle.pesp_support.specs.Windows.{Narrows};
+ghost use Rattle.pesp_support.specs.Visits.{HasSome, IsVisit};
+
+use crate::narrow::{Window, least, narrow};
+use pesp_problem::Arc;
+
+/// At which ends of a row the set became smaller.
+#[derive(Clone, Copy, Debug, PartialEq, Eq)]
+pub struct Narrowed {
+    pub tail: bool,
+    pub head: bool,
+}
+
+// a lower bound as a shift round the period
+fn shift_of(lower: &i64, period: usize) -> usize
+    requires { (0 < period) × (period ≤ 10000) }
+    ensures { pos result ≡ int_rem_euclid lower.now (pos period) }
+{
+    lower.rem_euclid(period as i64) as usize
+}
+
+// whether the remainder of a loop, which is one for all differences, is in the range
+fn loop_holds(period: usize, shift: usize, range: (u32, u32)) -> bool
+    requires period { 0 < period }
+    requires shift { shift ≤ period }
+    ensures { IsTrue result ↔ (range.0 ≤ (period - shift) % period) × ((period - shift) % period ≤ range.1) }
+{
+    let remainder = (period - shift) % period;
+    range.0 as usize <= remainder && remainder <= range.1 as usize
+}
+
+// whether an event has a difference left
+fn has_some(words: &[u64], period: usize, event: usize) -> bool
+    requires period { period ≤ 10000 }
+    requires event { event ≤ 100000 }
+    requires long { event * period + period ≤ 64 * length words.now }
+    ensures { IsTrue result ↔ HasSome (family_at period words.now) event }
+{
+    least(words, period, event) < period
+}
+
+// the shifts from the tail to its partners at the head, and from the head to those at the tail
+fn windows(period: usize, shift: usize, range: (u32, u32)) -> (Window, Window)
+    requires period { (0 < period) × (period ≤ 10000) }
+    requires shift { shift ≤ period }
+    ensures ahead { result.0.first ≡ (shift + range.0) % period }
+    ensures back { result.1.first ≡ (2 * period - shift - min range.1 (period - 1)) % period }
+    ensures count { result.0.count ≡ min range.1 (period - 1) + 1 - range.0 }
+    ensures same { result.1.count ≡ result.0.count }
+{
+    let low = range.0 as usize;
+    let high = (range.1 as usize).min(period - 1);
+    let count = (high + 1).saturating_sub(low);
+    let ahead = Window {
+        first: (shift + low) % period,
+        count,
+    };
+    let back = Window {
+        first: (2 * period - shift - high) % period,
+        count,
+    };
+    (ahead, back)
+}
+
+// takes from the sets at both ends of a row that is no loop each difference without a partner
+fn revise(
+    words: &mut [u64],
+    period: usize,
+    arc: &Arc,
+    shift: usize,
+    range: (u32, u32),
+) -> Option<Narrowed>
+    requires period { (0 < period) × (period ≤ 10000) }
+    requires apart { arc.now.tail ≢ arc.now.head }
+    requires tail { arc.now.tail * period + period ≤ 64 * length words.old }
+    requires head { arc.now.head * period + period ≤ 64 * length words.old }
+    requires ends { (arc.now.tail ≤ 100000) × (arc.now.head ≤ 100000) }
+    requires some_head { HasSome (family_at period words.old) arc.now.head }
+    requires shift { pos shift ≡ int_rem_euclid arc.now.lower (pos period) }
+    ensures { IsVisit period arc.now range words.old words.new result }
+{
+    let (ahead, back) = windows(period, shift, range);
+    let tail = narrow(words, period, arc.tail as usize, arc.head as usize, ahead);
+    if !has_some(words, period, arc.tail as usize) {
+        return None;
+    }
+    let head = narrow(words, period, arc.head as usize, arc.tail as usize, back);
+    if !has_some(words, period, arc.head as usize) {
+        return None;
+    }
+    Some(Narrowed { tail, head })
+}
+
+/// Takes from the sets at both ends of a row each difference without a partner; None where no family within them that the
+/// row supports has a difference at both ends.
+pub fn visit(words: &mut [u64], period: usize, arc: &Arc, range: (u32, u32)) -> Option<Narrowed>
+    requires period { (0 < period) × (period ≤ 10000) }
+    requires tail { arc.now.tail * period + period ≤ 64 * length words.old }
+    requires head { arc.now.head * period + period ≤ 64 * length words.old }
+    requires ends { (arc.now.tail ≤ 100000) × (arc.now.head ≤ 100000) }
+    requires some_tail { HasSome (family_at period words.old) arc.now.tail }
+    requires some_head { HasSome (family_at period words.old) arc.now.head }
+    ensures { IsVisit period arc.now range words.old words.new result }
+{
+    let shift = shift_of(&arc.lower, period);
+    if arc.tail != arc.head {
+        return revise(words, period, arc, shift, range);
+    }
+    if loop_holds(period, shift, range) {
+        Some(Narrowed {
+            tail: false,
+            head: false,
+        })
+    } else {
+        None
+    }
+}

@@ -16,6 +16,7 @@ mod runs;
 mod spellings;
 mod streams;
 mod telling;
+mod works;
 
 use pesp_cases::cases_of;
 use playing::play;

@@ -8,6 +8,7 @@ use crate::reports::{ask_report, ask_times};
 use crate::runs::{ask_check, ask_run_report, ask_solve, ask_solved};
 use crate::spellings::{ask_lines, ask_number, ask_words};
 use crate::streams::{ask_bytes, ask_pages};
+use crate::works::ask_works;
 use pesp_cases::split_word;
 use std::alloc::Global;
 
@@ -50,6 +51,7 @@ fn answer_of(alloc: Global, lines: &[&str], word: &str, rest: &str) -> Option<St
         "reported" => ask_report(alloc, lines, rest),
         "parse" => ask_certificate(alloc, lines, rest),
         "made" => make_certificate(alloc, rest),
+        "works" => ask_works(alloc, lines),
         "number" => ask_number(alloc, rest),
         "words" => ask_words(alloc, rest),
         "lines" => ask_lines(alloc, lines),

@@ -1,10 +1,11 @@
 -- What holds of what a command line asks for.
 use Rattle.std.specs.Prelude.{◌≤◌}
 use Rattle.pesp_cli.specs.declared.command.Request.{Request}
-use Rattle.pesp_cli.specs.declared.command.Request.TheVariants.{Solve, Check, Report}
+use Rattle.pesp_cli.specs.declared.command.Request.TheVariants.{Solve, Check, Report, Draw}
 
 -- the numbers are within the limits of the runs
 abbrev pub IsWithinLimits : Request → Type 0
-IsWithinLimits (Solve period steps) = (1 ≤ period) × (period ≤ 10000) × (steps ≤ 100000)
+IsWithinLimits (Solve period steps file) = (1 ≤ period) × (period ≤ 10000) × (steps ≤ 100000)
 IsWithinLimits (Check period file) = (1 ≤ period) × (period ≤ 10000)
 IsWithinLimits (Report period file) = (1 ≤ period) × (period ≤ 10000)
+IsWithinLimits (Draw period rows file) = (1 ≤ period) × (period ≤ 10000)

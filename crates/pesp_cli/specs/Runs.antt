@@ -179,14 +179,35 @@ ReportRefused NotTimes told left told_times left_times period = ⊥
 ReportRefused ReportMemory told left told_times left_times period = ⊥
 ReportRefused ReportWrite told left told_times left_times period = ⊥
 
--- each fault of `report` and its cause; the second reader is called only where the first text has an instance
+-- each fault of a run that reads an instance and a timetable of it and writes something of them, and its cause; the second reader is called only where the first text has an instance
+abbrev pub TimetableCause : Fault → Option (List ℕ) → Option (List ℕ) → Option (List ℕ) → Option (List ℕ) → ℕ → Type 0 → Type 0 → Type 0 → Type 0 → Type 0
+TimetableCause (Instance refusal) told left told_times left_times period first_failed uncalled second_failed write_failed = RefusesInstance told left period refusal × uncalled
+TimetableCause (Certificate refusal) told left told_times left_times period first_failed uncalled second_failed write_failed = ⊥
+TimetableCause (Times refusal) told left told_times left_times period first_failed uncalled second_failed write_failed = RefusesTimes told left told_times left_times period refusal
+TimetableCause (Search refusal) told left told_times left_times period first_failed uncalled second_failed write_failed = ⊥
+TimetableCause (Report refusal) told left told_times left_times period first_failed uncalled second_failed write_failed = ReportRefused refusal told left told_times left_times period
+TimetableCause Memory told left told_times left_times period first_failed uncalled second_failed write_failed = Unit {0}
+TimetableCause Read told left told_times left_times period first_failed uncalled second_failed write_failed = FailsInTurn told left period first_failed uncalled second_failed
+TimetableCause Write told left told_times left_times period first_failed uncalled second_failed write_failed = write_failed
+TimetableCause NoFile told left told_times left_times period first_failed uncalled second_failed write_failed = ⊥
+
+-- those of `report`
 abbrev pub ReportCause : Fault → Option (List ℕ) → Option (List ℕ) → Option (List ℕ) → Option (List ℕ) → ℕ → Option (List ℕ) → Option (List ℕ) → Type 0 → Type 0 → Type 0 → Type 0 → Type 0
-ReportCause (Instance refusal) told left told_times left_times period old new first_failed uncalled second_failed write_failed = RefusesInstance told left period refusal × uncalled
-ReportCause (Certificate refusal) told left told_times left_times period old new first_failed uncalled second_failed write_failed = ⊥
-ReportCause (Times refusal) told left told_times left_times period old new first_failed uncalled second_failed write_failed = RefusesTimes told left told_times left_times period refusal
-ReportCause (Search refusal) told left told_times left_times period old new first_failed uncalled second_failed write_failed = ⊥
-ReportCause (Report refusal) told left told_times left_times period old new first_failed uncalled second_failed write_failed = ReportRefused refusal told left told_times left_times period
-ReportCause Memory told left told_times left_times period old new first_failed uncalled second_failed write_failed = Unit {0}
-ReportCause Read told left told_times left_times period old new first_failed uncalled second_failed write_failed = FailsInTurn told left period first_failed uncalled second_failed
-ReportCause Write told left told_times left_times period old new first_failed uncalled second_failed write_failed = write_failed × Reports told left told_times left_times period (AppendsFront old new)
-ReportCause NoFile told left told_times left_times period old new first_failed uncalled second_failed write_failed = ⊥
+ReportCause fault told left told_times left_times period old new first_failed uncalled second_failed write_failed =
+    TimetableCause fault told left told_times left_times period first_failed uncalled second_failed (write_failed × Reports told left told_times left_times period (AppendsFront old new))
+
+-- ---- draw
+
+-- the readers' texts have an instance and a timetable of it, and the writer got what the relation says of some picture; nothing is said of the picture
+pub record Draws (told left told_times left_times : Option (List ℕ)) (period : ℕ) (Gets : List ℕ → Type 0) : Type 0 where
+  pub instance : Pesp
+  pub times : List ℕ
+  pub read : ReadsTimes told left told_times left_times period instance times
+  pub timetable : IsTimetable instance times
+  pub picture : List ℕ
+  pub written : Gets picture
+
+-- each fault of `draw` and its cause
+abbrev pub DrawCause : Fault → Option (List ℕ) → Option (List ℕ) → Option (List ℕ) → Option (List ℕ) → ℕ → Option (List ℕ) → Option (List ℕ) → Type 0 → Type 0 → Type 0 → Type 0 → Type 0
+DrawCause fault told left told_times left_times period old new first_failed uncalled second_failed write_failed =
+    TimetableCause fault told left told_times left_times period first_failed uncalled second_failed (write_failed × Draws told left told_times left_times period (AppendsFront old new))

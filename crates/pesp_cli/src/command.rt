@@ -6,19 +6,57 @@ ghost use Rattle.pesp_cli.specs.Requests.{IsWithinLimits};
 use clap::{Arg, ArgMatches, Command, Error, value_parser};
 use std::alloc::{AllocError, Global};
 
-/// What the words of a command line ask for.
+/// What the words of a command line ask for. Periods are in the unit of the instance's durations.
 #[derive(Debug, PartialEq, Drop)]
 pub enum Request<'a> {
-    Solve { period: u32, steps: u32 },
-    Check { period: u32, file: &'a str },
-    Report { period: u32, file: &'a str },
+    /// A search of at most so many steps; the instance is on standard input where no file is named.
+    Solve {
+        period: u32,
+        steps: u32,
+        file: Option<&'a str>,
+    },
+    /// A verdict on the certificate on standard input.
+    Check {
+        period: u32,
+        file: &'a str,
+    },
+    /// A report of the times on standard input.
+    Report {
+        period: u32,
+        file: &'a str,
+    },
+    /// A picture of the times on standard input, with at most so many activities and so many events.
+    Draw {
+        period: u32,
+        rows: u32,
+        file: &'a str,
+    },
 }
+
+/// The program's version, and the versions of certificates that it writes and reads.
+const VERSION: &str = "0.1.0\ncertificates: version 1";
 
 const INSTANCES: &str = "\
 An instance is one activity a line, with six fields between ';', tabs or ',':
   label; tail event; head event; least duration; greatest duration; weight
 Times are counted modulo the period, in the unit of the durations. For example
-  printf '1; 1; 2; 0; 9; 3\\n' | pesp solve --period 10";
+  printf '1; 1; 2; 0; 9; 3\\n' | pesp solve --period 10
+
+Exit status: 0 the certificate is written; 2 the command line; 3 the instance is
+refused; 4 memory, a device, or a limit of the search";
+
+const ROUND_TRIP: &str = "\
+A whole round, for an instance in trains.csv with the period 60:
+  pesp solve trains.csv > trains.certificate
+  pesp check trains.csv < trains.certificate
+  pesp report trains.csv < trains.certificate > trains.report.csv
+  pesp draw trains.csv < trains.certificate > trains.svg
+or with a pipe
+  pesp solve trains.csv | pesp check trains.csv
+
+Exit status: 0 the answer is written, or the certificate is accepted; 1 the
+certificate is refused, or the times violate a row; 2 the command line; 3 a text
+is refused; 4 memory, a device, or a limit of the search";
 
 fn period_option<'a>(alloc: Global) -> Arg<'a> {
     Arg::new(alloc, "period")
@@ -38,6 +76,17 @@ fn steps_option<'a>(alloc: Global) -> Arg<'a> {
         .help("How many leaves of the search are split at most, 0 to 100000")
 }
 
+fn rows_option<'a>(alloc: Global) -> Arg<'a> {
+    Arg::new(alloc, "rows")
+        .long("rows")
+        .value_name("N")
+        .value_parser(value_parser!(u32).range(1..=1000))
+        .default_value("100")
+        .help(
+            "How many activities, the dearest ones, and how many events are drawn at most, 1 to 1000",
+        )
+}
+
 fn file_argument<'a>(alloc: Global) -> Arg<'a> {
     Arg::new(alloc, "file")
         .value_name("FILE")
@@ -45,35 +94,59 @@ fn file_argument<'a>(alloc: Global) -> Arg<'a> {
         .help("The file with the instance")
 }
 
+fn optional_file<'a>(alloc: Global) -> Arg<'a> {
+    Arg::new(alloc, "file").value_name("FILE").help(
+        "The file with the instance; standard input where none is named",
+    )
+}
+
+fn solve_command<'a>(alloc: Global) -> Result<Command<'a>, AllocError> {
+    Command::new(alloc, "solve")
+        .about("Reads an instance and writes a best timetable with its certificate")
+        .after_help(INSTANCES)
+        .arg(period_option(alloc))?
+        .arg(steps_option(alloc))?
+        .arg(optional_file(alloc))
+}
+
+/// A command that reads an instance from a file, and something of it from standard input.
+fn file_command<'a>(
+    alloc: Global,
+    name: &'a str,
+    about: &'a str,
+) -> Result<Command<'a>, AllocError> {
+    Command::new(alloc, name)
+        .about(about)
+        .after_help(ROUND_TRIP)
+        .arg(period_option(alloc))?
+        .arg(file_argument(alloc))
+}
+
 fn pesp<'a>(alloc: Global) -> Result<Command<'a>, AllocError> {
-    let solve = Command::new(alloc, "solve")
-        .about(
-            "Reads an instance from standard input and writes a best timetable with its certificate",
-        )
-        .after_help(INSTANCES)
-        .arg(period_option(alloc))?
-        .arg(steps_option(alloc))?;
-    let check = Command::new(alloc, "check")
-        .about(
-            "Reads a certificate from standard input and says whether it is valid for the instance in FILE",
-        )
-        .after_help(INSTANCES)
-        .arg(period_option(alloc))?
-        .arg(file_argument(alloc))?;
-    let report = Command::new(alloc, "report")
-        .about(
-            "Reads time lines or a certificate from standard input and lists the slack of each activity in FILE",
-        )
-        .after_help(INSTANCES)
-        .arg(period_option(alloc))?
-        .arg(file_argument(alloc))?;
+    let check = file_command(
+        alloc,
+        "check",
+        "Reads a certificate from standard input and says whether it is valid for the instance in FILE",
+    )?;
+    let report = file_command(
+        alloc,
+        "report",
+        "Reads time lines or a certificate from standard input and lists the slack of each activity in FILE",
+    )?;
+    let draw = file_command(
+        alloc,
+        "draw",
+        "Reads time lines or a certificate from standard input and draws the timetable of FILE in SVG",
+    )?;
     Command::new(alloc, "pesp")
+        .version(VERSION)
         .about("Periodic timetables with certificates that can be checked")
-        .after_help(INSTANCES)
+        .after_help(ROUND_TRIP)
         .subcommand_required(true)
-        .subcommand(solve)?
+        .subcommand(solve_command(alloc)?)?
         .subcommand(check)?
-        .subcommand(report)
+        .subcommand(report)?
+        .subcommand(draw.arg(rows_option(alloc))?)
 }
 
 fn period_of(matches: &ArgMatches<'_>) -> u32
@@ -92,6 +165,10 @@ fn steps_of(matches: &ArgMatches<'_>) -> u32
     matches.get_one::<u32>("steps").unwrap_or(1000).min(100000)
 }
 
+fn rows_of(matches: &ArgMatches<'_>) -> u32 {
+    matches.get_one::<u32>("rows").unwrap_or(100)
+}
+
 /// What the words ask for, the program's name first; or clap's error, with the text that it prints.
 pub fn request_of<'a>(alloc: Global, words: &'a [String]) -> Result<Request<'a>, Error>
     ensures { IfOk result IsWithinLimits }
@@ -106,13 +183,20 @@ pub fn request_of<'a>(alloc: Global, words: &'a [String]) -> Result<Request<'a>,
             period: period_of(found),
             file: found.get_str("file").unwrap_or(""),
         }),
+        Some(("draw", found)) => Ok(Request::Draw {
+            period: period_of(found),
+            rows: rows_of(found),
+            file: found.get_str("file").unwrap_or(""),
+        }),
         Some((_, found)) => Ok(Request::Solve {
             period: period_of(found),
             steps: steps_of(found),
+            file: found.get_str("file"),
         }),
         None => Ok(Request::Solve {
             period: 60,
             steps: 1000,
+            file: None,
         }),
     }
 }

@@ -2,6 +2,7 @@
 #![tactic(auto)]
 
 mod command;
+mod draw_run;
 mod fault;
 pub mod laws;
 mod program;
@@ -9,6 +10,7 @@ mod runs;
 mod verdict;
 
 pub use command::{Request, request_of};
+pub use draw_run::run_draw;
 pub use fault::{Fault, status_of};
 pub use program::{exit_of_program, status_of_words};
 pub use runs::{run_check, run_report, run_solve};

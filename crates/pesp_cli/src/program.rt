@@ -3,6 +3,7 @@
 ghost use Rattle.pesp_cli.specs.Requests.{IsWithinLimits};
 
 use crate::command::{Request, request_of};
+use crate::draw_run::run_draw;
 use crate::fault::{Fault, status_of};
 use crate::runs::{run_check, run_report, run_solve};
 use crate::verdict::status_of_verdict;
@@ -63,8 +64,21 @@ fn answer<R: AllocGlobal + Input + Print + Files>(rt: &R, request: Request<'_>) 
     let mut writer = Counted::new(io::writer(rt));
     let mut reader = Counted::new(rt.reader());
     match request {
-        Request::Solve { period, steps } => {
+        Request::Solve {
+            period,
+            steps,
+            file: None,
+        } => {
             run_solve(rt.alloc(), &mut reader, &mut writer, period, steps)?;
+            Ok(0)
+        }
+        Request::Solve {
+            period,
+            steps,
+            file: Some(file),
+        } => {
+            let mut instance = Counted::new(opened(rt, file)?);
+            run_solve(rt.alloc(), &mut instance, &mut writer, period, steps)?;
             Ok(0)
         }
         Request::Check { period, file } => {
@@ -75,6 +89,18 @@ fn answer<R: AllocGlobal + Input + Print + Files>(rt: &R, request: Request<'_>) 
         Request::Report { period, file } => {
             let mut instance = Counted::new(opened(rt, file)?);
             run_report(rt.alloc(), &mut instance, &mut reader, &mut writer, period)?;
+            Ok(0)
+        }
+        Request::Draw { period, rows, file } => {
+            let mut instance = Counted::new(opened(rt, file)?);
+            run_draw(
+                rt.alloc(),
+                &mut instance,
+                &mut reader,
+                &mut writer,
+                period,
+                rows,
+            )?;
             Ok(0)
         }
     }

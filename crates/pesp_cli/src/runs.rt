@@ -25,11 +25,11 @@ use std::alloc::Global;
 const MOST_INSTANCE: usize = 16_777_216;
 
 /// How many bytes of a times text are read and judged.
-const MOST_TIMES: usize = 1_073_741_824;
+pub const MOST_TIMES: usize = 1_073_741_824;
 
 /// Reads an instance from all that the reader has; one byte more than the longest text is read, so that a longer one is
 /// refused.
-fn read_whole_instance<R: Source>(
+pub fn read_whole_instance<R: Source>(
     alloc: Global,
     reader: &mut R,
     period: u32,

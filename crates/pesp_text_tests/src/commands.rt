@@ -18,14 +18,28 @@ fn words_with_name(alloc: Global, line: &str) -> Option<Vec<String>> {
 pub(crate) fn ask_command(alloc: Global, line: &str) -> Option<String> {
     let words = words_with_name(alloc, line)?;
     match request_of(alloc, &words) {
-        Ok(Request::Solve { period, steps }) => {
-            format!(in alloc; "solve at period {period} in {steps} steps").ok()
-        }
+        Ok(
+            Request::Solve {
+                period,
+                steps,
+                file: None,
+            },
+        ) => format!(in alloc; "solve at period {period} in {steps} steps").ok(),
+        Ok(
+            Request::Solve {
+                period,
+                steps,
+                file: Some(file),
+            },
+        ) => format!(in alloc; "solve {file} at period {period} in {steps} steps").ok(),
         Ok(Request::Check { period, file }) => {
             format!(in alloc; "check {file} at period {period}").ok()
         }
         Ok(Request::Report { period, file }) => {
             format!(in alloc; "report {file} at period {period}").ok()
+        }
+        Ok(Request::Draw { period, rows, file }) => {
+            format!(in alloc; "draw {file} at period {period} in {rows} rows").ok()
         }
         Err(error) => {
             let kind = error.kind();

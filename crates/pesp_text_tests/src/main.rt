@@ -6,6 +6,7 @@ mod certificates;
 mod commands;
 mod devices;
 mod drain;
+mod drawings;
 mod feed;
 mod given;
 mod instances;

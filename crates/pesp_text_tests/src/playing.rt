@@ -2,6 +2,7 @@
 
 use crate::certificates::{ask_certificate, make_certificate};
 use crate::commands::ask_command;
+use crate::drawings::ask_draw;
 use crate::instances::{ask_instance, ask_score};
 use crate::pieces::is_piece;
 use crate::reports::{ask_report, ask_times};
@@ -44,6 +45,7 @@ fn answer_of(alloc: Global, lines: &[&str], word: &str, rest: &str) -> Option<St
         "solved" => ask_solved(alloc, lines, rest),
         "check" => ask_check(alloc, lines, rest),
         "report" => ask_run_report(alloc, lines),
+        "draw" => ask_draw(alloc, lines, rest),
         "command" => ask_command(alloc, rest),
         "read" => ask_instance(alloc, lines),
         "score" => ask_score(alloc, lines, rest),

@@ -1,0 +1,56 @@
+//! The run that draws.
+
+ghost use Rattle.std.specs.Prelude.{◌≡◌, ◌≢◌, ◌<◌, ◌≤◌, ◌^◌, OnOk, IfErr};
+ghost use Rattle.std.specs.Io.KnownBytes.{Appends};
+ghost use Rattle.pesp_stream.specs.Counts.{DeviceFailed};
+ghost use Rattle.pesp_cli.specs.Runs.{HasWorked, Draws, DrawCause};
+
+use crate::fault::Fault;
+use crate::runs::{MOST_TIMES, read_whole_instance};
+use pesp_draw::draw;
+use pesp_report::read_times;
+use pesp_stream::{Sink, Source, read_all};
+use std::alloc::Global;
+
+/// Reads an instance and then times for its events, and writes a picture of them in SVG with at most `rows` activities, the
+/// dearest ones, and at most `rows` events; the instance is judged before the times are read, and nothing is written where
+/// they are no timetable. What the picture shows is not promised.
+pub fn run_draw<R: Source, T: Source, W: Sink>(
+    alloc: Global,
+    instance_reader: &mut R,
+    times_reader: &mut T,
+    writer: &mut W,
+    period: u32,
+    rows: u32,
+) -> Result<(), Fault>
+    requires failed_reads { R.failed instance_reader.old < 2 ^ 62 }
+    requires interrupted_reads { R.interrupted instance_reader.old < 2 ^ 62 }
+    requires failed_times_reads { T.failed times_reader.old < 2 ^ 62 }
+    requires interrupted_times_reads { T.interrupted times_reader.old < 2 ^ 62 }
+    requires failed_writes { W.failed writer.old < 2 ^ 62 }
+    requires interrupted_writes { W.interrupted writer.old < 2 ^ 62 }
+    ensures ok { OnOk result (Draws (R.remaining instance_reader.old) (R.remaining instance_reader.new)
+        (T.remaining times_reader.old) (T.remaining times_reader.new) period
+        (Appends (W.contents writer.old) (W.contents writer.new))) }
+    ensures reads { OnOk result (HasWorked (R.failed instance_reader.old) (R.interrupted instance_reader.old)
+        (R.failed instance_reader.new) (R.interrupted instance_reader.new)) }
+    ensures times_reads { OnOk result (HasWorked (T.failed times_reader.old) (T.interrupted times_reader.old)
+        (T.failed times_reader.new) (T.interrupted times_reader.new)) }
+    ensures writes { OnOk result (HasWorked (W.failed writer.old) (W.interrupted writer.old)
+        (W.failed writer.new) (W.interrupted writer.new)) }
+    ensures cause { IfErr result (λ fault. DrawCause fault (R.remaining instance_reader.old) (R.remaining instance_reader.new)
+        (T.remaining times_reader.old) (T.remaining times_reader.new) period
+        (W.contents writer.old) (W.contents writer.new)
+        (DeviceFailed (R.failed instance_reader.old) (R.interrupted instance_reader.old) (R.failed instance_reader.new) (R.interrupted instance_reader.new))
+        (times_reader.new ≡ times_reader.old)
+        (DeviceFailed (T.failed times_reader.old) (T.interrupted times_reader.old) (T.failed times_reader.new) (T.interrupted times_reader.new))
+        (DeviceFailed (W.failed writer.old) (W.interrupted writer.old) (W.failed writer.new) (W.interrupted writer.new))) }
+    ensures silent { IfErr result (λ fault. fault ≢ Fault.Write → writer.new ≡ writer.old) }
+{
+    // The instance is judged before the times are read.
+    let instance = read_whole_instance(alloc, instance_reader, period)?;
+    let text = read_all(alloc, times_reader, MOST_TIMES)?;
+    let times = read_times(alloc, &instance, &text)?;
+    draw(alloc, &instance, &times, rows, writer)?;
+    Ok(())
+}

@@ -1,0 +1,74 @@
+//! Drawings.
+
+use crate::drain::drain_of;
+use crate::feed::feed_of;
+use crate::given::{device_of, period_of, text_of};
+use crate::telling::tell_fault;
+use pesp_cli::run_draw;
+use std::alloc::Global;
+
+/// What `draw` writes with so many rows.
+pub(crate) fn ask_draw(alloc: Global, lines: &[&str], rows: &str) -> Option<String> {
+    let instance = text_of(alloc, lines, "instance")?;
+    let input = text_of(alloc, lines, "input")?;
+    let mut first = feed_of(&instance, device_of(alloc, lines, "instance")?);
+    let mut second = feed_of(&input, device_of(alloc, lines, "input")?);
+    let mut writer = drain_of(alloc, device_of(alloc, lines, "output")?);
+    let answer = run_draw(
+        alloc,
+        &mut first,
+        &mut second,
+        &mut writer,
+        period_of(lines)?,
+        rows.parse().ok()?,
+    );
+    let taken = writer.into_inner().taken;
+    match answer {
+        Ok(()) => tell_picture(alloc, str::from_utf8(&taken).ok()?),
+        Err(fault) => tell_fault(alloc, &fault, &taken),
+    }
+}
+
+/// The bars of a picture in their order, how many events it has, and whether each element is closed.
+fn tell_picture(alloc: Global, picture: &str) -> Option<String> {
+    let mut told = String::from_str(alloc, "0").ok()?;
+    for rectangle in picture.split("<rect ").skip(1) {
+        let bar = tell_bar(alloc, rectangle)?;
+        told.push_str(bar.as_str()).ok()?;
+    }
+    let events = picture.split("<circle ").skip(2).count();
+    let closed = if is_closed(picture) { "closed" } else { "open" };
+    write!(told, " {events} events, {closed}").ok()?;
+    Some(told)
+}
+
+/// The class, the beginning and the length of a bar; nothing for a rectangle that is none.
+fn tell_bar(alloc: Global, rectangle: &str) -> Option<String> {
+    let mut words = rectangle.split("\"");
+    if words.next() == Some("class=") {
+        let class = words.next()?;
+        if words.next() == Some(" x=") {
+            let from = words.next()?;
+            let _name = words.next()?;
+            let length = words.next()?;
+            return format!(in alloc; " {class} {from} {length},").ok();
+        }
+    }
+    Some(String::new(alloc))
+}
+
+/// Whether as many elements end as begin, and none before it begins.
+fn is_closed(picture: &str) -> bool {
+    let mut depth: u64 = 0;
+    for tag in picture.split("<").skip(1) {
+        if tag.starts_with("/") {
+            if depth == 0 {
+                return false;
+            }
+            depth -= 1;
+        } else if !tag.contains("/>") {
+            depth = depth.saturating_add(1);
+        }
+    }
+    depth == 0
+}

@@ -1,6 +1,5 @@
 pub mod Sets
 pub mod Windows
 pub mod Visits
-pub mod Firsts
 pub mod Rounds
 pub mod Supports

@@ -1,1 +1,0 @@
--- What a visit of one row does to the sets at its ends.

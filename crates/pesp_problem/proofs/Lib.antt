@@ -9,3 +9,6 @@ pub mod Worked
 pub mod Counting
 pub mod Shifts
 pub mod Joined
+pub mod Remainders
+pub mod Differences
+pub mod Supporting

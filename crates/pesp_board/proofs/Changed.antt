@@ -9,7 +9,7 @@ use Rattle.pesp_problem.specs.declared.cut.Cut.{Cut}
 use Rattle.pesp_problem.specs.declared.cut.Side.{Side}
 use Rattle.pesp_problem.specs.declared.cut.Side.TheVariants.{Low, High}
 use Rattle.pesp_problem.specs.Nodes.{Node, part, low_part, high_part}
-use Rattle.pesp_truth.specs.Trees.{Leaf, Bound, Nothing, Gap}
+use Rattle.pesp_truth.specs.Trees.{Leaf, Bound, Shut}
 use Rattle.pesp_truth.specs.Paths.{along}
 use Rattle.pesp_nodes.specs.Problems.{ProblemValue}
 use Rattle.pesp_tree.specs.WorkTrees.{WorkTreeValue, path_to, leaf_at, with_leaf, with_branch}
@@ -34,15 +34,13 @@ new_worth p u n path (Bound pairs) (Some value) at is w e h =
       leaf = is;
       worth = subst (λ (q : List (Cut × Side)). option_map told (value_at p q pairs) ≡ Some value) (sym at) (ap (option_map told) w.1 ∙ sym w.2);
     })
-new_worth p u n path (Nothing pairs) (Some value) at is w e h = cc
-new_worth p u n path (Gap cycle) (Some value) at is w e h = cc
+new_worth p u n path (Shut reason) (Some value) at is w e h = cc
 
 -- and where the leaf is a bound leaf there is one
 new_has : (p : ProblemValue) (u : WorkTreeValue) (n : ℕ) (node : Node) (leaf : Leaf) (value : Option ℕ) (pairs : List Pair) → leaf_at u n ≡ Some leaf → IsWorthAt p node leaf value → leaf_at u n ≡ Some (Bound pairs) → HasItem (waits n value) n
 new_has p u n node (Bound own) None pairs is w e = let no = w.2 in cc
 new_has p u n node (Bound own) (Some value) pairs is w e = (value, held_first (entry n value) [])
-new_has p u n node (Nothing own) value pairs is w e = cc
-new_has p u n node (Gap cycle) value pairs is w e = cc
+new_has p u n node (Shut reason) value pairs is w e = cc
 
 pub leaf_changed : (p : ProblemValue) (t : WorkTreeValue) (node : ℕ) (leaf : Leaf) (value : Option ℕ) → IsSome (leaf_at t node) → IsWorthAt p (node_at p (path_to t node)) leaf value → IsChanged p t (with_leaf t node leaf) node (waits node value)
 leaf_changed p t node leaf value some w =

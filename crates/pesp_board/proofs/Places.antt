@@ -2,13 +2,11 @@
 use Rattle.std.proofs.Common.{◌≡◌, ℕ, List, [], sym, ap, ◌∙◌}
 use Rattle.std.specs.Prelude.{Option, Some, None}
 use Rattle.pesp_problem.specs.declared.pair.Pair.{Pair}
-use Rattle.pesp_truth.specs.Trees.{Leaf, Bound, Nothing, Gap}
+use Rattle.pesp_truth.specs.Trees.{Leaf, Bound, pairs_of_leaf}
 use Rattle.pesp_tree.specs.WorkTrees.{WorkTreeValue, leaf_at}
 
 abbrev pairs_of : Option Leaf → List Pair
-pairs_of (Some (Bound pairs)) = pairs
-pairs_of (Some (Nothing pairs)) = pairs
-pairs_of (Some (Gap cycle)) = []
+pairs_of (Some leaf) = pairs_of_leaf leaf
 pairs_of None = []
 
 -- a node has one bound leaf

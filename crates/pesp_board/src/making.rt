@@ -5,14 +5,14 @@ ghost use Rattle.pesp_problem.specs.declared.pair.Pair.{Pair};
 ghost use Rattle.pesp_problem.specs.Walks.{Names};
 ghost use Rattle.pesp_problem.specs.Nodes as spec;
 ghost use Rattle.pesp_problem.specs.Nodes.{part, offsets_left};
-ghost use Rattle.pesp_truth.specs.Trees.{Bound, Gap, CutExists, IsSoundLeaf};
+ghost use Rattle.pesp_truth.specs.Trees.{Bound, ByGap, CutExists};
 ghost use Rattle.pesp_network.specs.Networks.{KeepsNetLimits};
 ghost use Rattle.pesp_nodes.specs.Problems.{net_of, IsNodeOf, IsSmallTable, IsCutOf, ArePairs};
 ghost use Rattle.pesp_tree.specs.Leaves.{leaf_of};
 ghost use Rattle.pesp_machine.specs.declared.work.Work.TheVariants as works;
 ghost use Rattle.pesp_machine.specs.Leaves.{told};
 ghost use Rattle.pesp_machine.specs.States.{node_at};
-ghost use Rattle.pesp_machine.specs.Events.{Uses, Keeps, LeavesBoth};
+ghost use Rattle.pesp_machine.specs.Events.{Uses, Keeps, LeavesBoth, MayShut};
 ghost use Rattle.pesp_board.specs.Parts.{IsValued};
 ghost use Rattle.pesp_board.specs.Grafting.{IsReached};
 ghost use Rattle.pesp_board.specs.Giving.{AreCuts, HaveValue, MakesOf};
@@ -117,7 +117,7 @@ fn make_nothing(
 /// Whether a cycle exists and has no offset left at a node.
 pub(crate) fn is_gap(problem: &Problem, node: &Node, cycle: u32) -> bool
     requires { IsNodeOf problem.now node.now }
-    ensures { IsTrue result ↔ IsSoundLeaf (net_of problem.now) problem.now.table None (Gap cycle) node.now }
+    ensures { IsTrue result ↔ MayShut problem.now node.now (ByGap cycle) }
 {
     if cycle == 0 || cycle as usize > problem.table().len() {
         return false;

@@ -12,12 +12,12 @@ use Rattle.pesp_problem.specs.Walks.{AreRows, IsWalk}
 use Rattle.pesp_problem.specs.Nodes.{Node, root, low_part, high_part, cycle_at, leaf_value}
 use Rattle.pesp_truth.specs.declared.answer.Answer.{Answer}
 use Rattle.pesp_truth.specs.declared.answer.Answer.TheVariants.{Optimal, Infeasible, Bounded}
-use Rattle.pesp_truth.specs.Trees.{Tree, Ends, Branch, Leaf, Bound, Nothing, Gap, Line, EndLine, CutLine, preorder, CutExists, IsSound, AreSound, are_trees}
+use Rattle.pesp_truth.specs.Trees.{Tree, Ends, Branch, Leaf, Bound, Shut, Reason, ByPairs, ByGap, ByPropagation, Line, EndLine, CutLine, preorder, CutExists, IsShut, IsSound, AreSound, are_trees}
 use Rattle.pesp_truth.specs.Certificates.{Content, IsValid, ShowsAnswer, ShowsTimetable, shown_labels, shown_times, least_of, lines_of}
 use Rattle.pesp_truth.proofs.Lines.{whole_tree, one_tree, sound_as_tree}
 use Rattle.pesp_check.specs.declared.refusal.Refusal.{Refusal}
 use Rattle.pesp_check.specs.declared.refusal.Refusal.TheVariants.{OtherPeriod, Times, Violates, WrongCost, OpenWalk, NoSuch, LeafBelow, NotEmpty, NotAGap, BoundInInfeasible, AnswerShape}
-use Rattle.pesp_check.specs.Faults.{cost_of, HasShape, IsTimesFault, IsAnswerFault, IsFirstOpen, IsCycleFault, IsLeafFault, IsTreeFault, IsLaterFault, IsFirstFault, first_tree_line}
+use Rattle.pesp_check.specs.Faults.{cost_of, HasShape, IsTimesFault, IsAnswerFault, IsFirstOpen, IsCycleFault, IsReasonFault, IsLeafFault, IsTreeFault, IsLaterFault, IsFirstFault, first_tree_line}
 use Rattle.pesp_check.specs.Lines.{after, IsSoundLine, IsLineFault, IsLinesFault}
 
 -- ---- from lines to the tree
@@ -102,6 +102,13 @@ answer_fault p answer labels times refusal h (inr f) = times_fault p f.1.0 label
 cycle_fault : (arcs : List Arc) (cycles : List (List SignedRow)) (line : ℕ) (refusal : Refusal) → All (IsWalk arcs) cycles → IsCycleFault arcs cycles line refusal → ⊥
 cycle_fault arcs cycles line refusal h f = let first = f.1 in first.open_ends (h (f.0 - 1) [] (omega (arith, first.exists)))
 
+reason_fault : (n : Net) (table : List (List SignedRow)) (reason : Reason) (node : Node) (at : ℕ) (refusal : Refusal) → IsShut n table reason node → IsReasonFault n table reason node at refusal → ⊥
+reason_fault n table (ByPairs pairs) node at refusal h (inl f) = f.1 h.0
+reason_fault n table (ByPairs pairs) node at refusal h (inr f) = f.2 h.1
+reason_fault n table (ByGap cycle) node at refusal h (inl f) = f.1 h.0
+reason_fault n table (ByGap cycle) node at refusal h (inr f) = f.2 h.1
+reason_fault n table ByPropagation node at refusal h f = f
+
 leaf_fault : (n : Net) (table : List (List SignedRow)) (least : Option ℕ) (leaf : Leaf) (node : Node) (at : ℕ) (refusal : Refusal) → IsSound n table least (Ends leaf) node → IsLeafFault n table least leaf node at refusal → ⊥
 leaf_fault n table None (Bound pairs) node at refusal h f = h.1
 leaf_fault n table (Some c) (Bound pairs) node at refusal h (inl f) = f.1 h.0
@@ -111,10 +118,7 @@ leaf_fault n table (Some c) (Bound pairs) node at refusal h (inr (inr f)) =
     let same : c ≡ value.0 = cc in
     let P : ℕ → Type 0 = λ m. IsSomeAnd (leaf_value n table node pairs true) (λ v. pos m ≤ℤ v) in
     value.2 (subst P same h.1)
-leaf_fault n table least (Nothing pairs) node at refusal h (inl f) = f.1 h.0
-leaf_fault n table least (Nothing pairs) node at refusal h (inr f) = f.2 h.1
-leaf_fault n table least (Gap cycle) node at refusal h (inl f) = f.1 h.0
-leaf_fault n table least (Gap cycle) node at refusal h (inr f) = f.2 h.1
+leaf_fault n table least (Shut reason) node at refusal h f = reason_fault n table reason node at refusal h f
 
 tree_fault : (n : Net) (table : List (List SignedRow)) (least : Option ℕ) (tree : Tree) (node : Node) (at : ℕ) (refusal : Refusal) → IsSound n table least tree node → IsTreeFault n table least tree node at refusal → ⊥
 tree_fault n table least (Ends leaf) node at refusal h f = leaf_fault n table least leaf node at refusal h f

@@ -11,7 +11,7 @@ use Rattle.pesp_problem.specs.Walks.{Names, AreRows, IsWalk}
 use Rattle.pesp_problem.specs.Nodes.{Node, cycle_at, root, leaf_value, offsets_left, low_part, high_part}
 use Rattle.pesp_truth.specs.declared.answer.Answer.{Answer}
 use Rattle.pesp_truth.specs.declared.answer.Answer.TheVariants.{Optimal, Infeasible, Bounded}
-use Rattle.pesp_truth.specs.Trees.{Tree, Ends, Branch, Leaf, Bound, Nothing, Gap, Line, EndLine, CutLine, preorder, CutExists, PairsExist, IsSoundLeaf, IsSound}
+use Rattle.pesp_truth.specs.Trees.{Tree, Ends, Branch, Leaf, Bound, Shut, Reason, ByPairs, ByGap, ByPropagation, Line, EndLine, CutLine, preorder, CutExists, PairsExist, IsSoundLeaf, IsSound}
 use Rattle.pesp_truth.specs.Certificates.{Content, IsValid, ShowsAnswer, shown_labels, shown_times, least_of, lines_of}
 use Rattle.pesp_check.specs.declared.refusal.Refusal.{Refusal}
 use Rattle.pesp_check.specs.declared.refusal.Refusal.TheVariants.{OtherPeriod, Times, Violates, WrongCost, OpenWalk, NoSuch, LeafBelow, NotEmpty, NotAGap, BoundInInfeasible, AnswerShape}
@@ -76,16 +76,21 @@ IsCycleFault arcs cycles line refusal =
 
 -- ---- the tree
 
+-- what is wrong with a reason at a node; its leaf stands in this line. No line says that propagation shuts a leaf
+abbrev pub IsReasonFault : Net → List (List SignedRow) → Reason → Node → ℕ → Refusal → Type 0
+IsReasonFault n table (ByPairs pairs) node line refusal =
+    ((refusal ≡ NoSuch line) × (PairsExist table pairs → ⊥)) ⊎ ((refusal ≡ NotEmpty line) × PairsExist table pairs × (IsSomeAnd (leaf_value n table node pairs false) (λ v. pos 0 <ℤ v) → ⊥))
+IsReasonFault n table (ByGap cycle) node line refusal =
+    ((refusal ≡ NoSuch line) × (Names (length table) cycle → ⊥)) ⊎ ((refusal ≡ NotAGap line) × Names (length table) cycle × (IsNone (offsets_left n table node (cycle - 1)) → ⊥))
+IsReasonFault n table ByPropagation node line refusal = ⊥
+
 -- what is wrong with a leaf at a node; the leaf stands in this line
 abbrev pub IsLeafFault : Net → List (List SignedRow) → Option ℕ → Leaf → Node → ℕ → Refusal → Type 0
 IsLeafFault n table least (Bound pairs) node line refusal =
     ((refusal ≡ NoSuch line) × (PairsExist table pairs → ⊥))
     ⊎ ((refusal ≡ BoundInInfeasible line) × PairsExist table pairs × (least ≡ None))
     ⊎ ((refusal ≡ LeafBelow line) × PairsExist table pairs × ((c : ℕ) × (least ≡ Some c) × (IsSomeAnd (leaf_value n table node pairs true) (λ v. pos c ≤ℤ v) → ⊥)))
-IsLeafFault n table least (Nothing pairs) node line refusal =
-    ((refusal ≡ NoSuch line) × (PairsExist table pairs → ⊥)) ⊎ ((refusal ≡ NotEmpty line) × PairsExist table pairs × (IsSomeAnd (leaf_value n table node pairs false) (λ v. pos 0 <ℤ v) → ⊥))
-IsLeafFault n table least (Gap cycle) node line refusal =
-    ((refusal ≡ NoSuch line) × (Names (length table) cycle → ⊥)) ⊎ ((refusal ≡ NotAGap line) × Names (length table) cycle × (IsNone (offsets_left n table node (cycle - 1)) → ⊥))
+IsLeafFault n table least (Shut reason) node line refusal = IsReasonFault n table reason node line refusal
 
 -- the first fault of a tree at a node, in preorder; the tree's lines begin with this line
 abbrev pub IsTreeFault : Net → List (List SignedRow) → Option ℕ → Tree → Node → ℕ → Refusal → Type 0

@@ -10,7 +10,7 @@ use Rattle.pesp_problem.specs.declared.cut.Side.{Side}
 use Rattle.pesp_problem.specs.declared.cut.Side.TheVariants.{Low, High}
 use Rattle.pesp_problem.specs.Arcs.{Net}
 use Rattle.pesp_problem.specs.Nodes.{Node, leaf_value, low_part, high_part}
-use Rattle.pesp_truth.specs.Trees.{Tree, Ends, Branch, Bound, Nothing, Gap}
+use Rattle.pesp_truth.specs.Trees.{Tree, Ends, Branch, Bound, Shut}
 use Rattle.pesp_truth.specs.Paths.{along}
 use Rattle.pesp_truth.specs.Leaves.{IsLeafAt}
 use Rattle.pesp_machine.specs.Leaves.{HasValue, lesser, least_value}
@@ -49,8 +49,7 @@ high_value n table cut low high node v h = record { path = (cut, High) ∷ h.pat
 
 pub least_is_had : (n : Net) (table : List (List SignedRow)) (tree : Tree) (node : Node) (v : ℤ) → least_value n table tree node ≡ Some v → HasValue n table tree node v
 least_is_had n table (Ends (Bound pairs)) node v e = record { path = []; pairs = pairs; leaf = refl; worth = e }
-least_is_had n table (Ends (Nothing pairs)) node v e = cc
-least_is_had n table (Ends (Gap cycle)) node v e = cc
+least_is_had n table (Ends (Shut reason)) node v e = cc
 least_is_had n table (Branch cut low high) node v e =
     elim (lesser_is (least_value n table low (low_part node cut)) (least_value n table high (high_part node cut)) v e) [
       | inl first ↦ low_value n table cut low high node v (least_is_had n table low (low_part node cut) v first)

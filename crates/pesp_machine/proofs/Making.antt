@@ -49,12 +49,12 @@ value_is_some (Some u) v e = refl
 kept_leaf : (p : ProblemValue) (pairs : List Pair) (node : Node) (value : Option ℤ) → leaf_value (net_of p) p.table node pairs true ≡ value → (leaf : Leaf) × Keeps p pairs node leaf
 kept_leaf p pairs node None e =
     let gap = gap_of (net_of p) p.table node pairs (no_part _ (offset_part (net_of p) p.table node pairs) e) in
-    (Gap gap.0.cycle, ((gap.0, gap.1, refl), is_none _ gap.2))
+    (Gap gap.0.cycle, (gap.0.cycle, refl, (gap.0, gap.1, refl), is_none _ gap.2))
 kept_leaf p pairs node (Some v) e = (Bound pairs, (refl, value_is_some _ v e))
 
 made : (p : ProblemValue) (node : Node) (old : List Pair) (work : Work) → IsValidAt p node old work → (new : Tree) × Makes p node old work new
 made p node old (works.Leaf pairs) h = (Ends (Bound (better_pairs p node old pairs)), (h.0, h.1, refl))
-made p node old (works.Nothing pairs) h = (Ends (Nothing pairs), (h.0, h.1, refl))
+made p node old (works.Nothing pairs) h = (Ends (Nothing pairs), (h, refl))
 made p node old (works.Gap cycle) h = (Ends (Gap cycle), (h, refl))
 made p node old (works.Split cut) h =
     let first = kept_leaf p old (low_part node cut) _ refl in
@@ -64,7 +64,7 @@ made p node old (works.Tree lines) h = h
 
 valid : (p : ProblemValue) (node : Node) (old : List Pair) (work : Work) (new : Tree) → Makes p node old work new → IsValidAt p node old work
 valid p node old (works.Leaf pairs) new m = (m.0, m.1)
-valid p node old (works.Nothing pairs) new m = (m.0, m.1)
+valid p node old (works.Nothing pairs) new m = m.0
 valid p node old (works.Gap cycle) new m = m.0
 valid p node old (works.Split cut) new m = (m.exists, m.both)
 valid p node old (works.Tree lines) new m = (new, m)

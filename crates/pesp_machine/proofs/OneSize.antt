@@ -10,7 +10,7 @@ use Rattle.pesp_problem.specs.declared.cut.Side.TheVariants.{Low, High}
 use Rattle.pesp_problem.specs.Sums.{scaled}
 use Rattle.pesp_problem.specs.Arcs.{Net}
 use Rattle.pesp_problem.specs.Nodes.{Node, leaf_value, offset_part, offsets_left}
-use Rattle.pesp_truth.specs.Trees.{Tree, Leaf, Line, Ends, Branch, Bound, Nothing, Gap, EndLine, preorder}
+use Rattle.pesp_truth.specs.Trees.{Tree, Leaf, Line, Ends, Branch, Bound, Shut, Reason, EndLine, pairs_of_reason, pairs_of_leaf, preorder}
 use Rattle.pesp_nodes.specs.Problems.{ProblemValue, net_of}
 use Rattle.pesp_machine.specs.declared.work.Work.{Work}
 use Rattle.pesp_machine.specs.declared.work.Work.TheVariants as works
@@ -37,17 +37,12 @@ path_of (Lent path) = path
 path_of Given = []
 path_of Recalled = []
 
-abbrev pairs_of : Leaf → List Pair
-pairs_of (Bound pairs) = pairs
-pairs_of (Nothing pairs) = pairs
-pairs_of (Gap cycle) = []
-
 pub same_path : (state : State) (number : ℕ) (path path' : List (Cut × Side)) (pairs pairs' : List Pair) → HasLeaf state number path pairs → HasLeaf state number path' pairs' → path ≡ path'
 same_path state number path path' pairs pairs' h k = ap path_of (sym h.0 ∙ k.0)
 
 pub same_pairs : (state : State) (number : ℕ) (path path' : List (Cut × Side)) (pairs pairs' : List Pair) → HasLeaf state number path pairs → HasLeaf state number path' pairs' → pairs ≡ pairs'
 same_pairs state number path path' pairs pairs' h k =
-    ap pairs_of (leaf_is_one state.tree path (Bound pairs) (Bound pairs') h.1 (subst (λ x. IsLeafAt state.tree x (Bound pairs')) (sym (same_path state number path path' pairs pairs' h k)) k.1))
+    ap pairs_of_leaf (leaf_is_one state.tree path (Bound pairs) (Bound pairs') h.1 (subst (λ x. IsLeafAt state.tree x (Bound pairs')) (sym (same_path state number path path' pairs pairs' h k)) k.1))
 
 -- ---- a used cycle without offsets leaves no value
 
@@ -77,12 +72,9 @@ no_value_with_gap p pairs node cycle h used none =
 
 kept_same : (p : ProblemValue) (pairs : List Pair) (node : Node) (a b : Leaf) → Keeps p pairs node a → Keeps p pairs node b → pairs_in (EndLine a) ≡ pairs_in (EndLine b)
 kept_same p pairs node (Bound kept) (Bound other) h k = ap (λ (x : List Pair). length x) (h.0 ∙ sym k.0)
-kept_same p pairs node (Bound kept) (Gap cycle) h k = absurd (no_value_with_gap p pairs node cycle h.1 k.0 k.1)
-kept_same p pairs node (Gap cycle) (Bound kept) h k = absurd (no_value_with_gap p pairs node cycle k.1 h.0 h.1)
-kept_same p pairs node (Gap cycle) (Gap other) h k = refl
-kept_same p pairs node (Nothing others) b h k = absurd h
-kept_same p pairs node (Bound kept) (Nothing others) h k = absurd k
-kept_same p pairs node (Gap cycle) (Nothing others) h k = absurd k
+kept_same p pairs node (Bound kept) (Shut reason) h k = absurd (no_value_with_gap p pairs node k.0 h.1 k.2 k.3)
+kept_same p pairs node (Shut reason) (Bound kept) h k = absurd (no_value_with_gap p pairs node h.0 k.1 h.2 h.3)
+kept_same p pairs node (Shut reason) (Shut other) h k = ap (λ (r : Reason). length (pairs_of_reason r)) h.1 ∙ sym (ap (λ (r : Reason). length (pairs_of_reason r)) k.1)
 
 -- the two trees have as many lines, and as many pairs
 pub record AreOfOneSize (a b : Tree) : Type 0 where
@@ -97,7 +89,7 @@ split_size cut low high low' high' h k = record { lines = refl; pairs = omega (a
 
 pub made_same : (p : ProblemValue) (node : Node) (old : List Pair) (work : Work) (a b : Tree) → Makes p node old work a → Makes p node old work b → AreOfOneSize a b
 made_same p node old (works.Leaf pairs) a b h k = same_size a b (h.2 ∙ sym k.2)
-made_same p node old (works.Nothing pairs) a b h k = same_size a b (h.2 ∙ sym k.2)
+made_same p node old (works.Nothing pairs) a b h k = same_size a b (h.1 ∙ sym k.1)
 made_same p node old (works.Gap cycle) a b h k = same_size a b (h.1 ∙ sym k.1)
 made_same p node old (works.Split cut) a b h k =
     subst (λ x. AreOfOneSize x b) (sym h.tree) (subst (λ y. AreOfOneSize (Branch cut (Ends h.low) (Ends h.high)) y) (sym k.tree)

@@ -9,7 +9,7 @@ use Rattle.pesp_problem.specs.declared.cut.Side.{Side}
 use Rattle.pesp_problem.specs.declared.cut.Side.TheVariants.{Low, High}
 use Rattle.pesp_problem.specs.Walks.{Names}
 use Rattle.pesp_problem.specs.Nodes.{Node, leaf_value}
-use Rattle.pesp_truth.specs.Trees.{Tree, Leaf, Line, Ends, Branch, Bound, Nothing, Gap, EndLine, CutLine, preorder}
+use Rattle.pesp_truth.specs.Trees.{Tree, Leaf, Reason, Line, Ends, Branch, Bound, Shut, ByPairs, ByGap, EndLine, CutLine, preorder}
 use Rattle.pesp_network.specs.Networks.{KeepsNetLimits}
 use Rattle.pesp_nodes.specs.Problems.{ProblemValue, net_of, ArePairs, IsPairOf, IsSmallTable}
 use Rattle.pesp_nodes.proofs.Rising.{nothing_rises}
@@ -17,9 +17,9 @@ use Rattle.pesp_machine.specs.declared.work.Work.{Work}
 use Rattle.pesp_machine.specs.declared.work.Work.TheVariants as works
 use Rattle.pesp_truth.specs.Leaves.{IsLeafAt, put}
 use Rattle.pesp_truth.proofs.Paths.{along-push}
-use Rattle.pesp_machine.specs.Limits.{IsLineOf, KeepsTreeLimits}
+use Rattle.pesp_machine.specs.Limits.{IsReasonOf, IsLineOf, KeepsTreeLimits}
 use Rattle.pesp_machine.specs.States.{State, opening, root_of, node_at}
-use Rattle.pesp_machine.specs.Events.{Takes, Makes, Keeps, IsGraft, is_better, better_pairs}
+use Rattle.pesp_machine.specs.Events.{Takes, Makes, Shuts, Keeps, IsGraft, is_better, better_pairs}
 use Rattle.pesp_machine.proofs.Changes.{Change, Lends_leaf, Takes_work, Recalls_number, Keeps_times, Same}
 use Rattle.pesp_machine.proofs.Ranges.{cut_keeps_limits}
 
@@ -60,8 +60,9 @@ one_line P leaf h = All-cons P (EndLine leaf) [] h (All-nil P)
 
 kept_line : (p : ProblemValue) (pairs : List Pair) (node : Node) (leaf : Leaf) → ArePairs (length p.table) pairs → Keeps p pairs node leaf → IsLineOf p (EndLine leaf)
 kept_line p pairs node (Bound kept) h k = subst (λ x. ArePairs (length p.table) x) (sym k.0) h
-kept_line p pairs node (Nothing others) h k = absurd k
-kept_line p pairs node (Gap cycle) h k = subst (λ c. Names (length p.table) c) k.0.2 (All-contains (IsPairOf (length p.table)) pairs k.0.0 h.each k.0.1).names
+kept_line p pairs node (Shut reason) h k =
+    let used = k.2 in
+    subst (IsReasonOf p) (sym k.1) (subst (λ c. Names (length p.table) c) used.2 (All-contains (IsPairOf (length p.table)) pairs used.0 h.each used.1).names)
 
 either_pairs : (P : List Pair → Type 0) (b : Bool) (new old : List Pair) → P new → P old → P (if b then new else old)
 either_pairs P true new old h k = h
@@ -69,20 +70,22 @@ either_pairs P false new old h k = k
 
 pub graft_lines : (p : ProblemValue) (worth : Option ℤ) (tree : Tree) (path : List (Cut × Side)) → KeepsNetLimits p.network → IsSmallTable p.table → IsGraft p worth (node_at p path) tree → All (IsLineOf p) (preorder tree)
 graft_lines p worth (Ends (Bound pairs)) path limits small g = one_line (IsLineOf p) (Bound pairs) g.0
-graft_lines p worth (Ends (Nothing pairs)) path limits small g = one_line (IsLineOf p) (Nothing pairs) g.0
-graft_lines p worth (Ends (Gap cycle)) path limits small g = one_line (IsLineOf p) (Gap cycle) g.0
+graft_lines p worth (Ends (Shut reason)) path limits small g = one_line (IsLineOf p) (Shut reason) g.0
 graft_lines p worth (Branch cut low high) path limits small g =
     let first = graft_lines p worth low (path ++ (cut, Low) ∷ []) limits small (subst (λ (n : Node). IsGraft p worth n low) (sym (along-push (root_of p) path cut Low)) g.2) in
     let second = graft_lines p worth high (path ++ (cut, High) ∷ []) limits small (subst (λ (n : Node). IsGraft p worth n high) (sym (along-push (root_of p) path cut High)) g.3) in
     All-cons (IsLineOf p) (CutLine cut) (preorder low ++ preorder high) (cut_keeps_limits p path cut limits small g.0 g.1) (All-append (IsLineOf p) (preorder low) (preorder high) first second)
+
+shut_lines : (p : ProblemValue) (node : Node) (reason : Reason) (new : Tree) → Shuts p node reason new → All (IsLineOf p) (preorder new)
+shut_lines p node reason new m = subst (λ tree. All (IsLineOf p) (preorder tree)) (sym m.1) (one_line (IsLineOf p) (Shut reason) m.0.0)
 
 pub made_lines : (p : ProblemValue) (path : List (Cut × Side)) (old : List Pair) (work : Work) (new : Tree) → KeepsNetLimits p.network → IsSmallTable p.table → ArePairs (length p.table) old → Makes p (node_at p path) old work new → All (IsLineOf p) (preorder new)
 made_lines p path old (works.Leaf pairs) new limits small h m =
     let node = node_at p path in
     let worse = is_better (leaf_value (net_of p) p.table node old true) (leaf_value (net_of p) p.table node pairs true) in
     subst (λ tree. All (IsLineOf p) (preorder tree)) (sym m.2) (one_line (IsLineOf p) (Bound (better_pairs p node old pairs)) (either_pairs (ArePairs (length p.table)) worse pairs old m.0 h))
-made_lines p path old (works.Nothing pairs) new limits small h m = subst (λ tree. All (IsLineOf p) (preorder tree)) (sym m.2) (one_line (IsLineOf p) (Nothing pairs) m.0)
-made_lines p path old (works.Gap cycle) new limits small h m = subst (λ tree. All (IsLineOf p) (preorder tree)) (sym m.1) (one_line (IsLineOf p) (Gap cycle) m.0.0)
+made_lines p path old (works.Nothing pairs) new limits small h m = shut_lines p (node_at p path) (ByPairs pairs) new m
+made_lines p path old (works.Gap cycle) new limits small h m = shut_lines p (node_at p path) (ByGap cycle) new m
 made_lines p path old (works.Split cut) new limits small h m =
     subst (λ tree. All (IsLineOf p) (preorder tree)) (sym m.tree)
     (All-cons (IsLineOf p) (CutLine cut) (preorder (Ends m.low) ++ preorder (Ends m.high)) (cut_keeps_limits p path cut limits small m.exists m.both)

@@ -9,7 +9,7 @@ use Rattle.pesp_problem.specs.declared.cut.Side.{Side}
 use Rattle.pesp_problem.specs.declared.cut.Side.TheVariants.{Low, High}
 use Rattle.pesp_problem.specs.Arcs.{Net}
 use Rattle.pesp_problem.specs.Nodes.{Node, leaf_value, low_part, high_part}
-use Rattle.pesp_truth.specs.Trees.{Tree, Leaf, Ends, Branch, Bound, Nothing, Gap, IsSoundLeaf, IsSound}
+use Rattle.pesp_truth.specs.Trees.{Tree, Leaf, Ends, Branch, Bound, Shut, IsSoundLeaf, IsSound}
 use Rattle.pesp_truth.specs.Paths.{along}
 use Rattle.pesp_truth.specs.Leaves.{IsLeafAt, put}
 use Rattle.pesp_machine.specs.Leaves.{lesser, least_value}
@@ -92,16 +92,14 @@ value_of n table node pairs s = and_is (leaf_value n table node pairs true) (λ 
 
 pub not_negative : (n : Net) (table : List (List SignedRow)) (tree : Tree) (node : Node) → IsSound n table (Some 0) tree node → IsUnder (Some (pos 0)) (least_value n table tree node)
 not_negative n table (Ends (Bound pairs)) node s = let value = value_of n table node pairs s in rw (value.1) (value.2)
-not_negative n table (Ends (Nothing pairs)) node s = tt
-not_negative n table (Ends (Gap cycle)) node s = tt
+not_negative n table (Ends (Shut reason)) node s = tt
 not_negative n table (Branch cut low high) node s = under_lesser (Some (pos 0)) _ _ (not_negative n table low (low_part node cut) s.1) (not_negative n table high (high_part node cut) s.2)
 
 pub sound_for : (n : Net) (table : List (List SignedRow)) (least : ℕ) (tree : Tree) (node : Node) → IsSound n table (Some 0) tree node → IsUnder (Some (pos least)) (least_value n table tree node) → IsSound n table (Some least) tree node
 sound_for n table least (Ends (Bound pairs)) node s u =
     let value = value_of n table node pairs s in
     (s.0, rw (value.1) (let under : pos least ≤ℤ value.0 = rw (value.1) at u in under))
-sound_for n table least (Ends (Nothing pairs)) node s u = s
-sound_for n table least (Ends (Gap cycle)) node s u = s
+sound_for n table least (Ends (Shut reason)) node s u = s
 sound_for n table least (Branch cut low high) node s u =
     let each = lesser_under (Some (pos least)) _ _ u in
     (s.0, sound_for n table least low (low_part node cut) s.1 each.0, sound_for n table least high (high_part node cut) s.2 each.1)
@@ -113,8 +111,7 @@ no_lesser (Some a) (Some b) h = cc
 
 pub sound_without : (n : Net) (table : List (List SignedRow)) (tree : Tree) (node : Node) → IsSound n table (Some 0) tree node → least_value n table tree node ≡ None → IsSound n table None tree node
 sound_without n table (Ends (Bound pairs)) node s e = let value = value_of n table node pairs s in cc
-sound_without n table (Ends (Nothing pairs)) node s e = s
-sound_without n table (Ends (Gap cycle)) node s e = s
+sound_without n table (Ends (Shut reason)) node s e = s
 sound_without n table (Branch cut low high) node s e =
     let each = no_lesser (least_value n table low (low_part node cut)) (least_value n table high (high_part node cut)) e in
     (s.0, sound_without n table low (low_part node cut) s.1 each.0, sound_without n table high (high_part node cut) s.2 each.1)

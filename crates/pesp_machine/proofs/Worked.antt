@@ -143,7 +143,7 @@ low_pairs : Makes aside (node_at aside at_low) [] (works.Leaf minus_pair) (Ends 
 low_pairs = (one_pair (negsuc 0) (record { names = (omega arith, omega arith); some = omega arith; most = omega arith }), refl, refl)
 
 no_gap : (part : Tree) → Makes aside (node_at aside at_high) [] (works.Gap 1) part → ⊥
-no_gap part m = cc (m.0.1)
+no_gap part m = cc (m.0.1.1)
 
 -- the other sign is worth less at the high part, where the leaf keeps what it had
 keeps_better : Makes aside (node_at aside at_high) plus_pair (works.Leaf minus_pair) (Ends (Bound plus_pair))

@@ -10,12 +10,12 @@ use Rattle.pesp_problem.specs.declared.cut.Side.{Side}
 use Rattle.pesp_problem.specs.declared.cut.Side.TheVariants.{Low, High}
 use Rattle.pesp_problem.specs.Walks.{Names}
 use Rattle.pesp_problem.specs.Nodes.{Node, leaf_value, part, low_part, high_part}
-use Rattle.pesp_truth.specs.Trees.{Tree, Leaf, Ends, Branch, Bound, Nothing, Gap, IsSoundLeaf, IsSound, PairsExist}
+use Rattle.pesp_truth.specs.Trees.{Tree, Leaf, Reason, Ends, Branch, Bound, Shut, ByPairs, ByGap, IsShut, IsSoundLeaf, IsSound, PairsExist}
 use Rattle.pesp_nodes.specs.Problems.{ProblemValue, net_of, ArePairs}
 use Rattle.pesp_machine.specs.declared.work.Work.{Work}
 use Rattle.pesp_machine.specs.declared.work.Work.TheVariants as works
 use Rattle.pesp_machine.specs.Leaves.{least_value}
-use Rattle.pesp_machine.specs.Events.{Makes, Splits, Uses, Keeps, LeavesBoth, IsGraft, is_better}
+use Rattle.pesp_machine.specs.Events.{Makes, Shuts, MayShut, Splits, Uses, Keeps, LeavesBoth, IsGraft, is_better}
 use Rattle.pesp_machine.proofs.Parts.{parts_shrink, leaf_value_shrinks}
 use Rattle.pesp_machine.proofs.Trees.{IsUnder, under_lesser, value_of, and_is}
 
@@ -47,8 +47,8 @@ keeps_follows p node old (Bound kept) w h e is k cut side both keeps =
     let was = leaf_value_shrinks (net_of p) p.table node (part node cut side) old true value.0 h (parts_shrink node cut side both) (value.1) in
     let same : w ≡ was.0 = cc in
     subst (λ x. Follows p (part node cut side) (Some w) (Ends (Bound x))) (sym (keeps.0)) (bound_follows p (part node cut side) old value.0 w e value.1 k (rw same (was.2)))
-keeps_follows p node old (Nothing others) w h e is k cut side both keeps = absurd keeps
-keeps_follows p node old (Gap cycle) w h e is k cut side both keeps = record { sound = (cycle_exists p.table old cycle e keeps.0, keeps.1); under = tt }
+keeps_follows p node old (Shut reason) w h e is k cut side both keeps =
+    record { sound = subst (λ (r : Reason). IsShut (net_of p) p.table r (part node cut side)) (sym keeps.1) (cycle_exists p.table old keeps.0 e keeps.2, keeps.3); under = tt }
 
 better_is : (a b : Option ℤ) (w v : ℤ) → a ≡ Some w → b ≡ Some v → is_better a b ≡ int_lt w v
 better_is a b w v e f = rw (e, f) refl
@@ -74,8 +74,7 @@ graft_follows : (p : ProblemValue) (w : ℤ) (tree : Tree) (node : Node) → pos
 graft_follows p w (Ends (Bound pairs)) node k g =
     let value = and_is (leaf_value (net_of p) p.table node pairs true) (λ v. w ≤ℤ v) g.1 in
     bound_follows p node pairs value.0 w (pairs_exist p.table pairs g.0) value.1 k value.2
-graft_follows p w (Ends (Nothing pairs)) node k g = record { sound = g.1; under = tt }
-graft_follows p w (Ends (Gap cycle)) node k g = record { sound = g; under = tt }
+graft_follows p w (Ends (Shut reason)) node k g = record { sound = g.1; under = tt }
 graft_follows p w (Branch cut low high) node k g =
     let first = graft_follows p w low (low_part node cut) k g.2 in
     let second = graft_follows p w high (high_part node cut) k g.3 in
@@ -84,14 +83,17 @@ graft_follows p w (Branch cut low high) node k g =
       under = under_lesser (Some w) _ _ first.under second.under;
     }
 
+shut_follows : (p : ProblemValue) (node : Node) (w : ℤ) (reason : Reason) (new : Tree) → Shuts p node reason new → Follows p node (Some w) new
+shut_follows p node w reason new m = as_made p node (Some w) (Ends (Shut reason)) new m.1 (record { sound = m.0.1; under = tt })
+
 made_follows : (p : ProblemValue) (node : Node) (old : List Pair) (work : Work) (new : Tree) (w : ℤ) → 0 < (net_of p).period → Makes p node old work new → PairsExist p.table old → leaf_value (net_of p) p.table node old true ≡ Some w → pos 0 ≤ℤ w → Follows p node (Some w) new
 made_follows p node old (works.Leaf pairs) new w h m e is k =
     let value = some_is (leaf_value (net_of p) p.table node pairs true) (m.1) in
     let better = better_follows p node old pairs w value.0 e (pairs_exist p.table pairs m.0) is k value.1 (int_lt w value.0) refl in
     as_made p node (Some w) (Ends (Bound (if int_lt w value.0 then pairs else old))) new
     (m.2 ∙ ap (λ (b : Bool). Ends (Bound (if b then pairs else old))) (better_is (leaf_value (net_of p) p.table node old true) (leaf_value (net_of p) p.table node pairs true) w value.0 is value.1)) better
-made_follows p node old (works.Nothing pairs) new w h m e is k = as_made p node (Some w) (Ends (Nothing pairs)) new m.2 (record { sound = m.1; under = tt })
-made_follows p node old (works.Gap cycle) new w h m e is k = as_made p node (Some w) (Ends (Gap cycle)) new m.1 (record { sound = m.0; under = tt })
+made_follows p node old (works.Nothing pairs) new w h m e is k = shut_follows p node w (ByPairs pairs) new m
+made_follows p node old (works.Gap cycle) new w h m e is k = shut_follows p node w (ByGap cycle) new m
 made_follows p node old (works.Split cut) new w h m e is k = splits_follow p node old cut new w h m e is k
 made_follows p node old (works.Tree lines) new w h m e is k = graft_follows p w new node k (subst (λ worth. IsGraft p worth node new) is m.1)
 

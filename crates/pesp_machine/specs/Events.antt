@@ -6,7 +6,7 @@ use Rattle.pesp_problem.specs.declared.cut.Cut.TheVariants.{Slack, Offset}
 use Rattle.pesp_problem.specs.declared.cut.Side.{Side}
 use Rattle.pesp_problem.specs.NetTimetables.{IsNetTimetable, net_cost}
 use Rattle.pesp_problem.specs.Nodes.{Node, leaf_value, offsets_left, slack_range, offset_range, low_part, high_part}
-use Rattle.pesp_truth.specs.Trees.{Tree, Leaf, Ends, Branch, Bound, Nothing, Gap, CutExists, IsSoundLeaf, preorder}
+use Rattle.pesp_truth.specs.Trees.{Tree, Leaf, Reason, Ends, Branch, Bound, Shut, ByPairs, ByGap, CutExists, IsShut, preorder}
 use Rattle.pesp_truth.specs.declared.tree.TreeLine.{TreeLine}
 use Rattle.pesp_truth.specs.Certificates.{line_of}
 use Rattle.pesp_nodes.specs.Problems.{ProblemValue, net_of, ArePairs}
@@ -18,7 +18,7 @@ use Rattle.pesp_machine.specs.declared.refusal.LendRefusal.TheVariants as lendin
 use Rattle.pesp_machine.specs.declared.refusal.GiveRefusal.{GiveRefusal}
 use Rattle.pesp_machine.specs.declared.refusal.GiveRefusal.TheVariants.{UnknownJob, AlreadyGiven, NotValid, Memory, TooLarge}
 use Rattle.pesp_truth.specs.Leaves.{put}
-use Rattle.pesp_machine.specs.Limits.{IsSmallTree}
+use Rattle.pesp_machine.specs.Limits.{IsSmallTree, IsReasonOf}
 use Rattle.pesp_machine.specs.States.{State, Lent, Given, Recalled, ticket, IsLentNumber, HasLeaf, IsOpen, node_at, best_cost}
 
 -- ---- lend
@@ -58,11 +58,10 @@ better_pairs p node old new = if is_better (leaf_value (net_of p) p.table node o
 abbrev pub Uses : List Pair → ℕ → Type 0
 Uses pairs cycle = (pair : Pair) × Contains pairs pair × (pair.cycle ≡ cycle)
 
--- at a part of a split the pairs are kept, or there is a gap where one of their cycles has no offset left
+-- at a part of a split the pairs are kept, or it is shut by one of their cycles that has no offset left
 abbrev pub Keeps : ProblemValue → List Pair → Node → Leaf → Type 0
 Keeps p pairs node (Bound kept) = (kept ≡ pairs) × IsSome (leaf_value (net_of p) p.table node pairs true)
-Keeps p pairs node (Nothing others) = ⊥
-Keeps p pairs node (Gap cycle) = Uses pairs cycle × IsNone (offsets_left (net_of p) p.table node (cycle - 1))
+Keeps p pairs node (Shut reason) = (cycle : ℕ) × (reason ≡ ByGap cycle) × Uses pairs cycle × IsNone (offsets_left (net_of p) p.table node (cycle - 1))
 
 -- a cut makes a branch with two leaves of a leaf with these pairs
 pub record Splits (p : ProblemValue) (node : Node) (pairs : List Pair) (cut : Cut) (new : Tree) : Type 0 where
@@ -74,32 +73,39 @@ pub record Splits (p : ProblemValue) (node : Node) (pairs : List Pair) (cut : Cu
   pub keeps_high : Keeps p pairs (high_part node cut) high
   pub tree : new ≡ Branch cut (Ends low) (Ends high)
 
--- a tree may stand at a node in the place of a bound leaf that is worth so much: its cuts leave both sides a value, its nothing
--- leaves and gap leaves are sound at their nodes, and its bound leaves have a value there that isn't below that worth
+-- a reason may shut a node: its pairs rise and keep their limits, what it names exists, and it holds there
+abbrev pub MayShut : ProblemValue → Node → Reason → Type 0
+MayShut p node reason = IsReasonOf p reason × IsShut (net_of p) p.table reason node
+
+-- a tree may stand at a node in the place of a bound leaf that is worth so much: its cuts leave both sides a value, its leaves
+-- that are shut are so at their nodes, and its bound leaves have a value there that isn't below that worth
 abbrev pub IsGraft : ProblemValue → Option ℤ → Node → Tree → Type 0
 IsGraft p worth node (Ends (Bound pairs)) = ArePairs (length p.table) pairs × IsSomeAnd (leaf_value (net_of p) p.table node pairs true) (λ v. IfSome worth (λ w. w ≤ℤ v))
-IsGraft p worth node (Ends (Nothing pairs)) = ArePairs (length p.table) pairs × IsSoundLeaf (net_of p) p.table None (Nothing pairs) node
-IsGraft p worth node (Ends (Gap cycle)) = IsSoundLeaf (net_of p) p.table None (Gap cycle) node
+IsGraft p worth node (Ends (Shut reason)) = MayShut p node reason
 IsGraft p worth node (Branch cut low high) = CutExists (net_of p) p.table cut × LeavesBoth node cut × IsGraft p worth (low_part node cut) low × IsGraft p worth (high_part node cut) high
 
 -- the lines are a tree that may stand in the place of a bound leaf with these pairs
 abbrev pub Grafts : ProblemValue → Node → List Pair → List TreeLine → Tree → Type 0
 Grafts p node old lines new = (preorder new ≡ map line_of lines) × IsGraft p (leaf_value (net_of p) p.table node old true) node new
 
+-- a leaf that a reason shuts
+abbrev pub Shuts : ProblemValue → Node → Reason → Tree → Type 0
+Shuts p node reason new = MayShut p node reason × (new ≡ Ends (Shut reason))
+
 -- what a work makes of a bound leaf with these pairs at a node: pairs that rise, keep their limits and have a value there;
--- a nothing leaf or a gap leaf that is sound there; a split; or a whole tree
+-- a leaf that a reason shuts; a split; or a whole tree
 abbrev pub Makes : ProblemValue → Node → List Pair → Work → Tree → Type 0
 Makes p node old (works.Leaf pairs) new = ArePairs (length p.table) pairs × IsSome (leaf_value (net_of p) p.table node pairs true) × (new ≡ Ends (Bound (better_pairs p node old pairs)))
-Makes p node old (works.Nothing pairs) new = ArePairs (length p.table) pairs × IsSoundLeaf (net_of p) p.table None (Nothing pairs) node × (new ≡ Ends (Nothing pairs))
-Makes p node old (works.Gap cycle) new = IsSoundLeaf (net_of p) p.table None (Gap cycle) node × (new ≡ Ends (Gap cycle))
+Makes p node old (works.Nothing pairs) new = Shuts p node (ByPairs pairs) new
+Makes p node old (works.Gap cycle) new = Shuts p node (ByGap cycle) new
 Makes p node old (works.Split cut) new = Splits p node old cut new
 Makes p node old (works.Tree lines) new = Grafts p node old lines.items new
 
 -- what a work has to be to make something of a bound leaf with these pairs at a node
 abbrev pub IsValidAt : ProblemValue → Node → List Pair → Work → Type 0
 IsValidAt p node old (works.Leaf pairs) = ArePairs (length p.table) pairs × IsSome (leaf_value (net_of p) p.table node pairs true)
-IsValidAt p node old (works.Nothing pairs) = ArePairs (length p.table) pairs × IsSoundLeaf (net_of p) p.table None (Nothing pairs) node
-IsValidAt p node old (works.Gap cycle) = IsSoundLeaf (net_of p) p.table None (Gap cycle) node
+IsValidAt p node old (works.Nothing pairs) = MayShut p node (ByPairs pairs)
+IsValidAt p node old (works.Gap cycle) = MayShut p node (ByGap cycle)
 IsValidAt p node old (works.Split cut) = CutExists (net_of p) p.table cut × LeavesBoth node cut
 IsValidAt p node old (works.Tree lines) = (tree : Tree) × Grafts p node old lines.items tree
 

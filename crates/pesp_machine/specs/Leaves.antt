@@ -7,7 +7,7 @@ use Rattle.pesp_problem.specs.declared.cut.Cut.{Cut}
 use Rattle.pesp_problem.specs.declared.cut.Side.{Side}
 use Rattle.pesp_problem.specs.Arcs.{Net}
 use Rattle.pesp_problem.specs.Nodes.{Node, leaf_value, low_part, high_part}
-use Rattle.pesp_truth.specs.Trees.{Tree, Ends, Branch, Bound, Nothing, Gap}
+use Rattle.pesp_truth.specs.Trees.{Tree, Ends, Branch, Bound, Shut}
 use Rattle.pesp_truth.specs.Paths.{along}
 use Rattle.pesp_truth.specs.Leaves.{IsLeafAt}
 
@@ -27,8 +27,7 @@ lesser (Some a) (Some b) = Some (int_min a b)
 -- the least value of a bound leaf of a tree that stands at a node, none where there is no bound leaf
 abbrev pub least_value : Net → List (List SignedRow) → Tree → Node → Option ℤ
 least_value n table (Ends (Bound pairs)) node = leaf_value n table node pairs true
-least_value n table (Ends (Nothing pairs)) node = None
-least_value n table (Ends (Gap cycle)) node = None
+least_value n table (Ends (Shut reason)) node = None
 least_value n table (Branch cut low high) node = lesser (least_value n table low (low_part node cut)) (least_value n table high (high_part node cut))
 
 -- a value as it is told: one above 999999999999999999 as that number; no bound leaf of a board has one below 0

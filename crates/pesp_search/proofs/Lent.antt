@@ -50,7 +50,7 @@ handed p used state job work l one valid = record {
 }
 
 pub handed_gap : (p : ProblemValue) (used : ℕ) (state : State) (job : Job) (cycle : ℕ) → IsJustLent p used state job → IsSoundLeaf (net_of p) p.table None (Gap cycle) (node_at p job.path.items) → IsHandedIn p state job (works.Gap cycle) used
-handed_gap p used state job cycle l gap = handed p used state job (works.Gap cycle) l (omega arith) gap
+handed_gap p used state job cycle l gap = handed p used state job (works.Gap cycle) l (omega arith) (gap.0, gap)
 
 -- the pairs that are told of the leaf are those with which it was lent
 told_pairs : (p : ProblemValue) (used : ℕ) (state : State) (job : Job) (value : ℕ) (start : List Pair) (l : IsJustLent p used state job) → IsJobLeaf p state job.number value start → l.lends.opens.pairs ≡ start

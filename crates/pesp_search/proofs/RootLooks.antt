@@ -70,7 +70,7 @@ is_some None v e = cc
 is_some (Some w) v e = refl
 
 valid_work : (p : ProblemValue) (node : Node) (old : List Pair) (leaf : Found) → IsLeafOf p node leaf → IsValidAt p node old (work_of leaf)
-valid_work p node old (Gap cycle) l = (l.0, is_none _ l.1)
+valid_work p node old (Gap cycle) l = (l.0, (l.0, is_none _ l.1))
 valid_work p node old (Nothing pairs) l = (l.1, (pairs_exist p.table pairs l.1, l.2))
 valid_work p node old (Bound pairs value) l = (l.1, is_some _ value l.2)
 
@@ -173,7 +173,7 @@ found_at_root p q r s root start view leaf e f g at v best found no_less = recor
 
 bound_root : (p : ProblemValue) (old mid new : State) (job : Job) (leaf : Found) → old ≡ opening → IsLentFrom p 0 old mid job → IsFoundAtRoot p leaf → Takes p mid job.number (work_of leaf) new → IsRootBound p new
 bound_root p old mid new job (Gap cycle) e l f t = closed_bound p new (GapLeaf cycle) (gone p old mid new job (works.Gap cycle) (GapLeaf cycle) e l.lends t t.makes.1) refl
-bound_root p old mid new job (Nothing pairs) e l f t = closed_bound p new (NothingLeaf pairs) (gone p old mid new job (works.Nothing pairs) (NothingLeaf pairs) e l.lends t t.makes.2) refl
+bound_root p old mid new job (Nothing pairs) e l f t = closed_bound p new (NothingLeaf pairs) (gone p old mid new job (works.Nothing pairs) (NothingLeaf pairs) e l.lends t t.makes.1) refl
 bound_root p old mid new job (Bound pairs value) e l f t = λ bound h others single.
     (let set = root_sets_least p old mid new job [] pairs value (let some = l.limits.some_period in omega (arith, some)) l.worked.orderly (ap (λ (s : State). s.tree) e) l.lends t f.found.2 in
     let at_least : told value ≤ bound = at_most_trans (Some (told value)) (least p new) (Some bound) set h in

@@ -5,4 +5,5 @@ pub mod Paths
 pub mod Certificates
 pub mod Worked
 pub mod Opening
+pub mod Events
 pub mod Leaves

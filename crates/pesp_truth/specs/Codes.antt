@@ -1,21 +1,21 @@
 -- How proofs store a tree, its leaves and the steps of a path, so that they can tell values apart: each type by a code that
 -- gives it back. A tree, which holds trees, is stored as its lines in preorder.
-use Rattle.std.specs.Prelude.{◌≡◌, ℕ, zero, suc, List, [], ◌∷◌, ◌++◌, ℤ, refl}
-use Rattle.std.specs.Coded.{Coded, code_by, coded×, coded⊎, coded_ℕ, coded_ℤ, coded_list}
+use Rattle.std.specs.Prelude.{◌≡◌, ℕ, zero, suc, List, [], ◌∷◌, ◌++◌, ℤ, Option, Some, None, refl}
+use Rattle.std.specs.Coded.{Coded, code_by, coded×, coded⊎, coded_ℕ, coded_ℤ, coded_list, coded_option}
 use Rattle.std.proofs.Common.{◌⊎◌, inl, inr, append_assoc, append-nil, ap, sym, ◌∙◌}
 use Rattle.pesp_problem.specs.declared.pair.Pair.{Pair}
 use Rattle.pesp_problem.specs.declared.cut.Cut.{Cut}
 use Rattle.pesp_problem.specs.declared.cut.Cut.TheVariants.{Slack, Offset}
 use Rattle.pesp_problem.specs.declared.cut.Side.{Side}
 use Rattle.pesp_problem.specs.declared.cut.Side.TheVariants.{Low, High}
-use Rattle.pesp_truth.specs.Trees.{Tree, Leaf, Line, Ends, Branch, Bound, Nothing, Gap, EndLine, CutLine, preorder}
+use Rattle.pesp_truth.specs.Trees.{Tree, Leaf, Reason, Line, Ends, Branch, Bound, Shut, ByPairs, ByGap, ByPropagation, Gap, EndLine, CutLine, preorder}
 
 -- ---- trees
 
 abbrev pub pair_code : Coded Pair
 pair_code = code_by (ℕ × ℤ) (coded× coded_ℕ coded_ℤ) (λ p. (p.cycle, p.mult)) (λ x. record { cycle = x.0; mult = x.1 }) (λ _. refl)
 
--- cuts, leaves and lines, each as a sum of its cases
+-- cuts, reasons, leaves and lines, each as a sum of its cases
 abbrev pub cut_to : Cut → (ℕ × ℕ) ⊎ (ℕ × ℤ)
 cut_to (Slack row k) = inl (row, k)
 cut_to (Offset cycle k) = inr (cycle, k)
@@ -31,23 +31,38 @@ cut_back (Offset cycle k) = refl
 abbrev pub cut_code : Coded Cut
 cut_code = code_by ((ℕ × ℕ) ⊎ (ℕ × ℤ)) (coded⊎ (coded× coded_ℕ coded_ℕ) (coded× coded_ℕ coded_ℤ)) cut_to cut_from cut_back
 
-abbrev pub leaf_to : Leaf → (List Pair ⊎ List Pair) ⊎ ℕ
-leaf_to (Bound pairs) = inl (inl pairs)
-leaf_to (Nothing pairs) = inl (inr pairs)
-leaf_to (Gap cycle) = inr cycle
+abbrev pub reason_to : Reason → List Pair ⊎ Option ℕ
+reason_to (ByPairs pairs) = inl pairs
+reason_to (ByGap cycle) = inr (Some cycle)
+reason_to ByPropagation = inr None
 
-abbrev pub leaf_from : (List Pair ⊎ List Pair) ⊎ ℕ → Leaf
-leaf_from (inl (inl pairs)) = Bound pairs
-leaf_from (inl (inr pairs)) = Nothing pairs
-leaf_from (inr cycle) = Gap cycle
+abbrev pub reason_from : List Pair ⊎ Option ℕ → Reason
+reason_from (inl pairs) = ByPairs pairs
+reason_from (inr (Some cycle)) = ByGap cycle
+reason_from (inr None) = ByPropagation
+
+abbrev pub reason_back : (reason : Reason) → reason_from (reason_to reason) ≡ reason
+reason_back (ByPairs pairs) = refl
+reason_back (ByGap cycle) = refl
+reason_back ByPropagation = refl
+
+abbrev pub reason_code : Coded Reason
+reason_code = code_by (List Pair ⊎ Option ℕ) (coded⊎ (coded_list pair_code) (coded_option coded_ℕ)) reason_to reason_from reason_back
+
+abbrev pub leaf_to : Leaf → List Pair ⊎ Reason
+leaf_to (Bound pairs) = inl pairs
+leaf_to (Shut reason) = inr reason
+
+abbrev pub leaf_from : List Pair ⊎ Reason → Leaf
+leaf_from (inl pairs) = Bound pairs
+leaf_from (inr reason) = Shut reason
 
 abbrev pub leaf_back : (leaf : Leaf) → leaf_from (leaf_to leaf) ≡ leaf
 leaf_back (Bound pairs) = refl
-leaf_back (Nothing pairs) = refl
-leaf_back (Gap cycle) = refl
+leaf_back (Shut reason) = refl
 
 abbrev pub leaf_code : Coded Leaf
-leaf_code = code_by ((List Pair ⊎ List Pair) ⊎ ℕ) (coded⊎ (coded⊎ (coded_list pair_code) (coded_list pair_code)) coded_ℕ) leaf_to leaf_from leaf_back
+leaf_code = code_by (List Pair ⊎ Reason) (coded⊎ (coded_list pair_code) reason_code) leaf_to leaf_from leaf_back
 
 abbrev pub line_to : Line → Leaf ⊎ Cut
 line_to (EndLine leaf) = inl leaf

@@ -7,12 +7,37 @@ use Rattle.pesp_problem.specs.declared.cut.Cut.TheVariants.{Slack, Offset}
 use Rattle.pesp_problem.specs.Arcs.{Net}
 use Rattle.pesp_problem.specs.Walks.{Names}
 use Rattle.pesp_problem.specs.Nodes.{Node, leaf_value, offsets_left, low_part, high_part}
+use Rattle.pesp_problem.specs.Families.{NoFamilyIsSupported}
 
--- the end of a way through a tree: a bound by pairs, pairs that show that nothing lies there, or a cycle with no offset left
+-- why no timetable lies in a node: by pairs, by a cycle with no offset left, or because the rows support no family
+pub data Reason : Type 0 where
+  ByPairs : List Pair → Reason
+  ByGap : ℕ → Reason
+  ByPropagation : Reason
+
+-- the end of a way through a tree: a bound by pairs, or shut for a reason
 pub data Leaf : Type 0 where
   Bound : List Pair → Leaf
-  Nothing : List Pair → Leaf
-  Gap : ℕ → Leaf
+  Shut : Reason → Leaf
+
+-- shut by pairs
+abbrev pub Nothing : List Pair → Leaf
+Nothing pairs = Shut (ByPairs pairs)
+
+-- shut by a cycle
+abbrev pub Gap : ℕ → Leaf
+Gap cycle = Shut (ByGap cycle)
+
+-- the pairs of a reason, none where it has none
+abbrev pub pairs_of_reason : Reason → List Pair
+pairs_of_reason (ByPairs pairs) = pairs
+pairs_of_reason (ByGap cycle) = []
+pairs_of_reason ByPropagation = []
+
+-- the pairs of a leaf
+abbrev pub pairs_of_leaf : Leaf → List Pair
+pairs_of_leaf (Bound pairs) = pairs
+pairs_of_leaf (Shut reason) = pairs_of_reason reason
 
 -- a branch has the part of 'at most k' first
 pub data Tree : Type 0 where
@@ -43,11 +68,16 @@ abbrev pub IsAtLeast : Option ℤ → Option ℕ → Type 0
 IsAtLeast value None = ⊥
 IsAtLeast value (Some least) = IsSomeAnd value (λ v. pos least ≤ℤ v)
 
+-- the reason holds at a node; an event that no row joins always has a set, so it doesn't matter how many such events there are
+abbrev pub IsShut : Net → List (List SignedRow) → Reason → Node → Type 0
+IsShut n table (ByPairs pairs) node = PairsExist table pairs × IsSomeAnd (leaf_value n table node pairs false) (λ v. pos 0 <ℤ v)
+IsShut n table (ByGap cycle) node = Names (length table) cycle × IsNone (offsets_left n table node (cycle - 1))
+IsShut n table ByPropagation node = (events : ℕ) × NoFamilyIsSupported n node.slacks events
+
 -- the leaf is sound at a node for a least cost; where none is wanted, it shows that no timetable lies in the node
 abbrev pub IsSoundLeaf : Net → List (List SignedRow) → Option ℕ → Leaf → Node → Type 0
 IsSoundLeaf n table least (Bound pairs) node = PairsExist table pairs × IsAtLeast (leaf_value n table node pairs true) least
-IsSoundLeaf n table least (Nothing pairs) node = PairsExist table pairs × IsSomeAnd (leaf_value n table node pairs false) (λ v. pos 0 <ℤ v)
-IsSoundLeaf n table least (Gap cycle) node = Names (length table) cycle × IsNone (offsets_left n table node (cycle - 1))
+IsSoundLeaf n table least (Shut reason) node = IsShut n table reason node
 
 -- each leaf is sound at its node, and what the branches cut exists
 abbrev pub IsSound : Net → List (List SignedRow) → Option ℕ → Tree → Node → Type 0
@@ -57,8 +87,7 @@ IsSound n table least (Branch cut low high) node = CutExists n table cut × IsSo
 -- no leaf of the tree is a bound leaf
 abbrev pub HasNoBound : Tree → Type 0
 HasNoBound (Ends (Bound pairs)) = ⊥
-HasNoBound (Ends (Nothing pairs)) = Unit {0}
-HasNoBound (Ends (Gap cycle)) = Unit {0}
+HasNoBound (Ends (Shut reason)) = Unit {0}
 HasNoBound (Branch cut low high) = HasNoBound low × HasNoBound high
 
 -- ---- the same over lines

@@ -1,7 +1,7 @@
 //! Laws of trees and certificates. Each is a function without a body whose contract is the law: a caller that calls it has
 //! the law within reach.
 
-ghost use Rattle.std.specs.Prelude.{◌≡◌, ℕ, ◌<◌, ◌↔◌, List, [], ◌∷◌, ◌++◌, Option, true, Some, None};
+ghost use Rattle.std.specs.Prelude.{◌≡◌, ℕ, ◌<◌, ◌↔◌, List, [], ◌∷◌, ◌++◌, Option, true, Some, None, All};
 ghost use Rattle.pesp_problem.specs.declared.row.SignedRow.{SignedRow};
 ghost use Rattle.pesp_problem.specs.declared.cut.Cut.{Cut};
 ghost use Rattle.pesp_problem.specs.declared.cut.Side.{Side};
@@ -9,7 +9,8 @@ ghost use Rattle.pesp_problem.specs.declared.cut.Side.TheVariants.{Low, High};
 ghost use Rattle.pesp_problem.specs.Timetables.{Pesp};
 ghost use Rattle.pesp_problem.specs.Arcs.{Net};
 ghost use Rattle.pesp_problem.specs.Nodes.{Node, high_part};
-ghost use Rattle.pesp_truth.specs.Trees.{Tree, Line, Ends, Bound, preorder, IsSound, AreSound, HasNoBound, are_trees};
+ghost use Rattle.pesp_problem.specs.Families.{NoFamilyIsSupported};
+ghost use Rattle.pesp_truth.specs.Trees.{Tree, Line, Ends, Bound, ByPropagation, preorder, IsShut, IsSound, AreSound, HasNoBound, are_trees};
 ghost use Rattle.pesp_truth.specs.Paths.{along, waiting};
 ghost use Rattle.pesp_truth.specs.Truth.{IsTrueAnswer};
 ghost use Rattle.pesp_truth.specs.Certificates.{Content, IsValid, shown_times};
@@ -52,4 +53,10 @@ pub fn paths_keep_what_waits()
 #[tactic(auto, using(crate::proofs::Opening::no_pairs))]
 pub fn no_pairs_are_sound()
     ensures { (n : Net) (table : List (List SignedRow)) (node : Node) → IsSound n table (Some 0) (Ends (Bound [])) node }
+{}
+
+/// Propagation shuts a node exactly where no family without an empty set is supported there: how many events are counted
+/// doesn't matter, as long as those of the rows are.
+pub fn events_without_rows_change_nothing()
+    ensures { (n : Net) (table : List (List SignedRow)) (node : Node) (events : ℕ) → 0 < n.period → All (λ arc. (arc.tail < events) × (arc.head < events)) n.arcs → IsShut n table ByPropagation node ↔ NoFamilyIsSupported n node.slacks events }
 {}

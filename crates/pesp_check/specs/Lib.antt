@@ -6,3 +6,4 @@ pub mod Flows
 pub mod Leaves
 pub mod Faults
 pub mod Lines
+pub mod LeafLines

@@ -9,12 +9,21 @@ ghost use Rattle.pesp_check.specs.Nets.{AreZeros, AreSmallCounts};
 ghost use Rattle.pesp_check.specs.Flows.{AreNets};
 ghost use Rattle.pesp_check.specs.Ranges.{node_of, AreRanges};
 ghost use Rattle.pesp_check.specs.Lines.{IsLeafVerdict, ArePairLimits};
+ghost use Rattle.pesp_check.specs.LeafLines.{leaf_said, KeepsLeafLimits};
 
 use crate::leaf::{leaf_value, offsets_left};
 use crate::nets::Nets;
 use crate::ranges::Ranges;
 use crate::refusal::Refusal;
 use pesp_problem::{Instance, Pair};
+
+/// A leaf as a line says it: pairs for a bound, pairs that show that no timetable lies there, or a cycle with no offset left.
+#[derive(Clone, Copy)]
+pub enum LeafLine<'a> {
+    Bound(&'a [Pair]),
+    Nothing(&'a [Pair]),
+    Gap(u32),
+}
 
 /// Whether this is the number, from 1, of one of so many things.
 pub fn names(count: usize, number: u32) -> bool
@@ -51,7 +60,7 @@ fn is_positive(value: Option<i128>) -> bool
 }
 
 /// What is wrong with a leaf that should show that each timetable in the node costs at least `least`.
-pub fn judge_bound(
+fn judge_bound(
     instance: &Instance,
     table: &[Nets],
     ranges: &Ranges,
@@ -86,7 +95,7 @@ pub fn judge_bound(
 }
 
 /// What is wrong with a leaf that should show that no timetable lies in the node.
-pub fn judge_nothing(
+fn judge_nothing(
     instance: &Instance,
     table: &[Nets],
     ranges: &Ranges,
@@ -115,7 +124,7 @@ pub fn judge_nothing(
 }
 
 /// What is wrong with a leaf that should name a cycle with no offset left.
-pub fn judge_gap(
+fn judge_gap(
     instance: &Instance,
     table: &[Nets],
     ranges: &Ranges,
@@ -143,4 +152,33 @@ pub fn judge_gap(
         return Some(Refusal::NotAGap { line });
     }
     None
+}
+
+/// What is wrong with a leaf at a node.
+pub fn judge_leaf(
+    instance: &Instance,
+    table: &[Nets],
+    ranges: &Ranges,
+    leaf: LeafLine<'_>,
+    least: Option<u64>,
+    line: u64,
+    working: &mut [i128],
+) -> Option<Refusal>
+    requires ranges { AreRanges instance.now ranges.now }
+    requires table { All (AreSmallCounts (length instance.now.rows)) table.now }
+    requires cycles { length ranges.now.offsets.items ≡ length table.now }
+    requires limits { KeepsLeafLimits leaf }
+    requires long { length working.old ≡ length instance.now.rows }
+    requires zeros { AreZeros working.old }
+    ensures verdict { (walks : List (List SignedRow)) → AreNets (length instance.now.rows) walks table.now
+        → IsLeafVerdict (net_of instance.now) walks least (leaf_said leaf.entry) (node_of ranges.now) line result }
+    ensures zeros { AreZeros working.new }
+{
+    match leaf {
+        LeafLine::Bound(pairs) => judge_bound(instance, table, ranges, pairs, least, line, working),
+        LeafLine::Nothing(pairs) => {
+            judge_nothing(instance, table, ranges, pairs, least, line, working)
+        }
+        LeafLine::Gap(cycle) => judge_gap(instance, table, ranges, cycle, least, line),
+    }
 }

@@ -4,17 +4,17 @@ ghost use Rattle.std.specs.Prelude.{◌≡◌, ◌≢◌, ◌↔◌, ℕ, ◌+�
 ghost use Rattle.pesp_problem.specs.declared.row.SignedRow.{SignedRow};
 ghost use Rattle.pesp_problem.specs.Arcs.{net_of};
 ghost use Rattle.pesp_truth.specs.Trees.{CutLine, EndLine};
-ghost use Rattle.pesp_truth.specs.Trees as trees;
 ghost use Rattle.pesp_truth.specs.Certificates.{line_of};
 ghost use Rattle.pesp_check.specs.Nets.{AreZeros, AreSmallCounts};
 ghost use Rattle.pesp_check.specs.Flows.{AreNets};
-ghost use Rattle.pesp_check.specs.Lines.{after, IsLineVerdict, KeepsLineLimits, ArePairLimits, CutIsNamed, IsSmallCut};
+ghost use Rattle.pesp_check.specs.Lines.{after, IsLineVerdict, KeepsLineLimits, CutIsNamed, IsSmallCut};
+ghost use Rattle.pesp_check.specs.LeafLines.{leaf_said, KeepsLeafLimits};
 
-use crate::judge_leaf::{judge_bound, judge_gap, judge_nothing, names};
+use crate::judge_leaf::{LeafLine, judge_leaf, names};
 use crate::nets::Nets;
 use crate::node_walk::NodeWalk;
 use crate::refusal::Refusal;
-use pesp_problem::{Cut, Instance, Pair};
+use pesp_problem::{Cut, Instance};
 use pesp_truth::TreeLine;
 use std::alloc::{AllocError, Global};
 
@@ -53,12 +53,12 @@ fn take_branch(
     Ok(None)
 }
 
-/// Takes a bound leaf: it is judged at the first of the nodes that wait, and the next one is the first then.
-fn take_bound(
+/// Takes a leaf: it is judged at the first of the nodes that wait, and the next one is the first then.
+fn take_leaf(
     instance: &Instance,
     table: &[Nets],
     walk: &mut NodeWalk<'_>,
-    pairs: &[Pair],
+    leaf: LeafLine<'_>,
     least: Option<u64>,
     line: u64,
     working: &mut [i128],
@@ -67,70 +67,17 @@ fn take_bound(
     requires table { All (AreSmallCounts (length instance.now.rows)) table.now }
     requires cycles { walk.old.cycles ≡ length table.now }
     requires open { walk.old.nodes ≢ [] }
-    requires limits { ArePairLimits pairs.now }
+    requires limits { KeepsLeafLimits leaf }
     requires long { length working.old ≡ length instance.now.rows }
     requires zeros { AreZeros working.old }
     ensures problem { walk.new.problem ≡ instance.now }
     ensures cycles { walk.new.cycles ≡ length table.now }
     ensures verdict { (walks : List (List SignedRow)) → AreNets (length instance.now.rows) walks table.now
-        → IsLineVerdict (net_of instance.now) walks least (EndLine (trees.Bound pairs.now)) walk.old.nodes walk.new.nodes line result }
-    ensures nodes { IfNone result (walk.new.nodes ≡ after (EndLine (trees.Bound pairs.now)) walk.old.nodes) }
+        → IsLineVerdict (net_of instance.now) walks least (EndLine (leaf_said leaf.entry)) walk.old.nodes walk.new.nodes line result }
+    ensures nodes { IfNone result (walk.new.nodes ≡ after (EndLine (leaf_said leaf.entry)) walk.old.nodes) }
     ensures zeros { AreZeros working.new }
 {
-    let found = judge_bound(instance, table, walk.ranges(), pairs, least, line, working);
-    walk.leaf();
-    found
-}
-
-/// Takes a leaf that should show that no timetable lies in the first of the nodes that wait; the next one is the first then.
-fn take_nothing(
-    instance: &Instance,
-    table: &[Nets],
-    walk: &mut NodeWalk<'_>,
-    pairs: &[Pair],
-    least: Option<u64>,
-    line: u64,
-    working: &mut [i128],
-) -> Option<Refusal>
-    requires problem { walk.old.problem ≡ instance.now }
-    requires table { All (AreSmallCounts (length instance.now.rows)) table.now }
-    requires cycles { walk.old.cycles ≡ length table.now }
-    requires open { walk.old.nodes ≢ [] }
-    requires limits { ArePairLimits pairs.now }
-    requires long { length working.old ≡ length instance.now.rows }
-    requires zeros { AreZeros working.old }
-    ensures problem { walk.new.problem ≡ instance.now }
-    ensures cycles { walk.new.cycles ≡ length table.now }
-    ensures verdict { (walks : List (List SignedRow)) → AreNets (length instance.now.rows) walks table.now
-        → IsLineVerdict (net_of instance.now) walks least (EndLine (trees.Nothing pairs.now)) walk.old.nodes walk.new.nodes line result }
-    ensures nodes { IfNone result (walk.new.nodes ≡ after (EndLine (trees.Nothing pairs.now)) walk.old.nodes) }
-    ensures zeros { AreZeros working.new }
-{
-    let found = judge_nothing(instance, table, walk.ranges(), pairs, least, line, working);
-    walk.leaf();
-    found
-}
-
-/// Takes a gap leaf: it is judged at the first of the nodes that wait, and the next one is the first then.
-fn take_gap(
-    instance: &Instance,
-    table: &[Nets],
-    walk: &mut NodeWalk<'_>,
-    cycle: u32,
-    least: Option<u64>,
-    line: u64,
-) -> Option<Refusal>
-    requires problem { walk.old.problem ≡ instance.now }
-    requires table { All (AreSmallCounts (length instance.now.rows)) table.now }
-    requires cycles { walk.old.cycles ≡ length table.now }
-    requires open { walk.old.nodes ≢ [] }
-    ensures problem { walk.new.problem ≡ instance.now }
-    ensures cycles { walk.new.cycles ≡ length table.now }
-    ensures verdict { (walks : List (List SignedRow)) → AreNets (length instance.now.rows) walks table.now
-        → IsLineVerdict (net_of instance.now) walks least (EndLine (trees.Gap cycle)) walk.old.nodes walk.new.nodes line result }
-    ensures nodes { IfNone result (walk.new.nodes ≡ after (EndLine (trees.Gap cycle)) walk.old.nodes) }
-{
-    let found = judge_gap(instance, table, walk.ranges(), cycle, least, line);
+    let found = judge_leaf(instance, table, walk.ranges(), leaf, least, line, working);
     walk.leaf();
     found
 }
@@ -177,24 +124,17 @@ pub fn take_line(
             },
             line,
         ),
-        TreeLine::Bound(pairs) => Ok(take_bound(
-            instance,
-            table,
-            walk,
-            pairs.as_slice(),
-            least,
-            line,
-            working,
-        )),
-        TreeLine::Nothing(pairs) => Ok(take_nothing(
-            instance,
-            table,
-            walk,
-            pairs.as_slice(),
-            least,
-            line,
-            working,
-        )),
-        TreeLine::Gap(cycle) => Ok(take_gap(instance, table, walk, *cycle, least, line)),
+        TreeLine::Bound(pairs) => {
+            let leaf = LeafLine::Bound(pairs.as_slice());
+            Ok(take_leaf(instance, table, walk, leaf, least, line, working))
+        }
+        TreeLine::Nothing(pairs) => {
+            let leaf = LeafLine::Nothing(pairs.as_slice());
+            Ok(take_leaf(instance, table, walk, leaf, least, line, working))
+        }
+        TreeLine::Gap(cycle) => {
+            let leaf = LeafLine::Gap(*cycle);
+            Ok(take_leaf(instance, table, walk, leaf, least, line, working))
+        }
     }
 }

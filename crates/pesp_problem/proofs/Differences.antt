@@ -76,9 +76,9 @@ renamed_is : (a b e : ℕ) → (renamed a b e ≡ e) ⊎ (((e ≡ a) × (renamed
 renamed_is a b e = elim (cases_eq e a) [
   | inl h ↦ elim (min_is a b) [ inl m ↦ inl (ap (renamed a b) h ∙ renamed_first a b ∙ m ∙ sym h) | inr m ↦ inr (inl (h, ap (renamed a b) h ∙ renamed_first a b ∙ m)) ]
   | inr n ↦ elim (cases_eq e b) [
-      | inl h ↦ elim (min_is a b) [ inl m ↦ inr (inr (h, ap (renamed a b) h ∙ renamed_second a b ∙ m)) | inr m ↦ inl (ap (renamed a b) h ∙ renamed_second a b ∙ m ∙ sym h) ]
-      | inr m ↦ inl (grind (arith, nat_tests))
-    ]
+    | inl h ↦ elim (min_is a b) [ inl m ↦ inr (inr (h, ap (renamed a b) h ∙ renamed_second a b ∙ m)) | inr m ↦ inl (ap (renamed a b) h ∙ renamed_second a b ∙ m ∙ sym h) ]
+    | inr m ↦ inl (grind (arith, nat_tests))
+  ]
 ]
 
 renamed_meets : (arcs : List Arc) (a b d e : ℕ) → Meet arcs a b → Meet arcs d e → Meet arcs d (renamed a b e)

@@ -16,7 +16,7 @@ use Rattle.pesp_problem.specs.Nodes.{Node, leaf_value, low_part, high_part, root
 use Rattle.pesp_problem.proofs.NetTimetables.{net_timetables, limits_in_order}
 use Rattle.pesp_truth.specs.declared.answer.Answer.{Answer}
 use Rattle.pesp_truth.specs.declared.answer.Answer.TheVariants.{Optimal, Infeasible, Bounded}
-use Rattle.pesp_truth.specs.Trees.{Tree, Leaf, Ends, Branch, Bound, Nothing, Gap, IsSound}
+use Rattle.pesp_truth.specs.Trees.{Tree, Leaf, Ends, Branch, Bound, Shut, IsSound}
 use Rattle.pesp_truth.specs.Certificates.{Content, IsValid, ShowsAnswer, shown_times}
 use Rattle.pesp_truth.specs.Leaves.{IsLeafAt}
 use Rattle.pesp_truth.proofs.Lines.{one_tree}
@@ -43,8 +43,7 @@ sound_for_nothing n table (Some l) (Ends (Bound pairs)) node s =
     let over : pos l ≤ℤ value.0 = value.2 in
     let under : pos 0 ≤ℤ value.0 = omega (arith, ints, over) in
     (s.0, rw (value.1) under)
-sound_for_nothing n table least (Ends (Nothing pairs)) node s = s
-sound_for_nothing n table least (Ends (Gap cycle)) node s = s
+sound_for_nothing n table least (Ends (Shut reason)) node s = s
 sound_for_nothing n table least (Branch cut low high) node s = (s.0, sound_for_nothing n table least low (low_part node cut) s.1, sound_for_nothing n table least high (high_part node cut) s.2)
 
 to_net : (i : Pesp) (times : List ℕ) → KeepsLimits i → IsTimetable i times → IsNetTimetable (instances.net_of i) (length i.events) times

@@ -128,9 +128,7 @@ pub fn first_pair(words: &[u8], least: u64) -> (Pair, Option<&[u8]>)
     ensures { BeginsPairs (Some result.0) least (words_of words.now) (pieces_left 32 (option_copied result.1)) }
 {
     let (first, behind) = split_at_byte(b' ', words);
-    let Some(words) = behind else {
-        unreachable!()
-    };
+    let Some(words) = behind else { unreachable!() };
     let (second, rest) = split_at_byte(b' ', words);
     let Some((cycle, mult)) = pair_at(least, first, second) else {
         unreachable!()

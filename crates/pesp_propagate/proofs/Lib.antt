@@ -12,6 +12,5 @@ pub mod Visiting
 pub mod Filling
 pub mod Propagating
 pub mod Masking
-pub mod Remainders
 pub mod Joining
 pub mod Partnering

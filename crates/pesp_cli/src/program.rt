@@ -14,9 +14,9 @@ use std::process::ExitCode;
 use std::rt::{Env, Files};
 use std::{env, io};
 
-/// Does what the command line asks for, and gives the exit status: 0 where the answer is written,
-/// 1 for a certificate that is refused or times that violate a row, 2 for a command line
-/// that asks for nothing, 3 for a text that is refused, 4 for memory and devices.
+/// Does what the command line asks for, and gives the exit status: 0 where the answer, help or the version is written,
+/// 1 for a certificate that is refused or times that violate a row, 2 for a command line that isn't understood,
+/// 3 for a text that is refused, 4 for memory, devices and limits of the search.
 pub fn exit_of_program<R: AllocGlobal + Env + Input + Print + Eprint + Files>(rt: &R) -> ExitCode {
     let words = match env::args(rt) {
         Ok(args) => args.collect::<Vec<String>>(rt.alloc()),

@@ -101,8 +101,8 @@ pub fn run_solve<R: Source, W: Sink>(
 
 /// Reads an instance and then a certificate, and writes the line of the checker's verdict; the instance is judged before the
 /// certificate is read. The certificate is judged while it is read, at most 1,073,741,824 bytes of it, and is not held as a
-/// whole. `Certificate` is the first fault of its text, also where an item before it is wrong. `Accepted` says that the certificate is valid for the instance of the bytes read, and that its answer
-/// is true of it.
+/// whole. `Certificate` is the first fault of its text, also where an item before it is wrong. `Accepted` says that the
+/// certificate is valid for the instance of the bytes read, and that its answer is true of it.
 pub fn run_check<R: Source, C: Source, W: Sink>(
     alloc: Global,
     instance_reader: &mut R,

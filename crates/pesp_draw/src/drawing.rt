@@ -24,8 +24,8 @@ use std::alloc::{AllocError, Global};
 /// not is said in words.
 ///
 /// `NotTimes` where there isn't one time below the period for each event, and `Violates` with the first row that isn't
-/// satisfied. An interrupted write is repeated, at most 1000 times in all. After `Write` a front of the picture is written,
-/// and after any other refusal nothing.
+/// satisfied; `Memory` where a growth was refused. An interrupted write is repeated, at most 1000 times in all. After `Write`
+/// a front of the picture is written, and after any other refusal nothing.
 pub fn draw<W: Sink>(
     alloc: Global,
     instance: &Instance,

@@ -120,8 +120,8 @@ impl Network {
         Ok(network)
     }
 
-    /// The same network with a forest of these rows, by their numbers from 1. Where they aren't numbers of its rows, or don't
-    /// join what all rows join, it has some other forest.
+    /// The same network with another forest: these rows, by their numbers from 1, are proposed for it. Which forest it has then
+    /// is not promised.
     pub fn with_forest(&self, alloc: Global, forest: &[u32]) -> Result<Network, Memory>
         ensures period { IfOk result (λ n. n.period ≡ self.now.period) }
         ensures events { IfOk result (λ n. n.events ≡ self.now.events) }

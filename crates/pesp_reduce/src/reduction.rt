@@ -107,8 +107,8 @@ impl Reduced {
         &self.network
     }
 
-    /// The same reduction with a forest of these rows of what is left, by their numbers from 1. Where they aren't numbers of
-    /// its rows, or don't join what all its rows join, it has some other forest.
+    /// The same reduction with another forest of what is left: these rows, by their numbers from 1, are proposed for it. Which
+    /// forest it has then is not promised.
     pub fn with_forest(self, alloc: Global, forest: &[u32]) -> Result<Reduced, Memory>
         ensures original { IfOk result (λ r. r.original ≡ self.original) }
         ensures fates { IfOk result (λ r. r.fates ≡ self.fates) }

@@ -81,7 +81,7 @@ fn take_lonely(
 }
 
 /// Keeps those differences of one event from which a shift of the window leads to one of the other event, of which there
-/// is at least one.
+/// is at least one, and says whether something was taken away.
 pub fn narrow(words: &mut [u64], period: usize, kept: usize, other: usize, window: Window) -> bool
     requires period { (0 < period) × (period ≤ 10000) }
     requires kept { kept ≤ 100000 }

@@ -119,7 +119,7 @@ fn visit_rows(
     }
 }
 
-/// Visits the rows until each supports the sets, or there is none that is supported: whether there is none.
+/// Visits the rows until each supports the sets, or some set is empty: true where no family without an empty set is supported.
 pub fn is_emptied(
     words: &mut [u64],
     period: usize,

@@ -114,8 +114,9 @@ impl Support {
     }
 
     /// Whether under these slack ranges, one for each row, the rows support no family of sets of time differences without
-    /// an empty set (arc consistency). A range whose low end is above its high end is empty. Then no timetable has its
-    /// slacks in the ranges. Each question is asked anew from full sets, and takes no memory.
+    /// an empty set (arc consistency, Mackworth 1977). A range whose low end is above its high end is empty. Where it
+    /// answers true, no timetable has its slacks in the ranges. Each question is asked anew from full sets, and takes no
+    /// memory.
     pub fn supports_none(&mut self, ranges: &[(u32, u32)]) -> bool
         requires { length ranges.now ≡ length self.old.net.arcs }
         ensures exact { IsTrue result ↔ NoFamilyIsSupported self.old.net ranges.now self.old.events }

@@ -102,7 +102,7 @@ fn read_works(alloc: Global, text: &[u8]) -> Result<Vec<WorkText>, CertRefusal>
 
 /// The works whose texts stand one behind the other, none for an empty text; or why they are no works': the first fault of
 /// the first line with a fault, in the lines of the whole text. The limits of counts hold for each work. The text is read once
-/// from its front to its end.
+/// from its front to its end. `Memory` where a growth was refused.
 pub fn parse_works(alloc: Global, text: &[u8]) -> Result<Vec<WorkText>, CertRefusal>
     // What is read are the works whose text this is.
     ensures found { IfOk result (λ works. IsTextOf text.now works.items) }

@@ -35,8 +35,9 @@ impl Printed for WorkText {
     }
 }
 
-/// Writes the work's one text, a page at a time. An interrupted write is repeated, at most 1000 times in all, and a write that
-/// takes no byte is a fault. After a fault a front of the text went out. It takes no memory.
+/// Writes the work's one text, a page at a time; the work has to have one: a job of at most 999999, and times and a tree that
+/// a certificate can have. An interrupted write is repeated, at most 1000 times in all, and a write that takes no byte is a
+/// fault. After a fault a front of the text went out. It takes no memory.
 pub fn print_work<W: Sink>(work: &WorkText, sink: &mut W) -> Result<(), WriteFault>
     requires has_text { HasText work.now }
     requires failed_fits { W.failed sink.old < 2 ^ 63 }

@@ -3,8 +3,8 @@
 use pesp_truth::TreeLine;
 use std::marker::Model;
 
-/// Work on the leaf that was lent under the number `job`: labels of events with times in the instance's unit, which may be a
-/// timetable, and the lines of a tree in preorder that is to stand in the leaf's place.
+/// Work on the leaf that was lent under the number `job`, at most 999999 in a text: labels of events with times in the
+/// instance's unit, which may be a timetable, and the lines of a tree in preorder that is to stand in the leaf's place.
 #[derive(Debug, Drop)]
 pub struct WorkText {
     pub job: u64,

@@ -9,15 +9,19 @@ use Rattle.pesp_problem.specs.Walks.{Names}
 use Rattle.pesp_problem.specs.Nodes.{Node, low_part, high_part}
 use Rattle.pesp_truth.specs.declared.tree.TreeLine.{TreeLine}
 use Rattle.pesp_truth.specs.declared.tree.TreeLine.TheVariants.{Slack, Offset, Bound, Nothing, Gap}
-use Rattle.pesp_truth.specs.Trees.{Leaf, Line, EndLine, CutLine, CutExists, IsSoundLeaf, AreSound}
+use Rattle.pesp_truth.specs.Trees.{Leaf, Reason, Line, EndLine, CutLine, CutExists, IsShut, IsSoundLeaf, AreSound}
 use Rattle.pesp_truth.specs.Certificates.{line_of}
 use Rattle.pesp_check.specs.declared.refusal.Refusal.{Refusal}
 use Rattle.pesp_check.specs.declared.refusal.Refusal.TheVariants.{NoSuch}
-use Rattle.pesp_check.specs.Faults.{IsLeafFault}
+use Rattle.pesp_check.specs.Faults.{IsLeafFault, IsReasonFault}
 
 -- what the code says of a leaf: none where it is sound, else what is wrong with it
 abbrev pub IsLeafVerdict : Net → List (List SignedRow) → Option ℕ → Leaf → Node → ℕ → Option Refusal → Type 0
 IsLeafVerdict n table least leaf node at found = MatchOption found (IsSoundLeaf n table least leaf node) (λ refusal. IsLeafFault n table least leaf node at refusal)
+
+-- what the code says of a reason: none where it holds, else what is wrong with it
+abbrev pub IsReasonVerdict : Net → List (List SignedRow) → Reason → Node → ℕ → Option Refusal → Type 0
+IsReasonVerdict n table reason node at found = MatchOption found (IsShut n table reason node) (λ refusal. IsReasonFault n table reason node at refusal)
 
 -- the nodes that wait after a line
 abbrev pub after : Line → List Node → List Node

@@ -8,7 +8,7 @@ ghost use Rattle.pesp_truth.specs.Trees as trees;
 ghost use Rattle.pesp_check.specs.Nets.{AreZeros, AreSmallCounts};
 ghost use Rattle.pesp_check.specs.Flows.{AreNets};
 ghost use Rattle.pesp_check.specs.Ranges.{node_of, AreRanges};
-ghost use Rattle.pesp_check.specs.Lines.{IsLeafVerdict, ArePairLimits};
+ghost use Rattle.pesp_check.specs.Lines.{IsLeafVerdict, IsReasonVerdict, ArePairLimits};
 ghost use Rattle.pesp_check.specs.LeafLines.{leaf_said, KeepsLeafLimits};
 
 use crate::leaf::{leaf_value, offsets_left};
@@ -100,7 +100,6 @@ fn judge_nothing(
     table: &[Nets],
     ranges: &Ranges,
     pairs: &[Pair],
-    least: Option<u64>,
     line: u64,
     working: &mut [i128],
 ) -> Option<Refusal>
@@ -111,7 +110,7 @@ fn judge_nothing(
     requires long { length working.old ≡ length instance.now.rows }
     requires zeros { AreZeros working.old }
     ensures verdict { (walks : List (List SignedRow)) → AreNets (length instance.now.rows) walks table.now
-        → IsLeafVerdict (net_of instance.now) walks least (trees.Nothing pairs.now) (node_of ranges.now) line result }
+        → IsReasonVerdict (net_of instance.now) walks (trees.ByPairs pairs.now) (node_of ranges.now) line result }
     ensures zeros { AreZeros working.new }
 {
     if !pairs_exist(table.len(), pairs) {
@@ -129,14 +128,13 @@ fn judge_gap(
     table: &[Nets],
     ranges: &Ranges,
     cycle: u32,
-    least: Option<u64>,
     line: u64,
 ) -> Option<Refusal>
     requires ranges { AreRanges instance.now ranges.now }
     requires table { All (AreSmallCounts (length instance.now.rows)) table.now }
     requires cycles { length ranges.now.offsets.items ≡ length table.now }
     ensures { (walks : List (List SignedRow)) → AreNets (length instance.now.rows) walks table.now
-        → IsLeafVerdict (net_of instance.now) walks least (trees.Gap cycle) (node_of ranges.now) line result }
+        → IsReasonVerdict (net_of instance.now) walks (trees.ByGap cycle) (node_of ranges.now) line result }
 {
     if !names(table.len(), cycle) {
         return Some(Refusal::NoSuch { line });
@@ -176,9 +174,7 @@ pub fn judge_leaf(
 {
     match leaf {
         LeafLine::Bound(pairs) => judge_bound(instance, table, ranges, pairs, least, line, working),
-        LeafLine::Nothing(pairs) => {
-            judge_nothing(instance, table, ranges, pairs, least, line, working)
-        }
-        LeafLine::Gap(cycle) => judge_gap(instance, table, ranges, cycle, least, line),
+        LeafLine::Nothing(pairs) => { judge_nothing(instance, table, ranges, pairs, line, working) }
+        LeafLine::Gap(cycle) => judge_gap(instance, table, ranges, cycle, line),
     }
 }

@@ -165,8 +165,11 @@ fn steps_of(matches: &ArgMatches<'_>) -> u32
     matches.get_one::<u32>("steps").unwrap_or(1000).min(100000)
 }
 
-fn rows_of(matches: &ArgMatches<'_>) -> u32 {
-    matches.get_one::<u32>("rows").unwrap_or(100)
+fn rows_of(matches: &ArgMatches<'_>) -> u32
+    ensures least { 1 ≤ result }
+    ensures most { result ≤ 1000 }
+{
+    matches.get_one::<u32>("rows").unwrap_or(100).clamp(1, 1000)
 }
 
 /// What the words ask for, the program's name first; or clap's error, with the text that it prints.
@@ -188,12 +191,12 @@ pub fn request_of<'a>(alloc: Global, words: &'a [String]) -> Result<Request<'a>,
             rows: rows_of(found),
             file: found.get_str("file").unwrap_or(""),
         }),
-        Some((_, found)) => Ok(Request::Solve {
+        Some(("solve", found)) => Ok(Request::Solve {
             period: period_of(found),
             steps: steps_of(found),
             file: found.get_str("file"),
         }),
-        None => Ok(Request::Solve {
+        _ => Ok(Request::Solve {
             period: 60,
             steps: 1000,
             file: None,

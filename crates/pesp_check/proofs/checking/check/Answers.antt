@@ -1,4 +1,4 @@
-use Rattle.std.proofs.Common.{◌≡◌, ◌<◌, arith}
+use Rattle.std.proofs.Common.{◌≡◌, ◌<◌, arith, rules}
 use Rattle.pesp_check.proofs.Faults.{fault_is_not_valid}
 use Rattle.pesp_check.proofs.checking.check.Goals as goal
 
@@ -11,3 +11,6 @@ pub returns-in-Some-clause-exactly : goal.returns-in-Some-clause-exactly
 returns-in-Some-clause-exactly c =
     let fault = rw c.in-Some.is at c.in_ok-first_fault.ensures.found in
     (λ e. cc, λ valid. absurd (fault_is_not_valid c.args.instance.now c.args.certificate.now c.in-Some.refusal fault valid))
+
+pub returns-in-None-clause-verdict : goal.returns-in-None-clause-verdict
+returns-in-None-clause-verdict c = search rules

@@ -15,3 +15,6 @@ returns-clause-pairs c =
       | inl w ↦ rw w.0 started
       | inr w ↦ rw (w.0, ← c.deref.ensures.value) (rw w.1 at c.judged-value.ensures.pairs)
     ]
+
+pub returns-clause-start : goal.returns-clause-start
+returns-clause-start c = search rules

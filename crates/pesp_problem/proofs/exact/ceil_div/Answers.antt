@@ -1,0 +1,5 @@
+use Rattle.std.proofs.Common.{rules}
+use Rattle.pesp_problem.proofs.exact.ceil_div.Goals as goal
+
+pub returns : goal.returns
+returns c = search rules

@@ -109,6 +109,14 @@ impl Board {
         self.queue.least()
     }
 
+    /// How many leaves are open, where values compare as `least` tells them. A number to be told, which no promise rests on.
+    pub fn open_leaves(&self) -> usize {
+        match &self.best {
+            None => self.queue.waiting_below(u64::MAX),
+            Some(best) => self.queue.waiting_below(best.cost),
+        }
+    }
+
     /// Whether the number is lent now; then it is spent, and its leaf isn't lent any more. Takes no memory.
     pub fn recall(&mut self, number: u64) -> bool
         ensures state { Recalls self.old.state number result self.new.state }

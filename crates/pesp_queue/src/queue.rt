@@ -1,6 +1,6 @@
 //! Queues of items by their values, some of which are parked.
 
-ghost use Rattle.std.specs.Prelude.{◌≡◌, ℕ, ◌+◌, ◌<◌, ◌≤◌, ◌++◌, ◌∷◌, [], ◌↔◌, length, take, drop, IsTrue, IsOk, OnOk, OnErr, IfSome, IfNone, MatchOption, vec_len, vec_capacity};
+ghost use Rattle.std.specs.Prelude.{◌≡◌, ℕ, ◌+◌, ◌<◌, ◌≤◌, ◌++◌, ◌∷◌, [], ◌↔◌, length, take, drop, filter, nat_lt, IsTrue, IsOk, OnOk, OnErr, IfSome, IfNone, MatchOption, vec_len, vec_capacity};
 ghost use Rattle.std.specs.List.{Contains};
 ghost use Rattle.std.specs.List.Sorted.{IsPermutation};
 ghost use Rattle.pesp_queue.specs.Entries.{entry, HasItem, IsFirst, IsLeastValue};
@@ -107,6 +107,16 @@ impl Queue {
             return None;
         }
         Some(self.entries[0])
+    }
+
+    /// How many items wait with a value below this.
+    pub fn waiting_below(&self, value: u64) -> usize
+        ensures { result ≡ length (filter (λ e. nat_lt e.value value) self.now.waiting) }
+    {
+        self.entries[..self.waiting]
+            .iter()
+            .filter(|e| e.value < value)
+            .count()
     }
 
     /// Parks the item that `first` gives, and gives it; None where none waits. Takes no memory.

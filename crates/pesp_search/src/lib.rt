@@ -19,6 +19,8 @@ mod single;
 mod solving;
 mod turning;
 mod walking;
+mod watching;
 
 pub use refusal::SolveRefusal;
-pub use solving::{Solved, solve};
+pub use solving::{Solved, solve, solve_watched};
+pub use watching::{Nobody, Observer};

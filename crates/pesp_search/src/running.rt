@@ -8,17 +8,19 @@ ghost use Rattle.pesp_search.specs.Turning.{AreTurns, AreTurnsRefused};
 use crate::begun::Known;
 use crate::refusal::SolveRefusal;
 use crate::turning::{Turn, take_turn};
+use crate::watching::Observer;
 use pesp_board::Board;
 use pesp_strategy::Strategy;
 use std::alloc::Global;
 
-/// Takes turns until so many leaves were split or no leaf is open; says how many were split.
-pub(crate) fn run_turns(
+/// Takes turns until so many leaves were split or no leaf is open; says how many were split. An observer looks on.
+pub(crate) fn run_turns<O: Observer>(
     alloc: Global,
     board: &mut Board,
     known: &Known,
     strategy: &mut Option<Strategy>,
     steps: u32,
+    observer: &mut O,
 ) -> Result<u32, SolveRefusal>
     requires known { IsKnown board.old.problem known.now }
     requires worked { IsWorked board.old.problem 0 board.old.state }
@@ -29,6 +31,7 @@ pub(crate) fn run_turns(
 {
     let mut used = 0;
     for _turn in 0..2 * steps + 3 {
+        observer.look(used, board);
         if used == steps {
             return Ok(used);
         }

@@ -15,6 +15,7 @@ use crate::refusal::SolveRefusal;
 use crate::rooting::look_at_root;
 use crate::running::run_turns;
 use crate::turning::limits;
+use crate::watching::{Nobody, Observer};
 use pesp_board::Board;
 use pesp_cert::Certificate;
 use pesp_problem::{Instance, Memory};
@@ -29,12 +30,13 @@ pub struct Solved {
 }
 
 // searches on a new board; says how many leaves were split
-fn search(
+fn search<O: Observer>(
     alloc: Global,
     board: &mut Board,
     known: &Known,
     strategy: &mut Option<Strategy>,
     steps: u32,
+    observer: &mut O,
 ) -> Result<u32, SolveRefusal>
     requires known { IsKnown board.old.problem known.now }
     requires opening { board.old.state ≡ opening }
@@ -45,7 +47,7 @@ fn search(
 {
     look_at_root(alloc, board, &known.root)?;
     offer_times(alloc, board, &known.reduced)?;
-    run_turns(alloc, board, known, strategy, steps)
+    run_turns(alloc, board, known, strategy, steps, observer)
 }
 
 // what the board certifies after a search
@@ -68,13 +70,14 @@ fn certify(
 }
 
 // searches on the opening board of an instance, and certifies what is known then
-fn solve_on(
+fn solve_on<O: Observer>(
     alloc: Global,
     instance: &Instance,
     board: &mut Board,
     known: &Known,
     strategy: &mut Option<Strategy>,
     steps: u32,
+    observer: &mut O,
 ) -> Result<Solved, SolveRefusal>
     requires known { IsKnown board.old.problem known.now }
     requires opening { board.old.state ≡ opening }
@@ -85,7 +88,7 @@ fn solve_on(
     ensures solved { IfOk result (λ s. IsSolved instance.now steps s.steps_used s.certificate) }
     ensures refused { IfErr result (IsSearchRefusal instance.now steps) }
 {
-    let steps_used = search(alloc, board, known, strategy, steps)?;
+    let steps_used = search(alloc, board, known, strategy, steps, observer)?;
     Ok(certify(alloc, instance, board, steps_used)?)
 }
 
@@ -100,11 +103,12 @@ fn strategy_for(alloc: Global, known: &Known) -> Result<Option<Strategy>, SolveR
 }
 
 // searches on what was begun, and certifies what is known then
-fn solve_begun(
+fn solve_begun<O: Observer>(
     alloc: Global,
     instance: &Instance,
     begun: &mut Begun,
     steps: u32,
+    observer: &mut O,
 ) -> Result<Solved, SolveRefusal>
     requires begun { IsBegun instance.now begun.old }
     requires most { steps ≤ 100000 }
@@ -119,6 +123,7 @@ fn solve_begun(
         &begun.known,
         &mut strategy,
         steps,
+        observer,
     )
 }
 
@@ -134,6 +139,20 @@ pub fn solve(alloc: Global, instance: &Instance, steps: u32) -> Result<Solved, S
     ensures solved { IfOk result (λ s. IsSolved instance.now steps s.steps_used s.certificate) }
     ensures refused { IfErr result (IsSearchRefusal instance.now steps) }
 {
+    solve_watched(alloc, instance, steps, &mut Nobody)
+}
+
+/// Searches as `solve` does, with the same promises, while an observer looks on.
+pub fn solve_watched<O: Observer>(
+    alloc: Global,
+    instance: &Instance,
+    steps: u32,
+    observer: &mut O,
+) -> Result<Solved, SolveRefusal>
+    requires { steps ≤ 100000 }
+    ensures solved { IfOk result (λ s. IsSolved instance.now steps s.steps_used s.certificate) }
+    ensures refused { IfErr result (IsSearchRefusal instance.now steps) }
+{
     let mut begun = begin(alloc, instance)?;
-    solve_begun(alloc, instance, &mut begun, steps)
+    solve_begun(alloc, instance, &mut begun, steps, observer)
 }

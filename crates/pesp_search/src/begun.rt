@@ -31,7 +31,7 @@ pub(crate) struct Begun {
 }
 
 /// Begins the search for an instance: the board's problem is its network with the lifted walks of what is left of it.
-pub(crate) fn begin(alloc: Global, instance: &Instance) -> Result<Begun, SolveRefusal>
+pub(crate) fn begin(alloc: Global, instance: &Instance, steps: u32) -> Result<Begun, SolveRefusal>
     ensures begun { IfOk result (IsBegun instance.now) }
     ensures refused { IfErr result (IsSearchRefusal instance.now 0) }
 {
@@ -40,7 +40,7 @@ pub(crate) fn begin(alloc: Global, instance: &Instance) -> Result<Begun, SolveRe
         reduced,
         walks,
         problem,
-    } = prepare(alloc, instance)?;
+    } = prepare(alloc, instance, steps)?;
     let passed = passed_rows(alloc, &problem)?;
     let root = problem.root(alloc)?;
     let board = Board::new(alloc, problem)?;

@@ -10,6 +10,7 @@ mod handing;
 mod judging;
 mod offering;
 mod passing;
+mod planting;
 mod preparing;
 mod refusal;
 mod rooting;

@@ -153,6 +153,6 @@ pub fn solve_watched<O: Observer>(
     ensures solved { IfOk result (λ s. IsSolved instance.now steps s.steps_used s.certificate) }
     ensures refused { IfErr result (IsSearchRefusal instance.now steps) }
 {
-    let mut begun = begin(alloc, instance)?;
+    let mut begun = begin(alloc, instance, steps)?;
     solve_begun(alloc, instance, &mut begun, steps, observer)
 }

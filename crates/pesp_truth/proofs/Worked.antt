@@ -1,17 +1,20 @@
 -- Certificates of small instances, written by hand: they are valid, or they aren't.
-use Rattle.std.proofs.Common.{ℕ, ◌<◌, [], ◌∷◌, refl, arith}
-use Rattle.std.specs.Prelude.{ℤ, pos, negsuc, Some, None, All}
+use Rattle.std.proofs.Common.{◌≡◌, ℕ, ◌<◌, [], ◌∷◌, refl, ap, arith}
+use Rattle.std.specs.Prelude.{ℤ, pos, negsuc, ◌-ℤ◌, Some, None, All}
+use Rattle.std.proofs.lemmas.Int.{ints}
 use Rattle.std.proofs.lemmas.List.Elements.{All-nil, All-head}
 use lib.Signed.{le_z_yes}
 use Rattle.pesp_problem.specs.declared.pair.Pair.{Pair}
 use Rattle.pesp_problem.specs.declared.cut.Cut.TheVariants.{Offset}
-use Rattle.pesp_problem.specs.Timetables.{Pesp, IsSatisfied, IsTimetableOfCost}
+use Rattle.pesp_problem.specs.Timetables.{Pesp, remainder, IsSatisfied, IsTimetableOfCost}
 use Rattle.pesp_problem.specs.Arcs.{arcs_of, net_of}
 use Rattle.pesp_problem.specs.Walks.{Names, RowExists, IsWalk}
+use Rattle.pesp_problem.specs.Nodes.{root_slacks}
+use Rattle.pesp_problem.specs.Families.{NoFamilyIsSupported}
 use Rattle.pesp_problem.proofs.Worked.{row, plus, minus, pair, single, both, one_row, one_row_timetable, late, against, against_table, against_root, aside, aside_table, aside_root, aside_low, aside_high, loop, loop_table, tight_loop, large, crossed, crossed_table}
 use Rattle.pesp_truth.specs.declared.answer.Answer.TheVariants.{Optimal, Infeasible, Bounded}
-use Rattle.pesp_truth.specs.declared.tree.TreeLine.TheVariants.{Offset as OffsetLine, Bound as BoundLine, Nothing as NothingLine, Gap as GapLine}
-use Rattle.pesp_truth.specs.Trees.{Tree, Ends, Branch, Bound, Nothing, Gap, IsSoundLeaf, IsSound}
+use Rattle.pesp_truth.specs.declared.tree.TreeLine.TheVariants.{Offset as OffsetLine, Bound as BoundLine, Nothing as NothingLine, Gap as GapLine, Propagated as PropagatedLine}
+use Rattle.pesp_truth.specs.Trees.{Tree, Ends, Branch, Bound, Shut, ByPropagation, Nothing, Gap, IsSoundLeaf, IsSound}
 use Rattle.pesp_truth.specs.Certificates.{Content, IsValid, ShowsAnswer}
 
 -- what the pairs of a table of one cycle name
@@ -27,7 +30,7 @@ abbrev nothing : Pesp
 nothing = record { period = 10; events = []; rows = [] }
 
 abbrev nothing_certificate : Content
-nothing_certificate = record { period = 10; answer = Optimal 0; times = []; cycles = []; tree = BoundLine [] ∷ [] }
+nothing_certificate = record { version = 1; period = 10; answer = Optimal 0; times = []; cycles = []; tree = BoundLine [] ∷ [] }
 
 nothing_valid : IsValid nothing nothing_certificate
 nothing_valid = record {
@@ -40,7 +43,7 @@ nothing_valid = record {
 -- ---- one row, no cycle
 
 abbrev one_row_certificate : Content
-one_row_certificate = record { period = 10; answer = Optimal 0; times = (pos 1, 0) ∷ (pos 2, 0) ∷ []; cycles = []; tree = BoundLine [] ∷ [] }
+one_row_certificate = record { version = 1; period = 10; answer = Optimal 0; times = (pos 1, 0) ∷ (pos 2, 0) ∷ []; cycles = []; tree = BoundLine [] ∷ [] }
 
 one_row_valid : IsValid one_row one_row_certificate
 one_row_valid = record {
@@ -52,7 +55,7 @@ one_row_valid = record {
 
 -- no timetable shown, and nothing but 0 claimed
 abbrev late_certificate : Content
-late_certificate = record { period = 60; answer = Bounded 0 None; times = []; cycles = []; tree = BoundLine [] ∷ [] }
+late_certificate = record { version = 1; period = 60; answer = Bounded 0 None; times = []; cycles = []; tree = BoundLine [] ∷ [] }
 
 late_valid : IsValid late late_certificate
 late_valid = record {
@@ -65,7 +68,7 @@ late_valid = record {
 -- ---- two rows against one another
 
 abbrev against_certificate : Content
-against_certificate = record { period = 10; answer = Optimal 3; times = (pos 1, 0) ∷ (pos 2, 3) ∷ []; cycles = against_table; tree = BoundLine (pair 1 (pos 1) ∷ []) ∷ [] }
+against_certificate = record { version = 1; period = 10; answer = Optimal 3; times = (pos 1, 0) ∷ (pos 2, 3) ∷ []; cycles = against_table; tree = BoundLine (pair 1 (pos 1) ∷ []) ∷ [] }
 
 against_timetable : IsTimetableOfCost against (0 ∷ 3 ∷ []) 3
 against_timetable = (((refl, both (λ t. t < 10) 0 3 (omega arith) (omega arith)), both (λ r. IsSatisfied against (0 ∷ 3 ∷ []) r) (row (pos 1) 0 1 (pos 3) (pos 12) 2) (row (pos 2) 1 0 (pos 4) (pos 13) 1) (le_z_yes tt) (le_z_yes tt)), refl)
@@ -117,6 +120,7 @@ no_gap s = cc (s.1)
 
 abbrev aside_certificate : Content
 aside_certificate = record {
+  version = 1;
   period = 10;
   answer = Optimal 5;
   times = (pos 1, 0) ∷ (pos 2, 0) ∷ [];
@@ -169,7 +173,7 @@ no_such_cycle s = omega (arith, All-head (λ (x : Pair). Names 1 x.cycle) (pair 
 -- ---- loops
 
 abbrev loop_certificate : Content
-loop_certificate = record { period = 10; answer = Optimal 14; times = (pos 1, 0) ∷ []; cycles = loop_table; tree = BoundLine (pair 1 (pos 2) ∷ []) ∷ [] }
+loop_certificate = record { version = 1; period = 10; answer = Optimal 14; times = (pos 1, 0) ∷ []; cycles = loop_table; tree = BoundLine (pair 1 (pos 2) ∷ []) ∷ [] }
 
 loop_valid : IsValid loop loop_certificate
 loop_valid = record {
@@ -181,7 +185,7 @@ loop_valid = record {
 
 -- no offset is left
 abbrev tight_loop_certificate : Content
-tight_loop_certificate = record { period = 10; answer = Infeasible; times = []; cycles = loop_table; tree = GapLine 1 ∷ [] }
+tight_loop_certificate = record { version = 1; period = 10; answer = Infeasible; times = []; cycles = loop_table; tree = GapLine 1 ∷ [] }
 
 tight_loop_valid : IsValid tight_loop tight_loop_certificate
 tight_loop_valid = record {
@@ -191,9 +195,32 @@ tight_loop_valid = record {
   tree = (Ends (Gap 1), refl, ((omega arith, omega arith), refl));
 }
 
+-- the same by propagation: no remainder of the loop is in its range
+abbrev propagated_loop_certificate : Content
+propagated_loop_certificate = record { version = 2; period = 10; answer = Infeasible; times = []; cycles = []; tree = PropagatedLine ∷ [] }
+
+remainder_of_loop : (d e : ℕ) → d ≡ e → remainder 10 (pos e -ℤ pos d -ℤ pos 3) ≡ 7
+remainder_of_loop d e same =
+    let none : (pos e -ℤ pos d) ≡ pos 0 = omega (arith, ints, same) in
+    ap (λ (z : ℤ). remainder 10 (z -ℤ pos 3)) none
+
+no_loop_family : NoFamilyIsSupported (net_of tight_loop) (root_slacks (net_of tight_loop)) 1
+no_loop_family s family supported some =
+    let d = some 0 (omega arith) in
+    let partner = (supported 0 (omega arith)).tails d.0 d.1 in
+    omega (arith, partner.2.high, remainder_of_loop d.0 partner.0 (partner.2.loop refl))
+
+propagated_loop_valid : IsValid tight_loop propagated_loop_certificate
+propagated_loop_valid = record {
+  period = refl;
+  answer = refl;
+  cycles = All-nil (IsWalk (arcs_of tight_loop));
+  tree = (Ends (Shut ByPropagation), refl, (1, no_loop_family));
+}
+
 -- numbers near the limits
 abbrev large_certificate : Content
-large_certificate = record { period = 10000; answer = Optimal 9999000000000; times = (pos 1, 0) ∷ []; cycles = loop_table; tree = BoundLine (pair 1 (pos 1000000000) ∷ []) ∷ [] }
+large_certificate = record { version = 1; period = 10000; answer = Optimal 9999000000000; times = (pos 1, 0) ∷ []; cycles = loop_table; tree = BoundLine (pair 1 (pos 1000000000) ∷ []) ∷ [] }
 
 large_valid : IsValid large large_certificate
 large_valid = record {
@@ -206,7 +233,7 @@ large_valid = record {
 -- ---- two cycles that only together show that there is no timetable
 
 abbrev crossed_certificate : Content
-crossed_certificate = record { period = 10; answer = Infeasible; times = []; cycles = crossed_table; tree = NothingLine (pair 1 (pos 1) ∷ pair 2 (negsuc 0) ∷ []) ∷ [] }
+crossed_certificate = record { version = 1; period = 10; answer = Infeasible; times = []; cycles = crossed_table; tree = NothingLine (pair 1 (pos 1) ∷ pair 2 (negsuc 0) ∷ []) ∷ [] }
 
 crossed_walks : All (IsWalk (arcs_of crossed)) crossed_table
 crossed_walks =

@@ -9,11 +9,12 @@ use Rattle.pesp_problem.specs.Nodes.{root}
 use Rattle.pesp_truth.specs.declared.answer.Answer.{Answer}
 use Rattle.pesp_truth.specs.declared.answer.Answer.TheVariants.{Optimal, Infeasible, Bounded}
 use Rattle.pesp_truth.specs.declared.tree.TreeLine.{TreeLine}
-use Rattle.pesp_truth.specs.declared.tree.TreeLine.TheVariants.{Slack as SlackLine, Offset as OffsetLine, Bound as BoundLine, Nothing as NothingLine, Gap as GapLine}
-use Rattle.pesp_truth.specs.Trees.{Tree, Line, EndLine, CutLine, Bound, Nothing, Gap, preorder, IsSound}
+use Rattle.pesp_truth.specs.declared.tree.TreeLine.TheVariants.{Slack as SlackLine, Offset as OffsetLine, Bound as BoundLine, Nothing as NothingLine, Gap as GapLine, Propagated as PropagatedLine}
+use Rattle.pesp_truth.specs.Trees.{Tree, Line, EndLine, CutLine, Bound, Shut, ByPropagation, Nothing, Gap, preorder, IsSound}
 
--- what a certificate says: its period, its answer, times with the labels of their events, a table of cycles, a tree's lines
+-- what a certificate says: the version of its text, its period, its answer, times with the labels of their events, a table of cycles, a tree's lines
 pub record Content : Type 0 where
+  pub version : ℕ
   pub period : ℕ
   pub answer : Answer
   pub times : List (ℤ × ℕ)
@@ -26,6 +27,7 @@ line_of (OffsetLine cycle k) = CutLine (Offset cycle k)
 line_of (BoundLine pairs) = EndLine (Bound pairs)
 line_of (NothingLine pairs) = EndLine (Nothing pairs)
 line_of (GapLine cycle) = EndLine (Gap cycle)
+line_of PropagatedLine = EndLine (Shut ByPropagation)
 
 abbrev pub lines_of : Content → List Line
 lines_of content = map line_of content.tree

@@ -18,7 +18,7 @@ use Rattle.pesp_text.specs.Number.{NATURALS, natural_of, whole_of, SpellsNatural
 use Rattle.pesp_lines.specs.Rows.{is_name, row_words, rows_of}
 use Rattle.pesp_lines.specs.Pairs.{pairs_from, pair_words}
 use Rattle.pesp_lines.specs.declared.item.Item.{Item}
-use Rattle.pesp_lines.specs.declared.item.Item.TheVariants.{Period, Answer as Says, Time, Cycle, Slack, Offset, Bound, Nothing, Gap, End}
+use Rattle.pesp_lines.specs.declared.item.Item.TheVariants.{Version, Period, Answer as Says, Time, Cycle, Slack, Offset, Bound, Nothing, Gap, Propagated, End}
 use Rattle.pesp_lines.specs.Items.{is_item_within, item_of, is_form, item_words, one, two, cost_of, cost_word, answer_of, answer_words, optimal_of, open_of, is_answer_form, IsProper, HasProperCosts}
 use Rattle.pesp_lines.specs.Counts.{kind_in}
 use Rattle.pesp_text.proofs.Digits.{natural_spells, natural_read, whole_spells, whole_read, decimal_digits}
@@ -136,6 +136,9 @@ at_item k ws x y e h = rw (← e) h
 
 pub item_spells : (k : Kind) (ws : List (List ℕ)) (item : Item) → is_form k ws ≡ true → item_of k ws ≡ Some item → IsSpelt k ws item
 unfolding item_of
+item_spells kinds.Version ws item f h =
+    let m = option_map_some Version (one natural_of ws) item h in
+    at_item kinds.Version ws (Version m.0) item m.2 (record { words = ap (λ (vs : List (List ℕ)). codes "pesp-certificate" ∷ vs) (one_spells natural_of decimal nat_word ws m.0 f m.1); kind = refl; proper = tt })
 item_spells kinds.Period ws item f h =
     let m = option_map_some Period (one natural_of ws) item h in
     at_item kinds.Period ws (Period m.0) item m.2 (record { words = ap (λ (vs : List (List ℕ)). codes "period" ∷ vs) (one_spells natural_of decimal nat_word ws m.0 f m.1); kind = refl; proper = tt })
@@ -171,6 +174,9 @@ item_spells kinds.Nothing ws item f h =
 item_spells kinds.Gap ws item f h =
     let m = option_map_some Gap (one natural_of ws) item h in
     at_item kinds.Gap ws (Gap m.0) item m.2 (record { words = ap (λ (vs : List (List ℕ)). codes "g" ∷ vs) (one_spells natural_of decimal nat_word ws m.0 f m.1); kind = refl; proper = tt })
+item_spells kinds.Propagated ws item f h =
+    let e : Propagated ≡ item = same_Some Propagated item h in
+    at_item kinds.Propagated ws Propagated item e (record { words = ap (λ (vs : List (List ℕ)). codes "p" ∷ vs) (nil_spells ws f); kind = refl; proper = tt })
 item_spells kinds.End ws item f h =
     let e : End ≡ item = same_Some End item h in
     at_item kinds.End ws End item e (record { words = ap (λ (vs : List (List ℕ)). codes "end" ∷ vs) (nil_spells ws f); kind = refl; proper = tt })
@@ -201,6 +207,7 @@ name_fits n h = grind (arith, nat_tests, h)
 
 pub item_read : (item : Item) → IsProper item → is_item_within item ≡ true → (ws : List (List ℕ)) × IsRead item ws
 unfolding item_of
+item_read (Version n) proper within = (decimal n ∷ [], record { words = refl; form = refl; says = rw (nat_read n (grind (arith, nat_tests, within))) refl })
 item_read (Period n) proper within = (decimal n ∷ [], record { words = refl; form = refl; says = rw (nat_read n (grind (arith, nat_tests, within))) refl })
 item_read (Says a) proper within = let r = answer_read a proper in (answer_words a, record { words = refl; form = r.0; says = rw r.1 refl })
 item_read (Time label time) proper within = (signed_decimal label ∷ decimal time ∷ [], record { words = refl; form = refl; says = rw (int_read label (grind (arith, nat_tests, within)), nat_read time (grind (arith, nat_tests, within))) refl })
@@ -214,4 +221,5 @@ item_read (Offset cycle k) proper within = (decimal cycle ∷ signed_decimal k �
 item_read (Bound ps) proper within = (pair_words ps, record { words = refl; form = pair_count ps; says = rw (pairs_read 0 ps proper within) refl })
 item_read (Nothing ps) proper within = (pair_words ps, record { words = refl; form = pair_count ps; says = rw (pairs_read 0 ps proper within) refl })
 item_read (Gap cycle) proper within = (decimal cycle ∷ [], record { words = refl; form = refl; says = rw (nat_read cycle (grind (arith, nat_tests, within))) refl })
+item_read Propagated proper within = ([], record { words = refl; form = refl; says = refl })
 item_read End proper within = ([], record { words = refl; form = refl; says = refl })

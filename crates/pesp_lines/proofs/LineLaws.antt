@@ -26,7 +26,7 @@ use Rattle.pesp_text.specs.Words.{is_byte, words_of, spaced, line_of, has_empty}
 use Rattle.pesp_lines.specs.Rows.{is_name, rows_are_named, row_word, row_words}
 use Rattle.pesp_lines.specs.Pairs.{pair_words, is_pair_within, all_within}
 use Rattle.pesp_lines.specs.declared.item.Item.{Item}
-use Rattle.pesp_lines.specs.declared.item.Item.TheVariants.{Period, Answer as Says, Time, Cycle, Slack, Offset, Bound, Nothing, Gap, End}
+use Rattle.pesp_lines.specs.declared.item.Item.TheVariants.{Version, Period, Answer as Says, Time, Cycle, Slack, Offset, Bound, Nothing, Gap, Propagated, End}
 use Rattle.pesp_lines.specs.Items.{is_item_within, checked, item_of, is_form, item_words, cost_word, kind_of, IsProper}
 use Rattle.pesp_lines.specs.Counts.{allows, may_follow, after, keeps_counts, kind_in, CanStand}
 use Rattle.pesp_lines.specs.Lines.{line_at, words_judged, kind_judged, counted, ReadsLine}
@@ -85,6 +85,7 @@ plain_cost None h = refl
 plain_cost (Some c) h = plain_nat c h
 
 pub item_plain : (item : Item) → IsProper item → is_item_within item ≡ true → all_plain (item_words item) ≡ true
+item_plain (Version n) proper within = and_both _ _ (plain_nat n (grind (arith, nat_tests, within))) refl
 item_plain (Period n) proper within = and_both _ _ (plain_nat n (grind (arith, nat_tests, within))) refl
 item_plain (Says (answers.Optimal c)) proper within = and_both _ _ (plain_nat c proper) refl
 item_plain (Says answers.Infeasible) proper within = refl
@@ -96,6 +97,7 @@ item_plain (Offset cycle k) proper within = and_both _ _ (plain_nat cycle (grind
 item_plain (Bound ps) proper within = plain_pairs ps within
 item_plain (Nothing ps) proper within = plain_pairs ps within
 item_plain (Gap cycle) proper within = and_both _ _ (plain_nat cycle (grind (arith, nat_tests, within))) refl
+item_plain Propagated proper within = refl
 item_plain End proper within = refl
 
 -- ---- words and lines
@@ -202,8 +204,9 @@ plain_words_have_no_empty (w ∷ ws) h =
 only_end : (p : Progress) (k : Kind) → kinds.End ≡ k → allows p k ≡ true → (p.needs == 0) ≡ true
 only_end p k e h = go (p.needs == 0) p.place (rw (← e) at h)
   where
-    go : (b : Bool) (place : Place) → cond b true (may_follow place kinds.End) ≡ true → b ≡ true
+    go : (b : Bool) (place : Place) → cond b true (may_follow place kinds.End && true) ≡ true → b ≡ true
     go true place h = refl
+    go false places.Front h = absurd cc
     go false places.Header h = absurd cc
     go false places.Period h = absurd cc
     go false places.Times h = absurd cc

@@ -120,6 +120,7 @@ rows_read (r ∷ rs) h =
 -- ---- the first word
 
 abbrev pub kind_word : Kind → List ℕ
+kind_word kinds.Version = codes "pesp-certificate"
 kind_word kinds.Period = codes "period"
 kind_word kinds.Answer = codes "answer"
 kind_word kinds.Time = codes "time"
@@ -129,6 +130,7 @@ kind_word kinds.Offset = codes "o"
 kind_word kinds.Bound = codes "b"
 kind_word kinds.Nothing = codes "n"
 kind_word kinds.Gap = codes "g"
+kind_word kinds.Propagated = codes "p"
 kind_word kinds.End = codes "end"
 
 kind_step : (w name : List ℕ) (k j : Kind) (rest : Option Kind) → cond (bytes_eq w name) (Some k) rest ≡ Some j → ((w ≡ name) × (k ≡ j)) ⊎ (rest ≡ Some j)
@@ -171,7 +173,15 @@ kind_spells w j h0 =
                                                     elim (kind_step w (codes "g") kinds.Gap j _ h8) [
                                                       | inl e ↦ as_kind w kinds.Gap j e.0 e.1
                                                       | inr h9 ↦
-                                                          elim (kind_step w (codes "end") kinds.End j _ h9) [ inl e ↦ as_kind w kinds.End j e.0 e.1 | inr h10 ↦ absurd cc ]
+                                                          elim (kind_step w (codes "p") kinds.Propagated j _ h9) [
+                                                            | inl e ↦ as_kind w kinds.Propagated j e.0 e.1
+                                                            | inr h10 ↦
+                                                                elim (kind_step w (codes "pesp-certificate") kinds.Version j _ h10) [
+                                                                  | inl e ↦ as_kind w kinds.Version j e.0 e.1
+                                                                  | inr h11 ↦
+                                                                      elim (kind_step w (codes "end") kinds.End j _ h11) [ inl e ↦ as_kind w kinds.End j e.0 e.1 | inr h12 ↦ absurd cc ]
+                                                                ]
+                                                          ]
                                                     ]
                                               ]
                                         ]
@@ -184,6 +194,7 @@ kind_spells w j h0 =
 
 pub kind_read : (k : Kind) → kind_of (kind_word k) ≡ Some k
 unfolding kind_of
+kind_read kinds.Version = refl
 kind_read kinds.Period = refl
 kind_read kinds.Answer = refl
 kind_read kinds.Time = refl
@@ -193,4 +204,5 @@ kind_read kinds.Offset = refl
 kind_read kinds.Bound = refl
 kind_read kinds.Nothing = refl
 kind_read kinds.Gap = refl
+kind_read kinds.Propagated = refl
 kind_read kinds.End = refl

@@ -3,7 +3,7 @@ use Rattle.std.specs.Prelude.{◌≡◌, ℕ, ◌+◌, ◌-◌, ◌≤◌, Bool,
 use Rattle.pesp_lines.specs.declared.kind.Kind.{Kind}
 use Rattle.pesp_lines.specs.declared.kind.Kind.TheVariants as kinds
 use Rattle.pesp_lines.specs.declared.item.Item.{Item}
-use Rattle.pesp_lines.specs.declared.item.Item.TheVariants.{Period, Answer as Says, Time, Cycle, Slack, Offset, Bound, Nothing, Gap, End}
+use Rattle.pesp_lines.specs.declared.item.Item.TheVariants.{Version, Period, Answer as Says, Time, Cycle, Slack, Offset, Bound, Nothing, Gap, Propagated, End}
 use Rattle.pesp_lines.specs.declared.progress.Place.{Place}
 use Rattle.pesp_lines.specs.declared.progress.Place.TheVariants as places
 use Rattle.pesp_lines.specs.declared.progress.Progress.{Progress}
@@ -17,6 +17,7 @@ is_tree_kind kinds.Offset = true
 is_tree_kind kinds.Bound = true
 is_tree_kind kinds.Nothing = true
 is_tree_kind kinds.Gap = true
+is_tree_kind kinds.Propagated = true
 is_tree_kind _ = false
 
 abbrev pub is_cycle_kind : Kind → Bool
@@ -26,6 +27,10 @@ is_cycle_kind _ = false
 abbrev pub is_time_kind : Kind → Bool
 is_time_kind kinds.Time = true
 is_time_kind _ = false
+
+abbrev pub is_version_kind : Kind → Bool
+is_version_kind kinds.Version = true
+is_version_kind _ = false
 
 abbrev pub is_period_kind : Kind → Bool
 is_period_kind kinds.Period = true
@@ -41,26 +46,33 @@ is_end_kind _ = false
 
 -- whether a line of this kind may stand next, while the tree isn't whole
 abbrev pub may_follow : Place → Kind → Bool
+may_follow places.Front k = is_version_kind k
 may_follow places.Header k = is_period_kind k
 may_follow places.Period k = is_answer_kind k
 may_follow places.Times k = is_time_kind k || is_cycle_kind k || is_tree_kind k
 may_follow places.Cycles k = is_cycle_kind k || is_tree_kind k
 may_follow places.Tree k = is_tree_kind k
 
+-- whether texts of this version have lines of this kind
+abbrev pub has_kind : ℕ → Kind → Bool
+has_kind version kinds.Propagated = nat_le 2 version
+has_kind version _ = true
+
 -- where it is, only `end` may
 abbrev pub allows : Progress → Kind → Bool
-allows p k = if p.needs == 0 then is_end_kind k else may_follow p.place k
+allows p k = if p.needs == 0 then is_end_kind k else may_follow p.place k && has_kind p.version k
 
 -- ---- the counts
 
 abbrev pub start : Progress
-start = record { place = places.Header; needs = 1; times = 0; cycles = 0; rows = 0; lines = 0; pairs = 0 }
+start = record { place = places.Front; version = 0; needs = 1; times = 0; cycles = 0; rows = 0; lines = 0; pairs = 0 }
 
 -- behind a line of the tree that asks for so many trees in place of the one that it is, and has so many pairs
 abbrev pub after_tree : Progress → ℕ → ℕ → Progress
 after_tree p parts pairs = record p { place = places.Tree; needs = (p.needs + parts) - 1; lines = p.lines + 1; pairs = p.pairs + pairs }
 
 abbrev pub after : Progress → Item → Progress
+after p (Version n) = record p { place = places.Header; version = n }
 after p (Period n) = record p { place = places.Period }
 after p (Says a) = record p { place = places.Times }
 after p (Time label time) = record p { times = p.times + 1 }
@@ -70,6 +82,7 @@ after p (Offset cycle k) = after_tree p 2 0
 after p (Bound ps) = after_tree p 0 (length ps)
 after p (Nothing ps) = after_tree p 0 (length ps)
 after p (Gap cycle) = after_tree p 0 0
+after p Propagated = after_tree p 0 0
 after p End = p
 
 -- the limits of the counts
@@ -91,6 +104,7 @@ pub record IsKept (p : Progress) : Type 0 where
 -- ---- what may stand next
 
 abbrev pub kind_in : Item → Kind
+kind_in (Version n) = kinds.Version
 kind_in (Period n) = kinds.Period
 kind_in (Says a) = kinds.Answer
 kind_in (Time label time) = kinds.Time
@@ -100,6 +114,7 @@ kind_in (Offset cycle k) = kinds.Offset
 kind_in (Bound ps) = kinds.Bound
 kind_in (Nothing ps) = kinds.Nothing
 kind_in (Gap cycle) = kinds.Gap
+kind_in Propagated = kinds.Propagated
 kind_in End = kinds.End
 
 -- the item may stand behind what came so far

@@ -10,7 +10,7 @@ use Rattle.pesp_text.specs.Words.{line_of}
 use Rattle.pesp_lines.specs.declared.kind.Kind.{Kind}
 use Rattle.pesp_lines.specs.declared.kind.Kind.TheVariants as kinds
 use Rattle.pesp_lines.specs.declared.item.Item.{Item}
-use Rattle.pesp_lines.specs.declared.item.Item.TheVariants.{Period, Answer as Says, Time, Cycle, Slack, Offset, Bound, Nothing, Gap, End}
+use Rattle.pesp_lines.specs.declared.item.Item.TheVariants.{Version, Period, Answer as Says, Time, Cycle, Slack, Offset, Bound, Nothing, Gap, Propagated, End}
 use Rattle.pesp_lines.specs.declared.fault.LineFault.{LineFault}
 use Rattle.pesp_lines.specs.declared.fault.LineFault.TheVariants as faults
 use Rattle.pesp_lines.specs.Rows.{is_name, rows_are_named, row_words, rows_of, both}
@@ -28,6 +28,7 @@ answer_words answers.Infeasible = codes "infeasible" ∷ []
 answer_words (answers.Bounded least cost) = codes "open" ∷ decimal least ∷ cost_word cost ∷ []
 
 abbrev pub item_words : Item → List (List ℕ)
+item_words (Version n) = codes "pesp-certificate" ∷ decimal n ∷ []
 item_words (Period n) = codes "period" ∷ decimal n ∷ []
 item_words (Says a) = codes "answer" ∷ answer_words a
 item_words (Time label time) = codes "time" ∷ signed_decimal label ∷ decimal time ∷ []
@@ -37,6 +38,7 @@ item_words (Offset cycle k) = codes "o" ∷ decimal cycle ∷ signed_decimal k �
 item_words (Bound ps) = codes "b" ∷ pair_words ps
 item_words (Nothing ps) = codes "n" ∷ pair_words ps
 item_words (Gap cycle) = codes "g" ∷ decimal cycle ∷ []
+item_words Propagated = codes "p" ∷ []
 item_words End = codes "end" ∷ []
 
 -- the line, with its LF
@@ -60,6 +62,7 @@ IsProper _ = Unit {0}
 
 -- the limits of its numbers
 abbrev pub is_item_within : Item → Bool
+is_item_within (Version n) = nat_le 1 n && nat_le n 2
 is_item_within (Period n) = nat_le 1 n && nat_le n 10000
 is_item_within (Says a) = true
 is_item_within (Time label time) = nat_le (nat_abs label) 1000000000000 && nat_le time 9999
@@ -69,6 +72,7 @@ is_item_within (Offset cycle k) = is_name cycle && nat_le (nat_abs k) 1000000000
 is_item_within (Bound ps) = all_within ps
 is_item_within (Nothing ps) = all_within ps
 is_item_within (Gap cycle) = is_name cycle
+is_item_within Propagated = true
 is_item_within End = true
 
 -- ---- reading, in three passes: the form, the numbers, the limits
@@ -83,6 +87,8 @@ kind_of w = if bytes_eq w (codes "period") then Some kinds.Period else
     if bytes_eq w (codes "b") then Some kinds.Bound else
     if bytes_eq w (codes "n") then Some kinds.Nothing else
     if bytes_eq w (codes "g") then Some kinds.Gap else
+    if bytes_eq w (codes "p") then Some kinds.Propagated else
+    if bytes_eq w (codes "pesp-certificate") then Some kinds.Version else
     if bytes_eq w (codes "end") then Some kinds.End else None
 
 -- whether so many words may stand behind `answer`, by the first of them
@@ -94,6 +100,7 @@ is_answer_form (w ∷ ws) = if bytes_eq w (codes "optimal") then length ws == 1 
 
 -- whether the words behind the first have the form of its kind
 abbrev pub is_form : Kind → List (List ℕ) → Bool
+is_form kinds.Version ws = length ws == 1
 is_form kinds.Period ws = length ws == 1
 is_form kinds.Answer ws = is_answer_form ws
 is_form kinds.Time ws = length ws == 2
@@ -103,6 +110,7 @@ is_form kinds.Offset ws = length ws == 2
 is_form kinds.Bound ws = length ws % 2 == 0
 is_form kinds.Nothing ws = length ws % 2 == 0
 is_form kinds.Gap ws = length ws == 1
+is_form kinds.Propagated ws = length ws == 0
 is_form kinds.End ws = length ws == 0
 
 unfoldable pub cost_of : List ℕ → Option (Option ℕ)
@@ -134,6 +142,7 @@ two h f g (v ∷ w ∷ ws) = both h (f v) (g w)
 
 -- what the words behind the first say, where they have the form of their kind
 unfoldable pub item_of : Kind → List (List ℕ) → Option Item
+item_of kinds.Version ws = option_map Version (one natural_of ws)
 item_of kinds.Period ws = option_map Period (one natural_of ws)
 item_of kinds.Answer ws = option_map Says (answer_of ws)
 item_of kinds.Time ws = two Time whole_of natural_of ws
@@ -143,6 +152,7 @@ item_of kinds.Offset ws = two Offset natural_of whole_of ws
 item_of kinds.Bound ws = option_map Bound (pairs_from 0 ws)
 item_of kinds.Nothing ws = option_map Nothing (pairs_from 0 ws)
 item_of kinds.Gap ws = option_map Gap (one natural_of ws)
+item_of kinds.Propagated ws = Some Propagated
 item_of kinds.End ws = Some End
 
 -- what the words behind the first say within the limits of numbers

@@ -12,6 +12,23 @@ use pesp_text::{Words, is_word, natural, whole};
 use pesp_truth::Answer;
 
 #[tactic(auto, unfolding(crate::specs::Items::item_of))]
+fn version(mut words: Words<'_>) -> Result<Item<'static>, LineFault>
+    ensures { result ≡ checked (item_of Kind.Version words.entry) }
+{
+    let Some(word) = words.next() else {
+        return Err(LineFault::Number);
+    };
+    let Some(number) = natural(word) else {
+        return Err(LineFault::Number);
+    };
+    if 1 <= number && number <= 2 {
+        Ok(Item::Version(number as u32))
+    } else {
+        Err(LineFault::Limit)
+    }
+}
+
+#[tactic(auto, unfolding(crate::specs::Items::item_of))]
 fn period(mut words: Words<'_>) -> Result<Item<'static>, LineFault>
     ensures { result ≡ checked (item_of Kind.Period words.entry) }
 {
@@ -195,6 +212,7 @@ pub(crate) fn judge_numbers(kind: Kind, words: Words<'_>) -> Result<Item<'_>, Li
     ensures { result ≡ checked (item_of kind words.entry) }
 {
     match kind {
+        Kind::Version => version(words),
         Kind::Period => period(words),
         Kind::Answer => answer(words),
         Kind::Time => time(words),
@@ -204,6 +222,7 @@ pub(crate) fn judge_numbers(kind: Kind, words: Words<'_>) -> Result<Item<'_>, Li
         Kind::Bound => bound(words),
         Kind::Nothing => nothing(words),
         Kind::Gap => gap(words),
+        Kind::Propagated => Ok(Item::Propagated),
         Kind::End => Ok(Item::End),
     }
 }

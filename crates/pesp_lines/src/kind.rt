@@ -3,6 +3,7 @@
 /// What the first word of a line says about it.
 #[derive(Clone, Copy, Debug, PartialEq, Eq)]
 pub enum Kind {
+    Version,
     Period,
     Answer,
     Time,
@@ -12,5 +13,6 @@ pub enum Kind {
     Bound,
     Nothing,
     Gap,
+    Propagated,
     End,
 }

@@ -29,6 +29,10 @@ pub(crate) fn kind_of(word: &[u8]) -> Option<Kind>
         Some(Kind::Nothing)
     } else if is_word(word, "g") {
         Some(Kind::Gap)
+    } else if is_word(word, "p") {
+        Some(Kind::Propagated)
+    } else if is_word(word, "pesp-certificate") {
+        Some(Kind::Version)
     } else if is_word(word, "end") {
         Some(Kind::End)
     } else {

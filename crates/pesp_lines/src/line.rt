@@ -40,12 +40,12 @@ fn is_form(kind: Kind, words: Words<'_>, number: usize) -> bool
     ensures { result ≡ is_form kind words.entry }
 {
     match kind {
-        Kind::Period | Kind::Gap => number == 1,
+        Kind::Version | Kind::Period | Kind::Gap => number == 1,
         Kind::Answer => is_answer_form(words, number),
         Kind::Time | Kind::Slack | Kind::Offset => number == 2,
         Kind::Cycle => number >= 1,
         Kind::Bound | Kind::Nothing => number % 2 == 0,
-        Kind::End => number == 0,
+        Kind::Propagated | Kind::End => number == 0,
     }
 }
 

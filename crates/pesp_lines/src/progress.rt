@@ -1,7 +1,7 @@
 //! How far a text has come.
 
 ghost use Rattle.std.specs.Prelude.{◌≡◌, ◌≤◌};
-ghost use Rattle.pesp_lines.specs.Counts.{after, after_tree, counted_after, keeps_counts, IsKept, start, may_follow, allows};
+ghost use Rattle.pesp_lines.specs.Counts.{after, after_tree, counted_after, keeps_counts, IsKept, start, may_follow, has_kind, allows};
 
 use crate::item::Item;
 use crate::kind::Kind;
@@ -9,6 +9,8 @@ use crate::kind::Kind;
 /// Where in a text the last line stood.
 #[derive(Clone, Copy, Debug, PartialEq, Eq)]
 pub enum Place {
+    /// Before the first line.
+    Front,
     /// Behind the first line.
     Header,
     /// Behind the period.
@@ -21,10 +23,12 @@ pub enum Place {
     Tree,
 }
 
-/// How far a text has come: how many trees are still to come, and how many lines, signed rows and pairs came.
+/// How far a text has come: the version that its first line says, 0 before it, how many trees are still to come, and how many
+/// lines, signed rows and pairs came.
 #[derive(Clone, Copy, Debug)]
 pub struct Progress {
     pub place: Place,
+    pub version: u32,
     pub needs: u64,
     pub times: u64,
     pub cycles: u64,
@@ -37,13 +41,14 @@ impl Progress {
     ghost use Rattle.std.specs.Prelude.{◌≡◌};
     ghost use Rattle.pesp_lines.specs.Counts.{IsKept, start};
 
-    /// Behind the first line of a text: one tree is still to come.
+    /// Before the first line of a text: one tree is still to come.
     pub fn new() -> Progress
         ensures exact { result ≡ start }
         ensures kept { IsKept result }
     {
         Progress {
-            place: Place::Header,
+            place: Place::Front,
+            version: 0,
             needs: 1,
             times: 0,
             cycles: 0,
@@ -86,6 +91,11 @@ fn after(progress: &Progress, item: &Item<'_>) -> Progress
     ensures { result ≡ after progress.now item.now }
 {
     match item {
+        Item::Version(version) => Progress {
+            place: Place::Header,
+            version: *version,
+            ..*progress
+        },
         Item::Period(_) => Progress {
             place: Place::Period,
             ..*progress
@@ -106,7 +116,7 @@ fn after(progress: &Progress, item: &Item<'_>) -> Progress
         },
         Item::Slack { .. } | Item::Offset { .. } => after_tree(progress, 2, 0),
         Item::Bound(pairs) | Item::Nothing(pairs) => after_tree(progress, 0, pairs.left()),
-        Item::Gap(_) => after_tree(progress, 0, 0),
+        Item::Gap(_) | Item::Propagated => after_tree(progress, 0, 0),
         Item::End => *progress,
     }
 }
@@ -128,6 +138,7 @@ fn may_follow(place: Place, kind: Kind) -> bool
     ensures { result ≡ may_follow place kind }
 {
     match place {
+        Place::Front => matches!(kind, Kind::Version),
         Place::Header => matches!(kind, Kind::Period),
         Place::Period => matches!(kind, Kind::Answer),
         Place::Times => matches!(
@@ -139,15 +150,32 @@ fn may_follow(place: Place, kind: Kind) -> bool
                 | Kind::Bound
                 | Kind::Nothing
                 | Kind::Gap
+                | Kind::Propagated
         ),
         Place::Cycles => matches!(
             kind,
-            Kind::Cycle | Kind::Slack | Kind::Offset | Kind::Bound | Kind::Nothing | Kind::Gap
+            Kind::Cycle
+                | Kind::Slack
+                | Kind::Offset
+                | Kind::Bound
+                | Kind::Nothing
+                | Kind::Gap
+                | Kind::Propagated
         ),
         Place::Tree => matches!(
             kind,
-            Kind::Slack | Kind::Offset | Kind::Bound | Kind::Nothing | Kind::Gap
+            Kind::Slack | Kind::Offset | Kind::Bound | Kind::Nothing | Kind::Gap | Kind::Propagated
         ),
+    }
+}
+
+/// Whether texts of this version have lines of this kind.
+fn has_kind(version: u32, kind: Kind) -> bool
+    ensures { result ≡ has_kind version kind }
+{
+    match kind {
+        Kind::Propagated => version >= 2,
+        _ => true,
     }
 }
 
@@ -158,6 +186,6 @@ pub(crate) fn allows(progress: &Progress, kind: Kind) -> bool
     if progress.needs == 0 {
         matches!(kind, Kind::End)
     } else {
-        may_follow(progress.place, kind)
+        may_follow(progress.place, kind) && has_kind(progress.version, kind)
     }
 }

@@ -21,6 +21,7 @@ added_line c (lines.Offset cycle k) = refl
 added_line c (lines.Bound ps) = refl
 added_line c (lines.Nothing ps) = refl
 added_line c (lines.Gap cycle) = refl
+added_line c lines.Propagated = refl
 
 pub times_added : (c : Content) (ts : List (ℤ × ℕ)) (more : List Item) → all_added c (map time_item ts ++ more) ≡ all_added (record c { times = c.times ++ ts }) more
 times_added c [] more = ap (λ (ts : List (ℤ × ℕ)). all_added (record c { times = ts }) more) (sym (append-nil c.times))
@@ -40,7 +41,7 @@ tree_added c (line ∷ ls) more =
 -- the items of a content add up to it
 pub all_added-items_of : (c : Content) → all_added blank (items_of c) ≡ c
 all_added-items_of c =
-    let first : Content = record { period = c.period; answer = c.answer; times = []; cycles = []; tree = [] } in
+    let first : Content = record { version = c.version; period = c.period; answer = c.answer; times = []; cycles = []; tree = [] } in
     let ts = map time_item c.times in
     let cs = map Cycle c.cycles in
     let ls = map tree_item c.tree in

@@ -6,14 +6,18 @@ use Rattle.std.proofs.lemmas.Bool.Decides.{nat_tests}
 use Rattle.pesp_truth.specs.Trees.{are_trees}
 use Rattle.pesp_truth.specs.Certificates.{Content, lines_of}
 use Rattle.pesp_lines.proofs.Tests.{and_left, and_right}
-use Rattle.pesp_cert.specs.Limits.{is_period, has_costs, is_time, are_times, total_rows, is_cycle, are_cycles, total_pairs, is_line, are_lines, keeps_limits, KeepsLimits}
+use Rattle.pesp_cert.specs.Limits.{is_period, has_costs, is_time, are_times, total_rows, is_cycle, are_cycles, total_pairs, is_line, are_lines, has_line, has_lines, keeps_limits, KeepsLimits}
 
 le_of : (m n : ℕ) → nat_le m n ≡ true → m ≤ n
 le_of m n h = grind (arith, nat_tests, h)
 
 pub limits_of : (c : Content) → keeps_limits c ≡ true → KeepsLimits c
 unfolding keeps_limits
-limits_of c h =
+limits_of c whole =
+    let front = is_period c.period && has_costs c.answer && are_times c.times && are_cycles c.cycles && are_lines c.tree in
+    let h = and_left front (has_lines c.version c.tree) whole in
+    let version = and_right front (has_lines c.version c.tree) whole in
+    let version_is = and_left (nat_le 1 c.version && nat_le c.version 2) (list_all (has_line c.version) c.tree) version in
     let h1 = and_left (is_period c.period && has_costs c.answer && are_times c.times && are_cycles c.cycles) (are_lines c.tree) h in
     let tree = and_right (is_period c.period && has_costs c.answer && are_times c.times && are_cycles c.cycles) (are_lines c.tree) h in
     let h2 = and_left (is_period c.period && has_costs c.answer && are_times c.times) (are_cycles c.cycles) h1 in
@@ -26,6 +30,7 @@ limits_of c h =
     let l1 = and_left (nat_le (length c.tree) 1000000 && nat_le (total_pairs c.tree) 20000000 && list_all is_line c.tree) (are_trees 1 (lines_of c)) tree in
     let l2 = and_left (nat_le (length c.tree) 1000000 && nat_le (total_pairs c.tree) 20000000) (list_all is_line c.tree) l1 in
     record {
+      version = (le_of 1 c.version (and_left (nat_le 1 c.version) (nat_le c.version 2) version_is), le_of c.version 2 (and_right (nat_le 1 c.version) (nat_le c.version 2) version_is));
       period = (le_of 1 c.period (and_left (nat_le 1 c.period) (nat_le c.period 10000) period), le_of c.period 10000 (and_right (nat_le 1 c.period) (nat_le c.period 10000) period));
       answer = answer;
       times = le_of (length c.times) 100000 (and_left (nat_le (length c.times) 100000) (list_all is_time c.times) times);
@@ -37,4 +42,5 @@ limits_of c h =
       pairs = le_of (total_pairs c.tree) 20000000 (and_right (nat_le (length c.tree) 1000000) (nat_le (total_pairs c.tree) 20000000) l2);
       each_line = and_right (nat_le (length c.tree) 1000000 && nat_le (total_pairs c.tree) 20000000) (list_all is_line c.tree) l1;
       whole = and_right (nat_le (length c.tree) 1000000 && nat_le (total_pairs c.tree) 20000000 && list_all is_line c.tree) (are_trees 1 (lines_of c)) tree;
+      known = and_right (nat_le 1 c.version && nat_le c.version 2) (list_all (has_line c.version) c.tree) version;
     }

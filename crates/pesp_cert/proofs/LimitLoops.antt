@@ -7,7 +7,7 @@ use Rattle.std.proofs.lemmas.List.{drop_all}
 use Rattle.std.proofs.lemmas.List.Sums.{sum_by-drop_more}
 use Rattle.pesp_problem.specs.declared.pair.Pair.{Pair}
 use Rattle.pesp_truth.specs.declared.tree.TreeLine.{TreeLine}
-use Rattle.pesp_truth.specs.declared.tree.TreeLine.TheVariants.{Slack, Offset, Bound, Nothing, Gap}
+use Rattle.pesp_truth.specs.declared.tree.TreeLine.TheVariants.{Slack, Offset, Bound, Nothing, Gap, Propagated}
 use Rattle.pesp_truth.specs.Trees.{Line, are_trees}
 use Rattle.pesp_truth.specs.Certificates.{line_of}
 use Rattle.pesp_cert.specs.Limits.{follows, rise_from, is_branch}
@@ -66,6 +66,7 @@ branch_step n (Offset cycle k) ls h = refl
 branch_step n (Bound ps) ls h = absurd cc
 branch_step n (Nothing ps) ls h = absurd cc
 branch_step n (Gap cycle) ls h = absurd cc
+branch_step n Propagated ls h = absurd cc
 
 leaf_step : (n : ℕ) (line : TreeLine) (ls : List Line) → is_branch line ≡ false → are_trees (suc n) (line_of line ∷ ls) ≡ are_trees n ls
 leaf_step n (Slack row k) ls h = absurd cc
@@ -73,6 +74,7 @@ leaf_step n (Offset cycle k) ls h = absurd cc
 leaf_step n (Bound ps) ls h = refl
 leaf_step n (Nothing ps) ls h = refl
 leaf_step n (Gap cycle) ls h = refl
+leaf_step n Propagated ls h = refl
 
 pub tree_branch : (ls : List TreeLine) (i needs : ℕ) (line : TreeLine) → i < length ls → line ≡ get_or ls i line → 0 < needs → is_branch line ≡ true → IsTreeTo ls i needs → IsTreeTo ls (i + 1) (needs + 1)
 tree_branch ls i zero line lt is some h t = absurd (omega arith)

@@ -16,9 +16,9 @@ use Rattle.pesp_text.specs.Words.{spaced}
 use Rattle.pesp_lines.specs.Pairs.{pair_words}
 use Rattle.pesp_lines.specs.Rows.{row_words}
 use Rattle.pesp_lines.specs.declared.item.Item.{Item}
-use Rattle.pesp_lines.specs.declared.item.Item.TheVariants.{Period, Answer as Says, Cycle, End}
+use Rattle.pesp_lines.specs.declared.item.Item.TheVariants.{Version, Period, Answer as Says, Cycle, End}
 use Rattle.pesp_lines.specs.Items.{item_line}
-use Rattle.pesp_cert.specs.Print.{period_line, time_line, pairs_text, pair_text, row_text, rows_text, cycle_line, tree_line, answer_line, certificate_text}
+use Rattle.pesp_cert.specs.Print.{head_lines, time_line, pairs_text, pair_text, row_text, rows_text, cycle_line, tree_line, answer_line, certificate_text}
 use Rattle.pesp_cert.specs.Texts.{time_item, tree_item, spelling}
 
 one_word : (w a : List ℕ) → (w ++ ((32 ∷ a) ++ [])) ++ 10 ∷ [] ≡ ((w ++ 32 ∷ []) ++ a) ++ 10 ∷ []
@@ -48,11 +48,11 @@ rows_are (r ∷ rs) = go r.plus ∙ ap (λ (t : List ℕ). row_text r ++ t) (row
     go true = refl
     go false = refl
 
-headed : (h w sp a lf : List ℕ) → h ++ ((w ++ ((sp ++ a) ++ [])) ++ lf) ≡ (((h ++ w) ++ sp) ++ a) ++ lf
-headed h w sp a lf = simp (append_assoc, append-nil)
+two_lines : (v w sp a b lf : List ℕ) → ((v ++ ((sp ++ a) ++ [])) ++ lf) ++ ((w ++ ((sp ++ b) ++ [])) ++ lf) ≡ ((((v ++ sp) ++ a) ++ (lf ++ (w ++ sp))) ++ b) ++ lf
+two_lines v w sp a b lf = simp (append_assoc, append-nil)
 
-period_is : (n : ℕ) → codes "pesp-certificate 1\n" ++ item_line (Period n) ≡ period_line n
-period_is n = headed (codes "pesp-certificate 1\n") (codes "period") (32 ∷ []) (decimal n) (10 ∷ [])
+head_is : (version n : ℕ) → item_line (Version version) ++ item_line (Period n) ≡ head_lines version n
+head_is version n = two_lines (codes "pesp-certificate") (codes "period") (32 ∷ []) (decimal version) (decimal n) (10 ∷ [])
 
 answer_is : (a : Answer) → item_line (Says a) ≡ answer_line a
 answer_is (answers.Optimal c) = one_word (codes "answer optimal") (decimal c)
@@ -72,6 +72,7 @@ tree_is (lines.Offset cycle k) = two_words (codes "o") (decimal cycle) (signed_d
 tree_is (lines.Bound ps) = ap (λ (t : List ℕ). (codes "b" ++ t) ++ 10 ∷ []) (pairs_are ps)
 tree_is (lines.Nothing ps) = ap (λ (t : List ℕ). (codes "n" ++ t) ++ 10 ∷ []) (pairs_are ps)
 tree_is (lines.Gap cycle) = one_word (codes "g") (decimal cycle)
+tree_is lines.Propagated = refl
 
 pub mapped : {A : Type 0} (f : A → Item) (g : A → List ℕ) → ((x : A) → item_line (f x) ≡ g x) → (xs : List A) → flat_map item_line (map f xs) ≡ flat_map g xs
 mapped f g same [] = refl
@@ -84,7 +85,7 @@ certificate_is c =
     let others : List Item = ((ts ++ cs) ++ map tree_item c.tree) ++ End ∷ [] in
     let rest : flat_map item_line others ≡ ((flat_map time_line c.times ++ flat_map cycle_line c.cycles) ++ flat_map tree_line c.tree) ++ codes "end\n" =
     rw (flat_map-append item_line ((ts ++ cs) ++ map tree_item c.tree) (End ∷ []), flat_map-append item_line (ts ++ cs) (map tree_item c.tree), flat_map-append item_line ts cs, mapped time_item time_line time_is c.times, mapped Cycle cycle_line cycle_is c.cycles, mapped tree_item tree_line tree_is c.tree) refl in
-    let first : List ℕ = codes "pesp-certificate 1\n" in
+    let first : List ℕ = item_line (Version c.version) in
     let all : spelling c ≡ first ++ (item_line (Period c.period) ++ (answer_line c.answer ++ (((flat_map time_line c.times ++ flat_map cycle_line c.cycles) ++ flat_map tree_line c.tree) ++ codes "end\n"))) =
-    ap (λ (t : List ℕ). first ++ t) (flat_map-cons item_line (Period c.period) (Says c.answer ∷ others) ∙ ap (λ (t : List ℕ). item_line (Period c.period) ++ t) (flat_map-cons item_line (Says c.answer) others ∙ ap (λ (t : List ℕ). t ++ flat_map item_line others) (answer_is c.answer) ∙ ap (λ (t : List ℕ). answer_line c.answer ++ t) rest)) in
-    sym (all ∙ whole_shape first (item_line (Period c.period)) (answer_line c.answer) (flat_map time_line c.times) (flat_map cycle_line c.cycles) (flat_map tree_line c.tree) (codes "end\n") ∙ ap (λ (h : List ℕ). ((((h ++ answer_line c.answer) ++ flat_map time_line c.times) ++ flat_map cycle_line c.cycles) ++ flat_map tree_line c.tree) ++ codes "end\n") (period_is c.period))
+    flat_map-cons item_line (Version c.version) (Period c.period ∷ Says c.answer ∷ others) ∙ ap (λ (t : List ℕ). first ++ t) (flat_map-cons item_line (Period c.period) (Says c.answer ∷ others) ∙ ap (λ (t : List ℕ). item_line (Period c.period) ++ t) (flat_map-cons item_line (Says c.answer) others ∙ ap (λ (t : List ℕ). t ++ flat_map item_line others) (answer_is c.answer) ∙ ap (λ (t : List ℕ). answer_line c.answer ++ t) rest)) in
+    sym (all ∙ whole_shape first (item_line (Period c.period)) (answer_line c.answer) (flat_map time_line c.times) (flat_map cycle_line c.cycles) (flat_map tree_line c.tree) (codes "end\n") ∙ ap (λ (h : List ℕ). ((((h ++ answer_line c.answer) ++ flat_map time_line c.times) ++ flat_map cycle_line c.cycles) ++ flat_map tree_line c.tree) ++ codes "end\n") (head_is c.version c.period))

@@ -1,5 +1,5 @@
 -- A run of items is that of one certificate's content.
-use Rattle.std.proofs.Common.{◌≡◌, ℕ, Bool, true, false, cond, List, [], ◌∷◌, ◌++◌, refl, sym, ap, ◌∙◌, append_assoc}
+use Rattle.std.proofs.Common.{◌≡◌, ℕ, Bool, true, false, cond, ◌&&◌, List, [], ◌∷◌, ◌++◌, refl, sym, ap, ◌∙◌, append_assoc}
 use Rattle.std.specs.Prelude.{map, ℤ, ◌==◌}
 use Rattle.pesp_problem.specs.declared.row.SignedRow.{SignedRow}
 use Rattle.pesp_truth.specs.declared.answer.Answer.{Answer}
@@ -10,8 +10,9 @@ use Rattle.pesp_lines.specs.declared.progress.Place.TheVariants as places
 use Rattle.pesp_lines.specs.declared.progress.Progress.{Progress}
 use Rattle.pesp_truth.specs.Certificates.{Content}
 use Rattle.pesp_lines.specs.declared.item.Item.{Item}
-use Rattle.pesp_lines.specs.declared.item.Item.TheVariants.{Period, Answer as Says, Time, Cycle, Slack, Offset, Bound, Nothing, Gap, End}
-use Rattle.pesp_lines.specs.Counts.{start, after, may_follow, is_end_kind, kind_in, CanStand}
+use Rattle.pesp_lines.specs.declared.item.Item.TheVariants.{Version, Period, Answer as Says, Time, Cycle, Slack, Offset, Bound, Nothing, Gap, Propagated, End}
+use Rattle.pesp_lines.specs.Counts.{start, after, may_follow, has_kind, is_end_kind, kind_in, CanStand}
+use Rattle.pesp_lines.proofs.Tests.{and_left}
 use Rattle.pesp_cert.specs.Texts.{IsRun, time_item, tree_item, items_of}
 
 -- whether an item is a line of the tree, or the end
@@ -21,24 +22,28 @@ in_tree (Offset cycle k) = true
 in_tree (Bound ps) = true
 in_tree (Nothing ps) = true
 in_tree (Gap cycle) = true
+in_tree Propagated = true
 in_tree End = true
 in_tree _ = false
 
-tree_allowed : (b : Bool) (item : Item) → cond b (is_end_kind (kind_in item)) (may_follow places.Tree (kind_in item)) ≡ true → in_tree item ≡ true
-tree_allowed b (Slack row k) h = refl
-tree_allowed b (Offset cycle k) h = refl
-tree_allowed b (Bound ps) h = refl
-tree_allowed b (Nothing ps) h = refl
-tree_allowed b (Gap cycle) h = refl
-tree_allowed b End h = refl
-tree_allowed true (Period n) h = absurd cc
-tree_allowed false (Period n) h = absurd cc
-tree_allowed true (Says a) h = absurd cc
-tree_allowed false (Says a) h = absurd cc
-tree_allowed true (Time l t) h = absurd cc
-tree_allowed false (Time l t) h = absurd cc
-tree_allowed true (Cycle rs) h = absurd cc
-tree_allowed false (Cycle rs) h = absurd cc
+tree_allowed : (b : Bool) (version : ℕ) (item : Item) → cond b (is_end_kind (kind_in item)) (may_follow places.Tree (kind_in item) && has_kind version (kind_in item)) ≡ true → in_tree item ≡ true
+tree_allowed b version (Slack row k) h = refl
+tree_allowed b version (Offset cycle k) h = refl
+tree_allowed b version (Bound ps) h = refl
+tree_allowed b version (Nothing ps) h = refl
+tree_allowed b version (Gap cycle) h = refl
+tree_allowed b version Propagated h = refl
+tree_allowed b version End h = refl
+tree_allowed true version (Period n) h = absurd cc
+tree_allowed true version (Version n) h = absurd cc
+tree_allowed false version (Period n) h = absurd cc
+tree_allowed false version (Version n) h = absurd cc
+tree_allowed true version (Says a) h = absurd cc
+tree_allowed false version (Says a) h = absurd cc
+tree_allowed true version (Time l t) h = absurd cc
+tree_allowed false version (Time l t) h = absurd cc
+tree_allowed true version (Cycle rs) h = absurd cc
+tree_allowed false version (Cycle rs) h = absurd cc
 
 abbrev TreeItems : List Item → Type 0
 TreeItems items = (ls : List TreeLine) × (items ≡ map tree_item ls ++ End ∷ [])
@@ -52,8 +57,8 @@ first p item (next ∷ more) run = run.0
 
 other : (p : Progress) (item : Item) → p.place ≡ places.Tree → CanStand p item → in_tree item ≡ false → ⊥
 other p item at can not =
-    let allowed : cond (p.needs == 0) (is_end_kind (kind_in item)) (may_follow places.Tree (kind_in item)) ≡ true = rw at at can.allowed in
-    let is = tree_allowed (p.needs == 0) item allowed in
+    let allowed : cond (p.needs == 0) (is_end_kind (kind_in item)) (may_follow places.Tree (kind_in item) && has_kind p.version (kind_in item)) ≡ true = rw at at can.allowed in
+    let is = tree_allowed (p.needs == 0) p.version item allowed in
     cc
 
 tree_run : (p : Progress) (items : List Item) → p.place ≡ places.Tree → IsRun p items → TreeItems items
@@ -63,14 +68,17 @@ tree_run p (Offset cycle k ∷ []) at run = absurd cc
 tree_run p (Bound ps ∷ []) at run = absurd cc
 tree_run p (Nothing ps ∷ []) at run = absurd cc
 tree_run p (Gap cycle ∷ []) at run = absurd cc
+tree_run p (Propagated ∷ []) at run = absurd cc
 tree_run p (Slack row k ∷ next ∷ more) at run = tree_more (lines.Slack row k) (next ∷ more) (tree_run (after p (Slack row k)) (next ∷ more) refl run.2)
 tree_run p (Offset cycle k ∷ next ∷ more) at run = tree_more (lines.Offset cycle k) (next ∷ more) (tree_run (after p (Offset cycle k)) (next ∷ more) refl run.2)
 tree_run p (Bound ps ∷ next ∷ more) at run = tree_more (lines.Bound ps) (next ∷ more) (tree_run (after p (Bound ps)) (next ∷ more) refl run.2)
 tree_run p (Nothing ps ∷ next ∷ more) at run = tree_more (lines.Nothing ps) (next ∷ more) (tree_run (after p (Nothing ps)) (next ∷ more) refl run.2)
 tree_run p (Gap cycle ∷ next ∷ more) at run = tree_more (lines.Gap cycle) (next ∷ more) (tree_run (after p (Gap cycle)) (next ∷ more) refl run.2)
+tree_run p (Propagated ∷ next ∷ more) at run = tree_more lines.Propagated (next ∷ more) (tree_run (after p Propagated) (next ∷ more) refl run.2)
 tree_run p (End ∷ []) at run = ([], refl)
 tree_run p (End ∷ next ∷ more) at run = absurd cc
 tree_run p (Period n ∷ more) at run = absurd (other p (Period n) at (first p (Period n) more run) refl)
+tree_run p (Version n ∷ more) at run = absurd (other p (Version n) at (first p (Version n) more run) refl)
 tree_run p (Says a ∷ more) at run = absurd (other p (Says a) at (first p (Says a) more run) refl)
 tree_run p (Time l t ∷ more) at run = absurd (other p (Time l t) at (first p (Time l t) more run) refl)
 tree_run p (Cycle rs ∷ more) at run = absurd (other p (Cycle rs) at (first p (Cycle rs) more run) refl)
@@ -78,7 +86,7 @@ tree_run p (Cycle rs ∷ more) at run = absurd (other p (Cycle rs) at (first p (
 -- ---- before the tree
 
 follows : (p : Progress) (place : Place) (item : Item) → p.place ≡ place → p.needs ≡ 1 → CanStand p item → may_follow place (kind_in item) ≡ true
-follows p place item at needs can = rw (needs, at) at can.allowed
+follows p place item at needs can = and_left (may_follow place (kind_in item)) (has_kind p.version (kind_in item)) (rw (needs, at) at can.allowed)
 
 abbrev CycleItems : List Item → Type 0
 CycleItems items = (cs : List (List SignedRow)) × (ls : List TreeLine) × (items ≡ map Cycle cs ++ (map tree_item ls ++ End ∷ []))
@@ -98,13 +106,16 @@ cycle_run p (Offset cycle k ∷ []) at needs run = absurd cc
 cycle_run p (Bound ps ∷ []) at needs run = absurd cc
 cycle_run p (Nothing ps ∷ []) at needs run = absurd cc
 cycle_run p (Gap cycle ∷ []) at needs run = absurd cc
+cycle_run p (Propagated ∷ []) at needs run = absurd cc
 cycle_run p (Slack row k ∷ next ∷ more) at needs run = cycles_none (Slack row k ∷ next ∷ more) (tree_more (lines.Slack row k) (next ∷ more) (tree_run (after p (Slack row k)) (next ∷ more) refl run.2))
 cycle_run p (Offset cycle k ∷ next ∷ more) at needs run = cycles_none (Offset cycle k ∷ next ∷ more) (tree_more (lines.Offset cycle k) (next ∷ more) (tree_run (after p (Offset cycle k)) (next ∷ more) refl run.2))
 cycle_run p (Bound ps ∷ next ∷ more) at needs run = cycles_none (Bound ps ∷ next ∷ more) (tree_more (lines.Bound ps) (next ∷ more) (tree_run (after p (Bound ps)) (next ∷ more) refl run.2))
 cycle_run p (Nothing ps ∷ next ∷ more) at needs run = cycles_none (Nothing ps ∷ next ∷ more) (tree_more (lines.Nothing ps) (next ∷ more) (tree_run (after p (Nothing ps)) (next ∷ more) refl run.2))
 cycle_run p (Gap cycle ∷ next ∷ more) at needs run = cycles_none (Gap cycle ∷ next ∷ more) (tree_more (lines.Gap cycle) (next ∷ more) (tree_run (after p (Gap cycle)) (next ∷ more) refl run.2))
+cycle_run p (Propagated ∷ next ∷ more) at needs run = cycles_none (Propagated ∷ next ∷ more) (tree_more lines.Propagated (next ∷ more) (tree_run (after p Propagated) (next ∷ more) refl run.2))
 cycle_run p (End ∷ more) at needs run = let h = follows p places.Cycles End at needs (first p End more run) in absurd cc
 cycle_run p (Period n ∷ more) at needs run = let h = follows p places.Cycles (Period n) at needs (first p (Period n) more run) in absurd cc
+cycle_run p (Version n ∷ more) at needs run = let h = follows p places.Cycles (Version n) at needs (first p (Version n) more run) in absurd cc
 cycle_run p (Says a ∷ more) at needs run = let h = follows p places.Cycles (Says a) at needs (first p (Says a) more run) in absurd cc
 cycle_run p (Time l t ∷ more) at needs run = let h = follows p places.Cycles (Time l t) at needs (first p (Time l t) more run) in absurd cc
 
@@ -128,45 +139,68 @@ time_run p (Offset cycle k ∷ []) at needs run = absurd cc
 time_run p (Bound ps ∷ []) at needs run = absurd cc
 time_run p (Nothing ps ∷ []) at needs run = absurd cc
 time_run p (Gap cycle ∷ []) at needs run = absurd cc
+time_run p (Propagated ∷ []) at needs run = absurd cc
 time_run p (Slack row k ∷ next ∷ more) at needs run = times_none (Slack row k ∷ next ∷ more) (cycles_none (Slack row k ∷ next ∷ more) (tree_more (lines.Slack row k) (next ∷ more) (tree_run (after p (Slack row k)) (next ∷ more) refl run.2)))
 time_run p (Offset cycle k ∷ next ∷ more) at needs run = times_none (Offset cycle k ∷ next ∷ more) (cycles_none (Offset cycle k ∷ next ∷ more) (tree_more (lines.Offset cycle k) (next ∷ more) (tree_run (after p (Offset cycle k)) (next ∷ more) refl run.2)))
 time_run p (Bound ps ∷ next ∷ more) at needs run = times_none (Bound ps ∷ next ∷ more) (cycles_none (Bound ps ∷ next ∷ more) (tree_more (lines.Bound ps) (next ∷ more) (tree_run (after p (Bound ps)) (next ∷ more) refl run.2)))
 time_run p (Nothing ps ∷ next ∷ more) at needs run = times_none (Nothing ps ∷ next ∷ more) (cycles_none (Nothing ps ∷ next ∷ more) (tree_more (lines.Nothing ps) (next ∷ more) (tree_run (after p (Nothing ps)) (next ∷ more) refl run.2)))
 time_run p (Gap cycle ∷ next ∷ more) at needs run = times_none (Gap cycle ∷ next ∷ more) (cycles_none (Gap cycle ∷ next ∷ more) (tree_more (lines.Gap cycle) (next ∷ more) (tree_run (after p (Gap cycle)) (next ∷ more) refl run.2)))
+time_run p (Propagated ∷ next ∷ more) at needs run = times_none (Propagated ∷ next ∷ more) (cycles_none (Propagated ∷ next ∷ more) (tree_more lines.Propagated (next ∷ more) (tree_run (after p Propagated) (next ∷ more) refl run.2)))
 time_run p (End ∷ more) at needs run = let h = follows p places.Times End at needs (first p End more run) in absurd cc
 time_run p (Period n ∷ more) at needs run = let h = follows p places.Times (Period n) at needs (first p (Period n) more run) in absurd cc
+time_run p (Version n ∷ more) at needs run = let h = follows p places.Times (Version n) at needs (first p (Version n) more run) in absurd cc
 time_run p (Says a ∷ more) at needs run = let h = follows p places.Times (Says a) at needs (first p (Says a) more run) in absurd cc
 
-made : (n : ℕ) (a : Answer) (rest : List Item) → TimeItems rest → (c : Content) × (Period n ∷ Says a ∷ rest ≡ items_of c)
-made n a rest h =
+made : (v n : ℕ) (a : Answer) (rest : List Item) → TimeItems rest → (c : Content) × (Version v ∷ Period n ∷ Says a ∷ rest ≡ items_of c)
+made v n a rest h =
     let shape : rest ≡ ((map time_item h.0 ++ map Cycle h.1) ++ map tree_item h.2) ++ End ∷ [] = h.3 ∙ sym (append_assoc (map time_item h.0 ++ map Cycle h.1) (map tree_item h.2) (End ∷ []) ∙ append_assoc (map time_item h.0) (map Cycle h.1) (map tree_item h.2 ++ End ∷ [])) in
-    (record { period = n; answer = a; times = h.0; cycles = h.1; tree = h.2 }, ap (λ (is : List Item). Period n ∷ Says a ∷ is) shape)
+    (record { version = v; period = n; answer = a; times = h.0; cycles = h.1; tree = h.2 }, ap (λ (is : List Item). Version v ∷ Period n ∷ Says a ∷ is) shape)
 
-answer_run : (p : Progress) (n : ℕ) (items : List Item) → p.place ≡ places.Period → p.needs ≡ 1 → IsRun p items → (c : Content) × (Period n ∷ items ≡ items_of c)
-answer_run p n [] at needs run = absurd run
-answer_run p n (Says a ∷ []) at needs run = absurd cc
-answer_run p n (Says a ∷ next ∷ more) at needs run = made n a (next ∷ more) (time_run (after p (Says a)) (next ∷ more) refl needs run.2)
-answer_run p n (Period m ∷ more) at needs run = let h = follows p places.Period (Period m) at needs (first p (Period m) more run) in absurd cc
-answer_run p n (Time l t ∷ more) at needs run = let h = follows p places.Period (Time l t) at needs (first p (Time l t) more run) in absurd cc
-answer_run p n (Cycle rs ∷ more) at needs run = let h = follows p places.Period (Cycle rs) at needs (first p (Cycle rs) more run) in absurd cc
-answer_run p n (Slack row k ∷ more) at needs run = let h = follows p places.Period (Slack row k) at needs (first p (Slack row k) more run) in absurd cc
-answer_run p n (Offset cycle k ∷ more) at needs run = let h = follows p places.Period (Offset cycle k) at needs (first p (Offset cycle k) more run) in absurd cc
-answer_run p n (Bound ps ∷ more) at needs run = let h = follows p places.Period (Bound ps) at needs (first p (Bound ps) more run) in absurd cc
-answer_run p n (Nothing ps ∷ more) at needs run = let h = follows p places.Period (Nothing ps) at needs (first p (Nothing ps) more run) in absurd cc
-answer_run p n (Gap cycle ∷ more) at needs run = let h = follows p places.Period (Gap cycle) at needs (first p (Gap cycle) more run) in absurd cc
-answer_run p n (End ∷ more) at needs run = let h = follows p places.Period End at needs (first p End more run) in absurd cc
+answer_run : (p : Progress) (v n : ℕ) (items : List Item) → p.place ≡ places.Period → p.needs ≡ 1 → IsRun p items → (c : Content) × (Version v ∷ Period n ∷ items ≡ items_of c)
+answer_run p v n [] at needs run = absurd run
+answer_run p v n (Says a ∷ []) at needs run = absurd cc
+answer_run p v n (Says a ∷ next ∷ more) at needs run = made v n a (next ∷ more) (time_run (after p (Says a)) (next ∷ more) refl needs run.2)
+answer_run p v n (Period m ∷ more) at needs run = let h = follows p places.Period (Period m) at needs (first p (Period m) more run) in absurd cc
+answer_run p v n (Version m ∷ more) at needs run = let h = follows p places.Period (Version m) at needs (first p (Version m) more run) in absurd cc
+answer_run p v n (Time l t ∷ more) at needs run = let h = follows p places.Period (Time l t) at needs (first p (Time l t) more run) in absurd cc
+answer_run p v n (Cycle rs ∷ more) at needs run = let h = follows p places.Period (Cycle rs) at needs (first p (Cycle rs) more run) in absurd cc
+answer_run p v n (Slack row k ∷ more) at needs run = let h = follows p places.Period (Slack row k) at needs (first p (Slack row k) more run) in absurd cc
+answer_run p v n (Offset cycle k ∷ more) at needs run = let h = follows p places.Period (Offset cycle k) at needs (first p (Offset cycle k) more run) in absurd cc
+answer_run p v n (Bound ps ∷ more) at needs run = let h = follows p places.Period (Bound ps) at needs (first p (Bound ps) more run) in absurd cc
+answer_run p v n (Nothing ps ∷ more) at needs run = let h = follows p places.Period (Nothing ps) at needs (first p (Nothing ps) more run) in absurd cc
+answer_run p v n (Gap cycle ∷ more) at needs run = let h = follows p places.Period (Gap cycle) at needs (first p (Gap cycle) more run) in absurd cc
+answer_run p v n (Propagated ∷ more) at needs run = let h = follows p places.Period Propagated at needs (first p Propagated more run) in absurd cc
+answer_run p v n (End ∷ more) at needs run = let h = follows p places.Period End at needs (first p End more run) in absurd cc
+
+period_run : (p : Progress) (v : ℕ) (items : List Item) → p.place ≡ places.Header → p.needs ≡ 1 → IsRun p items → (c : Content) × (Version v ∷ items ≡ items_of c)
+period_run p v [] at needs run = absurd run
+period_run p v (Period n ∷ []) at needs run = absurd cc
+period_run p v (Period n ∷ next ∷ more) at needs run = answer_run (after p (Period n)) v n (next ∷ more) refl needs run.2
+period_run p v (Version m ∷ more) at needs run = let h = follows p places.Header (Version m) at needs (first p (Version m) more run) in absurd cc
+period_run p v (Says a ∷ more) at needs run = let h = follows p places.Header (Says a) at needs (first p (Says a) more run) in absurd cc
+period_run p v (Time l t ∷ more) at needs run = let h = follows p places.Header (Time l t) at needs (first p (Time l t) more run) in absurd cc
+period_run p v (Cycle rs ∷ more) at needs run = let h = follows p places.Header (Cycle rs) at needs (first p (Cycle rs) more run) in absurd cc
+period_run p v (Slack row k ∷ more) at needs run = let h = follows p places.Header (Slack row k) at needs (first p (Slack row k) more run) in absurd cc
+period_run p v (Offset cycle k ∷ more) at needs run = let h = follows p places.Header (Offset cycle k) at needs (first p (Offset cycle k) more run) in absurd cc
+period_run p v (Bound ps ∷ more) at needs run = let h = follows p places.Header (Bound ps) at needs (first p (Bound ps) more run) in absurd cc
+period_run p v (Nothing ps ∷ more) at needs run = let h = follows p places.Header (Nothing ps) at needs (first p (Nothing ps) more run) in absurd cc
+period_run p v (Gap cycle ∷ more) at needs run = let h = follows p places.Header (Gap cycle) at needs (first p (Gap cycle) more run) in absurd cc
+period_run p v (Propagated ∷ more) at needs run = let h = follows p places.Header Propagated at needs (first p Propagated more run) in absurd cc
+period_run p v (End ∷ more) at needs run = let h = follows p places.Header End at needs (first p End more run) in absurd cc
 
 -- each run is that of a content
 pub run_content : (items : List Item) → IsRun start items → (c : Content) × (items ≡ items_of c)
 run_content [] run = absurd run
-run_content (Period n ∷ []) run = absurd cc
-run_content (Period n ∷ next ∷ more) run = answer_run (after start (Period n)) n (next ∷ more) refl refl run.2
-run_content (Says a ∷ more) run = let h = follows start places.Header (Says a) refl refl (first start (Says a) more run) in absurd cc
-run_content (Time l t ∷ more) run = let h = follows start places.Header (Time l t) refl refl (first start (Time l t) more run) in absurd cc
-run_content (Cycle rs ∷ more) run = let h = follows start places.Header (Cycle rs) refl refl (first start (Cycle rs) more run) in absurd cc
-run_content (Slack row k ∷ more) run = let h = follows start places.Header (Slack row k) refl refl (first start (Slack row k) more run) in absurd cc
-run_content (Offset cycle k ∷ more) run = let h = follows start places.Header (Offset cycle k) refl refl (first start (Offset cycle k) more run) in absurd cc
-run_content (Bound ps ∷ more) run = let h = follows start places.Header (Bound ps) refl refl (first start (Bound ps) more run) in absurd cc
-run_content (Nothing ps ∷ more) run = let h = follows start places.Header (Nothing ps) refl refl (first start (Nothing ps) more run) in absurd cc
-run_content (Gap cycle ∷ more) run = let h = follows start places.Header (Gap cycle) refl refl (first start (Gap cycle) more run) in absurd cc
-run_content (End ∷ more) run = let h = follows start places.Header End refl refl (first start End more run) in absurd cc
+run_content (Version v ∷ []) run = absurd cc
+run_content (Version v ∷ next ∷ more) run = period_run (after start (Version v)) v (next ∷ more) refl refl run.2
+run_content (Period n ∷ more) run = let h = follows start places.Front (Period n) refl refl (first start (Period n) more run) in absurd cc
+run_content (Says a ∷ more) run = let h = follows start places.Front (Says a) refl refl (first start (Says a) more run) in absurd cc
+run_content (Time l t ∷ more) run = let h = follows start places.Front (Time l t) refl refl (first start (Time l t) more run) in absurd cc
+run_content (Cycle rs ∷ more) run = let h = follows start places.Front (Cycle rs) refl refl (first start (Cycle rs) more run) in absurd cc
+run_content (Slack row k ∷ more) run = let h = follows start places.Front (Slack row k) refl refl (first start (Slack row k) more run) in absurd cc
+run_content (Offset cycle k ∷ more) run = let h = follows start places.Front (Offset cycle k) refl refl (first start (Offset cycle k) more run) in absurd cc
+run_content (Bound ps ∷ more) run = let h = follows start places.Front (Bound ps) refl refl (first start (Bound ps) more run) in absurd cc
+run_content (Nothing ps ∷ more) run = let h = follows start places.Front (Nothing ps) refl refl (first start (Nothing ps) more run) in absurd cc
+run_content (Gap cycle ∷ more) run = let h = follows start places.Front (Gap cycle) refl refl (first start (Gap cycle) more run) in absurd cc
+run_content (Propagated ∷ more) run = let h = follows start places.Front Propagated refl refl (first start Propagated more run) in absurd cc
+run_content (End ∷ more) run = let h = follows start places.Front End refl refl (first start End more run) in absurd cc

@@ -16,16 +16,16 @@ use Rattle.pesp_truth.specs.Certificates.{Content, line_of, lines_of}
 use Rattle.pesp_lines.specs.declared.kind.Kind.{Kind}
 use Rattle.pesp_lines.specs.declared.kind.Kind.TheVariants as kinds
 use Rattle.pesp_lines.specs.declared.item.Item.{Item}
-use Rattle.pesp_lines.specs.declared.item.Item.TheVariants.{Period, Answer as Says, Cycle, End}
+use Rattle.pesp_lines.specs.declared.item.Item.TheVariants.{Version, Period, Answer as Says, Cycle, End}
 use Rattle.pesp_lines.specs.declared.progress.Place.{Place}
 use Rattle.pesp_lines.specs.declared.progress.Place.TheVariants as places
 use Rattle.pesp_lines.specs.declared.progress.Progress.{Progress}
 use Rattle.pesp_lines.specs.Rows.{rows_are_named}
 use Rattle.pesp_lines.specs.Pairs.{all_within, RiseFrom}
 use Rattle.pesp_lines.specs.Items.{IsProper, HasProperCosts, is_item_within}
-use Rattle.pesp_lines.specs.Counts.{start, after, after_tree, allows, may_follow, is_end_kind, keeps_counts, kind_in, CanStand}
+use Rattle.pesp_lines.specs.Counts.{start, after, after_tree, allows, may_follow, has_kind, is_end_kind, keeps_counts, kind_in, CanStand}
 use Rattle.pesp_lines.proofs.Tests.{and_left, and_right, and_both}
-use Rattle.pesp_cert.specs.Limits.{has_costs, is_period, is_time, are_times, is_cycle, total_rows, are_cycles, follows, rise_from, is_line, is_branch, pairs_in, total_pairs, are_lines, keeps_limits, KeepsLimits}
+use Rattle.pesp_cert.specs.Limits.{has_costs, is_period, is_time, are_times, is_cycle, total_rows, are_cycles, follows, rise_from, is_line, is_branch, pairs_in, total_pairs, are_lines, has_line, has_lines, keeps_limits, KeepsLimits}
 use Rattle.pesp_cert.specs.Texts.{is_end, IsRun, HasText, time_item, tree_item}
 use Rattle.pesp_cert.proofs.LimitFacts.{limits_of}
 
@@ -73,6 +73,7 @@ line_proper (lines.Offset cycle k) h = tt
 line_proper (lines.Bound ps) h = rises 0 ps (and_left (rise_from 0 ps) (all_within ps) h)
 line_proper (lines.Nothing ps) h = rises 0 ps (and_left (rise_from 0 ps) (all_within ps) h)
 line_proper (lines.Gap cycle) h = tt
+line_proper lines.Propagated h = tt
 
 line_within : (line : TreeLine) → is_line line ≡ true → is_item_within (tree_item line) ≡ true
 line_within (lines.Slack row k) h = h
@@ -80,6 +81,7 @@ line_within (lines.Offset cycle k) h = h
 line_within (lines.Bound ps) h = and_right (rise_from 0 ps) (all_within ps) h
 line_within (lines.Nothing ps) h = and_right (rise_from 0 ps) (all_within ps) h
 line_within (lines.Gap cycle) h = h
+line_within lines.Propagated h = h
 
 proper_line : (line : TreeLine) → IsProper (tree_item line) → is_item_within (tree_item line) ≡ true → is_line line ≡ true
 proper_line (lines.Slack row k) h w = w
@@ -87,12 +89,13 @@ proper_line (lines.Offset cycle k) h w = w
 proper_line (lines.Bound ps) h w = and_both (rise_from 0 ps) (all_within ps) (do_rise 0 ps h) w
 proper_line (lines.Nothing ps) h w = and_both (rise_from 0 ps) (all_within ps) (do_rise 0 ps h) w
 proper_line (lines.Gap cycle) h w = w
+proper_line lines.Propagated h w = w
 
 -- ---- the tree
 
 -- behind the other lines, with so many trees to come
-abbrev in_tree : (place : Place) (needs times cycles rows lines pairs : ℕ) → Progress
-in_tree place needs times cycles rows lines pairs = record { place = place; needs = needs; times = times; cycles = cycles; rows = rows; lines = lines; pairs = pairs }
+abbrev in_tree : (v : ℕ) (place : Place) (needs times cycles rows lines pairs : ℕ) → Progress
+in_tree v place needs times cycles rows lines pairs = record { place = place; version = v; needs = needs; times = times; cycles = cycles; rows = rows; lines = lines; pairs = pairs }
 
 abbrev parts_in : TreeLine → ℕ
 parts_in line = cond (is_branch line) 2 0
@@ -103,6 +106,7 @@ after_line p (lines.Offset cycle k) = refl
 after_line p (lines.Bound ps) = refl
 after_line p (lines.Nothing ps) = refl
 after_line p (lines.Gap cycle) = refl
+after_line p lines.Propagated = refl
 
 line_goes : (line : TreeLine) → is_end (tree_item line) ≡ false
 line_goes (lines.Slack row k) = refl
@@ -110,9 +114,11 @@ line_goes (lines.Offset cycle k) = refl
 line_goes (lines.Bound ps) = refl
 line_goes (lines.Nothing ps) = refl
 line_goes (lines.Gap cycle) = refl
+line_goes lines.Propagated = refl
 
 -- each kind of line may follow where one may
 line_follows : (place : Place) (line : TreeLine) → may_follow place kinds.Gap ≡ true → may_follow place (kind_in (tree_item line)) ≡ true
+line_follows places.Front line h = absurd cc
 line_follows places.Header line h = absurd cc
 line_follows places.Period line h = absurd cc
 line_follows places.Times (lines.Slack row k) h = refl
@@ -120,16 +126,19 @@ line_follows places.Times (lines.Offset cycle k) h = refl
 line_follows places.Times (lines.Bound ps) h = refl
 line_follows places.Times (lines.Nothing ps) h = refl
 line_follows places.Times (lines.Gap cycle) h = refl
+line_follows places.Times lines.Propagated h = refl
 line_follows places.Cycles (lines.Slack row k) h = refl
 line_follows places.Cycles (lines.Offset cycle k) h = refl
 line_follows places.Cycles (lines.Bound ps) h = refl
 line_follows places.Cycles (lines.Nothing ps) h = refl
 line_follows places.Cycles (lines.Gap cycle) h = refl
+line_follows places.Cycles lines.Propagated h = refl
 line_follows places.Tree (lines.Slack row k) h = refl
 line_follows places.Tree (lines.Offset cycle k) h = refl
 line_follows places.Tree (lines.Bound ps) h = refl
 line_follows places.Tree (lines.Nothing ps) h = refl
 line_follows places.Tree (lines.Gap cycle) h = refl
+line_follows places.Tree lines.Propagated h = refl
 
 not_end : (line : TreeLine) → is_end_kind (kind_in (tree_item line)) ≡ false
 not_end (lines.Slack row k) = refl
@@ -137,6 +146,7 @@ not_end (lines.Offset cycle k) = refl
 not_end (lines.Bound ps) = refl
 not_end (lines.Nothing ps) = refl
 not_end (lines.Gap cycle) = refl
+not_end lines.Propagated = refl
 
 -- what a line of a tree needs behind it
 trees_step : (n : ℕ) (line : TreeLine) (ls : List Line) → are_trees (suc n) (line_of line ∷ ls) ≡ are_trees (suc n + parts_in line - 1) ls
@@ -145,9 +155,10 @@ trees_step n (lines.Offset cycle k) ls = let e : suc n + 2 - 1 ≡ suc (suc n) =
 trees_step n (lines.Bound ps) ls = let e : suc n + 0 - 1 ≡ n = omega arith in rw e refl
 trees_step n (lines.Nothing ps) ls = let e : suc n + 0 - 1 ≡ n = omega arith in rw e refl
 trees_step n (lines.Gap cycle) ls = let e : suc n + 0 - 1 ≡ n = omega arith in rw e refl
+trees_step n lines.Propagated ls = let e : suc n + 0 - 1 ≡ n = omega arith in rw e refl
 
-counts_fit : (place : Place) (needs times cycles rows lines pairs : ℕ) → times ≤ 100000 → cycles ≤ 100000 → rows ≤ 10000000 → lines ≤ 1000000 → pairs ≤ 20000000 → keeps_counts (in_tree place needs times cycles rows lines pairs) ≡ true
-counts_fit place needs times cycles rows lines pairs a b c d e = grind (arith, nat_tests, a, b, c, d, e)
+counts_fit : (v : ℕ) (place : Place) (needs times cycles rows lines pairs : ℕ) → times ≤ 100000 → cycles ≤ 100000 → rows ≤ 10000000 → lines ≤ 1000000 → pairs ≤ 20000000 → keeps_counts (in_tree v place needs times cycles rows lines pairs) ≡ true
+counts_fit v place needs times cycles rows lines pairs a b c d e = grind (arith, nat_tests, a, b, c, d, e)
 
 -- what the counts keep to
 record Fit (times cycles rows lines pairs : ℕ) : Type 0 where
@@ -157,82 +168,97 @@ record Fit (times cycles rows lines pairs : ℕ) : Type 0 where
   few_lines : lines ≤ 1000000
   few_pairs : pairs ≤ 20000000
 
-fit_counts : (place : Place) (needs times cycles rows lines pairs : ℕ) → keeps_counts (in_tree place needs times cycles rows lines pairs) ≡ true → Fit times cycles rows lines pairs
-fit_counts place needs times cycles rows lines pairs h = record { few_times = grind (arith, nat_tests, h); few_cycles = grind (arith, nat_tests, h); few_rows = grind (arith, nat_tests, h); few_lines = grind (arith, nat_tests, h); few_pairs = grind (arith, nat_tests, h) }
+fit_counts : (v : ℕ) (place : Place) (needs times cycles rows lines pairs : ℕ) → keeps_counts (in_tree v place needs times cycles rows lines pairs) ≡ true → Fit times cycles rows lines pairs
+fit_counts v place needs times cycles rows lines pairs h = record { few_times = grind (arith, nat_tests, h); few_cycles = grind (arith, nat_tests, h); few_rows = grind (arith, nat_tests, h); few_lines = grind (arith, nat_tests, h); few_pairs = grind (arith, nat_tests, h) }
 
 none_needed : (n : ℕ) → are_trees n [] ≡ true → n ≡ 0
 none_needed zero h = refl
 none_needed (suc n) h = absurd cc
 
-allows_next : (p : Progress) (k : Kind) → 0 < p.needs → may_follow p.place k ≡ true → allows p k ≡ true
-allows_next p k some h = rw (ne_eqb p.needs 0 (omega arith)) h
+-- the kinds of the lines that a version has
+line_known : (v : ℕ) (line : TreeLine) → has_kind v (kind_in (tree_item line)) ≡ has_line v line
+line_known v (lines.Slack row k) = refl
+line_known v (lines.Offset cycle k) = refl
+line_known v (lines.Bound ps) = refl
+line_known v (lines.Nothing ps) = refl
+line_known v (lines.Gap cycle) = refl
+line_known v lines.Propagated = refl
 
-allows_line : (b : Bool) (place : Place) (line : TreeLine) → cond b (is_end_kind (kind_in (tree_item line))) (may_follow place (kind_in (tree_item line))) ≡ true → b ≡ false
-allows_line true place line h = let bad : false ≡ true = sym (not_end line) ∙ h in cc
-allows_line false place line h = refl
+allows_next : (p : Progress) (k : Kind) → 0 < p.needs → may_follow p.place k ≡ true → has_kind p.version k ≡ true → allows p k ≡ true
+allows_next p k some h known = rw (ne_eqb p.needs 0 (omega arith)) (and_both (may_follow p.place k) (has_kind p.version k) h known)
 
-tree_gives : (ls : List TreeLine) (place : Place) (needs times cycles rows lines pairs : ℕ) → may_follow place kinds.Gap ≡ true → are_trees needs (map line_of ls) ≡ true → list_all is_line ls ≡ true
-    → Fit times cycles rows (lines + length ls) (pairs + total_pairs ls) → IsRun (in_tree place needs times cycles rows lines pairs) (map tree_item ls ++ End ∷ [])
-tree_gives [] place needs times cycles rows lines pairs follows whole each fit =
+known_next : (p : Progress) (k : Kind) → 0 < p.needs → allows p k ≡ true → has_kind p.version k ≡ true
+known_next p k some h = and_right (may_follow p.place k) (has_kind p.version k) (rw (ne_eqb p.needs 0 (omega arith)) at h)
+
+allows_line : (b : Bool) (v : ℕ) (place : Place) (line : TreeLine) → cond b (is_end_kind (kind_in (tree_item line))) (may_follow place (kind_in (tree_item line)) && has_kind v (kind_in (tree_item line))) ≡ true → b ≡ false
+allows_line true v place line h = let bad : false ≡ true = sym (not_end line) ∙ h in cc
+allows_line false v place line h = refl
+
+tree_gives : (v : ℕ) (ls : List TreeLine) (place : Place) (needs times cycles rows lines pairs : ℕ) → may_follow place kinds.Gap ≡ true → are_trees needs (map line_of ls) ≡ true → list_all is_line ls ≡ true → list_all (has_line v) ls ≡ true
+    → Fit times cycles rows (lines + length ls) (pairs + total_pairs ls) → IsRun (in_tree v place needs times cycles rows lines pairs) (map tree_item ls ++ End ∷ [])
+tree_gives v [] place needs times cycles rows lines pairs follows whole each known fit =
     let none : needs ≡ 0 = none_needed needs whole in
-    rw none (record { allowed = refl; proper = tt; within = refl; counts = counts_fit place 0 times cycles rows lines pairs fit.few_times fit.few_cycles fit.few_rows (omega (arith, fit.few_lines)) (omega (arith, fit.few_pairs)) }, refl)
-tree_gives (line ∷ ls) place zero times cycles rows lines pairs follows whole each fit = absurd cc
-tree_gives (line ∷ ls) place (suc n) times cycles rows lines pairs follows whole each fit =
-    let p : Progress = in_tree place (suc n) times cycles rows lines pairs in
+    rw none (record { allowed = refl; proper = tt; within = refl; counts = counts_fit v place 0 times cycles rows lines pairs fit.few_times fit.few_cycles fit.few_rows (omega (arith, fit.few_lines)) (omega (arith, fit.few_pairs)) }, refl)
+tree_gives v (line ∷ ls) place zero times cycles rows lines pairs follows whole each known fit = absurd cc
+tree_gives v (line ∷ ls) place (suc n) times cycles rows lines pairs follows whole each known fit =
+    let p : Progress = in_tree v place (suc n) times cycles rows lines pairs in
     let one = and_left (is_line line) (list_all is_line ls) each in
     let total : total_pairs (line ∷ ls) ≡ pairs_in line + total_pairs ls = sum_by-cons pairs_in line ls in
     let few : lines + 1 ≤ 1000000 = omega (arith, fit.few_lines) in
     let few_pairs : pairs + pairs_in line ≤ 20000000 = omega (arith, fit.few_pairs, total) in
     let later : Fit times cycles rows (lines + 1 + length ls) (pairs + pairs_in line + total_pairs ls) = record { few_times = fit.few_times; few_cycles = fit.few_cycles; few_rows = fit.few_rows; few_lines = omega (arith, fit.few_lines); few_pairs = omega (arith, fit.few_pairs, total) } in
-    let run = tree_gives ls places.Tree (suc n + parts_in line - 1) times cycles rows (lines + 1) (pairs + pairs_in line) refl (sym (trees_step n line (map line_of ls)) ∙ whole) (and_right (is_line line) (list_all is_line ls) each) later in
+    let run = tree_gives v ls places.Tree (suc n + parts_in line - 1) times cycles rows (lines + 1) (pairs + pairs_in line) refl (sym (trees_step n line (map line_of ls)) ∙ whole) (and_right (is_line line) (list_all is_line ls) each) (and_right (has_line v line) (list_all (has_line v) ls) known) later in
     let can : CanStand p (tree_item line) = record {
-      allowed = allows_next p (kind_in (tree_item line)) (omega arith) (line_follows place line follows);
+      allowed = allows_next p (kind_in (tree_item line)) (omega arith) (line_follows place line follows) (line_known v line ∙ and_left (has_line v line) (list_all (has_line v) ls) known);
       proper = line_proper line one;
       within = line_within line one;
-      counts = rw (after_line p line) (counts_fit places.Tree (suc n + parts_in line - 1) times cycles rows (lines + 1) (pairs + pairs_in line) fit.few_times fit.few_cycles fit.few_rows few few_pairs);
+      counts = rw (after_line p line) (counts_fit v places.Tree (suc n + parts_in line - 1) times cycles rows (lines + 1) (pairs + pairs_in line) fit.few_times fit.few_cycles fit.few_rows few few_pairs);
     } in
     run_onto p (tree_item line) (map tree_item ls ++ End ∷ []) can (line_goes line) (rw (after_line p line) run)
 
 -- what a run of lines says of them
-record IsTree (ls : List TreeLine) (needs times cycles rows lines pairs : ℕ) : Type 0 where
+record IsTree (v : ℕ) (ls : List TreeLine) (needs times cycles rows lines pairs : ℕ) : Type 0 where
   whole : are_trees needs (map line_of ls) ≡ true
   each : list_all is_line ls ≡ true
+  known : list_all (has_line v) ls ≡ true
   fit : Fit times cycles rows (lines + length ls) (pairs + total_pairs ls)
 
-end_needs : (b : Bool) (place : Place) → cond b true (may_follow place kinds.End) ≡ true → b ≡ true
+end_needs : (b : Bool) (place : Place) → cond b true (may_follow place kinds.End && true) ≡ true → b ≡ true
 end_needs true place h = refl
+end_needs false places.Front h = absurd cc
 end_needs false places.Header h = absurd cc
 end_needs false places.Period h = absurd cc
 end_needs false places.Times h = absurd cc
 end_needs false places.Cycles h = absurd cc
 end_needs false places.Tree h = absurd cc
 
-tree_takes : (ls : List TreeLine) (place : Place) (needs times cycles rows lines pairs : ℕ) → IsRun (in_tree place needs times cycles rows lines pairs) (map tree_item ls ++ End ∷ []) → IsTree ls needs times cycles rows lines pairs
-tree_takes [] place needs times cycles rows lines pairs run =
+tree_takes : (v : ℕ) (ls : List TreeLine) (place : Place) (needs times cycles rows lines pairs : ℕ) → IsRun (in_tree v place needs times cycles rows lines pairs) (map tree_item ls ++ End ∷ []) → IsTree v ls needs times cycles rows lines pairs
+tree_takes v [] place needs times cycles rows lines pairs run =
     let none : needs ≡ 0 = eqb-true needs 0 (end_needs (needs == 0) place run.0.allowed) in
-    let fit = fit_counts place needs times cycles rows lines pairs run.0.counts in
-    record { whole = rw none refl; each = refl; fit = record { few_times = fit.few_times; few_cycles = fit.few_cycles; few_rows = fit.few_rows; few_lines = omega (arith, fit.few_lines); few_pairs = omega (arith, fit.few_pairs) } }
-tree_takes (line ∷ ls) place zero times cycles rows lines pairs run =
-    let can = run_first (in_tree place zero times cycles rows lines pairs) (tree_item line) (map tree_item ls ++ End ∷ []) run in
-    let bad : true ≡ false = allows_line true place line can.allowed in
+    let fit = fit_counts v place needs times cycles rows lines pairs run.0.counts in
+    record { whole = rw none refl; each = refl; known = refl; fit = record { few_times = fit.few_times; few_cycles = fit.few_cycles; few_rows = fit.few_rows; few_lines = omega (arith, fit.few_lines); few_pairs = omega (arith, fit.few_pairs) } }
+tree_takes v (line ∷ ls) place zero times cycles rows lines pairs run =
+    let can = run_first (in_tree v place zero times cycles rows lines pairs) (tree_item line) (map tree_item ls ++ End ∷ []) run in
+    let bad : true ≡ false = allows_line true v place line can.allowed in
     absurd cc
-tree_takes (line ∷ ls) place (suc n) times cycles rows lines pairs run =
-    let p : Progress = in_tree place (suc n) times cycles rows lines pairs in
+tree_takes v (line ∷ ls) place (suc n) times cycles rows lines pairs run =
+    let p : Progress = in_tree v place (suc n) times cycles rows lines pairs in
     let can = run_first p (tree_item line) (map tree_item ls ++ End ∷ []) run in
     let rest = run_rest p (tree_item line) (map tree_item ls ++ End ∷ []) (line_goes line) run in
-    let later = tree_takes ls places.Tree (suc n + parts_in line - 1) times cycles rows (lines + 1) (pairs + pairs_in line) (rw (after_line p line) at rest) in
+    let later = tree_takes v ls places.Tree (suc n + parts_in line - 1) times cycles rows (lines + 1) (pairs + pairs_in line) (rw (after_line p line) at rest) in
     let total : total_pairs (line ∷ ls) ≡ pairs_in line + total_pairs ls = sum_by-cons pairs_in line ls in
     record {
       whole = trees_step n line (map line_of ls) ∙ later.whole;
       each = and_both (is_line line) (list_all is_line ls) (proper_line line can.proper can.within) later.each;
+      known = and_both (has_line v line) (list_all (has_line v) ls) (sym (line_known v line) ∙ known_next p (kind_in (tree_item line)) (omega arith) can.allowed) later.known;
       fit = record { few_times = later.fit.few_times; few_cycles = later.fit.few_cycles; few_rows = later.fit.few_rows; few_lines = omega (arith, later.fit.few_lines); few_pairs = omega (arith, later.fit.few_pairs, total) };
     }
 
 -- ---- the cycles
 
 -- behind the answer, times and cycles
-abbrev in_cycles : (place : Place) (times cycles rows : ℕ) → Progress
-in_cycles place times cycles rows = in_tree place 1 times cycles rows 0 0
+abbrev in_cycles : (v : ℕ) (place : Place) (times cycles rows : ℕ) → Progress
+in_cycles v place times cycles rows = in_tree v place 1 times cycles rows 0 0
 
 some_rows : (rows : List SignedRow) → is_cycle rows ≡ true → 0 < length rows
 some_rows rows h = let some = and_left (nat_le 1 (length rows)) (rows_are_named rows) h in grind (arith, nat_tests, some)
@@ -240,47 +266,47 @@ some_rows rows h = let some = and_left (nat_le 1 (length rows)) (rows_are_named 
 rows_some : (rows : List SignedRow) → 0 < length rows → rows_are_named rows ≡ true → is_cycle rows ≡ true
 rows_some rows h k = let some : nat_le 1 (length rows) ≡ true = grind (arith, nat_tests, h) in and_both (nat_le 1 (length rows)) (rows_are_named rows) some k
 
-cycles_give : (cs : List (List SignedRow)) (place : Place) (times cycles rows : ℕ) (more : List Item) → may_follow place kinds.Cycle ≡ true → list_all is_cycle cs ≡ true
+cycles_give : (v : ℕ) (cs : List (List SignedRow)) (place : Place) (times cycles rows : ℕ) (more : List Item) → may_follow place kinds.Cycle ≡ true → list_all is_cycle cs ≡ true
     → times ≤ 100000 → cycles + length cs ≤ 100000 → rows + total_rows cs ≤ 10000000
-    → ((last : Place) → may_follow last kinds.Cycle ≡ true → IsRun (in_cycles last times (cycles + length cs) (rows + total_rows cs)) more) → IsRun (in_cycles place times cycles rows) (map Cycle cs ++ more)
-cycles_give [] place times cycles rows more follows each few_times few_cycles few_rows others =
+    → ((last : Place) → may_follow last kinds.Cycle ≡ true → IsRun (in_cycles v last times (cycles + length cs) (rows + total_rows cs)) more) → IsRun (in_cycles v place times cycles rows) (map Cycle cs ++ more)
+cycles_give v [] place times cycles rows more follows each few_times few_cycles few_rows others =
     let c : cycles + 0 ≡ cycles = omega arith in
     let r : rows + 0 ≡ rows = omega arith in
     rw (c, r) at (others place follows)
-cycles_give (w ∷ cs) place times cycles rows more follows each few_times few_cycles few_rows others =
-    let p : Progress = in_cycles place times cycles rows in
+cycles_give v (w ∷ cs) place times cycles rows more follows each few_times few_cycles few_rows others =
+    let p : Progress = in_cycles v place times cycles rows in
     let one = and_left (is_cycle w) (list_all is_cycle cs) each in
     let total : total_rows (w ∷ cs) ≡ length w + total_rows cs = sum_by-cons (λ (rs : List SignedRow). length rs) w cs in
     let few_c : cycles + 1 ≤ 100000 = omega (arith, few_cycles) in
     let few_r : rows + length w ≤ 10000000 = omega (arith, few_rows, total) in
     let c : cycles + length (w ∷ cs) ≡ cycles + 1 + length cs = omega arith in
     let r : rows + total_rows (w ∷ cs) ≡ rows + length w + total_rows cs = omega (arith, total) in
-    let run = cycles_give cs places.Cycles times (cycles + 1) (rows + length w) more refl (and_right (is_cycle w) (list_all is_cycle cs) each) few_times (omega (arith, few_cycles)) (omega (arith, few_rows, total)) (λ last f. rw (c, r) at (others last f)) in
+    let run = cycles_give v cs places.Cycles times (cycles + 1) (rows + length w) more refl (and_right (is_cycle w) (list_all is_cycle cs) each) few_times (omega (arith, few_cycles)) (omega (arith, few_rows, total)) (λ last f. rw (c, r) at (others last f)) in
     let can : CanStand p (Cycle w) = record {
-      allowed = follows;
+      allowed = and_both (may_follow place kinds.Cycle) true follows refl;
       proper = some_rows w one;
       within = and_right (nat_le 1 (length w)) (rows_are_named w) one;
-      counts = counts_fit places.Cycles 1 times (cycles + 1) (rows + length w) 0 0 few_times few_c few_r (omega arith) (omega arith);
+      counts = counts_fit v places.Cycles 1 times (cycles + 1) (rows + length w) 0 0 few_times few_c few_r (omega arith) (omega arith);
     } in
     run_onto p (Cycle w) (map Cycle cs ++ more) can refl run
 
 -- what a run of cycles says of them, and the run behind it
-abbrev AreCycles : List (List SignedRow) → (times cycles rows : ℕ) → List Item → Type 0
-AreCycles cs times cycles rows more = (list_all is_cycle cs ≡ true) × ((last : Place) × IsRun (in_cycles last times (cycles + length cs) (rows + total_rows cs)) more)
+abbrev AreCycles : ℕ → List (List SignedRow) → (times cycles rows : ℕ) → List Item → Type 0
+AreCycles v cs times cycles rows more = (list_all is_cycle cs ≡ true) × ((last : Place) × IsRun (in_cycles v last times (cycles + length cs) (rows + total_rows cs)) more)
 
-cycles_take : (cs : List (List SignedRow)) (place : Place) (times cycles rows : ℕ) (more : List Item) → IsRun (in_cycles place times cycles rows) (map Cycle cs ++ more) → AreCycles cs times cycles rows more
-cycles_take [] place times cycles rows more run =
+cycles_take : (v : ℕ) (cs : List (List SignedRow)) (place : Place) (times cycles rows : ℕ) (more : List Item) → IsRun (in_cycles v place times cycles rows) (map Cycle cs ++ more) → AreCycles v cs times cycles rows more
+cycles_take v [] place times cycles rows more run =
     let c : cycles ≡ cycles + 0 = omega arith in
     let r : rows ≡ rows + 0 = omega arith in
     (refl, (place, at_sums cycles (cycles + 0) rows (rows + 0) c r run))
   where
-    at_sums : (a b c d : ℕ) → a ≡ b → c ≡ d → IsRun (in_cycles place times a c) more → IsRun (in_cycles place times b d) more
+    at_sums : (a b c d : ℕ) → a ≡ b → c ≡ d → IsRun (in_cycles v place times a c) more → IsRun (in_cycles v place times b d) more
     at_sums a b c d e f h = rw (← e, ← f) h
-cycles_take (w ∷ cs) place times cycles rows more run =
-    let p : Progress = in_cycles place times cycles rows in
+cycles_take v (w ∷ cs) place times cycles rows more run =
+    let p : Progress = in_cycles v place times cycles rows in
     let can = run_first p (Cycle w) (map Cycle cs ++ more) run in
     let rest = run_rest p (Cycle w) (map Cycle cs ++ more) refl run in
-    let later = cycles_take cs places.Cycles times (cycles + 1) (rows + length w) more rest in
+    let later = cycles_take v cs places.Cycles times (cycles + 1) (rows + length w) more rest in
     let total : total_rows (w ∷ cs) ≡ length w + total_rows cs = sum_by-cons (λ (rs : List SignedRow). length rs) w cs in
     let c : cycles + length (w ∷ cs) ≡ cycles + 1 + length cs = omega arith in
     let r : rows + total_rows (w ∷ cs) ≡ rows + length w + total_rows cs = omega (arith, total) in
@@ -288,35 +314,36 @@ cycles_take (w ∷ cs) place times cycles rows more run =
 
 -- ---- the times
 
-abbrev in_times : ℕ → Progress
-in_times times = in_cycles places.Times times 0 0
+abbrev in_times : ℕ → ℕ → Progress
+in_times v times = in_cycles v places.Times times 0 0
 
-times_give : (ts : List (ℤ × ℕ)) (times : ℕ) (more : List Item) → list_all is_time ts ≡ true → times + length ts ≤ 100000 → IsRun (in_times (times + length ts)) more → IsRun (in_times times) (map time_item ts ++ more)
-times_give [] times more each few run = let t : times + 0 ≡ times = omega arith in rw t at run
-times_give (t ∷ ts) times more each few run =
+times_give : (v : ℕ) (ts : List (ℤ × ℕ)) (times : ℕ) (more : List Item) → list_all is_time ts ≡ true → times + length ts ≤ 100000 → IsRun (in_times v (times + length ts)) more → IsRun (in_times v times) (map time_item ts ++ more)
+times_give v [] times more each few run = let t : times + 0 ≡ times = omega arith in rw t at run
+times_give v (t ∷ ts) times more each few run =
     let few_t : times + 1 ≤ 100000 = omega (arith, few) in
     let n : times + length (t ∷ ts) ≡ times + 1 + length ts = omega arith in
-    let later = times_give ts (times + 1) more (and_right (is_time t) (list_all is_time ts) each) (omega (arith, few)) (rw n at run) in
-    let can : CanStand (in_times times) (time_item t) = record {
+    let later = times_give v ts (times + 1) more (and_right (is_time t) (list_all is_time ts) each) (omega (arith, few)) (rw n at run) in
+    let can : CanStand (in_times v times) (time_item t) = record {
       allowed = refl;
       proper = tt;
       within = and_left (is_time t) (list_all is_time ts) each;
-      counts = counts_fit places.Times 1 (times + 1) 0 0 0 0 few_t (omega arith) (omega arith) (omega arith) (omega arith);
+      counts = counts_fit v places.Times 1 (times + 1) 0 0 0 0 few_t (omega arith) (omega arith) (omega arith) (omega arith);
     } in
-    run_onto (in_times times) (time_item t) (map time_item ts ++ more) can refl later
+    run_onto (in_times v times) (time_item t) (map time_item ts ++ more) can refl later
 
-times_take : (ts : List (ℤ × ℕ)) (times : ℕ) (more : List Item) → IsRun (in_times times) (map time_item ts ++ more) → (list_all is_time ts ≡ true) × IsRun (in_times (times + length ts)) more
-times_take [] times more run = let t : times + 0 ≡ times = omega arith in (refl, rw t run)
-times_take (t ∷ ts) times more run =
-    let can = run_first (in_times times) (time_item t) (map time_item ts ++ more) run in
-    let rest = run_rest (in_times times) (time_item t) (map time_item ts ++ more) refl run in
-    let later = times_take ts (times + 1) more rest in
+times_take : (v : ℕ) (ts : List (ℤ × ℕ)) (times : ℕ) (more : List Item) → IsRun (in_times v times) (map time_item ts ++ more) → (list_all is_time ts ≡ true) × IsRun (in_times v (times + length ts)) more
+times_take v [] times more run = let t : times + 0 ≡ times = omega arith in (refl, rw t run)
+times_take v (t ∷ ts) times more run =
+    let can = run_first (in_times v times) (time_item t) (map time_item ts ++ more) run in
+    let rest = run_rest (in_times v times) (time_item t) (map time_item ts ++ more) refl run in
+    let later = times_take v ts (times + 1) more rest in
     let n : times + length (t ∷ ts) ≡ times + 1 + length ts = omega arith in
     (and_both (is_time t) (list_all is_time ts) can.within later.0, rw n later.1)
 
 -- ---- a whole content
 
 tree_where_cycle : (place : Place) → may_follow place kinds.Cycle ≡ true → may_follow place kinds.Gap ≡ true
+tree_where_cycle places.Front h = h
 tree_where_cycle places.Header h = h
 tree_where_cycle places.Period h = h
 tree_where_cycle places.Times h = refl
@@ -330,15 +357,17 @@ pub limits_give : (c : Content) → KeepsLimits c → HasText c
 limits_give c k =
     let tree : List Item = map tree_item c.tree ++ End ∷ [] in
     let others : List Item = ((map time_item c.times ++ map Cycle c.cycles) ++ map tree_item c.tree) ++ End ∷ [] in
-    let behind : (last : Place) → may_follow last kinds.Cycle ≡ true → IsRun (in_cycles last (0 + length c.times) (0 + length c.cycles) (0 + total_rows c.cycles)) tree = λ last f.
-    tree_gives c.tree last 1 (0 + length c.times) (0 + length c.cycles) (0 + total_rows c.cycles) 0 0 (tree_where_cycle last f) k.whole k.each_line
+    let behind : (last : Place) → may_follow last kinds.Cycle ≡ true → IsRun (in_cycles c.version last (0 + length c.times) (0 + length c.cycles) (0 + total_rows c.cycles)) tree = λ last f.
+    tree_gives c.version c.tree last 1 (0 + length c.times) (0 + length c.cycles) (0 + total_rows c.cycles) 0 0 (tree_where_cycle last f) k.whole k.each_line k.known
     (record { few_times = omega (arith, k.times); few_cycles = omega (arith, k.cycles); few_rows = omega (arith, k.rows); few_lines = omega (arith, k.lines); few_pairs = omega (arith, k.pairs) }) in
-    let cycles = cycles_give c.cycles places.Times (0 + length c.times) 0 0 tree refl k.each_cycle (omega (arith, k.times)) (omega (arith, k.cycles)) (omega (arith, k.rows)) behind in
-    let times = times_give c.times 0 (map Cycle c.cycles ++ tree) k.each_time (omega (arith, k.times)) cycles in
-    let shaped : IsRun (in_times 0) (((map time_item c.times ++ map Cycle c.cycles) ++ map tree_item c.tree) ++ End ∷ []) = rw (items_shape (map time_item c.times) (map Cycle c.cycles) (map tree_item c.tree) (End ∷ [])) times in
-    let answer = run_onto (in_tree places.Period 1 0 0 0 0 0) (Says c.answer) others (record { allowed = refl; proper = costs_proper c.answer k.answer; within = refl; counts = refl }) refl shaped in
+    let cycles = cycles_give c.version c.cycles places.Times (0 + length c.times) 0 0 tree refl k.each_cycle (omega (arith, k.times)) (omega (arith, k.cycles)) (omega (arith, k.rows)) behind in
+    let times = times_give c.version c.times 0 (map Cycle c.cycles ++ tree) k.each_time (omega (arith, k.times)) cycles in
+    let shaped : IsRun (in_times c.version 0) (((map time_item c.times ++ map Cycle c.cycles) ++ map tree_item c.tree) ++ End ∷ []) = rw (items_shape (map time_item c.times) (map Cycle c.cycles) (map tree_item c.tree) (End ∷ [])) times in
+    let answer = run_onto (in_tree c.version places.Period 1 0 0 0 0 0) (Says c.answer) others (record { allowed = refl; proper = costs_proper c.answer k.answer; within = refl; counts = refl }) refl shaped in
     let within : (nat_le 1 c.period && nat_le c.period 10000) ≡ true = grind (arith, nat_tests, k.period) in
-    record { run = run_onto start (Period c.period) (Says c.answer ∷ others) (record { allowed = refl; proper = tt; within = within; counts = refl }) refl answer }
+    let version : (nat_le 1 c.version && nat_le c.version 2) ≡ true = grind (arith, nat_tests, k.version) in
+    let period = run_onto (in_tree c.version places.Header 1 0 0 0 0 0) (Period c.period) (Says c.answer ∷ others) (record { allowed = refl; proper = tt; within = within; counts = refl }) refl answer in
+    record { run = run_onto start (Version c.version) (Period c.period ∷ Says c.answer ∷ others) (record { allowed = refl; proper = tt; within = version; counts = refl }) refl period }
 
 le_test : (m n : ℕ) → m ≤ n → nat_le m n ≡ true
 le_test m n h = grind (arith, nat_tests, h)
@@ -348,14 +377,16 @@ unfolding keeps_limits
 text_keeps_limits c h =
     let tree : List Item = map tree_item c.tree ++ End ∷ [] in
     let others : List Item = ((map time_item c.times ++ map Cycle c.cycles) ++ map tree_item c.tree) ++ End ∷ [] in
-    let period = run_first start (Period c.period) (Says c.answer ∷ others) h.run in
-    let behind_period = run_rest start (Period c.period) (Says c.answer ∷ others) refl h.run in
-    let answer = run_first (in_tree places.Period 1 0 0 0 0 0) (Says c.answer) others behind_period in
-    let behind_answer = run_rest (in_tree places.Period 1 0 0 0 0 0) (Says c.answer) others refl behind_period in
-    let shaped : IsRun (in_times 0) (map time_item c.times ++ (map Cycle c.cycles ++ tree)) = rw (items_shape (map time_item c.times) (map Cycle c.cycles) (map tree_item c.tree) (End ∷ [])) at behind_answer in
-    let times = times_take c.times 0 (map Cycle c.cycles ++ tree) shaped in
-    let cycles = cycles_take c.cycles places.Times (0 + length c.times) 0 0 tree times.1 in
-    let lines = tree_takes c.tree cycles.1.0 1 (0 + length c.times) (0 + length c.cycles) (0 + total_rows c.cycles) 0 0 cycles.1.1 in
+    let version = run_first start (Version c.version) (Period c.period ∷ Says c.answer ∷ others) h.run in
+    let behind_version = run_rest start (Version c.version) (Period c.period ∷ Says c.answer ∷ others) refl h.run in
+    let period = run_first (in_tree c.version places.Header 1 0 0 0 0 0) (Period c.period) (Says c.answer ∷ others) behind_version in
+    let behind_period = run_rest (in_tree c.version places.Header 1 0 0 0 0 0) (Period c.period) (Says c.answer ∷ others) refl behind_version in
+    let answer = run_first (in_tree c.version places.Period 1 0 0 0 0 0) (Says c.answer) others behind_period in
+    let behind_answer = run_rest (in_tree c.version places.Period 1 0 0 0 0 0) (Says c.answer) others refl behind_period in
+    let shaped : IsRun (in_times c.version 0) (map time_item c.times ++ (map Cycle c.cycles ++ tree)) = rw (items_shape (map time_item c.times) (map Cycle c.cycles) (map tree_item c.tree) (End ∷ [])) at behind_answer in
+    let times = times_take c.version c.times 0 (map Cycle c.cycles ++ tree) shaped in
+    let cycles = cycles_take c.version c.cycles places.Times (0 + length c.times) 0 0 tree times.1 in
+    let lines = tree_takes c.version c.tree cycles.1.0 1 (0 + length c.times) (0 + length c.cycles) (0 + total_rows c.cycles) 0 0 cycles.1.1 in
     let t : are_times c.times ≡ true = and_both (nat_le (length c.times) 100000) (list_all is_time c.times) (le_test (length c.times) 100000 (omega (arith, lines.fit.few_times))) times.0 in
     let k1 = and_both (nat_le (length c.cycles) 100000) (nat_le (total_rows c.cycles) 10000000) (le_test (length c.cycles) 100000 (omega (arith, lines.fit.few_cycles))) (le_test (total_rows c.cycles) 10000000 (omega (arith, lines.fit.few_rows))) in
     let k : are_cycles c.cycles ≡ true = and_both (nat_le (length c.cycles) 100000 && nat_le (total_rows c.cycles) 10000000) (list_all is_cycle c.cycles) k1 cycles.0 in
@@ -365,7 +396,9 @@ text_keeps_limits c h =
     let a = and_both (is_period c.period) (has_costs c.answer) period.within (proper_costs c.answer answer.proper) in
     let at = and_both (is_period c.period && has_costs c.answer) (are_times c.times) a t in
     let atc = and_both (is_period c.period && has_costs c.answer && are_times c.times) (are_cycles c.cycles) at k in
-    and_both (is_period c.period && has_costs c.answer && are_times c.times && are_cycles c.cycles) (are_lines c.tree) atc l
+    let atcl = and_both (is_period c.period && has_costs c.answer && are_times c.times && are_cycles c.cycles) (are_lines c.tree) atc l in
+    let known = and_both (nat_le 1 c.version && nat_le c.version 2) (list_all (has_line c.version) c.tree) version.within lines.known in
+    and_both (is_period c.period && has_costs c.answer && are_times c.times && are_cycles c.cycles && are_lines c.tree) (has_lines c.version c.tree) atcl known
 
 pub no_text : (c : Content) → keeps_limits c ≡ false → HasText c → ⊥
 no_text c h text = let bad : true ≡ false = sym (text_keeps_limits c text) ∙ h in cc

@@ -13,7 +13,7 @@ use Rattle.pesp_text.specs.Number.{NATURALS}
 use Rattle.pesp_text.specs.Words.{spaced, line_of}
 use Rattle.pesp_lines.specs.Pairs.{pair_words, is_pair_within, all_within, RiseFrom}
 use Rattle.pesp_lines.specs.declared.item.Item.{Item}
-use Rattle.pesp_lines.specs.declared.item.Item.TheVariants.{Period, Answer as Says, Time, Cycle, Slack, Offset, Bound, Nothing, Gap, End}
+use Rattle.pesp_lines.specs.declared.item.Item.TheVariants.{Version, Period, Answer as Says, Time, Cycle, Slack, Offset, Bound, Nothing, Gap, Propagated, End}
 use Rattle.pesp_lines.specs.Rows.{is_name, rows_are_named, row_word, row_words}
 use Rattle.pesp_lines.specs.Items.{item_words}
 use Rattle.pesp_lines.specs.Counts.{after, CanStand}
@@ -81,6 +81,7 @@ int100 : (z : ℤ) → nat_abs z < NATURALS → length (signed_decimal z) ≤ 10
 int100 z lt = omega (arith, int_len z lt)
 
 pub can_short : (p : Progress) (item : Item) → CanStand p item → IsShort item
+can_short p (Version n) can = one_short (codes "pesp-certificate") (decimal n) (omega arith) (nat100 n (grind (arith, nat_tests, can.within)))
 can_short p (Period n) can = one_short (codes "period") (decimal n) (omega arith) (nat100 n (grind (arith, nat_tests, can.within)))
 can_short p (Says (answers.Optimal c)) can = one_short (codes "answer optimal") (decimal c) (omega arith) (nat100 c can.proper)
 can_short p (Says answers.Infeasible) can = omega arith
@@ -95,6 +96,7 @@ can_short p (Offset cycle k) can = two_short (codes "o") (decimal cycle) (signed
 can_short p (Bound ps) can = list_short (codes "b") (spaced (pair_words ps)) (omega arith) (omega (arith, leaf_short ps can.proper can.within))
 can_short p (Nothing ps) can = list_short (codes "n") (spaced (pair_words ps)) (omega arith) (omega (arith, leaf_short ps can.proper can.within))
 can_short p (Gap cycle) can = one_short (codes "g") (decimal cycle) (omega arith) (nat100 cycle (grind (arith, nat_tests, can.within)))
+can_short p Propagated can = omega arith
 can_short p End can = omega arith
 
 pub run_short : (p : Progress) (items : List Item) → IsRun p items → AllByRecursion IsShort items

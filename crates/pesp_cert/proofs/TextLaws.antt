@@ -2,12 +2,10 @@
 use Rattle.std.proofs.Common.{◌≡◌, ℕ, zero, suc, ◌+◌, Bool, true, false, cond, not, List, [], ◌∷◌, ◌++◌, length, Result, Ok, Err, refl, sym, subst, ap, ◌∙◌, arith, inl, inr, append_assoc}
 use Rattle.std.specs.Prelude.{IsErrAnd, nat_lt, ◌==◌}
 use Rattle.std.specs.List.{list_all, All, join_with_byte, flat_map, AllByRecursion}
-use Rattle.std.specs.Str.{bytes_eq}
 use Rattle.std.proofs.lemmas.Bool.Decides.{nat_tests}
 use Rattle.std.proofs.lemmas.List.{append-nil}
 use Rattle.std.proofs.lemmas.List.Concat.{flat_map-cons}
 use Rattle.std.proofs.lemmas.List.Splits.{slice_split_at, join_with_byte-slice_split}
-use Rattle.std.proofs.lemmas.Slice.Eq.{bytes_eq-Decides}
 use Rattle.pesp_lines.specs.declared.fault.LineFault.{LineFault}
 use Rattle.pesp_cert.specs.declared.refusal.CertRefusal.{CertRefusal}
 use Rattle.pesp_cert.specs.declared.refusal.CertRefusal.TheVariants as refusals
@@ -17,8 +15,8 @@ use Rattle.pesp_lines.specs.declared.item.Item.{Item}
 use Rattle.pesp_lines.specs.Items.{item_words, item_line}
 use Rattle.pesp_lines.specs.Counts.{start, after, CanStand}
 use Rattle.pesp_lines.specs.Lines.{LONGEST, line_at}
-use Rattle.pesp_cert.specs.Texts.{HEADER, is_end, IsRun, text_of, items_of, spelling, NoneBeginsAnother}
-use Rattle.pesp_cert.specs.Refusals.{items_from, items_in, items_behind, items_of_text, onto, is_nothing, refusal_at, IsTextOf, ReadsTexts}
+use Rattle.pesp_cert.specs.Texts.{is_end, IsRun, text_of, items_of, spelling, NoneBeginsAnother}
+use Rattle.pesp_cert.specs.Refusals.{items_from, items_of_text, onto, is_nothing, refusal_at, IsTextOf, ReadsTexts}
 use Rattle.pesp_lines.proofs.Tests.{cases, and_left, and_right}
 use Rattle.pesp_cert.proofs.TextSteps.{nonempty, at_end, at_item, nothing_more}
 use Rattle.pesp_truth.specs.Certificates.{Content}
@@ -146,40 +144,15 @@ items_read (item ∷ next ∷ others) n m p more run short last =
 
 -- ---- whole texts
 
-header_cut : (rest : List ℕ) → pieces 10 (HEADER ++ 10 ∷ rest) ≡ HEADER ∷ pieces 10 rest
-header_cut rest = slice_split_at (is_byte 10) HEADER 10 rest (no_lf HEADER refl) refl
-
-header_is : (ps : List (List ℕ)) (w : List ℕ) (ws : List (List ℕ)) → ps ≡ w ∷ ws → items_behind HEADER ps ≡ items_from 2 start ps
-header_is ps w ws e = rw e refl
-
-pub text_read : (items : List Item) (more : List ℕ) → IsRun start items → items_of_text (text_of items ++ more) ≡ cond (length more == 0) (Ok items) (Err (refusals.Trailing (2 + length items)))
+pub text_read : (items : List Item) (more : List ℕ) → IsRun start items → items_of_text (text_of items ++ more) ≡ cond (length more == 0) (Ok items) (Err (refusals.Trailing (1 + length items)))
 unfolding items_of_text
-text_read items more run =
-    let rest : List ℕ = flat_map item_line items ++ more in
-    let some = nonempty rest in
-    let cut : pieces 10 (text_of items ++ more) ≡ HEADER ∷ pieces 10 rest = ap (pieces 10) (append_assoc HEADER (10 ∷ flat_map item_line items) more) ∙ header_cut rest in
-    ap items_in cut ∙ header_is (pieces 10 rest) some.0 some.1 some.2 ∙ items_read items 2 (2 + length items) start more run (run_short start items run) refl
-
-text_behind : (line : List ℕ) (ps : List (List ℕ)) (items : List Item) → items_behind line ps ≡ Ok items → (join_with_byte 10 (line ∷ ps) ≡ text_of items) × IsRun start items
-text_behind line [] items h = absurd cc
-text_behind line (next ∷ more) items h =
-    elim (cases (bytes_eq line HEADER)) [
-      | inl is ↦
-          let found = items_found 2 start (next ∷ more) items (rw is at h) in
-          let head : line ≡ HEADER = (bytes_eq-Decides line HEADER).0 is in
-          (rw (head, found.text) refl, found.run)
-      | inr isnt ↦ let bad : Err refusals.Header ≡ Ok items = rw isnt at h in absurd cc
-    ]
-
-text_in : (pcs : List (List ℕ)) (items : List Item) → items_in pcs ≡ Ok items → (join_with_byte 10 pcs ≡ text_of items) × IsRun start items
-text_in [] items h = absurd cc
-text_in (line ∷ rest) items h = text_behind line rest items (is_ok (nat_lt LONGEST (length line)) (refusals.Limit 1) (items_behind line rest) items h)
+text_read items more run = items_read items 1 (1 + length items) start more run (run_short start items run) refl
 
 pub text_found : (text : List ℕ) (items : List Item) → items_of_text text ≡ Ok items → (text ≡ text_of items) × IsRun start items
 unfolding items_of_text
 text_found text items h =
-    let t = text_in (pieces 10 text) items h in
-    (sym (join_with_byte-slice_split 10 text) ∙ t.0, t.1)
+    let found = items_found 1 start (pieces 10 text) items h in
+    (sym (join_with_byte-slice_split 10 text) ∙ found.text, found.run)
 
 -- ---- no text begins another
 
@@ -194,8 +167,8 @@ nil_is (c ∷ cs) h = absurd (grind (arith, nat_tests, h))
 pub none_begins : (a b : List Item) (more : List ℕ) → IsRun start a → IsRun start b → text_of a ++ more ≡ text_of b → (a ≡ b) × (more ≡ [])
 none_begins a b more run_a run_b same =
     let whole : items_of_text (text_of b) ≡ Ok b = ap items_of_text (sym (append-nil (text_of b))) ∙ text_read b [] run_b in
-    let both : cond (length more == 0) (Ok a) (Err (refusals.Trailing (2 + length a))) ≡ Ok b = sym (text_read a more run_a) ∙ ap items_of_text same ∙ whole in
-    let t = begun (length more == 0) a b (2 + length a) both in
+    let both : cond (length more == 0) (Ok a) (Err (refusals.Trailing (1 + length a))) ≡ Ok b = sym (text_read a more run_a) ∙ ap items_of_text same ∙ whole in
+    let t = begun (length more == 0) a b (1 + length a) both in
     (t.1, nil_is more t.0)
 
 -- ---- contents

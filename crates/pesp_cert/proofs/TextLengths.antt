@@ -15,12 +15,12 @@ use Rattle.pesp_truth.specs.Certificates.{Content}
 use Rattle.pesp_text.specs.Words.{spaced}
 use Rattle.pesp_lines.specs.Pairs.{pair_words, all_within}
 use Rattle.pesp_lines.specs.declared.item.Item.{Item}
-use Rattle.pesp_lines.specs.declared.item.Item.TheVariants.{Period, Answer as Says, Cycle, End}
+use Rattle.pesp_lines.specs.declared.item.Item.TheVariants.{Version, Period, Answer as Says, Cycle, End}
 use Rattle.pesp_lines.specs.Rows.{rows_are_named, row_words}
 use Rattle.pesp_lines.specs.Items.{item_line}
 use Rattle.pesp_lines.proofs.Tests.{and_left, and_right}
 use Rattle.pesp_cert.specs.Limits.{has_costs, is_time, is_cycle, total_rows, rise_from, is_line, pairs_in, total_pairs, KeepsLimits}
-use Rattle.pesp_cert.specs.Texts.{HasText, HEADER, time_item, tree_item, items_of, spelling}
+use Rattle.pesp_cert.specs.Texts.{HasText, time_item, tree_item, spelling}
 use Rattle.pesp_cert.proofs.LimitFacts.{limits_of}
 use Rattle.pesp_cert.proofs.Runs.{text_keeps_limits}
 use Rattle.pesp_cert.proofs.ShortLaws.{nat_len, int_len, rows_len, pairs_len}
@@ -48,6 +48,9 @@ two_len w a b =
 list_len : (w a : List ℕ) → length ((w ++ a) ++ 10 ∷ []) ≡ length w + length a + 1
 list_len w a = omega (arith, length-append (w ++ a) (10 ∷ []), length-append w a)
 
+version_len : (n : ℕ) → n ≤ 2 → length (item_line (Version n)) ≤ 50
+version_len n le = omega (arith, one_len (codes "pesp-certificate") (decimal n), nat_len n (omega (arith, le)))
+
 period_len : (n : ℕ) → n ≤ 10000 → length (item_line (Period n)) ≤ 50
 period_len n le = omega (arith, one_len (codes "period") (decimal n), nat_len n (omega (arith, le)))
 
@@ -73,6 +76,7 @@ line_len (lines.Offset cycle k) h = omega (arith, two_len (codes "o") (decimal c
 line_len (lines.Bound ps) h = leaf_len (codes "b") ps (omega arith) h
 line_len (lines.Nothing ps) h = leaf_len (codes "n") ps (omega arith) h
 line_len (lines.Gap cycle) h = omega (arith, one_len (codes "g") (decimal cycle), nat_len cycle (grind (arith, nat_tests, h)))
+line_len lines.Propagated h = omega arith
 
 -- ---- all lines of a kind
 
@@ -121,7 +125,8 @@ texts_short c text =
     let others : List Item = ((map time_item c.times ++ map Cycle c.cycles) ++ map tree_item c.tree) ++ End ∷ [] in
     omega (
       arith,
-      length-append HEADER (10 ∷ flat_map item_line (items_of c)),
+      bytes-onto (Version c.version) (Period c.period ∷ Says c.answer ∷ others),
+      version_len c.version k.version.1,
       bytes-onto (Period c.period) (Says c.answer ∷ others),
       bytes-onto (Says c.answer) others,
       period_len c.period k.period.1,

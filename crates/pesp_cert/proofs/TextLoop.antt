@@ -1,21 +1,19 @@
 -- The loop over the lines of a text.
 use Rattle.std.proofs.Common.{◌≡◌, ℕ, ◌+◌, ◌<◌, ◌≤◌, true, false, cond, List, [], ◌∷◌, ◌++◌, length, Result, Ok, Err, refl, sym, ap, ◌∙◌, arith, inr, append_assoc}
 use Rattle.std.specs.Prelude.{◌==◌}
-use Rattle.std.specs.Str.{bytes_eq}
-use Rattle.std.proofs.lemmas.Bool.{le-ltb, lt-ltb}
 use Rattle.pesp_truth.specs.Certificates.{Content}
 use Rattle.pesp_text.specs.Words.{pieces}
 use Rattle.pesp_lines.specs.declared.fault.LineFault.{LineFault}
 use Rattle.pesp_lines.specs.declared.item.Item.{Item}
-use Rattle.pesp_lines.specs.declared.item.Item.TheVariants.{Period, Answer as Says, Time, Cycle, Slack, Offset, Bound, Nothing, Gap, End}
+use Rattle.pesp_lines.specs.declared.item.Item.TheVariants.{Version, Period, Answer as Says, Time, Cycle, Slack, Offset, Bound, Nothing, Gap, Propagated, End}
 use Rattle.pesp_lines.specs.declared.progress.Progress.{Progress}
 use Rattle.pesp_lines.specs.Counts.{start, after, IsKept}
 use Rattle.pesp_lines.specs.Lines.{line_at, LONGEST}
 use Rattle.pesp_cert.specs.declared.refusal.CertRefusal.{CertRefusal}
 use Rattle.pesp_cert.specs.declared.refusal.CertRefusal.TheVariants as refusals
-use Rattle.pesp_cert.specs.Texts.{HEADER, is_end}
+use Rattle.pesp_cert.specs.Texts.{is_end}
 use Rattle.pesp_cert.specs.Drafts.{blank, added, all_added, ReadsItems}
-use Rattle.pesp_cert.specs.Refusals.{items_from, items_behind, items_of_text, refusal_at, is_nothing, onto}
+use Rattle.pesp_cert.specs.Refusals.{items_from, items_of_text, refusal_at, is_nothing, onto}
 use Rattle.pesp_cert.proofs.DraftLaws.{all_added-append}
 use Rattle.pesp_cert.proofs.TextSteps.{nonempty, nothing_more, at_long, at_last, at_fault, at_end, at_item}
 
@@ -27,38 +25,40 @@ behind items (Err r) = Err r
 -- what is left gives, behind the items so far, what all gives; and they add up to the draft
 pub record IsReadTo (all rest : List ℕ) (n : ℕ) (p : Progress) (draft : Content) : Type 0 where
   pub items : List Item
-  pub same : behind items (items_from n p (pieces 10 rest)) ≡ items_from 2 start (pieces 10 all)
+  pub same : behind items (items_from n p (pieces 10 rest)) ≡ items_of_text all
   pub made : draft ≡ all_added blank items
   pub kept : IsKept p
-  pub long : n + length rest ≤ length all + 2
-  pub more : 2 ≤ n
+  pub long : n + length rest ≤ length all + 1
+  pub more : 1 ≤ n
 
 behind_nothing : (r : Result (List Item) CertRefusal) → behind [] r ≡ r
 behind_nothing (Ok items) = refl
 behind_nothing (Err e) = refl
 
-pub read_start : (all : List ℕ) (p : Progress) (draft : Content) → p ≡ start → IsKept p → draft ≡ blank → IsReadTo all all 2 p draft
-read_start all p draft e kept none = record { items = []; same = rw e (behind_nothing (items_from 2 start (pieces 10 all))); made = none; kept = kept; long = omega arith; more = omega arith }
+pub read_start : (all : List ℕ) (p : Progress) (draft : Content) → p ≡ start → IsKept p → draft ≡ blank → IsReadTo all all 1 p draft
+unfolding items_of_text
+read_start all p draft e kept none = record { items = []; same = rw e (behind_nothing (items_from 1 start (pieces 10 all))); made = none; kept = kept; long = omega arith; more = omega arith }
 
-read_as : (all rest : List ℕ) (n : ℕ) (p : Progress) (draft : Content) (r : Result (List Item) CertRefusal) (so_far : IsReadTo all rest n p draft) → items_from n p (pieces 10 rest) ≡ r → behind so_far.items r ≡ items_from 2 start (pieces 10 all)
+read_as : (all rest : List ℕ) (n : ℕ) (p : Progress) (draft : Content) (r : Result (List Item) CertRefusal) (so_far : IsReadTo all rest n p draft) → items_from n p (pieces 10 rest) ≡ r → behind so_far.items r ≡ items_of_text all
 read_as all rest n p draft r so_far h = rw (← h) so_far.same
 
-read_err : (all rest : List ℕ) (n : ℕ) (p : Progress) (draft : Content) (e : CertRefusal) → IsReadTo all rest n p draft → items_from n p (pieces 10 rest) ≡ Err e → ReadsItems (Err e) (items_from 2 start (pieces 10 all))
+read_err : (all rest : List ℕ) (n : ℕ) (p : Progress) (draft : Content) (e : CertRefusal) → IsReadTo all rest n p draft → items_from n p (pieces 10 rest) ≡ Err e → ReadsItems (Err e) (items_of_text all)
 read_err all rest n p draft e so_far h = inr (sym (read_as all rest n p draft (Err e) so_far h))
 
-pub read_long : (all rest line : List ℕ) (ps : List (List ℕ)) (n : ℕ) (p : Progress) (draft : Content) → IsReadTo all rest n p draft → pieces 10 rest ≡ line ∷ ps → LONGEST < length line → ReadsItems (Err (refusals.Limit n)) (items_from 2 start (pieces 10 all))
+pub read_long : (all rest line : List ℕ) (ps : List (List ℕ)) (n : ℕ) (p : Progress) (draft : Content) → IsReadTo all rest n p draft → pieces 10 rest ≡ line ∷ ps → LONGEST < length line → ReadsItems (Err (refusals.Limit n)) (items_of_text all)
 read_long all rest line ps n p draft so_far cut long = read_err all rest n p draft (refusals.Limit n) so_far (rw cut (at_long n p line ps long))
 
-pub read_cut : (all rest line : List ℕ) (n : ℕ) (p : Progress) (draft : Content) → IsReadTo all rest n p draft → pieces 10 rest ≡ line ∷ [] → length line ≤ LONGEST → ReadsItems (Err refusals.Truncated) (items_from 2 start (pieces 10 all))
+pub read_cut : (all rest line : List ℕ) (n : ℕ) (p : Progress) (draft : Content) → IsReadTo all rest n p draft → pieces 10 rest ≡ line ∷ [] → length line ≤ LONGEST → ReadsItems (Err refusals.Truncated) (items_of_text all)
 read_cut all rest line n p draft so_far cut short = read_err all rest n p draft refusals.Truncated so_far (rw cut (at_last n p line short))
 
 pub read_fault : (all rest line more : List ℕ) (n : ℕ) (p : Progress) (draft : Content) (f : LineFault) → IsReadTo all rest n p draft → pieces 10 rest ≡ line ∷ pieces 10 more → length line ≤ LONGEST → line_at p line ≡ Err f
-    → ReadsItems (Err (refusal_at n f)) (items_from 2 start (pieces 10 all))
+    → ReadsItems (Err (refusal_at n f)) (items_of_text all)
 read_fault all rest line more n p draft f so_far cut short h =
     let some = nonempty more in
     read_err all rest n p draft (refusal_at n f) so_far (rw (cut, some.2) (at_fault n p line some.0 some.1 f short h))
 
 pub end_adds : (c : Content) (item : Item) → is_end item ≡ true → added c item ≡ c
+end_adds c (Version n) h = absurd cc
 end_adds c (Period n) h = absurd cc
 end_adds c (Says a) h = absurd cc
 end_adds c (Time l t) h = absurd cc
@@ -68,6 +68,7 @@ end_adds c (Offset cycle k) h = absurd cc
 end_adds c (Bound ps) h = absurd cc
 end_adds c (Nothing ps) h = absurd cc
 end_adds c (Gap cycle) h = absurd cc
+end_adds c Propagated h = absurd cc
 end_adds c End h = refl
 
 -- the piece behind the end decides
@@ -79,13 +80,13 @@ at_the_end rest line more n p item cut short h e =
     rw (cut, some.2, ← test) (at_end n p line some.0 some.1 item short h e)
 
 pub read_end : (all rest line more : List ℕ) (n : ℕ) (p : Progress) (draft : Content) (item : Item) → IsReadTo all rest n p draft → pieces 10 rest ≡ line ∷ pieces 10 more → length line ≤ LONGEST → line_at p line ≡ Ok item → is_end item ≡ true
-    → (length more == 0) ≡ true → ReadsItems (Ok draft) (items_from 2 start (pieces 10 all))
+    → (length more == 0) ≡ true → ReadsItems (Ok draft) (items_of_text all)
 read_end all rest line more n p draft item so_far cut short h e none =
     let last = rw none at (at_the_end rest line more n p item cut short h e) in
     (so_far.items ++ item ∷ [], sym (read_as all rest n p draft (Ok (item ∷ [])) so_far last), so_far.made ∙ sym (all_added-append blank so_far.items (item ∷ []) ∙ end_adds (all_added blank so_far.items) item e))
 
 pub read_trailing : (all rest line more : List ℕ) (n : ℕ) (p : Progress) (draft : Content) (item : Item) → IsReadTo all rest n p draft → pieces 10 rest ≡ line ∷ pieces 10 more → length line ≤ LONGEST → line_at p line ≡ Ok item → is_end item ≡ true
-    → (length more == 0) ≡ false → ReadsItems (Err (refusals.Trailing (n + 1))) (items_from 2 start (pieces 10 all))
+    → (length more == 0) ≡ false → ReadsItems (Err (refusals.Trailing (n + 1))) (items_of_text all)
 read_trailing all rest line more n p draft item so_far cut short h e some =
     read_err all rest n p draft (refusals.Trailing (n + 1)) so_far (rw some at (at_the_end rest line more n p item cut short h e))
 
@@ -106,31 +107,3 @@ read_more all rest line more n p q draft next item so_far cut shorter short h e 
       long = omega (arith, so_far.long);
       more = omega (arith, so_far.more);
     }
-
--- ---- the first line
-
-behind_header : (line : List ℕ) (ps : List (List ℕ)) (w : List ℕ) (ws : List (List ℕ)) → ps ≡ w ∷ ws → bytes_eq line HEADER ≡ true → items_behind line ps ≡ items_from 2 start ps
-behind_header line ps w ws some h = rw some (rw h refl)
-
-behind_other : (line : List ℕ) (ps : List (List ℕ)) (w : List ℕ) (ws : List (List ℕ)) → ps ≡ w ∷ ws → bytes_eq line HEADER ≡ false → items_behind line ps ≡ Err refusals.Header
-behind_other line ps w ws some h = rw some (rw h refl)
-
-pub headed : (text line more : List ℕ) → pieces 10 text ≡ line ∷ pieces 10 more → length line ≤ LONGEST → bytes_eq line HEADER ≡ true → items_of_text text ≡ items_from 2 start (pieces 10 more)
-unfolding items_of_text
-headed text line more cut short h =
-    let some = nonempty more in
-    rw (cut, le-ltb LONGEST (length line) short, behind_header line (pieces 10 more) some.0 some.1 some.2 h) refl
-
-pub unheaded : (text line more : List ℕ) → pieces 10 text ≡ line ∷ pieces 10 more → length line ≤ LONGEST → bytes_eq line HEADER ≡ false → items_of_text text ≡ Err refusals.Header
-unfolding items_of_text
-unheaded text line more cut short h =
-    let some = nonempty more in
-    rw (cut, le-ltb LONGEST (length line) short, behind_other line (pieces 10 more) some.0 some.1 some.2 h) refl
-
-pub first_long : (text line : List ℕ) (ps : List (List ℕ)) → pieces 10 text ≡ line ∷ ps → LONGEST < length line → items_of_text text ≡ Err (refusals.Limit 1)
-unfolding items_of_text
-first_long text line ps cut long = rw (cut, lt-ltb LONGEST (length line) long) refl
-
-pub first_cut : (text line : List ℕ) → pieces 10 text ≡ line ∷ [] → length line ≤ LONGEST → items_of_text text ≡ Err refusals.Truncated
-unfolding items_of_text
-first_cut text line cut short = rw (cut, le-ltb LONGEST (length line) short) refl

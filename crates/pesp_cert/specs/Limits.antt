@@ -6,7 +6,7 @@ use Rattle.pesp_problem.specs.declared.pair.Pair.{Pair}
 use Rattle.pesp_truth.specs.declared.answer.Answer.{Answer}
 use Rattle.pesp_truth.specs.declared.answer.Answer.TheVariants.{Optimal, Infeasible, Bounded}
 use Rattle.pesp_truth.specs.declared.tree.TreeLine.{TreeLine}
-use Rattle.pesp_truth.specs.declared.tree.TreeLine.TheVariants.{Slack, Offset, Bound, Nothing, Gap}
+use Rattle.pesp_truth.specs.declared.tree.TreeLine.TheVariants.{Slack, Offset, Bound, Nothing, Gap, Propagated}
 use Rattle.pesp_truth.specs.Trees.{are_trees}
 use Rattle.pesp_truth.specs.Certificates.{Content, line_of, lines_of}
 use Rattle.pesp_text.specs.Number.{NATURALS}
@@ -62,6 +62,7 @@ is_line (Offset cycle k) = is_name cycle && nat_le (nat_abs k) 100000000000000
 is_line (Bound ps) = are_pairs ps
 is_line (Nothing ps) = are_pairs ps
 is_line (Gap cycle) = is_name cycle
+is_line Propagated = true
 
 abbrev pub is_branch : TreeLine → Bool
 is_branch (Slack row k) = true
@@ -81,12 +82,22 @@ total_pairs lines = sum_by pairs_in lines
 abbrev pub are_lines : List TreeLine → Bool
 are_lines lines = nat_le (length lines) 1000000 && nat_le (total_pairs lines) 20000000 && list_all is_line lines && are_trees 1 (map line_of lines)
 
+-- whether certificates of this version have such a line
+abbrev pub has_line : ℕ → TreeLine → Bool
+has_line version Propagated = nat_le 2 version
+has_line version _ = true
+
+-- there is such a version, and it has all these lines
+abbrev pub has_lines : ℕ → List TreeLine → Bool
+has_lines version lines = nat_le 1 version && nat_le version 2 && list_all (has_line version) lines
+
 -- what a certificate may hold
 unfoldable pub keeps_limits : Content → Bool
-keeps_limits c = is_period c.period && has_costs c.answer && are_times c.times && are_cycles c.cycles && are_lines c.tree
+keeps_limits c = is_period c.period && has_costs c.answer && are_times c.times && are_cycles c.cycles && are_lines c.tree && has_lines c.version c.tree
 
 -- the same as facts
 pub record KeepsLimits (c : Content) : Type 0 where
+  pub version : (1 ≤ c.version) × (c.version ≤ 2)
   pub period : (1 ≤ c.period) × (c.period ≤ 10000)
   pub answer : has_costs c.answer ≡ true
   pub times : length c.times ≤ 100000
@@ -98,3 +109,4 @@ pub record KeepsLimits (c : Content) : Type 0 where
   pub pairs : total_pairs c.tree ≤ 20000000
   pub each_line : list_all is_line c.tree ≡ true
   pub whole : are_trees 1 (lines_of c) ≡ true
+  pub known : list_all (has_line c.version) c.tree ≡ true

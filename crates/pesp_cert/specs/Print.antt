@@ -10,8 +10,9 @@ use Rattle.pesp_truth.specs.declared.tree.TreeLine.{TreeLine}
 use Rattle.pesp_truth.specs.declared.tree.TreeLine.TheVariants as lines
 use Rattle.pesp_truth.specs.Certificates.{Content}
 
-abbrev pub period_line : ℕ → List ℕ
-period_line n = codes "pesp-certificate 1\nperiod " ++ decimal n ++ codes "\n"
+-- the lines of the version and of the period
+abbrev pub head_lines : ℕ → ℕ → List ℕ
+head_lines version n = codes "pesp-certificate " ++ decimal version ++ codes "\nperiod " ++ decimal n ++ codes "\n"
 
 abbrev pub cost_text : Option ℕ → List ℕ
 cost_text None = codes "none"
@@ -46,6 +47,7 @@ tree_line (lines.Offset cycle k) = codes "o " ++ decimal cycle ++ codes " " ++ s
 tree_line (lines.Bound ps) = codes "b" ++ pairs_text ps ++ codes "\n"
 tree_line (lines.Nothing ps) = codes "n" ++ pairs_text ps ++ codes "\n"
 tree_line (lines.Gap cycle) = codes "g " ++ decimal cycle ++ codes "\n"
+tree_line lines.Propagated = codes "p\n"
 
 abbrev pub certificate_text : Content → List ℕ
-certificate_text c = period_line c.period ++ answer_line c.answer ++ flat_map time_line c.times ++ flat_map cycle_line c.cycles ++ flat_map tree_line c.tree ++ codes "end\n"
+certificate_text c = head_lines c.version c.period ++ answer_line c.answer ++ flat_map time_line c.times ++ flat_map cycle_line c.cycles ++ flat_map tree_line c.tree ++ codes "end\n"

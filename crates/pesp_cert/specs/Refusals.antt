@@ -1,6 +1,5 @@
 -- What a text says as a whole, or which refusal it gives: the first line with a fault decides.
 use Rattle.std.specs.Prelude.{◌≡◌, ℕ, ◌+◌, Bool, true, ◌&&◌, ◌==◌, nat_lt, if◌then◌else◌, Result, Ok, Err, List, [], ◌∷◌, ◌⊎◌, length}
-use Rattle.std.specs.Str.{bytes_eq}
 use Rattle.pesp_truth.specs.Certificates.{Content}
 use Rattle.pesp_text.specs.Words.{pieces}
 use Rattle.pesp_lines.specs.declared.fault.LineFault.{LineFault}
@@ -11,14 +10,18 @@ use Rattle.pesp_lines.specs.Counts.{after, start}
 use Rattle.pesp_lines.specs.Lines.{line_at, LONGEST}
 use Rattle.pesp_cert.specs.declared.refusal.CertRefusal.{CertRefusal}
 use Rattle.pesp_cert.specs.declared.refusal.CertRefusal.TheVariants as refusals
-use Rattle.pesp_cert.specs.Texts.{HEADER, is_end, HasText, spelling}
+use Rattle.pesp_cert.specs.Texts.{is_end, HasText, spelling}
 
--- the fault of line n as one of the text
+-- the fault of a line behind the first
+abbrev pub later_refusal : ℕ → LineFault → CertRefusal
+later_refusal n faults.Truncated = refusals.Truncated
+later_refusal n faults.Line = refusals.Line n
+later_refusal n faults.Number = refusals.Number n
+later_refusal n faults.Limit = refusals.Limit n
+
+-- the fault of line n as one of the text: a first line that has one isn't that of a certificate
 abbrev pub refusal_at : ℕ → LineFault → CertRefusal
-refusal_at n faults.Truncated = refusals.Truncated
-refusal_at n faults.Line = refusals.Line n
-refusal_at n faults.Number = refusals.Number n
-refusal_at n faults.Limit = refusals.Limit n
+refusal_at n f = if n == 1 then refusals.Header else later_refusal n f
 
 abbrev pub is_nothing : List (List ℕ) → Bool
 is_nothing [] = true
@@ -39,19 +42,9 @@ items_from n p (line ∷ next ∷ more) = if nat_lt LONGEST (length line) then E
           else onto item (items_from (n + 1) (after p item) (next ∷ more))
     ]
 
--- ---- the first line
-
-abbrev pub items_behind : List ℕ → List (List ℕ) → Result (List Item) CertRefusal
-items_behind line [] = Err refusals.Truncated
-items_behind line (next ∷ more) = if bytes_eq line HEADER then items_from 2 start (next ∷ more) else Err refusals.Header
-
-abbrev pub items_in : List (List ℕ) → Result (List Item) CertRefusal
-items_in [] = Err refusals.Truncated
-items_in (line ∷ rest) = if nat_lt LONGEST (length line) then Err (refusals.Limit 1) else items_behind line rest
-
 -- the items of a whole text, or its first fault
 unfoldable pub items_of_text : List ℕ → Result (List Item) CertRefusal
-items_of_text text = items_in (pieces 10 text)
+items_of_text text = items_from 1 start (pieces 10 text)
 
 -- ---- what a reader of a text answers
 

@@ -1,21 +1,18 @@
 -- The one text of a certificate.
-use Rattle.std.specs.Prelude.{◌≡◌, ℕ, true, false, List, [], ◌∷◌, ◌++◌, codes, map, ℤ, Bool}
+use Rattle.std.specs.Prelude.{◌≡◌, ℕ, true, false, List, [], ◌∷◌, ◌++◌, map, ℤ, Bool}
 use Rattle.std.specs.List.{flat_map}
 use Rattle.pesp_truth.specs.declared.tree.TreeLine.{TreeLine}
 use Rattle.pesp_truth.specs.declared.tree.TreeLine.TheVariants as lines
 use Rattle.pesp_truth.specs.Certificates.{Content}
 use Rattle.pesp_lines.specs.declared.item.Item.{Item}
-use Rattle.pesp_lines.specs.declared.item.Item.TheVariants.{Period, Answer as Says, Time, Cycle, Slack, Offset, Bound, Nothing, Gap, End}
+use Rattle.pesp_lines.specs.declared.item.Item.TheVariants.{Version, Period, Answer as Says, Time, Cycle, Slack, Offset, Bound, Nothing, Gap, Propagated, End}
 use Rattle.pesp_lines.specs.declared.progress.Progress.{Progress}
 use Rattle.pesp_lines.specs.Items.{item_line}
 use Rattle.pesp_lines.specs.Counts.{after, start, CanStand}
 
-abbrev pub HEADER : List ℕ
-HEADER = codes "pesp-certificate 1"
-
--- the first line, and a line for each item
+-- a line for each item
 abbrev pub text_of : List Item → List ℕ
-text_of items = HEADER ++ 10 ∷ flat_map item_line items
+text_of items = flat_map item_line items
 
 abbrev pub is_end : Item → Bool
 is_end End = true
@@ -36,10 +33,11 @@ tree_item (lines.Offset cycle k) = Offset cycle k
 tree_item (lines.Bound ps) = Bound ps
 tree_item (lines.Nothing ps) = Nothing ps
 tree_item (lines.Gap cycle) = Gap cycle
+tree_item lines.Propagated = Propagated
 
--- period, answer, times, cycles, tree and end
+-- version, period, answer, times, cycles, tree and end
 abbrev pub items_of : Content → List Item
-items_of c = Period c.period ∷ Says c.answer ∷ map time_item c.times ++ map Cycle c.cycles ++ map tree_item c.tree ++ End ∷ []
+items_of c = Version c.version ∷ Period c.period ∷ Says c.answer ∷ map time_item c.times ++ map Cycle c.cycles ++ map tree_item c.tree ++ End ∷ []
 
 -- the one text of a certificate
 abbrev pub spelling : Content → List ℕ

@@ -15,6 +15,7 @@ use std::marker::Model;
 /// instance's unit, a table of closed walks, and a tree in preorder. Every certificate has one text.
 #[derive(Debug, Drop)]
 pub struct Certificate {
+    version: u32,
     period: u32,
     answer: Answer,
     times: Vec<(i64, u32)>,
@@ -29,19 +30,20 @@ impl Model for Certificate {
 
     ghost Value = { Content };
 
-    ghost view = { λ c. record { period = c.period; answer = c.answer; times = c.times.items; cycles = c.cycles.items; tree = c.tree.items } };
+    ghost view = { λ c. record { version = c.version; period = c.period; answer = c.answer; times = c.times.items; cycles = c.cycles.items; tree = c.tree.items } };
 
-    ghost invariant = { λ c. keeps_limits (record { period = c.period; answer = c.answer; times = c.times.items; cycles = c.cycles.items; tree = c.tree.items }) ≡ true };
+    ghost invariant = { λ c. keeps_limits (record { version = c.version; period = c.period; answer = c.answer; times = c.times.items; cycles = c.cycles.items; tree = c.tree.items }) ≡ true };
 }
 
-/// The parts are no certificate's: a limit is broken, a walk is empty, a pair list does not rise or has a multiplier 0, or
-/// the lines are not one whole tree.
+/// The parts are no certificate's: the version is another than 1 and 2, a leaf is closed by propagation in version 1, a limit
+/// is broken, a walk is empty, a pair list does not rise or has a multiplier 0, or the lines are not one whole tree.
 #[derive(Clone, Copy, Debug, PartialEq, Eq)]
 pub struct NotACertificate;
 
 impl Certificate {
     /// The certificate of these parts, where they have a text. It takes no memory.
     pub fn new(
+        version: u32,
         period: u32,
         answer: Answer,
         times: Vec<(i64, u32)>,
@@ -49,13 +51,14 @@ impl Certificate {
         tree: Vec<TreeLine>,
     ) -> Result<Certificate, NotACertificate>
         // It holds the parts.
-        ensures parts { IfOk result (λ c. c ≡ record { period = period; answer = answer; times = times.items; cycles = cycles.items; tree = tree.items }) }
+        ensures parts { IfOk result (λ c. c ≡ record { version = version; period = period; answer = answer; times = times.items; cycles = cycles.items; tree = tree.items }) }
         ensures text { IfOk result HasText }
         // It is refused only where the parts have no text.
-        ensures refused { OnErr result (¬ HasText (record { period = period; answer = answer; times = times.items; cycles = cycles.items; tree = tree.items })) }
+        ensures refused { OnErr result (¬ HasText (record { version = version; period = period; answer = answer; times = times.items; cycles = cycles.items; tree = tree.items })) }
     {
-        if keep_limits(period, answer, &times, &cycles, &tree) {
+        if keep_limits(version, period, answer, &times, &cycles, &tree) {
             Ok(Certificate {
+                version,
                 period,
                 answer,
                 times,
@@ -73,6 +76,7 @@ impl Certificate {
         ensures { result ≡ draft }
     {
         let Draft {
+            version,
             period,
             answer,
             times,
@@ -80,12 +84,21 @@ impl Certificate {
             tree,
         } = draft;
         Certificate {
+            version,
             period,
             answer,
             times,
             cycles,
             tree,
         }
+    }
+
+    /// The version of its text, 1 or 2.
+    pub fn version(&self) -> u32
+        ensures value { result ≡ self.now.version }
+        ensures limits { KeepsLimits self.now }
+    {
+        self.version
     }
 
     /// The period of the instance.

@@ -13,6 +13,7 @@ use std::marker::Model;
 /// certificate isn't looked at.
 #[derive(Drop)]
 pub struct Draft {
+    pub version: u32,
     pub period: u32,
     pub answer: Answer,
     pub times: Vec<(i64, u32)>,
@@ -25,7 +26,7 @@ impl Model for Draft {
 
     ghost Value = { Content };
 
-    ghost view = { λ d. record { period = d.period; answer = d.answer; times = d.times.items; cycles = d.cycles.items; tree = d.tree.items } };
+    ghost view = { λ d. record { version = d.version; period = d.period; answer = d.answer; times = d.times.items; cycles = d.cycles.items; tree = d.tree.items } };
 }
 
 /// The walk along these rows.
@@ -50,6 +51,7 @@ impl Draft {
         ensures { result ≡ blank }
     {
         Draft {
+            version: 0,
             period: 0,
             answer: Answer::Infeasible,
             times: Vec::new(alloc),
@@ -63,6 +65,7 @@ impl Draft {
         ensures { OnOk result (self.new ≡ added self.old item.entry) }
     {
         match item {
+            Item::Version(version) => self.version = version,
             Item::Period(period) => self.period = period,
             Item::Answer(answer) => self.answer = answer,
             Item::Time(label, time) => self.times.push((label, time))?,
@@ -72,6 +75,7 @@ impl Draft {
             Item::Bound(pairs) => self.tree.push(TreeLine::Bound(pairs_of(alloc, pairs)?))?,
             Item::Nothing(pairs) => self.tree.push(TreeLine::Nothing(pairs_of(alloc, pairs)?))?,
             Item::Gap(cycle) => self.tree.push(TreeLine::Gap(cycle))?,
+            Item::Propagated => self.tree.push(TreeLine::Propagated)?,
             Item::End => {}
         }
         Ok(())

@@ -5,7 +5,7 @@ ghost use Rattle.pesp_lines.specs.Rows.{is_name, rows_are_named};
 ghost use Rattle.pesp_lines.specs.Pairs.{all_within, is_pair_within};
 ghost use Rattle.pesp_truth.specs.Trees.{are_trees};
 ghost use Rattle.pesp_truth.specs.Certificates.{line_of, Content};
-ghost use Rattle.pesp_cert.specs.Limits.{is_period, is_cost, has_costs, is_time, are_times, is_cycle, total_rows, are_cycles, follows, rise_from, are_pairs, is_line, is_branch, pairs_in, total_pairs, are_lines, keeps_limits};
+ghost use Rattle.pesp_cert.specs.Limits.{is_period, is_cost, has_costs, is_time, are_times, is_cycle, total_rows, are_cycles, follows, rise_from, are_pairs, is_line, is_branch, pairs_in, total_pairs, are_lines, has_line, has_lines, keeps_limits};
 ghost use Rattle.std.specs.List.{list_all};
 
 use pesp_problem::{Pair, SignedRow, Walk};
@@ -144,6 +144,7 @@ fn is_line(line: &TreeLine) -> bool
         TreeLine::Offset { cycle, k } => is_name(*cycle) && k.unsigned_abs() <= 100_000_000_000_000,
         TreeLine::Bound(pairs) | TreeLine::Nothing(pairs) => are_pairs(pairs.as_slice()),
         TreeLine::Gap(cycle) => is_name(*cycle),
+        TreeLine::Propagated => true,
     }
 }
 
@@ -152,7 +153,10 @@ fn pairs_in(line: &TreeLine) -> usize
 {
     match line {
         TreeLine::Bound(pairs) | TreeLine::Nothing(pairs) => pairs.as_slice().len(),
-        TreeLine::Slack { .. } | TreeLine::Offset { .. } | TreeLine::Gap(_) => 0,
+        TreeLine::Slack { .. }
+        | TreeLine::Offset { .. }
+        | TreeLine::Gap(_)
+        | TreeLine::Propagated => 0,
     }
 }
 
@@ -206,20 +210,45 @@ fn are_lines(lines: &[TreeLine]) -> bool
     lines.len() <= 1_000_000 && has_few_pairs(lines) && each_is_line(lines) && are_one_tree(lines)
 }
 
+/// Whether certificates of this version have such a line.
+fn has_line(version: u32, line: &TreeLine) -> bool
+    ensures { result ≡ has_line version line.now }
+{
+    match line {
+        TreeLine::Propagated => version >= 2,
+        _ => true,
+    }
+}
+
+fn each_is_had(version: u32, lines: &[TreeLine]) -> bool
+    ensures { result ≡ list_all (has_line version) lines.now }
+{
+    lines.iter().all(|line| has_line(version, line))
+}
+
+/// Whether there is such a version, and it has all these lines.
+fn has_lines(version: u32, lines: &[TreeLine]) -> bool
+    ensures { result ≡ has_lines version lines.now }
+{
+    1 <= version && version <= 2 && each_is_had(version, lines)
+}
+
 /// Whether these parts may be a certificate's.
 #[tactic(auto, unfolding(crate::specs::Limits::keeps_limits))]
 pub(crate) fn keep_limits(
+    version: u32,
     period: u32,
     answer: Answer,
     times: &[(i64, u32)],
     cycles: &[Walk],
     tree: &[TreeLine],
 ) -> bool
-    ensures { result ≡ keeps_limits (record { period = period; answer = answer; times = times.now; cycles = cycles.now; tree = tree.now }) }
+    ensures { result ≡ keeps_limits (record { version = version; period = period; answer = answer; times = times.now; cycles = cycles.now; tree = tree.now }) }
 {
     is_period(period)
         && has_costs(answer)
         && are_times(times)
         && are_cycles(cycles)
         && are_lines(tree)
+        && has_lines(version, tree)
 }

@@ -1,17 +1,15 @@
 //! Reading a certificate's text.
 
 ghost use Rattle.std.specs.Prelude.{◌≡◌, IfOk, IfErr};
-ghost use Rattle.pesp_text.specs.Words.{pieces};
-ghost use Rattle.pesp_lines.specs.Counts.{start};
 ghost use Rattle.pesp_cert.specs.Texts.{is_end};
 ghost use Rattle.pesp_cert.specs.Drafts.{ReadsItems};
-ghost use Rattle.pesp_cert.specs.Refusals.{items_from, items_of_text, IsTextOf, ReadsTexts, RefusesFirst};
+ghost use Rattle.pesp_cert.specs.Refusals.{items_of_text, IsTextOf, ReadsTexts, RefusesFirst};
 
 use crate::certificate::Certificate;
 use crate::draft::Draft;
 use crate::refusal::{CertRefusal, refusal_at};
 use pesp_lines::{Item, Progress, take_line};
-use pesp_text::{is_word, split_at_byte};
+use pesp_text::split_at_byte;
 use std::alloc::Global;
 
 /// Whether this is the last line.
@@ -21,14 +19,14 @@ fn is_end(item: &Item<'_>) -> bool
     matches!(item, Item::End)
 }
 
-/// What the lines behind the first say, up to the end of the text.
-fn read_lines(alloc: Global, text: &[u8]) -> Result<Draft, CertRefusal>
-    ensures { ReadsItems result (items_from 2 start (pieces 10 text.now)) }
+/// What a whole text says.
+fn read_text(alloc: Global, text: &[u8]) -> Result<Draft, CertRefusal>
+    ensures { ReadsItems result (items_of_text text.now) }
 {
     let mut draft = Draft::new(alloc);
     let mut progress = Progress::new();
     let mut rest = text;
-    let mut n = 2u64;
+    let mut n = 1u64;
     loop {
         let (line, more) = split_at_byte(b'\n', rest);
         if line.len() > 100_000_000 {
@@ -50,25 +48,6 @@ fn read_lines(alloc: Global, text: &[u8]) -> Result<Draft, CertRefusal>
         draft.add(alloc, item)?;
         rest = more;
         n += 1;
-    }
-}
-
-/// What a whole text says.
-#[tactic(auto, unfolding(crate::specs::Refusals::items_of_text))]
-fn read_text(alloc: Global, text: &[u8]) -> Result<Draft, CertRefusal>
-    ensures { ReadsItems result (items_of_text text.now) }
-{
-    let (line, rest) = split_at_byte(b'\n', text);
-    if line.len() > 100_000_000 {
-        return Err(CertRefusal::Limit { n: 1 });
-    }
-    let Some(rest) = rest else {
-        return Err(CertRefusal::Truncated);
-    };
-    if is_word(line, "pesp-certificate 1") {
-        read_lines(alloc, rest)
-    } else {
-        Err(CertRefusal::Header)
     }
 }
 

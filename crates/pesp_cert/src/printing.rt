@@ -6,7 +6,7 @@ ghost use Rattle.std.specs.Fmt.{signed_decimal};
 ghost use Rattle.pesp_stream.specs.Counts.{DeviceFailed};
 ghost use Rattle.pesp_stream.specs.Printing.{Sending, Sends};
 ghost use Rattle.pesp_stream.specs.Writing.{Writes};
-ghost use Rattle.pesp_cert.specs.Print.{period_line, time_line, pair_text, pairs_text, row_text, rows_text, cycle_line, tree_line, cost_text, answer_line};
+ghost use Rattle.pesp_cert.specs.Print.{head_lines, time_line, pair_text, pairs_text, row_text, rows_text, cycle_line, tree_line, cost_text, answer_line};
 ghost use Rattle.pesp_cert.specs.Texts.{HasText, spelling};
 
 use crate::certificate::Certificate;
@@ -40,6 +40,20 @@ impl Printed for Whole<'_> {
         let mut buffer = Buffer::new();
         out.put(buffer.format(*self.0).as_bytes());
     }
+}
+
+/// The first two lines.
+fn print_head<O: Output>(version: u32, period: u32, out: &mut O)
+    ensures { Sends (O.sending out.old) (O.sending out.new) (head_lines version period) }
+{
+    (
+        "pesp-certificate ",
+        Number(version),
+        "\nperiod ",
+        Number(period),
+        "\n",
+    )
+        .print(out);
 }
 
 fn print_pair<O: Output>(pair: &Pair, out: &mut O)
@@ -129,6 +143,7 @@ fn print_line<O: Output>(line: &TreeLine, out: &mut O)
         TreeLine::Bound(pairs) => print_leaf("b", pairs.as_slice(), out),
         TreeLine::Nothing(pairs) => print_leaf("n", pairs.as_slice(), out),
         TreeLine::Gap(cycle) => ("g ", Number(*cycle), "\n").print(out),
+        TreeLine::Propagated => "p\n".print(out),
     }
 }
 
@@ -171,7 +186,7 @@ impl Printed for Certificate {
     ghost text = { spelling };
 
     fn print<O: Output>(&self, out: &mut O) {
-        ("pesp-certificate 1\nperiod ", Number(self.period()), "\n").print(out);
+        print_head(self.version(), self.period(), out);
         print_answer(self.answer(), out);
         print_times(self.times(), out);
         print_cycles(self.cycles(), out);

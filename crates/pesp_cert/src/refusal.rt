@@ -44,10 +44,13 @@ impl From<Memory> for CertRefusal {
     }
 }
 
-/// The fault of line `n` as one of the text.
+/// The fault of line `n` as one of the text: a first line that has one is not that of a certificate.
 pub fn refusal_at(n: u64, fault: LineFault) -> CertRefusal
     ensures { result ≡ refusal_at n fault }
 {
+    if n == 1 {
+        return CertRefusal::Header;
+    }
     match fault {
         LineFault::Truncated => CertRefusal::Truncated,
         LineFault::Line => CertRefusal::Line { n },

@@ -43,6 +43,7 @@ line_other (lines.Offset cycle k) = refl
 line_other (lines.Bound ps) = refl
 line_other (lines.Nothing ps) = refl
 line_other (lines.Gap cycle) = refl
+line_other lines.Propagated = refl
 
 times_other : (ts : List (ℤ × ℕ)) → list_all is_other (map time_item ts) ≡ true
 times_other [] = refl

@@ -31,9 +31,9 @@ job_line n = line_of (codes "job" ∷ decimal n ∷ [])
 abbrev pub items_of : WorkValue → List Item
 items_of w = map time_item w.times ++ (map tree_item w.tree ++ End ∷ [])
 
--- behind the job's line times may stand, and one tree is still to come
+-- behind the job's line times may stand, and one tree is still to come, with the lines of version 2
 abbrev pub opening : Progress
-opening = record start { place = places.Times }
+opening = record start { place = places.Times; version = 2 }
 
 -- the one text of a work
 abbrev pub spelling : WorkValue → List ℕ
@@ -48,9 +48,9 @@ pub record HasText (w : WorkValue) : Type 0 where
   pub job : w.job ≤ 999999
   pub run : IsRun opening (items_of w)
 
--- a certificate without cycles that shows the work's times and tree
+-- a certificate of version 2 without cycles that shows the work's times and tree
 abbrev pub certificate_of : WorkValue → Content
-certificate_of w = record { period = 1; answer = Infeasible; times = w.times; cycles = []; tree = w.tree }
+certificate_of w = record { version = 2; period = 1; answer = Infeasible; times = w.times; cycles = []; tree = w.tree }
 
 -- the limits of a work: the job's, and a certificate's on its times and its tree
 pub record KeepsWorkLimits (w : WorkValue) : Type 0 where

@@ -17,6 +17,7 @@ pub(crate) fn opening() -> Progress
 {
     Progress {
         place: Place::Times,
+        version: 2,
         ..Progress::new()
     }
 }

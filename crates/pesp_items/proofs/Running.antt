@@ -67,7 +67,6 @@ runs_refused a b c items r p q = record {
 
 -- what a call answers while none answered None or a fault
 pub gives_of : (stage : Stage) (old new : Reading) (r : Result (Option Item) ItemFault) → is_open stage ≡ true → Answers stage old new r → Gives old new r
-gives_of stages.First old new r o a = a
 gives_of stages.Going old new r o a = a
 gives_of stages.Ended old new r o a = absurd cc
 gives_of (stages.Failed f) old new r o a = absurd cc

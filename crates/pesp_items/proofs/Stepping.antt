@@ -1,10 +1,9 @@
 -- The items of a text, line by line, while more of it is still to be read.
-use Rattle.std.proofs.Common.{◌≡◌, inl, inr, true≢false, cond, ℕ, zero, suc, ◌+◌, ◌<◌, ◌≤◌, Bool, true, false, List, [], ◌∷◌, ◌++◌, length, refl, sym, ap, subst, ◌∙◌, arith, append_assoc, append-nil, length-append, Option, Some, None, Ok, Err, Result}
+use Rattle.std.proofs.Common.{◌≡◌, true≢false, cond, ℕ, zero, suc, ◌+◌, ◌<◌, ◌≤◌, Bool, true, false, List, [], ◌∷◌, ◌++◌, length, refl, sym, ap, subst, ◌∙◌, arith, append_assoc, append-nil, length-append, Option, None, Ok, Err}
 use Rattle.std.specs.Prelude.{◌==◌, codes, ◌≢◌}
 use Rattle.std.specs.Str.{bytes_eq}
 use Rattle.std.specs.List.{onto_first}
 use Rattle.std.proofs.KnownBytes.{Consumes-trans}
-use Rattle.std.proofs.lemmas.Bool.{le-ltb}
 use Rattle.std.proofs.lemmas.Bool.Decides.{nat_tests}
 use Rattle.std.proofs.lemmas.List.Elements.{All-head, All-tail}
 use Rattle.std.proofs.lemmas.List.Splits.{slice_split_at, slice_split_none, slice_split-cons_no}
@@ -12,27 +11,23 @@ use Rattle.pesp_text.specs.Words.{is_byte, pieces}
 use Rattle.pesp_lines.specs.declared.fault.LineFault.{LineFault}
 use Rattle.pesp_lines.specs.declared.fault.LineFault.TheVariants as faults
 use Rattle.pesp_lines.specs.declared.item.Item.{Item}
-use Rattle.pesp_lines.specs.declared.item.Item.TheVariants.{Period, Answer as Says, Time, Cycle, Slack, Offset, Bound, Nothing, Gap, End}
+use Rattle.pesp_lines.specs.declared.item.Item.TheVariants.{Version, Period, Answer as Says, Time, Cycle, Slack, Offset, Bound, Nothing, Gap, Propagated, End}
 use Rattle.pesp_text.specs.Words.{line_of}
 use Rattle.pesp_lines.specs.Items.{item_words}
 use Rattle.pesp_lines.proofs.LineLaws.{line_read as line_read_law}
 use Rattle.std.proofs.lemmas.Slice.Eq.{bytes_eq-Decides}
 use Rattle.pesp_lines.specs.declared.progress.Progress.{Progress}
-use Rattle.pesp_lines.specs.Counts.{start, after, IsKept, keeps_counts}
+use Rattle.pesp_lines.specs.Counts.{after, IsKept, keeps_counts}
 use Rattle.pesp_lines.specs.Lines.{line_at, LONGEST}
-use Rattle.pesp_cert.specs.declared.refusal.CertRefusal.{CertRefusal}
 use Rattle.pesp_cert.specs.declared.refusal.CertRefusal.TheVariants as refusals
-use Rattle.pesp_cert.specs.Texts.{HEADER, is_end}
-use Rattle.pesp_cert.specs.Refusals.{items_from, items_of_text, refusal_at, is_nothing, onto}
+use Rattle.pesp_cert.specs.Texts.{is_end}
+use Rattle.pesp_cert.specs.Refusals.{refusal_at, is_nothing, onto}
 use Rattle.pesp_cert.proofs.TextSteps.{nonempty, nothing_more, at_long, at_last, at_fault, at_end, at_item}
-use Rattle.pesp_cert.proofs.TextLoop.{first_long, first_cut}
 use Rattle.pesp_items.specs.declared.lines.Next.TheVariants as nexts
 use Rattle.pesp_items.specs.declared.stage.Stage.{Stage}
 use Rattle.pesp_items.specs.declared.stage.Stage.TheVariants as stages
-use Rattle.pesp_items.specs.declared.fault.ItemFault.{ItemFault}
-use Rattle.pesp_items.specs.declared.fault.ItemFault.TheVariants.{Text, Read}
 use Rattle.pesp_items.specs.Cuts.{Clean, Reads, Advances, EndsHere}
-use Rattle.pesp_items.specs.Readings.{Reading, items_at, items_behind, is_open, Goes, same, Lines, Ends, Refuses, Faults, Gives}
+use Rattle.pesp_items.specs.Readings.{Reading, items_at, items_behind, is_open, Goes, Lines, Ends, Refuses}
 
 -- ---- pieces
 
@@ -52,8 +47,6 @@ regroup held got more line held' all = sym (append_assoc held got more) ∙ ap (
 -- ---- one line
 
 line_says : (stage : Stage) (n : ℕ) (p : Progress) (text line : List ℕ) (ps : List (List ℕ)) → pieces 10 text ≡ line ∷ ps → items_at (record { told = None; left = 0; held = []; n = n; progress = p; stage = stage }) text ≡ items_behind stage (n + 1) p line ps
-unfolding items_of_text
-line_says stages.First n p text line ps cut = rw cut refl
 line_says stages.Going n p text line ps cut = rw cut refl
 line_says stages.Ended n p text line ps cut = refl
 line_says (stages.Failed f) n p text line ps cut = refl
@@ -75,16 +68,15 @@ line_counted told told' left left' held held' line' n a le =
 
 -- ---- a line that is too long, or has no LF
 
-long_says : (stage : Stage) (n : ℕ) (p : Progress) (text line : List ℕ) (ps : List (List ℕ)) → is_open stage ≡ true → (stage ≡ stages.First → n ≡ 0) → pieces 10 text ≡ line ∷ ps → LONGEST < length line
+long_says : (stage : Stage) (n : ℕ) (p : Progress) (text line : List ℕ) (ps : List (List ℕ)) → is_open stage ≡ true → pieces 10 text ≡ line ∷ ps → LONGEST < length line
     → items_at (record { told = None; left = 0; held = []; n = n; progress = p; stage = stage }) text ≡ Err (refusals.Limit (n + 1))
-long_says stages.First n p text line ps o b cut long = first_long text line ps cut long ∙ ap (λ k. Err (refusals.Limit (k + 1))) (sym (b refl))
-long_says stages.Going n p text line ps o b cut long = rw cut (at_long (n + 1) p line ps long)
-long_says stages.Ended n p text line ps o b cut long = absurd cc
-long_says (stages.Failed f) n p text line ps o b cut long = absurd cc
+long_says stages.Going n p text line ps o cut long = rw cut (at_long (n + 1) p line ps long)
+long_says stages.Ended n p text line ps o cut long = absurd cc
+long_says (stages.Failed f) n p text line ps o cut long = absurd cc
 
-pub long_refused : (told told' : Option (List ℕ)) (left left' : ℕ) (held held' line' : List ℕ) (n : ℕ) (p : Progress) (stage stage' : Stage) → is_open stage ≡ true → (stage ≡ stages.First → n ≡ 0) → Advances told told' left left' held held' line' nexts.Long
+pub long_refused : (told told' : Option (List ℕ)) (left left' : ℕ) (held held' line' : List ℕ) (n : ℕ) (p : Progress) (stage stage' : Stage) → is_open stage ≡ true → Advances told told' left left' held held' line' nexts.Long
     → Refuses (record { told = told; left = left; held = held; n = n; progress = p; stage = stage }) (record { told = told'; left = left'; held = held'; n = n; progress = p; stage = stage' }) (refusals.Limit (n + 1))
-long_refused told told' left left' held held' line' n p stage stage' o b a =
+long_refused told told' left left' held held' line' n p stage stage' o a =
     let front = a.reaches.0 in
     let rest = a.reaches.1 in
     record {
@@ -94,12 +86,11 @@ long_refused told told' left left' held held' line' n p stage stage' o b a =
           let next = nonempty (rest ++ more) in
           let text = sym (append_assoc held a.got more) ∙ ap (λ l. l ++ more) a.reaches.3 ∙ append_assoc front rest more in
           let cut = ap (pieces 10) text ∙ pieces_before front (rest ++ more) next.0 next.1 a.reaches.2 next.2 in
-          long_says stage n p (held ++ (a.got ++ more)) (front ++ next.0) next.1 o b cut (omega (arith, length-append front next.0, a.reaches.4));
+          long_says stage n p (held ++ (a.got ++ more)) (front ++ next.0) next.1 o cut (omega (arith, length-append front next.0, a.reaches.4));
     }
 
 cut_says : (stage : Stage) (n : ℕ) (p : Progress) (text line : List ℕ) → is_open stage ≡ true → pieces 10 text ≡ line ∷ [] → length line ≤ LONGEST
     → items_at (record { told = None; left = 0; held = []; n = n; progress = p; stage = stage }) text ≡ Err refusals.Truncated
-cut_says stages.First n p text line o cut short = first_cut text line cut short
 cut_says stages.Going n p text line o cut short = rw cut (at_last (n + 1) p line short)
 cut_says stages.Ended n p text line o cut short = absurd cc
 cut_says (stages.Failed f) n p text line o cut short = absurd cc
@@ -116,36 +107,7 @@ cut_refused told told' left left' held held' line' n p stage stage' o a =
           cut_says stage n p (held ++ (a.got ++ more)) line' o cut a.reaches.3;
     }
 
--- ---- the first line
-
-headed_line : (line : List ℕ) (ps : List (List ℕ)) (w : List ℕ) (ws : List (List ℕ)) → ps ≡ w ∷ ws → length line ≤ LONGEST → bytes_eq line HEADER ≡ true → items_behind stages.First 1 start line ps ≡ items_from 2 start ps
-headed_line line ps w ws some short h = rw (le-ltb LONGEST (length line) short) (rw some (rw h refl))
-
-unheaded_line : (line : List ℕ) (ps : List (List ℕ)) (w : List ℕ) (ws : List (List ℕ)) → ps ≡ w ∷ ws → length line ≤ LONGEST → bytes_eq line HEADER ≡ false → items_behind stages.First 1 start line ps ≡ Err refusals.Header
-unheaded_line line ps w ws some short h = rw (le-ltb LONGEST (length line) short) (rw some (rw h refl))
-
-pub header_read : (old : Reading) (told' : Option (List ℕ)) (left' : ℕ) (held' line : List ℕ) (n : ℕ) (p : Progress) → Lines old (record { told = told'; left = left'; held = held'; n = n; progress = p; stage = stages.First }) line → n ≡ 1 → p ≡ start → bytes_eq line HEADER ≡ true
-    → Goes old (record { told = told'; left = left'; held = held'; n = n; progress = p; stage = stages.Going }) same
-header_read old told' left' held' line n p l one first h = record {
-  got = l.got;
-  reads = l.reads;
-  later = l.later;
-  says = λ more.
-      let next = nonempty (held' ++ more) in
-      l.says more ∙ rw (one, first) (headed_line line (pieces 10 (held' ++ more)) next.0 next.1 next.2 l.short h);
-}
-
-pub header_refused : (old : Reading) (told' : Option (List ℕ)) (left' : ℕ) (held' line : List ℕ) (n m : ℕ) (p : Progress) (stage : Stage) → Lines old (record { told = told'; left = left'; held = held'; n = n; progress = p; stage = stages.First }) line → bytes_eq line HEADER ≡ false
-    → Refuses old (record { told = told'; left = left'; held = held'; n = m; progress = p; stage = stage }) refusals.Header
-header_refused old told' left' held' line n m p stage l h = record {
-  got = l.got;
-  reads = l.reads;
-  says = λ more over.
-      let next = nonempty (held' ++ more) in
-      l.says more ∙ unheaded_line line (pieces 10 (held' ++ more)) next.0 next.1 next.2 l.short h;
-}
-
--- ---- the lines behind it
+-- ---- a line that was read
 
 pub reads_then : (a b c : Option (List ℕ)) (l m n : ℕ) (got more : List ℕ) → Reads a b l m got → Reads b c m n more → Reads a c l n (got ++ more)
 reads_then a b c l m n got more p q = record {
@@ -182,6 +144,7 @@ pub is_the_end : (line : List ℕ) → bytes_eq line (codes "end") ≡ true → 
 is_the_end line h = (bytes_eq-Decides line (codes "end")).0 h
 
 pub not_the_end : (item : Item) (line : List ℕ) → bytes_eq line (codes "end") ≡ false → line ≡ line_of (item_words item) → is_end item ≡ false
+not_the_end (Version n) line h is = refl
 not_the_end (Period n) line h is = refl
 not_the_end (Says a) line h is = refl
 not_the_end (Time l t) line h is = refl
@@ -191,6 +154,7 @@ not_the_end (Offset cycle k) line h is = refl
 not_the_end (Bound ps) line h is = refl
 not_the_end (Nothing ps) line h is = refl
 not_the_end (Gap cycle) line h is = refl
+not_the_end Propagated line h is = refl
 not_the_end End line h is = absurd (true≢false (subst (λ l. bytes_eq l (codes "end") ≡ false) is h))
 
 all_counted : (p : Progress) → IsKept p → keeps_counts p ≡ true
@@ -229,48 +193,11 @@ trails old told' told'' left' left'' held' held'' line n p stage l h e = record 
       ap (λ t. items_at old (old.held ++ t)) (append_assoc l.got e.got more) ∙ l.says (e.got ++ more) ∙ rw next.2 (at_end n p line next.0 next.1 End l.short h refl ∙ ap (λ (b : Bool). cond b (Ok (End ∷ [])) (Err (refusals.Trailing (n + 1)))) test);
 }
 
--- ---- one after the other
-
-pub goes_then : (a b c : Reading) (item : Item) → Goes a b same → Goes b c (onto item) → Goes a c (onto item)
-goes_then a b c item p q = record {
-  got = p.got ++ q.got;
-  reads = reads_then _ _ _ _ _ _ p.got q.got p.reads q.reads;
-  later = omega (arith, p.later, q.later);
-  says = λ more. ap (λ t. items_at a (a.held ++ t)) (append_assoc p.got q.got more) ∙ p.says (q.got ++ more) ∙ q.says more;
-}
-
-goes_ends : (a b c : Reading) → Goes a b same → Ends b c → Ends a c
-goes_ends a b c p q = record {
-  got = p.got ++ q.got;
-  reads = reads_then _ _ _ _ _ _ p.got q.got p.reads q.reads;
-  over = q.over;
-  says = p.says q.got ∙ q.says;
-}
-
-goes_refused : (a b c : Reading) (r : CertRefusal) → Goes a b same → Refuses b c r → Refuses a c r
-goes_refused a b c r p q = record {
-  got = p.got ++ q.got;
-  reads = reads_then _ _ _ _ _ _ p.got q.got p.reads q.reads;
-  says = λ more over. ap (λ t. items_at a (a.held ++ t)) (append_assoc p.got q.got more) ∙ p.says (q.got ++ more) ∙ q.says more over;
-}
-
-goes_faults : (a b c : Reading) (f : ItemFault) → Goes a b same → Faults b c f → Faults a c f
-goes_faults a b c (Text r) p (inl m) = inl m
-goes_faults a b c (Text r) p (inr q) = inr (goes_refused a b c r p q)
-goes_faults a b c Read p q = tt
-
-pub goes_gives : (a b c : Reading) (r : Result (Option Item) ItemFault) → Goes a b same → Gives b c r → Gives a c r
-goes_gives a b c (Ok (Some item)) p q = (q.0, q.1, goes_then a b c item p q.2, q.3)
-goes_gives a b c (Ok None) p q = (q.0, goes_ends a b c p q.1)
-goes_gives a b c (Err f) p q = (q.0, goes_faults a b c f p q.1)
+-- ---- the stage
 
 pub of_going : (old : Reading) (told' : Option (List ℕ)) (left' : ℕ) (held' line : List ℕ) (n : ℕ) (p : Progress) (stage : Stage) → stage ≡ stages.Going
     → Lines old (record { told = told'; left = left'; held = held'; n = n; progress = p; stage = stage }) line → Lines old (record { told = told'; left = left'; held = held'; n = n; progress = p; stage = stages.Going }) line
 of_going old told' left' held' line n p stage is l = subst (λ s. Lines old (record { told = told'; left = left'; held = held'; n = n; progress = p; stage = s }) line) is l
-
-pub of_first : (old : Reading) (told' : Option (List ℕ)) (left' : ℕ) (held' line : List ℕ) (n : ℕ) (p : Progress) (stage : Stage) → stage ≡ stages.First
-    → Lines old (record { told = told'; left = left'; held = held'; n = n; progress = p; stage = stage }) line → Lines old (record { told = told'; left = left'; held = held'; n = n; progress = p; stage = stages.First }) line
-of_first old told' left' held' line n p stage is l = subst (λ s. Lines old (record { told = told'; left = left'; held = held'; n = n; progress = p; stage = s }) line) is l
 
 pub zero_of : (n : ℕ) → (n ≢ 0 → ⊥) → n ≡ 0
 zero_of zero h = refl

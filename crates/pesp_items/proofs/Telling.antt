@@ -15,7 +15,7 @@ use Rattle.pesp_items.proofs.Running.{Ran}
 
 -- nothing was read
 abbrev pub at_first : Option (List ℕ) → ℕ → Reading
-at_first told limit = record { told = told; left = limit; held = []; n = 0; progress = start; stage = stages.First }
+at_first told limit = record { told = told; left = limit; held = []; n = 0; progress = start; stage = stages.Going }
 
 take_front : (got ys : List ℕ) (left : ℕ) → take (length got + left) (got ++ ys) ≡ got ++ take left ys
 take_front [] ys left = ap (λ k. take k ys) {y = left} (omega arith)
@@ -39,6 +39,7 @@ ended_is told' limit left got w (inl e) l = absurd (omega (arith, w, e, l))
 ended_is told' limit left got w (inr e) l = e
 
 pub ran_text : (told : Option (List ℕ)) (limit : ℕ) (new : Reading) (items : List Item) (ran : Ran (at_first told limit) new items) → ReadsText told new.told limit ran.got × (items_of_text ran.got ≡ Ok (items ++ End ∷ []))
+unfolding items_of_text
 ran_text told limit new items ran = (
   record {
     within = omega (arith, ran.reads.within);
@@ -50,6 +51,7 @@ ran_text told limit new items ran = (
 )
 
 pub refused_text : (told : Option (List ℕ)) (limit : ℕ) (new : Reading) (r : CertRefusal) → Refuses (at_first told limit) new r → RefusesText told new.told limit r
+unfolding items_of_text
 refused_text told limit new r f = record {
   read = f.got;
   within = omega (arith, f.reads.within);

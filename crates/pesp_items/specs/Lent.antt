@@ -24,6 +24,7 @@ pairs_in p = pairs_left (pairs_from p.least (pieces_left 32 (option_copied p.wor
 
 -- the item with its list
 abbrev pub listed : LentItem → Item
+listed (lent.Version n) = items.Version n
 listed (lent.Period n) = items.Period n
 listed (lent.Answer a) = items.Answer a
 listed (lent.Time label time) = items.Time label time
@@ -33,6 +34,7 @@ listed (lent.Offset cycle k) = items.Offset cycle k
 listed (lent.Bound pairs) = items.Bound (pairs_in pairs)
 listed (lent.Nothing pairs) = items.Nothing (pairs_in pairs)
 listed (lent.Gap cycle) = items.Gap cycle
+listed lent.Propagated = items.Propagated
 
 -- the item without the elements of its list
 abbrev pub bare : Item → Item

@@ -10,7 +10,7 @@ use Rattle.pesp_lines.specs.Lines.{LONGEST}
 use Rattle.pesp_cert.specs.declared.refusal.CertRefusal.{CertRefusal}
 use Rattle.pesp_cert.specs.declared.refusal.CertRefusal.TheVariants as refusals
 use Rattle.pesp_cert.specs.Texts.{is_end}
-use Rattle.pesp_cert.specs.Refusals.{items_from, items_in as items_in_pieces, items_of_text, onto}
+use Rattle.pesp_cert.specs.Refusals.{items_from, onto}
 use Rattle.pesp_items.specs.declared.fault.ItemFault.{ItemFault}
 use Rattle.pesp_items.specs.declared.fault.ItemFault.TheVariants.{Text, Read}
 use Rattle.pesp_items.specs.declared.stage.Stage.{Stage}
@@ -29,13 +29,11 @@ pub record Reading : Type 0 where
 
 -- nothing was given up, and the end wasn't seen
 abbrev pub is_open : Stage → Bool
-is_open stages.First = true
 is_open stages.Going = true
 is_open stages.Ended = false
 is_open (stages.Failed fault) = false
 
 abbrev pub items_in : Stage → ℕ → Progress → List ℕ → Result (List Item) CertRefusal
-items_in stages.First n p text = items_of_text text
 items_in stages.Going n p text = items_from (n + 1) p (pieces 10 text)
 items_in stages.Ended n p text = Ok []
 items_in (stages.Failed fault) n p text = Ok []
@@ -55,12 +53,8 @@ pub record Goes (old new : Reading) (made : Result (List Item) CertRefusal → R
   pub later : old.n < new.n
   pub says : (more : List ℕ) → items_at old (old.held ++ (got ++ more)) ≡ made (items_at new (new.held ++ more))
 
-abbrev pub same : Result (List Item) CertRefusal → Result (List Item) CertRefusal
-same r = r
-
 -- what the next line and what is left say
 abbrev pub items_behind : Stage → ℕ → Progress → List ℕ → List (List ℕ) → Result (List Item) CertRefusal
-items_behind stages.First n p line rest = items_in_pieces (line ∷ rest)
 items_behind stages.Going n p line rest = items_from n p (line ∷ rest)
 items_behind stages.Ended n p line rest = Ok []
 items_behind (stages.Failed fault) n p line rest = Ok []
@@ -109,7 +103,6 @@ Gives old new (Err fault) = (new.stage ≡ stages.Failed fault) × Faults old ne
 
 -- the same, also where none came before
 abbrev pub Answers : Stage → Reading → Reading → Result (Option Item) ItemFault → Type 0
-Answers stages.First old new result = Gives old new result
 Answers stages.Going old new result = Gives old new result
 Answers stages.Ended old new result = (result ≡ Ok None) × (new ≡ old)
 Answers (stages.Failed fault) old new result = (result ≡ Err fault) × (new ≡ old)

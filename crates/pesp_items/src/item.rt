@@ -4,12 +4,13 @@ use crate::pairs::LinePairs;
 use crate::rows::SignedRows;
 use pesp_truth::Answer;
 
-/// What one line behind the first says. It is lent until the next one is read: its lists are read from the line itself.
+/// What one line says. It is lent until the next one is read: its lists are read from the line itself.
 ///
-/// `Time` has an event's label and its time. `Slack` and `Offset` are branches of the tree, with the part of 'at most `k`'
-/// first; `Bound`, `Nothing` and `Gap` are its leaves.
+/// `Version` comes first. `Time` has an event's label and its time. `Slack` and `Offset` are branches of the tree, with the
+/// part of 'at most `k`' first; `Bound`, `Nothing`, `Gap` and `Propagated` are its leaves.
 #[derive(Clone, Copy)]
 pub enum Item<'a> {
+    Version(u32),
     Period(u32),
     Answer(Answer),
     Time(i64, u32),
@@ -19,4 +20,5 @@ pub enum Item<'a> {
     Bound(LinePairs<'a>),
     Nothing(LinePairs<'a>),
     Gap(u32),
+    Propagated,
 }

@@ -15,8 +15,7 @@ use crate::reading::ItemReader;
 use pesp_stream::{MOST_INTERRUPTED, Source};
 use std::alloc::Global;
 
-/// The items of a certificate's text that are still to come: what its lines behind the first say, up to the one before
-/// `end`. At most 1,073,741,824 bytes of the reader are read, and those are judged.
+/// The items of a certificate's text that are still to come: what its lines say, up to the one before `end`. At most 1,073,741,824 bytes of the reader are read, and those are judged.
 #[derive(Drop)]
 pub struct Items<S: Source> {
     source: S,
@@ -37,7 +36,7 @@ impl<S: Source> Items<S> {
         requires interrupted_fits { S.interrupted source < 2 ^ 63 }
         ensures source { result.source ≡ source }
         ensures most { result.reader.most ≡ S.interrupted source + 1000 }
-        ensures begins { reading (S.remaining source) result.reader ≡ record { told = S.remaining source; left = 1073741824; held = []; n = 0; progress = start; stage = stages.First } }
+        ensures begins { reading (S.remaining source) result.reader ≡ record { told = S.remaining source; left = 1073741824; held = []; n = 0; progress = start; stage = stages.Going } }
     {
         let most = source.interrupted_reads() + MOST_INTERRUPTED;
         Items {

@@ -18,6 +18,7 @@ pub(crate) fn bare_item(item: &LineItem<'_>) -> Item<'static>
     ensures { listed result ≡ bare item.now }
 {
     match item {
+        LineItem::Version(version) => Item::Version(*version),
         LineItem::Period(period) => Item::Period(*period),
         LineItem::Answer(answer) => Item::Answer(*answer),
         LineItem::Time(label, time) => Item::Time(*label, *time),
@@ -30,6 +31,7 @@ pub(crate) fn bare_item(item: &LineItem<'_>) -> Item<'static>
         LineItem::Bound(_) => Item::Bound(LinePairs::new(None)),
         LineItem::Nothing(_) => Item::Nothing(LinePairs::new(None)),
         LineItem::Gap(cycle) => Item::Gap(*cycle),
+        LineItem::Propagated => Item::Propagated,
         LineItem::End => unreachable!(),
     }
 }

@@ -15,7 +15,7 @@ use crate::lending::{bare_item, item_in};
 use crate::lines::{LineBuffer, LinesFault, Next};
 use crate::stage::Stage;
 use pesp_cert::{CertRefusal, refusal_at};
-use pesp_lines::{Progress, take_line};
+use pesp_lines::{LineFault, Progress, take_line};
 use pesp_stream::Source;
 use pesp_text::is_word;
 use std::alloc::Global;
@@ -32,21 +32,19 @@ pub struct ItemReader {
     ghost most_fits: { most < MAX },
     ghost kept: { IsKept progress },
     ghost counted: { is_open stage ≡ true → n + (lines.left + length lines.chunk) ≤ 1073741824 },
-    ghost begun: { stage ≡ stages.First → n ≡ 0 },
-    ghost blank: { stage ≡ stages.First → progress ≡ start },
 }
 
 impl ItemReader {
     ghost use Rattle.pesp_items.specs.contracts.reading.ItemReader.{the_row};
     ghost use Rattle.pesp_items.specs.Views.{reading, reading_line};
     ghost use Rattle.pesp_items.specs.Lent.{listed, read_back, IsSpelt, said_by};
-    ghost use Rattle.pesp_items.specs.Readings.{Answers, Gives, Goes, same, Lines, Faults, Blamed, stepped};
+    ghost use Rattle.pesp_items.specs.Readings.{Answers, Gives, Lines, Faults, Blamed, stepped};
 
     /// The items of a reader's text; no more than `most` of its calls may be interrupted.
     pub fn new(alloc: Global, most: u64) -> ItemReader
         requires most_fits { most < u64.MAX }
         ensures most { result.most ≡ most }
-        ensures begins { (told : Option (List ℕ)) → reading told result ≡ record { told = told; left = 1073741824; held = []; n = 0; progress = start; stage = stages.First } }
+        ensures begins { (told : Option (List ℕ)) → reading told result ≡ record { told = told; left = 1073741824; held = []; n = 0; progress = start; stage = stages.Going } }
     {
         ItemReader {
             lines: LineBuffer::new(alloc),
@@ -54,7 +52,7 @@ impl ItemReader {
             n: 0,
             progress: Progress::new(),
             said: Item::Gap(0),
-            stage: Stage::First,
+            stage: Stage::Going,
         }
     }
 
@@ -99,33 +97,7 @@ impl ItemReader {
         }
     }
 
-    /// Reads the first line.
-    fn open<S: Source>(&mut self, source: &mut S) -> Result<(), ItemFault>
-        requires first { self.old.stage ≡ stages.First }
-        requires failed_fits { S.failed source.old < u64.MAX }
-        requires interrupted_fits { S.interrupted source.old ≤ self.old.most }
-        ensures most { self.new.most ≡ self.old.most }
-        ensures failed { OnOk result ((S.failed source.new ≡ S.failed source.old) × (S.interrupted source.new ≤ self.old.most)) }
-        ensures going { OnOk result (self.new.stage ≡ stages.Going) }
-        ensures behind { OnOk result (Goes (reading (S.remaining source.old) self.old)
-            (reading (S.remaining source.new) self.new) same) }
-        ensures stage { IfErr result (λ fault. self.new.stage ≡ stages.Failed fault) }
-        ensures fault { IfErr result (λ fault. Faults (reading (S.remaining source.old) self.old)
-            (reading (S.remaining source.new) self.new) fault) }
-        ensures blamed { IfErr result (λ fault. Blamed fault (Failed (S.failed source.old) self.old.most (S.failed source.new) (S.interrupted source.new))) }
-    {
-        self.read_line(source)?;
-        if is_word(self.lines.line(), "pesp-certificate 1") {
-            self.n += 1;
-            self.stage = Stage::Going;
-            return Ok(());
-        }
-        let fault = ItemFault::Text(CertRefusal::Header);
-        self.stage = Stage::Failed(fault);
-        Err(fault)
-    }
-
-    /// Reads and judges the next line behind the first; false where it is the last one and nothing stands behind it.
+    /// Reads and judges the next line; false where it is the last one and nothing stands behind it.
     fn go<S: Source>(&mut self, source: &mut S) -> Result<bool, ItemFault>
         requires going { self.old.stage ≡ stages.Going }
         requires failed_fits { S.failed source.old < u64.MAX }
@@ -141,7 +113,7 @@ impl ItemReader {
         self.n += 1;
         if is_word(self.lines.line(), "end") {
             if self.progress.needs != 0 {
-                let fault = ItemFault::Text(CertRefusal::Truncated);
+                let fault = ItemFault::Text(refusal_at(self.n, LineFault::Truncated));
                 self.stage = Stage::Failed(fault);
                 return Err(fault);
             }
@@ -187,10 +159,6 @@ impl ItemReader {
         ensures blamed { is_open self.old.stage ≡ true → IfErr result (λ fault. Blamed fault (Failed (S.failed source.old) self.old.most (S.failed source.new) (S.interrupted source.new))) }
     {
         match self.stage {
-            Stage::First => {
-                self.open(source)?;
-                self.go(source)
-            }
             Stage::Going => self.go(source),
             Stage::Ended => Ok(false),
             Stage::Failed(fault) => Err(fault),

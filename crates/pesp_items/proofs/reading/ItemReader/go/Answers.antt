@@ -9,7 +9,7 @@ returns-then-self-ne0-clause-gives g c =
     let read = c.in_ok-read_line.ensures in
     let line = of_going _ _ _ _ _ _ _ _ (read.same.0 ∙ c.requires.going) read.line in
     let word = rw c.line.ensures at (sym c.if-is_word.ensures) in
-    (refl, inr (fault_read _ _ _ _ _ _ _ _ Truncated _ line (end_early _ _ c.if-self-ne0.true word)))
+    (refl, inr (rw c.refusal_at.ensures (fault_read _ _ _ _ _ _ _ _ Truncated _ line (end_early _ _ c.if-self-ne0.true word))))
 
 pub returns-in-Ok-true-clause-gives : goal.returns-in-Ok-true-clause-gives
 returns-in-Ok-true-clause-gives g c =
@@ -30,7 +30,7 @@ returns-in-Err-take_line-clause-gives g c =
     let read = c.in_ok-read_line.ensures in
     let line = of_going _ _ _ _ _ _ _ _ (read.same.0 ∙ c.requires.going) read.line in
     let said = rw c.line-2.ensures at (sym c.in-Err-take_line.ensures.exact) in
-    (refl, inr (rw c.refusal_at.ensures (fault_read _ _ _ _ _ _ _ _ c.in-Err-take_line.fault _ line said)))
+    (refl, inr (rw c.refusal_at-in-Err-take_line.ensures (fault_read _ _ _ _ _ _ _ _ c.in-Err-take_line.fault _ line said)))
 
 pub bare_item-self-requires : goal.bare_item-self-requires
 bare_item-self-requires g c =

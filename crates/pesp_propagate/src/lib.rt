@@ -15,9 +15,11 @@ mod rows;
 mod settle;
 mod slacks;
 pub mod step;
+mod supporting;
 mod waiting;
 
 pub use diving::{dive, dive_to};
 pub use domains::Domains;
 pub use outcome::Outcome;
 pub use propagation::propagate;
+pub use supporting::supports_none;

@@ -9,7 +9,7 @@ use Rattle.pesp_problem.specs.declared.cut.Side.{Side}
 use Rattle.pesp_problem.specs.Sums.{scaled}
 use Rattle.pesp_problem.specs.Arcs.{Net}
 use Rattle.pesp_problem.specs.Nodes.{Node, leaf_value, offset_part, offsets_left, low_part, high_part}
-use Rattle.pesp_truth.specs.Trees.{Tree, Leaf, Ends, Branch, Bound, Nothing, Gap}
+use Rattle.pesp_truth.specs.Trees.{Tree, Leaf, Ends, Branch, Bound, Shut, Nothing, Gap, ByPropagation}
 use Rattle.pesp_nodes.specs.Problems.{ProblemValue, net_of}
 use Rattle.pesp_machine.specs.declared.work.Work.{Work}
 use Rattle.pesp_machine.specs.declared.work.Work.TheVariants as works
@@ -56,6 +56,7 @@ made : (p : ProblemValue) (node : Node) (old : List Pair) (work : Work) → IsVa
 made p node old (works.Leaf pairs) h = (Ends (Bound (better_pairs p node old pairs)), (h.0, h.1, refl))
 made p node old (works.Nothing pairs) h = (Ends (Nothing pairs), (h, refl))
 made p node old (works.Gap cycle) h = (Ends (Gap cycle), (h, refl))
+made p node old works.Propagated h = (Ends (Shut ByPropagation), (h, refl))
 made p node old (works.Split cut) h =
     let first = kept_leaf p old (low_part node cut) _ refl in
     let second = kept_leaf p old (high_part node cut) _ refl in
@@ -66,6 +67,7 @@ valid : (p : ProblemValue) (node : Node) (old : List Pair) (work : Work) (new : 
 valid p node old (works.Leaf pairs) new m = (m.0, m.1)
 valid p node old (works.Nothing pairs) new m = m.0
 valid p node old (works.Gap cycle) new m = m.0
+valid p node old works.Propagated new m = m.0
 valid p node old (works.Split cut) new m = (m.exists, m.both)
 valid p node old (works.Tree lines) new m = (new, m)
 

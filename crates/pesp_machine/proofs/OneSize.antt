@@ -91,6 +91,7 @@ pub made_same : (p : ProblemValue) (node : Node) (old : List Pair) (work : Work)
 made_same p node old (works.Leaf pairs) a b h k = same_size a b (h.2 ∙ sym k.2)
 made_same p node old (works.Nothing pairs) a b h k = same_size a b (h.1 ∙ sym k.1)
 made_same p node old (works.Gap cycle) a b h k = same_size a b (h.1 ∙ sym k.1)
+made_same p node old works.Propagated a b h k = same_size a b (h.1 ∙ sym k.1)
 made_same p node old (works.Split cut) a b h k =
     subst (λ x. AreOfOneSize x b) (sym h.tree) (subst (λ y. AreOfOneSize (Branch cut (Ends h.low) (Ends h.high)) y) (sym k.tree)
     (split_size cut h.low h.high k.low k.high (kept_same p old _ h.low k.low h.keeps_low k.keeps_low) (kept_same p old _ h.high k.high h.keeps_high k.keeps_high)))

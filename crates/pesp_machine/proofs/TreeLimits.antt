@@ -9,7 +9,7 @@ use Rattle.pesp_problem.specs.declared.cut.Side.{Side}
 use Rattle.pesp_problem.specs.declared.cut.Side.TheVariants.{Low, High}
 use Rattle.pesp_problem.specs.Walks.{Names}
 use Rattle.pesp_problem.specs.Nodes.{Node, leaf_value}
-use Rattle.pesp_truth.specs.Trees.{Tree, Leaf, Reason, Line, Ends, Branch, Bound, Shut, ByPairs, ByGap, EndLine, CutLine, preorder}
+use Rattle.pesp_truth.specs.Trees.{Tree, Leaf, Reason, Line, Ends, Branch, Bound, Shut, ByPairs, ByGap, ByPropagation, EndLine, CutLine, preorder}
 use Rattle.pesp_network.specs.Networks.{KeepsNetLimits}
 use Rattle.pesp_nodes.specs.Problems.{ProblemValue, net_of, ArePairs, IsPairOf, IsSmallTable}
 use Rattle.pesp_nodes.proofs.Rising.{nothing_rises}
@@ -86,6 +86,7 @@ made_lines p path old (works.Leaf pairs) new limits small h m =
     subst (λ tree. All (IsLineOf p) (preorder tree)) (sym m.2) (one_line (IsLineOf p) (Bound (better_pairs p node old pairs)) (either_pairs (ArePairs (length p.table)) worse pairs old m.0 h))
 made_lines p path old (works.Nothing pairs) new limits small h m = shut_lines p (node_at p path) (ByPairs pairs) new m
 made_lines p path old (works.Gap cycle) new limits small h m = shut_lines p (node_at p path) (ByGap cycle) new m
+made_lines p path old works.Propagated new limits small h m = shut_lines p (node_at p path) ByPropagation new m
 made_lines p path old (works.Split cut) new limits small h m =
     subst (λ tree. All (IsLineOf p) (preorder tree)) (sym m.tree)
     (All-cons (IsLineOf p) (CutLine cut) (preorder (Ends m.low) ++ preorder (Ends m.high)) (cut_keeps_limits p path cut limits small m.exists m.both)

@@ -10,7 +10,7 @@ use Rattle.pesp_problem.specs.declared.cut.Side.{Side}
 use Rattle.pesp_problem.specs.declared.cut.Side.TheVariants.{Low, High}
 use Rattle.pesp_problem.specs.Walks.{Names}
 use Rattle.pesp_problem.specs.Nodes.{Node, leaf_value, part, low_part, high_part}
-use Rattle.pesp_truth.specs.Trees.{Tree, Leaf, Reason, Ends, Branch, Bound, Shut, ByPairs, ByGap, IsShut, IsSoundLeaf, IsSound, PairsExist}
+use Rattle.pesp_truth.specs.Trees.{Tree, Leaf, Reason, Ends, Branch, Bound, Shut, ByPairs, ByGap, ByPropagation, IsShut, IsSoundLeaf, IsSound, PairsExist}
 use Rattle.pesp_nodes.specs.Problems.{ProblemValue, net_of, ArePairs}
 use Rattle.pesp_machine.specs.declared.work.Work.{Work}
 use Rattle.pesp_machine.specs.declared.work.Work.TheVariants as works
@@ -94,6 +94,7 @@ made_follows p node old (works.Leaf pairs) new w h m e is k =
     (m.2 ∙ ap (λ (b : Bool). Ends (Bound (if b then pairs else old))) (better_is (leaf_value (net_of p) p.table node old true) (leaf_value (net_of p) p.table node pairs true) w value.0 is value.1)) better
 made_follows p node old (works.Nothing pairs) new w h m e is k = shut_follows p node w (ByPairs pairs) new m
 made_follows p node old (works.Gap cycle) new w h m e is k = shut_follows p node w (ByGap cycle) new m
+made_follows p node old works.Propagated new w h m e is k = shut_follows p node w ByPropagation new m
 made_follows p node old (works.Split cut) new w h m e is k = splits_follow p node old cut new w h m e is k
 made_follows p node old (works.Tree lines) new w h m e is k = graft_follows p w new node k (subst (λ worth. IsGraft p worth node new) is m.1)
 

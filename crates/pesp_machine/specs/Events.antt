@@ -6,7 +6,7 @@ use Rattle.pesp_problem.specs.declared.cut.Cut.TheVariants.{Slack, Offset}
 use Rattle.pesp_problem.specs.declared.cut.Side.{Side}
 use Rattle.pesp_problem.specs.NetTimetables.{IsNetTimetable, net_cost}
 use Rattle.pesp_problem.specs.Nodes.{Node, leaf_value, offsets_left, slack_range, offset_range, low_part, high_part}
-use Rattle.pesp_truth.specs.Trees.{Tree, Leaf, Reason, Ends, Branch, Bound, Shut, ByPairs, ByGap, CutExists, IsShut, preorder}
+use Rattle.pesp_truth.specs.Trees.{Tree, Leaf, Reason, Ends, Branch, Bound, Shut, ByPairs, ByGap, ByPropagation, CutExists, IsShut, preorder}
 use Rattle.pesp_truth.specs.declared.tree.TreeLine.{TreeLine}
 use Rattle.pesp_truth.specs.Certificates.{line_of}
 use Rattle.pesp_nodes.specs.Problems.{ProblemValue, net_of, ArePairs}
@@ -98,6 +98,7 @@ abbrev pub Makes : ProblemValue → Node → List Pair → Work → Tree → Typ
 Makes p node old (works.Leaf pairs) new = ArePairs (length p.table) pairs × IsSome (leaf_value (net_of p) p.table node pairs true) × (new ≡ Ends (Bound (better_pairs p node old pairs)))
 Makes p node old (works.Nothing pairs) new = Shuts p node (ByPairs pairs) new
 Makes p node old (works.Gap cycle) new = Shuts p node (ByGap cycle) new
+Makes p node old works.Propagated new = Shuts p node ByPropagation new
 Makes p node old (works.Split cut) new = Splits p node old cut new
 Makes p node old (works.Tree lines) new = Grafts p node old lines.items new
 
@@ -106,6 +107,7 @@ abbrev pub IsValidAt : ProblemValue → Node → List Pair → Work → Type 0
 IsValidAt p node old (works.Leaf pairs) = ArePairs (length p.table) pairs × IsSome (leaf_value (net_of p) p.table node pairs true)
 IsValidAt p node old (works.Nothing pairs) = MayShut p node (ByPairs pairs)
 IsValidAt p node old (works.Gap cycle) = MayShut p node (ByGap cycle)
+IsValidAt p node old works.Propagated = MayShut p node ByPropagation
 IsValidAt p node old (works.Split cut) = CutExists (net_of p) p.table cut × LeavesBoth node cut
 IsValidAt p node old (works.Tree lines) = (tree : Tree) × Grafts p node old lines.items tree
 

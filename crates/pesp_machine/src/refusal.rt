@@ -46,8 +46,8 @@ impl<T: Drop> From<AllocFailed<T>> for LendRefusal {
 /// Why what is given isn't taken.
 ///
 /// `UnknownJob`: the number was never lent, or was recalled. `AlreadyGiven`: something was taken for it before. `NotValid`:
-/// at the job's node the pairs of a `Leaf` have no value, a `Nothing` or a `Gap` isn't sound, or a cut leaves a side of its
-/// range no value; or pairs don't rise, or break their limits, or a row or a cycle doesn't exist; or the lines of a `Tree`
+/// at the job's node the pairs of a `Leaf` have no value, a `Nothing`, a `Gap` or a `Propagated` isn't sound, or a cut leaves
+/// a side of its range no value; or pairs don't rise, or break their limits, or a row or a cycle doesn't exist; or the lines of a `Tree`
 /// aren't one whole tree, or a bound leaf of it has no value at its node or one below that of the leaf that is replaced.
 /// `Memory`: a growth was refused. `TooLarge`: the tree would have more than 1000000 lines or 20000000 pairs. After a refusal
 /// nothing has changed; after `NotValid`, `Memory` and `TooLarge` the job is still lent.

@@ -7,6 +7,7 @@ use pesp_truth::TreeLine;
 ///
 /// `Leaf`: pairs for its bound; the leaf keeps the pairs of the greater value, and its old ones where both are equal.
 /// `Nothing`: pairs that show that no timetable lies there. `Gap`: a cycle, numbered from 1, that has no offset left there.
+/// `Propagated`: no family of time differences is supported there (`pesp_propagate::propagate` tells so).
 /// `Split`: a cut that makes two leaves of it, which keep its pairs, or are gaps where one of their cycles has no offset left.
 /// `Tree`: the lines of a whole tree that takes the leaf's place; its bound leaves have at least the value of that leaf.
 #[derive(Debug, Drop)]
@@ -14,6 +15,7 @@ pub enum Work {
     Leaf(Pairs),
     Nothing(Pairs),
     Gap(u32),
+    Propagated,
     Split(Cut),
     Tree(Vec<TreeLine>),
 }

@@ -9,13 +9,14 @@ use pesp_problem::{Memory, Pairs};
 use pesp_truth::TreeLine;
 use std::alloc::Global;
 
-/// A leaf of a tree under work: a bound by its pairs, pairs that show that no timetable lies there, or a cycle, numbered from
-/// 1, that has no offset left there.
+/// A leaf of a tree under work: a bound by its pairs, pairs that show that no timetable lies there, a cycle, numbered from 1,
+/// that has no offset left there, or a node whose slack ranges support no family of time differences.
 #[derive(Debug, Drop)]
 pub enum Leaf {
     Bound(Pairs),
     Nothing(Pairs),
     Gap(u32),
+    Propagated,
 }
 
 /// The same pairs once more.
@@ -34,5 +35,6 @@ pub(crate) fn leaf_line(alloc: Global, leaf: &Leaf) -> Result<TreeLine, Memory>
         Leaf::Bound(pairs) => Ok(TreeLine::Bound(copy_of(alloc, pairs)?)),
         Leaf::Nothing(pairs) => Ok(TreeLine::Nothing(copy_of(alloc, pairs)?)),
         Leaf::Gap(cycle) => Ok(TreeLine::Gap(*cycle)),
+        Leaf::Propagated => Ok(TreeLine::Propagated),
     }
 }

@@ -1,7 +1,7 @@
 -- What a board certifies keeps the limits of certificates.
 use Rattle.std.proofs.Common.{◌≡◌, ℕ, suc, ◌+◌, ◌<◌, ◌≤◌, List, [], ◌∷◌, length, get_or, map, refl, sym, ap, ◌∙◌, arith, subst, true}
-use Rattle.std.specs.Prelude.{ℤ, pos, negsuc, unsigned_abs, All, Option, Some, None, IfSome, option_map, nat_lt, Result, Ok, Err, IfOk, OnErr, IsOk, nat_le, if◌then◌else◌, sum_by, Bool, false}
-use Rattle.std.specs.List.{list_all}
+use Rattle.std.specs.Prelude.{ℤ, pos, negsuc, unsigned_abs, All, Option, Some, None, IfSome, option_map, nat_lt, Result, Ok, Err, IfOk, OnErr, IsOk, nat_le, if◌then◌else◌, sum_by, Bool, false, ◌||◌}
+use Rattle.std.specs.List.{list_all, list_any}
 use Rattle.std.proofs.lemmas.Bool.Decides.{nat_tests}
 use Rattle.std.proofs.lemmas.List.{length-map}
 use Rattle.std.proofs.lemmas.List.Sums.{sum_by-cons}
@@ -18,7 +18,7 @@ use Rattle.pesp_problem.specs.Nodes.{odijk_range, root_slacks}
 use Rattle.pesp_network.specs.Networks.{NetworkValue, arc_of_net, KeepsNetLimits}
 use Rattle.pesp_truth.specs.declared.answer.Answer.TheVariants.{Optimal, Bounded}
 use Rattle.pesp_truth.specs.declared.tree.TreeLine.{TreeLine}
-use Rattle.pesp_truth.specs.declared.tree.TreeLine.TheVariants.{Slack, Offset, Bound, Nothing, Gap}
+use Rattle.pesp_truth.specs.declared.tree.TreeLine.TheVariants.{Slack, Offset, Bound, Nothing, Gap, Propagated}
 use Rattle.pesp_truth.specs.Trees.{preorder}
 use Rattle.pesp_truth.specs.Certificates.{Content, line_of, lines_of, shown_times, shown_labels}
 use Rattle.pesp_truth.proofs.Lines.{whole_tree}
@@ -32,9 +32,9 @@ use Rattle.pesp_machine.specs.States.{State, BoardValue, root_of, least, best_co
 use Rattle.pesp_machine.specs.Limits.{IsLineOf}
 use Rattle.pesp_machine.specs.Limits as machine
 use Rattle.pesp_machine.specs.Reached.{IsOrderly}
-use Rattle.pesp_machine.specs.Certificates.{answer_of, ShowsBest, IsCertificateOf}
+use Rattle.pesp_machine.specs.Certificates.{answer_of, is_propagated, version_of, ShowsBest, IsCertificateOf}
 use Rattle.pesp_machine.proofs.Costs.{costs_are_small}
-use Rattle.pesp_cert.specs.Limits.{has_costs, is_time, is_cycle, follows, rise_from, is_line, pairs_in, total_pairs, KeepsLimits}
+use Rattle.pesp_cert.specs.Limits.{has_costs, is_time, is_cycle, follows, rise_from, is_line, has_line, pairs_in, total_pairs, KeepsLimits}
 
 -- ---- costs
 
@@ -141,6 +141,7 @@ line_fits p (Offset cycle k) n t h = (let wide = length-map p.table (odijk_range
 line_fits p (Bound pairs) n t h = are_pairs_fit (length p.table) pairs t.cycles h
 line_fits p (Nothing pairs) n t h = are_pairs_fit (length p.table) pairs t.cycles h
 line_fits p (Gap cycle) n t h = row_fits (length p.table) cycle h t.cycles
+line_fits p Propagated n t h = refl
 
 lines_fit : (p : ProblemValue) (lines : List TreeLine) → KeepsNetLimits p.network → IsSmallTable p.table → All (IsLineOf p) (map line_of lines) → list_all is_line lines ≡ true
 lines_fit p [] n t h = refl
@@ -152,6 +153,7 @@ same_pairs_in (Offset cycle k) = refl
 same_pairs_in (Bound pairs) = refl
 same_pairs_in (Nothing pairs) = refl
 same_pairs_in (Gap cycle) = refl
+same_pairs_in Propagated = refl
 
 same_pairs : (lines : List TreeLine) → total_pairs lines ≡ sum_by machine.pairs_in (map line_of lines)
 same_pairs [] = refl
@@ -160,15 +162,60 @@ same_pairs (line ∷ lines) =
     let others = same_pairs lines in
     omega (arith, this, others, sum_by-cons pairs_in line lines, sum_by-cons machine.pairs_in (line_of line) (map line_of lines))
 
+-- ---- the version
+
+has_two : (line : TreeLine) → has_line 2 line ≡ true
+has_two (Slack row k) = refl
+has_two (Offset cycle k) = refl
+has_two (Bound pairs) = refl
+has_two (Nothing pairs) = refl
+has_two (Gap cycle) = refl
+has_two Propagated = refl
+
+all_two : (lines : List TreeLine) → list_all (has_line 2) lines ≡ true
+all_two [] = refl
+all_two (line ∷ lines) = rw (has_two line, all_two lines) refl
+
+has_one : (line : TreeLine) → is_propagated (line_of line) ≡ false → has_line 1 line ≡ true
+has_one (Slack row k) e = refl
+has_one (Offset cycle k) e = refl
+has_one (Bound pairs) e = refl
+has_one (Nothing pairs) e = refl
+has_one (Gap cycle) e = refl
+has_one Propagated e = cc
+
+neither : (a b : Bool) → (a || b) ≡ false → (a ≡ false) × (b ≡ false)
+neither true b e = cc
+neither false b e = (refl, e)
+
+all_one : (lines : List TreeLine) → list_any is_propagated (map line_of lines) ≡ false → list_all (has_line 1) lines ≡ true
+all_one [] e = refl
+all_one (line ∷ lines) e =
+    let both = neither (is_propagated (line_of line)) (list_any is_propagated (map line_of lines)) e in
+    rw (has_one line both.0, all_one lines both.1) refl
+
+-- the version is one that there is, and has these lines
+abbrev HasLines : ℕ → List TreeLine → Type 0
+HasLines version lines = ((1 ≤ version) × (version ≤ 2)) × (list_all (has_line version) lines ≡ true)
+
+by_lines : (lines : List TreeLine) (b : Bool) → list_any is_propagated (map line_of lines) ≡ b → HasLines (if b then 2 else 1) lines
+by_lines lines true e = ((omega arith, omega arith), all_two lines)
+by_lines lines false e = ((omega arith, omega arith), all_one lines e)
+
+version_fits : (version : ℕ) (lines : List TreeLine) → version ≡ version_of (map line_of lines) → HasLines version lines
+version_fits version lines e = subst (λ (v : ℕ). HasLines v lines) (sym e) (by_lines lines (list_any is_propagated (map line_of lines)) refl)
+
 -- ---- all of it
 
 pub keeps_limits : (i : Pesp) (p : ProblemValue) (state : State) (content : Content) → instances.KeepsLimits i → KeepsNetLimits p.network → IsSmallTable p.table → All (IsWalk (net_of p).arcs) p.table → IsOrderly p state → IsCertificateOf p i.events state content → KeepsLimits content
 keeps_limits i p state content l n t walks o c =
+    let known = version_fits content.version content.tree (c.version ∙ ap version_of (sym c.tree)) in
     let shown = shown_fit i p state.best content.times l n o.kept.best c.times in
     let long : length content.tree ≡ length (preorder state.tree) = sym (length-map content.tree line_of) ∙ ap length c.tree in
     let many : total_pairs content.tree ≡ sum_by machine.pairs_in (preorder state.tree) = same_pairs content.tree ∙ ap (sum_by machine.pairs_in) c.tree in
     let few : length (net_of p).arcs ≤ 100000 = (let same = length-map p.network.rows arc_of_net in let most = n.rows_most in omega (arith, same, most)) in
     record {
+      version = known.0;
       period = rw c.period (n.some_period, n.period_most);
       answer = rw c.answer (costs_fit (least p state) (best_cost p state) (told_is_short (least_value (net_of p) p.table state.tree (root_of p))) (cost_is_short p state.best n));
       times = shown.few;
@@ -180,17 +227,20 @@ keeps_limits i p state content l n t walks o c =
       pairs = (let small = o.limits.small.pairs in omega (arith, many, small));
       each_line = lines_fit p content.tree n t (subst (All (IsLineOf p)) (sym c.tree) o.limits.lines);
       whole = (whole_tree (lines_of content)).1 (state.tree, sym c.tree);
+      known = known.1;
     }
 
 -- ---- what is made of the parts
 
 -- the parts are those of what the board certifies
 pub says : (p : ProblemValue) (state : State) (events : List ℤ) (self : BoardValue) (value cost : Option ℕ) (labels : List ℤ) (table : List (List SignedRow)) (network : NetworkValue) (content : Content) → record { problem = p; state = state } ≡ self
+    → content.version ≡ version_of (lines_of content)
     → network ≡ p.network → content.period ≡ network.period
     → value ≡ least self.problem self.state → cost ≡ best_cost self.problem self.state → content.answer ≡ answer_of value cost
     → labels ≡ events → ShowsBest labels state.best (shown_labels content) (shown_times content)
     → table ≡ p.table → content.cycles ≡ table → lines_of content ≡ preorder state.tree → IsCertificateOf p events state content
-says p state events self value cost labels table network content view n period v k answer l times t cycles lines = record {
+says p state events self value cost labels table network content view version n period v k answer l times t cycles lines = record {
+  version = version ∙ ap version_of lines;
   period = period ∙ ap (λ (m : NetworkValue). m.period) n;
   answer = (let value_is : value ≡ least p state = rw (← view) at v in let cost_is : cost ≡ best_cost p state = rw (← view) at k in answer ∙ (λ i. answer_of (value_is i) (cost_is i)));
   times = subst (λ (names : List ℤ). ShowsBest names state.best (shown_labels content) (shown_times content)) l times;

@@ -15,10 +15,12 @@ pub mod Changing
 pub mod Changed
 pub mod Paths
 pub mod Gaps
+pub mod Supported
 pub mod Judged
 pub mod Growing
 pub mod Replacing
 pub mod Planted
 pub mod Sizing
 pub mod Giving
+pub mod Versions
 pub mod Certified

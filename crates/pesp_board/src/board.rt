@@ -12,7 +12,7 @@ ghost use Rattle.pesp_truth.specs.Certificates.{IsValid};
 ghost use Rattle.pesp_board.specs.Lending.{LendsFirst};
 
 use crate::best::Best;
-use crate::certifying::{answer_of, copy_table, shown_times};
+use crate::certifying::{answer_of, copy_table, shown_times, version_of};
 use crate::give::{lent_with, make_at};
 use crate::lend::{bound_pairs, is_cheaper, is_lent, lend_entry};
 use crate::making::limits;
@@ -155,13 +155,13 @@ impl Board {
     }
 
     /// Takes work on the leaf with which the number is lent, and the number is given: a `Leaf` keeps the pairs of the greater
-    /// value, the old ones where both are equal; `Nothing` and `Gap` close the leaf; a `Split` makes two leaves that keep the
+    /// value, the old ones where both are equal; `Nothing`, `Gap` and `Propagated` close the leaf; a `Split` makes two leaves that keep the
     /// pairs, or are gaps where one of the pairs' cycles has no offset left; the lines of a `Tree`, in preorder, take the leaf's
     /// place.
     ///
     /// Refused as `UnknownJob` where the number was never lent or was recalled, as `AlreadyGiven` where something was taken for
-    /// it, as `NotValid` where at the leaf's node the pairs of a `Leaf` have no value, a `Nothing` or a `Gap` isn't sound, or a
-    /// cut leaves a side of its range no value (and where pairs don't rise or break their limits, or a row or a cycle doesn't
+    /// it, as `NotValid` where at the leaf's node the pairs of a `Leaf` have no value, a `Nothing`, a `Gap` or a
+    /// `Propagated` isn't sound, or a cut leaves a side of its range no value (and where pairs don't rise or break their limits, or a row or a cycle doesn't
     /// exist), or the lines of a `Tree` aren't one whole tree, or a bound leaf of it has no value at its node or one below that
     /// of the leaf that is replaced; as `TooLarge` where the tree would have more than 1000000 lines or 20000000 pairs, and as
     /// `Memory` where a growth was refused. Then nothing has changed.
@@ -214,7 +214,8 @@ impl Board {
 
     /// What is known so far, as a certificate for the instance whose network the board has: optimal where the least value is
     /// at least the best cost, infeasible where there is no bound leaf, else open; with the best times, the walks of the
-    /// problem as its cycles, and the tree with its pairs. The one refusal is of memory.
+    /// problem as its cycles, and the tree with its pairs. It has version 2 exactly where propagation shuts a leaf of the tree,
+    /// else 1. The one refusal is of memory.
     pub fn certificate(&self, alloc: Global, instance: &Instance) -> Result<Certificate, Memory>
         requires { IsProblemOf instance.now self.now.problem }
         ensures content { IfOk result (IsCertificateOf self.now.problem instance.now.events self.now.state) }
@@ -225,7 +226,8 @@ impl Board {
         let cycles = copy_table(alloc, self.problem.table())?;
         let tree = self.tree.tree_lines(alloc)?;
         let period = self.problem.network().period();
-        let certificate = Certificate::new(period, answer, times, cycles, tree);
+        let version = version_of(&tree);
+        let certificate = Certificate::new(version, period, answer, times, cycles, tree);
         Ok(certificate.unwrap())
     }
 }

@@ -2,12 +2,13 @@
 
 ghost use Rattle.std.specs.Prelude.{◌≡◌, length, map, IfOk, IfSome};
 ghost use Rattle.std.specs.List.{zip};
+ghost use Rattle.pesp_truth.specs.Certificates.{line_of};
 ghost use Rattle.pesp_machine.specs.Certificates as spec;
 ghost use Rattle.pesp_board.specs.Insides.{times_of};
 
 use crate::best::Best;
 use pesp_problem::{Memory, Walk};
-use pesp_truth::Answer;
+use pesp_truth::{Answer, TreeLine};
 use std::alloc::Global;
 
 /// The answer of the least value of a bound leaf and the best cost: optimal where the first is at least the second, infeasible
@@ -45,6 +46,32 @@ pub(crate) fn shown_times(
         None => Ok(Vec::new(alloc)),
         Some(best) => labelled(alloc, labels, &best.times),
     }
+}
+
+/// Whether the line is that of a leaf that propagation shuts.
+fn is_propagated(line: &TreeLine) -> bool
+    ensures { result ≡ spec.is_propagated (line_of line.now) }
+{
+    match line {
+        TreeLine::Propagated => true,
+        TreeLine::Slack { .. } => false,
+        TreeLine::Offset { .. } => false,
+        TreeLine::Bound(_) => false,
+        TreeLine::Nothing(_) => false,
+        TreeLine::Gap(_) => false,
+    }
+}
+
+/// The version of a text with these lines of a tree: 2 where propagation shuts a leaf, else 1.
+pub(crate) fn version_of(lines: &[TreeLine]) -> u32
+    ensures { result ≡ spec.version_of (map line_of lines.now) }
+{
+    for line in lines {
+        if is_propagated(line) {
+            return 2;
+        }
+    }
+    1
 }
 
 /// The same walk once more.

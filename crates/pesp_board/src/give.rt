@@ -39,6 +39,7 @@ fn count_of(leaf: &Leaf) -> u64
         Leaf::Bound(pairs) => pairs.as_slice().len() as u64,
         Leaf::Nothing(pairs) => pairs.as_slice().len() as u64,
         Leaf::Gap(_) => 0,
+        Leaf::Propagated => 0,
     }
 }
 

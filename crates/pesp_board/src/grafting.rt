@@ -1,7 +1,7 @@
 //! Whether the lines of a tree may stand in the place of a bound leaf.
 
 ghost use Rattle.std.specs.Prelude.{◌≡◌, ◌↔◌, ◌≤ℤ◌, map, IsTrue, IfSome, OnOk};
-ghost use Rattle.pesp_truth.specs.Trees.{Bound, Nothing, Gap, EndLine, CutLine};
+ghost use Rattle.pesp_truth.specs.Trees.{Bound, Shut, Nothing, Gap, ByPropagation, EndLine, CutLine};
 ghost use Rattle.pesp_truth.specs.Certificates.{line_of};
 ghost use Rattle.pesp_nodes.specs.Problems.{IsNodeOf};
 ghost use Rattle.pesp_board.specs.Parts.{part_line};
@@ -9,6 +9,7 @@ ghost use Rattle.pesp_board.specs.Grafting.{MakesPartOf, IsReached, IsJudged, af
 
 use crate::making::{bound, closed, copy_of, is_gap, judged, leaves_both, limits};
 use crate::part::Part;
+use crate::shutting::is_shut_by_propagation;
 use pesp_machine::GiveRefusal;
 use pesp_nodes::{Node, NodeWalk, Problem};
 use pesp_problem::{Cut, Memory, Pair};
@@ -82,6 +83,22 @@ fn graft_gap(
     Ok(Part::Leaf(closed(Leaf::Gap(cycle))))
 }
 
+/// A leaf at a node that propagation shuts.
+fn graft_propagated(
+    alloc: Global,
+    problem: &Problem,
+    node: &Node,
+    worth: Option<i128>,
+) -> Result<Part, GiveRefusal>
+    requires { IsNodeOf problem.now node.now }
+    ensures { MakesPartOf problem.now worth node.now (EndLine (Shut ByPropagation)) result }
+{
+    if !is_shut_by_propagation(alloc, problem, node)? {
+        return Err(GiveRefusal::NotValid);
+    }
+    Ok(Part::Leaf(closed(Leaf::Propagated)))
+}
+
 /// A cut that leaves both sides of its range a value.
 fn graft_cut(
     problem: &Problem,
@@ -123,6 +140,7 @@ fn graft_line(
         TreeLine::Bound(pairs) => graft_bound(alloc, problem, node, worth, pairs.as_slice()),
         TreeLine::Nothing(pairs) => graft_nothing(alloc, problem, node, worth, pairs.as_slice()),
         TreeLine::Gap(cycle) => graft_gap(problem, node, worth, *cycle),
+        TreeLine::Propagated => graft_propagated(alloc, problem, node, worth),
     }
 }
 

@@ -11,9 +11,11 @@ mod lend;
 mod making;
 mod part;
 mod planting;
+mod shutting;
 mod slot;
 mod timetable;
 
 pub use along::node_along;
 pub use board::Board;
 pub use pesp_machine::{GiveRefusal, Job, LendRefusal, Work};
+pub use shutting::is_shut_by_propagation;

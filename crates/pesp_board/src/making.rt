@@ -20,6 +20,7 @@ ghost use Rattle.pesp_board.specs.Giving.{AreCuts, HaveValue, MakesOf};
 use crate::along::node_along;
 use crate::grafting::judge_lines;
 use crate::part::{Made, Valued};
+use crate::shutting::is_shut_by_propagation;
 use pesp_machine::{GiveRefusal, Work};
 use pesp_nodes::{Node, Problem, are_pairs, leaf_value, offset_range};
 use pesp_problem::{Cut, Memory, Pair, Pairs, Side};
@@ -134,6 +135,17 @@ fn make_gap(problem: &Problem, node: &Node, cycle: u32) -> Result<Made, GiveRefu
         return Err(GiveRefusal::NotValid);
     }
     Ok(Made::Leaf(closed(Leaf::Gap(cycle))))
+}
+
+/// A node that propagation shuts.
+fn make_propagated(alloc: Global, problem: &Problem, node: &Node) -> Result<Made, GiveRefusal>
+    requires { IsNodeOf problem.now node.now }
+    ensures { (old : List Pair) → MakesOf problem.now node.now old works.Propagated result }
+{
+    if !is_shut_by_propagation(alloc, problem, node)? {
+        return Err(GiveRefusal::NotValid);
+    }
+    Ok(Made::Leaf(closed(Leaf::Propagated)))
 }
 
 /// Whether both sides of a range that is cut at `k` have a value.
@@ -282,6 +294,7 @@ pub(crate) fn make(
         Work::Leaf(pairs) => make_bound(alloc, problem, &node, old, pairs.as_slice()),
         Work::Nothing(pairs) => make_nothing(alloc, problem, &node, pairs),
         Work::Gap(cycle) => make_gap(problem, &node, *cycle),
+        Work::Propagated => make_propagated(alloc, problem, &node),
         Work::Split(cut) => make_branch(alloc, problem, path, node, old, *cut),
         Work::Tree(lines) => make_tree(alloc, problem, node, old, lines),
     }

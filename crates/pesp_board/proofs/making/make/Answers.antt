@@ -12,3 +12,6 @@ returns-in-Gap c = rw (c.in-Gap.is) (subst (λ (n : Node). MakesOf c.args.proble
 
 pub make_tree-requires-clause-node : goal.make_tree-requires-clause-node
 make_tree-requires-clause-node c = record { path = c.args.path.now; at = c.in_ok-node.ensures.at; fits = c.in_ok-node.ensures.node }
+
+pub returns-in-Propagated : goal.returns-in-Propagated
+returns-in-Propagated c = rw (c.in-Propagated.is) (subst (λ (n : Node). MakesOf c.args.problem.now n c.args.old.now works.Propagated c.make_propagated.result) c.in_ok-node.ensures.at (c.make_propagated.ensures c.args.old.now))

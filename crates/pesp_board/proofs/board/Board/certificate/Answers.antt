@@ -1,9 +1,10 @@
-use Rattle.std.proofs.Common.{◌≡◌, subst, sym}
+use Rattle.std.proofs.Common.{◌≡◌, List, map, subst, sym, ap, ◌∙◌}
 use Rattle.std.specs.Prelude.{Ok}
-use Rattle.pesp_truth.specs.Certificates.{Content}
+use Rattle.pesp_truth.specs.declared.tree.TreeLine.{TreeLine}
+use Rattle.pesp_truth.specs.Certificates.{Content, line_of}
 use Rattle.pesp_cert.proofs.Runs.{limits_give}
 use Rattle.pesp_machine.specs.States.{State}
-use Rattle.pesp_machine.specs.Certificates.{IsCertificateOf}
+use Rattle.pesp_machine.specs.Certificates.{version_of, IsCertificateOf}
 use Rattle.pesp_machine.proofs.Certified.{kept_is_valid}
 use Rattle.pesp_board.specs.Insides.{times_of, state_of}
 use Rattle.pesp_board.proofs.Certified.{says, keeps_limits, not_refused, what_is_made}
@@ -14,12 +15,12 @@ abbrev state : After-new-certificate → State
 state c = state_of c.self.inside.tree c.self.inside.slots.items (times_of c.self.inside.best)
 
 abbrev made : After-new-certificate → Content
-made c = record { period = c.period-period.result; answer = c.answer_of-answer.result; times = c.in_ok-times.times.items; cycles = c.in_ok-cycles.cycles.items; tree = c.in_ok-tree.tree.items }
+made c = record { version = c.version_of-version.result; period = c.period-period.result; answer = c.answer_of-answer.result; times = c.in_ok-times.times.items; cycles = c.in_ok-cycles.cycles.items; tree = c.in_ok-tree.tree.items }
 
 made_is : (c : After-new-certificate) → IsCertificateOf c.self.inside.problem c.args.instance.now.events (state c) (made c)
 made_is c =
     says c.self.inside.problem (state c) c.args.instance.now.events c.args.self.now c.least.result c.best.result c.events.result.now c.table.result.now c.network.result.now (made c)
-    c.self.view_is c.network.ensures.network c.period-period.ensures.period c.least.ensures.value c.best.ensures.cost c.answer_of-answer.ensures c.events.ensures.events c.in_ok-times.ensures c.table.ensures.table c.in_ok-cycles.ensures c.in_ok-tree.ensures.lines
+    c.self.view_is (c.version_of-version.ensures ∙ ap (λ (lines : List TreeLine). version_of (map line_of lines)) c.deref.ensures.value) c.network.ensures.network c.period-period.ensures.period c.least.ensures.value c.best.ensures.cost c.answer_of-answer.ensures c.events.ensures.events c.in_ok-times.ensures c.table.ensures.table c.in_ok-cycles.ensures c.in_ok-tree.ensures.lines
 
 pub unwrap-requires : goal.unwrap-requires
 unwrap-requires c =

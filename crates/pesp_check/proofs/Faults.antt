@@ -13,11 +13,11 @@ use Rattle.pesp_problem.specs.Nodes.{Node, root, low_part, high_part, cycle_at, 
 use Rattle.pesp_truth.specs.declared.answer.Answer.{Answer}
 use Rattle.pesp_truth.specs.declared.answer.Answer.TheVariants.{Optimal, Infeasible, Bounded}
 use Rattle.pesp_truth.specs.Trees.{Tree, Ends, Branch, Leaf, Bound, Shut, Reason, ByPairs, ByGap, ByPropagation, Line, EndLine, CutLine, preorder, CutExists, IsShut, IsSound, AreSound, are_trees}
-use Rattle.pesp_truth.specs.Certificates.{Content, IsValid, ShowsAnswer, ShowsTimetable, shown_labels, shown_times, least_of, lines_of}
+use Rattle.pesp_truth.specs.Certificates.{Content, IsValid, ShowsAnswer, ShowsTimetable, shown_labels, shown_times, least_of, cost_of, lines_of}
 use Rattle.pesp_truth.proofs.Lines.{whole_tree, one_tree, sound_as_tree}
 use Rattle.pesp_check.specs.declared.refusal.Refusal.{Refusal}
 use Rattle.pesp_check.specs.declared.refusal.Refusal.TheVariants.{OtherPeriod, Times, Violates, WrongCost, OpenWalk, NoSuch, LeafBelow, NotEmpty, NotAGap, BoundInInfeasible, AnswerShape}
-use Rattle.pesp_check.specs.Faults.{cost_of, HasShape, IsTimesFault, IsAnswerFault, IsFirstOpen, IsCycleFault, IsReasonFault, IsLeafFault, IsTreeFault, IsLaterFault, IsFirstFault, first_tree_line}
+use Rattle.pesp_check.specs.Faults.{HasShape, IsTimesFault, IsAnswerFault, IsFirstOpen, IsCycleFault, IsReasonFault, IsLeafFault, IsTreeFault, IsLaterFault, IsFirstFault, first_tree_line}
 use Rattle.pesp_check.specs.Lines.{after, IsSoundLine, IsLineFault, IsLinesFault}
 
 -- ---- from lines to the tree

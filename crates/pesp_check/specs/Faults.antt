@@ -12,19 +12,13 @@ use Rattle.pesp_problem.specs.Nodes.{Node, cycle_at, root, leaf_value, offsets_l
 use Rattle.pesp_truth.specs.declared.answer.Answer.{Answer}
 use Rattle.pesp_truth.specs.declared.answer.Answer.TheVariants.{Optimal, Infeasible, Bounded}
 use Rattle.pesp_truth.specs.Trees.{Tree, Ends, Branch, Leaf, Bound, Shut, Reason, ByPairs, ByGap, ByPropagation, Line, EndLine, CutLine, preorder, CutExists, PairsExist, IsSoundLeaf, IsSound}
-use Rattle.pesp_truth.specs.Certificates.{Content, IsValid, ShowsAnswer, shown_labels, shown_times, least_of, lines_of}
+use Rattle.pesp_truth.specs.Certificates.{Content, IsValid, ShowsAnswer, shown_labels, shown_times, least_of, cost_of, lines_of}
 use Rattle.pesp_check.specs.declared.refusal.Refusal.{Refusal}
 use Rattle.pesp_check.specs.declared.refusal.Refusal.TheVariants.{OtherPeriod, Times, Violates, WrongCost, OpenWalk, NoSuch, LeafBelow, NotEmpty, NotAGap, BoundInInfeasible, AnswerShape}
 use Rattle.pesp_check.specs.declared.refusal.Verdict.{Verdict}
 use Rattle.pesp_check.specs.declared.refusal.Verdict.TheVariants.{Accepted, Refused}
 
 -- ---- the answer
-
--- the cost of the shown times, where the answer has one
-abbrev pub cost_of : Answer → Option ℕ
-cost_of (Optimal c) = Some c
-cost_of Infeasible = None
-cost_of (Bounded least c) = c
 
 -- no times without a cost, and a least cost below the cost
 abbrev pub HasShape : Answer → List ℕ → Type 0

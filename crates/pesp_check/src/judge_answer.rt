@@ -1,6 +1,7 @@
 //! Whether an answer shows what it has to.
 
 ghost use Rattle.std.specs.Prelude.{◌≡◌, ◌↔◌, IsTrue, map, length, IfOk, MatchOption};
+ghost use Rattle.pesp_truth.specs.Certificates as certificates;
 ghost use Rattle.pesp_truth.specs.Certificates.{ShowsTimetable, ShowsAnswer};
 ghost use Rattle.pesp_check.specs.Faults.{HasShape, IsTimesFault, IsAnswerFault};
 ghost use Rattle.pesp_check.specs.Faults as spec;
@@ -12,7 +13,7 @@ use std::alloc::{AllocError, Global};
 
 /// The cost of the shown times, where the answer has one.
 fn cost_of(answer: Answer) -> Option<u64>
-    ensures { result ≡ spec.cost_of answer }
+    ensures { result ≡ certificates.cost_of answer }
 {
     match answer {
         Answer::Optimal(cost) => Some(cost),

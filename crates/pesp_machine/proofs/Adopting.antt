@@ -17,8 +17,8 @@ use Rattle.pesp_problem.proofs.NetTimetables.{net_timetables, limits_in_order}
 use Rattle.pesp_truth.specs.declared.answer.Answer.{Answer}
 use Rattle.pesp_truth.specs.declared.answer.Answer.TheVariants.{Optimal, Infeasible, Bounded}
 use Rattle.pesp_truth.specs.Trees.{Tree, Leaf, Ends, Branch, Bound, Shut, IsSound}
-use Rattle.pesp_truth.specs.Certificates.{Content, IsValid, ShowsAnswer, shown_times}
-use Rattle.pesp_truth.specs.Leaves.{IsLeafAt}
+use Rattle.pesp_truth.specs.Certificates.{Content, IsValid, ShowsAnswer, least_of, shown_times}
+use Rattle.pesp_truth.specs.Leaves.{IsLeafAt, leaf_paths}
 use Rattle.pesp_truth.proofs.Lines.{one_tree}
 use Rattle.pesp_nodes.specs.Problems.{ProblemValue, net_of}
 use Rattle.pesp_machine.specs.declared.job.Job.{Job}
@@ -27,7 +27,7 @@ use Rattle.pesp_machine.specs.Limits.{KeepsTreeLimits}
 use Rattle.pesp_machine.specs.Reached.{IsKept, IsOrderly, AreLentApart}
 use Rattle.pesp_machine.specs.Events.{Event, Run, LendsLeaf}
 use Rattle.pesp_machine.specs.Certificates.{IsProblemOf, IsCertificateOf}
-use Rattle.pesp_machine.specs.Adopting.{shown_best, Adopts, leaf_paths, AreOpenOf, AreNumbered, LendsEach, lends_of}
+use Rattle.pesp_machine.specs.Adopting.{shown_best, Adopts, AreOpenOf, AreNumbered, LendsEach, lends_of}
 use Rattle.pesp_machine.proofs.Trees.{and_is}
 use Rattle.pesp_machine.proofs.Steps.{run_goes_on}
 use Rattle.pesp_machine.proofs.Certified.{same_net, kept_is_valid}
@@ -55,19 +55,25 @@ shown_is_timetable i Infeasible labels times k s = tt
 shown_is_timetable i (Bounded least None) labels times k s = tt
 shown_is_timetable i (Bounded least (Some c)) labels times k s = to_net i times k s.1.1.0
 
+-- the tree is sound for the certificate's bound
+pub adopted_sound : (i : Pesp) (p : ProblemValue) (content : Content) (state : State) → IsProblemOf i p → content.cycles ≡ p.table → IsValid i content → Adopts content state → IsSound (net_of p) p.table (least_of content.answer) state.tree (root (net_of p) p.table)
+adopted_sound i p content state o cycles v a =
+    let n : Net = instances.net_of i in
+    let bound = least_of content.answer in
+    let same : state.tree ≡ v.tree.0 = one_tree state.tree v.tree.0 (a.tree ∙ sym v.tree.1) in
+    let on_table : IsSound n p.table bound v.tree.0 (root n p.table) = subst (λ (table : List (List SignedRow)). IsSound n table bound v.tree.0 (root n table)) cycles v.tree.2 in
+    let on_tree : IsSound n p.table bound state.tree (root n p.table) = subst (λ (tree : Tree). IsSound n p.table bound tree (root n p.table)) (sym same) on_table in
+    subst (λ (m : Net). IsSound m p.table bound state.tree (root m p.table)) (sym (same_net i p o)) on_tree
+
 pub adopted_is_kept : (i : Pesp) (p : ProblemValue) (content : Content) (state : State) → KeepsLimits i → IsProblemOf i p → content.cycles ≡ p.table → IsValid i content → Adopts content state → IsKept p state
 adopted_is_kept i p content state l o cycles v a =
     let n : Net = instances.net_of i in
-    let same : state.tree ≡ v.tree.0 = one_tree state.tree v.tree.0 (a.tree ∙ sym v.tree.1) in
-    let sound : IsSound n content.cycles (Some 0) v.tree.0 (root n content.cycles) = sound_for_nothing n content.cycles _ v.tree.0 (root n content.cycles) v.tree.2 in
-    let on_table : IsSound n p.table (Some 0) v.tree.0 (root n p.table) = subst (λ (table : List (List SignedRow)). IsSound n table (Some 0) v.tree.0 (root n table)) cycles sound in
-    let on_tree : IsSound n p.table (Some 0) state.tree (root n p.table) = subst (λ (tree : Tree). IsSound n p.table (Some 0) tree (root n p.table)) (sym same) on_table in
     let net : n ≡ net_of p = sym (same_net i p o) in
     let shown = shown_is_timetable i content.answer _ (shown_times content) l v.answer in
     let times : IfSome state.best (IsNetTimetable n (length i.events)) = subst (λ (best : Option (List ℕ)). IfSome best (IsNetTimetable n (length i.events))) (sym a.best) shown in
     let events : IfSome state.best (IsNetTimetable n p.network.events) = subst (λ (count : ℕ). IfSome state.best (IsNetTimetable n count)) (sym o.events) times in
     record {
-      tree = subst (λ (m : Net). IsSound m p.table (Some 0) state.tree (root m p.table)) net on_tree;
+      tree = sound_for_nothing (net_of p) p.table (least_of content.answer) state.tree (root (net_of p) p.table) (adopted_sound i p content state o cycles v a);
       best = subst (λ (m : Net). IfSome state.best (IsNetTimetable m p.network.events)) net events;
     }
 

@@ -17,4 +17,5 @@ pub mod Certified
 pub mod Decided
 pub mod Runs
 pub mod Adopting
+pub mod Tightening
 pub mod Worked

@@ -3,10 +3,10 @@ use Rattle.std.specs.Prelude.{◌≡◌, ◌⊎◌, ℕ, ◌+◌, ◌≤◌, ◌
 use Rattle.std.specs.Global.{Vec}
 use Rattle.pesp_problem.specs.declared.cut.Cut.{Cut}
 use Rattle.pesp_problem.specs.declared.cut.Side.{Side}
-use Rattle.pesp_problem.specs.declared.cut.Side.TheVariants.{Low, High}
 use Rattle.pesp_truth.specs.declared.answer.Answer.{Answer}
 use Rattle.pesp_truth.specs.declared.answer.Answer.TheVariants.{Optimal, Infeasible, Bounded}
-use Rattle.pesp_truth.specs.Trees.{Tree, Ends, Branch, preorder}
+use Rattle.pesp_truth.specs.Trees.{preorder}
+use Rattle.pesp_truth.specs.Leaves.{leaf_paths}
 use Rattle.pesp_truth.specs.Certificates.{Content, lines_of, shown_times}
 use Rattle.pesp_nodes.specs.Problems.{ProblemValue}
 use Rattle.pesp_machine.specs.declared.job.Job.{Job}
@@ -31,11 +31,6 @@ pub record Adopts (content : Content) (state : State) : Type 0 where
   pub best : state.best ≡ shown_best content.answer (shown_times content)
 
 -- ---- all open leaves lent at once
-
--- the paths to the leaves of a tree, in preorder
-abbrev pub leaf_paths : Tree → List (List (Cut × Side))
-leaf_paths (Ends leaf) = [] ∷ []
-leaf_paths (Branch cut low high) = map (λ path. (cut, Low) ∷ path) (leaf_paths low) ++ map (λ path. (cut, High) ∷ path) (leaf_paths high)
 
 -- those of the paths that lead to open leaves, in their order
 abbrev pub AreOpenOf : ProblemValue → State → List (List (Cut × Side)) → List (List (Cut × Side)) → Type 0

@@ -1,7 +1,7 @@
 //! Laws over every list of events. Each is a function without a body whose contract is the law: a caller that calls it has
 //! the law within reach.
 
-ghost use Rattle.std.specs.Prelude.{◌≡◌, ◌↔◌, ℕ, ◌+◌, ◌<◌, ◌≤◌, ◌≤ℤ◌, List, length, All, ℤ, pos, Option, Some, None, IsSomeAnd, Result, Err, sum_by};
+ghost use Rattle.std.specs.Prelude.{◌≡◌, ◌↔◌, ℕ, ◌+◌, ◌<◌, ◌≤◌, ◌≤ℤ◌, List, length, All, ℤ, pos, Option, Some, None, IsSomeAnd, IfSome, Result, Err, sum_by};
 ghost use Rattle.pesp_problem.specs.declared.row.SignedRow.{SignedRow};
 ghost use Rattle.pesp_problem.specs.declared.pair.Pair.{Pair};
 ghost use Rattle.pesp_problem.specs.declared.cut.Cut.{Cut};
@@ -14,7 +14,7 @@ ghost use Rattle.pesp_problem.specs.Walks.{IsWalk};
 ghost use Rattle.pesp_problem.specs.Nodes.{Node};
 ghost use Rattle.pesp_network.specs.Networks.{NetworkValue, KeepsNetLimits, net_of_network};
 ghost use Rattle.pesp_truth.specs.Trees.{Tree, Leaf, EndLine, CutExists, preorder};
-ghost use Rattle.pesp_truth.specs.Certificates.{Content, IsValid};
+ghost use Rattle.pesp_truth.specs.Certificates.{Content, IsValid, least_of, cost_of};
 ghost use Rattle.pesp_nodes.specs.Problems.{ProblemValue, net_of, IsSmallTable, IsCutOf};
 ghost use Rattle.pesp_machine.specs.declared.work.Work.{Work};
 ghost use Rattle.pesp_machine.specs.declared.refusal.LendRefusal.{LendRefusal};
@@ -130,6 +130,20 @@ pub fn adopted_certificates_are_kept()
     ensures kept { (instance : Pesp) (p : ProblemValue) (content : Content) (state : State) → KeepsLimits instance → IsProblemOf instance p → content.cycles ≡ p.table → IsValid instance content → Adopts content state → IsKept p state }
     ensures orderly { (instance : Pesp) (p : ProblemValue) (content : Content) (state : State) → KeepsLimits instance → IsProblemOf instance p → content.cycles ≡ p.table → IsValid instance content → KeepsTreeLimits p state.tree → Adopts content state → IsOrderly p state }
     ensures valid { (instance : Pesp) (p : ProblemValue) (events : List Event) (old new : State) (content : Content) → KeepsLimits instance → IsProblemOf instance p → All (IsWalk (net_of p).arcs) p.table → IsKept p old → Run p old events new → IsCertificateOf p instance.events new content → IsValid instance content }
+{}
+
+/// A board that takes a valid certificate up has the certificate's cost, and its least value isn't below the certificate's bound,
+/// which is at most 999999999999999999 in every text; no bound leaf counts as above every number.
+pub fn adopted_bounds_are_kept()
+    ensures bound { (instance : Pesp) (p : ProblemValue) (base : Content) (state : State) → IsProblemOf instance p → base.cycles ≡ p.table → IsValid instance base → IfSome (least_of base.answer) (λ l. l ≤ 999999999999999999) → Adopts base state → IsAtMost (least_of base.answer) (least p state) }
+    ensures cost { (instance : Pesp) (p : ProblemValue) (base : Content) (state : State) → IsProblemOf instance p → IsValid instance base → Adopts base state → best_cost p state ≡ cost_of base.answer }
+{}
+
+/// Whatever happens to a board that took a valid certificate up, what it certifies then has no lesser bound and no greater cost
+/// than that certificate: none counts as above every number.
+pub fn later_certificates_are_tighter()
+    ensures bound { (instance : Pesp) (p : ProblemValue) (events : List Event) (base : Content) (old new : State) (content : Content) → KeepsLimits instance → IsProblemOf instance p → All (IsWalk (net_of p).arcs) p.table → base.cycles ≡ p.table → IsValid instance base → IfSome (least_of base.answer) (λ l. l ≤ 999999999999999999) → Adopts base old → Run p old events new → IsCertificateOf p instance.events new content → IsAtMost (least_of base.answer) (least_of content.answer) }
+    ensures cost { (instance : Pesp) (p : ProblemValue) (events : List Event) (base : Content) (old new : State) (content : Content) → KeepsLimits instance → IsProblemOf instance p → All (IsWalk (net_of p).arcs) p.table → base.cycles ≡ p.table → IsValid instance base → Adopts base old → Run p old events new → IsCertificateOf p instance.events new content → IsAtMost (cost_of content.answer) (cost_of base.answer) }
 {}
 
 /// To lend all open leaves at once is to lend one after the other, in preorder; and then no leaf is open.

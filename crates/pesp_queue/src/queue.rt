@@ -151,6 +151,19 @@ impl Queue {
         Some(self.entries[at].value)
     }
 
+    /// The value of a waiting item; None where the item doesn't wait.
+    #[tactic(auto, using(crate::proofs::Limits::limits))]
+    pub fn waiting_value(&self, item: u32) -> Option<u64>
+        ensures value { MatchOption result (¬ HasItem self.now.waiting item) (λ value. Contains self.now.waiting (entry item value)) }
+        ensures limits { KeepsLimits self.now }
+    {
+        let at = find(&self.entries, &self.places, item)?;
+        if at >= self.waiting {
+            return None;
+        }
+        Some(self.entries[at].value)
+    }
+
     /// Whether an item is there, waiting or parked.
     pub fn contains(&self, item: u32) -> bool
         ensures has { IsTrue result ↔ HasItem (all_of self.now) item }

@@ -5,3 +5,4 @@ pub mod Standing
 pub mod Holding
 pub mod Walking
 pub mod Effects
+pub mod Ordering

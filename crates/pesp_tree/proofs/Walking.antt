@@ -16,11 +16,11 @@ use Rattle.pesp_tree.specs.Preorder.{line_in, line_at, parts_in, parts_at, IsKno
 use Rattle.pesp_tree.proofs.Standing.{in_range, length_leaves, branch_in_range, branch_has_none}
 
 -- each number of the tree is that of a leaf
-abbrev HasLeaves : List (Option Leaf) → Numbered → Type 0
+abbrev pub HasLeaves : List (Option Leaf) → Numbered → Type 0
 HasLeaves leaves tree = (path : List (Cut × Side)) (m : ℕ) → IsAt tree path m → get_or leaves m None ≢ None
 
 -- the trees stand at the nodes, in order
-abbrev AreTrees : List Branching → List Kept → List ℕ → List Numbered → Type 0
+abbrev pub AreTrees : List Branching → List Kept → List ℕ → List Numbered → Type 0
 AreTrees bs kept [] [] = Unit {0}
 AreTrees bs kept [] (tree ∷ trees) = ⊥
 AreTrees bs kept (n ∷ ns) [] = ⊥
@@ -47,7 +47,7 @@ at_start bs kept a = record {
 
 -- ---- a node
 
-leaf_in_kept : (kept : List Kept) (n : ℕ) → get_or (map kept_leaf kept) n None ≢ None → (leaf : OwnLeaf) × (get_or kept n no_node ≡ KeptLeaf leaf) × (leaf_of leaf ≡ leaf_in (map kept_leaf kept) n)
+pub leaf_in_kept : (kept : List Kept) (n : ℕ) → get_or (map kept_leaf kept) n None ≢ None → (leaf : OwnLeaf) × (get_or kept n no_node ≡ KeptLeaf leaf) × (leaf_of leaf ≡ leaf_in (map kept_leaf kept) n)
 leaf_in_kept [] n h = absurd (h refl)
 leaf_in_kept (KeptLeaf leaf ∷ kept) zero h = (leaf, refl, refl)
 leaf_in_kept (Branched place ∷ kept) zero h = absurd (h refl)
@@ -62,7 +62,7 @@ known bs kept (Number m) n s h =
     (omega (arith, in_range (map kept_leaf kept) n leaf, length_leaves kept), λ place e. absurd (leaf (branch_has_none kept n place e)))
 known bs kept (Cuts cut low high) n s h = (branch_in_range kept n s.0 s.1, λ place e. subst (λ x. x < length bs) (same_place s.0 place (sym (s.1) ∙ e)) s.2)
 
-first_known : (bs : List Branching) (kept : List Kept) (n : ℕ) (ns : List ℕ) (trees : List Numbered) → AreTrees bs kept (n ∷ ns) trees → IsKnown bs kept n
+pub first_known : (bs : List Branching) (kept : List Kept) (n : ℕ) (ns : List ℕ) (trees : List Numbered) → AreTrees bs kept (n ∷ ns) trees → IsKnown bs kept n
 first_known bs kept n ns [] s = absurd s
 first_known bs kept n ns (tree ∷ trees) s = known bs kept tree n s.0 s.1
 
@@ -84,7 +84,7 @@ open_node bs kept n (Cuts cut low high) s h =
       ap (λ c. CutLine c ∷ (first ++ second)) (sym (s.3)) ∙ ap (λ l. CutLine (get_or bs s.0 no_branching).cut ∷ (first ++ l)) (sym (append-nil second)),
     )
 
-trees_append : (bs : List Branching) (kept : List Kept) (ms ns : List ℕ) (ts us : List Numbered) → AreTrees bs kept ms ts → AreTrees bs kept ns us → AreTrees bs kept (ms ++ ns) (ts ++ us)
+pub trees_append : (bs : List Branching) (kept : List Kept) (ms ns : List ℕ) (ts us : List Numbered) → AreTrees bs kept ms ts → AreTrees bs kept ns us → AreTrees bs kept (ms ++ ns) (ts ++ us)
 trees_append bs kept [] ns [] us a b = b
 trees_append bs kept [] ns (t ∷ ts) us a b = absurd a
 trees_append bs kept (m ∷ ms) ns [] us a b = absurd a
@@ -111,7 +111,7 @@ step bs kept lines n ns (tree ∷ trees) stand all =
 
 -- ---- the loop, whose stack has the next node last
 
-turned : (waiting popped : List ℕ) (n : ℕ) → waiting ≡ popped ++ n ∷ [] → reverse waiting ≡ n ∷ reverse popped
+pub turned : (waiting popped : List ℕ) (n : ℕ) → waiting ≡ popped ++ n ∷ [] → reverse waiting ≡ n ∷ reverse popped
 turned waiting popped n e = ap reverse e ∙ reverse-append popped (n ∷ [])
 
 next_known : (bs : List Branching) (kept : List Kept) (lines : List Line) (n : ℕ) (ns : List ℕ) → Walked bs kept lines (n ∷ ns) → IsKnown bs kept n

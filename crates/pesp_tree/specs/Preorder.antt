@@ -28,3 +28,11 @@ parts_at kept n = parts_in (slice_index_or kept n no_node)
 -- there is such a node, and its branching where it has one
 abbrev pub IsKnown : List Branching → List Kept → ℕ → Type 0
 IsKnown bs kept n = (n < length kept) × ((place : ℕ) → slice_index_or kept n no_node ≡ Branched place → place < length bs)
+
+-- the node itself where it keeps a leaf, and nothing where it is a branch
+abbrev pub own_in : Kept → ℕ → List ℕ
+own_in (KeptLeaf leaf) n = n ∷ []
+own_in (Branched place) n = []
+
+abbrev pub own_at : List Kept → ℕ → List ℕ
+own_at kept n = own_in (slice_index_or kept n no_node) n

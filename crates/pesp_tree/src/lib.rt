@@ -3,6 +3,7 @@
 
 pub mod laws;
 mod leaf;
+mod leaf_nodes;
 mod node;
 mod preorder;
 mod work_tree;

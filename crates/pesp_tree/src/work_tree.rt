@@ -1,12 +1,14 @@
 //! Trees under work.
 
-ghost use Rattle.std.specs.Prelude.{◌≡◌, ◌<◌, ◌≤◌, ◌+◌, length, map, option_map, option_copied, IsSome, IfOk, OnOk, OnErr};
+ghost use Rattle.std.specs.Prelude.{◌≡◌, ◌<◌, ◌≤◌, ◌+◌, length, map, option_map, option_copied, All, IsSome, IfOk, OnOk, OnErr};
 ghost use Rattle.pesp_truth.specs.Trees.{preorder};
 ghost use Rattle.pesp_truth.specs.Certificates.{line_of};
+ghost use Rattle.pesp_truth.specs.Leaves.{leaf_paths};
 ghost use Rattle.pesp_tree.specs.Leaves.{leaf_of};
 ghost use Rattle.pesp_tree.specs.WorkTrees.{opening, path_to, leaf_at, with_leaf, with_branch, with_room, IsWhole};
 
 use crate::leaf::Leaf;
+use crate::leaf_nodes::leaf_nodes;
 use crate::node::{Branching, Kept, branch_off, path_of};
 use crate::preorder::lines_of;
 use pesp_problem::{Cut, Memory, Pairs, Side};
@@ -128,5 +130,14 @@ impl WorkTree {
         ensures whole { IsWhole self.now }
     {
         lines_of(alloc, &self.branchings, &self.nodes)
+    }
+
+    /// The nodes that have leaves, in the order of the tree's lines. The one refusal is of memory.
+    pub fn leaf_nodes(&self, alloc: Global) -> Result<Vec<u32>, Memory>
+        ensures paths { IfOk result (λ nodes. map (path_to self.now) nodes.items ≡ leaf_paths self.now.tree) }
+        ensures leaves { IfOk result (λ nodes. All (λ node. IsSome (leaf_at self.now node)) nodes.items) }
+        ensures whole { IsWhole self.now }
+    {
+        leaf_nodes(alloc, &self.branchings, &self.nodes)
     }
 }

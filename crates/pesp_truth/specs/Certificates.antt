@@ -44,6 +44,12 @@ least_of (Optimal c) = Some c
 least_of Infeasible = None
 least_of (Bounded least cost) = Some least
 
+-- the cost of the shown times, where the answer has one
+abbrev pub cost_of : Answer → Option ℕ
+cost_of (Optimal c) = Some c
+cost_of Infeasible = None
+cost_of (Bounded least cost) = cost
+
 -- the labels are those of the events in order, and the times are a timetable of this cost
 abbrev pub ShowsTimetable : Pesp → List ℤ → List ℕ → ℕ → Type 0
 ShowsTimetable p labels times c = (labels ≡ p.events) × IsTimetableOfCost p times c

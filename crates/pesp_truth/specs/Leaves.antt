@@ -1,5 +1,5 @@
 -- Leaves by the paths to them from the root.
-use Rattle.std.specs.Prelude.{◌≡◌, List, [], ◌∷◌}
+use Rattle.std.specs.Prelude.{◌≡◌, List, [], ◌∷◌, ◌++◌, map}
 use Rattle.pesp_problem.specs.declared.cut.Cut.{Cut}
 use Rattle.pesp_problem.specs.declared.cut.Side.{Side}
 use Rattle.pesp_problem.specs.declared.cut.Side.TheVariants.{Low, High}
@@ -20,3 +20,8 @@ put (Ends leaf) (step ∷ path) new = Ends leaf
 put (Branch cut low high) [] new = new
 put (Branch cut low high) ((c, Low) ∷ path) new = Branch cut (put low path new) high
 put (Branch cut low high) ((c, High) ∷ path) new = Branch cut low (put high path new)
+
+-- the paths to the leaves of a tree, in preorder
+abbrev pub leaf_paths : Tree → List (List (Cut × Side))
+leaf_paths (Ends leaf) = [] ∷ []
+leaf_paths (Branch cut low high) = map (λ path. (cut, Low) ∷ path) (leaf_paths low) ++ map (λ path. (cut, High) ∷ path) (leaf_paths high)

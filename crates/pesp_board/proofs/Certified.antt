@@ -155,7 +155,7 @@ same_pairs_in (Nothing pairs) = refl
 same_pairs_in (Gap cycle) = refl
 same_pairs_in Propagated = refl
 
-same_pairs : (lines : List TreeLine) → total_pairs lines ≡ sum_by machine.pairs_in (map line_of lines)
+pub same_pairs : (lines : List TreeLine) → total_pairs lines ≡ sum_by machine.pairs_in (map line_of lines)
 same_pairs [] = refl
 same_pairs (line ∷ lines) =
     let this = same_pairs_in line in

@@ -30,7 +30,7 @@ use Rattle.pesp_board.proofs.Paths.{cut_at}
 
 -- ---- nodes that paths lead to
 
-part_fits : (p : ProblemValue) (node : Node) (cut : Cut) (side : Side) → IsNodeOf p node → IsNodeOf p (part node cut side)
+pub part_fits : (p : ProblemValue) (node : Node) (cut : Cut) (side : Side) → IsNodeOf p node → IsNodeOf p (part node cut side)
 part_fits p node (Slack row k) Low h = record { slacks = length-set node.slacks _ _ ∙ h.slacks; offsets = h.offsets }
 part_fits p node (Slack row k) High h = record { slacks = length-set node.slacks _ _ ∙ h.slacks; offsets = h.offsets }
 part_fits p node (Offset cycle k) Low h = record { slacks = h.slacks; offsets = length-set node.offsets _ _ ∙ h.offsets }
@@ -116,11 +116,11 @@ judged_none p worth node lines r = record {
   reached = (r, tt);
 }
 
-lines_more : (parts : List Part) (part : Part) → part_lines (parts ++ part ∷ []) ≡ part_lines parts ++ part_line part ∷ []
+pub lines_more : (parts : List Part) (part : Part) → part_lines (parts ++ part ∷ []) ≡ part_lines parts ++ part_line part ∷ []
 lines_more [] part = refl
 lines_more (x ∷ parts) part = ap (λ (l : List Line). part_line x ∷ l) (lines_more parts part)
 
-value_more : (p : ProblemValue) (node : Node) (nodes : List Node) (part : Part) (rest : List Part) → IsValuedPart p node part → AreValued p (after (part_line part) node nodes) rest → AreValued p (node ∷ nodes) (part ∷ rest)
+pub value_more : (p : ProblemValue) (node : Node) (nodes : List Node) (part : Part) (rest : List Part) → IsValuedPart p node part → AreValued p (after (part_line part) node nodes) rest → AreValued p (node ∷ nodes) (part ∷ rest)
 value_more p node nodes (CutPart cut) rest v h = h
 value_more p node nodes (LeafPart part) rest v h = (v, h)
 

@@ -25,6 +25,7 @@ use Rattle.pesp_board.specs.declared.slot.Slot.{Slot}
 use Rattle.pesp_board.specs.declared.slot.Slot.TheVariants.{Lent as LentSlot}
 use Rattle.pesp_board.specs.Insides.{ticket_of, times_of, cost_of, state_of, slot_at, IsQueue, IsBoard}
 use Rattle.pesp_board.specs.Lending.{IsFirstOpen}
+use Rattle.pesp_board.specs.LendingAll.{WaitsCheaper}
 use Rattle.pesp_board.proofs.Places.{one_leaf}
 use Rattle.pesp_board.proofs.Slots.{ticket_is, lent_by}
 use Rattle.pesp_board.proofs.Queues.{apart}
@@ -35,6 +36,8 @@ use Rattle.pesp_board.proofs.Queues.{apart}
 record Waits (p : ProblemValue) (t : WorkTreeValue) (q : QueueValue) (path : List (Cut × Side)) (pairs : List Pair) : Type 0 where
   node : ℕ
   value : ℕ
+  at : path_to t node ≡ path
+  leaf : leaf_at t node ≡ Some (Bound pairs)
   held : Contains q.waiting (entry node value)
   worth : option_map told (value_at p path pairs) ≡ Some value
 
@@ -50,7 +53,7 @@ open_waits p t slots times q path w is o =
     let at = w.found path (Bound o.pairs) o.leaf in
     let held = is.has at.0 o.pairs at.2 in
     elim (Contains-append_cases q.waiting q.parked (entry at.0 held.0) held.1) [
-      | inl waits ↦ record { node = at.0; value = held.0; held = waits; worth = worth_at p t slots q at.0 held.0 path o.pairs is held.1 at.1 at.2 }
+      | inl waits ↦ record { node = at.0; value = held.0; at = at.1; leaf = at.2; held = waits; worth = worth_at p t slots q at.0 held.0 path o.pairs is held.1 at.1 at.2 }
       | inr lies ↦ (let l = is.parked at.0 (held.0, lies) in absurd (o.unlent (l.0, ticket_is t slots l.0 ∙ ap (ticket_of t) l.1 ∙ ap Lent at.1)))
     ]
 
@@ -129,24 +132,31 @@ unlent_path p t slots q node number other w is differ waits e same =
     let one = w.one other node (some_leaf (leaf_at t other) (Bound there.pairs) there.leaf) (some_leaf (leaf_at t node) (Bound here.pairs) here.leaf) same in
     apart q node differ waits (subst (HasItem q.parked) one lies)
 
--- where it is cheaper its leaf is open
-pub first_opens : (p : ProblemValue) (t : WorkTreeValue) (slots : List Slot) (q : QueueValue) (best : Option Best) (count : ℕ) (e : Entry) → IsBoard p t slots q best count → ItemsDiffer (all_of q) → IsFirst q.waiting e → IsCheaper e.value (cost_of best) → IsFirstOpen p (state_of t slots (times_of best)) (path_to t e.item)
-first_opens p t slots q best count e b differ first cheap =
+-- where a value that waits is cheaper its leaf is open
+pub waiting_opens : (p : ProblemValue) (t : WorkTreeValue) (slots : List Slot) (q : QueueValue) (best : Option Best) (count : ℕ) (e : Entry) → IsBoard p t slots q best count → ItemsDiffer (all_of q) → Contains q.waiting e → IsCheaper e.value (cost_of best) → IsOpen p (state_of t slots (times_of best)) (path_to t e.item)
+waiting_opens p t slots q best count e b differ waits cheap =
     let state = state_of t slots (times_of best) in
-    let worth = b.queue.each e (Contains-append_left q.waiting q.parked e first.0) in
+    let worth = b.queue.each e (Contains-append_left q.waiting q.parked e waits) in
     let leaf = b.whole.stands e.item (Bound worth.pairs) worth.leaf in
     let value = leaf_value_is p t slots q best count (path_to t e.item) worth.pairs b leaf in
     let told_so : told value.0 ≡ e.value = same_told (value_at p (path_to t e.item) worth.pairs) value.0 e.value value.1 worth.worth in
     let cheaper : IsCheaper (told value.0) (best_cost p state) = subst (λ n. IsCheaper n (best_cost p state)) (sym told_so) (subst (IsCheaper e.value) b.cost cheap) in
     let below = below_of (value_at p (path_to t e.item) worth.pairs) value.0 (best_cost p state) value.1 value.2 (λ c is. cost_is_small p (times_of best) c b.network is) cheaper in
-    let opens : IsOpen p state (path_to t e.item) = record {
+    record {
       pairs = worth.pairs;
       leaf = leaf;
       unlent = λ l.
           let by = lent_by t (slot_at slots l.0) (path_to t e.item) (sym (ticket_is t slots l.0) ∙ l.1) in
-          unlent_path p t slots q e.item l.0 by.0 b.whole b.queue differ (e.value, first.0) by.1 (ap path_of (ap (ticket_of t) (sym by.1) ∙ sym (ticket_is t slots l.0) ∙ l.1));
+          unlent_path p t slots q e.item l.0 by.0 b.whole b.queue differ (e.value, waits) by.1 (ap path_of (ap (ticket_of t) (sym by.1) ∙ sym (ticket_is t slots l.0) ∙ l.1));
       cheaper = below;
-    } in
+    }
+
+-- and the leaf of the first has the least value of them
+pub first_opens : (p : ProblemValue) (t : WorkTreeValue) (slots : List Slot) (q : QueueValue) (best : Option Best) (count : ℕ) (e : Entry) → IsBoard p t slots q best count → ItemsDiffer (all_of q) → IsFirst q.waiting e → IsCheaper e.value (cost_of best) → IsFirstOpen p (state_of t slots (times_of best)) (path_to t e.item)
+unfolding waiting_opens
+first_opens p t slots q best count e b differ first cheap =
+    let opens = waiting_opens p t slots q best count e b differ first.0 cheap in
+    let worth = b.queue.each e (Contains-append_left q.waiting q.parked e first.0) in
     record {
       opens = opens;
       least = λ other o v u at_v at_u.
@@ -154,3 +164,15 @@ first_opens p t slots q best count e b differ first cheap =
           let under = first_under p t slots (times_of best) q e other b.whole b.queue first o u at_u in
           omega (arith, same, under);
     }
+
+-- an open leaf at the path of a node with a leaf is that node's, which waits with a cheaper value
+pub open_is : (p : ProblemValue) (t : WorkTreeValue) (slots : List Slot) (q : QueueValue) (best : Option Best) (count node : ℕ) → IsBoard p t slots q best count → IsSome (leaf_at t node) → IsOpen p (state_of t slots (times_of best)) (path_to t node) → WaitsCheaper q best node
+open_is p t slots q best count node b some o =
+    let state = state_of t slots (times_of best) in
+    let path = path_to t node in
+    let waits = open_waits p t slots (times_of best) q path b.whole b.queue o in
+    let value = leaf_value_is p t slots q best count path o.pairs b o.leaf in
+    let same = same_told (value_at p path o.pairs) value.0 waits.value value.1 waits.worth in
+    let cheap = cheaper_of (value_at p path o.pairs) value.0 (best_cost p state) waits.value value.1 value.2 (omega (arith, same)) o.cheaper in
+    let one = b.whole.one waits.node node (some_leaf (leaf_at t waits.node) (Bound o.pairs) waits.leaf) some waits.at in
+    (waits.value, subst (λ (n : ℕ). Contains q.waiting (entry n waits.value)) one waits.held, subst (IsCheaper waits.value) (sym b.cost) cheap)

@@ -24,3 +24,6 @@ pub mod Sizing
 pub mod Giving
 pub mod Versions
 pub mod Certified
+pub mod Taken
+pub mod Adopted
+pub mod LentAll

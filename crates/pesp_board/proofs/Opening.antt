@@ -56,7 +56,7 @@ no_pairs_value n table =
 
 -- ---- the queue of the opening
 
-nothing_lent : (node : ℕ) → IsLentNode [] node → ⊥
+pub nothing_lent : (node : ℕ) → IsLentNode [] node → ⊥
 nothing_lent node l = cc (l.1)
 
 first_leaf : (node : ℕ) (pairs : List Pair) → leaf_at trees.opening node ≡ Some (Bound pairs) → node ≡ 0

@@ -17,12 +17,12 @@ pub record Parks (q r : QueueValue) (e : Entry) : Type 0 where
   pub waiting : IsPermutation q.waiting (e ∷ r.waiting)
   pub parked : IsPermutation (e ∷ q.parked) r.parked
 
-parks_same : (q r : QueueValue) (e : Entry) → Parks q r e → IsPermutation (all_of r) (all_of q)
+pub parks_same : (q r : QueueValue) (e : Entry) → Parks q r e → IsPermutation (all_of r) (all_of q)
 parks_same q r e k = same_entries r.waiting r.parked q.waiting q.parked e (IsPermutation-sym _ _ k.parked) (IsPermutation-sym _ _ k.waiting)
 
 -- ---- slots with one more
 
-none_is_lent : (number node : ℕ) → slot_at [] number ≡ LentSlot node → ⊥
+pub none_is_lent : (number node : ℕ) → slot_at [] number ≡ LentSlot node → ⊥
 none_is_lent number node e = cc
 
 lent_more : (slots : List Slot) (number node n : ℕ) → slot_at (slots ++ LentSlot n ∷ []) number ≡ LentSlot node → (slot_at slots number ≡ LentSlot node) ⊎ (node ≡ n)

@@ -44,7 +44,7 @@ leaf_pairs p t node pairs w k e = leaf_line (IsLineOf p) t.tree (path_to t node)
 
 -- ---- the node that a path leads to
 
-root_is_node : (p : ProblemValue) → IsNodeOf p (root_of p)
+pub root_is_node : (p : ProblemValue) → IsNodeOf p (root_of p)
 root_is_node p =
     let full : Arc → ℕ × ℕ = λ arc. (0, arc.span) in
     record {

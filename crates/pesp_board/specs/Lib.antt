@@ -5,3 +5,5 @@ pub mod Parts
 pub mod Giving
 pub mod Growing
 pub mod Grafting
+pub mod Adopting
+pub mod LendingAll

@@ -4,17 +4,20 @@ ghost use Rattle.std.specs.Prelude.{◌≡◌, IfOk, option_map};
 ghost use Rattle.pesp_queue.specs.Entries.{ItemsDiffer};
 ghost use Rattle.pesp_queue.specs.Queues.{all_of};
 ghost use Rattle.pesp_network.specs.Networks.{KeepsNetLimits};
-ghost use Rattle.pesp_machine.specs.States.{opening, best_cost, least, TellsLeaf};
+ghost use Rattle.pesp_machine.specs.States.{opening, best_cost, least, IsAtMost, TellsLeaf};
 ghost use Rattle.pesp_machine.specs.Reached.{IsOrderly};
 ghost use Rattle.pesp_machine.specs.Events.{Lends, Gives, Recalls, Offers};
+ghost use Rattle.pesp_machine.specs.Adopting.{Adopts, LendsAll};
 ghost use Rattle.pesp_machine.specs.Certificates.{IsProblemOf, IsCertificateOf};
-ghost use Rattle.pesp_truth.specs.Certificates.{IsValid};
+ghost use Rattle.pesp_truth.specs.Certificates.{IsValid, least_of, cost_of};
 ghost use Rattle.pesp_board.specs.Lending.{LendsFirst};
 
+use crate::adopting::{best_of, keep_limits, parts_of_tree, plant_alone, problem_of};
 use crate::best::Best;
 use crate::certifying::{answer_of, copy_table, shown_times, version_of};
 use crate::give::{lent_with, make_at};
 use crate::lend::{bound_pairs, is_cheaper, is_lent, lend_entry};
+use crate::lending_all::{lend_nodes, open_nodes, park_open};
 use crate::making::limits;
 use crate::planting::take;
 use crate::slot::{Slot, lent_node};
@@ -77,6 +80,36 @@ impl Board {
             queue,
             best: None,
             pairs: 0,
+        })
+    }
+
+    /// A board that goes on from a valid certificate of an instance: it has the certificate's cycles, tree and times, and no
+    /// number. The one refusal is of memory.
+    pub fn adopt(
+        alloc: Global,
+        instance: &Instance,
+        certificate: &Certificate,
+    ) -> Result<Board, Memory>
+        requires { IsValid instance.now certificate.now }
+        ensures adopts { IfOk result (λ board. Adopts certificate.now board.state) }
+        ensures problem { IfOk result (λ board. IsProblemOf instance.now board.problem) }
+        ensures cycles { IfOk result (λ board. board.problem.table ≡ certificate.now.cycles) }
+        ensures bound { IfOk result (λ board. IsAtMost (least_of certificate.now.answer) (least board.problem board.state)) }
+        ensures cost { IfOk result (λ board. best_cost board.problem board.state ≡ cost_of certificate.now.answer) }
+    {
+        keep_limits(instance, certificate);
+        let problem = problem_of(alloc, instance, certificate)?;
+        limits(&problem);
+        let (parts, pairs) = parts_of_tree(alloc, &problem, certificate)?;
+        let (tree, queue) = plant_alone(alloc, parts)?;
+        let best = best_of(alloc, certificate)?;
+        Ok(Board {
+            problem,
+            tree,
+            slots: Vec::new(alloc),
+            queue,
+            best,
+            pairs,
         })
     }
 
@@ -152,6 +185,19 @@ impl Board {
         self.queue.unpark(first.item);
         items_differ(&self.queue);
         reply
+    }
+
+    /// Lends each open leaf, numbered in the order of the tree's lines. Refused as `NumbersSpent` where that would be more than
+    /// 1000000 numbers in all, and as `Memory` where a growth was refused; nothing is lent then.
+    pub fn lend_all(&mut self, alloc: Global) -> Result<Vec<Job>, LendRefusal>
+        ensures state { LendsAll self.old.problem self.old.state result self.new.state }
+        ensures problem { self.new.problem ≡ self.old.problem }
+    {
+        items_differ(&self.queue);
+        let nodes = open_nodes(alloc, &self.tree, &self.queue, &self.best)?;
+        let jobs = lend_nodes(alloc, &self.tree, &nodes, &mut self.slots)?;
+        park_open(&mut self.queue, &self.best);
+        Ok(jobs)
     }
 
     /// Takes work on the leaf with which the number is lent, and the number is given: a `Leaf` keeps the pairs of the greater

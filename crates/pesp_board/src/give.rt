@@ -67,7 +67,7 @@ fn add_pairs(count: u64, part: &Part) -> Option<u64>
 
 /// How many pairs a tree has with these parts, where it has so many lines, and so many pairs beside those of the leaf that
 /// goes; None where lines or pairs would pass their limits.
-fn size_with(lines: u32, rest: u64, parts: &[Part]) -> Option<u64>
+pub(crate) fn size_with(lines: u32, rest: u64, parts: &[Part]) -> Option<u64>
     requires lines { lines ≤ 1000000 }
     requires rest { rest ≤ 20000000 }
     ensures { MatchOption result (HasRoom lines rest (part_lines parts.now) → ⊥) (λ n. HasRoom lines rest (part_lines parts.now) × (n ≡ rest + sum_by pairs_in (part_lines parts.now))) }

@@ -145,7 +145,7 @@ fn graft_line(
 }
 
 /// Goes on to the node of the next part.
-fn pass(walk: &mut NodeWalk, part: &Part) -> Result<(), Memory>
+pub(crate) fn pass(walk: &mut NodeWalk, part: &Part) -> Result<(), Memory>
     requires { StandsFirst walk.old part.now }
     ensures { OnOk result (walk.new ≡ after_first (part_line part.now) walk.old) }
 {

@@ -1,6 +1,7 @@
 //! The tree under work, for solvers that nobody has to trust: leaves that are lent, and what is given for them.
 #![tactic(auto)]
 
+mod adopting;
 mod along;
 mod best;
 mod board;
@@ -8,6 +9,7 @@ mod certifying;
 mod give;
 mod grafting;
 mod lend;
+mod lending_all;
 mod making;
 mod part;
 mod planting;

@@ -84,7 +84,12 @@ fn plant_part(tree: &mut WorkTree, queue: &mut Queue, waiting: &mut Vec<u32>, no
 }
 
 /// The nodes that wait get the parts, the last of both lists first. Takes no memory.
-fn plant(tree: &mut WorkTree, queue: &mut Queue, waiting: &mut Vec<u32>, parts: Vec<Part>)
+pub(crate) fn plant(
+    tree: &mut WorkTree,
+    queue: &mut Queue,
+    waiting: &mut Vec<u32>,
+    parts: Vec<Part>,
+)
     requires ready { AreReady tree.old queue.old (reverse waiting.old.items) (reverse parts.items) }
     requires memory { length parts.items + 1 ≤ vec_capacity waiting.old }
     ensures tree { tree.new ≡ grown tree.old (reverse waiting.old.items) (reverse parts.items) }

@@ -209,7 +209,7 @@ lends_each_run p old new jobs s = lends_run p old new jobs s.paths (opens_open p
 -- ---- then no leaf is open
 
 -- the path is one of these
-abbrev Has : Path → List Path → Type 0
+abbrev pub Has : Path → List Path → Type 0
 Has path [] = ⊥
 Has path (q ∷ paths) = (path ≡ q) ⊎ Has path paths
 
@@ -227,7 +227,7 @@ has_behind step path [] h = absurd h
 has_behind step path (q ∷ paths) (inl same) = inl (ap (λ (x : Path). step ∷ x) same)
 has_behind step path (q ∷ paths) (inr h) = inr (has_behind step path paths h)
 
-has_leaf : (tree : Tree) (path : Path) (leaf : Leaf) → IsLeafAt tree path leaf → Has path (leaf_paths tree)
+pub has_leaf : (tree : Tree) (path : Path) (leaf : Leaf) → IsLeafAt tree path leaf → Has path (leaf_paths tree)
 has_leaf (Ends there) [] leaf h = inl refl
 has_leaf (Ends there) (step ∷ path) leaf h = absurd h
 has_leaf (Branch cut low high) [] leaf h = absurd h

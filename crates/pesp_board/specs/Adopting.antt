@@ -1,0 +1,31 @@
+-- The lines of a valid certificate's tree, and the tree and the queue that are made of them.
+use Rattle.std.specs.Prelude.{◌≡◌, ℕ, List, [], ◌∷◌, All, Option}
+use Rattle.std.specs.List.Sorted.{IsPermutation}
+use Rattle.pesp_problem.specs.Nodes.{Node}
+use Rattle.pesp_truth.specs.Trees.{Line, EndLine, CutLine, CutExists, IsSoundLeaf, AreSound}
+use Rattle.pesp_nodes.specs.Problems.{ProblemValue, net_of}
+use Rattle.pesp_tree.specs.WorkTrees.{WorkTreeValue, opening, with_room}
+use Rattle.pesp_queue.specs.Queues.{QueueValue}
+use Rattle.pesp_machine.specs.Limits.{IsLineOf}
+use Rattle.pesp_board.specs.declared.part.Part.{Part}
+use Rattle.pesp_board.specs.Growing.{grown, news}
+
+-- the line is sound at a node, for a least cost or for none
+abbrev pub IsSoundLine : ProblemValue → Node → Line → Type 0
+IsSoundLine p node (EndLine leaf) = (least : Option ℕ) × IsSoundLeaf (net_of p) p.table least leaf node
+IsSoundLine p node (CutLine cut) = CutExists (net_of p) p.table cut
+
+-- the lines are sound trees for a least cost or for none, one for each of the nodes, in order
+abbrev pub AreSoundLines : ProblemValue → List Line → List Node → Type 0
+AreSoundLines p lines nodes = (least : Option ℕ) × AreSound (net_of p) p.table least lines nodes
+
+-- each of the lines keeps its limits
+abbrev pub AreLinesOf : ProblemValue → List Line → Type 0
+AreLinesOf p lines = All (IsLineOf p) lines
+
+-- the tree has these parts, and the queue the entries of its bound leaves, all of which wait
+pub record IsPlantedAlone (parts : List Part) (u : WorkTreeValue) (r : QueueValue) : Type 0 where
+  pub room : ℕ
+  pub tree : u ≡ grown (with_room opening room) (0 ∷ []) parts
+  pub waiting : IsPermutation (news (with_room opening room) (0 ∷ []) parts) r.waiting
+  pub parked : r.parked ≡ []

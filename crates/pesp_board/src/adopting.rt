@@ -1,0 +1,208 @@
+//! The parts of a board that goes on from a valid certificate.
+
+ghost use Rattle.std.specs.Prelude.{◌≡◌, ◌≤◌, ◌∷◌, [], length, map, sum_by, true, IsSome, IfOk};
+ghost use Rattle.pesp_problem.specs.Limits as instances;
+ghost use Rattle.pesp_problem.specs.Nodes as spec;
+ghost use Rattle.pesp_truth.specs.Trees.{Bound, EndLine, are_trees};
+ghost use Rattle.pesp_truth.specs.Certificates as certificates;
+ghost use Rattle.pesp_truth.specs.Certificates.{IsValid, line_of, lines_of, shown_times};
+ghost use Rattle.pesp_cert.specs.Limits.{KeepsLimits};
+ghost use Rattle.pesp_nodes.specs.Problems.{net_of, IsNodeOf, ArePairs};
+ghost use Rattle.pesp_tree.specs.WorkTrees.{IsWhole};
+ghost use Rattle.pesp_machine.specs.Adopting.{shown_best};
+ghost use Rattle.pesp_machine.specs.Certificates.{IsProblemOf};
+ghost use Rattle.pesp_machine.specs.Limits.{pairs_in, IsLineOf};
+ghost use Rattle.pesp_machine.specs.States.{root_of};
+ghost use Rattle.pesp_board.specs.Insides as insides;
+ghost use Rattle.pesp_board.specs.Insides.{times_of};
+ghost use Rattle.pesp_board.specs.Parts.{part_line, part_lines, AreValued};
+ghost use Rattle.pesp_board.specs.Grafting.{IsValuedPart};
+ghost use Rattle.pesp_board.specs.Adopting.{IsSoundLine, AreSoundLines, AreLinesOf, IsPlantedAlone};
+
+use crate::best::Best;
+use crate::certifying::copy_table;
+use crate::give::size_with;
+use crate::grafting::pass;
+use crate::making::{bound, closed, copy_of};
+use crate::part::Part;
+use crate::planting::plant;
+use pesp_cert::Certificate;
+use pesp_network::Network;
+use pesp_nodes::{Node, NodeWalk, Problem, ProblemRefusal, leaf_value};
+use pesp_problem::{Cut, Instance, Memory, Pair};
+use pesp_queue::Queue;
+use pesp_tree::{Leaf, WorkTree};
+use pesp_truth::{Answer, TreeLine};
+use std::alloc::Global;
+
+// an instance and a certificate keep their limits
+pub(crate) fn keep_limits(instance: &Instance, certificate: &Certificate)
+    ensures instance { instances.KeepsLimits instance.now }
+    ensures certificate { KeepsLimits certificate.now }
+{
+    instance.period();
+    certificate.answer();
+}
+
+/// The problem of an instance and the cycles of a valid certificate.
+pub(crate) fn problem_of(
+    alloc: Global,
+    instance: &Instance,
+    certificate: &Certificate,
+) -> Result<Problem, Memory>
+    requires { IsValid instance.now certificate.now }
+    ensures problem { IfOk result (IsProblemOf instance.now) }
+    ensures cycles { IfOk result (λ problem. problem.table ≡ certificate.now.cycles) }
+{
+    let network = Network::of(alloc, instance)?;
+    let table = copy_table(alloc, certificate.cycles())?;
+    match Problem::new(alloc, network, table) {
+        Ok(problem) => Ok(problem),
+        Err(ProblemRefusal::Memory) => Err(Memory),
+        Err(ProblemRefusal::TableTooLarge) => unreachable!(),
+        Err(ProblemRefusal::OpenWalk { .. }) => unreachable!(),
+    }
+}
+
+/// The cost that an answer tells, where it tells one.
+fn cost_of(answer: Answer) -> Option<u64>
+    ensures { result ≡ certificates.cost_of answer }
+{
+    match answer {
+        Answer::Optimal(cost) => Some(cost),
+        Answer::Infeasible => None,
+        Answer::Bounded { cost, .. } => cost,
+    }
+}
+
+/// Times without the labels of their events.
+fn unlabelled(alloc: Global, shown: &[(i64, u32)]) -> Result<Vec<u32>, Memory>
+    ensures { IfOk result (λ times. times.items ≡ map (λ t. t.1) shown.now) }
+{
+    let times = shown.iter().map(|time| time.1);
+    Ok(times.collect(alloc)?)
+}
+
+/// The times that a certificate shows, with their cost; None where its answer has no cost.
+pub(crate) fn best_of(alloc: Global, certificate: &Certificate) -> Result<Option<Best>, Memory>
+    ensures times { IfOk result (λ best. times_of best ≡ shown_best certificate.now.answer (shown_times certificate.now)) }
+    ensures cost { IfOk result (λ best. insides.cost_of best ≡ certificates.cost_of certificate.now.answer) }
+{
+    let Some(cost) = cost_of(certificate.answer()) else {
+        return Ok(None);
+    };
+    let times = unlabelled(alloc, certificate.times())?;
+    Ok(Some(Best { times, cost }))
+}
+
+/// A bound leaf of pairs that have a value.
+fn valued_bound(
+    alloc: Global,
+    problem: &Problem,
+    node: &Node,
+    pairs: &[Pair],
+) -> Result<Part, Memory>
+    requires node { IsNodeOf problem.now node.now }
+    requires pairs { ArePairs (length problem.now.table) pairs.now }
+    requires value { IsSome (spec.leaf_value (net_of problem.now) problem.now.table node.now pairs.now true) }
+    ensures line { IfOk result (λ part. part_line part ≡ EndLine (Bound pairs.now)) }
+    ensures valued { IfOk result (IsValuedPart problem.now node.now) }
+{
+    let Some(value) = leaf_value(problem, node, pairs, true) else {
+        unreachable!();
+    };
+    Ok(Part::Leaf(bound(copy_of(alloc, pairs)?, value)))
+}
+
+/// The part of a line that is sound at a node.
+fn valued_part(
+    alloc: Global,
+    problem: &Problem,
+    node: &Node,
+    line: &TreeLine,
+) -> Result<Part, Memory>
+    requires node { IsNodeOf problem.now node.now }
+    requires sound { IsSoundLine problem.now node.now (line_of line.now) }
+    requires limits { IsLineOf problem.now (line_of line.now) }
+    ensures line { IfOk result (λ part. part_line part ≡ line_of line.now) }
+    ensures valued { IfOk result (IsValuedPart problem.now node.now) }
+{
+    match line {
+        TreeLine::Slack { row, k } => Ok(Part::Cut(Cut::Slack { row: *row, k: *k })),
+        TreeLine::Offset { cycle, k } => Ok(Part::Cut(Cut::Offset {
+            cycle: *cycle,
+            k: *k,
+        })),
+        TreeLine::Bound(pairs) => valued_bound(alloc, problem, node, pairs.as_slice()),
+        TreeLine::Nothing(pairs) => {
+            let copy = copy_of(alloc, pairs.as_slice())?;
+            Ok(Part::Leaf(closed(Leaf::Nothing(copy))))
+        }
+        TreeLine::Gap(cycle) => Ok(Part::Leaf(closed(Leaf::Gap(*cycle)))),
+    }
+}
+
+/// The parts of lines that are a sound tree at a node.
+fn value_lines(
+    alloc: Global,
+    problem: &Problem,
+    node: Node,
+    lines: &[TreeLine],
+) -> Result<Vec<Part>, Memory>
+    requires node { IsNodeOf problem.now node }
+    requires sound { AreSoundLines problem.now (map line_of lines.now) (node ∷ []) }
+    requires limits { AreLinesOf problem.now (map line_of lines.now) }
+    ensures lines { IfOk result (λ parts. part_lines parts.items ≡ map line_of lines.now) }
+    ensures valued { IfOk result (λ parts. AreValued problem.now (node ∷ []) parts.items) }
+{
+    let mut walk = NodeWalk::new(alloc, node);
+    let mut parts = Vec::new(alloc);
+    for line in lines {
+        let part = valued_part(alloc, problem, walk.node(), line)?;
+        pass(&mut walk, &part)?;
+        parts.push(part)?;
+    }
+    Ok(parts)
+}
+
+/// The parts of a certificate's tree, which is sound, and how many pairs they have.
+pub(crate) fn parts_of_tree(
+    alloc: Global,
+    problem: &Problem,
+    certificate: &Certificate,
+) -> Result<(Vec<Part>, u64), Memory>
+    requires { AreSoundLines problem.now (lines_of certificate.now) (root_of problem.now ∷ []) }
+    ensures lines { IfOk result (λ made. part_lines made.0.items ≡ lines_of certificate.now) }
+    ensures valued { IfOk result (λ made. AreValued problem.now (root_of problem.now ∷ []) made.0.items) }
+    ensures pairs { IfOk result (λ made. made.1 ≡ sum_by pairs_in (lines_of certificate.now)) }
+    ensures shape { IfOk result (λ made. are_trees 1 (part_lines made.0.items) ≡ true) }
+    ensures few { IfOk result (λ made. length made.0.items ≤ 1000000) }
+{
+    let root = problem.root(alloc)?;
+    let parts = value_lines(alloc, problem, root, certificate.tree())?;
+    let Some(pairs) = size_with(1, 0, &parts) else {
+        unreachable!();
+    };
+    Ok((parts, pairs))
+}
+
+/// The tree of these parts, and the queue of its bound leaves.
+pub(crate) fn plant_alone(alloc: Global, parts: Vec<Part>) -> Result<(WorkTree, Queue), Memory>
+    requires shape { are_trees 1 (part_lines parts.items) ≡ true }
+    requires few { length parts.items ≤ 1000000 }
+    ensures planted { IfOk result (λ made. IsPlantedAlone parts.items made.0 made.1) }
+    ensures whole { IfOk result (λ made. IsWhole made.0) }
+{
+    let mut turned = parts;
+    let lines = turned.len() as u32;
+    let mut waiting = Vec::new(alloc);
+    waiting.push(0)?;
+    waiting.reserve(turned.len())?;
+    let mut tree = WorkTree::new(alloc)?;
+    tree.reserve(lines - 1)?;
+    let mut queue = Queue::new(alloc);
+    queue.reserve(lines, lines)?;
+    turned.reverse();
+    plant(&mut tree, &mut queue, &mut waiting, turned);
+    Ok((tree, queue))
+}

@@ -1,6 +1,6 @@
 -- Propagation from full sets tells whether a node is shut.
-use Rattle.std.proofs.Common.{◌≡◌, ℕ, ◌<◌, List, arith, subst, sym, Bool, true, false}
-use Rattle.std.specs.Prelude.{All, ◌↔◌, IsTrue, IfOk, Result, Ok, Err}
+use Rattle.std.proofs.Common.{◌≡◌, ℕ, ◌<◌, List, arith, subst, Bool}
+use Rattle.std.specs.Prelude.{◌↔◌, IsTrue, IfOk, Result, Ok, Err}
 use Rattle.std.proofs.lemmas.List.Elements.{All-map}
 use Rattle.pesp_problem.specs.Nodes.{Node}
 use Rattle.pesp_problem.specs.Families.{NoFamilyIsSupported}

@@ -12,7 +12,7 @@ use Rattle.pesp_problem.specs.Walks.{Names}
 use Rattle.pesp_problem.specs.Nodes.{Node, low_part, high_part}
 use Rattle.pesp_truth.specs.Trees.{Line, EndLine, CutLine, AreSound}
 use Rattle.pesp_truth.specs.declared.tree.TreeLine.{TreeLine}
-use Rattle.pesp_truth.specs.declared.tree.TreeLine.TheVariants.{Slack, Offset, Bound, Nothing, Gap}
+use Rattle.pesp_truth.specs.declared.tree.TreeLine.TheVariants.{Slack, Offset, Bound, Nothing, Gap, Propagated}
 use Rattle.pesp_truth.specs.Certificates.{line_of}
 use Rattle.pesp_network.specs.Networks.{arc_of_net}
 use Rattle.pesp_nodes.specs.Problems.{ProblemValue, net_of, IsNodeOf, IsCutOf, IsPairOf, ArePairs, Rise}
@@ -95,6 +95,8 @@ lines_keep p least (Nothing pairs ∷ lines) (node ∷ nodes) e s =
     All-cons (IsLineOf p) (line_of (Nothing pairs)) (map line_of lines) (pairs_are (length p.table) pairs (and_left (is_line (Nothing pairs)) (list_all is_line lines) e) s.0.0) (lines_keep p least lines nodes (and_right (is_line (Nothing pairs)) (list_all is_line lines) e) s.1)
 lines_keep p least (Gap cycle ∷ lines) (node ∷ nodes) e s =
     All-cons (IsLineOf p) (line_of (Gap cycle)) (map line_of lines) s.0.0 (lines_keep p least lines nodes (and_right (is_line (Gap cycle)) (list_all is_line lines) e) s.1)
+lines_keep p least (Propagated ∷ lines) (node ∷ nodes) e s =
+    All-cons (IsLineOf p) (line_of Propagated) (map line_of lines) tt (lines_keep p least lines nodes (and_right (is_line Propagated) (list_all is_line lines) e) s.1)
 
 -- the lines of a tree that is sound keep their limits where they are a certificate's
 pub sound_lines_keep : (p : ProblemValue) (lines : List TreeLine) (nodes : List Node) → list_all is_line lines ≡ true → AreSoundLines p (map line_of lines) nodes → AreLinesOf p (map line_of lines)

@@ -139,6 +139,7 @@ fn valued_part(
             Ok(Part::Leaf(closed(Leaf::Nothing(copy))))
         }
         TreeLine::Gap(cycle) => Ok(Part::Leaf(closed(Leaf::Gap(*cycle)))),
+        TreeLine::Propagated => Ok(Part::Leaf(closed(Leaf::Propagated))),
     }
 }
 

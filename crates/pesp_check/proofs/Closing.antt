@@ -1,5 +1,5 @@
 -- Walks that are followed row by row, and tables of walks.
-use Rattle.std.proofs.Common.{◌≡◌, ℕ, zero, suc, ◌+◌, ◌-◌, ◌<◌, ◌≤◌, arith, refl, ap, sym, ◌∙◌, List, [], ◌∷◌, length, get_or, drop, subst, inl, inr, ◌⊎◌}
+use Rattle.std.proofs.Common.{◌≡◌, ℕ, ◌+◌, ◌-◌, ◌<◌, ◌≤◌, arith, ap, sym, ◌∙◌, List, [], ◌∷◌, length, get_or, drop, subst, inl, inr}
 use Rattle.std.specs.Prelude.{All, ◌↔◌}
 use Rattle.std.proofs.Common.{below_more}
 use Rattle.std.proofs.lemmas.List.{drop_more, drop_all, get_or_default}

@@ -1,6 +1,6 @@
 -- The net counts of a walk, collected along it.
-use Rattle.std.proofs.Common.{◌≡◌, ◌≢◌, inl, inr, ℕ, ◌+◌, ◌-◌, ◌*◌, ◌<◌, ◌≤◌, ◌++◌, ◌∷◌, [], arith, refl, ap, sym, ◌∙◌, List, length, get_or, set, drop, take, fold}
-use Rattle.std.specs.Prelude.{ℤ, pos, ◌+ℤ◌, ◌≤ℤ◌, unsigned_abs, All, count_by, ◌==◌, sum_by}
+use Rattle.std.proofs.Common.{◌≡◌, inl, inr, ℕ, ◌+◌, ◌<◌, ◌≤◌, ◌++◌, ◌∷◌, [], arith, refl, ap, sym, ◌∙◌, List, length, get_or, set, drop, fold}
+use Rattle.std.specs.Prelude.{ℤ, pos, ◌+ℤ◌, unsigned_abs, All, count_by, ◌==◌}
 use Rattle.std.proofs.lemmas.Int.{ints}
 use Rattle.std.proofs.lemmas.Bool.{cases_eq}
 use Rattle.std.proofs.lemmas.List.{get_or-set_same, get_or-set_other, length-set}
@@ -11,7 +11,7 @@ use Rattle.pesp_problem.specs.declared.row.SignedRow.{SignedRow}
 use Rattle.pesp_problem.specs.Sums.{sum_below}
 use Rattle.pesp_problem.specs.Walks.{net_count}
 use Rattle.pesp_check.specs.declared.nets.NetCount.{NetCount}
-use Rattle.pesp_check.specs.Nets.{sum_of, amount, AreSmallCounts, AreNetCounts}
+use Rattle.pesp_check.specs.Nets.{sum_of, amount, AreNetCounts}
 use Rattle.pesp_problem.proofs.Integers.{sum_below-same}
 use Rattle.pesp_check.proofs.Sums.{held, held-take, held-zeros, small-set}
 use Rattle.pesp_check.proofs.Counts.{unnamed, drop_unnamed, none_left, net_count_small, amounts_short}

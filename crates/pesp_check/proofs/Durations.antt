@@ -1,6 +1,6 @@
 -- Sums along a walk by its net counts, and the offsets between two sums.
-use Rattle.std.proofs.Common.{◌≡◌, ℕ, ◌+◌, ◌*◌, ◌<◌, ◌≤◌, arith, refl, ap, sym, ◌∙◌, List, length, get_or, take, fold, Bool, true, false, Option, Some, None}
-use Rattle.std.specs.Prelude.{ℤ, pos, negsuc, ◌+ℤ◌, ◌*ℤ◌, ◌≤ℤ◌, int_le, unsigned_abs, neg_ℤ, All, IfSome, if◌then◌else◌, sum_by}
+use Rattle.std.proofs.Common.{◌≡◌, ℕ, ◌+◌, ◌*◌, ◌<◌, ◌≤◌, arith, refl, ap, sym, ◌∙◌, List, length, get_or, take, Bool, true, false, Some, None}
+use Rattle.std.specs.Prelude.{ℤ, pos, negsuc, ◌+ℤ◌, ◌*ℤ◌, ◌≤ℤ◌, int_le, unsigned_abs, neg_ℤ, IfSome, if◌then◌else◌}
 use Rattle.std.specs.Int.{int_min, int_max}
 use Rattle.std.proofs.lemmas.Int.{ints, clamps}
 use Rattle.std.proofs.Math.Nat.{mul-le-mul_right}
@@ -8,7 +8,7 @@ use Rattle.std.proofs.lemmas.List.{length-map}
 use Rattle.std.proofs.lemmas.List.Sums.{fold_more, sum_by_more, sum_by_more_le, get_or-le-sum_by}
 use Rattle.pesp_problem.specs.declared.arc.Arc.{Arc}
 use Rattle.pesp_problem.specs.declared.row.SignedRow.{SignedRow}
-use Rattle.pesp_problem.specs.Sums.{sum_below, scaled, floor_div, ceil_div}
+use Rattle.pesp_problem.specs.Sums.{sum_below, floor_div, ceil_div}
 use Rattle.pesp_problem.specs.Timetables.{Pesp}
 use Rattle.pesp_problem.specs.Arcs.{arcs_of, arc_of, arc_at}
 use Rattle.pesp_problem.specs.Nodes.{least_sum, greatest_sum, range_or_none, slack_range}
@@ -16,7 +16,7 @@ use Rattle.pesp_problem.specs.Walks.{net_count}
 use Rattle.pesp_check.specs.declared.nets.NetCount.{NetCount}
 use Rattle.pesp_check.specs.Nets.{sum_of, amount, AreSmallCounts, AreNetCounts}
 use Rattle.pesp_check.specs.Offsets.{least_term, greatest_term, IsSmallOffset}
-use Rattle.pesp_problem.proofs.Integers.{zero-mul, mul-neg, mul-le, le-floor_div, floor_div-le, le-ceil_div, ceil_div-le, le_trans}
+use Rattle.pesp_problem.proofs.Integers.{zero-mul, mul-neg, mul-le, le-floor_div, floor_div-le, le-ceil_div, le_trans}
 
 pub arcs_long : (p : Pesp) → length (arcs_of p) ≡ length p.rows
 arcs_long p = length-map p.rows (arc_of p.period)

@@ -1,24 +1,22 @@
 -- Faults of lines are faults of their tree, and no valid certificate has a fault.
-use Rattle.std.proofs.Common.{◌≡◌, ◌⊎◌, inl, inr, ℕ, ◌+◌, ◌-◌, ◌<◌, ◌≤◌, arith, refl, ap, sym, ◌∙◌, List, [], ◌∷◌, ◌++◌, length, get_or, subst, Option, Some, None, length-append, append_assoc, true, ℤ}
-use Rattle.std.specs.Prelude.{All, ◌↔◌, IsSomeAnd, pos, ◌≤ℤ◌}
-use Rattle.std.proofs.lemmas.List.{append-nil, get_or_default}
+use Rattle.std.proofs.Common.{◌≡◌, ◌⊎◌, inl, inr, ℕ, ◌+◌, ◌-◌, arith, sym, ◌∙◌, List, [], ◌∷◌, ◌++◌, length, subst, Option, Some, None, length-append, append_assoc, true, ℤ}
+use Rattle.std.specs.Prelude.{All, IsSomeAnd, pos, ◌≤ℤ◌}
+use Rattle.std.proofs.lemmas.List.{append-nil}
 use Rattle.pesp_problem.specs.declared.row.SignedRow.{SignedRow}
 use Rattle.pesp_problem.specs.declared.arc.Arc.{Arc}
-use Rattle.pesp_problem.specs.declared.cut.Cut.{Cut}
-use Rattle.pesp_problem.specs.Timetables.{Pesp, AreTimes, IsTimetable, IsSatisfied, row_at, no_row, cost}
-use Rattle.pesp_problem.specs.Scores.{IsFirstViolated}
+use Rattle.pesp_problem.specs.Timetables.{Pesp, no_row}
 use Rattle.pesp_problem.specs.Arcs.{Net, net_of, arcs_of}
-use Rattle.pesp_problem.specs.Walks.{AreRows, IsWalk}
-use Rattle.pesp_problem.specs.Nodes.{Node, root, low_part, high_part, cycle_at, leaf_value}
+use Rattle.pesp_problem.specs.Walks.{IsWalk}
+use Rattle.pesp_problem.specs.Nodes.{Node, root, low_part, high_part, leaf_value}
 use Rattle.pesp_truth.specs.declared.answer.Answer.{Answer}
 use Rattle.pesp_truth.specs.declared.answer.Answer.TheVariants.{Optimal, Infeasible, Bounded}
-use Rattle.pesp_truth.specs.Trees.{Tree, Ends, Branch, Leaf, Bound, Shut, Reason, ByPairs, ByGap, ByPropagation, Line, EndLine, CutLine, preorder, CutExists, IsShut, IsSound, AreSound, are_trees}
+use Rattle.pesp_truth.specs.Trees.{Tree, Ends, Branch, Leaf, Bound, Shut, Reason, ByPairs, ByGap, ByPropagation, Line, preorder, IsShut, IsSound, AreSound, are_trees}
 use Rattle.pesp_truth.specs.Certificates.{Content, IsValid, ShowsAnswer, ShowsTimetable, shown_labels, shown_times, least_of, cost_of, lines_of}
 use Rattle.pesp_truth.proofs.Lines.{whole_tree, one_tree, sound_as_tree}
 use Rattle.pesp_check.specs.declared.refusal.Refusal.{Refusal}
-use Rattle.pesp_check.specs.declared.refusal.Refusal.TheVariants.{OtherPeriod, Times, Violates, WrongCost, OpenWalk, NoSuch, LeafBelow, NotEmpty, NotAGap, BoundInInfeasible, AnswerShape}
-use Rattle.pesp_check.specs.Faults.{HasShape, IsTimesFault, IsAnswerFault, IsFirstOpen, IsCycleFault, IsReasonFault, IsLeafFault, IsTreeFault, IsLaterFault, IsFirstFault, first_tree_line}
-use Rattle.pesp_check.specs.Lines.{after, IsSoundLine, IsLineFault, IsLinesFault}
+use Rattle.pesp_check.specs.declared.refusal.Refusal.TheVariants.{OtherPeriod, Times, Violates, WrongCost, OpenWalk, NoSuch, LeafBelow, NotEmpty, NotAGap, BoundInInfeasible, AnswerShape, NotPropagated}
+use Rattle.pesp_check.specs.Faults.{HasShape, IsTimesFault, IsAnswerFault, IsCycleFault, IsReasonFault, IsLeafFault, IsTreeFault, IsLaterFault, IsFirstFault, first_tree_line}
+use Rattle.pesp_check.specs.Lines.{IsLinesFault}
 
 -- ---- from lines to the tree
 
@@ -94,6 +92,7 @@ times_fault p c labels times (NotEmpty line) h f = f
 times_fault p c labels times (NotAGap line) h f = f
 times_fault p c labels times (BoundInInfeasible line) h f = f
 times_fault p c labels times AnswerShape h f = f
+times_fault p c labels times (NotPropagated line) h f = f
 
 answer_fault : (p : Pesp) (answer : Answer) (labels : List ℤ) (times : List ℕ) (refusal : Refusal) → ShowsAnswer p answer labels times → IsAnswerFault p answer labels times refusal → ⊥
 answer_fault p answer labels times refusal h (inl f) = f.1 (shape_of p answer labels times h)
@@ -107,7 +106,7 @@ reason_fault n table (ByPairs pairs) node at refusal h (inl f) = f.1 h.0
 reason_fault n table (ByPairs pairs) node at refusal h (inr f) = f.2 h.1
 reason_fault n table (ByGap cycle) node at refusal h (inl f) = f.1 h.0
 reason_fault n table (ByGap cycle) node at refusal h (inr f) = f.2 h.1
-reason_fault n table ByPropagation node at refusal h f = f
+reason_fault n table ByPropagation node at refusal h f = f.1 h
 
 leaf_fault : (n : Net) (table : List (List SignedRow)) (least : Option ℕ) (leaf : Leaf) (node : Node) (at : ℕ) (refusal : Refusal) → IsSound n table least (Ends leaf) node → IsLeafFault n table least leaf node at refusal → ⊥
 leaf_fault n table None (Bound pairs) node at refusal h f = h.1

@@ -1,6 +1,6 @@
 -- Flows as they are added up, pair by pair.
 use Rattle.std.proofs.Common.{◌≡◌, ◌≢◌, inl, inr, ℕ, ◌+◌, ◌-◌, ◌*◌, ◌^◌, ◌<◌, ◌≤◌, arith, refl, ap, sym, ◌∙◌, List, [], ◌∷◌, length, get_or, set, take, drop, fold, Bool, true, false}
-use Rattle.std.specs.Prelude.{ℤ, pos, ◌+ℤ◌, ◌*ℤ◌, unsigned_abs, All, if◌then◌else◌, ◌==◌, sum_by, count_by, cond}
+use Rattle.std.specs.Prelude.{ℤ, pos, ◌+ℤ◌, ◌*ℤ◌, unsigned_abs, if◌then◌else◌, ◌==◌, count_by, cond}
 use Rattle.std.proofs.lemmas.Int.{ints, unsigned_abs-mul}
 use Rattle.std.proofs.Math.Nat.{mul-le-mul}
 use Rattle.std.proofs.lemmas.Bool.{cases_eq}
@@ -11,7 +11,7 @@ use Rattle.pesp_problem.specs.declared.row.SignedRow.{SignedRow}
 use Rattle.pesp_problem.specs.declared.pair.Pair.{Pair}
 use Rattle.pesp_problem.specs.Walks.{net_count}
 use Rattle.pesp_problem.specs.Nodes.{flow, cycle_at}
-use Rattle.pesp_check.specs.Nets.{sum_of, amount, AreSmallCounts, AreNetCounts}
+use Rattle.pesp_check.specs.Nets.{amount, AreSmallCounts, AreNetCounts}
 use Rattle.pesp_check.specs.Flows.{count_of, number_at, nets_at, entries_at, AreNets, ArePairs}
 use Rattle.pesp_problem.proofs.Integers.{mul-add, sum_below-single}
 use Rattle.pesp_check.proofs.Counts.{eq-true, eq-false}

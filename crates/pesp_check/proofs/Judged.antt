@@ -1,15 +1,14 @@
 -- Lines that are judged one after the other.
-use Rattle.std.proofs.Common.{◌≡◌, ◌≢◌, ◌⊎◌, inl, inr, ℕ, zero, suc, ◌+◌, ◌-◌, ◌<◌, ◌≤◌, arith, refl, ap, sym, ◌∙◌, List, [], ◌∷◌, ◌++◌, length, get_or, drop, map, subst, true, false, Bool, Option, Some, None, drop-cons, add-one, add_assoc}
-use Rattle.std.specs.Prelude.{All, ◌↔◌, MatchOption}
+use Rattle.std.proofs.Common.{◌≡◌, ◌≢◌, inl, inr, ℕ, ◌+◌, ◌<◌, ◌≤◌, arith, ap, sym, ◌∙◌, List, [], ◌∷◌, length, get_or, drop, map, subst, true, Option}
 use Rattle.std.proofs.lemmas.List.{drop_all, drop_more}
 use Rattle.pesp_problem.specs.declared.row.SignedRow.{SignedRow}
 use Rattle.pesp_problem.specs.Arcs.{Net}
-use Rattle.pesp_problem.specs.Nodes.{Node, low_part, high_part}
+use Rattle.pesp_problem.specs.Nodes.{Node}
 use Rattle.pesp_truth.specs.declared.tree.TreeLine.{TreeLine}
 use Rattle.pesp_truth.specs.Trees.{Line, EndLine, CutLine, AreSound, are_trees}
 use Rattle.pesp_truth.specs.Certificates.{line_of}
 use Rattle.pesp_check.specs.declared.refusal.Refusal.{Refusal}
-use Rattle.pesp_check.specs.Lines.{after, IsSoundLine, IsLineFault, IsLineVerdict, IsLinesFault, AreJudged}
+use Rattle.pesp_check.specs.Lines.{after, IsSoundLine, IsLineFault, IsLinesFault, AreJudged}
 
 -- ---- one line
 

@@ -1,6 +1,6 @@
 -- The value of a leaf, put together from its parts.
-use Rattle.std.proofs.Common.{◌≡◌, ℕ, ◌+◌, ◌-◌, ◌*◌, ◌^◌, ◌<◌, ◌≤◌, arith, refl, ap, sym, ◌∙◌, List, [], ◌∷◌, length, get_or, take, drop, Bool, true, false, Option, Some, None, subst}
-use Rattle.std.specs.Prelude.{ℤ, pos, negsuc, ◌+ℤ◌, ◌-ℤ◌, ◌*ℤ◌, unsigned_abs, All, option_map, option_and_then, if◌then◌else◌}
+use Rattle.std.proofs.Common.{◌≡◌, ℕ, ◌+◌, ◌-◌, ◌<◌, ◌≤◌, arith, refl, ap, sym, ◌∙◌, List, length, get_or, drop, Bool, true, false, Option, Some, None, subst}
+use Rattle.std.specs.Prelude.{ℤ, pos, negsuc, ◌+ℤ◌, ◌-ℤ◌, ◌*ℤ◌, option_map, option_and_then}
 use Rattle.std.specs.Int.{int_min}
 use Rattle.std.proofs.lemmas.Int.{ints}
 use Rattle.std.proofs.lemmas.List.{drop_more, drop_all, get_or_default}
@@ -12,7 +12,7 @@ use Rattle.pesp_problem.specs.Timetables.{Pesp}
 use Rattle.pesp_problem.specs.Arcs.{Net, net_of, arcs_of, arc_at, over_arcs}
 use Rattle.pesp_problem.specs.Nodes.{Node, cycle_at, offset_range, offsets_left, offset_part, weight_of, slack_part, slack_range, flow, leaf_value}
 use Rattle.pesp_check.specs.Flows.{number_at, flow_term, flow_sum, lesser, AreNets, nets_at}
-use Rattle.pesp_check.specs.Ranges.{idle_sum, idle_term, idle_part}
+use Rattle.pesp_check.specs.Ranges.{idle_part}
 use Rattle.pesp_problem.proofs.Integers.{mul_assoc, mul_comm, mul-add, sum_below-same, sum_below-sub, sum_below-zero}
 use Rattle.pesp_check.specs.declared.nets.NetCount.{NetCount}
 use Rattle.pesp_check.specs.Nets.{AreNetCounts}

@@ -12,4 +12,5 @@ pub mod Tables
 pub mod Judged
 pub mod Faults
 pub mod Limits
+pub mod Shutting
 pub mod Options

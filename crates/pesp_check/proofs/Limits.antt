@@ -1,12 +1,12 @@
 -- What the limits of a certificate say of its lines.
-use Rattle.std.proofs.Common.{◌≡◌, ℕ, ◌+◌, ◌-◌, ◌<◌, ◌≤◌, arith, refl, ap, sym, ◌∙◌, List, [], ◌∷◌, length, get_or, Bool, true, false}
-use Rattle.std.specs.Prelude.{All, unsigned_abs, ◌&&◌, not, ◌==◌, nat_le, nat_abs}
+use Rattle.std.proofs.Common.{◌≡◌, ℕ, ◌+◌, ◌≤◌, arith, refl, List, [], ◌∷◌, length, Bool, true, false}
+use Rattle.std.specs.Prelude.{All, unsigned_abs, ◌&&◌, nat_le, nat_abs}
 use Rattle.std.specs.List.{list_all}
 use Rattle.std.proofs.lemmas.Bool.Decides.{nat_tests}
 use Rattle.std.proofs.lemmas.List.Elements.{All-nil, All-cons}
 use Rattle.pesp_problem.specs.declared.pair.Pair.{Pair}
 use Rattle.pesp_truth.specs.declared.tree.TreeLine.{TreeLine}
-use Rattle.pesp_truth.specs.declared.tree.TreeLine.TheVariants.{Slack, Offset, Bound, Nothing, Gap}
+use Rattle.pesp_truth.specs.declared.tree.TreeLine.TheVariants.{Slack, Offset, Bound, Nothing, Gap, Propagated}
 use Rattle.pesp_lines.specs.Pairs.{is_pair_within, all_within}
 use Rattle.pesp_lines.specs.Rows.{is_name}
 use Rattle.pesp_cert.specs.Limits.{follows, rise_from, are_pairs, is_line}
@@ -60,6 +60,7 @@ line_keeps (Offset cycle k) e = le_of (nat_abs k) 100000000000000 ((both (is_nam
 line_keeps (Bound pairs) e = pair_limits pairs e
 line_keeps (Nothing pairs) e = pair_limits pairs e
 line_keeps (Gap cycle) e = tt
+line_keeps Propagated e = tt
 
 pub line_limits : (lines : List TreeLine) → list_all is_line lines ≡ true → All KeepsLineLimits lines
 line_limits [] e = All-nil KeepsLineLimits

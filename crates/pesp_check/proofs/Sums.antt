@@ -1,11 +1,11 @@
 -- Sums by place: one changed term, small terms, and what working numbers hold.
-use Rattle.std.proofs.Common.{◌≡◌, ◌≢◌, ◌⊎◌, inl, inr, ℕ, zero, suc, ◌+◌, ◌*◌, ◌<◌, ◌≤◌, refl, ap, sym, ◌∙◌, arith, List, length, get_or, set}
+use Rattle.std.proofs.Common.{◌≡◌, ◌≢◌, inl, inr, ℕ, zero, suc, ◌*◌, ◌<◌, ◌≤◌, ap, sym, ◌∙◌, arith, List, length, get_or, set}
 use Rattle.std.specs.Prelude.{ℤ, pos, ◌+ℤ◌, ◌-ℤ◌, unsigned_abs}
 use Rattle.std.proofs.lemmas.Int.{ints}
 use Rattle.std.proofs.lemmas.Bool.{cases_eq}
 use Rattle.std.proofs.lemmas.List.{get_or-set_same, get_or-set_other, length-set}
 use Rattle.pesp_problem.specs.Sums.{sum_below}
-use Rattle.pesp_problem.proofs.Integers.{sum_below-same, sum_below-zero, sum_below-sub, sum_below-single}
+use Rattle.pesp_problem.proofs.Integers.{sum_below-zero, sum_below-sub, sum_below-single}
 
 -- a sum changes as its one changed term does
 pub sum_below-change : (n at : ℕ) (f g : ℕ → ℤ) → at < n → ((k : ℕ) → k < n → k ≢ at → f k ≡ g k) → sum_below n f +ℤ g at ≡ sum_below n g +ℤ f at

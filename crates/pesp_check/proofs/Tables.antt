@@ -1,23 +1,21 @@
 -- Tables of net counts as they grow, and the root.
-use Rattle.std.proofs.Common.{◌≡◌, ℕ, ◌+◌, ◌-◌, ◌*◌, ◌<◌, ◌≤◌, arith, refl, ap, sym, ◌∙◌, List, [], ◌∷◌, ◌++◌, length, get_or, take, map, subst, inl, inr, min}
-use Rattle.std.specs.Prelude.{ℤ, pos, ◌*ℤ◌, All, sum_by, unsigned_abs, ◌-ℤ◌}
+use Rattle.std.proofs.Common.{◌≡◌, ℕ, ◌+◌, ◌<◌, ◌≤◌, arith, refl, ap, sym, ◌∙◌, List, [], ◌∷◌, ◌++◌, length, get_or, take, map, subst, inl, inr}
+use Rattle.std.specs.Prelude.{ℤ, pos, ◌*ℤ◌, All, sum_by}
 use Rattle.std.specs.Int.{int_min}
 use Rattle.std.proofs.lemmas.Int.{ints, clamps}
 use Rattle.std.proofs.lemmas.Bool.{cases_lt}
 use Rattle.std.proofs.lemmas.List.{get_or_push, get_or_append_left, length_push, take_more, length-map, map_more, get_or-map, get_or_default}
 use Rattle.std.proofs.lemmas.List.Sums.{get_or-le-sum_by}
 use Rattle.pesp_problem.specs.declared.arc.Arc.{Arc}
-use Rattle.pesp_problem.specs.declared.row.Row.{Row}
 use Rattle.pesp_problem.specs.declared.row.SignedRow.{SignedRow}
-use Rattle.pesp_problem.specs.Sums.{sum_below}
 use Rattle.pesp_problem.specs.Timetables.{Pesp, no_row}
 use Rattle.pesp_problem.specs.Limits.{KeepsLimits}
-use Rattle.pesp_problem.specs.Arcs.{Net, net_of, arcs_of, arc_of, arc_at, no_arc, span}
-use Rattle.pesp_problem.specs.Walks.{AreRows, IsWalk, Names}
+use Rattle.pesp_problem.specs.Arcs.{Net, net_of, arcs_of, arc_of, arc_at, no_arc}
+use Rattle.pesp_problem.specs.Walks.{IsWalk, Names}
 use Rattle.pesp_problem.specs.Nodes.{cycle_at, root_slacks, slack_range, odijk_range}
 use Rattle.pesp_problem.proofs.Integers.{sum_below-zero}
 use Rattle.pesp_check.specs.declared.nets.NetCount.{NetCount}
-use Rattle.pesp_check.specs.Nets.{AreNetCounts, AreZeros, AreSmallCounts}
+use Rattle.pesp_check.specs.Nets.{AreNetCounts, AreSmallCounts}
 use Rattle.pesp_check.specs.Offsets.{AreSlackRanges}
 use Rattle.pesp_check.specs.Flows.{AreNets, nets_at}
 use Rattle.pesp_check.specs.Ranges.{idle_sum, idle_term}

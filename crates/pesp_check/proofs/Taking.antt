@@ -1,26 +1,24 @@
 -- Flows as they are taken, row by row.
-use Rattle.std.proofs.Common.{◌≡◌, ◌≢◌, inl, inr, ℕ, ◌+◌, ◌-◌, ◌*◌, ◌^◌, ◌<◌, ◌≤◌, arith, refl, ap, sym, ◌∙◌, List, [], ◌∷◌, length, get_or, set, take, drop, Bool, true, false}
-use Rattle.std.specs.Prelude.{ℤ, pos, ◌+ℤ◌, ◌-ℤ◌, ◌*ℤ◌, unsigned_abs, All, if◌then◌else◌, ◌==◌, sum_by, count_by, cond}
-use Rattle.std.specs.Int.{int_min}
+use Rattle.std.proofs.Common.{◌≡◌, ◌≢◌, inl, inr, ℕ, ◌+◌, ◌-◌, ◌*◌, ◌^◌, ◌<◌, ◌≤◌, arith, ap, sym, ◌∙◌, List, length, get_or, set, drop, Bool, true, false}
+use Rattle.std.specs.Prelude.{ℤ, pos, ◌+ℤ◌, ◌-ℤ◌, ◌*ℤ◌, unsigned_abs, ◌==◌, count_by, cond}
 use Rattle.std.proofs.lemmas.Int.{ints, clamps, unsigned_abs-mul}
 use Rattle.std.proofs.Math.Nat.{mul-le-mul}
 use Rattle.std.proofs.lemmas.Bool.{cases_eq}
-use Rattle.std.proofs.lemmas.List.{get_or-set_same, get_or-set_other, length-set, drop_more, drop_all, length-drop}
-use Rattle.std.proofs.lemmas.List.Sums.{sum_by-cons, sum_by-drop_more, sum_by_more, count_by-le-length}
+use Rattle.std.proofs.lemmas.List.{get_or-set_same, get_or-set_other, length-set, drop_all, length-drop}
+use Rattle.std.proofs.lemmas.List.Sums.{sum_by-drop_more, count_by-le-length}
 use Rattle.std.proofs.lemmas.List.Elements.{All-get_or}
 use Rattle.pesp_problem.specs.declared.arc.Arc.{Arc}
 use Rattle.pesp_problem.specs.declared.pair.Pair.{Pair}
-use Rattle.pesp_problem.specs.Timetables.{Pesp, no_row, row_at}
+use Rattle.pesp_problem.specs.Timetables.{Pesp, no_row}
 use Rattle.pesp_problem.specs.Limits.{KeepsLimits, RowKeepsLimits}
 use Rattle.pesp_problem.specs.Arcs.{arcs_of, arc_at}
 use Rattle.pesp_problem.specs.Nodes.{weight_of, slack_range}
 use Rattle.pesp_check.specs.declared.nets.NetCount.{NetCount}
 use Rattle.pesp_check.specs.Nets.{AreZeros}
 use Rattle.pesp_check.specs.Offsets.{AreSlackRanges}
-use Rattle.pesp_check.specs.Flows.{number_at, nets_at, entries_at, lesser, flow_term, flow_sum, AreSmallFlows, ArePairs}
+use Rattle.pesp_check.specs.Flows.{number_at, nets_at, entries_at, lesser, flow_term, flow_sum, AreSmallFlows}
 use Rattle.pesp_check.proofs.Counts.{eq-false}
 use Rattle.pesp_check.proofs.Sums.{sum_below-small, held-take, held-zeros, small-set}
-use Rattle.pesp_check.proofs.Durations.{arcs_long}
 use Rattle.pesp_check.proofs.Idle.{arc_is, small_weight}
 
 -- ---- sizes

@@ -1,6 +1,6 @@
 -- How the nodes that wait change as a walk enters a branch, turns to its second part and leaves it.
-use Rattle.std.proofs.Common.{◌≡◌, ℕ, ◌+◌, ◌-◌, ◌<◌, refl, ap, sym, ◌∙◌, arith, List, [], ◌∷◌, ◌++◌, length, get_or, take, set, reverse, Bool, true, false}
-use Rattle.std.specs.Prelude.{ℤ, pos}
+use Rattle.std.proofs.Common.{◌≡◌, ℕ, ◌+◌, ◌-◌, ◌<◌, refl, ap, sym, ◌∙◌, arith, List, [], ◌∷◌, ◌++◌, length, get_or, take, set, reverse, true}
+use Rattle.std.specs.Prelude.{pos}
 use Rattle.std.proofs.lemmas.List.{set-set, set-get_or, reverse-append, length-set}
 use Rattle.std.proofs.lemmas.Grind.{take_at_read, take-set_at}
 use Rattle.std.proofs.Math.Seq.{take-length}

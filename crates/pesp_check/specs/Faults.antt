@@ -1,9 +1,7 @@
 -- The first fault of a certificate, in the order in which faults are told.
-use Rattle.std.specs.Prelude.{◌≡◌, ◌⊎◌, ℕ, zero, suc, ◌+◌, ◌-◌, ◌<◌, ◌≤◌, List, [], ◌∷◌, length, ℤ, pos, ◌≤ℤ◌, ◌<ℤ◌, All, Option, Some, None, IsNone, IsSomeAnd, true, false}
+use Rattle.std.specs.Prelude.{◌≡◌, ◌⊎◌, ℕ, ◌+◌, ◌-◌, ◌<◌, List, [], length, ℤ, pos, ◌≤ℤ◌, ◌<ℤ◌, All, Option, Some, None, IsNone, IsSomeAnd, true, false}
 use Rattle.pesp_problem.specs.declared.row.SignedRow.{SignedRow}
 use Rattle.pesp_problem.specs.declared.arc.Arc.{Arc}
-use Rattle.pesp_problem.specs.declared.pair.Pair.{Pair}
-use Rattle.pesp_problem.specs.declared.cut.Cut.{Cut}
 use Rattle.pesp_problem.specs.Timetables.{Pesp, AreTimes, IsTimetable, cost}
 use Rattle.pesp_problem.specs.Scores.{IsFirstViolated}
 use Rattle.pesp_problem.specs.Arcs.{Net, arcs_of, net_of}
@@ -11,10 +9,10 @@ use Rattle.pesp_problem.specs.Walks.{Names, AreRows, IsWalk}
 use Rattle.pesp_problem.specs.Nodes.{Node, cycle_at, root, leaf_value, offsets_left, low_part, high_part}
 use Rattle.pesp_truth.specs.declared.answer.Answer.{Answer}
 use Rattle.pesp_truth.specs.declared.answer.Answer.TheVariants.{Optimal, Infeasible, Bounded}
-use Rattle.pesp_truth.specs.Trees.{Tree, Ends, Branch, Leaf, Bound, Shut, Reason, ByPairs, ByGap, ByPropagation, Line, EndLine, CutLine, preorder, CutExists, PairsExist, IsSoundLeaf, IsSound}
+use Rattle.pesp_truth.specs.Trees.{Tree, Ends, Branch, Leaf, Bound, Shut, Reason, ByPairs, ByGap, ByPropagation, preorder, CutExists, PairsExist, IsShut, IsSound}
 use Rattle.pesp_truth.specs.Certificates.{Content, IsValid, ShowsAnswer, shown_labels, shown_times, least_of, cost_of, lines_of}
 use Rattle.pesp_check.specs.declared.refusal.Refusal.{Refusal}
-use Rattle.pesp_check.specs.declared.refusal.Refusal.TheVariants.{OtherPeriod, Times, Violates, WrongCost, OpenWalk, NoSuch, LeafBelow, NotEmpty, NotAGap, BoundInInfeasible, AnswerShape}
+use Rattle.pesp_check.specs.declared.refusal.Refusal.TheVariants.{OtherPeriod, Times, Violates, WrongCost, OpenWalk, NoSuch, LeafBelow, NotEmpty, NotAGap, BoundInInfeasible, AnswerShape, NotPropagated}
 use Rattle.pesp_check.specs.declared.refusal.Verdict.{Verdict}
 use Rattle.pesp_check.specs.declared.refusal.Verdict.TheVariants.{Accepted, Refused}
 
@@ -44,6 +42,7 @@ IsTimesFault p c labels times (NotEmpty line) = ⊥
 IsTimesFault p c labels times (NotAGap line) = ⊥
 IsTimesFault p c labels times (BoundInInfeasible line) = ⊥
 IsTimesFault p c labels times AnswerShape = ⊥
+IsTimesFault p c labels times (NotPropagated line) = ⊥
 
 -- the first thing that is wrong with an answer and what is shown with it
 abbrev pub IsAnswerFault : Pesp → Answer → List ℤ → List ℕ → Refusal → Type 0
@@ -70,13 +69,13 @@ IsCycleFault arcs cycles line refusal =
 
 -- ---- the tree
 
--- what is wrong with a reason at a node; its leaf stands in this line. No line says that propagation shuts a leaf
+-- what is wrong with a reason at a node; its leaf stands in this line
 abbrev pub IsReasonFault : Net → List (List SignedRow) → Reason → Node → ℕ → Refusal → Type 0
 IsReasonFault n table (ByPairs pairs) node line refusal =
     ((refusal ≡ NoSuch line) × (PairsExist table pairs → ⊥)) ⊎ ((refusal ≡ NotEmpty line) × PairsExist table pairs × (IsSomeAnd (leaf_value n table node pairs false) (λ v. pos 0 <ℤ v) → ⊥))
 IsReasonFault n table (ByGap cycle) node line refusal =
     ((refusal ≡ NoSuch line) × (Names (length table) cycle → ⊥)) ⊎ ((refusal ≡ NotAGap line) × Names (length table) cycle × (IsNone (offsets_left n table node (cycle - 1)) → ⊥))
-IsReasonFault n table ByPropagation node line refusal = ⊥
+IsReasonFault n table ByPropagation node line refusal = (refusal ≡ NotPropagated line) × (IsShut n table ByPropagation node → ⊥)
 
 -- what is wrong with a leaf at a node; the leaf stands in this line
 abbrev pub IsLeafFault : Net → List (List SignedRow) → Option ℕ → Leaf → Node → ℕ → Refusal → Type 0

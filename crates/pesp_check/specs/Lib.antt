@@ -1,6 +1,7 @@
 pub mod Nets
 pub mod Offsets
 pub mod Ranges
+pub mod Propagations
 pub mod Pending
 pub mod Flows
 pub mod Leaves

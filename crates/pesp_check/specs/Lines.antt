@@ -1,5 +1,5 @@
 -- A tree by its lines: each is judged at the first of the nodes that wait.
-use Rattle.std.specs.Prelude.{◌≡◌, ◌⊎◌, ℕ, ◌+◌, ◌^◌, ◌≤◌, List, [], ◌∷◌, length, map, drop, ℤ, unsigned_abs, All, Option, MatchOption}
+use Rattle.std.specs.Prelude.{◌≡◌, ◌⊎◌, ℕ, ◌+◌, ◌≤◌, List, [], ◌∷◌, length, map, drop, unsigned_abs, All, Option, MatchOption}
 use Rattle.pesp_problem.specs.declared.row.SignedRow.{SignedRow}
 use Rattle.pesp_problem.specs.declared.pair.Pair.{Pair}
 use Rattle.pesp_problem.specs.declared.cut.Cut.{Cut}
@@ -8,7 +8,7 @@ use Rattle.pesp_problem.specs.Arcs.{Net}
 use Rattle.pesp_problem.specs.Walks.{Names}
 use Rattle.pesp_problem.specs.Nodes.{Node, low_part, high_part}
 use Rattle.pesp_truth.specs.declared.tree.TreeLine.{TreeLine}
-use Rattle.pesp_truth.specs.declared.tree.TreeLine.TheVariants.{Slack, Offset, Bound, Nothing, Gap}
+use Rattle.pesp_truth.specs.declared.tree.TreeLine.TheVariants.{Slack, Offset, Bound, Nothing, Gap, Propagated}
 use Rattle.pesp_truth.specs.Trees.{Leaf, Reason, Line, EndLine, CutLine, CutExists, IsShut, IsSoundLeaf, AreSound}
 use Rattle.pesp_truth.specs.Certificates.{line_of}
 use Rattle.pesp_check.specs.declared.refusal.Refusal.{Refusal}
@@ -67,6 +67,7 @@ KeepsLineLimits (Offset cycle k) = unsigned_abs k ≤ 100000000000000
 KeepsLineLimits (Bound pairs) = ArePairLimits pairs
 KeepsLineLimits (Nothing pairs) = ArePairLimits pairs
 KeepsLineLimits (Gap cycle) = Unit {0}
+KeepsLineLimits Propagated = Unit {0}
 
 -- the row or the cycle of a cut is one of so many
 abbrev pub CutIsNamed : ℕ → ℕ → Cut → Type 0

@@ -1,5 +1,5 @@
 -- The ranges of a node, and what the slacks cost there where no flow passes them.
-use Rattle.std.specs.Prelude.{◌≡◌, ℕ, ◌+◌, ◌-◌, ◌^◌, ◌≤◌, min, max, List, length, ℤ, pos, ◌+ℤ◌, ◌*ℤ◌, unsigned_abs, Bool, if◌then◌else◌}
+use Rattle.std.specs.Prelude.{◌≡◌, ℕ, ◌+◌, ◌≤◌, min, max, List, length, ℤ, pos, ◌+ℤ◌, ◌*ℤ◌, unsigned_abs, Bool, if◌then◌else◌}
 use Rattle.std.specs.Int.{int_min, int_max}
 use Rattle.pesp_problem.specs.declared.arc.Arc.{Arc}
 use Rattle.pesp_problem.specs.declared.cut.Cut.{Cut}

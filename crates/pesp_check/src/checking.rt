@@ -100,8 +100,8 @@ fn first_fault(
 /// refused.
 ///
 /// It looks at the period, the shape of the answer, the shown times, then at the cycles in order, then at the lines of the
-/// tree in order. A leaf's work depends on the rows that its cycles pass, a branch takes constant work, and no call depth
-/// grows with the tree.
+/// tree in order. A leaf's work depends on the rows that its cycles pass, that of a leaf closed by propagation on all rows,
+/// a branch takes constant work, and no call depth grows with the tree.
 pub fn check(
     alloc: Global,
     instance: &Instance,

@@ -43,7 +43,9 @@ pub fn judge_tree(
     let mut walk = NodeWalk::new(alloc, instance, root(alloc, instance, table)?);
     for (place, tree_line) in lines.iter().enumerate() {
         let line = first + place as u64;
-        let found = take_line(instance, table, &mut walk, tree_line, least, line, working)?;
+        let found = take_line(
+            alloc, instance, table, &mut walk, tree_line, least, line, working,
+        )?;
         if found.is_some() {
             return Ok(found);
         }

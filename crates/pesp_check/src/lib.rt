@@ -12,6 +12,7 @@ mod nets;
 mod node_walk;
 mod offsets;
 pub mod parts;
+mod propagation;
 mod ranges;
 mod refusal;
 mod rows;

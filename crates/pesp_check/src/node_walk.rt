@@ -1,13 +1,19 @@
 //! A walk over the nodes of a tree that is told by its lines in preorder.
 
-ghost use Rattle.std.specs.Prelude.{◌≡◌, ◌≢◌, ◌↔◌, IsTrue, List, [], ◌∷◌, true, length, reverse, drop, OnOk, OnErr};
+ghost use Rattle.std.specs.Prelude.{◌≡◌, ◌≢◌, ◌↔◌, IsTrue, List, [], ◌∷◌, true, length, reverse, drop, IfOk, OnOk, OnErr};
+ghost use Rattle.pesp_problem.specs.declared.row.SignedRow.{SignedRow};
+ghost use Rattle.pesp_problem.specs.Arcs.{net_of};
+ghost use Rattle.pesp_truth.specs.Trees.{IsShut, ByPropagation};
+ghost use Rattle.pesp_check.specs.Propagations.{rows_of};
 ghost use Rattle.pesp_problem.specs.Nodes.{Node};
 ghost use Rattle.pesp_check.specs.Ranges.{node_of, AreRanges, IsCut};
 ghost use Rattle.pesp_check.specs.Pending.{pending, waiting, branched, AreChanges, Standing};
 
 use crate::branch::{Branch, change_of, cut_of, put_back};
+use crate::propagation::shuts;
 use crate::ranges::{Ranges, take_part};
 use pesp_problem::{Cut, Instance, Side};
+use pesp_support::Support;
 use std::alloc::{AllocError, Global};
 use std::marker::Model;
 
@@ -63,26 +69,40 @@ fn next_part(instance: &Instance, ranges: &mut Ranges, path: &mut Vec<Branch>) -
     false
 }
 
+/// The pass of propagation over an instance.
+fn pass_of(alloc: Global, instance: &Instance) -> Result<Support, AllocError>
+    ensures { IfOk result (λ pass. pass ≡ rows_of instance.now) }
+{
+    match Support::of(alloc, instance) {
+        Ok(pass) => Ok(pass),
+        Err(_refused) => Err(AllocError),
+    }
+}
+
 /// A walk over the nodes of a tree in the order of its lines: it keeps the present node's ranges and, for each branch on the
-/// way to it, the one range that the branch changed.
+/// way to it, the one range that the branch changed. The pass of propagation is made ready where it is asked first.
 #[derive(Drop)]
 pub struct NodeWalk<'a> {
     instance: &'a Instance,
     ranges: Ranges,
     path: Vec<Branch>,
+    pass: Option<Support>,
     is_open: bool,
 }
 
 impl<'a> Model for NodeWalk<'a> {
     ghost use Rattle.std.specs.Prelude.{length};
     ghost use Rattle.pesp_check.specs.Ranges.{node_of, AreRanges};
+    ghost use Rattle.std.specs.Prelude.{◌≡◌};
+    ghost use Rattle.std.specs.Option.{ForSome};
     ghost use Rattle.pesp_check.specs.Pending.{waiting, AreChanges, Standing};
+    ghost use Rattle.pesp_check.specs.Propagations.{rows_of};
 
     ghost Value = { Standing };
 
     ghost view = { λ w. record { problem = w.instance.now; cycles = length w.ranges.offsets.items; nodes = waiting w.is_open (node_of w.ranges) w.path.items } };
 
-    ghost invariant = { λ w. AreRanges w.instance.now w.ranges × AreChanges (length w.instance.now.rows) (length w.ranges.offsets.items) w.path.items };
+    ghost invariant = { λ w. AreRanges w.instance.now w.ranges × AreChanges (length w.instance.now.rows) (length w.ranges.offsets.items) w.path.items × ForSome w.pass (λ pass. pass ≡ rows_of w.instance.now) };
 }
 
 impl<'a> NodeWalk<'a> {
@@ -95,6 +115,7 @@ impl<'a> NodeWalk<'a> {
             instance,
             ranges,
             path: Vec::new(alloc),
+            pass: None,
             is_open: true,
         }
     }
@@ -127,6 +148,24 @@ impl<'a> NodeWalk<'a> {
         ensures same { OnErr result (self.new.nodes ≡ self.old.nodes) }
     {
         enter(self.instance, &mut self.ranges, &mut self.path, cut)
+    }
+
+    /// Whether propagation shuts the present node. `AllocError` only where a growth was refused.
+    pub fn is_shut(&mut self, alloc: Global) -> Result<bool, AllocError>
+        requires open { self.old.nodes ≢ [] }
+        ensures problem { self.new.problem ≡ self.old.problem }
+        ensures cycles { self.new.cycles ≡ self.old.cycles }
+        ensures nodes { self.new.nodes ≡ self.old.nodes }
+        ensures shut { IfOk result (λ shut. (node : Node) × (rest : List Node) × (self.old.nodes ≡ node ∷ rest)
+            × ((walks : List (List SignedRow)) → IsTrue shut ↔ IsShut (net_of self.old.problem) walks ByPropagation node)) }
+    {
+        let mut pass = match self.pass.take() {
+            Some(pass) => pass,
+            None => pass_of(alloc, self.instance)?,
+        };
+        let shut = shuts(self.instance, &mut pass, &self.ranges);
+        self.pass = Some(pass);
+        Ok(shut)
     }
 
     /// Ends the present node: the one that waits next is the present node then.

@@ -16,6 +16,7 @@ pub enum Verdict {
 /// `NoSuch`: a row or a cycle that doesn't exist is named. `OpenWalk`: a cycle's ends don't meet. `BoundInInfeasible`: a
 /// leaf shows a least cost where there should be no timetable. `LeafBelow`: a leaf's value isn't as much as the least cost,
 /// or there is none. `NotEmpty`: a leaf doesn't show that no timetable lies there. `NotAGap`: the cycle has an offset left.
+/// `NotPropagated`: the rows support sets of time differences at a leaf that should have none.
 #[derive(Clone, Copy, Debug, PartialEq, Eq)]
 pub enum Refusal {
     OtherPeriod,
@@ -29,4 +30,5 @@ pub enum Refusal {
     NotAGap { line: u64 },
     BoundInInfeasible { line: u64 },
     AnswerShape,
+    NotPropagated { line: u64 },
 }

@@ -3,7 +3,7 @@
 ghost use Rattle.std.specs.Prelude.{◌≡◌, ◌≢◌, ◌↔◌, ℕ, ◌+◌, ◌≤◌, ◌<◌, ◌^◌, IsTrue, List, [], ◌∷◌, length, true, map, All, IfOk, IfNone, Option};
 ghost use Rattle.pesp_problem.specs.declared.row.SignedRow.{SignedRow};
 ghost use Rattle.pesp_problem.specs.Arcs.{net_of};
-ghost use Rattle.pesp_truth.specs.Trees.{CutLine, EndLine};
+ghost use Rattle.pesp_truth.specs.Trees.{CutLine, EndLine, Shut, ByPropagation};
 ghost use Rattle.pesp_truth.specs.Certificates.{line_of};
 ghost use Rattle.pesp_check.specs.Nets.{AreZeros, AreSmallCounts};
 ghost use Rattle.pesp_check.specs.Flows.{AreNets};
@@ -82,8 +82,31 @@ fn take_leaf(
     found
 }
 
+/// Takes a leaf that propagation closes: it is judged at the first of the nodes that wait, and the next one is the first
+/// then.
+fn take_propagated(
+    alloc: Global,
+    walk: &mut NodeWalk<'_>,
+    line: u64,
+) -> Result<Option<Refusal>, AllocError>
+    requires open { walk.old.nodes ≢ [] }
+    ensures problem { walk.new.problem ≡ walk.old.problem }
+    ensures cycles { walk.new.cycles ≡ walk.old.cycles }
+    ensures verdict { IfOk result (λ found. (walks : List (List SignedRow)) (least : Option ℕ)
+        → IsLineVerdict (net_of walk.old.problem) walks least (EndLine (Shut ByPropagation)) walk.old.nodes walk.new.nodes line found) }
+    ensures nodes { IfOk result (λ found. IfNone found (walk.new.nodes ≡ after (EndLine (Shut ByPropagation)) walk.old.nodes)) }
+{
+    let shut = walk.is_shut(alloc)?;
+    walk.leaf();
+    if shut {
+        return Ok(None);
+    }
+    Ok(Some(Refusal::NotPropagated { line }))
+}
+
 /// Takes a line of the tree: what is wrong with it at the first of the nodes that wait. The next nodes wait then.
 pub fn take_line(
+    alloc: Global,
     instance: &Instance,
     table: &[Nets],
     walk: &mut NodeWalk<'_>,
@@ -136,5 +159,6 @@ pub fn take_line(
             let leaf = LeafLine::Gap(*cycle);
             Ok(take_leaf(instance, table, walk, leaf, least, line, working))
         }
+        TreeLine::Propagated => take_propagated(alloc, walk, line),
     }
 }

@@ -1,12 +1,8 @@
-use Rattle.std.proofs.Common.{◌≡◌, ◌∙◌, ◌+◌, inl, inr, sym, map, length, List, ℕ, Option, true, false}
-use Rattle.std.specs.Prelude.{ℤ, All, MatchOption, is_some}
+use Rattle.std.proofs.Common.{◌∙◌, inl, inr, sym, Option}
 use Rattle.std.proofs.lemmas.Result.{IfOk-weaker}
-use Rattle.pesp_problem.specs.declared.row.SignedRow.{SignedRow}
-use Rattle.pesp_problem.specs.Arcs.{arcs_of}
-use Rattle.pesp_problem.specs.Walks.{IsWalk}
-use Rattle.pesp_truth.specs.Certificates.{IsValid, ShowsAnswer, shown_labels, shown_times}
+use Rattle.pesp_truth.specs.Certificates.{IsValid}
 use Rattle.pesp_check.specs.declared.refusal.Refusal.{Refusal}
-use Rattle.pesp_check.specs.Faults.{IsAnswerFault, IsCycleFault, IsFirstFault, line_before_cycles}
+use Rattle.pesp_check.specs.Faults.{IsFirstFault}
 use Rattle.pesp_check.proofs.Options.{match_map, match_some, match_none}
 use Rattle.pesp_check.proofs.Faults.{later_tree_fault, valid_is}
 use Rattle.pesp_check.proofs.checking.first_fault.Goals as goal

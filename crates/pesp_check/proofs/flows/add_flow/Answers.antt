@@ -1,11 +1,11 @@
-use Rattle.std.proofs.Common.{ℕ, arith, rules, unsigned_abs, FitsSigned, to_z, of_z, get_or, ◌≡◌, ◌≤◌, ◌<◌, ◌+◌, ◌*◌, ◌^◌, ◌∙◌, ap, sym, length, take, refl}
-use Rattle.std.specs.Prelude.{ℤ, pos, ◌+ℤ◌, ◌*ℤ◌}
+use Rattle.std.proofs.Common.{arith, unsigned_abs, FitsSigned, to_z, of_z, get_or, ◌≡◌, ◌≤◌, ◌<◌, ◌+◌, ◌^◌, ◌∙◌, ap, sym, length, refl}
+use Rattle.std.specs.Prelude.{pos, ◌+ℤ◌, ◌*ℤ◌}
 use Rattle.std.specs.Int.{w64, w128}
 use Rattle.std.proofs.lemmas.Int.{ints, to_z-of_z}
 use Rattle.pesp_check.specs.declared.nets.NetCount.{NetCount}
-use Rattle.pesp_check.specs.Flows.{count_of, number_at}
+use Rattle.pesp_check.specs.Flows.{number_at}
 use Rattle.pesp_check.proofs.Durations.{small_count}
-use Rattle.pesp_check.proofs.Flowing.{AreAdded, added_more, added_small}
+use Rattle.pesp_check.proofs.Flowing.{added_more, added_small}
 use Rattle.pesp_check.proofs.flows.add_flow.Goals as goal
 
 none : NetCount

@@ -1,11 +1,11 @@
-use Rattle.std.proofs.Common.{ℕ, arith, FitsSigned, to_z, of_z, get_or, ◌≡◌, ◌-◌, ◌≤◌, ◌<◌, ◌∙◌, ap, sym, length}
-use Rattle.std.specs.Prelude.{ℤ, pos, ◌+ℤ◌, ◌*ℤ◌, List}
+use Rattle.std.proofs.Common.{arith, FitsSigned, get_or, ◌-◌, ◌<◌, ◌∙◌, ap, length}
+use Rattle.std.specs.Prelude.{pos, ◌+ℤ◌, ◌*ℤ◌, List}
 use Rattle.std.specs.Int.{w64}
 use Rattle.std.proofs.lemmas.Int.{ints, to_z-of_z}
 use Rattle.pesp_problem.specs.declared.pair.Pair.{Pair}
 use Rattle.pesp_check.specs.declared.nets.NetCount.{NetCount}
-use Rattle.pesp_check.specs.Flows.{count_of, number_at, nets_at}
-use Rattle.pesp_check.proofs.Flowing.{made_none, made_more, nets_read}
+use Rattle.pesp_check.specs.Flows.{count_of, number_at}
+use Rattle.pesp_check.proofs.Flowing.{made_more, nets_read}
 use Rattle.pesp_check.proofs.flows.add_flows.Goals as goal
 
 pub loop-pair-preserved : goal.loop-pair-preserved

@@ -1,10 +1,10 @@
-use Rattle.std.proofs.Common.{ℕ, arith, rules, unsigned_abs, FitsSigned, to_z, of_z, get_or, ◌≡◌, ◌≤◌, ◌<◌, ◌+◌, ◌*◌, ◌^◌, ◌∙◌, ap, sym, length, refl}
-use Rattle.std.specs.Prelude.{ℤ, pos, ◌+ℤ◌}
+use Rattle.std.proofs.Common.{arith, rules, FitsSigned, to_z, of_z, get_or, ◌≡◌, ◌<◌, ◌∙◌, length, refl}
+use Rattle.std.specs.Prelude.{pos, ◌+ℤ◌}
 use Rattle.std.specs.Int.{w128}
 use Rattle.std.proofs.lemmas.Int.{ints, to_z-of_z}
 use Rattle.pesp_problem.specs.Arcs.{arcs_of}
 use Rattle.pesp_check.specs.declared.nets.NetCount.{NetCount}
-use Rattle.pesp_check.specs.Flows.{number_at, flow_sum, flow_term}
+use Rattle.pesp_check.specs.Flows.{number_at}
 use Rattle.pesp_check.proofs.Taking.{part_small, taken_more}
 use Rattle.pesp_check.proofs.flows.take_flow.Goals as goal
 

@@ -1,11 +1,10 @@
-use Rattle.std.proofs.Common.{ℕ, arith, rules, unsigned_abs, FitsSigned, to_z, of_z, get_or, ◌≡◌, ◌≤◌, ◌<◌, ◌-◌, ◌+◌, ◌*◌, ◌^◌, ◌∙◌, ap, sym, length, refl, List}
-use Rattle.std.specs.Prelude.{ℤ, pos, ◌+ℤ◌, count_by, ◌==◌}
+use Rattle.std.proofs.Common.{arith, unsigned_abs, to_z, of_z, get_or, ◌≡◌, ◌<◌, ◌-◌, ◌∙◌, ap, sym, length, List}
+use Rattle.std.specs.Prelude.{pos, ◌+ℤ◌, count_by, ◌==◌}
 use Rattle.std.specs.Int.{w128}
-use Rattle.std.proofs.lemmas.Int.{ints, to_z-of_z}
+use Rattle.std.proofs.lemmas.Int.{ints}
 use Rattle.pesp_problem.specs.declared.pair.Pair.{Pair}
 use Rattle.pesp_problem.specs.Arcs.{arcs_of}
 use Rattle.pesp_check.specs.declared.nets.NetCount.{NetCount}
-use Rattle.pesp_check.specs.Flows.{number_at, nets_at, flow_sum, flow_term}
 use Rattle.pesp_check.proofs.Flowing.{nets_read}
 use Rattle.pesp_check.proofs.Taking.{flow_sum_small, part_small, left_more, left_all}
 use Rattle.pesp_check.proofs.flows.take_flows.Goals as goal

@@ -1,7 +1,6 @@
-use Rattle.std.proofs.Common.{◌≡◌, ◌∙◌, ◌-◌, ◌<◌, ◌≤◌, ap, sym, subst, length, arith, refl, true, false, Option, Some, None}
+use Rattle.std.proofs.Common.{◌≡◌, ◌∙◌, ◌-◌, ◌<◌, ap, sym, length, arith, refl, false, Option, Some, None}
 use Rattle.std.specs.Prelude.{ℤ, IsNone, is_some}
 use Rattle.pesp_problem.specs.Arcs.{net_of}
-use Rattle.pesp_problem.specs.Nodes.{offsets_left}
 use Rattle.pesp_check.specs.Ranges.{node_of}
 use Rattle.pesp_check.proofs.Leaves.{left_read}
 use Rattle.pesp_check.proofs.judge_leaf.judge_gap.Goals as goal

@@ -1,10 +1,9 @@
-use Rattle.std.proofs.Common.{◌≡◌, ◌+◌, ◌∙◌, ap, sym, subst, length, refl, true, false, Option, Some, None}
+use Rattle.std.proofs.Common.{◌≡◌, ◌∙◌, sym, false, Option, Some, None}
 use Rattle.std.specs.Prelude.{is_some, IfNone, MatchOption}
 use Rattle.pesp_problem.specs.Arcs.{net_of}
 use Rattle.pesp_problem.specs.Nodes.{root}
-use Rattle.pesp_truth.specs.Certificates.{line_of}
 use Rattle.pesp_check.specs.declared.refusal.Refusal.{Refusal}
-use Rattle.pesp_check.proofs.Judged.{open_there, whole_more, judged_more, fault_here, judged_all}
+use Rattle.pesp_check.proofs.Judged.{whole_more, judged_more}
 use Rattle.pesp_check.proofs.judge_tree.judge_tree.Goals as goal
 
 -- what holds of none holds of what is not some

@@ -1,6 +1,5 @@
-use Rattle.std.proofs.Common.{arith, rules, unsigned_abs, ap, FitsSigned, to_z, of_z, ◌≡◌, ◌≤◌, ◌^◌}
-use Rattle.std.proofs.lemmas.Int.{ints, to_z-of_z}
-use Rattle.std.specs.Int.{w128}
+use Rattle.std.proofs.Common.{arith, unsigned_abs, ap, ◌≤◌, ◌^◌}
+use Rattle.std.proofs.lemmas.Int.{ints}
 use Rattle.pesp_check.proofs.Idle.{idle_sum_small}
 use Rattle.pesp_check.proofs.leaf.idle_part.Goals as goal
 

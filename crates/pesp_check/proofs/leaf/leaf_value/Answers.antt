@@ -1,11 +1,11 @@
-use Rattle.std.proofs.Common.{ℕ, arith, rules, unsigned_abs, FitsSigned, to_z, of_z, ◌≡◌, ◌≤◌, ◌<◌, ◌+◌, ◌*◌, ◌^◌, ◌∙◌, ap, sym, length, List}
-use Rattle.std.specs.Prelude.{ℤ, pos, ◌+ℤ◌}
+use Rattle.std.proofs.Common.{ℕ, arith, to_z, of_z, ◌≡◌, ◌∙◌, ap, length, List}
+use Rattle.std.specs.Prelude.{◌+ℤ◌}
 use Rattle.std.specs.Int.{w128}
-use Rattle.std.proofs.lemmas.Int.{ints, to_z-of_z}
-use Rattle.pesp_problem.specs.Arcs.{net_of, arcs_of}
+use Rattle.std.proofs.lemmas.Int.{ints}
+use Rattle.pesp_problem.specs.Arcs.{arcs_of}
 use Rattle.pesp_check.specs.Flows.{flow_sum, AreNets}
 use Rattle.pesp_check.specs.Ranges.{node_of}
-use Rattle.pesp_check.proofs.Leaves.{value_is, value_none}
+use Rattle.pesp_check.proofs.Leaves.{value_is}
 use Rattle.pesp_check.proofs.leaf.leaf_value.Goals as goal
 
 pub plus-requires : goal.plus-requires

@@ -1,14 +1,11 @@
-use Rattle.std.proofs.Common.{ℕ, arith, rules, unsigned_abs, FitsSigned, to_z, of_z, get_or, ◌≡◌, ◌≤◌, ◌<◌, ◌-◌, ◌+◌, ◌*◌, ◌∙◌, ap, sym, length, List, Option, None, Some}
-use Rattle.std.specs.Prelude.{ℤ, pos, ◌+ℤ◌, ◌*ℤ◌}
+use Rattle.std.proofs.Common.{arith, FitsSigned, to_z, of_z, get_or, ◌≡◌, ◌≤◌, ◌<◌, ◌-◌, ◌+◌, ◌*◌, ◌∙◌, length, None, Some}
+use Rattle.std.specs.Prelude.{pos, ◌+ℤ◌}
 use Rattle.std.specs.Int.{w64, w128}
 use Rattle.std.proofs.lemmas.Int.{ints, to_z-of_z}
 use Rattle.pesp_problem.specs.declared.pair.Pair.{Pair}
-use Rattle.pesp_problem.specs.declared.row.SignedRow.{SignedRow}
 use Rattle.pesp_problem.specs.Arcs.{net_of}
-use Rattle.pesp_problem.specs.Nodes.{offset_part, offsets_left}
 use Rattle.pesp_check.specs.Ranges.{node_of}
-use Rattle.pesp_check.specs.Flows.{AreNets}
-use Rattle.pesp_check.proofs.Leaves.{left_read, offset_more, offset_none, offset_first, offset_all}
+use Rattle.pesp_check.proofs.Leaves.{left_read, offset_more, offset_none}
 use Rattle.pesp_check.proofs.leaf.offset_sum.Goals as goal
 
 none : Pair

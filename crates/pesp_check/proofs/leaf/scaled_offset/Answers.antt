@@ -1,8 +1,7 @@
-use Rattle.std.proofs.Common.{arith, rules, unsigned_abs, FitsSigned, to_z, of_z, ◌≡◌, ◌≤◌, ◌*◌, ◌∙◌, ap}
-use Rattle.std.specs.Prelude.{pos, ◌*ℤ◌}
+use Rattle.std.proofs.Common.{arith, rules, unsigned_abs, FitsSigned, to_z, of_z, ◌≡◌, ◌≤◌, ◌∙◌, ap}
+use Rattle.std.specs.Prelude.{pos}
 use Rattle.std.specs.Int.{w64, w128}
 use Rattle.std.proofs.lemmas.Int.{ints, to_z-of_z}
-use Rattle.pesp_problem.specs.Sums.{scaled}
 use Rattle.pesp_check.proofs.Leaves.{scaled_scaled}
 use Rattle.pesp_check.proofs.leaf.scaled_offset.Goals as goal
 

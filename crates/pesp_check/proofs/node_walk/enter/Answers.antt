@@ -1,4 +1,3 @@
-use Rattle.std.proofs.Common.{◌∙◌}
 use Rattle.pesp_check.specs.Ranges.{node_of}
 use Rattle.pesp_check.proofs.Walking.{enter_parts}
 use Rattle.pesp_check.proofs.node_walk.enter.Goals as goal

@@ -1,13 +1,13 @@
-use Rattle.std.proofs.Common.{arith, rules, unsigned_abs, FitsSigned, to_z, of_z, get_or, ◌≡◌, ◌≤◌, ◌+◌, ◌∙◌, ap, length, sym}
+use Rattle.std.proofs.Common.{arith, unsigned_abs, to_z, of_z, ◌≡◌, ◌≤◌, ◌+◌, ◌∙◌, ap, length}
 use Rattle.std.specs.Prelude.{pos, ◌+ℤ◌}
 use Rattle.std.specs.Int.{w128}
-use Rattle.std.proofs.lemmas.Int.{ints, to_z-of_z}
+use Rattle.std.proofs.lemmas.Int.{ints}
 use Rattle.std.proofs.lemmas.List.{take_all}
 use Rattle.pesp_problem.specs.Arcs.{arcs_of}
 use Rattle.pesp_check.specs.declared.nets.NetCount.{NetCount}
 use Rattle.pesp_check.specs.Nets.{sum_of}
 use Rattle.pesp_check.specs.Offsets.{least_term, greatest_term}
-use Rattle.pesp_check.proofs.Durations.{small_count, so_far_more, small_sum, least_is, greatest_is}
+use Rattle.pesp_check.proofs.Durations.{so_far_more, small_sum, least_is, greatest_is}
 use Rattle.pesp_check.proofs.offsets.duration_sums.Goals as goal
 
 none : NetCount

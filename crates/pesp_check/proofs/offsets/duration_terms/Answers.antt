@@ -1,5 +1,5 @@
-use Rattle.std.proofs.Common.{arith, rules, unsigned_abs, FitsSigned, to_z, of_z, ◌≡◌, ◌≤◌, ◌*◌, ◌∙◌, ap}
-use Rattle.std.specs.Int.{w64, w128}
+use Rattle.std.proofs.Common.{arith, rules, unsigned_abs, FitsSigned, to_z, of_z, ◌≡◌, ◌≤◌, ap}
+use Rattle.std.specs.Int.{w128}
 use Rattle.std.proofs.lemmas.Int.{ints, to_z-of_z}
 use Rattle.pesp_check.proofs.offsets.duration_terms.Goals as goal
 

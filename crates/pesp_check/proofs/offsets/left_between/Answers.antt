@@ -1,9 +1,8 @@
-use Rattle.std.proofs.Common.{arith, rules, FitsSigned, to_z, of_z, ◌≡◌, ◌∙◌, ap, sym, subst, Option, ℤ}
-use Rattle.std.specs.Prelude.{IfSome, unsigned_abs}
+use Rattle.std.proofs.Common.{arith, rules, FitsSigned, to_z, of_z, ◌≡◌, ◌∙◌, sym, subst, Option, ℤ}
+use Rattle.std.specs.Prelude.{IfSome}
 use Rattle.std.specs.Int.{w64, w128, int_max, int_min}
 use Rattle.std.proofs.lemmas.Int.{ints, clamps, to_z-of_z}
 use Rattle.pesp_problem.specs.Sums.{ceil_div, floor_div}
-use Rattle.pesp_problem.specs.Nodes.{range_or_none}
 use Rattle.pesp_check.specs.Offsets.{IsSmallOffset}
 use Rattle.pesp_check.proofs.Durations.{left_small}
 use Rattle.pesp_check.proofs.offsets.left_between.Goals as goal

@@ -1,7 +1,6 @@
-use Rattle.std.proofs.Common.{arith, rules, unsigned_abs, FitsSigned, to_z, of_z, ◌≡◌, ◌≤◌, ◌∙◌, ap}
+use Rattle.std.proofs.Common.{arith, unsigned_abs, FitsSigned, ap}
 use Rattle.std.specs.Int.{w64, w128}
 use Rattle.std.proofs.lemmas.Int.{ints, to_z-of_z}
-use Rattle.pesp_problem.specs.Sums.{floor_div}
 use Rattle.pesp_check.proofs.Durations.{small_quotient}
 use Rattle.pesp_check.proofs.offsets.quotient_down.Goals as goal
 

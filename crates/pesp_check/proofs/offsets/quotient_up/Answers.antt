@@ -1,8 +1,7 @@
-use Rattle.std.proofs.Common.{arith, rules, unsigned_abs, FitsSigned, to_z, of_z, ◌≡◌, ◌≤◌, ◌∙◌, ap}
+use Rattle.std.proofs.Common.{arith, unsigned_abs, FitsSigned, ap}
 use Rattle.std.specs.Prelude.{neg_ℤ}
 use Rattle.std.specs.Int.{w64, w128}
 use Rattle.std.proofs.lemmas.Int.{ints, to_z-of_z}
-use Rattle.pesp_problem.specs.Sums.{ceil_div, floor_div}
 use Rattle.pesp_check.proofs.Durations.{small_quotient}
 use Rattle.pesp_check.proofs.offsets.quotient_up.Goals as goal
 

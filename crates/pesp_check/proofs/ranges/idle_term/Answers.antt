@@ -1,8 +1,7 @@
-use Rattle.std.proofs.Common.{arith, rules, unsigned_abs, FitsSigned, to_z, of_z, ◌≡◌, ◌≤◌, ap}
-use Rattle.std.specs.Prelude.{pos, ◌*ℤ◌}
-use Rattle.std.specs.Int.{w128, int_min}
-use Rattle.std.proofs.lemmas.Int.{ints, clamps, to_z-of_z}
-use Rattle.std.proofs.Math.Nat.{mul-le-mul}
+use Rattle.std.proofs.Common.{arith, rules, FitsSigned, to_z, of_z, ◌≡◌}
+use Rattle.std.specs.Prelude.{pos}
+use Rattle.std.specs.Int.{w128}
+use Rattle.std.proofs.lemmas.Int.{ints, to_z-of_z}
 use Rattle.pesp_check.proofs.Idle.{idle_small}
 use Rattle.pesp_check.proofs.ranges.idle_term.Goals as goal
 

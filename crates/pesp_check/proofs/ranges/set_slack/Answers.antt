@@ -1,10 +1,10 @@
-use Rattle.std.proofs.Common.{ℕ, arith, rules, unsigned_abs, FitsSigned, to_z, of_z, ◌≡◌, ◌≤◌, ◌∙◌, ap, length, sym, get_or}
-use Rattle.std.specs.Prelude.{pos, ◌+ℤ◌, ◌-ℤ◌}
+use Rattle.std.proofs.Common.{arith, unsigned_abs, to_z, of_z, ◌≡◌, ◌≤◌, ◌∙◌, ap, length, sym, get_or}
+use Rattle.std.specs.Prelude.{◌+ℤ◌, ◌-ℤ◌}
 use Rattle.std.specs.Int.{w128}
-use Rattle.std.proofs.lemmas.Int.{ints, to_z-of_z}
+use Rattle.std.proofs.lemmas.Int.{ints}
 use Rattle.std.proofs.lemmas.List.{get_or_default}
 use Rattle.pesp_problem.specs.Arcs.{arcs_of}
-use Rattle.pesp_check.specs.Ranges.{idle_term, idle_sum}
+use Rattle.pesp_check.specs.Ranges.{idle_term}
 use Rattle.pesp_check.proofs.Idle.{idle_sum_small, idle_set, ranges_set}
 use Rattle.pesp_check.proofs.ranges.set_slack.Goals as goal
 

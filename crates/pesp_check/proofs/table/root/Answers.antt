@@ -1,6 +1,5 @@
-use Rattle.std.proofs.Common.{ℕ, ◌≡◌, ◌∙◌, ap, sym, subst, length, List}
-use Rattle.pesp_problem.specs.Arcs.{net_of, arcs_of}
-use Rattle.pesp_problem.specs.Nodes.{root_slacks}
+use Rattle.std.proofs.Common.{ℕ, ◌∙◌, ap, sym, subst, length, List}
+use Rattle.pesp_problem.specs.Arcs.{arcs_of}
 use Rattle.pesp_check.specs.Offsets.{AreSlackRanges}
 use Rattle.pesp_check.specs.Ranges.{idle_sum}
 use Rattle.pesp_check.proofs.Tables.{root_are_ranges, root_idle}

@@ -1,4 +1,4 @@
-use Rattle.std.proofs.Common.{◌≡◌, ◌∙◌, ◌+◌, ap, sym, subst, length, List, take, arith}
+use Rattle.std.proofs.Common.{◌∙◌, ◌+◌, ap, length}
 use Rattle.std.proofs.lemmas.List.{length_push}
 use Rattle.pesp_problem.specs.Arcs.{net_of}
 use Rattle.pesp_check.proofs.Tables.{offsets_more}

@@ -1,6 +1,4 @@
-use Rattle.std.proofs.Common.{◌≡◌, ◌∙◌, ap, sym, subst, length, List, take}
-use Rattle.pesp_problem.specs.declared.row.SignedRow.{SignedRow}
-use Rattle.pesp_check.specs.declared.nets.NetCount.{NetCount}
+use Rattle.std.proofs.Common.{◌≡◌, sym, length, take}
 use Rattle.pesp_check.specs.Nets.{AreNetCounts}
 use Rattle.pesp_check.specs.Flows.{AreNets}
 use Rattle.pesp_check.proofs.Tables.{nets_more}

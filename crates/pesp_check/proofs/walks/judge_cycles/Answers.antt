@@ -1,4 +1,4 @@
-use Rattle.std.proofs.Common.{◌∙◌, ◌+◌, ap, refl, sym, ◌≡◌}
+use Rattle.std.proofs.Common.{◌∙◌, ◌+◌, ap, refl, sym}
 use Rattle.pesp_problem.specs.Arcs.{arcs_of}
 use Rattle.pesp_check.proofs.Closing.{cycle_is, walk_fault, all_walks, walks_more}
 use Rattle.pesp_check.proofs.Options.{match_some, match_none}

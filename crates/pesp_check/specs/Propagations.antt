@@ -1,0 +1,9 @@
+-- What the pass over an instance is asked of.
+use Rattle.std.specs.Prelude.{length}
+use Rattle.pesp_problem.specs.Timetables.{Pesp}
+use Rattle.pesp_problem.specs.Arcs.{net_of}
+use Rattle.pesp_support.specs.Supports.{Rows}
+
+-- the net of an instance, between all its events
+abbrev pub rows_of : Pesp → Rows
+rows_of p = record { net = net_of p; events = length p.events }

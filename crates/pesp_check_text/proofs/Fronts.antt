@@ -7,7 +7,7 @@ use Rattle.pesp_problem.specs.Timetables.{Pesp}
 use Rattle.pesp_truth.specs.declared.answer.Answer.{Answer}
 use Rattle.pesp_truth.specs.Certificates.{Content, ShowsAnswer}
 use Rattle.pesp_lines.specs.declared.item.Item.{Item}
-use Rattle.pesp_lines.specs.declared.item.Item.TheVariants.{Period, Answer as Says, Time}
+use Rattle.pesp_lines.specs.declared.item.Item.TheVariants.{Version, Period, Answer as Says, Time}
 use Rattle.pesp_lines.proofs.Tests.{and_left}
 use Rattle.pesp_cert.specs.Texts.{time_item}
 use Rattle.pesp_check.specs.declared.refusal.Refusal.{Refusal}
@@ -33,29 +33,38 @@ next_time c k item rest e h = elim (next_of time_item c.times k (cycles_from c 0
   | inr n ↦ let l = cycles_later c 0 item rest n.1 in absurd cc
 ]
 
+version_front : (c : Content) (n : ℕ) (rest : List Item) (kept : Kept) → FrontTo c (Version n ∷ rest) kept → FrontTo c rest (record kept { line = kept.line + 1 })
+version_front c n rest kept (inl h) = let e = h.2 in inr (inl (omega (arith, h.0), h.1, cc))
+version_front c n rest kept (inr (inl h)) = let e = h.2 in absurd cc
+version_front c n rest kept (inr (inr (inl h))) = let e = h.3 in absurd cc
+version_front c n rest kept (inr (inr (inr h))) = let t = next_time c h.0 (Version n) rest refl h.1.left in let e : Version n ≡ Time t.0.0 t.0.1 = t.1.item_is in absurd cc
+
 period_front : (c : Content) (n : ℕ) (rest : List Item) (kept : Kept) → FrontTo c (Period n ∷ rest) kept → FrontTo c rest (record kept { line = kept.line + 1; period = n })
-period_front c n rest kept (inl h) = let e = h.2 in inr (inl (omega (arith, h.0), h.1, cc, cc))
-period_front c n rest kept (inr (inl h)) = let e = h.3 in absurd cc
-period_front c n rest kept (inr (inr h)) = let t = next_time c h.0 (Period n) rest refl h.1.left in let e : Period n ≡ Time t.0.0 t.0.1 = t.1.item_is in absurd cc
+period_front c n rest kept (inl h) = let e = h.2 in absurd cc
+period_front c n rest kept (inr (inl h)) = let e = h.2 in inr (inr (inl (omega (arith, h.0), h.1, cc, cc)))
+period_front c n rest kept (inr (inr (inl h))) = let e = h.3 in absurd cc
+period_front c n rest kept (inr (inr (inr h))) = let t = next_time c h.0 (Period n) rest refl h.1.left in let e : Period n ≡ Time t.0.0 t.0.1 = t.1.item_is in absurd cc
 
 answer_front : (c : Content) (a : Answer) (rest : List Item) (kept : Kept) → FrontTo c (Says a ∷ rest) kept → FrontTo c rest (record kept { line = kept.line + 1; answer = a })
 answer_front c a rest kept (inl h) = let e = h.2 in absurd cc
-answer_front c a rest kept (inr (inl h)) =
+answer_front c a rest kept (inr (inl h)) = let e = h.2 in absurd cc
+answer_front c a rest kept (inr (inr (inl h))) =
     let e = h.3 in
-    inr (inr (0, record { period = h.2; answer = cc; within = omega arith; times = h.1; line = omega (arith, h.0); left = cc }))
-answer_front c a rest kept (inr (inr h)) = let t = next_time c h.0 (Says a) rest refl h.1.left in let e : Says a ≡ Time t.0.0 t.0.1 = t.1.item_is in absurd cc
+    inr (inr (inr (0, record { period = h.2; answer = cc; within = omega arith; times = h.1; line = omega (arith, h.0); left = cc })))
+answer_front c a rest kept (inr (inr (inr h))) = let t = next_time c h.0 (Says a) rest refl h.1.left in let e : Says a ≡ Time t.0.0 t.0.1 = t.1.item_is in absurd cc
 
 time_front : (c : Content) (label : ℤ) (time : ℕ) (rest : List Item) (kept : Kept) → FrontTo c (Time label time ∷ rest) kept → FrontTo c rest (record kept { line = kept.line + 1; times = kept.times ++ (label, time) ∷ [] })
 time_front c label time rest kept (inl h) = let e = h.2 in absurd cc
-time_front c label time rest kept (inr (inl h)) = let e = h.3 in absurd cc
-time_front c label time rest kept (inr (inr h)) =
+time_front c label time rest kept (inr (inl h)) = let e = h.2 in absurd cc
+time_front c label time rest kept (inr (inr (inl h))) = let e = h.3 in absurd cc
+time_front c label time rest kept (inr (inr (inr h))) =
     let k = h.0 in
     let t = next_time c k (Time label time) rest refl h.1.left in
     let e : Time label time ≡ Time t.0.0 t.0.1 = t.1.item_is in
     let label_is : label ≡ t.0.0 = cc in
     let time_is : time ≡ t.0.1 = cc in
     let same : (label, time) ≡ t.0 = pair label time t.0 label_is time_is in
-    inr (inr (
+    inr (inr (inr (
       k + 1,
       record {
         period = h.1.period;
@@ -65,7 +74,7 @@ time_front c label time rest kept (inr (inr h)) =
         line = omega (arith, h.1.line);
         left = t.1.left;
       },
-    ))
+    )))
   where
     pair : (label : ℤ) (time : ℕ) (t : ℤ × ℕ) → label ≡ t.0 → time ≡ t.1 → (label, time) ≡ t
     pair label time (l, m) a b = rw (a, b) refl
@@ -75,6 +84,9 @@ time_front c label time rest kept (inr (inr h)) =
 module _ (stage : Stage) (p : Pesp) (c : Content) (rest : List Item) (kept : Kept) where
   at_front : (kept' : Kept) → kept'.table ≡ [] → stage ≡ stages.Front → FrontTo c rest kept' → JudgedAt stage p c rest kept'
   at_front kept' none e f = subst (λ (s : Stage). JudgedAt s p c rest kept') (sym e) (none, f)
+
+  pub version_taken : (n : ℕ) → JudgedAt stage p c (Version n ∷ rest) kept → JudgedAt stage p c rest (record kept { line = kept.line + 1 })
+  version_taken n h = let f = front_only stage p c (Version n) rest kept refl h in at_front _ f.1 f.0 (version_front c n rest kept f.2)
 
   pub period_taken : (n : ℕ) → JudgedAt stage p c (Period n ∷ rest) kept → JudgedAt stage p c rest (record kept { line = kept.line + 1; period = n })
   period_taken n h = let f = front_only stage p c (Period n) rest kept refl h in at_front _ f.1 f.0 (period_front c n rest kept f.2)
@@ -96,8 +108,9 @@ record IsDone (c : Content) (rest : List Item) (kept : Kept) : Type 0 where
 
 front_done : (c : Content) (rest : List Item) (kept : Kept) → begins_later rest ≡ true → FrontTo c rest kept → IsDone c rest kept
 front_done c rest kept b (inl h) = let e : begins_later rest ≡ false = ap begins_later h.2 in absurd cc
-front_done c rest kept b (inr (inl h)) = let e : begins_later rest ≡ false = ap begins_later h.3 in absurd cc
-front_done c rest kept b (inr (inr h)) = go rest b h.1
+front_done c rest kept b (inr (inl h)) = let e : begins_later rest ≡ false = ap begins_later h.2 in absurd cc
+front_done c rest kept b (inr (inr (inl h))) = let e : begins_later rest ≡ false = ap begins_later h.3 in absurd cc
+front_done c rest kept b (inr (inr (inr h))) = go rest b h.1
   where
     go : (rest : List Item) → begins_later rest ≡ true → TimesTo c rest kept h.0 → IsDone c rest kept
     go [] b t = absurd cc

@@ -3,7 +3,7 @@ use Rattle.std.proofs.Common.{◌≡◌, ℕ, ◌≤◌, arith, true}
 use Rattle.std.specs.Prelude.{nat_abs, nat_le, ◌&&◌}
 use Rattle.std.proofs.lemmas.Bool.Decides.{nat_tests}
 use Rattle.pesp_lines.specs.declared.item.Item.{Item}
-use Rattle.pesp_lines.specs.declared.item.Item.TheVariants.{Period, Answer as Says, Time, Cycle, Slack, Offset, Bound, Nothing, Gap, End}
+use Rattle.pesp_lines.specs.declared.item.Item.TheVariants.{Version, Period, Answer as Says, Time, Cycle, Slack, Offset, Bound, Nothing, Gap, Propagated, End}
 use Rattle.pesp_lines.specs.declared.progress.Progress.{Progress}
 use Rattle.pesp_lines.specs.Counts.{CanStand, after, keeps_counts}
 use Rattle.pesp_lines.specs.Rows.{is_name}
@@ -24,6 +24,7 @@ few_rows p h =
     le_of p.rows 10000000 (and_right (nat_le p.times 100000 && nat_le p.cycles 100000) (nat_le p.rows 10000000) lines)
 
 pub item_limits : (p : Progress) (item : Item) → CanStand p item → KeepsItemLimits item
+item_limits p (Version n) h = tt
 item_limits p (Period n) h = tt
 item_limits p (Says a) h = tt
 item_limits p (Time label time) h = tt
@@ -33,4 +34,5 @@ item_limits p (Offset cycle k) h = le_of (nat_abs k) 100000000000000 (and_right 
 item_limits p (Bound ps) h = pair_limits ps (and_both (rise_from 0 ps) (all_within ps) (do_rise 0 ps h.proper) h.within)
 item_limits p (Nothing ps) h = pair_limits ps (and_both (rise_from 0 ps) (all_within ps) (do_rise 0 ps h.proper) h.within)
 item_limits p (Gap cycle) h = tt
+item_limits p Propagated h = tt
 item_limits p End h = tt

@@ -170,8 +170,9 @@ no_tree c Q whole none = go c.tree whole none
 
 front_open : (stage : Stage) (p : Pesp) (c : Content) (kept : Kept) (Q : Type 0) → is_before_tree stage ≡ true → are_trees 1 (lines_of c) ≡ true → JudgedAt stage p c (End ∷ []) kept → Q
 front_open stages.Front p c kept Q b whole (none, inl h) = let e = h.2 in absurd cc
-front_open stages.Front p c kept Q b whole (none, inr (inl h)) = let e = h.3 in absurd cc
-front_open stages.Front p c kept Q b whole (none, inr (inr h)) = no_tree c Q whole (times_ended c h.0 h.1.left)
+front_open stages.Front p c kept Q b whole (none, inr (inl h)) = let e = h.2 in absurd cc
+front_open stages.Front p c kept Q b whole (none, inr (inr (inl h))) = let e = h.3 in absurd cc
+front_open stages.Front p c kept Q b whole (none, inr (inr (inr h))) = no_tree c Q whole (times_ended c h.0 h.1.left)
 front_open stages.Cycles p c kept Q b whole h = no_tree c Q whole (cycles_ended c h.0 h.1.left)
 front_open stages.Tree p c kept Q b whole h = absurd cc
 front_open (stages.Refused r) p c kept Q b whole h = absurd cc

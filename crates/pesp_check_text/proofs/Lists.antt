@@ -8,7 +8,7 @@ use Rattle.pesp_truth.specs.declared.tree.TreeLine.{TreeLine}
 use Rattle.pesp_truth.specs.declared.tree.TreeLine.TheVariants as lines
 use Rattle.pesp_truth.specs.Certificates.{Content}
 use Rattle.pesp_lines.specs.declared.item.Item.{Item}
-use Rattle.pesp_lines.specs.declared.item.Item.TheVariants.{Time, Cycle, Slack, Offset, Bound, Nothing, Gap, End}
+use Rattle.pesp_lines.specs.declared.item.Item.TheVariants.{Time, Cycle, Slack, Offset, Bound, Nothing, Gap, Propagated, End}
 use Rattle.pesp_cert.specs.Texts.{time_item, tree_item}
 use Rattle.pesp_check_text.specs.Items.{is_later, is_line}
 use Rattle.pesp_check_text.specs.Judging.{tree_from, cycles_from, times_from}
@@ -40,6 +40,7 @@ line_is_later (lines.Offset cycle k) = refl
 line_is_later (lines.Bound ps) = refl
 line_is_later (lines.Nothing ps) = refl
 line_is_later (lines.Gap cycle) = refl
+line_is_later lines.Propagated = refl
 
 pub line_is_line : (line : TreeLine) → is_line (tree_item line) ≡ true
 line_is_line (lines.Slack row k) = refl
@@ -47,6 +48,7 @@ line_is_line (lines.Offset cycle k) = refl
 line_is_line (lines.Bound ps) = refl
 line_is_line (lines.Nothing ps) = refl
 line_is_line (lines.Gap cycle) = refl
+line_is_line lines.Propagated = refl
 
 abbrev line_in : Item → TreeLine
 line_in (Slack row k) = lines.Slack row k
@@ -54,6 +56,7 @@ line_in (Offset cycle k) = lines.Offset cycle k
 line_in (Bound ps) = lines.Bound ps
 line_in (Nothing ps) = lines.Nothing ps
 line_in (Gap cycle) = lines.Gap cycle
+line_in Propagated = lines.Propagated
 line_in _ = lines.Gap 0
 
 line_back : (line : TreeLine) → line_in (tree_item line) ≡ line
@@ -62,6 +65,7 @@ line_back (lines.Offset cycle k) = refl
 line_back (lines.Bound ps) = refl
 line_back (lines.Nothing ps) = refl
 line_back (lines.Gap cycle) = refl
+line_back lines.Propagated = refl
 
 -- a line has an item of its own
 pub same_line : (a b : TreeLine) → tree_item a ≡ tree_item b → a ≡ b

@@ -8,7 +8,7 @@ use Rattle.pesp_truth.specs.Truth.{IsTrueAnswer}
 use Rattle.pesp_truth.specs.Trees.{are_trees}
 use Rattle.pesp_truth.specs.Certificates.{Content, IsValid, lines_of, shown_times}
 use Rattle.pesp_lines.specs.declared.item.Item.{Item}
-use Rattle.pesp_lines.specs.declared.item.Item.TheVariants.{Period, Answer as Says, Cycle, End}
+use Rattle.pesp_lines.specs.declared.item.Item.TheVariants.{Version, Period, Answer as Says, Cycle, End}
 use Rattle.pesp_cert.specs.declared.refusal.CertRefusal.{CertRefusal}
 use Rattle.pesp_cert.specs.declared.refusal.CertRefusal.TheVariants as refusals
 use Rattle.pesp_cert.specs.Texts.{items_of, time_item, tree_item}
@@ -57,7 +57,7 @@ checked_more p a b c stage stage' kept kept' item h g step = record {
 -- ---- the end
 
 behind_is : (c : Content) → items_of c ≡ behind c
-behind_is c = ap (λ is. Period c.period ∷ Says c.answer ∷ is) (items_shape (map time_item c.times) (map Cycle c.cycles) (map tree_item c.tree) (End ∷ []))
+behind_is c = ap (λ is. Version c.version ∷ Period c.period ∷ Says c.answer ∷ is) (items_shape (map time_item c.times) (map Cycle c.cycles) (map tree_item c.tree) (End ∷ []))
 
 verdict_is : (p : Pesp) (content : Content) (verdict : Verdict) → IsVerdict p content verdict → (verdict ≡ Accepted) ↔ IsValid p content
 verdict_is p content Accepted h = (λ e. h, λ v. refl)

@@ -1,11 +1,12 @@
 -- Items by their place in a text, and their limits.
 use Rattle.std.specs.Prelude.{◌≤◌, List, [], ◌∷◌, length, Bool, true, false, unsigned_abs}
 use Rattle.pesp_lines.specs.declared.item.Item.{Item}
-use Rattle.pesp_lines.specs.declared.item.Item.TheVariants.{Period, Answer as Says, Time, Cycle, Slack, Offset, Bound, Nothing, Gap}
+use Rattle.pesp_lines.specs.declared.item.Item.TheVariants.{Version, Period, Answer as Says, Time, Cycle, Slack, Offset, Bound, Nothing, Gap, Propagated}
 use Rattle.pesp_check.specs.Lines.{ArePairLimits}
 
 -- it comes behind the times
 abbrev pub is_later : Item → Bool
+is_later (Version n) = false
 is_later (Period n) = false
 is_later (Says a) = false
 is_later (Time label time) = false
@@ -18,6 +19,7 @@ is_line (Offset cycle k) = true
 is_line (Bound ps) = true
 is_line (Nothing ps) = true
 is_line (Gap cycle) = true
+is_line Propagated = true
 is_line _ = false
 
 abbrev pub begins_later : List Item → Bool

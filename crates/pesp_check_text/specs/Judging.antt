@@ -9,7 +9,7 @@ use Rattle.pesp_truth.specs.declared.answer.Answer.{Answer}
 use Rattle.pesp_truth.specs.Trees.{are_trees}
 use Rattle.pesp_truth.specs.Certificates.{Content, line_of, least_of, shown_labels, shown_times, ShowsAnswer}
 use Rattle.pesp_lines.specs.declared.item.Item.{Item}
-use Rattle.pesp_lines.specs.declared.item.Item.TheVariants.{Period, Answer as Says, Cycle, End}
+use Rattle.pesp_lines.specs.declared.item.Item.TheVariants.{Version, Period, Answer as Says, Cycle, End}
 use Rattle.pesp_cert.specs.Texts.{time_item, tree_item}
 use Rattle.pesp_check.specs.declared.nets.NetCount.{NetCount}
 use Rattle.pesp_check.specs.declared.refusal.Refusal.{Refusal}
@@ -60,7 +60,7 @@ times_from c k = map time_item (drop k c.times) ++ cycles_from c 0
 
 -- all of them
 abbrev pub behind : Content → List Item
-behind c = Period c.period ∷ Says c.answer ∷ times_from c 0
+behind c = Version c.version ∷ Period c.period ∷ Says c.answer ∷ times_from c 0
 
 -- ---- what they say
 
@@ -78,10 +78,11 @@ pub record TimesTo (c : Content) (rest : List Item) (kept : Kept) (k : ℕ) : Ty
   pub line : kept.line ≡ 3 + k
   pub left : rest ≡ times_from c k
 
--- nothing came, or the period, or the answer and some times
+-- nothing came, or the version, or the period, or the answer and some times
 abbrev pub FrontTo : Content → List Item → Kept → Type 0
 FrontTo c rest kept =
-    ((kept.line ≡ 1) × (kept.times ≡ []) × (rest ≡ behind c))
+    ((kept.line ≡ 0) × (kept.times ≡ []) × (rest ≡ behind c))
+    ⊎ ((kept.line ≡ 1) × (kept.times ≡ []) × (rest ≡ Period c.period ∷ Says c.answer ∷ times_from c 0))
     ⊎ ((kept.line ≡ 2) × (kept.times ≡ []) × (kept.period ≡ c.period) × (rest ≡ Says c.answer ∷ times_from c 0))
     ⊎ ((k : ℕ) × TimesTo c rest kept k)
 

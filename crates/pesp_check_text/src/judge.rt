@@ -93,15 +93,15 @@ fn add_nets(instance: &Instance, table: &mut Vec<Nets>, nets: Nets) -> Result<()
 impl<'a> Judge<'a> {
     ghost use Rattle.pesp_check_text.specs.Views.{kept};
 
-    /// Nothing came so far but the first line.
+    /// Nothing came so far.
     pub fn new(alloc: Global, instance: &'a Instance) -> Judge<'a>
         ensures instance { result.instance.now ≡ instance.now }
-        ensures line { result.line ≡ 1 }
+        ensures line { result.line ≡ 0 }
         ensures judged { (c : Content) → JudgedAt result.stage instance.now c (behind c) (kept result) }
     {
         Judge {
             instance,
-            line: 1,
+            line: 0,
             period: 0,
             answer: Answer::Infeasible,
             times: Vec::new(alloc),
@@ -209,7 +209,12 @@ impl<'a> Judge<'a> {
     }
 
     /// Judges a line of the tree at the first of the nodes that wait.
-    fn judge_line(&mut self, tree_line: &TreeLine, working: &mut [i128]) -> Result<(), AllocError>
+    fn judge_line(
+        &mut self,
+        alloc: Global,
+        tree_line: &TreeLine,
+        working: &mut [i128],
+    ) -> Result<(), AllocError>
         requires stage { self.old.stage ≡ stages.Tree }
         requires limits { KeepsLineLimits tree_line.now }
         requires few { self.old.line < 2 ^ 31 }
@@ -231,6 +236,7 @@ impl<'a> Judge<'a> {
             return Ok(());
         }
         let found = take_line(
+            alloc,
             self.instance,
             &self.table,
             &mut walk,
@@ -268,7 +274,7 @@ impl<'a> Judge<'a> {
         self.end_front(alloc)?;
         self.end_cycles(alloc)?;
         if self.stage == Stage::Tree {
-            return self.judge_line(tree_line, working);
+            return self.judge_line(alloc, tree_line, working);
         }
         self.line += 1;
         Ok(())
@@ -293,6 +299,10 @@ impl<'a> Judge<'a> {
             → JudgedAt self.new.stage self.old.instance.now c rest (kept self.new)) }
     {
         match item {
+            Item::Version(_) => {
+                self.line += 1;
+                Ok(())
+            }
             Item::Period(period) => {
                 self.period = period;
                 self.line += 1;
@@ -320,6 +330,7 @@ impl<'a> Judge<'a> {
                 self.take_line(alloc, &TreeLine::Nothing(pairs_of(alloc, pairs)?), working)
             }
             Item::Gap(cycle) => self.take_line(alloc, &TreeLine::Gap(cycle), working),
+            Item::Propagated => self.take_line(alloc, &TreeLine::Propagated, working),
         }
     }
 

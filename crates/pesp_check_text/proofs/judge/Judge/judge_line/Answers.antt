@@ -3,7 +3,7 @@ use Rattle.pesp_check_text.specs.Views.{kept}
 use Rattle.pesp_check.specs.declared.nets.NetCount.{NetCount}
 use Rattle.pesp_check.specs.Flows.{AreNets}
 use Rattle.pesp_check_text.proofs.Fronts.{of_none}
-use Rattle.pesp_check_text.proofs.Lines.{nets_are, line_found, line_taken, line_refused}
+use Rattle.pesp_check_text.proofs.Lines.{nets_are, never_done, line_found, line_taken, line_refused}
 use Rattle.pesp_check_text.proofs.judge.Judge.judge_line.Goals as goal
 
 pub returns-in-Some-found-clause-judged : goal.returns-in-Some-found-clause-judged
@@ -28,3 +28,9 @@ returns-clause-judged c c' rest whole before =
     let verdict = line_found p c' line rest (kept j) j.stage c.requires.stage before c.in-Some.walk c.take_line.new.walk _ _ c.in_ok-found.found walk c.least_of-least.ensures (c.in_ok-found.ensures.verdict c'.cycles nets) in
     let sound = of_none c.in_ok-found.found _ _ c.in_default-found.not-Some verdict in
     line_taken p c' line rest (kept j) j.stage c.requires.stage before c.take_line.new.walk _ refl sound.0 sound.1
+
+pub returns-then-is_done-clause-judged : goal.returns-then-is_done-clause-judged
+returns-then-is_done-clause-judged c c' rest whole before =
+    let j = c.args.self.now in
+    let walk = sym c.take.ensures.value ∙ c.in-Some.is in
+    absurd (never_done j.instance.now c' c.args.tree_line.now rest (kept j) j.stage c.requires.stage before c.in-Some.walk walk (c.is_done.ensures.0 c.if-is_done.true))

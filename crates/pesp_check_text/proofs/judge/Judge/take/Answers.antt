@@ -4,8 +4,13 @@ use Rattle.pesp_check_text.specs.Views.{kept}
 use Rattle.std.specs.Prelude.{ℤ, ℕ}
 use Rattle.std.proofs.Common.{FitsSigned, w64}
 use Rattle.std.proofs.lemmas.Int.{to_z-of_z}
-use Rattle.pesp_check_text.proofs.Fronts.{period_taken, answer_taken, time_taken}
+use Rattle.pesp_check_text.proofs.Fronts.{version_taken, period_taken, answer_taken, time_taken}
 use Rattle.pesp_check_text.proofs.judge.Judge.take.Goals as goal
+
+pub returns-in-Version-clause-judged : goal.returns-in-Version-clause-judged
+returns-in-Version-clause-judged c c' rest whole before =
+    let j = c.args.self.now in
+    version_taken j.stage j.instance.now c' rest (kept j) c.in-Version.field-0 (rw c.in-Version.is at before)
 
 pub returns-in-Period-clause-judged : goal.returns-in-Period-clause-judged
 returns-in-Period-clause-judged c c' rest whole before =

@@ -4,7 +4,7 @@ ghost use Rattle.std.specs.Prelude.{◌≡◌};
 ghost use Rattle.pesp_machine.specs.Certificates.{IsProblemOf};
 
 use crate::lent::{Lent, number_of};
-use pesp_board::{Board, Work};
+use pesp_board::{Board, Job, Work};
 use pesp_cases::{cut_of, pairs_of, small, whole};
 use pesp_cert::TreeLine;
 use pesp_problem::{Instance, Pairs};
@@ -20,6 +20,7 @@ pub(crate) fn change(
     ensures { board.new.problem ≡ board.old.problem }
 {
     match *words.get(0)? {
+        "lend" if words.len() > 1 => lend_all(alloc, board, lent),
         "lend" => lend(alloc, board, lent),
         "recall" => {
             let number = number_of(lent, words)?;
@@ -57,6 +58,47 @@ fn lend(alloc: Global, board: &mut Board, lent: &mut Vec<Lent>) -> Option<String
         Ok(None) => String::from_str(alloc, "none").ok(),
         Err(refusal) => format!(in alloc; "{refusal:?}").ok(),
     }
+}
+
+/// The numbers and the paths of jobs, which are kept; `none` where there are none.
+fn keep_jobs(alloc: Global, jobs: &[Job], lent: &mut Vec<Lent>) -> Option<String> {
+    let mut told = String::new(alloc);
+    for job in jobs {
+        let kept = Lent::of(alloc, job)?;
+        let behind = if told.is_empty() { "" } else { "; " };
+        let one = format!(in alloc; "{behind}job {} {}", kept.number, kept.path).ok()?;
+        told.push_str(one.as_str()).ok()?;
+        lent.push(kept).ok()?;
+    }
+    if told.is_empty() {
+        told.push_str("none").ok()?;
+    }
+    Some(told)
+}
+
+/// Lends all open leaves, and keeps their numbers and their paths.
+fn lend_all(alloc: Global, board: &mut Board, lent: &mut Vec<Lent>) -> Option<String>
+    ensures { board.new.problem ≡ board.old.problem }
+{
+    match board.lend_all(alloc) {
+        Ok(jobs) => keep_jobs(alloc, &jobs, lent),
+        Err(refusal) => format!(in alloc; "{refusal:?}").ok(),
+    }
+}
+
+/// Another board takes up what is certified so far.
+pub(crate) fn adopt(alloc: Global, instance: &Instance, board: &mut Board) -> Option<String>
+    requires { IsProblemOf instance.now board.old.problem }
+    ensures { IsProblemOf instance.now board.new.problem }
+{
+    let Ok(certificate) = board.certificate(alloc, instance) else {
+        return None;
+    };
+    let Ok(adopted) = Board::adopt(alloc, instance, &certificate) else {
+        return None;
+    };
+    *board = adopted;
+    String::from_str(alloc, "adopted").ok()
 }
 
 /// A line of a tree, as a certificate has it.

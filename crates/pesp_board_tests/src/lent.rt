@@ -8,8 +8,8 @@ use std::alloc::Global;
 /// A job that was lent: its number, and its path in words.
 #[derive(Drop)]
 pub(crate) struct Lent {
-    number: u64,
-    path: String,
+    pub(crate) number: u64,
+    pub(crate) path: String,
 }
 
 impl Lent {

@@ -5,7 +5,7 @@ ghost use Rattle.pesp_machine.specs.Certificates.{IsProblemOf};
 
 use crate::asking::{ask, certified, fault_of};
 use crate::board::{board_of, instance_of};
-use crate::changing::{change, spend};
+use crate::changing::{adopt, change, spend};
 use crate::lent::Lent;
 use pesp_board::Board;
 use pesp_cases::{split_word, words_of};
@@ -74,6 +74,7 @@ fn answer_of(
     let words = words_of(alloc, line)?;
     match *words.get(0)? {
         "certificate" => certified(alloc, instance, board),
+        "adopt" => adopt(alloc, instance, board),
         "spend" => spend(alloc, instance, board, &words),
         "lend" | "recall" | "offer" | "give" => change(alloc, board, lent, &words),
         _ => ask(alloc, board, lent, &words),

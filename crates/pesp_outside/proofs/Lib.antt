@@ -1,0 +1,4 @@
+pub mod Lending
+pub mod Taking
+pub mod Opening
+pub mod Running

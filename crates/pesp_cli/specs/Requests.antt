@@ -5,7 +5,7 @@ use Rattle.pesp_cli.specs.declared.command.Request.TheVariants.{Solve, Check, Re
 
 -- the numbers are within the limits of the runs
 abbrev pub IsWithinLimits : Request → Type 0
-IsWithinLimits (Solve period steps file) = (1 ≤ period) × (period ≤ 10000) × (steps ≤ 100000)
+IsWithinLimits (Solve period steps progress file) = (1 ≤ period) × (period ≤ 10000) × (steps ≤ 100000)
 IsWithinLimits (Check period file) = (1 ≤ period) × (period ≤ 10000)
 IsWithinLimits (Report period file) = (1 ≤ period) × (period ≤ 10000)
 IsWithinLimits (Draw period rows file) = (1 ≤ period) × (period ≤ 10000) × (1 ≤ rows) × (rows ≤ 1000)

@@ -3,7 +3,7 @@
 ghost use Rattle.std.specs.Prelude.{◌≤◌, IfOk};
 ghost use Rattle.pesp_cli.specs.Requests.{IsWithinLimits};
 
-use clap::{Arg, ArgMatches, Command, Error, value_parser};
+use clap::{Arg, ArgAction, ArgMatches, Command, Error, value_parser};
 use std::alloc::{AllocError, Global};
 
 /// What the words of a command line ask for. Periods are in the unit of the instance's durations.
@@ -13,6 +13,8 @@ pub enum Request<'a> {
     Solve {
         period: u32,
         steps: u32,
+        /// Whether it is told on standard error how far the search is.
+        progress: bool,
         file: Option<&'a str>,
     },
     /// A verdict on the certificate on standard input.
@@ -76,6 +78,15 @@ fn steps_option<'a>(alloc: Global) -> Arg<'a> {
         .help("How many leaves of the search are split at most, 0 to 100000")
 }
 
+fn progress_option<'a>(alloc: Global) -> Arg<'a> {
+    Arg::new(alloc, "progress")
+        .long("progress")
+        .action(ArgAction::SetTrue)
+        .help(
+            "Tells on standard error how far the search is: at its beginning, at each doubling of the steps and at each better timetable",
+        )
+}
+
 fn rows_option<'a>(alloc: Global) -> Arg<'a> {
     Arg::new(alloc, "rows")
         .long("rows")
@@ -106,6 +117,7 @@ fn solve_command<'a>(alloc: Global) -> Result<Command<'a>, AllocError> {
         .after_help(INSTANCES)
         .arg(period_option(alloc))?
         .arg(steps_option(alloc))?
+        .arg(progress_option(alloc))?
         .arg(optional_file(alloc))
 }
 
@@ -194,11 +206,13 @@ pub fn request_of<'a>(alloc: Global, words: &'a [String]) -> Result<Request<'a>,
         Some(("solve", found)) => Ok(Request::Solve {
             period: period_of(found),
             steps: steps_of(found),
+            progress: found.get_flag("progress"),
             file: found.get_str("file"),
         }),
         _ => Ok(Request::Solve {
             period: 60,
             steps: 1000,
+            progress: false,
             file: None,
         }),
     }

@@ -6,6 +6,7 @@ mod draw_run;
 mod fault;
 pub mod laws;
 mod program;
+mod progress;
 mod runs;
 mod verdict;
 
@@ -13,5 +14,6 @@ pub use command::{Request, request_of};
 pub use draw_run::run_draw;
 pub use fault::{Fault, status_of};
 pub use program::{exit_of_program, status_of_words};
-pub use runs::{run_check, run_report, run_solve};
+pub use progress::{Milestones, Progress, Teller};
+pub use runs::{run_check, run_report, run_solve, run_solve_watched};
 pub use verdict::status_of_verdict;

@@ -1,14 +1,16 @@
 //! The program, over any runtime.
 
+ghost use Rattle.std.specs.Prelude.{◌<◌, ◌≤◌, ◌^◌};
 ghost use Rattle.pesp_cli.specs.Requests.{IsWithinLimits};
 
 use crate::command::{Request, request_of};
 use crate::draw_run::run_draw;
 use crate::fault::{Fault, status_of};
-use crate::runs::{run_check, run_report, run_solve};
+use crate::progress::Teller;
+use crate::runs::{run_check, run_report, run_solve, run_solve_watched};
 use crate::verdict::status_of_verdict;
 use clap::error::ErrorKind;
-use pesp_stream::Counted;
+use pesp_stream::{Counted, Source};
 use std::fs::File;
 use std::process::ExitCode;
 use std::rt::{Env, Files};
@@ -57,8 +59,33 @@ fn told<R: Eprint>(rt: &R, fault: &Fault) -> u8 {
     status_of(fault)
 }
 
+/// Solves the instance that the reader gives, and tells on the way how far it is where that is asked for.
+fn solve<R: AllocGlobal + Print + Eprint, S: Source>(
+    rt: &R,
+    reader: &mut S,
+    period: u32,
+    steps: u32,
+    progress: bool,
+) -> Result<u8, Fault>
+    requires steps { steps ≤ 100000 }
+    requires failed { S.failed reader.old < 2 ^ 62 }
+    requires interrupted { S.interrupted reader.old < 2 ^ 62 }
+{
+    let mut writer = Counted::new(io::writer(rt));
+    if progress {
+        let mut teller = Teller::new(rt);
+        run_solve_watched(rt.alloc(), reader, &mut writer, period, steps, &mut teller)?;
+    } else {
+        run_solve(rt.alloc(), reader, &mut writer, period, steps)?;
+    }
+    Ok(0)
+}
+
 /// Does what a request within the limits asks for, and gives the exit status.
-fn answer<R: AllocGlobal + Input + Print + Files>(rt: &R, request: Request<'_>) -> Result<u8, Fault>
+fn answer<R: AllocGlobal + Input + Print + Eprint + Files>(
+    rt: &R,
+    request: Request<'_>,
+) -> Result<u8, Fault>
     requires { IsWithinLimits request }
 {
     let mut writer = Counted::new(io::writer(rt));
@@ -67,19 +94,17 @@ fn answer<R: AllocGlobal + Input + Print + Files>(rt: &R, request: Request<'_>) 
         Request::Solve {
             period,
             steps,
+            progress,
             file: None,
-        } => {
-            run_solve(rt.alloc(), &mut reader, &mut writer, period, steps)?;
-            Ok(0)
-        }
+        } => solve(rt, &mut reader, period, steps, progress),
         Request::Solve {
             period,
             steps,
+            progress,
             file: Some(file),
         } => {
             let mut instance = Counted::new(opened(rt, file)?);
-            run_solve(rt.alloc(), &mut instance, &mut writer, period, steps)?;
-            Ok(0)
+            solve(rt, &mut instance, period, steps, progress)
         }
         Request::Check { period, file } => {
             let mut instance = Counted::new(opened(rt, file)?);

@@ -16,7 +16,7 @@ use pesp_check_text::check_text;
 use pesp_instance::read_instance;
 use pesp_problem::Instance;
 use pesp_report::{read_times, report};
-use pesp_search::{SolveRefusal, solve};
+use pesp_search::{Nobody, Observer, SolveRefusal, solve_watched};
 use pesp_stream::{Sink, Source, read_all};
 use pesp_truth::laws::valid_is_true;
 use std::alloc::Global;
@@ -47,8 +47,13 @@ pub fn read_whole_instance<R: Source>(
     Ok(instance)
 }
 
-/// A certificate of what the search finds within so many steps.
-fn solved(alloc: Global, instance: &Instance, steps: u32) -> Result<Certificate, SolveRefusal>
+/// A certificate of what the search finds within so many steps, while an observer looks on.
+fn solved<O: Observer>(
+    alloc: Global,
+    instance: &Instance,
+    steps: u32,
+    observer: &mut O,
+) -> Result<Certificate, SolveRefusal>
     requires { steps ≤ 100000 }
     ensures solved { IfOk result (λ certificate. (used : ℕ) × IsSolved instance.now steps used certificate) }
     ensures is_true { IfOk result (λ certificate. IsTrueAnswer instance.now certificate.answer (shown_times certificate)) }
@@ -56,7 +61,7 @@ fn solved(alloc: Global, instance: &Instance, steps: u32) -> Result<Certificate,
 {
     valid_is_true();
     instance.period();
-    let found = solve(alloc, instance, steps)?;
+    let found = solve_watched(alloc, instance, steps, observer)?;
     Ok(found.certificate)
 }
 
@@ -93,8 +98,37 @@ pub fn run_solve<R: Source, W: Sink>(
     // Before the certificate stands the writer isn't called.
     ensures silent { IfErr result (λ fault. fault ≢ Fault.Write → writer.new ≡ writer.old) }
 {
+    run_solve_watched(alloc, reader, writer, period, steps, &mut Nobody)
+}
+
+/// Runs as `run_solve` does, with the same promises, while an observer looks on.
+pub fn run_solve_watched<R: Source, W: Sink, O: Observer>(
+    alloc: Global,
+    reader: &mut R,
+    writer: &mut W,
+    period: u32,
+    steps: u32,
+    observer: &mut O,
+) -> Result<(), Fault>
+    requires steps { steps ≤ 100000 }
+    requires failed_reads { R.failed reader.old < 2 ^ 62 }
+    requires interrupted_reads { R.interrupted reader.old < 2 ^ 62 }
+    requires failed_writes { W.failed writer.old < 2 ^ 62 }
+    requires interrupted_writes { W.interrupted writer.old < 2 ^ 62 }
+    ensures ok { OnOk result (Solves (R.remaining reader.old) (R.remaining reader.new) period steps
+        (Appends (W.contents writer.old) (W.contents writer.new))) }
+    ensures reads { OnOk result (HasWorked (R.failed reader.old) (R.interrupted reader.old)
+        (R.failed reader.new) (R.interrupted reader.new)) }
+    ensures writes { OnOk result (HasWorked (W.failed writer.old) (W.interrupted writer.old)
+        (W.failed writer.new) (W.interrupted writer.new)) }
+    ensures cause { IfErr result (λ fault. SolveCause fault (R.remaining reader.old) (R.remaining reader.new) period steps
+        (W.contents writer.old) (W.contents writer.new)
+        (DeviceFailed (R.failed reader.old) (R.interrupted reader.old) (R.failed reader.new) (R.interrupted reader.new))
+        (DeviceFailed (W.failed writer.old) (W.interrupted writer.old) (W.failed writer.new) (W.interrupted writer.new))) }
+    ensures silent { IfErr result (λ fault. fault ≢ Fault.Write → writer.new ≡ writer.old) }
+{
     let instance = read_whole_instance(alloc, reader, period)?;
-    let certificate = solved(alloc, &instance, steps)?;
+    let certificate = solved(alloc, &instance, steps, observer)?;
     print(&certificate, writer)?;
     Ok(())
 }

@@ -3,3 +3,6 @@ use Rattle.pesp_network.proofs.network.Network.with_forest.Goals as goal
 
 pub returns-clause-rows : goal.returns-clause-rows
 returns-clause-rows c = search rules
+
+pub returns-clause-events : goal.returns-clause-events
+returns-clause-events c = search rules

@@ -42,6 +42,17 @@ impl Experience {
         }
     }
 
+    // how late an event is chosen that has so many differences left; never, where it has but one
+    fn rank_of(&self, event: u32, count: u32) -> u64 {
+        if count < 2 {
+            return u64::MAX;
+        }
+        match self.failures.get(event as usize).copied() {
+            None | Some(0) => 1_000 * u64::from(count),
+            Some(failed) => 10_000 * u64::from(count) / (10 + 3 * u64::from(failed)),
+        }
+    }
+
     /// The event with the fewest differences left among those with at least two. Past failures make an event come sooner.
     pub fn choose_event(&self, domains: &Domains) -> Option<u32>
         ensures { IfSome result (λ event. event < domains.now.events) }
@@ -49,10 +60,8 @@ impl Experience {
         let mut best = None;
         let mut least = u64::MAX;
         for event in 0..domains.events() {
-            let count = domains.count(event);
-            let failed = self.failures.get(event as usize).copied().unwrap_or(0);
-            let rank = 10_000 * u64::from(count) / (10 + 3 * u64::from(failed));
-            if count > 1 && rank < least {
+            let rank = self.rank_of(event, domains.count(event));
+            if rank < least {
                 least = rank;
                 best = Some(event);
             }

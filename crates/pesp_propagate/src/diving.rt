@@ -20,6 +20,9 @@ const MOST_FAILURES: u32 = 60;
 // by how many sixteenths chance may raise what a difference costs, from the second try on
 const MOST_CHANCE: u32 = 8;
 
+// how many events are fixed until the sets are saved again: where a value is impossible, all since then are fixed anew
+const MOST_UNSAVED: usize = 256;
+
 // the slack range of an arc from 0 to its span
 fn range_of(arc: &Arc) -> (u32, u32) {
     (0, arc.span)
@@ -34,6 +37,55 @@ fn times_of(alloc: Global, domains: &Domains) -> Result<Vec<u32>, Memory> {
     Ok(times)
 }
 
+/// An event that is fixed to a difference.
+#[derive(Clone, Copy, Debug)]
+struct Fixed {
+    event: u32,
+    difference: u32,
+}
+
+// notes what was fixed since the sets were saved, and saves them again after so many
+fn note_fixed(
+    domains: &Domains,
+    saved: &mut Domains,
+    trail: &mut Vec<Fixed>,
+    fixed: Fixed,
+) -> Result<(), Memory>
+    requires saved { HaveSizes domains.now.period domains.now.events saved.old }
+    ensures saved { HaveSizes domains.now.period domains.now.events saved.new }
+{
+    trail.push(fixed)?;
+    if trail.len() >= MOST_UNSAVED {
+        saved.copy_from(domains);
+        trail.clear();
+    }
+    Ok(())
+}
+
+// goes back to the saved sets, and fixes again what was fixed since then
+fn restore(
+    alloc: Global,
+    rows: &Rows,
+    ranges: &[(u32, u32)],
+    domains: &mut Domains,
+    saved: &Domains,
+    trail: &[Fixed],
+) -> Result<(), Memory>
+    requires sizes { HaveSizes rows.now.period rows.now.events domains.old }
+    requires saved { HaveSizes rows.now.period rows.now.events saved.now }
+    requires ranges { length ranges.now ≡ length rows.now.arcs }
+    ensures sizes { HaveSizes rows.now.period rows.now.events domains.new }
+{
+    domains.copy_from(saved);
+    for fixed in trail {
+        if fixed.event < saved.events() {
+            domains.keep_alone(fixed.event, fixed.difference);
+            rows.settle_at(alloc, domains, ranges, fixed.event)?;
+        }
+    }
+    Ok(())
+}
+
 // fixes an event to a value, or takes the value away where some set would be empty; tells whether it is fixed
 fn fix(
     alloc: Global,
@@ -41,23 +93,23 @@ fn fix(
     ranges: &[(u32, u32)],
     domains: &mut Domains,
     saved: &mut Domains,
-    event: u32,
-    difference: u32,
+    trail: &mut Vec<Fixed>,
+    fixed: Fixed,
 ) -> Result<bool, Memory>
     requires sizes { HaveSizes rows.now.period rows.now.events domains.old }
     requires saved { HaveSizes rows.now.period rows.now.events saved.old }
     requires ranges { length ranges.now ≡ length rows.now.arcs }
-    requires event { event < rows.now.events }
+    requires event { fixed.event < rows.now.events }
     ensures sizes { HaveSizes rows.now.period rows.now.events domains.new }
     ensures saved { HaveSizes rows.now.period rows.now.events saved.new }
 {
-    saved.copy_from(domains);
-    domains.keep_alone(event, difference);
-    if rows.settle_at(alloc, domains, ranges, event)? == Outcome::Stable {
+    domains.keep_alone(fixed.event, fixed.difference);
+    if rows.settle_at(alloc, domains, ranges, fixed.event)? == Outcome::Stable {
+        note_fixed(domains, saved, trail, fixed)?;
         return Ok(true);
     }
-    domains.copy_from(saved);
-    domains.remove(event, difference);
+    restore(alloc, rows, ranges, domains, saved, trail)?;
+    domains.remove(fixed.event, fixed.difference);
     Ok(false)
 }
 
@@ -75,13 +127,23 @@ fn descend(
 {
     let mut domains = start.copy(alloc)?;
     let mut saved = start.copy(alloc)?;
+    let mut trail = Vec::new(alloc);
     let mut failed = 0u32;
     'turns: for _ in 0..domains.events().saturating_add(MOST_FAILURES) {
         let Some(event) = experience.choose_event(&domains) else {
             return Ok(Some(times_of(alloc, &domains)?));
         };
-        let value = experience.choose_difference(&domains, rows, event, sixteenths);
-        if fix(alloc, rows, ranges, &mut domains, &mut saved, event, value)? {
+        let difference = experience.choose_difference(&domains, rows, event, sixteenths);
+        let fixed = Fixed { event, difference };
+        if fix(
+            alloc,
+            rows,
+            ranges,
+            &mut domains,
+            &mut saved,
+            &mut trail,
+            fixed,
+        )? {
             continue;
         }
         experience.note_failure(event);
@@ -90,6 +152,8 @@ fn descend(
         if failed > MOST_FAILURES || outcome != Outcome::Stable {
             return Ok(None);
         }
+        saved.copy_from(&domains);
+        trail.clear();
     }
     Ok(None)
 }

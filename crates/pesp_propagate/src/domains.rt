@@ -14,12 +14,13 @@ use std::alloc::Global;
 use std::marker::Model;
 
 /// For each event the set of its possible time differences to the first event of its component, as one row of 64-bit
-/// words.
+/// words, and beside it how many there are.
 #[derive(Debug, Drop)]
 pub struct Domains {
     period: u32,
     events: u32,
     words: Vec<u64>,
+    counts: Vec<u32>,
     beside: Vec<u64>,
     twice: Vec<u64>,
 }
@@ -58,10 +59,34 @@ fn fill_sets(words: &mut [u64], network: &Network)
     }
 }
 
+// how many differences each event has before anything is known
+fn full_counts(alloc: Global, network: &Network) -> Result<Vec<u32>, Memory> {
+    let mut counts = Vec::new(alloc);
+    for event in 0..network.events() {
+        let is_first = network.first_of(event) == event;
+        counts.push(if is_first { 1 } else { network.period() })?;
+    }
+    Ok(counts)
+}
+
+// how many numbers a set has
+fn count_of(set: &[u64]) -> u32 {
+    let mut count = 0u32;
+    for word in set.iter() {
+        count = count.saturating_add(word.count_ones());
+    }
+    count
+}
+
+// takes on other counts
+fn copy_counts(counts: &mut [u32], others: &[u32]) {
+    let shared = counts.len().min(others.len());
+    counts[..shared].copy_from_slice(&others[..shared]);
+}
+
 impl Domains {
-    /// The domains before anything is known: a component's first event has the difference 0 alone, and every other event
-    /// has every difference below the period.
-    pub fn full(alloc: Global, network: &Network) -> Result<Domains, Memory>
+    // the sets before anything is known, with these counts
+    fn full_sets(alloc: Global, network: &Network, counts: Vec<u32>) -> Result<Domains, Memory>
         ensures sizes { IfOk result (HaveSizes network.now.period network.now.events) }
         ensures full { IfOk result (λ d. IsFull (net_of_network network.now) network.now.events (family_of d)) }
     {
@@ -76,9 +101,20 @@ impl Domains {
             period,
             events,
             words,
+            counts,
             beside,
             twice,
         })
+    }
+
+    /// The domains before anything is known: a component's first event has the difference 0 alone, and every other event
+    /// has every difference below the period.
+    pub fn full(alloc: Global, network: &Network) -> Result<Domains, Memory>
+        ensures sizes { IfOk result (HaveSizes network.now.period network.now.events) }
+        ensures full { IfOk result (λ d. IsFull (net_of_network network.now) network.now.events (family_of d)) }
+    {
+        let counts = full_counts(alloc, network)?;
+        Domains::full_sets(alloc, network, counts)
     }
 
     /// Whether a time difference of an event to the first event of its component is still possible; false for an event or
@@ -121,8 +157,46 @@ impl Domains {
         revise::has_none(&self.words[base..base + width])
     }
 
+    // counts the differences of an event anew
+    fn recount(&mut self, event: u32)
+        requires { event < self.old.events }
+        ensures { self.new ≡ self.old }
+    {
+        let width = width_of(self.period);
+        let base = event as usize * width;
+        let count = count_of(&self.words[base..base + width]);
+        if let Some(kept) = self.counts.get_mut(event as usize) {
+            *kept = count;
+        }
+    }
+
+    // counts the differences at the ends of an arc anew, where they changed
+    fn recount_ends(&mut self, arc: &Arc, changed: Changed)
+        requires tail { arc.now.tail < self.old.events }
+        requires head { arc.now.head < self.old.events }
+        ensures { self.new ≡ self.old }
+    {
+        if changed.tail {
+            self.recount(arc.tail);
+        }
+        if changed.head {
+            self.recount(arc.head);
+        }
+    }
+
     /// Takes from the sets at both ends of an arc each difference with no partner.
     pub(crate) fn revise(&mut self, arc: &Arc, range: (u32, u32)) -> Changed
+        requires tail { arc.now.tail < self.old.events }
+        requires head { arc.now.head < self.old.events }
+        ensures { Revised arc.now range self.old self.new result.tail result.head }
+    {
+        let changed = self.narrow_ends(arc, range);
+        self.recount_ends(arc, changed);
+        changed
+    }
+
+    // takes from the sets at both ends of an arc each difference with no partner, and counts none anew
+    fn narrow_ends(&mut self, arc: &Arc, range: (u32, u32)) -> Changed
         requires tail { arc.now.tail < self.old.events }
         requires head { arc.now.head < self.old.events }
         ensures { Revised arc.now range self.old self.new result.tail result.head }
@@ -139,16 +213,8 @@ impl Domains {
     }
 
     /// How many differences of an event are still possible.
-    pub(crate) fn count(&self, event: u32) -> u32
-        requires { event < self.now.events }
-    {
-        let width = width_of(self.period);
-        let base = event as usize * width;
-        let mut count = 0u32;
-        for word in self.words[base..base + width].iter() {
-            count = count.saturating_add(word.count_ones());
-        }
-        count
+    pub(crate) fn count(&self, event: u32) -> u32 {
+        self.counts.get(event as usize).copied().unwrap_or(0)
     }
 
     /// The least difference of an event that is still possible, 0 where there is none.
@@ -181,7 +247,8 @@ impl Domains {
             place,
             1 << (difference % 64),
             0,
-        )
+        );
+        self.recount(event);
     }
 
     /// Takes a difference of an event away.
@@ -199,7 +266,8 @@ impl Domains {
             place,
             !bit,
             u64::MAX,
-        )
+        );
+        self.recount(event);
     }
 
     /// The same sets once more.
@@ -207,12 +275,14 @@ impl Domains {
         ensures { IfOk result (λ d. d ≡ self.now) }
     {
         let words = Vec::from_slice(alloc, &self.words)?;
+        let counts = Vec::from_slice(alloc, &self.counts)?;
         let beside = Vec::from_slice(alloc, &self.beside)?;
         let twice = Vec::from_slice(alloc, &self.twice)?;
         Ok(Domains {
             period: self.period,
             events: self.events,
             words,
+            counts,
             beside,
             twice,
         })
@@ -224,5 +294,6 @@ impl Domains {
         ensures { self.new ≡ other.now }
     {
         self.words.copy_from_slice(&other.words);
+        copy_counts(&mut self.counts, &other.counts);
     }
 }

@@ -10,7 +10,7 @@ ghost use Rattle.pesp_propagate.specs.Rows.{RowsValue, rows_of};
 use crate::chains::{Chains, chain_rows};
 use crate::domains::Domains;
 use crate::outcome::Outcome;
-use crate::settle::settle;
+use crate::settle::{settle, visit_waiting};
 use crate::waiting::Waiting;
 use pesp_network::{NetRow, Network};
 use pesp_problem::{Arc, Memory};
@@ -116,7 +116,7 @@ impl Rows {
         settle(alloc, domains, &self.arcs, ranges, &self.chains, waiting)
     }
 
-    /// The same, where only the set of one event has changed since all rows supported the sets.
+    /// The same, where only the set of one event has changed since all rows supported the sets and none was empty.
     pub fn settle_at(
         &self,
         alloc: Global,
@@ -131,6 +131,12 @@ impl Rows {
     {
         let mut waiting = Waiting::none(alloc, self.arcs.len())?;
         waiting.wake(&self.arcs, &self.chains, event, 0)?;
-        settle(alloc, domains, &self.arcs, ranges, &self.chains, waiting)
+        if domains.has_none(event) {
+            return Ok(Outcome::Empty { event });
+        }
+        match visit_waiting(alloc, domains, &self.arcs, ranges, &self.chains, waiting)? {
+            Some(event) => Ok(Outcome::Empty { event }),
+            None => Ok(Outcome::Stable),
+        }
     }
 }

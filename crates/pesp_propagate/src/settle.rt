@@ -4,6 +4,7 @@ ghost use Rattle.std.specs.Prelude.{◌≡◌, ℕ, ◌+◌, ◌-◌, ◌<◌, �
 ghost use Rattle.pesp_problem.specs.Arcs.{arc_at};
 ghost use Rattle.pesp_propagate.specs.Domains.{family_of, HaveSizes};
 ghost use Rattle.pesp_propagate.specs.Ends.{tail_of, head_of, HaveEnds, AreChains};
+ghost use Rattle.pesp_propagate.specs.declared.outcome.Outcome.{Outcome};
 ghost use Rattle.pesp_propagate.specs.Waiting.{waits_at, Grows, AreListed};
 ghost use Rattle.pesp_propagate.specs.Outcomes.{Shrinks, IsOutcome, LeavesSupported};
 ghost use Rattle.pesp_propagate.specs.Visits.{net_at, sets_at, RestIsSupported, TakesRow, IsVisit, IsPass, IsEmptyAt};
@@ -118,6 +119,35 @@ fn outcome_of(domains: &Domains) -> Outcome
     Outcome::Stable
 }
 
+/// Takes away differences without partners, row after row of those that wait, until no row waits or a visited row leaves a
+/// set empty; gives that set's event.
+pub fn visit_waiting(
+    alloc: Global,
+    domains: &mut Domains,
+    arcs: &[Arc],
+    ranges: &[(u32, u32)],
+    chains: &Chains,
+    mut waiting: Waiting,
+) -> Result<Option<u32>, Memory>
+    requires count { length arcs.now ≤ 100000 }
+    requires ends { HaveEnds domains.old.events arcs.now }
+    requires ranges { length ranges.now ≡ length arcs.now }
+    requires chains { AreChains arcs.now domains.old.events chains.now }
+    requires listed { AreListed (length arcs.now) waiting }
+    ensures sizes { HaveSizes domains.old.period domains.old.events domains.new }
+    ensures shrinks { Shrinks (net_at domains.old.period arcs.now) ranges.now (sets_at domains.old.period domains.old.words) (sets_at domains.old.period domains.new.words) }
+    ensures empty { IfOk result (λ o. IfSome o (λ e. IsEmptyAt domains.old.period domains.old.events domains.new.words e)) }
+    ensures supported { (outcome : Outcome) → RestIsSupported domains.old.period arcs.now ranges.now waiting domains.old.words → result ≡ Ok None → LeavesSupported (net_at domains.old.period arcs.now) ranges.now (sets_at domains.old.period domains.new.words) outcome }
+{
+    'passes: while !waiting.rows.is_empty() {
+        let line = mem::replace(&mut waiting.rows, Vec::new(alloc));
+        if let Some(event) = pass(domains, arcs, ranges, chains, &mut waiting, &line)? {
+            return Ok(Some(event));
+        }
+    }
+    Ok(None)
+}
+
 /// Takes away differences without partners, row after row of those that wait, until no row waits or a set is empty.
 pub fn settle(
     alloc: Global,
@@ -125,7 +155,7 @@ pub fn settle(
     arcs: &[Arc],
     ranges: &[(u32, u32)],
     chains: &Chains,
-    mut waiting: Waiting,
+    waiting: Waiting,
 ) -> Result<Outcome, Memory>
     requires count { length arcs.now ≤ 100000 }
     requires ends { HaveEnds domains.old.events arcs.now }
@@ -137,11 +167,8 @@ pub fn settle(
     ensures outcome { IfOk result (IsOutcome domains.old.events (sets_at domains.old.period domains.new.words)) }
     ensures supported { RestIsSupported domains.old.period arcs.now ranges.now waiting domains.old.words → IfOk result (LeavesSupported (net_at domains.old.period arcs.now) ranges.now (sets_at domains.old.period domains.new.words)) }
 {
-    'passes: while !waiting.rows.is_empty() {
-        let line = mem::replace(&mut waiting.rows, Vec::new(alloc));
-        if let Some(event) = pass(domains, arcs, ranges, chains, &mut waiting, &line)? {
-            return Ok(Outcome::Empty { event });
-        }
+    match visit_waiting(alloc, domains, arcs, ranges, chains, waiting)? {
+        Some(event) => Ok(Outcome::Empty { event }),
+        None => Ok(outcome_of(domains)),
     }
-    Ok(outcome_of(domains))
 }

@@ -4,7 +4,7 @@ use Rattle.pesp_propagate.specs.Domains.{SetRows, family_of}
 use Rattle.pesp_propagate.specs.Full.{IsFull}
 use Rattle.pesp_propagate.proofs.Holding.{whole}
 use Rattle.pesp_propagate.proofs.Filling.{full_is, full_view}
-use Rattle.pesp_propagate.proofs.domains.Domains.full.Goals as goal
+use Rattle.pesp_propagate.proofs.domains.Domains.full_sets.Goals as goal
 
 pub returns-clause-full : goal.returns-clause-full
 returns-clause-full c =

@@ -3,7 +3,7 @@ use Rattle.std.specs.Prelude.{Option}
 use Rattle.pesp_propagate.specs.declared.waiting.Waiting.{Waiting}
 use Rattle.pesp_propagate.specs.Visits.{IsPass}
 use Rattle.pesp_propagate.proofs.Visiting.{settling_none, settling_more, settling_less, shrinks_both, shrinks_at, passed_at, settled, is_zero}
-use Rattle.pesp_propagate.proofs.settle.settle.Goals as goal
+use Rattle.pesp_propagate.proofs.settle.visit_waiting.Goals as goal
 
 pub returns-in_err-event-clause-shrinks : goal.returns-in_err-event-clause-shrinks
 returns-in_err-event-clause-shrinks c =
@@ -28,6 +28,6 @@ passes-preserved c =
     }
 
 pub returns-clause-supported : goal.returns-clause-supported
-returns-clause-supported c =
-    settled c.args.domains.now.period c.args.arcs.now c.args.ranges.now c.args.domains.now.words c.passes.domains.words c.args.waiting c.passes.waiting c.outcome_of.result c.passes.invariant.settling
-    (let z : vec_len c.passes.waiting.rows ≡ 0 = is_zero _ (sym c.is_empty.ensures ∙ c.passes-test.false) in omega (arith, c.passes.waiting.rows.ok.0))
+returns-clause-supported c = λ outcome rest ends.
+    settled c.args.domains.now.period c.args.arcs.now c.args.ranges.now c.args.domains.now.words c.passes.domains.words c.args.waiting c.passes.waiting outcome c.passes.invariant.settling
+    (let z : vec_len c.passes.waiting.rows ≡ 0 = is_zero _ (sym c.is_empty.ensures ∙ c.passes-test.false) in omega (arith, c.passes.waiting.rows.ok.0)) rest

@@ -1,7 +1,7 @@
 use Rattle.std.proofs.Common.{◌+◌, min, sum, vec_len}
 use Rattle.pesp_propagate.specs.Domains.{HaveSizes}
 use Rattle.pesp_propagate.proofs.Visiting.{Settling}
-use Rattle.pesp_propagate.proofs.settle.settle.Given as goal
+use Rattle.pesp_propagate.proofs.settle.visit_waiting.Given as goal
 
 abbrev pub invariant-passes : goal.invariant-passes
 invariant-passes l = record {

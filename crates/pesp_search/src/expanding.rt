@@ -10,6 +10,7 @@ ghost use Rattle.pesp_search.specs.Turning.{leaf_of, IsFoundLine, IsExpanded};
 
 use crate::choosing::Choice;
 use crate::judging::leaf_of_part;
+use pesp_board::is_shut_by_propagation;
 use pesp_bound::{Leaf, best_leaf_from};
 use pesp_nodes::{Node, Problem};
 use pesp_problem::{Cut, Memory, Pair, Side};
@@ -62,11 +63,20 @@ fn leaf_at(
     best_leaf_from(alloc, problem, node, start, ROUNDS)
 }
 
-// the line of the leaf at a node
+// whether a cut makes a slack range smaller: propagation sees no other cut
+fn narrows(cut: &Cut) -> bool {
+    match cut {
+        Cut::Slack { .. } => true,
+        Cut::Offset { .. } => false,
+    }
+}
+
+// the line of the leaf at a part of a cut: where the cut made a slack range smaller, propagation is tried first
 fn found_at(
     alloc: Global,
     problem: &Problem,
     node: &Node,
+    cut: &Cut,
     start: &[Pair],
     part: Option<Part>,
 ) -> Result<TreeLine, Memory>
@@ -74,6 +84,9 @@ fn found_at(
     requires start { ArePairs (length problem.now.table) start.now }
     ensures { IfOk result (IsFoundLine problem.now start.now node.now) }
 {
+    if narrows(cut) && is_shut_by_propagation(alloc, problem, node)? {
+        return Ok(TreeLine::Propagated);
+    }
     let leaf = leaf_at(alloc, problem, node, start, part)?;
     Ok(leaf_line(leaf))
 }
@@ -101,8 +114,8 @@ pub(crate) fn expand(
     low.cut(cut, Side::Low);
     let mut high = node;
     high.cut(cut, Side::High);
-    let first = found_at(alloc, problem, &low, start, low_part)?;
-    let second = found_at(alloc, problem, &high, start, high_part)?;
+    let first = found_at(alloc, problem, &low, &cut, start, low_part)?;
+    let second = found_at(alloc, problem, &high, &cut, start, high_part)?;
     let mut lines = Vec::new(alloc);
     lines.push(cut_line(cut))?;
     lines.push(first)?;

@@ -8,6 +8,7 @@ mod choosing;
 mod expanding;
 mod handing;
 mod judging;
+mod narrowing;
 mod offering;
 mod passing;
 mod planting;

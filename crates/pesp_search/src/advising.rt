@@ -1,5 +1,6 @@
 //! What is proposed for a leaf.
 
+use crate::meeting::{Met, met_at};
 use crate::narrowing::{Narrowing, narrow};
 use pesp_board::{Board, Job};
 use pesp_nodes::Node;
@@ -7,6 +8,9 @@ use pesp_problem::Memory;
 use pesp_reduce::Reduced;
 use pesp_strategy::{Advice, Split, Strategy};
 use std::alloc::Global;
+
+/// How many rows may be left where the root's prices are asked for.
+const MOST_ROWS: usize = 20_000;
 
 // how many jobs are lent before slacks aren't cut any more by choice
 const NARROWED: u64 = 64;
@@ -22,7 +26,7 @@ pub(crate) enum Proposal {
 #[derive(Debug, Drop)]
 pub(crate) struct Advised {
     pub(crate) cut: Option<Proposal>,
-    pub(crate) times: Option<Vec<u32>>,
+    pub(crate) met: Option<Met>,
 }
 
 impl Advised {
@@ -30,7 +34,7 @@ impl Advised {
     fn nothing() -> Advised {
         Advised {
             cut: None,
-            times: None,
+            met: None,
         }
     }
 }
@@ -46,7 +50,26 @@ fn slacks_left(alloc: Global, reduced: &Reduced, node: &Node) -> Result<Vec<(u32
     Ok(left)
 }
 
-// what the strategy proposes for the leaf, at this node: nothing where there is no strategy
+/// A price for each event of what is left, by the relaxation of the root; no prices where there is no strategy, or where so many
+/// rows are left that a look takes long.
+pub(crate) fn root_prices(
+    alloc: Global,
+    strategy: &mut Option<Strategy>,
+    reduced: &Reduced,
+    root: &Node,
+) -> Result<Vec<i64>, Memory> {
+    let Some(strategy) = strategy else {
+        return Ok(Vec::new(alloc));
+    };
+    if reduced.network().rows().len() > MOST_ROWS {
+        return Ok(Vec::new(alloc));
+    }
+    let slacks = slacks_left(alloc, reduced, root)?;
+    strategy.look(alloc, &slacks, root.offsets(), &[], None)?;
+    Ok(Vec::from_slice(alloc, strategy.prices())?)
+}
+
+// what the strategy proposes for the leaf, at this node, after so many splits: nothing where there is no strategy
 fn ask_strategy(
     alloc: Global,
     strategy: &mut Option<Strategy>,
@@ -54,6 +77,7 @@ fn ask_strategy(
     reduced: &Reduced,
     job: &Job,
     node: &Node,
+    used: u32,
 ) -> Result<Advised, Memory> {
     let Some(strategy) = strategy else {
         return Ok(Advised::nothing());
@@ -63,17 +87,19 @@ fn ask_strategy(
     };
     let best = board.best().map(i128::from);
     let slacks = slacks_left(alloc, reduced, node)?;
-    match strategy.look(alloc, &slacks, node.offsets(), pairs, best)? {
-        Some(Advice { cut, times, .. }) => Ok(Advised {
-            cut: cut.map(Proposal::Split),
-            times,
-        }),
-        None => Ok(Advised::nothing()),
-    }
+    let looked = strategy.look(alloc, &slacks, node.offsets(), pairs, best)?;
+    let Some(Advice { cut, times, .. }) = looked else {
+        return Ok(Advised::nothing());
+    };
+    let met = met_at(alloc, reduced.network(), strategy.prices(), times, used)?;
+    Ok(Advised {
+        cut: cut.map(Proposal::Split),
+        met,
+    })
 }
 
-/// What is proposed for the leaf that was just lent, at this node: a cut of slacks, for propagation to shut its parts, as long as
-/// no timetable is known and few leaves were lent; else what the strategy proposes.
+/// What is proposed for the leaf that was just lent, at this node, after so many splits: a cut of slacks, for propagation to shut
+/// its parts, as long as no timetable is known and few leaves were lent; else what the strategy proposes.
 pub(crate) fn ask(
     alloc: Global,
     strategy: &mut Option<Strategy>,
@@ -81,14 +107,15 @@ pub(crate) fn ask(
     reduced: &Reduced,
     job: &Job,
     node: &Node,
+    used: u32,
 ) -> Result<Advised, Memory> {
     if board.best().is_none() && job.number < NARROWED {
         if let Some(cut) = narrow(alloc, board.problem().network(), reduced, node)? {
             return Ok(Advised {
                 cut: Some(Proposal::Narrowing(cut)),
-                times: None,
+                met: None,
             });
         }
     }
-    ask_strategy(alloc, strategy, board, reduced, job, node)
+    ask_strategy(alloc, strategy, board, reduced, job, node, used)
 }

@@ -4,10 +4,12 @@
 
 mod advising;
 mod begun;
+mod chaining;
 mod choosing;
 mod expanding;
 mod handing;
 mod judging;
+mod meeting;
 mod narrowing;
 mod offering;
 mod passing;

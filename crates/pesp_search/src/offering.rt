@@ -5,6 +5,8 @@ ghost use Rattle.pesp_problem.specs.NetTimetables.{IsNetTimetable};
 ghost use Rattle.pesp_network.specs.Networks.{net_of_network};
 ghost use Rattle.pesp_turns.specs.Turns.{IsWorked};
 
+use crate::chaining::chained;
+use crate::meeting::Met;
 use crate::turning::limits;
 use pesp_board::Board;
 use pesp_network::Network;
@@ -18,21 +20,6 @@ use std::alloc::Global;
 // how many tries a dive has on a network of so many rows
 fn tries_for(rows: usize) -> u32 {
     if rows > 20_000 { 1 } else { 100 }
-}
-
-// how many rounds an improvement has on a network of so many rows: a round takes the longer, the more rows there are
-fn rounds_for(rows: usize) -> u32 {
-    let rows = rows.clamp(1, 100_000) as u32;
-    if rows > 20_000 {
-        return 2_000_000 / rows;
-    }
-    (600_000 / rows).clamp(340, 2_500).min(15 * rows + 100)
-}
-
-// how many rounds an improvement of times that were met with has on a network of so many rows
-fn rounds_on_the_way(rows: usize) -> u32 {
-    let rows = rows.clamp(1, 100_000) as u32;
-    (300_000 / rows).clamp(20, 350)
 }
 
 // offers times
@@ -63,20 +50,26 @@ fn improved(
     }
 }
 
-// a timetable of a network that a dive finds and an improvement makes cheaper; None says nothing
-fn found_times(alloc: Global, network: &Network) -> Result<Option<Vec<u32>>, Memory>
+// a timetable of a network that a dive finds and improvements make cheaper; None says nothing
+fn found_times(alloc: Global, network: &Network, prices: &[i64]) -> Result<Option<Vec<u32>>, Memory>
     ensures { IfOk result (λ found. IfSome found (λ times. IsNetTimetable (net_of_network network.now) network.now.events times.items)) }
 {
     let rows = network.rows().len();
     let Some(times) = dive(alloc, network, tries_for(rows))? else {
         return Ok(None);
     };
-    improved(alloc, network, &times, rounds_for(rows))
+    let best = chained(alloc, network, times, prices)?;
+    improved(alloc, network, &best, 0)
 }
 
-/// Offers the times that are 0 for every event, and then times that a dive finds for what is left of the instance and the
-/// modulo network simplex makes cheaper, lifted to the instance.
-pub(crate) fn offer_times(alloc: Global, board: &mut Board, reduced: &Reduced) -> Result<(), Memory>
+/// Offers the times that are 0 for every event, and then times that dives find for what is left of the instance, some near the
+/// prices, and the modulo network simplex makes cheaper, lifted to the instance.
+pub(crate) fn offer_times(
+    alloc: Global,
+    board: &mut Board,
+    reduced: &Reduced,
+    prices: &[i64],
+) -> Result<(), Memory>
     ensures problem { board.new.problem ≡ board.old.problem }
     ensures tree { board.new.state.tree ≡ board.old.state.tree }
     ensures worked { (used : ℕ) → IsWorked board.old.problem used board.old.state → IsWorked board.old.problem used board.new.state }
@@ -84,7 +77,7 @@ pub(crate) fn offer_times(alloc: Global, board: &mut Board, reduced: &Reduced) -
     let events = board.problem().network().events() as usize;
     let zeros = vec![in alloc; 0u32; events]?;
     offer(board, zeros);
-    if let Some(times) = found_times(alloc, reduced.network())? {
+    if let Some(times) = found_times(alloc, reduced.network(), prices)? {
         let lifted = reduced.lift_times(alloc, &times)?;
         offer(board, lifted);
     }
@@ -96,19 +89,17 @@ pub(crate) fn offer_met(
     alloc: Global,
     board: &mut Board,
     reduced: &Reduced,
-    times: Option<Vec<u32>>,
+    met: Option<Met>,
 ) -> Result<(), Memory>
     ensures problem { board.new.problem ≡ board.old.problem }
     ensures tree { board.new.state.tree ≡ board.old.state.tree }
     ensures numbers { length board.new.state.numbers ≡ length board.old.state.numbers }
     ensures worked { (used : ℕ) → IsWorked board.old.problem used board.old.state → IsWorked board.old.problem used board.new.state }
 {
-    let Some(times) = times else {
+    let Some(Met { times, rounds }) = met else {
         return Ok(());
     };
-    let network = reduced.network();
-    let rounds = rounds_on_the_way(network.rows().len());
-    let Some(better) = improved(alloc, network, &times, rounds)? else {
+    let Some(better) = improved(alloc, reduced.network(), &times, rounds)? else {
         return Ok(());
     };
     let lifted = reduced.lift_times(alloc, &better)?;

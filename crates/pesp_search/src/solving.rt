@@ -9,6 +9,7 @@ ghost use Rattle.pesp_search.specs.Solving.{IsSolved, IsSearchRefusal};
 ghost use Rattle.pesp_search.specs.Beginning.{IsKnown, IsBegun};
 ghost use Rattle.pesp_search.specs.Turning.{IsSearchedThrough, AreTurnsRefused};
 
+use crate::advising::root_prices;
 use crate::begun::{Begun, Known, begin};
 use crate::offering::offer_times;
 use crate::refusal::SolveRefusal;
@@ -46,7 +47,8 @@ fn search<O: Observer>(
     ensures refused { IfErr result (AreTurnsRefused board.old.problem steps) }
 {
     look_at_root(alloc, board, &known.root)?;
-    offer_times(alloc, board, &known.reduced)?;
+    let prices = root_prices(alloc, strategy, &known.reduced, &known.root)?;
+    offer_times(alloc, board, &known.reduced, &prices)?;
     run_turns(alloc, board, known, strategy, steps, observer)
 }
 

@@ -130,10 +130,10 @@ pub(crate) fn take_turn(
         return Ok(Turn::Over);
     };
     let node = node_from(alloc, &known.root, &job.path)?;
-    let Advised { cut, times } = ask(alloc, strategy, board, &known.reduced, &job, &node)?;
+    let Advised { cut, met } = ask(alloc, strategy, board, &known.reduced, &job, &node, used)?;
     if let Some(choice) = choose(board.problem(), &node, &known.passed, cut) {
         split_leaf(alloc, board, &job, node, choice, used)?;
-        offer_met(alloc, board, &known.reduced, times)?;
+        offer_met(alloc, board, &known.reduced, met)?;
         return Ok(Turn::Split);
     }
     if let Some(cycle) = gap_at(board.problem(), &node) {

@@ -3,7 +3,7 @@ use Rattle.std.specs.Prelude.{ℕ, List, ◌++◌, codes, decimal, Some, None}
 use Rattle.pesp_truth.specs.declared.answer.Answer.{Answer}
 use Rattle.pesp_truth.specs.declared.answer.Answer.TheVariants.{Optimal, Infeasible, Bounded}
 use Rattle.pesp_check.specs.declared.refusal.Refusal.{Refusal}
-use Rattle.pesp_check.specs.declared.refusal.Refusal.TheVariants.{OtherPeriod, Times, Violates, WrongCost, OpenWalk, NoSuch, LeafBelow, NotEmpty, NotAGap, BoundInInfeasible, AnswerShape}
+use Rattle.pesp_check.specs.declared.refusal.Refusal.TheVariants.{OtherPeriod, Times, Violates, WrongCost, OpenWalk, NoSuch, LeafBelow, NotEmpty, NotAGap, BoundInInfeasible, AnswerShape, NotPropagated}
 use Rattle.pesp_check.specs.declared.refusal.Verdict.{Verdict}
 use Rattle.pesp_check.specs.declared.refusal.Verdict.TheVariants.{Accepted, Refused}
 
@@ -27,6 +27,7 @@ refusal_text (NotEmpty line) = codes "8 NotEmpty line " ++ decimal line
 refusal_text (NotAGap line) = codes "9 NotAGap line " ++ decimal line
 refusal_text (BoundInInfeasible line) = codes "10 BoundInInfeasible line " ++ decimal line
 refusal_text AnswerShape = codes "11 AnswerShape"
+refusal_text (NotPropagated line) = codes "12 NotPropagated line " ++ decimal line
 
 -- `accepted` with the answer, or `refused` with what is wrong
 abbrev pub verdict_text : Answer → Verdict → List ℕ

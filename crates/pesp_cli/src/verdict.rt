@@ -60,6 +60,7 @@ impl fmt::Display for RefusalText {
             Refusal::NotAGap { line } => write!(f, "9 NotAGap line {line}"),
             Refusal::BoundInInfeasible { line } => write!(f, "10 BoundInInfeasible line {line}"),
             Refusal::AnswerShape => f.write_str("11 AnswerShape"),
+            Refusal::NotPropagated { line } => write!(f, "12 NotPropagated line {line}"),
         }
     }
 }

@@ -56,7 +56,7 @@ pub(crate) fn make_certificate(alloc: Global, rest: &str) -> Option<String> {
     let mut cycles = Vec::new(alloc);
     cycles.push(Walk::new(rows)).ok()?;
     let tree = gaps(alloc, rest.parse().ok()?)?;
-    match Certificate::new(10, Answer::Infeasible, times, cycles, tree) {
+    match Certificate::new(1, 10, Answer::Infeasible, times, cycles, tree) {
         Ok(certificate) => spell_parts(alloc, &certificate),
         Err(_) => String::from_str(alloc, "none").ok(),
     }

@@ -36,7 +36,7 @@ pub enum Request<'a> {
 }
 
 /// The program's version, and the versions of certificates that it writes and reads.
-const VERSION: &str = "0.1.0\ncertificates: version 1";
+const VERSION: &str = "0.1.0\ncertificates: versions 1 and 2";
 
 const INSTANCES: &str = "\
 An instance is one activity a line, with six fields between ';', tabs or ',':

@@ -10,8 +10,8 @@ use std::alloc::Global;
 
 // how many exchanges of a row the search for a forest tries: more for more steps, and fewer where many rows make each dear
 fn exchanges_for(rows: usize, cycles: usize, steps: u32) -> u32 {
-    let by_steps = 1000 + 3 * (steps as usize).min(100000);
-    let by_rows = 20_000_000 / rows.max(1);
+    let by_steps = 1000 + 10 * (steps as usize).min(100000);
+    let by_rows = 40_000_000 / rows.max(1);
     cycles
         .min(100000)
         .saturating_mul(20)

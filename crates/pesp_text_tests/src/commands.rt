@@ -14,6 +14,23 @@ fn words_with_name(alloc: Global, line: &str) -> Option<Vec<String>> {
     Some(words)
 }
 
+/// A search that is asked for.
+fn tell_solve(
+    alloc: Global,
+    period: u32,
+    steps: u32,
+    progress: bool,
+    file: Option<&str>,
+) -> Option<String> {
+    let told = if progress { ", with its progress" } else { "" };
+    match file {
+        None => format!(in alloc; "solve at period {period} in {steps} steps{told}").ok(),
+        Some(file) => {
+            format!(in alloc; "solve {file} at period {period} in {steps} steps{told}").ok()
+        }
+    }
+}
+
 /// What a command line asks for, or the kind of its fault and the exit status.
 pub(crate) fn ask_command(alloc: Global, line: &str) -> Option<String> {
     let words = words_with_name(alloc, line)?;
@@ -22,16 +39,10 @@ pub(crate) fn ask_command(alloc: Global, line: &str) -> Option<String> {
             Request::Solve {
                 period,
                 steps,
-                file: None,
+                progress,
+                file,
             },
-        ) => format!(in alloc; "solve at period {period} in {steps} steps").ok(),
-        Ok(
-            Request::Solve {
-                period,
-                steps,
-                file: Some(file),
-            },
-        ) => format!(in alloc; "solve {file} at period {period} in {steps} steps").ok(),
+        ) => tell_solve(alloc, period, steps, progress, file),
         Ok(Request::Check { period, file }) => {
             format!(in alloc; "check {file} at period {period}").ok()
         }

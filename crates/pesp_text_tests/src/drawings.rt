@@ -4,11 +4,27 @@ use crate::drain::drain_of;
 use crate::feed::feed_of;
 use crate::given::{device_of, period_of, text_of};
 use crate::telling::tell_fault;
-use pesp_cli::run_draw;
+use pesp_cli::{Fault, run_draw};
 use std::alloc::Global;
 
-/// What `draw` writes with so many rows.
+/// The bars of what `draw` writes with so many rows.
 pub(crate) fn ask_draw(alloc: Global, lines: &[&str], rows: &str) -> Option<String> {
+    match drawn(alloc, lines, rows)? {
+        (Ok(()), taken) => tell_picture(alloc, str::from_utf8(&taken).ok()?),
+        (Err(fault), taken) => tell_fault(alloc, &fault, &taken),
+    }
+}
+
+/// The words and the dots of what `draw` writes with so many rows.
+pub(crate) fn ask_drawn(alloc: Global, lines: &[&str], rows: &str) -> Option<String> {
+    match drawn(alloc, lines, rows)? {
+        (Ok(()), taken) => tell_words(alloc, str::from_utf8(&taken).ok()?),
+        (Err(fault), taken) => tell_fault(alloc, &fault, &taken),
+    }
+}
+
+/// How `draw` ends with so many rows, and what it has written.
+fn drawn(alloc: Global, lines: &[&str], rows: &str) -> Option<(Result<(), Fault>, Vec<u8>)> {
     let instance = text_of(alloc, lines, "instance")?;
     let input = text_of(alloc, lines, "input")?;
     let mut first = feed_of(&instance, device_of(alloc, lines, "instance")?);
@@ -22,11 +38,23 @@ pub(crate) fn ask_draw(alloc: Global, lines: &[&str], rows: &str) -> Option<Stri
         period_of(lines)?,
         rows.parse().ok()?,
     );
-    let taken = writer.into_inner().taken;
-    match answer {
-        Ok(()) => tell_picture(alloc, str::from_utf8(&taken).ok()?),
-        Err(fault) => tell_fault(alloc, &fault, &taken),
+    Some((answer, writer.into_inner().taken))
+}
+
+/// Each text of a picture, titles too, and where each dot stands from the left, in their order.
+fn tell_words(alloc: Global, picture: &str) -> Option<String> {
+    let mut told = String::from_str(alloc, "0").ok()?;
+    for element in picture.split("<") {
+        if let Some((tag, text)) = element.split_once(">") {
+            if tag.starts_with("circle ") {
+                let place = tag.split("\"").nth(3)?;
+                write!(told, " dot {place},").ok()?;
+            } else if tag != "style" && !text.trim().is_empty() {
+                write!(told, " {text},").ok()?;
+            }
+        }
     }
+    Some(told)
 }
 
 /// The bars of a picture in their order, how many events it has, and whether each element is closed.

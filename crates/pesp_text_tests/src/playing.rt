@@ -2,11 +2,11 @@
 
 use crate::certificates::{ask_certificate, make_certificate};
 use crate::commands::ask_command;
-use crate::drawings::ask_draw;
+use crate::drawings::{ask_draw, ask_drawn};
 use crate::instances::{ask_instance, ask_score};
 use crate::pieces::is_piece;
 use crate::reports::{ask_report, ask_times};
-use crate::runs::{ask_check, ask_run_report, ask_solve, ask_solved};
+use crate::runs::{ask_check, ask_progress, ask_run_report, ask_solve, ask_solved};
 use crate::spellings::{ask_lines, ask_number, ask_words};
 use crate::streams::{ask_bytes, ask_pages};
 use crate::works::ask_works;
@@ -43,9 +43,11 @@ fn answer_of(alloc: Global, lines: &[&str], word: &str, rest: &str) -> Option<St
     match word {
         "solve" => ask_solve(alloc, lines, rest),
         "solved" => ask_solved(alloc, lines, rest),
+        "progress" => ask_progress(alloc, lines, rest),
         "check" => ask_check(alloc, lines, rest),
         "report" => ask_run_report(alloc, lines),
         "draw" => ask_draw(alloc, lines, rest),
+        "drawn" => ask_drawn(alloc, lines, rest),
         "command" => ask_command(alloc, rest),
         "read" => ask_instance(alloc, lines),
         "score" => ask_score(alloc, lines, rest),

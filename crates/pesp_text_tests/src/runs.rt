@@ -5,7 +5,11 @@ use crate::drain::drain_of;
 use crate::feed::feed_of;
 use crate::given::{device_of, period_of, text_of};
 use crate::telling::{tell_fault, tell_written};
-use pesp_cli::{run_check, run_report, run_solve, status_of_verdict};
+use pesp_board::Board;
+use pesp_cli::{
+    Milestones, run_check, run_report, run_solve, run_solve_watched, status_of_verdict,
+};
+use pesp_search::Observer;
 use std::alloc::Global;
 
 /// What `solve` writes in so many steps.
@@ -20,6 +24,41 @@ pub(crate) fn ask_solve(alloc: Global, lines: &[&str], steps: &str) -> Option<St
         Ok(()) => tell_written(alloc, 0, &taken),
         Err(fault) => tell_fault(alloc, &fault, &taken),
     }
+}
+
+/// What is told of a search, each line with a `/` for its end.
+#[derive(Drop)]
+struct Notes {
+    alloc: Global,
+    milestones: Milestones,
+    text: String,
+}
+
+impl Observer for Notes {
+    fn look(&mut self, steps_used: u32, board: &Board) {
+        if let Some(progress) = self.milestones.passed(steps_used, board) {
+            let Ok(line) = format!(in self.alloc; "{progress}/") else {
+                return;
+            };
+            let _ = self.text.push_str(line.as_str());
+        }
+    }
+}
+
+/// What is told while `solve` takes so many steps.
+pub(crate) fn ask_progress(alloc: Global, lines: &[&str], steps: &str) -> Option<String> {
+    let instance = text_of(alloc, lines, "instance")?;
+    let steps = steps.parse::<u32>().ok()?.min(100_000);
+    let period = period_of(lines)?;
+    let mut reader = feed_of(&instance, Device::whole());
+    let mut writer = drain_of(alloc, Device::whole());
+    let mut notes = Notes {
+        alloc,
+        milestones: Milestones::new(),
+        text: String::new(alloc),
+    };
+    run_solve_watched(alloc, &mut reader, &mut writer, period, steps, &mut notes).ok()?;
+    Some(notes.text)
 }
 
 /// The certificate that `solve` writes in so many steps.

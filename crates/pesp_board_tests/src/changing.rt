@@ -108,6 +108,7 @@ fn tree_line_of(alloc: Global, words: &[&str]) -> Option<TreeLine> {
         "b" => Some(TreeLine::Bound(Pairs::new(pairs_of(alloc, rest)?))),
         "n" => Some(TreeLine::Nothing(Pairs::new(pairs_of(alloc, rest)?))),
         "g" => Some(TreeLine::Gap(small(rest, 0)?)),
+        "p" => Some(TreeLine::Propagated),
         "o" => Some(TreeLine::Offset {
             cycle: small(rest, 0)?,
             k: whole(rest, 1)?,
@@ -141,6 +142,7 @@ fn work_of(alloc: Global, words: &[&str]) -> Option<Work> {
         "b" => Some(Work::Leaf(Pairs::new(pairs_of(alloc, rest)?))),
         "n" => Some(Work::Nothing(Pairs::new(pairs_of(alloc, rest)?))),
         "g" => Some(Work::Gap(small(rest, 0)?)),
+        "p" => Some(Work::Propagated),
         _ => Some(Work::Split(cut_of(words)?)),
     }
 }

@@ -14,8 +14,9 @@ use Rattle.pesp_report.specs.declared.refusal.TimesRefusal.{TimesRefusal}
 use Rattle.pesp_report.specs.declared.refusal.TimesRefusal.TheVariants.{BadLine, WrongCount, Memory as TimesMemory}
 use Rattle.pesp_report.specs.declared.refusal.ReportRefusal.{ReportRefusal}
 use Rattle.pesp_report.specs.declared.refusal.ReportRefusal.TheVariants.{Violates, NotTimes, Memory as ReportMemory, Write as ReportWrite}
+use Rattle.pesp_cli.specs.Verdicts.{refusal_text}
 use Rattle.pesp_cli.specs.declared.fault.Fault.{Fault}
-use Rattle.pesp_cli.specs.declared.fault.Fault.TheVariants.{Instance, Certificate, Times, Search, Report, Memory, Read, Write, NoFile}
+use Rattle.pesp_cli.specs.declared.fault.Fault.TheVariants.{Instance, Certificate, Times, Search, Report, Base, Works, Memory, Read, Write, NoFile}
 
 -- a refusal of memory is told as such
 abbrev pub instance_fault : ReadRefusal → Fault
@@ -26,6 +27,10 @@ abbrev pub check_fault : CheckFault → Fault
 check_fault (Text refusal) = Certificate refusal
 check_fault CheckRead = Read
 check_fault CheckMemory = Memory
+
+abbrev pub certificate_fault : CertRefusal → Fault
+certificate_fault CertMemory = Memory
+certificate_fault refusal = Certificate refusal
 
 abbrev pub times_fault : TimesRefusal → Fault
 times_fault TimesMemory = Memory
@@ -101,18 +106,22 @@ fault_line (Certificate refusal) = codes "certificate: " ++ certificate_line ref
 fault_line (Times refusal) = codes "times: " ++ times_line refusal
 fault_line (Search refusal) = codes "search: " ++ search_line refusal
 fault_line (Report refusal) = codes "report: " ++ report_line refusal
+fault_line (Base refusal) = codes "base: " ++ refusal_text refusal
+fault_line (Works refusal) = codes "works: " ++ certificate_line refusal
 fault_line Memory = codes "memory"
 fault_line Read = codes "device: read"
 fault_line Write = codes "device: write"
 fault_line NoFile = codes "device: no file"
 
--- 1 for times that violate a row, 3 for a text that is refused, 4 for memory, devices and a search that passes its limits
+-- 1 for times that violate a row and a certificate that is not valid, 3 for a text that is refused, 4 for memory, devices and a search that passes its limits
 abbrev pub exit_status : Fault → ℕ
 exit_status (Instance refusal) = 3
 exit_status (Certificate refusal) = 3
 exit_status (Times refusal) = 3
 exit_status (Search refusal) = 4
 exit_status (Report refusal) = 1
+exit_status (Base refusal) = 1
+exit_status (Works refusal) = 3
 exit_status Memory = 4
 exit_status Read = 4
 exit_status Write = 4

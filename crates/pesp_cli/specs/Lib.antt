@@ -1,4 +1,5 @@
 pub mod Runs
 pub mod Verdicts
+pub mod Outside
 pub mod FaultLines
 pub mod Requests

@@ -26,7 +26,7 @@ use Rattle.pesp_report.specs.declared.refusal.ReportRefusal.{ReportRefusal}
 use Rattle.pesp_report.specs.declared.refusal.ReportRefusal.TheVariants.{Violates, NotTimes, Memory as ReportMemory, Write as ReportWrite}
 use Rattle.pesp_cli.specs.Verdicts.{verdict_line}
 use Rattle.pesp_cli.specs.declared.fault.Fault.{Fault}
-use Rattle.pesp_cli.specs.declared.fault.Fault.TheVariants.{Instance, Certificate, Times, Search, Report, Memory, Read, Write, NoFile}
+use Rattle.pesp_cli.specs.declared.fault.Fault.TheVariants.{Instance, Certificate, Times, Search, Report, Base, Works, Memory, Read, Write, NoFile}
 
 -- no call of a reader or a writer failed, and no more than 1000 were interrupted
 abbrev pub HasWorked : ℕ → ℕ → ℕ → ℕ → Type 0
@@ -60,6 +60,8 @@ InstanceCause (Certificate refusal) told left period failed = ⊥
 InstanceCause (Times refusal) told left period failed = ⊥
 InstanceCause (Search refusal) told left period failed = ⊥
 InstanceCause (Report refusal) told left period failed = ⊥
+InstanceCause (Base refusal) told left period failed = ⊥
+InstanceCause (Works refusal) told left period failed = ⊥
 InstanceCause Memory told left period failed = Unit {0}
 InstanceCause Read told left period failed = failed
 InstanceCause Write told left period failed = ⊥
@@ -100,6 +102,8 @@ SolveCause (Certificate refusal) told left period steps old new read_failed writ
 SolveCause (Times refusal) told left period steps old new read_failed write_failed = ⊥
 SolveCause (Search refusal) told left period steps old new read_failed write_failed = RefusesSearch told left period steps refusal
 SolveCause (Report refusal) told left period steps old new read_failed write_failed = ⊥
+SolveCause (Base refusal) told left period steps old new read_failed write_failed = ⊥
+SolveCause (Works refusal) told left period steps old new read_failed write_failed = ⊥
 SolveCause Memory told left period steps old new read_failed write_failed = Unit {0}
 SolveCause Read told left period steps old new read_failed write_failed = read_failed
 SolveCause Write told left period steps old new read_failed write_failed = write_failed × Solves told left period steps (AppendsFront old new)
@@ -133,6 +137,8 @@ CheckCause (Certificate refusal) told left told_certificate left_certificate per
 CheckCause (Times refusal) told left told_certificate left_certificate period old new first_failed uncalled second_failed write_failed = ⊥
 CheckCause (Search refusal) told left told_certificate left_certificate period old new first_failed uncalled second_failed write_failed = ⊥
 CheckCause (Report refusal) told left told_certificate left_certificate period old new first_failed uncalled second_failed write_failed = ⊥
+CheckCause (Base refusal) told left told_certificate left_certificate period old new first_failed uncalled second_failed write_failed = ⊥
+CheckCause (Works refusal) told left told_certificate left_certificate period old new first_failed uncalled second_failed write_failed = ⊥
 CheckCause Memory told left told_certificate left_certificate period old new first_failed uncalled second_failed write_failed = Unit {0}
 CheckCause Read told left told_certificate left_certificate period old new first_failed uncalled second_failed write_failed = FailsInTurn told left period first_failed uncalled second_failed
 CheckCause Write told left told_certificate left_certificate period old new first_failed uncalled second_failed write_failed =
@@ -186,6 +192,8 @@ TimetableCause (Certificate refusal) told left told_times left_times period firs
 TimetableCause (Times refusal) told left told_times left_times period first_failed uncalled second_failed write_failed = RefusesTimes told left told_times left_times period refusal
 TimetableCause (Search refusal) told left told_times left_times period first_failed uncalled second_failed write_failed = ⊥
 TimetableCause (Report refusal) told left told_times left_times period first_failed uncalled second_failed write_failed = ReportRefused refusal told left told_times left_times period
+TimetableCause (Base refusal) told left told_times left_times period first_failed uncalled second_failed write_failed = ⊥
+TimetableCause (Works refusal) told left told_times left_times period first_failed uncalled second_failed write_failed = ⊥
 TimetableCause Memory told left told_times left_times period first_failed uncalled second_failed write_failed = Unit {0}
 TimetableCause Read told left told_times left_times period first_failed uncalled second_failed write_failed = FailsInTurn told left period first_failed uncalled second_failed
 TimetableCause Write told left told_times left_times period first_failed uncalled second_failed write_failed = write_failed

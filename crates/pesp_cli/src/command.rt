@@ -33,6 +33,17 @@ pub enum Request<'a> {
         rows: u32,
         file: &'a str,
     },
+    /// The open leaves of the certificate on standard input, as jobs.
+    Split {
+        period: u32,
+        file: &'a str,
+    },
+    /// The works on standard input, grafted onto the certificate in a file.
+    Graft {
+        period: u32,
+        file: &'a str,
+        base: &'a str,
+    },
 }
 
 /// The program's version, and the versions of certificates that it writes and reads.
@@ -59,6 +70,18 @@ or with a pipe
 Exit status: 0 the answer is written, or the certificate is accepted; 1 the
 certificate is refused, or the times violate a row; 2 the command line; 3 a text
 is refused; 4 memory, a device, or a limit of the search";
+
+const OUTSIDE: &str = "\
+A whole round, for an instance in trains.csv with the period 60:
+  pesp solve --steps 100 trains.csv > base
+  pesp split trains.csv < base > jobs
+  (any solver works on the jobs, and writes a work for each that it has done)
+  cat work.* | pesp graft trains.csv base > better
+  pesp check trains.csv < better
+Nobody has to trust the solvers: what isn't valid is refused, and changes nothing.
+
+Exit status: 0 the answer is written; 1 the certificate isn't valid; 2 the command
+line; 3 a text is refused; 4 memory or a device";
 
 fn period_option<'a>(alloc: Global) -> Arg<'a> {
     Arg::new(alloc, "period")
@@ -105,6 +128,13 @@ fn file_argument<'a>(alloc: Global) -> Arg<'a> {
         .help("The file with the instance")
 }
 
+fn base_argument<'a>(alloc: Global) -> Arg<'a> {
+    Arg::new(alloc, "base")
+        .value_name("BASE")
+        .required(true)
+        .help("The file with the certificate onto which works are grafted")
+}
+
 fn optional_file<'a>(alloc: Global) -> Arg<'a> {
     Arg::new(alloc, "file").value_name("FILE").help(
         "The file with the instance; standard input where none is named",
@@ -134,6 +164,36 @@ fn file_command<'a>(
         .arg(file_argument(alloc))
 }
 
+/// A command for work from outside, with the instance's file.
+fn outside_command<'a>(
+    alloc: Global,
+    name: &'a str,
+    about: &'a str,
+) -> Result<Command<'a>, AllocError> {
+    Command::new(alloc, name)
+        .about(about)
+        .after_help(OUTSIDE)
+        .arg(period_option(alloc))?
+        .arg(file_argument(alloc))
+}
+
+fn split_command<'a>(alloc: Global) -> Result<Command<'a>, AllocError> {
+    outside_command(
+        alloc,
+        "split",
+        "Reads a certificate from standard input and lists its open leaves as jobs",
+    )
+}
+
+fn graft_command<'a>(alloc: Global) -> Result<Command<'a>, AllocError> {
+    outside_command(
+        alloc,
+        "graft",
+        "Reads works from standard input and grafts them onto the certificate in BASE",
+    )?
+    .arg(base_argument(alloc))
+}
+
 fn pesp<'a>(alloc: Global) -> Result<Command<'a>, AllocError> {
     let check = file_command(
         alloc,
@@ -158,7 +218,9 @@ fn pesp<'a>(alloc: Global) -> Result<Command<'a>, AllocError> {
         .subcommand(solve_command(alloc)?)?
         .subcommand(check)?
         .subcommand(report)?
-        .subcommand(draw.arg(rows_option(alloc))?)
+        .subcommand(draw.arg(rows_option(alloc))?)?
+        .subcommand(split_command(alloc)?)?
+        .subcommand(graft_command(alloc)?)
 }
 
 fn period_of(matches: &ArgMatches<'_>) -> u32
@@ -184,6 +246,17 @@ fn rows_of(matches: &ArgMatches<'_>) -> u32
     matches.get_one::<u32>("rows").unwrap_or(100).clamp(1, 1000)
 }
 
+/// What the words behind `graft` ask for.
+fn graft_of<'a>(matches: &ArgMatches<'a>) -> Request<'a>
+    ensures { IsWithinLimits result }
+{
+    Request::Graft {
+        period: period_of(matches),
+        file: matches.get_str("file").unwrap_or(""),
+        base: matches.get_str("base").unwrap_or(""),
+    }
+}
+
 /// What the words ask for, the program's name first; or clap's error, with the text that it prints.
 pub fn request_of<'a>(alloc: Global, words: &'a [String]) -> Result<Request<'a>, Error>
     ensures { IfOk result IsWithinLimits }
@@ -203,6 +276,11 @@ pub fn request_of<'a>(alloc: Global, words: &'a [String]) -> Result<Request<'a>,
             rows: rows_of(found),
             file: found.get_str("file").unwrap_or(""),
         }),
+        Some(("split", found)) => Ok(Request::Split {
+            period: period_of(found),
+            file: found.get_str("file").unwrap_or(""),
+        }),
+        Some(("graft", found)) => Ok(graft_of(found)),
         Some(("solve", found)) => Ok(Request::Solve {
             period: period_of(found),
             steps: steps_of(found),

@@ -3,7 +3,9 @@
 ghost use Rattle.std.specs.Prelude.{◌≡◌};
 ghost use Rattle.pesp_cli.specs.FaultLines.{exit_status};
 
+use crate::verdict::RefusalText;
 use pesp_cert::CertRefusal;
+use pesp_check::Refusal;
 use pesp_check_text::CheckFault;
 use pesp_instance::ReadRefusal;
 use pesp_problem::Memory as NoMemory;
@@ -27,6 +29,10 @@ pub enum Fault {
     Search(SolveRefusal),
     /// There is no report of the times.
     Report(ReportRefusal),
+    /// The certificate to which work from outside belongs isn't valid for the instance.
+    Base(Refusal),
+    /// The text of works is refused.
+    Works(CertRefusal),
     /// A growth of memory was refused.
     Memory,
     /// A reader failed, or was interrupted more than 1000 times.
@@ -62,6 +68,20 @@ impl From<CheckFault> for Fault {
             CheckFault::Text(refusal) => Fault::Certificate(refusal),
             CheckFault::Read => Fault::Read,
             CheckFault::Memory => Fault::Memory,
+        }
+    }
+}
+
+impl From<CertRefusal> for Fault {
+    ghost use Rattle.std.specs.Prelude.{◌≡◌};
+    ghost use Rattle.pesp_cli.specs.FaultLines.{certificate_fault};
+
+    ghost from_gives = { λ refusal fault. fault ≡ certificate_fault refusal };
+
+    fn from(refusal: CertRefusal) -> Fault {
+        match refusal {
+            CertRefusal::Memory => Fault::Memory,
+            _ => Fault::Certificate(refusal),
         }
     }
 }
@@ -295,6 +315,14 @@ impl fmt::Display for Fault {
                 let line = ReportLine(refusal);
                 write!(f, "report: {line}")
             }
+            Fault::Base(refusal) => {
+                let line = RefusalText(*refusal);
+                write!(f, "base: {line}")
+            }
+            Fault::Works(refusal) => {
+                let line = CertificateLine(refusal);
+                write!(f, "works: {line}")
+            }
             Fault::Memory => f.write_str("memory"),
             Fault::Read => f.write_str("device: read"),
             Fault::Write => f.write_str("device: write"),
@@ -303,14 +331,14 @@ impl fmt::Display for Fault {
     }
 }
 
-/// The exit status of the program for a fault: 1 for times that violate a row, 3 for a text that is refused, 4 for memory,
-/// devices and a search that passes its limits.
+/// The exit status of the program for a fault: 1 for times that violate a row and for a certificate that isn't valid, 3 for a
+/// text that is refused, 4 for memory, devices and a search that passes its limits.
 pub fn status_of(fault: &Fault) -> u8
     ensures { result ≡ exit_status fault.now }
 {
     match fault {
-        Fault::Report(_) => 1,
-        Fault::Instance(_) | Fault::Certificate(_) | Fault::Times(_) => 3,
+        Fault::Report(_) | Fault::Base(_) => 1,
+        Fault::Instance(_) | Fault::Certificate(_) | Fault::Times(_) | Fault::Works(_) => 3,
         Fault::Search(_) | Fault::Memory | Fault::Read | Fault::Write | Fault::NoFile => 4,
     }
 }

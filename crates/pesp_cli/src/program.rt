@@ -6,8 +6,10 @@ ghost use Rattle.pesp_cli.specs.Requests.{IsWithinLimits};
 use crate::command::{Request, request_of};
 use crate::draw_run::run_draw;
 use crate::fault::{Fault, status_of};
+use crate::outside_runs::{run_graft, run_split};
 use crate::progress::Teller;
 use crate::runs::{run_check, run_report, run_solve, run_solve_watched};
+use crate::telling::Telling;
 use crate::verdict::status_of_verdict;
 use clap::error::ErrorKind;
 use pesp_stream::{Counted, Source};
@@ -81,6 +83,50 @@ fn solve<R: AllocGlobal + Print + Eprint, S: Source>(
     Ok(0)
 }
 
+/// Draws the times that the reader gives.
+fn draw<R: AllocGlobal + Print + Files, S: Source>(
+    rt: &R,
+    reader: &mut S,
+    period: u32,
+    rows: u32,
+    file: &str,
+) -> Result<u8, Fault>
+    requires failed { S.failed reader.old < 2 ^ 62 }
+    requires interrupted { S.interrupted reader.old < 2 ^ 62 }
+{
+    let mut instance = Counted::new(opened(rt, file)?);
+    let mut writer = Counted::new(io::writer(rt));
+    run_draw(rt.alloc(), &mut instance, reader, &mut writer, period, rows)?;
+    Ok(0)
+}
+
+/// Grafts the works that the reader gives onto the certificate in a file, and tells on standard error what became of each.
+fn graft<R: AllocGlobal + Print + Eprint + Files, S: Source>(
+    rt: &R,
+    reader: &mut S,
+    period: u32,
+    file: &str,
+    base: &str,
+) -> Result<u8, Fault>
+    requires failed { S.failed reader.old < 2 ^ 62 }
+    requires interrupted { S.interrupted reader.old < 2 ^ 62 }
+{
+    let mut instance = Counted::new(opened(rt, file)?);
+    let mut base = Counted::new(opened(rt, base)?);
+    let mut writer = Counted::new(io::writer(rt));
+    let mut teller = Counted::new(Telling { to: rt });
+    run_graft(
+        rt.alloc(),
+        &mut instance,
+        &mut base,
+        reader,
+        &mut writer,
+        &mut teller,
+        period,
+    )?;
+    Ok(0)
+}
+
 /// Does what a request within the limits asks for, and gives the exit status.
 fn answer<R: AllocGlobal + Input + Print + Eprint + Files>(
     rt: &R,
@@ -95,17 +141,14 @@ fn answer<R: AllocGlobal + Input + Print + Eprint + Files>(
             period,
             steps,
             progress,
-            file: None,
-        } => solve(rt, &mut reader, period, steps, progress),
-        Request::Solve {
-            period,
-            steps,
-            progress,
-            file: Some(file),
-        } => {
-            let mut instance = Counted::new(opened(rt, file)?);
-            solve(rt, &mut instance, period, steps, progress)
-        }
+            file,
+        } => match file {
+            None => solve(rt, &mut reader, period, steps, progress),
+            Some(file) => {
+                let mut instance = Counted::new(opened(rt, file)?);
+                solve(rt, &mut instance, period, steps, progress)
+            }
+        },
         Request::Check { period, file } => {
             let mut instance = Counted::new(opened(rt, file)?);
             let verdict = run_check(rt.alloc(), &mut instance, &mut reader, &mut writer, period)?;
@@ -116,18 +159,13 @@ fn answer<R: AllocGlobal + Input + Print + Eprint + Files>(
             run_report(rt.alloc(), &mut instance, &mut reader, &mut writer, period)?;
             Ok(0)
         }
-        Request::Draw { period, rows, file } => {
+        Request::Draw { period, rows, file } => draw(rt, &mut reader, period, rows, file),
+        Request::Split { period, file } => {
             let mut instance = Counted::new(opened(rt, file)?);
-            run_draw(
-                rt.alloc(),
-                &mut instance,
-                &mut reader,
-                &mut writer,
-                period,
-                rows,
-            )?;
+            run_split(rt.alloc(), &mut instance, &mut reader, &mut writer, period)?;
             Ok(0)
         }
+        Request::Graft { period, file, base } => graft(rt, &mut reader, period, file, base),
     }
 }
 

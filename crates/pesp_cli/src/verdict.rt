@@ -39,7 +39,7 @@ impl fmt::Display for AnswerText {
 
 /// A refusal's number, name and place.
 #[derive(Drop)]
-struct RefusalText(Refusal);
+pub(crate) struct RefusalText(pub(crate) Refusal);
 
 impl fmt::Display for RefusalText {
     ghost use Rattle.std.specs.Prelude.{Some};

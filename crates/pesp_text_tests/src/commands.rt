@@ -52,6 +52,12 @@ pub(crate) fn ask_command(alloc: Global, line: &str) -> Option<String> {
         Ok(Request::Draw { period, rows, file }) => {
             format!(in alloc; "draw {file} at period {period} in {rows} rows").ok()
         }
+        Ok(Request::Split { period, file }) => {
+            format!(in alloc; "split {file} at period {period}").ok()
+        }
+        Ok(Request::Graft { period, file, base }) => {
+            format!(in alloc; "graft {file} onto {base} at period {period}").ok()
+        }
         Err(error) => {
             let kind = error.kind();
             let status = error.exit_code();

@@ -1,0 +1,12 @@
+use Rattle.pesp_cli.proofs.outside_runs.run_split.Goals as goal
+
+pub returns-clause-ok : goal.returns-clause-ok
+returns-clause-ok g c = record {
+  instance = c.in_ok-instance.instance;
+  read = c.in_ok-instance.ensures.ok;
+  base = c.in_ok-base.base;
+  read_base = c.in_ok-base.ensures.ok;
+  jobs = c.deref.result.now;
+  are_open = rw c.deref.ensures.value c.in_ok-jobs.ensures;
+  written = c.in_ok-print_to.ensures.text;
+}

@@ -1,0 +1,134 @@
+//! The runs for work from outside.
+
+ghost use Rattle.std.specs.Prelude.{◌≡◌, ◌≢◌, ◌<◌, ◌≤◌, ◌^◌, OnOk, IfOk, IfErr};
+ghost use Rattle.std.specs.Io.KnownBytes.{Appends};
+ghost use Rattle.pesp_cli.specs.Runs.{HasWorked};
+ghost use Rattle.pesp_cli.specs.Outside.{ReadsBase, ReadsWorks, Splits, GraftsWorks};
+
+use crate::fault::Fault;
+use crate::runs::{MOST_TIMES, read_whole_instance};
+use pesp_cert::{CertRefusal, Certificate, parse, print};
+use pesp_check::{Verdict, check};
+use pesp_outside::{JobsText, RepliesText, graft, open_jobs};
+use pesp_problem::Instance;
+use pesp_stream::{Sink, Source, print_to, read_all};
+use pesp_works::{WorkText, parse_works};
+use std::alloc::Global;
+
+/// Reads a certificate, which has to be valid for the instance.
+fn read_base<R: Source>(
+    alloc: Global,
+    instance: &Instance,
+    reader: &mut R,
+) -> Result<Certificate, Fault>
+    requires failed { R.failed reader.old < 2 ^ 63 }
+    requires interrupted { R.interrupted reader.old < 2 ^ 63 }
+    ensures ok { IfOk result (ReadsBase (R.remaining reader.old) (R.remaining reader.new) instance.now) }
+    ensures counts { OnOk result (HasWorked (R.failed reader.old) (R.interrupted reader.old)
+        (R.failed reader.new) (R.interrupted reader.new)) }
+{
+    let text = read_all(alloc, reader, MOST_TIMES)?;
+    let base = parse(alloc, &text)?;
+    match check(alloc, instance, &base)? {
+        Verdict::Accepted => Ok(base),
+        Verdict::Refused(refusal) => Err(Fault::Base(refusal)),
+    }
+}
+
+/// Reads works.
+fn read_works<R: Source>(alloc: Global, reader: &mut R) -> Result<Vec<WorkText>, Fault>
+    requires failed { R.failed reader.old < 2 ^ 63 }
+    requires interrupted { R.interrupted reader.old < 2 ^ 63 }
+    ensures ok { IfOk result (λ works. ReadsWorks (R.remaining reader.old) (R.remaining reader.new) works.items) }
+    ensures counts { OnOk result (HasWorked (R.failed reader.old) (R.interrupted reader.old)
+        (R.failed reader.new) (R.interrupted reader.new)) }
+{
+    let text = read_all(alloc, reader, MOST_TIMES)?;
+    match parse_works(alloc, &text) {
+        Ok(works) => Ok(works),
+        Err(CertRefusal::Memory) => Err(Fault::Memory),
+        Err(refusal) => Err(Fault::Works(refusal)),
+    }
+}
+
+/// Reads an instance and then a certificate that is valid for it, and writes its open leaves as jobs, numbered from 0 in the
+/// order of the tree's lines, each with its value and the path to it.
+pub fn run_split<R: Source, B: Source, W: Sink>(
+    alloc: Global,
+    instance_reader: &mut R,
+    base_reader: &mut B,
+    writer: &mut W,
+    period: u32,
+) -> Result<(), Fault>
+    requires failed_reads { R.failed instance_reader.old < 2 ^ 62 }
+    requires interrupted_reads { R.interrupted instance_reader.old < 2 ^ 62 }
+    requires failed_base_reads { B.failed base_reader.old < 2 ^ 62 }
+    requires interrupted_base_reads { B.interrupted base_reader.old < 2 ^ 62 }
+    requires failed_writes { W.failed writer.old < 2 ^ 62 }
+    requires interrupted_writes { W.interrupted writer.old < 2 ^ 62 }
+    ensures ok { OnOk result (Splits (R.remaining instance_reader.old) (R.remaining instance_reader.new)
+        (B.remaining base_reader.old) (B.remaining base_reader.new) period
+        (Appends (W.contents writer.old) (W.contents writer.new))) }
+    ensures reads { OnOk result (HasWorked (R.failed instance_reader.old) (R.interrupted instance_reader.old)
+        (R.failed instance_reader.new) (R.interrupted instance_reader.new)) }
+    ensures base_reads { OnOk result (HasWorked (B.failed base_reader.old) (B.interrupted base_reader.old)
+        (B.failed base_reader.new) (B.interrupted base_reader.new)) }
+    ensures writes { OnOk result (HasWorked (W.failed writer.old) (W.interrupted writer.old)
+        (W.failed writer.new) (W.interrupted writer.new)) }
+    ensures silent { IfErr result (λ fault. fault ≢ Fault.Write → writer.new ≡ writer.old) }
+{
+    let instance = read_whole_instance(alloc, instance_reader, period)?;
+    let base = read_base(alloc, &instance, base_reader)?;
+    let jobs = open_jobs(alloc, &instance, &base)?;
+    print_to(writer, &JobsText(&jobs))?;
+    Ok(())
+}
+
+/// Reads an instance, then a certificate that is valid for it, and then works, whoever made them; grafts the works onto the
+/// certificate, tells on the second writer what became of each, and then writes the certificate that comes of it. At most
+/// 1,073,741,824 bytes of works are read and judged. Nothing is told and nothing written before the whole certificate stands.
+pub fn run_graft<R: Source, B: Source, T: Source, W: Sink, E: Sink>(
+    alloc: Global,
+    instance_reader: &mut R,
+    base_reader: &mut B,
+    works_reader: &mut T,
+    writer: &mut W,
+    teller: &mut E,
+    period: u32,
+) -> Result<(), Fault>
+    requires failed_reads { R.failed instance_reader.old < 2 ^ 62 }
+    requires interrupted_reads { R.interrupted instance_reader.old < 2 ^ 62 }
+    requires failed_base_reads { B.failed base_reader.old < 2 ^ 62 }
+    requires interrupted_base_reads { B.interrupted base_reader.old < 2 ^ 62 }
+    requires failed_works_reads { T.failed works_reader.old < 2 ^ 62 }
+    requires interrupted_works_reads { T.interrupted works_reader.old < 2 ^ 62 }
+    requires failed_writes { W.failed writer.old < 2 ^ 62 }
+    requires interrupted_writes { W.interrupted writer.old < 2 ^ 62 }
+    requires failed_tellings { E.failed teller.old < 2 ^ 62 }
+    requires interrupted_tellings { E.interrupted teller.old < 2 ^ 62 }
+    ensures ok { OnOk result (GraftsWorks (R.remaining instance_reader.old) (R.remaining instance_reader.new)
+        (B.remaining base_reader.old) (B.remaining base_reader.new)
+        (T.remaining works_reader.old) (T.remaining works_reader.new) period
+        (Appends (W.contents writer.old) (W.contents writer.new))
+        (Appends (E.contents teller.old) (E.contents teller.new))) }
+    ensures reads { OnOk result (HasWorked (R.failed instance_reader.old) (R.interrupted instance_reader.old)
+        (R.failed instance_reader.new) (R.interrupted instance_reader.new)) }
+    ensures base_reads { OnOk result (HasWorked (B.failed base_reader.old) (B.interrupted base_reader.old)
+        (B.failed base_reader.new) (B.interrupted base_reader.new)) }
+    ensures works_reads { OnOk result (HasWorked (T.failed works_reader.old) (T.interrupted works_reader.old)
+        (T.failed works_reader.new) (T.interrupted works_reader.new)) }
+    ensures writes { OnOk result (HasWorked (W.failed writer.old) (W.interrupted writer.old)
+        (W.failed writer.new) (W.interrupted writer.new)) }
+    ensures tellings { OnOk result (HasWorked (E.failed teller.old) (E.interrupted teller.old)
+        (E.failed teller.new) (E.interrupted teller.new)) }
+    ensures silent { IfErr result (λ fault. fault ≢ Fault.Write → writer.new ≡ writer.old) }
+    ensures untold { IfErr result (λ fault. fault ≢ Fault.Write → teller.new ≡ teller.old) }
+{
+    let instance = read_whole_instance(alloc, instance_reader, period)?;
+    let base = read_base(alloc, &instance, base_reader)?;
+    let works = read_works(alloc, works_reader)?;
+    let grafted = graft(alloc, &instance, &base, works)?;
+    print_to(teller, &RepliesText(&grafted.replies))?;
+    print(&grafted.certificate, writer)?;
+    Ok(())
+}

@@ -5,10 +5,11 @@ use Rattle.std.proofs.lemmas.List.Sums.{sum_by-set}
 use Rattle.std.proofs.lemmas.Bool.{cases_eq, cases_lt}
 use Rattle.pesp_problem.specs.declared.arc.Arc.{Arc}
 use Rattle.pesp_network.specs.declared.parts.Growth.{Growth}
-use Rattle.pesp_network.specs.declared.parts.Chains.{Chains}
-use Rattle.pesp_network.specs.Growing.{Fns, Grown, Opens, OpensRoot, Closes, ClosesCurrent, Chained, at}
+use Rattle.pesp_network.specs.declared.chains.Chains.{Chains}
+use Rattle.pesp_network.specs.Chains.{Chained, AreChains}
+use Rattle.pesp_network.specs.Growing.{Fns, Grown, Opens, OpensRoot, Closes, ClosesCurrent, at}
 use Rattle.pesp_network.specs.Ends.{tail_of, head_of}
-use Rattle.pesp_network.specs.Floods.{AreChains, OPEN_END, fns_of, GrownOver, IsCurrent, AllClosed, KeepsSeen, work_left}
+use Rattle.pesp_network.specs.Floods.{OPEN_END, fns_of, GrownOver, IsCurrent, AllClosed, KeepsSeen, work_left}
 use Rattle.pesp_network.proofs.Rooting.{rooted, rooted_at}
 use Rattle.pesp_network.proofs.Closing.{closed_grown, closed_at, all_closed, current_open}
 use Rattle.pesp_network.proofs.Steps.{room, grown_from}
@@ -120,8 +121,8 @@ past_end n x xs e b = get_or_past xs x 0 (omega arith)
 pub starts : (arcs : List Arc) (g : Growth) (c : Chains) (n : ℕ) → AreChains arcs n c → vec_len g.up ≡ n → g.by.items ≡ replicate n 0 → g.place.items ≡ replicate n 0 → g.last.items ≡ replicate n OPEN_END → g.left.items ≡ c.first.items → g.order.items ≡ []
     → GrownOver arcs g
 starts arcs g c n chains events by place last left order =
-    let k = g.order.ok.0 in let q = ap length order in let s = g.sized in let a = g.last.ok.0 in let b = c.first.ok.0 in let d = chains.1 in
-    nothing_grown (vec_len g.up) (length arcs) (tail_of arcs) (head_of arcs) (at c.at_tail.items) (at c.at_head.items) (at c.first.items) (fns_of g) chains.0
+    let k = g.order.ok.0 in let q = ap length order in let s = g.sized in let a = g.last.ok.0 in let b = c.first.ok.0 in let d = chains.firsts in
+    nothing_grown (vec_len g.up) (length arcs) (tail_of arcs) (head_of arcs) (at c.at_tail.items) (at c.at_head.items) (at c.first.items) (fns_of g) chains.chained
     (λ x. at_zeros n x g.place.items place) (λ x. at_zeros n x g.by.items by) (omega arith)
     (λ x h. at_same n x g.last.items last (omega arith))
     (λ x h. (past_end n x g.last.items (omega arith) (omega arith), past_end n x c.first.items (omega arith) (omega arith)))

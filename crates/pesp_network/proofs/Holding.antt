@@ -3,10 +3,11 @@ use Rattle.std.proofs.Common.{◌≡◌, ◌≢◌, ℕ, ◌<◌, inl, inr, sym,
 use Rattle.std.specs.Prelude.{◌≤◌, unsigned_abs, slice_index, Option, Some, None, IfSome, IfNone}
 use Rattle.std.proofs.lemmas.Bool.{cases_lt}
 use Rattle.std.proofs.lemmas.List.{get_or_past, get_or-map, length-map}
-use Rattle.std.proofs.lemmas.List.Elements.{All-get_or, All-weaker, All-from_get_or}
+use Rattle.std.proofs.lemmas.List.Elements.{All-get_or, All-weaker, All-from_get_or, All-map}
 use Rattle.pesp_problem.specs.declared.row.SignedRow.{SignedRow}
 use Rattle.pesp_problem.specs.declared.arc.Arc.{Arc}
 use Rattle.pesp_problem.specs.Arcs.{no_arc, arc_at, arc_slack}
+use Rattle.pesp_problem.specs.ArcLimits.{ArcKeepsLimits, KeepArcLimits}
 use Rattle.pesp_problem.specs.NetTimetables.{IsNetTimetable}
 use Rattle.pesp_problem.specs.Walks.{RowExists, AreRows, Leads, start}
 use Rattle.pesp_problem.specs.Forests.{KeepsTo, IsSimple, AreJoined, IsFirstOf}
@@ -76,8 +77,8 @@ pub record IsWayHeld (n : NetworkValue) (from to : ℕ) (way : List SignedRow) :
   pub simple : IsSimple (arcs_of_network n.rows) way
   pub end_once : All (λ s. start (arcs_of_network n.rows) s ≢ to) way
 
-pub way_held : (v n : NetworkValue) (g : Forest) (r : Reaches) (view : List NetRow) (from to : ℕ) (way : List SignedRow) → v ≡ n → IsHeld v g r → view ≡ v.rows → from < n.events → to < n.events → IsForestWay (arcs_of_network view) g from to way → IsWayHeld n from to way
-way_held v n g r view from to way same k e bx bt w =
+pub way_held : (v n : NetworkValue) (held : List Arc) (g : Forest) (r : Reaches) (view : List NetRow) (from to : ℕ) (way : List SignedRow) → v ≡ n → IsHeld v held g r → view ≡ v.rows → from < n.events → to < n.events → IsForestWay (arcs_of_network view) g from to way → IsWayHeld n from to way
+way_held v n held g r view from to way same k e bx bt w =
     let arcs = arcs_of_network v.rows in let f = k.forest in
     let events = ap (λ (x : NetworkValue). x.events) same in
     let p = is_path v.events arcs g from to f (omega arith) (omega arith) w.one_tree in
@@ -93,8 +94,8 @@ way_held v n g r view from to way same k e bx bt w =
     }))
 
 -- events of two trees aren't joined
-pub apart_held : (v n : NetworkValue) (g : Forest) (r : Reaches) (from to : ℕ) → v ≡ n → IsHeld v g r → from < n.events → at g.root.items from ≢ at g.root.items to → AreJoined (arcs_of_network n.rows) from to → ⊥
-apart_held v n g r from to same k b ne h =
+pub apart_held : (v n : NetworkValue) (held : List Arc) (g : Forest) (r : Reaches) (from to : ℕ) → v ≡ n → IsHeld v held g r → from < n.events → at g.root.items from ≢ at g.root.items to → AreJoined (arcs_of_network n.rows) from to → ⊥
+apart_held v n held g r from to same k b ne h =
     let events = ap (λ (x : NetworkValue). x.events) same in
     let P : NetworkValue → Type 0 = λ x. AreJoined (arcs_of_network x.rows) from to in
     let j = subst P (sym same) h in
@@ -122,3 +123,17 @@ within_spans n view slacks times e count below same within =
 pub all_three : {T : Type 0} {P Q R S : T → Type 0} (o : Option T) → IfSome o P → IfSome o Q → IfSome o R → ((x : T) → P x → Q x → R x → S x) → IfSome o S
 all_three None p q r f = tt
 all_three (Some x) p q r f = f x p q r
+
+-- ---- the arcs
+
+row_limits : (period events : ℕ) (row : NetRow) → RowKeepsNetLimits period events row → ArcKeepsLimits period events (arc_of_net row)
+row_limits period events row h = record { tail = h.tail; head = h.head; span = h.span; lower = h.lower; weight = h.weight }
+
+pub arcs_keep_limits : (n : NetworkValue) → KeepsNetLimits n → KeepArcLimits n.period n.events (arcs_of_network n.rows)
+arcs_keep_limits n h = record {
+  some_period = h.some_period;
+  period_most = h.period_most;
+  events_most = h.events_most;
+  arcs_most = (let e = length-map n.rows arc_of_net in let m = h.rows_most in omega arith);
+  each = All-map (ArcKeepsLimits n.period n.events) arc_of_net n.rows (λ i d l. row_limits n.period n.events _ (h.each i d l));
+}

@@ -4,7 +4,8 @@ use Rattle.std.proofs.lemmas.List.{get_or_read}
 use Rattle.std.proofs.lemmas.List.Sums.{sum_by-set}
 use Rattle.pesp_problem.specs.declared.arc.Arc.{Arc}
 use Rattle.pesp_network.specs.declared.parts.Growth.{Growth}
-use Rattle.pesp_network.specs.Growing.{Fns, IsMet, Grown, Opens, OpensChild, IsNext, Looks, at}
+use Rattle.pesp_network.specs.Chains.{IsNext}
+use Rattle.pesp_network.specs.Growing.{Fns, IsMet, Grown, Opens, OpensChild, Looks, at}
 use Rattle.pesp_network.specs.Ends.{tail_of, head_of, HaveEnds}
 use Rattle.pesp_network.specs.Floods.{OPEN_END, fns_of, GrownOver, IsCurrent}
 use Rattle.pesp_network.proofs.Opening.{opened, opened_at}

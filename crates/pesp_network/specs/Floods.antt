@@ -2,8 +2,7 @@
 use Rattle.std.specs.Prelude.{◌≡◌, ℕ, ◌+◌, ◌<◌, List, length, sum, count_by, ◌==◌, vec_len}
 use Rattle.pesp_problem.specs.declared.arc.Arc.{Arc}
 use Rattle.pesp_network.specs.declared.parts.Growth.{Growth}
-use Rattle.pesp_network.specs.declared.parts.Chains.{Chains}
-use Rattle.pesp_network.specs.Growing.{Fns, Grown, OpenAt, Chained, at}
+use Rattle.pesp_network.specs.Growing.{Fns, Grown, OpenAt, at}
 use Rattle.pesp_network.specs.Ends.{tail_of, head_of}
 
 -- what an open event has as its last place
@@ -29,7 +28,3 @@ KeepsSeen old new = (x : ℕ) → 0 < at old.place.items x → 0 < at new.place.
 -- what is left to do: the rows to be looked at, and the events to be closed
 abbrev pub work_left : Growth → ℕ
 work_left g = sum g.left.items + count_by (λ x. x == OPEN_END) g.last.items
-
-abbrev pub AreChains : List Arc → ℕ → Chains → Type 0
-AreChains arcs n c = Chained (length arcs) (tail_of arcs) (head_of arcs) (at c.first.items) (at c.at_tail.items) (at c.at_head.items)
-    × (vec_len c.first ≡ n) × (vec_len c.at_tail ≡ length arcs + 1) × (vec_len c.at_head ≡ length arcs + 1)

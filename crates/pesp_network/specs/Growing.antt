@@ -1,5 +1,6 @@
 -- A forest that grows depth first, as functions of the events.
 use Rattle.std.specs.Prelude.{◌≡◌, ◌≢◌, ℕ, ◌+◌, ◌-◌, ◌<◌, ◌≤◌, ◌⊎◌, slice_index, List}
+use Rattle.pesp_network.specs.Chains.{IsNext}
 
 -- by is the row that joins an event to the event up, or 0 at a root; the place is 0 where it isn't seen;
 -- last is the last place below it, or the limit while it is open; left is the last row that isn't looked at
@@ -102,12 +103,6 @@ pub record ClosesCurrent (n m M : ℕ) (T H : ℕ → ℕ) (s t : Fns) (u : ℕ)
   pub room : s.count < M
   pub step : Closes s t u
 
--- the row next comes after the row k among the rows at u
-pub record IsNext (T H : ℕ → ℕ) (u k next : ℕ) : Type 0 where
-  pub less : next < k
-  pub end : 0 < next → (T next ≡ u) ⊎ (H next ≡ u)
-  pub none_between : (j : ℕ) → next < j → j < k → (T j ≡ u) ⊎ (H j ≡ u) → ⊥
-
 -- the row k was looked at, at u
 pub record Looks (s t : Fns) (u next : ℕ) : Type 0 where
   pub here : t.left u ≡ next
@@ -122,15 +117,6 @@ pub record LooksAt (n m M : ℕ) (T H : ℕ → ℕ) (s t : Fns) (u next : ℕ) 
   pub follows : IsNext T H u (s.left u) next
   pub is_open : s.last u ≡ M
   pub step : Looks s t u next
-
--- the rows at each event as chains, of the rows up to i: first has an event's last row, A and B the row that comes next at a row's tail and head
-pub record Chained (i : ℕ) (T H F A B : ℕ → ℕ) : Type 0 where
-  pub tail_reached : (k : ℕ) → 0 < k → k ≤ i → k ≤ F (T k)
-  pub head_reached : (k : ℕ) → 0 < k → k ≤ i → k ≤ F (H k)
-  pub first_row : (e : ℕ) → F e ≤ i
-  pub first_end : (e : ℕ) → 0 < F e → (T (F e) ≡ e) ⊎ (H (F e) ≡ e)
-  pub tail_next : (k : ℕ) → 0 < k → k ≤ i → IsNext T H (T k) k (A k)
-  pub head_next : (k : ℕ) → 0 < k → k ≤ i → IsNext T H (H k) k (B k)
 
 abbrev pub at : List ℕ → ℕ → ℕ
 at xs i = slice_index xs i

@@ -1,13 +1,15 @@
 -- What a network holds beside its rows.
-use Rattle.std.specs.Prelude.{◌≡◌, vec_len}
+use Rattle.std.specs.Prelude.{◌≡◌, List, vec_len}
+use Rattle.pesp_problem.specs.declared.arc.Arc.{Arc}
 use Rattle.pesp_network.specs.declared.parts.Forest.{Forest}
 use Rattle.pesp_network.specs.declared.parts.Reaches.{Reaches}
 use Rattle.pesp_network.specs.Networks.{NetworkValue, KeepsNetLimits, arcs_of_network}
 use Rattle.pesp_network.specs.Rooted.{IsForest, AreReaches, AreTreeRows}
 
--- the limits, a spanning forest of the rows, the places that are reached in it, and its rows
-pub record IsHeld (n : NetworkValue) (f : Forest) (r : Reaches) : Type 0 where
+-- the limits, the rows without their origins, a spanning forest of them, the places that are reached in it, and its rows
+pub record IsHeld (n : NetworkValue) (arcs : List Arc) (f : Forest) (r : Reaches) : Type 0 where
   pub limits : KeepsNetLimits n
+  pub rows : arcs ≡ arcs_of_network n.rows
   pub forest : IsForest n.events (arcs_of_network n.rows) f
   pub reaches : AreReaches n.events (arcs_of_network n.rows) f r.low.items r.high.items
   pub sized : vec_len r.low ≡ vec_len f.up

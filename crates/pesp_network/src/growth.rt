@@ -4,12 +4,20 @@ ghost use Rattle.std.specs.Prelude.{◌≡◌, ℕ, ◌+◌, ◌-◌, ◌<◌, �
 ghost use Rattle.pesp_network.specs.Networks.{arcs_of_network};
 ghost use Rattle.pesp_network.specs.Ends.{HaveEnds};
 ghost use Rattle.pesp_network.specs.Growing.{Opens, Closes, Looks, at};
-ghost use Rattle.pesp_network.specs.Floods.{OPEN_END, AreChains, fns_of, GrownOver, IsCurrent, AllClosed, KeepsSeen};
+ghost use Rattle.pesp_network.specs.Chains.{AreChains};
+ghost use Rattle.pesp_network.specs.Floods.{OPEN_END, fns_of, GrownOver, IsCurrent, AllClosed, KeepsSeen};
 
-use crate::chains::{beyond, chain_rows};
-use crate::parts::{Chains, Growth};
+use crate::chains::{Chains, beyond, chain_rows};
+use crate::parts::Growth;
 use crate::row::NetRow;
 use std::alloc::{AllocError, Global};
+
+// the numbers as places
+fn widened(alloc: Global, numbers: &[u32]) -> Result<Vec<usize>, AllocError>
+    ensures { IfOk result (λ places. places.items ≡ numbers.now) }
+{
+    numbers.iter().map(|number| *number as usize).collect(alloc)
+}
 
 impl Growth {
     // nothing is seen, and each event has the rows that the chains give it
@@ -27,7 +35,7 @@ impl Growth {
         let place = vec![in alloc; 0usize; events]?;
         let last = vec![in alloc; usize::MAX; events]?;
         let root = vec![in alloc; 0usize; events]?;
-        let left = Vec::from_slice(alloc, chains.first.as_slice())?;
+        let left = widened(alloc, chains.first.as_slice())?;
         let order = Vec::with_capacity(alloc, events)?;
         Ok(Growth {
             up,

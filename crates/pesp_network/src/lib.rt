@@ -15,6 +15,7 @@ mod row;
 mod times;
 mod walks;
 
+pub use chains::Chains;
 pub use network::Network;
 pub use refusal::NetRefusal;
 pub use row::NetRow;

@@ -2,19 +2,22 @@
 
 ghost use Rattle.std.specs.Prelude.{◌≡◌, ◌≢◌, ℕ, ◌+◌, ◌<◌, ◌≤◌, ◌↔◌, length, slice_index, IsTrue, IfOk, IfErr, IfSome, IfNone, All, vec_len};
 ghost use Rattle.pesp_problem.specs.Arcs.{arcs_of, slacks_at};
-ghost use Rattle.pesp_problem.specs.NetTimetables.{IsNetTimetable};
+ghost use Rattle.pesp_problem.specs.ArcLimits.{KeepArcLimits};
+ghost use Rattle.pesp_problem.specs.NetTimetables.{IsNetTimetable, net_cost};
 ghost use Rattle.pesp_problem.specs.Walks.{Names, AreRows, Leads, start};
 ghost use Rattle.pesp_problem.specs.Forests.{KeepsTo, IsSpanningForest, AreFundamental, IsSimple, IsBridge, AreJoined, IsFirstOf};
+ghost use Rattle.pesp_network.specs.Chains.{AreChains};
 ghost use Rattle.pesp_network.specs.Rooted.{IsForest};
 ghost use Rattle.pesp_network.specs.Networks.{arcs_of_network, net_of_network, net_row_at, KeepsSizes, RowKeepsNetLimits, KeepsNetLimits, IsNewRefusal, IsTableRefusal, HasOpenRow, signed_rows};
 
+use crate::chains::{Chains, chain_rows};
 use crate::limits::{bad_row, rows_of};
 use crate::parts::{Forest, Reaches};
 use crate::proposal::numbers_or_none;
 use crate::refusal::NetRefusal;
-use crate::row::NetRow;
+use crate::row::{NetRow, without_origins};
 use crate::{bridges, forest, times, walks};
-use pesp_problem::{Instance, Memory, SignedRow, Walk};
+use pesp_problem::{Arc, Instance, Memory, SignedRow, Walk, net_times};
 use std::alloc::Global;
 use std::marker::Model;
 
@@ -24,6 +27,7 @@ pub struct Network {
     period: u32,
     events: usize,
     rows: Vec<NetRow>,
+    arcs: Vec<Arc>,
     forest: Forest,
     reaches: Reaches,
     kept: Vec<u32>,
@@ -37,7 +41,7 @@ impl Model for Network {
 
     ghost view = { λ n. record { period = n.period; events = n.events; rows = n.rows.items; forest = n.kept.items } };
 
-    ghost invariant = { λ n. IsHeld (record { period = n.period; events = n.events; rows = n.rows.items; forest = n.kept.items }) n.forest n.reaches };
+    ghost invariant = { λ n. IsHeld (record { period = n.period; events = n.events; rows = n.rows.items; forest = n.kept.items }) n.arcs.items n.forest n.reaches };
 }
 
 impl Network {
@@ -73,10 +77,12 @@ impl Network {
     {
         let reaches = bridges::reach(alloc, events, rows.as_slice(), &forest)?;
         let kept = walks::forest_rows(alloc, events, rows.as_slice(), &forest)?;
+        let arcs = without_origins(alloc, rows.as_slice())?;
         Ok(Network {
             period,
             events,
             rows,
+            arcs,
             forest,
             reaches,
             kept,
@@ -164,6 +170,23 @@ impl Network {
         &self.rows
     }
 
+    /// The rows in order, without their origins.
+    pub fn arcs(&self) -> &[Arc]
+        ensures arcs { result.now ≡ arcs_of_network self.now.rows }
+        ensures limits { KeepsNetLimits self.now }
+        ensures each { KeepArcLimits self.now.period self.now.events result.now }
+    {
+        &self.arcs
+    }
+
+    /// The rows at each event.
+    pub fn chains(&self, alloc: Global) -> Result<Chains, Memory>
+        ensures { IfOk result (AreChains (arcs_of_network self.now.rows) self.now.events) }
+    {
+        let chains = chain_rows(alloc, self.events, self.rows.as_slice())?;
+        Ok(chains)
+    }
+
     /// The rows of the network's spanning forest, by their numbers from 1; every call gives the same.
     pub fn forest(&self, alloc: Global) -> Result<Vec<u32>, Memory>
         ensures forest { IfOk result (λ rows. rows.items ≡ self.now.forest) }
@@ -228,6 +251,22 @@ impl Network {
             to as usize,
         )?;
         Ok(found)
+    }
+
+    /// Whether these are times of a timetable: one below the period for each event, at which no row's slack is above its
+    /// span.
+    pub fn is_timetable(&self, times: &[u32]) -> bool
+        ensures { IsTrue result ↔ IsNetTimetable (net_of_network self.now) self.now.events times.now }
+    {
+        net_times::is_timetable(self.period(), self.events(), self.arcs(), times)
+    }
+
+    /// What times cost, one for each event: the sum of weight times slack.
+    pub fn cost_of(&self, times: &[u32]) -> u64
+        requires { length times.now ≡ self.now.events }
+        ensures { result ≡ net_cost (net_of_network self.now) times.now }
+    {
+        net_times::cost_of(self.period(), self.events(), self.arcs(), times)
     }
 
     /// Times below the period with exactly these slacks, one for each row in order, or None where a fundamental walk has

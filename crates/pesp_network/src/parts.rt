@@ -2,15 +2,6 @@
 
 ghost use Rattle.std.specs.Prelude.{◌≡◌, vec_len};
 
-/// The rows at each event, as chains by falling number: an event's last row, and the row that comes next at a row's
-/// tail and at its head. 0 ends a chain.
-#[derive(Drop)]
-pub struct Chains {
-    pub first: Vec<usize>,
-    pub at_tail: Vec<usize>,
-    pub at_head: Vec<usize>,
-}
-
 /// A forest that grows: the event above an event and the row that joins them (0 at a root), the event's place in the
 /// order in which events were seen (from 1, 0 where it isn't seen), the last place below it (the greatest number while
 /// the event is open), the root of its tree, the last row at it that wasn't looked at, and that order.

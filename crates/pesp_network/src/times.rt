@@ -2,8 +2,8 @@
 
 ghost use Rattle.std.specs.Prelude.{◌≡◌, ℕ, ◌+◌, ◌-◌, ◌*◌, ◌<◌, ◌≤◌, ◌≢◌, ◌-ℤ◌, ◌+ℤ◌, pos, unsigned_abs, length, slice_index, IfOk, IfSome, IfNone, All, vec_len};
 ghost use Rattle.std.specs.Int.{int_rem_euclid};
-ghost use Rattle.pesp_problem.specs.Arcs.{arc_at, arc_slack};
-ghost use Rattle.pesp_network.specs.Networks.{arcs_of_network, arc_of_net};
+ghost use Rattle.pesp_problem.specs.Arcs as spec;
+ghost use Rattle.pesp_network.specs.Networks.{arcs_of_network};
 ghost use Rattle.pesp_network.specs.Growing.{at};
 ghost use Rattle.pesp_network.specs.Ends.{tail_of};
 ghost use Rattle.pesp_network.specs.Rooted.{IsForest};
@@ -11,6 +11,7 @@ ghost use Rattle.pesp_network.specs.Times.{IsSame, duration, AreSlacks, FitsFore
 
 use crate::parts::Forest;
 use crate::row::NetRow;
+use pesp_problem::net_times::arc_slack;
 use std::alloc::{AllocError, Global};
 
 // the remainder by the period
@@ -22,21 +23,6 @@ fn wrapped(period: u32, z: i64) -> u32
     ensures less { result < period }
 {
     z.rem_euclid(period as i64) as u32
-}
-
-// the slack of a row at these times
-fn slack_at(period: u32, row: &NetRow, times: &[u32]) -> u32
-    requires some { 0 < period }
-    requires most { period ≤ 10000 }
-    requires lower { unsigned_abs row.now.lower ≤ 1020000 }
-    requires tail { row.now.tail < length times.now }
-    requires head { row.now.head < length times.now }
-    requires times { (x : ℕ) → at times.now x < period }
-    ensures { result ≡ arc_slack period times.now (arc_of_net row.now) }
-{
-    let head = times[row.head as usize] as i64;
-    let tail = times[row.tail as usize] as i64;
-    wrapped(period, head - tail - row.lower)
 }
 
 // a duration later
@@ -145,12 +131,13 @@ pub fn timetable_of(
     requires slacks { AreSlacks period (arcs_of_network rows.now) slacks.now }
     ensures count { IfOk result (λ o. IfSome o (λ times. vec_len times ≡ events)) }
     ensures below { IfOk result (λ o. IfSome o (λ times. All (λ t. t < period) times.items)) }
-    ensures slacks { IfOk result (λ o. IfSome o (λ times. (i : ℕ) → i < length rows.now → arc_slack period times.items (arc_at (arcs_of_network rows.now) i) ≡ slice_index slacks.now i)) }
+    ensures slacks { IfOk result (λ o. IfSome o (λ times. (i : ℕ) → i < length rows.now → spec.arc_slack period times.items (spec.arc_at (arcs_of_network rows.now) i) ≡ slice_index slacks.now i)) }
     ensures none { IfOk result (λ o. IfNone o (OpensRow period events (arcs_of_network rows.now) forest.now slacks.now)) }
 {
     let times = spread(alloc, period, events, rows, forest, slacks)?;
     for (i, row) in rows.iter().enumerate() {
-        let slack = slack_at(period, row, times.as_slice());
+        let arc = row.arc();
+        let slack = arc_slack(period, times.as_slice(), &arc);
         if slack != slacks[i] {
             return Ok(None);
         }

@@ -2,6 +2,7 @@ pub mod Sums
 pub mod Timetables
 pub mod Limits
 pub mod Arcs
+pub mod ArcLimits
 pub mod NetTimetables
 pub mod Walks
 pub mod Nodes

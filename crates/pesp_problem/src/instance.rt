@@ -1,13 +1,15 @@
 //! Instances.
 
-ghost use Rattle.std.specs.Prelude.{◌≡◌, ◌-◌, ◌≤◌, length};
+ghost use Rattle.std.specs.Prelude.{◌≡◌, ◌-◌, ◌≤◌, length, IfOk};
 ghost use Rattle.pesp_problem.specs.Limits.{KeepsLimits};
 ghost use Rattle.pesp_problem.specs.Timetables.{row_at};
 ghost use Rattle.pesp_problem.specs.Walks.{Names};
 ghost use Rattle.pesp_problem.specs.Arcs as spec;
 
-use crate::arc::arc_of;
+use crate::arc::{Arc, arc_of};
+use crate::memory::Memory;
 use crate::row::Row;
+use std::alloc::Global;
 use std::marker::Model;
 
 /// A periodic event scheduling problem (Serafini and Ukovich 1989) within its limits: a period, rows, and the labels of
@@ -74,5 +76,18 @@ impl Instance {
         ensures { result ≡ spec.span self.now.period (row_at self.now.rows (row - 1)) }
     {
         arc_of(self.period, &self.rows[row as usize - 1]).span
+    }
+
+    /// The arcs of the rows, in the order of the text.
+    pub fn arcs(&self, alloc: Global) -> Result<Vec<Arc>, Memory>
+        ensures { IfOk result (λ arcs. arcs.items ≡ spec.arcs_of self.now) }
+    {
+        let period = self.period();
+        let rows = self.rows();
+        let mut arcs = Vec::with_capacity(alloc, rows.len())?;
+        for row in rows {
+            arcs.push(arc_of(period, row))?;
+        }
+        Ok(arcs)
     }
 }

@@ -8,6 +8,7 @@ mod grade;
 mod instance;
 pub mod laws;
 mod memory;
+pub mod net_times;
 mod pair;
 mod row;
 mod scoring;

@@ -1,11 +1,12 @@
 //! What times are worth.
 
-ghost use Rattle.std.specs.Prelude.{◌≡◌, ℕ, ◌≤◌, ◌<◌, ◌≤ℤ◌, ◌↔◌, IsTrue, All, pos, neg_ℤ, ◌-ℤ◌, length};
+ghost use Rattle.std.specs.Prelude.{◌≡◌, ℕ, ◌≤◌, ◌<◌, ◌≤ℤ◌, ◌↔◌, IsTrue, pos, neg_ℤ, ◌-ℤ◌, length};
 ghost use Rattle.pesp_problem.specs.Timetables.{slack, AreTimes, IsTimetableOfCost};
 ghost use Rattle.pesp_problem.specs.Scores.{IsScore};
 
 use crate::grade::Score;
 use crate::instance::Instance;
+use crate::net_times::{are_below, slack_between};
 use crate::row::Row;
 
 /// The slack of a row at these times, in the instance's own unit: the remainder by the period of what the difference of
@@ -19,10 +20,7 @@ pub fn slack_of(period: u32, times: &[u32], row: &Row) -> u32
     ensures value { result ≡ slack period times.now row.now }
     ensures below { result < period }
 {
-    let tail = i64::from(times[row.tail as usize]);
-    let head = i64::from(times[row.head as usize]);
-    let rest = (head - tail - row.lower).rem_euclid(i64::from(period));
-    rest as u32
+    slack_between(period, times, row.tail, row.head, row.lower)
 }
 
 /// Whether a row with this slack is satisfied.
@@ -33,13 +31,6 @@ fn is_satisfied(slack: u32, row: &Row) -> bool
     ensures { IsTrue result ↔ (pos slack ≤ℤ (row.now.upper -ℤ row.now.lower)) }
 {
     i64::from(slack) <= row.upper - row.lower
-}
-
-/// Whether all times are below the period.
-fn are_below(period: u32, times: &[u32]) -> bool
-    ensures { IsTrue result ↔ All (λ t. t < period) times.now }
-{
-    times.iter().all(|time| *time < period)
 }
 
 /// Whether there is a time below the period for each event.

@@ -1,5 +1,6 @@
 use Rattle.std.proofs.Common.{◌≡◌, ◌+◌, length, vec_len}
-use Rattle.pesp_network.specs.Growing.{Chained, at}
+use Rattle.pesp_network.specs.Chains.{Chained}
+use Rattle.pesp_network.specs.Growing.{at}
 use Rattle.pesp_network.specs.Networks.{arcs_of_network}
 use Rattle.pesp_network.specs.Ends.{tail_of, head_of}
 use Rattle.pesp_network.proofs.chains.chain_rows.Given as goal

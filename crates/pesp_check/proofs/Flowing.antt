@@ -1,15 +1,16 @@
 -- Flows as they are added up, pair by pair.
-use Rattle.std.proofs.Common.{◌≡◌, ◌≢◌, inl, inr, ℕ, ◌+◌, ◌-◌, ◌*◌, ◌^◌, ◌<◌, ◌≤◌, arith, refl, ap, sym, ◌∙◌, List, [], ◌∷◌, length, get_or, set, take, drop, fold, Bool, true, false}
-use Rattle.std.specs.Prelude.{ℤ, pos, ◌+ℤ◌, ◌*ℤ◌, unsigned_abs, if◌then◌else◌, ◌==◌, count_by, cond}
+use Rattle.std.proofs.Common.{◌≡◌, ◌≢◌, inl, inr, ℕ, ◌+◌, ◌-◌, ◌*◌, ◌^◌, ◌<◌, ◌≤◌, arith, refl, ap, sym, ◌∙◌, List, [], ◌∷◌, length, get_or, set, take, fold, subst, Bool, true, false}
+use Rattle.std.specs.Prelude.{ℤ, pos, ◌+ℤ◌, ◌*ℤ◌, unsigned_abs, if◌then◌else◌, ◌==◌, count_by, cond, All, ◌↔◌}
 use Rattle.std.proofs.lemmas.Int.{ints, unsigned_abs-mul}
 use Rattle.std.proofs.Math.Nat.{mul-le-mul}
 use Rattle.std.proofs.lemmas.Bool.{cases_eq}
-use Rattle.std.proofs.lemmas.List.{get_or-set_same, get_or-set_other, length-set, get_or_default, drop_more}
-use Rattle.std.proofs.lemmas.List.Sums.{fold_more, sum_by-cons, sum_by-take-le, sum_by_more}
+use Rattle.std.proofs.lemmas.List.{get_or-set_same, get_or-set_other, length-set, get_or_default}
+use Rattle.std.proofs.lemmas.List.Elements.{All-cons, All-head, All-tail}
+use Rattle.std.proofs.lemmas.List.Sums.{fold_more, sum_by-cons, sum_by-take-le}
 use Rattle.pesp_check.specs.declared.nets.NetCount.{NetCount}
 use Rattle.pesp_problem.specs.declared.row.SignedRow.{SignedRow}
 use Rattle.pesp_problem.specs.declared.pair.Pair.{Pair}
-use Rattle.pesp_problem.specs.Walks.{net_count}
+use Rattle.pesp_problem.specs.Walks.{Names, net_count}
 use Rattle.pesp_problem.specs.Nodes.{flow, cycle_at}
 use Rattle.pesp_check.specs.Nets.{amount, AreSmallCounts, AreNetCounts}
 use Rattle.pesp_check.specs.Flows.{count_of, number_at, nets_at, entries_at, AreNets, ArePairs}
@@ -101,38 +102,59 @@ count_is n walk counts i h l =
     zero_either true = refl
     zero_either false = refl
 
--- the flows of the first k pairs
-pub record AreMade (n : ℕ) (table : List (List NetCount)) (pairs : List Pair) (flows : List ℤ) (k : ℕ) : Type 0 where
-  pub sum : (walks : List (List SignedRow)) → AreNets n walks table → (i : ℕ) → i < n → number_at flows i +ℤ flow walks (drop k pairs) i ≡ flow walks pairs i
-  pub size : (i : ℕ) → i < n → unsigned_abs (number_at flows i) ≤ k * 10 ^ 19
-  pub untouched : (i : ℕ) → i < n → entries_at table (take k pairs) i ≡ 0 → number_at flows i ≡ pos 0
+-- the first of the pairs that are left, and the others
+pub pairs_apart : (cycles : ℕ) (left rest : List Pair) (p : Pair) → left ≡ p ∷ rest → ArePairs cycles left → (Names cycles p.cycle × (unsigned_abs p.mult ≤ 1000000000000)) × ArePairs cycles rest
+pairs_apart cycles left rest p is are =
+    let P : List Pair → Type 0 = ArePairs cycles in
+    let Q : Pair → Type 0 = λ pair. Names cycles pair.cycle × (unsigned_abs pair.mult ≤ 1000000000000) in
+    let both = subst P is are in
+    (All-head Q p rest both.0, (All-tail Q p rest both.0, omega (arith, both.1)))
 
-pub made_none : (n : ℕ) (table : List (List NetCount)) (pairs : List Pair) (flows : List ℤ) → ((i : ℕ) → i < n → number_at flows i ≡ pos 0) → AreMade n table pairs flows 0
-made_none n table pairs flows zeros = record {
+-- whether all the others are tells whether all are
+pub exist_more : {X : Type 0} (P : X → Type 0) (left rest : List X) (x : X) (Q : Type 0) → left ≡ x ∷ rest → P x → All P left ↔ Q → All P rest ↔ Q
+exist_more {X} P left rest x Q is here same =
+    let R : List X → Type 0 = All P in
+    (λ others. same.0 (subst R (sym is) (All-cons P x rest here others)), λ q. All-tail P x rest (subst R is (same.1 q)))
+
+-- the flows of the pairs before those that are left
+pub record AreMade (n : ℕ) (table : List (List NetCount)) (pairs left : List Pair) (flows : List ℤ) : Type 0 where
+  pub exist : ArePairs (length table) left
+  pub sum : (walks : List (List SignedRow)) → AreNets n walks table → (i : ℕ) → i < n → number_at flows i +ℤ flow walks left i ≡ flow walks pairs i
+  pub size : (i : ℕ) → i < n → unsigned_abs (number_at flows i) + length left * 10 ^ 19 ≤ 100000 * 10 ^ 19
+  pub fewer : (i : ℕ) → entries_at table left i ≤ entries_at table pairs i
+  pub untouched : (i : ℕ) → i < n → entries_at table pairs i ≤ entries_at table left i → number_at flows i ≡ pos 0
+
+pub made_none : (n : ℕ) (table : List (List NetCount)) (pairs : List Pair) (flows : List ℤ) → ArePairs (length table) pairs → ((i : ℕ) → i < n → number_at flows i ≡ pos 0) → AreMade n table pairs pairs flows
+made_none n table pairs flows are zeros = record {
+  exist = are;
   sum = λ walks nets i l. omega (arith, ints, zeros i l);
-  size = λ i l. omega (arith, ap unsigned_abs (zeros i l));
+  size = λ i l. omega (arith, are.1, ap unsigned_abs (zeros i l));
+  fewer = λ i. omega arith;
   untouched = λ i l none. zeros i l;
 }
 
-pub made_more : (n : ℕ) (table : List (List NetCount)) (pairs : List Pair) (flows flows' : List ℤ) (k : ℕ) (d : Pair) → k < length pairs → ArePairs (length table) pairs
-    → ((i : ℕ) → i < n → number_at flows' i ≡ number_at flows i +ℤ (get_or pairs k d).mult *ℤ count_of (nets_at table ((get_or pairs k d).cycle - 1)) i)
-    → ((i : ℕ) → i < n → unsigned_abs (number_at flows' i) ≤ unsigned_abs (number_at flows i) + 10 ^ 19)
-    → AreMade n table pairs flows k → AreMade n table pairs flows' (k + 1)
-made_more n table pairs flows flows' k d h are more small before = record {
-  sum = λ walks nets i l.
-      let p = get_or pairs k d in
-      let c = p.cycle - 1 in
-      let exists = are.0 k d h in
-      let net = count_is n (cycle_at walks c) (nets_at table c) i (nets.each c (omega (arith, exists))) l in
-      let whole : flow walks (drop k pairs) i ≡ p.mult *ℤ net_count (cycle_at walks c) i +ℤ flow walks (drop (k + 1) pairs) i = ap (λ (ps : List Pair). flow walks ps i) (drop_more pairs k d h) in
-      omega (arith, ints, more i l, before.sum walks nets i l, whole, ap (λ z. p.mult *ℤ z) net);
-  size = λ i l. omega (arith, small i l, before.size i l);
-  untouched = λ i l none.
-      let p = get_or pairs k d in
-      let taken = sum_by_more (λ (pair : Pair). count_by (λ (e : NetCount). e.place == i) (nets_at table (pair.cycle - 1))) pairs k d h in
-      let zero = none_of (nets_at table (p.cycle - 1)) i (omega arith) in
-      omega (arith, ints, more i l, before.untouched i l (omega arith), ap (λ z. p.mult *ℤ z) zero);
-}
+module _ (n : ℕ) (table : List (List NetCount)) (pairs left rest : List Pair) (p : Pair) (flows : List ℤ) (is : left ≡ p ∷ rest) (before : AreMade n table pairs left flows) where
+  exists : (Names (length table) p.cycle × (unsigned_abs p.mult ≤ 1000000000000)) × ArePairs (length table) rest
+  exists = pairs_apart (length table) left rest p is before.exist
+
+  more_entries : (i : ℕ) → entries_at table left i ≡ count_by (λ e. e.place == i) (nets_at table (p.cycle - 1)) + entries_at table rest i
+  more_entries i = ap (λ (ps : List Pair). entries_at table ps i) is ∙ sum_by-cons (λ (pair : Pair). count_by (λ (e : NetCount). e.place == i) (nets_at table (pair.cycle - 1))) p rest
+
+  pub made_more : (flows' : List ℤ) → ((i : ℕ) → i < n → number_at flows' i ≡ number_at flows i +ℤ p.mult *ℤ count_of (nets_at table (p.cycle - 1)) i)
+      → ((i : ℕ) → i < n → unsigned_abs (number_at flows' i) ≤ unsigned_abs (number_at flows i) + 10 ^ 19) → AreMade n table pairs rest flows'
+  made_more flows' more small = record {
+    exist = exists.1;
+    sum = λ walks nets i l.
+        let c = p.cycle - 1 in
+        let net = count_is n (cycle_at walks c) (nets_at table c) i (nets.each c (omega (arith, exists.0))) l in
+        let whole : flow walks left i ≡ p.mult *ℤ net_count (cycle_at walks c) i +ℤ flow walks rest i = ap (λ (ps : List Pair). flow walks ps i) is in
+        omega (arith, ints, more i l, before.sum walks nets i l, whole, ap (λ z. p.mult *ℤ z) net);
+    size = λ i l. omega (arith, small i l, before.size i l, ap length is);
+    fewer = λ i. omega (arith, before.fewer i, more_entries i);
+    untouched = λ i l none.
+        let zero = none_of (nets_at table (p.cycle - 1)) i (omega (arith, more_entries i, before.fewer i)) in
+        omega (arith, ints, more i l, before.untouched i l (omega (arith, more_entries i)), ap (λ z. p.mult *ℤ z) zero);
+  }
 
 -- the entries as the code reads them
 pub nets_read : (table : List (List NetCount)) (c : ℕ) (counts read : List NetCount) → c < length table → read ≡ get_or table c read → counts ≡ read → counts ≡ nets_at table c

@@ -1,9 +1,9 @@
 -- The value of a leaf, put together from its parts.
-use Rattle.std.proofs.Common.{◌≡◌, ℕ, ◌+◌, ◌-◌, ◌<◌, ◌≤◌, arith, refl, ap, sym, ◌∙◌, List, length, get_or, drop, Bool, true, false, Option, Some, None, subst}
+use Rattle.std.proofs.Common.{◌≡◌, ℕ, ◌-◌, ◌<◌, arith, refl, ap, sym, ◌∙◌, List, length, get_or, Bool, true, false, Option, Some, None, subst, [], ◌∷◌}
 use Rattle.std.specs.Prelude.{ℤ, pos, negsuc, ◌+ℤ◌, ◌-ℤ◌, ◌*ℤ◌, option_map, option_and_then}
 use Rattle.std.specs.Int.{int_min}
 use Rattle.std.proofs.lemmas.Int.{ints}
-use Rattle.std.proofs.lemmas.List.{drop_more, drop_all, get_or_default}
+use Rattle.std.proofs.lemmas.List.{get_or_default}
 use Rattle.pesp_problem.specs.declared.row.SignedRow.{SignedRow}
 use Rattle.pesp_problem.specs.declared.pair.Pair.{Pair}
 use Rattle.pesp_problem.specs.declared.arc.Arc.{Arc}
@@ -40,33 +40,33 @@ part_more period sum here (Some z) whole t e h =
     let same : (sum +ℤ here) +ℤ pos period *ℤ z ≡ sum +ℤ pos period *ℤ (t +ℤ z) = omega (arith, ints) in
     ap Some same ∙ h
 
-module _ (n : Net) (walks : List (List SignedRow)) (node : Node) (pairs : List Pair) (k : ℕ) (d : Pair) (within : k < length pairs) where
-  here_is : offset_part n walks node (drop k pairs) ≡ option_and_then (λ left. option_map (λ rest. scaled (get_or pairs k d).mult left.0 left.1 +ℤ rest) (offset_part n walks node (drop (k + 1) pairs))) (offsets_left n walks node ((get_or pairs k d).cycle - 1))
-  here_is = ap (offset_part n walks node) (drop_more pairs k d within)
+module _ (n : Net) (walks : List (List SignedRow)) (node : Node) (pairs left : List Pair) (p : Pair) (is : pairs ≡ p ∷ left) where
+  here_is : offset_part n walks node pairs ≡ option_and_then (λ range. option_map (λ rest. scaled p.mult range.0 range.1 +ℤ rest) (offset_part n walks node left)) (offsets_left n walks node (p.cycle - 1))
+  here_is = ap (offset_part n walks node) is
 
-  pub offset_more : (sum here : ℤ) (left : ℤ × ℤ) (whole : Option ℤ) → ◌≡◌ {A = Option (ℤ × ℤ)} (Some left) (offsets_left n walks node ((get_or pairs k d).cycle - 1)) → here ≡ pos n.period *ℤ scaled (get_or pairs k d).mult left.0 left.1
-      → IsWhole n.period sum (offset_part n walks node (drop k pairs)) whole → IsWhole n.period (sum +ℤ here) (offset_part n walks node (drop (k + 1) pairs)) whole
-  offset_more sum here left whole some e h =
-      let rest = offset_part n walks node (drop (k + 1) pairs) in
-      let is : offset_part n walks node (drop k pairs) ≡ option_map (λ z. scaled (get_or pairs k d).mult left.0 left.1 +ℤ z) rest =
-      here_is ∙ ap (option_and_then (λ (left : ℤ × ℤ). option_map (λ z. scaled (get_or pairs k d).mult left.0 left.1 +ℤ z) rest)) (sym some) in
-      part_more n.period sum here rest whole (scaled (get_or pairs k d).mult left.0 left.1) e (ap (option_map (λ z. sum +ℤ pos n.period *ℤ z)) (sym is) ∙ h)
+  pub offset_more : (sum here : ℤ) (range : ℤ × ℤ) (whole : Option ℤ) → ◌≡◌ {A = Option (ℤ × ℤ)} (Some range) (offsets_left n walks node (p.cycle - 1)) → here ≡ pos n.period *ℤ scaled p.mult range.0 range.1
+      → IsWhole n.period sum (offset_part n walks node pairs) whole → IsWhole n.period (sum +ℤ here) (offset_part n walks node left) whole
+  offset_more sum here range whole some e h =
+      let rest = offset_part n walks node left in
+      let is : offset_part n walks node pairs ≡ option_map (λ z. scaled p.mult range.0 range.1 +ℤ z) rest =
+      here_is ∙ ap (option_and_then (λ (range : ℤ × ℤ). option_map (λ z. scaled p.mult range.0 range.1 +ℤ z) rest)) (sym some) in
+      part_more n.period sum here rest whole (scaled p.mult range.0 range.1) e (ap (option_map (λ z. sum +ℤ pos n.period *ℤ z)) (sym is) ∙ h)
 
-  pub offset_none : (sum : ℤ) (whole : Option ℤ) → ◌≡◌ {A = Option (ℤ × ℤ)} None (offsets_left n walks node ((get_or pairs k d).cycle - 1)) → IsWhole n.period sum (offset_part n walks node (drop k pairs)) whole → ◌≡◌ {A = Option ℤ} None (option_map (λ z. pos n.period *ℤ z) whole)
+  pub offset_none : (sum : ℤ) (whole : Option ℤ) → ◌≡◌ {A = Option (ℤ × ℤ)} None (offsets_left n walks node (p.cycle - 1)) → IsWhole n.period sum (offset_part n walks node pairs) whole → ◌≡◌ {A = Option ℤ} None (option_map (λ z. pos n.period *ℤ z) whole)
   offset_none sum whole none h =
-      let rest = offset_part n walks node (drop (k + 1) pairs) in
-      let is : offset_part n walks node (drop k pairs) ≡ None =
-      here_is ∙ ap (option_and_then (λ (left : ℤ × ℤ). option_map (λ z. scaled (get_or pairs k d).mult left.0 left.1 +ℤ z) rest)) (sym none) in
+      let rest = offset_part n walks node left in
+      let is : offset_part n walks node pairs ≡ None =
+      here_is ∙ ap (option_and_then (λ (range : ℤ × ℤ). option_map (λ z. scaled p.mult range.0 range.1 +ℤ z) rest)) (sym none) in
       ap (option_map (λ z. sum +ℤ pos n.period *ℤ z)) (sym is) ∙ h
 
 pub offset_first : (period : ℕ) (whole : Option ℤ) → IsWhole period (pos 0) whole whole
 offset_first period None = refl
 offset_first period (Some z) = let e : pos 0 +ℤ pos period *ℤ z ≡ pos period *ℤ z = omega (arith, ints) in ap Some e
 
-pub offset_all : (n : Net) (walks : List (List SignedRow)) (node : Node) (pairs : List Pair) (k : ℕ) (sum : ℤ) (whole : Option ℤ) → length pairs ≤ k → IsWhole n.period sum (offset_part n walks node (drop k pairs)) whole → ◌≡◌ {A = Option ℤ} (Some sum) (option_map (λ z. pos n.period *ℤ z) whole)
-offset_all n walks node pairs k sum whole done h =
+pub offset_all : (n : Net) (walks : List (List SignedRow)) (node : Node) (pairs : List Pair) (sum : ℤ) (whole : Option ℤ) → pairs ≡ [] → IsWhole n.period sum (offset_part n walks node pairs) whole → ◌≡◌ {A = Option ℤ} (Some sum) (option_map (λ z. pos n.period *ℤ z) whole)
+offset_all n walks node pairs sum whole done h =
     let e : sum ≡ sum +ℤ pos n.period *ℤ pos 0 = omega (arith, ints) in
-    let none : offset_part n walks node (drop k pairs) ≡ Some (pos 0) = ap (offset_part n walks node) (drop_all k pairs done) in
+    let none : offset_part n walks node pairs ≡ Some (pos 0) = ap (offset_part n walks node) done in
     ap Some e ∙ ap (option_map (λ z. sum +ℤ pos n.period *ℤ z)) (sym none) ∙ h
 
 -- ---- what the rows add

@@ -1,11 +1,11 @@
 -- Flows as they are taken, row by row.
-use Rattle.std.proofs.Common.{◌≡◌, ◌≢◌, inl, inr, ℕ, ◌+◌, ◌-◌, ◌*◌, ◌^◌, ◌<◌, ◌≤◌, arith, ap, sym, ◌∙◌, List, length, get_or, set, drop, Bool, true, false}
+use Rattle.std.proofs.Common.{◌≡◌, ◌≢◌, inl, inr, ℕ, ◌+◌, ◌-◌, ◌*◌, ◌^◌, ◌<◌, ◌≤◌, arith, ap, sym, ◌∙◌, List, [], ◌∷◌, length, get_or, set, drop, Bool, true, false}
 use Rattle.std.specs.Prelude.{ℤ, pos, ◌+ℤ◌, ◌-ℤ◌, ◌*ℤ◌, unsigned_abs, ◌==◌, count_by, cond}
 use Rattle.std.proofs.lemmas.Int.{ints, clamps, unsigned_abs-mul}
 use Rattle.std.proofs.Math.Nat.{mul-le-mul}
 use Rattle.std.proofs.lemmas.Bool.{cases_eq}
-use Rattle.std.proofs.lemmas.List.{get_or-set_same, get_or-set_other, length-set, drop_all, length-drop}
-use Rattle.std.proofs.lemmas.List.Sums.{sum_by-drop_more, count_by-le-length}
+use Rattle.std.proofs.lemmas.List.{get_or-set_same, get_or-set_other, length-set, length-drop}
+use Rattle.std.proofs.lemmas.List.Sums.{sum_by-cons, sum_by-drop_more, count_by-le-length}
 use Rattle.std.proofs.lemmas.List.Elements.{All-get_or}
 use Rattle.pesp_problem.specs.declared.arc.Arc.{Arc}
 use Rattle.pesp_problem.specs.declared.pair.Pair.{Pair}
@@ -16,8 +16,9 @@ use Rattle.pesp_problem.specs.Nodes.{weight_of, slack_range}
 use Rattle.pesp_check.specs.declared.nets.NetCount.{NetCount}
 use Rattle.pesp_check.specs.Nets.{AreZeros}
 use Rattle.pesp_check.specs.Offsets.{AreSlackRanges}
-use Rattle.pesp_check.specs.Flows.{number_at, nets_at, entries_at, lesser, flow_term, flow_sum, AreSmallFlows}
+use Rattle.pesp_check.specs.Flows.{number_at, nets_at, entries_at, lesser, flow_term, flow_sum, AreSmallFlows, ArePairs}
 use Rattle.pesp_check.proofs.Counts.{eq-false}
+use Rattle.pesp_check.proofs.Flowing.{pairs_apart}
 use Rattle.pesp_check.proofs.Sums.{sum_below-small, held-take, held-zeros, small-set}
 use Rattle.pesp_check.proofs.Idle.{arc_is, small_weight}
 
@@ -100,31 +101,31 @@ taken_all counts k i h = omega (arith, count_by-le-length (λ (e : NetCount). e.
 
 -- ---- one pair's flows after the other
 
-pub record AreLeft (arcs : List Arc) (slacks : List (ℕ × ℕ)) (weighted : Bool) (table : List (List NetCount)) (pairs : List Pair) (initial flows : List ℤ) (sum : ℤ) (k : ℕ) : Type 0 where
+-- the flows that are not 0 are on rows of the pairs that are left
+pub record AreLeft (arcs : List Arc) (slacks : List (ℕ × ℕ)) (weighted : Bool) (table : List (List NetCount)) (left : List Pair) (initial flows : List ℤ) (sum : ℤ) : Type 0 where
+  pub exist : ArePairs (length table) left
   pub sum_is : sum +ℤ flow_sum arcs slacks weighted flows ≡ flow_sum arcs slacks weighted initial
   pub small : AreSmallFlows flows
-  pub left : (i : ℕ) → i < length flows → entries_at table (drop k pairs) i ≡ 0 → number_at flows i ≡ pos 0
+  pub touched : (i : ℕ) → i < length flows → entries_at table left i ≡ 0 → number_at flows i ≡ pos 0
 
-pub left_more : (arcs : List Arc) (slacks : List (ℕ × ℕ)) (weighted : Bool) (table : List (List NetCount)) (pairs : List Pair) (initial flows flows' : List ℤ) (sum here sum' : ℤ) (k : ℕ) (d : Pair) → k < length pairs → length flows' ≡ length flows
-    → here +ℤ flow_sum arcs slacks weighted flows' ≡ flow_sum arcs slacks weighted flows → sum' ≡ sum +ℤ here → AreSmallFlows flows'
-    → ((i : ℕ) → i < length flows → (count_by (λ e. e.place == i) (nets_at table ((get_or pairs k d).cycle - 1)) ≡ 0 → number_at flows i ≡ pos 0) → number_at flows' i ≡ pos 0)
-    → AreLeft arcs slacks weighted table pairs initial flows sum k → AreLeft arcs slacks weighted table pairs initial flows' sum' (k + 1)
-left_more arcs slacks weighted table pairs initial flows flows' sum here sum' k d h long e s small taken before = record {
-  sum_is = omega (arith, ints, before.sum_is);
-  small = small;
-  left = λ i l none.
-      let l' : i < length flows = omega (arith, long) in
-      let more = sum_by-drop_more (λ (pair : Pair). count_by (λ (e : NetCount). e.place == i) (nets_at table (pair.cycle - 1))) pairs k d h in
-      taken i l' (λ z. before.left i l' (omega arith));
-}
-
-pub none_left : (table : List (List NetCount)) (pairs : List Pair) (k i : ℕ) → length pairs ≤ k → entries_at table (drop k pairs) i ≡ 0
-none_left table pairs k i h = ap (λ (ps : List Pair). entries_at table ps i) (drop_all k pairs h)
+module _ (arcs : List Arc) (slacks : List (ℕ × ℕ)) (weighted : Bool) (table : List (List NetCount)) (left rest : List Pair) (p : Pair) (initial flows : List ℤ) (sum : ℤ) (is : left ≡ p ∷ rest) (before : AreLeft arcs slacks weighted table left initial flows sum) where
+  pub left_more : (flows' : List ℤ) (here sum' : ℤ) → length flows' ≡ length flows → here +ℤ flow_sum arcs slacks weighted flows' ≡ flow_sum arcs slacks weighted flows → sum' ≡ sum +ℤ here → AreSmallFlows flows'
+      → ((i : ℕ) → i < length flows → (count_by (λ e. e.place == i) (nets_at table (p.cycle - 1)) ≡ 0 → number_at flows i ≡ pos 0) → number_at flows' i ≡ pos 0) → AreLeft arcs slacks weighted table rest initial flows' sum'
+  left_more flows' here sum' long e s small taken = record {
+    exist = (pairs_apart (length table) left rest p is before.exist).1;
+    sum_is = omega (arith, ints, before.sum_is);
+    small = small;
+    touched = λ i l none.
+        let l' : i < length flows = omega (arith, long) in
+        let more : entries_at table left i ≡ count_by (λ (e : NetCount). e.place == i) (nets_at table (p.cycle - 1)) + entries_at table rest i =
+        ap (λ (ps : List Pair). entries_at table ps i) is ∙ sum_by-cons (λ (pair : Pair). count_by (λ (e : NetCount). e.place == i) (nets_at table (pair.cycle - 1))) p rest in
+        taken i l' (λ z. before.touched i l' (omega arith));
+  }
 
 -- all are taken
-pub left_all : (arcs : List Arc) (slacks : List (ℕ × ℕ)) (weighted : Bool) (table : List (List NetCount)) (pairs : List Pair) (initial flows : List ℤ) (sum : ℤ) (k : ℕ) → length pairs ≤ k → AreLeft arcs slacks weighted table pairs initial flows sum k → (sum ≡ flow_sum arcs slacks weighted initial) × AreZeros flows
-left_all arcs slacks weighted table pairs initial flows sum k done h =
-    let zeros : AreZeros flows = λ i l. h.left i l (none_left table pairs k i done) in
+pub left_all : (arcs : List Arc) (slacks : List (ℕ × ℕ)) (weighted : Bool) (table : List (List NetCount)) (left : List Pair) (initial flows : List ℤ) (sum : ℤ) → left ≡ [] → AreLeft arcs slacks weighted table left initial flows sum → (sum ≡ flow_sum arcs slacks weighted initial) × AreZeros flows
+left_all arcs slacks weighted table left initial flows sum done h =
+    let zeros : AreZeros flows = λ i l. h.touched i l (ap (λ (ps : List Pair). entries_at table ps i) done) in
     let none = held-zeros (flow_term arcs slacks weighted) flows (no_flow arcs slacks weighted) zeros in
     (omega (arith, ints, h.sum_is), zeros)
 

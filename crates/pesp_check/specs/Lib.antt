@@ -8,3 +8,4 @@ pub mod Leaves
 pub mod Faults
 pub mod Lines
 pub mod LeafLines
+pub mod SaidLines

@@ -9,6 +9,7 @@ ghost use Rattle.pesp_check.specs.Nets.{AreSmallCounts, AreZeros};
 ghost use Rattle.pesp_check.specs.Offsets.{AreSlackRanges};
 ghost use Rattle.pesp_check.specs.Flows.{count_of, number_at, AreNets, AreSmallFlows, ArePairs, lesser, flow_term, flow_sum, entries_at};
 
+use crate::elements::Elements;
 use crate::nets::{NetCount, Nets, take};
 use crate::rows::arc_at;
 use pesp_problem::exact::{minus, plus, times};
@@ -40,16 +41,17 @@ fn add_flow(flows: &mut [i128], counts: &[NetCount], mult: i64)
 }
 
 /// Makes the flows of the pairs out of flows that are 0.
-pub fn add_flows(flows: &mut [i128], table: &[Nets], pairs: &[Pair])
+pub fn add_flows<P: Elements<Pair>>(flows: &mut [i128], table: &[Nets], pairs: P)
     requires table { All (AreSmallCounts (length flows.old)) table.now }
-    requires pairs { ArePairs (length table.now) pairs.now }
+    requires pairs { ArePairs (length table.now) (P.elements pairs) }
     requires zeros { AreZeros flows.old }
     ensures flows { (walks : List (List SignedRow)) → AreNets (length flows.old) walks table.now
-        → (i : ℕ) → i < length flows.old → number_at flows.new i ≡ flow walks pairs.now i }
-    ensures untouched { (i : ℕ) → i < length flows.old → entries_at table.now pairs.now i ≡ 0 → number_at flows.new i ≡ pos 0 }
+        → (i : ℕ) → i < length flows.old → number_at flows.new i ≡ flow walks (P.elements pairs) i }
+    ensures untouched { (i : ℕ) → i < length flows.old → entries_at table.now (P.elements pairs) i ≡ 0 → number_at flows.new i ≡ pos 0 }
     ensures small { AreSmallFlows flows.new }
 {
-    for pair in pairs {
+    let mut left = pairs;
+    while let Some(pair) = left.take_next() {
         add_flow(flows, table[pair.cycle as usize - 1].counts(), pair.mult);
     }
 }
@@ -144,27 +146,28 @@ fn take_flow(
 }
 
 /// Takes the flows of a leaf: what they change of its value. The flows are 0 afterwards.
-pub fn take_flows(
+pub fn take_flows<P: Elements<Pair>>(
     instance: &Instance,
     slacks: &[(u32, u32)],
     weighted: bool,
     table: &[Nets],
-    pairs: &[Pair],
+    pairs: P,
     flows: &mut [i128],
 ) -> i128
     requires limits { KeepsLimits instance.now }
     requires slacks { AreSlackRanges (length instance.now.rows) slacks.now }
     requires table { All (AreSmallCounts (length flows.old)) table.now }
-    requires pairs { ArePairs (length table.now) pairs.now }
+    requires pairs { ArePairs (length table.now) (P.elements pairs) }
     requires long { length flows.old ≡ length instance.now.rows }
     requires small { AreSmallFlows flows.old }
-    requires untouched { (i : ℕ) → i < length flows.old → entries_at table.now pairs.now i ≡ 0 → number_at flows.old i ≡ pos 0 }
+    requires untouched { (i : ℕ) → i < length flows.old → entries_at table.now (P.elements pairs) i ≡ 0 → number_at flows.old i ≡ pos 0 }
     ensures sum { result ≡ flow_sum (arcs_of instance.now) slacks.now weighted flows.old }
     ensures size { unsigned_abs result ≤ 2 * 10 ^ 35 }
     ensures zeros { AreZeros flows.new }
 {
+    let mut left = pairs;
     let mut sum = 0;
-    for pair in pairs {
+    while let Some(pair) = left.take_next() {
         let counts = table[pair.cycle as usize - 1].counts();
         sum = plus(sum, take_flow(instance, slacks, weighted, counts, flows));
     }

@@ -11,6 +11,7 @@ ghost use Rattle.pesp_check.specs.Ranges.{node_of, AreRanges};
 ghost use Rattle.pesp_check.specs.Lines.{IsLeafVerdict, IsReasonVerdict, ArePairLimits};
 ghost use Rattle.pesp_check.specs.LeafLines.{leaf_said, KeepsLeafLimits};
 
+use crate::elements::Elements;
 use crate::leaf::{leaf_value, offsets_left};
 use crate::nets::Nets;
 use crate::ranges::Ranges;
@@ -19,9 +20,9 @@ use pesp_problem::{Instance, Pair};
 
 /// A leaf as a line says it: pairs for a bound, pairs that show that no timetable lies there, or a cycle with no offset left.
 #[derive(Clone, Copy)]
-pub enum LeafLine<'a> {
-    Bound(&'a [Pair]),
-    Nothing(&'a [Pair]),
+pub enum LeafLine<P> {
+    Bound(P),
+    Nothing(P),
     Gap(u32),
 }
 
@@ -33,10 +34,16 @@ pub fn names(count: usize, number: u32) -> bool
 }
 
 /// Whether the cycles of the pairs exist.
-fn pairs_exist(cycles: usize, pairs: &[Pair]) -> bool
-    ensures { IsTrue result ↔ All (λ pair. Names cycles pair.cycle) pairs.now }
+fn pairs_exist<P: Elements<Pair>>(cycles: usize, pairs: P) -> bool
+    ensures { IsTrue result ↔ All (λ pair. Names cycles pair.cycle) (P.elements pairs) }
 {
-    pairs.iter().all(|pair| names(cycles, pair.cycle))
+    let mut left = pairs;
+    while let Some(pair) = left.take_next() {
+        if !names(cycles, pair.cycle) {
+            return false;
+        }
+    }
+    true
 }
 
 /// Whether there is a value and it is at least the least cost.
@@ -60,11 +67,11 @@ fn is_positive(value: Option<i128>) -> bool
 }
 
 /// What is wrong with a leaf that should show that each timetable in the node costs at least `least`.
-fn judge_bound(
+fn judge_bound<P: Elements<Pair>>(
     instance: &Instance,
     table: &[Nets],
     ranges: &Ranges,
-    pairs: &[Pair],
+    pairs: P,
     least: Option<u64>,
     line: u64,
     working: &mut [i128],
@@ -72,11 +79,11 @@ fn judge_bound(
     requires ranges { AreRanges instance.now ranges.now }
     requires table { All (AreSmallCounts (length instance.now.rows)) table.now }
     requires cycles { length ranges.now.offsets.items ≡ length table.now }
-    requires pairs { ArePairLimits pairs.now }
+    requires pairs { ArePairLimits (P.elements pairs) }
     requires long { length working.old ≡ length instance.now.rows }
     requires zeros { AreZeros working.old }
     ensures verdict { (walks : List (List SignedRow)) → AreNets (length instance.now.rows) walks table.now
-        → IsLeafVerdict (net_of instance.now) walks least (trees.Bound pairs.now) (node_of ranges.now) line result }
+        → IsLeafVerdict (net_of instance.now) walks least (trees.Bound (P.elements pairs)) (node_of ranges.now) line result }
     ensures zeros { AreZeros working.new }
 {
     if !pairs_exist(table.len(), pairs) {
@@ -95,22 +102,22 @@ fn judge_bound(
 }
 
 /// What is wrong with a leaf that should show that no timetable lies in the node.
-fn judge_nothing(
+fn judge_nothing<P: Elements<Pair>>(
     instance: &Instance,
     table: &[Nets],
     ranges: &Ranges,
-    pairs: &[Pair],
+    pairs: P,
     line: u64,
     working: &mut [i128],
 ) -> Option<Refusal>
     requires ranges { AreRanges instance.now ranges.now }
     requires table { All (AreSmallCounts (length instance.now.rows)) table.now }
     requires cycles { length ranges.now.offsets.items ≡ length table.now }
-    requires pairs { ArePairLimits pairs.now }
+    requires pairs { ArePairLimits (P.elements pairs) }
     requires long { length working.old ≡ length instance.now.rows }
     requires zeros { AreZeros working.old }
     ensures verdict { (walks : List (List SignedRow)) → AreNets (length instance.now.rows) walks table.now
-        → IsReasonVerdict (net_of instance.now) walks (trees.ByPairs pairs.now) (node_of ranges.now) line result }
+        → IsReasonVerdict (net_of instance.now) walks (trees.ByPairs (P.elements pairs)) (node_of ranges.now) line result }
     ensures zeros { AreZeros working.new }
 {
     if !pairs_exist(table.len(), pairs) {
@@ -153,11 +160,11 @@ fn judge_gap(
 }
 
 /// What is wrong with a leaf at a node.
-pub fn judge_leaf(
+pub fn judge_leaf<P: Elements<Pair>>(
     instance: &Instance,
     table: &[Nets],
     ranges: &Ranges,
-    leaf: LeafLine<'_>,
+    leaf: LeafLine<P>,
     least: Option<u64>,
     line: u64,
     working: &mut [i128],
@@ -165,11 +172,11 @@ pub fn judge_leaf(
     requires ranges { AreRanges instance.now ranges.now }
     requires table { All (AreSmallCounts (length instance.now.rows)) table.now }
     requires cycles { length ranges.now.offsets.items ≡ length table.now }
-    requires limits { KeepsLeafLimits leaf }
+    requires limits { KeepsLeafLimits P.elements leaf }
     requires long { length working.old ≡ length instance.now.rows }
     requires zeros { AreZeros working.old }
     ensures verdict { (walks : List (List SignedRow)) → AreNets (length instance.now.rows) walks table.now
-        → IsLeafVerdict (net_of instance.now) walks least (leaf_said leaf.entry) (node_of ranges.now) line result }
+        → IsLeafVerdict (net_of instance.now) walks least (leaf_said P.elements leaf) (node_of ranges.now) line result }
     ensures zeros { AreZeros working.new }
 {
     match leaf {

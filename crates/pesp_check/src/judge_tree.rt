@@ -9,15 +9,35 @@ ghost use Rattle.pesp_truth.specs.Certificates.{line_of};
 ghost use Rattle.pesp_check.specs.Nets.{AreZeros, AreSmallCounts};
 ghost use Rattle.pesp_check.specs.Flows.{AreNets};
 ghost use Rattle.pesp_check.specs.Lines.{IsLinesFault, KeepsLineLimits};
+ghost use Rattle.pesp_check.specs.SaidLines.{line_said, KeepsSaidLimits};
 
+use crate::judge_leaf::LeafLine;
 use crate::nets::Nets;
 use crate::node_walk::NodeWalk;
 use crate::refusal::Refusal;
 use crate::table::root;
-use crate::tree::take_line;
-use pesp_problem::Instance;
+use crate::tree::{SaidLine, take_line};
+use pesp_problem::{Cut, Instance, Pair};
 use pesp_truth::TreeLine;
 use std::alloc::{AllocError, Global};
+
+/// A line of the tree as the list of its lines says it.
+fn said_by(tree_line: &TreeLine) -> SaidLine<&[Pair]>
+    ensures line { line_said (λ pairs. pairs.now) result ≡ line_of tree_line.now }
+    ensures limits { KeepsLineLimits tree_line.now → KeepsSaidLimits (λ pairs. pairs.now) result }
+{
+    match tree_line {
+        TreeLine::Slack { row, k } => SaidLine::Branch(Cut::Slack { row: *row, k: *k }),
+        TreeLine::Offset { cycle, k } => SaidLine::Branch(Cut::Offset {
+            cycle: *cycle,
+            k: *k,
+        }),
+        TreeLine::Bound(pairs) => SaidLine::Leaf(LeafLine::Bound(pairs.as_slice())),
+        TreeLine::Nothing(pairs) => SaidLine::Leaf(LeafLine::Nothing(pairs.as_slice())),
+        TreeLine::Gap(cycle) => SaidLine::Leaf(LeafLine::Gap(*cycle)),
+        TreeLine::Propagated => SaidLine::Propagated,
+    }
+}
 
 /// The first fault of a tree at the root; its lines begin with the line `first`.
 pub fn judge_tree(
@@ -44,7 +64,14 @@ pub fn judge_tree(
     for (place, tree_line) in lines.iter().enumerate() {
         let line = first + place as u64;
         let found = take_line(
-            alloc, instance, table, &mut walk, tree_line, least, line, working,
+            alloc,
+            instance,
+            table,
+            &mut walk,
+            said_by(tree_line),
+            least,
+            line,
+            working,
         )?;
         if found.is_some() {
             return Ok(found);

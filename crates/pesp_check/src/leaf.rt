@@ -12,6 +12,7 @@ ghost use Rattle.pesp_check.specs.Flows.{AreNets, ArePairs};
 ghost use Rattle.pesp_check.specs.Leaves.{left_of};
 ghost use Rattle.pesp_check.specs.Ranges.{node_of, AreRanges, idle_part};
 
+use crate::elements::Elements;
 use crate::flows::{add_flows, take_flows};
 use crate::nets::{NetCount, Nets};
 use crate::offsets::{duration_sums, left_between, scaled};
@@ -65,27 +66,33 @@ fn scaled_offset(period: u32, mult: i64, left: (i64, i64)) -> i128
 
 /// The period times the sum over the pairs of the multiplier times the offset that it takes; none where a cycle has no
 /// offset left.
-fn offset_sum(instance: &Instance, table: &[Nets], ranges: &Ranges, pairs: &[Pair]) -> Option<i128>
+fn offset_sum<P: Elements<Pair>>(
+    instance: &Instance,
+    table: &[Nets],
+    ranges: &Ranges,
+    pairs: P,
+) -> Option<i128>
     requires ranges { AreRanges instance.now ranges.now }
     requires table { All (AreSmallCounts (length instance.now.rows)) table.now }
     requires cycles { length ranges.now.offsets.items ≡ length table.now }
-    requires pairs { ArePairs (length table.now) pairs.now }
+    requires pairs { ArePairs (length table.now) (P.elements pairs) }
     ensures value { (walks : List (List SignedRow)) → AreNets (length instance.now.rows) walks table.now
-        → result ≡ option_map (λ z. pos instance.now.period *ℤ z) (nodes.offset_part (net_of instance.now) walks (node_of ranges.now) pairs.now) }
+        → result ≡ option_map (λ z. pos instance.now.period *ℤ z) (nodes.offset_part (net_of instance.now) walks (node_of ranges.now) (P.elements pairs)) }
     ensures size { IfSome result (λ z. unsigned_abs z ≤ 100000 * (1000000000000 * 10100000000000)) }
     ensures limits { KeepsLimits instance.now }
 {
     let period = instance.period();
+    let mut left = pairs;
     let mut sum = 0;
-    for pair in pairs {
+    while let Some(pair) = left.take_next() {
         let at = pair.cycle as usize - 1;
-        let left = offsets_left(
+        let range = offsets_left(
             instance,
             table[at].counts(),
             &ranges.slacks,
             ranges.offsets[at],
         )?;
-        sum = plus(sum, scaled_offset(period, pair.mult, left));
+        sum = plus(sum, scaled_offset(period, pair.mult, range));
     }
     Some(sum)
 }
@@ -102,22 +109,22 @@ fn idle_part(instance: &Instance, ranges: &Ranges, weighted: bool) -> i128
 
 /// The value of a leaf with these pairs, by weak duality for circulations; none where a cycle of a pair has no offset left.
 /// The working numbers, one a row, are 0 before and after.
-pub fn leaf_value(
+pub fn leaf_value<P: Elements<Pair>>(
     instance: &Instance,
     table: &[Nets],
     ranges: &Ranges,
-    pairs: &[Pair],
+    pairs: P,
     weighted: bool,
     working: &mut [i128],
 ) -> Option<i128>
     requires ranges { AreRanges instance.now ranges.now }
     requires table { All (AreSmallCounts (length instance.now.rows)) table.now }
     requires cycles { length ranges.now.offsets.items ≡ length table.now }
-    requires pairs { ArePairs (length table.now) pairs.now }
+    requires pairs { ArePairs (length table.now) (P.elements pairs) }
     requires long { length working.old ≡ length instance.now.rows }
     requires zeros { AreZeros working.old }
     ensures value { (walks : List (List SignedRow)) → AreNets (length instance.now.rows) walks table.now
-        → result ≡ nodes.leaf_value (net_of instance.now) walks (node_of ranges.now) pairs.now weighted }
+        → result ≡ nodes.leaf_value (net_of instance.now) walks (node_of ranges.now) (P.elements pairs) weighted }
     ensures zeros { AreZeros working.new }
 {
     let offsets = offset_sum(instance, table, ranges, pairs)?;

@@ -3,6 +3,7 @@
 
 mod branch;
 mod checking;
+mod elements;
 mod flows;
 mod judge_answer;
 mod judge_leaf;

@@ -1,10 +1,12 @@
 //! The parts of the check, one answer, one cycle and one line at a time, for a check of a text while it is read.
 
 pub use crate::checking::{least_of, zeros};
+pub use crate::elements::Elements;
 pub use crate::judge_answer::judge_answer;
+pub use crate::judge_leaf::LeafLine;
 pub use crate::nets::{Nets, nets_of};
 pub use crate::node_walk::NodeWalk;
 pub use crate::ranges::Ranges;
 pub use crate::table::root;
-pub use crate::tree::take_line;
+pub use crate::tree::{SaidLine, take_line};
 pub use crate::walks::judge_cycle;

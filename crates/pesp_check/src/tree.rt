@@ -4,19 +4,27 @@ ghost use Rattle.std.specs.Prelude.{◌≡◌, ◌≢◌, ◌↔◌, ℕ, ◌+�
 ghost use Rattle.pesp_problem.specs.declared.row.SignedRow.{SignedRow};
 ghost use Rattle.pesp_problem.specs.Arcs.{net_of};
 ghost use Rattle.pesp_truth.specs.Trees.{CutLine, EndLine, Shut, ByPropagation};
-ghost use Rattle.pesp_truth.specs.Certificates.{line_of};
 ghost use Rattle.pesp_check.specs.Nets.{AreZeros, AreSmallCounts};
 ghost use Rattle.pesp_check.specs.Flows.{AreNets};
-ghost use Rattle.pesp_check.specs.Lines.{after, IsLineVerdict, KeepsLineLimits, CutIsNamed, IsSmallCut};
+ghost use Rattle.pesp_check.specs.Lines.{after, IsLineVerdict, CutIsNamed, IsSmallCut};
 ghost use Rattle.pesp_check.specs.LeafLines.{leaf_said, KeepsLeafLimits};
+ghost use Rattle.pesp_check.specs.SaidLines.{line_said, KeepsSaidLimits};
 
+use crate::elements::Elements;
 use crate::judge_leaf::{LeafLine, judge_leaf, names};
 use crate::nets::Nets;
 use crate::node_walk::NodeWalk;
 use crate::refusal::Refusal;
-use pesp_problem::{Cut, Instance};
-use pesp_truth::TreeLine;
+use pesp_problem::{Cut, Instance, Pair};
 use std::alloc::{AllocError, Global};
+
+/// A line of the tree as a text or a list says it: a branch, a leaf, or a leaf that propagation closes.
+#[derive(Clone, Copy)]
+pub enum SaidLine<P> {
+    Branch(Cut),
+    Leaf(LeafLine<P>),
+    Propagated,
+}
 
 /// Whether the row or the cycle of a cut exists.
 fn cut_exists(instance: &Instance, cycles: usize, cut: Cut) -> bool
@@ -54,11 +62,11 @@ fn take_branch(
 }
 
 /// Takes a leaf: it is judged at the first of the nodes that wait, and the next one is the first then.
-fn take_leaf(
+fn take_leaf<P: Elements<Pair>>(
     instance: &Instance,
     table: &[Nets],
     walk: &mut NodeWalk<'_>,
-    leaf: LeafLine<'_>,
+    leaf: LeafLine<P>,
     least: Option<u64>,
     line: u64,
     working: &mut [i128],
@@ -67,14 +75,14 @@ fn take_leaf(
     requires table { All (AreSmallCounts (length instance.now.rows)) table.now }
     requires cycles { walk.old.cycles ≡ length table.now }
     requires open { walk.old.nodes ≢ [] }
-    requires limits { KeepsLeafLimits leaf }
+    requires limits { KeepsLeafLimits P.elements leaf }
     requires long { length working.old ≡ length instance.now.rows }
     requires zeros { AreZeros working.old }
     ensures problem { walk.new.problem ≡ instance.now }
     ensures cycles { walk.new.cycles ≡ length table.now }
     ensures verdict { (walks : List (List SignedRow)) → AreNets (length instance.now.rows) walks table.now
-        → IsLineVerdict (net_of instance.now) walks least (EndLine (leaf_said leaf.entry)) walk.old.nodes walk.new.nodes line result }
-    ensures nodes { IfNone result (walk.new.nodes ≡ after (EndLine (leaf_said leaf.entry)) walk.old.nodes) }
+        → IsLineVerdict (net_of instance.now) walks least (EndLine (leaf_said P.elements leaf)) walk.old.nodes walk.new.nodes line result }
+    ensures nodes { IfNone result (walk.new.nodes ≡ after (EndLine (leaf_said P.elements leaf)) walk.old.nodes) }
     ensures zeros { AreZeros working.new }
 {
     let found = judge_leaf(instance, table, walk.ranges(), leaf, least, line, working);
@@ -105,12 +113,12 @@ fn take_propagated(
 }
 
 /// Takes a line of the tree: what is wrong with it at the first of the nodes that wait. The next nodes wait then.
-pub fn take_line(
+pub fn take_line<P: Elements<Pair>>(
     alloc: Global,
     instance: &Instance,
     table: &[Nets],
     walk: &mut NodeWalk<'_>,
-    tree_line: &TreeLine,
+    said: SaidLine<P>,
     least: Option<u64>,
     line: u64,
     working: &mut [i128],
@@ -119,46 +127,19 @@ pub fn take_line(
     requires table { All (AreSmallCounts (length instance.now.rows)) table.now }
     requires cycles { walk.old.cycles ≡ length table.now }
     requires open { walk.old.nodes ≢ [] }
-    requires limits { KeepsLineLimits tree_line.now }
+    requires limits { KeepsSaidLimits P.elements said }
     requires long { length working.old ≡ length instance.now.rows }
     requires zeros { AreZeros working.old }
     ensures problem { walk.new.problem ≡ instance.now }
     ensures cycles { walk.new.cycles ≡ length table.now }
     ensures verdict { IfOk result (λ found. (walks : List (List SignedRow)) → AreNets (length instance.now.rows) walks table.now
-        → IsLineVerdict (net_of instance.now) walks least (line_of tree_line.now) walk.old.nodes walk.new.nodes line found) }
-    ensures nodes { IfOk result (λ found. IfNone found (walk.new.nodes ≡ after (line_of tree_line.now) walk.old.nodes)) }
+        → IsLineVerdict (net_of instance.now) walks least (line_said P.elements said) walk.old.nodes walk.new.nodes line found) }
+    ensures nodes { IfOk result (λ found. IfNone found (walk.new.nodes ≡ after (line_said P.elements said) walk.old.nodes)) }
     ensures zeros { AreZeros working.new }
 {
-    match tree_line {
-        TreeLine::Slack { row, k } => take_branch(
-            instance,
-            table,
-            walk,
-            Cut::Slack { row: *row, k: *k },
-            line,
-        ),
-        TreeLine::Offset { cycle, k } => take_branch(
-            instance,
-            table,
-            walk,
-            Cut::Offset {
-                cycle: *cycle,
-                k: *k,
-            },
-            line,
-        ),
-        TreeLine::Bound(pairs) => {
-            let leaf = LeafLine::Bound(pairs.as_slice());
-            Ok(take_leaf(instance, table, walk, leaf, least, line, working))
-        }
-        TreeLine::Nothing(pairs) => {
-            let leaf = LeafLine::Nothing(pairs.as_slice());
-            Ok(take_leaf(instance, table, walk, leaf, least, line, working))
-        }
-        TreeLine::Gap(cycle) => {
-            let leaf = LeafLine::Gap(*cycle);
-            Ok(take_leaf(instance, table, walk, leaf, least, line, working))
-        }
-        TreeLine::Propagated => take_propagated(alloc, walk, line),
+    match said {
+        SaidLine::Branch(cut) => take_branch(instance, table, walk, cut, line),
+        SaidLine::Leaf(leaf) => Ok(take_leaf(instance, table, walk, leaf, least, line, working)),
+        SaidLine::Propagated => take_propagated(alloc, walk, line),
     }
 }

@@ -4,13 +4,20 @@ use Rattle.std.specs.List.{list_all}
 use Rattle.std.proofs.lemmas.Bool.{cases_lt}
 use Rattle.std.proofs.lemmas.List.{drop_all, drop_more, get_or_default}
 use Rattle.pesp_problem.specs.declared.row.SignedRow.{SignedRow}
+use Rattle.pesp_problem.specs.declared.pair.Pair.{Pair}
+use Rattle.pesp_problem.specs.declared.cut.Cut.TheVariants.{Slack as SlackCut, Offset as OffsetCut}
 use Rattle.pesp_truth.specs.declared.tree.TreeLine.{TreeLine}
 use Rattle.pesp_truth.specs.declared.tree.TreeLine.TheVariants as lines
-use Rattle.pesp_truth.specs.Certificates.{Content}
+use Rattle.pesp_truth.specs.Certificates.{Content, line_of}
 use Rattle.pesp_lines.specs.declared.item.Item.{Item}
 use Rattle.pesp_lines.specs.declared.item.Item.TheVariants.{Time, Cycle, Slack, Offset, Bound, Nothing, Gap, Propagated, End}
 use Rattle.pesp_cert.specs.Texts.{time_item, tree_item}
+use Rattle.pesp_check.specs.declared.judge_leaf.LeafLine.TheVariants.{Bound as BoundLeaf, Nothing as NothingLeaf, Gap as GapLeaf}
+use Rattle.pesp_check.specs.declared.tree.SaidLine.{SaidLine}
+use Rattle.pesp_check.specs.declared.tree.SaidLine.TheVariants.{Branch, Leaf, Propagated as PropagatedLine}
+use Rattle.pesp_check.specs.SaidLines.{line_said}
 use Rattle.pesp_check_text.specs.Items.{is_later, is_line}
+use Rattle.pesp_check_text.specs.Said.{tree_line}
 use Rattle.pesp_check_text.specs.Judging.{tree_from, cycles_from, times_from}
 
 -- the next item is that of the element at place k
@@ -49,6 +56,15 @@ line_is_line (lines.Bound ps) = refl
 line_is_line (lines.Nothing ps) = refl
 line_is_line (lines.Gap cycle) = refl
 line_is_line lines.Propagated = refl
+
+-- what is said is the line
+pub said_is : {P : Type 0} (elements : P → List Pair) (said : SaidLine P) → line_said elements said ≡ line_of (tree_line elements said)
+said_is elements (Branch (SlackCut row k)) = refl
+said_is elements (Branch (OffsetCut cycle k)) = refl
+said_is elements (Leaf (BoundLeaf pairs)) = refl
+said_is elements (Leaf (NothingLeaf pairs)) = refl
+said_is elements (Leaf (GapLeaf cycle)) = refl
+said_is elements PropagatedLine = refl
 
 abbrev line_in : Item → TreeLine
 line_in (Slack row k) = lines.Slack row k

@@ -3,3 +3,4 @@ pub mod CheckFaults
 pub mod Texts
 pub mod Judging
 pub mod Views
+pub mod Said

@@ -7,22 +7,25 @@ ghost use Rattle.pesp_truth.specs.Certificates.{Content, lines_of, ShowsAnswer};
 ghost use Rattle.pesp_lines.specs.declared.item.Item.{Item as LineItem};
 ghost use Rattle.pesp_lines.specs.declared.item.Item.TheVariants as items;
 ghost use Rattle.pesp_cert.specs.Texts.{tree_item};
-ghost use Rattle.pesp_items.specs.Lent.{listed, rows_in, pairs_in};
+ghost use Rattle.pesp_items.specs.Lent.{listed, rows_in};
 ghost use Rattle.pesp_check.specs.Nets.{AreZeros, AreSmallCounts};
-ghost use Rattle.pesp_check.specs.Lines.{KeepsLineLimits};
+ghost use Rattle.pesp_check.specs.SaidLines.{KeepsSaidLimits};
 ghost use Rattle.pesp_check.specs.Faults.{IsVerdict};
+ghost use Rattle.pesp_check_text.specs.Said.{pairs_of, tree_line};
 ghost use Rattle.pesp_check_text.specs.Items.{KeepsItemLimits, begins_later, begins_tree};
 ghost use Rattle.pesp_check_text.specs.declared.stage.Stage.TheVariants as stages;
 ghost use Rattle.pesp_check_text.specs.Judging.{Kept, JudgedAt, behind, IsFrontFault, is_front, is_before_tree};
 
+use crate::elements::PairsLeft;
 use crate::stage::Stage;
 use pesp_check::parts::{
-    Nets, NodeWalk, judge_answer, judge_cycle, least_of, nets_of, root, take_line,
+    LeafLine, Nets, NodeWalk, SaidLine, judge_answer, judge_cycle, least_of, nets_of, root,
+    take_line,
 };
 use pesp_check::{Refusal, Verdict};
-use pesp_items::{Item, LinePairs, SignedRows};
-use pesp_problem::{Instance, Pairs, Walk};
-use pesp_truth::{Answer, TreeLine};
+use pesp_items::{Item, SignedRows};
+use pesp_problem::{Cut, Instance, Walk};
+use pesp_truth::Answer;
 use std::alloc::{AllocError, Global};
 
 /// What is kept of a text while its items come: the number of the last line, the period, the answer, the times, the net
@@ -67,14 +70,6 @@ fn walk_of(alloc: Global, rows: SignedRows<'_>) -> Result<Walk, AllocError>
 {
     let rows = rows.collect(alloc)?;
     Ok(Walk::new(rows))
-}
-
-/// The list of these pairs.
-fn pairs_of(alloc: Global, pairs: LinePairs<'_>) -> Result<Pairs, AllocError>
-    ensures { IfOk result (λ list. list ≡ pairs_in pairs.entry) }
-{
-    let pairs = pairs.collect(alloc)?;
-    Ok(Pairs::new(pairs))
 }
 
 /// Adds the net counts of one more cycle.
@@ -212,11 +207,11 @@ impl<'a> Judge<'a> {
     fn judge_line(
         &mut self,
         alloc: Global,
-        tree_line: &TreeLine,
+        said: SaidLine<PairsLeft<'_>>,
         working: &mut [i128],
     ) -> Result<(), AllocError>
         requires stage { self.old.stage ≡ stages.Tree }
-        requires limits { KeepsLineLimits tree_line.now }
+        requires limits { KeepsSaidLimits pairs_of said }
         requires few { self.old.line < 2 ^ 31 }
         requires long { length working.old ≡ length self.old.instance.now.rows }
         requires zeros { AreZeros working.old }
@@ -224,7 +219,7 @@ impl<'a> Judge<'a> {
         ensures line { OnOk result (self.new.line ≡ self.old.line + 1) }
         ensures zeros { OnOk result (AreZeros working.new) }
         ensures judged { OnOk result ((c : Content) (rest : List LineItem) → are_trees 1 (lines_of c) ≡ true
-            → JudgedAt self.old.stage self.old.instance.now c (tree_item tree_line.now ∷ rest) (kept self.old)
+            → JudgedAt self.old.stage self.old.instance.now c (tree_item (tree_line pairs_of said.entry) ∷ rest) (kept self.old)
             → JudgedAt self.new.stage self.old.instance.now c rest (kept self.new)) }
     {
         let least = least_of(self.answer);
@@ -240,7 +235,7 @@ impl<'a> Judge<'a> {
             self.instance,
             &self.table,
             &mut walk,
-            tree_line,
+            said,
             least,
             self.line,
             working,
@@ -257,10 +252,10 @@ impl<'a> Judge<'a> {
     fn take_line(
         &mut self,
         alloc: Global,
-        tree_line: &TreeLine,
+        said: SaidLine<PairsLeft<'_>>,
         working: &mut [i128],
     ) -> Result<(), AllocError>
-        requires limits { KeepsLineLimits tree_line.now }
+        requires limits { KeepsSaidLimits pairs_of said }
         requires few { self.old.line < 2 ^ 31 }
         requires long { length working.old ≡ length self.old.instance.now.rows }
         requires zeros { AreZeros working.old }
@@ -268,13 +263,13 @@ impl<'a> Judge<'a> {
         ensures line { OnOk result (self.new.line ≡ self.old.line + 1) }
         ensures zeros { OnOk result (AreZeros working.new) }
         ensures judged { OnOk result ((c : Content) (rest : List LineItem) → are_trees 1 (lines_of c) ≡ true
-            → JudgedAt self.old.stage self.old.instance.now c (tree_item tree_line.now ∷ rest) (kept self.old)
+            → JudgedAt self.old.stage self.old.instance.now c (tree_item (tree_line pairs_of said.entry) ∷ rest) (kept self.old)
             → JudgedAt self.new.stage self.old.instance.now c rest (kept self.new)) }
     {
         self.end_front(alloc)?;
         self.end_cycles(alloc)?;
         if self.stage == Stage::Tree {
-            return self.judge_line(alloc, tree_line, working);
+            return self.judge_line(alloc, said, working);
         }
         self.line += 1;
         Ok(())
@@ -319,18 +314,26 @@ impl<'a> Judge<'a> {
                 Ok(())
             }
             Item::Cycle(rows) => self.take_cycle(alloc, rows, working),
-            Item::Slack { row, k } => self.take_line(alloc, &TreeLine::Slack { row, k }, working),
+            Item::Slack { row, k } => {
+                let said = SaidLine::Branch(Cut::Slack { row, k });
+                self.take_line(alloc, said, working)
+            }
             Item::Offset { cycle, k } => {
-                self.take_line(alloc, &TreeLine::Offset { cycle, k }, working)
+                let said = SaidLine::Branch(Cut::Offset { cycle, k });
+                self.take_line(alloc, said, working)
             }
             Item::Bound(pairs) => {
-                self.take_line(alloc, &TreeLine::Bound(pairs_of(alloc, pairs)?), working)
+                let leaf = LeafLine::Bound(PairsLeft(pairs));
+                self.take_line(alloc, SaidLine::Leaf(leaf), working)
             }
             Item::Nothing(pairs) => {
-                self.take_line(alloc, &TreeLine::Nothing(pairs_of(alloc, pairs)?), working)
+                let leaf = LeafLine::Nothing(PairsLeft(pairs));
+                self.take_line(alloc, SaidLine::Leaf(leaf), working)
             }
-            Item::Gap(cycle) => self.take_line(alloc, &TreeLine::Gap(cycle), working),
-            Item::Propagated => self.take_line(alloc, &TreeLine::Propagated, working),
+            Item::Gap(cycle) => {
+                self.take_line(alloc, SaidLine::Leaf(LeafLine::Gap(cycle)), working)
+            }
+            Item::Propagated => self.take_line(alloc, SaidLine::Propagated, working),
         }
     }
 

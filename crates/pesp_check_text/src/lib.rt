@@ -2,6 +2,7 @@
 #![tactic(auto)]
 
 mod checking;
+mod elements;
 mod fault;
 mod judge;
 mod stage;

@@ -1,4 +1,4 @@
-use Rattle.std.proofs.Common.{◌≡◌, ◌<◌, arith, rules}
+use Rattle.std.proofs.Common.{arith, rules}
 use Rattle.pesp_check.proofs.Faults.{fault_is_not_valid}
 use Rattle.pesp_check.proofs.checking.check.Goals as goal
 

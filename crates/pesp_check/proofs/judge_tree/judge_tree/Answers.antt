@@ -1,7 +1,9 @@
-use Rattle.std.proofs.Common.{◌≡◌, ◌∙◌, sym, false, Option, Some, None}
+use Rattle.std.proofs.Common.{◌≡◌, ◌+◌, ◌∙◌, sym, subst, false, Option, Some, None}
 use Rattle.std.specs.Prelude.{is_some, IfNone, MatchOption}
 use Rattle.pesp_problem.specs.Arcs.{net_of}
 use Rattle.pesp_problem.specs.Nodes.{root}
+use Rattle.pesp_truth.specs.Trees.{Line}
+use Rattle.pesp_check.specs.Lines.{after, IsLineVerdict}
 use Rattle.pesp_check.specs.declared.refusal.Refusal.{Refusal}
 use Rattle.pesp_check.proofs.Judged.{whole_more, judged_more}
 use Rattle.pesp_check.proofs.judge_tree.judge_tree.Goals as goal
@@ -18,13 +20,15 @@ of_match (Some x) P Q e h = cc
 pub loop-place-preserved : goal.loop-place-preserved
 loop-place-preserved c =
     let none : is_some c.in_ok-found.found ≡ false = sym c.is_some.ensures ∙ c.if-is_some.false in
-    let nodes = of_none c.in_ok-found.found _ none c.in_ok-found.ensures.nodes in
+    let N : Line → Type 0 = λ l. c.take_line.new.walk.nodes ≡ after l c.loop-place.walk.nodes in
+    let nodes = subst N c.said_by.ensures.line (of_none c.in_ok-found.found _ none c.in_ok-found.ensures.nodes) in
     record {
       problem = c.in_ok-found.ensures.problem;
       cycles = c.in_ok-found.ensures.cycles;
       zeros = c.in_ok-found.ensures.zeros;
       whole = whole_more c.args.lines.now c.loop-place.place c.index-lines-place.result c.loop-place-test.true c.index-lines-place.is c.loop-place.walk.nodes c.take_line.new.walk.nodes nodes c.loop-place.invariant.whole;
       judged = λ walks nets.
-          let sound = of_match c.in_ok-found.found _ _ none (c.in_ok-found.ensures.verdict walks nets) in
+          let V : Line → Type 0 = λ l. IsLineVerdict (net_of c.args.instance.now) walks c.args.least l c.loop-place.walk.nodes c.take_line.new.walk.nodes (c.args.first + c.loop-place.place) c.in_ok-found.found in
+          let sound = of_match c.in_ok-found.found _ _ none (subst V c.said_by.ensures.line (c.in_ok-found.ensures.verdict walks nets)) in
           judged_more c.args.lines.now c.loop-place.place c.index-lines-place.result c.loop-place-test.true c.index-lines-place.is (net_of c.args.instance.now) walks c.args.least (root (net_of c.args.instance.now) walks) c.args.first c.loop-place.walk.nodes (c.loop-place.invariant.judged walks nets) c.take_line.new.walk.nodes sound.0 nodes;
     }

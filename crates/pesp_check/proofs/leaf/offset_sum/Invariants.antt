@@ -1,16 +1,20 @@
-use Rattle.std.proofs.Common.{◌≤◌, ◌*◌, List, length, drop}
+use Rattle.std.proofs.Common.{◌+◌, ◌≤◌, ◌*◌, List, length}
 use Rattle.std.specs.Prelude.{unsigned_abs}
 use Rattle.pesp_problem.specs.declared.row.SignedRow.{SignedRow}
 use Rattle.pesp_problem.specs.Arcs.{net_of}
 use Rattle.pesp_problem.specs.Nodes.{offset_part}
-use Rattle.pesp_check.specs.Flows.{AreNets}
+use Rattle.pesp_check.specs.Flows.{AreNets, ArePairs}
 use Rattle.pesp_check.specs.Ranges.{node_of}
 use Rattle.pesp_check.proofs.Leaves.{IsWhole}
 use Rattle.pesp_check.proofs.leaf.offset_sum.Given as goal
 
 abbrev pub invariant-loop-pair : goal.invariant-loop-pair
-invariant-loop-pair l = record {
+invariant-loop-pair g l = record {
+  exist : ArePairs (length l.table) (g.P.Elements.elements l.left);
   whole : (walks : List (List SignedRow)) → AreNets (length l.instance.rows) walks l.table
-      → IsWhole l.instance.period l.sum (offset_part (net_of l.instance) walks (node_of l.ranges) (drop l.pair-index l.pairs)) (offset_part (net_of l.instance) walks (node_of l.ranges) l.pairs);
-  size : unsigned_abs l.sum ≤ l.pair-index * (1000000000000 * 10100000000000);
+      → IsWhole l.instance.period l.sum (offset_part (net_of l.instance) walks (node_of l.ranges) (g.P.Elements.elements l.left)) (offset_part (net_of l.instance) walks (node_of l.ranges) (g.P.Elements.elements l.fn.pairs));
+  size : unsigned_abs l.sum + length (g.P.Elements.elements l.left) * (1000000000000 * 10100000000000) ≤ 100000 * (1000000000000 * 10100000000000);
 }
+
+abbrev pub decreases-loop-pair : goal.decreases-loop-pair
+decreases-loop-pair g l = length (g.P.Elements.elements l.left)

@@ -1,5 +1,6 @@
 use Rattle.std.proofs.Common.{rules, ◌≡◌, refl, sym}
 use Rattle.pesp_check_text.specs.declared.stage.Stage.TheVariants as stages
+use Rattle.pesp_check_text.specs.Said.{pairs_of, tree_line}
 use Rattle.pesp_check_text.specs.Views.{kept}
 use Rattle.pesp_check_text.proofs.Lines.{line_passed}
 use Rattle.pesp_check_text.proofs.Lists.{line_is_later, line_is_line}
@@ -10,5 +11,5 @@ returns-clause-judged c c' rest whole before =
     let other : c.end_cycles.new.self.stage ≡ stages.Tree → ⊥ = search rules in
     let front = c.in_ok-end_front.ensures in
     let cycles = c.in_ok-end_cycles.ensures in
-    let at_front = front.judged c' _ (line_is_later c.args.tree_line.now) before in
-    line_passed c.end_cycles.new.self.stage c.args.self.now.instance.now c' c.args.tree_line.now rest (kept c.end_cycles.new.self) _ cycles.past other refl (rw front.instance at (cycles.judged c' _ whole (line_is_line c.args.tree_line.now) (rw (sym front.instance) at at_front)))
+    let at_front = front.judged c' _ (line_is_later (tree_line pairs_of c.args.said)) before in
+    line_passed c.end_cycles.new.self.stage c.args.self.now.instance.now c' (tree_line pairs_of c.args.said) rest (kept c.end_cycles.new.self) _ cycles.past other refl (rw front.instance at (cycles.judged c' _ whole (line_is_line (tree_line pairs_of c.args.said)) (rw (sym front.instance) at at_front)))

@@ -1,0 +1,19 @@
+//! The list of a line, read from the line as often as is asked.
+
+ghost use Rattle.pesp_items.specs.Lent.{pairs_in};
+
+use pesp_check::parts::Elements;
+use pesp_items::LinePairs;
+use pesp_problem::Pair;
+
+/// The pairs of a leaf's line that are still to come.
+#[derive(Clone, Copy)]
+pub struct PairsLeft<'a>(pub LinePairs<'a>);
+
+impl<'a> Elements<Pair> for PairsLeft<'a> {
+    ghost elements = { λ pairs. pairs_in pairs.0 };
+
+    fn take_next(&mut self) -> Option<Pair> {
+        self.0.next()
+    }
+}

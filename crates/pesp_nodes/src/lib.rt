@@ -17,7 +17,6 @@ mod table;
 mod value;
 mod walk;
 
-pub use flow::flow_on;
 pub use nets::count_rows;
 pub use node::Node;
 pub use pairs::are_pairs;

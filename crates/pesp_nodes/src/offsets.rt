@@ -6,6 +6,7 @@ ghost use Rattle.pesp_problem.specs.declared.row.SignedRow.{SignedRow};
 ghost use Rattle.pesp_problem.specs.Sums as sums;
 ghost use Rattle.pesp_problem.specs.Arcs.{arc_at};
 ghost use Rattle.pesp_problem.specs.Nodes.{slack_range, odijk_range, range_or_none};
+ghost use Rattle.pesp_nodes.specs.declared.ends.End.TheVariants.{Low, High};
 ghost use Rattle.pesp_nodes.specs.Nets.{AreSmallCounts, AreNetCounts};
 ghost use Rattle.pesp_nodes.specs.Offsets.{AreArcs, AreSlackEnds, IsSmallOffset, IsOffsetEnds, at_end, end_term, end_sum, left_of};
 
@@ -15,7 +16,7 @@ use pesp_problem::Arc;
 use pesp_problem::exact::{ceil_div, floor_div, plus, times};
 
 // the duration of the row at a place, at an end of its slack range
-fn duration_at(arcs: &[Arc], slacks: &[(u32, u32)], place: u32, end: End) -> i128
+fn duration_at(arcs: &[Arc], slacks: &[(u32, u32)], place: u32, end: End) -> i64
     requires arcs { AreArcs arcs.now }
     requires slacks { AreSlackEnds slacks.now }
     requires long { length slacks.now ≡ length arcs.now }
@@ -28,7 +29,7 @@ fn duration_at(arcs: &[Arc], slacks: &[(u32, u32)], place: u32, end: End) -> i12
         End::Low => range.0,
         End::High => range.1,
     };
-    i128::from(arcs[place as usize].lower) + i128::from(slack)
+    arcs[place as usize].lower + i64::from(slack)
 }
 
 // the least of a net count times the durations of its row that a slack range allows, or the greatest
@@ -42,26 +43,28 @@ fn term_at(arcs: &[Arc], slacks: &[(u32, u32)], net: &NetCount, end: End) -> i12
     ensures size { unsigned_abs result ≤ unsigned_abs net.now.count * 1030000 }
 {
     let taken = end_for(net.count, end);
-    times(
-        i128::from(net.count),
-        duration_at(arcs, slacks, net.place, taken),
-    )
+    let duration = duration_at(arcs, slacks, net.place, taken);
+    times(i128::from(net.count), i128::from(duration))
 }
 
-// the least sum of net count times duration that the slack ranges allow along a walk, or the greatest
-fn sum_at(arcs: &[Arc], slacks: &[(u32, u32)], counts: &[NetCount], end: End) -> i128
+// the least and the greatest sum of net count times duration that the slack ranges allow along a walk
+fn sums_of(arcs: &[Arc], slacks: &[(u32, u32)], counts: &[NetCount]) -> (i128, i128)
     requires arcs { AreArcs arcs.now }
     requires slacks { AreSlackEnds slacks.now }
     requires long { length slacks.now ≡ length arcs.now }
     requires counts { AreSmallCounts (length arcs.now) counts.now }
-    ensures value { (walk : List SignedRow) → AreNetCounts (length arcs.now) walk counts.now → result ≡ end_sum end arcs.now slacks.now walk }
-    ensures size { unsigned_abs result ≤ 10300000000000 }
+    ensures least { (walk : List SignedRow) → AreNetCounts (length arcs.now) walk counts.now → result.0 ≡ end_sum Low arcs.now slacks.now walk }
+    ensures greatest { (walk : List SignedRow) → AreNetCounts (length arcs.now) walk counts.now → result.1 ≡ end_sum High arcs.now slacks.now walk }
+    ensures small { unsigned_abs result.0 ≤ 10300000000000 }
+    ensures large { unsigned_abs result.1 ≤ 10300000000000 }
 {
-    let mut sum = 0;
+    let mut least = 0;
+    let mut greatest = 0;
     for net in counts {
-        sum = plus(sum, term_at(arcs, slacks, net, end));
+        least = plus(least, term_at(arcs, slacks, net, End::Low));
+        greatest = plus(greatest, term_at(arcs, slacks, net, End::High));
     }
-    sum
+    (least, greatest)
 }
 
 // the least offset that a sum allows, or the greatest
@@ -94,8 +97,7 @@ pub fn bounds_of(
     ensures small { (z : ℤ) → result.0 ≤ℤ z → z ≤ℤ result.1 → IsSmallOffset period z }
     ensures ends { IsOffsetEnds result }
 {
-    let least = sum_at(arcs, slacks, counts, End::Low);
-    let greatest = sum_at(arcs, slacks, counts, End::High);
+    let (least, greatest) = sums_of(arcs, slacks, counts);
     (
         offset_at(period, least, End::Low),
         offset_at(period, greatest, End::High),

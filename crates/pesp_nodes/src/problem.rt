@@ -25,6 +25,7 @@ use std::marker::Model;
 /// A network and a table of closed walks along its rows, within their limits.
 #[derive(Drop)]
 pub struct Problem {
+    alloc: Global,
     network: Network,
     table: Vec<Walk>,
     arcs: Vec<Arc>,
@@ -127,6 +128,7 @@ impl Problem {
         let by_row = passages_of_table(alloc, arcs.len(), &table)?;
         let nets = nets_of_passages(alloc, table.len(), &by_row)?;
         Ok(Problem {
+            alloc,
             network,
             table,
             arcs,
@@ -161,6 +163,11 @@ impl Problem {
         let slacks = root_slacks(alloc, arcs)?;
         let offsets = root_offsets(alloc, self.period(), arcs, &slacks, self.nets())?;
         Ok(Node::new(slacks, offsets))
+    }
+
+    // where memory comes from
+    pub(crate) fn alloc(&self) -> Global {
+        self.alloc
     }
 
     // the period, in the instance's own unit

@@ -8,12 +8,12 @@ ghost use Rattle.pesp_problem.specs.Walks.{Names};
 ghost use Rattle.pesp_problem.specs.Nodes.{offsets_left, offset_part, weight_of, flow};
 ghost use Rattle.pesp_problem.specs.Nodes as spec;
 ghost use Rattle.pesp_nodes.specs.Offsets.{AreArcs, AreSlackEnds, IsSmallOffset};
-ghost use Rattle.pesp_nodes.specs.Passages.{ArePassages};
+ghost use Rattle.pesp_nodes.specs.Passages.{ArePassages, AreMults};
 ghost use Rattle.pesp_nodes.specs.Problems.{net_of, IsNodeOf, Rise, ArePairs};
 ghost use Rattle.pesp_nodes.specs.Values.{lesser, row_term, row_term_at};
 
 use crate::ends::{End, end_for};
-use crate::flow::flow_on;
+use crate::flow::{flow_on, mults_of};
 use crate::node::Node;
 use crate::offsets::left_of;
 use crate::passages::Passages;
@@ -139,6 +139,7 @@ fn row_sum(
     slacks: &[(u32, u32)],
     by_row: &[Passages],
     pairs: &[Pair],
+    dense: &[i64],
     weighted: bool,
 ) -> i128
     requires arcs { AreArcs arcs.now }
@@ -149,13 +150,14 @@ fn row_sum(
     requires short { All (λ ps. sum_by (λ e. unsigned_abs e.count) ps ≤ 10000000) by_row.now }
     requires rise { Rise pairs.now }
     requires mults { All (λ p. unsigned_abs p.mult ≤ 1000000000000) pairs.now }
+    requires dense { AreMults pairs.now dense.now }
     ensures value { (walks : List (List SignedRow)) → ArePassages (length arcs.now) (length walks) walks by_row.now → All (λ p. Names (length walks) p.cycle) pairs.now
         → result ≡ over_arcs arcs.now (λ i. row_term_at arcs.now slacks.now weighted i (flow walks pairs.now i)) }
     ensures size { unsigned_abs result ≤ 100000 * 10 ^ 26 }
 {
     let mut sum = 0;
     for place in 0..arcs.len() {
-        let flow = flow_on(by_row[place].as_slice(), pairs);
+        let flow = flow_on(by_row[place].as_slice(), pairs, dense);
         sum = plus(sum, row_term(&arcs[place], slacks[place], weighted, flow));
     }
     sum
@@ -175,6 +177,14 @@ pub fn leaf_value(problem: &Problem, node: &Node, pairs: &[Pair], weighted: bool
     problem.keeps_limits();
     let arcs = problem.arcs();
     let offsets = offset_sum(problem, node, pairs)?;
-    let rows = row_sum(arcs, node.slacks(), problem.passages(), pairs, weighted);
+    let mults = mults_of(problem.alloc(), pairs, problem.table().len());
+    let rows = row_sum(
+        arcs,
+        node.slacks(),
+        problem.passages(),
+        pairs,
+        &mults,
+        weighted,
+    );
     Some(plus(offsets, rows))
 }

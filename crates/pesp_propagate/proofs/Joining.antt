@@ -9,7 +9,7 @@ use Rattle.pesp_problem.specs.Nodes.{slack_range, SlacksIn}
 use Rattle.pesp_problem.specs.Families.{Family, IsSupported, IsWithin, remainder_of}
 use Rattle.pesp_problem.proofs.Joined.{first_event, first_is, one_first, row_first}
 use Rattle.pesp_problem.proofs.Remainders.{remainder_of_both}
-use Rattle.pesp_propagate.specs.Ends.{HaveEnds}
+use Rattle.pesp_problem.specs.ArcLimits.{HaveEnds}
 use Rattle.pesp_propagate.specs.Full.{HasDifferences}
 
 -- ---- differences

@@ -4,7 +4,6 @@ pub mod Narrowing
 pub mod Revising
 pub mod Ends
 pub mod Places
-pub mod Chaining
 pub mod Queueing
 pub mod Changing
 pub mod Holding

@@ -9,35 +9,21 @@ use Rattle.pesp_problem.specs.declared.memory.Memory.{Memory}
 use Rattle.pesp_problem.specs.Arcs.{Net, arc_at, no_arc}
 use Rattle.pesp_problem.specs.Forests.{IsFirstOf}
 use Rattle.pesp_problem.specs.Families.{Family, IsFamily, IsSupported, IsWithin, HasNoEmpty, NoFamilyIsSupported}
-use Rattle.pesp_network.specs.declared.row.NetRow.{NetRow}
-use Rattle.pesp_network.specs.Networks.{NetworkValue, net_row_at, no_net_row, arc_of_net, arcs_of_network, net_of_network, KeepsNetLimits, RowKeepsNetLimits}
+use Rattle.pesp_network.specs.Networks.{NetworkValue, arcs_of_network, net_of_network, KeepsNetLimits}
+use Rattle.pesp_network.proofs.Holding.{arcs_keep_limits}
 use Rattle.pesp_propagate.specs.declared.outcome.Outcome.{Outcome}
 use Rattle.pesp_propagate.specs.declared.outcome.Outcome.TheVariants.{Stable, Empty}
 use Rattle.pesp_propagate.specs.declared.waiting.Waiting.{Waiting}
 use Rattle.pesp_propagate.specs.Domains.{SetRows, family_of}
-use Rattle.pesp_propagate.specs.Ends.{HaveEnds}
+use Rattle.pesp_problem.specs.ArcLimits.{HaveEnds}
 use Rattle.pesp_propagate.specs.Waiting.{waits_at}
 use Rattle.pesp_propagate.specs.Outcomes.{Shrinks, IsOutcome, HasNone, TellsEmpty, LeavesSupported}
 use Rattle.pesp_propagate.specs.Visits.{net_at, sets_at, RestIsSupported}
 use Rattle.pesp_propagate.specs.Rows.{RowsValue, rows_of}
 use Rattle.pesp_propagate.specs.Full.{IsFull}
 
-arc_is : (rows : List NetRow) (k : ℕ) → k < length rows → arc_at (arcs_of_network rows) k ≡ arc_of_net (net_row_at rows k)
-arc_is rows k l = get_or-map arc_of_net rows k no_net_row no_arc l
-
-pub have_ends : (n : NetworkValue) (arcs : List Arc) (events : ℕ) → arcs ≡ arcs_of_network n.rows → events ≡ n.events → KeepsNetLimits n → HaveEnds events arcs
-have_ends n arcs events e f h =
-    let P : List Arc → Type 0 = λ xs. HaveEnds events xs in
-    let Q : ℕ → Type 0 = λ m. HaveEnds m (arcs_of_network n.rows) in
-    subst P (sym e) (subst Q (sym f) (λ k l.
-    let m : k < length n.rows = omega (arith, length-map n.rows arc_of_net) in
-    let r : RowKeepsNetLimits n.period n.events (net_row_at n.rows k) = h.each k no_net_row m in
-    let a = arc_is n.rows k m in
-    let t : (arc_at (arcs_of_network n.rows) k).tail ≡ (net_row_at n.rows k).tail = ap (λ (x : Arc). x.tail) a in
-    let d : (arc_at (arcs_of_network n.rows) k).head ≡ (net_row_at n.rows k).head = ap (λ (x : Arc). x.head) a in
-    let rt = r.tail in
-    let rh = r.head in
-    (omega arith, omega arith)))
+pub have_ends : (n : NetworkValue) → KeepsNetLimits n → HaveEnds n.events (arcs_of_network n.rows)
+have_ends n h k l = let r = (arcs_keep_limits n h).each k no_arc l in (r.tail, r.head)
 
 -- what became of the sets
 pub record Ended (n : Net) (ranges : List (ℕ × ℕ)) (events : ℕ) (old new : Family) (result : Result Outcome Memory) : Type 0 where

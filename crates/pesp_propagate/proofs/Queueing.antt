@@ -4,7 +4,7 @@ use Rattle.std.specs.Prelude.{All, Contains, []}
 use Rattle.std.proofs.lemmas.Bool.{cases_eq, cases_lt}
 use Rattle.std.proofs.lemmas.List.Elements.{All-nil}
 use Rattle.pesp_propagate.specs.declared.waiting.Waiting.{Waiting}
-use Rattle.pesp_propagate.specs.Ends.{IsNext}
+use Rattle.pesp_network.specs.Chains.{IsNext}
 use Rattle.pesp_propagate.specs.Waiting.{waits_at, Grows, AreListed}
 
 pub grows_none : (w : Waiting) → Grows w w

@@ -14,7 +14,7 @@ use Rattle.pesp_propagate.specs.declared.waiting.Waiting.{Waiting}
 use Rattle.pesp_propagate.specs.Bits.{bit}
 use Rattle.pesp_propagate.specs.Sets.{set_of, family, Changes}
 use Rattle.pesp_propagate.specs.Domains.{width_of}
-use Rattle.pesp_propagate.specs.Ends.{tail_of, head_of}
+use Rattle.pesp_network.specs.Ends.{tail_of, head_of}
 use Rattle.pesp_propagate.specs.Waiting.{waits_at, Grows, Leaves, AreListed}
 use Rattle.pesp_propagate.specs.declared.outcome.Outcome.{Outcome}
 use Rattle.pesp_propagate.specs.declared.outcome.Outcome.TheVariants.{Stable, Empty}

@@ -1,7 +1,6 @@
 pub mod Bits
 pub mod Sets
 pub mod Domains
-pub mod Ends
 pub mod Waiting
 pub mod Outcomes
 pub mod Visits

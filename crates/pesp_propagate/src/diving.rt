@@ -9,7 +9,6 @@ use crate::choice::Experience;
 use crate::domains::Domains;
 use crate::outcome::Outcome;
 use crate::rows::Rows;
-use crate::slacks::are_feasible;
 use pesp_network::Network;
 use pesp_problem::{Arc, Memory};
 use std::alloc::Global;
@@ -178,7 +177,7 @@ fn try_again(
         let sixteenths = if attempt == 0 { 0 } else { MOST_CHANCE };
         let found = descend(alloc, &rows, &ranges, &start, &mut experience, sixteenths)?;
         let Some(times) = found else { continue };
-        if are_feasible(network.period(), network.events(), rows.arcs(), &times) {
+        if network.is_timetable(&times) {
             return Ok(Some(times));
         }
     }

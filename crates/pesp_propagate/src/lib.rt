@@ -1,7 +1,6 @@
 //! Which time differences to the first event of a component are still possible, and a first timetable.
 #![tactic(auto)]
 
-mod chains;
 mod chance;
 mod choice;
 mod diving;
@@ -13,7 +12,6 @@ mod propagation;
 mod revise;
 mod rows;
 mod settle;
-mod slacks;
 pub mod step;
 mod supporting;
 mod waiting;

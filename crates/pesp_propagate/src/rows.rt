@@ -1,18 +1,17 @@
 //! The rows of a network, made ready for propagation.
 
 ghost use Rattle.std.specs.Prelude.{◌≡◌, ℕ, ◌<◌, ◌≤◌, length, IfOk, OnOk};
-ghost use Rattle.pesp_network.specs.Networks.{arcs_of_network, arc_of_net, KeepsNetLimits};
+ghost use Rattle.pesp_network.specs.Networks.{KeepsNetLimits};
 ghost use Rattle.pesp_propagate.specs.Domains.{HaveSizes};
 ghost use Rattle.pesp_propagate.specs.Outcomes.{Shrinks, IsOutcome, LeavesSupported};
 ghost use Rattle.pesp_propagate.specs.Visits.{net_at, sets_at};
 ghost use Rattle.pesp_propagate.specs.Rows.{RowsValue, rows_of};
 
-use crate::chains::{Chains, chain_rows};
 use crate::domains::Domains;
 use crate::outcome::Outcome;
 use crate::settle::{settle, visit_waiting};
 use crate::waiting::Waiting;
-use pesp_network::{NetRow, Network};
+use pesp_network::{Chains, Network};
 use pesp_problem::{Arc, Memory};
 use std::alloc::Global;
 use std::marker::Model;
@@ -28,7 +27,8 @@ pub struct Rows {
 
 impl Model for Rows {
     ghost use Rattle.std.specs.Prelude.{ℕ, ◌<◌, ◌≤◌, length};
-    ghost use Rattle.pesp_propagate.specs.Ends.{HaveEnds, AreChains};
+    ghost use Rattle.pesp_network.specs.Chains.{AreChains};
+    ghost use Rattle.pesp_problem.specs.ArcLimits.{HaveEnds};
     ghost use Rattle.pesp_propagate.specs.Rows.{RowsValue};
 
     ghost Value = { RowsValue };
@@ -38,39 +38,17 @@ impl Model for Rows {
     ghost invariant = { λ r. (length r.arcs.items ≤ 100000) × HaveEnds r.events r.arcs.items × AreChains r.arcs.items r.events r.chains };
 }
 
-// a row without its origin
-fn arc_of_row(row: &NetRow) -> Arc
-    ensures { result ≡ arc_of_net row.now }
-{
-    Arc {
-        tail: row.tail,
-        head: row.head,
-        lower: row.lower,
-        span: row.span,
-        weight: row.weight,
-    }
-}
-
-// the rows of a network as arcs, in order
-fn arcs_of(alloc: Global, network: &Network) -> Result<Vec<Arc>, Memory>
-    ensures { IfOk result (λ arcs. arcs.items ≡ arcs_of_network network.now.rows) }
-{
-    let arcs = network.rows().iter().map(arc_of_row).collect(alloc)?;
-    Ok(arcs)
-}
-
 impl Rows {
     /// The rows of a network.
     pub fn of(alloc: Global, network: &Network) -> Result<Rows, Memory>
         ensures rows { IfOk result (λ rows. rows ≡ rows_of network.now) }
         ensures limits { OnOk result (KeepsNetLimits network.now) }
     {
-        let arcs = arcs_of(alloc, network)?;
-        let events = network.events();
-        let chains = chain_rows(alloc, events as usize, &arcs)?;
+        let arcs = Vec::from_slice(alloc, network.arcs())?;
+        let chains = network.chains(alloc)?;
         Ok(Rows {
             period: network.period(),
-            events,
+            events: network.events(),
             arcs,
             chains,
         })

@@ -3,16 +3,18 @@
 ghost use Rattle.std.specs.Prelude.{◌≡◌, ℕ, ◌+◌, ◌-◌, ◌<◌, ◌≤◌, ◌≢◌, ◌⊎◌, length, true, false, All, Contains, [], IfOk, IfSome, IfNone, OnOk, Ok, Some, None, vec_len};
 ghost use Rattle.pesp_problem.specs.Arcs.{arc_at};
 ghost use Rattle.pesp_propagate.specs.Domains.{family_of, HaveSizes};
-ghost use Rattle.pesp_propagate.specs.Ends.{tail_of, head_of, HaveEnds, AreChains};
+ghost use Rattle.pesp_network.specs.Chains.{AreChains};
+ghost use Rattle.pesp_network.specs.Ends.{tail_of, head_of};
+ghost use Rattle.pesp_problem.specs.ArcLimits.{HaveEnds};
 ghost use Rattle.pesp_propagate.specs.declared.outcome.Outcome.{Outcome};
 ghost use Rattle.pesp_propagate.specs.Waiting.{waits_at, Grows, AreListed};
 ghost use Rattle.pesp_propagate.specs.Outcomes.{Shrinks, IsOutcome, LeavesSupported};
 ghost use Rattle.pesp_propagate.specs.Visits.{net_at, sets_at, RestIsSupported, TakesRow, IsVisit, IsPass, IsEmptyAt};
 
-use crate::chains::Chains;
 use crate::domains::Domains;
 use crate::outcome::Outcome;
 use crate::waiting::Waiting;
+use pesp_network::Chains;
 use pesp_problem::{Arc, Memory};
 use std::alloc::Global;
 use std::mem;

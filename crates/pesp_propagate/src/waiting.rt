@@ -1,10 +1,11 @@
 //! Rows that wait for a visit.
 
 ghost use Rattle.std.specs.Prelude.{◌≡◌, ℕ, ◌+◌, ◌-◌, ◌<◌, ◌≤◌, ◌≢◌, ◌⊎◌, length, IfOk, OnOk, vec_len, true, false, []};
-ghost use Rattle.pesp_propagate.specs.Ends.{tail_of, head_of, AreChains};
+ghost use Rattle.pesp_network.specs.Chains.{AreChains};
+ghost use Rattle.pesp_network.specs.Ends.{tail_of, head_of};
 ghost use Rattle.pesp_propagate.specs.Waiting.{waits_at, Grows, Leaves, AreListed};
 
-use crate::chains::{Chains, next_at};
+use pesp_network::Chains;
 use pesp_problem::{Arc, Memory};
 use std::alloc::Global;
 
@@ -83,7 +84,7 @@ impl Waiting {
             if row != but {
                 self.add(row - 1)?;
             }
-            row = next_at(arcs, chains, event, row);
+            row = chains.next_at(arcs, event, row);
         }
         Ok(())
     }

@@ -20,7 +20,7 @@ returns-clause-keeps c = (ended c).shrinks.keeps
 pub returns-clause-timetables : goal.returns-clause-timetables
 returns-clause-timetables c =
     times_kept (net_of_network c.args.network.now) c.args.ranges.now c.args.network.now.events (family_of c.args.domains.now) (family_of c.settle_all.new.domains) c.in_ok-rows.ensures.limits.some_period
-    (have_ends c.args.network.now _ c.args.network.now.events refl refl c.in_ok-rows.ensures.limits) (ended c).shrinks.keeps
+    (have_ends c.args.network.now c.in_ok-rows.ensures.limits) (ended c).shrinks.keeps
 
 pub returns-clause-stable : goal.returns-clause-stable
 returns-clause-stable c = stable_of (net_of_network c.args.network.now) c.args.ranges.now c.args.network.now.events (family_of c.args.domains.now) (family_of c.settle_all.new.domains) c.settle_all.result (ended c)
@@ -31,5 +31,5 @@ returns-clause-exact c = exact_of (net_of_network c.args.network.now) c.args.ran
 pub returns-clause-full : goal.returns-clause-full
 returns-clause-full c = λ f.
     full_of (net_of_network c.args.network.now) c.args.ranges.now c.args.network.now.events (family_of c.args.domains.now) c.settle_all.result c.in_ok-rows.ensures.limits.some_period
-    (have_ends c.args.network.now _ c.args.network.now.events refl refl c.in_ok-rows.ensures.limits) f
+    (have_ends c.args.network.now c.in_ok-rows.ensures.limits) f
     (exact_of (net_of_network c.args.network.now) c.args.ranges.now c.args.network.now.events (family_of c.args.domains.now) (family_of c.settle_all.new.domains) c.settle_all.result (ended c))

@@ -3,7 +3,7 @@
 ghost use Rattle.std.specs.Prelude.{◌≡◌, ℕ, ◌-◌, ◌<◌, ◌≤◌, List, map, length, unsigned_abs, All, IfOk, IfErr, OnOk, sum_by};
 ghost use Rattle.pesp_problem.specs.Nodes as spec;
 ghost use Rattle.pesp_problem.specs.Walks.{IsWalk};
-ghost use Rattle.pesp_network.specs.Networks.{arcs_of_network, arc_of_net, net_of_network, KeepsNetLimits};
+ghost use Rattle.pesp_network.specs.Networks.{arcs_of_network, net_of_network, KeepsNetLimits};
 ghost use Rattle.pesp_problem.specs.declared.row.SignedRow.{SignedRow};
 ghost use Rattle.pesp_nodes.specs.Nets.{AreNets, AreSmallCounts};
 ghost use Rattle.pesp_nodes.specs.Passages.{ArePassages};
@@ -17,7 +17,7 @@ use crate::offsets::bounds_of;
 use crate::passages::Passages;
 use crate::refusal::ProblemRefusal;
 use crate::table::{is_small, nets_of_passages, passages_of_table};
-use pesp_network::{NetRow, Network};
+use pesp_network::Network;
 use pesp_problem::{Arc, Memory, Walk};
 use std::alloc::{AllocError, Global};
 use std::marker::Model;
@@ -28,7 +28,6 @@ pub struct Problem {
     alloc: Global,
     network: Network,
     table: Vec<Walk>,
-    arcs: Vec<Arc>,
     nets: Vec<Nets>,
     by_row: Vec<Passages>,
 }
@@ -41,27 +40,7 @@ impl Model for Problem {
 
     ghost view = { λ p. record { network = p.network; table = p.table.items } };
 
-    ghost invariant = { λ p. IsPrepared (record { network = p.network; table = p.table.items }) p.arcs.items p.nets.items p.by_row.items };
-}
-
-// a row without its origin
-fn arc_of(row: &NetRow) -> Arc
-    ensures { result ≡ arc_of_net row.now }
-{
-    Arc {
-        tail: row.tail,
-        head: row.head,
-        lower: row.lower,
-        span: row.span,
-        weight: row.weight,
-    }
-}
-
-// the rows without their origins
-fn arcs_of(alloc: Global, rows: &[NetRow]) -> Result<Vec<Arc>, AllocError>
-    ensures { IfOk result (λ v. v.items ≡ arcs_of_network rows.now) }
-{
-    rows.iter().map(|row| arc_of(row)).collect(alloc)
+    ghost invariant = { λ p. IsPrepared (record { network = p.network; table = p.table.items }) p.nets.items p.by_row.items };
 }
 
 // whether the walks of a table close, and are few enough
@@ -123,15 +102,14 @@ impl Problem {
         ensures small { IfOk result (λ p. IsSmallTable p.table) }
         ensures refused { IfErr result (IsProblemRefusal (arcs_of_network network.rows) table.items) }
     {
-        let arcs = arcs_of(alloc, network.rows())?;
-        judge(&arcs, &table)?;
+        let arcs = network.arcs();
+        judge(arcs, &table)?;
         let by_row = passages_of_table(alloc, arcs.len(), &table)?;
         let nets = nets_of_passages(alloc, table.len(), &by_row)?;
         Ok(Problem {
             alloc,
             network,
             table,
-            arcs,
             nets,
             by_row,
         })
@@ -187,11 +165,11 @@ impl Problem {
         ensures rows { length result.now ≡ length self.now.network.rows }
         ensures table { length self.now.table ≤ 100000 }
     {
-        &self.arcs
+        self.network.arcs()
     }
 
-    // the network and the table keep their limits
-    pub(crate) fn keeps_limits(&self)
+    /// The network and the table keep their limits: it does nothing, and a caller that calls it has that within reach.
+    pub fn keeps_limits(&self)
         ensures network { KeepsNetLimits self.now.network }
         ensures table { IsSmallTable self.now.table }
     {

@@ -1,4 +1,3 @@
-pub mod Limits
 pub mod Slacks
 pub mod Shifts
 pub mod Tallies

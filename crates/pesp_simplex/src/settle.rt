@@ -2,7 +2,7 @@
 
 ghost use Rattle.std.specs.Prelude.{◌≡◌, ℕ, ◌<◌, ◌≤◌, ◌↔◌, List, IsTrue, IfOk, IfSome, IfErr, length, vec_len};
 ghost use Rattle.pesp_problem.specs.Forests.{IsSpanningForest};
-ghost use Rattle.pesp_simplex.specs.Limits.{KeepArcLimits};
+ghost use Rattle.pesp_problem.specs.ArcLimits.{KeepArcLimits};
 ghost use Rattle.pesp_problem.specs.NetTimetables.{IsNetTimetable, net_cost};
 ghost use Rattle.pesp_simplex.specs.Roots.{AreRoots, AreTreeRows};
 ghost use Rattle.pesp_simplex.specs.Rooted.{roots_of, IsFor};
@@ -18,7 +18,8 @@ use crate::judge::are_cuts_best;
 use crate::low::{Low, count_rows};
 use crate::numbers::Numbers;
 use crate::rooted::{Rooted, is_rooted, tree_rows};
-use crate::slacks::{cost_of, is_timetable, slacks_of};
+use crate::slacks::slacks_of;
+use pesp_problem::net_times::{cost_of, is_timetable};
 use pesp_problem::{Arc, Memory};
 use std::alloc::Global;
 

@@ -11,7 +11,8 @@ use Rattle.pesp_support.specs.declared.rounds.Round.{Round}
 use Rattle.pesp_support.specs.declared.rounds.Round.TheVariants as round
 use Rattle.pesp_support.specs.Sets.{family_at}
 use Rattle.pesp_support.specs.Visits.{HasSome, LiesAt, RefutesAt, IsNarrowed}
-use Rattle.pesp_support.specs.Rounds.{HaveEnds, IsWide, is_marked, IsQuiet, QuietRowsSupport, InRound, Stepped, IsRound}
+use Rattle.pesp_problem.specs.ArcLimits.{HaveEnds}
+use Rattle.pesp_support.specs.Rounds.{IsWide, is_marked, IsQuiet, QuietRowsSupport, InRound, Stepped, IsRound}
 
 same_or : (a b : ℕ) → (a ≡ b) ⊎ (a ≢ b)
 same_or a b = grind arith

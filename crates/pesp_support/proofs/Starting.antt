@@ -14,7 +14,8 @@ use Rattle.pesp_problem.specs.Forests.{IsFirstOf}
 use Rattle.pesp_problem.specs.Limits.{KeepsLimits, RowKeepsLimits}
 use Rattle.pesp_problem.specs.Families.{Family, NoFamilyIsSupported}
 use Rattle.pesp_support.specs.Sets.{is_set, family_at}
-use Rattle.pesp_support.specs.Rounds.{net_at, HaveEnds, IsWide}
+use Rattle.pesp_problem.specs.ArcLimits.{HaveEnds}
+use Rattle.pesp_support.specs.Rounds.{net_at, IsWide}
 use Rattle.pesp_support.specs.Supports.{IsStart, Rows}
 use Rattle.pesp_support.proofs.Placing.{at_place, below, places_apart, same_places, true_or_false}
 

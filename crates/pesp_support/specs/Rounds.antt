@@ -11,10 +11,6 @@ use Rattle.pesp_support.specs.Sets.{family_at}
 abbrev pub net_at : ℕ → List Arc → Net
 net_at period arcs = record { period = period; arcs = arcs }
 
--- both ends of each row are among so many events
-abbrev pub HaveEnds : ℕ → List Arc → Type 0
-HaveEnds events arcs = (i : ℕ) → i < length arcs → ((arc_at arcs i).tail < events) × ((arc_at arcs i).head < events)
-
 -- a family without an empty set, in which every other lies that the rows support
 pub record IsWide (n : Net) (ranges : List (ℕ × ℕ)) (events : ℕ) (sets : Family) : Type 0 where
   pub family : IsFamily n events sets

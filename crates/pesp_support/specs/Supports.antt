@@ -3,7 +3,7 @@ use Rattle.std.specs.Prelude.{◌≡◌, ◌≢◌, ℕ, ◌*◌, ◌<◌, ◌�
 use Rattle.pesp_problem.specs.Arcs.{Net}
 use Rattle.pesp_problem.specs.Families.{Family}
 use Rattle.pesp_problem.specs.Forests.{IsFirstOf}
-use Rattle.pesp_support.specs.Rounds.{HaveEnds}
+use Rattle.pesp_problem.specs.ArcLimits.{HaveEnds}
 
 -- a net between so many events
 pub record Rows : Type 0 where

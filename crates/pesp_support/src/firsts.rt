@@ -3,7 +3,7 @@
 ghost use Rattle.std.specs.Prelude.{◌≡◌, ◌≢◌, ℕ, ◌<◌, ◌≤◌, length, slice_index, IfOk};
 ghost use Rattle.pesp_problem.specs.Arcs.{arc_at};
 ghost use Rattle.pesp_problem.specs.Forests.{IsFirstOf};
-ghost use Rattle.pesp_support.specs.Rounds.{HaveEnds};
+ghost use Rattle.pesp_problem.specs.ArcLimits.{HaveEnds};
 
 use pesp_problem::{Arc, Memory};
 use std::alloc::Global;

@@ -4,7 +4,8 @@ ghost use Rattle.std.specs.Prelude.{◌≡◌, ℕ, ◌+◌, ◌*◌, ◌<◌, �
 ghost use Rattle.pesp_problem.specs.Arcs.{arc_at};
 ghost use Rattle.pesp_problem.specs.Families.{NoFamilyIsSupported};
 ghost use Rattle.pesp_support.specs.Sets.{family_at};
-ghost use Rattle.pesp_support.specs.Rounds.{net_at, HaveEnds, IsWide, is_marked, IsQuiet, QuietRowsSupport, InRound, IsStep, IsRound};
+ghost use Rattle.pesp_problem.specs.ArcLimits.{HaveEnds};
+ghost use Rattle.pesp_support.specs.Rounds.{net_at, IsWide, is_marked, IsQuiet, QuietRowsSupport, InRound, IsStep, IsRound};
 
 use crate::visit::{Narrowed, visit};
 use pesp_problem::Arc;

@@ -1,7 +1,7 @@
 //! The question of the pass.
 
 ghost use Rattle.std.specs.Prelude.{◌≡◌, ◌≢◌, ℕ, ◌+◌, ◌*◌, ◌<◌, ◌≤◌, ◌↔◌, length, true, All, IfOk, IsTrue};
-ghost use Rattle.pesp_problem.specs.Arcs.{arcs_of, net_of};
+ghost use Rattle.pesp_problem.specs.Arcs.{net_of};
 ghost use Rattle.pesp_problem.specs.Limits.{KeepsLimits};
 ghost use Rattle.pesp_problem.specs.Families.{NoFamilyIsSupported};
 ghost use Rattle.pesp_support.specs.Sets.{is_set, family_at};
@@ -10,7 +10,7 @@ ghost use Rattle.pesp_support.specs.Supports.{IsStart};
 use crate::bits::remove;
 use crate::firsts::firsts_of;
 use crate::rounds::is_emptied;
-use pesp_problem::{Arc, Instance, Memory, arc_of};
+use pesp_problem::{Arc, Instance, Memory};
 use std::alloc::Global;
 use std::marker::Model;
 
@@ -77,19 +77,6 @@ fn start(words: &mut [u64], period: usize, firsts: &[u32])
     }
 }
 
-// the arcs of an instance's rows, in order
-fn arcs_of(alloc: Global, instance: &Instance) -> Result<Vec<Arc>, Memory>
-    ensures { IfOk result (λ v. v.items ≡ arcs_of instance.now) }
-{
-    let period = instance.period();
-    let rows = instance.rows();
-    let mut arcs = Vec::new(alloc);
-    for row in rows {
-        arcs.push(arc_of(period, row))?;
-    }
-    Ok(arcs)
-}
-
 impl Support {
     /// The rows of an instance, made ready for the question. `Memory` only where a growth was refused.
     pub fn of(alloc: Global, instance: &Instance) -> Result<Support, Memory>
@@ -97,7 +84,7 @@ impl Support {
     {
         let period = instance.period();
         let events = instance.events().len();
-        let arcs = arcs_of(alloc, instance)?;
+        let arcs = instance.arcs(alloc)?;
         let firsts = firsts_of(alloc, events as u32, &arcs)?;
         let words = vec![in alloc; 0u64; (events * period as usize).div_ceil(64)]?;
         let before = vec![in alloc; false; events]?;

@@ -4,7 +4,6 @@ pub mod Slots
 pub mod Queues
 pub mod Leasts
 pub mod Recalling
-pub mod Arcs
 pub mod Offering
 pub mod Lending
 pub mod Parking

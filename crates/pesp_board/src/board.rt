@@ -18,7 +18,6 @@ use crate::certifying::{answer_of, copy_table, shown_times, version_of};
 use crate::give::{lent_with, make_at};
 use crate::lend::{bound_pairs, is_cheaper, is_lent, lend_entry};
 use crate::lending_all::{lend_nodes, open_nodes, park_open};
-use crate::making::limits;
 use crate::planting::take;
 use crate::slot::{Slot, lent_node};
 use crate::timetable::judge;
@@ -68,7 +67,7 @@ impl Board {
     pub fn new(alloc: Global, problem: Problem) -> Result<Board, Memory>
         ensures { IfOk result (λ board. board ≡ record { problem = problem; state = opening }) }
     {
-        limits(&problem);
+        problem.keeps_limits();
         let tree = WorkTree::new(alloc)?;
         let mut queue = Queue::new(alloc);
         queue.reserve(1, 1)?;
@@ -99,7 +98,7 @@ impl Board {
     {
         keep_limits(instance, certificate);
         let problem = problem_of(alloc, instance, certificate)?;
-        limits(&problem);
+        problem.keeps_limits();
         let (parts, pairs) = parts_of_tree(alloc, &problem, certificate)?;
         let (tree, queue) = plant_alone(alloc, parts)?;
         let best = best_of(alloc, certificate)?;
@@ -215,7 +214,7 @@ impl Board {
         ensures state { Gives self.old.problem self.old.state number work.now result self.new.state }
         ensures problem { self.new.problem ≡ self.old.problem }
     {
-        limits(&self.problem);
+        self.problem.keeps_limits();
         let node = lent_with(&self.slots, number)?;
         let (parts, pairs) = make_at(alloc, &self.problem, &self.tree, self.pairs, node, work)?;
         items_differ(&self.queue);

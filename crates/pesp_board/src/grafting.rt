@@ -7,7 +7,7 @@ ghost use Rattle.pesp_nodes.specs.Problems.{IsNodeOf};
 ghost use Rattle.pesp_board.specs.Parts.{part_line};
 ghost use Rattle.pesp_board.specs.Grafting.{MakesPartOf, IsReached, IsJudged, after_first, StandsFirst};
 
-use crate::making::{bound, closed, copy_of, is_gap, judged, leaves_both, limits};
+use crate::making::{bound, closed, copy_of, is_gap, judged, leaves_both};
 use crate::part::Part;
 use crate::shutting::is_shut_by_propagation;
 use pesp_machine::GiveRefusal;
@@ -170,7 +170,7 @@ pub(crate) fn judge_lines(
     requires { IsReached problem.now node }
     ensures { IsJudged problem.now worth node (map line_of lines.now) result }
 {
-    limits(problem);
+    problem.keeps_limits();
     let mut walk = NodeWalk::new(alloc, node);
     let mut parts = Vec::new(alloc);
     for line in lines {

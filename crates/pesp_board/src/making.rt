@@ -6,8 +6,7 @@ ghost use Rattle.pesp_problem.specs.Walks.{Names};
 ghost use Rattle.pesp_problem.specs.Nodes as spec;
 ghost use Rattle.pesp_problem.specs.Nodes.{part, offsets_left};
 ghost use Rattle.pesp_truth.specs.Trees.{Bound, ByGap, CutExists};
-ghost use Rattle.pesp_network.specs.Networks.{KeepsNetLimits};
-ghost use Rattle.pesp_nodes.specs.Problems.{net_of, IsNodeOf, IsSmallTable, IsCutOf, ArePairs};
+ghost use Rattle.pesp_nodes.specs.Problems.{net_of, IsNodeOf, IsCutOf, ArePairs};
 ghost use Rattle.pesp_tree.specs.Leaves.{leaf_of};
 ghost use Rattle.pesp_machine.specs.declared.work.Work.TheVariants as works;
 ghost use Rattle.pesp_machine.specs.Leaves.{told};
@@ -226,15 +225,6 @@ fn kept_part(
     kept_at(alloc, problem, &at, pairs)
 }
 
-// a problem keeps its limits
-pub(crate) fn limits(problem: &Problem)
-    ensures network { KeepsNetLimits problem.now.network }
-    ensures table { IsSmallTable problem.now.table }
-{
-    problem.network().period();
-    problem.table();
-}
-
 /// A branch with two leaves that keep the pairs.
 fn make_branch(
     alloc: Global,
@@ -250,7 +240,7 @@ fn make_branch(
     requires old { ArePairs (length problem.now.table) old.now }
     ensures { MakesOf problem.now node old.now (works.Split cut) result }
 {
-    limits(problem);
+    problem.keeps_limits();
     if !leaves_both(problem, &node, cut) {
         return Err(GiveRefusal::NotValid);
     }

@@ -5,7 +5,6 @@ ghost use Rattle.pesp_truth.specs.Trees.{ByPropagation};
 ghost use Rattle.pesp_nodes.specs.Problems.{IsNodeOf};
 ghost use Rattle.pesp_machine.specs.Events.{MayShut};
 
-use crate::making::limits;
 use pesp_nodes::{Node, Problem};
 use pesp_problem::Memory;
 use pesp_propagate::supports_none;
@@ -17,6 +16,6 @@ pub fn is_shut_by_propagation(alloc: Global, problem: &Problem, node: &Node) -> 
     requires { IsNodeOf problem.now node.now }
     ensures { IfOk result (λ shut. IsTrue shut ↔ MayShut problem.now node.now ByPropagation) }
 {
-    limits(problem);
+    problem.keeps_limits();
     supports_none(alloc, problem.network(), node.slacks())
 }

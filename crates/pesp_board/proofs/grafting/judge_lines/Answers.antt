@@ -6,7 +6,7 @@ pub returns-in_err-part : goal.returns-in_err-part
 returns-in_err-part c = not_there c.args.lines.now c.loop-line.line-index c.line-item.result c.loop-line-test.true c.line-item.is c.args.problem.now c.args.worth c.args.node c.loop-line.walk c.loop-line.parts.items c.loop-line.invariant c.node.result.now c.node.ensures.0 c.node.ensures.1 c.in_err-part.field-0.0 _ c.in_err-part.ensures c.from_residual.ensures.1
 
 pub pass-requires : goal.pass-requires
-pass-requires c = stands_there c.args.lines.now c.loop-line.line-index c.line-item.result c.loop-line-test.true c.line-item.is c.args.problem.now c.args.worth c.args.node c.loop-line.walk c.loop-line.parts.items c.loop-line.invariant c.node.result.now c.node.ensures.0 c.node.ensures.1 c.in_ok-part.part c.limits.ensures.network c.limits.ensures.table c.in_ok-part.ensures
+pass-requires c = stands_there c.args.lines.now c.loop-line.line-index c.line-item.result c.loop-line-test.true c.line-item.is c.args.problem.now c.args.worth c.args.node c.loop-line.walk c.loop-line.parts.items c.loop-line.invariant c.node.result.now c.node.ensures.0 c.node.ensures.1 c.in_ok-part.part c.keeps_limits.ensures.network c.keeps_limits.ensures.table c.in_ok-part.ensures
 
 pub loop-line-preserved : goal.loop-line-preserved
 loop-line-preserved c =

@@ -23,7 +23,7 @@ made c = record {
 }
 
 pub invariant_of-result : goal.invariant_of-result
-invariant_of-result c = made_board c.args.instance.now c.in_ok-problem.problem c.args.certificate.now c.in_ok-parts.parts.items c.in_ok-parts.pairs c.in_ok-tree.tree c.in_ok-tree.queue c.new.result.items c.in_ok-best.best (made (goal.at.invariant_of-result c).After-new) c.limits.ensures.network c.limits.ensures.table c.in_ok-tree.ensures.whole
+invariant_of-result c = made_board c.args.instance.now c.in_ok-problem.problem c.args.certificate.now c.in_ok-parts.parts.items c.in_ok-parts.pairs c.in_ok-tree.tree c.in_ok-tree.queue c.new.result.items c.in_ok-best.best (made (goal.at.invariant_of-result c).After-new) c.keeps_limits.ensures.network c.keeps_limits.ensures.table c.in_ok-tree.ensures.whole
 
 pub returns-clause-adopts : goal.returns-clause-adopts
 returns-clause-adopts c = made_adopts c.args.instance.now c.in_ok-problem.problem c.args.certificate.now c.in_ok-parts.parts.items c.in_ok-parts.pairs c.in_ok-tree.tree c.in_ok-tree.queue c.new.result.items c.in_ok-best.best (made (goal.at.returns-clause-adopts c).After-new)

@@ -1,16 +1,12 @@
 //! Shifts of cuts that make times cheaper, tried over forests drawn at random.
 
-use crate::crossing::Entry;
-use crate::cuts::{Cuts, MOST_ENTRIES, lay_out, list};
 use crate::drawing::Drawing;
 use crate::guarded::fill;
 use crate::low::{Low, count_rows, list_low};
 use crate::moves::{cheapest, shift, warm};
-use crate::numbers::Numbers;
 use crate::random::Random;
-use crate::rooted::Rooted;
-use crate::shift::shift_costs;
 use crate::stars::{empty_lists, stars_of};
+use pesp_cuts::{Cuts, Entry, MOST_ENTRIES, Numbers, Rooted, lay_out, list, shift_costs};
 use pesp_problem::{Arc, Memory};
 use std::alloc::Global;
 

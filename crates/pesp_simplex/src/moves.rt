@@ -1,8 +1,7 @@
 //! The choice of an amount by which a side is shifted.
 
-use crate::crossing::Entry;
-use crate::numbers::Numbers;
 use crate::random::Random;
+use pesp_cuts::{Entry, Numbers};
 
 /// The weight of an amount that is as cheap as the cheapest.
 const FULL: u64 = 1 << 20;

@@ -4,21 +4,19 @@ ghost use Rattle.std.specs.Prelude.{◌≡◌, ℕ, ◌<◌, ◌≤◌, ◌↔�
 ghost use Rattle.pesp_problem.specs.Forests.{IsSpanningForest};
 ghost use Rattle.pesp_problem.specs.ArcLimits.{KeepArcLimits};
 ghost use Rattle.pesp_problem.specs.NetTimetables.{IsNetTimetable, net_cost};
-ghost use Rattle.pesp_simplex.specs.Roots.{AreRoots, AreTreeRows};
-ghost use Rattle.pesp_simplex.specs.Rooted.{roots_of, IsFor};
-ghost use Rattle.pesp_simplex.specs.Lists.{AreListed};
-ghost use Rattle.pesp_simplex.specs.Local.{IsLocal};
+ghost use Rattle.pesp_cuts.specs.Roots.{AreRoots, AreTreeRows};
+ghost use Rattle.pesp_cuts.specs.Rooted.{roots_of, IsFor};
+ghost use Rattle.pesp_cuts.specs.Lists.{AreListed};
+ghost use Rattle.pesp_cuts.specs.Local.{IsLocal};
 ghost use Rattle.pesp_simplex.specs.Improvements.{IsImproved};
 
-use crate::crossing::Entry;
-use crate::cuts::{Cuts, MOST_ENTRIES, lay_out, list_rows};
 use crate::descent::Descent;
 use crate::improved::{Improved, Stop};
-use crate::judge::are_cuts_best;
 use crate::low::{Low, count_rows};
-use crate::numbers::Numbers;
-use crate::rooted::{Rooted, is_rooted, tree_rows};
-use crate::slacks::slacks_of;
+use pesp_cuts::{
+    Cuts, Entry, MOST_ENTRIES, Numbers, Rooted, are_cuts_best, is_rooted, lay_out, list_rows,
+    slacks_of, tree_rows,
+};
 use pesp_problem::net_times::{cost_of, is_timetable};
 use pesp_problem::{Arc, Memory};
 use std::alloc::Global;

@@ -3,15 +3,35 @@
 ghost use Rattle.std.specs.Prelude.{◌≡◌, ℕ, ◌<◌, ◌≤◌, IfSome};
 
 use crate::chance::Chance;
+use crate::counts::BLOCK;
 use crate::domains::Domains;
 use crate::rows::Rows;
 use pesp_problem::{Arc, Memory};
 use std::alloc::Global;
 
+/// The event of a block that is chosen first, and how late it is.
+#[derive(Clone, Copy, Debug)]
+struct Leader {
+    rank: u64,
+    event: u32,
+}
+
+impl Leader {
+    // no event
+    fn none() -> Leader {
+        Leader {
+            rank: u64::MAX,
+            event: 0,
+        }
+    }
+}
+
 /// What one try leaves to the next: how often each event could not take the value that was tried, and chance; and the
-/// difference that each event is to have, where such are given.
+/// difference that each event is to have, where such are given. Beside these the leader of each block of events, as it was when
+/// the block was looked at.
 #[derive(Debug, Drop)]
 pub struct Experience {
+    leaders: Vec<Leader>,
     failures: Vec<u32>,
     costs: Vec<u64>,
     targets: Vec<u32>,
@@ -28,6 +48,7 @@ impl Experience {
         targets: Vec<u32>,
     ) -> Result<Experience, Memory> {
         Ok(Experience {
+            leaders: vec![in alloc; Leader::none(); events as usize / BLOCK + 1]?,
             failures: vec![in alloc; 0u32; events as usize]?,
             costs: vec![in alloc; 0u64; period as usize]?,
             targets,
@@ -53,20 +74,50 @@ impl Experience {
         }
     }
 
-    /// The event with the fewest differences left among those with at least two. Past failures make an event come sooner.
-    pub fn choose_event(&self, domains: &Domains) -> Option<u32>
-        ensures { IfSome result (λ event. event < domains.now.events) }
-    {
-        let mut best = None;
-        let mut least = u64::MAX;
-        for event in 0..domains.events() {
+    // the leader of a block, by what is left of its events
+    fn leader_of(&self, domains: &Domains, block: usize) -> Leader {
+        let mut leader = Leader::none();
+        for step in 0..BLOCK {
+            let place = block.saturating_mul(BLOCK).saturating_add(step);
+            let event = u32::try_from(place).unwrap_or(u32::MAX);
             let rank = self.rank_of(event, domains.count(event));
-            if rank < least {
-                least = rank;
-                best = Some(event);
+            if rank < leader.rank {
+                leader = Leader { rank, event };
             }
         }
-        best
+        leader
+    }
+
+    // the leader of a block, which is looked at where a set of it has changed since it was
+    fn leader_at(&mut self, domains: &mut Domains, block: usize) -> Leader
+        ensures { domains.new ≡ domains.old }
+    {
+        if domains.was_recounted(block) {
+            let leader = self.leader_of(domains, block);
+            if let Some(kept) = self.leaders.get_mut(block) {
+                *kept = leader;
+            }
+        }
+        self.leaders.get(block).copied().unwrap_or(Leader::none())
+    }
+
+    /// The event with the fewest differences left among those with at least two. Past failures make an event come sooner. Of the
+    /// sets only those of blocks with changes since the last call are looked at.
+    pub fn choose_event(&mut self, domains: &mut Domains) -> Option<u32>
+        ensures event { IfSome result (λ event. event < domains.old.events) }
+        ensures same { domains.new ≡ domains.old }
+    {
+        let mut best = Leader::none();
+        for block in 0..self.leaders.len() {
+            let leader = self.leader_at(domains, block);
+            if leader.rank < best.rank {
+                best = leader;
+            }
+        }
+        if best.rank == u64::MAX || best.event >= domains.events() {
+            return None;
+        }
+        Some(best.event)
     }
 
     /// The difference of an event that costs least: by what is left of its neighbours, the sum over its rows of weight times

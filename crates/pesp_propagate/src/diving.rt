@@ -129,7 +129,7 @@ fn descend(
     let mut trail = Vec::new(alloc);
     let mut failed = 0u32;
     'turns: for _ in 0..domains.events().saturating_add(MOST_FAILURES) {
-        let Some(event) = experience.choose_event(&domains) else {
+        let Some(event) = experience.choose_event(&mut domains) else {
             return Ok(Some(times_of(alloc, &domains)?));
         };
         let difference = experience.choose_difference(&domains, rows, event, sixteenths);

@@ -6,6 +6,7 @@ ghost use Rattle.pesp_propagate.specs.Domains.{SetRows, width_of, family_of, Hav
 ghost use Rattle.pesp_propagate.specs.Full.{IsFull};
 ghost use Rattle.pesp_propagate.specs.Filling.{AreFull};
 
+use crate::counts::Counts;
 use crate::revise::{self, Changed};
 use crate::step;
 use pesp_network::Network;
@@ -20,7 +21,7 @@ pub struct Domains {
     period: u32,
     events: u32,
     words: Vec<u64>,
-    counts: Vec<u32>,
+    counts: Counts,
     beside: Vec<u64>,
     twice: Vec<u64>,
 }
@@ -60,13 +61,13 @@ fn fill_sets(words: &mut [u64], network: &Network)
 }
 
 // how many differences each event has before anything is known
-fn full_counts(alloc: Global, network: &Network) -> Result<Vec<u32>, Memory> {
+fn full_counts(alloc: Global, network: &Network) -> Result<Counts, Memory> {
     let mut counts = Vec::new(alloc);
     for event in 0..network.events() {
         let is_first = network.first_of(event) == event;
         counts.push(if is_first { 1 } else { network.period() })?;
     }
-    Ok(counts)
+    Counts::of(alloc, counts)
 }
 
 // how many numbers a set has
@@ -78,15 +79,9 @@ fn count_of(set: &[u64]) -> u32 {
     count
 }
 
-// takes on other counts
-fn copy_counts(counts: &mut [u32], others: &[u32]) {
-    let shared = counts.len().min(others.len());
-    counts[..shared].copy_from_slice(&others[..shared]);
-}
-
 impl Domains {
     // the sets before anything is known, with these counts
-    fn full_sets(alloc: Global, network: &Network, counts: Vec<u32>) -> Result<Domains, Memory>
+    fn full_sets(alloc: Global, network: &Network, counts: Counts) -> Result<Domains, Memory>
         ensures sizes { IfOk result (HaveSizes network.now.period network.now.events) }
         ensures full { IfOk result (λ d. IsFull (net_of_network network.now) network.now.events (family_of d)) }
     {
@@ -165,9 +160,7 @@ impl Domains {
         let width = width_of(self.period);
         let base = event as usize * width;
         let count = count_of(&self.words[base..base + width]);
-        if let Some(kept) = self.counts.get_mut(event as usize) {
-            *kept = count;
-        }
+        self.counts.set(event, count);
     }
 
     // counts the differences at the ends of an arc anew, where they changed
@@ -214,7 +207,14 @@ impl Domains {
 
     /// How many differences of an event are still possible.
     pub(crate) fn count(&self, event: u32) -> u32 {
-        self.counts.get(event as usize).copied().unwrap_or(0)
+        self.counts.number(event)
+    }
+
+    /// Whether a difference of a block of events was counted anew since this was asked of it.
+    pub(crate) fn was_recounted(&mut self, block: usize) -> bool
+        ensures { self.new ≡ self.old }
+    {
+        self.counts.take_change(block)
     }
 
     /// The least difference of an event that is still possible, 0 where there is none.
@@ -275,7 +275,7 @@ impl Domains {
         ensures { IfOk result (λ d. d ≡ self.now) }
     {
         let words = Vec::from_slice(alloc, &self.words)?;
-        let counts = Vec::from_slice(alloc, &self.counts)?;
+        let counts = self.counts.copy(alloc)?;
         let beside = Vec::from_slice(alloc, &self.beside)?;
         let twice = Vec::from_slice(alloc, &self.twice)?;
         Ok(Domains {
@@ -294,6 +294,6 @@ impl Domains {
         ensures { self.new ≡ other.now }
     {
         self.words.copy_from_slice(&other.words);
-        copy_counts(&mut self.counts, &other.counts);
+        self.counts.copy_from(&other.counts);
     }
 }

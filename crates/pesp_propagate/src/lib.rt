@@ -3,6 +3,7 @@
 
 mod chance;
 mod choice;
+mod counts;
 mod diving;
 mod domains;
 mod lanes;

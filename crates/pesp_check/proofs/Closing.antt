@@ -1,40 +1,15 @@
 -- Walks that are followed row by row, and tables of walks.
-use Rattle.std.proofs.Common.{◌≡◌, ℕ, ◌+◌, ◌-◌, ◌<◌, ◌≤◌, arith, ap, sym, ◌∙◌, List, [], ◌∷◌, length, get_or, drop, subst, inl, inr}
-use Rattle.std.specs.Prelude.{All, ◌↔◌}
+use Rattle.std.proofs.Common.{◌≡◌, ℕ, ◌+◌, ◌-◌, ◌<◌, ◌≤◌, arith, ap, sym, ◌∙◌, List, [], ◌∷◌, length, get_or, subst, inl, inr}
+use Rattle.std.specs.Prelude.{All}
 use Rattle.std.proofs.Common.{below_more}
-use Rattle.std.proofs.lemmas.List.{drop_more, drop_all, get_or_default}
+use Rattle.std.proofs.lemmas.List.{get_or_default}
 use Rattle.pesp_problem.specs.declared.arc.Arc.{Arc}
 use Rattle.pesp_problem.specs.declared.row.SignedRow.{SignedRow}
-use Rattle.pesp_problem.specs.Walks.{AreRows, IsWalk, Leads, start, finish}
+use Rattle.pesp_problem.specs.Walks.{AreRows, IsWalk}
 use Rattle.pesp_problem.specs.Nodes.{cycle_at}
 use Rattle.pesp_check.specs.declared.refusal.Refusal.{Refusal}
 use Rattle.pesp_check.specs.declared.refusal.Refusal.TheVariants.{OpenWalk, NoSuch}
 use Rattle.pesp_check.specs.Faults.{IsFirstOpen, IsWalkFault, IsCycleFault}
-
--- where the way that is left leads back exactly where the whole does
-abbrev pub SameWay : List Arc → List SignedRow → ℕ → ℕ → ℕ → Type 0
-SameWay arcs walk begin at k = Leads arcs at (drop k walk) begin ↔ Leads arcs begin walk begin
-
-module _ (arcs : List Arc) (walk : List SignedRow) (begin at k : ℕ) (d : SignedRow) (within : k < length walk) where
-  pub way_more : start arcs (get_or walk k d) ≡ at → SameWay arcs walk begin at k → SameWay arcs walk begin (finish arcs (get_or walk k d)) (k + 1)
-  way_more e same =
-      let P : List SignedRow → Type 0 = λ w. Leads arcs at w begin in
-      (λ rest. same.0 (subst P (sym (drop_more walk k d within)) (e, rest)), λ whole. let here = subst P (drop_more walk k d within) (same.1 whole) in here.1)
-
-  pub way_breaks : (start arcs (get_or walk k d) ≡ at → ⊥) → SameWay arcs walk begin at k → Leads arcs begin walk begin → ⊥
-  way_breaks ne same whole =
-      let P : List SignedRow → Type 0 = λ w. Leads arcs at w begin in
-      let here = subst P (drop_more walk k d within) (same.1 whole) in ne here.0
-
-pub way_ends : (arcs : List Arc) (walk : List SignedRow) (begin at k : ℕ) → length walk ≤ k → SameWay arcs walk begin at k → (at ≡ begin) ↔ Leads arcs begin walk begin
-way_ends arcs walk begin at k done same =
-    let P : List SignedRow → Type 0 = λ w. Leads arcs at w begin in
-    (λ e. same.0 (subst P (sym (drop_all k walk done)) e), λ whole. subst P (drop_all k walk done) (same.1 whole))
-
--- a walk is rows that lead from where the first begins back to it
-pub walk_leads : (arcs : List Arc) (walk : List SignedRow) (d : SignedRow) → 0 < length walk → AreRows arcs walk → Leads arcs (start arcs (get_or walk 0 d)) walk (start arcs (get_or walk 0 d)) ↔ IsWalk arcs walk
-walk_leads arcs [] d h rows = absurd (omega arith)
-walk_leads arcs (s ∷ walk) d h rows = (λ l. (rows, l), λ w. w.1)
 
 -- rows that don't exist are no walk
 pub no_rows : (arcs : List Arc) (walk : List SignedRow) → (AreRows arcs walk → ⊥) → IsWalk arcs walk → ⊥

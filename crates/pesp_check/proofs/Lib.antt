@@ -1,3 +1,4 @@
+pub mod Reading
 pub mod Sums
 pub mod Counts
 pub mod Collecting
@@ -8,6 +9,7 @@ pub mod Flowing
 pub mod Taking
 pub mod Leaves
 pub mod Closing
+pub mod Following
 pub mod Tables
 pub mod Judged
 pub mod Faults

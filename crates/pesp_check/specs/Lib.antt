@@ -9,3 +9,4 @@ pub mod Faults
 pub mod Lines
 pub mod LeafLines
 pub mod SaidLines
+pub mod Ways

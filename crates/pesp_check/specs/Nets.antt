@@ -9,6 +9,10 @@ use Rattle.pesp_check.specs.declared.nets.NetCount.{NetCount}
 abbrev pub AreZeros : List ℤ → Type 0
 AreZeros numbers = (i : ℕ) → i < length numbers → slice_index_or numbers i (pos 0) ≡ pos 0
 
+-- the numbers are the net counts of a walk
+abbrev pub AreCounts : List SignedRow → List ℤ → Type 0
+AreCounts walk numbers = (i : ℕ) → i < length numbers → slice_index_or numbers i (pos 0) ≡ net_count walk i
+
 -- the sum of a term over the entries
 abbrev pub sum_of : (ℕ → ℤ → ℤ) → List NetCount → ℤ
 sum_of term counts = fold (λ z e. z +ℤ term e.place e.count) (pos 0) counts

@@ -1,23 +1,22 @@
 //! The check of a certificate as a whole.
 
 ghost use Rattle.std.specs.Prelude.{◌≡◌, ◌↔◌, ℕ, ◌+◌, List, [], ◌∷◌, length, map, All, Ok, IfOk, MatchOption};
-ghost use Rattle.pesp_problem.specs.declared.row.SignedRow.{SignedRow};
-ghost use Rattle.pesp_problem.specs.Arcs.{arcs_of, net_of};
+ghost use Rattle.pesp_problem.specs.Arcs.{net_of};
 ghost use Rattle.pesp_problem.specs.Limits.{KeepsLimits};
-ghost use Rattle.pesp_problem.specs.Walks.{IsWalk};
 ghost use Rattle.pesp_problem.specs.Nodes as nodes;
 ghost use Rattle.pesp_truth.specs.Trees.{AreSound};
 ghost use Rattle.pesp_truth.specs.Truth.{IsTrueAnswer};
 ghost use Rattle.pesp_truth.specs.Certificates.{IsValid, lines_of, shown_times};
 ghost use Rattle.pesp_truth.specs.Certificates as spec;
 ghost use Rattle.pesp_check.specs.Nets.{AreZeros};
+ghost use Rattle.pesp_check.specs.Flows.{AreNets};
 ghost use Rattle.pesp_check.specs.Faults.{IsVerdict, IsFirstFault, line_before_cycles, first_tree_line};
 ghost use Rattle.pesp_check.specs.Lines.{IsLinesFault};
 
 use crate::judge_answer::judge_answer;
 use crate::judge_tree::judge_tree;
+use crate::nets::Nets;
 use crate::refusal::{Refusal, Verdict};
-use crate::table::table_of;
 use crate::walks::judge_cycles;
 use pesp_cert::Certificate;
 use pesp_problem::{Instance, Memory};
@@ -49,26 +48,20 @@ fn tree_fault(
     alloc: Global,
     instance: &Instance,
     certificate: &Certificate,
+    table: &[Nets],
+    working: &mut [i128],
 ) -> Result<Option<Refusal>, AllocError>
-    requires { All (IsWalk (arcs_of instance.now)) certificate.now.cycles }
+    requires nets { AreNets (length instance.now.rows) certificate.now.cycles table.now }
+    requires long { length working.old ≡ length instance.now.rows }
+    requires zeros { AreZeros working.old }
     ensures { IfOk result (λ found. MatchOption found
         (AreSound (net_of instance.now) certificate.now.cycles (spec.least_of certificate.now.answer) (lines_of certificate.now) (nodes.root (net_of instance.now) certificate.now.cycles ∷ []))
         (λ refusal. IsLinesFault (net_of instance.now) certificate.now.cycles (spec.least_of certificate.now.answer) (lines_of certificate.now) (nodes.root (net_of instance.now) certificate.now.cycles ∷ []) (first_tree_line certificate.now) refusal)) }
 {
-    let cycles = certificate.cycles();
-    let mut working = zeros(alloc, instance.rows().len())?;
-    let table = table_of(alloc, instance, cycles, &mut working)?;
-    let first = 4 + certificate.times().len() as u64 + cycles.len() as u64;
+    let first = 4 + certificate.times().len() as u64 + certificate.cycles().len() as u64;
     let least = least_of(certificate.answer());
-    judge_tree(
-        alloc,
-        instance,
-        &table,
-        certificate.tree(),
-        least,
-        first,
-        &mut working,
-    )
+    let tree = certificate.tree();
+    judge_tree(alloc, instance, table, tree, least, first, working)
 }
 
 /// The first fault of a certificate.
@@ -88,11 +81,12 @@ fn first_fault(
     if found.is_some() {
         return Ok(found);
     }
-    let found = judge_cycles(instance, certificate.cycles(), 3 + times.len() as u64);
-    if found.is_some() {
-        return Ok(found);
+    let line = 3 + times.len() as u64;
+    let mut working = zeros(alloc, instance.rows().len())?;
+    match judge_cycles(alloc, instance, certificate.cycles(), line, &mut working)? {
+        Ok(table) => tree_fault(alloc, instance, certificate, &table, &mut working),
+        Err(refusal) => Ok(Some(refusal)),
     }
-    tree_fault(alloc, instance, certificate)
 }
 
 /// Judges a certificate, whoever made it: `Accepted` exactly where it is valid for the instance, and then its answer is true

@@ -1,9 +1,10 @@
 //! Net counts of a walk, each row once.
 
-ghost use Rattle.std.specs.Prelude.{◌≡◌, ℕ, ◌+◌, ◌<◌, ◌≤◌, pos, length, unsigned_abs, All, slice_index_or, slice_set, IfOk};
-ghost use Rattle.pesp_problem.specs.Walks.{Names, sign, net_count};
-ghost use Rattle.pesp_check.specs.Nets.{AreZeros, AreNetCounts};
+ghost use Rattle.std.specs.Prelude.{◌≡◌, ◌-◌, ◌+ℤ◌, ◌<◌, ◌≤◌, pos, length, unsigned_abs, All, slice_index_or, slice_set, IfOk, OnOk};
+ghost use Rattle.pesp_problem.specs.Walks.{Names, sign};
+ghost use Rattle.pesp_check.specs.Nets.{AreZeros, AreCounts, AreNetCounts};
 
+use crate::elements::Elements;
 use pesp_problem::SignedRow;
 use std::alloc::{AllocError, Global};
 use std::marker::Model;
@@ -47,18 +48,15 @@ fn sign_of(s: &SignedRow) -> i128
     if s.plus { 1 } else { -1 }
 }
 
-/// Adds the signs of a walk to working numbers that are 0.
-fn count_rows(walk: &[SignedRow], working: &mut [i128])
-    requires exist { All (λ s. Names (length working.old) s.row) walk.now }
-    requires short { length walk.now ≤ 10000000 }
-    requires zeros { AreZeros working.old }
-    ensures { (i : ℕ) → i < length working.old → slice_index_or working.new i (pos 0) ≡ net_count walk.now i }
+/// Adds the sign of a row to its working number.
+pub fn count_row(working: &mut [i128], s: &SignedRow)
+    requires exists { Names (length working.old) s.now.row }
+    requires small { unsigned_abs (slice_index_or working.old (s.now.row - 1) (pos 0)) ≤ 10000000 }
+    ensures { working.new ≡ slice_set working.old (s.now.row - 1) (slice_index_or working.old (s.now.row - 1) (pos 0) +ℤ sign s.now) }
 {
-    for s in walk {
-        let at = s.row as usize - 1;
-        let count = working[at] + sign_of(s);
-        working[at] = count;
-    }
+    let at = s.row as usize - 1;
+    let count = working[at] + sign_of(s);
+    working[at] = count;
 }
 
 /// A working number, which is 0 afterwards.
@@ -72,21 +70,22 @@ pub fn take(working: &mut [i128], at: usize) -> i128
     number
 }
 
-/// The net counts of a walk's rows that are not 0, each row once. The working numbers, one a row, are 0 before and after.
-fn net_counts(
+/// Takes the net counts of a walk's rows that are not 0, each row once, from working numbers that hold them. They are 0
+/// afterwards.
+fn take_counts<R: Elements<SignedRow>>(
     alloc: Global,
-    walk: &[SignedRow],
+    rows: R,
     working: &mut [i128],
 ) -> Result<Vec<NetCount>, AllocError>
-    requires exist { All (λ s. Names (length working.old) s.row) walk.now }
-    requires short { length walk.now ≤ 10000000 }
-    requires zeros { AreZeros working.old }
-    ensures counts { IfOk result (λ v. AreNetCounts (length working.old) walk.now v.items) }
-    ensures zeros { IfOk result (λ _. AreZeros working.new) }
+    requires exist { All (λ s. Names (length working.old) s.row) (R.elements rows) }
+    requires short { length (R.elements rows) ≤ 10000000 }
+    requires counts { AreCounts (R.elements rows) working.old }
+    ensures counts { IfOk result (λ v. AreNetCounts (length working.old) (R.elements rows) v.items) }
+    ensures zeros { OnOk result (AreZeros working.new) }
 {
-    count_rows(walk, working);
+    let mut left = rows;
     let mut counts = Vec::new(alloc);
-    for s in walk {
+    while let Some(s) = left.take_next() {
         let place = s.row - 1;
         let count = take(working, place as usize);
         if count != 0 {
@@ -99,14 +98,18 @@ fn net_counts(
     Ok(counts)
 }
 
-/// The net counts of a walk. The working numbers, one a row, are 0 before and after.
-pub fn nets_of(alloc: Global, walk: &[SignedRow], working: &mut [i128]) -> Result<Nets, AllocError>
-    requires exist { All (λ s. Names (length working.old) s.row) walk.now }
-    requires short { length walk.now ≤ 10000000 }
-    requires zeros { AreZeros working.old }
-    ensures counts { IfOk result (λ nets. AreNetCounts (length working.old) walk.now nets) }
-    ensures zeros { IfOk result (λ _. AreZeros working.new) }
+/// Takes the net counts of a walk from working numbers, one a row, that hold them. They are 0 afterwards.
+pub fn take_nets<R: Elements<SignedRow>>(
+    alloc: Global,
+    rows: R,
+    working: &mut [i128],
+) -> Result<Nets, AllocError>
+    requires exist { All (λ s. Names (length working.old) s.row) (R.elements rows) }
+    requires short { length (R.elements rows) ≤ 10000000 }
+    requires counts { AreCounts (R.elements rows) working.old }
+    ensures counts { IfOk result (λ nets. AreNetCounts (length working.old) (R.elements rows) nets) }
+    ensures zeros { OnOk result (AreZeros working.new) }
 {
-    let counts = net_counts(alloc, walk, working)?;
+    let counts = take_counts(alloc, rows, working)?;
     Ok(Nets { counts })
 }

@@ -4,7 +4,7 @@ pub use crate::checking::{least_of, zeros};
 pub use crate::elements::Elements;
 pub use crate::judge_answer::judge_answer;
 pub use crate::judge_leaf::LeafLine;
-pub use crate::nets::{Nets, nets_of};
+pub use crate::nets::Nets;
 pub use crate::node_walk::NodeWalk;
 pub use crate::ranges::Ranges;
 pub use crate::table::root;

@@ -1,42 +1,20 @@
-//! The cycles of a certificate as net counts, and the root.
+//! The root of the tree.
 
-ghost use Rattle.std.specs.Prelude.{◌≡◌, ◌+◌, ◌≤◌, ◌<◌, List, length, All, IfOk, sum_by, map};
+ghost use Rattle.std.specs.Prelude.{◌≡◌, List, length, All, IfOk, map};
 ghost use Rattle.pesp_problem.specs.declared.row.SignedRow.{SignedRow};
-ghost use Rattle.pesp_problem.specs.Arcs.{arcs_of, net_of};
+ghost use Rattle.pesp_problem.specs.Arcs.{net_of};
 ghost use Rattle.pesp_problem.specs.Limits.{KeepsLimits};
-ghost use Rattle.pesp_problem.specs.Walks.{IsWalk};
 ghost use Rattle.pesp_problem.specs.Nodes as nodes;
-ghost use Rattle.pesp_check.specs.Nets.{AreZeros, AreSmallCounts};
+ghost use Rattle.pesp_check.specs.Nets.{AreSmallCounts};
 ghost use Rattle.pesp_check.specs.Flows.{AreNets};
 ghost use Rattle.pesp_check.specs.Offsets.{AreSlackRanges};
 ghost use Rattle.pesp_check.specs.Ranges.{node_of, AreRanges};
 
-use crate::nets::{Nets, nets_of};
+use crate::nets::Nets;
 use crate::offsets::{duration_sums, odijk_range};
 use crate::ranges::Ranges;
-use pesp_problem::{Instance, Walk, arc_of};
+use pesp_problem::{Instance, arc_of};
 use std::alloc::{AllocError, Global};
-
-/// The net counts of each cycle. The working numbers, one a row, are 0 before and after.
-pub fn table_of(
-    alloc: Global,
-    instance: &Instance,
-    cycles: &[Walk],
-    working: &mut [i128],
-) -> Result<Vec<Nets>, AllocError>
-    requires walks { All (IsWalk (arcs_of instance.now)) cycles.now }
-    requires rows { sum_by (λ walk. length walk) cycles.now ≤ 10000000 }
-    requires long { length working.old ≡ length instance.now.rows }
-    requires zeros { AreZeros working.old }
-    ensures nets { IfOk result (λ table. AreNets (length instance.now.rows) cycles.now table.items) }
-    ensures zeros { IfOk result (λ _. AreZeros working.new) }
-{
-    let mut table = Vec::new(alloc);
-    for cycle in cycles {
-        table.push(nets_of(alloc, cycle.rows(), working)?)?;
-    }
-    Ok(table)
-}
 
 /// The slack ranges of the root: from 0 to the row's span.
 fn root_slacks(alloc: Global, instance: &Instance) -> Result<Vec<(u32, u32)>, AllocError>

@@ -1,27 +1,26 @@
 //! Whether the cycles are walks of the instance.
 
-ghost use Rattle.std.specs.Prelude.{◌≡◌, ◌↔◌, ℕ, ◌+◌, ◌≤◌, ◌<◌, ◌^◌, IsTrue, All, length, MatchOption};
+ghost use Rattle.std.specs.Prelude.{◌≡◌, ◌↔◌, ℕ, ◌≤◌, ◌<◌, ◌^◌, IsTrue, All, length, sum_by, IfOk, OnOk, MatchResult};
 ghost use Rattle.pesp_problem.specs.Arcs.{arcs_of};
-ghost use Rattle.pesp_problem.specs.Walks.{RowExists, AreRows, IsWalk, Leads};
+ghost use Rattle.pesp_problem.specs.Walks.{RowExists, IsWalk};
 ghost use Rattle.pesp_problem.specs.Walks as spec;
-ghost use Rattle.pesp_check.specs.Faults.{IsCycleFault, IsWalkFault};
+ghost use Rattle.pesp_check.specs.Nets.{AreZeros, AreCounts};
+ghost use Rattle.pesp_check.specs.Flows.{AreNets};
+ghost use Rattle.pesp_check.specs.Faults.{IsCycleFault};
+ghost use Rattle.pesp_check.specs.Ways.{IsWay, IsWayOf, IsCycleVerdict};
 
+use crate::elements::Elements;
+use crate::nets::{Nets, count_row, take_nets};
 use crate::refusal::Refusal;
 use crate::rows::arc_at;
 use pesp_problem::{Instance, SignedRow, Walk};
+use std::alloc::{AllocError, Global};
 
 /// Whether the row exists.
 fn row_exists(instance: &Instance, s: &SignedRow) -> bool
     ensures { IsTrue result ↔ RowExists (arcs_of instance.now) s.now }
 {
     1 <= s.row && s.row as usize <= instance.rows().len()
-}
-
-/// Whether all rows exist.
-fn rows_exist(instance: &Instance, walk: &[SignedRow]) -> bool
-    ensures { IsTrue result ↔ AreRows (arcs_of instance.now) walk.now }
-{
-    walk.iter().all(|s| row_exists(instance, s))
 }
 
 /// The event at which a signed row begins.
@@ -42,65 +41,123 @@ fn finish(instance: &Instance, s: &SignedRow) -> u32
     if s.plus { arc.head } else { arc.tail }
 }
 
-/// Whether the ends of existing rows meet in order from an event back to it.
-fn leads_back(instance: &Instance, walk: &[SignedRow], begin: u32) -> bool
-    requires { AreRows (arcs_of instance.now) walk.now }
-    ensures { IsTrue result ↔ Leads (arcs_of instance.now) begin walk.now begin }
-{
-    let mut at = begin;
-    for s in walk {
-        if start(instance, s) != at {
-            return false;
-        }
-        at = finish(instance, s);
-    }
-    at == begin
+/// What the rows of a cycle are: one of them doesn't exist, or their ends don't meet in order and close, or they do.
+#[derive(Clone, Copy, Debug, PartialEq, Eq)]
+pub enum Way {
+    Missing,
+    Open,
+    Closed,
 }
 
-/// Whether existing rows are a closed walk.
-#[tactic(auto, using(crate::proofs::Closing::walk_leads))]
-fn closes(instance: &Instance, walk: &[SignedRow]) -> bool
-    requires { AreRows (arcs_of instance.now) walk.now }
-    ensures { IsTrue result ↔ IsWalk (arcs_of instance.now) walk.now }
-{
-    if walk.is_empty() {
-        return false;
-    }
-    leads_back(instance, walk, start(instance, &walk[0]))
-}
-
-/// What is wrong with a cycle that has this number and stands in this line.
-pub fn judge_cycle(
+/// Follows the rows of a cycle from an event, and adds their signs to working numbers that are 0.
+fn follow<R: Elements<SignedRow>>(
     instance: &Instance,
-    walk: &[SignedRow],
+    rows: R,
+    begin: u32,
+    working: &mut [i128],
+) -> Way
+    requires short { length (R.elements rows) ≤ 10000000 }
+    requires long { length working.old ≡ length instance.now.rows }
+    requires zeros { AreZeros working.old }
+    ensures way { IsWay (arcs_of instance.now) (R.elements rows) begin result }
+    ensures counts { result ≡ Way.Closed → AreCounts (R.elements rows) working.new }
+{
+    let mut left = rows;
+    let mut at = begin;
+    let mut joined = true;
+    while let Some(s) = left.take_next() {
+        if !row_exists(instance, &s) {
+            return Way::Missing;
+        }
+        joined &= start(instance, &s) == at;
+        at = finish(instance, &s);
+        count_row(working, &s);
+    }
+    if joined && at == begin {
+        Way::Closed
+    } else {
+        Way::Open
+    }
+}
+
+/// What the rows of a cycle are. Where they are a closed walk, the working numbers, one a row and 0 before, become its
+/// net counts.
+fn way_of<R: Elements<SignedRow>>(instance: &Instance, rows: R, working: &mut [i128]) -> Way
+    requires short { length (R.elements rows) ≤ 10000000 }
+    requires long { length working.old ≡ length instance.now.rows }
+    requires zeros { AreZeros working.old }
+    ensures way { IsWayOf (arcs_of instance.now) (R.elements rows) result }
+    ensures counts { result ≡ Way.Closed → AreCounts (R.elements rows) working.new }
+{
+    let mut ahead = rows;
+    let Some(first) = ahead.take_next() else {
+        return Way::Open;
+    };
+    if !row_exists(instance, &first) {
+        return Way::Missing;
+    }
+    follow(instance, rows, start(instance, &first), working)
+}
+
+/// The net counts of a cycle that has this number and stands in this line, or what is wrong with it. The working numbers,
+/// one a row, are 0 before and after.
+pub fn judge_cycle<R: Elements<SignedRow>>(
+    alloc: Global,
+    instance: &Instance,
+    rows: R,
     number: u32,
     line: u64,
-) -> Option<Refusal>
-    ensures { MatchOption result (IsWalk (arcs_of instance.now) walk.now)
-        (λ refusal. IsWalkFault (arcs_of instance.now) walk.now number line refusal) }
+    working: &mut [i128],
+) -> Result<Result<Nets, Refusal>, AllocError>
+    requires short { length (R.elements rows) ≤ 10000000 }
+    requires long { length working.old ≡ length instance.now.rows }
+    requires zeros { AreZeros working.old }
+    ensures verdict { IfOk result (λ found. IsCycleVerdict instance.now (R.elements rows) number line found) }
+    ensures zeros { OnOk result (AreZeros working.new) }
 {
-    if !rows_exist(instance, walk) {
-        return Some(Refusal::NoSuch { line });
-    }
-    if !closes(instance, walk) {
-        return Some(Refusal::OpenWalk { cycle: number });
-    }
-    None
-}
-
-/// The first cycle that is no walk, and why; cycle 1 stands in the line after `line`.
-pub fn judge_cycles(instance: &Instance, cycles: &[Walk], line: u64) -> Option<Refusal>
-    requires few { length cycles.now ≤ 100000 }
-    requires line { line < 2 ^ 63 }
-    ensures { MatchOption result (All (IsWalk (arcs_of instance.now)) cycles.now)
-        (λ refusal. IsCycleFault (arcs_of instance.now) cycles.now line refusal) }
-{
-    for (place, cycle) in cycles.iter().enumerate() {
-        let number = place as u32 + 1;
-        let found = judge_cycle(instance, cycle.rows(), number, line + u64::from(number));
-        if found.is_some() {
-            return found;
+    match way_of(instance, rows, working) {
+        Way::Missing => {
+            working.fill(0);
+            Ok(Err(Refusal::NoSuch { line }))
+        }
+        Way::Open => {
+            working.fill(0);
+            Ok(Err(Refusal::OpenWalk { cycle: number }))
+        }
+        Way::Closed => {
+            let nets = take_nets(alloc, rows, working)?;
+            Ok(Ok(nets))
         }
     }
-    None
+}
+
+/// The net counts of all cycles, or the first cycle that is no walk, and why; cycle 1 stands in the line after `line`. The
+/// working numbers, one a row, are 0 before and after.
+pub fn judge_cycles(
+    alloc: Global,
+    instance: &Instance,
+    cycles: &[Walk],
+    line: u64,
+    working: &mut [i128],
+) -> Result<Result<Vec<Nets>, Refusal>, AllocError>
+    requires few { length cycles.now ≤ 100000 }
+    requires rows { sum_by (λ walk. length walk) cycles.now ≤ 10000000 }
+    requires line { line < 2 ^ 63 }
+    requires long { length working.old ≡ length instance.now.rows }
+    requires zeros { AreZeros working.old }
+    ensures verdict { IfOk result (λ found. MatchResult found
+        (λ table. All (IsWalk (arcs_of instance.now)) cycles.now × AreNets (length instance.now.rows) cycles.now table.items)
+        (λ refusal. IsCycleFault (arcs_of instance.now) cycles.now line refusal)) }
+    ensures zeros { OnOk result (AreZeros working.new) }
+{
+    let mut table = Vec::new(alloc);
+    for (place, cycle) in cycles.iter().enumerate() {
+        let number = place as u32 + 1;
+        let at = line + u64::from(number);
+        match judge_cycle(alloc, instance, cycle.rows(), number, at, working)? {
+            Ok(nets) => table.push(nets)?,
+            Err(refusal) => return Ok(Err(refusal)),
+        }
+    }
+    Ok(Ok(table))
 }

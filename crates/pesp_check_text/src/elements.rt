@@ -1,10 +1,10 @@
 //! The list of a line, read from the line as often as is asked.
 
-ghost use Rattle.pesp_items.specs.Lent.{pairs_in};
+ghost use Rattle.pesp_items.specs.Lent.{pairs_in, rows_in};
 
 use pesp_check::parts::Elements;
-use pesp_items::LinePairs;
-use pesp_problem::Pair;
+use pesp_items::{LinePairs, SignedRows};
+use pesp_problem::{Pair, SignedRow};
 
 /// The pairs of a leaf's line that are still to come.
 #[derive(Clone, Copy)]
@@ -14,6 +14,18 @@ impl<'a> Elements<Pair> for PairsLeft<'a> {
     ghost elements = { λ pairs. pairs_in pairs.0 };
 
     fn take_next(&mut self) -> Option<Pair> {
+        self.0.next()
+    }
+}
+
+/// The signed rows of a cycle's line that are still to come.
+#[derive(Clone, Copy)]
+pub struct RowsLeft<'a>(pub SignedRows<'a>);
+
+impl<'a> Elements<SignedRow> for RowsLeft<'a> {
+    ghost elements = { λ rows. rows_in rows.0 };
+
+    fn take_next(&mut self) -> Option<SignedRow> {
         self.0.next()
     }
 }

@@ -16,15 +16,14 @@ ghost use Rattle.pesp_check_text.specs.Items.{KeepsItemLimits, begins_later, beg
 ghost use Rattle.pesp_check_text.specs.declared.stage.Stage.TheVariants as stages;
 ghost use Rattle.pesp_check_text.specs.Judging.{Kept, JudgedAt, behind, IsFrontFault, is_front, is_before_tree};
 
-use crate::elements::PairsLeft;
+use crate::elements::{PairsLeft, RowsLeft};
 use crate::stage::Stage;
 use pesp_check::parts::{
-    LeafLine, Nets, NodeWalk, SaidLine, judge_answer, judge_cycle, least_of, nets_of, root,
-    take_line,
+    LeafLine, Nets, NodeWalk, SaidLine, judge_answer, judge_cycle, least_of, root, take_line,
 };
 use pesp_check::{Refusal, Verdict};
 use pesp_items::{Item, SignedRows};
-use pesp_problem::{Cut, Instance, Walk};
+use pesp_problem::{Cut, Instance};
 use pesp_truth::Answer;
 use std::alloc::{AllocError, Global};
 
@@ -62,14 +61,6 @@ fn front_fault(
         return Ok(Some(Refusal::OtherPeriod));
     }
     judge_answer(alloc, instance, answer, times)
-}
-
-/// The walk along these rows.
-fn walk_of(alloc: Global, rows: SignedRows<'_>) -> Result<Walk, AllocError>
-    ensures { IfOk result (λ walk. walk ≡ rows_in rows.entry) }
-{
-    let rows = rows.collect(alloc)?;
-    Ok(Walk::new(rows))
 }
 
 /// Adds the net counts of one more cycle.
@@ -150,11 +141,11 @@ impl<'a> Judge<'a> {
     fn judge_walk(
         &mut self,
         alloc: Global,
-        walk: &Walk,
+        rows: SignedRows<'_>,
         working: &mut [i128],
     ) -> Result<(), AllocError>
         requires stage { self.old.stage ≡ stages.Cycles }
-        requires short { length walk.now ≤ 10000000 }
+        requires short { length (rows_in rows) ≤ 10000000 }
         requires few { self.old.line < 2 ^ 31 }
         requires long { length working.old ≡ length self.old.instance.now.rows }
         requires zeros { AreZeros working.old }
@@ -162,16 +153,20 @@ impl<'a> Judge<'a> {
         ensures line { OnOk result (self.new.line ≡ self.old.line + 1) }
         ensures zeros { OnOk result (AreZeros working.new) }
         ensures judged { OnOk result ((c : Content) (rest : List LineItem)
-            → JudgedAt self.old.stage self.old.instance.now c (items.Cycle walk.now ∷ rest) (kept self.old)
+            → JudgedAt self.old.stage self.old.instance.now c (items.Cycle (rows_in rows.entry) ∷ rest) (kept self.old)
             → JudgedAt self.new.stage self.old.instance.now c rest (kept self.new)) }
     {
         let number = self.table.len() as u32 + 1;
-        self.line += 1;
-        if let Some(refusal) = judge_cycle(self.instance, walk.rows(), number, self.line) {
-            self.stage = Stage::Refused(refusal);
-            return Ok(());
-        }
-        let nets = nets_of(alloc, walk.rows(), working)?;
+        let line = self.line + 1;
+        self.line = line;
+        let rows = RowsLeft(rows);
+        let nets = match judge_cycle(alloc, self.instance, rows, number, line, working)? {
+            Ok(nets) => nets,
+            Err(refusal) => {
+                self.stage = Stage::Refused(refusal);
+                return Ok(());
+            }
+        };
         add_nets(self.instance, &mut self.table, nets)?;
         Ok(())
     }
@@ -196,8 +191,7 @@ impl<'a> Judge<'a> {
     {
         self.end_front(alloc)?;
         if self.stage == Stage::Cycles {
-            let walk = walk_of(alloc, rows)?;
-            return self.judge_walk(alloc, &walk, working);
+            return self.judge_walk(alloc, rows, working);
         }
         self.line += 1;
         Ok(())

@@ -7,33 +7,26 @@ use Rattle.pesp_check.proofs.Options.{match_map, match_some, match_none}
 use Rattle.pesp_check.proofs.Faults.{later_tree_fault, valid_is}
 use Rattle.pesp_check.proofs.checking.first_fault.Goals as goal
 
-pub returns-then-is_some : goal.returns-then-is_some
-returns-then-is_some c =
+pub returns-then-is_some-clause-found : goal.returns-then-is_some-clause-found
+returns-then-is_some-clause-found c =
     let period = sym c.period.ensures.value ∙ c.if-period.false ∙ c.period-2.ensures.period in
     let judged = rw (c.answer.ensures.value, c.times-times.ensures.value) at c.in_ok-found.ensures in
-    record {
-      found = match_some c.in_ok-found.found _ _ _ _ (sym c.is_some.ensures ∙ c.if-is_some.true) (λ refusal f. inr (period, inl f)) judged;
-      limits = c.period-2.ensures.limits;
-    }
-
-pub returns-then-is_some-2 : goal.returns-then-is_some-2
-returns-then-is_some-2 c =
-    let period = sym c.period.ensures.value ∙ c.if-period.false ∙ c.period-2.ensures.period in
-    let judged = rw (c.answer.ensures.value, c.times-times.ensures.value) at c.in_ok-found.ensures in
-    let answer = match_none c.in_ok-found.found _ _ (sym c.is_some.ensures ∙ c.if-is_some.false) judged in
-    let cycles = rw (c.cycles.ensures.value, c.times-times.ensures.value) at c.judge_cycles-found.ensures in
-    record {
-      found = match_some c.judge_cycles-found.result _ _ _ _ (sym c.is_some-2.ensures ∙ c.if-is_some-2.true) (λ refusal f. inr (period, inr (inl (answer, f)))) cycles;
-      limits = c.period-2.ensures.limits;
-    }
+    match_some c.in_ok-found.found _ _ _ _ (sym c.is_some.ensures ∙ c.if-is_some.true) (λ refusal f. inr (period, inl f)) judged
 
 pub returns-clause-found : goal.returns-clause-found
 returns-clause-found c =
     let period = sym c.period.ensures.value ∙ c.if-period.false ∙ c.period-2.ensures.period in
     let judged = rw (c.answer.ensures.value, c.times-times.ensures.value) at c.in_ok-found.ensures in
     let answer = match_none c.in_ok-found.found _ _ (sym c.is_some.ensures ∙ c.if-is_some.false) judged in
-    let seen = rw c.cycles.ensures.value at c.judge_cycles-found.ensures in
-    let cycles = match_none c.judge_cycles-found.result _ _ (sym c.is_some-2.ensures ∙ c.if-is_some-2.false) seen in
+    let fault = rw (c.in-Err.is, c.cycles.ensures.value, c.times-times.ensures.value) at c.in_ok-table.ensures.verdict in
+    inr (period, inr (inl (answer, fault)))
+
+pub returns-in-Ok-clause-found : goal.returns-in-Ok-clause-found
+returns-in-Ok-clause-found c =
+    let period = sym c.period.ensures.value ∙ c.if-period.false ∙ c.period-2.ensures.period in
+    let judged = rw (c.answer.ensures.value, c.times-times.ensures.value) at c.in_ok-found.ensures in
+    let answer = match_none c.in_ok-found.found _ _ (sym c.is_some.ensures ∙ c.if-is_some.false) judged in
+    let cycles = (rw (c.in-Ok.is, c.cycles.ensures.value) at c.in_ok-table.ensures.verdict).0 in
     IfOk-weaker c.tree_fault.result _ _ (λ (found : Option Refusal) h.
     match_map found _ (IsValid c.args.instance.now c.args.certificate.now) _ (λ refusal. IsFirstFault c.args.instance.now c.args.certificate.now refusal)
     (λ sound. valid_is c.args.instance.now c.args.certificate.now period answer cycles sound)

@@ -3,6 +3,7 @@ use Rattle.std.specs.Prelude.{◌+ℤ◌}
 use Rattle.std.specs.Int.{w64, w128}
 use Rattle.std.proofs.lemmas.Int.{ints, to_z-of_z}
 use Rattle.pesp_problem.specs.Arcs.{net_of}
+use Rattle.pesp_problem.specs.Nodes.{offset_part}
 use Rattle.pesp_check.specs.Ranges.{node_of}
 use Rattle.pesp_check.proofs.Leaves.{left_read, offset_more, offset_none}
 use Rattle.pesp_check.proofs.Flowing.{pairs_apart}
@@ -44,6 +45,6 @@ returns-in_err-range-clause-value g c walks nets =
     let exists = (pairs_apart (length c.args.table.now) (elements c.loop-pair.left) (elements c.take_next.new.self) p c.in-Some.ensures c.loop-pair.invariant.exist).0 in
     let at : p.cycle - 1 < length c.args.table.now = omega (arith, exists.0) in
     c.from_residual.ensures
-    ∙ offset_none (net_of c.args.instance.now) walks (node_of c.args.ranges.now) (elements c.loop-pair.left) (elements c.take_next.new.self) p c.in-Some.ensures (to_z w128 c.loop-pair.sum-bits) _
+    ∙ offset_none (net_of c.args.instance.now) walks (node_of c.args.ranges.now) (elements c.loop-pair.left) (elements c.take_next.new.self) p c.in-Some.ensures (to_z w128 c.loop-pair.sum-bits) (offset_part (net_of c.args.instance.now) walks (node_of c.args.ranges.now) (elements c.args.pairs))
     (left_read (length c.args.instance.now.rows) (net_of c.args.instance.now) walks c.args.table.now (node_of c.args.ranges.now) (p.cycle - 1) c.counts.result.now c.index-table-at.result c.deref.result.now c.index.result.now None nets at c.requires.cycles c.index-table-at.is c.counts.ensures c.deref.ensures.value c.index.ensures c.in_err-range.ensures.value)
     (c.loop-pair.invariant.whole walks nets)

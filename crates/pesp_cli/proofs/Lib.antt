@@ -1,3 +1,4 @@
 pub mod RunLemmas
 pub mod Joining
 pub mod CheckCauses
+pub mod OutsideCauses

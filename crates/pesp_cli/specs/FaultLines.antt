@@ -32,6 +32,10 @@ abbrev pub certificate_fault : CertRefusal → Fault
 certificate_fault CertMemory = Memory
 certificate_fault refusal = Certificate refusal
 
+abbrev pub works_fault : CertRefusal → Fault
+works_fault CertMemory = Memory
+works_fault refusal = Works refusal
+
 abbrev pub times_fault : TimesRefusal → Fault
 times_fault TimesMemory = Memory
 times_fault refusal = Times refusal

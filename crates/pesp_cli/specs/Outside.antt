@@ -2,6 +2,7 @@
 use Rattle.std.specs.Prelude.{◌≡◌, ◌⊎◌, ℕ, List, Option, Err}
 use Rattle.std.specs.List.{flat_map}
 use Rattle.pesp_stream.specs.Reading.{ReadsText}
+use Rattle.pesp_stream.specs.Writing.{AppendsFront}
 use Rattle.pesp_problem.specs.Timetables.{Pesp}
 use Rattle.pesp_truth.specs.Certificates.{Content, IsValid}
 use Rattle.pesp_cert.specs.Texts.{spelling, HasText}
@@ -18,7 +19,9 @@ use Rattle.pesp_outside.specs.declared.grafting.Reply.{Reply}
 use Rattle.pesp_outside.specs.Jobs.{AreOpenJobs}
 use Rattle.pesp_outside.specs.Grafts.{IsGrafted}
 use Rattle.pesp_outside.specs.Texts.{jobs_text, reply_line}
-use Rattle.pesp_cli.specs.Runs.{ReadsInstance}
+use Rattle.pesp_cli.specs.declared.fault.Fault.{Fault}
+use Rattle.pesp_cli.specs.declared.fault.Fault.TheVariants.{Certificate, Base, Works, Memory, Read, Write}
+use Rattle.pesp_cli.specs.Runs.{ReadsInstance, InstanceCause}
 
 -- the bytes that were read are the text of this certificate, which is valid for the instance
 pub record ReadsBase (told left : Option (List ℕ)) (instance : Pesp) (base : Content) : Type 0 where
@@ -57,3 +60,64 @@ pub record GraftsWorks (told left told_base left_base told_works left_works : Op
   pub has_text : HasText certificate
   pub told_replies : Tells (flat_map reply_line replies)
   pub written : Gets (spelling certificate)
+
+-- ---- faults
+
+-- the bytes that were read are no certificate's text, by this fault
+pub record RefusesBaseText (told left : Option (List ℕ)) (refusal : CertRefusal) : Type 0 where
+  pub bytes : List ℕ
+  pub read : ReadsText told left 1073741824 bytes
+  pub refused : items_of_text bytes ≡ Err refusal
+
+-- the bytes that were read are the text of a certificate, which the checker refuses so
+pub record RefusesBase (told left : Option (List ℕ)) (instance : Pesp) (refusal : Refusal) : Type 0 where
+  pub text : List ℕ
+  pub read : ReadsText told left 1073741824 text
+  pub certificate : Content
+  pub is_text : IsTextOf text certificate
+  pub refused : IsVerdict instance certificate (Refused refusal)
+
+-- the bytes that were read are no works' texts, by this fault
+pub record RefusesWorks (told left : Option (List ℕ)) (refusal : CertRefusal) : Type 0 where
+  pub bytes : List ℕ
+  pub read : ReadsText told left 1073741824 bytes
+  pub refused : works_texts.works_of_text bytes ≡ Err refusal
+
+-- why there is no base: its text, its verdict, or the reader's device; what memory is refused is the runtime's matter
+abbrev pub BaseCause : Fault → Option (List ℕ) → Option (List ℕ) → Pesp → Type 0 → Type 0
+BaseCause (Certificate refusal) told left instance failed = RefusesBaseText told left refusal
+BaseCause (Base refusal) told left instance failed = RefusesBase told left instance refusal
+BaseCause Memory told left instance failed = Unit {0}
+BaseCause Read told left instance failed = failed
+BaseCause fault told left instance failed = ⊥
+
+-- why there are no works
+abbrev pub WorksCause : Fault → Option (List ℕ) → Option (List ℕ) → Type 0 → Type 0
+WorksCause (Works refusal) told left failed = RefusesWorks told left refusal
+WorksCause Memory told left failed = Unit {0}
+WorksCause Read told left failed = failed
+WorksCause fault told left failed = ⊥
+
+-- why nothing went out whole, once all was read: memory, or a writer of which this is said
+abbrev pub OutCause : Fault → Type 0 → Type 0
+OutCause Memory cut = Unit {0}
+OutCause Write cut = cut
+OutCause fault cut = ⊥
+
+-- each fault of `split` and its cause, in the order of what is read and written; the second reader is called only where the first text has an instance
+abbrev pub SplitCause : Fault → Option (List ℕ) → Option (List ℕ) → Option (List ℕ) → Option (List ℕ) → ℕ → Option (List ℕ) → Option (List ℕ) → Type 0 → Type 0 → Type 0 → Type 0 → Type 0
+SplitCause fault told left told_base left_base period old new first_failed uncalled base_failed write_failed =
+    (InstanceCause fault told left period first_failed × uncalled)
+    ⊎ ((instance : Pesp) × ReadsInstance told left period instance
+    × (BaseCause fault told_base left_base instance base_failed
+    ⊎ OutCause fault (write_failed × Splits told left told_base left_base period (AppendsFront old new))))
+
+-- each fault of `graft` and its cause; the second reader is called only where the first text has an instance, and the third only where the second has a base of it
+abbrev pub GraftCause : Fault → Option (List ℕ) → Option (List ℕ) → Option (List ℕ) → Option (List ℕ) → Option (List ℕ) → Option (List ℕ) → ℕ → Option (List ℕ) → Option (List ℕ) → Option (List ℕ) → Option (List ℕ) → Type 0 → Type 0 → Type 0 → Type 0 → Type 0 → Type 0 → Type 0
+GraftCause fault told left told_base left_base told_works left_works period old new old_replies new_replies first_failed uncalled base_failed works_uncalled works_failed out_failed =
+    (InstanceCause fault told left period first_failed × uncalled × works_uncalled)
+    ⊎ ((instance : Pesp) × ReadsInstance told left period instance
+    × ((BaseCause fault told_base left_base instance base_failed × works_uncalled)
+    ⊎ ((base : Content) × ReadsBase told_base left_base instance base
+    × (WorksCause fault told_works left_works works_failed
+    ⊎ OutCause fault (out_failed × GraftsWorks told left told_base left_base told_works left_works period (AppendsFront old new) (AppendsFront old_replies new_replies))))))

@@ -23,10 +23,10 @@ use Rattle.pesp_report.specs.TimesText.{times_of}
 use Rattle.pesp_report.specs.Report.{IsReport}
 use Rattle.pesp_report.specs.declared.refusal.TimesRefusal.{TimesRefusal}
 use Rattle.pesp_report.specs.declared.refusal.ReportRefusal.{ReportRefusal}
-use Rattle.pesp_report.specs.declared.refusal.ReportRefusal.TheVariants.{Violates, NotTimes, Memory as ReportMemory, Write as ReportWrite}
+use Rattle.pesp_report.specs.declared.refusal.ReportRefusal.TheVariants.{Violates}
 use Rattle.pesp_cli.specs.Verdicts.{verdict_line}
 use Rattle.pesp_cli.specs.declared.fault.Fault.{Fault}
-use Rattle.pesp_cli.specs.declared.fault.Fault.TheVariants.{Instance, Certificate, Times, Search, Report, Base, Works, Memory, Read, Write, NoFile}
+use Rattle.pesp_cli.specs.declared.fault.Fault.TheVariants.{Instance, Certificate, Times, Search, Report, Memory, Read, Write}
 
 -- no call of a reader or a writer failed, and no more than 1000 were interrupted
 abbrev pub HasWorked : ℕ → ℕ → ℕ → ℕ → Type 0
@@ -56,16 +56,9 @@ pub record RefusesInstance (told left : Option (List ℕ)) (period : ℕ) (refus
 -- why there is no instance: its text, or the reader's device; what memory is refused is the runtime's matter
 abbrev pub InstanceCause : Fault → Option (List ℕ) → Option (List ℕ) → ℕ → Type 0 → Type 0
 InstanceCause (Instance refusal) told left period failed = RefusesInstance told left period refusal
-InstanceCause (Certificate refusal) told left period failed = ⊥
-InstanceCause (Times refusal) told left period failed = ⊥
-InstanceCause (Search refusal) told left period failed = ⊥
-InstanceCause (Report refusal) told left period failed = ⊥
-InstanceCause (Base refusal) told left period failed = ⊥
-InstanceCause (Works refusal) told left period failed = ⊥
 InstanceCause Memory told left period failed = Unit {0}
 InstanceCause Read told left period failed = failed
-InstanceCause Write told left period failed = ⊥
-InstanceCause NoFile told left period failed = ⊥
+InstanceCause fault told left period failed = ⊥
 
 -- the first reader failed before the second was called, or the first text has an instance and the second reader failed
 abbrev pub FailsInTurn : Option (List ℕ) → Option (List ℕ) → ℕ → Type 0 → Type 0 → Type 0 → Type 0
@@ -98,16 +91,11 @@ pub record RefusesSearch (told left : Option (List ℕ)) (period steps : ℕ) (r
 -- each fault of `solve` and its cause
 abbrev pub SolveCause : Fault → Option (List ℕ) → Option (List ℕ) → ℕ → ℕ → Option (List ℕ) → Option (List ℕ) → Type 0 → Type 0 → Type 0
 SolveCause (Instance refusal) told left period steps old new read_failed write_failed = RefusesInstance told left period refusal
-SolveCause (Certificate refusal) told left period steps old new read_failed write_failed = ⊥
-SolveCause (Times refusal) told left period steps old new read_failed write_failed = ⊥
 SolveCause (Search refusal) told left period steps old new read_failed write_failed = RefusesSearch told left period steps refusal
-SolveCause (Report refusal) told left period steps old new read_failed write_failed = ⊥
-SolveCause (Base refusal) told left period steps old new read_failed write_failed = ⊥
-SolveCause (Works refusal) told left period steps old new read_failed write_failed = ⊥
 SolveCause Memory told left period steps old new read_failed write_failed = Unit {0}
 SolveCause Read told left period steps old new read_failed write_failed = read_failed
 SolveCause Write told left period steps old new read_failed write_failed = write_failed × Solves told left period steps (AppendsFront old new)
-SolveCause NoFile told left period steps old new read_failed write_failed = ⊥
+SolveCause fault told left period steps old new read_failed write_failed = ⊥
 
 -- ---- check
 
@@ -134,16 +122,11 @@ pub record RefusesCertificate (told left told_certificate left_certificate : Opt
 abbrev pub CheckCause : Fault → Option (List ℕ) → Option (List ℕ) → Option (List ℕ) → Option (List ℕ) → ℕ → Option (List ℕ) → Option (List ℕ) → Type 0 → Type 0 → Type 0 → Type 0 → Type 0
 CheckCause (Instance refusal) told left told_certificate left_certificate period old new first_failed uncalled second_failed write_failed = RefusesInstance told left period refusal × uncalled
 CheckCause (Certificate refusal) told left told_certificate left_certificate period old new first_failed uncalled second_failed write_failed = RefusesCertificate told left told_certificate left_certificate period refusal
-CheckCause (Times refusal) told left told_certificate left_certificate period old new first_failed uncalled second_failed write_failed = ⊥
-CheckCause (Search refusal) told left told_certificate left_certificate period old new first_failed uncalled second_failed write_failed = ⊥
-CheckCause (Report refusal) told left told_certificate left_certificate period old new first_failed uncalled second_failed write_failed = ⊥
-CheckCause (Base refusal) told left told_certificate left_certificate period old new first_failed uncalled second_failed write_failed = ⊥
-CheckCause (Works refusal) told left told_certificate left_certificate period old new first_failed uncalled second_failed write_failed = ⊥
 CheckCause Memory told left told_certificate left_certificate period old new first_failed uncalled second_failed write_failed = Unit {0}
 CheckCause Read told left told_certificate left_certificate period old new first_failed uncalled second_failed write_failed = FailsInTurn told left period first_failed uncalled second_failed
 CheckCause Write told left told_certificate left_certificate period old new first_failed uncalled second_failed write_failed =
     write_failed × ((verdict : Verdict) × Checks told left told_certificate left_certificate period verdict (AppendsFront old new))
-CheckCause NoFile told left told_certificate left_certificate period old new first_failed uncalled second_failed write_failed = ⊥
+CheckCause fault told left told_certificate left_certificate period old new first_failed uncalled second_failed write_failed = ⊥
 
 -- ---- report
 
@@ -181,23 +164,17 @@ pub record ViolatesRow (told left told_times left_times : Option (List ℕ)) (pe
 
 abbrev pub ReportRefused : ReportRefusal → Option (List ℕ) → Option (List ℕ) → Option (List ℕ) → Option (List ℕ) → ℕ → Type 0
 ReportRefused (Violates row) told left told_times left_times period = ViolatesRow told left told_times left_times period row
-ReportRefused NotTimes told left told_times left_times period = ⊥
-ReportRefused ReportMemory told left told_times left_times period = ⊥
-ReportRefused ReportWrite told left told_times left_times period = ⊥
+ReportRefused refusal told left told_times left_times period = ⊥
 
 -- each fault of a run that reads an instance and a timetable of it and writes something of them, and its cause; the second reader is called only where the first text has an instance
 abbrev pub TimetableCause : Fault → Option (List ℕ) → Option (List ℕ) → Option (List ℕ) → Option (List ℕ) → ℕ → Type 0 → Type 0 → Type 0 → Type 0 → Type 0
 TimetableCause (Instance refusal) told left told_times left_times period first_failed uncalled second_failed write_failed = RefusesInstance told left period refusal × uncalled
-TimetableCause (Certificate refusal) told left told_times left_times period first_failed uncalled second_failed write_failed = ⊥
 TimetableCause (Times refusal) told left told_times left_times period first_failed uncalled second_failed write_failed = RefusesTimes told left told_times left_times period refusal
-TimetableCause (Search refusal) told left told_times left_times period first_failed uncalled second_failed write_failed = ⊥
 TimetableCause (Report refusal) told left told_times left_times period first_failed uncalled second_failed write_failed = ReportRefused refusal told left told_times left_times period
-TimetableCause (Base refusal) told left told_times left_times period first_failed uncalled second_failed write_failed = ⊥
-TimetableCause (Works refusal) told left told_times left_times period first_failed uncalled second_failed write_failed = ⊥
 TimetableCause Memory told left told_times left_times period first_failed uncalled second_failed write_failed = Unit {0}
 TimetableCause Read told left told_times left_times period first_failed uncalled second_failed write_failed = FailsInTurn told left period first_failed uncalled second_failed
 TimetableCause Write told left told_times left_times period first_failed uncalled second_failed write_failed = write_failed
-TimetableCause NoFile told left told_times left_times period first_failed uncalled second_failed write_failed = ⊥
+TimetableCause fault told left told_times left_times period first_failed uncalled second_failed write_failed = ⊥
 
 -- those of `report`
 abbrev pub ReportCause : Fault → Option (List ℕ) → Option (List ℕ) → Option (List ℕ) → Option (List ℕ) → ℕ → Option (List ℕ) → Option (List ℕ) → Type 0 → Type 0 → Type 0 → Type 0 → Type 0

@@ -1,9 +1,11 @@
 //! The runs for work from outside.
 
-ghost use Rattle.std.specs.Prelude.{◌≡◌, ◌≢◌, ◌<◌, ◌≤◌, ◌^◌, OnOk, IfOk, IfErr};
+ghost use Rattle.std.specs.Prelude.{◌≡◌, ◌≢◌, ◌⊎◌, ◌<◌, ◌≤◌, ◌^◌, OnOk, IfOk, IfErr};
 ghost use Rattle.std.specs.Io.KnownBytes.{Appends};
+ghost use Rattle.pesp_stream.specs.Counts.{DeviceFailed};
+ghost use Rattle.pesp_cli.specs.FaultLines.{works_fault};
 ghost use Rattle.pesp_cli.specs.Runs.{HasWorked};
-ghost use Rattle.pesp_cli.specs.Outside.{ReadsBase, ReadsWorks, Splits, GraftsWorks};
+ghost use Rattle.pesp_cli.specs.Outside.{ReadsBase, ReadsWorks, Splits, GraftsWorks, BaseCause, WorksCause, SplitCause, GraftCause};
 
 use crate::fault::Fault;
 use crate::runs::{MOST_TIMES, read_whole_instance};
@@ -26,6 +28,8 @@ fn read_base<R: Source>(
     ensures ok { IfOk result (ReadsBase (R.remaining reader.old) (R.remaining reader.new) instance.now) }
     ensures counts { OnOk result (HasWorked (R.failed reader.old) (R.interrupted reader.old)
         (R.failed reader.new) (R.interrupted reader.new)) }
+    ensures cause { IfErr result (λ fault. BaseCause fault (R.remaining reader.old) (R.remaining reader.new) instance.now
+        (DeviceFailed (R.failed reader.old) (R.interrupted reader.old) (R.failed reader.new) (R.interrupted reader.new))) }
 {
     let text = read_all(alloc, reader, MOST_TIMES)?;
     let base = parse(alloc, &text)?;
@@ -35,19 +39,31 @@ fn read_base<R: Source>(
     }
 }
 
+/// Why there are no works.
+fn works_fault(refusal: CertRefusal) -> Fault
+    ensures { result ≡ works_fault refusal }
+{
+    match refusal {
+        CertRefusal::Memory => Fault::Memory,
+        _ => Fault::Works(refusal),
+    }
+}
+
 /// Reads works.
+#[tactic(auto, using(crate::proofs::OutsideCauses::works_text_cause))]
 fn read_works<R: Source>(alloc: Global, reader: &mut R) -> Result<Vec<WorkText>, Fault>
     requires failed { R.failed reader.old < 2 ^ 63 }
     requires interrupted { R.interrupted reader.old < 2 ^ 63 }
     ensures ok { IfOk result (λ works. ReadsWorks (R.remaining reader.old) (R.remaining reader.new) works.items) }
     ensures counts { OnOk result (HasWorked (R.failed reader.old) (R.interrupted reader.old)
         (R.failed reader.new) (R.interrupted reader.new)) }
+    ensures cause { IfErr result (λ fault. WorksCause fault (R.remaining reader.old) (R.remaining reader.new)
+        (DeviceFailed (R.failed reader.old) (R.interrupted reader.old) (R.failed reader.new) (R.interrupted reader.new))) }
 {
     let text = read_all(alloc, reader, MOST_TIMES)?;
     match parse_works(alloc, &text) {
         Ok(works) => Ok(works),
-        Err(CertRefusal::Memory) => Err(Fault::Memory),
-        Err(refusal) => Err(Fault::Works(refusal)),
+        Err(refusal) => Err(works_fault(refusal)),
     }
 }
 
@@ -75,6 +91,17 @@ pub fn run_split<R: Source, B: Source, W: Sink>(
         (B.failed base_reader.new) (B.interrupted base_reader.new)) }
     ensures writes { OnOk result (HasWorked (W.failed writer.old) (W.interrupted writer.old)
         (W.failed writer.new) (W.interrupted writer.new)) }
+    ensures cause { IfErr result (λ fault. SplitCause fault
+        (R.remaining instance_reader.old) (R.remaining instance_reader.new)
+        (B.remaining base_reader.old) (B.remaining base_reader.new) period
+        (W.contents writer.old) (W.contents writer.new)
+        (DeviceFailed (R.failed instance_reader.old) (R.interrupted instance_reader.old)
+        (R.failed instance_reader.new) (R.interrupted instance_reader.new))
+        (base_reader.new ≡ base_reader.old)
+        (DeviceFailed (B.failed base_reader.old) (B.interrupted base_reader.old)
+        (B.failed base_reader.new) (B.interrupted base_reader.new))
+        (DeviceFailed (W.failed writer.old) (W.interrupted writer.old)
+        (W.failed writer.new) (W.interrupted writer.new))) }
     ensures silent { IfErr result (λ fault. fault ≢ Fault.Write → writer.new ≡ writer.old) }
 {
     let instance = read_whole_instance(alloc, instance_reader, period)?;
@@ -85,8 +112,9 @@ pub fn run_split<R: Source, B: Source, W: Sink>(
 }
 
 /// Reads an instance, then a certificate that is valid for it, and then works, whoever made them; grafts the works onto the
-/// certificate, tells on the second writer what became of each, and then writes the certificate that comes of it. At most
-/// 1,073,741,824 bytes of works are read and judged. Nothing is told and nothing written before the whole certificate stands.
+/// certificate, writes the certificate that comes of it, and then tells on the second writer what became of each work. At
+/// most 1,073,741,824 bytes of works are read and judged. Nothing is written and nothing told before the whole certificate
+/// stands.
 pub fn run_graft<R: Source, B: Source, T: Source, W: Sink, E: Sink>(
     alloc: Global,
     instance_reader: &mut R,
@@ -121,6 +149,23 @@ pub fn run_graft<R: Source, B: Source, T: Source, W: Sink, E: Sink>(
         (W.failed writer.new) (W.interrupted writer.new)) }
     ensures tellings { OnOk result (HasWorked (E.failed teller.old) (E.interrupted teller.old)
         (E.failed teller.new) (E.interrupted teller.new)) }
+    ensures cause { IfErr result (λ fault. GraftCause fault
+        (R.remaining instance_reader.old) (R.remaining instance_reader.new)
+        (B.remaining base_reader.old) (B.remaining base_reader.new)
+        (T.remaining works_reader.old) (T.remaining works_reader.new) period
+        (W.contents writer.old) (W.contents writer.new) (E.contents teller.old) (E.contents teller.new)
+        (DeviceFailed (R.failed instance_reader.old) (R.interrupted instance_reader.old)
+        (R.failed instance_reader.new) (R.interrupted instance_reader.new))
+        (base_reader.new ≡ base_reader.old)
+        (DeviceFailed (B.failed base_reader.old) (B.interrupted base_reader.old)
+        (B.failed base_reader.new) (B.interrupted base_reader.new))
+        (works_reader.new ≡ works_reader.old)
+        (DeviceFailed (T.failed works_reader.old) (T.interrupted works_reader.old)
+        (T.failed works_reader.new) (T.interrupted works_reader.new))
+        (DeviceFailed (E.failed teller.old) (E.interrupted teller.old)
+        (E.failed teller.new) (E.interrupted teller.new)
+        ⊎ DeviceFailed (W.failed writer.old) (W.interrupted writer.old)
+        (W.failed writer.new) (W.interrupted writer.new))) }
     ensures silent { IfErr result (λ fault. fault ≢ Fault.Write → writer.new ≡ writer.old) }
     ensures untold { IfErr result (λ fault. fault ≢ Fault.Write → teller.new ≡ teller.old) }
 {
@@ -128,7 +173,7 @@ pub fn run_graft<R: Source, B: Source, T: Source, W: Sink, E: Sink>(
     let base = read_base(alloc, &instance, base_reader)?;
     let works = read_works(alloc, works_reader)?;
     let grafted = graft(alloc, &instance, &base, works)?;
-    print_to(teller, &RepliesText(&grafted.replies))?;
     print(&grafted.certificate, writer)?;
+    print_to(teller, &RepliesText(&grafted.replies))?;
     Ok(())
 }

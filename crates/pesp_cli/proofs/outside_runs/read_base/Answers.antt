@@ -7,3 +7,12 @@ returns-in-Accepted-clause-ok g c = record {
   is_text = rw c.deref.ensures.value at c.in_ok-base.ensures.found;
   valid = c.in_ok-check.ensures.exactly.0 c.in-Accepted.is;
 }
+
+pub returns-clause-cause : goal.returns-clause-cause
+returns-clause-cause g c = record {
+  text = c.in_ok-text.text.items;
+  read = c.in_ok-text.ensures.ok;
+  certificate = c.in_ok-base.base;
+  is_text = rw c.deref.ensures.value at c.in_ok-base.ensures.found;
+  refused = rw c.in-Refused.is at c.in_ok-check.ensures.verdict;
+}

@@ -1,0 +1,34 @@
+-- Why there are no works, and what a writer got that took nothing, or all.
+use Rattle.std.proofs.Common.{◌≡◌, inl, inr, ℕ, List, [], refl, sym, Err}
+use Rattle.std.specs.Prelude.{Option}
+use Rattle.std.specs.Io.KnownBytes.{Appends}
+use Rattle.std.proofs.KnownBytes.{Appends-nil}
+use Rattle.std.proofs.lemmas.List.{append-nil}
+use Rattle.pesp_stream.specs.Reading.{ReadsText}
+use Rattle.pesp_stream.specs.Writing.{AppendsFront}
+use Rattle.pesp_cert.specs.declared.refusal.CertRefusal.{CertRefusal}
+use Rattle.pesp_cert.specs.declared.refusal.CertRefusal.TheVariants.{Header, Line, Number, Limit, Truncated, Trailing, Memory as NoMemory}
+use Rattle.pesp_works.specs.Refusals.{works_of_text, RefusesFirst}
+use Rattle.pesp_cli.specs.FaultLines.{works_fault}
+use Rattle.pesp_cli.specs.Outside.{RefusesWorks, WorksCause}
+
+refuses : (told left : Option (List ℕ)) (bytes : List ℕ) (refusal : CertRefusal) → ReadsText told left 1073741824 bytes → works_of_text bytes ≡ Err refusal → RefusesWorks told left refusal
+refuses told left bytes refusal read is = record { bytes = bytes; read = read; refused = is }
+
+-- a refusal of the works' text, or of memory
+pub works_text_cause : (refusal : CertRefusal) (told left : Option (List ℕ)) (bytes : List ℕ) (R : Type 0) → ReadsText told left 1073741824 bytes → RefusesFirst bytes refusal → WorksCause (works_fault refusal) told left R
+works_text_cause NoMemory told left bytes R read first = tt
+works_text_cause Header told left bytes R read first = elim first [ inl e ↦ cc | inr e ↦ refuses told left bytes Header read e ]
+works_text_cause (Line n) told left bytes R read first = elim first [ inl e ↦ cc | inr e ↦ refuses told left bytes (Line n) read e ]
+works_text_cause (Number n) told left bytes R read first = elim first [ inl e ↦ cc | inr e ↦ refuses told left bytes (Number n) read e ]
+works_text_cause (Limit n) told left bytes R read first = elim first [ inl e ↦ cc | inr e ↦ refuses told left bytes (Limit n) read e ]
+works_text_cause Truncated told left bytes R read first = elim first [ inl e ↦ cc | inr e ↦ refuses told left bytes Truncated read e ]
+works_text_cause (Trailing n) told left bytes R read first = elim first [ inl e ↦ cc | inr e ↦ refuses told left bytes (Trailing n) read e ]
+
+-- nothing is a front of every text
+pub no_front : (a : Option (List ℕ)) (text : List ℕ) → AppendsFront a a text
+no_front a text = record { front = []; rest = text; whole = refl; appended = Appends-nil a }
+
+-- a text is a front of itself
+pub whole_front : (old new : Option (List ℕ)) (text : List ℕ) → Appends old new text → AppendsFront old new text
+whole_front old new text all = record { front = text; rest = []; whole = sym (append-nil text); appended = all }

@@ -143,7 +143,7 @@ line_fits p (Nothing pairs) n t h = are_pairs_fit (length p.table) pairs t.cycle
 line_fits p (Gap cycle) n t h = row_fits (length p.table) cycle h t.cycles
 line_fits p Propagated n t h = refl
 
-lines_fit : (p : ProblemValue) (lines : List TreeLine) → KeepsNetLimits p.network → IsSmallTable p.table → All (IsLineOf p) (map line_of lines) → list_all is_line lines ≡ true
+pub lines_fit : (p : ProblemValue) (lines : List TreeLine) → KeepsNetLimits p.network → IsSmallTable p.table → All (IsLineOf p) (map line_of lines) → list_all is_line lines ≡ true
 lines_fit p [] n t h = refl
 lines_fit p (line ∷ lines) n t h = rw (line_fits p line n t (All-head (IsLineOf p) (line_of line) (map line_of lines) h), lines_fit p lines n t (All-tail (IsLineOf p) (line_of line) (map line_of lines) h)) refl
 
@@ -172,7 +172,7 @@ has_two (Nothing pairs) = refl
 has_two (Gap cycle) = refl
 has_two Propagated = refl
 
-all_two : (lines : List TreeLine) → list_all (has_line 2) lines ≡ true
+pub all_two : (lines : List TreeLine) → list_all (has_line 2) lines ≡ true
 all_two [] = refl
 all_two (line ∷ lines) = rw (has_two line, all_two lines) refl
 

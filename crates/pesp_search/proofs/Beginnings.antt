@@ -13,7 +13,8 @@ use Rattle.pesp_lifting.specs.Lifted.{IsReduced, AreLifted, IsFrugal}
 use Rattle.pesp_lifting.proofs.Tables.{short_table, fewer_rows, count_arcs}
 use Rattle.pesp_search.specs.declared.preparing.Prepared.{Prepared}
 use Rattle.pesp_search.specs.declared.begun.Known.{Known}
-use Rattle.pesp_search.specs.Beginning.{ArePassedRows, IsKnown, IsBegun}
+use Rattle.pesp_branching.specs.Passing.{ArePassedRows}
+use Rattle.pesp_search.specs.Beginning.{IsKnown, IsBegun}
 
 few_cycles : (x : Prepared) → IsReduced x.reduced → AreFundamental (arcs_of_network x.reduced.network.rows) x.reduced.network.forest x.walks.items → AreLifted x.reduced x.walks.items x.problem.table → length x.problem.table ≤ length x.reduced.original.rows
 few_cycles x h f a =

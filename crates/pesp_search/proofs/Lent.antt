@@ -30,7 +30,8 @@ use Rattle.pesp_turns.proofs.Ends.{step_tightens}
 use Rattle.pesp_turns.proofs.Spent.{given_one}
 use Rattle.pesp_search.specs.declared.refusal.SolveRefusal.{SolveRefusal}
 use Rattle.pesp_search.specs.Handing.{IsHandedIn}
-use Rattle.pesp_search.specs.Turning.{IsExpanded, IsJustLent, IsSplitAt, TakesStep, GoesOn}
+use Rattle.pesp_branching.specs.Expanding.{IsExpanded}
+use Rattle.pesp_search.specs.Turning.{IsJustLent, IsSplitAt, TakesStep, GoesOn}
 
 some_period : (p : ProblemValue) → KeepsNetLimits p.network → 0 < p.network.period
 some_period p limits = let some = limits.some_period in omega (arith, some)

@@ -1,11 +1,9 @@
 pub mod Lifting
 pub mod Closings
 pub mod PathNodes
-pub mod Steps
 pub mod Lent
 pub mod TurnEnds
 pub mod TurnsSoFar
-pub mod Marks
 pub mod Solutions
 pub mod SinglePairs
 pub mod Beginnings

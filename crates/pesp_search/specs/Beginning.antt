@@ -1,5 +1,5 @@
 -- What is known of a problem throughout the search for it, and how the search begins.
-use Rattle.std.specs.Prelude.{◌≡◌, ℕ, ◌<◌, ◌≤◌, List, length, slice_index_or, Bool, false}
+use Rattle.std.specs.Prelude.{◌≡◌, ◌≤◌, List, length, Bool}
 use Rattle.pesp_problem.specs.declared.row.SignedRow.{SignedRow}
 use Rattle.pesp_problem.specs.Timetables.{Pesp}
 use Rattle.pesp_problem.specs.Limits.{KeepsLimits}
@@ -9,15 +9,10 @@ use Rattle.pesp_nodes.specs.Problems.{ProblemValue, IsNodeOf}
 use Rattle.pesp_machine.specs.States.{opening, root_of}
 use Rattle.pesp_machine.specs.Certificates.{IsProblemOf}
 use Rattle.pesp_reduce.specs.Reductions.{ReducedValue}
-use Rattle.pesp_room.specs.Rooms.{is_passed}
+use Rattle.pesp_branching.specs.Passing.{ArePassedRows}
 use Rattle.pesp_lifting.specs.Lifted.{IsReduced, AreLifted, IsFrugal}
 use Rattle.pesp_search.specs.declared.begun.Known.{Known}
 use Rattle.pesp_search.specs.declared.begun.Begun.{Begun}
-
--- for each row whether some cycle passes it
-pub record ArePassedRows (p : ProblemValue) (passed : List Bool) : Type 0 where
-  pub long : length passed ≡ length p.network.rows
-  pub each : (i : ℕ) → i < length p.network.rows → slice_index_or passed i false ≡ is_passed p.table i
 
 -- the problem is an instance's, with the lifted fundamental walks of what is left of it
 pub record IsSearched (p : ProblemValue) (r : ReducedValue) (walks : List (List SignedRow)) (passed : List Bool) : Type 0 where

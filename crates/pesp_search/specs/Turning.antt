@@ -1,49 +1,22 @@
 -- A turn: a leaf is lent, and closed, settled or split.
 use Rattle.std.specs.Prelude.{◌≡◌, ◌⊎◌, ⊤, ℕ, ◌+◌, ◌*◌, ◌<◌, ◌≤◌, List, length}
 use Rattle.std.specs.Global.{Vec}
-use Rattle.pesp_problem.specs.declared.pair.Pair.{Pair}
 use Rattle.pesp_problem.specs.declared.cut.Cut.{Cut}
 use Rattle.pesp_problem.specs.declared.cut.Side.{Side}
-use Rattle.pesp_problem.specs.declared.cut.Side.TheVariants.{Low, High}
-use Rattle.pesp_problem.specs.Nodes.{Node, part}
 use Rattle.pesp_network.specs.Networks.{KeepsNetLimits}
 use Rattle.pesp_truth.specs.declared.tree.TreeLine.{TreeLine}
-use Rattle.pesp_truth.specs.Trees.{Leaf, EndLine, CutExists}
-use Rattle.pesp_truth.specs.Trees as trees
-use Rattle.pesp_truth.specs.Certificates.{line_of}
+use Rattle.pesp_truth.specs.Trees.{Leaf, CutExists}
 use Rattle.pesp_nodes.specs.Problems.{ProblemValue, net_of, IsSmallTable}
-use Rattle.pesp_bound.specs.declared.leaf.Leaf.{Leaf as Found}
-use Rattle.pesp_bound.specs.declared.leaf.Leaf.TheVariants.{Gap, Nothing, Bound}
 use Rattle.pesp_machine.specs.declared.job.Job.{Job}
 use Rattle.pesp_machine.specs.declared.work.Work.TheVariants as works
 use Rattle.pesp_machine.specs.States.{State, IsOpen, IsAtMost, node_at, least}
 use Rattle.pesp_machine.specs.Events.{LeavesBoth, LendsLeaf, Takes}
-use Rattle.pesp_turns.specs.Turns.{IsWorked, AreStep, IsFoundAt}
+use Rattle.pesp_turns.specs.Turns.{IsWorked, AreStep}
 use Rattle.pesp_search.specs.Rooting.{IsRootBound}
 use Rattle.pesp_search.specs.declared.turning.Turn.{Turn}
 use Rattle.pesp_search.specs.declared.turning.Turn.TheVariants.{Split, Closed, Over}
 use Rattle.pesp_search.specs.declared.refusal.SolveRefusal.{SolveRefusal}
 use Rattle.pesp_search.specs.declared.refusal.SolveRefusal.TheVariants.{Memory, TableTooLarge, PairsTooMany}
-
--- a leaf that was found as a leaf of a tree
-abbrev pub leaf_of : Found → Leaf
-leaf_of (Gap cycle) = trees.Gap cycle
-leaf_of (Nothing pairs) = trees.Nothing pairs
-leaf_of (Bound pairs value) = trees.Bound pairs
-
--- the line of a leaf that is found at a node for these pairs
-pub record IsFoundLine (p : ProblemValue) (start : List Pair) (node : Node) (line : TreeLine) : Type 0 where
-  pub leaf : Leaf
-  pub says : line_of line ≡ EndLine leaf
-  pub found : IsFoundAt p start node leaf
-
--- the lines of a cut with a leaf that is found on either side
-pub record IsExpanded (p : ProblemValue) (start : List Pair) (node : Node) (cut : Cut) (lines : List TreeLine) : Type 0 where
-  pub low : Leaf
-  pub high : Leaf
-  pub step : AreStep lines cut low high
-  pub found_low : IsFoundAt p start (part node cut Low) low
-  pub found_high : IsFoundAt p start (part node cut High) high
 
 -- a number was just lent
 pub record IsJustLent (p : ProblemValue) (used : ℕ) (state : State) (job : Job) : Type 0 where

@@ -4,10 +4,10 @@ ghost use Rattle.std.specs.Prelude.{IfOk, IfErr};
 ghost use Rattle.pesp_search.specs.Beginning.{IsBegun};
 ghost use Rattle.pesp_search.specs.Solving.{IsSearchRefusal};
 
-use crate::passing::passed_rows;
 use crate::preparing::{Prepared, prepare};
 use crate::refusal::SolveRefusal;
 use pesp_board::Board;
+use pesp_branching::passed_rows;
 use pesp_nodes::Node;
 use pesp_problem::{Instance, Walk};
 use pesp_reduce::Reduced;

@@ -2,17 +2,8 @@
 //! Opitz 2008; Liebchen 2006).
 #![tactic(auto)]
 
-mod advising;
 mod begun;
-mod chaining;
-mod choosing;
-mod expanding;
 mod handing;
-mod judging;
-mod meeting;
-mod narrowing;
-mod offering;
-mod passing;
 mod planting;
 mod preparing;
 mod refusal;

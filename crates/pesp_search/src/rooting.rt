@@ -10,9 +10,10 @@ ghost use Rattle.pesp_search.specs.Turning.{AreTurnsRefused};
 use crate::handing::hand_in;
 use crate::refusal::SolveRefusal;
 use crate::single::best_single;
-use crate::turning::{lend_next, limits};
+use crate::turning::lend_next;
 use pesp_board::{Board, Work};
 use pesp_bound::{Leaf, best_leaf_from};
+use pesp_branching::limits;
 use pesp_nodes::Node;
 use std::alloc::Global;
 

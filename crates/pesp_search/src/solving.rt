@@ -9,15 +9,13 @@ ghost use Rattle.pesp_search.specs.Solving.{IsSolved, IsSearchRefusal};
 ghost use Rattle.pesp_search.specs.Beginning.{IsKnown, IsBegun};
 ghost use Rattle.pesp_search.specs.Turning.{IsSearchedThrough, AreTurnsRefused};
 
-use crate::advising::root_prices;
 use crate::begun::{Begun, Known, begin};
-use crate::offering::offer_times;
 use crate::refusal::SolveRefusal;
 use crate::rooting::look_at_root;
 use crate::running::run_turns;
-use crate::turning::limits;
 use crate::watching::{Nobody, Observer};
 use pesp_board::Board;
+use pesp_branching::{limits, offer_times, root_prices};
 use pesp_cert::Certificate;
 use pesp_problem::{Instance, Memory};
 use pesp_strategy::Strategy;

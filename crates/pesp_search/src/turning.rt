@@ -4,8 +4,7 @@ ghost use Rattle.std.specs.Prelude.{◌≡◌, ◌<◌, ◌≤◌, ◌-◌, ℕ,
 ghost use Rattle.pesp_problem.specs.Walks.{Names};
 ghost use Rattle.pesp_problem.specs.Nodes.{offsets_left};
 ghost use Rattle.pesp_truth.specs.Trees.{Gap, CutExists, IsSoundLeaf};
-ghost use Rattle.pesp_nodes.specs.Problems.{net_of, IsNodeOf, IsSmallTable};
-ghost use Rattle.pesp_network.specs.Networks.{KeepsNetLimits};
+ghost use Rattle.pesp_nodes.specs.Problems.{net_of, IsNodeOf};
 ghost use Rattle.pesp_machine.specs.States.{State, node_at};
 ghost use Rattle.pesp_machine.specs.Events.{LeavesBoth, Lends, Takes};
 ghost use Rattle.pesp_machine.specs.declared.work.Work.TheVariants.{Gap as GivesGap};
@@ -13,21 +12,17 @@ ghost use Rattle.pesp_room.specs.Rooms.{IsCounted};
 ghost use Rattle.pesp_room.specs.Settled.{IsSettled, HaveOffsetsLeft};
 ghost use Rattle.pesp_turns.specs.Turns.{IsWorked};
 ghost use Rattle.pesp_search.specs.declared.refusal.SolveRefusal.TheVariants.{Memory as Refused};
-ghost use Rattle.pesp_search.specs.Beginning.{ArePassedRows, IsKnown};
+ghost use Rattle.pesp_search.specs.Beginning.{IsKnown};
 ghost use Rattle.pesp_search.specs.Turning.{IsJustLent, IsSplitAt, TakesStep, IsTurn, IsTurnRefusal};
 
-use crate::advising::{Advised, ask};
 use crate::begun::Known;
-use crate::choosing::{Choice, choose};
-use crate::expanding::expand;
 use crate::handing::hand_in;
-use crate::judging::gap_at;
-use crate::offering::offer_met;
 use crate::refusal::SolveRefusal;
 use crate::settling::settle;
 use crate::walking::node_from;
 use pesp_board::{Board, Job, LendRefusal, Work};
-use pesp_nodes::{Node, Problem};
+use pesp_branching::{Advised, Choice, ask, choose, expand, gap_at, limits, offer_met};
+use pesp_nodes::Node;
 use pesp_strategy::Strategy;
 use pesp_turns::laws::turns_begin;
 use std::alloc::Global;
@@ -39,15 +34,6 @@ pub(crate) enum Turn {
     Split,
     Closed,
     Over,
-}
-
-// a problem keeps its limits
-pub(crate) fn limits(problem: &Problem)
-    ensures network { KeepsNetLimits problem.now.network }
-    ensures table { IsSmallTable problem.now.table }
-{
-    problem.network().period();
-    problem.table();
 }
 
 // lends a leaf, where one is open

@@ -1,0 +1,121 @@
+//! What is proposed for a leaf.
+
+use crate::meeting::{Met, met_at};
+use crate::narrowing::{Narrowing, narrow};
+use pesp_board::{Board, Job};
+use pesp_nodes::Node;
+use pesp_problem::Memory;
+use pesp_reduce::Reduced;
+use pesp_strategy::{Advice, Split, Strategy};
+use std::alloc::Global;
+
+/// How many rows may be left where the root's prices are asked for.
+const MOST_ROWS: usize = 20_000;
+
+// how many jobs are lent before slacks aren't cut any more by choice
+const NARROWED: u64 = 64;
+
+/// A cut that is proposed: of a cycle's offsets, with pairs for both parts, or of a row's slacks.
+#[derive(Debug, Drop)]
+pub enum Proposal {
+    Split(Split),
+    Narrowing(Narrowing),
+}
+
+/// What is proposed for a leaf: a cut, and times of what is left of the instance that were met with.
+#[derive(Debug, Drop)]
+pub struct Advised {
+    pub cut: Option<Proposal>,
+    pub met: Option<Met>,
+}
+
+impl Advised {
+    // nothing is proposed
+    fn nothing() -> Advised {
+        Advised {
+            cut: None,
+            met: None,
+        }
+    }
+}
+
+// the slack ranges of the rows that are left
+fn slacks_left(alloc: Global, reduced: &Reduced, node: &Node) -> Result<Vec<(u32, u32)>, Memory> {
+    let slacks = node.slacks();
+    let mut left = Vec::new(alloc);
+    for row in reduced.network().rows() {
+        let place = (row.origin as usize).wrapping_sub(1);
+        left.push(slacks.get(place).copied().unwrap_or((0, 0)))?;
+    }
+    Ok(left)
+}
+
+/// A price for each event of what is left, by the relaxation of the root; no prices where there is no strategy, or where so many
+/// rows are left that a look takes long.
+pub fn root_prices(
+    alloc: Global,
+    strategy: &mut Option<Strategy>,
+    reduced: &Reduced,
+    root: &Node,
+) -> Result<Vec<i64>, Memory> {
+    let Some(strategy) = strategy else {
+        return Ok(Vec::new(alloc));
+    };
+    if reduced.network().rows().len() > MOST_ROWS {
+        return Ok(Vec::new(alloc));
+    }
+    let slacks = slacks_left(alloc, reduced, root)?;
+    strategy.look(alloc, &slacks, root.offsets(), &[], None)?;
+    Ok(Vec::from_slice(alloc, strategy.prices())?)
+}
+
+// what the strategy proposes for the leaf, at this node, after so many splits: nothing where there is no strategy
+fn ask_strategy(
+    alloc: Global,
+    strategy: &mut Option<Strategy>,
+    board: &Board,
+    reduced: &Reduced,
+    job: &Job,
+    node: &Node,
+    used: u32,
+) -> Result<Advised, Memory> {
+    let Some(strategy) = strategy else {
+        return Ok(Advised::nothing());
+    };
+    let Some((_, pairs)) = board.job_leaf(job.number) else {
+        return Ok(Advised::nothing());
+    };
+    let best = board.best().map(i128::from);
+    let slacks = slacks_left(alloc, reduced, node)?;
+    let looked = strategy.look(alloc, &slacks, node.offsets(), pairs, best)?;
+    let Some(Advice { cut, times, .. }) = looked else {
+        return Ok(Advised::nothing());
+    };
+    let met = met_at(alloc, reduced.network(), strategy.prices(), times, used)?;
+    Ok(Advised {
+        cut: cut.map(Proposal::Split),
+        met,
+    })
+}
+
+/// What is proposed for the leaf that was just lent, at this node, after so many splits: a cut of slacks, for propagation to shut
+/// its parts, as long as no timetable is known and few leaves were lent; else what the strategy proposes.
+pub fn ask(
+    alloc: Global,
+    strategy: &mut Option<Strategy>,
+    board: &Board,
+    reduced: &Reduced,
+    job: &Job,
+    node: &Node,
+    used: u32,
+) -> Result<Advised, Memory> {
+    if board.best().is_none() && job.number < NARROWED {
+        if let Some(cut) = narrow(alloc, board.problem().network(), reduced, node)? {
+            return Ok(Advised {
+                cut: Some(Proposal::Narrowing(cut)),
+                met: None,
+            });
+        }
+    }
+    ask_strategy(alloc, strategy, board, reduced, job, node, used)
+}

@@ -1,0 +1,124 @@
+//! A cut with the best leaf that is found on either side.
+
+ghost use Rattle.std.specs.Prelude.{◌≡◌, length, IfOk};
+ghost use Rattle.pesp_problem.specs.Nodes.{part};
+ghost use Rattle.pesp_truth.specs.Trees.{EndLine, CutLine, CutExists};
+ghost use Rattle.pesp_truth.specs.Certificates.{line_of};
+ghost use Rattle.pesp_nodes.specs.Problems.{net_of, IsNodeOf, IsCutOf, ArePairs};
+ghost use Rattle.pesp_bound.specs.Leaves.{IsLeafOf, IsNoLess};
+ghost use Rattle.pesp_branching.specs.Expanding.{leaf_of, IsFoundLine, IsExpanded};
+
+use crate::choosing::Choice;
+use crate::judging::leaf_of_part;
+use pesp_board::is_shut_by_propagation;
+use pesp_bound::{Leaf, best_leaf_from};
+use pesp_nodes::{Node, Problem};
+use pesp_problem::{Cut, Memory, Pair, Side};
+use pesp_strategy::Part;
+use pesp_truth::TreeLine;
+use std::alloc::Global;
+
+// how many pivots look for the leaf of a part, from the pairs of the leaf above it
+const ROUNDS: u32 = 100;
+
+/// The line of a leaf.
+pub fn leaf_line(leaf: Leaf) -> TreeLine
+    ensures { line_of result ≡ EndLine (leaf_of leaf) }
+{
+    match leaf {
+        Leaf::Gap { cycle } => TreeLine::Gap(cycle),
+        Leaf::Nothing { pairs } => TreeLine::Nothing(pairs),
+        Leaf::Bound { pairs, .. } => TreeLine::Bound(pairs),
+    }
+}
+
+// the line of a cut
+fn cut_line(cut: Cut) -> TreeLine
+    ensures { line_of result ≡ CutLine cut }
+{
+    match cut {
+        Cut::Slack { row, k } => TreeLine::Slack { row, k },
+        Cut::Offset { cycle, k } => TreeLine::Offset { cycle, k },
+    }
+}
+
+// the leaf of a part: the one that is proposed for it where it is one, else the best that is found
+fn leaf_at(
+    alloc: Global,
+    problem: &Problem,
+    node: &Node,
+    start: &[Pair],
+    part: Option<Part>,
+) -> Result<Leaf, Memory>
+    requires node { IsNodeOf problem.now node.now }
+    requires start { ArePairs (length problem.now.table) start.now }
+    ensures leaf { IfOk result (IsLeafOf problem.now node.now) }
+    ensures start { IfOk result (IsNoLess problem.now node.now start.now) }
+{
+    if let Some(part) = part {
+        if let Some(leaf) = leaf_of_part(problem, node, start, part) {
+            return Ok(leaf);
+        }
+    }
+    best_leaf_from(alloc, problem, node, start, ROUNDS)
+}
+
+// whether a cut makes a slack range smaller: propagation sees no other cut
+fn narrows(cut: &Cut) -> bool {
+    match cut {
+        Cut::Slack { .. } => true,
+        Cut::Offset { .. } => false,
+    }
+}
+
+// the line of the leaf at a part of a cut: where the cut made a slack range smaller, propagation is tried first
+fn found_at(
+    alloc: Global,
+    problem: &Problem,
+    node: &Node,
+    cut: &Cut,
+    start: &[Pair],
+    part: Option<Part>,
+) -> Result<TreeLine, Memory>
+    requires node { IsNodeOf problem.now node.now }
+    requires start { ArePairs (length problem.now.table) start.now }
+    ensures { IfOk result (IsFoundLine problem.now start.now node.now) }
+{
+    if narrows(cut) && is_shut_by_propagation(alloc, problem, node)? {
+        return Ok(TreeLine::Propagated);
+    }
+    let leaf = leaf_at(alloc, problem, node, start, part)?;
+    Ok(leaf_line(leaf))
+}
+
+/// The lines of a cut at a node, with the leaf that is proposed or found on either side, never worth less there than the
+/// pairs of the leaf at the node.
+pub fn expand(
+    alloc: Global,
+    problem: &Problem,
+    node: Node,
+    choice: Choice,
+    start: &[Pair],
+) -> Result<Vec<TreeLine>, Memory>
+    requires node { IsNodeOf problem.now node }
+    requires cut { IsCutOf node choice.cut }
+    requires start { ArePairs (length problem.now.table) start.now }
+    ensures { IfOk result (λ lines. IsExpanded problem.now start.now node choice.cut lines.items) }
+{
+    let Choice {
+        cut,
+        low: low_part,
+        high: high_part,
+    } = choice;
+    let mut low = node.copy(alloc)?;
+    low.cut(cut, Side::Low);
+    let mut high = node;
+    high.cut(cut, Side::High);
+    let first = found_at(alloc, problem, &low, &cut, start, low_part)?;
+    let second = found_at(alloc, problem, &high, &cut, start, high_part)?;
+    let mut lines = Vec::new(alloc);
+    lines.push(cut_line(cut))?;
+    lines.push(first)?;
+    lines.push(second)?;
+    Ok(lines)
+}

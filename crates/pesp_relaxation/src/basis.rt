@@ -3,7 +3,7 @@
 
 use crate::frame::Frame;
 use crate::listed::Listed;
-use crate::numbers::{amount, set_amount};
+use crate::numbers::{amount, number, set_amount, set_number};
 use crate::row::{Bend, Part, Row, Slopes, Step};
 use crate::tree::{NONE, Tree};
 use std::alloc::{AllocError, Global};
@@ -17,12 +17,15 @@ pub enum Ended {
 }
 
 /// A circulation. The price of an event is the time at which it would be, were offsets no whole numbers: along a row of the
-/// tree prices rise by the cost of one more unit of flow.
+/// tree prices rise by the cost of one more unit of flow. Moves of parts of the tree are numbered, and each event has the number
+/// of the last one that changed its price.
 #[derive(Debug, Drop)]
 pub struct Basis {
     pub(crate) rows: Vec<Row>,
     pub(crate) tree: Tree,
     prices: Vec<i64>,
+    moved: Vec<u32>,
+    moves: u32,
     violated: Listed,
     is_stale: bool,
 }
@@ -58,6 +61,8 @@ impl Basis {
             rows,
             tree: Tree::apart(alloc, events)?,
             prices: vec![in alloc; 0i64; events]?,
+            moved: vec![in alloc; 0u32; events]?,
+            moves: 0,
             is_stale: true,
         })
     }
@@ -144,14 +149,16 @@ impl Basis {
         self.is_stale = false;
     }
 
-    // lists such rows at an event
+    // lists such rows from an event of the part that moved last to one outside it: other rows cost what they did
     fn note_star(&mut self, frame: &Frame, event: u32) {
-        for row in frame.star(event) {
-            self.note(*row);
+        for link in frame.star(event) {
+            if number(&self.moved, link.other) != Some(self.moves) {
+                self.note(link.row);
+            }
         }
     }
 
-    // lists such rows at the events of the part below one
+    // lists such rows at the events of the part below one, which moved last
     fn note_below(&mut self, frame: &Frame, top: u32) {
         let mut event = top;
         for _ in 0..self.prices.len() {
@@ -201,12 +208,14 @@ impl Basis {
 
     // sets the depths of an event and of the part below it and adds to their prices; how many they are
     fn settle(&mut self, top: u32, change: i64) -> Option<u32> {
+        self.moves = self.moves.wrapping_add(1);
         let mut event = top;
         let mut count = 0u32;
         for _ in 0..self.prices.len() {
             self.tree.set_depth(event)?;
             let price = self.price(event)?.checked_add(change)?;
             set_amount(&mut self.prices, event, price)?;
+            set_number(&mut self.moved, event, self.moves)?;
             count = count.checked_add(1)?;
             event = self.tree.following(event, top);
             if event == NONE {

@@ -1,6 +1,6 @@
 //! Spanning forests of a network's rows.
 
-use crate::frame::{Frame, other_end};
+use crate::frame::Frame;
 use crate::tree::{NONE, Tree};
 use std::alloc::{AllocError, Global};
 
@@ -24,13 +24,10 @@ fn hang_beside(
     event: u32,
     root: u32,
 ) -> Option<()> {
-    for by in frame.star(event) {
-        if !is_chosen(chosen, *by) {
-            continue;
-        }
-        let other = other_end(frame.row(*by)?, event);
-        if other != root && tree.is_root(other) {
-            tree.hang(other, event, *by)?;
+    for link in frame.star(event) {
+        let other = link.other;
+        if is_chosen(chosen, link.row) && other != root && tree.is_root(other) {
+            tree.hang(other, event, link.row)?;
             tree.set_depth(other)?;
         }
     }

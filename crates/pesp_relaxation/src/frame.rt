@@ -3,17 +3,24 @@
 use pesp_network::{NetRow, Network};
 use std::alloc::{AllocError, Global};
 
+/// A row at an event, and the event at its other end.
+#[derive(Clone, Copy, Debug, PartialEq, Eq)]
+pub struct Link {
+    pub row: u32,
+    pub other: u32,
+}
+
 /// What a relaxation reads of a network: its period, its rows, named by their places from 0, and for each event the rows at
 /// it, without loops.
 #[derive(Debug, Drop)]
 pub struct Frame {
     period: u32,
     rows: Vec<NetRow>,
-    stars: Vec<Vec<u32>>,
+    stars: Vec<Vec<Link>>,
 }
 
 // a list without a row for each event
-fn empty_stars(alloc: Global, events: u32) -> Result<Vec<Vec<u32>>, AllocError> {
+fn empty_stars(alloc: Global, events: u32) -> Result<Vec<Vec<Link>>, AllocError> {
     let mut stars = Vec::with_capacity(alloc, events as usize)?;
     for _ in 0..events {
         stars.push(Vec::new(alloc))?;
@@ -22,33 +29,25 @@ fn empty_stars(alloc: Global, events: u32) -> Result<Vec<Vec<u32>>, AllocError> 
 }
 
 // a row at an event
-fn put_at(stars: &mut [Vec<u32>], event: u32, row: u32) -> Result<(), AllocError> {
+fn put_at(stars: &mut [Vec<Link>], event: u32, link: Link) -> Result<(), AllocError> {
     if let Some(star) = stars.get_mut(event as usize) {
-        star.push(row)?;
+        star.push(link)?;
     }
     Ok(())
 }
 
 // the rows at each event
-fn stars_of(alloc: Global, events: u32, rows: &[NetRow]) -> Result<Vec<Vec<u32>>, AllocError> {
+fn stars_of(alloc: Global, events: u32, rows: &[NetRow]) -> Result<Vec<Vec<Link>>, AllocError> {
     let mut stars = empty_stars(alloc, events)?;
     for (place, row) in rows.iter().enumerate() {
-        let number = u32::try_from(place).unwrap_or(u32::MAX);
-        if row.tail != row.head {
-            put_at(&mut stars, row.tail, number)?;
-            put_at(&mut stars, row.head, number)?;
+        let (tail, head) = (row.tail, row.head);
+        let row = u32::try_from(place).unwrap_or(u32::MAX);
+        if tail != head {
+            put_at(&mut stars, tail, Link { row, other: head })?;
+            put_at(&mut stars, head, Link { row, other: tail })?;
         }
     }
     Ok(stars)
-}
-
-/// The end of a row that isn't this one.
-pub fn other_end(row: &NetRow, event: u32) -> u32 {
-    if row.tail == event {
-        row.head
-    } else {
-        row.tail
-    }
 }
 
 impl Frame {
@@ -84,7 +83,7 @@ impl Frame {
     }
 
     /// The rows at an event.
-    pub fn star(&self, event: u32) -> &[u32] {
+    pub fn star(&self, event: u32) -> &[Link] {
         match self.stars.get(event as usize) {
             Some(star) => star.as_slice(),
             None => &[],

@@ -18,6 +18,6 @@ mod tree;
 pub use basis::{Basis, Ended};
 pub use cycles::{Cycles, slopes_of};
 pub use forest::Forest;
-pub use frame::{Frame, other_end};
+pub use frame::{Frame, Link};
 pub use row::Slopes;
 pub use tree::{NONE, Place, Tree};

@@ -1,11 +1,11 @@
 -- Net counts of a walk's first part.
-use Rattle.std.proofs.Common.{◌≡◌, ℕ, ◌+◌, ◌-◌, ◌≤◌, ◌<◌, ◌≢◌, inl, inr, Bool, true, false, cond, not, List, [], ◌∷◌, length, get_or, set, take, drop, refl, ap, sym, arith, ◌∙◌}
-use Rattle.std.specs.Prelude.{ℤ, pos, negsuc, ◌+ℤ◌, ◌-ℤ◌, neg_ℤ, ◌≤ℤ◌, unsigned_abs, ◌&&◌, ◌==◌, if◌then◌else◌, count_by}
+use Rattle.std.proofs.Common.{◌≡◌, ℕ, ◌+◌, ◌-◌, ◌≤◌, ◌<◌, ◌≢◌, inl, inr, Bool, true, false, cond, not, List, [], ◌∷◌, length, get_or, set, take, refl, ap, arith, ◌∙◌}
+use Rattle.std.specs.Prelude.{ℤ, pos, negsuc, ◌+ℤ◌, ◌-ℤ◌, neg_ℤ, ◌≤ℤ◌, unsigned_abs, ◌&&◌, ◌==◌, if◌then◌else◌}
 use Rattle.std.proofs.lemmas.Int.{ints}
 use Rattle.std.proofs.lemmas.Bool.Decides.{nat_tests}
 use Rattle.std.proofs.lemmas.Bool.{cases_eq, cases_lt}
-use Rattle.std.proofs.lemmas.List.{get_or-set_same, get_or-set_other, length-take, length-drop}
-use Rattle.std.proofs.lemmas.List.Sums.{sum_by_more, sum_by-cons, sum_by-drop_more, count_by-le-length}
+use Rattle.std.proofs.lemmas.List.{get_or-set_same, get_or-set_other, length-take}
+use Rattle.std.proofs.lemmas.List.Sums.{sum_by_more, sum_by-cons, count_by-le-length}
 use Rattle.pesp_problem.specs.declared.row.SignedRow.{SignedRow}
 use Rattle.pesp_problem.specs.Sums.{sum_below}
 use Rattle.pesp_problem.specs.Walks.{sign, net_count}
@@ -67,31 +67,6 @@ net_count_small walk i n h =
     let plus = count_by-le-length (λ (x : SignedRow). x.plus && (x.row == i + 1)) walk in
     let minus = count_by-le-length (λ (x : SignedRow). not x.plus && (x.row == i + 1)) walk in
     omega (arith, ints, plus, minus)
-
--- ---- rows that a walk doesn't pass
-
-and-le : (a b : Bool) → cond (a && b) 1 0 ≤ cond b 1 0
-and-le true true = omega arith
-and-le true false = omega arith
-and-le false true = omega arith
-and-le false false = omega arith
-
-both-le : {X : Type 0} (p q : X → Bool) (xs : List X) → count_by (λ x. p x && q x) xs ≤ count_by q xs
-both-le p q [] = omega arith
-both-le p q (x ∷ xs) = omega (arith, sum_by-cons (λ x. cond (p x && q x) 1 0) x xs, sum_by-cons (λ x. cond (q x) 1 0) x xs, both-le p q xs, and-le (p x) (q x))
-
-pub unnamed : (walk : List SignedRow) (i : ℕ) → count_by (λ s. s.row == i + 1) walk ≡ 0 → net_count walk i ≡ pos 0
-unnamed walk i h = omega (arith, ints, both-le (λ (s : SignedRow). s.plus) (λ s. s.row == i + 1) walk, both-le (λ (s : SignedRow). not s.plus) (λ s. s.row == i + 1) walk)
-
-pub drop_unnamed : (walk : List SignedRow) (k i : ℕ) (d : SignedRow) → k < length walk → i + 1 ≢ (get_or walk k d).row → count_by (λ s. s.row == i + 1) (drop k walk) ≡ count_by (λ s. s.row == i + 1) (drop (k + 1) walk)
-drop_unnamed walk k i d h ne =
-    let more = sum_by-drop_more (λ (s : SignedRow). cond (s.row == i + 1) 1 0) walk k d h in
-    let pick : Bool → ℕ = λ b. cond b 1 0 in
-    let none = ap pick (eq-false (get_or walk k d).row (i + 1) (λ e. ne (sym e))) in
-    omega (arith, more, none)
-
-pub none_left : (walk : List SignedRow) (k i : ℕ) → length walk ≤ k → count_by (λ s. s.row == i + 1) (drop k walk) ≡ 0
-none_left walk k i h = omega (arith, count_by-le-length (λ (s : SignedRow). s.row == i + 1) (drop k walk), length-drop k walk)
 
 -- ---- the amounts of the net counts are no more than the walk is long
 

@@ -1,13 +1,15 @@
 -- The rows of a cycle as they are followed and counted.
-use Rattle.std.proofs.Common.{◌≡◌, ◌≢◌, ℕ, ◌+◌, ◌-◌, ◌<◌, ◌≤◌, arith, ap, sym, refl, subst, ◌∙◌, List, [], ◌∷◌, length, get_or, set, take, Bool, true, false, ◌&&◌}
-use Rattle.std.specs.Prelude.{ℤ, pos, ◌+ℤ◌, unsigned_abs, ◌↔◌, ◌==◌}
+use Rattle.std.proofs.Common.{◌≡◌, ◌≢◌, ℕ, ◌+◌, ◌-◌, ◌<◌, ◌≤◌, arith, ap, sym, refl, subst, ◌∙◌, inl, inr, List, [], ◌∷◌, length, get_or, set, take, Bool, true, false, ◌&&◌}
+use Rattle.std.specs.Prelude.{ℤ, pos, ◌+ℤ◌, unsigned_abs, ◌↔◌, ◌==◌, count_by, cond}
 use Rattle.std.proofs.lemmas.Bool.Decides.{nat_tests}
-use Rattle.std.proofs.lemmas.List.{length-take, length-set, take_all}
-use Rattle.std.proofs.lemmas.List.Elements.{All-head}
+use Rattle.std.proofs.lemmas.List.{length-take, length-set, take_all, get_or-set_other}
+use Rattle.std.proofs.lemmas.List.Elements.{All-push}
+use Rattle.std.proofs.lemmas.List.Sums.{sum_by_push}
+use Rattle.std.proofs.lemmas.Bool.{cases_eq}
 use Rattle.pesp_problem.specs.declared.arc.Arc.{Arc}
 use Rattle.pesp_problem.specs.declared.row.SignedRow.{SignedRow}
-use Rattle.pesp_problem.specs.Walks.{Names, RowExists, AreRows, IsWalk, Leads, start, finish, sign, net_count}
-use Rattle.pesp_check.specs.Nets.{AreZeros, AreCounts}
+use Rattle.pesp_problem.specs.Walks.{Names, RowExists, AreRows, Leads, start, finish, sign, net_count}
+use Rattle.pesp_check.specs.Nets.{AreZeros, AreCounts, ArePlaces, IsEntered}
 use Rattle.pesp_check.specs.declared.walks.Way.{Way}
 use Rattle.pesp_check.specs.declared.walks.Way.TheVariants.{Missing, Open, Closed}
 use Rattle.pesp_check.specs.Ways.{IsWay, IsWayOf}
@@ -60,20 +62,6 @@ module _ (arcs : List Arc) (rows left others : List SignedRow) (s : SignedRow) (
   pub followed_next : (joined : Bool) (x : ℕ) → x ≡ start arcs s → RowExists arcs s → IsFollowed arcs rows left begin at joined → IsFollowed arcs rows others begin (finish arcs s) (joined && (x == at))
   followed_next joined x e exists h = followed_more joined (x == at) exists (λ t. sym e ∙ equal_of x at t) (λ f q. apart_of x at f (e ∙ q)) h
 
-  pub followed_missing : (joined : Bool) → (RowExists arcs s → ⊥) → IsFollowed arcs rows left begin at joined → AreRows arcs rows → ⊥
-  followed_missing joined never h all = let P : List SignedRow → Type 0 = AreRows arcs in never (All-head (RowExists arcs) s others (subst P is (h.exist.1 all)))
-
-module _ (arcs : List Arc) (rows left : List SignedRow) (begin at : ℕ) (is : left ≡ []) where
-  none_left : AreRows arcs left
-  none_left = let P : List SignedRow → Type 0 = AreRows arcs in subst P (sym is) (λ k d l. absurd (omega arith))
-
-  pub followed_closed : (joined : Bool) → joined ≡ true → at ≡ begin → IsFollowed arcs rows left begin at joined → AreRows arcs rows × Leads arcs begin rows begin
-  followed_closed joined t e h = let P : List SignedRow → Type 0 = λ w. Leads arcs at w begin in (h.exist.0 none_left, (h.way t).0 (subst P (sym is) e))
-
-  pub followed_open : (joined : Bool) → (joined ≡ true → at ≢ begin) → IsFollowed arcs rows left begin at joined → AreRows arcs rows × (Leads arcs begin rows begin → ⊥)
-  followed_open true ne h = let P : List SignedRow → Type 0 = λ w. Leads arcs at w begin in (h.exist.0 none_left, λ w. ne refl (subst P is ((h.way refl).1 w)))
-  followed_open false ne h = (h.exist.0 none_left, h.broken refl)
-
 -- ---- from where the first row begins
 
 pub way_from : (arcs : List Arc) (rows others : List SignedRow) (s : SignedRow) (begin : ℕ) (way : Way) → rows ≡ s ∷ others → begin ≡ start arcs s → IsWay arcs rows begin way → IsWayOf arcs rows way
@@ -87,10 +75,6 @@ way_from arcs rows others s begin way is e h =
     go Missing h = h
     go Open h = (h.0, λ w. h.1 w.1)
     go Closed h = h
-
-pub no_way : (arcs : List Arc) (rows : List SignedRow) → rows ≡ [] → AreRows arcs rows × (IsWalk arcs rows → ⊥)
-no_way arcs rows is =
-    let P : List SignedRow → Type 0 = λ rs. AreRows arcs rs × (IsWalk arcs rs → ⊥) in subst P (sym is) ((λ k d l. absurd (omega arith)), λ w. w)
 
 -- ---- the counts
 
@@ -127,3 +111,27 @@ module _ (rows left others : List SignedRow) (s : SignedRow) (is : left ≡ s �
 pub counted_all : (rows left : List SignedRow) (working : List ℤ) → left ≡ [] → AreCountedTo rows left working → AreCounts rows working
 counted_all rows left working is h i l =
     let all = take_all h.k rows (came_all rows left h.k h.came is) in h.counts i l ∙ ap (λ (walk : List SignedRow). net_count walk i) all
+
+-- ---- the places
+
+pub placed_more : (places places' : List ℕ) (working : List ℤ) (at : ℕ) (z : ℤ) → at < length working → IsEntered places places' at (get_or working at (pos 0)) → ArePlaces places working → ArePlaces places' (set working at z)
+placed_more places places' working at z inside (inl (some, same)) h = record {
+  inside = rw (same, length-set working at z) h.inside;
+  named = λ i l none.
+      let l' : i < length working = omega (arith, length-set working at z) in
+      let none' : count_by (λ place. place == i) places ≡ 0 = ap (count_by (λ place. place == i)) (sym same) ∙ none in
+      elim (cases_eq i at) [
+        | inl e ↦ absurd (some (ap (λ j. get_or working j (pos 0)) (sym e) ∙ h.named i l' none'))
+        | inr other ↦ get_or-set_other working at i z (pos 0) other ∙ h.named i l' none'
+      ];
+}
+placed_more places places' working at z inside (inr more) h = record {
+  inside = rw (more, length-set working at z) (All-push (λ (place : ℕ). place < length working) places at h.inside inside);
+  named = λ i l none.
+      let l' : i < length working = omega (arith, length-set working at z) in
+      let both : count_by (λ place. place == i) places' ≡ count_by (λ place. place == i) places + cond (at == i) 1 0 = ap (count_by (λ place. place == i)) more ∙ sum_by_push (λ (place : ℕ). cond (place == i) 1 0) places at in
+      elim (cases_eq i at) [
+        | inl e ↦ (let one : cond (at == i) 1 0 ≡ 1 = (let pick : Bool → ℕ = λ b. cond b 1 0 in ap pick (eq-true at i (sym e))) in absurd (omega arith))
+        | inr other ↦ get_or-set_other working at i z (pos 0) other ∙ h.named i l' (omega arith)
+      ];
+}

@@ -1,6 +1,5 @@
 -- How far a list was read.
-use Rattle.std.proofs.Common.{◌≡◌, ℕ, ◌+◌, ◌<◌, ◌≤◌, arith, ap, sym, refl, ◌∙◌, List, [], ◌∷◌, length, get_or, drop, subst}
-use Rattle.std.specs.Prelude.{All}
+use Rattle.std.proofs.Common.{◌≡◌, ℕ, ◌+◌, ◌<◌, ◌≤◌, arith, ap, sym, refl, ◌∙◌, List, [], ◌∷◌, length, get_or, drop}
 use Rattle.std.proofs.lemmas.List.{drop_more, length-drop}
 
 -- k elements of a list came, and these are left
@@ -22,10 +21,6 @@ module _ {A : Type 0} (all left others : List A) (x : A) (k : ℕ) (came : Came 
 
   pub came_more : Came all others (k + 1)
   came_more = let e = apart x in record { rest = cc }
-
-  -- what holds of all elements holds of this one
-  pub came_has : (P : A → Type 0) → All P all → P x
-  came_has P h = subst P (came_here x) (h k x came_within)
 
 pub came_all : {A : Type 0} (all left : List A) (k : ℕ) → Came all left k → left ≡ [] → length all ≤ k
 came_all all left k came is = omega (arith, length-drop k all, ap length (came.rest ∙ is))

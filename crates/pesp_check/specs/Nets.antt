@@ -1,5 +1,5 @@
 -- Net counts of a walk, each row once, and working numbers.
-use Rattle.std.specs.Prelude.{◌≡◌, ℕ, ◌<◌, ◌≤◌, List, fold, length, slice_index_or, ℤ, pos, ◌+ℤ◌, unsigned_abs, All, sum_by}
+use Rattle.std.specs.Prelude.{◌≡◌, ◌≢◌, ◌⊎◌, ℕ, ◌<◌, ◌≤◌, ◌==◌, List, [], ◌∷◌, ◌++◌, count_by, fold, length, slice_index_or, ℤ, pos, ◌+ℤ◌, unsigned_abs, All, sum_by}
 use Rattle.pesp_problem.specs.declared.row.SignedRow.{SignedRow}
 use Rattle.pesp_problem.specs.Sums.{sum_below}
 use Rattle.pesp_problem.specs.Walks.{net_count}
@@ -12,6 +12,15 @@ AreZeros numbers = (i : ℕ) → i < length numbers → slice_index_or numbers i
 -- the numbers are the net counts of a walk
 abbrev pub AreCounts : List SignedRow → List ℤ → Type 0
 AreCounts walk numbers = (i : ℕ) → i < length numbers → slice_index_or numbers i (pos 0) ≡ net_count walk i
+
+-- one more place, unless its number is not 0: then it is among them
+abbrev pub IsEntered : List ℕ → List ℕ → ℕ → ℤ → Type 0
+IsEntered places places' place number = ((number ≢ pos 0) × (places' ≡ places)) ⊎ (places' ≡ places ++ place ∷ [])
+
+-- the places of all numbers that are not 0
+pub record ArePlaces (places : List ℕ) (numbers : List ℤ) : Type 0 where
+  pub inside : All (λ place. place < length numbers) places
+  pub named : (i : ℕ) → i < length numbers → count_by (λ place. place == i) places ≡ 0 → slice_index_or numbers i (pos 0) ≡ pos 0
 
 -- the sum of a term over the entries
 abbrev pub sum_of : (ℕ → ℤ → ℤ) → List NetCount → ℤ

@@ -1,10 +1,10 @@
 //! Net counts of a walk, each row once.
 
-ghost use Rattle.std.specs.Prelude.{◌≡◌, ◌-◌, ◌+ℤ◌, ◌<◌, ◌≤◌, pos, length, unsigned_abs, All, slice_index_or, slice_set, IfOk, OnOk};
+ghost use Rattle.std.specs.Prelude.{◌≡◌, ℕ, List, ◌-◌, ◌+ℤ◌, ◌<◌, ◌≤◌, pos, length, unsigned_abs, slice_index_or, slice_set, IfOk, OnOk};
+ghost use Rattle.pesp_problem.specs.declared.row.SignedRow.{SignedRow};
 ghost use Rattle.pesp_problem.specs.Walks.{Names, sign};
-ghost use Rattle.pesp_check.specs.Nets.{AreZeros, AreCounts, AreNetCounts};
+ghost use Rattle.pesp_check.specs.Nets.{AreZeros, AreCounts, ArePlaces, IsEntered, AreNetCounts};
 
-use crate::elements::Elements;
 use pesp_problem::SignedRow;
 use std::alloc::{AllocError, Global};
 use std::marker::Model;
@@ -48,15 +48,34 @@ fn sign_of(s: &SignedRow) -> i128
     if s.plus { 1 } else { -1 }
 }
 
-/// Adds the sign of a row to its working number.
-pub fn count_row(working: &mut [i128], s: &SignedRow)
+/// Adds a place to those of the rows that are passed, where the row's working number is 0.
+fn enter(places: &mut Vec<u32>, place: u32, number: i128) -> Result<(), AllocError>
+    ensures { OnOk result (IsEntered places.old.items places.new.items place number) }
+{
+    if number != 0 {
+        return Ok(());
+    }
+    places.push(place)?;
+    Ok(())
+}
+
+/// Adds the sign of a row to its working number, and its place to those of the rows that are passed.
+pub fn count_row(
+    places: &mut Vec<u32>,
+    working: &mut [i128],
+    s: &SignedRow,
+) -> Result<(), AllocError>
     requires exists { Names (length working.old) s.now.row }
     requires small { unsigned_abs (slice_index_or working.old (s.now.row - 1) (pos 0)) ≤ 10000000 }
-    ensures { working.new ≡ slice_set working.old (s.now.row - 1) (slice_index_or working.old (s.now.row - 1) (pos 0) +ℤ sign s.now) }
+    ensures counts { OnOk result (working.new ≡ slice_set working.old (s.now.row - 1) (slice_index_or working.old (s.now.row - 1) (pos 0) +ℤ sign s.now)) }
+    ensures places { OnOk result (IsEntered places.old.items places.new.items (s.now.row - 1) (slice_index_or working.old (s.now.row - 1) (pos 0))) }
 {
-    let at = s.row as usize - 1;
-    let count = working[at] + sign_of(s);
-    working[at] = count;
+    let place = s.row - 1;
+    let number = working[place as usize];
+    enter(places, place, number)?;
+    let count = number + sign_of(s);
+    working[place as usize] = count;
+    Ok(())
 }
 
 /// A working number, which is 0 afterwards.
@@ -70,23 +89,20 @@ pub fn take(working: &mut [i128], at: usize) -> i128
     number
 }
 
-/// Takes the net counts of a walk's rows that are not 0, each row once, from working numbers that hold them. They are 0
-/// afterwards.
-fn take_counts<R: Elements<SignedRow>>(
+/// Takes the net counts that are not 0, each row's once, from working numbers that hold them. They are 0 afterwards.
+fn take_counts(
     alloc: Global,
-    rows: R,
+    places: &[u32],
     working: &mut [i128],
 ) -> Result<Vec<NetCount>, AllocError>
-    requires exist { All (λ s. Names (length working.old) s.row) (R.elements rows) }
-    requires short { length (R.elements rows) ≤ 10000000 }
-    requires counts { AreCounts (R.elements rows) working.old }
-    ensures counts { IfOk result (λ v. AreNetCounts (length working.old) (R.elements rows) v.items) }
+    requires entered { ArePlaces places.now working.old }
+    requires small { (i : ℕ) → i < length working.old → unsigned_abs (slice_index_or working.old i (pos 0)) ≤ 10000000 }
+    ensures counts { IfOk result (λ v. (walk : List SignedRow) → length walk ≤ 10000000 → AreCounts walk working.old → AreNetCounts (length working.old) walk v.items) }
     ensures zeros { OnOk result (AreZeros working.new) }
 {
-    let mut left = rows;
     let mut counts = Vec::new(alloc);
-    while let Some(s) = left.take_next() {
-        let place = s.row - 1;
+    for place in places {
+        let place = *place;
         let count = take(working, place as usize);
         if count != 0 {
             counts.push(NetCount {
@@ -99,17 +115,12 @@ fn take_counts<R: Elements<SignedRow>>(
 }
 
 /// Takes the net counts of a walk from working numbers, one a row, that hold them. They are 0 afterwards.
-pub fn take_nets<R: Elements<SignedRow>>(
-    alloc: Global,
-    rows: R,
-    working: &mut [i128],
-) -> Result<Nets, AllocError>
-    requires exist { All (λ s. Names (length working.old) s.row) (R.elements rows) }
-    requires short { length (R.elements rows) ≤ 10000000 }
-    requires counts { AreCounts (R.elements rows) working.old }
-    ensures counts { IfOk result (λ nets. AreNetCounts (length working.old) (R.elements rows) nets) }
+pub fn take_nets(alloc: Global, places: &[u32], working: &mut [i128]) -> Result<Nets, AllocError>
+    requires entered { ArePlaces places.now working.old }
+    requires small { (i : ℕ) → i < length working.old → unsigned_abs (slice_index_or working.old i (pos 0)) ≤ 10000000 }
+    ensures counts { IfOk result (λ nets. (walk : List SignedRow) → length walk ≤ 10000000 → AreCounts walk working.old → AreNetCounts (length working.old) walk nets) }
     ensures zeros { OnOk result (AreZeros working.new) }
 {
-    let counts = take_counts(alloc, rows, working)?;
+    let counts = take_counts(alloc, places, working)?;
     Ok(Nets { counts })
 }

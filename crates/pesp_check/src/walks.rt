@@ -1,10 +1,10 @@
 //! Whether the cycles are walks of the instance.
 
-ghost use Rattle.std.specs.Prelude.{◌≡◌, ◌↔◌, ℕ, ◌≤◌, ◌<◌, ◌^◌, IsTrue, All, length, sum_by, IfOk, OnOk, MatchResult};
+ghost use Rattle.std.specs.Prelude.{◌≡◌, ◌↔◌, ℕ, ◌≤◌, ◌<◌, ◌^◌, IsTrue, [], All, length, sum_by, IfOk, OnOk, MatchResult};
 ghost use Rattle.pesp_problem.specs.Arcs.{arcs_of};
 ghost use Rattle.pesp_problem.specs.Walks.{RowExists, IsWalk};
 ghost use Rattle.pesp_problem.specs.Walks as spec;
-ghost use Rattle.pesp_check.specs.Nets.{AreZeros, AreCounts};
+ghost use Rattle.pesp_check.specs.Nets.{AreZeros, AreCounts, ArePlaces};
 ghost use Rattle.pesp_check.specs.Flows.{AreNets};
 ghost use Rattle.pesp_check.specs.Faults.{IsCycleFault};
 ghost use Rattle.pesp_check.specs.Ways.{IsWay, IsWayOf, IsCycleVerdict};
@@ -49,54 +49,64 @@ pub enum Way {
     Closed,
 }
 
-/// Follows the rows of a cycle from an event, and adds their signs to working numbers that are 0.
+/// Follows the rows of a cycle from an event, and adds their signs to working numbers that are 0, and their places to none.
 fn follow<R: Elements<SignedRow>>(
     instance: &Instance,
     rows: R,
     begin: u32,
+    places: &mut Vec<u32>,
     working: &mut [i128],
-) -> Way
+) -> Result<Way, AllocError>
+    requires none { places.old.items ≡ [] }
     requires short { length (R.elements rows) ≤ 10000000 }
     requires long { length working.old ≡ length instance.now.rows }
     requires zeros { AreZeros working.old }
-    ensures way { IsWay (arcs_of instance.now) (R.elements rows) begin result }
-    ensures counts { result ≡ Way.Closed → AreCounts (R.elements rows) working.new }
+    ensures way { IfOk result (λ way. IsWay (arcs_of instance.now) (R.elements rows) begin way) }
+    ensures counts { IfOk result (λ way. way ≡ Way.Closed → AreCounts (R.elements rows) working.new) }
+    ensures places { OnOk result (ArePlaces places.new.items working.new) }
 {
     let mut left = rows;
     let mut at = begin;
     let mut joined = true;
     while let Some(s) = left.take_next() {
         if !row_exists(instance, &s) {
-            return Way::Missing;
+            return Ok(Way::Missing);
         }
         joined &= start(instance, &s) == at;
         at = finish(instance, &s);
-        count_row(working, &s);
+        count_row(places, working, &s)?;
     }
     if joined && at == begin {
-        Way::Closed
+        Ok(Way::Closed)
     } else {
-        Way::Open
+        Ok(Way::Open)
     }
 }
 
 /// What the rows of a cycle are. Where they are a closed walk, the working numbers, one a row and 0 before, become its
-/// net counts.
-fn way_of<R: Elements<SignedRow>>(instance: &Instance, rows: R, working: &mut [i128]) -> Way
+/// net counts, and there are places of all that are not 0.
+fn way_of<R: Elements<SignedRow>>(
+    instance: &Instance,
+    rows: R,
+    places: &mut Vec<u32>,
+    working: &mut [i128],
+) -> Result<Way, AllocError>
+    requires none { places.old.items ≡ [] }
     requires short { length (R.elements rows) ≤ 10000000 }
     requires long { length working.old ≡ length instance.now.rows }
     requires zeros { AreZeros working.old }
-    ensures way { IsWayOf (arcs_of instance.now) (R.elements rows) result }
-    ensures counts { result ≡ Way.Closed → AreCounts (R.elements rows) working.new }
+    ensures way { IfOk result (λ way. IsWayOf (arcs_of instance.now) (R.elements rows) way) }
+    ensures counts { IfOk result (λ way. way ≡ Way.Closed → AreCounts (R.elements rows) working.new) }
+    ensures places { IfOk result (λ way. way ≡ Way.Closed → ArePlaces places.new.items working.new) }
 {
     let mut ahead = rows;
     let Some(first) = ahead.take_next() else {
-        return Way::Open;
+        return Ok(Way::Open);
     };
     if !row_exists(instance, &first) {
-        return Way::Missing;
+        return Ok(Way::Missing);
     }
-    follow(instance, rows, start(instance, &first), working)
+    follow(instance, rows, start(instance, &first), places, working)
 }
 
 /// The net counts of a cycle that has this number and stands in this line, or what is wrong with it. The working numbers,
@@ -115,7 +125,8 @@ pub fn judge_cycle<R: Elements<SignedRow>>(
     ensures verdict { IfOk result (λ found. IsCycleVerdict instance.now (R.elements rows) number line found) }
     ensures zeros { OnOk result (AreZeros working.new) }
 {
-    match way_of(instance, rows, working) {
+    let mut places = Vec::new(alloc);
+    match way_of(instance, rows, &mut places, working)? {
         Way::Missing => {
             working.fill(0);
             Ok(Err(Refusal::NoSuch { line }))
@@ -125,7 +136,7 @@ pub fn judge_cycle<R: Elements<SignedRow>>(
             Ok(Err(Refusal::OpenWalk { cycle: number }))
         }
         Way::Closed => {
-            let nets = take_nets(alloc, rows, working)?;
+            let nets = take_nets(alloc, &places, working)?;
             Ok(Ok(nets))
         }
     }

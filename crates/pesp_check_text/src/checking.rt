@@ -19,7 +19,7 @@ use std::alloc::Global;
 /// `parse` reads from it, and its answer. At most 1,073,741,824 bytes of the reader are read, and those are judged.
 ///
 /// `Text` is the text's first fault; it is told also where an item before it is wrong, so the text is read on behind such an
-/// item. `Read` says that the reader failed, `Memory` that a growth was refused. It keeps one line with its list, the answer, the
+/// item. `Read` says that the reader failed, `Memory` that a growth was refused. It keeps one line, the answer, the
 /// times, the net counts of the cycles, the ranges of the present node, for each branch on the way to it the one range that
 /// the branch changed, and, where a leaf is closed by propagation, one family of sets of time differences.
 pub fn check_text<S: Source>(

@@ -58,3 +58,19 @@ returns-in_err-print_to-clause-cause g c =
         ),
       ),
     ))
+
+pub returns-clause-ok : goal.returns-clause-ok
+returns-clause-ok g c = record {
+  instance = c.in_ok-instance.instance;
+  read = c.in_ok-instance.ensures.ok;
+  base = c.in_ok-base.base;
+  read_base = c.in_ok-base.ensures.ok;
+  works = c.in_ok-works.works.items;
+  read_works = c.in_ok-works.ensures.ok;
+  replies = c.deref.result.now;
+  certificate = c.in_ok-grafted.grafted.certificate;
+  grafted = rw c.deref.ensures.value c.in_ok-grafted.ensures;
+  has_text = c.in_ok-print.ensures.has_text;
+  told_replies = c.in_ok-print_to.ensures.text;
+  written = c.in_ok-print.ensures.text;
+}

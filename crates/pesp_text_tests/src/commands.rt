@@ -5,7 +5,7 @@ use pesp_cli::{Request, request_of};
 use std::alloc::Global;
 
 /// The words of a command line, the program's name first.
-fn words_with_name(alloc: Global, line: &str) -> Option<Vec<String>> {
+pub(crate) fn words_with_name(alloc: Global, line: &str) -> Option<Vec<String>> {
     let mut words = Vec::new(alloc);
     words.push(String::from_str(alloc, "pesp").ok()?).ok()?;
     for word in &words_of(alloc, line)? {

@@ -15,15 +15,16 @@ mod playing;
 mod reports;
 mod runs;
 mod spellings;
+mod statuses;
 mod streams;
 mod telling;
 mod works;
 
 use pesp_cases::cases_of;
 use playing::play;
-use std::alloc::Global;
 use std::io;
 use std::process::ExitCode;
+use std::rt::Files;
 
 fn main(rt: HostRuntime) -> ExitCode {
     match run(&rt) {
@@ -33,17 +34,20 @@ fn main(rt: HostRuntime) -> ExitCode {
 }
 
 /// Plays the cases on standard input.
-fn run<R: AllocGlobal + Input + Print>(rt: &R) -> Option<()> {
+fn run<R: AllocGlobal + Input + Print + Eprint + Files>(rt: &R) -> Option<()> {
     let text = io::read_to_string(rt.alloc(), rt.reader()).ok()?;
-    let told = tell_cases(rt.alloc(), text.as_str())?;
+    let told = tell_cases(rt, text.as_str())?;
     rt.print(told).ok()
 }
 
 /// What is told of all cases.
-fn tell_cases(alloc: Global, text: &str) -> Option<String> {
-    let mut told = String::new(alloc);
-    for lines in &cases_of(alloc, text)? {
-        told.push_str(play(alloc, lines)?.as_str()).ok()?;
+fn tell_cases<R: AllocGlobal + Input + Print + Eprint + Files>(
+    rt: &R,
+    text: &str,
+) -> Option<String> {
+    let mut told = String::new(rt.alloc());
+    for lines in &cases_of(rt.alloc(), text)? {
+        told.push_str(play(rt, lines)?.as_str()).ok()?;
     }
     Some(told)
 }

@@ -8,22 +8,32 @@ use crate::pieces::is_piece;
 use crate::reports::{ask_report, ask_times};
 use crate::runs::{ask_check, ask_progress, ask_run_report, ask_solve, ask_solved};
 use crate::spellings::{ask_lines, ask_number, ask_words};
+use crate::statuses::ask_status;
 use crate::streams::{ask_bytes, ask_pages};
 use crate::works::ask_works;
 use pesp_cases::split_word;
 use std::alloc::Global;
+use std::rt::Files;
 
 /// What is told of a case: its name, and each question with its answer.
-pub(crate) fn play(alloc: Global, lines: &[&str]) -> Option<String> {
-    let mut told = String::new(alloc);
+pub(crate) fn play<R: AllocGlobal + Input + Print + Eprint + Files>(
+    rt: &R,
+    lines: &[&str],
+) -> Option<String> {
+    let mut told = String::new(rt.alloc());
     for line in lines {
-        told.push_str(tell(alloc, lines, line)?.as_str()).ok()?;
+        told.push_str(tell(rt, lines, line)?.as_str()).ok()?;
     }
     Some(told)
 }
 
 /// A line with its answer; nothing of what is given.
-fn tell(alloc: Global, lines: &[&str], line: &str) -> Option<String> {
+fn tell<R: AllocGlobal + Input + Print + Eprint + Files>(
+    rt: &R,
+    lines: &[&str],
+    line: &str,
+) -> Option<String> {
+    let alloc = rt.alloc();
     if is_piece(line) {
         return Some(String::new(alloc));
     }
@@ -31,6 +41,10 @@ fn tell(alloc: Global, lines: &[&str], line: &str) -> Option<String> {
     match word {
         "instance" | "input" | "period" | "device" => Some(String::new(alloc)),
         "case" => format!(in alloc; "{line}\n").ok(),
+        "status" => {
+            let status = ask_status(rt, rest)?;
+            format!(in alloc; "{line}: {status}\n").ok()
+        }
         _ => {
             let answer = answer_of(alloc, lines, word, rest)?;
             format!(in alloc; "{line}: {answer}\n").ok()

@@ -1,0 +1,134 @@
+-- Trees that may stand in the place of a lent leaf have a text.
+use Rattle.std.proofs.Common.{◌≡◌, ℕ, ◌≤◌, List, [], ◌∷◌, length, map, refl, sym, ap, ◌∙◌, subst, arith, inl, inr}
+use Rattle.std.specs.Prelude.{ℤ, ◌≤ℤ◌, All, sum_by, Option, Some, None, IfSome, IsSomeAnd, option_map}
+use Rattle.std.specs.Global.{Vec}
+use Rattle.std.proofs.lemmas.Int.{ints}
+use Rattle.std.proofs.lemmas.List.{length-map}
+use Rattle.pesp_problem.specs.declared.pair.Pair.{Pair}
+use Rattle.pesp_problem.specs.Timetables.{Pesp}
+use Rattle.pesp_network.specs.Networks.{KeepsNetLimits}
+use Rattle.pesp_truth.specs.declared.answer.Answer.{Answer}
+use Rattle.pesp_truth.specs.declared.answer.Answer.TheVariants.{Optimal, Infeasible, Bounded}
+use Rattle.pesp_truth.specs.declared.tree.TreeLine.{TreeLine}
+use Rattle.pesp_truth.specs.Trees.{Tree, Leaf, Ends, Branch, Bound, Shut, ByPropagation, EndLine, preorder}
+use Rattle.pesp_truth.specs.Leaves.{IsLeafAt}
+use Rattle.pesp_truth.specs.Certificates.{Content, line_of, IsValid, ShowsAnswer}
+use Rattle.pesp_truth.proofs.Lines.{whole_tree}
+use Rattle.pesp_nodes.specs.Problems.{ProblemValue, IsSmallTable}
+use Rattle.pesp_machine.specs.declared.work.Work.TheVariants as works
+use Rattle.pesp_machine.specs.Leaves.{told}
+use Rattle.pesp_machine.specs.Limits.{pairs_in, IsLineOf}
+use Rattle.pesp_machine.specs.States.{State, IsJobLeaf, node_at, value_at}
+use Rattle.pesp_machine.specs.Reached.{IsOrderly}
+use Rattle.pesp_machine.specs.Events.{Takes, IsGraft}
+use Rattle.pesp_machine.proofs.Sizes.{put_lines_add_up, put_pairs_add_up}
+use Rattle.pesp_machine.proofs.TreeLimits.{graft_lines}
+use Rattle.pesp_board.proofs.Certified.{lines_fit, same_pairs, all_two}
+use Rattle.pesp_turns.proofs.Sizes.{leaf_pairs}
+use Rattle.pesp_works.specs.Works.{WorkValue, HasText}
+use Rattle.pesp_works.proofs.LimitLaws.{work_limits_iff}
+use Rattle.pesp_worker.specs.HandingIn.{AreTimesFor, AreShort, Fits, without_times}
+
+-- ---- texts
+
+-- so many lines and pairs as a text may have
+part_has_text : (p : ProblemValue) (number : ℕ) (lines : List TreeLine) (part : Tree) → KeepsNetLimits p.network → IsSmallTable p.table → preorder part ≡ map line_of lines → All (IsLineOf p) (preorder part) → length (preorder part) ≤ 1000000 → sum_by pairs_in (preorder part) ≤ 20000000 → number ≤ 999999 → HasText (without_times number lines)
+part_has_text p number lines part limits table same each few pairs most =
+    let long : length lines ≡ length (preorder part) = sym (length-map lines line_of) ∙ sym (ap length same) in
+    let many = same_pairs lines ∙ sym (ap (sum_by pairs_in) same) in
+    (work_limits_iff (without_times number lines)).0 (record {
+      job = most;
+      parts = record {
+        version = (omega arith, omega arith);
+        period = (omega arith, omega arith);
+        answer = refl;
+        times = omega arith;
+        each_time = refl;
+        cycles = omega arith;
+        rows = omega arith;
+        each_cycle = refl;
+        lines = omega (arith, long, few);
+        pairs = omega (arith, many, pairs);
+        each_line = lines_fit p lines limits table (subst (All (IsLineOf p)) same each);
+        whole = (whole_tree (map line_of lines)).1 (part, same);
+        known = all_two lines;
+      };
+    })
+
+-- times may be shown beside a tree that has a text
+pub text_with_times : (w : WorkValue) → HasText (without_times w.job w.tree) → AreShort w.times → HasText w
+text_with_times w text short =
+    let k = (work_limits_iff (without_times w.job w.tree)).1 text in
+    (work_limits_iff w).0 (record {
+      job = k.job;
+      parts = record {
+        version = (omega arith, omega arith);
+        period = (omega arith, omega arith);
+        answer = refl;
+        times = short.0;
+        each_time = short.1;
+        cycles = omega arith;
+        rows = omega arith;
+        each_cycle = refl;
+        lines = k.parts.lines;
+        pairs = k.parts.pairs;
+        each_line = k.parts.each_line;
+        whole = k.parts.whole;
+        known = k.parts.known;
+      };
+    })
+
+-- ---- what the board takes
+
+some_line : (tree : Tree) → 1 ≤ length (preorder tree)
+some_line (Ends leaf) = omega arith
+some_line (Branch cut low high) = omega arith
+
+-- a leaf has no more pairs than its tree
+pairs_of_leaf : (tree : Tree) (path : _) (leaf : Leaf) → IsLeafAt tree path leaf → pairs_in (EndLine leaf) ≤ sum_by pairs_in (preorder tree)
+pairs_of_leaf tree path leaf at = let sums = put_pairs_add_up tree path leaf (Ends (Shut ByPropagation)) at in omega (arith, sums)
+
+pub taken_fits : (p : ProblemValue) (state new : State) (number : ℕ) (lines : Vec TreeLine) → KeepsNetLimits p.network → IsSmallTable p.table → Takes p state number (works.Tree lines) new → Fits p state number lines.items
+taken_fits p state new number lines limits table t =
+    let length_is = put_lines_add_up state.tree t.path (Bound t.pairs) t.part t.leaf.1 in
+    let pairs_are = put_pairs_add_up state.tree t.path (Bound t.pairs) t.part t.leaf.1 in
+    let own = pairs_of_leaf state.tree t.path (Bound t.pairs) t.leaf.1 in
+    let some = some_line state.tree in
+    let lines_few = t.small.lines in
+    let pairs_few = t.small.pairs in
+    record {
+      stands = record { path = t.path; pairs = t.pairs; leaf = t.leaf; lines = lines; are_lines = refl; valid = (t.part, t.makes) };
+      text = part_has_text p number lines.items t.part limits table t.makes.0 (graft_lines p _ t.part t.path limits table t.makes.1) (omega (arith, length_is, some, lines_few)) (omega (arith, pairs_are, own, pairs_few));
+    }
+
+-- ---- the leaf itself
+
+not_less : (o : Option ℤ) (value : ℕ) → option_map told o ≡ Some value → IsSomeAnd o (λ v. IfSome o (λ w. w ≤ℤ v))
+not_less None value e = cc
+not_less (Some v) value e = omega (arith, ints)
+
+pub own_fits : (p : ProblemValue) (state : State) (number value : ℕ) (pairs : List Pair) (lines : Vec TreeLine) → KeepsNetLimits p.network → IsSmallTable p.table → IsOrderly p state → IsJobLeaf p state number value pairs → map line_of lines.items ≡ EndLine (Bound pairs) ∷ [] → Fits p state number lines.items
+own_fits p state number value pairs lines limits table orderly j is =
+    let graft : IsGraft p (value_at p j.path pairs) (node_at p j.path) (Ends (Bound pairs)) = (leaf_pairs p state j.path pairs orderly j.leaf.1, not_less (value_at p j.path pairs) value j.worth) in
+    let own = pairs_of_leaf state.tree j.path (Bound pairs) j.leaf.1 in
+    let few = orderly.limits.small.pairs in
+    record {
+      stands = record { path = j.path; pairs = pairs; leaf = j.leaf; lines = lines; are_lines = refl; valid = (Ends (Bound pairs), (sym is, graft)) };
+      text = part_has_text p number lines.items (Ends (Bound pairs)) limits table (sym is) (graft_lines p _ (Ends (Bound pairs)) j.path limits table graft) (omega arith) (omega (arith, own, few));
+    }
+
+-- ---- times
+
+no_times : (ts : List (ℤ × ℕ)) → map (λ t. t.1) ts ≡ [] → ts ≡ []
+no_times [] e = refl
+no_times (t ∷ ts) e = cc
+
+shown_are : (i : Pesp) (answer : Answer) (ts : List (ℤ × ℕ)) → ShowsAnswer i answer (map (λ t. t.0) ts) (map (λ t. t.1) ts) → AreTimesFor i ts
+shown_are i (Optimal c) ts h = inr (h.0, h.1.0)
+shown_are i Infeasible ts h = inl (no_times ts h)
+shown_are i (Bounded least (Some c)) ts h = inr (h.1.0, h.1.1.0)
+shown_are i (Bounded least None) ts h = inl (no_times ts h)
+
+-- what a valid certificate shows
+pub times_for : (i : Pesp) (c : Content) → IsValid i c → AreTimesFor i c.times
+times_for i c valid = shown_are i c.answer c.times valid.answer

@@ -1,0 +1,6 @@
+pub mod Numbers
+pub mod Fitting
+pub mod Holds
+pub mod Counting
+pub mod Leasts
+pub mod Judgments

@@ -1,0 +1,6 @@
+use Rattle.std.proofs.Common.{refl}
+use Rattle.pesp_worker.proofs.Judgments.{taken_is}
+use Rattle.pesp_worker.proofs.judging.taken.Goals as goal
+
+pub returns : goal.returns
+returns c = taken_is c.args.board.now.problem c.problem.result.now c.args.board.now.state c.give.new.self.state c.args.number c.args.lines c.give.result c.lines_in.result c.problem.ensures c.best-best.ensures.limits c.table-table.ensures.small (c.in_ok-taken.ensures c.if-not-taken.false) c.give.ensures.state (c.lines_in.ensures c.args.lines refl)

@@ -1,0 +1,78 @@
+-- Work on an open leaf of a certificate, as it is handed in.
+use Rattle.std.specs.Prelude.{◌≡◌, ◌⊎◌, ⊤, ℕ, ℤ, ◌≤◌, List, [], length, map, true}
+use Rattle.std.specs.List.{list_all}
+use Rattle.std.specs.Global.{Vec}
+use Rattle.pesp_problem.specs.declared.pair.Pair.{Pair}
+use Rattle.pesp_problem.specs.declared.cut.Cut.{Cut}
+use Rattle.pesp_problem.specs.declared.cut.Side.{Side}
+use Rattle.pesp_problem.specs.Timetables.{Pesp, IsTimetable}
+use Rattle.pesp_truth.specs.declared.tree.TreeLine.{TreeLine}
+use Rattle.pesp_truth.specs.Certificates.{Content, line_of}
+use Rattle.pesp_nodes.specs.Problems.{ProblemValue}
+use Rattle.pesp_cert.specs.Limits.{is_time}
+use Rattle.pesp_machine.specs.declared.job.Job.{Job}
+use Rattle.pesp_machine.specs.declared.work.Work.TheVariants.{Tree}
+use Rattle.pesp_machine.specs.States.{State, HasLeaf, node_at}
+use Rattle.pesp_machine.specs.Events.{IsValidAt}
+use Rattle.pesp_room.specs.Rooms.{branch_lines}
+use Rattle.pesp_works.specs.Works.{WorkValue, HasText}
+use Rattle.pesp_outside.specs.Lent.{IsLentFrom}
+use Rattle.pesp_worker.specs.declared.refusal.WorkRefusal.{WorkRefusal}
+use Rattle.pesp_worker.specs.declared.refusal.WorkRefusal.TheVariants.{Memory, NoSuchJob}
+
+-- no times; or the labels are those of the events in order, and the times are a timetable
+abbrev pub AreTimesFor : Pesp → List (ℤ × ℕ) → Type 0
+AreTimesFor instance times = (times ≡ []) ⊎ ((map (λ t. t.0) times ≡ instance.events) × IsTimetable instance (map (λ t. t.1) times))
+
+-- the lines are a tree that may stand in the place of the leaf with which the number is lent
+pub record StandsFor (p : ProblemValue) (state : State) (number : ℕ) (tree : List TreeLine) : Type 0 where
+  pub path : List (Cut × Side)
+  pub pairs : List Pair
+  pub leaf : HasLeaf state number path pairs
+  pub lines : Vec TreeLine
+  pub are_lines : lines.items ≡ tree
+  pub valid : IsValidAt p (node_at p path) pairs (Tree lines)
+
+-- the lines are a tree with at most so many branches that may stand in the place of an open leaf of a base, all of which are lent, in preorder
+pub record IsTreeOn (instance : Pesp) (base : Content) (job steps : ℕ) (tree : List TreeLine) : Type 0 where
+  pub problem : ProblemValue
+  pub jobs : List Job
+  pub lent : State
+  pub begins : IsLentFrom instance base problem jobs lent
+  pub stands : StandsFor problem lent job tree
+  pub few : branch_lines (map line_of tree) ≤ steps
+
+-- a work for an open leaf of a base: of this job, with such a tree, with no times or a timetable, and with a text
+pub record IsWorkOn (instance : Pesp) (base : Content) (job steps : ℕ) (work : WorkValue) : Type 0 where
+  pub number : work.job ≡ job
+  pub tree : IsTreeOn instance base job steps work.tree
+  pub times : AreTimesFor instance work.times
+  pub text : HasText work
+
+-- the base has no more open leaves than so many
+pub record HasNoJob (instance : Pesp) (base : Content) (job : ℕ) : Type 0 where
+  pub problem : ProblemValue
+  pub jobs : List Job
+  pub lent : State
+  pub begins : IsLentFrom instance base problem jobs lent
+  pub few : length jobs ≤ job
+
+-- when nothing is handed in
+abbrev pub IsWorkRefusal : Pesp → Content → ℕ → WorkRefusal → Type 0
+IsWorkRefusal instance base job Memory = ⊤
+IsWorkRefusal instance base job NoSuchJob = HasNoJob instance base job
+
+-- ---- how it is made
+
+-- so many times, with such labels, as a text may have
+abbrev pub AreShort : List (ℤ × ℕ) → Type 0
+AreShort times = (length times ≤ 100000) × (list_all is_time times ≡ true)
+
+-- a work without times
+abbrev pub without_times : ℕ → List TreeLine → WorkValue
+without_times job tree = record { job = job; times = []; tree = tree }
+
+-- the lines may stand there, and with a number that a text may have they have a text
+pub record Fits (p : ProblemValue) (state : State) (number : ℕ) (tree : List TreeLine) : Type 0 where
+  pub stands : StandsFor p state number tree
+  pub text : number ≤ 999999 → HasText (without_times number tree)

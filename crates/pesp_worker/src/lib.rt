@@ -1,0 +1,17 @@
+//! Work on one open leaf of a certificate, handed in as a text that nobody has to trust.
+#![tactic(auto)]
+
+mod copying;
+mod cutting_out;
+mod holding;
+mod judging;
+mod refusal;
+mod replanting;
+mod searching;
+mod settling;
+mod steering;
+mod turning;
+mod working;
+
+pub use refusal::WorkRefusal;
+pub use working::work;

@@ -1,0 +1,108 @@
+//! The search for a tree and for times on a board where one leaf is open.
+
+ghost use Rattle.std.specs.Prelude.{◌≡◌, ◌≤◌, IfOk, IfErr};
+ghost use Rattle.pesp_problem.specs.Timetables.{Pesp};
+ghost use Rattle.pesp_truth.specs.Certificates.{IsValid};
+ghost use Rattle.pesp_machine.specs.Certificates.{IsProblemOf};
+ghost use Rattle.pesp_worker.specs.HandingIn.{AreTimesFor, AreShort, IsWorkRefusal};
+
+use crate::cutting_out::cut_out;
+use crate::refusal::WorkRefusal;
+use crate::replanting::replanted;
+use crate::steering::strategy_for;
+use crate::turning::{Known, improve_leaf, run_turns};
+use pesp_board::Board;
+use pesp_branching::passed_rows;
+use pesp_cert::Certificate;
+use pesp_outside::{Lent, lend_base};
+use pesp_problem::{Cut, Instance, Memory, Side};
+use pesp_truth::TreeLine;
+use std::alloc::Global;
+
+/// What was found for a leaf: times, and a tree that is still to be judged.
+#[derive(Drop)]
+pub(crate) struct Found {
+    pub(crate) times: Vec<(i64, u32)>,
+    pub(crate) tree: Vec<TreeLine>,
+}
+
+// works on the leaf that is open, by at most so many splits
+fn work_on(alloc: Global, instance: &Instance, board: &mut Board, steps: u32) -> Result<(), Memory>
+    requires { steps ≤ 100000 }
+    ensures { board.new.problem ≡ board.old.problem }
+{
+    if !improve_leaf(alloc, board)? || steps == 0 {
+        return Ok(());
+    }
+    let reduced = replanted(alloc, instance, board.problem().table())?;
+    let passed = passed_rows(alloc, board.problem())?;
+    let mut strategy = strategy_for(alloc, &reduced, board.problem())?;
+    let known = Known { reduced, passed };
+    run_turns(alloc, board, &known, &mut strategy, steps)
+}
+
+// the same times once more
+fn copy_times(alloc: Global, times: &[(i64, u32)]) -> Result<Vec<(i64, u32)>, Memory>
+    ensures { IfOk result (λ copy. copy.items ≡ times.now) }
+{
+    Ok(times.to_vec(alloc)?)
+}
+
+// the times that a certificate shows, where they are wanted
+fn shown(alloc: Global, certificate: &Certificate, wanted: bool) -> Result<Vec<(i64, u32)>, Memory>
+    ensures times { (instance : Pesp) → IsValid instance certificate.now → IfOk result (λ times. AreTimesFor instance times.items) }
+    ensures short { IfOk result (λ times. AreShort times.items) }
+{
+    if !wanted {
+        return Ok(Vec::new(alloc));
+    }
+    let copy = copy_times(alloc, certificate.times())?;
+    Ok(copy)
+}
+
+// what is found for the leaf that is open, to which this path leads: a tree, and times that are cheaper than those so far
+fn found_below(
+    alloc: Global,
+    instance: &Instance,
+    board: &mut Board,
+    path: &[(Cut, Side)],
+    steps: u32,
+) -> Result<Found, Memory>
+    requires of { IsProblemOf instance.now board.old.problem }
+    requires few { steps ≤ 100000 }
+    ensures times { IfOk result (λ found. AreTimesFor instance.now found.times.items) }
+    ensures short { IfOk result (λ found. AreShort found.times.items) }
+{
+    let before = board.best();
+    work_on(alloc, instance, board, steps)?;
+    let certificate = board.certificate(alloc, instance)?;
+    let times = shown(alloc, &certificate, board.best() != before)?;
+    let tree = cut_out(alloc, certificate.tree(), path)?;
+    Ok(Found { times, tree })
+}
+
+/// Searches below the leaf of a job, by at most so many splits, for a tree in its place, and for times that are cheaper than
+/// those of the base.
+pub(crate) fn search_below(
+    alloc: Global,
+    instance: &Instance,
+    base: &Certificate,
+    job: u64,
+    steps: u32,
+) -> Result<Found, WorkRefusal>
+    requires valid { IsValid instance.now base.now }
+    requires few { steps ≤ 100000 }
+    ensures times { IfOk result (λ found. AreTimesFor instance.now found.times.items) }
+    ensures short { IfOk result (λ found. AreShort found.times.items) }
+    ensures refused { IfErr result (IsWorkRefusal instance.now base.now job) }
+{
+    let Lent { board, jobs } = lend_base(alloc, instance, base)?;
+    if job >= jobs.len() as u64 {
+        return Err(WorkRefusal::NoSuchJob);
+    }
+    let mut board = board;
+    board.recall(job);
+    let path = &jobs[job as usize].path;
+    let found = found_below(alloc, instance, &mut board, path, steps)?;
+    Ok(found)
+}

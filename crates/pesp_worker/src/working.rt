@@ -1,0 +1,36 @@
+//! Work on one open leaf.
+
+ghost use Rattle.std.specs.Prelude.{◌≤◌, IfOk, IfErr};
+ghost use Rattle.pesp_truth.specs.Certificates.{IsValid};
+ghost use Rattle.pesp_worker.specs.HandingIn.{IsWorkOn, IsWorkRefusal};
+
+use crate::judging::judged;
+use crate::refusal::WorkRefusal;
+use crate::searching::{Found, search_below};
+use pesp_cert::Certificate;
+use pesp_problem::Instance;
+use pesp_works::WorkText;
+use std::alloc::Global;
+
+/// Works on an open leaf of a valid certificate, by at most so many splits. Open leaves are numbered from 0 in the order of the
+/// tree's lines. The work that is handed in is of this job, and has a text. Its tree has at most so many branches and may stand
+/// in the leaf's place; its times are a timetable, or there are none.
+///
+/// Refused as `NoSuchJob` where the certificate has no more open leaves than the number, and else as `Memory`, where a growth was
+/// refused.
+pub fn work(
+    alloc: Global,
+    instance: &Instance,
+    base: &Certificate,
+    job: u64,
+    steps: u32,
+) -> Result<WorkText, WorkRefusal>
+    requires valid { IsValid instance.now base.now }
+    requires few { steps ≤ 100000 }
+    ensures work { IfOk result (λ work. IsWorkOn instance.now base.now job steps work) }
+    ensures refused { IfErr result (IsWorkRefusal instance.now base.now job) }
+{
+    let Found { times, tree } = search_below(alloc, instance, base, job, steps)?;
+    let tree = judged(alloc, instance, base, job, steps, tree)?;
+    Ok(WorkText { job, times, tree })
+}

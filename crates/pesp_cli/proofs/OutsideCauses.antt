@@ -1,4 +1,4 @@
--- Why there are no works, and what a writer got that took nothing, or all.
+-- Why there are no works or no job, and what a writer got that took nothing, or all.
 use Rattle.std.proofs.Common.{◌≡◌, inl, inr, ℕ, List, [], refl, sym, Err}
 use Rattle.std.specs.Prelude.{Option}
 use Rattle.std.specs.Io.KnownBytes.{Appends}
@@ -9,8 +9,13 @@ use Rattle.pesp_stream.specs.Writing.{AppendsFront}
 use Rattle.pesp_cert.specs.declared.refusal.CertRefusal.{CertRefusal}
 use Rattle.pesp_cert.specs.declared.refusal.CertRefusal.TheVariants.{Header, Line, Number, Limit, Truncated, Trailing, Memory as NoMemory}
 use Rattle.pesp_works.specs.Refusals.{works_of_text, RefusesFirst}
-use Rattle.pesp_cli.specs.FaultLines.{works_fault}
-use Rattle.pesp_cli.specs.Outside.{RefusesWorks, WorksCause}
+use Rattle.pesp_problem.specs.Timetables.{Pesp}
+use Rattle.pesp_truth.specs.Certificates.{Content}
+use Rattle.pesp_worker.specs.declared.refusal.WorkRefusal.{WorkRefusal}
+use Rattle.pesp_worker.specs.declared.refusal.WorkRefusal.TheVariants.{Memory as WorkMemory, NoSuchJob}
+use Rattle.pesp_worker.specs.HandingIn.{IsWorkRefusal}
+use Rattle.pesp_cli.specs.FaultLines.{works_fault, work_fault}
+use Rattle.pesp_cli.specs.Outside.{RefusesWorks, WorksCause, JobCause}
 
 refuses : (told left : Option (List ℕ)) (bytes : List ℕ) (refusal : CertRefusal) → ReadsText told left 1073741824 bytes → works_of_text bytes ≡ Err refusal → RefusesWorks told left refusal
 refuses told left bytes refusal read is = record { bytes = bytes; read = read; refused = is }
@@ -24,6 +29,11 @@ works_text_cause (Number n) told left bytes R read first = elim first [ inl e �
 works_text_cause (Limit n) told left bytes R read first = elim first [ inl e ↦ cc | inr e ↦ refuses told left bytes (Limit n) read e ]
 works_text_cause Truncated told left bytes R read first = elim first [ inl e ↦ cc | inr e ↦ refuses told left bytes Truncated read e ]
 works_text_cause (Trailing n) told left bytes R read first = elim first [ inl e ↦ cc | inr e ↦ refuses told left bytes (Trailing n) read e ]
+
+-- a job that isn't there, or a refusal of memory
+pub job_cause : (refusal : WorkRefusal) (p : Pesp) (base : Content) (job : ℕ) → IsWorkRefusal p base job refusal → JobCause (work_fault refusal) p base job
+job_cause WorkMemory p base job refused = tt
+job_cause NoSuchJob p base job refused = refused
 
 -- nothing is a front of every text
 pub no_front : (a : Option (List ℕ)) (text : List ℕ) → AppendsFront a a text

@@ -10,13 +10,15 @@ use Rattle.pesp_check_text.specs.declared.fault.CheckFault.{CheckFault}
 use Rattle.pesp_check_text.specs.declared.fault.CheckFault.TheVariants.{Text, Read as CheckRead, Memory as CheckMemory}
 use Rattle.pesp_search.specs.declared.refusal.SolveRefusal.{SolveRefusal}
 use Rattle.pesp_search.specs.declared.refusal.SolveRefusal.TheVariants.{Memory as SearchMemory, TableTooLarge, PairsTooMany}
+use Rattle.pesp_worker.specs.declared.refusal.WorkRefusal.{WorkRefusal}
+use Rattle.pesp_worker.specs.declared.refusal.WorkRefusal.TheVariants.{Memory as WorkMemory, NoSuchJob}
 use Rattle.pesp_report.specs.declared.refusal.TimesRefusal.{TimesRefusal}
 use Rattle.pesp_report.specs.declared.refusal.TimesRefusal.TheVariants.{BadLine, WrongCount, Memory as TimesMemory}
 use Rattle.pesp_report.specs.declared.refusal.ReportRefusal.{ReportRefusal}
 use Rattle.pesp_report.specs.declared.refusal.ReportRefusal.TheVariants.{Violates, NotTimes, Memory as ReportMemory, Write as ReportWrite}
 use Rattle.pesp_cli.specs.Verdicts.{refusal_text}
 use Rattle.pesp_cli.specs.declared.fault.Fault.{Fault}
-use Rattle.pesp_cli.specs.declared.fault.Fault.TheVariants.{Instance, Certificate, Times, Search, Report, Base, Works, Memory, Read, Write, NoFile}
+use Rattle.pesp_cli.specs.declared.fault.Fault.TheVariants.{Instance, Certificate, Times, Search, Report, Base, Works, NoJob, Memory, Read, Write, NoFile}
 
 -- a refusal of memory is told as such
 abbrev pub instance_fault : ReadRefusal → Fault
@@ -43,6 +45,10 @@ times_fault refusal = Times refusal
 abbrev pub search_fault : SolveRefusal → Fault
 search_fault SearchMemory = Memory
 search_fault refusal = Search refusal
+
+abbrev pub work_fault : WorkRefusal → Fault
+work_fault WorkMemory = Memory
+work_fault NoSuchJob = NoJob
 
 -- and a writer's fault too
 abbrev pub report_fault : ReportRefusal → Fault
@@ -112,12 +118,13 @@ fault_line (Search refusal) = codes "search: " ++ search_line refusal
 fault_line (Report refusal) = codes "report: " ++ report_line refusal
 fault_line (Base refusal) = codes "base: " ++ refusal_text refusal
 fault_line (Works refusal) = codes "works: " ++ certificate_line refusal
+fault_line NoJob = codes "job: none"
 fault_line Memory = codes "memory"
 fault_line Read = codes "device: read"
 fault_line Write = codes "device: write"
 fault_line NoFile = codes "device: no file"
 
--- 1 for times that violate a row and a certificate that is not valid, 3 for a text that is refused, 4 for memory, devices and a search that passes its limits
+-- 1 for times that violate a row and a certificate that is not valid, 3 for a text that is refused and a job that is not there, 4 for memory, devices and a search that passes its limits
 abbrev pub exit_status : Fault → ℕ
 exit_status (Instance refusal) = 3
 exit_status (Certificate refusal) = 3
@@ -126,6 +133,7 @@ exit_status (Search refusal) = 4
 exit_status (Report refusal) = 1
 exit_status (Base refusal) = 1
 exit_status (Works refusal) = 3
+exit_status NoJob = 3
 exit_status Memory = 4
 exit_status Read = 4
 exit_status Write = 4

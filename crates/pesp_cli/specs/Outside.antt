@@ -12,6 +12,7 @@ use Rattle.pesp_check.specs.Faults.{IsVerdict}
 use Rattle.pesp_check.specs.declared.refusal.Refusal.{Refusal}
 use Rattle.pesp_check.specs.declared.refusal.Verdict.TheVariants.{Refused}
 use Rattle.pesp_works.specs.Works.{WorkValue}
+use Rattle.pesp_works.specs.Works as works_values
 use Rattle.pesp_works.specs.Refusals.{works_of_text}
 use Rattle.pesp_works.specs.Refusals as works_texts
 use Rattle.pesp_outside.specs.declared.jobs.OpenJob.{OpenJob}
@@ -19,8 +20,9 @@ use Rattle.pesp_outside.specs.declared.grafting.Reply.{Reply}
 use Rattle.pesp_outside.specs.Jobs.{AreOpenJobs}
 use Rattle.pesp_outside.specs.Grafts.{IsGrafted}
 use Rattle.pesp_outside.specs.Texts.{jobs_text, reply_line}
+use Rattle.pesp_worker.specs.HandingIn.{IsWorkOn, HasNoJob}
 use Rattle.pesp_cli.specs.declared.fault.Fault.{Fault}
-use Rattle.pesp_cli.specs.declared.fault.Fault.TheVariants.{Certificate, Base, Works, Memory, Read, Write}
+use Rattle.pesp_cli.specs.declared.fault.Fault.TheVariants.{Certificate, Base, Works, NoJob, Memory, Read, Write}
 use Rattle.pesp_cli.specs.Runs.{ReadsInstance, InstanceCause}
 
 -- the bytes that were read are the text of this certificate, which is valid for the instance
@@ -45,6 +47,16 @@ pub record Splits (told left told_base left_base : Option (List ℕ)) (period : 
   pub jobs : List OpenJob
   pub are_open : AreOpenJobs instance base jobs
   pub written : Gets (jobs_text jobs)
+
+-- the readers' texts have an instance and a base, and the writer got what the relation says of the text of a work for an open leaf of the base
+pub record WritesWork (told left told_base left_base : Option (List ℕ)) (period job steps : ℕ) (Gets : List ℕ → Type 0) : Type 0 where
+  pub instance : Pesp
+  pub read : ReadsInstance told left period instance
+  pub base : Content
+  pub read_base : ReadsBase told_base left_base instance base
+  pub work : WorkValue
+  pub is_work : IsWorkOn instance base job steps work
+  pub written : Gets (works_values.spelling work)
 
 -- the readers' texts have an instance, a base and works; the first writer got what its relation says of the text of the certificate with these works grafted, and the second what its relation says of a line for each work
 pub record GraftsWorks (told left told_base left_base told_works left_works : Option (List ℕ)) (period : ℕ) (Gets Tells : List ℕ → Type 0) : Type 0 where
@@ -98,6 +110,12 @@ WorksCause Memory told left failed = Unit {0}
 WorksCause Read told left failed = failed
 WorksCause fault told left failed = ⊥
 
+-- why there is no work for a job
+abbrev pub JobCause : Fault → Pesp → Content → ℕ → Type 0
+JobCause NoJob instance base job = HasNoJob instance base job
+JobCause Memory instance base job = Unit {0}
+JobCause fault instance base job = ⊥
+
 -- why nothing went out whole, once all was read: memory, or a writer of which this is said
 abbrev pub OutCause : Fault → Type 0 → Type 0
 OutCause Memory cut = Unit {0}
@@ -111,6 +129,16 @@ SplitCause fault told left told_base left_base period old new first_failed uncal
     ⊎ ((instance : Pesp) × ReadsInstance told left period instance
     × (BaseCause fault told_base left_base instance base_failed
     ⊎ OutCause fault (write_failed × Splits told left told_base left_base period (AppendsFront old new))))
+
+-- each fault of `work` and its cause
+abbrev pub WorkCause : Fault → Option (List ℕ) → Option (List ℕ) → Option (List ℕ) → Option (List ℕ) → ℕ → ℕ → ℕ → Option (List ℕ) → Option (List ℕ) → Type 0 → Type 0 → Type 0 → Type 0 → Type 0
+WorkCause fault told left told_base left_base period job steps old new first_failed uncalled base_failed write_failed =
+    (InstanceCause fault told left period first_failed × uncalled)
+    ⊎ ((instance : Pesp) × ReadsInstance told left period instance
+    × (BaseCause fault told_base left_base instance base_failed
+    ⊎ ((base : Content) × ReadsBase told_base left_base instance base
+    × (JobCause fault instance base job
+    ⊎ OutCause fault (write_failed × WritesWork told left told_base left_base period job steps (AppendsFront old new))))))
 
 -- each fault of `graft` and its cause; the second reader is called only where the first text has an instance, and the third only where the second has a base of it
 abbrev pub GraftCause : Fault → Option (List ℕ) → Option (List ℕ) → Option (List ℕ) → Option (List ℕ) → Option (List ℕ) → Option (List ℕ) → ℕ → Option (List ℕ) → Option (List ℕ) → Option (List ℕ) → Option (List ℕ) → Type 0 → Type 0 → Type 0 → Type 0 → Type 0 → Type 0 → Type 0

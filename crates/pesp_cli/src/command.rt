@@ -38,6 +38,13 @@ pub enum Request<'a> {
         period: u32,
         file: &'a str,
     },
+    /// Work of at most so many steps on an open leaf of the certificate on standard input.
+    Work {
+        period: u32,
+        steps: u32,
+        file: &'a str,
+        job: u64,
+    },
     /// The works on standard input, grafted onto the certificate in a file.
     Graft {
         period: u32,
@@ -75,13 +82,14 @@ const OUTSIDE: &str = "\
 A whole round, for an instance in trains.csv with the period 60:
   pesp solve --steps 100 trains.csv > base
   pesp split trains.csv < base > jobs
-  (any solver works on the jobs, and writes a work for each that it has done)
+  pesp work trains.csv 0 < base > work.0
+  (and so on for each job, each on a machine of its own, and by any solver)
   cat work.* | pesp graft trains.csv base > better
   pesp check trains.csv < better
 Nobody has to trust the solvers: what isn't valid is refused, and changes nothing.
 
 Exit status: 0 the answer is written; 1 the certificate isn't valid; 2 the command
-line; 3 a text is refused; 4 memory or a device";
+line; 3 a text is refused, or there is no such job; 4 memory or a device";
 
 fn period_option<'a>(alloc: Global) -> Arg<'a> {
     Arg::new(alloc, "period")
@@ -135,6 +143,14 @@ fn base_argument<'a>(alloc: Global) -> Arg<'a> {
         .help("The file with the certificate onto which works are grafted")
 }
 
+fn job_argument<'a>(alloc: Global) -> Arg<'a> {
+    Arg::new(alloc, "job")
+        .value_name("JOB")
+        .required(true)
+        .value_parser(value_parser!(u64).range(0..=999999))
+        .help("The number of the open leaf, as split tells it, 0 to 999999")
+}
+
 fn optional_file<'a>(alloc: Global) -> Arg<'a> {
     Arg::new(alloc, "file").value_name("FILE").help(
         "The file with the instance; standard input where none is named",
@@ -185,6 +201,16 @@ fn split_command<'a>(alloc: Global) -> Result<Command<'a>, AllocError> {
     )
 }
 
+fn work_command<'a>(alloc: Global) -> Result<Command<'a>, AllocError> {
+    outside_command(
+        alloc,
+        "work",
+        "Reads a certificate from standard input, works on its open leaf JOB and writes a work for it",
+    )?
+    .arg(steps_option(alloc))?
+    .arg(job_argument(alloc))
+}
+
 fn graft_command<'a>(alloc: Global) -> Result<Command<'a>, AllocError> {
     outside_command(
         alloc,
@@ -220,6 +246,7 @@ fn pesp<'a>(alloc: Global) -> Result<Command<'a>, AllocError> {
         .subcommand(report)?
         .subcommand(draw.arg(rows_option(alloc))?)?
         .subcommand(split_command(alloc)?)?
+        .subcommand(work_command(alloc)?)?
         .subcommand(graft_command(alloc)?)
 }
 
@@ -244,6 +271,18 @@ fn rows_of(matches: &ArgMatches<'_>) -> u32
     ensures most { result ≤ 1000 }
 {
     matches.get_one::<u32>("rows").unwrap_or(100).clamp(1, 1000)
+}
+
+/// What the words behind `work` ask for.
+fn work_of<'a>(matches: &ArgMatches<'a>) -> Request<'a>
+    ensures { IsWithinLimits result }
+{
+    Request::Work {
+        period: period_of(matches),
+        steps: steps_of(matches),
+        file: matches.get_str("file").unwrap_or(""),
+        job: matches.get_one::<u64>("job").unwrap_or(0),
+    }
 }
 
 /// What the words behind `graft` ask for.
@@ -280,6 +319,7 @@ pub fn request_of<'a>(alloc: Global, words: &'a [String]) -> Result<Request<'a>,
             period: period_of(found),
             file: found.get_str("file").unwrap_or(""),
         }),
+        Some(("work", found)) => Ok(work_of(found)),
         Some(("graft", found)) => Ok(graft_of(found)),
         Some(("solve", found)) => Ok(Request::Solve {
             period: period_of(found),

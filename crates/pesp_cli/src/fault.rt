@@ -12,6 +12,7 @@ use pesp_problem::Memory as NoMemory;
 use pesp_report::{ReportRefusal, TimesRefusal};
 use pesp_search::SolveRefusal;
 use pesp_stream::{ReadFault, WriteFault};
+use pesp_worker::WorkRefusal;
 use std::alloc::AllocError;
 use std::fmt;
 
@@ -33,6 +34,8 @@ pub enum Fault {
     Base(Refusal),
     /// The text of works is refused.
     Works(CertRefusal),
+    /// The certificate has no open leaf of this number.
+    NoJob,
     /// A growth of memory was refused.
     Memory,
     /// A reader failed, or was interrupted more than 1000 times.
@@ -110,6 +113,20 @@ impl From<SolveRefusal> for Fault {
         match refusal {
             SolveRefusal::Memory => Fault::Memory,
             _ => Fault::Search(refusal),
+        }
+    }
+}
+
+impl From<WorkRefusal> for Fault {
+    ghost use Rattle.std.specs.Prelude.{◌≡◌};
+    ghost use Rattle.pesp_cli.specs.FaultLines.{work_fault};
+
+    ghost from_gives = { λ refusal fault. fault ≡ work_fault refusal };
+
+    fn from(refusal: WorkRefusal) -> Fault {
+        match refusal {
+            WorkRefusal::Memory => Fault::Memory,
+            WorkRefusal::NoSuchJob => Fault::NoJob,
         }
     }
 }
@@ -323,6 +340,7 @@ impl fmt::Display for Fault {
                 let line = CertificateLine(refusal);
                 write!(f, "works: {line}")
             }
+            Fault::NoJob => f.write_str("job: none"),
             Fault::Memory => f.write_str("memory"),
             Fault::Read => f.write_str("device: read"),
             Fault::Write => f.write_str("device: write"),
@@ -332,13 +350,17 @@ impl fmt::Display for Fault {
 }
 
 /// The exit status of the program for a fault: 1 for times that violate a row and for a certificate that isn't valid, 3 for a
-/// text that is refused, 4 for memory, devices and a search that passes its limits.
+/// text that is refused and for a job that isn't there, 4 for memory, devices and a search that passes its limits.
 pub fn status_of(fault: &Fault) -> u8
     ensures { result ≡ exit_status fault.now }
 {
     match fault {
         Fault::Report(_) | Fault::Base(_) => 1,
-        Fault::Instance(_) | Fault::Certificate(_) | Fault::Times(_) | Fault::Works(_) => 3,
+        Fault::Instance(_)
+        | Fault::Certificate(_)
+        | Fault::Times(_)
+        | Fault::Works(_)
+        | Fault::NoJob => 3,
         Fault::Search(_) | Fault::Memory | Fault::Read | Fault::Write | Fault::NoFile => 4,
     }
 }

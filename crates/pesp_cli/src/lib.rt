@@ -15,7 +15,7 @@ mod verdict;
 pub use command::{Request, request_of};
 pub use draw_run::run_draw;
 pub use fault::{Fault, status_of};
-pub use outside_runs::{run_graft, run_split};
+pub use outside_runs::{run_graft, run_split, run_work};
 pub use program::{exit_of_program, status_of_words};
 pub use progress::{Milestones, Progress, Teller};
 pub use runs::{run_check, run_report, run_solve, run_solve_watched};

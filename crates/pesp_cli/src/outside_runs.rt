@@ -5,7 +5,7 @@ ghost use Rattle.std.specs.Io.KnownBytes.{Appends};
 ghost use Rattle.pesp_stream.specs.Counts.{DeviceFailed};
 ghost use Rattle.pesp_cli.specs.FaultLines.{works_fault};
 ghost use Rattle.pesp_cli.specs.Runs.{HasWorked};
-ghost use Rattle.pesp_cli.specs.Outside.{ReadsBase, ReadsWorks, Splits, GraftsWorks, BaseCause, WorksCause, SplitCause, GraftCause};
+ghost use Rattle.pesp_cli.specs.Outside.{ReadsBase, ReadsWorks, Splits, WritesWork, GraftsWorks, BaseCause, WorksCause, WorkCause, SplitCause, GraftCause};
 
 use crate::fault::Fault;
 use crate::runs::{MOST_TIMES, read_whole_instance};
@@ -14,7 +14,8 @@ use pesp_check::{Verdict, check};
 use pesp_outside::{JobsText, RepliesText, graft, open_jobs};
 use pesp_problem::Instance;
 use pesp_stream::{Sink, Source, print_to, read_all};
-use pesp_works::{WorkText, parse_works};
+use pesp_worker::work;
+use pesp_works::{WorkText, parse_works, print_work};
 use std::alloc::Global;
 
 /// Reads a certificate, which has to be valid for the instance.
@@ -108,6 +109,54 @@ pub fn run_split<R: Source, B: Source, W: Sink>(
     let base = read_base(alloc, &instance, base_reader)?;
     let jobs = open_jobs(alloc, &instance, &base)?;
     print_to(writer, &JobsText(&jobs))?;
+    Ok(())
+}
+
+/// Reads an instance and then a certificate that is valid for it, works on its open leaf of this number, by at most so many
+/// splits, and writes the work; nothing is written before the whole work stands. `NoJob` where no more leaves than the number
+/// are open.
+pub fn run_work<R: Source, B: Source, W: Sink>(
+    alloc: Global,
+    instance_reader: &mut R,
+    base_reader: &mut B,
+    writer: &mut W,
+    period: u32,
+    steps: u32,
+    job: u64,
+) -> Result<(), Fault>
+    requires steps { steps ≤ 100000 }
+    requires failed_reads { R.failed instance_reader.old < 2 ^ 62 }
+    requires interrupted_reads { R.interrupted instance_reader.old < 2 ^ 62 }
+    requires failed_base_reads { B.failed base_reader.old < 2 ^ 62 }
+    requires interrupted_base_reads { B.interrupted base_reader.old < 2 ^ 62 }
+    requires failed_writes { W.failed writer.old < 2 ^ 62 }
+    requires interrupted_writes { W.interrupted writer.old < 2 ^ 62 }
+    ensures ok { OnOk result (WritesWork (R.remaining instance_reader.old) (R.remaining instance_reader.new)
+        (B.remaining base_reader.old) (B.remaining base_reader.new) period job steps
+        (Appends (W.contents writer.old) (W.contents writer.new))) }
+    ensures reads { OnOk result (HasWorked (R.failed instance_reader.old) (R.interrupted instance_reader.old)
+        (R.failed instance_reader.new) (R.interrupted instance_reader.new)) }
+    ensures base_reads { OnOk result (HasWorked (B.failed base_reader.old) (B.interrupted base_reader.old)
+        (B.failed base_reader.new) (B.interrupted base_reader.new)) }
+    ensures writes { OnOk result (HasWorked (W.failed writer.old) (W.interrupted writer.old)
+        (W.failed writer.new) (W.interrupted writer.new)) }
+    ensures cause { IfErr result (λ fault. WorkCause fault
+        (R.remaining instance_reader.old) (R.remaining instance_reader.new)
+        (B.remaining base_reader.old) (B.remaining base_reader.new) period job steps
+        (W.contents writer.old) (W.contents writer.new)
+        (DeviceFailed (R.failed instance_reader.old) (R.interrupted instance_reader.old)
+        (R.failed instance_reader.new) (R.interrupted instance_reader.new))
+        (base_reader.new ≡ base_reader.old)
+        (DeviceFailed (B.failed base_reader.old) (B.interrupted base_reader.old)
+        (B.failed base_reader.new) (B.interrupted base_reader.new))
+        (DeviceFailed (W.failed writer.old) (W.interrupted writer.old)
+        (W.failed writer.new) (W.interrupted writer.new))) }
+    ensures silent { IfErr result (λ fault. fault ≢ Fault.Write → writer.new ≡ writer.old) }
+{
+    let instance = read_whole_instance(alloc, instance_reader, period)?;
+    let base = read_base(alloc, &instance, base_reader)?;
+    let found = work(alloc, &instance, &base, job, steps)?;
+    print_work(&found, writer)?;
     Ok(())
 }
 

@@ -6,7 +6,7 @@ ghost use Rattle.pesp_cli.specs.Requests.{IsWithinLimits};
 use crate::command::{Request, request_of};
 use crate::draw_run::run_draw;
 use crate::fault::{Fault, status_of};
-use crate::outside_runs::{run_graft, run_split};
+use crate::outside_runs::{run_graft, run_split, run_work};
 use crate::progress::Teller;
 use crate::runs::{run_check, run_report, run_solve, run_solve_watched};
 use crate::telling::Telling;
@@ -100,6 +100,33 @@ fn draw<R: AllocGlobal + Print + Files, S: Source>(
     Ok(0)
 }
 
+/// Works on an open leaf of the certificate that the reader gives.
+fn work_on<R: AllocGlobal + Print + Files, S: Source>(
+    rt: &R,
+    reader: &mut S,
+    period: u32,
+    steps: u32,
+    file: &str,
+    job: u64,
+) -> Result<u8, Fault>
+    requires steps { steps ≤ 100000 }
+    requires failed { S.failed reader.old < 2 ^ 62 }
+    requires interrupted { S.interrupted reader.old < 2 ^ 62 }
+{
+    let mut instance = Counted::new(opened(rt, file)?);
+    let mut writer = Counted::new(io::writer(rt));
+    run_work(
+        rt.alloc(),
+        &mut instance,
+        reader,
+        &mut writer,
+        period,
+        steps,
+        job,
+    )?;
+    Ok(0)
+}
+
 /// Grafts the works that the reader gives onto the certificate in a file, and tells on standard error what became of each.
 fn graft<R: AllocGlobal + Print + Eprint + Files, S: Source>(
     rt: &R,
@@ -165,6 +192,12 @@ fn answer<R: AllocGlobal + Input + Print + Eprint + Files>(
             run_split(rt.alloc(), &mut instance, &mut reader, &mut writer, period)?;
             Ok(0)
         }
+        Request::Work {
+            period,
+            steps,
+            file,
+            job,
+        } => work_on(rt, &mut reader, period, steps, file, job),
         Request::Graft { period, file, base } => graft(rt, &mut reader, period, file, base),
     }
 }

@@ -55,6 +55,18 @@ pub(crate) fn ask_command(alloc: Global, line: &str) -> Option<String> {
         Ok(Request::Split { period, file }) => {
             format!(in alloc; "split {file} at period {period}").ok()
         }
+        Ok(
+            Request::Work {
+                period,
+                steps,
+                file,
+                job,
+            },
+        ) => {
+            format!(in alloc;
+                "work on job {job} of {file} at period {period} in {steps} steps"
+            ).ok()
+        }
         Ok(Request::Graft { period, file, base }) => {
             format!(in alloc; "graft {file} onto {base} at period {period}").ok()
         }

@@ -5,7 +5,7 @@ use crate::pieces::{add_piece, is_piece};
 use pesp_cases::{small, split_word, words_of};
 use std::alloc::Global;
 
-/// The text whose pieces stand behind the line of this name, `instance` or `input`.
+/// The text whose pieces stand behind the line of this name, `instance`, `base` or `input`.
 pub(crate) fn text_of(alloc: Global, lines: &[&str], name: &str) -> Option<Vec<u8>> {
     let mut bytes = Vec::new(alloc);
     let mut within = false;

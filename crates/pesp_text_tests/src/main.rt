@@ -10,6 +10,7 @@ mod drawings;
 mod feed;
 mod given;
 mod instances;
+mod outside;
 mod pieces;
 mod playing;
 mod reports;

@@ -4,6 +4,7 @@ use crate::certificates::{ask_certificate, make_certificate};
 use crate::commands::ask_command;
 use crate::drawings::{ask_draw, ask_drawn};
 use crate::instances::{ask_instance, ask_score};
+use crate::outside::{ask_graft, ask_split, ask_work, ask_worked};
 use crate::pieces::is_piece;
 use crate::reports::{ask_report, ask_times};
 use crate::runs::{ask_check, ask_progress, ask_run_report, ask_solve, ask_solved};
@@ -39,7 +40,7 @@ fn tell<R: AllocGlobal + Input + Print + Eprint + Files>(
     }
     let (word, rest) = split_word(line);
     match word {
-        "instance" | "input" | "period" | "device" => Some(String::new(alloc)),
+        "instance" | "base" | "input" | "period" | "device" => Some(String::new(alloc)),
         "case" => format!(in alloc; "{line}\n").ok(),
         "status" => {
             let status = ask_status(rt, rest)?;
@@ -62,6 +63,10 @@ fn answer_of(alloc: Global, lines: &[&str], word: &str, rest: &str) -> Option<St
         "report" => ask_run_report(alloc, lines),
         "draw" => ask_draw(alloc, lines, rest),
         "drawn" => ask_drawn(alloc, lines, rest),
+        "split" => ask_split(alloc, lines),
+        "work" => ask_work(alloc, lines, rest),
+        "worked" => ask_worked(alloc, lines, rest),
+        "graft" => ask_graft(alloc, lines),
         "command" => ask_command(alloc, rest),
         "read" => ask_instance(alloc, lines),
         "score" => ask_score(alloc, lines, rest),

@@ -98,8 +98,8 @@ fn ask_strategy(
     })
 }
 
-/// What is proposed for the leaf that was just lent, at this node, after so many splits: a cut of slacks, for propagation to shut
-/// its parts, as long as no timetable is known and few leaves were lent; else what the strategy proposes.
+/// What is proposed for the leaf that was just lent, at this node, after so many splits: a cut of slacks where propagation shuts
+/// one of its parts, as long as no timetable is known and few leaves were lent; else what the strategy proposes.
 pub fn ask(
     alloc: Global,
     strategy: &mut Option<Strategy>,

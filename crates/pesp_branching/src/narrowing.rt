@@ -1,4 +1,4 @@
-//! A cut of slacks, one of whose parts propagation shuts where there is such a cut among those of the widest ranges.
+//! A cut of slacks, one of whose parts propagation shuts, among those of the widest ranges.
 
 use pesp_network::Network;
 use pesp_nodes::Node;
@@ -87,8 +87,8 @@ fn shuts_a_part(
     is_shut_with(alloc, network, slacks, row, (k.saturating_add(1), high))
 }
 
-/// A cut of slacks in the middle of a range: the first, from the widest range down, one of whose parts propagation shuts, and
-/// where there is none that of the widest range. None where no row that is left has two slacks.
+/// A cut of slacks in the middle of a range, one of whose parts propagation shuts: the first such cut from the widest range
+/// down. None where no look finds one, or no row that is left has two slacks.
 pub(crate) fn narrow(
     alloc: Global,
     network: &Network,
@@ -96,7 +96,6 @@ pub(crate) fn narrow(
     node: &Node,
 ) -> Result<Option<Narrowing>, Memory> {
     let slacks = node.slacks();
-    let mut widest = None;
     let mut last = Width {
         slacks: u32::MAX,
         row: u32::MAX,
@@ -104,7 +103,7 @@ pub(crate) fn narrow(
     for _look in 0..LOOKS {
         last = next_width(reduced, slacks, last);
         if last.slacks == 0 {
-            return Ok(widest);
+            return Ok(None);
         }
         let (low, _) = range_of(slacks, last.row);
         let cut = Narrowing {
@@ -114,7 +113,6 @@ pub(crate) fn narrow(
         if shuts_a_part(alloc, network, slacks, cut)? {
             return Ok(Some(cut));
         }
-        widest = Some(widest.unwrap_or(cut));
     }
-    Ok(widest)
+    Ok(None)
 }

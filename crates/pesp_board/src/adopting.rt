@@ -85,8 +85,10 @@ fn unlabelled(alloc: Global, shown: &[(i64, u32)]) -> Result<Vec<u32>, Memory>
 
 /// The times that a certificate shows, with their cost; None where its answer has no cost.
 pub(crate) fn best_of(alloc: Global, certificate: &Certificate) -> Result<Option<Best>, Memory>
-    ensures times { IfOk result (λ best. times_of best ≡ shown_best certificate.now.answer (shown_times certificate.now)) }
-    ensures cost { IfOk result (λ best. insides.cost_of best ≡ certificates.cost_of certificate.now.answer) }
+    ensures times { IfOk result
+        (λ best. times_of best ≡ shown_best certificate.now.answer (shown_times certificate.now)) }
+    ensures cost { IfOk result
+        (λ best. insides.cost_of best ≡ certificates.cost_of certificate.now.answer) }
 {
     let Some(cost) = cost_of(certificate.answer()) else {
         return Ok(None);
@@ -104,7 +106,8 @@ fn valued_bound(
 ) -> Result<Part, Memory>
     requires node { IsNodeOf problem.now node.now }
     requires pairs { ArePairs (length problem.now.table) pairs.now }
-    requires value { IsSome (spec.leaf_value (net_of problem.now) problem.now.table node.now pairs.now true) }
+    requires value { IsSome
+        (spec.leaf_value (net_of problem.now) problem.now.table node.now pairs.now true) }
     ensures line { IfOk result (λ part. part_line part ≡ EndLine (Bound pairs.now)) }
     ensures valued { IfOk result (IsValuedPart problem.now node.now) }
 {
@@ -174,7 +177,8 @@ pub(crate) fn parts_of_tree(
 ) -> Result<(Vec<Part>, u64), Memory>
     requires { AreSoundLines problem.now (lines_of certificate.now) (root_of problem.now ∷ []) }
     ensures lines { IfOk result (λ made. part_lines made.0.items ≡ lines_of certificate.now) }
-    ensures valued { IfOk result (λ made. AreValued problem.now (root_of problem.now ∷ []) made.0.items) }
+    ensures valued { IfOk result
+        (λ made. AreValued problem.now (root_of problem.now ∷ []) made.0.items) }
     ensures pairs { IfOk result (λ made. made.1 ≡ sum_by pairs_in (lines_of certificate.now)) }
     ensures shape { IfOk result (λ made. are_trees 1 (part_lines made.0.items) ≡ true) }
     ensures few { IfOk result (λ made. length made.0.items ≤ 1000000) }

@@ -93,8 +93,10 @@ impl Board {
         ensures adopts { IfOk result (λ board. Adopts certificate.now board.state) }
         ensures problem { IfOk result (λ board. IsProblemOf instance.now board.problem) }
         ensures cycles { IfOk result (λ board. board.problem.table ≡ certificate.now.cycles) }
-        ensures bound { IfOk result (λ board. IsAtMost (least_of certificate.now.answer) (least board.problem board.state)) }
-        ensures cost { IfOk result (λ board. best_cost board.problem board.state ≡ cost_of certificate.now.answer) }
+        ensures bound { IfOk result (λ board. IsAtMost (least_of certificate.now.answer)
+            (least board.problem board.state)) }
+        ensures cost { IfOk result
+            (λ board. best_cost board.problem board.state ≡ cost_of certificate.now.answer) }
     {
         keep_limits(instance, certificate);
         let problem = problem_of(alloc, instance, certificate)?;
@@ -211,7 +213,8 @@ impl Board {
     /// of the leaf that is replaced; as `TooLarge` where the tree would have more than 1000000 lines or 20000000 pairs, and as
     /// `Memory` where a growth was refused. Then nothing has changed.
     pub fn give(&mut self, alloc: Global, number: u64, work: &Work) -> Result<(), GiveRefusal>
-        ensures state { Gives self.old.problem self.old.state number work.now result self.new.state }
+        ensures state { Gives self.old.problem self.old.state number work.now result
+            self.new.state }
         ensures problem { self.new.problem ≡ self.old.problem }
     {
         self.problem.keeps_limits();
@@ -243,7 +246,8 @@ impl Board {
     /// The value of the leaf with which the number is lent now, as `least` tells values, and its pairs; None for any other
     /// number.
     pub fn job_leaf(&self, number: u64) -> Option<(u64, &[Pair])>
-        ensures { TellsLeaf self.now.problem self.now.state number (option_map (λ leaf. (leaf.0, leaf.1.now)) result) }
+        ensures { TellsLeaf self.now.problem self.now.state number
+            (option_map (λ leaf. (leaf.0, leaf.1.now)) result) }
     {
         let Some(node) = lent_node(&self.slots, number) else {
             return None;
@@ -263,7 +267,8 @@ impl Board {
     /// else 1. The one refusal is of memory.
     pub fn certificate(&self, alloc: Global, instance: &Instance) -> Result<Certificate, Memory>
         requires { IsProblemOf instance.now self.now.problem }
-        ensures content { IfOk result (IsCertificateOf self.now.problem instance.now.events self.now.state) }
+        ensures content { IfOk result
+            (IsCertificateOf self.now.problem instance.now.events self.now.state) }
         ensures valid { IfOk result (IsValid instance.now) }
     {
         let answer = answer_of(self.least(), self.best());

@@ -40,7 +40,8 @@ pub(crate) fn shown_times(
     best: &Option<Best>,
 ) -> Result<Vec<(i64, u32)>, Memory>
     requires { IfSome (times_of best.now) (λ times. length labels.now ≡ length times) }
-    ensures { IfOk result (λ shown. spec.ShowsBest labels.now (times_of best.now) (map (λ t. t.0) shown.items) (map (λ t. t.1) shown.items)) }
+    ensures { IfOk result (λ shown. spec.ShowsBest labels.now (times_of best.now)
+        (map (λ t. t.0) shown.items) (map (λ t. t.1) shown.items)) }
 {
     match best {
         None => Ok(Vec::new(alloc)),

@@ -56,7 +56,8 @@ fn count_in(part: &Part) -> u64
 /// The count with those of a part; None where that passes the limit.
 fn add_pairs(count: u64, part: &Part) -> Option<u64>
     requires { count ≤ 20000000 }
-    ensures { MatchOption result (20000000 < count + pairs_in (part_line part.now)) (λ n. (n ≡ count + pairs_in (part_line part.now)) × (n ≤ 20000000)) }
+    ensures { MatchOption result (20000000 < count + pairs_in (part_line part.now))
+        (λ n. (n ≡ count + pairs_in (part_line part.now)) × (n ≤ 20000000)) }
 {
     let own = count_in(part);
     if own > 20_000_000 - count {
@@ -70,7 +71,9 @@ fn add_pairs(count: u64, part: &Part) -> Option<u64>
 pub(crate) fn size_with(lines: u32, rest: u64, parts: &[Part]) -> Option<u64>
     requires lines { lines ≤ 1000000 }
     requires rest { rest ≤ 20000000 }
-    ensures { MatchOption result (HasRoom lines rest (part_lines parts.now) → ⊥) (λ n. HasRoom lines rest (part_lines parts.now) × (n ≡ rest + sum_by pairs_in (part_lines parts.now))) }
+    ensures { MatchOption result (HasRoom lines rest (part_lines parts.now) → ⊥)
+        (λ n. HasRoom lines rest (part_lines parts.now)
+        × (n ≡ rest + sum_by pairs_in (part_lines parts.now))) }
 {
     if parts.len() > 1_000_001 - lines as usize {
         return None;

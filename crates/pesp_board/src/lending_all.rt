@@ -51,7 +51,8 @@ pub(crate) fn open_nodes(
     best: &Option<Best>,
 ) -> Result<Vec<u32>, Memory>
     ensures opens { IfOk result (λ nodes. AreOpenNodes tree.now queue.now best.now nodes.items) }
-    ensures within { IfOk result (λ nodes. All (λ node. node < length tree.now.leaves) nodes.items) }
+    ensures within { IfOk result
+        (λ nodes. All (λ node. node < length tree.now.leaves) nodes.items) }
 {
     let leaves = tree.leaf_nodes(alloc)?;
     pick_open(alloc, queue, best, &leaves)
@@ -61,7 +62,8 @@ pub(crate) fn open_nodes(
 fn jobs_of(alloc: Global, tree: &WorkTree, nodes: &[u32], first: u64) -> Result<Vec<Job>, Memory>
     requires nodes { All (λ node. node < length tree.now.leaves) nodes.now }
     requires few { first + length nodes.now ≤ 1000000 }
-    ensures { IfOk result (λ jobs. AreNumbered first jobs.items (map (path_to tree.now) nodes.now)) }
+    ensures { IfOk result
+        (λ jobs. AreNumbered first jobs.items (map (path_to tree.now) nodes.now)) }
 {
     let mut jobs = Vec::new(alloc);
     let mut number = first;

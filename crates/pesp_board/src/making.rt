@@ -66,7 +66,8 @@ pub(crate) fn copy_of(alloc: Global, pairs: &[Pair]) -> Result<Pairs, Memory>
 /// The value of pairs at a node; None where they don't rise, break a limit or have no value there.
 pub(crate) fn judged(problem: &Problem, node: &Node, pairs: &[Pair], weighted: bool) -> Option<i128>
     requires { IsNodeOf problem.now node.now }
-    ensures { MatchOption result ((v : ℤ) → HaveValue problem.now node.now pairs.now weighted v → ⊥) (HaveValue problem.now node.now pairs.now weighted) }
+    ensures { MatchOption result ((v : ℤ) → HaveValue problem.now node.now pairs.now weighted v → ⊥)
+        (HaveValue problem.now node.now pairs.now weighted) }
 {
     if !are_pairs(pairs, problem.table().len()) {
         return None;
@@ -103,7 +104,8 @@ fn make_nothing(
     pairs: &Pairs,
 ) -> Result<Made, GiveRefusal>
     requires { IsNodeOf problem.now node.now }
-    ensures { (old : List Pair) → MakesOf problem.now node.now old (works.Nothing pairs.now) result }
+    ensures { (old : List Pair)
+        → MakesOf problem.now node.now old (works.Nothing pairs.now) result }
 {
     match judged(problem, node, pairs.as_slice(), false) {
         Some(value) if value > 0 => {
@@ -157,7 +159,8 @@ fn splits(range: &(i64, i64), k: &i64) -> bool
 /// Whether what a cut names exists, and both sides of the cut have a value of the range.
 pub(crate) fn leaves_both(problem: &Problem, node: &Node, cut: Cut) -> bool
     requires { IsNodeOf problem.now node.now }
-    ensures { IsTrue result ↔ (CutExists (net_of problem.now) problem.now.table cut × LeavesBoth node.now cut) }
+    ensures { IsTrue result
+        ↔ (CutExists (net_of problem.now) problem.now.table cut × LeavesBoth node.now cut) }
 {
     match cut {
         Cut::Slack { row, k } => {
@@ -180,9 +183,11 @@ pub(crate) fn leaves_both(problem: &Problem, node: &Node, cut: Cut) -> bool
 fn first_gap(problem: &Problem, node: &Node, pairs: &[Pair]) -> u32
     requires node { IsNodeOf problem.now node.now }
     requires pairs { ArePairs (length problem.now.table) pairs.now }
-    requires none { spec.leaf_value (net_of problem.now) problem.now.table node.now pairs.now true ≡ None }
+    requires none { spec.leaf_value (net_of problem.now) problem.now.table node.now pairs.now true
+        ≡ None }
     ensures uses { Uses pairs.now result }
-    ensures gap { IsNone (offsets_left (net_of problem.now) problem.now.table node.now (result - 1)) }
+    ensures gap { IsNone
+        (offsets_left (net_of problem.now) problem.now.table node.now (result - 1)) }
 {
     for pair in pairs {
         if offset_range(problem, node, pair.cycle).is_none() {
@@ -217,7 +222,8 @@ fn kept_part(
     requires node { IsNodeOf problem.now node }
     requires cut { IsCutOf node cut }
     requires pairs { ArePairs (length problem.now.table) pairs.now }
-    ensures keeps { IfOk result (λ kept. Keeps problem.now pairs.now (part node cut side) (leaf_of kept.leaf)) }
+    ensures keeps { IfOk result
+        (λ kept. Keeps problem.now pairs.now (part node cut side) (leaf_of kept.leaf)) }
     ensures valued { IfOk result (IsValued problem.now (part node cut side)) }
 {
     let mut at = node;

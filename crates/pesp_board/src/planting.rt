@@ -49,7 +49,8 @@ fn plant_cut(tree: &mut WorkTree, waiting: &mut Vec<u32>, node: u32, cut: Cut)
     requires memory { vec_len waiting.old + 2 ≤ vec_capacity waiting.old }
     ensures tree { tree.new ≡ with_branch tree.old node cut blank blank }
     ensures whole { IsWhole tree.new }
-    ensures nodes { waiting.new.items ≡ (waiting.old.items ++ (length tree.old.leaves + 1) ∷ []) ++ length tree.old.leaves ∷ [] }
+    ensures nodes { waiting.new.items
+        ≡ (waiting.old.items ++ (length tree.old.leaves + 1) ∷ []) ++ length tree.old.leaves ∷ [] }
     ensures memory { vec_capacity waiting.old ≤ vec_capacity waiting.new }
 {
     let first = tree.nodes();
@@ -68,9 +69,11 @@ fn plant_part(tree: &mut WorkTree, queue: &mut Queue, waiting: &mut Vec<u32>, no
     requires fresh { ¬ HasItem (all_of queue.old) node }
     ensures tree { tree.new ≡ with_part tree.old node part }
     ensures whole { IsWhole tree.new }
-    ensures nodes { reverse waiting.new.items ≡ next (length tree.old.leaves) part (reverse waiting.old.items) }
+    ensures nodes { reverse waiting.new.items
+        ≡ next (length tree.old.leaves) part (reverse waiting.old.items) }
     ensures memory { vec_capacity waiting.old ≤ vec_capacity waiting.new }
-    ensures waiting { IsPermutation (waits node (part_value part) ++ queue.old.waiting) queue.new.waiting }
+    ensures waiting { IsPermutation (waits node (part_value part) ++ queue.old.waiting)
+        queue.new.waiting }
     ensures parked { IsPermutation queue.old.parked queue.new.parked }
     ensures room { KeepsRoom queue.old queue.new }
 {
@@ -94,7 +97,8 @@ pub(crate) fn plant(
     requires memory { length parts.items + 1 ≤ vec_capacity waiting.old }
     ensures tree { tree.new ≡ grown tree.old (reverse waiting.old.items) (reverse parts.items) }
     ensures whole { IsWhole tree.new }
-    ensures waiting { IsPermutation (news tree.old (reverse waiting.old.items) (reverse parts.items) ++ queue.old.waiting) queue.new.waiting }
+    ensures waiting { IsPermutation (news tree.old (reverse waiting.old.items) (reverse parts.items)
+        ++ queue.old.waiting) queue.new.waiting }
     ensures parked { IsPermutation queue.old.parked queue.new.parked }
 {
     let mut left = parts;
@@ -125,8 +129,10 @@ pub(crate) fn take(
     requires shape { are_trees 1 (part_lines parts.items) ≡ true }
     requires room { length tree.old.leaves + length parts.items ≤ 1000001 }
     requires parked { HasItem queue.old.parked node }
-    requires beyond { (item : ℕ) → length tree.old.leaves ≤ item → ¬ HasItem (all_of queue.old) item }
-    ensures planted { OnOk result (IsPlanted tree.old queue.old node parts.items tree.new queue.new) }
+    requires beyond { (item : ℕ) → length tree.old.leaves ≤ item
+        → ¬ HasItem (all_of queue.old) item }
+    ensures planted { OnOk result
+        (IsPlanted tree.old queue.old node parts.items tree.new queue.new) }
     ensures whole { IsWhole tree.new }
     ensures same_tree { OnErr result (tree.new ≡ tree.old) }
     ensures same_queue { OnErr result (IsSameQueue queue.old queue.new) }

@@ -17,7 +17,9 @@ use std::alloc::Global;
 // the first cycle that has no offset left
 fn first_gap(problem: &Problem, node: &Node) -> Option<u32>
     requires { IsNodeOf problem.now node.now }
-    ensures { MatchOption result (HasNoGap problem.now node.now) (λ cycle. Names (length problem.now.table) cycle × IsGapAt problem.now node.now (cycle - 1)) }
+    ensures { MatchOption result (HasNoGap problem.now node.now)
+        (λ cycle. Names (length problem.now.table) cycle
+        × IsGapAt problem.now node.now (cycle - 1)) }
 {
     for place in 0..problem.table().len() {
         let cycle = place as u32 + 1;
@@ -32,7 +34,8 @@ fn first_gap(problem: &Problem, node: &Node) -> Option<u32>
 fn judged(problem: &Problem, node: &Node, pairs: &[Pair], weighted: bool) -> Option<i128>
     requires { IsNodeOf problem.now node.now }
     ensures pairs { IfSome result (λ _. ArePairs (length problem.now.table) pairs.now) }
-    ensures value { IfSome result (λ v. spec.leaf_value (net_of problem.now) problem.now.table node.now pairs.now weighted ≡ Some v) }
+    ensures value { IfSome result (λ v. spec.leaf_value (net_of problem.now) problem.now.table
+        node.now pairs.now weighted ≡ Some v) }
 {
     if !are_pairs(pairs, problem.table().len()) {
         return None;
@@ -49,7 +52,8 @@ struct Best {
 
 // the pairs of the greater value, the ones kept where equal or where the others have none
 fn better(best: Best, pairs: Vec<Pair>, value: Option<i128>) -> Best
-    ensures which { ((result.pairs.items ≡ best.pairs.items) × (result.value ≡ best.value)) ⊎ ((result.pairs.items ≡ pairs.items) × (value ≡ Some result.value)) }
+    ensures which { ((result.pairs.items ≡ best.pairs.items) × (result.value ≡ best.value))
+        ⊎ ((result.pairs.items ≡ pairs.items) × (value ≡ Some result.value)) }
     ensures no_less { best.value ≤ℤ result.value }
     ensures value { IfSome value (λ v. v ≤ℤ result.value) }
 {
@@ -63,7 +67,8 @@ fn better(best: Best, pairs: Vec<Pair>, value: Option<i128>) -> Best
 fn no_pairs(alloc: Global, problem: &Problem, node: &Node) -> Best
     requires { IsNodeOf problem.now node.now }
     ensures pairs { result.pairs.items ≡ [] }
-    ensures value { spec.leaf_value (net_of problem.now) problem.now.table node.now [] true ≡ Some result.value }
+    ensures value { spec.leaf_value (net_of problem.now) problem.now.table node.now [] true
+        ≡ Some result.value }
 {
     match leaf_value(problem, node, &[], true) {
         Some(value) => Best {
@@ -94,7 +99,9 @@ fn closing_proof(
 ) -> Result<Option<Vec<Pair>>, Memory>
     requires { IsNodeOf problem.now node.now }
     ensures pairs { IfOk result (λ o. IfSome o (λ v. ArePairs (length problem.now.table) v.items)) }
-    ensures value { IfOk result (λ o. IfSome o (λ v. IsSomeAnd (spec.leaf_value (net_of problem.now) problem.now.table node.now v.items false) (λ z. pos 0 <ℤ z))) }
+    ensures value { IfOk result (λ o. IfSome o
+        (λ v. IsSomeAnd (spec.leaf_value (net_of problem.now) problem.now.table node.now v.items
+        false) (λ z. pos 0 <ℤ z))) }
     ensures decided { IfOk result (λ o. IsDecided problem.now node.now → IsSome o) }
 {
     let Some(pairs) = closing_pairs(alloc, problem, node, levels)? else {
@@ -115,7 +122,9 @@ fn proposed_proof(
 ) -> Result<Option<Vec<Pair>>, Memory>
     requires { IsNodeOf problem.now node.now }
     ensures pairs { IfOk result (λ o. IfSome o (λ v. ArePairs (length problem.now.table) v.items)) }
-    ensures value { IfOk result (λ o. IfSome o (λ v. IsSomeAnd (spec.leaf_value (net_of problem.now) problem.now.table node.now v.items false) (λ z. pos 0 <ℤ z))) }
+    ensures value { IfOk result (λ o. IfSome o
+        (λ v. IsSomeAnd (spec.leaf_value (net_of problem.now) problem.now.table node.now v.items
+        false) (λ z. pos 0 <ℤ z))) }
 {
     let found = propose(alloc, problem, node, &[], false, rounds)?;
     match judged(problem, node, &found.pairs, false) {
@@ -134,7 +143,9 @@ fn proof_of_nothing(
 ) -> Result<Option<Vec<Pair>>, Memory>
     requires { IsNodeOf problem.now node.now }
     ensures pairs { IfOk result (λ o. IfSome o (λ v. ArePairs (length problem.now.table) v.items)) }
-    ensures value { IfOk result (λ o. IfSome o (λ v. IsSomeAnd (spec.leaf_value (net_of problem.now) problem.now.table node.now v.items false) (λ z. pos 0 <ℤ z))) }
+    ensures value { IfOk result (λ o. IfSome o
+        (λ v. IsSomeAnd (spec.leaf_value (net_of problem.now) problem.now.table node.now v.items
+        false) (λ z. pos 0 <ℤ z))) }
     ensures decided { IfOk result (λ o. IsDecided problem.now node.now → IsSome o) }
 {
     let closing = closing_proof(alloc, problem, node, levels)?;
@@ -148,7 +159,9 @@ fn proof_of_nothing(
 fn is_endless(problem: &Problem, node: &Node, found: &Proposal) -> bool
     requires { IsNodeOf problem.now node.now }
     ensures pairs { IsTrue result → ArePairs (length problem.now.table) found.now.pairs.items }
-    ensures value { IsTrue result → IsSomeAnd (spec.leaf_value (net_of problem.now) problem.now.table node.now found.now.pairs.items false) (λ z. pos 0 <ℤ z) }
+    ensures value { IsTrue result → IsSomeAnd
+        (spec.leaf_value (net_of problem.now) problem.now.table node.now found.now.pairs.items
+        false) (λ z. pos 0 <ℤ z) }
 {
     if !found.endless {
         return false;
@@ -170,9 +183,12 @@ fn best_pairs(
     requires node { IsNodeOf problem.now node.now }
     requires start { ArePairs (length problem.now.table) start.now }
     ensures pairs { IfOk result (λ b. ArePairs (length problem.now.table) b.pairs.items) }
-    ensures value { IfOk result (λ b. spec.leaf_value (net_of problem.now) problem.now.table node.now b.pairs.items true ≡ Some b.value) }
-    ensures none { IfOk result (λ b. IfSome (spec.leaf_value (net_of problem.now) problem.now.table node.now [] true) (λ v. v ≤ℤ b.value)) }
-    ensures start { IfOk result (λ b. IfSome (spec.leaf_value (net_of problem.now) problem.now.table node.now start.now true) (λ v. v ≤ℤ b.value)) }
+    ensures value { IfOk result (λ b. spec.leaf_value (net_of problem.now) problem.now.table
+        node.now b.pairs.items true ≡ Some b.value) }
+    ensures none { IfOk result (λ b. IfSome (spec.leaf_value (net_of problem.now) problem.now.table
+        node.now [] true) (λ v. v ≤ℤ b.value)) }
+    ensures start { IfOk result (λ b. IfSome (spec.leaf_value (net_of problem.now) problem.now.table
+        node.now start.now true) (λ v. v ≤ℤ b.value)) }
 {
     let none = no_pairs(alloc, problem, node);
     let kept = start.to_vec(alloc)?;

@@ -26,7 +26,9 @@ struct System {
 // the system of differences of a node; None where some cycle has no offset left
 fn system_of(alloc: Global, problem: &Problem, node: &Node) -> Result<Option<System>, AllocError>
     requires { IsNodeOf problem.now node.now }
-    ensures system { IfOk result (λ o. IfSome o (λ s. IsSystem (net_of problem.now) problem.now.table node.now s.rows.items s.edges.items)) }
+    ensures system { IfOk result (λ o. IfSome o
+        (λ s. IsSystem (net_of problem.now) problem.now.table node.now s.rows.items
+        s.edges.items)) }
     ensures found { HasNoGap problem.now node.now → IfOk result (λ o. IsSome o) }
 {
     let Some(shifts) = shifts_of(alloc, problem, node)? else {
@@ -48,7 +50,8 @@ fn closing_way(
 ) -> Result<Option<Vec<usize>>, AllocError>
     requires within { AreWithin events 10300001030000 edges.now }
     requires few { events ≤ 100000 }
-    ensures { IfOk result (λ o. MatchOption o ((h : ℕ → ℕ) × AreSettled edges.now h) (λ way. GainsForEver edges.now way.items × (length way.items ≤ 100000))) }
+    ensures { IfOk result (λ o. MatchOption o ((h : ℕ → ℕ) × AreSettled edges.now h)
+        (λ way. GainsForEver edges.now way.items × (length way.items ≤ 100000))) }
 {
     if are_settled(edges, levels) {
         return Ok(None);
@@ -69,7 +72,9 @@ pub fn closing_pairs(
 ) -> Result<Option<Vec<Pair>>, AllocError>
     requires { IsNodeOf problem.now node.now }
     ensures pairs { IfOk result (λ o. IfSome o (λ v. ArePairs (length problem.now.table) v.items)) }
-    ensures decided { IfOk result (λ o. IsDecided problem.now node.now → IsSomeAnd o (λ v. IsSomeAnd (spec.leaf_value (net_of problem.now) problem.now.table node.now v.items false) (λ z. pos 0 <ℤ z))) }
+    ensures decided { IfOk result (λ o. IsDecided problem.now node.now
+        → IsSomeAnd o (λ v. IsSomeAnd (spec.leaf_value (net_of problem.now) problem.now.table
+        node.now v.items false) (λ z. pos 0 <ℤ z))) }
 {
     let network = problem.network();
     let count = network.rows().len();

@@ -103,7 +103,8 @@ fn edge_along(
     requires shifts { All (λ s. IsSmallOffset period s.0 × IsSmallOffset period s.1) shifts.now }
     requires shifts_long { length shifts.now ≡ length arcs.now }
     requires exists { Names (length arcs.now) s.row }
-    ensures { IsDemand (record { period = period; arcs = arcs.now }) slacks.now shifts.now s result }
+    ensures { IsDemand (record { period = period; arcs = arcs.now }) slacks.now shifts.now s
+        result }
 {
     let place = s.row as usize - 1;
     let arc = &arcs[place];
@@ -130,7 +131,8 @@ pub fn edges_along(
     requires shifts { All (λ s. IsSmallOffset period s.0 × IsSmallOffset period s.1) shifts.now }
     requires shifts_long { length shifts.now ≡ length arcs.now }
     requires exist { All (λ s. Names (length arcs.now) s.row) rows.now }
-    ensures { IfOk result (λ v. AreDemands (record { period = period; arcs = arcs.now }) slacks.now shifts.now rows.now v.items) }
+    ensures { IfOk result (λ v. AreDemands (record { period = period; arcs = arcs.now }) slacks.now
+        shifts.now rows.now v.items) }
 {
     let mut edges = Vec::new(alloc);
     for k in 0..rows.len() {

@@ -28,8 +28,12 @@ pub fn shifts_of(
 ) -> Result<Option<Vec<(i64, i64)>>, AllocError>
     requires { IsNodeOf problem.now node.now }
     ensures long { IfOk result (λ o. IfSome o (λ v. vec_len v ≡ length problem.now.network.rows)) }
-    ensures shifts { IfOk result (λ o. IfSome o (λ v. AreShifts (net_of problem.now) problem.now.table node.now (length problem.now.table) v.items)) }
-    ensures small { IfOk result (λ o. IfSome o (λ v. All (λ s. IsSmallOffset problem.now.network.period s.0 × IsSmallOffset problem.now.network.period s.1) v.items)) }
+    ensures shifts { IfOk result (λ o. IfSome o
+        (λ v. AreShifts (net_of problem.now) problem.now.table node.now (length problem.now.table)
+        v.items)) }
+    ensures small { IfOk result (λ o. IfSome o
+        (λ v. All (λ s. IsSmallOffset problem.now.network.period s.0
+        × IsSmallOffset problem.now.network.period s.1) v.items)) }
     ensures found { HasNoGap problem.now node.now → IfOk result (λ o. IsSome o) }
 {
     let table = problem.table();

@@ -38,7 +38,8 @@ pub fn flows_along(
     requires places { All (λ k. k < length rows.now) way.now }
     requires short { length way.now ≤ 100000 }
     ensures long { IfOk result (λ v. vec_len v ≡ count) }
-    ensures flows { IfOk result (λ v. (i : ℕ) → i < count → slice_index_or v.items i (pos 0) ≡ net_count (walk_along rows.now way.now) i) }
+    ensures flows { IfOk result (λ v. (i : ℕ) → i < count
+        → slice_index_or v.items i (pos 0) ≡ net_count (walk_along rows.now way.now) i) }
 {
     let walk = walk_along(alloc, rows, way)?;
     let mut flows = vec![in alloc; 0i64; count]?;
@@ -67,7 +68,8 @@ pub fn pairs_of(alloc: Global, table: &[Walk], flows: &[i64]) -> Result<Vec<Pair
     requires own { All (λ walk. Names (length flows.now) (own_row walk)) table.now }
     requires small { All (λ z. unsigned_abs z ≤ 1000000000000) flows.now }
     ensures pairs { IfOk result (λ v. ArePairs (length table.now) v.items) }
-    ensures mults { IfOk result (λ v. AreMultipliers (length table.now) (own_flow table.now (λ i. slice_index_or flows.now i (pos 0))) v.items) }
+    ensures mults { IfOk result (λ v. AreMultipliers (length table.now)
+        (own_flow table.now (λ i. slice_index_or flows.now i (pos 0))) v.items) }
 {
     let mut pairs = Vec::new(alloc);
     for c in 0..table.len() {

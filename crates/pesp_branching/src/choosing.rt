@@ -29,8 +29,10 @@ fn offset_to_cut(offsets: &[(i64, i64)]) -> Option<(u32, i64)>
     requires { length offsets.now ≤ 100000 }
     ensures exists { IfSome result (λ cut. Names (length offsets.now) cut.0) }
     ensures low { IfSome result (λ cut. (offset_range offsets.now (cut.0 - 1)).0 ≤ℤ cut.1) }
-    ensures high { IfSome result (λ cut. (cut.1 +ℤ pos 1) ≤ℤ (offset_range offsets.now (cut.0 - 1)).1) }
-    ensures none { IfNone result ((c : ℕ) → c < length offsets.now → (offset_range offsets.now c).1 ≤ℤ (offset_range offsets.now c).0) }
+    ensures high { IfSome result
+        (λ cut. (cut.1 +ℤ pos 1) ≤ℤ (offset_range offsets.now (cut.0 - 1)).1) }
+    ensures none { IfNone result ((c : ℕ) → c < length offsets.now
+        → (offset_range offsets.now c).1 ≤ℤ (offset_range offsets.now c).0) }
 {
     for place in 0..offsets.len() {
         let range = offsets[place];
@@ -49,7 +51,9 @@ fn slack_to_cut(slacks: &[(u32, u32)], passed: &[bool]) -> Option<(u32, u32)>
     ensures counts { IfSome result (λ cut. slice_index_or passed.now (cut.0 - 1) false ≡ true) }
     ensures low { IfSome result (λ cut. (slack_range slacks.now (cut.0 - 1)).0 ≤ cut.1) }
     ensures high { IfSome result (λ cut. cut.1 + 1 ≤ (slack_range slacks.now (cut.0 - 1)).1) }
-    ensures none { IfNone result ((i : ℕ) → i < length slacks.now → slice_index_or passed.now i false ≡ true → (slack_range slacks.now i).1 ≤ (slack_range slacks.now i).0) }
+    ensures none { IfNone result ((i : ℕ) → i < length slacks.now
+        → slice_index_or passed.now i false ≡ true
+        → (slack_range slacks.now i).1 ≤ (slack_range slacks.now i).0) }
 {
     for place in 0..slacks.len() {
         let range = slacks[place];
@@ -76,9 +80,11 @@ fn leaves_both(offsets: &[(i64, i64)], cycle: u32, k: i64) -> bool
 // a cut that is proposed, where it leaves both sides a value
 fn proposed_cut(problem: &Problem, node: &Node, split: Split) -> Option<Choice>
     requires { IsNodeOf problem.now node.now }
-    ensures exists { IfSome result (λ choice. CutExists (net_of problem.now) problem.now.table choice.cut) }
+    ensures exists { IfSome result
+        (λ choice. CutExists (net_of problem.now) problem.now.table choice.cut) }
     ensures both { IfSome result (λ choice. LeavesBoth node.now choice.cut) }
-    ensures counted { IfSome result (λ choice. IsCounted (net_of problem.now) problem.now.table choice.cut) }
+    ensures counted { IfSome result
+        (λ choice. IsCounted (net_of problem.now) problem.now.table choice.cut) }
 {
     let _few = problem.arcs();
     let Split {
@@ -122,9 +128,11 @@ fn narrowing_cut(
 ) -> Option<Choice>
     requires node { IsNodeOf problem.now node.now }
     requires passed { ArePassedRows problem.now passed.now }
-    ensures exists { IfSome result (λ choice. CutExists (net_of problem.now) problem.now.table choice.cut) }
+    ensures exists { IfSome result
+        (λ choice. CutExists (net_of problem.now) problem.now.table choice.cut) }
     ensures both { IfSome result (λ choice. LeavesBoth node.now choice.cut) }
-    ensures counted { IfSome result (λ choice. IsCounted (net_of problem.now) problem.now.table choice.cut) }
+    ensures counted { IfSome result
+        (λ choice. IsCounted (net_of problem.now) problem.now.table choice.cut) }
 {
     let _few = problem.arcs();
     let Narrowing { row, k } = narrowing;
@@ -142,9 +150,11 @@ fn narrowing_cut(
 fn chosen_cut(problem: &Problem, node: &Node, passed: &[bool], proposal: Proposal) -> Option<Choice>
     requires node { IsNodeOf problem.now node.now }
     requires passed { ArePassedRows problem.now passed.now }
-    ensures exists { IfSome result (λ choice. CutExists (net_of problem.now) problem.now.table choice.cut) }
+    ensures exists { IfSome result
+        (λ choice. CutExists (net_of problem.now) problem.now.table choice.cut) }
     ensures both { IfSome result (λ choice. LeavesBoth node.now choice.cut) }
-    ensures counted { IfSome result (λ choice. IsCounted (net_of problem.now) problem.now.table choice.cut) }
+    ensures counted { IfSome result
+        (λ choice. IsCounted (net_of problem.now) problem.now.table choice.cut) }
 {
     match proposal {
         Proposal::Split(split) => proposed_cut(problem, node, split),
@@ -179,9 +189,11 @@ pub fn choose(
 ) -> Option<Choice>
     requires node { IsNodeOf problem.now node.now }
     requires passed { ArePassedRows problem.now passed.now }
-    ensures exists { IfSome result (λ choice. CutExists (net_of problem.now) problem.now.table choice.cut) }
+    ensures exists { IfSome result
+        (λ choice. CutExists (net_of problem.now) problem.now.table choice.cut) }
     ensures both { IfSome result (λ choice. LeavesBoth node.now choice.cut) }
-    ensures counted { IfSome result (λ choice. IsCounted (net_of problem.now) problem.now.table choice.cut) }
+    ensures counted { IfSome result
+        (λ choice. IsCounted (net_of problem.now) problem.now.table choice.cut) }
     ensures none { IfNone result (IsSettled (net_of problem.now) problem.now.table node.now) }
 {
     if let Some(proposal) = proposal {

@@ -15,7 +15,8 @@ use pesp_strategy::Part;
 /// The first cycle that has no offset left.
 pub fn gap_at(problem: &Problem, node: &Node) -> Option<u32>
     requires { IsNodeOf problem.now node.now }
-    ensures { MatchOption result (HaveOffsetsLeft (net_of problem.now) problem.now.table node.now) (λ cycle. IsSoundLeaf (net_of problem.now) problem.now.table None (Gap cycle) node.now) }
+    ensures { MatchOption result (HaveOffsetsLeft (net_of problem.now) problem.now.table node.now)
+        (λ cycle. IsSoundLeaf (net_of problem.now) problem.now.table None (Gap cycle) node.now) }
 {
     let _few = problem.arcs();
     for place in 0..problem.table().len() {
@@ -31,7 +32,8 @@ pub fn gap_at(problem: &Problem, node: &Node) -> Option<u32>
 fn shows_nothing(problem: &Problem, node: &Node, pairs: &[Pair]) -> bool
     requires node { IsNodeOf problem.now node.now }
     requires pairs { ArePairs (length problem.now.table) pairs.now }
-    ensures { IsTrue result → IsSomeAnd (spec.leaf_value (net_of problem.now) problem.now.table node.now pairs.now false) (λ v. pos 0 <ℤ v) }
+    ensures { IsTrue result → IsSomeAnd (spec.leaf_value (net_of problem.now) problem.now.table
+        node.now pairs.now false) (λ v. pos 0 <ℤ v) }
 {
     match leaf_value(problem, node, pairs, false) {
         Some(value) => value > 0,
@@ -44,8 +46,11 @@ fn value_from(problem: &Problem, node: &Node, start: &[Pair], pairs: &[Pair]) ->
     requires node { IsNodeOf problem.now node.now }
     requires start { ArePairs (length problem.now.table) start.now }
     requires pairs { ArePairs (length problem.now.table) pairs.now }
-    ensures value { IfSome result (λ v. spec.leaf_value (net_of problem.now) problem.now.table node.now pairs.now true ≡ Some v) }
-    ensures start { IfSome result (λ v. IfSome (spec.leaf_value (net_of problem.now) problem.now.table node.now start.now true) (λ w. w ≤ℤ v)) }
+    ensures value { IfSome result (λ v. spec.leaf_value (net_of problem.now) problem.now.table
+        node.now pairs.now true ≡ Some v) }
+    ensures start { IfSome result (λ v. IfSome
+        (spec.leaf_value (net_of problem.now) problem.now.table node.now start.now true)
+        (λ w. w ≤ℤ v)) }
 {
     let value = leaf_value(problem, node, pairs, true)?;
     match leaf_value(problem, node, start, true) {

@@ -27,7 +27,8 @@ fn offer(board: &mut Board, times: Vec<u32>)
     ensures problem { board.new.problem ≡ board.old.problem }
     ensures tree { board.new.state.tree ≡ board.old.state.tree }
     ensures numbers { length board.new.state.numbers ≡ length board.old.state.numbers }
-    ensures worked { (used : ℕ) → IsWorked board.old.problem used board.old.state → IsWorked board.old.problem used board.new.state }
+    ensures worked { (used : ℕ) → IsWorked board.old.problem used board.old.state
+        → IsWorked board.old.problem used board.new.state }
 {
     times_are_offered();
     limits(board.problem());
@@ -41,7 +42,8 @@ fn improved(
     times: &[u32],
     rounds: u32,
 ) -> Result<Option<Vec<u32>>, Memory>
-    ensures { IfOk result (λ found. IfSome found (λ better. IsNetTimetable (net_of_network network.now) network.now.events better.items)) }
+    ensures { IfOk result (λ found. IfSome found
+        (λ better. IsNetTimetable (net_of_network network.now) network.now.events better.items)) }
 {
     match improve(alloc, network, times, rounds) {
         Ok(Improved { times, .. }) => Ok(Some(times)),
@@ -52,7 +54,8 @@ fn improved(
 
 // a timetable of a network that a dive finds and improvements make cheaper; None says nothing
 fn found_times(alloc: Global, network: &Network, prices: &[i64]) -> Result<Option<Vec<u32>>, Memory>
-    ensures { IfOk result (λ found. IfSome found (λ times. IsNetTimetable (net_of_network network.now) network.now.events times.items)) }
+    ensures { IfOk result (λ found. IfSome found
+        (λ times. IsNetTimetable (net_of_network network.now) network.now.events times.items)) }
 {
     let rows = network.rows().len();
     let Some(times) = dive(alloc, network, tries_for(rows))? else {
@@ -72,7 +75,8 @@ pub fn offer_times(
 ) -> Result<(), Memory>
     ensures problem { board.new.problem ≡ board.old.problem }
     ensures tree { board.new.state.tree ≡ board.old.state.tree }
-    ensures worked { (used : ℕ) → IsWorked board.old.problem used board.old.state → IsWorked board.old.problem used board.new.state }
+    ensures worked { (used : ℕ) → IsWorked board.old.problem used board.old.state
+        → IsWorked board.old.problem used board.new.state }
 {
     let events = board.problem().network().events() as usize;
     let zeros = vec![in alloc; 0u32; events]?;
@@ -94,7 +98,8 @@ pub fn offer_met(
     ensures problem { board.new.problem ≡ board.old.problem }
     ensures tree { board.new.state.tree ≡ board.old.state.tree }
     ensures numbers { length board.new.state.numbers ≡ length board.old.state.numbers }
-    ensures worked { (used : ℕ) → IsWorked board.old.problem used board.old.state → IsWorked board.old.problem used board.new.state }
+    ensures worked { (used : ℕ) → IsWorked board.old.problem used board.old.state
+        → IsWorked board.old.problem used board.new.state }
 {
     let Some(Met { times, rounds }) = met else {
         return Ok(());

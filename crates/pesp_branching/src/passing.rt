@@ -13,7 +13,8 @@ use std::alloc::Global;
 fn mark(passed: &mut [bool], rows: &[SignedRow])
     requires { All (λ s. Names (length passed.old) s.row) rows.now }
     ensures long { length passed.new ≡ length passed.old }
-    ensures each { (i : ℕ) → i < length passed.old → slice_index_or passed.new i false ≡ (slice_index_or passed.old i false || list_any (λ s. s.row == i + 1) rows.now) }
+    ensures each { (i : ℕ) → i < length passed.old → slice_index_or passed.new i false
+        ≡ (slice_index_or passed.old i false || list_any (λ s. s.row == i + 1) rows.now) }
 {
     for s in rows {
         passed[s.row as usize - 1] = true;

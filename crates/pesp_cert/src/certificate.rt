@@ -51,10 +51,26 @@ impl Certificate {
         tree: Vec<TreeLine>,
     ) -> Result<Certificate, NotACertificate>
         // It holds the parts.
-        ensures parts { IfOk result (λ c. c ≡ record { version = version; period = period; answer = answer; times = times.items; cycles = cycles.items; tree = tree.items }) }
+        ensures parts { IfOk result (λ c. c ≡ record {
+          version = version;
+          period = period;
+          answer = answer;
+          times = times.items;
+          cycles
+              = cycles.items;
+          tree = tree.items;
+        }) }
         ensures text { IfOk result HasText }
         // It is refused only where the parts have no text.
-        ensures refused { OnErr result (¬ HasText (record { version = version; period = period; answer = answer; times = times.items; cycles = cycles.items; tree = tree.items })) }
+        ensures refused { OnErr result (¬ HasText
+            (record {
+              version = version;
+              period = period;
+              answer = answer;
+              times = times.items;
+              cycles = cycles.items;
+              tree = tree.items;
+            })) }
     {
         if keep_limits(version, period, answer, &times, &cycles, &tree) {
             Ok(Certificate {

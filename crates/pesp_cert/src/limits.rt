@@ -243,7 +243,14 @@ pub(crate) fn keep_limits(
     cycles: &[Walk],
     tree: &[TreeLine],
 ) -> bool
-    ensures { result ≡ keeps_limits (record { version = version; period = period; answer = answer; times = times.now; cycles = cycles.now; tree = tree.now }) }
+    ensures { result ≡ keeps_limits (record {
+      version = version;
+      period = period;
+      answer = answer;
+      times = times.now;
+      cycles = cycles.now;
+      tree = tree.now;
+    }) }
 {
     is_period(period)
         && has_costs(answer)

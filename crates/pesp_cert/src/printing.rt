@@ -127,7 +127,8 @@ fn print_cycles<O: Output>(cycles: &[Walk], out: &mut O)
 }
 
 fn print_leaf<O: Output>(word: &str, pairs: &[Pair], out: &mut O)
-    ensures { Sends (O.sending out.old) (O.sending out.new) (word.now ++ pairs_text pairs.now ++ codes "\n") }
+    ensures { Sends (O.sending out.old) (O.sending out.new)
+        (word.now ++ pairs_text pairs.now ++ codes "\n") }
 {
     word.print(out);
     print_pairs(pairs, out);
@@ -209,10 +210,13 @@ pub fn print<W: Sink>(certificate: &Certificate, sink: &mut W) -> Result<(), Wri
     requires failed_fits { W.failed sink.old < 2 ^ 63 }
     requires interrupted_fits { W.interrupted sink.old < 2 ^ 63 }
     ensures has_text { HasText certificate.now }
-    ensures text { Writes (W.contents sink.old) (W.contents sink.new) (spelling certificate.now) result }
-    ensures counts { OnOk result ((W.failed sink.new ≡ W.failed sink.old) × (W.interrupted sink.new ≤ W.interrupted sink.old + 1000)) }
+    ensures text { Writes (W.contents sink.old) (W.contents sink.new) (spelling certificate.now)
+        result }
+    ensures counts { OnOk result ((W.failed sink.new ≡ W.failed sink.old)
+        × (W.interrupted sink.new ≤ W.interrupted sink.old + 1000)) }
     // The device is blamed only where it failed.
-    ensures fault { OnErr result (DeviceFailed (W.failed sink.old) (W.interrupted sink.old) (W.failed sink.new) (W.interrupted sink.new)) }
+    ensures fault { OnErr result (DeviceFailed (W.failed sink.old) (W.interrupted sink.old)
+        (W.failed sink.new) (W.interrupted sink.new)) }
 {
     has_text(certificate);
     print_to(sink, certificate)

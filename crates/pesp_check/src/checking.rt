@@ -55,8 +55,13 @@ fn tree_fault(
     requires long { length working.old ≡ length instance.now.rows }
     requires zeros { AreZeros working.old }
     ensures { IfOk result (λ found. MatchOption found
-        (AreSound (net_of instance.now) certificate.now.cycles (spec.least_of certificate.now.answer) (lines_of certificate.now) (nodes.root (net_of instance.now) certificate.now.cycles ∷ []))
-        (λ refusal. IsLinesFault (net_of instance.now) certificate.now.cycles (spec.least_of certificate.now.answer) (lines_of certificate.now) (nodes.root (net_of instance.now) certificate.now.cycles ∷ []) (first_tree_line certificate.now) refusal)) }
+        (AreSound (net_of instance.now) certificate.now.cycles
+        (spec.least_of certificate.now.answer) (lines_of certificate.now)
+        (nodes.root (net_of instance.now) certificate.now.cycles ∷ []))
+        (λ refusal. IsLinesFault (net_of instance.now) certificate.now.cycles
+        (spec.least_of certificate.now.answer) (lines_of certificate.now)
+        (nodes.root (net_of instance.now) certificate.now.cycles ∷ [])
+        (first_tree_line certificate.now) refusal)) }
 {
     let first = 4 + certificate.times().len() as u64 + certificate.cycles().len() as u64;
     let least = least_of(certificate.answer());
@@ -70,7 +75,8 @@ fn first_fault(
     instance: &Instance,
     certificate: &Certificate,
 ) -> Result<Option<Refusal>, AllocError>
-    ensures found { IfOk result (λ found. MatchOption found (IsValid instance.now certificate.now) (λ refusal. IsFirstFault instance.now certificate.now refusal)) }
+    ensures found { IfOk result (λ found. MatchOption found (IsValid instance.now certificate.now)
+        (λ refusal. IsFirstFault instance.now certificate.now refusal)) }
     ensures limits { KeepsLimits instance.now }
 {
     if certificate.period() != instance.period() {
@@ -102,8 +108,10 @@ pub fn check(
     certificate: &Certificate,
 ) -> Result<Verdict, Memory>
     ensures verdict { IfOk result (λ verdict. IsVerdict instance.now certificate.now verdict) }
-    ensures exactly { IfOk result (λ verdict. (verdict ≡ Verdict.Accepted) ↔ IsValid instance.now certificate.now) }
-    ensures truth { result ≡ Ok Verdict.Accepted → IsTrueAnswer instance.now certificate.now.answer (shown_times certificate.now) }
+    ensures exactly { IfOk result
+        (λ verdict. (verdict ≡ Verdict.Accepted) ↔ IsValid instance.now certificate.now) }
+    ensures truth { result ≡ Ok Verdict.Accepted
+        → IsTrueAnswer instance.now certificate.now.answer (shown_times certificate.now) }
 {
     valid_is_true();
     match first_fault(alloc, instance, certificate)? {

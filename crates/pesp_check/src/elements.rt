@@ -10,7 +10,8 @@ pub trait Elements<T>: Copy {
 
     /// The next element; None behind the last one.
     fn take_next(&mut self) -> Option<T>
-        ensures { MatchOption result (elements self.old ≡ []) (λ x. elements self.old ≡ x ∷ elements self.new) };
+        ensures { MatchOption result (elements self.old ≡ [])
+            (λ x. elements self.old ≡ x ∷ elements self.new) };
 }
 
 impl<T: Copy> Elements<T> for &[T] {

@@ -30,8 +30,10 @@ fn add_flow(flows: &mut [i128], counts: &[NetCount], mult: i64)
     requires counts { AreSmallCounts (length flows.old) counts.now }
     requires mult { unsigned_abs mult ≤ 1000000000000 }
     requires small { AreSmallFlows flows.old }
-    ensures sum { (i : ℕ) → i < length flows.old → number_at flows.new i ≡ number_at flows.old i +ℤ mult *ℤ count_of counts.now i }
-    ensures size { (i : ℕ) → i < length flows.old → unsigned_abs (number_at flows.new i) ≤ unsigned_abs (number_at flows.old i) + 10 ^ 19 }
+    ensures sum { (i : ℕ) → i < length flows.old
+        → number_at flows.new i ≡ number_at flows.old i +ℤ mult *ℤ count_of counts.now i }
+    ensures size { (i : ℕ) → i < length flows.old
+        → unsigned_abs (number_at flows.new i) ≤ unsigned_abs (number_at flows.old i) + 10 ^ 19 }
 {
     for net in counts {
         let at = net.place as usize;
@@ -47,7 +49,8 @@ pub fn add_flows<P: Elements<Pair>>(flows: &mut [i128], table: &[Nets], pairs: P
     requires zeros { AreZeros flows.old }
     ensures flows { (walks : List (List SignedRow)) → AreNets (length flows.old) walks table.now
         → (i : ℕ) → i < length flows.old → number_at flows.new i ≡ flow walks (P.elements pairs) i }
-    ensures untouched { (i : ℕ) → i < length flows.old → entries_at table.now (P.elements pairs) i ≡ 0 → number_at flows.new i ≡ pos 0 }
+    ensures untouched { (i : ℕ) → i < length flows.old
+        → entries_at table.now (P.elements pairs) i ≡ 0 → number_at flows.new i ≡ pos 0 }
     ensures small { AreSmallFlows flows.new }
 {
     let mut left = pairs;
@@ -131,9 +134,11 @@ fn take_flow(
     requires counts { AreSmallCounts (length flows.old) counts.now }
     requires long { length flows.old ≡ length instance.now.rows }
     requires small { AreSmallFlows flows.old }
-    ensures sum { result +ℤ flow_sum (arcs_of instance.now) slacks.now weighted flows.new ≡ flow_sum (arcs_of instance.now) slacks.now weighted flows.old }
+    ensures sum { result +ℤ flow_sum (arcs_of instance.now) slacks.now weighted flows.new
+        ≡ flow_sum (arcs_of instance.now) slacks.now weighted flows.old }
     ensures small { AreSmallFlows flows.new }
-    ensures taken { (i : ℕ) → i < length flows.old → (count_by (λ e. e.place == i) counts.now ≡ 0 → number_at flows.old i ≡ pos 0)
+    ensures taken { (i : ℕ) → i < length flows.old
+        → (count_by (λ e. e.place == i) counts.now ≡ 0 → number_at flows.old i ≡ pos 0)
         → number_at flows.new i ≡ pos 0 }
 {
     let mut sum = 0;
@@ -160,7 +165,8 @@ pub fn take_flows<P: Elements<Pair>>(
     requires pairs { ArePairs (length table.now) (P.elements pairs) }
     requires long { length flows.old ≡ length instance.now.rows }
     requires small { AreSmallFlows flows.old }
-    requires untouched { (i : ℕ) → i < length flows.old → entries_at table.now (P.elements pairs) i ≡ 0 → number_at flows.old i ≡ pos 0 }
+    requires untouched { (i : ℕ) → i < length flows.old
+        → entries_at table.now (P.elements pairs) i ≡ 0 → number_at flows.old i ≡ pos 0 }
     ensures sum { result ≡ flow_sum (arcs_of instance.now) slacks.now weighted flows.old }
     ensures size { unsigned_abs result ≤ 2 * 10 ^ 35 }
     ensures zeros { AreZeros flows.new }

@@ -67,7 +67,8 @@ fn judge_times(
 ) -> Result<Option<Refusal>, AllocError>
     ensures { IfOk result (λ found. MatchOption found
         (ShowsTimetable instance.now (map (λ t. t.0) times.now) (map (λ t. t.1) times.now) cost)
-        (λ refusal. IsTimesFault instance.now cost (map (λ t. t.0) times.now) (map (λ t. t.1) times.now) refusal)) }
+        (λ refusal. IsTimesFault instance.now cost (map (λ t. t.0) times.now)
+        (map (λ t. t.1) times.now) refusal)) }
 {
     if !are_labels(instance.events(), times) {
         return Ok(Some(Refusal::Times));
@@ -95,7 +96,8 @@ pub fn judge_answer(
 ) -> Result<Option<Refusal>, AllocError>
     ensures { IfOk result (λ found. MatchOption found
         (ShowsAnswer instance.now answer (map (λ t. t.0) times.now) (map (λ t. t.1) times.now))
-        (λ refusal. IsAnswerFault instance.now answer (map (λ t. t.0) times.now) (map (λ t. t.1) times.now) refusal)) }
+        (λ refusal. IsAnswerFault instance.now answer (map (λ t. t.0) times.now)
+        (map (λ t. t.1) times.now) refusal)) }
 {
     if !has_shape(answer, times) {
         return Ok(Some(Refusal::AnswerShape));

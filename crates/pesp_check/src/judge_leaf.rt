@@ -82,8 +82,10 @@ fn judge_bound<P: Elements<Pair>>(
     requires pairs { ArePairLimits (P.elements pairs) }
     requires long { length working.old ≡ length instance.now.rows }
     requires zeros { AreZeros working.old }
-    ensures verdict { (walks : List (List SignedRow)) → AreNets (length instance.now.rows) walks table.now
-        → IsLeafVerdict (net_of instance.now) walks least (trees.Bound (P.elements pairs)) (node_of ranges.now) line result }
+    ensures verdict { (walks : List (List SignedRow))
+        → AreNets (length instance.now.rows) walks table.now
+        → IsLeafVerdict (net_of instance.now) walks least (trees.Bound (P.elements pairs))
+        (node_of ranges.now) line result }
     ensures zeros { AreZeros working.new }
 {
     if !pairs_exist(table.len(), pairs) {
@@ -116,8 +118,10 @@ fn judge_nothing<P: Elements<Pair>>(
     requires pairs { ArePairLimits (P.elements pairs) }
     requires long { length working.old ≡ length instance.now.rows }
     requires zeros { AreZeros working.old }
-    ensures verdict { (walks : List (List SignedRow)) → AreNets (length instance.now.rows) walks table.now
-        → IsReasonVerdict (net_of instance.now) walks (trees.ByPairs (P.elements pairs)) (node_of ranges.now) line result }
+    ensures verdict { (walks : List (List SignedRow))
+        → AreNets (length instance.now.rows) walks table.now
+        → IsReasonVerdict (net_of instance.now) walks (trees.ByPairs (P.elements pairs))
+        (node_of ranges.now) line result }
     ensures zeros { AreZeros working.new }
 {
     if !pairs_exist(table.len(), pairs) {
@@ -141,7 +145,8 @@ fn judge_gap(
     requires table { All (AreSmallCounts (length instance.now.rows)) table.now }
     requires cycles { length ranges.now.offsets.items ≡ length table.now }
     ensures { (walks : List (List SignedRow)) → AreNets (length instance.now.rows) walks table.now
-        → IsReasonVerdict (net_of instance.now) walks (trees.ByGap cycle) (node_of ranges.now) line result }
+        → IsReasonVerdict (net_of instance.now) walks (trees.ByGap cycle) (node_of ranges.now) line
+        result }
 {
     if !names(table.len(), cycle) {
         return Some(Refusal::NoSuch { line });
@@ -175,8 +180,10 @@ pub fn judge_leaf<P: Elements<Pair>>(
     requires limits { KeepsLeafLimits P.elements leaf }
     requires long { length working.old ≡ length instance.now.rows }
     requires zeros { AreZeros working.old }
-    ensures verdict { (walks : List (List SignedRow)) → AreNets (length instance.now.rows) walks table.now
-        → IsLeafVerdict (net_of instance.now) walks least (leaf_said P.elements leaf) (node_of ranges.now) line result }
+    ensures verdict { (walks : List (List SignedRow))
+        → AreNets (length instance.now.rows) walks table.now
+        → IsLeafVerdict (net_of instance.now) walks least (leaf_said P.elements leaf)
+        (node_of ranges.now) line result }
     ensures zeros { AreZeros working.new }
 {
     match leaf {

@@ -56,9 +56,12 @@ pub fn judge_tree(
     requires few { length lines.now ≤ 1000000 }
     requires long { length working.old ≡ length instance.now.rows }
     requires zeros { AreZeros working.old }
-    ensures { IfOk result (λ found. (walks : List (List SignedRow)) → AreNets (length instance.now.rows) walks table.now → MatchOption found
-        (AreSound (net_of instance.now) walks least (map line_of lines.now) (nodes.root (net_of instance.now) walks ∷ []))
-        (λ refusal. IsLinesFault (net_of instance.now) walks least (map line_of lines.now) (nodes.root (net_of instance.now) walks ∷ []) first refusal)) }
+    ensures { IfOk result (λ found. (walks : List (List SignedRow))
+        → AreNets (length instance.now.rows) walks table.now → MatchOption found
+        (AreSound (net_of instance.now) walks least (map line_of lines.now)
+        (nodes.root (net_of instance.now) walks ∷ []))
+        (λ refusal. IsLinesFault (net_of instance.now) walks least (map line_of lines.now)
+        (nodes.root (net_of instance.now) walks ∷ []) first refusal)) }
 {
     let mut walk = NodeWalk::new(alloc, instance, root(alloc, instance, table)?);
     for (place, tree_line) in lines.iter().enumerate() {

@@ -29,9 +29,11 @@ pub fn offsets_left(
 ) -> Option<(i64, i64)>
     requires slacks { AreSlackRanges (length instance.now.rows) slacks.now }
     requires counts { AreSmallCounts (length instance.now.rows) counts.now }
-    ensures value { (walk : List SignedRow) → AreNetCounts (length instance.now.rows) walk counts.now
+    ensures value { (walk : List SignedRow)
+        → AreNetCounts (length instance.now.rows) walk counts.now
         → result ≡ left_of (net_of instance.now) slacks.now range walk }
-    ensures small { IfSome result (λ left. IsSmallOffset instance.now.period left.0 × IsSmallOffset instance.now.period left.1) }
+    ensures small { IfSome result (λ left. IsSmallOffset instance.now.period left.0
+        × IsSmallOffset instance.now.period left.1) }
 {
     left_between(
         instance.period(),
@@ -76,8 +78,10 @@ fn offset_sum<P: Elements<Pair>>(
     requires table { All (AreSmallCounts (length instance.now.rows)) table.now }
     requires cycles { length ranges.now.offsets.items ≡ length table.now }
     requires pairs { ArePairs (length table.now) (P.elements pairs) }
-    ensures value { (walks : List (List SignedRow)) → AreNets (length instance.now.rows) walks table.now
-        → result ≡ option_map (λ z. pos instance.now.period *ℤ z) (nodes.offset_part (net_of instance.now) walks (node_of ranges.now) (P.elements pairs)) }
+    ensures value { (walks : List (List SignedRow))
+        → AreNets (length instance.now.rows) walks table.now
+        → result ≡ option_map (λ z. pos instance.now.period *ℤ z)
+        (nodes.offset_part (net_of instance.now) walks (node_of ranges.now) (P.elements pairs)) }
     ensures size { IfSome result (λ z. unsigned_abs z ≤ 100000 * (1000000000000 * 10100000000000)) }
     ensures limits { KeepsLimits instance.now }
 {
@@ -123,8 +127,10 @@ pub fn leaf_value<P: Elements<Pair>>(
     requires pairs { ArePairs (length table.now) (P.elements pairs) }
     requires long { length working.old ≡ length instance.now.rows }
     requires zeros { AreZeros working.old }
-    ensures value { (walks : List (List SignedRow)) → AreNets (length instance.now.rows) walks table.now
-        → result ≡ nodes.leaf_value (net_of instance.now) walks (node_of ranges.now) (P.elements pairs) weighted }
+    ensures value { (walks : List (List SignedRow))
+        → AreNets (length instance.now.rows) walks table.now
+        → result ≡ nodes.leaf_value (net_of instance.now) walks (node_of ranges.now)
+        (P.elements pairs) weighted }
     ensures zeros { AreZeros working.new }
 {
     let offsets = offset_sum(instance, table, ranges, pairs)?;

@@ -67,8 +67,11 @@ pub fn count_row(
 ) -> Result<(), AllocError>
     requires exists { Names (length working.old) s.now.row }
     requires small { unsigned_abs (slice_index_or working.old (s.now.row - 1) (pos 0)) ≤ 10000000 }
-    ensures counts { OnOk result (working.new ≡ slice_set working.old (s.now.row - 1) (slice_index_or working.old (s.now.row - 1) (pos 0) +ℤ sign s.now)) }
-    ensures places { OnOk result (IsEntered places.old.items places.new.items (s.now.row - 1) (slice_index_or working.old (s.now.row - 1) (pos 0))) }
+    ensures counts { OnOk result (working.new
+        ≡ slice_set working.old (s.now.row - 1)
+        (slice_index_or working.old (s.now.row - 1) (pos 0) +ℤ sign s.now)) }
+    ensures places { OnOk result (IsEntered places.old.items places.new.items (s.now.row - 1)
+        (slice_index_or working.old (s.now.row - 1) (pos 0))) }
 {
     let place = s.row - 1;
     let number = working[place as usize];
@@ -96,8 +99,10 @@ fn take_counts(
     working: &mut [i128],
 ) -> Result<Vec<NetCount>, AllocError>
     requires entered { ArePlaces places.now working.old }
-    requires small { (i : ℕ) → i < length working.old → unsigned_abs (slice_index_or working.old i (pos 0)) ≤ 10000000 }
-    ensures counts { IfOk result (λ v. (walk : List SignedRow) → length walk ≤ 10000000 → AreCounts walk working.old → AreNetCounts (length working.old) walk v.items) }
+    requires small { (i : ℕ) → i < length working.old
+        → unsigned_abs (slice_index_or working.old i (pos 0)) ≤ 10000000 }
+    ensures counts { IfOk result (λ v. (walk : List SignedRow) → length walk ≤ 10000000
+        → AreCounts walk working.old → AreNetCounts (length working.old) walk v.items) }
     ensures zeros { OnOk result (AreZeros working.new) }
 {
     let mut counts = Vec::new(alloc);
@@ -117,8 +122,10 @@ fn take_counts(
 /// Takes the net counts of a walk from working numbers, one a row, that hold them. They are 0 afterwards.
 pub fn take_nets(alloc: Global, places: &[u32], working: &mut [i128]) -> Result<Nets, AllocError>
     requires entered { ArePlaces places.now working.old }
-    requires small { (i : ℕ) → i < length working.old → unsigned_abs (slice_index_or working.old i (pos 0)) ≤ 10000000 }
-    ensures counts { IfOk result (λ nets. (walk : List SignedRow) → length walk ≤ 10000000 → AreCounts walk working.old → AreNetCounts (length working.old) walk nets) }
+    requires small { (i : ℕ) → i < length working.old
+        → unsigned_abs (slice_index_or working.old i (pos 0)) ≤ 10000000 }
+    ensures counts { IfOk result (λ nets. (walk : List SignedRow) → length walk ≤ 10000000
+        → AreCounts walk working.old → AreNetCounts (length working.old) walk nets) }
     ensures zeros { OnOk result (AreZeros working.new) }
 {
     let counts = take_counts(alloc, places, working)?;

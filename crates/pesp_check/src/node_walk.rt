@@ -26,12 +26,16 @@ fn enter(
 ) -> Result<(), AllocError>
     requires ranges { AreRanges instance.now ranges.old }
     requires cut { IsCut (length instance.now.rows) (length ranges.old.offsets.items) cut }
-    requires path { AreChanges (length instance.now.rows) (length ranges.old.offsets.items) path.old.items }
+    requires path { AreChanges (length instance.now.rows) (length ranges.old.offsets.items)
+        path.old.items }
     ensures ranges { AreRanges instance.now ranges.new }
     ensures cycles { length ranges.new.offsets.items ≡ length ranges.old.offsets.items }
-    ensures path { AreChanges (length instance.now.rows) (length ranges.old.offsets.items) path.new.items }
-    ensures parts { OnOk result (waiting true (node_of ranges.new) path.new.items ≡ branched (waiting true (node_of ranges.old) path.old.items) cut) }
-    ensures same { OnErr result (waiting true (node_of ranges.new) path.new.items ≡ waiting true (node_of ranges.old) path.old.items) }
+    ensures path { AreChanges (length instance.now.rows) (length ranges.old.offsets.items)
+        path.new.items }
+    ensures parts { OnOk result (waiting true (node_of ranges.new) path.new.items
+        ≡ branched (waiting true (node_of ranges.old) path.old.items) cut) }
+    ensures same { OnErr result (waiting true (node_of ranges.new) path.new.items
+        ≡ waiting true (node_of ranges.old) path.old.items) }
 {
     path.push(Branch {
         change: change_of(instance, ranges, cut),
@@ -44,11 +48,14 @@ fn enter(
 /// Goes to the next part that is still to come; false where there is none.
 fn next_part(instance: &Instance, ranges: &mut Ranges, path: &mut Vec<Branch>) -> bool
     requires ranges { AreRanges instance.now ranges.old }
-    requires path { AreChanges (length instance.now.rows) (length ranges.old.offsets.items) path.old.items }
+    requires path { AreChanges (length instance.now.rows) (length ranges.old.offsets.items)
+        path.old.items }
     ensures ranges { AreRanges instance.now ranges.new }
     ensures cycles { length ranges.new.offsets.items ≡ length ranges.old.offsets.items }
-    ensures path { AreChanges (length instance.now.rows) (length ranges.old.offsets.items) path.new.items }
-    ensures parts { waiting result (node_of ranges.new) path.new.items ≡ pending (node_of ranges.old) (reverse path.old.items) }
+    ensures path { AreChanges (length instance.now.rows) (length ranges.old.offsets.items)
+        path.new.items }
+    ensures parts { waiting result (node_of ranges.new) path.new.items
+        ≡ pending (node_of ranges.old) (reverse path.old.items) }
 {
     while !path.is_empty() {
         let top = path.len() - 1;
@@ -109,7 +116,11 @@ impl<'a> NodeWalk<'a> {
     /// Begins at a node with these ranges.
     pub fn new(alloc: Global, instance: &'a Instance, ranges: Ranges) -> NodeWalk<'a>
         requires { AreRanges instance.now ranges }
-        ensures { result ≡ record { problem = instance.now; cycles = length ranges.offsets.items; nodes = node_of ranges ∷ [] } }
+        ensures { result ≡ record {
+          problem = instance.now;
+          cycles = length ranges.offsets.items;
+          nodes = node_of ranges ∷ [];
+        } }
     {
         NodeWalk {
             instance,
@@ -156,8 +167,10 @@ impl<'a> NodeWalk<'a> {
         ensures problem { self.new.problem ≡ self.old.problem }
         ensures cycles { self.new.cycles ≡ self.old.cycles }
         ensures nodes { self.new.nodes ≡ self.old.nodes }
-        ensures shut { IfOk result (λ shut. (node : Node) × (rest : List Node) × (self.old.nodes ≡ node ∷ rest)
-            × ((walks : List (List SignedRow)) → IsTrue shut ↔ IsShut (net_of self.old.problem) walks ByPropagation node)) }
+        ensures shut { IfOk result
+            (λ shut. (node : Node) × (rest : List Node) × (self.old.nodes ≡ node ∷ rest)
+            × ((walks : List (List SignedRow))
+            → IsTrue shut ↔ IsShut (net_of self.old.problem) walks ByPropagation node)) }
     {
         let mut pass = match self.pass.take() {
             Some(pass) => pass,

@@ -19,7 +19,8 @@ pub fn scaled(factor: i128, low: i128, high: i128) -> i128
     requires low { unsigned_abs factor * unsigned_abs low < 2 ^ 127 }
     requires high { unsigned_abs factor * unsigned_abs high < 2 ^ 127 }
     ensures value { result ≡ sums.scaled factor low high }
-    ensures size { (m n : ℕ) → unsigned_abs factor ≤ m → unsigned_abs low ≤ n → unsigned_abs high ≤ n → unsigned_abs result ≤ m * n }
+    ensures size { (m n : ℕ) → unsigned_abs factor ≤ m → unsigned_abs low ≤ n
+        → unsigned_abs high ≤ n → unsigned_abs result ≤ m * n }
 {
     if factor < 0 {
         times(factor, high)
@@ -43,8 +44,10 @@ fn duration_terms(instance: &Instance, net: &NetCount, slacks: &[(u32, u32)]) ->
     requires slacks { AreSlackRanges (length instance.now.rows) slacks.now }
     requires exists { net.now.place < length instance.now.rows }
     requires small { unsigned_abs net.now.count ≤ 10000000 }
-    ensures least { result.0 ≡ least_term (arcs_of instance.now) slacks.now net.now.place net.now.count }
-    ensures greatest { result.1 ≡ greatest_term (arcs_of instance.now) slacks.now net.now.place net.now.count }
+    ensures least { result.0
+        ≡ least_term (arcs_of instance.now) slacks.now net.now.place net.now.count }
+    ensures greatest { result.1
+        ≡ greatest_term (arcs_of instance.now) slacks.now net.now.place net.now.count }
     ensures least_size { unsigned_abs result.0 ≤ unsigned_abs net.now.count * 1010000 }
     ensures greatest_size { unsigned_abs result.1 ≤ unsigned_abs net.now.count * 1010000 }
 {
@@ -64,9 +67,11 @@ pub fn duration_sums(
 ) -> (i128, i128)
     requires slacks { AreSlackRanges (length instance.now.rows) slacks.now }
     requires counts { AreSmallCounts (length instance.now.rows) counts.now }
-    ensures least { (walk : List SignedRow) → AreNetCounts (length instance.now.rows) walk counts.now
+    ensures least { (walk : List SignedRow)
+        → AreNetCounts (length instance.now.rows) walk counts.now
         → result.0 ≡ least_sum (arcs_of instance.now) slacks.now walk }
-    ensures greatest { (walk : List SignedRow) → AreNetCounts (length instance.now.rows) walk counts.now
+    ensures greatest { (walk : List SignedRow)
+        → AreNetCounts (length instance.now.rows) walk counts.now
         → result.1 ≡ greatest_sum (arcs_of instance.now) slacks.now walk }
     ensures least_size { unsigned_abs result.0 ≤ 10100000000000 }
     ensures greatest_size { unsigned_abs result.1 ≤ 10100000000000 }
@@ -117,8 +122,10 @@ pub fn left_between(period: u32, ends: (i128, i128), range: (i64, i64)) -> Optio
     requires period { 0 < period }
     requires least { unsigned_abs ends.0 ≤ 10100000000000 }
     requires greatest { unsigned_abs ends.1 ≤ 10100000000000 }
-    ensures value { result ≡ range_or_none (int_max range.0 (sums.ceil_div ends.0 period)) (int_min range.1 (sums.floor_div ends.1 period)) }
-    ensures small { IfSome result (λ left. IsSmallOffset period left.0 × IsSmallOffset period left.1) }
+    ensures value { result ≡ range_or_none (int_max range.0 (sums.ceil_div ends.0 period))
+        (int_min range.1 (sums.floor_div ends.1 period)) }
+    ensures small { IfSome result
+        (λ left. IsSmallOffset period left.0 × IsSmallOffset period left.1) }
 {
     range_of(
         low_end(period, ends.0, range.0),

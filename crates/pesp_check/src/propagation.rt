@@ -16,7 +16,8 @@ pub fn shuts(instance: &Instance, pass: &mut Support, ranges: &Ranges) -> bool
     requires pass { pass.old ≡ rows_of instance.now }
     requires ranges { AreRanges instance.now ranges.now }
     ensures same { pass.new ≡ pass.old }
-    ensures shut { (walks : List (List SignedRow)) → IsTrue result ↔ IsShut (net_of instance.now) walks ByPropagation (node_of ranges.now) }
+    ensures shut { (walks : List (List SignedRow))
+        → IsTrue result ↔ IsShut (net_of instance.now) walks ByPropagation (node_of ranges.now) }
 {
     let _period = instance.period();
     pass.supports_none(&ranges.slacks)

@@ -25,7 +25,8 @@ pub fn idle_term(instance: &Instance, place: usize, range: (u32, u32)) -> i128
     requires exists { place < length instance.now.rows }
     requires low { range.0 ≤ 10000 }
     requires high { range.1 ≤ 10000 }
-    ensures value { result ≡ int_min (pos (arc_at (arcs_of instance.now) place).weight *ℤ pos range.0)
+    ensures value { result
+        ≡ int_min (pos (arc_at (arcs_of instance.now) place).weight *ℤ pos range.0)
         (pos (arc_at (arcs_of instance.now) place).weight *ℤ pos range.1) }
     ensures size { unsigned_abs result ≤ 10000000000000 }
     ensures limits { KeepsLimits instance.now }

@@ -18,7 +18,8 @@ use std::alloc::{AllocError, Global};
 
 /// The slack ranges of the root: from 0 to the row's span.
 fn root_slacks(alloc: Global, instance: &Instance) -> Result<Vec<(u32, u32)>, AllocError>
-    ensures slacks { IfOk result (λ slacks. slacks.items ≡ nodes.root_slacks (net_of instance.now)) }
+    ensures slacks { IfOk result
+        (λ slacks. slacks.items ≡ nodes.root_slacks (net_of instance.now)) }
     ensures limits { KeepsLimits instance.now }
 {
     let period = instance.period();
@@ -38,7 +39,8 @@ fn root_offsets(
 ) -> Result<Vec<(i64, i64)>, AllocError>
     requires table { All (AreSmallCounts (length instance.now.rows)) table.now }
     requires slacks { AreSlackRanges (length instance.now.rows) slacks.now }
-    ensures offsets { IfOk result (λ offsets. (walks : List (List SignedRow)) → AreNets (length instance.now.rows) walks table.now
+    ensures offsets { IfOk result (λ offsets. (walks : List (List SignedRow))
+        → AreNets (length instance.now.rows) walks table.now
         → offsets.items ≡ map (nodes.odijk_range (net_of instance.now) slacks.now) walks) }
     ensures long { IfOk result (λ offsets. length offsets.items ≡ length table.now) }
 {
@@ -54,7 +56,8 @@ pub fn root(alloc: Global, instance: &Instance, table: &[Nets]) -> Result<Ranges
     requires { All (AreSmallCounts (length instance.now.rows)) table.now }
     ensures ranges { IfOk result (AreRanges instance.now) }
     ensures cycles { IfOk result (λ ranges. length ranges.offsets.items ≡ length table.now) }
-    ensures node { IfOk result (λ ranges. (walks : List (List SignedRow)) → AreNets (length instance.now.rows) walks table.now
+    ensures node { IfOk result (λ ranges. (walks : List (List SignedRow))
+        → AreNets (length instance.now.rows) walks table.now
         → node_of ranges ≡ nodes.root (net_of instance.now) walks) }
 {
     let slacks = root_slacks(alloc, instance)?;

@@ -50,9 +50,12 @@ fn take_branch(
     requires limits { IsSmallCut cut }
     ensures problem { walk.new.problem ≡ instance.now }
     ensures cycles { walk.new.cycles ≡ length table.now }
-    ensures verdict { IfOk result (λ found. (walks : List (List SignedRow)) (least : Option ℕ) → AreNets (length instance.now.rows) walks table.now
-        → IsLineVerdict (net_of instance.now) walks least (CutLine cut) walk.old.nodes walk.new.nodes line found) }
-    ensures nodes { IfOk result (λ found. IfNone found (walk.new.nodes ≡ after (CutLine cut) walk.old.nodes)) }
+    ensures verdict { IfOk result (λ found. (walks : List (List SignedRow)) (least : Option ℕ)
+        → AreNets (length instance.now.rows) walks table.now
+        → IsLineVerdict (net_of instance.now) walks least (CutLine cut) walk.old.nodes
+        walk.new.nodes line found) }
+    ensures nodes { IfOk result
+        (λ found. IfNone found (walk.new.nodes ≡ after (CutLine cut) walk.old.nodes)) }
 {
     if !cut_exists(instance, table.len(), cut) {
         return Ok(Some(Refusal::NoSuch { line }));
@@ -80,9 +83,12 @@ fn take_leaf<P: Elements<Pair>>(
     requires zeros { AreZeros working.old }
     ensures problem { walk.new.problem ≡ instance.now }
     ensures cycles { walk.new.cycles ≡ length table.now }
-    ensures verdict { (walks : List (List SignedRow)) → AreNets (length instance.now.rows) walks table.now
-        → IsLineVerdict (net_of instance.now) walks least (EndLine (leaf_said P.elements leaf)) walk.old.nodes walk.new.nodes line result }
-    ensures nodes { IfNone result (walk.new.nodes ≡ after (EndLine (leaf_said P.elements leaf)) walk.old.nodes) }
+    ensures verdict { (walks : List (List SignedRow))
+        → AreNets (length instance.now.rows) walks table.now
+        → IsLineVerdict (net_of instance.now) walks least (EndLine (leaf_said P.elements leaf))
+        walk.old.nodes walk.new.nodes line result }
+    ensures nodes { IfNone result
+        (walk.new.nodes ≡ after (EndLine (leaf_said P.elements leaf)) walk.old.nodes) }
     ensures zeros { AreZeros working.new }
 {
     let found = judge_leaf(instance, table, walk.ranges(), leaf, least, line, working);
@@ -101,8 +107,10 @@ fn take_propagated(
     ensures problem { walk.new.problem ≡ walk.old.problem }
     ensures cycles { walk.new.cycles ≡ walk.old.cycles }
     ensures verdict { IfOk result (λ found. (walks : List (List SignedRow)) (least : Option ℕ)
-        → IsLineVerdict (net_of walk.old.problem) walks least (EndLine (Shut ByPropagation)) walk.old.nodes walk.new.nodes line found) }
-    ensures nodes { IfOk result (λ found. IfNone found (walk.new.nodes ≡ after (EndLine (Shut ByPropagation)) walk.old.nodes)) }
+        → IsLineVerdict (net_of walk.old.problem) walks least (EndLine (Shut ByPropagation))
+        walk.old.nodes walk.new.nodes line found) }
+    ensures nodes { IfOk result (λ found. IfNone found
+        (walk.new.nodes ≡ after (EndLine (Shut ByPropagation)) walk.old.nodes)) }
 {
     let shut = walk.is_shut(alloc)?;
     walk.leaf();
@@ -132,9 +140,12 @@ pub fn take_line<P: Elements<Pair>>(
     requires zeros { AreZeros working.old }
     ensures problem { walk.new.problem ≡ instance.now }
     ensures cycles { walk.new.cycles ≡ length table.now }
-    ensures verdict { IfOk result (λ found. (walks : List (List SignedRow)) → AreNets (length instance.now.rows) walks table.now
-        → IsLineVerdict (net_of instance.now) walks least (line_said P.elements said) walk.old.nodes walk.new.nodes line found) }
-    ensures nodes { IfOk result (λ found. IfNone found (walk.new.nodes ≡ after (line_said P.elements said) walk.old.nodes)) }
+    ensures verdict { IfOk result (λ found. (walks : List (List SignedRow))
+        → AreNets (length instance.now.rows) walks table.now
+        → IsLineVerdict (net_of instance.now) walks least (line_said P.elements said) walk.old.nodes
+        walk.new.nodes line found) }
+    ensures nodes { IfOk result (λ found. IfNone found
+        (walk.new.nodes ≡ after (line_said P.elements said) walk.old.nodes)) }
     ensures zeros { AreZeros working.new }
 {
     match said {

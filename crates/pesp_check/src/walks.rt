@@ -62,7 +62,8 @@ fn follow<R: Elements<SignedRow>>(
     requires long { length working.old ≡ length instance.now.rows }
     requires zeros { AreZeros working.old }
     ensures way { IfOk result (λ way. IsWay (arcs_of instance.now) (R.elements rows) begin way) }
-    ensures counts { IfOk result (λ way. way ≡ Way.Closed → AreCounts (R.elements rows) working.new) }
+    ensures counts { IfOk result
+        (λ way. way ≡ Way.Closed → AreCounts (R.elements rows) working.new) }
     ensures places { OnOk result (ArePlaces places.new.items working.new) }
 {
     let mut left = rows;
@@ -96,8 +97,10 @@ fn way_of<R: Elements<SignedRow>>(
     requires long { length working.old ≡ length instance.now.rows }
     requires zeros { AreZeros working.old }
     ensures way { IfOk result (λ way. IsWayOf (arcs_of instance.now) (R.elements rows) way) }
-    ensures counts { IfOk result (λ way. way ≡ Way.Closed → AreCounts (R.elements rows) working.new) }
-    ensures places { IfOk result (λ way. way ≡ Way.Closed → ArePlaces places.new.items working.new) }
+    ensures counts { IfOk result
+        (λ way. way ≡ Way.Closed → AreCounts (R.elements rows) working.new) }
+    ensures places { IfOk result
+        (λ way. way ≡ Way.Closed → ArePlaces places.new.items working.new) }
 {
     let mut ahead = rows;
     let Some(first) = ahead.take_next() else {
@@ -122,7 +125,8 @@ pub fn judge_cycle<R: Elements<SignedRow>>(
     requires short { length (R.elements rows) ≤ 10000000 }
     requires long { length working.old ≡ length instance.now.rows }
     requires zeros { AreZeros working.old }
-    ensures verdict { IfOk result (λ found. IsCycleVerdict instance.now (R.elements rows) number line found) }
+    ensures verdict { IfOk result
+        (λ found. IsCycleVerdict instance.now (R.elements rows) number line found) }
     ensures zeros { OnOk result (AreZeros working.new) }
 {
     let mut places = Vec::new(alloc);
@@ -157,7 +161,8 @@ pub fn judge_cycles(
     requires long { length working.old ≡ length instance.now.rows }
     requires zeros { AreZeros working.old }
     ensures verdict { IfOk result (λ found. MatchResult found
-        (λ table. All (IsWalk (arcs_of instance.now)) cycles.now × AreNets (length instance.now.rows) cycles.now table.items)
+        (λ table. All (IsWalk (arcs_of instance.now)) cycles.now
+        × AreNets (length instance.now.rows) cycles.now table.items)
         (λ refusal. IsCycleFault (arcs_of instance.now) cycles.now line refusal)) }
     ensures zeros { OnOk result (AreZeros working.new) }
 {

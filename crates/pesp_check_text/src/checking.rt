@@ -29,10 +29,14 @@ pub fn check_text<S: Source>(
 ) -> Result<(Verdict, Answer), CheckFault>
     requires failed_fits { S.failed source.old < 2 ^ 63 }
     requires interrupted_fits { S.interrupted source.old < 2 ^ 63 }
-    ensures ok { IfOk result (λ found. ChecksText (S.remaining source.old) (S.remaining source.new) instance.now found.0 found.1) }
-    ensures counts { OnOk result ((S.failed source.new ≡ S.failed source.old) × (S.interrupted source.new ≤ S.interrupted source.old + 1000)) }
-    ensures fault { IfErr result (λ fault. Faults fault (S.remaining source.old) (S.remaining source.new)
-        (DeviceFailed (S.failed source.old) (S.interrupted source.old) (S.failed source.new) (S.interrupted source.new))) }
+    ensures ok { IfOk result (λ found. ChecksText (S.remaining source.old) (S.remaining source.new)
+        instance.now found.0 found.1) }
+    ensures counts { OnOk result ((S.failed source.new ≡ S.failed source.old)
+        × (S.interrupted source.new ≤ S.interrupted source.old + 1000)) }
+    ensures fault { IfErr result
+        (λ fault. Faults fault (S.remaining source.old) (S.remaining source.new)
+        (DeviceFailed (S.failed source.old) (S.interrupted source.old) (S.failed source.new)
+        (S.interrupted source.new))) }
 {
     valid_is_true();
     let most = source.interrupted_reads() + MOST_INTERRUPTED;

@@ -54,8 +54,10 @@ fn front_fault(
     times: &[(i64, u32)],
 ) -> Result<Option<Refusal>, AllocError>
     ensures { IfOk result (λ found. MatchOption found
-        ((period ≡ instance.now.period) × ShowsAnswer instance.now answer (map (λ t. t.0) times.now) (map (λ t. t.1) times.now))
-        (λ refusal. IsFrontFault instance.now period answer (map (λ t. t.0) times.now) (map (λ t. t.1) times.now) refusal)) }
+        ((period ≡ instance.now.period)
+        × ShowsAnswer instance.now answer (map (λ t. t.0) times.now) (map (λ t. t.1) times.now))
+        (λ refusal. IsFrontFault instance.now period answer (map (λ t. t.0) times.now)
+        (map (λ t. t.1) times.now) refusal)) }
 {
     if period != instance.period() {
         return Ok(Some(Refusal::OtherPeriod));
@@ -83,7 +85,8 @@ impl<'a> Judge<'a> {
     pub fn new(alloc: Global, instance: &'a Instance) -> Judge<'a>
         ensures instance { result.instance.now ≡ instance.now }
         ensures line { result.line ≡ 0 }
-        ensures judged { (c : Content) → JudgedAt result.stage instance.now c (behind c) (kept result) }
+        ensures judged { (c : Content)
+            → JudgedAt result.stage instance.now c (behind c) (kept result) }
     {
         Judge {
             instance,
@@ -102,7 +105,8 @@ impl<'a> Judge<'a> {
         ensures instance { self.new.instance.now ≡ self.old.instance.now }
         ensures line { self.new.line ≡ self.old.line }
         ensures past { OnOk result (is_front self.new.stage ≡ false) }
-        ensures judged { OnOk result ((c : Content) (rest : List LineItem) → begins_later rest ≡ true
+        ensures judged { OnOk result
+            ((c : Content) (rest : List LineItem) → begins_later rest ≡ true
             → JudgedAt self.old.stage self.old.instance.now c rest (kept self.old)
             → JudgedAt self.new.stage self.old.instance.now c rest (kept self.new)) }
     {
@@ -124,7 +128,8 @@ impl<'a> Judge<'a> {
         ensures instance { self.new.instance.now ≡ self.old.instance.now }
         ensures line { self.new.line ≡ self.old.line }
         ensures past { OnOk result (is_before_tree self.new.stage ≡ false) }
-        ensures judged { OnOk result ((c : Content) (rest : List LineItem) → are_trees 1 (lines_of c) ≡ true → begins_tree rest ≡ true
+        ensures judged { OnOk result ((c : Content) (rest : List LineItem)
+            → are_trees 1 (lines_of c) ≡ true → begins_tree rest ≡ true
             → JudgedAt self.old.stage self.old.instance.now c rest (kept self.old)
             → JudgedAt self.new.stage self.old.instance.now c rest (kept self.new)) }
     {
@@ -153,7 +158,8 @@ impl<'a> Judge<'a> {
         ensures line { OnOk result (self.new.line ≡ self.old.line + 1) }
         ensures zeros { OnOk result (AreZeros working.new) }
         ensures judged { OnOk result ((c : Content) (rest : List LineItem)
-            → JudgedAt self.old.stage self.old.instance.now c (items.Cycle (rows_in rows.entry) ∷ rest) (kept self.old)
+            → JudgedAt self.old.stage self.old.instance.now c
+            (items.Cycle (rows_in rows.entry) ∷ rest) (kept self.old)
             → JudgedAt self.new.stage self.old.instance.now c rest (kept self.new)) }
     {
         let number = self.table.len() as u32 + 1;
@@ -186,7 +192,8 @@ impl<'a> Judge<'a> {
         ensures line { OnOk result (self.new.line ≡ self.old.line + 1) }
         ensures zeros { OnOk result (AreZeros working.new) }
         ensures judged { OnOk result ((c : Content) (rest : List LineItem)
-            → JudgedAt self.old.stage self.old.instance.now c (items.Cycle (rows_in rows.entry) ∷ rest) (kept self.old)
+            → JudgedAt self.old.stage self.old.instance.now c
+            (items.Cycle (rows_in rows.entry) ∷ rest) (kept self.old)
             → JudgedAt self.new.stage self.old.instance.now c rest (kept self.new)) }
     {
         self.end_front(alloc)?;
@@ -212,8 +219,10 @@ impl<'a> Judge<'a> {
         ensures instance { self.new.instance.now ≡ self.old.instance.now }
         ensures line { OnOk result (self.new.line ≡ self.old.line + 1) }
         ensures zeros { OnOk result (AreZeros working.new) }
-        ensures judged { OnOk result ((c : Content) (rest : List LineItem) → are_trees 1 (lines_of c) ≡ true
-            → JudgedAt self.old.stage self.old.instance.now c (tree_item (tree_line pairs_of said.entry) ∷ rest) (kept self.old)
+        ensures judged { OnOk result
+            ((c : Content) (rest : List LineItem) → are_trees 1 (lines_of c) ≡ true
+            → JudgedAt self.old.stage self.old.instance.now c
+            (tree_item (tree_line pairs_of said.entry) ∷ rest) (kept self.old)
             → JudgedAt self.new.stage self.old.instance.now c rest (kept self.new)) }
     {
         let least = least_of(self.answer);
@@ -256,8 +265,10 @@ impl<'a> Judge<'a> {
         ensures instance { self.new.instance.now ≡ self.old.instance.now }
         ensures line { OnOk result (self.new.line ≡ self.old.line + 1) }
         ensures zeros { OnOk result (AreZeros working.new) }
-        ensures judged { OnOk result ((c : Content) (rest : List LineItem) → are_trees 1 (lines_of c) ≡ true
-            → JudgedAt self.old.stage self.old.instance.now c (tree_item (tree_line pairs_of said.entry) ∷ rest) (kept self.old)
+        ensures judged { OnOk result
+            ((c : Content) (rest : List LineItem) → are_trees 1 (lines_of c) ≡ true
+            → JudgedAt self.old.stage self.old.instance.now c
+            (tree_item (tree_line pairs_of said.entry) ∷ rest) (kept self.old)
             → JudgedAt self.new.stage self.old.instance.now c rest (kept self.new)) }
     {
         self.end_front(alloc)?;
@@ -283,8 +294,10 @@ impl<'a> Judge<'a> {
         ensures instance { self.new.instance.now ≡ self.old.instance.now }
         ensures line { OnOk result (self.new.line ≡ self.old.line + 1) }
         ensures zeros { OnOk result (AreZeros working.new) }
-        ensures judged { OnOk result ((c : Content) (rest : List LineItem) → are_trees 1 (lines_of c) ≡ true
-            → JudgedAt self.old.stage self.old.instance.now c (listed item.entry ∷ rest) (kept self.old)
+        ensures judged { OnOk result
+            ((c : Content) (rest : List LineItem) → are_trees 1 (lines_of c) ≡ true
+            → JudgedAt self.old.stage self.old.instance.now c (listed item.entry ∷ rest)
+            (kept self.old)
             → JudgedAt self.new.stage self.old.instance.now c rest (kept self.new)) }
     {
         match item {
@@ -333,7 +346,8 @@ impl<'a> Judge<'a> {
 
     /// The answer of the text.
     pub fn answer(&self) -> Answer
-        ensures { (c : Content) → are_trees 1 (lines_of c) ≡ true → JudgedAt self.now.stage self.now.instance.now c (items.End ∷ []) (kept self.now)
+        ensures { (c : Content) → are_trees 1 (lines_of c) ≡ true
+            → JudgedAt self.now.stage self.now.instance.now c (items.End ∷ []) (kept self.now)
             → result ≡ c.answer }
     {
         self.answer
@@ -341,7 +355,8 @@ impl<'a> Judge<'a> {
 
     /// What the checker says of the text, where all its items came.
     pub fn verdict(&self) -> Verdict
-        ensures { (c : Content) → are_trees 1 (lines_of c) ≡ true → JudgedAt self.now.stage self.now.instance.now c (items.End ∷ []) (kept self.now)
+        ensures { (c : Content) → are_trees 1 (lines_of c) ≡ true
+            → JudgedAt self.now.stage self.now.instance.now c (items.End ∷ []) (kept self.now)
             → IsVerdict self.now.instance.now c result }
     {
         match self.stage {

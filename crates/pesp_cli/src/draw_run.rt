@@ -29,22 +29,29 @@ pub fn run_draw<R: Source, T: Source, W: Sink>(
     requires interrupted_times_reads { T.interrupted times_reader.old < 2 ^ 62 }
     requires failed_writes { W.failed writer.old < 2 ^ 62 }
     requires interrupted_writes { W.interrupted writer.old < 2 ^ 62 }
-    ensures ok { OnOk result (Draws (R.remaining instance_reader.old) (R.remaining instance_reader.new)
+    ensures ok { OnOk result
+        (Draws (R.remaining instance_reader.old) (R.remaining instance_reader.new)
         (T.remaining times_reader.old) (T.remaining times_reader.new) period
         (Appends (W.contents writer.old) (W.contents writer.new))) }
-    ensures reads { OnOk result (HasWorked (R.failed instance_reader.old) (R.interrupted instance_reader.old)
+    ensures reads { OnOk result
+        (HasWorked (R.failed instance_reader.old) (R.interrupted instance_reader.old)
         (R.failed instance_reader.new) (R.interrupted instance_reader.new)) }
-    ensures times_reads { OnOk result (HasWorked (T.failed times_reader.old) (T.interrupted times_reader.old)
+    ensures times_reads { OnOk result
+        (HasWorked (T.failed times_reader.old) (T.interrupted times_reader.old)
         (T.failed times_reader.new) (T.interrupted times_reader.new)) }
     ensures writes { OnOk result (HasWorked (W.failed writer.old) (W.interrupted writer.old)
         (W.failed writer.new) (W.interrupted writer.new)) }
-    ensures cause { IfErr result (λ fault. DrawCause fault (R.remaining instance_reader.old) (R.remaining instance_reader.new)
+    ensures cause { IfErr result (λ fault. DrawCause fault (R.remaining instance_reader.old)
+        (R.remaining instance_reader.new)
         (T.remaining times_reader.old) (T.remaining times_reader.new) period
         (W.contents writer.old) (W.contents writer.new)
-        (DeviceFailed (R.failed instance_reader.old) (R.interrupted instance_reader.old) (R.failed instance_reader.new) (R.interrupted instance_reader.new))
+        (DeviceFailed (R.failed instance_reader.old) (R.interrupted instance_reader.old)
+        (R.failed instance_reader.new) (R.interrupted instance_reader.new))
         (times_reader.new ≡ times_reader.old)
-        (DeviceFailed (T.failed times_reader.old) (T.interrupted times_reader.old) (T.failed times_reader.new) (T.interrupted times_reader.new))
-        (DeviceFailed (W.failed writer.old) (W.interrupted writer.old) (W.failed writer.new) (W.interrupted writer.new))) }
+        (DeviceFailed (T.failed times_reader.old) (T.interrupted times_reader.old)
+        (T.failed times_reader.new) (T.interrupted times_reader.new))
+        (DeviceFailed (W.failed writer.old) (W.interrupted writer.old) (W.failed writer.new)
+        (W.interrupted writer.new))) }
     ensures silent { IfErr result (λ fault. fault ≢ Fault.Write → writer.new ≡ writer.old) }
 {
     // The instance is judged before the times are read.

@@ -11,19 +11,25 @@ ghost use Rattle.pesp_cli.specs.Runs.{Solves, Checks, RefusesInstance, RefusesCe
 /// The bytes that `run_solve` appended for an instance's text, within whichever number of steps, `run_check` accepts for the
 /// same text and period, where it answers Ok.
 pub fn what_is_solved_is_accepted()
-    ensures { (text before bytes : List ℕ) (left left_instance left_certificate old new : Option (List ℕ)) (period steps : ℕ) (verdict : Verdict)
+    ensures { (text before bytes : List ℕ) (left left_instance left_certificate old new : Option
+        (List ℕ)) (period steps : ℕ) (verdict : Verdict)
         → Solves (Some text) left period steps (Appends (Some before) (Some (before ++ bytes)))
-        → Checks (Some text) left_instance (Some bytes) left_certificate period verdict (Appends old new)
+        → Checks (Some text) left_instance (Some bytes) left_certificate period verdict
+        (Appends old new)
         → verdict ≡ Accepted }
 {}
 
 /// And `run_check` refuses neither of the two texts: for them no `Instance` fault and no `Certificate` fault has a cause, so
 /// that memory and devices alone can keep it from its verdict.
 pub fn what_is_solved_is_read()
-    ensures instance { (text : List ℕ) (left left_instance old new : Option (List ℕ)) (period steps : ℕ) (refusal : ReadRefusal)
+    ensures instance { (text : List ℕ) (left left_instance old new : Option (List ℕ))
+        (period steps : ℕ) (refusal : ReadRefusal)
         → Solves (Some text) left period steps (Appends old new)
         → RefusesInstance (Some text) left_instance period refusal → ⊥ }
-    ensures certificate { (text before bytes : List ℕ) (left left_instance left_certificate : Option (List ℕ)) (period steps : ℕ) (refusal : CertRefusal)
+    ensures certificate { (text before bytes : List ℕ)
+        (left left_instance left_certificate : Option (List ℕ)) (period steps : ℕ)
+        (refusal : CertRefusal)
         → Solves (Some text) left period steps (Appends (Some before) (Some (before ++ bytes)))
-        → RefusesCertificate (Some text) left_instance (Some bytes) left_certificate period refusal → ⊥ }
+        → RefusesCertificate (Some text) left_instance (Some bytes) left_certificate period refusal
+        → ⊥ }
 {}

@@ -26,11 +26,14 @@ fn read_base<R: Source>(
 ) -> Result<Certificate, Fault>
     requires failed { R.failed reader.old < 2 ^ 63 }
     requires interrupted { R.interrupted reader.old < 2 ^ 63 }
-    ensures ok { IfOk result (ReadsBase (R.remaining reader.old) (R.remaining reader.new) instance.now) }
+    ensures ok { IfOk result
+        (ReadsBase (R.remaining reader.old) (R.remaining reader.new) instance.now) }
     ensures counts { OnOk result (HasWorked (R.failed reader.old) (R.interrupted reader.old)
         (R.failed reader.new) (R.interrupted reader.new)) }
-    ensures cause { IfErr result (λ fault. BaseCause fault (R.remaining reader.old) (R.remaining reader.new) instance.now
-        (DeviceFailed (R.failed reader.old) (R.interrupted reader.old) (R.failed reader.new) (R.interrupted reader.new))) }
+    ensures cause { IfErr result
+        (λ fault. BaseCause fault (R.remaining reader.old) (R.remaining reader.new) instance.now
+        (DeviceFailed (R.failed reader.old) (R.interrupted reader.old) (R.failed reader.new)
+        (R.interrupted reader.new))) }
 {
     let text = read_all(alloc, reader, MOST_TIMES)?;
     let base = parse(alloc, &text)?;
@@ -55,11 +58,14 @@ fn works_fault(refusal: CertRefusal) -> Fault
 fn read_works<R: Source>(alloc: Global, reader: &mut R) -> Result<Vec<WorkText>, Fault>
     requires failed { R.failed reader.old < 2 ^ 63 }
     requires interrupted { R.interrupted reader.old < 2 ^ 63 }
-    ensures ok { IfOk result (λ works. ReadsWorks (R.remaining reader.old) (R.remaining reader.new) works.items) }
+    ensures ok { IfOk result
+        (λ works. ReadsWorks (R.remaining reader.old) (R.remaining reader.new) works.items) }
     ensures counts { OnOk result (HasWorked (R.failed reader.old) (R.interrupted reader.old)
         (R.failed reader.new) (R.interrupted reader.new)) }
-    ensures cause { IfErr result (λ fault. WorksCause fault (R.remaining reader.old) (R.remaining reader.new)
-        (DeviceFailed (R.failed reader.old) (R.interrupted reader.old) (R.failed reader.new) (R.interrupted reader.new))) }
+    ensures cause { IfErr result
+        (λ fault. WorksCause fault (R.remaining reader.old) (R.remaining reader.new)
+        (DeviceFailed (R.failed reader.old) (R.interrupted reader.old) (R.failed reader.new)
+        (R.interrupted reader.new))) }
 {
     let text = read_all(alloc, reader, MOST_TIMES)?;
     match parse_works(alloc, &text) {
@@ -83,12 +89,15 @@ pub fn run_split<R: Source, B: Source, W: Sink>(
     requires interrupted_base_reads { B.interrupted base_reader.old < 2 ^ 62 }
     requires failed_writes { W.failed writer.old < 2 ^ 62 }
     requires interrupted_writes { W.interrupted writer.old < 2 ^ 62 }
-    ensures ok { OnOk result (Splits (R.remaining instance_reader.old) (R.remaining instance_reader.new)
+    ensures ok { OnOk result
+        (Splits (R.remaining instance_reader.old) (R.remaining instance_reader.new)
         (B.remaining base_reader.old) (B.remaining base_reader.new) period
         (Appends (W.contents writer.old) (W.contents writer.new))) }
-    ensures reads { OnOk result (HasWorked (R.failed instance_reader.old) (R.interrupted instance_reader.old)
+    ensures reads { OnOk result
+        (HasWorked (R.failed instance_reader.old) (R.interrupted instance_reader.old)
         (R.failed instance_reader.new) (R.interrupted instance_reader.new)) }
-    ensures base_reads { OnOk result (HasWorked (B.failed base_reader.old) (B.interrupted base_reader.old)
+    ensures base_reads { OnOk result
+        (HasWorked (B.failed base_reader.old) (B.interrupted base_reader.old)
         (B.failed base_reader.new) (B.interrupted base_reader.new)) }
     ensures writes { OnOk result (HasWorked (W.failed writer.old) (W.interrupted writer.old)
         (W.failed writer.new) (W.interrupted writer.new)) }
@@ -131,12 +140,15 @@ pub fn run_work<R: Source, B: Source, W: Sink>(
     requires interrupted_base_reads { B.interrupted base_reader.old < 2 ^ 62 }
     requires failed_writes { W.failed writer.old < 2 ^ 62 }
     requires interrupted_writes { W.interrupted writer.old < 2 ^ 62 }
-    ensures ok { OnOk result (WritesWork (R.remaining instance_reader.old) (R.remaining instance_reader.new)
+    ensures ok { OnOk result
+        (WritesWork (R.remaining instance_reader.old) (R.remaining instance_reader.new)
         (B.remaining base_reader.old) (B.remaining base_reader.new) period job steps
         (Appends (W.contents writer.old) (W.contents writer.new))) }
-    ensures reads { OnOk result (HasWorked (R.failed instance_reader.old) (R.interrupted instance_reader.old)
+    ensures reads { OnOk result
+        (HasWorked (R.failed instance_reader.old) (R.interrupted instance_reader.old)
         (R.failed instance_reader.new) (R.interrupted instance_reader.new)) }
-    ensures base_reads { OnOk result (HasWorked (B.failed base_reader.old) (B.interrupted base_reader.old)
+    ensures base_reads { OnOk result
+        (HasWorked (B.failed base_reader.old) (B.interrupted base_reader.old)
         (B.failed base_reader.new) (B.interrupted base_reader.new)) }
     ensures writes { OnOk result (HasWorked (W.failed writer.old) (W.interrupted writer.old)
         (W.failed writer.new) (W.interrupted writer.new)) }
@@ -183,16 +195,20 @@ pub fn run_graft<R: Source, B: Source, T: Source, W: Sink, E: Sink>(
     requires interrupted_writes { W.interrupted writer.old < 2 ^ 62 }
     requires failed_tellings { E.failed teller.old < 2 ^ 62 }
     requires interrupted_tellings { E.interrupted teller.old < 2 ^ 62 }
-    ensures ok { OnOk result (GraftsWorks (R.remaining instance_reader.old) (R.remaining instance_reader.new)
+    ensures ok { OnOk result
+        (GraftsWorks (R.remaining instance_reader.old) (R.remaining instance_reader.new)
         (B.remaining base_reader.old) (B.remaining base_reader.new)
         (T.remaining works_reader.old) (T.remaining works_reader.new) period
         (Appends (W.contents writer.old) (W.contents writer.new))
         (Appends (E.contents teller.old) (E.contents teller.new))) }
-    ensures reads { OnOk result (HasWorked (R.failed instance_reader.old) (R.interrupted instance_reader.old)
+    ensures reads { OnOk result
+        (HasWorked (R.failed instance_reader.old) (R.interrupted instance_reader.old)
         (R.failed instance_reader.new) (R.interrupted instance_reader.new)) }
-    ensures base_reads { OnOk result (HasWorked (B.failed base_reader.old) (B.interrupted base_reader.old)
+    ensures base_reads { OnOk result
+        (HasWorked (B.failed base_reader.old) (B.interrupted base_reader.old)
         (B.failed base_reader.new) (B.interrupted base_reader.new)) }
-    ensures works_reads { OnOk result (HasWorked (T.failed works_reader.old) (T.interrupted works_reader.old)
+    ensures works_reads { OnOk result
+        (HasWorked (T.failed works_reader.old) (T.interrupted works_reader.old)
         (T.failed works_reader.new) (T.interrupted works_reader.new)) }
     ensures writes { OnOk result (HasWorked (W.failed writer.old) (W.interrupted writer.old)
         (W.failed writer.new) (W.interrupted writer.new)) }
@@ -202,7 +218,8 @@ pub fn run_graft<R: Source, B: Source, T: Source, W: Sink, E: Sink>(
         (R.remaining instance_reader.old) (R.remaining instance_reader.new)
         (B.remaining base_reader.old) (B.remaining base_reader.new)
         (T.remaining works_reader.old) (T.remaining works_reader.new) period
-        (W.contents writer.old) (W.contents writer.new) (E.contents teller.old) (E.contents teller.new)
+        (W.contents writer.old) (W.contents writer.new) (E.contents teller.old)
+        (E.contents teller.new)
         (DeviceFailed (R.failed instance_reader.old) (R.interrupted instance_reader.old)
         (R.failed instance_reader.new) (R.interrupted instance_reader.new))
         (base_reader.new ≡ base_reader.old)

@@ -36,11 +36,14 @@ pub fn read_whole_instance<R: Source>(
 ) -> Result<Instance, Fault>
     requires failed { R.failed reader.old < 2 ^ 63 }
     requires interrupted { R.interrupted reader.old < 2 ^ 63 }
-    ensures ok { IfOk result (ReadsInstance (R.remaining reader.old) (R.remaining reader.new) period) }
+    ensures ok { IfOk result
+        (ReadsInstance (R.remaining reader.old) (R.remaining reader.new) period) }
     ensures counts { OnOk result (HasWorked (R.failed reader.old) (R.interrupted reader.old)
         (R.failed reader.new) (R.interrupted reader.new)) }
-    ensures cause { IfErr result (λ fault. InstanceCause fault (R.remaining reader.old) (R.remaining reader.new) period
-        (DeviceFailed (R.failed reader.old) (R.interrupted reader.old) (R.failed reader.new) (R.interrupted reader.new))) }
+    ensures cause { IfErr result
+        (λ fault. InstanceCause fault (R.remaining reader.old) (R.remaining reader.new) period
+        (DeviceFailed (R.failed reader.old) (R.interrupted reader.old) (R.failed reader.new)
+        (R.interrupted reader.new))) }
 {
     let text = read_all(alloc, reader, MOST_INSTANCE + 1)?;
     let instance = read_instance(alloc, &text, period)?;
@@ -55,8 +58,10 @@ fn solved<O: Observer>(
     observer: &mut O,
 ) -> Result<Certificate, SolveRefusal>
     requires { steps ≤ 100000 }
-    ensures solved { IfOk result (λ certificate. (used : ℕ) × IsSolved instance.now steps used certificate) }
-    ensures is_true { IfOk result (λ certificate. IsTrueAnswer instance.now certificate.answer (shown_times certificate)) }
+    ensures solved { IfOk result
+        (λ certificate. (used : ℕ) × IsSolved instance.now steps used certificate) }
+    ensures is_true { IfOk result
+        (λ certificate. IsTrueAnswer instance.now certificate.answer (shown_times certificate)) }
     ensures refused { IfErr result (IsSearchRefusal instance.now steps) }
 {
     valid_is_true();
@@ -90,10 +95,13 @@ pub fn run_solve<R: Source, W: Sink>(
         (R.failed reader.new) (R.interrupted reader.new)) }
     ensures writes { OnOk result (HasWorked (W.failed writer.old) (W.interrupted writer.old)
         (W.failed writer.new) (W.interrupted writer.new)) }
-    ensures cause { IfErr result (λ fault. SolveCause fault (R.remaining reader.old) (R.remaining reader.new) period steps
+    ensures cause { IfErr result
+        (λ fault. SolveCause fault (R.remaining reader.old) (R.remaining reader.new) period steps
         (W.contents writer.old) (W.contents writer.new)
-        (DeviceFailed (R.failed reader.old) (R.interrupted reader.old) (R.failed reader.new) (R.interrupted reader.new))
-        (DeviceFailed (W.failed writer.old) (W.interrupted writer.old) (W.failed writer.new) (W.interrupted writer.new))) }
+        (DeviceFailed (R.failed reader.old) (R.interrupted reader.old) (R.failed reader.new)
+        (R.interrupted reader.new))
+        (DeviceFailed (W.failed writer.old) (W.interrupted writer.old) (W.failed writer.new)
+        (W.interrupted writer.new))) }
 
     // Before the certificate stands the writer isn't called.
     ensures silent { IfErr result (λ fault. fault ≢ Fault.Write → writer.new ≡ writer.old) }
@@ -121,10 +129,13 @@ pub fn run_solve_watched<R: Source, W: Sink, O: Observer>(
         (R.failed reader.new) (R.interrupted reader.new)) }
     ensures writes { OnOk result (HasWorked (W.failed writer.old) (W.interrupted writer.old)
         (W.failed writer.new) (W.interrupted writer.new)) }
-    ensures cause { IfErr result (λ fault. SolveCause fault (R.remaining reader.old) (R.remaining reader.new) period steps
+    ensures cause { IfErr result
+        (λ fault. SolveCause fault (R.remaining reader.old) (R.remaining reader.new) period steps
         (W.contents writer.old) (W.contents writer.new)
-        (DeviceFailed (R.failed reader.old) (R.interrupted reader.old) (R.failed reader.new) (R.interrupted reader.new))
-        (DeviceFailed (W.failed writer.old) (W.interrupted writer.old) (W.failed writer.new) (W.interrupted writer.new))) }
+        (DeviceFailed (R.failed reader.old) (R.interrupted reader.old) (R.failed reader.new)
+        (R.interrupted reader.new))
+        (DeviceFailed (W.failed writer.old) (W.interrupted writer.old) (W.failed writer.new)
+        (W.interrupted writer.new))) }
     ensures silent { IfErr result (λ fault. fault ≢ Fault.Write → writer.new ≡ writer.old) }
 {
     let instance = read_whole_instance(alloc, reader, period)?;
@@ -150,22 +161,29 @@ pub fn run_check<R: Source, C: Source, W: Sink>(
     requires interrupted_certificate_reads { C.interrupted certificate_reader.old < 2 ^ 62 }
     requires failed_writes { W.failed writer.old < 2 ^ 62 }
     requires interrupted_writes { W.interrupted writer.old < 2 ^ 62 }
-    ensures ok { IfOk result (λ verdict. Checks (R.remaining instance_reader.old) (R.remaining instance_reader.new)
+    ensures ok { IfOk result
+        (λ verdict. Checks (R.remaining instance_reader.old) (R.remaining instance_reader.new)
         (C.remaining certificate_reader.old) (C.remaining certificate_reader.new) period verdict
         (Appends (W.contents writer.old) (W.contents writer.new))) }
-    ensures reads { OnOk result (HasWorked (R.failed instance_reader.old) (R.interrupted instance_reader.old)
+    ensures reads { OnOk result
+        (HasWorked (R.failed instance_reader.old) (R.interrupted instance_reader.old)
         (R.failed instance_reader.new) (R.interrupted instance_reader.new)) }
-    ensures certificate_reads { OnOk result (HasWorked (C.failed certificate_reader.old) (C.interrupted certificate_reader.old)
+    ensures certificate_reads { OnOk result
+        (HasWorked (C.failed certificate_reader.old) (C.interrupted certificate_reader.old)
         (C.failed certificate_reader.new) (C.interrupted certificate_reader.new)) }
     ensures writes { OnOk result (HasWorked (W.failed writer.old) (W.interrupted writer.old)
         (W.failed writer.new) (W.interrupted writer.new)) }
-    ensures cause { IfErr result (λ fault. CheckCause fault (R.remaining instance_reader.old) (R.remaining instance_reader.new)
+    ensures cause { IfErr result (λ fault. CheckCause fault (R.remaining instance_reader.old)
+        (R.remaining instance_reader.new)
         (C.remaining certificate_reader.old) (C.remaining certificate_reader.new) period
         (W.contents writer.old) (W.contents writer.new)
-        (DeviceFailed (R.failed instance_reader.old) (R.interrupted instance_reader.old) (R.failed instance_reader.new) (R.interrupted instance_reader.new))
+        (DeviceFailed (R.failed instance_reader.old) (R.interrupted instance_reader.old)
+        (R.failed instance_reader.new) (R.interrupted instance_reader.new))
         (certificate_reader.new ≡ certificate_reader.old)
-        (DeviceFailed (C.failed certificate_reader.old) (C.interrupted certificate_reader.old) (C.failed certificate_reader.new) (C.interrupted certificate_reader.new))
-        (DeviceFailed (W.failed writer.old) (W.interrupted writer.old) (W.failed writer.new) (W.interrupted writer.new))) }
+        (DeviceFailed (C.failed certificate_reader.old) (C.interrupted certificate_reader.old)
+        (C.failed certificate_reader.new) (C.interrupted certificate_reader.new))
+        (DeviceFailed (W.failed writer.old) (W.interrupted writer.old) (W.failed writer.new)
+        (W.interrupted writer.new))) }
     ensures silent { IfErr result (λ fault. fault ≢ Fault.Write → writer.new ≡ writer.old) }
 {
     // The instance is judged before the certificate is read.
@@ -190,22 +208,29 @@ pub fn run_report<R: Source, T: Source, W: Sink>(
     requires interrupted_times_reads { T.interrupted times_reader.old < 2 ^ 62 }
     requires failed_writes { W.failed writer.old < 2 ^ 62 }
     requires interrupted_writes { W.interrupted writer.old < 2 ^ 62 }
-    ensures ok { OnOk result (Reports (R.remaining instance_reader.old) (R.remaining instance_reader.new)
+    ensures ok { OnOk result
+        (Reports (R.remaining instance_reader.old) (R.remaining instance_reader.new)
         (T.remaining times_reader.old) (T.remaining times_reader.new) period
         (Appends (W.contents writer.old) (W.contents writer.new))) }
-    ensures reads { OnOk result (HasWorked (R.failed instance_reader.old) (R.interrupted instance_reader.old)
+    ensures reads { OnOk result
+        (HasWorked (R.failed instance_reader.old) (R.interrupted instance_reader.old)
         (R.failed instance_reader.new) (R.interrupted instance_reader.new)) }
-    ensures times_reads { OnOk result (HasWorked (T.failed times_reader.old) (T.interrupted times_reader.old)
+    ensures times_reads { OnOk result
+        (HasWorked (T.failed times_reader.old) (T.interrupted times_reader.old)
         (T.failed times_reader.new) (T.interrupted times_reader.new)) }
     ensures writes { OnOk result (HasWorked (W.failed writer.old) (W.interrupted writer.old)
         (W.failed writer.new) (W.interrupted writer.new)) }
-    ensures cause { IfErr result (λ fault. ReportCause fault (R.remaining instance_reader.old) (R.remaining instance_reader.new)
+    ensures cause { IfErr result (λ fault. ReportCause fault (R.remaining instance_reader.old)
+        (R.remaining instance_reader.new)
         (T.remaining times_reader.old) (T.remaining times_reader.new) period
         (W.contents writer.old) (W.contents writer.new)
-        (DeviceFailed (R.failed instance_reader.old) (R.interrupted instance_reader.old) (R.failed instance_reader.new) (R.interrupted instance_reader.new))
+        (DeviceFailed (R.failed instance_reader.old) (R.interrupted instance_reader.old)
+        (R.failed instance_reader.new) (R.interrupted instance_reader.new))
         (times_reader.new ≡ times_reader.old)
-        (DeviceFailed (T.failed times_reader.old) (T.interrupted times_reader.old) (T.failed times_reader.new) (T.interrupted times_reader.new))
-        (DeviceFailed (W.failed writer.old) (W.interrupted writer.old) (W.failed writer.new) (W.interrupted writer.new))) }
+        (DeviceFailed (T.failed times_reader.old) (T.interrupted times_reader.old)
+        (T.failed times_reader.new) (T.interrupted times_reader.new))
+        (DeviceFailed (W.failed writer.old) (W.interrupted writer.old) (W.failed writer.new)
+        (W.interrupted writer.new))) }
     ensures silent { IfErr result (λ fault. fault ≢ Fault.Write → writer.new ≡ writer.old) }
 {
     // The instance is judged before the times are read.

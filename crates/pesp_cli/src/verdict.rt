@@ -101,12 +101,15 @@ pub fn write_verdict<W: Sink>(
 ) -> Result<(), Fault>
     requires failed { W.failed writer.old < 2 ^ 63 }
     requires interrupted { W.interrupted writer.old < 2 ^ 63 }
-    ensures line { OnOk result (Appends (W.contents writer.old) (W.contents writer.new) (verdict_line answer verdict)) }
+    ensures line { OnOk result
+        (Appends (W.contents writer.old) (W.contents writer.new) (verdict_line answer verdict)) }
     ensures counts { OnOk result (HasWorked (W.failed writer.old) (W.interrupted writer.old)
         (W.failed writer.new) (W.interrupted writer.new)) }
     ensures fault { IfErr result (λ fault. ((fault ≡ Fault.Memory) × (writer.new ≡ writer.old))
-        ⊎ ((fault ≡ Fault.Write) × DeviceFailed (W.failed writer.old) (W.interrupted writer.old) (W.failed writer.new) (W.interrupted writer.new)
-        × AppendsFront (W.contents writer.old) (W.contents writer.new) (verdict_line answer verdict))) }
+        ⊎ ((fault ≡ Fault.Write) × DeviceFailed (W.failed writer.old) (W.interrupted writer.old)
+        (W.failed writer.new) (W.interrupted writer.new)
+        × AppendsFront (W.contents writer.old) (W.contents writer.new)
+        (verdict_line answer verdict))) }
 {
     let line = VerdictText { answer, verdict };
     let text = format!(in alloc; "{line}\n")?;

@@ -65,7 +65,8 @@ fn step(
     requires head { at.0 < events }
     requires tail { at.1 < events }
     requires apart { at.0 ≢ at.1 }
-    ensures { IfSome result (IsStep events arcs.now (roots_of rooted.now) row at.0 at.1 cuts.old cuts.new) }
+    ensures { IfSome result
+        (IsStep events arcs.now (roots_of rooted.now) row at.0 at.1 cuts.old cuts.new) }
 {
     let (head, tail) = at;
     if rooted.depth[head as usize] >= rooted.depth[tail as usize] {
@@ -81,7 +82,8 @@ fn list_row(events: u32, arcs: &[Arc], rooted: &Rooted, cuts: &mut Cuts, row: u3
     requires lists { IsFor events rooted.now }
     requires trees { AreRoots events arcs.now (roots_of rooted.now) }
     requires row { row < length arcs.now }
-    ensures { IsTrue result → AreListed events arcs.now (roots_of rooted.now) row cuts.old → AreListed events arcs.now (roots_of rooted.now) (row + 1) cuts.new }
+    ensures { IsTrue result → AreListed events arcs.now (roots_of rooted.now) row cuts.old
+        → AreListed events arcs.now (roots_of rooted.now) (row + 1) cuts.new }
 {
     let arc = arcs[row as usize];
     let mut at = (arc.head, arc.tail);
@@ -99,7 +101,8 @@ pub fn list_rows(events: u32, arcs: &[Arc], rooted: &Rooted, cuts: &mut Cuts) ->
     requires lists { IsFor events rooted.now }
     requires trees { AreRoots events arcs.now (roots_of rooted.now) }
     requires few { length arcs.now ≤ 100000 }
-    ensures { IsTrue result → AreListed events arcs.now (roots_of rooted.now) 0 cuts.old → AreListed events arcs.now (roots_of rooted.now) (length arcs.now) cuts.new }
+    ensures { IsTrue result → AreListed events arcs.now (roots_of rooted.now) 0 cuts.old
+        → AreListed events arcs.now (roots_of rooted.now) (length arcs.now) cuts.new }
 {
     let count = arcs.len() as u32;
     for row in 0..count {
@@ -136,7 +139,8 @@ pub fn lay_out(cuts: &mut Cuts, counts: &[u32]) -> bool
 
 /// The list of a cut.
 pub fn list(cuts: &Cuts, cut: u32) -> Option<&[Entry]>
-    ensures { (n : ℕ) (lists : ℕ → List Entry) → cut < n → Hold n cuts.now lists → IfSome result (λ s. s.now ≡ lists cut) }
+    ensures { (n : ℕ) (lists : ℕ → List Entry) → cut < n → Hold n cuts.now lists
+        → IfSome result (λ s. s.now ≡ lists cut) }
 {
     let at = cut as usize;
     if at >= cuts.starts.len() || at >= cuts.ends.len() {

@@ -23,7 +23,9 @@ fn is_cut_best(
     numbers: &mut Numbers,
 ) -> bool
     requires some { 0 < period }
-    ensures { (times : List ℕ) (n : ℕ) (r : Roots) → IsTrue result → cut < n → AreSlacks period times arcs.now slacks.now → AreListed n arcs.now r (length arcs.now) cuts.now → IsCutBest (record { period = period; arcs = arcs.now }) times r cut }
+    ensures { (times : List ℕ) (n : ℕ) (r : Roots) → IsTrue result → cut < n
+        → AreSlacks period times arcs.now slacks.now → AreListed n arcs.now r (length arcs.now)
+        cuts.now → IsCutBest (record { period = period; arcs = arcs.now }) times r cut }
 {
     let Some(entries) = list(cuts, cut) else {
         return false;
@@ -53,7 +55,10 @@ pub fn are_cuts_best(
 ) -> bool
     requires some { 0 < period }
     requires few { vec_len rooted.now.by ≤ 100000 }
-    ensures { (times : List ℕ) (n : ℕ) → IsTrue result → IsFor n rooted.now → AreSlacks period times arcs.now slacks.now → AreListed n arcs.now (roots_of rooted.now) (length arcs.now) cuts.now → AreCutsBest n (record { period = period; arcs = arcs.now }) times (roots_of rooted.now) }
+    ensures { (times : List ℕ) (n : ℕ) → IsTrue result → IsFor n rooted.now
+        → AreSlacks period times arcs.now slacks.now
+        → AreListed n arcs.now (roots_of rooted.now) (length arcs.now) cuts.now
+        → AreCutsBest n (record { period = period; arcs = arcs.now }) times (roots_of rooted.now) }
 {
     for (cut, by) in rooted.by.iter().enumerate() {
         if *by != 0 && !is_cut_best(period, arcs, slacks, cuts, cut as u32, numbers) {

@@ -35,8 +35,10 @@ pub fn lower(numbers: &mut [i64], at: usize, by: u64)
 fn carry(numbers: &mut [i64], at: usize)
     requires some { 0 < at }
     requires within { at < length numbers.old }
-    requires room { unsigned_abs (number_at numbers.old (at - 1) +ℤ number_at numbers.old at) ≤ 2000000000000000000 }
-    ensures { numbers.new ≡ slice_set numbers.old at (number_at numbers.old (at - 1) +ℤ number_at numbers.old at) }
+    requires room { unsigned_abs (number_at numbers.old (at - 1) +ℤ number_at numbers.old at)
+        ≤ 2000000000000000000 }
+    ensures { numbers.new
+        ≡ slice_set numbers.old at (number_at numbers.old (at - 1) +ℤ number_at numbers.old at) }
 {
     numbers[at] += numbers[at - 1];
 }
@@ -69,7 +71,8 @@ fn tip(numbers: &mut [i64], slope: &i64, at: usize)
     requires few { at ≤ 10000 }
     requires slope { unsigned_abs slope.now ≤ 100000000000000 }
     requires room { unsigned_abs (number_at numbers.old at) ≤ 2000000000000000000 }
-    ensures { numbers.new ≡ slice_set numbers.old at (number_at numbers.old at +ℤ slope.now *ℤ pos at) }
+    ensures { numbers.new
+        ≡ slice_set numbers.old at (number_at numbers.old at +ℤ slope.now *ℤ pos at) }
 {
     if *slope >= 0 {
         raise(numbers, at, rise(slope, at));
@@ -83,9 +86,11 @@ pub fn slant(numbers: &mut [i64], slope: &i64, count: usize)
     requires count { count ≤ length numbers.old }
     requires few { count ≤ 10000 }
     requires slope { unsigned_abs slope.now ≤ 100000000000000 }
-    requires room { (d : ℕ) → d < count → unsigned_abs (number_at numbers.old d) ≤ 2000000000000000000 }
+    requires room { (d : ℕ) → d < count
+        → unsigned_abs (number_at numbers.old d) ≤ 2000000000000000000 }
     ensures long { length numbers.new ≡ length numbers.old }
-    ensures slanted { Became count (λ d. number_at numbers.old d +ℤ slope.now *ℤ pos d) numbers.new }
+    ensures slanted { Became count (λ d. number_at numbers.old d +ℤ slope.now *ℤ pos d)
+        numbers.new }
 {
     for i in 0..count {
         tip(numbers, slope, i);

@@ -70,7 +70,8 @@ fn is_for(events: u32, rooted: &Rooted) -> bool
 /// Whether each event is a root or is joined upwards.
 fn are_joined(events: u32, arcs: &[Arc], rooted: &Rooted) -> bool
     requires lists { IsFor events rooted.now }
-    ensures { IsTrue result → ((x : ℕ) → x < events → IsJoined events arcs.now (roots_of rooted.now) x) }
+    ensures { IsTrue result
+        → ((x : ℕ) → x < events → IsJoined events arcs.now (roots_of rooted.now) x) }
 {
     for event in 0..events {
         if !is_joined(events, arcs, rooted, event) {
@@ -83,7 +84,8 @@ fn are_joined(events: u32, arcs: &[Arc], rooted: &Rooted) -> bool
 /// Whether both ends of each arc have the same root.
 fn are_spanned(events: u32, arcs: &[Arc], rooted: &Rooted) -> bool
     requires lists { IsFor events rooted.now }
-    ensures { IsTrue result → ((i : ℕ) → i < length arcs.now → IsSpanned events (arc_at arcs.now i) (roots_of rooted.now)) }
+    ensures { IsTrue result → ((i : ℕ) → i < length arcs.now
+        → IsSpanned events (arc_at arcs.now i) (roots_of rooted.now)) }
 {
     for arc in arcs {
         if !is_spanned(events, rooted, arc) {
@@ -105,7 +107,8 @@ pub fn is_rooted(events: u32, arcs: &[Arc], rooted: &Rooted) -> bool
 fn is_tree_row(rooted: &Rooted, arc: &Arc, number: u32) -> bool
     requires tail { arc.now.tail < vec_len rooted.now.by }
     requires head { arc.now.head < vec_len rooted.now.by }
-    ensures { IsTrue result ↔ (slice_index rooted.now.by.items arc.now.tail ≡ number) ⊎ (slice_index rooted.now.by.items arc.now.head ≡ number) }
+    ensures { IsTrue result ↔ (slice_index rooted.now.by.items arc.now.tail ≡ number)
+        ⊎ (slice_index rooted.now.by.items arc.now.head ≡ number) }
 {
     rooted.by[arc.tail as usize] == number || rooted.by[arc.head as usize] == number
 }

@@ -67,8 +67,10 @@ fn tally(
 ) -> bool
     requires most { period ≤ 10000 }
     requires few { length entries.now ≤ 100000 }
-    requires begin { TakesRows period (crossings_of arcs.now slacks.now entries.now) 0 slope.old costs.old bars.old }
-    ensures { IsTrue result → TakesRows period (crossings_of arcs.now slacks.now entries.now) (length entries.now) slope.new costs.new bars.new }
+    requires begin { TakesRows period (crossings_of arcs.now slacks.now entries.now) 0 slope.old
+        costs.old bars.old }
+    ensures { IsTrue result → TakesRows period (crossings_of arcs.now slacks.now entries.now)
+        (length entries.now) slope.new costs.new bars.new }
 {
     for entry in entries {
         let Some(row) = crossing_of(period, arcs, slacks, *entry) else {
@@ -91,10 +93,14 @@ pub fn shift_costs(
     bars: &mut [i64],
 ) -> bool
     ensures some { IsTrue result → 0 < period }
-    ensures long { IsTrue result → (length costs.new ≡ period + 1) × (length bars.new ≡ period + 1) }
-    ensures rows { IsTrue result → All (IsCrossing period) (crossings_of arcs.now slacks.now entries.now) }
-    ensures costs { IsTrue result → Became period (change period (crossings_of arcs.now slacks.now entries.now)) costs.new }
-    ensures bars { IsTrue result → Became period (bars_of period (crossings_of arcs.now slacks.now entries.now)) bars.new }
+    ensures long { IsTrue result
+        → (length costs.new ≡ period + 1) × (length bars.new ≡ period + 1) }
+    ensures rows { IsTrue result
+        → All (IsCrossing period) (crossings_of arcs.now slacks.now entries.now) }
+    ensures costs { IsTrue result
+        → Became period (change period (crossings_of arcs.now slacks.now entries.now)) costs.new }
+    ensures bars { IsTrue result
+        → Became period (bars_of period (crossings_of arcs.now slacks.now entries.now)) bars.new }
 {
     let count = period as usize;
     if count == 0 || count > 10000 || entries.len() > 100_000 {

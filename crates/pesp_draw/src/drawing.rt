@@ -39,11 +39,15 @@ pub fn draw<W: Sink>(
     ensures refused { IfErr result (Refuses instance.now times.now) }
 
     // Something is written at Ok, a front of it where the writer failed, and else nothing.
-    ensures text { OnOk result ((text : List ℕ) × Appends (W.contents sink.old) (W.contents sink.new) text) }
-    ensures counts { OnOk result ((W.failed sink.new ≡ W.failed sink.old) × (W.interrupted sink.new ≤ W.interrupted sink.old + 1000)) }
-    ensures front { IfErr result (λ e. IfBlamed e ((text : List ℕ) × AppendsFront (W.contents sink.old) (W.contents sink.new) text)) }
+    ensures text { OnOk result
+        ((text : List ℕ) × Appends (W.contents sink.old) (W.contents sink.new) text) }
+    ensures counts { OnOk result ((W.failed sink.new ≡ W.failed sink.old)
+        × (W.interrupted sink.new ≤ W.interrupted sink.old + 1000)) }
+    ensures front { IfErr result (λ e. IfBlamed e
+        ((text : List ℕ) × AppendsFront (W.contents sink.old) (W.contents sink.new) text)) }
     ensures fault { IfErr result (λ e. IfBlamed e
-        (DeviceFailed (W.failed sink.old) (W.interrupted sink.old) (W.failed sink.new) (W.interrupted sink.new))) }
+        (DeviceFailed (W.failed sink.old) (W.interrupted sink.old) (W.failed sink.new)
+        (W.interrupted sink.new))) }
     ensures silent { IfErr result (λ e. UnlessBlamed e (sink.new ≡ sink.old)) }
 {
     match score(instance, times) {

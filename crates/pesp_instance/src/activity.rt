@@ -49,7 +49,8 @@ fn number_at(line: &ByteRecord, index: usize) -> Option<i64>
 fn read_numbers(at: u32, line: &ByteRecord) -> Result<ArrayVec<i64, 6>, ReadRefusal>
     requires { 6 ≤ length (fields_of line.now) }
     ensures six { IfOk result (λ numbers. length numbers.items ≡ 6) }
-    ensures numbers { IfOk result (λ numbers. numbers_from at 1 (take 6 (fields_of line.now)) ≡ Ok numbers.items) }
+    ensures numbers { IfOk result
+        (λ numbers. numbers_from at 1 (take 6 (fields_of line.now)) ≡ Ok numbers.items) }
     ensures refused { IfErr result (λ e. numbers_from at 1 (take 6 (fields_of line.now)) ≡ Err e) }
 {
     let mut numbers = ArrayVec::new();

@@ -39,7 +39,8 @@ pub fn read_instance(alloc: Global, text: &[u8], period: u32) -> Result<Instance
 
     // These two take no memory, so no refusal of memory comes in their place.
     ensures period { ¬ ((1 ≤ period) × (period ≤ 10000)) → result ≡ Err Period }
-    ensures too_long { 1 ≤ period → period ≤ 10000 → ¬ (length text.now ≤ 16777216) → result ≡ Err TextTooLong }
+    ensures too_long { 1 ≤ period → period ≤ 10000 → ¬ (length text.now ≤ 16777216)
+        → result ≡ Err TextTooLong }
 {
     if period < 1 || period > MAX_PERIOD {
         return Err(ReadRefusal::Period);

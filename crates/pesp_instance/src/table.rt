@@ -44,10 +44,14 @@ impl Table {
     pub fn read(&mut self, at: u32, line: &ByteRecord) -> Result<(), ReadRefusal>
         requires { index_set_len self.old.events ≤ 100000 }
         ensures few { IfOk result (λ _. index_set_len self.new.events ≤ 100000) }
-        ensures added { (before : List Activity) → IsTable self.old.rows.items self.old.events.keys before
-            → OnOk result (Holds (and_then (activity_of at (fields_of line.now)) (admit before at)) self.new) }
-        ensures refused { (before : List Activity) → IsTable self.old.rows.items self.old.events.keys before
-            → IfErr result (Refuses (and_then (activity_of at (fields_of line.now)) (admit before at))) }
+        ensures added { (before : List Activity)
+            → IsTable self.old.rows.items self.old.events.keys before
+            → OnOk result (Holds (and_then (activity_of at (fields_of line.now)) (admit before at))
+            self.new) }
+        ensures refused { (before : List Activity)
+            → IsTable self.old.rows.items self.old.events.keys before
+            → IfErr result (Refuses
+            (and_then (activity_of at (fields_of line.now)) (admit before at))) }
     {
         match read_activity(at, line) {
             Ok(activity) => self.add(at, activity),
@@ -59,8 +63,10 @@ impl Table {
     fn add(&mut self, at: u32, activity: Activity) -> Result<(), ReadRefusal>
         requires { index_set_len self.old.events ≤ 100000 }
         ensures few { IfOk result (λ _. index_set_len self.new.events ≤ 100000) }
-        ensures added { (before : List Activity) → IsTable self.old.rows.items self.old.events.keys before → OnOk result (Holds (admit before at activity) self.new) }
-        ensures refused { (before : List Activity) → IsTable self.old.rows.items self.old.events.keys before → IfErr result (Refuses (admit before at activity)) }
+        ensures added { (before : List Activity) → IsTable self.old.rows.items self.old.events.keys
+            before → OnOk result (Holds (admit before at activity) self.new) }
+        ensures refused { (before : List Activity) → IsTable self.old.rows.items
+            self.old.events.keys before → IfErr result (Refuses (admit before at activity)) }
     {
         if self.rows.len() >= MAX_ROWS {
             return Err(ReadRefusal::TooManyRows { at });

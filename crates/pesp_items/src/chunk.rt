@@ -80,10 +80,13 @@ impl Chunk {
         requires interrupted_fits { S.interrupted source.old ≤ most }
         requires most_fits { most < u64.MAX }
         ensures length { IfOk result (λ n. (n ≡ length self.new) × (n ≤ limit)) }
-        ensures bytes { OnOk result (Consumes (S.remaining source.old) (S.remaining source.new) self.new) }
+        ensures bytes { OnOk result
+            (Consumes (S.remaining source.old) (S.remaining source.new) self.new) }
         ensures end { IfOk result (λ n. n ≡ 0 → 0 < limit → IsAtEnd (S.remaining source.new)) }
-        ensures counts { OnOk result ((S.failed source.new ≡ S.failed source.old) × (S.interrupted source.new ≤ most)) }
-        ensures fault { OnErr result (Failed (S.failed source.old) most (S.failed source.new) (S.interrupted source.new)) }
+        ensures counts { OnOk result
+            ((S.failed source.new ≡ S.failed source.old) × (S.interrupted source.new ≤ most)) }
+        ensures fault { OnErr result
+            (Failed (S.failed source.old) most (S.failed source.new) (S.interrupted source.new)) }
     {
         let room = limit.min(SIZE);
         self.start = 0;
@@ -96,7 +99,8 @@ impl Chunk {
     /// Moves what stands before the first LF behind the line so far, and drops that LF.
     pub fn take_front(&mut self, line: &mut Vec<u8>) -> Result<Front, AllocError>
         requires { length line.old.items ≤ LONGEST }
-        ensures { IfOk result (λ front. Moves front self.old line.old.items self.new line.new.items) }
+        ensures { IfOk result
+            (λ front. Moves front self.old line.old.items self.new line.new.items) }
     {
         let held = &self.bytes[self.start..self.end];
         match first_lf(held) {

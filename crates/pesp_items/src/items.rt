@@ -36,7 +36,16 @@ impl<S: Source> Items<S> {
         requires interrupted_fits { S.interrupted source < 2 ^ 63 }
         ensures source { result.source ≡ source }
         ensures most { result.reader.most ≡ S.interrupted source + 1000 }
-        ensures begins { reading (S.remaining source) result.reader ≡ record { told = S.remaining source; left = 1073741824; held = []; n = 0; progress = start; stage = stages.Going } }
+        ensures begins { reading (S.remaining source) result.reader
+            ≡ record {
+              told = S.remaining source;
+              left = 1073741824;
+              held = [];
+              n = 0;
+              progress
+                  = start;
+              stage = stages.Going;
+            } }
     {
         let most = source.interrupted_reads() + MOST_INTERRUPTED;
         Items {
@@ -49,10 +58,15 @@ impl<S: Source> Items<S> {
     /// its items came. `Text` is the text's first fault, or says that a growth was refused; `Read` that the reader failed.
     /// After a fault each call answers that fault, and after None it answers None.
     pub fn next(&mut self) -> Result<Option<Item<'_>>, ItemFault>
-        ensures* after_borrow { sem 𝓛 (Rests (the_row S.row S.Source) self.entry (λ new. (new.reader.most ≡ self.old.reader.most)
+        ensures* after_borrow { sem 𝓛 (Rests (the_row S.row S.Source) self.entry
+            (λ new. (new.reader.most ≡ self.old.reader.most)
             × OnOk result (S.failed new.source ≡ S.failed self.old.source)
-            × Answers self.old.reader.stage (reading (S.remaining self.old.source) self.old.reader) (reading (S.remaining new.source) new.reader) (said_by result)
-            × (is_open self.old.reader.stage ≡ true → IfErr result (λ fault. Blamed fault (Failed (S.failed self.old.source) self.old.reader.most (S.failed new.source) (S.interrupted new.source)))))) }
+            × Answers self.old.reader.stage (reading (S.remaining self.old.source) self.old.reader)
+            (reading (S.remaining new.source) new.reader) (said_by result)
+            × (is_open self.old.reader.stage ≡ true
+            → IfErr result (λ fault. Blamed fault
+            (Failed (S.failed self.old.source) self.old.reader.most (S.failed new.source)
+            (S.interrupted new.source)))))) }
     {
         if !self.reader.step(&mut self.source)? {
             return Ok(None);

@@ -63,9 +63,12 @@ fn advance<S: Source>(
     requires failed_fits { S.failed source.old < u64.MAX }
     requires interrupted_fits { S.interrupted source.old ≤ most }
     requires most_fits { most < u64.MAX }
-    ensures ok { IfOk result (Advances (S.remaining source.old) (S.remaining source.new) left.old left.new chunk.old chunk.new line.new.items) }
-    ensures counts { OnOk result ((S.failed source.new ≡ S.failed source.old) × (S.interrupted source.new ≤ most)) }
-    ensures fault { IfErr result (λ e. Blames e (Failed (S.failed source.old) most (S.failed source.new) (S.interrupted source.new))) }
+    ensures ok { IfOk result (Advances (S.remaining source.old) (S.remaining source.new) left.old
+        left.new chunk.old chunk.new line.new.items) }
+    ensures counts { OnOk result
+        ((S.failed source.new ≡ S.failed source.old) × (S.interrupted source.new ≤ most)) }
+    ensures fault { IfErr result (λ e. Blames e
+        (Failed (S.failed source.old) most (S.failed source.new) (S.interrupted source.new))) }
 {
     line.clear();
     loop {
@@ -115,9 +118,12 @@ impl LineBuffer {
         requires failed_fits { S.failed source.old < u64.MAX }
         requires interrupted_fits { S.interrupted source.old ≤ most }
         requires most_fits { most < u64.MAX }
-        ensures ok { IfOk result (Advances (S.remaining source.old) (S.remaining source.new) self.old.left self.new.left self.old.chunk self.new.chunk self.new.line.items) }
-        ensures counts { OnOk result ((S.failed source.new ≡ S.failed source.old) × (S.interrupted source.new ≤ most)) }
-        ensures fault { IfErr result (λ e. Blames e (Failed (S.failed source.old) most (S.failed source.new) (S.interrupted source.new))) }
+        ensures ok { IfOk result (Advances (S.remaining source.old) (S.remaining source.new)
+            self.old.left self.new.left self.old.chunk self.new.chunk self.new.line.items) }
+        ensures counts { OnOk result
+            ((S.failed source.new ≡ S.failed source.old) × (S.interrupted source.new ≤ most)) }
+        ensures fault { IfErr result (λ e. Blames e
+            (Failed (S.failed source.old) most (S.failed source.new) (S.interrupted source.new))) }
     {
         advance(
             &mut self.chunk,
@@ -133,9 +139,12 @@ impl LineBuffer {
         requires failed_fits { S.failed source.old < u64.MAX }
         requires interrupted_fits { S.interrupted source.old ≤ most }
         requires most_fits { most < u64.MAX }
-        ensures ok { IfOk result (λ over. EndsHere (S.remaining source.old) (S.remaining source.new) self.old.left self.new.left self.old.chunk over) }
-        ensures counts { OnOk result ((S.failed source.new ≡ S.failed source.old) × (S.interrupted source.new ≤ most)) }
-        ensures fault { OnErr result (Failed (S.failed source.old) most (S.failed source.new) (S.interrupted source.new)) }
+        ensures ok { IfOk result (λ over. EndsHere (S.remaining source.old) (S.remaining source.new)
+            self.old.left self.new.left self.old.chunk over) }
+        ensures counts { OnOk result
+            ((S.failed source.new ≡ S.failed source.old) × (S.interrupted source.new ≤ most)) }
+        ensures fault { OnErr result
+            (Failed (S.failed source.old) most (S.failed source.new) (S.interrupted source.new)) }
     {
         if !self.chunk.is_empty() {
             return Ok(false);

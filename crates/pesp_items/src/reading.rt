@@ -44,7 +44,15 @@ impl ItemReader {
     pub fn new(alloc: Global, most: u64) -> ItemReader
         requires most_fits { most < u64.MAX }
         ensures most { result.most ≡ most }
-        ensures begins { (told : Option (List ℕ)) → reading told result ≡ record { told = told; left = 1073741824; held = []; n = 0; progress = start; stage = stages.Going } }
+        ensures begins { (told : Option (List ℕ))
+            → reading told result ≡ record {
+              told = told;
+              left = 1073741824;
+              held = [];
+              n = 0;
+              progress = start;
+              stage = stages.Going;
+            } }
     {
         ItemReader {
             lines: LineBuffer::new(alloc),
@@ -62,15 +70,20 @@ impl ItemReader {
         requires failed_fits { S.failed source.old < u64.MAX }
         requires interrupted_fits { S.interrupted source.old ≤ self.old.most }
         ensures most { self.new.most ≡ self.old.most }
-        ensures failed { OnOk result ((S.failed source.new ≡ S.failed source.old) × (S.interrupted source.new ≤ self.old.most)) }
-        ensures same { OnOk result ((self.new.stage ≡ self.old.stage) × (self.new.progress ≡ self.old.progress) × (self.new.n ≡ self.old.n)) }
-        ensures counted { OnOk result ((self.new.n + 1) + (self.new.lines.left + length self.new.lines.chunk) ≤ 1073741824) }
+        ensures failed { OnOk result ((S.failed source.new ≡ S.failed source.old)
+            × (S.interrupted source.new ≤ self.old.most)) }
+        ensures same { OnOk result ((self.new.stage ≡ self.old.stage)
+            × (self.new.progress ≡ self.old.progress) × (self.new.n ≡ self.old.n)) }
+        ensures counted { OnOk result
+            ((self.new.n + 1) + (self.new.lines.left + length self.new.lines.chunk) ≤ 1073741824) }
         ensures line { OnOk result (Lines (reading (S.remaining source.old) self.old)
             (reading_line (S.remaining source.new) self.new) self.new.lines.line.items) }
         ensures stage { IfErr result (λ fault. self.new.stage ≡ stages.Failed fault) }
         ensures fault { IfErr result (λ fault. Faults (reading (S.remaining source.old) self.old)
             (reading (S.remaining source.new) self.new) fault) }
-        ensures blamed { IfErr result (λ fault. Blamed fault (Failed (S.failed source.old) self.old.most (S.failed source.new) (S.interrupted source.new))) }
+        ensures blamed { IfErr result (λ fault. Blamed fault
+            (Failed (S.failed source.old) self.old.most (S.failed source.new)
+            (S.interrupted source.new))) }
     {
         let n = self.n + 1;
         match self.lines.advance(source, self.most) {
@@ -103,11 +116,16 @@ impl ItemReader {
         requires failed_fits { S.failed source.old < u64.MAX }
         requires interrupted_fits { S.interrupted source.old ≤ self.old.most }
         ensures most { self.new.most ≡ self.old.most }
-        ensures failed { OnOk result ((S.failed source.new ≡ S.failed source.old) × (S.interrupted source.new ≤ self.old.most)) }
+        ensures failed { OnOk result ((S.failed source.new ≡ S.failed source.old)
+            × (S.interrupted source.new ≤ self.old.most)) }
         ensures gives { Gives (reading (S.remaining source.old) self.old)
-            (reading (S.remaining source.new) self.new) (stepped (read_back self.new.said self.new.lines.line.items) result) }
-        ensures spelt { IfOk result (λ more. more ≡ true → IsSpelt self.new.said self.new.lines.line.items) }
-        ensures blamed { IfErr result (λ fault. Blamed fault (Failed (S.failed source.old) self.old.most (S.failed source.new) (S.interrupted source.new))) }
+            (reading (S.remaining source.new) self.new)
+            (stepped (read_back self.new.said self.new.lines.line.items) result) }
+        ensures spelt { IfOk result
+            (λ more. more ≡ true → IsSpelt self.new.said self.new.lines.line.items) }
+        ensures blamed { IfErr result (λ fault. Blamed fault
+            (Failed (S.failed source.old) self.old.most (S.failed source.new)
+            (S.interrupted source.new))) }
     {
         self.read_line(source)?;
         self.n += 1;
@@ -150,13 +168,20 @@ impl ItemReader {
     /// Reads and judges the next line that is an item's; false where none comes any more.
     pub fn step<S: Source>(&mut self, source: &mut S) -> Result<bool, ItemFault>
         requires failed_fits { is_open self.old.stage ≡ true → S.failed source.old < u64.MAX }
-        requires interrupted_fits { is_open self.old.stage ≡ true → S.interrupted source.old ≤ self.old.most }
+        requires interrupted_fits { is_open self.old.stage ≡ true
+            → S.interrupted source.old ≤ self.old.most }
         ensures most { self.new.most ≡ self.old.most }
-        ensures failed { OnOk result ((S.failed source.new ≡ S.failed source.old) × (is_open self.old.stage ≡ true → S.interrupted source.new ≤ self.old.most)) }
+        ensures failed { OnOk result ((S.failed source.new ≡ S.failed source.old)
+            × (is_open self.old.stage ≡ true → S.interrupted source.new ≤ self.old.most)) }
         ensures answers { Answers self.old.stage (reading (S.remaining source.old) self.old)
-            (reading (S.remaining source.new) self.new) (stepped (read_back self.new.said self.new.lines.line.items) result) }
-        ensures spelt { IfOk result (λ more. more ≡ true → IsSpelt self.new.said self.new.lines.line.items) }
-        ensures blamed { is_open self.old.stage ≡ true → IfErr result (λ fault. Blamed fault (Failed (S.failed source.old) self.old.most (S.failed source.new) (S.interrupted source.new))) }
+            (reading (S.remaining source.new) self.new)
+            (stepped (read_back self.new.said self.new.lines.line.items) result) }
+        ensures spelt { IfOk result
+            (λ more. more ≡ true → IsSpelt self.new.said self.new.lines.line.items) }
+        ensures blamed { is_open self.old.stage ≡ true
+            → IfErr result (λ fault. Blamed fault
+            (Failed (S.failed source.old) self.old.most (S.failed source.new)
+            (S.interrupted source.new))) }
     {
         match self.stage {
             Stage::Going => self.go(source),
@@ -177,12 +202,16 @@ impl ItemReader {
     /// fault, after None it answers None.
     pub fn next_from<S: Source>(&mut self, source: &mut S) -> Result<Option<Item<'_>>, ItemFault>
         requires failed_fits { is_open self.old.stage ≡ true → S.failed source.old < u64.MAX }
-        requires interrupted_fits { is_open self.old.stage ≡ true → S.interrupted source.old ≤ self.old.most }
+        requires interrupted_fits { is_open self.old.stage ≡ true
+            → S.interrupted source.old ≤ self.old.most }
         ensures* after_borrow { sem 𝓛 (Rests the_row self.entry (λ new. (new.most ≡ self.old.most)
-            × OnOk result ((S.failed source.new ≡ S.failed source.old) × (is_open self.old.stage ≡ true → S.interrupted source.new ≤ self.old.most))
+            × OnOk result ((S.failed source.new ≡ S.failed source.old)
+            × (is_open self.old.stage ≡ true → S.interrupted source.new ≤ self.old.most))
             × Answers self.old.stage (reading (S.remaining source.old) self.old)
             (reading (S.remaining source.new) new) (said_by result)
-            × (is_open self.old.stage ≡ true → IfErr result (λ fault. Blamed fault (Failed (S.failed source.old) self.old.most (S.failed source.new) (S.interrupted source.new)))))) }
+            × (is_open self.old.stage ≡ true → IfErr result
+            (λ fault. Blamed fault (Failed (S.failed source.old) self.old.most (S.failed source.new)
+            (S.interrupted source.new)))))) }
     {
         if !self.step(source)? {
             return Ok(None);

@@ -30,7 +30,8 @@ fn lift(
     requires small { limit + most < 2 ^ 64 }
     requires grown { IsGrown edges.now level.old by.old }
     ensures grown { IsGrown edges.now level.new by.new }
-    ensures cases { MatchBool result (sum level.old < sum level.new) ((level.new ≡ level.old) × Settles edges.now (at level.old) k) }
+    ensures cases { MatchBool result (sum level.old < sum level.new)
+        ((level.new ≡ level.old) × Settles edges.now (at level.old) k) }
     ensures others { (x : ℕ) → x ≢ (edge_at edges.now k).start → at level.new x ≡ at level.old x }
     ensures here { at level.new (edge_at edges.now k).start ≤ limit + most }
     ensures events { length level.new ≡ length level.old }
@@ -60,7 +61,9 @@ fn pass(
     requires small { limit + most < 2 ^ 64 }
     requires grown { IsGrown edges.now level.old by.old }
     ensures grown { IsGrown edges.now level.new by.new }
-    ensures cases { MatchOption result (AreSettled edges.now (at level.new)) (λ e. (e < length level.old) × (sum level.old < sum level.new) × ((x : ℕ) → x ≢ e → at level.new x ≤ limit)) }
+    ensures cases { MatchOption result (AreSettled edges.now (at level.new))
+        (λ e. (e < length level.old) × (sum level.old < sum level.new)
+        × ((x : ℕ) → x ≢ e → at level.new x ≤ limit)) }
     ensures events { length level.new ≡ length level.old }
     ensures events_by { length by.new ≡ length level.old }
 {
@@ -123,7 +126,8 @@ fn settle_in(
     requires small { length level.old * most + most < 2 ^ 63 }
     requires low { (x : ℕ) → at level.old x ≤ length level.old * most }
     requires grown { IsGrown edges.now level.old by.old }
-    ensures cases { IfOk result (λ o. MatchOption o (AreSettled edges.now (at level.new)) (λ w. GainsForEver edges.now w.items × (length w.items ≤ length level.old))) }
+    ensures cases { IfOk result (λ o. MatchOption o (AreSettled edges.now (at level.new))
+        (λ w. GainsForEver edges.now w.items × (length w.items ≤ length level.old))) }
     ensures events { IfOk result (λ o. length level.new ≡ length level.old) }
 {
     let limit = level.len() * most;

@@ -125,7 +125,8 @@ pub(crate) fn judge_pairs(words: Words<'_>) -> Result<LinePairs<'_>, LineFault>
 /// The first pair of words that were judged, and what stands behind its words.
 pub fn first_pair(words: &[u8], least: u64) -> (Pair, Option<&[u8]>)
     requires { pairs_are_good (pairs_from least (words_of words.now)) ≡ true }
-    ensures { BeginsPairs (Some result.0) least (words_of words.now) (pieces_left 32 (option_copied result.1)) }
+    ensures { BeginsPairs (Some result.0) least (words_of words.now)
+        (pieces_left 32 (option_copied result.1)) }
 {
     let (first, behind) = split_at_byte(b' ', words);
     let Some(words) = behind else { unreachable!() };

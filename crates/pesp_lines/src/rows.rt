@@ -132,7 +132,8 @@ pub(crate) fn judge_rows(words: Words<'_>) -> Result<SignedRows<'_>, LineFault>
 /// The first row of words that were judged, and what stands behind its word.
 pub fn first_row(words: &[u8]) -> (SignedRow, Option<&[u8]>)
     requires { rows_are_good (rows_of (words_of words.now)) ≡ true }
-    ensures { BeginsRows (Some result.0) (rows_of (words_of words.now)) (rows_of (pieces_left 32 (option_copied result.1))) }
+    ensures { BeginsRows (Some result.0) (rows_of (words_of words.now))
+        (rows_of (pieces_left 32 (option_copied result.1))) }
 {
     let (word, rest) = split_at_byte(b' ', words);
     let Some((row, plus)) = row_at(word) else {

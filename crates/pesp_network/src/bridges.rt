@@ -15,7 +15,8 @@ impl Reaches {
     // takes two places in at an event
     fn take(&mut self, event: usize, low: usize, high: usize)
         requires { event < vec_len self.old.low }
-        ensures takes { Takes self.old.low.items self.old.high.items self.new.low.items self.new.high.items event low high }
+        ensures takes { Takes self.old.low.items self.old.high.items self.new.low.items
+            self.new.high.items event low high }
         ensures events { vec_len self.new.low ≡ vec_len self.old.low }
     {
         self.low[event] = self.low[event].min(low);
@@ -27,8 +28,11 @@ impl Reaches {
         requires event { event < vec_len forest.now.up }
         requires other { other < vec_len forest.now.up }
         requires room { vec_len self.old.low ≡ vec_len forest.now.up }
-        ensures kept { at forest.now.by.items event ≡ k → (self.new.low.items ≡ self.old.low.items) × (self.new.high.items ≡ self.old.high.items) }
-        ensures takes { at forest.now.by.items event ≢ k → Takes self.old.low.items self.old.high.items self.new.low.items self.new.high.items event (at forest.now.place.items other) (at forest.now.place.items other) }
+        ensures kept { at forest.now.by.items event ≡ k → (self.new.low.items ≡ self.old.low.items)
+            × (self.new.high.items ≡ self.old.high.items) }
+        ensures takes { at forest.now.by.items event ≢ k
+            → Takes self.old.low.items self.old.high.items self.new.low.items self.new.high.items
+            event (at forest.now.place.items other) (at forest.now.place.items other) }
         ensures events { vec_len self.new.low ≡ vec_len self.old.low }
     {
         if forest.by[event] == k {
@@ -41,10 +45,15 @@ impl Reaches {
     // takes in, at the event above, what an event reaches
     fn take_up(&mut self, forest: &Forest, event: usize)
         requires event { event < vec_len forest.now.up }
-        requires up { 0 < at forest.now.by.items event → at forest.now.up.items event < vec_len forest.now.up }
+        requires up { 0 < at forest.now.by.items event
+            → at forest.now.up.items event < vec_len forest.now.up }
         requires room { vec_len self.old.low ≡ vec_len forest.now.up }
-        ensures kept { at forest.now.by.items event ≡ 0 → (self.new.low.items ≡ self.old.low.items) × (self.new.high.items ≡ self.old.high.items) }
-        ensures takes { 0 < at forest.now.by.items event → Takes self.old.low.items self.old.high.items self.new.low.items self.new.high.items (at forest.now.up.items event) (at self.old.low.items event) (at self.old.high.items event) }
+        ensures kept { at forest.now.by.items event ≡ 0 → (self.new.low.items ≡ self.old.low.items)
+            × (self.new.high.items ≡ self.old.high.items) }
+        ensures takes { 0 < at forest.now.by.items event
+            → Takes self.old.low.items self.old.high.items self.new.low.items self.new.high.items
+            (at forest.now.up.items event) (at self.old.low.items event)
+            (at self.old.high.items event) }
         ensures events { vec_len self.new.low ≡ vec_len self.old.low }
     {
         if forest.by[event] == 0 {
@@ -64,7 +73,8 @@ fn reach_rows(
     forest: &Forest,
 ) -> Result<Reaches, AllocError>
     requires { IsForest events (arcs_of_network rows.now) forest.now }
-    ensures takes { IfOk result (λ r. TakesRows events (arcs_of_network rows.now) forest.now (length (arcs_of_network rows.now)) r.low.items r.high.items) }
+    ensures takes { IfOk result (λ r. TakesRows events (arcs_of_network rows.now) forest.now
+        (length (arcs_of_network rows.now)) r.low.items r.high.items) }
     ensures events { IfOk result (λ r. vec_len r.low ≡ vec_len forest.now.up) }
 {
     let low = Vec::from_slice(alloc, forest.place.as_slice())?;
@@ -87,7 +97,8 @@ pub fn reach(
     forest: &Forest,
 ) -> Result<Reaches, AllocError>
     requires { IsForest events (arcs_of_network rows.now) forest.now }
-    ensures reaches { IfOk result (λ r. AreReaches events (arcs_of_network rows.now) forest.now r.low.items r.high.items) }
+    ensures reaches { IfOk result
+        (λ r. AreReaches events (arcs_of_network rows.now) forest.now r.low.items r.high.items) }
     ensures events { IfOk result (λ r. vec_len r.low ≡ vec_len forest.now.up) }
 {
     let mut reaches = reach_rows(alloc, events, rows, forest)?;
@@ -104,7 +115,8 @@ pub fn reach(
 fn is_cut(forest: &Forest, reaches: &Reaches, event: usize) -> bool
     requires event { event < vec_len forest.now.up }
     requires sized { vec_len reaches.now.low ≡ vec_len forest.now.up }
-    ensures { IsTrue result ↔ ((at forest.now.place.items event ≤ at reaches.now.low.items event) × (at reaches.now.high.items event ≤ at forest.now.last.items event)) }
+    ensures { IsTrue result ↔ ((at forest.now.place.items event ≤ at reaches.now.low.items event)
+        × (at reaches.now.high.items event ≤ at forest.now.last.items event)) }
 {
     forest.place[event] <= reaches.low[event] && reaches.high[event] <= forest.last[event]
 }
@@ -119,7 +131,8 @@ pub fn is_bridge(
     k: usize,
 ) -> bool
     requires forest { IsForest events (arcs_of_network rows.now) forest.now }
-    requires reaches { AreReaches events (arcs_of_network rows.now) forest.now reaches.now.low.items reaches.now.high.items }
+    requires reaches { AreReaches events (arcs_of_network rows.now) forest.now reaches.now.low.items
+        reaches.now.high.items }
     requires sized { vec_len reaches.now.low ≡ vec_len forest.now.up }
     requires row { Names (length rows.now) k }
     ensures { IsTrue result ↔ IsBridge (arcs_of_network rows.now) k }

@@ -68,10 +68,15 @@ pub fn beyond(
     k: usize,
 ) -> (usize, usize)
     requires row { (1 ≤ k) × (k ≤ length rows.now) }
-    requires at_event { (tail_of (arcs_of_network rows.now) k ≡ event) ⊎ (head_of (arcs_of_network rows.now) k ≡ event) }
+    requires at_event { (tail_of (arcs_of_network rows.now) k ≡ event)
+        ⊎ (head_of (arcs_of_network rows.now) k ≡ event) }
     requires chains { AreChains (arcs_of_network rows.now) events chains.now }
-    ensures next { IsNext (tail_of (arcs_of_network rows.now)) (head_of (arcs_of_network rows.now)) event k result.0 }
-    ensures ends { ((tail_of (arcs_of_network rows.now) k ≡ result.1) × (head_of (arcs_of_network rows.now) k ≡ event)) ⊎ ((head_of (arcs_of_network rows.now) k ≡ result.1) × (tail_of (arcs_of_network rows.now) k ≡ event)) }
+    ensures next { IsNext (tail_of (arcs_of_network rows.now)) (head_of (arcs_of_network rows.now))
+        event k result.0 }
+    ensures ends { ((tail_of (arcs_of_network rows.now) k ≡ result.1)
+        × (head_of (arcs_of_network rows.now) k ≡ event))
+        ⊎ ((head_of (arcs_of_network rows.now) k ≡ result.1)
+        × (tail_of (arcs_of_network rows.now) k ≡ event)) }
 {
     let row = rows[k - 1];
     if row.tail as usize == event {

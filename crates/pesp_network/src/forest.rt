@@ -15,7 +15,8 @@ use std::alloc::{AllocError, Global};
 // the rows of these numbers
 fn pick(alloc: Global, rows: &[NetRow], numbers: &[u32]) -> Result<Vec<NetRow>, AllocError>
     requires { All (Names (length rows.now)) numbers.now }
-    ensures { IfOk result (λ kept. kept.items ≡ map (λ k. net_row_at rows.now (k - 1)) numbers.now) }
+    ensures { IfOk result
+        (λ kept. kept.items ≡ map (λ k. net_row_at rows.now (k - 1)) numbers.now) }
 {
     numbers
         .iter()
@@ -54,7 +55,8 @@ fn grow_over(
     requires few { length numbers.now ≤ 100000 }
     requires names { All (Names (length rows.now)) numbers.now }
     ensures grown { IfOk result (IsGrown events (arcs_of_network rows.now)) }
-    ensures met { IfOk result (λ f. (i : ℕ) → i < length numbers.now → IsMetBy (arcs_of_network rows.now) f (slice_index numbers.now i)) }
+    ensures met { IfOk result (λ f. (i : ℕ) → i < length numbers.now
+        → IsMetBy (arcs_of_network rows.now) f (slice_index numbers.now i)) }
 {
     let kept = pick(alloc, rows, numbers)?;
     let growth = grow(alloc, events, kept.as_slice())?;
@@ -80,7 +82,8 @@ fn grow_over(
 // whether both ends of each row are in one tree
 fn meets_all(events: usize, rows: &[NetRow], forest: &Forest) -> bool
     requires { IsGrown events (arcs_of_network rows.now) forest.now }
-    ensures { IsTrue result → (k : ℕ) → Names (length (arcs_of_network rows.now)) k → IsMetBy (arcs_of_network rows.now) forest.now k }
+    ensures { IsTrue result → (k : ℕ) → Names (length (arcs_of_network rows.now)) k
+        → IsMetBy (arcs_of_network rows.now) forest.now k }
 {
     for row in rows {
         if forest.root[row.tail as usize] != forest.root[row.head as usize] {
@@ -94,7 +97,8 @@ fn meets_all(events: usize, rows: &[NetRow], forest: &Forest) -> bool
 fn all_numbers(alloc: Global, count: usize) -> Result<Vec<u32>, AllocError>
     requires { count ≤ 100000 }
     ensures len { IfOk result (λ numbers. vec_len numbers ≡ count) }
-    ensures each { IfOk result (λ numbers. (i : ℕ) → i < count → slice_index numbers.items i ≡ i + 1) }
+    ensures each { IfOk result
+        (λ numbers. (i : ℕ) → i < count → slice_index numbers.items i ≡ i + 1) }
 {
     let mut numbers = Vec::with_capacity(alloc, count)?;
     for i in 0..count {

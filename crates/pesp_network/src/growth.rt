@@ -68,7 +68,8 @@ impl Growth {
     fn close(&mut self, event: usize)
         requires { event < vec_len self.old.up }
         ensures closes { Closes (fns_of self.old) (fns_of self.new) event }
-        ensures lasts { self.new.last.items ≡ slice_set self.old.last.items event (vec_len self.old.order) }
+        ensures lasts { self.new.last.items
+            ≡ slice_set self.old.last.items event (vec_len self.old.order) }
         ensures lefts { self.new.left.items ≡ self.old.left.items }
         ensures events { vec_len self.new.up ≡ vec_len self.old.up }
     {

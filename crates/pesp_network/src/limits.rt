@@ -23,7 +23,8 @@ fn is_good(period: u32, events: u32, row: &NetRow) -> bool
 /// The first row that a network of so many events can't have, by its number from 1, or 0 where the period or the number of
 /// events is beyond its limit.
 pub fn bad_row(period: u32, events: u32, rows: &[NetRow]) -> Option<u32>
-    ensures { MatchOption result (AreGood period events rows.now) (IsBadRow period events rows.now) }
+    ensures { MatchOption result (AreGood period events rows.now)
+        (IsBadRow period events rows.now) }
 {
     if period == 0 || period > 10_000 || events > 100_000 {
         return Some(0);
@@ -46,8 +47,10 @@ pub fn rows_of(
     requires period { 1 ≤ period }
     requires few { length rows.now ≤ 100000 }
     requires each { All (RowKeepsLimits events) rows.now }
-    ensures arcs { IfOk result (λ made. arcs_of_network made.items ≡ map (spec.arc_of period) rows.now) }
-    ensures origins { IfOk result (λ made. (i : ℕ) → i < length made.items → (net_row_at made.items i).origin ≡ i + 1) }
+    ensures arcs { IfOk result
+        (λ made. arcs_of_network made.items ≡ map (spec.arc_of period) rows.now) }
+    ensures origins { IfOk result
+        (λ made. (i : ℕ) → i < length made.items → (net_row_at made.items i).origin ≡ i + 1) }
     ensures few { IfOk result (λ made. length made.items ≤ 100000) }
     ensures each { IfOk result (λ made. All (RowKeepsNetLimits period events) made.items) }
 {

@@ -95,7 +95,8 @@ impl Network {
         ensures period { IfOk result (λ n. n.period ≡ instance.now.period) }
         ensures events { IfOk result (λ n. n.events ≡ length instance.now.events) }
         ensures rows { IfOk result (λ n. arcs_of_network n.rows ≡ arcs_of instance.now) }
-        ensures origins { IfOk result (λ n. (i : ℕ) → i < length n.rows → (net_row_at n.rows i).origin ≡ i + 1) }
+        ensures origins { IfOk result
+            (λ n. (i : ℕ) → i < length n.rows → (net_row_at n.rows i).origin ≡ i + 1) }
     {
         let period = instance.period();
         let events = instance.events().len() as u32;
@@ -222,10 +223,13 @@ impl Network {
     /// back through rows of the forest alone (its fundamental walk). No walk passes an event or a row twice.
     /// `TableTooLarge` only where these walks have more than 10000000 signed rows.
     pub fn cycles(&self, alloc: Global) -> Result<Vec<Walk>, NetRefusal>
-        ensures fundamental { IfOk result (λ table. AreFundamental (arcs_of_network self.now.rows) self.now.forest table.items) }
-        ensures simple { IfOk result (λ table. All (IsSimple (arcs_of_network self.now.rows)) table.items) }
+        ensures fundamental { IfOk result
+            (λ table. AreFundamental (arcs_of_network self.now.rows) self.now.forest table.items) }
+        ensures simple { IfOk result
+            (λ table. All (IsSimple (arcs_of_network self.now.rows)) table.items) }
         ensures small { IfOk result (λ table. signed_rows table.items ≤ 10000000) }
-        ensures refused { IfErr result (IsTableRefusal (arcs_of_network self.now.rows) self.now.forest) }
+        ensures refused { IfErr result
+            (IsTableRefusal (arcs_of_network self.now.rows) self.now.forest) }
     {
         walks::walks(alloc, self.events, self.rows.as_slice(), &self.forest)
     }
@@ -235,12 +239,17 @@ impl Network {
     pub fn way(&self, alloc: Global, from: u32, to: u32) -> Result<Option<Vec<SignedRow>>, Memory>
         requires from { from < self.now.events }
         requires to { to < self.now.events }
-        ensures rows { IfOk result (λ o. IfSome o (λ way. AreRows (arcs_of_network self.now.rows) way.items)) }
-        ensures leads { IfOk result (λ o. IfSome o (λ way. Leads (arcs_of_network self.now.rows) from way.items to)) }
+        ensures rows { IfOk result
+            (λ o. IfSome o (λ way. AreRows (arcs_of_network self.now.rows) way.items)) }
+        ensures leads { IfOk result
+            (λ o. IfSome o (λ way. Leads (arcs_of_network self.now.rows) from way.items to)) }
         ensures forest { IfOk result (λ o. IfSome o (λ way. KeepsTo self.now.forest way.items)) }
-        ensures simple { IfOk result (λ o. IfSome o (λ way. IsSimple (arcs_of_network self.now.rows) way.items)) }
-        ensures end_once { IfOk result (λ o. IfSome o (λ way. All (λ s. start (arcs_of_network self.now.rows) s ≢ to) way.items)) }
-        ensures none { IfOk result (λ o. IfNone o (AreJoined (arcs_of_network self.now.rows) from to → ⊥)) }
+        ensures simple { IfOk result
+            (λ o. IfSome o (λ way. IsSimple (arcs_of_network self.now.rows) way.items)) }
+        ensures end_once { IfOk result (λ o. IfSome o
+            (λ way. All (λ s. start (arcs_of_network self.now.rows) s ≢ to) way.items)) }
+        ensures none { IfOk result
+            (λ o. IfNone o (AreJoined (arcs_of_network self.now.rows) from to → ⊥)) }
     {
         let found = walks::way(
             alloc,
@@ -256,7 +265,8 @@ impl Network {
     /// Whether these are times of a timetable: one below the period for each event, at which no row's slack is above its
     /// span.
     pub fn is_timetable(&self, times: &[u32]) -> bool
-        ensures { IsTrue result ↔ IsNetTimetable (net_of_network self.now) self.now.events times.now }
+        ensures { IsTrue result
+            ↔ IsNetTimetable (net_of_network self.now) self.now.events times.now }
     {
         net_times::is_timetable(self.period(), self.events(), self.arcs(), times)
     }
@@ -276,10 +286,17 @@ impl Network {
         requires count { length slacks.now ≡ length self.now.rows }
         requires below { All (λ y. y < self.now.period) slacks.now }
         ensures count { IfOk result (λ o. IfSome o (λ times. vec_len times ≡ self.now.events)) }
-        ensures below { IfOk result (λ o. IfSome o (λ times. All (λ t. t < self.now.period) times.items)) }
-        ensures slacks { IfOk result (λ o. IfSome o (λ times. (i : ℕ) → i < length self.now.rows → slacks_at (net_of_network self.now) times.items i ≡ slice_index slacks.now i)) }
-        ensures timetable { IfOk result (λ o. IfSome o (λ times. ((i : ℕ) → i < length self.now.rows → slice_index slacks.now i ≤ (net_row_at self.now.rows i).span) → IsNetTimetable (net_of_network self.now) self.now.events times.items)) }
-        ensures none { IfOk result (λ o. IfNone o (HasOpenRow (net_of_network self.now) self.now.forest (slice_index slacks.now))) }
+        ensures below { IfOk result
+            (λ o. IfSome o (λ times. All (λ t. t < self.now.period) times.items)) }
+        ensures slacks { IfOk result (λ o. IfSome o
+            (λ times. (i : ℕ) → i < length self.now.rows
+            → slacks_at (net_of_network self.now) times.items i ≡ slice_index slacks.now i)) }
+        ensures timetable { IfOk result (λ o. IfSome o
+            (λ times. ((i : ℕ) → i < length self.now.rows
+            → slice_index slacks.now i ≤ (net_row_at self.now.rows i).span)
+            → IsNetTimetable (net_of_network self.now) self.now.events times.items)) }
+        ensures none { IfOk result (λ o. IfNone o
+            (HasOpenRow (net_of_network self.now) self.now.forest (slice_index slacks.now))) }
     {
         let found = times::timetable_of(
             alloc,

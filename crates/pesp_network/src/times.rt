@@ -68,8 +68,14 @@ fn time_of(
     requires event { event < events }
     requires joined { 0 < at forest.now.by.items event }
     ensures less { result < period }
-    ensures as_head { tail_of (arcs_of_network rows.now) (at forest.now.by.items event) ≡ at forest.now.up.items event → IsSame period (pos result -ℤ pos (at times.now (at forest.now.up.items event))) (duration (arcs_of_network rows.now) slacks.now (at forest.now.by.items event)) }
-    ensures as_tail { tail_of (arcs_of_network rows.now) (at forest.now.by.items event) ≢ at forest.now.up.items event → IsSame period (pos (at times.now (at forest.now.up.items event)) -ℤ pos result) (duration (arcs_of_network rows.now) slacks.now (at forest.now.by.items event)) }
+    ensures as_head { tail_of (arcs_of_network rows.now) (at forest.now.by.items event)
+        ≡ at forest.now.up.items event → IsSame period
+        (pos result -ℤ pos (at times.now (at forest.now.up.items event)))
+        (duration (arcs_of_network rows.now) slacks.now (at forest.now.by.items event)) }
+    ensures as_tail { tail_of (arcs_of_network rows.now) (at forest.now.by.items event) ≢ at
+        forest.now.up.items event → IsSame period
+        (pos (at times.now (at forest.now.up.items event)) -ℤ pos result)
+        (duration (arcs_of_network rows.now) slacks.now (at forest.now.by.items event)) }
 {
     let by = forest.by[event];
     let row = &rows[by - 1];
@@ -96,7 +102,8 @@ fn spread(
     requires slacks { AreSlacks period (arcs_of_network rows.now) slacks.now }
     ensures count { IfOk result (λ times. vec_len times ≡ events) }
     ensures less { IfOk result (λ times. (x : ℕ) → at times.items x < period) }
-    ensures fits { IfOk result (λ times. FitsForest period (arcs_of_network rows.now) forest.now slacks.now times.items (vec_len forest.now.order)) }
+    ensures fits { IfOk result (λ times. FitsForest period (arcs_of_network rows.now) forest.now
+        slacks.now times.items (vec_len forest.now.order)) }
 {
     let mut times = vec![in alloc; 0u32; events]?;
     for i in 0..forest.order.len() {
@@ -131,8 +138,11 @@ pub fn timetable_of(
     requires slacks { AreSlacks period (arcs_of_network rows.now) slacks.now }
     ensures count { IfOk result (λ o. IfSome o (λ times. vec_len times ≡ events)) }
     ensures below { IfOk result (λ o. IfSome o (λ times. All (λ t. t < period) times.items)) }
-    ensures slacks { IfOk result (λ o. IfSome o (λ times. (i : ℕ) → i < length rows.now → spec.arc_slack period times.items (spec.arc_at (arcs_of_network rows.now) i) ≡ slice_index slacks.now i)) }
-    ensures none { IfOk result (λ o. IfNone o (OpensRow period events (arcs_of_network rows.now) forest.now slacks.now)) }
+    ensures slacks { IfOk result (λ o. IfSome o
+        (λ times. (i : ℕ) → i < length rows.now → spec.arc_slack period times.items
+        (spec.arc_at (arcs_of_network rows.now) i) ≡ slice_index slacks.now i)) }
+    ensures none { IfOk result
+        (λ o. IfNone o (OpensRow period events (arcs_of_network rows.now) forest.now slacks.now)) }
 {
     let times = spread(alloc, period, events, rows, forest, slacks)?;
     for (i, row) in rows.iter().enumerate() {

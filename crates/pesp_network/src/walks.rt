@@ -67,7 +67,9 @@ fn climb(
     requires from { from < events }
     requires to { to < events }
     requires one_tree { at forest.now.root.items from ≡ at forest.now.root.items to }
-    ensures walk { OnOk result (walk.new.items ≡ walk.old.items ++ up_way (arcs_of_network rows.now) forest.now to (at forest.now.place.items from) from) }
+    ensures walk { OnOk result (walk.new.items
+        ≡ walk.old.items ++ up_way (arcs_of_network rows.now) forest.now to
+        (at forest.now.place.items from) from) }
     ensures top { IfOk result (λ u. u ≡ top forest.now to (at forest.now.place.items from) from) }
 {
     let mut upper = from;
@@ -91,7 +93,8 @@ fn descend(
     requires from { from < events }
     requires to { to < events }
     requires above { Under forest.now from to }
-    ensures { IfOk result (λ way. reverse way.items ≡ down_way (arcs_of_network rows.now) forest.now from (at forest.now.place.items to) to) }
+    ensures { IfOk result (λ way. reverse way.items
+        ≡ down_way (arcs_of_network rows.now) forest.now from (at forest.now.place.items to) to) }
 {
     let mut way = Vec::new(alloc);
     let mut lower = to;
@@ -116,7 +119,8 @@ fn go_on(
     requires from { from < events }
     requires to { to < events }
     requires one_tree { at forest.now.root.items from ≡ at forest.now.root.items to }
-    ensures { OnOk result (walk.new.items ≡ walk.old.items ++ way_between (arcs_of_network rows.now) forest.now from to) }
+    ensures { OnOk result (walk.new.items ≡ walk.old.items
+        ++ way_between (arcs_of_network rows.now) forest.now from to) }
 {
     let upper = climb(events, rows, forest, walk, from, to)?;
     let mut down = descend(alloc, events, rows, forest, upper, to)?;
@@ -137,8 +141,10 @@ pub fn way(
     requires forest { IsForest events (arcs_of_network rows.now) forest.now }
     requires from { from < events }
     requires to { to < events }
-    ensures way { IfOk result (λ found. IfSome found (λ way. IsForestWay (arcs_of_network rows.now) forest.now from to way.items)) }
-    ensures none { IfOk result (λ found. IfNone found (at forest.now.root.items from ≢ at forest.now.root.items to)) }
+    ensures way { IfOk result (λ found. IfSome found
+        (λ way. IsForestWay (arcs_of_network rows.now) forest.now from to way.items)) }
+    ensures none { IfOk result
+        (λ found. IfNone found (at forest.now.root.items from ≢ at forest.now.root.items to)) }
 {
     if forest.root[from] != forest.root[to] {
         return Ok(None);
@@ -176,7 +182,8 @@ pub fn walk_back(
 fn is_kept(forest: &Forest, row: &NetRow, k: usize) -> bool
     requires tail { row.now.tail < vec_len forest.now.up }
     requires head { row.now.head < vec_len forest.now.up }
-    ensures { result ≡ ((at forest.now.by.items row.now.tail == k) || (at forest.now.by.items row.now.head == k)) }
+    ensures { result ≡ ((at forest.now.by.items row.now.tail == k) ||
+        (at forest.now.by.items row.now.head == k)) }
 {
     forest.by[row.tail as usize] == k || forest.by[row.head as usize] == k
 }
@@ -189,9 +196,11 @@ pub fn walks(
     forest: &Forest,
 ) -> Result<Vec<Walk>, NetRefusal>
     requires { IsForest events (arcs_of_network rows.now) forest.now }
-    ensures table { IfOk result (λ table. table.items ≡ walks_of (arcs_of_network rows.now) forest.now (length rows.now)) }
+    ensures table { IfOk result
+        (λ table. table.items ≡ walks_of (arcs_of_network rows.now) forest.now (length rows.now)) }
     ensures small { IfOk result (λ table. signed_rows table.items ≤ 10000000) }
-    ensures refused { IfErr result (IsTooMany (arcs_of_network rows.now) forest.now (length rows.now)) }
+    ensures refused { IfErr result
+        (IsTooMany (arcs_of_network rows.now) forest.now (length rows.now)) }
 {
     let mut table = Vec::new(alloc);
     let mut total: usize = 0;

@@ -101,7 +101,8 @@ fn cost_of(instance: &Instance, times: &[u32]) -> Option<u64>
 
 fn low_times(alloc: Global, left: &Reduced, times: &[u32]) -> Option<Vec<u32>>
     requires { IsTimetable left.now.original times.now }
-    ensures { IfSome result (λ lowered. IsNetTimetable (net_of_network left.now.network) left.now.network.events lowered.items) }
+    ensures { IfSome result (λ lowered. IsNetTimetable (net_of_network left.now.network)
+        left.now.network.events lowered.items) }
 {
     left.lower_times(alloc, times).ok()
 }

@@ -65,7 +65,8 @@ fn closes(arcs: &[Arc], walk: &[SignedRow]) -> bool
 
 /// The first walk of a table that doesn't close, by its number from 1.
 pub fn first_open(arcs: &[Arc], table: &[Walk]) -> Option<u64>
-    ensures { MatchOption result ((c : ℕ) → c < length table.now → IsWalk arcs.now (cycle_at table.now c)) (λ cycle. IsFirstOpen arcs.now table.now cycle) }
+    ensures { MatchOption result ((c : ℕ) → c < length table.now
+        → IsWalk arcs.now (cycle_at table.now c)) (λ cycle. IsFirstOpen arcs.now table.now cycle) }
 {
     for place in 0..table.len() {
         if !closes(arcs, table[place].rows()) {

@@ -11,8 +11,12 @@ ghost use Rattle.pesp_nodes.specs.Problems.{IsCutOf, ArePairs};
 
 /// A cut of a range of a node that leaves both sides a value keeps the limit of a cut.
 pub fn cuts_inside_ranges_keep_limits()
-    ensures slacks { (node : Node) (row k : ℕ) → AreSlackEnds node.slacks → Names (length node.slacks) row → k < (slack_range node.slacks (row - 1)).1 → IsCutOf node (Slack row k) }
-    ensures offsets { (node : Node) (cycle : ℕ) (k : ℤ) → AreOffsetEnds node.offsets → Names (length node.offsets) cycle → (offset_range node.offsets (cycle - 1)).0 ≤ℤ k → k <ℤ (offset_range node.offsets (cycle - 1)).1 → IsCutOf node (Offset cycle k) }
+    ensures slacks { (node : Node) (row k : ℕ) → AreSlackEnds node.slacks
+        → Names (length node.slacks) row → k < (slack_range node.slacks (row - 1)).1
+        → IsCutOf node (Slack row k) }
+    ensures offsets { (node : Node) (cycle : ℕ) (k : ℤ) → AreOffsetEnds node.offsets
+        → Names (length node.offsets) cycle → (offset_range node.offsets (cycle - 1)).0 ≤ℤ k
+        → k <ℤ (offset_range node.offsets (cycle - 1)).1 → IsCutOf node (Offset cycle k) }
 {}
 
 /// Pairs that rise and keep their limits are at most as many as the cycles.

@@ -70,7 +70,8 @@ pub fn count_rows(walk: &[SignedRow], working: &mut [i64])
     requires exist { All (λ s. Names (length working.old) s.row) walk.now }
     requires short { length walk.now ≤ 10000000 }
     requires zeros { AreZeros working.old }
-    ensures { (i : ℕ) → i < length working.old → slice_index_or working.new i (pos 0) ≡ net_count walk.now i }
+    ensures { (i : ℕ) → i < length working.old
+        → slice_index_or working.new i (pos 0) ≡ net_count walk.now i }
 {
     for s in walk {
         let at = s.row as usize - 1;

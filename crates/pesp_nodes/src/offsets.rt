@@ -21,7 +21,9 @@ fn duration_at(arcs: &[Arc], slacks: &[(u32, u32)], place: u32, end: End) -> i64
     requires slacks { AreSlackEnds slacks.now }
     requires long { length slacks.now ≡ length arcs.now }
     requires exists { place < length arcs.now }
-    ensures value { result ≡ at_end end ((arc_at arcs.now place).lower +ℤ pos (slack_range slacks.now place).0) ((arc_at arcs.now place).lower +ℤ pos (slack_range slacks.now place).1) }
+    ensures value { result ≡ at_end end ((arc_at arcs.now place).lower +ℤ pos
+        (slack_range slacks.now place).0)
+        ((arc_at arcs.now place).lower +ℤ pos (slack_range slacks.now place).1) }
     ensures size { unsigned_abs result ≤ 1030000 }
 {
     let range = slacks[place as usize];
@@ -53,8 +55,10 @@ fn sums_of(arcs: &[Arc], slacks: &[(u32, u32)], counts: &[NetCount]) -> (i128, i
     requires slacks { AreSlackEnds slacks.now }
     requires long { length slacks.now ≡ length arcs.now }
     requires counts { AreSmallCounts (length arcs.now) counts.now }
-    ensures least { (walk : List SignedRow) → AreNetCounts (length arcs.now) walk counts.now → result.0 ≡ end_sum Low arcs.now slacks.now walk }
-    ensures greatest { (walk : List SignedRow) → AreNetCounts (length arcs.now) walk counts.now → result.1 ≡ end_sum High arcs.now slacks.now walk }
+    ensures least { (walk : List SignedRow) → AreNetCounts (length arcs.now) walk counts.now
+        → result.0 ≡ end_sum Low arcs.now slacks.now walk }
+    ensures greatest { (walk : List SignedRow) → AreNetCounts (length arcs.now) walk counts.now
+        → result.1 ≡ end_sum High arcs.now slacks.now walk }
     ensures small { unsigned_abs result.0 ≤ 10300000000000 }
     ensures large { unsigned_abs result.1 ≤ 10300000000000 }
 {
@@ -92,8 +96,10 @@ pub fn bounds_of(
     requires slacks { AreSlackEnds slacks.now }
     requires long { length slacks.now ≡ length arcs.now }
     requires counts { AreSmallCounts (length arcs.now) counts.now }
-    ensures low { (walk : List SignedRow) → AreNetCounts (length arcs.now) walk counts.now → result.0 ≡ (odijk_range (record { period = period; arcs = arcs.now }) slacks.now walk).0 }
-    ensures high { (walk : List SignedRow) → AreNetCounts (length arcs.now) walk counts.now → result.1 ≡ (odijk_range (record { period = period; arcs = arcs.now }) slacks.now walk).1 }
+    ensures low { (walk : List SignedRow) → AreNetCounts (length arcs.now) walk counts.now
+        → result.0 ≡ (odijk_range (record { period = period; arcs = arcs.now }) slacks.now walk).0 }
+    ensures high { (walk : List SignedRow) → AreNetCounts (length arcs.now) walk counts.now
+        → result.1 ≡ (odijk_range (record { period = period; arcs = arcs.now }) slacks.now walk).1 }
     ensures small { (z : ℤ) → result.0 ≤ℤ z → z ≤ℤ result.1 → IsSmallOffset period z }
     ensures ends { IsOffsetEnds result }
 {
@@ -107,7 +113,8 @@ pub fn bounds_of(
 // what two ranges share
 fn shared(range: (i64, i64), bounds: (i64, i64)) -> Option<(i64, i64)>
     ensures value { result ≡ range_or_none (int_max range.0 bounds.0) (int_min range.1 bounds.1) }
-    ensures within { IfSome result (λ left. (bounds.0 ≤ℤ left.0) × (left.0 ≤ℤ left.1) × (left.1 ≤ℤ bounds.1)) }
+    ensures within { IfSome result
+        (λ left. (bounds.0 ≤ℤ left.0) × (left.0 ≤ℤ left.1) × (left.1 ≤ℤ bounds.1)) }
 {
     let low = range.0.max(bounds.0);
     let high = range.1.min(bounds.1);
@@ -130,8 +137,10 @@ pub fn left_of(
     requires slacks { AreSlackEnds slacks.now }
     requires long { length slacks.now ≡ length arcs.now }
     requires counts { AreSmallCounts (length arcs.now) counts.now }
-    ensures value { (walk : List SignedRow) → AreNetCounts (length arcs.now) walk counts.now → result ≡ left_of (record { period = period; arcs = arcs.now }) slacks.now range walk }
-    ensures small { IfSome result (λ left. IsSmallOffset period left.0 × IsSmallOffset period left.1) }
+    ensures value { (walk : List SignedRow) → AreNetCounts (length arcs.now) walk counts.now
+        → result ≡ left_of (record { period = period; arcs = arcs.now }) slacks.now range walk }
+    ensures small { IfSome result
+        (λ left. IsSmallOffset period left.0 × IsSmallOffset period left.1) }
 {
     shared(range, bounds_of(period, arcs, slacks, counts))
 }

@@ -52,7 +52,9 @@ impl Passages {
     // one signed row more of a cycle; no passage but the last is of it
     pub(crate) fn pass(&mut self, cycle: u32, s: &SignedRow) -> Result<(), AllocError>
         requires { All (λ e. unsigned_abs e.count ≤ 10000000) self.old }
-        ensures { (before : List declared.Passage) (count : ℤ) → AreBefore cycle before → IsPassed cycle count before self.old → OnOk result (IsPassed cycle (count +ℤ sign s.now) before self.new) }
+        ensures { (before : List declared.Passage) (count : ℤ) → AreBefore cycle before
+            → IsPassed cycle count before self.old
+            → OnOk result (IsPassed cycle (count +ℤ sign s.now) before self.new) }
     {
         let count = with_sign(take_last(&mut self.passages, cycle), s);
         if count != 0 {
@@ -65,8 +67,10 @@ impl Passages {
 // takes off the last passage where it is of this cycle; its count, or 0
 fn take_last(passages: &mut Vec<Passage>, cycle: u32) -> i64
     requires { All (λ e. unsigned_abs e.count ≤ 10000000) passages.old.items }
-    ensures value { (before : List declared.Passage) (count : ℤ) → AreBefore cycle before → IsPassed cycle count before passages.old.items → result ≡ count }
-    ensures rest { (before : List declared.Passage) (count : ℤ) → AreBefore cycle before → IsPassed cycle count before passages.old.items → passages.new.items ≡ before }
+    ensures value { (before : List declared.Passage) (count : ℤ) → AreBefore cycle before
+        → IsPassed cycle count before passages.old.items → result ≡ count }
+    ensures rest { (before : List declared.Passage) (count : ℤ) → AreBefore cycle before
+        → IsPassed cycle count before passages.old.items → passages.new.items ≡ before }
     ensures size { unsigned_abs result ≤ 10000000 }
 {
     if passages.is_empty() {
@@ -91,7 +95,9 @@ pub fn add_walk(
     requires short { length walk.now ≤ 10000000 }
     requires before { All (AreBefore cycle) by_row.old.items }
     ensures long { OnOk result (length by_row.new.items ≡ length by_row.old.items) }
-    ensures passed { OnOk result ((i : ℕ) → i < length by_row.old.items → IsPassed cycle (net_count walk.now i) (passages_at by_row.old.items i) (passages_at by_row.new.items i)) }
+    ensures passed { OnOk result ((i : ℕ) → i < length by_row.old.items
+        → IsPassed cycle (net_count walk.now i) (passages_at by_row.old.items i)
+        (passages_at by_row.new.items i)) }
 {
     for s in walk {
         by_row[s.row as usize - 1].pass(cycle, s)?;

@@ -82,7 +82,9 @@ fn root_offsets(
     requires long { length slacks.now ≡ length arcs.now }
     requires counts { All (AreSmallCounts (length arcs.now)) nets.now }
     ensures ends { IfOk result (λ v. AreOffsetEnds v.items) }
-    ensures offsets { (walks : List (List SignedRow)) → AreNets (length arcs.now) walks nets.now → IfOk result (λ v. v.items ≡ map (spec.odijk_range (record { period = period; arcs = arcs.now }) slacks.now) walks) }
+    ensures offsets { (walks : List (List SignedRow)) → AreNets (length arcs.now) walks nets.now
+        → IfOk result (λ v. v.items
+        ≡ map (spec.odijk_range (record { period = period; arcs = arcs.now }) slacks.now) walks) }
 {
     let mut offsets = Vec::new(alloc);
     for counts in nets {
@@ -100,7 +102,8 @@ impl Problem {
         ensures table { IfOk result (λ p. p.table ≡ table.items) }
         ensures closed { IfOk result (λ p. All (IsWalk (net_of p).arcs) p.table) }
         ensures small { IfOk result (λ p. IsSmallTable p.table) }
-        ensures refused { IfErr result (IsProblemRefusal (arcs_of_network network.rows) table.items) }
+        ensures refused { IfErr result
+            (IsProblemRefusal (arcs_of_network network.rows) table.items) }
     {
         let arcs = network.arcs();
         judge(arcs, &table)?;
@@ -186,7 +189,8 @@ impl Problem {
 
     /// For each row the cycles that pass it, with how often they do.
     pub fn passages(&self) -> &[Passages]
-        ensures passages { ArePassages (length self.now.network.rows) (length self.now.table) self.now.table result.now }
+        ensures passages { ArePassages (length self.now.network.rows) (length self.now.table)
+            self.now.table result.now }
         ensures short { All (λ ps. sum_by (λ e. unsigned_abs e.count) ps ≤ 10000000) result.now }
     {
         &self.by_row

@@ -34,7 +34,8 @@ fn gain(arc: &Arc, range: (u32, u32), flow: i128) -> i128
     requires low { range.0 ≤ 10000 }
     requires high { range.1 ≤ 10000 }
     requires flow { unsigned_abs flow ≤ 10000000 }
-    ensures value { result ≡ row_term arc.now range true flow -ℤ row_term arc.now range true (pos 0) }
+    ensures value { result
+        ≡ row_term arc.now range true flow -ℤ row_term arc.now range true (pos 0) }
     ensures size { unsigned_abs result ≤ unsigned_abs flow * 1030000 }
 {
     minus(
@@ -51,7 +52,8 @@ fn gain_at(arcs: &[Arc], slacks: &[(u32, u32)], pair: &Pair, net: &NetCount) -> 
     requires one { unsigned_abs pair.now.mult ≡ 1 }
     requires exists { net.now.place < length arcs.now }
     requires small { unsigned_abs net.now.count ≤ 10000000 }
-    ensures value { result ≡ gain_at arcs.now slacks.now net.now.place (pair.now.mult *ℤ net.now.count) }
+    ensures value { result
+        ≡ gain_at arcs.now slacks.now net.now.place (pair.now.mult *ℤ net.now.count) }
     ensures size { unsigned_abs result ≤ unsigned_abs net.now.count * 1030000 }
 {
     let place = net.place as usize;
@@ -65,7 +67,9 @@ fn gains(arcs: &[Arc], slacks: &[(u32, u32)], counts: &[NetCount], pair: &Pair) 
     requires long { length slacks.now ≡ length arcs.now }
     requires counts { AreSmallCounts (length arcs.now) counts.now }
     requires one { unsigned_abs pair.now.mult ≡ 1 }
-    ensures value { (walk : List SignedRow) → AreNetCounts (length arcs.now) walk counts.now → result ≡ over_arcs arcs.now (λ i. gain_at arcs.now slacks.now i (pair.now.mult *ℤ net_count walk i)) }
+    ensures value { (walk : List SignedRow) → AreNetCounts (length arcs.now) walk counts.now
+        → result ≡ over_arcs arcs.now
+        (λ i. gain_at arcs.now slacks.now i (pair.now.mult *ℤ net_count walk i)) }
     ensures size { unsigned_abs result ≤ 10300000000000 }
 {
     let mut sum = 0;
@@ -81,8 +85,10 @@ pub fn single_value(problem: &Problem, node: &Node, pair: &Pair, none: i128) -> 
     requires node { IsNodeOf problem.now node.now }
     requires cycle { Names (length problem.now.table) pair.now.cycle }
     requires one { unsigned_abs pair.now.mult ≡ 1 }
-    requires none { spec.leaf_value (net_of problem.now) problem.now.table node.now [] true ≡ Some none }
-    ensures { result ≡ spec.leaf_value (net_of problem.now) problem.now.table node.now (pair.now ∷ []) true }
+    requires none { spec.leaf_value (net_of problem.now) problem.now.table node.now [] true
+        ≡ Some none }
+    ensures { result ≡ spec.leaf_value (net_of problem.now) problem.now.table node.now
+        (pair.now ∷ []) true }
 {
     problem.keeps_limits();
     let place = pair.cycle as usize - 1;

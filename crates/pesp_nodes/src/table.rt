@@ -78,7 +78,9 @@ pub fn nets_of_passages(
 ) -> Result<Vec<Nets>, AllocError>
     requires before { All (AreBefore (cycles + 1)) by_row.now }
     requires few { length by_row.now ≤ 100000 }
-    ensures { (walks : List (List SignedRow)) → length walks ≡ cycles → All (λ walk. length walk ≤ 10000000) walks → ArePassages (length by_row.now) cycles walks by_row.now → IfOk result (λ v. AreNets (length by_row.now) walks v.items) }
+    ensures { (walks : List (List SignedRow)) → length walks ≡ cycles
+        → All (λ walk. length walk ≤ 10000000) walks → ArePassages (length by_row.now) cycles walks
+        by_row.now → IfOk result (λ v. AreNets (length by_row.now) walks v.items) }
 {
     let mut nets = no_nets(alloc, cycles)?;
     for place in 0..by_row.len() {

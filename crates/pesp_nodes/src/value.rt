@@ -26,7 +26,8 @@ pub fn left_at(problem: &Problem, node: &Node, place: usize) -> Option<(i64, i64
     requires node { IsNodeOf problem.now node.now }
     requires exists { place < length problem.now.table }
     ensures value { result ≡ offsets_left (net_of problem.now) problem.now.table node.now place }
-    ensures small { IfSome result (λ left. IsSmallOffset problem.now.network.period left.0 × IsSmallOffset problem.now.network.period left.1) }
+    ensures small { IfSome result (λ left. IsSmallOffset problem.now.network.period left.0
+        × IsSmallOffset problem.now.network.period left.1) }
 {
     let counts = problem.nets()[place].counts();
     let range = node.offsets()[place];
@@ -44,8 +45,10 @@ pub fn left_at(problem: &Problem, node: &Node, place: usize) -> Option<(i64, i64
 pub fn offset_range(problem: &Problem, node: &Node, cycle: u32) -> Option<(i64, i64)>
     requires node { IsNodeOf problem.now node.now }
     requires cycle { Names (length problem.now.table) cycle }
-    ensures value { result ≡ offsets_left (net_of problem.now) problem.now.table node.now (cycle - 1) }
-    ensures small { IfSome result (λ left. IsSmallOffset problem.now.network.period left.0 × IsSmallOffset problem.now.network.period left.1) }
+    ensures value { result
+        ≡ offsets_left (net_of problem.now) problem.now.table node.now (cycle - 1) }
+    ensures small { IfSome result (λ left. IsSmallOffset problem.now.network.period left.0
+        × IsSmallOffset problem.now.network.period left.1) }
 {
     left_at(problem, node, cycle as usize - 1)
 }
@@ -76,7 +79,8 @@ fn offset_sum(problem: &Problem, node: &Node, pairs: &[Pair]) -> Option<i128>
     requires node { IsNodeOf problem.now node.now }
     requires pairs { ArePairs (length problem.now.table) pairs.now }
     requires few { length problem.now.table ≤ 100000 }
-    ensures value { result ≡ option_map (λ z. pos problem.now.network.period *ℤ z) (offset_part (net_of problem.now) problem.now.table node.now pairs.now) }
+    ensures value { result ≡ option_map (λ z. pos problem.now.network.period *ℤ z)
+        (offset_part (net_of problem.now) problem.now.table node.now pairs.now) }
     ensures size { IfSome result (λ z. unsigned_abs z ≤ 100000 * (1000000000000 * 10300000000000)) }
 {
     let mut sum = 0;
@@ -151,8 +155,10 @@ fn row_sum(
     requires rise { Rise pairs.now }
     requires mults { All (λ p. unsigned_abs p.mult ≤ 1000000000000) pairs.now }
     requires dense { AreMults pairs.now dense.now }
-    ensures value { (walks : List (List SignedRow)) → ArePassages (length arcs.now) (length walks) walks by_row.now → All (λ p. Names (length walks) p.cycle) pairs.now
-        → result ≡ over_arcs arcs.now (λ i. row_term_at arcs.now slacks.now weighted i (flow walks pairs.now i)) }
+    ensures value { (walks : List (List SignedRow)) → ArePassages (length arcs.now) (length walks)
+        walks by_row.now → All (λ p. Names (length walks) p.cycle) pairs.now
+        → result ≡ over_arcs arcs.now
+        (λ i. row_term_at arcs.now slacks.now weighted i (flow walks pairs.now i)) }
     ensures size { unsigned_abs result ≤ 100000 * 10 ^ 26 }
 {
     let mut sum = 0;
@@ -171,7 +177,8 @@ fn row_sum(
 pub fn leaf_value(problem: &Problem, node: &Node, pairs: &[Pair], weighted: bool) -> Option<i128>
     requires node { IsNodeOf problem.now node.now }
     requires pairs { ArePairs (length problem.now.table) pairs.now }
-    ensures value { result ≡ spec.leaf_value (net_of problem.now) problem.now.table node.now pairs.now weighted }
+    ensures value { result
+        ≡ spec.leaf_value (net_of problem.now) problem.now.table node.now pairs.now weighted }
     ensures small { IfSome result (λ value. unsigned_abs value < 10 ^ 26) }
 {
     problem.keeps_limits();

@@ -22,8 +22,10 @@ fn enter(node: &mut Node, path: &mut Vec<Branch>, cut: Cut) -> Result<(), Memory
     requires cut { IsCutOf node.old cut }
     requires path { AreChanges (length node.old.slacks) (length node.old.offsets) path.old.items }
     ensures path { AreChanges (length node.new.slacks) (length node.new.offsets) path.new.items }
-    ensures parts { OnOk result (waiting true node.new path.new.items ≡ branched (waiting true node.old path.old.items) cut) }
-    ensures same { OnErr result (waiting true node.new path.new.items ≡ waiting true node.old path.old.items) }
+    ensures parts { OnOk result (waiting true node.new path.new.items
+        ≡ branched (waiting true node.old path.old.items) cut) }
+    ensures same { OnErr result
+        (waiting true node.new path.new.items ≡ waiting true node.old path.old.items) }
 {
     path.push(Branch {
         change: node.change_of(cut),
@@ -37,7 +39,8 @@ fn enter(node: &mut Node, path: &mut Vec<Branch>, cut: Cut) -> Result<(), Memory
 fn next_part(node: &mut Node, path: &mut Vec<Branch>) -> bool
     requires { AreChanges (length node.old.slacks) (length node.old.offsets) path.old.items }
     ensures path { AreChanges (length node.new.slacks) (length node.new.offsets) path.new.items }
-    ensures parts { waiting result node.new path.new.items ≡ pending node.old (reverse path.old.items) }
+    ensures parts { waiting result node.new path.new.items
+        ≡ pending node.old (reverse path.old.items) }
 {
     while !path.is_empty() {
         let top = path.len() - 1;

@@ -57,7 +57,8 @@ fn offer_shown(
     shown: &[(i64, u32)],
 ) -> Result<(), Memory>
     ensures problem { board.new.problem ≡ board.old.problem }
-    ensures offers { OnOk result (OffersShown board.old.problem events.now board.old.state shown.now board.new.state) }
+    ensures offers { OnOk result
+        (OffersShown board.old.problem events.now board.old.state shown.now board.new.state) }
 {
     if !are_labels(shown, events) {
         return Ok(());
@@ -92,7 +93,8 @@ fn take_work(
     work: WorkText,
 ) -> Result<Reply, Memory>
     ensures problem { board.new.problem ≡ board.old.problem }
-    ensures takes { IfOk result (λ reply. TakesWork board.old.problem events.now board.old.state work reply board.new.state) }
+    ensures takes { IfOk result (λ reply. TakesWork board.old.problem events.now board.old.state
+        work reply board.new.state) }
 {
     let WorkText { job, times, tree } = work;
     let given = answered(board.give(alloc, job, &Work::Tree(tree)))?;
@@ -116,7 +118,8 @@ fn take_works(
     works: Vec<WorkText>,
 ) -> Result<Vec<Reply>, Memory>
     ensures problem { board.new.problem ≡ board.old.problem }
-    ensures takes { IfOk result (λ replies. TakesWorks board.old.problem events.now board.old.state works.items replies.items board.new.state) }
+    ensures takes { IfOk result (λ replies. TakesWorks board.old.problem events.now board.old.state
+        works.items replies.items board.new.state) }
 {
     let mut replies = Vec::new(alloc);
     for work in works {
@@ -134,8 +137,10 @@ fn graft_on(
     works: Vec<WorkText>,
 ) -> Result<Grafted, Memory>
     requires { IsProblemOf instance.now board.old.problem }
-    ensures takes { IfOk result (λ grafted. TakesWorks board.old.problem instance.now.events board.old.state works.items grafted.replies.items board.new.state) }
-    ensures certified { IfOk result (λ grafted. IsCertificateOf board.old.problem instance.now.events board.new.state grafted.certificate) }
+    ensures takes { IfOk result (λ grafted. TakesWorks board.old.problem instance.now.events
+        board.old.state works.items grafted.replies.items board.new.state) }
+    ensures certified { IfOk result (λ grafted. IsCertificateOf board.old.problem
+        instance.now.events board.new.state grafted.certificate) }
     ensures valid { IfOk result (λ grafted. IsValid instance.now grafted.certificate) }
 {
     let replies = take_works(alloc, instance.events(), board, works)?;
@@ -157,7 +162,8 @@ pub fn graft(
     works: Vec<WorkText>,
 ) -> Result<Grafted, Memory>
     requires { IsValid instance.now base.now }
-    ensures { IfOk result (λ grafted. IsGrafted instance.now base.now works.items grafted.replies.items grafted.certificate) }
+    ensures { IfOk result (λ grafted. IsGrafted instance.now base.now works.items
+        grafted.replies.items grafted.certificate) }
 {
     // Both keep their limits.
     instance.events();

@@ -45,7 +45,8 @@ fn keep(opens: &mut Vec<OpenJob>, leaf: OpenJob) -> Result<(), Memory>
 fn valued_jobs(alloc: Global, board: &Board, jobs: Vec<Job>) -> Result<Vec<OpenJob>, Memory>
     requires { (opening : State) × LendsEach board.now.problem opening jobs.items board.now.state }
     ensures jobs { IfOk result (λ opens. map (λ leaf. leaf.job) opens.items ≡ jobs.items) }
-    ensures values { IfOk result (λ opens. All (HasItsValue board.now.problem board.now.state) opens.items) }
+    ensures values { IfOk result
+        (λ opens. All (HasItsValue board.now.problem board.now.state) opens.items) }
 {
     let mut opens = Vec::new(alloc);
     for job in jobs {

@@ -19,7 +19,8 @@ pub struct Lent {
 /// Takes the base up, and lends all its open leaves.
 pub fn lend_base(alloc: Global, instance: &Instance, base: &Certificate) -> Result<Lent, Memory>
     requires { IsValid instance.now base.now }
-    ensures { IfOk result (λ lent. IsLentFrom instance.now base.now lent.board.problem lent.jobs.items lent.board.state) }
+    ensures { IfOk result (λ lent. IsLentFrom instance.now base.now lent.board.problem
+        lent.jobs.items lent.board.state) }
 {
     let mut board = Board::adopt(alloc, instance, base)?;
     board.best();

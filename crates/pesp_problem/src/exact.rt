@@ -7,7 +7,8 @@ ghost use Rattle.pesp_problem.specs.Sums as spec;
 pub fn times(a: i128, b: i128) -> i128
     requires { unsigned_abs a * unsigned_abs b < 2 ^ 127 }
     ensures value { result ≡ a *ℤ b }
-    ensures size { (m n : ℕ) → unsigned_abs a ≤ m → unsigned_abs b ≤ n → unsigned_abs result ≤ m * n }
+    ensures size { (m n : ℕ) → unsigned_abs a ≤ m → unsigned_abs b ≤ n
+        → unsigned_abs result ≤ m * n }
 {
     a * b
 }

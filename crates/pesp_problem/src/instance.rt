@@ -35,7 +35,8 @@ impl Model for Instance {
 impl Instance {
     /// The instance of these parts, which keep the limits.
     pub fn new(period: u32, events: Vec<i64>, rows: Vec<Row>) -> Instance
-        requires { KeepsLimits (record { period = period; events = events.items; rows = rows.items }) }
+        requires { KeepsLimits
+            (record { period = period; events = events.items; rows = rows.items }) }
         ensures { result ≡ record { period = period; events = events.items; rows = rows.items } }
     {
         Instance {

@@ -60,7 +60,8 @@ fn are_satisfied(period: u32, events: u32, arcs: &[Arc], times: &[u32]) -> bool
 /// Whether there is a time below the period for each of so many events, and the slack of each arc is at most its span.
 pub fn is_timetable(period: u32, events: u32, arcs: &[Arc], times: &[u32]) -> bool
     requires limits { KeepArcLimits period events arcs.now }
-    ensures { IsTrue result ↔ IsNetTimetable (record { period = period; arcs = arcs.now }) events times.now }
+    ensures { IsTrue result
+        ↔ IsNetTimetable (record { period = period; arcs = arcs.now }) events times.now }
 {
     times.len() == events as usize
         && are_below(period, times)

@@ -44,7 +44,8 @@ fn are_times(instance: &Instance, times: &[u32]) -> bool
 /// that isn't satisfied, numbered from 1, with its slack; else the cost, the sum of weight times slack over all rows.
 pub fn score(instance: &Instance, times: &[u32]) -> Score
     ensures score { IsScore instance.now times.now result }
-    ensures feasible { (c : ℕ) → (result ≡ Score.Feasible c) ↔ IsTimetableOfCost instance.now times.now c }
+    ensures feasible { (c : ℕ)
+        → (result ≡ Score.Feasible c) ↔ IsTimetableOfCost instance.now times.now c }
 {
     if !are_times(instance, times) {
         return Score::NotTimes;

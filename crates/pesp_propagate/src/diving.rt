@@ -164,7 +164,8 @@ fn try_again(
     tries: u32,
     targets: Vec<u32>,
 ) -> Result<Option<Vec<u32>>, Memory>
-    ensures { IfOk result (λ found. IfSome found (λ times. IsNetTimetable (net_of_network network.now) network.now.events times.items)) }
+    ensures { IfOk result (λ found. IfSome found
+        (λ times. IsNetTimetable (net_of_network network.now) network.now.events times.items)) }
 {
     let rows = Rows::of(alloc, network)?;
     let ranges: Vec<(u32, u32)> = rows.arcs().iter().map(range_of).collect(alloc)?;
@@ -207,7 +208,8 @@ fn targets_of(alloc: Global, network: &Network, prices: &[i64]) -> Result<Vec<u3
 /// A try fixes the event with the fewest differences left to the one that costs least by what is left of its neighbours,
 /// propagates from there, and takes a value away that turns out to be impossible.
 pub fn dive(alloc: Global, network: &Network, tries: u32) -> Result<Option<Vec<u32>>, Memory>
-    ensures { IfOk result (λ found. IfSome found (λ times. IsNetTimetable (net_of_network network.now) network.now.events times.items)) }
+    ensures { IfOk result (λ found. IfSome found
+        (λ times. IsNetTimetable (net_of_network network.now) network.now.events times.items)) }
 {
     try_again(alloc, network, tries, Vec::new(alloc))
 }
@@ -220,7 +222,8 @@ pub fn dive_to(
     prices: &[i64],
     tries: u32,
 ) -> Result<Option<Vec<u32>>, Memory>
-    ensures { IfOk result (λ found. IfSome found (λ times. IsNetTimetable (net_of_network network.now) network.now.events times.items)) }
+    ensures { IfOk result (λ found. IfSome found
+        (λ times. IsNetTimetable (net_of_network network.now) network.now.events times.items)) }
 {
     let targets = targets_of(alloc, network, prices)?;
     try_again(alloc, network, tries, targets)

@@ -83,7 +83,8 @@ impl Domains {
     // the sets before anything is known, with these counts
     fn full_sets(alloc: Global, network: &Network, counts: Counts) -> Result<Domains, Memory>
         ensures sizes { IfOk result (HaveSizes network.now.period network.now.events) }
-        ensures full { IfOk result (λ d. IsFull (net_of_network network.now) network.now.events (family_of d)) }
+        ensures full { IfOk result
+            (λ d. IsFull (net_of_network network.now) network.now.events (family_of d)) }
     {
         let period = network.period();
         let events = network.events();
@@ -106,7 +107,8 @@ impl Domains {
     /// has every difference below the period.
     pub fn full(alloc: Global, network: &Network) -> Result<Domains, Memory>
         ensures sizes { IfOk result (HaveSizes network.now.period network.now.events) }
-        ensures full { IfOk result (λ d. IsFull (net_of_network network.now) network.now.events (family_of d)) }
+        ensures full { IfOk result
+            (λ d. IsFull (net_of_network network.now) network.now.events (family_of d)) }
     {
         let counts = full_counts(alloc, network)?;
         Domains::full_sets(alloc, network, counts)
@@ -144,8 +146,10 @@ impl Domains {
     /// Whether an event has no possible difference left.
     pub(crate) fn has_none(&self, event: u32) -> bool
         requires { event < self.now.events }
-        ensures none { result ≡ true → (difference : ℕ) → family_of self.now event difference ≡ false }
-        ensures some { result ≡ false → (difference : ℕ) × (family_of self.now event difference ≡ true) }
+        ensures none { result ≡ true → (difference : ℕ)
+            → family_of self.now event difference ≡ false }
+        ensures some { result ≡ false
+            → (difference : ℕ) × (family_of self.now event difference ≡ true) }
     {
         let width = width_of(self.period);
         let base = event as usize * width;

@@ -10,8 +10,18 @@ ghost use Rattle.pesp_propagate.specs.Partners.{AreBelow, KeepsTails, KeepsHeads
 /// each period: at the tail with the shifts ahead, at the head with those back, and at both ends of a loop with the shift 0,
 /// where the loop's remainder is in the range.
 pub fn the_step_keeps_what_has_a_partner()
-    ensures tails { (period : ℕ) (arc : Arc) (range : ℕ × ℕ) (tails heads new : List ℕ) → 0 < period → arc.tail ≢ arc.head → AreBelow period tails → AreBelow period heads → KeepsSupported period (first_ahead period arc range) (count_of period range) tails heads new → KeepsTails period arc range tails heads new }
-    ensures heads { (period : ℕ) (arc : Arc) (range : ℕ × ℕ) (tails heads new : List ℕ) → 0 < period → arc.tail ≢ arc.head → AreBelow period tails → AreBelow period heads → KeepsSupported period (first_back period arc range) (count_of period range) heads tails new → KeepsHeads period arc range tails heads new }
-    ensures loop_tails { (period : ℕ) (arc : Arc) (range : ℕ × ℕ) (set new : List ℕ) → 0 < period → arc.tail ≡ arc.head → AreBelow period set → KeepsSupported period 0 (loop_count period arc range) set set new → KeepsTails period arc range set set new }
-    ensures loop_heads { (period : ℕ) (arc : Arc) (range : ℕ × ℕ) (set new : List ℕ) → 0 < period → arc.tail ≡ arc.head → AreBelow period set → KeepsSupported period 0 (loop_count period arc range) set set new → KeepsHeads period arc range set set new }
+    ensures tails { (period : ℕ) (arc : Arc) (range : ℕ × ℕ) (tails heads new : List ℕ) → 0 < period
+        → arc.tail ≢ arc.head → AreBelow period tails → AreBelow period heads
+        → KeepsSupported period (first_ahead period arc range) (count_of period range) tails heads
+        new → KeepsTails period arc range tails heads new }
+    ensures heads { (period : ℕ) (arc : Arc) (range : ℕ × ℕ) (tails heads new : List ℕ) → 0 < period
+        → arc.tail ≢ arc.head → AreBelow period tails → AreBelow period heads
+        → KeepsSupported period (first_back period arc range) (count_of period range) heads tails
+        new → KeepsHeads period arc range tails heads new }
+    ensures loop_tails { (period : ℕ) (arc : Arc) (range : ℕ × ℕ) (set new : List ℕ) → 0 < period
+        → arc.tail ≡ arc.head → AreBelow period set → KeepsSupported period 0
+        (loop_count period arc range) set set new → KeepsTails period arc range set set new }
+    ensures loop_heads { (period : ℕ) (arc : Arc) (range : ℕ × ℕ) (set new : List ℕ) → 0 < period
+        → arc.tail ≡ arc.head → AreBelow period set → KeepsSupported period 0
+        (loop_count period arc range) set set new → KeepsHeads period arc range set set new }
 {}

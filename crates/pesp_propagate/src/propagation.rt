@@ -33,14 +33,25 @@ pub fn propagate(
 
     // sets only shrink, and lose no difference of a supported family or of a timetable
     ensures within { IsWithin (family_of domains.new) (family_of domains.old) }
-    ensures keeps { (s : Family) → IsSupported (net_of_network network.now) ranges.now s → IsWithin s (family_of domains.old) → IsWithin s (family_of domains.new) }
-    ensures timetables { (times : List ℕ) → SlacksIn (net_of_network network.now) (slacks_at (net_of_network network.now) times) ranges.now → HasDifferences (net_of_network network.now) network.now.events times (family_of domains.old) → HasDifferences (net_of_network network.now) network.now.events times (family_of domains.new) }
+    ensures keeps { (s : Family) → IsSupported (net_of_network network.now) ranges.now s
+        → IsWithin s (family_of domains.old) → IsWithin s (family_of domains.new) }
+    ensures timetables { (times : List ℕ) → SlacksIn (net_of_network network.now)
+        (slacks_at (net_of_network network.now) times) ranges.now
+        → HasDifferences (net_of_network network.now) network.now.events times
+        (family_of domains.old) → HasDifferences (net_of_network network.now) network.now.events
+        times (family_of domains.new) }
 
     // the answers, and when each comes
-    ensures stable { result ≡ Ok Outcome.Stable → IsSupported (net_of_network network.now) ranges.now (family_of domains.new) × HasNoEmpty network.now.events (family_of domains.new) }
-    ensures empty { (event : ℕ) → result ≡ Ok (Outcome.Empty event) → (event < network.now.events) × ((difference : ℕ) → family_of domains.new event difference ≡ false) }
-    ensures exact { IfOk result (λ outcome. TellsEmpty outcome ↔ HasNone (net_of_network network.now) ranges.now network.now.events (family_of domains.old)) }
-    ensures full { IsFull (net_of_network network.now) network.now.events (family_of domains.old) → IfOk result (λ outcome. TellsEmpty outcome ↔ NoFamilyIsSupported (net_of_network network.now) ranges.now network.now.events) }
+    ensures stable { result ≡ Ok Outcome.Stable → IsSupported (net_of_network network.now)
+        ranges.now (family_of domains.new) × HasNoEmpty network.now.events (family_of domains.new) }
+    ensures empty { (event : ℕ) → result ≡ Ok (Outcome.Empty event) → (event < network.now.events)
+        × ((difference : ℕ) → family_of domains.new event difference ≡ false) }
+    ensures exact { IfOk result (λ outcome. TellsEmpty outcome
+        ↔ HasNone (net_of_network network.now) ranges.now network.now.events
+        (family_of domains.old)) }
+    ensures full { IsFull (net_of_network network.now) network.now.events (family_of domains.old)
+        → IfOk result (λ outcome. TellsEmpty outcome
+        ↔ NoFamilyIsSupported (net_of_network network.now) ranges.now network.now.events) }
 {
     let rows = Rows::of(alloc, network)?;
     rows.settle_all(alloc, domains, ranges)

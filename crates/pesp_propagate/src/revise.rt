@@ -29,7 +29,8 @@ fn narrow(
     requires count { shifts.count ≤ period }
     requires room { (2 * period ≤ 64 * length twice.old) × (length twice.old ≤ 2 ^ 32) }
     requires clear { IsClear period (length beside.old) words.old }
-    ensures narrows { Narrows period (length beside.old) kept other shifts.first shifts.count words.old words.new }
+    ensures narrows { Narrows period (length beside.old) kept other shifts.first shifts.count
+        words.old words.new }
     ensures less { IsLess words.old words.new result }
 {
     let width = beside.len();
@@ -78,7 +79,8 @@ pub fn revise(
     requires room { (2 * period ≤ 64 * length twice.old) × (length twice.old ≤ 2 ^ 32) }
     requires clear { IsClear period (length beside.old) words.old }
     ensures revises { Revises period (length beside.old) arc.now range words.old words.new }
-    ensures changes { Changes (length beside.old) arc.now words.old words.new result.tail result.head }
+    ensures changes { Changes (length beside.old) arc.now words.old words.new result.tail
+        result.head }
 {
     let tail = arc.tail as usize;
     let head = arc.head as usize;

@@ -86,9 +86,13 @@ impl Rows {
         requires sizes { HaveSizes self.now.period self.now.events domains.old }
         requires ranges { length ranges.now ≡ length self.now.arcs }
         ensures sizes { HaveSizes self.now.period self.now.events domains.new }
-        ensures shrinks { Shrinks (net_at self.now.period self.now.arcs) ranges.now (sets_at self.now.period domains.old.words) (sets_at self.now.period domains.new.words) }
-        ensures outcome { IfOk result (IsOutcome self.now.events (sets_at self.now.period domains.new.words)) }
-        ensures supported { IfOk result (LeavesSupported (net_at self.now.period self.now.arcs) ranges.now (sets_at self.now.period domains.new.words)) }
+        ensures shrinks { Shrinks (net_at self.now.period self.now.arcs) ranges.now
+            (sets_at self.now.period domains.old.words)
+            (sets_at self.now.period domains.new.words) }
+        ensures outcome { IfOk result
+            (IsOutcome self.now.events (sets_at self.now.period domains.new.words)) }
+        ensures supported { IfOk result (LeavesSupported (net_at self.now.period self.now.arcs)
+            ranges.now (sets_at self.now.period domains.new.words)) }
     {
         let waiting = Waiting::all(alloc, self.arcs.len())?;
         settle(alloc, domains, &self.arcs, ranges, &self.chains, waiting)

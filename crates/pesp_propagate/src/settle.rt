@@ -34,9 +34,12 @@ fn pass_on(
     requires count { length arcs.now ≤ 100000 }
     requires chains { AreChains arcs.now domains.now.events chains.now }
     requires long { vec_len waiting.old.flags ≡ length arcs.now }
-    ensures empty { IfOk result (λ o. IfSome o (λ e. IsEmptyAt domains.now.period domains.now.events domains.now.words e)) }
+    ensures empty { IfOk result
+        (λ o. IfSome o (λ e. IsEmptyAt domains.now.period domains.now.events domains.now.words e)) }
     ensures grows { Grows waiting.old waiting.new }
-    ensures woken { result ≡ Ok None → changed ≡ true → (k : ℕ) → 0 < k → k ≤ length arcs.now → (tail_of arcs.now k ≡ event) ⊎ (head_of arcs.now k ≡ event) → k ≢ row + 1 → waits_at waiting.new (k - 1) ≡ true }
+    ensures woken { result ≡ Ok None → changed ≡ true → (k : ℕ) → 0 < k → k ≤ length arcs.now
+        → (tail_of arcs.now k ≡ event) ⊎ (head_of arcs.now k ≡ event) → k ≢ row + 1
+        → waits_at waiting.new (k - 1) ≡ true }
     ensures quiet { changed ≡ false → waiting.new.rows.items ≡ waiting.old.rows.items }
 {
     if !changed {
@@ -65,8 +68,10 @@ fn visit(
     requires chains { AreChains arcs.now domains.old.events chains.now }
     requires long { vec_len waiting.old.flags ≡ length arcs.now }
     ensures sizes { HaveSizes domains.old.period domains.old.events domains.new }
-    ensures takes { TakesRow domains.old.period arcs.now ranges.now row domains.old.words domains.new.words }
-    ensures visit { IfOk result (IsVisit domains.old.period domains.old.events arcs.now row domains.old.words domains.new.words waiting.old waiting.new) }
+    ensures takes { TakesRow domains.old.period arcs.now ranges.now row domains.old.words
+        domains.new.words }
+    ensures visit { IfOk result (IsVisit domains.old.period domains.old.events arcs.now row
+        domains.old.words domains.new.words waiting.old waiting.new) }
 {
     waiting.leave(row);
     let arc = arcs[row as usize];
@@ -97,8 +102,11 @@ fn pass(
     requires listed { (row : ℕ) → waits_at waiting.old row ≡ true → Contains line.now row }
     requires none { waiting.old.rows.items ≡ [] }
     ensures sizes { HaveSizes domains.old.period domains.old.events domains.new }
-    ensures shrinks { Shrinks (net_at domains.old.period arcs.now) ranges.now (sets_at domains.old.period domains.old.words) (sets_at domains.old.period domains.new.words) }
-    ensures pass { IfOk result (IsPass domains.old.period domains.old.events arcs.now ranges.now line.now domains.old.words domains.new.words waiting.old waiting.new) }
+    ensures shrinks { Shrinks (net_at domains.old.period arcs.now) ranges.now
+        (sets_at domains.old.period domains.old.words)
+        (sets_at domains.old.period domains.new.words) }
+    ensures pass { IfOk result (IsPass domains.old.period domains.old.events arcs.now ranges.now
+        line.now domains.old.words domains.new.words waiting.old waiting.new) }
 {
     for row in line {
         let empty = visit(domains, arcs, ranges, chains, waiting, *row)?;
@@ -137,9 +145,15 @@ pub fn visit_waiting(
     requires chains { AreChains arcs.now domains.old.events chains.now }
     requires listed { AreListed (length arcs.now) waiting }
     ensures sizes { HaveSizes domains.old.period domains.old.events domains.new }
-    ensures shrinks { Shrinks (net_at domains.old.period arcs.now) ranges.now (sets_at domains.old.period domains.old.words) (sets_at domains.old.period domains.new.words) }
-    ensures empty { IfOk result (λ o. IfSome o (λ e. IsEmptyAt domains.old.period domains.old.events domains.new.words e)) }
-    ensures supported { (outcome : Outcome) → RestIsSupported domains.old.period arcs.now ranges.now waiting domains.old.words → result ≡ Ok None → LeavesSupported (net_at domains.old.period arcs.now) ranges.now (sets_at domains.old.period domains.new.words) outcome }
+    ensures shrinks { Shrinks (net_at domains.old.period arcs.now) ranges.now
+        (sets_at domains.old.period domains.old.words)
+        (sets_at domains.old.period domains.new.words) }
+    ensures empty { IfOk result
+        (λ o. IfSome o (λ e. IsEmptyAt domains.old.period domains.old.events domains.new.words e)) }
+    ensures supported { (outcome : Outcome) → RestIsSupported domains.old.period arcs.now ranges.now
+        waiting domains.old.words → result ≡ Ok None
+        → LeavesSupported (net_at domains.old.period arcs.now) ranges.now
+        (sets_at domains.old.period domains.new.words) outcome }
 {
     'passes: while !waiting.rows.is_empty() {
         let line = mem::replace(&mut waiting.rows, Vec::new(alloc));
@@ -165,9 +179,14 @@ pub fn settle(
     requires chains { AreChains arcs.now domains.old.events chains.now }
     requires listed { AreListed (length arcs.now) waiting }
     ensures sizes { HaveSizes domains.old.period domains.old.events domains.new }
-    ensures shrinks { Shrinks (net_at domains.old.period arcs.now) ranges.now (sets_at domains.old.period domains.old.words) (sets_at domains.old.period domains.new.words) }
-    ensures outcome { IfOk result (IsOutcome domains.old.events (sets_at domains.old.period domains.new.words)) }
-    ensures supported { RestIsSupported domains.old.period arcs.now ranges.now waiting domains.old.words → IfOk result (LeavesSupported (net_at domains.old.period arcs.now) ranges.now (sets_at domains.old.period domains.new.words)) }
+    ensures shrinks { Shrinks (net_at domains.old.period arcs.now) ranges.now
+        (sets_at domains.old.period domains.old.words)
+        (sets_at domains.old.period domains.new.words) }
+    ensures outcome { IfOk result
+        (IsOutcome domains.old.events (sets_at domains.old.period domains.new.words)) }
+    ensures supported { RestIsSupported domains.old.period arcs.now ranges.now waiting
+        domains.old.words → IfOk result (LeavesSupported (net_at domains.old.period arcs.now)
+        ranges.now (sets_at domains.old.period domains.new.words)) }
 {
     match visit_waiting(alloc, domains, arcs, ranges, chains, waiting)? {
         Some(event) => Ok(Outcome::Empty { event }),

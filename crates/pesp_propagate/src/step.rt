@@ -57,7 +57,8 @@ fn or_ahead(words: &mut [u64], by: usize)
 // the 64 bits from a word on, of the set that is moved so many places up
 fn word_behind(words: &[u64], k: usize, by: usize) -> u64
     requires { k ≤ 2 ^ 32 }
-    ensures above { (j : ℕ) → j < 64 → by ≤ 64 * k + j → bit_at result j ≡ bit words.now (64 * k + j - by) }
+    ensures above { (j : ℕ) → j < 64 → by ≤ 64 * k + j
+        → bit_at result j ≡ bit words.now (64 * k + j - by) }
     ensures below { (j : ℕ) → j < 64 → 64 * k + j < by → bit_at result j ≡ 0 }
 {
     let place = 64 * k;
@@ -130,7 +131,8 @@ pub fn keep_supported(
     requires few { (length room.old ≤ 2 ^ 32) × (length kept.old ≤ 2 ^ 32) }
     requires clear_kept { (d : ℕ) → period ≤ d → bit kept.old d ≡ 0 }
     requires clear_others { (d : ℕ) → period ≤ d → bit others.now d ≡ 0 }
-    ensures supported { KeepsSupported period shifts.first shifts.count kept.old others.now kept.new }
+    ensures supported { KeepsSupported period shifts.first shifts.count kept.old others.now
+        kept.new }
     ensures less { IsLess kept.old kept.new result }
 {
     lay_twice(others, period, room);

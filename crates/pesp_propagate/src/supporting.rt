@@ -19,7 +19,8 @@ pub fn supports_none(
     ranges: &[(u32, u32)],
 ) -> Result<bool, Memory>
     requires { length ranges.now ≡ length network.now.rows }
-    ensures { IfOk result (λ none. IsTrue none ↔ NoFamilyIsSupported (net_of_network network.now) ranges.now network.now.events) }
+    ensures { IfOk result (λ none. IsTrue none
+        ↔ NoFamilyIsSupported (net_of_network network.now) ranges.now network.now.events) }
 {
     let mut domains = Domains::full(alloc, network)?;
     match propagate(alloc, network, ranges, &mut domains)? {

@@ -77,7 +77,9 @@ impl Waiting {
         requires chains { ((events : ℕ) × AreChains arcs.now events chains.now × (event < events)) }
         requires long { vec_len self.old.flags ≡ length arcs.now }
         ensures grows { Grows self.old self.new }
-        ensures woken { OnOk result ((row : ℕ) → 0 < row → row ≤ length arcs.now → (tail_of arcs.now row ≡ event) ⊎ (head_of arcs.now row ≡ event) → row ≢ but → waits_at self.new (row - 1) ≡ true) }
+        ensures woken { OnOk result ((row : ℕ) → 0 < row → row ≤ length arcs.now
+            → (tail_of arcs.now row ≡ event) ⊎ (head_of arcs.now row ≡ event) → row ≢ but
+            → waits_at self.new (row - 1) ≡ true) }
     {
         let mut row = chains.first[event as usize];
         while row > 0 {

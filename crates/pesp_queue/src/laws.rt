@@ -7,5 +7,6 @@ ghost use Rattle.pesp_queue.specs.declared.entry.Entry.{Entry};
 
 /// Where the same entry is taken from two lists that have the same entries, the same are left.
 pub fn the_same_are_left()
-    ensures { (e : Entry) (xs ys : List Entry) → IsPermutation (e ∷ xs) (e ∷ ys) → IsPermutation xs ys }
+    ensures { (e : Entry) (xs ys : List Entry)
+        → IsPermutation (e ∷ xs) (e ∷ ys) → IsPermutation xs ys }
 {}

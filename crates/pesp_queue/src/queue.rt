@@ -61,7 +61,8 @@ impl Queue {
         ensures keeps_numbers { self.old.numbers ≤ self.new.numbers }
         ensures keeps_room { self.old.room ≤ self.new.room }
         ensures refused { OnErr result (self.new ≡ self.old) }
-        ensures succeeds { numbers ≤ self.old.numbers → length (all_of self.old) + more ≤ self.old.room → IsOk result }
+        ensures succeeds { numbers ≤ self.old.numbers
+            → length (all_of self.old) + more ≤ self.old.room → IsOk result }
     {
         let room = self.entries.len() + more as usize;
         self.entries.reserve(more as usize)?;
@@ -123,7 +124,8 @@ impl Queue {
     pub fn park(&mut self) -> Option<Entry>
         ensures first { MatchOption result (self.old.waiting ≡ []) (IsFirst self.old.waiting) }
         ensures front { result ≡ front self.old }
-        ensures waiting { IfSome result (λ e. IsPermutation self.old.waiting (e ∷ self.new.waiting)) }
+        ensures waiting { IfSome result
+            (λ e. IsPermutation self.old.waiting (e ∷ self.new.waiting)) }
         ensures parked { IfSome result (λ e. IsPermutation (e ∷ self.old.parked) self.new.parked) }
         ensures room { KeepsRoom self.old self.new }
         ensures none { IfNone result (self.new ≡ self.old) }
@@ -141,7 +143,8 @@ impl Queue {
     /// The value of a parked item; None where the item isn't parked.
     #[tactic(auto, using(crate::proofs::Limits::limits))]
     pub fn parked_value(&self, item: u32) -> Option<u64>
-        ensures value { MatchOption result (¬ HasItem self.now.parked item) (λ value. Contains self.now.parked (entry item value)) }
+        ensures value { MatchOption result (¬ HasItem self.now.parked item)
+            (λ value. Contains self.now.parked (entry item value)) }
         ensures limits { KeepsLimits self.now }
     {
         let at = find(&self.entries, &self.places, item)?;
@@ -154,7 +157,8 @@ impl Queue {
     /// The value of a waiting item; None where the item doesn't wait.
     #[tactic(auto, using(crate::proofs::Limits::limits))]
     pub fn waiting_value(&self, item: u32) -> Option<u64>
-        ensures value { MatchOption result (¬ HasItem self.now.waiting item) (λ value. Contains self.now.waiting (entry item value)) }
+        ensures value { MatchOption result (¬ HasItem self.now.waiting item)
+            (λ value. Contains self.now.waiting (entry item value)) }
         ensures limits { KeepsLimits self.now }
     {
         let at = find(&self.entries, &self.places, item)?;

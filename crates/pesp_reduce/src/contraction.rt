@@ -50,10 +50,13 @@ fn flags_of(alloc: Global, count: usize, forest: &[u32]) -> Result<Vec<bool>, Al
 
 // times that give each row slack 0
 fn shifts_of(alloc: Global, tree: &Network) -> Result<Vec<u32>, Memory>
-    requires { (slacks : ℕ → ℕ) (walk : List SignedRow) → ((i : ℕ) → slacks i ≡ 0) → IsWalk (arcs_of_network tree.now.rows) walk → HasWholeOffset (net_of_network tree.now) slacks walk }
+    requires { (slacks : ℕ → ℕ) (walk : List SignedRow) → ((i : ℕ) → slacks i ≡ 0)
+        → IsWalk (arcs_of_network tree.now.rows) walk
+        → HasWholeOffset (net_of_network tree.now) slacks walk }
     ensures count { IfOk result (λ times. vec_len times ≡ tree.now.events) }
     ensures below { IfOk result (λ times. All (λ t. t < tree.now.period) times.items) }
-    ensures slacks { IfOk result (λ times. (i : ℕ) → i < length tree.now.rows → slacks_at (net_of_network tree.now) times.items i ≡ 0) }
+    ensures slacks { IfOk result (λ times. (i : ℕ) → i < length tree.now.rows
+        → slacks_at (net_of_network tree.now) times.items i ≡ 0) }
 {
     let zeros = vec![in alloc; 0u32; tree.rows().len()]?;
     match tree.timetable_of(alloc, zeros.as_slice())? {
@@ -64,7 +67,8 @@ fn shifts_of(alloc: Global, tree: &Network) -> Result<Vec<u32>, Memory>
 
 // numbers for the first events of those that are joined, and for all that are joined with them
 fn standing_of(alloc: Global, tree: &Network) -> Result<Standing, AllocError>
-    ensures { IfOk result (λ s. IsStanding (arcs_of_network tree.now.rows) tree.now.events s.stands.items s.firsts.items) }
+    ensures { IfOk result (λ s. IsStanding (arcs_of_network tree.now.rows) tree.now.events
+        s.stands.items s.firsts.items) }
 {
     let mut stands: Vec<u32> = Vec::new(alloc);
     let mut firsts: Vec<u32> = Vec::new(alloc);

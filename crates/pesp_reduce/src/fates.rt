@@ -42,7 +42,8 @@ pub fn mapped_rows(
     requires heads { All (λ row. row.head < length stands.now) rows.now }
     requires lowers { All (λ row. unsigned_abs row.lower ≤ 1020000) rows.now }
     requires shifts { length shifts.now ≡ length stands.now }
-    ensures { IfOk result (λ made. made.items ≡ map (spec.mapped_row stands.now shifts.now) rows.now) }
+    ensures { IfOk result
+        (λ made. made.items ≡ map (spec.mapped_row stands.now shifts.now) rows.now) }
 {
     let mut made = Vec::new(alloc);
     for row in rows {
@@ -82,7 +83,9 @@ pub fn fates_of(
     requires flags { length contracted.now ≡ length rows.now }
     requires left { length left.now.rows ≡ length rows.now }
     ensures count { IfOk result (λ fates. vec_len fates ≡ length rows.now) }
-    ensures each { IfOk result (λ fates. (i : ℕ) → i < length rows.now → spec.IsFate period (net_row_at rows.now i) (flag contracted.now i) (arcs_of_network left.now.rows) (i + 1) (spec.fate_at fates.items i)) }
+    ensures each { IfOk result (λ fates. (i : ℕ) → i < length rows.now
+        → spec.IsFate period (net_row_at rows.now i) (flag contracted.now i)
+        (arcs_of_network left.now.rows) (i + 1) (spec.fate_at fates.items i)) }
 {
     let mut fates = Vec::new(alloc);
     for (i, row) in rows.iter().enumerate() {
@@ -107,7 +110,8 @@ fn is_kept(fate: Fate) -> bool
 /// The rows that are kept, in order.
 pub fn kept_rows(alloc: Global, rows: &[NetRow], fates: &[Fate]) -> Result<Vec<NetRow>, AllocError>
     requires { length fates.now ≡ length rows.now }
-    ensures { IfOk result (λ made. made.items ≡ spec.kept_below fates.now rows.now (length rows.now)) }
+    ensures { IfOk result
+        (λ made. made.items ≡ spec.kept_below fates.now rows.now (length rows.now)) }
 {
     let mut made = Vec::new(alloc);
     for (i, row) in rows.iter().enumerate() {

@@ -50,9 +50,13 @@ impl Model for Reduced {
 pub fn reduce(alloc: Global, instance: &Instance) -> Result<Reduced, Memory>
     ensures original { IfOk result (λ r. r.original ≡ instance.now) }
     ensures period { IfOk result (λ r. r.network.period ≡ instance.now.period) }
-    ensures no_bridge { IfOk result (λ r. (row : ℕ) → Names (length r.network.rows) row → IsBridge (arcs_of_network r.network.rows) row → ⊥) }
-    ensures no_free { IfOk result (λ r. (j : ℕ) → j < length r.network.rows → IsFree r.network.period (arc_of_net (net_row_at r.network.rows j)) → ⊥) }
-    ensures no_fixed { IfOk result (λ r. (j : ℕ) → j < length r.network.rows → (net_row_at r.network.rows j).span ≡ 0 → (net_row_at r.network.rows j).tail ≡ (net_row_at r.network.rows j).head) }
+    ensures no_bridge { IfOk result (λ r. (row : ℕ) → Names (length r.network.rows) row
+        → IsBridge (arcs_of_network r.network.rows) row → ⊥) }
+    ensures no_free { IfOk result (λ r. (j : ℕ) → j < length r.network.rows
+        → IsFree r.network.period (arc_of_net (net_row_at r.network.rows j)) → ⊥) }
+    ensures no_fixed { IfOk result (λ r. (j : ℕ) → j < length r.network.rows
+        → (net_row_at r.network.rows j).span ≡ 0
+        → (net_row_at r.network.rows j).tail ≡ (net_row_at r.network.rows j).head) }
     ensures rows { IfOk result (λ r. (j : ℕ) → j < length r.network.rows → IsReducedRow r j) }
     ensures kept { IfOk result AreKeptRows }
     ensures fates { IfOk result (λ r. AreFatesOf r.original r.fates) }
@@ -93,9 +97,14 @@ impl Reduced {
     pub fn network(&self) -> &Network
         ensures network { result.now ≡ self.now.network }
         ensures period { self.now.network.period ≡ self.now.original.period }
-        ensures no_bridge { (row : ℕ) → Names (length self.now.network.rows) row → IsBridge (arcs_of_network self.now.network.rows) row → ⊥ }
-        ensures no_free { (j : ℕ) → j < length self.now.network.rows → IsFree self.now.network.period (arc_of_net (net_row_at self.now.network.rows j)) → ⊥ }
-        ensures no_fixed { (j : ℕ) → j < length self.now.network.rows → (net_row_at self.now.network.rows j).span ≡ 0 → (net_row_at self.now.network.rows j).tail ≡ (net_row_at self.now.network.rows j).head }
+        ensures no_bridge { (row : ℕ) → Names (length self.now.network.rows) row
+            → IsBridge (arcs_of_network self.now.network.rows) row → ⊥ }
+        ensures no_free { (j : ℕ) → j < length self.now.network.rows
+            → IsFree self.now.network.period (arc_of_net (net_row_at self.now.network.rows j)) → ⊥ }
+        ensures no_fixed { (j : ℕ) → j < length self.now.network.rows
+            → (net_row_at self.now.network.rows j).span ≡ 0
+            → (net_row_at self.now.network.rows j).tail
+            ≡ (net_row_at self.now.network.rows j).head }
         ensures rows { (j : ℕ) → j < length self.now.network.rows → IsReducedRow self.now j }
         ensures kept { AreKeptRows self.now }
         ensures fates { AreFatesOf self.now.original self.now.fates }
@@ -138,8 +147,12 @@ impl Reduced {
     /// From times of the instance to times of what is left: each row that is left has its original's slack.
     pub fn lower_times(&self, alloc: Global, times: &[u32]) -> Result<Vec<u32>, Memory>
         requires { IsTimetable self.now.original times.now }
-        ensures timetable { IfOk result (λ lowered. IsNetTimetable (net_of_network self.now.network) self.now.network.events lowered.items) }
-        ensures slacks { IfOk result (λ lowered. (j : ℕ) → j < length self.now.network.rows → arc_slack self.now.network.period lowered.items (arc_of_net (net_row_at self.now.network.rows j)) ≡ slack self.now.original.period times.now (row_at self.now.original.rows (origin_place self.now.network j))) }
+        ensures timetable { IfOk result (λ lowered. IsNetTimetable (net_of_network self.now.network)
+            self.now.network.events lowered.items) }
+        ensures slacks { IfOk result (λ lowered. (j : ℕ) → j < length self.now.network.rows
+            → arc_slack self.now.network.period lowered.items
+            (arc_of_net (net_row_at self.now.network.rows j)) ≡ slack self.now.original.period
+            times.now (row_at self.now.original.rows (origin_place self.now.network j))) }
     {
         let period = self.original.period();
         let shifts = self.contraction.shifts.as_slice();
@@ -150,10 +163,15 @@ impl Reduced {
     /// From times of what is left to times of the instance at equal cost: each row that is left has its slack, contracted
     /// rows and bridges have slack 0.
     pub fn lift_times(&self, alloc: Global, times: &[u32]) -> Result<Vec<u32>, Memory>
-        requires { IsNetTimetable (net_of_network self.now.network) self.now.network.events times.now }
+        requires { IsNetTimetable (net_of_network self.now.network) self.now.network.events
+            times.now }
         ensures timetable { IfOk result (λ lifted. IsTimetable self.now.original lifted.items) }
-        ensures slacks { IfOk result (λ lifted. (j : ℕ) → j < length self.now.network.rows → slack self.now.original.period lifted.items (row_at self.now.original.rows (origin_place self.now.network j)) ≡ arc_slack self.now.network.period times.now (arc_of_net (net_row_at self.now.network.rows j))) }
-        ensures cost { IfOk result (λ lifted. cost self.now.original.period self.now.original.rows lifted.items ≡ net_cost (net_of_network self.now.network) times.now) }
+        ensures slacks { IfOk result (λ lifted. (j : ℕ) → j < length self.now.network.rows
+            → slack self.now.original.period lifted.items
+            (row_at self.now.original.rows (origin_place self.now.network j)) ≡ arc_slack
+            self.now.network.period times.now (arc_of_net (net_row_at self.now.network.rows j))) }
+        ensures cost { IfOk result (λ lifted. cost self.now.original.period self.now.original.rows
+            lifted.items ≡ net_cost (net_of_network self.now.network) times.now) }
     {
         let period = self.original.period();
         let stands = self.contraction.stands.as_slice();
@@ -175,12 +193,20 @@ impl Reduced {
     pub fn lift_walk(&self, alloc: Global, walk: &Walk) -> Result<Walk, Memory>
         requires { IsWalk (arcs_of_network self.now.network.rows) walk.now }
         ensures closes { IfOk result (IsWalk (arcs_of self.now.original)) }
-        ensures kept { IfOk result (λ lifted. filter (passes_kept self.now.fates) lifted ≡ map (original_row self.now.network.rows) walk.now) }
+        ensures kept { IfOk result (λ lifted. filter (passes_kept self.now.fates) lifted
+            ≡ map (original_row self.now.network.rows) walk.now) }
         ensures others { IfOk result (All (IsKeptOrContracted self.now.fates)) }
-        ensures lower { IfOk result (λ lifted. IsSame self.now.original.period (lower_sum (arcs_of self.now.original) lifted) (lower_sum (arcs_of_network self.now.network.rows) walk.now)) }
-        ensures simple { IfOk result (λ lifted. IsSimple (arcs_of_network self.now.network.rows) walk.now → HasNoRowTwice lifted) }
-        ensures counts { IfOk result (λ lifted. (j : ℕ) → j < length self.now.network.rows → net_count lifted (origin_place self.now.network j) ≡ net_count walk.now j) }
-        ensures offsets { IfOk result (λ lifted. (slacks : ℕ → ℕ) → AreTightAtContracted self.now slacks → HasWholeOffset (net_of self.now.original) slacks lifted ↔ HasWholeOffset (net_of_network self.now.network) (left_slacks self.now slacks) walk.now) }
+        ensures lower { IfOk result (λ lifted. IsSame self.now.original.period
+            (lower_sum (arcs_of self.now.original) lifted)
+            (lower_sum (arcs_of_network self.now.network.rows) walk.now)) }
+        ensures simple { IfOk result (λ lifted. IsSimple (arcs_of_network self.now.network.rows)
+            walk.now → HasNoRowTwice lifted) }
+        ensures counts { IfOk result (λ lifted. (j : ℕ) → j < length self.now.network.rows
+            → net_count lifted (origin_place self.now.network j) ≡ net_count walk.now j) }
+        ensures offsets { IfOk result (λ lifted. (slacks : ℕ → ℕ)
+            → AreTightAtContracted self.now slacks
+            → HasWholeOffset (net_of self.now.original) slacks lifted ↔ HasWholeOffset
+            (net_of_network self.now.network) (left_slacks self.now slacks) walk.now) }
     {
         let whole = self.whole.rows();
         let left = self.network.rows();

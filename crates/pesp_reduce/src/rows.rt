@@ -81,7 +81,8 @@ pub fn fixed_rows(alloc: Global, rows: &[NetRow]) -> Result<Vec<NetRow>, AllocEr
 pub fn part_of(alloc: Global, rows: &[NetRow], takes: &[bool]) -> Result<Vec<NetRow>, AllocError>
     requires { length takes.now ≡ length rows.now }
     ensures count { IfOk result (λ made. vec_len made ≡ length rows.now) }
-    ensures rows { IfOk result (λ made. (i : ℕ) → i < length rows.now → net_row_at made.items i ≡ spec.part (spec.flag takes.now i) (net_row_at rows.now i)) }
+    ensures rows { IfOk result (λ made. (i : ℕ) → i < length rows.now
+        → net_row_at made.items i ≡ spec.part (spec.flag takes.now i) (net_row_at rows.now i)) }
 {
     let mut made = Vec::new(alloc);
     for (i, row) in rows.iter().enumerate() {
@@ -97,7 +98,8 @@ pub fn network_of(
     events: u32,
     rows: Vec<NetRow>,
 ) -> Result<Network, Memory>
-    requires { KeepsNetLimits (record { period = period; events = events; rows = rows.items; forest = [] }) }
+    requires { KeepsNetLimits
+        (record { period = period; events = events; rows = rows.items; forest = [] }) }
     ensures period { IfOk result (λ n. n.period ≡ period) }
     ensures events { IfOk result (λ n. n.events ≡ events) }
     ensures rows { IfOk result (λ n. n.rows ≡ rows.items) }

@@ -38,7 +38,8 @@ pub fn lowered_times(
     requires shifts { All (λ t. t < period) shifts.now }
     requires count { length times.now ≡ length shifts.now }
     requires events { All (λ e. e < length times.now) firsts.now }
-    ensures { IfOk result (λ made. made.items ≡ map (spec.lowered_time period times.now shifts.now) firsts.now) }
+    ensures { IfOk result
+        (λ made. made.items ≡ map (spec.lowered_time period times.now shifts.now) firsts.now) }
 {
     let mut made = Vec::new(alloc);
     for first in firsts {
@@ -136,7 +137,9 @@ pub fn lifted_slacks(
     requires lowers { All (λ row. unsigned_abs row.lower ≤ 1020000) rows.now }
     ensures count { IfOk result (λ slacks. vec_len slacks ≡ length rows.now) }
     ensures below { IfOk result (λ slacks. All (λ y. y < period) slacks.items) }
-    ensures each { IfOk result (λ slacks. (i : ℕ) → i < length rows.now → slice_index slacks.items i ≡ spec.lifted_slack period stands.now shifts.now times.now (net_row_at rows.now i) (fate_at fates.now i)) }
+    ensures each { IfOk result (λ slacks. (i : ℕ) → i < length rows.now
+        → slice_index slacks.items i ≡ spec.lifted_slack period stands.now shifts.now times.now
+        (net_row_at rows.now i) (fate_at fates.now i)) }
 {
     let mut slacks = Vec::new(alloc);
     for (i, row) in rows.iter().enumerate() {

@@ -60,7 +60,8 @@ fn between(alloc: Global, tree: &Network, from: u32, to: u32) -> Result<Vec<Sign
     ensures rows { IfOk result (λ way. AreRows (arcs_of_network tree.now.rows) way.items) }
     ensures leads { IfOk result (λ way. Leads (arcs_of_network tree.now.rows) from way.items to) }
     ensures simple { IfOk result (λ way. IsSimple (arcs_of_network tree.now.rows) way.items) }
-    ensures end_once { IfOk result (λ way. All (λ s. start (arcs_of_network tree.now.rows) s ≢ to) way.items) }
+    ensures end_once { IfOk result
+        (λ way. All (λ s. start (arcs_of_network tree.now.rows) s ≢ to) way.items) }
 {
     match tree.way(alloc, from, to)? {
         Some(way) => Ok(way),
@@ -80,7 +81,8 @@ pub fn lifted(
     requires contraction { spec.IsContractionOf whole.now contraction.now }
     requires left { spec.AreLeftOf whole.now contraction.now left.now }
     requires walk { IsWalk (arcs_of_network left.now) walk.now }
-    ensures { IfOk result (λ made. spec.IsLiftOf whole.now contraction.now.contracted.items left.now walk.now made.items) }
+    ensures { IfOk result (λ made. spec.IsLiftOf whole.now contraction.now.contracted.items left.now
+        walk.now made.items) }
 {
     let mut made = Vec::new(alloc);
     for (i, signed) in walk.iter().enumerate() {

@@ -14,7 +14,8 @@ use std::alloc::Global;
 /// Writes a record of these fields.
 fn write_fields(writer: &mut Writer<Vec<u8>>, fields: &[&[u8]]) -> Result<(), Memory>
     ensures { (before : List ℕ) → HasWritten writer.old before
-        → OnOk result (HasWritten writer.new (before ++ row_text default_writer (map (λ f. f.now) fields.now))) }
+        → OnOk result (HasWritten writer.new
+        (before ++ row_text default_writer (map (λ f. f.now) fields.now))) }
 {
     match writer.write_fields(fields) {
         Ok(()) => Ok(()),
@@ -24,7 +25,8 @@ fn write_fields(writer: &mut Writer<Vec<u8>>, fields: &[&[u8]]) -> Result<(), Me
 
 /// Writes the header.
 fn write_header(writer: &mut Writer<Vec<u8>>) -> Result<(), Memory>
-    ensures { (before : List ℕ) → HasWritten writer.old before → OnOk result (HasWritten writer.new (before ++ row_text default_writer header)) }
+    ensures { (before : List ℕ) → HasWritten writer.old before
+        → OnOk result (HasWritten writer.new (before ++ row_text default_writer header)) }
 {
     write_fields(
         writer,
@@ -44,7 +46,8 @@ fn write_header(writer: &mut Writer<Vec<u8>>) -> Result<(), Memory>
 /// Writes a line.
 fn write_line(writer: &mut Writer<Vec<u8>>, line: &Line) -> Result<(), Memory>
     ensures { (before : List ℕ) → HasWritten writer.old before
-        → OnOk result (HasWritten writer.new (before ++ row_text default_writer (line_fields line.now))) }
+        → OnOk result (HasWritten writer.new
+        (before ++ row_text default_writer (line_fields line.now))) }
 {
     let (mut row, mut label, mut tail) = (Buffer::new(), Buffer::new(), Buffer::new());
     let (mut head, mut duration, mut slack) = (Buffer::new(), Buffer::new(), Buffer::new());
@@ -78,7 +81,8 @@ fn write_lines(writer: &mut Writer<Vec<u8>>, lines: &[Line]) -> Result<(), Memor
 /// Writes the total: the sum of the slacks, and the cost.
 fn write_total(writer: &mut Writer<Vec<u8>>, slacks: u64, cost: u64) -> Result<(), Memory>
     ensures { (before : List ℕ) → HasWritten writer.old before
-        → OnOk result (HasWritten writer.new (before ++ row_text default_writer (total_fields slacks cost))) }
+        → OnOk result (HasWritten writer.new
+        (before ++ row_text default_writer (total_fields slacks cost))) }
 {
     let mut sum = Buffer::new();
     let mut total = Buffer::new();

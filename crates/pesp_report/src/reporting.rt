@@ -35,11 +35,14 @@ pub fn report<W: Sink>(
     // The whole report is written at Ok, a front of it where the writer failed, and else nothing.
     ensures text { OnOk result ((text : List ℕ) × IsReport instance.now times.now text
         × Appends (W.contents sink.old) (W.contents sink.new) text) }
-    ensures counts { OnOk result ((W.failed sink.new ≡ W.failed sink.old) × (W.interrupted sink.new ≤ W.interrupted sink.old + 1000)) }
-    ensures front { IfErr result (λ e. IfBlamed e ((text : List ℕ) × IsReport instance.now times.now text
+    ensures counts { OnOk result ((W.failed sink.new ≡ W.failed sink.old)
+        × (W.interrupted sink.new ≤ W.interrupted sink.old + 1000)) }
+    ensures front { IfErr result
+        (λ e. IfBlamed e ((text : List ℕ) × IsReport instance.now times.now text
         × AppendsFront (W.contents sink.old) (W.contents sink.new) text)) }
     ensures fault { IfErr result (λ e. IfBlamed e
-        (DeviceFailed (W.failed sink.old) (W.interrupted sink.old) (W.failed sink.new) (W.interrupted sink.new))) }
+        (DeviceFailed (W.failed sink.old) (W.interrupted sink.old) (W.failed sink.new)
+        (W.interrupted sink.new))) }
     ensures silent { IfErr result (λ e. UnlessBlamed e (sink.new ≡ sink.old)) }
 {
     match score(instance, times) {

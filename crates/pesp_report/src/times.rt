@@ -22,7 +22,8 @@ pub fn read_times(alloc: Global, instance: &Instance, text: &[u8]) -> Result<Vec
     ensures times { IfOk result (λ times. AreTimes instance.now times.items) }
 
     // The lines that begin with `time ` name the events in order, with these times.
-    ensures told { IfOk result (λ times. TellTimes instance.now.events times.items (time_lines text.now)) }
+    ensures told { IfOk result
+        (λ times. TellTimes instance.now.events times.items (time_lines text.now)) }
     ensures refused { IfErr result (λ e. (e ≡ Memory) ⊎ (times_of instance.now text.now ≡ Err e)) }
 {
     let period = instance.period();

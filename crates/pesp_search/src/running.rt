@@ -26,7 +26,8 @@ pub(crate) fn run_turns<O: Observer>(
     requires worked { IsWorked board.old.problem 0 board.old.state }
     requires few { steps ≤ 100000 }
     ensures problem { board.new.problem ≡ board.old.problem }
-    ensures turns { IfOk result (λ used. AreTurns board.old.problem steps board.old.state used board.new.state) }
+    ensures turns { IfOk result
+        (λ used. AreTurns board.old.problem steps board.old.state used board.new.state) }
     ensures refused { IfErr result (AreTurnsRefused board.old.problem steps) }
 {
     let mut used = 0;

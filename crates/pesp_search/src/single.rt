@@ -49,7 +49,8 @@ fn with_pair(
     requires best { HaveValue problem.now node.now best.pairs.items true best.value }
     ensures value { IfOk result (λ b. HaveValue problem.now node.now b.pairs.items true b.value) }
     ensures no_less { IfOk result (λ b. best.value ≤ℤ b.value) }
-    ensures pair { IfOk result (λ b. IfSome (spec.leaf_value (net_of problem.now) problem.now.table node.now (pair.now ∷ []) true) (λ v. v ≤ℤ b.value)) }
+    ensures pair { IfOk result (λ b. IfSome (spec.leaf_value (net_of problem.now) problem.now.table
+        node.now (pair.now ∷ []) true) (λ v. v ≤ℤ b.value)) }
 {
     match single_value(problem, node, pair, none) {
         Some(value) if value > best.value => {
@@ -76,8 +77,10 @@ fn with_cycle(
     requires best { HaveValue problem.now node.now best.pairs.items true best.value }
     ensures value { IfOk result (λ b. HaveValue problem.now node.now b.pairs.items true b.value) }
     ensures no_less { IfOk result (λ b. best.value ≤ℤ b.value) }
-    ensures plus { IfOk result (λ b. IfSome (spec.leaf_value (net_of problem.now) problem.now.table node.now (plus_pair cycle) true) (λ v. v ≤ℤ b.value)) }
-    ensures minus { IfOk result (λ b. IfSome (spec.leaf_value (net_of problem.now) problem.now.table node.now (minus_pair cycle) true) (λ v. v ≤ℤ b.value)) }
+    ensures plus { IfOk result (λ b. IfSome (spec.leaf_value (net_of problem.now) problem.now.table
+        node.now (plus_pair cycle) true) (λ v. v ≤ℤ b.value)) }
+    ensures minus { IfOk result (λ b. IfSome (spec.leaf_value (net_of problem.now) problem.now.table
+        node.now (minus_pair cycle) true) (λ v. v ≤ℤ b.value)) }
 {
     let plus = Pair { cycle, mult: 1 };
     let minus = Pair { cycle, mult: -1 };

@@ -41,7 +41,8 @@ fn search<O: Observer>(
     requires opening { board.old.state ≡ opening }
     requires few { steps ≤ 100000 }
     ensures problem { board.new.problem ≡ board.old.problem }
-    ensures searched { IfOk result (λ used. IsSearchedThrough board.old.problem steps used board.new.state) }
+    ensures searched { IfOk result
+        (λ used. IsSearchedThrough board.old.problem steps used board.new.state) }
     ensures refused { IfErr result (AreTurnsRefused board.old.problem steps) }
 {
     look_at_root(alloc, board, &known.root)?;
@@ -59,7 +60,8 @@ fn certify(
 ) -> Result<Solved, Memory>
     requires of { IsProblemOf instance.now board.now.problem }
     requires frugal { IsFrugal board.now.problem.table }
-    ensures { (steps : ℕ) → IsSearchedThrough board.now.problem steps steps_used board.now.state → IfOk result (λ s. IsSolved instance.now steps s.steps_used s.certificate) }
+    ensures { (steps : ℕ) → IsSearchedThrough board.now.problem steps steps_used board.now.state
+        → IfOk result (λ s. IsSolved instance.now steps s.steps_used s.certificate) }
 {
     limits(board.problem());
     let certificate = board.certificate(alloc, instance)?;

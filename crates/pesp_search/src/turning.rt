@@ -45,7 +45,8 @@ pub(crate) fn lend_next(
     requires worked { IsWorked board.old.problem used board.old.state }
     requires few { used ≤ 100000 }
     ensures problem { board.new.problem ≡ board.old.problem }
-    ensures lends { IfOk result (λ job. Lends board.old.problem board.old.state (Ok job) board.new.state) }
+    ensures lends { IfOk result
+        (λ job. Lends board.old.problem board.old.state (Ok job) board.new.state) }
     ensures refused { IfErr result (λ refusal. refusal ≡ Refused) }
 {
     turns_begin();
@@ -69,7 +70,8 @@ fn split_leaf(
     requires node { IsNodeOf board.old.problem node }
     requires at { node ≡ node_at board.old.problem job.now.path.items }
     ensures problem { board.new.problem ≡ board.old.problem }
-    ensures takes { OnOk result (TakesStep board.old.problem board.old.state job.now.number choice.cut board.new.state) }
+    ensures takes { OnOk result
+        (TakesStep board.old.problem board.old.state job.now.number choice.cut board.new.state) }
     ensures refused { IfErr result (IsTurnRefusal board.old.problem used) }
 {
     let Some((_, start)) = board.job_leaf(job.number) else {
@@ -88,9 +90,11 @@ fn close_leaf(
     used: u32,
 ) -> Result<(), SolveRefusal>
     requires lent { IsJustLent board.old.problem used board.old.state job.now }
-    requires gap { IsSoundLeaf (net_of board.old.problem) board.old.problem.table None (Gap cycle) (node_at board.old.problem job.now.path.items) }
+    requires gap { IsSoundLeaf (net_of board.old.problem) board.old.problem.table None (Gap cycle)
+        (node_at board.old.problem job.now.path.items) }
     ensures problem { board.new.problem ≡ board.old.problem }
-    ensures takes { OnOk result (Takes board.old.problem board.old.state job.now.number (GivesGap cycle) board.new.state) }
+    ensures takes { OnOk result
+        (Takes board.old.problem board.old.state job.now.number (GivesGap cycle) board.new.state) }
     ensures refused { IfErr result (IsTurnRefusal board.old.problem used) }
 {
     hand_in(alloc, board, job, &Work::Gap(cycle), used)
@@ -108,7 +112,8 @@ pub(crate) fn take_turn(
     requires worked { IsWorked board.old.problem used board.old.state }
     requires few { used ≤ 100000 }
     ensures problem { board.new.problem ≡ board.old.problem }
-    ensures goes { IfOk result (λ turn. IsTurn board.old.problem used board.old.state turn board.new.state) }
+    ensures goes { IfOk result
+        (λ turn. IsTurn board.old.problem used board.old.state turn board.new.state) }
     ensures refused { IfErr result (IsTurnRefusal board.old.problem used) }
 {
     limits(board.problem());

@@ -24,12 +24,17 @@ pub fn improve(
     times: &[u32],
     rounds: u32,
 ) -> Result<Improved, SimplexRefusal>
-    ensures not_feasible { IsErrOf result SimplexRefusal.NotFeasible ↔ ¬ IsNetTimetable (net_of_network network.now) network.now.events times.now }
-    ensures timetable { IfOk result (λ i. IsNetTimetable (net_of_network network.now) network.now.events i.times.items) }
+    ensures not_feasible { IsErrOf result SimplexRefusal.NotFeasible
+        ↔ ¬ IsNetTimetable (net_of_network network.now) network.now.events times.now }
+    ensures timetable { IfOk result
+        (λ i. IsNetTimetable (net_of_network network.now) network.now.events i.times.items) }
     ensures cost { IfOk result (λ i. i.cost ≡ net_cost (net_of_network network.now) i.times.items) }
-    ensures never_dearer { IfOk result (λ i. i.cost ≤ net_cost (net_of_network network.now) times.now) }
-    ensures forest { IfOk result (λ i. IsSpanningForest (arcs_of_network network.now.rows) i.forest.items) }
-    ensures local { IfOk result (λ i. i.stop ≡ Stop.Local → IsLocal (net_of_network network.now) network.now.events i.forest.items i.times.items) }
+    ensures never_dearer { IfOk result
+        (λ i. i.cost ≤ net_cost (net_of_network network.now) times.now) }
+    ensures forest { IfOk result
+        (λ i. IsSpanningForest (arcs_of_network network.now.rows) i.forest.items) }
+    ensures local { IfOk result (λ i. i.stop ≡ Stop.Local
+        → IsLocal (net_of_network network.now) network.now.events i.forest.items i.times.items) }
 {
     if !network.is_timetable(times) {
         return Err(SimplexRefusal::NotFeasible);

@@ -31,7 +31,8 @@ fn cuts_of(
     requires lists { IsFor events rooted.now }
     requires trees { AreRoots events arcs.now (roots_of rooted.now) }
     requires few { length arcs.now ≤ 100000 }
-    ensures { IfOk result (λ o. IfSome o (AreListed events arcs.now (roots_of rooted.now) (length arcs.now))) }
+    ensures { IfOk result
+        (λ o. IfSome o (AreListed events arcs.now (roots_of rooted.now) (length arcs.now))) }
 {
     let mut counts = vec![in alloc; 0u32; events as usize]?;
     let all = Low {
@@ -70,7 +71,9 @@ fn is_local(
     requires count { length times.now ≡ events }
     requires lists { IsFor events rooted.now }
     requires trees { AreRoots events arcs.now (roots_of rooted.now) }
-    ensures { IfOk result (λ yes. IsTrue yes → (forest : List ℕ) → AreTreeRows events (roots_of rooted.now) forest → IsLocal (record { period = period; arcs = arcs.now }) events forest times.now) }
+    ensures { IfOk result (λ yes. IsTrue yes → (forest : List ℕ)
+        → AreTreeRows events (roots_of rooted.now) forest
+        → IsLocal (record { period = period; arcs = arcs.now }) events forest times.now) }
 {
     let slacks = slacks_of(alloc, period, events, arcs, times)?;
     let Some(cuts) = cuts_of(alloc, events, arcs, rooted)? else {
@@ -101,9 +104,11 @@ pub(crate) fn settle(
     other: Vec<u32>,
 ) -> Result<Improved, Memory>
     requires limits { KeepArcLimits period events arcs.now }
-    requires times { IsNetTimetable (record { period = period; arcs = arcs.now }) events times.items }
+    requires times { IsNetTimetable (record { period = period; arcs = arcs.now }) events
+        times.items }
     requires other { IsSpanningForest arcs.now other.items }
-    ensures { IfOk result (IsImproved (record { period = period; arcs = arcs.now }) events times.items) }
+    ensures { IfOk result
+        (IsImproved (record { period = period; arcs = arcs.now }) events times.items) }
 {
     let cost = cost_of(period, events, arcs, &times);
     if !is_rooted(events, arcs, rooted) {
@@ -135,8 +140,10 @@ pub(crate) fn cheaper(
 ) -> Result<Vec<u32>, Memory>
     requires limits { KeepArcLimits period events arcs.now }
     requires times { IsNetTimetable (record { period = period; arcs = arcs.now }) events times.now }
-    ensures timetable { IfOk result (λ v. IsNetTimetable (record { period = period; arcs = arcs.now }) events v.items) }
-    ensures no_dearer { IfOk result (λ v. net_cost (record { period = period; arcs = arcs.now }) v.items ≤ net_cost (record { period = period; arcs = arcs.now }) times.now) }
+    ensures timetable { IfOk result
+        (λ v. IsNetTimetable (record { period = period; arcs = arcs.now }) events v.items) }
+    ensures no_dearer { IfOk result (λ v. net_cost (record { period = period; arcs = arcs.now })
+        v.items ≤ net_cost (record { period = period; arcs = arcs.now }) times.now) }
 {
     if is_timetable(period, events, arcs, &found)
         && cost_of(period, events, arcs, &found) <= cost_of(period, events, arcs, times)
@@ -159,7 +166,8 @@ pub(crate) fn improve_times(
     requires limits { KeepArcLimits period events arcs.now }
     requires times { IsNetTimetable (record { period = period; arcs = arcs.now }) events times.now }
     requires other { IsSpanningForest arcs.now other.items }
-    ensures { IfOk result (IsImproved (record { period = period; arcs = arcs.now }) events times.now) }
+    ensures { IfOk result
+        (IsImproved (record { period = period; arcs = arcs.now }) events times.now) }
 {
     let slacks = slacks_of(alloc, period, events, arcs, times)?;
     let cost = i64::try_from(cost_of(period, events, arcs, times)).unwrap_or(i64::MAX);

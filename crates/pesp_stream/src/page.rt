@@ -42,10 +42,14 @@ impl Page {
         requires failed_fits { W.failed sink.old < u64.MAX }
         requires interrupted_fits { W.interrupted sink.old ≤ most }
         requires most_fits { most < u64.MAX }
-        ensures ok { OnOk result (Moves (W.contents sink.old) (W.contents sink.new) self.old piece.now self.new) }
-        ensures front { OnErr result (AppendsFront (W.contents sink.old) (W.contents sink.new) (self.old ++ piece.now)) }
-        ensures counts { OnOk result ((W.failed sink.new ≡ W.failed sink.old) × (W.interrupted sink.new ≤ most)) }
-        ensures fault { OnErr result (Failed (W.failed sink.old) most (W.failed sink.new) (W.interrupted sink.new)) }
+        ensures ok { OnOk result
+            (Moves (W.contents sink.old) (W.contents sink.new) self.old piece.now self.new) }
+        ensures front { OnErr result
+            (AppendsFront (W.contents sink.old) (W.contents sink.new) (self.old ++ piece.now)) }
+        ensures counts { OnOk result
+            ((W.failed sink.new ≡ W.failed sink.old) × (W.interrupted sink.new ≤ most)) }
+        ensures fault { OnErr result
+            (Failed (W.failed sink.old) most (W.failed sink.new) (W.interrupted sink.new)) }
     {
         if piece.len() <= SIZE - self.len {
             self.keep(piece);
@@ -76,8 +80,10 @@ impl Page {
         requires most_fits { most < u64.MAX }
         ensures emptied { self.new ≡ [] }
         ensures text { Writes (W.contents sink.old) (W.contents sink.new) self.old result }
-        ensures counts { OnOk result ((W.failed sink.new ≡ W.failed sink.old) × (W.interrupted sink.new ≤ most)) }
-        ensures fault { OnErr result (Failed (W.failed sink.old) most (W.failed sink.new) (W.interrupted sink.new)) }
+        ensures counts { OnOk result
+            ((W.failed sink.new ≡ W.failed sink.old) × (W.interrupted sink.new ≤ most)) }
+        ensures fault { OnErr result
+            (Failed (W.failed sink.old) most (W.failed sink.new) (W.interrupted sink.new)) }
     {
         let len = self.len;
         self.len = 0;

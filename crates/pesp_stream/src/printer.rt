@@ -65,9 +65,14 @@ impl<'a, W: Sink> Printer<'a, W> {
         ensures writer { self.new.sink.ghost_name ≡ self.old.sink.ghost_name }
         ensures same { self.old.stopped ≡ true → self.new.sink.now ≡ self.old.sink.now }
         ensures err { self.old.stopped ≡ true → IsErr result }
-        ensures text { self.old.stopped ≡ false → Writes (W.contents self.old.sink.now) (W.contents self.new.sink.now) self.old.page result }
-        ensures counts { self.old.stopped ≡ false → OnOk result ((W.failed self.new.sink.now ≡ W.failed self.old.sink.now) × (W.interrupted self.new.sink.now ≤ self.old.most)) }
-        ensures fault { self.old.stopped ≡ false → OnErr result (Failed (W.failed self.old.sink.now) self.old.most (W.failed self.new.sink.now) (W.interrupted self.new.sink.now)) }
+        ensures text { self.old.stopped ≡ false → Writes (W.contents self.old.sink.now)
+            (W.contents self.new.sink.now) self.old.page result }
+        ensures counts { self.old.stopped ≡ false
+            → OnOk result ((W.failed self.new.sink.now ≡ W.failed self.old.sink.now)
+            × (W.interrupted self.new.sink.now ≤ self.old.most)) }
+        ensures fault { self.old.stopped ≡ false
+            → OnErr result (Failed (W.failed self.old.sink.now) self.old.most
+            (W.failed self.new.sink.now) (W.interrupted self.new.sink.now)) }
     {
         if self.stopped {
             return Err(WriteFault);
@@ -83,8 +88,10 @@ pub fn print_to<W: Sink, T: Printed>(sink: &mut W, value: &T) -> Result<(), Writ
     requires failed_fits { W.failed sink.old < 2 ^ 63 }
     requires interrupted_fits { W.interrupted sink.old < 2 ^ 63 }
     ensures text { Writes (W.contents sink.old) (W.contents sink.new) (T.text value.now) result }
-    ensures counts { OnOk result ((W.failed sink.new ≡ W.failed sink.old) × (W.interrupted sink.new ≤ W.interrupted sink.old + 1000)) }
-    ensures fault { OnErr result (DeviceFailed (W.failed sink.old) (W.interrupted sink.old) (W.failed sink.new) (W.interrupted sink.new)) }
+    ensures counts { OnOk result ((W.failed sink.new ≡ W.failed sink.old)
+        × (W.interrupted sink.new ≤ W.interrupted sink.old + 1000)) }
+    ensures fault { OnErr result (DeviceFailed (W.failed sink.old) (W.interrupted sink.old)
+        (W.failed sink.new) (W.interrupted sink.new)) }
 {
     let mut printer = Printer::new(sink);
     value.print(&mut printer);

@@ -36,8 +36,10 @@ pub fn read_repeating<S: Source>(source: &mut S, buf: &mut [u8], most: u64) -> R
     ensures bound { IfOk result (λ n. n ≤ length buf.new) }
     ensures length { length buf.new ≡ length buf.old }
     ensures bytes { ReadConsumes (S.remaining source.old) (S.remaining source.new) result buf.new }
-    ensures counts { OnOk result ((S.failed source.new ≡ S.failed source.old) × (S.interrupted source.new ≤ most)) }
-    ensures fault { OnErr result (Failed (S.failed source.old) most (S.failed source.new) (S.interrupted source.new)) }
+    ensures counts { OnOk result
+        ((S.failed source.new ≡ S.failed source.old) × (S.interrupted source.new ≤ most)) }
+    ensures fault { OnErr result
+        (Failed (S.failed source.old) most (S.failed source.new) (S.interrupted source.new)) }
 {
     loop {
         match source.read(buf) {
@@ -59,9 +61,13 @@ pub fn read_all<S: Source>(
 ) -> Result<Vec<u8>, ReadFault>
     requires failed_fits { S.failed source.old < 2 ^ 63 }
     requires interrupted_fits { S.interrupted source.old < 2 ^ 63 }
-    ensures ok { IfOk result (λ bytes. ReadsText (S.remaining source.old) (S.remaining source.new) limit bytes.items) }
-    ensures counts { OnOk result ((S.failed source.new ≡ S.failed source.old) × (S.interrupted source.new ≤ S.interrupted source.old + 1000)) }
-    ensures fault { IfErr result (λ e. ReadFaults e (DeviceFailed (S.failed source.old) (S.interrupted source.old) (S.failed source.new) (S.interrupted source.new))) }
+    ensures ok { IfOk result
+        (λ bytes. ReadsText (S.remaining source.old) (S.remaining source.new) limit bytes.items) }
+    ensures counts { OnOk result ((S.failed source.new ≡ S.failed source.old)
+        × (S.interrupted source.new ≤ S.interrupted source.old + 1000)) }
+    ensures fault { IfErr result (λ e. ReadFaults e
+        (DeviceFailed (S.failed source.old) (S.interrupted source.old) (S.failed source.new)
+        (S.interrupted source.new))) }
 {
     let most = source.interrupted_reads() + MOST_INTERRUPTED;
     let mut bytes = Vec::new(alloc);

@@ -22,7 +22,8 @@ pub trait Sink {
         requires interrupted_fits { interrupted self.old < u64.MAX }
         ensures bound { WritesAtMost result buf.now }
         ensures bytes { WriteAppends (contents self.old) (contents self.new) result buf.now }
-        ensures counts { CountsWrite (length buf.now) (failed self.old) (interrupted self.old) (failed self.new) (interrupted self.new) result };
+        ensures counts { CountsWrite (length buf.now) (failed self.old) (interrupted self.old)
+            (failed self.new) (interrupted self.new) result };
 
     fn interrupted_writes(&self) -> u64
         ensures { result ≡ interrupted self.now };

@@ -21,7 +21,8 @@ pub trait Source {
         requires interrupted_fits { interrupted self.old < u64.MAX }
         ensures bound { ReadsAtMost result buf.new }
         ensures bytes { ReadConsumes (remaining self.old) (remaining self.new) result buf.new }
-        ensures counts { CountsRead (failed self.old) (interrupted self.old) (failed self.new) (interrupted self.new) result };
+        ensures counts { CountsRead (failed self.old) (interrupted self.old) (failed self.new)
+            (interrupted self.new) result };
 
     fn interrupted_reads(&self) -> u64
         ensures { result ≡ interrupted self.now };

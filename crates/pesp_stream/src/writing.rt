@@ -17,8 +17,10 @@ pub fn write_all<W: Sink>(sink: &mut W, bytes: &[u8], most: u64) -> Result<(), W
     requires interrupted_fits { W.interrupted sink.old ≤ most }
     requires most_fits { most < u64.MAX }
     ensures text { Writes (W.contents sink.old) (W.contents sink.new) bytes.now result }
-    ensures counts { OnOk result ((W.failed sink.new ≡ W.failed sink.old) × (W.interrupted sink.new ≤ most)) }
-    ensures fault { OnErr result (Failed (W.failed sink.old) most (W.failed sink.new) (W.interrupted sink.new)) }
+    ensures counts { OnOk result
+        ((W.failed sink.new ≡ W.failed sink.old) × (W.interrupted sink.new ≤ most)) }
+    ensures fault { OnErr result
+        (Failed (W.failed sink.old) most (W.failed sink.new) (W.interrupted sink.new)) }
 {
     let mut rest = bytes;
     while !rest.is_empty() {

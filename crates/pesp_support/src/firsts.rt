@@ -11,7 +11,8 @@ use std::alloc::Global;
 // the events, each under its own number
 fn alone(alloc: Global, events: u32) -> Result<Vec<u32>, Memory>
     ensures long { IfOk result (λ v. length v.items ≡ events) }
-    ensures own { IfOk result (λ v. (event : ℕ) → event < events → slice_index v.items event ≡ event) }
+    ensures own { IfOk result
+        (λ v. (event : ℕ) → event < events → slice_index v.items event ≡ event) }
 {
     let mut labels = vec![in alloc; 0u32; events as usize]?;
     for event in 0..events {
@@ -22,8 +23,10 @@ fn alone(alloc: Global, events: u32) -> Result<Vec<u32>, Memory>
 
 // writes one number in the place of another
 fn relabel(labels: &mut [u32], from: u32, to: u32)
-    ensures changed { (event : ℕ) → event < length labels.old → slice_index labels.old event ≡ from → slice_index labels.new event ≡ to }
-    ensures same { (event : ℕ) → event < length labels.old → slice_index labels.old event ≢ from → slice_index labels.new event ≡ slice_index labels.old event }
+    ensures changed { (event : ℕ) → event < length labels.old → slice_index labels.old event ≡ from
+        → slice_index labels.new event ≡ to }
+    ensures same { (event : ℕ) → event < length labels.old → slice_index labels.old event ≢ from
+        → slice_index labels.new event ≡ slice_index labels.old event }
 {
     if from == to {
         return;
@@ -38,7 +41,8 @@ fn relabel(labels: &mut [u32], from: u32, to: u32)
 fn join_rows(labels: &mut [u32], arcs: &[Arc])
     requires ends { HaveEnds (length labels.old) arcs.now }
     requires own { (event : ℕ) → event < length labels.old → slice_index labels.old event ≡ event }
-    ensures { (event : ℕ) → event < length labels.old → IsFirstOf arcs.now event (slice_index labels.new event) }
+    ensures { (event : ℕ) → event < length labels.old
+        → IsFirstOf arcs.now event (slice_index labels.new event) }
 {
     for place in 0..arcs.len() {
         let tail = labels[arcs[place].tail as usize];
@@ -51,7 +55,8 @@ fn join_rows(labels: &mut [u32], arcs: &[Arc])
 pub fn firsts_of(alloc: Global, events: u32, arcs: &[Arc]) -> Result<Vec<u32>, Memory>
     requires { HaveEnds events arcs.now }
     ensures long { IfOk result (λ v. length v.items ≡ events) }
-    ensures firsts { IfOk result (λ v. (event : ℕ) → event < events → IsFirstOf arcs.now event (slice_index v.items event)) }
+    ensures firsts { IfOk result
+        (λ v. (event : ℕ) → event < events → IsFirstOf arcs.now event (slice_index v.items event)) }
 {
     let mut labels = alone(alloc, events)?;
     join_rows(&mut labels, arcs);

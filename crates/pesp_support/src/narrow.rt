@@ -69,7 +69,8 @@ fn take_lonely(
     requires long { kept * period + period ≤ 64 * length words.old }
     requires place { place < period }
     requires first { window.first < period }
-    ensures taken { window.count ≤ gap → IsTaken period kept window.first place words.old words.new }
+    ensures taken { window.count ≤ gap
+        → IsTaken period kept window.first place words.old words.new }
     ensures same { gap < window.count → words.new ≡ words.old }
     ensures less { IsLess words.old words.new result }
 {
@@ -91,7 +92,8 @@ pub fn narrow(words: &mut [u64], period: usize, kept: usize, other: usize, windo
     requires apart { kept ≢ other }
     requires first { window.first < period }
     requires some { (d : ℕ) × (family_at period words.old other d ≡ true) }
-    ensures narrows { Narrows period kept other window.first window.count (family_at period words.old) (family_at period words.new) }
+    ensures narrows { Narrows period kept other window.first window.count
+        (family_at period words.old) (family_at period words.new) }
     ensures less { IsLess words.old words.new result }
 {
     if window.count >= period {

@@ -34,7 +34,8 @@ fn mark_all(marks: &mut [bool], mark: bool)
 fn mark_ends(marks: &mut [bool], arc: &Arc, narrowed: Narrowed)
     requires tail { arc.now.tail < length marks.old }
     requires head { arc.now.head < length marks.old }
-    ensures kept { (event : ℕ) → is_marked marks.new event ≡ false → is_marked marks.old event ≡ false }
+    ensures kept { (event : ℕ) → is_marked marks.new event ≡ false
+        → is_marked marks.old event ≡ false }
     ensures tail { is_marked marks.new arc.now.tail ≡ false → narrowed.tail ≡ false }
     ensures head { is_marked marks.new arc.now.head ≡ false → narrowed.head ≡ false }
     ensures none { narrowed.tail ≡ false → narrowed.head ≡ false → marks.new ≡ marks.old }
@@ -71,9 +72,12 @@ fn visit_at(
     requires long { length before.now * period ≤ 64 * length words.old }
     requires marks { length now.old ≡ length before.now }
     requires place { place < length arcs.now }
-    requires wide { IsWide (net_at period arcs.now) ranges.now (length before.now) (family_at period words.old) }
-    requires round { InRound (net_at period arcs.now) ranges.now before.now now.old place (family_at period words.old) }
-    ensures { IsStep (net_at period arcs.now) ranges.now (length before.now) before.now now.old now.new place words.old words.new result }
+    requires wide { IsWide (net_at period arcs.now) ranges.now (length before.now)
+        (family_at period words.old) }
+    requires round { InRound (net_at period arcs.now) ranges.now before.now now.old place
+        (family_at period words.old) }
+    ensures { IsStep (net_at period arcs.now) ranges.now (length before.now) before.now now.old
+        now.new place words.old words.new result }
 {
     let arc = &arcs[place];
     if !has_mark(before, arc) && !has_mark(now, arc) {
@@ -102,9 +106,12 @@ fn visit_rows(
     requires long { length before.now * period ≤ 64 * length words.old }
     requires marks { length now.old ≡ length before.now }
     requires unmarked { (event : ℕ) → event < length now.old → is_marked now.old event ≡ false }
-    requires wide { IsWide (net_at period arcs.now) ranges.now (length before.now) (family_at period words.old) }
-    requires quiet { QuietRowsSupport (net_at period arcs.now) ranges.now before.now (family_at period words.old) }
-    ensures { IsRound (net_at period arcs.now) ranges.now (length before.now) words.old words.new now.new result }
+    requires wide { IsWide (net_at period arcs.now) ranges.now (length before.now)
+        (family_at period words.old) }
+    requires quiet { QuietRowsSupport (net_at period arcs.now) ranges.now before.now
+        (family_at period words.old) }
+    ensures { IsRound (net_at period arcs.now) ranges.now (length before.now) words.old words.new
+        now.new result }
 {
     let mut changed = false;
     for place in 0..arcs.len() {
@@ -135,8 +142,10 @@ pub fn is_emptied(
     requires ranges { length ranges.now ≡ length arcs.now }
     requires long { length before.old * period ≤ 64 * length words.old }
     requires marks { length now.old ≡ length before.old }
-    requires wide { IsWide (net_at period arcs.now) ranges.now (length before.old) (family_at period words.old) }
-    ensures { IsTrue result ↔ NoFamilyIsSupported (net_at period arcs.now) ranges.now (length before.old) }
+    requires wide { IsWide (net_at period arcs.now) ranges.now (length before.old)
+        (family_at period words.old) }
+    ensures { IsTrue result
+        ↔ NoFamilyIsSupported (net_at period arcs.now) ranges.now (length before.old) }
 {
     mark_all(now, true);
     let mut round = Round::Narrowed;

@@ -54,7 +54,8 @@ fn start_one(words: &mut [u64], period: usize, event: usize, first: usize)
     ensures alone { first ≡ event → (d : ℕ) → family_at period words.new event d ≡ true → d ≡ 0 }
     ensures whole { first ≢ event → words.new ≡ words.old }
     ensures zero { family_at period words.new event 0 ≡ family_at period words.old event 0 }
-    ensures others { (other d : ℕ) → other ≢ event → family_at period words.new other d ≡ family_at period words.old other d }
+    ensures others { (other d : ℕ) → other ≢ event
+        → family_at period words.new other d ≡ family_at period words.old other d }
 {
     if first != event {
         return;
@@ -80,7 +81,8 @@ fn start(words: &mut [u64], period: usize, firsts: &[u32])
 impl Support {
     /// The rows of an instance, made ready for the question. `Memory` only where a growth was refused.
     pub fn of(alloc: Global, instance: &Instance) -> Result<Support, Memory>
-        ensures { IfOk result (λ s. s ≡ record { net = net_of instance.now; events = length instance.now.events }) }
+        ensures { IfOk result
+            (λ s. s ≡ record { net = net_of instance.now; events = length instance.now.events }) }
     {
         let period = instance.period();
         let events = instance.events().len();
@@ -106,7 +108,8 @@ impl Support {
     /// memory.
     pub fn supports_none(&mut self, ranges: &[(u32, u32)]) -> bool
         requires { length ranges.now ≡ length self.old.net.arcs }
-        ensures exact { IsTrue result ↔ NoFamilyIsSupported self.old.net ranges.now self.old.events }
+        ensures exact { IsTrue result
+            ↔ NoFamilyIsSupported self.old.net ranges.now self.old.events }
         ensures same { self.new ≡ self.old }
     {
         let period = self.period as usize;

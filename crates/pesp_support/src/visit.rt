@@ -28,7 +28,8 @@ fn shift_of(lower: &i64, period: usize) -> usize
 fn loop_holds(period: usize, shift: usize, range: (u32, u32)) -> bool
     requires period { 0 < period }
     requires shift { shift ≤ period }
-    ensures { IsTrue result ↔ (range.0 ≤ (period - shift) % period) × ((period - shift) % period ≤ range.1) }
+    ensures { IsTrue result
+        ↔ (range.0 ≤ (period - shift) % period) × ((period - shift) % period ≤ range.1) }
 {
     let remainder = (period - shift) % period;
     range.0 as usize <= remainder && remainder <= range.1 as usize

@@ -48,7 +48,8 @@ impl<'a> Iterator for Lines<'a> {
 
 /// The first line of a text, without its LF, and what stands behind it; None for an empty text.
 fn split_line(text: &[u8]) -> Option<(&[u8], &[u8])>
-    ensures { MatchOption result (lines_of text.now ≡ []) (λ r. lines_of text.now ≡ r.0.now ∷ lines_of r.1.now) }
+    ensures { MatchOption result (lines_of text.now ≡ [])
+        (λ r. lines_of text.now ≡ r.0.now ∷ lines_of r.1.now) }
 {
     if text.is_empty() {
         return None;

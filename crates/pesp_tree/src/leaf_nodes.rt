@@ -18,9 +18,11 @@ fn note(
     waiting: &mut Vec<u32>,
 ) -> Result<(), Memory>
     requires node { node < length nodes.now }
-    requires places { (place : ℕ) → slice_index_or nodes.now node no_node ≡ Branched place → place < 1000000 }
+    requires places { (place : ℕ) → slice_index_or nodes.now node no_node ≡ Branched place
+        → place < 1000000 }
     ensures leaves { OnOk result (leaves.new.items ≡ leaves.old.items ++ own_at nodes.now node) }
-    ensures waiting { OnOk result (waiting.new.items ≡ waiting.old.items ++ parts_at nodes.now node) }
+    ensures waiting { OnOk result
+        (waiting.new.items ≡ waiting.old.items ++ parts_at nodes.now node) }
 {
     match &nodes[node as usize] {
         Kept::Leaf(_) => {
@@ -42,8 +44,10 @@ pub(crate) fn leaf_nodes(
     nodes: &[Kept],
 ) -> Result<Vec<u32>, Memory>
     requires { AreNumbered branchings.now nodes.now }
-    ensures paths { IfOk result (λ leaves. map (path_in (grown branchings.now)) leaves.items ≡ leaf_paths (tree_of branchings.now (map kept_leaf nodes.now))) }
-    ensures leaves { IfOk result (λ leaves. All (λ node. IsSome (slice_index_or (map kept_leaf nodes.now) node None)) leaves.items) }
+    ensures paths { IfOk result (λ leaves. map (path_in (grown branchings.now)) leaves.items
+        ≡ leaf_paths (tree_of branchings.now (map kept_leaf nodes.now))) }
+    ensures leaves { IfOk result (λ leaves. All
+        (λ node. IsSome (slice_index_or (map kept_leaf nodes.now) node None)) leaves.items) }
 {
     let mut leaves = Vec::new(alloc);
     let mut waiting = Vec::new(alloc);

@@ -75,8 +75,10 @@ pub(crate) fn branch_off(
     requires place { vec_len branchings.old < vec_capacity branchings.old }
     requires places { vec_len nodes.old + 2 ≤ vec_capacity nodes.old }
     ensures branchings { branchings.new.items ≡ branchings.old.items ++ branching ∷ [] }
-    ensures nodes { nodes.new.items ≡ after_split nodes.old.items branching.node (length branchings.old.items) (KeptLeaf low) (KeptLeaf high) }
-    ensures memory { (vec_capacity branchings.old ≤ vec_capacity branchings.new) × (vec_capacity nodes.old ≤ vec_capacity nodes.new) }
+    ensures nodes { nodes.new.items ≡ after_split nodes.old.items branching.node
+        (length branchings.old.items) (KeptLeaf low) (KeptLeaf high) }
+    ensures memory { (vec_capacity branchings.old ≤ vec_capacity branchings.new)
+        × (vec_capacity nodes.old ≤ vec_capacity nodes.new) }
 {
     let place = branchings.len() as u32;
     add(branchings, branching);

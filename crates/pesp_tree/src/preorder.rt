@@ -33,8 +33,10 @@ fn visit(
 ) -> Result<(), Memory>
     requires node { IsKnown branchings.now nodes.now node }
     requires few { length branchings.now < 1000000 }
-    ensures lines { OnOk result (map line_of lines.new.items ≡ map line_of lines.old.items ++ line_at branchings.now nodes.now node ∷ []) }
-    ensures waiting { OnOk result (waiting.new.items ≡ waiting.old.items ++ parts_at nodes.now node) }
+    ensures lines { OnOk result (map line_of lines.new.items
+        ≡ map line_of lines.old.items ++ line_at branchings.now nodes.now node ∷ []) }
+    ensures waiting { OnOk result
+        (waiting.new.items ≡ waiting.old.items ++ parts_at nodes.now node) }
 {
     match &nodes[node as usize] {
         Kept::Leaf(leaf) => {
@@ -57,7 +59,8 @@ pub(crate) fn lines_of(
     nodes: &[Kept],
 ) -> Result<Vec<TreeLine>, Memory>
     requires { AreNumbered branchings.now nodes.now }
-    ensures { IfOk result (λ lines. map line_of lines.items ≡ preorder (tree_of branchings.now (map kept_leaf nodes.now))) }
+    ensures { IfOk result (λ lines. map line_of lines.items
+        ≡ preorder (tree_of branchings.now (map kept_leaf nodes.now))) }
 {
     let mut lines = Vec::new(alloc);
     let mut waiting = Vec::new(alloc);

@@ -134,8 +134,10 @@ impl WorkTree {
 
     /// The nodes that have leaves, in the order of the tree's lines. The one refusal is of memory.
     pub fn leaf_nodes(&self, alloc: Global) -> Result<Vec<u32>, Memory>
-        ensures paths { IfOk result (λ nodes. map (path_to self.now) nodes.items ≡ leaf_paths self.now.tree) }
-        ensures leaves { IfOk result (λ nodes. All (λ node. IsSome (leaf_at self.now node)) nodes.items) }
+        ensures paths { IfOk result
+            (λ nodes. map (path_to self.now) nodes.items ≡ leaf_paths self.now.tree) }
+        ensures leaves { IfOk result
+            (λ nodes. All (λ node. IsSome (leaf_at self.now node)) nodes.items) }
         ensures whole { IsWhole self.now }
     {
         leaf_nodes(alloc, &self.branchings, &self.nodes)

@@ -22,7 +22,8 @@ pub(crate) struct Held {
 // lends a leaf, where one is open and a number is left
 fn lend_next(alloc: Global, board: &mut Board) -> Result<Option<Job>, Memory>
     ensures problem { board.new.problem ≡ board.old.problem }
-    ensures lends { IfOk result (λ next. IfSome next (λ job. LendsLeaf board.old.problem board.old.state job board.new.state)) }
+    ensures lends { IfOk result (λ next. IfSome next
+        (λ job. LendsLeaf board.old.problem board.old.state job board.new.state)) }
 {
     match board.lend(alloc) {
         Ok(next) => Ok(next),

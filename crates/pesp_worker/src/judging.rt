@@ -72,7 +72,8 @@ fn taken(
     number: u64,
     lines: Vec<TreeLine>,
 ) -> Result<Option<Vec<TreeLine>>, Memory>
-    ensures { IfOk result (λ found. IfSome found (λ tree. (tree ≡ lines) × Fits board.old.problem board.old.state number tree.items)) }
+    ensures { IfOk result (λ found. IfSome found
+        (λ tree. (tree ≡ lines) × Fits board.old.problem board.old.state number tree.items)) }
 {
     let _best = board.best();
     let _table = board.problem().table();

@@ -50,7 +50,8 @@ fn copy_times(alloc: Global, times: &[(i64, u32)]) -> Result<Vec<(i64, u32)>, Me
 
 // the times that a certificate shows, where they are wanted
 fn shown(alloc: Global, certificate: &Certificate, wanted: bool) -> Result<Vec<(i64, u32)>, Memory>
-    ensures times { (instance : Pesp) → IsValid instance certificate.now → IfOk result (λ times. AreTimesFor instance times.items) }
+    ensures times { (instance : Pesp) → IsValid instance certificate.now
+        → IfOk result (λ times. AreTimesFor instance times.items) }
     ensures short { IfOk result (λ times. AreShort times.items) }
 {
     if !wanted {

@@ -14,7 +14,9 @@ use std::alloc::Global;
 
 // the fundamental walks of what is left; None where they have too many signed rows
 fn walks_of(alloc: Global, reduced: &Reduced) -> Result<Option<Vec<Walk>>, Memory>
-    ensures { IfOk result (λ found. IfSome found (λ walks. AreFundamental (arcs_of_network reduced.now.network.rows) reduced.now.network.forest walks.items)) }
+    ensures { IfOk result (λ found. IfSome found
+        (λ walks. AreFundamental (arcs_of_network reduced.now.network.rows)
+        reduced.now.network.forest walks.items)) }
 {
     match reduced.network().cycles(alloc) {
         Ok(walks) => Ok(Some(walks)),
@@ -50,7 +52,8 @@ fn are_lifted(
     walks: &[Walk],
     table: &[Walk],
 ) -> Result<bool, Memory>
-    requires { AreFundamental (arcs_of_network reduced.now.network.rows) reduced.now.network.forest walks.now }
+    requires { AreFundamental (arcs_of_network reduced.now.network.rows) reduced.now.network.forest
+        walks.now }
 {
     if walks.len() != table.len() {
         return Ok(false);

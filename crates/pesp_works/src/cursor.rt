@@ -46,7 +46,8 @@ fn other_front(n: u64, line: &[u8]) -> CertRefusal
 pub(crate) fn take_header(cursor: &mut Cursor<'_>) -> Result<(), CertRefusal>
     requires some { 0 < length cursor.old.rest.now }
     requires fits { cursor.old.n + length cursor.old.rest.now < 2 ^ 64 }
-    ensures goes { OnOk result (Goes cursor.old.n Front cursor.old.rest.now cursor.new.n Job cursor.new.rest.now) }
+    ensures goes { OnOk result
+        (Goes cursor.old.n Front cursor.old.rest.now cursor.new.n Job cursor.new.rest.now) }
     ensures refused { IfErr result (Refuses cursor.old.n Front cursor.old.rest.now) }
 {
     let (line, rest) = split_at_byte(b'\n', cursor.rest);
@@ -65,7 +66,8 @@ pub(crate) fn take_header(cursor: &mut Cursor<'_>) -> Result<(), CertRefusal>
 /// Takes the next line of a work, without its LF.
 pub(crate) fn take_bytes<'a>(cursor: &mut Cursor<'a>) -> Result<&'a [u8], CertRefusal>
     requires { cursor.old.n + length cursor.old.rest.now < 2 ^ 64 }
-    ensures takes { IfOk result (λ line. Takes cursor.old.n cursor.old.rest.now line.now cursor.new.n cursor.new.rest.now) }
+    ensures takes { IfOk result
+        (λ line. Takes cursor.old.n cursor.old.rest.now line.now cursor.new.n cursor.new.rest.now) }
     ensures refused { IfErr result (RefusesInside cursor.old.n cursor.old.rest.now) }
 {
     let (line, rest) = split_at_byte(b'\n', cursor.rest);

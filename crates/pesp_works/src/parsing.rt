@@ -34,7 +34,8 @@ fn made(job: u64, draft: Draft) -> WorkText
 /// Takes the line of a job.
 fn take_job(cursor: &mut Cursor<'_>) -> Result<u64, CertRefusal>
     requires { cursor.old.n + length cursor.old.rest.now < 2 ^ 64 }
-    ensures goes { IfOk result (λ job. Goes cursor.old.n Job cursor.old.rest.now cursor.new.n (Inside job works.opening blank) cursor.new.rest.now) }
+    ensures goes { IfOk result (λ job. Goes cursor.old.n Job cursor.old.rest.now cursor.new.n
+        (Inside job works.opening blank) cursor.new.rest.now) }
     ensures refused { IfErr result (Refuses cursor.old.n Job cursor.old.rest.now) }
 {
     let n = cursor.n;
@@ -48,8 +49,10 @@ fn take_job(cursor: &mut Cursor<'_>) -> Result<u64, CertRefusal>
 /// Takes the lines behind a job's, up to the end of the work.
 fn take_lines(alloc: Global, job: u64, cursor: &mut Cursor<'_>) -> Result<WorkText, CertRefusal>
     requires { cursor.old.n + length cursor.old.rest.now < 2 ^ 64 }
-    ensures ends { IfOk result (λ work. Ends cursor.old.n (Inside job works.opening blank) cursor.old.rest.now work cursor.new.n cursor.new.rest.now) }
-    ensures refused { IfErr result (Refuses cursor.old.n (Inside job works.opening blank) cursor.old.rest.now) }
+    ensures ends { IfOk result (λ work. Ends cursor.old.n (Inside job works.opening blank)
+        cursor.old.rest.now work cursor.new.n cursor.new.rest.now) }
+    ensures refused { IfErr result
+        (Refuses cursor.old.n (Inside job works.opening blank) cursor.old.rest.now) }
 {
     let mut draft = Draft::new(alloc);
     let mut progress = opening();
@@ -71,7 +74,8 @@ fn take_lines(alloc: Global, job: u64, cursor: &mut Cursor<'_>) -> Result<WorkTe
 fn take_work(alloc: Global, cursor: &mut Cursor<'_>) -> Result<WorkText, CertRefusal>
     requires some { 0 < length cursor.old.rest.now }
     requires fits { cursor.old.n + length cursor.old.rest.now < 2 ^ 64 }
-    ensures ends { IfOk result (λ work. Ends cursor.old.n Front cursor.old.rest.now work cursor.new.n cursor.new.rest.now) }
+    ensures ends { IfOk result (λ work. Ends cursor.old.n Front cursor.old.rest.now work
+        cursor.new.n cursor.new.rest.now) }
     ensures refused { IfErr result (Refuses cursor.old.n Front cursor.old.rest.now) }
 {
     take_header(cursor)?;

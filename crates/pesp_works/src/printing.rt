@@ -43,9 +43,11 @@ pub fn print_work<W: Sink>(work: &WorkText, sink: &mut W) -> Result<(), WriteFau
     requires failed_fits { W.failed sink.old < 2 ^ 63 }
     requires interrupted_fits { W.interrupted sink.old < 2 ^ 63 }
     ensures text { Writes (W.contents sink.old) (W.contents sink.new) (spelling work.now) result }
-    ensures counts { OnOk result ((W.failed sink.new ≡ W.failed sink.old) × (W.interrupted sink.new ≤ W.interrupted sink.old + 1000)) }
+    ensures counts { OnOk result ((W.failed sink.new ≡ W.failed sink.old)
+        × (W.interrupted sink.new ≤ W.interrupted sink.old + 1000)) }
     // The device is blamed only where it failed.
-    ensures fault { OnErr result (DeviceFailed (W.failed sink.old) (W.interrupted sink.old) (W.failed sink.new) (W.interrupted sink.new)) }
+    ensures fault { OnErr result (DeviceFailed (W.failed sink.old) (W.interrupted sink.old)
+        (W.failed sink.new) (W.interrupted sink.new)) }
 {
     print_to(sink, work)
 }

@@ -20,7 +20,7 @@ pub struct Rooted {
 
 /// Whether an arc has these two ends, in one order or the other.
 fn has_ends(arc: &Arc, x: u32, y: u32) -> bool
-    ensures { IsTrue result → HasEnds arc.now x y }
+    ensures { IsTrue result ↔ HasEnds arc.now x y }
 {
     (arc.tail == x && arc.head == y) || (arc.head == x && arc.tail == y)
 }
@@ -29,7 +29,7 @@ fn has_ends(arc: &Arc, x: u32, y: u32) -> bool
 fn is_joined(events: u32, arcs: &[Arc], rooted: &Rooted, event: u32) -> bool
     requires lists { IsFor events rooted.now }
     requires event { event < events }
-    ensures { IsTrue result → IsJoined events arcs.now (roots_of rooted.now) event }
+    ensures { IsTrue result ↔ IsJoined events arcs.now (roots_of rooted.now) event }
 {
     let at = event as usize;
     let by = rooted.by[at] as usize;
@@ -49,7 +49,7 @@ fn is_joined(events: u32, arcs: &[Arc], rooted: &Rooted, event: u32) -> bool
 /// Whether both ends of an arc are events with the same root.
 fn is_spanned(events: u32, rooted: &Rooted, arc: &Arc) -> bool
     requires lists { IsFor events rooted.now }
-    ensures { IsTrue result → IsSpanned events arc.now (roots_of rooted.now) }
+    ensures { IsTrue result ↔ IsSpanned events arc.now (roots_of rooted.now) }
 {
     arc.tail < events
         && arc.head < events
@@ -58,7 +58,7 @@ fn is_spanned(events: u32, rooted: &Rooted, arc: &Arc) -> bool
 
 /// Whether there is an entry for each event in each list.
 fn is_for(events: u32, rooted: &Rooted) -> bool
-    ensures { IsTrue result → IsFor events rooted.now }
+    ensures { IsTrue result ↔ IsFor events rooted.now }
 {
     let count = events as usize;
     rooted.up.len() == count
@@ -71,7 +71,7 @@ fn is_for(events: u32, rooted: &Rooted) -> bool
 fn are_joined(events: u32, arcs: &[Arc], rooted: &Rooted) -> bool
     requires lists { IsFor events rooted.now }
     ensures { IsTrue result
-        → ((x : ℕ) → x < events → IsJoined events arcs.now (roots_of rooted.now) x) }
+        ↔ ((x : ℕ) → x < events → IsJoined events arcs.now (roots_of rooted.now) x) }
 {
     for event in 0..events {
         if !is_joined(events, arcs, rooted, event) {
@@ -84,7 +84,7 @@ fn are_joined(events: u32, arcs: &[Arc], rooted: &Rooted) -> bool
 /// Whether both ends of each arc have the same root.
 fn are_spanned(events: u32, arcs: &[Arc], rooted: &Rooted) -> bool
     requires lists { IsFor events rooted.now }
-    ensures { IsTrue result → ((i : ℕ) → i < length arcs.now
+    ensures { IsTrue result ↔ ((i : ℕ) → i < length arcs.now
         → IsSpanned events (arc_at arcs.now i) (roots_of rooted.now)) }
 {
     for arc in arcs {
@@ -99,6 +99,8 @@ fn are_spanned(events: u32, arcs: &[Arc], rooted: &Rooted) -> bool
 pub fn is_rooted(events: u32, arcs: &[Arc], rooted: &Rooted) -> bool
     ensures lists { IsTrue result → IsFor events rooted.now }
     ensures trees { IsTrue result → AreRoots events arcs.now (roots_of rooted.now) }
+    ensures all { IsFor events rooted.now → AreRoots events arcs.now (roots_of rooted.now)
+        → IsTrue result }
 {
     is_for(events, rooted) && are_joined(events, arcs, rooted) && are_spanned(events, arcs, rooted)
 }

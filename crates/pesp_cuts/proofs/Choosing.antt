@@ -1,6 +1,6 @@
 -- The choice among all amounts.
 use Rattle.std.proofs.Common.{◌≡◌, ◌⊎◌, inl, inr, ℕ, ℤ, pos, ◌<◌, ◌≤◌, ◌-ℤ◌, zero, suc, refl, ap, sym, ◌∙◌, arith, List, length, true, false}
-use Rattle.std.specs.Prelude.{Bool, ◌≤ℤ◌, All}
+use Rattle.std.specs.Prelude.{Bool, ◌≤ℤ◌, ◌<ℤ◌, All}
 use Rattle.std.proofs.lemmas.Int.{ints}
 use Rattle.pesp_cuts.specs.declared.crossing.Crossing.{Crossing}
 use Rattle.pesp_cuts.specs.Shifts.{number_at, Became, moved, barred, bars_of, change, row_change, crossing_at, no_crossing, AllFit, IsCrossing, IsBestShift}
@@ -65,7 +65,7 @@ none_changes period rows h =
     same p row m = rw m (let e : pos row.slack -ℤ pos row.slack ≡ pos 0 = omega (arith, ints) in rw e (omega (arith, ints)))
 
 pub best_none : (costs bars : List ℤ) → number_at bars 0 ≡ pos 0 → IsBest costs bars 0 1
-best_none costs bars h = record { below = omega arith; free = h; least = λ d l e. (let z : d ≡ 0 = omega arith in rw z (omega (arith, ints))) }
+best_none costs bars h = record { below = omega arith; free = h; least = λ d l e. (let z : d ≡ 0 = omega arith in rw z (omega (arith, ints))); cheaper = λ l. absurd (omega arith) }
 
 pub best_is : (period : ℕ) (rows : List Crossing) (costs bars : List ℤ) (best i d : ℕ) → i ≡ period → Became period (change period rows) costs → Became period (bars_of period rows) bars → IsBest costs bars best i → d < period → AllFit period rows d → change period rows best ≤ℤ change period rows d
 best_is period rows costs bars best i d same c b h l f =
@@ -79,6 +79,11 @@ best_is_none period rows best z h e l =
     let c : change period rows best ≡ pos 0 = ap (change period rows) e ∙ none_changes period rows h in
     omega (arith, ints)
 
+best_is_cheaper : (period : ℕ) (rows : List Crossing) (costs : List ℤ) (best : ℕ) → All (IsCrossing period) rows → Became period (change period rows) costs → best < period → number_at costs best <ℤ number_at costs 0 → change period rows best <ℤ pos 0
+best_is_cheaper period rows costs best each c l h =
+    let e = c best l in let none = c 0 (omega arith) in let z = none_changes period rows each in
+    omega (arith, ints)
+
 -- the loop over the amounts leaves the best one
 pub best_is_best : (period : ℕ) (rows : List Crossing) (costs bars : List ℤ) (best i : ℕ) → i ≡ period → All (IsCrossing period) rows → Became period (change period rows) costs → Became period (bars_of period rows) bars → IsBest costs bars best i → IsBestShift period rows best
 best_is_best period rows costs bars best i same each c b h =
@@ -89,4 +94,5 @@ best_is_best period rows costs bars best i same each c b h =
       fits = free_fits period rows best (sym (b best (omega arith)) ∙ h.free);
       least = least;
       none = λ d l f z. best_is_none period rows best (change period rows d) each z (least d l f);
+      cheaper = λ l. best_is_cheaper period rows costs best each c (omega arith) (h.cheaper l);
     }

@@ -1,6 +1,6 @@
 -- Loops over the numbers for all amounts.
 use Rattle.std.proofs.Common.{◌≡◌, inl, inr, ℕ, ℤ, pos, negsuc, ◌+◌, ◌*◌, ◌-◌, ◌<◌, ◌≤◌, ◌+ℤ◌, ◌*ℤ◌, zero, suc, refl, ap, sym, ◌∙◌, arith, List, length, set, [], ◌∷◌, add-one}
-use Rattle.std.specs.Prelude.{unsigned_abs, neg_ℤ, ◌≤ℤ◌}
+use Rattle.std.specs.Prelude.{unsigned_abs, neg_ℤ, ◌≤ℤ◌, ◌<ℤ◌}
 use Rattle.std.proofs.lemmas.Int.{ints}
 use Rattle.std.proofs.lemmas.Bool.{cases_eq, cases_lt}
 use Rattle.std.proofs.lemmas.Grind.{get_or-set_at}
@@ -74,6 +74,7 @@ pub record IsBest (costs bars : List ℤ) (best i : ℕ) : Type 0 where
   pub below : best < i
   pub free : number_at bars best ≡ pos 0
   pub least : (d : ℕ) → d < i → number_at bars d ≡ pos 0 → number_at costs best ≤ℤ number_at costs d
+  pub cheaper : 0 < best → number_at costs best <ℤ number_at costs 0
 
 -- the sign is taken apart
 pub risen_up : (s x : ℤ) (at m : ℕ) → pos 0 ≤ℤ s → m ≡ unsigned_abs s * at → x +ℤ pos m ≡ x +ℤ s *ℤ pos at

@@ -1,5 +1,5 @@
 -- Shifts of one side of a cut: what becomes of the slack of a row that crosses it, and of the cost.
-use Rattle.std.specs.Prelude.{◌≡◌, ℕ, ◌<◌, ◌≤◌, List, length, slice_index_or, ℤ, pos, neg_ℤ, ◌+ℤ◌, ◌-ℤ◌, ◌*ℤ◌, if◌then◌else◌, nat_le, false, ◌≤ℤ◌}
+use Rattle.std.specs.Prelude.{◌≡◌, ℕ, ◌<◌, ◌≤◌, List, length, slice_index_or, ℤ, pos, neg_ℤ, ◌+ℤ◌, ◌-ℤ◌, ◌*ℤ◌, if◌then◌else◌, nat_le, false, ◌≤ℤ◌, ◌<ℤ◌}
 use Rattle.pesp_problem.specs.Sums.{sum_below}
 use Rattle.pesp_problem.specs.Timetables.{remainder}
 use Rattle.pesp_cuts.specs.declared.crossing.Crossing.{Crossing}
@@ -52,9 +52,10 @@ pub record IsCrossing (period : ℕ) (row : Crossing) : Type 0 where
 abbrev pub Became : ℕ → (ℕ → ℤ) → List ℤ → Type 0
 Became n f xs = (d : ℕ) → d < n → number_at xs d ≡ f d
 
--- an amount below the period under which each row is satisfied, and no such amount is cheaper; 0 where none is cheaper than no shift
+-- an amount below the period under which each row is satisfied, and no such amount is cheaper; 0 exactly where none is cheaper than no shift
 pub record IsBestShift (period : ℕ) (rows : List Crossing) (amount : ℕ) : Type 0 where
   pub small : amount < period
   pub fits : AllFit period rows amount
   pub least : (d : ℕ) → d < period → AllFit period rows d → change period rows amount ≤ℤ change period rows d
   pub none : (d : ℕ) → d < period → AllFit period rows d → amount ≡ 0 → pos 0 ≤ℤ change period rows d
+  pub cheaper : 0 < amount → change period rows amount <ℤ pos 0

@@ -1,5 +1,5 @@
 -- Lists of entries that stand one after the other, one for each cut.
-use Rattle.std.specs.Prelude.{◌≡◌, ℕ, suc, ◌+◌, ◌<◌, ◌≤◌, List, [], ◌∷◌, ◌++◌, length, slice_index, Bool, true, false, if◌then◌else◌, ◌==◌}
+use Rattle.std.specs.Prelude.{◌≡◌, ℕ, suc, ◌+◌, ◌<◌, ◌≤◌, List, [], ◌∷◌, ◌++◌, length, vec_len, slice_index, sum, Bool, true, false, if◌then◌else◌, ◌==◌}
 use Rattle.pesp_problem.specs.declared.arc.Arc.{Arc}
 use Rattle.pesp_problem.specs.Arcs.{arc_at}
 use Rattle.pesp_cuts.specs.declared.crossing.Entry.{Entry}
@@ -20,6 +20,19 @@ Hold n cuts lists = HaveLists n cuts.starts.items cuts.ends.items cuts.entries.i
 -- one entry more at the end of one list
 abbrev pub pushed : (ℕ → List Entry) → ℕ → Entry → ℕ → List Entry
 pushed lists cut e c = if c == cut then lists c ++ e ∷ [] else lists c
+
+-- there is room for lists with so many entries each
+pub record HasRoomFor (counts : List ℕ) (cuts : Cuts) : Type 0 where
+  pub ends : vec_len cuts.ends ≡ length counts
+  pub starts : length counts < vec_len cuts.starts
+  pub entries : sum counts ≤ vec_len cuts.entries
+
+-- the list of a cut has room for one entry more
+pub record HasRoom (cuts : Cuts) (cut : ℕ) : Type 0 where
+  pub end : cut < vec_len cuts.ends
+  pub next : cut + 1 < vec_len cuts.starts
+  pub before : slice_index cuts.ends.items cut < slice_index cuts.starts.items (cut + 1)
+  pub within : slice_index cuts.ends.items cut < vec_len cuts.entries
 
 -- an entry went to the end of one list, and all else stays
 abbrev pub Puts : Cuts → Cuts → ℕ → Entry → Type 0

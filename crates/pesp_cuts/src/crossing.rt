@@ -1,6 +1,6 @@
 //! Rows that cross a cut.
 
-ghost use Rattle.std.specs.Prelude.{◌≡◌, ◌<◌, IfSome};
+ghost use Rattle.std.specs.Prelude.{◌≡◌, ◌<◌, IfSome, IsSome};
 ghost use Rattle.pesp_cuts.specs.Shifts.{IsCrossing};
 ghost use Rattle.pesp_cuts.specs.Entries as spec;
 
@@ -26,6 +26,7 @@ pub struct Entry {
 pub fn crossing_of(period: u32, arcs: &[Arc], slacks: &[u32], entry: Entry) -> Option<Crossing>
     ensures value { IfSome result (λ row. row ≡ spec.crossing_of arcs.now slacks.now entry) }
     ensures limits { IfSome result (IsCrossing period) }
+    ensures found { spec.IsEntry period arcs.now slacks.now entry → IsSome result }
 {
     let at = entry.row as usize;
     if at >= arcs.len() || at >= slacks.len() {

@@ -1,10 +1,10 @@
 //! The rows that cross each cut of a rooted forest.
 
-ghost use Rattle.std.specs.Prelude.{◌≡◌, ◌≢◌, ℕ, ◌+◌, ◌<◌, ◌≤◌, List, [], IsTrue, IfSome, OnSome, length, vec_len, slice_index};
+ghost use Rattle.std.specs.Prelude.{◌≡◌, ◌≢◌, ℕ, ◌+◌, ◌<◌, ◌≤◌, ◌↔◌, List, [], IsTrue, IfSome, OnSome, length, vec_len, slice_index};
 ghost use Rattle.pesp_cuts.specs.Roots.{AreRoots};
 ghost use Rattle.pesp_cuts.specs.Rooted.{roots_of, IsFor};
 ghost use Rattle.pesp_cuts.specs.declared.crossing.Entry.{Entry};
-ghost use Rattle.pesp_cuts.specs.Lists.{Hold, Puts, IsStep, AreListed};
+ghost use Rattle.pesp_cuts.specs.Lists.{Hold, HasRoom, HasRoomFor, Puts, IsStep, AreListed};
 
 use crate::crossing::Entry;
 use crate::rooted::Rooted;
@@ -20,7 +20,8 @@ pub struct Cuts {
 
 /// Puts an entry at the end of a list; false where the list has no room.
 pub fn put(cuts: &mut Cuts, cut: u32, entry: Entry) -> bool
-    ensures { IsTrue result → Puts cuts.old cuts.new cut entry }
+    ensures put { IsTrue result → Puts cuts.old cuts.new cut entry }
+    ensures room { IsTrue result ↔ HasRoom cuts.old cut }
 {
     let cut = cut as usize;
     if cut >= cuts.ends.len() || cut + 1 >= cuts.starts.len() {
@@ -118,7 +119,8 @@ pub const MOST_ENTRIES: usize = 4_000_000;
 
 /// Makes an empty list for each count, with room for so many entries; false where there is no room for all.
 pub fn lay_out(cuts: &mut Cuts, counts: &[u32]) -> bool
-    ensures { IsTrue result → Hold (length counts.now) cuts.new (λ _. []) }
+    ensures empty { IsTrue result → Hold (length counts.now) cuts.new (λ _. []) }
+    ensures room { HasRoomFor counts.now cuts.old → IsTrue result }
 {
     let lists = counts.len();
     if cuts.ends.len() != lists || cuts.starts.len() <= lists {

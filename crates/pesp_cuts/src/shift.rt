@@ -1,8 +1,8 @@
 //! Shifts of one side of a cut, all amounts at once.
 
-ghost use Rattle.std.specs.Prelude.{◌≡◌, ℕ, ◌+◌, ◌*◌, ◌<◌, ◌≤◌, ◌+ℤ◌, ◌*ℤ◌, ◌≤ℤ◌, pos, length, unsigned_abs, All, IsTrue, IfSome};
+ghost use Rattle.std.specs.Prelude.{◌≡◌, ℕ, ◌+◌, ◌*◌, ◌<◌, ◌≤◌, ◌+ℤ◌, ◌*ℤ◌, ◌≤ℤ◌, pos, length, unsigned_abs, All, IsTrue, IfSome, IsSome};
 ghost use Rattle.pesp_cuts.specs.Shifts.{number_at, change, growth, Became, bars_of, IsCrossing, IsBestShift};
-ghost use Rattle.pesp_cuts.specs.Entries.{crossings_of};
+ghost use Rattle.pesp_cuts.specs.Entries.{crossings_of, IsEntry, AreForShifts};
 ghost use Rattle.pesp_cuts.specs.Tallies.{TakesRow, TakesRows};
 
 use crate::crossing::{Crossing, Entry, crossing_of};
@@ -69,8 +69,9 @@ fn tally(
     requires few { length entries.now ≤ 100000 }
     requires begin { TakesRows period (crossings_of arcs.now slacks.now entries.now) 0 slope.old
         costs.old bars.old }
-    ensures { IsTrue result → TakesRows period (crossings_of arcs.now slacks.now entries.now)
+    ensures takes { IsTrue result → TakesRows period (crossings_of arcs.now slacks.now entries.now)
         (length entries.now) slope.new costs.new bars.new }
+    ensures all { All (IsEntry period arcs.now slacks.now) entries.now → IsTrue result }
 {
     for entry in entries {
         let Some(row) = crossing_of(period, arcs, slacks, *entry) else {
@@ -101,6 +102,8 @@ pub fn shift_costs(
         → Became period (change period (crossings_of arcs.now slacks.now entries.now)) costs.new }
     ensures bars { IsTrue result
         → Became period (bars_of period (crossings_of arcs.now slacks.now entries.now)) bars.new }
+    ensures all { AreForShifts period arcs.now slacks.now entries.now costs.old bars.old
+        → IsTrue result }
 {
     let count = period as usize;
     if count == 0 || count > 10000 || entries.len() > 100_000 {
@@ -131,7 +134,10 @@ pub fn best_shift(
     costs: &mut [i64],
     bars: &mut [i64],
 ) -> Option<u32>
-    ensures { IfSome result (IsBestShift period (crossings_of arcs.now slacks.now entries.now)) }
+    ensures best { IfSome result
+        (IsBestShift period (crossings_of arcs.now slacks.now entries.now)) }
+    ensures found { AreForShifts period arcs.now slacks.now entries.now costs.old bars.old
+        → IsSome result }
 {
     if !shift_costs(period, arcs, slacks, entries, costs, bars) {
         return None;

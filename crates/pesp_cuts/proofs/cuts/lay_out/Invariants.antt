@@ -1,4 +1,5 @@
-use Rattle.std.proofs.Common.{◌≡◌, ◌<◌, ◌≤◌, length, vec_len}
+use Rattle.std.proofs.Common.{◌≡◌, ◌<◌, ◌≤◌, length, vec_len, take}
+use Rattle.std.specs.Prelude.{sum}
 use Rattle.pesp_cuts.specs.Lists.{AreLaidOut}
 use Rattle.pesp_cuts.proofs.cuts.lay_out.Given as goal
 
@@ -8,4 +9,5 @@ invariant-loop-cut l = record {
   ends : vec_len l.cuts.ends ≡ length l.counts;
   starts : length l.counts < vec_len l.cuts.starts;
   room : l.at ≤ vec_len l.cuts.entries;
+  so_far : l.at ≡ sum (take l.cut l.counts);
 }

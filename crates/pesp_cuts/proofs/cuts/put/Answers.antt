@@ -3,8 +3,8 @@ use Rattle.std.proofs.lemmas.List.{get_or_read}
 use Rattle.pesp_cuts.proofs.Listing.{put_holds}
 use Rattle.pesp_cuts.proofs.cuts.put.Goals as goal
 
-pub returns : goal.returns
-returns c done n lists l h =
+pub returns-clause-put : goal.returns-clause-put
+returns-clause-put c done n lists l h =
     let cuts = c.args.cuts.now in
     let cut = c.args.cut in
     let at = c.index-at.result.now in

@@ -9,8 +9,8 @@ loop-i-init c =
     let rows = crossings_of c.args.arcs.now c.args.slacks.now c.args.entries.now in
     best_none _ _ (e.bars refl 0 (e.some refl) ∙ fits_free c.args.period rows 0 (none_fits c.args.period rows (e.rows refl)))
 
-pub returns : goal.returns
-returns c =
+pub returns-clause-best : goal.returns-clause-best
+returns-clause-best c =
     let e = c.if-not-shift_costs.ensures in
     let rows = crossings_of c.args.arcs.now c.args.slacks.now c.args.entries.now in
     let some : 0 < c.args.period = e.some refl in let t = c.loop-i-test.false in let end = c.loop-i.auto.i-end in

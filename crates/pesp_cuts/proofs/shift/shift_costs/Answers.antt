@@ -13,4 +13,4 @@ pub returns-clause-rows : goal.returns-clause-rows
 returns-clause-rows c e =
     let rows = crossings_of c.args.arcs.now c.args.slacks.now c.args.entries.now in
     let n = length-crossings_of c.args.arcs.now c.args.slacks.now c.args.entries.now in
-    All-from_get_or (IsCrossing c.args.period) rows no_crossing (λ i l. (c.if-not-tally.ensures refl).each i (omega arith))
+    All-from_get_or (IsCrossing c.args.period) rows no_crossing (λ i l. (c.if-not-tally.ensures.takes refl).each i (omega arith))

@@ -8,6 +8,12 @@ use crate::row::{Bend, Part, Row, Slopes, Step};
 use crate::tree::{NONE, Tree};
 use std::alloc::{AllocError, Global};
 
+/// How many listed rows are all looked at for each step.
+const FEW: u32 = 8192;
+
+/// How many listed rows are looked at together where there are more.
+const BLOCK: u32 = 1024;
+
 /// Where pivots end: nothing is cheaper; along some closed way more flow costs less without end; or there are to be no more.
 #[derive(Clone, Copy, Debug, PartialEq, Eq)]
 pub enum Ended {
@@ -18,7 +24,8 @@ pub enum Ended {
 
 /// A circulation. The price of an event is the time at which it would be, were offsets no whole numbers: along a row of the
 /// tree prices rise by the cost of one more unit of flow. Moves of parts of the tree are numbered, and each event has the number
-/// of the last one that changed its price.
+/// of the last one that changed its price. Rows along which a step may pay are listed, with the place in the list that is
+/// looked at next.
 #[derive(Debug, Drop)]
 pub struct Basis {
     pub(crate) rows: Vec<Row>,
@@ -27,6 +34,7 @@ pub struct Basis {
     moved: Vec<u32>,
     moves: u32,
     violated: Listed,
+    next: u32,
     is_stale: bool,
 }
 
@@ -63,6 +71,7 @@ impl Basis {
             prices: vec![in alloc; 0i64; events]?,
             moved: vec![in alloc; 0u32; events]?,
             moves: 0,
+            next: 0,
             is_stale: true,
         })
     }
@@ -76,6 +85,7 @@ impl Basis {
         self.prices.copy_from_slice(&other.prices);
         self.tree.copy_from(&other.tree)?;
         self.violated.copy_from(&other.violated)?;
+        self.next = other.next;
         self.is_stale = other.is_stale;
         Some(())
     }
@@ -170,27 +180,53 @@ impl Basis {
         }
     }
 
-    /// The step that costs least, less than nothing.
-    pub(crate) fn entering(&mut self) -> Option<Step> {
-        if self.is_stale {
-            self.note_all();
-        }
+    // the step that costs least along so many listed rows, less than nothing, from the row that is looked at next and past the
+    // end of the list from its first row; rows along which no step pays are taken off the list
+    fn least_of(&mut self, most: u32) -> Option<Step> {
         let mut least = 0;
         let mut found = None;
-        let mut place = 0u32;
-        for _ in 0..self.violated.count() {
-            let row = self.violated.at(place)?;
+        for _ in 0..most {
+            if self.next >= self.violated.count() {
+                self.next = 0;
+            }
+            let row = self.violated.at(self.next)?;
             let Some((cost, step)) = self.paying(row) else {
-                self.violated.take(place)?;
+                self.violated.take(self.next)?;
                 continue;
             };
             if cost < least {
                 least = cost;
                 found = Some(step);
             }
-            place = place.checked_add(1)?;
+            self.next = self.next.checked_add(1)?;
         }
         found
+    }
+
+    // the step that costs least along the rows of the first block that has a row along which a step pays
+    fn least_of_block(&mut self) -> Option<Step> {
+        let blocks = (self.violated.count() / BLOCK).saturating_add(1);
+        for _ in 0..blocks {
+            let block = self.violated.count().min(BLOCK);
+            if let Some(step) = self.least_of(block) {
+                return Some(step);
+            }
+        }
+        None
+    }
+
+    /// A step that costs less than nothing, the one that costs least where few rows are listed. None where there is no such
+    /// step.
+    pub(crate) fn entering(&mut self) -> Option<Step> {
+        if self.is_stale {
+            self.note_all();
+        }
+        let count = self.violated.count();
+        if count > FEW {
+            return self.least_of_block();
+        }
+        self.next = 0;
+        self.least_of(count)
     }
 
     // the price that the row upwards from an event gives it

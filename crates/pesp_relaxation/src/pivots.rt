@@ -118,6 +118,9 @@ impl Basis {
 
     // so many units more along a closed way
     fn send(&mut self, round: Round, units: i64) -> Option<()> {
+        if units == 0 {
+            return Some(());
+        }
         self.add(round.step.row, round.step.forward, units)?;
         self.send_along(round.to, round.top, true, units)?;
         self.send_along(round.from, round.top, false, units)

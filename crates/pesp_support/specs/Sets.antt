@@ -1,4 +1,4 @@
--- Sets of numbers below the period as bits of 64-bit words, one set after another without a gap.
+-- Sets of numbers below the period as bits of 64-bit words, each set from a word's first bit on.
 use Rattle.std.specs.Prelude.{◌≡◌, ℕ, ◌+◌, ◌*◌, ◌/◌, ◌%◌, ◌<◌, List, slice_index, nat_eq, nat_lt, sum, Bool, true, false, ◌&&◌}
 use Rattle.std.specs.Int.{bit_at}
 use Rattle.pesp_problem.specs.Families.{Family}
@@ -7,9 +7,13 @@ use Rattle.pesp_problem.specs.Families.{Family}
 unfoldable pub is_set : List ℕ → ℕ → Bool
 is_set words place = nat_eq (bit_at (slice_index words (place / 64)) (place % 64)) 1
 
+-- how far the sets of two events are apart: the period, made up to whole words
+unfoldable pub span : ℕ → ℕ
+span period = (period + 63) / 64 * 64
+
 -- the sets of the events in order
 unfoldable pub family_at : ℕ → List ℕ → Family
-family_at period words event difference = nat_lt difference period && is_set words (event * period + difference)
+family_at period words event difference = nat_lt difference period && is_set words (event * span period + difference)
 
 -- nothing was taken away, or something was
 pub record IsLess (old new : List ℕ) (changed : Bool) : Type 0 where

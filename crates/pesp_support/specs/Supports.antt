@@ -4,6 +4,7 @@ use Rattle.pesp_problem.specs.Arcs.{Net}
 use Rattle.pesp_problem.specs.Families.{Family}
 use Rattle.pesp_problem.specs.Forests.{IsFirstOf}
 use Rattle.pesp_problem.specs.ArcLimits.{HaveEnds}
+use Rattle.pesp_support.specs.Sets.{span}
 
 -- a net between so many events
 pub record Rows : Type 0 where
@@ -18,7 +19,7 @@ pub record AreReady (rows : Rows) (firsts : List ℕ) (words before now : ℕ) :
   pub ends : HaveEnds rows.events rows.net.arcs
   pub long : length firsts ≡ rows.events
   pub first_events : (event : ℕ) → event < rows.events → IsFirstOf rows.net.arcs event (slice_index firsts event)
-  pub room : rows.events * rows.net.period ≤ 64 * words
+  pub room : rows.events * span rows.net.period ≤ 64 * words
   pub marks_before : before ≡ rows.events
   pub marks_now : now ≡ rows.events
 

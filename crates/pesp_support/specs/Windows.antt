@@ -1,7 +1,7 @@
 -- A set is narrowed to what has a partner in another.
 use Rattle.std.specs.Prelude.{◌≡◌, ◌≢◌, ℕ, ◌+◌, ◌*◌, ◌%◌, ◌<◌, ◌≤◌, List, true, false}
 use Rattle.pesp_problem.specs.Families.{Family}
-use Rattle.pesp_support.specs.Sets.{is_set}
+use Rattle.pesp_support.specs.Sets.{is_set, span}
 
 -- one of so many shifts leads, round the period, to a difference of the other event
 abbrev pub HasPartner : ℕ → ℕ → ℕ → ℕ → Family → ℕ → Type 0
@@ -25,5 +25,5 @@ pub record IsTaken (period kept shift place : ℕ) (old new : List ℕ) : Type 0
   pub difference : ℕ
   pub below : difference < period
   pub leads : (difference + shift) % period ≡ place
-  pub gone : is_set new (kept * period + difference) ≡ false
-  pub others : (other : ℕ) → other ≢ kept * period + difference → is_set new other ≡ is_set old other
+  pub gone : is_set new (kept * span period + difference) ≡ false
+  pub others : (other : ℕ) → other ≢ kept * span period + difference → is_set new other ≡ is_set old other

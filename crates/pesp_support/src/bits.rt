@@ -1,23 +1,51 @@
-//! Many small sets as the bits of 64-bit words, without a gap between them.
+//! Many small sets as the bits of 64-bit words, each from a word's first bit on.
 
-ghost use Rattle.std.specs.Prelude.{◌≡◌, ◌≢◌, ℕ, ◌*◌, ◌^◌, ◌<◌, ◌≤◌, length, false};
-ghost use Rattle.pesp_support.specs.Sets.{is_set, IsLess};
+ghost use Rattle.std.specs.Prelude.{◌≡◌, ◌≢◌, ℕ, ◌+◌, ◌*◌, ◌<◌, ◌≤◌, length, false};
+ghost use Rattle.pesp_support.specs.Sets.{is_set, span, IsLess};
 
-/// Whether a place is in the set.
-pub fn has(words: &[u64], place: usize) -> bool
-    requires { place < 64 * length words.now }
-    ensures { result ≡ is_set words.now place }
+/// How many words the sets of so many events take.
+pub fn words_for(period: usize, events: usize) -> usize
+    requires period { period ≤ 10000 }
+    requires events { events ≤ 100000 }
+    ensures { events * span period ≡ 64 * result }
 {
+    events * period.div_ceil(64)
+}
+
+// where the bit of an event's difference is
+fn place_of(period: usize, event: usize, difference: usize) -> usize
+    requires period { period ≤ 10000 }
+    requires event { event ≤ 100000 }
+    requires difference { difference < period }
+    ensures { result ≡ event * span period + difference }
+{
+    event * (period.div_ceil(64) * 64) + difference
+}
+
+/// Whether an event has a difference.
+pub fn has(words: &[u64], period: usize, event: usize, difference: usize) -> bool
+    requires period { period ≤ 10000 }
+    requires event { event ≤ 100000 }
+    requires difference { difference < period }
+    requires long { event * span period + span period ≤ 64 * length words.now }
+    ensures { result ≡ is_set words.now (event * span period + difference) }
+{
+    let place = place_of(period, event, difference);
     (words[place / 64] >> (place % 64)) & 1 == 1
 }
 
-/// Takes a place out of the set, and says whether it was in it.
-pub fn remove(words: &mut [u64], place: usize) -> bool
-    requires { place < 64 * length words.old }
-    ensures gone { is_set words.new place ≡ false }
-    ensures others { (other : ℕ) → other ≢ place → is_set words.new other ≡ is_set words.old other }
+/// Takes a difference from an event, and says whether the event had it.
+pub fn remove(words: &mut [u64], period: usize, event: usize, difference: usize) -> bool
+    requires period { period ≤ 10000 }
+    requires event { event ≤ 100000 }
+    requires difference { difference < period }
+    requires long { event * span period + span period ≤ 64 * length words.old }
+    ensures gone { is_set words.new (event * span period + difference) ≡ false }
+    ensures others { (other : ℕ) → other ≢ event * span period + difference
+        → is_set words.new other ≡ is_set words.old other }
     ensures less { IsLess words.old words.new result }
 {
+    let place = place_of(period, event, difference);
     let word = words[place / 64];
     let bit: u64 = 1 << (place % 64);
     let left = word & !bit;

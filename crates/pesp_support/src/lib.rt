@@ -8,5 +8,6 @@ mod narrow;
 mod rounds;
 mod support;
 mod visit;
+mod word;
 
 pub use support::Support;

@@ -1,10 +1,11 @@
 //! One set is narrowed to the differences that have a partner in another.
 
 ghost use Rattle.std.specs.Prelude.{◌≡◌, ◌≢◌, ℕ, ◌+◌, ◌*◌, ◌%◌, ◌^◌, ◌<◌, ◌≤◌, length, true, false};
-ghost use Rattle.pesp_support.specs.Sets.{is_set, family_at, IsLess};
+ghost use Rattle.pesp_support.specs.Sets.{is_set, span, family_at, IsLess};
 ghost use Rattle.pesp_support.specs.Windows.{IsLeast, IsTaken, Narrows};
 
 use crate::bits::{has, remove};
+use crate::word::narrow_word;
 
 /// The shifts from a difference to its partners: `first`, and the `count` from there on, round the period.
 #[derive(Clone, Copy, Debug, PartialEq, Eq)]
@@ -17,12 +18,11 @@ pub struct Window {
 pub fn least(words: &[u64], period: usize, event: usize) -> usize
     requires period { period ≤ 10000 }
     requires event { event ≤ 100000 }
-    requires long { event * period + period ≤ 64 * length words.now }
+    requires long { event * span period + span period ≤ 64 * length words.now }
     ensures { IsLeast period event (family_at period words.now) result }
 {
-    let base = event * period;
     for difference in 0..period {
-        if has(words, base + difference) {
+        if has(words, period, event, difference) {
             return difference;
         }
     }
@@ -45,14 +45,22 @@ fn before(place: usize, shift: usize, period: usize) -> usize
 }
 
 // how far the next difference of an event is from a place, round the period, where it is so far from the next place
-fn gap_at(words: &[u64], place: usize, gap: usize) -> usize
-    requires place { place < 64 * length words.now }
+fn gap_at(words: &[u64], period: usize, other: usize, place: usize, gap: usize) -> usize
+    requires period { period ≤ 10000 }
+    requires other { other ≤ 100000 }
+    requires place { place < period }
+    requires long { other * span period + span period ≤ 64 * length words.now }
     requires gap { gap < 2 ^ 32 }
     ensures most { result ≤ gap + 1 }
-    ensures here { is_set words.now place ≡ true → result ≡ 0 }
-    ensures further { is_set words.now place ≡ false → result ≡ gap + 1 }
+    ensures here { is_set words.now (other * span period + place) ≡ true → result ≡ 0 }
+    ensures further { is_set words.now (other * span period + place) ≡ false
+        → result ≡ gap + 1 }
 {
-    if has(words, place) { 0 } else { gap + 1 }
+    if has(words, period, other, place) {
+        0
+    } else {
+        gap + 1
+    }
 }
 
 // takes the difference from which the first shift leads to a place, where the next one of the other event is past the window
@@ -66,7 +74,7 @@ fn take_lonely(
 ) -> bool
     requires period { period ≤ 10000 }
     requires event { kept ≤ 100000 }
-    requires long { kept * period + period ≤ 64 * length words.old }
+    requires long { kept * span period + span period ≤ 64 * length words.old }
     requires place { place < period }
     requires first { window.first < period }
     ensures taken { window.count ≤ gap
@@ -78,7 +86,7 @@ fn take_lonely(
         return false;
     }
     let difference = before(place, window.first, period);
-    remove(words, kept * period + difference)
+    remove(words, period, kept, difference)
 }
 
 /// Keeps those differences of one event from which a shift of the window leads to one of the other event, of which there
@@ -87,8 +95,8 @@ pub fn narrow(words: &mut [u64], period: usize, kept: usize, other: usize, windo
     requires period { (0 < period) × (period ≤ 10000) }
     requires kept { kept ≤ 100000 }
     requires other { other ≤ 100000 }
-    requires long_kept { kept * period + period ≤ 64 * length words.old }
-    requires long_other { other * period + period ≤ 64 * length words.old }
+    requires long_kept { kept * span period + span period ≤ 64 * length words.old }
+    requires long_other { other * span period + span period ≤ 64 * length words.old }
     requires apart { kept ≢ other }
     requires first { window.first < period }
     requires some { (d : ℕ) × (family_at period words.old other d ≡ true) }
@@ -99,11 +107,14 @@ pub fn narrow(words: &mut [u64], period: usize, kept: usize, other: usize, windo
     if window.count >= period {
         return false;
     }
+    if period <= 64 {
+        return narrow_word(words, period, kept, other, window);
+    }
     let mut gap = least(words, period, other);
     let mut changed = false;
     for step in 0..period {
         let place = period - 1 - step;
-        gap = gap_at(words, other * period + place, gap);
+        gap = gap_at(words, period, other, place, gap);
         changed |= take_lonely(words, period, kept, place, gap, window);
     }
     changed

@@ -3,7 +3,7 @@
 ghost use Rattle.std.specs.Prelude.{◌≡◌, ℕ, ◌+◌, ◌*◌, ◌<◌, ◌≤◌, ◌↔◌, length, true, false, Bool, IsTrue};
 ghost use Rattle.pesp_problem.specs.Arcs.{arc_at};
 ghost use Rattle.pesp_problem.specs.Families.{NoFamilyIsSupported};
-ghost use Rattle.pesp_support.specs.Sets.{family_at};
+ghost use Rattle.pesp_support.specs.Sets.{span, family_at};
 ghost use Rattle.pesp_problem.specs.ArcLimits.{HaveEnds};
 ghost use Rattle.pesp_support.specs.Rounds.{net_at, IsWide, is_marked, IsQuiet, QuietRowsSupport, InRound, IsStep, IsRound};
 
@@ -69,7 +69,7 @@ fn visit_at(
     requires events { length before.now ≤ 100000 }
     requires ends { HaveEnds (length before.now) arcs.now }
     requires ranges { length ranges.now ≡ length arcs.now }
-    requires long { length before.now * period ≤ 64 * length words.old }
+    requires long { length before.now * span period ≤ 64 * length words.old }
     requires marks { length now.old ≡ length before.now }
     requires place { place < length arcs.now }
     requires wide { IsWide (net_at period arcs.now) ranges.now (length before.now)
@@ -103,7 +103,7 @@ fn visit_rows(
     requires events { length before.now ≤ 100000 }
     requires ends { HaveEnds (length before.now) arcs.now }
     requires ranges { length ranges.now ≡ length arcs.now }
-    requires long { length before.now * period ≤ 64 * length words.old }
+    requires long { length before.now * span period ≤ 64 * length words.old }
     requires marks { length now.old ≡ length before.now }
     requires unmarked { (event : ℕ) → event < length now.old → is_marked now.old event ≡ false }
     requires wide { IsWide (net_at period arcs.now) ranges.now (length before.now)
@@ -140,7 +140,7 @@ pub fn is_emptied(
     requires events { length before.old ≤ 100000 }
     requires ends { HaveEnds (length before.old) arcs.now }
     requires ranges { length ranges.now ≡ length arcs.now }
-    requires long { length before.old * period ≤ 64 * length words.old }
+    requires long { length before.old * span period ≤ 64 * length words.old }
     requires marks { length now.old ≡ length before.old }
     requires wide { IsWide (net_at period arcs.now) ranges.now (length before.old)
         (family_at period words.old) }

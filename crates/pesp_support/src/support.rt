@@ -4,10 +4,10 @@ ghost use Rattle.std.specs.Prelude.{◌≡◌, ◌≢◌, ℕ, ◌+◌, ◌*◌,
 ghost use Rattle.pesp_problem.specs.Arcs.{net_of};
 ghost use Rattle.pesp_problem.specs.Limits.{KeepsLimits};
 ghost use Rattle.pesp_problem.specs.Families.{NoFamilyIsSupported};
-ghost use Rattle.pesp_support.specs.Sets.{is_set, family_at};
+ghost use Rattle.pesp_support.specs.Sets.{is_set, span, family_at};
 ghost use Rattle.pesp_support.specs.Supports.{IsStart};
 
-use crate::bits::remove;
+use crate::bits::{remove, words_for};
 use crate::firsts::firsts_of;
 use crate::rounds::is_emptied;
 use pesp_problem::{Arc, Instance, Memory};
@@ -50,7 +50,7 @@ fn fill(words: &mut [u64])
 fn start_one(words: &mut [u64], period: usize, event: usize, first: usize)
     requires period { period ≤ 10000 }
     requires event { event ≤ 100000 }
-    requires long { event * period + period ≤ 64 * length words.old }
+    requires long { event * span period + span period ≤ 64 * length words.old }
     ensures alone { first ≡ event → (d : ℕ) → family_at period words.new event d ≡ true → d ≡ 0 }
     ensures whole { first ≢ event → words.new ≡ words.old }
     ensures zero { family_at period words.new event 0 ≡ family_at period words.old event 0 }
@@ -61,7 +61,7 @@ fn start_one(words: &mut [u64], period: usize, event: usize, first: usize)
         return;
     }
     for difference in 1..period {
-        let _had = remove(words, event * period + difference);
+        let _had = remove(words, period, event, difference);
     }
 }
 
@@ -69,7 +69,7 @@ fn start_one(words: &mut [u64], period: usize, event: usize, first: usize)
 fn start(words: &mut [u64], period: usize, firsts: &[u32])
     requires period { (0 < period) × (period ≤ 10000) }
     requires events { length firsts.now ≤ 100000 }
-    requires long { length firsts.now * period ≤ 64 * length words.old }
+    requires long { length firsts.now * span period ≤ 64 * length words.old }
     ensures { IsStart period firsts.now (length firsts.now) (family_at period words.new) }
 {
     fill(words);
@@ -88,7 +88,7 @@ impl Support {
         let events = instance.events().len();
         let arcs = instance.arcs(alloc)?;
         let firsts = firsts_of(alloc, events as u32, &arcs)?;
-        let words = vec![in alloc; 0u64; (events * period as usize).div_ceil(64)]?;
+        let words = vec![in alloc; 0u64; words_for(period as usize, events)]?;
         let before = vec![in alloc; false; events]?;
         let now = vec![in alloc; false; events]?;
         Ok(Support {

@@ -2,11 +2,12 @@
 
 ghost use Rattle.std.specs.Prelude.{◌≡◌, ◌≢◌, ◌↔◌, ℕ, ◌+◌, ◌-◌, ◌*◌, ◌%◌, ◌<◌, ◌≤◌, length, pos, min, true, false, IsTrue};
 ghost use Rattle.std.specs.Int.{int_rem_euclid};
-ghost use Rattle.pesp_support.specs.Sets.{family_at, IsLess};
+ghost use Rattle.pesp_support.specs.Sets.{span, family_at, IsLess};
 ghost use Rattle.pesp_support.specs.Windows.{Narrows};
 ghost use Rattle.pesp_support.specs.Visits.{HasSome, IsVisit};
 
 use crate::narrow::{Window, least, narrow};
+use crate::word::has_number;
 use pesp_problem::Arc;
 
 /// At which ends of a row the set became smaller.
@@ -37,11 +38,14 @@ fn loop_holds(period: usize, shift: usize, range: (u32, u32)) -> bool
 
 // whether an event has a difference left
 fn has_some(words: &[u64], period: usize, event: usize) -> bool
-    requires period { period ≤ 10000 }
+    requires period { (0 < period) × (period ≤ 10000) }
     requires event { event ≤ 100000 }
-    requires long { event * period + period ≤ 64 * length words.now }
+    requires long { event * span period + span period ≤ 64 * length words.now }
     ensures { IsTrue result ↔ HasSome (family_at period words.now) event }
 {
+    if period <= 64 {
+        return has_number(words, period, event);
+    }
     least(words, period, event) < period
 }
 
@@ -78,8 +82,8 @@ fn revise(
 ) -> Option<Narrowed>
     requires period { (0 < period) × (period ≤ 10000) }
     requires apart { arc.now.tail ≢ arc.now.head }
-    requires tail { arc.now.tail * period + period ≤ 64 * length words.old }
-    requires head { arc.now.head * period + period ≤ 64 * length words.old }
+    requires tail { arc.now.tail * span period + span period ≤ 64 * length words.old }
+    requires head { arc.now.head * span period + span period ≤ 64 * length words.old }
     requires ends { (arc.now.tail ≤ 100000) × (arc.now.head ≤ 100000) }
     requires some_head { HasSome (family_at period words.old) arc.now.head }
     requires shift { pos shift ≡ int_rem_euclid arc.now.lower (pos period) }
@@ -101,8 +105,8 @@ fn revise(
 /// row supports has a difference at both ends.
 pub fn visit(words: &mut [u64], period: usize, arc: &Arc, range: (u32, u32)) -> Option<Narrowed>
     requires period { (0 < period) × (period ≤ 10000) }
-    requires tail { arc.now.tail * period + period ≤ 64 * length words.old }
-    requires head { arc.now.head * period + period ≤ 64 * length words.old }
+    requires tail { arc.now.tail * span period + span period ≤ 64 * length words.old }
+    requires head { arc.now.head * span period + span period ≤ 64 * length words.old }
     requires ends { (arc.now.tail ≤ 100000) × (arc.now.head ≤ 100000) }
     requires some_tail { HasSome (family_at period words.old) arc.now.tail }
     requires some_head { HasSome (family_at period words.old) arc.now.head }

@@ -18,7 +18,7 @@ invariant_of-result c =
       ends = ends_of c.args.instance.now c.in_ok-arcs.arcs.items (length c.events-events.result.now) c.in_ok-arcs.ensures e k;
       long = c.in_ok-firsts.ensures.long;
       first_events = firsts_at c.in_ok-arcs.arcs.items c.deref.result.now (length c.events-events.result.now) c.in_ok-firsts.firsts.items c.deref.ensures.value c.in_ok-firsts.ensures.firsts;
-      room = omega (arith, c.in_ok-words.ensures.len, c.in_ok-words.words.ok.0, c.div_ceil.ensures);
+      room = omega (arith, c.in_ok-words.ensures.len, c.in_ok-words.words.ok.0, c.words_for.ensures);
       marks_before = omega (arith, c.in_ok-before.ensures.len, c.in_ok-before.before.ok.0);
       marks_now = omega (arith, c.in_ok-now.ensures.len, c.in_ok-now.now.ok.0);
     }

@@ -49,6 +49,7 @@ impl<'a> Iterator for LinePairs<'a> {
 
     ghost remaining = { item_count pairs_in };
 
+    #[inline]
     #[tactic(auto, using(crate::proofs::Lists::no_pairs))]
     fn next(&mut self) -> Option<Pair> {
         let words = self.words?;

@@ -44,6 +44,7 @@ impl<'a> Iterator for SignedRows<'a> {
 
     ghost remaining = { item_count rows_in };
 
+    #[inline]
     #[tactic(auto, using(crate::proofs::Lists::no_rows))]
     fn next(&mut self) -> Option<SignedRow> {
         let words = self.words?;

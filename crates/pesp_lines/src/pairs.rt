@@ -60,6 +60,7 @@ impl<'a> Iterator for LinePairs<'a> {
 }
 
 /// Two words as a cycle number of at least `least` and a multiplier.
+#[inline(always)]
 #[tactic(auto, unfolding(crate::specs::Pairs::pair_at))]
 fn pair_at(least: u64, first: &[u8], second: &[u8]) -> Option<(u64, i64)>
     ensures exact { result ≡ pair_at least first.now second.now }
@@ -123,6 +124,7 @@ pub(crate) fn judge_pairs(words: Words<'_>) -> Result<LinePairs<'_>, LineFault>
 }
 
 /// The first pair of words that were judged, and what stands behind its words.
+#[inline]
 pub fn first_pair(words: &[u8], least: u64) -> (Pair, Option<&[u8]>)
     requires { pairs_are_good (pairs_from least (words_of words.now)) ≡ true }
     ensures { BeginsPairs (Some result.0) least (words_of words.now)

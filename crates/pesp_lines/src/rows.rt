@@ -58,6 +58,7 @@ impl<'a> Iterator for SignedRows<'a> {
 }
 
 /// What stands behind the first byte.
+#[inline]
 fn behind_first(word: &[u8]) -> &[u8]
     ensures { result.now ≡ drop 1 word.now }
 {
@@ -67,6 +68,7 @@ fn behind_first(word: &[u8]) -> &[u8]
     }
 }
 
+#[inline]
 fn with_sign(plus: bool, word: &[u8]) -> Option<(u64, bool)>
     ensures { result ≡ signed plus (natural_of (drop 1 word.now)) }
 {
@@ -75,6 +77,7 @@ fn with_sign(plus: bool, word: &[u8]) -> Option<(u64, bool)>
 }
 
 /// A sign and a number.
+#[inline(always)]
 #[tactic(auto, unfolding(crate::specs::Rows::row_at))]
 fn row_at(word: &[u8]) -> Option<(u64, bool)>
     ensures { result ≡ row_at word.now }
@@ -130,6 +133,7 @@ pub(crate) fn judge_rows(words: Words<'_>) -> Result<SignedRows<'_>, LineFault>
 }
 
 /// The first row of words that were judged, and what stands behind its word.
+#[inline]
 pub fn first_row(words: &[u8]) -> (SignedRow, Option<&[u8]>)
     requires { rows_are_good (rows_of (words_of words.now)) ≡ true }
     ensures { BeginsRows (Some result.0) (rows_of (words_of words.now))

@@ -17,6 +17,7 @@ pub trait Elements<T>: Copy {
 impl<T: Copy> Elements<T> for &[T] {
     ghost elements = { λ s. s.now };
 
+    #[inline]
     fn take_next(&mut self) -> Option<T> {
         let (first, rest) = self.split_first()?;
         *self = rest;

@@ -42,6 +42,7 @@ impl Nets {
 }
 
 /// 1 under a plus sign, -1 under a minus sign.
+#[inline]
 fn sign_of(s: &SignedRow) -> i128
     ensures { result ≡ sign s.now }
 {
@@ -49,6 +50,7 @@ fn sign_of(s: &SignedRow) -> i128
 }
 
 /// Adds a place to those of the rows that are passed, where the row's working number is 0.
+#[inline]
 fn enter(places: &mut Vec<u32>, place: u32, number: i128) -> Result<(), AllocError>
     ensures { OnOk result (IsEntered places.old.items places.new.items place number) }
 {
@@ -60,6 +62,7 @@ fn enter(places: &mut Vec<u32>, place: u32, number: i128) -> Result<(), AllocErr
 }
 
 /// Adds the sign of a row to its working number, and its place to those of the rows that are passed.
+#[inline]
 pub fn count_row(
     places: &mut Vec<u32>,
     working: &mut [i128],
@@ -82,6 +85,7 @@ pub fn count_row(
 }
 
 /// A working number, which is 0 afterwards.
+#[inline]
 pub fn take(working: &mut [i128], at: usize) -> i128
     requires { at < length working.old }
     ensures value { result ≡ slice_index_or working.old at (pos 0) }

@@ -7,6 +7,7 @@ ghost use Rattle.pesp_problem.specs.Limits.{KeepsLimits};
 use pesp_problem::{Arc, Instance, arc_of};
 
 /// The row at a place, from 0, as walks, nodes and leaves see it.
+#[inline]
 pub fn arc_at(instance: &Instance, place: usize) -> Arc
     requires { place < length instance.now.rows }
     ensures arc { result ≡ arc_at (arcs_of instance.now) place }

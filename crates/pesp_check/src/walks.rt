@@ -17,28 +17,26 @@ use pesp_problem::{Instance, SignedRow, Walk};
 use std::alloc::{AllocError, Global};
 
 /// Whether the row exists.
+#[inline]
 fn row_exists(instance: &Instance, s: &SignedRow) -> bool
     ensures { IsTrue result ↔ RowExists (arcs_of instance.now) s.now }
 {
     1 <= s.row && s.row as usize <= instance.rows().len()
 }
 
-/// The event at which a signed row begins.
-fn start(instance: &Instance, s: &SignedRow) -> u32
+/// The events at which a signed row begins and ends.
+#[inline]
+fn ends(instance: &Instance, s: &SignedRow) -> (u32, u32)
     requires { RowExists (arcs_of instance.now) s.now }
-    ensures { result ≡ spec.start (arcs_of instance.now) s.now }
+    ensures start { result.0 ≡ spec.start (arcs_of instance.now) s.now }
+    ensures finish { result.1 ≡ spec.finish (arcs_of instance.now) s.now }
 {
     let arc = arc_at(instance, s.row as usize - 1);
-    if s.plus { arc.tail } else { arc.head }
-}
-
-/// The event at which it ends.
-fn finish(instance: &Instance, s: &SignedRow) -> u32
-    requires { RowExists (arcs_of instance.now) s.now }
-    ensures { result ≡ spec.finish (arcs_of instance.now) s.now }
-{
-    let arc = arc_at(instance, s.row as usize - 1);
-    if s.plus { arc.head } else { arc.tail }
+    if s.plus {
+        (arc.tail, arc.head)
+    } else {
+        (arc.head, arc.tail)
+    }
 }
 
 /// What the rows of a cycle are: one of them doesn't exist, or their ends don't meet in order and close, or they do.
@@ -73,8 +71,9 @@ fn follow<R: Elements<SignedRow>>(
         if !row_exists(instance, &s) {
             return Ok(Way::Missing);
         }
-        joined &= start(instance, &s) == at;
-        at = finish(instance, &s);
+        let (start, finish) = ends(instance, &s);
+        joined &= start == at;
+        at = finish;
         count_row(places, working, &s)?;
     }
     if joined && at == begin {
@@ -109,17 +108,19 @@ fn way_of<R: Elements<SignedRow>>(
     if !row_exists(instance, &first) {
         return Ok(Way::Missing);
     }
-    follow(instance, rows, start(instance, &first), places, working)
+    let (begin, _) = ends(instance, &first);
+    follow(instance, rows, begin, places, working)
 }
 
 /// The net counts of a cycle that has this number and stands in this line, or what is wrong with it. The working numbers,
-/// one a row, are 0 before and after.
+/// one a row, are 0 before and after; the places of the rows that are passed are listed anew.
 pub fn judge_cycle<R: Elements<SignedRow>>(
     alloc: Global,
     instance: &Instance,
     rows: R,
     number: u32,
     line: u64,
+    places: &mut Vec<u32>,
     working: &mut [i128],
 ) -> Result<Result<Nets, Refusal>, AllocError>
     requires short { length (R.elements rows) ≤ 10000000 }
@@ -129,8 +130,8 @@ pub fn judge_cycle<R: Elements<SignedRow>>(
         (λ found. IsCycleVerdict instance.now (R.elements rows) number line found) }
     ensures zeros { OnOk result (AreZeros working.new) }
 {
-    let mut places = Vec::new(alloc);
-    match way_of(instance, rows, &mut places, working)? {
+    places.clear();
+    match way_of(instance, rows, places, working)? {
         Way::Missing => {
             working.fill(0);
             Ok(Err(Refusal::NoSuch { line }))
@@ -140,7 +141,7 @@ pub fn judge_cycle<R: Elements<SignedRow>>(
             Ok(Err(Refusal::OpenWalk { cycle: number }))
         }
         Way::Closed => {
-            let nets = take_nets(alloc, &places, working)?;
+            let nets = take_nets(alloc, places, working)?;
             Ok(Ok(nets))
         }
     }
@@ -167,10 +168,19 @@ pub fn judge_cycles(
     ensures zeros { OnOk result (AreZeros working.new) }
 {
     let mut table = Vec::new(alloc);
+    let mut places = Vec::new(alloc);
     for (place, cycle) in cycles.iter().enumerate() {
         let number = place as u32 + 1;
         let at = line + u64::from(number);
-        match judge_cycle(alloc, instance, cycle.rows(), number, at, working)? {
+        match judge_cycle(
+            alloc,
+            instance,
+            cycle.rows(),
+            number,
+            at,
+            &mut places,
+            working,
+        )? {
             Ok(nets) => table.push(nets)?,
             Err(refusal) => return Ok(Err(refusal)),
         }

@@ -28,7 +28,7 @@ use pesp_truth::Answer;
 use std::alloc::{AllocError, Global};
 
 /// What is kept of a text while its items come: the number of the last line, the period, the answer, the times, the net
-/// counts of the cycles, and the present node of the tree with the way to it.
+/// counts of the cycles, and the present node of the tree with the way to it. The list of places is kept for all cycles.
 #[derive(Drop)]
 pub struct Judge<'a> {
     instance: &'a Instance,
@@ -37,6 +37,7 @@ pub struct Judge<'a> {
     answer: Answer,
     times: Vec<(i64, u32)>,
     table: Vec<Nets>,
+    places: Vec<u32>,
     walk: Option<NodeWalk<'a>>,
     stage: Stage,
     ghost small: { All (AreSmallCounts (length instance.now.rows)) table.items },
@@ -66,14 +67,12 @@ fn front_fault(
 }
 
 /// Adds the net counts of one more cycle.
-fn add_nets(instance: &Instance, table: &mut Vec<Nets>, nets: Nets) -> Result<(), AllocError>
-    requires table { All (AreSmallCounts (length instance.now.rows)) table.old.items }
-    requires nets { AreSmallCounts (length instance.now.rows) nets }
-    ensures small { All (AreSmallCounts (length instance.now.rows)) table.new.items }
+fn add_nets(table: &mut Vec<Nets>, nets: Nets) -> Result<(), AllocError>
+    ensures small { (rows : ℕ) → All (AreSmallCounts rows) table.old.items
+        → AreSmallCounts rows nets → All (AreSmallCounts rows) table.new.items }
     ensures long { length table.new.items ≤ length table.old.items + 1 }
     ensures items { OnOk result (table.new.items ≡ table.old.items ++ nets ∷ []) }
 {
-    let _ = instance;
     table.push(nets)?;
     Ok(())
 }
@@ -95,6 +94,7 @@ impl<'a> Judge<'a> {
             answer: Answer::Infeasible,
             times: Vec::new(alloc),
             table: Vec::new(alloc),
+            places: Vec::new(alloc),
             walk: None,
             stage: Stage::Front,
         }
@@ -166,14 +166,15 @@ impl<'a> Judge<'a> {
         let line = self.line + 1;
         self.line = line;
         let rows = RowsLeft(rows);
-        let nets = match judge_cycle(alloc, self.instance, rows, number, line, working)? {
+        let places = &mut self.places;
+        let nets = match judge_cycle(alloc, self.instance, rows, number, line, places, working)? {
             Ok(nets) => nets,
             Err(refusal) => {
                 self.stage = Stage::Refused(refusal);
                 return Ok(());
             }
         };
-        add_nets(self.instance, &mut self.table, nets)?;
+        add_nets(&mut self.table, nets)?;
         Ok(())
     }
 

@@ -22,7 +22,7 @@ loop-s-preserved g c =
     let named : Names (length c.loop-s.working) s.row = (omega (arith, exists), omega (arith, exists, arcs_long c.args.instance.now, c.loop-s.auto.working, c.requires.long)) in
     let inside : s.row - 1 < length c.loop-s.working = omega (arith, named) in
     record {
-      way = rw c.finish-at.ensures (followed_next (arcs_of c.args.instance.now) (elements c.args.rows) (elements c.loop-s.left) (elements c.take_next.new.self) s c.in-Some.ensures c.args.begin c.loop-s.at c.loop-s.joined c.start.result c.start.ensures exists c.loop-s.invariant.way);
+      way = rw c.ends-start.ensures.finish (followed_next (arcs_of c.args.instance.now) (elements c.args.rows) (elements c.loop-s.left) (elements c.take_next.new.self) s c.in-Some.ensures c.args.begin c.loop-s.at c.loop-s.joined c.ends-start.result.0 c.ends-start.ensures.start exists c.loop-s.invariant.way);
       counts = rw c.in_ok-count_row.ensures.counts (counted_more (elements c.args.rows) (elements c.loop-s.left) (elements c.take_next.new.self) s c.in-Some.ensures c.loop-s.working c.loop-s.invariant.counts named);
       places = rw c.in_ok-count_row.ensures.counts (placed_more c.loop-s.places.items c.count_row.new.places.items c.loop-s.working (s.row - 1) (get_or c.loop-s.working (s.row - 1) (pos 0) +ℤ sign s) inside c.in_ok-count_row.ensures.places c.loop-s.invariant.places);
     }

@@ -29,3 +29,8 @@ invariant_of-self-2-clause-standing c x e =
     let none = c.args.self.now.begun stage in
     let some : is_some c.args.self.now.walk ≡ true = ap is_some e in
     absurd (true≢false (sym some ∙ none))
+
+pub invariant_of-self-2-clause-small : goal.invariant_of-self-2-clause-small
+invariant_of-self-2-clause-small c =
+    let found = rw c.in-Ok.is at c.in_ok-nets.ensures.verdict in
+    c.add_nets.ensures.small (length c.args.self.now.instance.now.rows) c.args.self.now.small found.1.small

@@ -110,6 +110,7 @@ fn take_counts(
     ensures zeros { OnOk result (AreZeros working.new) }
 {
     let mut counts = Vec::new(alloc);
+    counts.reserve(places.len().min(working.len()))?;
     for place in places {
         let place = *place;
         let count = take(working, place as usize);

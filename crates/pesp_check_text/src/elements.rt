@@ -13,7 +13,7 @@ pub struct PairsLeft<'a>(pub LinePairs<'a>);
 impl<'a> Elements<Pair> for PairsLeft<'a> {
     ghost elements = { λ pairs. pairs_in pairs.0 };
 
-    #[inline(always)]
+    #[inline]
     fn take_next(&mut self) -> Option<Pair> {
         self.0.next()
     }
@@ -26,7 +26,7 @@ pub struct RowsLeft<'a>(pub SignedRows<'a>);
 impl<'a> Elements<SignedRow> for RowsLeft<'a> {
     ghost elements = { λ rows. rows_in rows.0 };
 
-    #[inline(always)]
+    #[inline]
     fn take_next(&mut self) -> Option<SignedRow> {
         self.0.next()
     }

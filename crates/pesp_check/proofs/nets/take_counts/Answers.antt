@@ -8,7 +8,7 @@ use Rattle.pesp_check.proofs.nets.take_counts.Goals.{then-count-ne0+in_ok-push, 
 
 pub loop-place-init : goal.loop-place-init
 loop-place-init c =
-    rw c.new-counts.ensures.items (collected-none c.args.places.now c.args.working.now c.requires.entered c.requires.small)
+    rw (c.reserve.ensures.items, c.new-counts.ensures.items) (collected-none c.args.places.now c.args.working.now c.requires.entered c.requires.small)
 
 pub loop-place-preserved : goal.loop-place-preserved
 loop-place-preserved c =

@@ -1,11 +1,10 @@
 //! A circulation with a spanning tree of its rows: prices by the tree, and the rows along which more flow or less would
 //! cost less.
 
-use crate::frame::Frame;
 use crate::listed::Listed;
 use crate::numbers::{amount, number, set_amount, set_number};
 use crate::row::{Bend, Part, Row, Slopes, Step};
-use crate::tree::{NONE, Tree};
+use pesp_forest::{Frame, NONE, Tree};
 use std::alloc::{AllocError, Global};
 
 /// How many listed rows are all looked at for each step.

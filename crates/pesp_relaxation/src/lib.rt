@@ -3,9 +3,6 @@
 #![tactic(auto)]
 
 mod basis;
-mod cycles;
-mod forest;
-mod frame;
 mod groups;
 mod listed;
 mod numbers;
@@ -13,11 +10,6 @@ mod pivots;
 mod rebuilding;
 mod row;
 mod starting;
-mod tree;
 
 pub use basis::{Basis, Ended};
-pub use cycles::{Cycles, slopes_of};
-pub use forest::Forest;
-pub use frame::{Frame, Link};
-pub use row::Slopes;
-pub use tree::{NONE, Place, Tree};
+pub use row::{Slopes, slopes_of};

@@ -1,9 +1,8 @@
 //! Pivots (Cunningham 1976: strongly feasible trees).
 
 use crate::basis::{Basis, Ended};
-use crate::frame::Frame;
 use crate::row::{FREE, Part, Step};
-use crate::tree::NONE;
+use pesp_forest::{Frame, NONE};
 
 /// A closed way: a step, from where it ends up to an event of the tree, and from there down to where it begins.
 #[derive(Clone, Copy, Debug, PartialEq, Eq)]

@@ -1,9 +1,9 @@
 //! The basis of a leaf, from its ranges and its pairs.
 
 use crate::basis::Basis;
-use crate::cycles::{Cycles, slopes_of};
-use crate::frame::Frame;
 use crate::numbers::{amount, set_amount};
+use crate::row::slopes_of;
+use pesp_forest::{Cycles, Frame};
 use pesp_problem::Pair;
 use std::alloc::{AllocError, Global};
 
@@ -47,7 +47,7 @@ impl Basis {
         offsets: &[(i64, i64)],
     ) -> Option<()> {
         self.set_slacks(frame, slacks)?;
-        for (place, row) in cycles.outside.iter().enumerate() {
+        for (place, row) in cycles.outside().iter().enumerate() {
             let range = offsets.get(place).copied()?;
             self.set_cycle(frame, *row, slacks, range)?;
         }
@@ -78,7 +78,7 @@ impl Basis {
 
     // sends what arrives at an event on by the row of the forest upwards
     fn send_on(&mut self, cycles: &Cycles, arriving: &mut [i64], event: u32) -> Option<()> {
-        let place = cycles.forest.tree().place(event)?;
+        let place = cycles.forest().tree().place(event)?;
         let units = amount(arriving, event)?;
         let row = self.rows.get_mut(place.by as usize)?;
         row.flow = if row.tail == event {
@@ -91,8 +91,8 @@ impl Basis {
 
     // the flow that pairs have on the rows of the forest
     fn fill_forest(&mut self, cycles: &Cycles, arriving: &mut [i64]) -> Option<()> {
-        for event in cycles.downwards.iter().rev() {
-            if !cycles.forest.tree().is_root(*event) {
+        for event in cycles.downwards().iter().rev() {
+            if !cycles.forest().tree().is_root(*event) {
                 self.send_on(cycles, arriving, *event)?;
             }
         }
@@ -119,19 +119,19 @@ impl Basis {
     ) -> Result<Option<()>, AllocError> {
         let mut arriving = vec![in alloc; 0i64; frame.events()]?;
         if self.fill(cycles, &mut arriving, pairs).is_some() {
-            let found = self.start(alloc, frame, &cycles.order)?;
+            let found = self.start(alloc, frame, cycles.order())?;
             if found.is_some() {
                 return Ok(found);
             }
         }
         self.clear_flows();
-        self.start(alloc, frame, &cycles.order)
+        self.start(alloc, frame, cycles.order())
     }
 
     /// The pairs whose flow this is: the flow on each cycle's row, where there is any.
     pub fn pairs(&self, alloc: Global, cycles: &Cycles) -> Result<Vec<Pair>, AllocError> {
         let mut pairs = Vec::new(alloc);
-        for (place, row) in cycles.outside.iter().enumerate() {
+        for (place, row) in cycles.outside().iter().enumerate() {
             let mult = self.flow(*row).unwrap_or(0);
             let cycle = u32::try_from(place).unwrap_or(0).saturating_add(1);
             if mult != 0 {

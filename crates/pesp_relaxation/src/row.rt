@@ -1,11 +1,34 @@
 //! Rows whose cost bends twice.
 
+use pesp_network::NetRow;
+
 /// What a unit of flow on a row costs: below 0, from 0 to the row's weight, and above it.
 #[derive(Clone, Copy, Debug, PartialEq, Eq)]
 pub struct Slopes {
     pub below: i64,
     pub between: i64,
     pub above: i64,
+}
+
+/// What a unit of flow on a row costs where its slack is within a range, and the offset of its cycle too: the least
+/// duration up to the row's weight and the greatest above it, less the period times the least offset, or times the greatest
+/// for flow below 0. A row of the forest has offsets 0 and 0.
+pub fn slopes_of(
+    period: u32,
+    row: &NetRow,
+    slacks: (u32, u32),
+    offsets: (i64, i64),
+) -> Option<Slopes> {
+    let period = i64::from(period);
+    let least = row.lower.checked_add(i64::from(slacks.0))?;
+    let greatest = row.lower.checked_add(i64::from(slacks.1))?;
+    let low = offsets.0.checked_mul(period)?;
+    let high = offsets.1.checked_mul(period)?;
+    Some(Slopes {
+        below: least.checked_sub(high)?,
+        between: least.checked_sub(low)?,
+        above: greatest.checked_sub(low)?,
+    })
 }
 
 /// The room of a part without an end.

@@ -1,10 +1,9 @@
 //! A basis of given flows.
 
 use crate::basis::Basis;
-use crate::forest::grow_all;
-use crate::frame::Frame;
 use crate::groups::Groups;
 use crate::row::Bend;
+use pesp_forest::{Frame, grow_all};
 use std::alloc::{AllocError, Global};
 
 impl Basis {

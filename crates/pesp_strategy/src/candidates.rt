@@ -1,7 +1,8 @@
 //! Which cuts are looked at.
 
 use crate::experience::Side;
-use pesp_relaxation::{Basis, Cycles, Frame};
+use pesp_forest::{Cycles, Frame};
+use pesp_relaxation::Basis;
 use std::alloc::{AllocError, Global};
 use std::cmp::Ordering;
 

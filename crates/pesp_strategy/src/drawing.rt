@@ -2,8 +2,8 @@
 
 use crate::random::Random;
 use crate::table::Table;
+use pesp_forest::{Forest, Frame};
 use pesp_network::NetRow;
-use pesp_relaxation::{Forest, Frame};
 
 /// A row that goes into the forest, its place among those outside, and the row that goes out.
 #[derive(Clone, Copy)]

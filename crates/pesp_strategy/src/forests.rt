@@ -5,9 +5,9 @@ use crate::goal::Goal;
 use crate::heat::Heat;
 use crate::random::Random;
 use crate::table::Table;
+use pesp_forest::Frame;
 use pesp_network::Network;
 use pesp_problem::Memory;
-use pesp_relaxation::Frame;
 use std::alloc::{AllocError, Global};
 
 /// A search: where it stands, the rows outside its forest, what the forest is worth, and the best rows so far.

@@ -1,6 +1,7 @@
 //! What a forest is worth: the value of the root's leaf, less a penalty on offsets that are left open.
 
-use pesp_relaxation::{Basis, Frame, Slopes};
+use pesp_forest::Frame;
+use pesp_relaxation::{Basis, Slopes};
 
 /// 128 times the logarithm to the base 2 of 0 to 16, of 0 for 0.
 const LOGARITHMS: [u64; 17] = [

@@ -2,7 +2,7 @@
 
 use crate::goal::Goal;
 use crate::random::Random;
-use pesp_relaxation::Frame;
+use pesp_forest::Frame;
 
 /// The greatest loss at the start; it falls by seven halvings until the last exchange.
 #[derive(Clone, Copy)]

@@ -1,7 +1,8 @@
 //! The best timetable that is met with.
 
 use crate::rounding::{rounded_cost, rounded_times};
-use pesp_relaxation::{Basis, Frame};
+use pesp_forest::Frame;
+use pesp_relaxation::Basis;
 use std::alloc::{AllocError, Global};
 
 /// What a timetable must cost less than, and times that do, where some were met with.

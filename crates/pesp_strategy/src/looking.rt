@@ -4,7 +4,8 @@ use crate::candidates::Candidate;
 use crate::experience::Side;
 use crate::kept::Kept;
 use crate::weighing::{Leaf, Weight, score};
-use pesp_relaxation::{Basis, Frame};
+use pesp_forest::Frame;
+use pesp_relaxation::Basis;
 use std::alloc::{AllocError, Global};
 use std::mem::swap;
 

@@ -1,7 +1,7 @@
 //! The ranges of a network's root.
 
 use crate::spans::Spans;
-use pesp_relaxation::{Cycles, Frame};
+use pesp_forest::{Cycles, Frame};
 use std::alloc::{AllocError, Global};
 
 /// Slacks from 0 to the span of each row.

@@ -1,6 +1,7 @@
 //! Prices as times.
 
-use pesp_relaxation::{Basis, Frame};
+use pesp_forest::Frame;
+use pesp_relaxation::Basis;
 use std::alloc::{AllocError, Global};
 
 // what the slack of a row costs at the prices; None where it is beyond the row's span

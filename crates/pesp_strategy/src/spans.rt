@@ -1,7 +1,7 @@
 //! The offsets that slacks leave to cycles, by sums of durations along a forest.
 
+use pesp_forest::{Forest, Frame, NONE};
 use pesp_network::NetRow;
-use pesp_relaxation::{Forest, Frame, NONE};
 use std::alloc::{AllocError, Global};
 
 /// The least and the greatest sum of durations from the root of its tree down to each event.

@@ -7,9 +7,10 @@ use crate::looking::{Bases, Experience, Looked, best_cut};
 use crate::root::root_offsets;
 use crate::spans::Spans;
 use crate::weighing::{Leaf, Weight};
+use pesp_forest::{Cycles, Forest, Frame};
 use pesp_network::Network;
 use pesp_problem::{Memory, Pair};
-use pesp_relaxation::{Basis, Cycles, Ended, Forest, Frame};
+use pesp_relaxation::{Basis, Ended};
 use std::alloc::{AllocError, Global};
 
 /// How many pivots a leaf may take.

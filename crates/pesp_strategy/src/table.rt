@@ -2,7 +2,8 @@
 
 use crate::root::{root_offsets, root_slacks};
 use crate::spans::Spans;
-use pesp_relaxation::{Basis, Cycles, Ended, Forest, Frame, NONE, Slopes, slopes_of};
+use pesp_forest::{Cycles, Forest, Frame, NONE};
+use pesp_relaxation::{Basis, Ended, Slopes, slopes_of};
 use std::alloc::{AllocError, Global};
 
 /// How many pivots one exchange may take.

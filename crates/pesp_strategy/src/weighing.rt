@@ -2,7 +2,8 @@
 
 use crate::candidates::Candidate;
 use crate::kept::Kept;
-use pesp_relaxation::{Basis, Ended, Frame, slopes_of};
+use pesp_forest::Frame;
+use pesp_relaxation::{Basis, Ended, slopes_of};
 
 /// How many pivots one part may take.
 const MOST_PIVOTS: u32 = 1_000_000;

@@ -48,7 +48,7 @@ fn grow(frame: &Frame, chosen: &[bool], tree: &mut Tree, root: u32) -> Option<()
 }
 
 /// Makes trees of the chosen rows, which close no cycle, from roots alone; the first event of each tree is its root.
-pub(crate) fn grow_all(frame: &Frame, chosen: &[bool], tree: &mut Tree) -> Option<()> {
+pub fn grow_all(frame: &Frame, chosen: &[bool], tree: &mut Tree) -> Option<()> {
     for place in 0..tree.events() {
         let root = u32::try_from(place).ok()?;
         if tree.is_root(root) {

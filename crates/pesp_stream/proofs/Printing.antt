@@ -4,7 +4,7 @@ use Rattle.std.proofs.KnownBytes.{Appends-nil}
 use Rattle.std.specs.List.{flat_map}
 use Rattle.std.proofs.lemmas.List.Concat.{flat_map-cons}
 use Rattle.std.proofs.lemmas.List.{take_all}
-use Rattle.pesp_stream.specs.Counts.{Failed}
+use Rattle.pesp_stream.specs.Counts.{Calls, Failed}
 use Rattle.pesp_stream.specs.Writing.{AppendsFront, Writes}
 use Rattle.pesp_stream.specs.Printing.{Sending, Goes, Stops, Outcome, Sends}
 use Rattle.pesp_stream.proofs.Fronts.{moves_then, moves_stops, front_before, writes_all, writes_err}
@@ -13,13 +13,17 @@ goes_then : (a b c : Sending) (s t : List ℕ) → b.most ≡ a.most → Goes a 
 goes_then a b c s t m p q = record {
   moves = moves_then a.told b.told c.told a.kept s t b.kept c.kept p.moves q.moves;
   failed = q.failed ∙ p.failed;
-  interrupted = λ h. subst (λ n. c.interrupted ≤ n) m (q.interrupted (subst (λ n. b.interrupted ≤ n) (sym m) (p.interrupted h)));
+  interrupted = λ h. subst (λ n. c.calls.interrupted ≤ n) m (q.interrupted (subst (λ n. b.calls.interrupted ≤ n) (sym m) (p.interrupted h)));
 }
+
+-- no call failed before the one that did
+failed_since : (a b c : Calls) (most : ℕ) → b.failed ≡ a.failed → Failed b most c → Failed a most c
+failed_since a b c most e p = rw e at p
 
 stops_then : (a b c : Sending) (s t : List ℕ) → b.most ≡ a.most → Goes a b s → Stops b c t → Stops a c (s ++ t)
 stops_then a b c s t m p q = record {
   front = moves_stops a.told b.told c.told a.kept s t b.kept p.moves q.front;
-  fault = subst (λ n. Failed n a.most c.failed c.interrupted) p.failed (subst (λ n. Failed b.failed n c.failed c.interrupted) m q.fault);
+  fault = failed_since a.calls b.calls c.calls a.most p.failed (subst (λ n. Failed b.calls n c.calls) m q.fault);
 }
 
 stopped_then : (a b : Sending) (s t : List ℕ) → Stops a b s → Stops a b (s ++ t)

@@ -1,8 +1,7 @@
 -- A reader or a writer with its counts.
-use Rattle.std.specs.Prelude.{ℕ}
+use Rattle.pesp_stream.specs.Counts.{Calls}
 
--- the reader or writer, and how many of its calls failed and how many were interrupted
+-- the reader or writer, and the counts of its calls
 pub record Counting (T : Type 0) : Type 0 where
   pub inner : T
-  pub failed : ℕ
-  pub interrupted : ℕ
+  pub calls : Calls

@@ -19,15 +19,15 @@ pub struct Counted<T> {
 impl<T> Model for Counted<T> {
     ghost Value = { Counting T };
 
-    ghost view = { λ c. record { inner = c.inner; failed = c.failed; interrupted = c.interrupted } };
+    ghost view = { λ c. record { inner = c.inner; calls = record { failed = c.failed; interrupted = c.interrupted } } };
 }
 
 impl<T> Counted<T> {
     /// Counts from 0.
     pub fn new(inner: T) -> Counted<T>
         ensures inner { result.inner ≡ inner }
-        ensures failed { result.failed ≡ 0 }
-        ensures interrupted { result.interrupted ≡ 0 }
+        ensures failed { result.calls.failed ≡ 0 }
+        ensures interrupted { result.calls.interrupted ≡ 0 }
     {
         Counted {
             inner,
@@ -52,9 +52,7 @@ impl<T> Counted<T> {
 impl<R: Read> Source for Counted<R> {
     ghost remaining = { λ s. R.remaining s.inner };
 
-    ghost failed = { λ s. s.failed };
-
-    ghost interrupted = { λ s. s.interrupted };
+    ghost calls = { λ s. s.calls };
 
     fn read(&mut self, buf: &mut [u8]) -> io::Result<usize> {
         let result = self.inner.read(buf);
@@ -75,9 +73,7 @@ impl<R: Read> Source for Counted<R> {
 impl<W: Write> Sink for Counted<W> {
     ghost contents = { λ s. W.contents s.inner };
 
-    ghost failed = { λ s. s.failed };
-
-    ghost interrupted = { λ s. s.interrupted };
+    ghost calls = { λ s. s.calls };
 
     fn write(&mut self, buf: &[u8]) -> io::Result<usize> {
         let result = self.inner.write(buf);

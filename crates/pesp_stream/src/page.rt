@@ -1,6 +1,6 @@
 //! Pieces of a text, gathered so that a writer is called once a page.
 ghost use Rattle.std.specs.Prelude.{◌≡◌, ◌<◌, ◌≤◌, ◌+◌, ◌++◌, ℕ, List, length, [], take, OnOk, OnErr};
-ghost use Rattle.pesp_stream.specs.Counts.{Failed};
+ghost use Rattle.pesp_stream.specs.Counts.{Worked, Failed};
 ghost use Rattle.pesp_stream.specs.Writing.{Writes, AppendsFront, Moves};
 
 use crate::sink::Sink;
@@ -39,17 +39,15 @@ impl Page {
     /// than a page goes to the writer at once. An interrupted write is repeated while no more than `most` calls of the
     /// writer were interrupted. After a fault a front of what was kept back and the piece is written.
     pub fn put<W: Sink>(&mut self, sink: &mut W, piece: &[u8], most: u64) -> Result<(), WriteFault>
-        requires failed_fits { W.failed sink.old < u64.MAX }
-        requires interrupted_fits { W.interrupted sink.old ≤ most }
+        requires failed_fits { (W.calls sink.old).failed < u64.MAX }
+        requires interrupted_fits { (W.calls sink.old).interrupted ≤ most }
         requires most_fits { most < u64.MAX }
         ensures ok { OnOk result
             (Moves (W.contents sink.old) (W.contents sink.new) self.old piece.now self.new) }
         ensures front { OnErr result
             (AppendsFront (W.contents sink.old) (W.contents sink.new) (self.old ++ piece.now)) }
-        ensures counts { OnOk result
-            ((W.failed sink.new ≡ W.failed sink.old) × (W.interrupted sink.new ≤ most)) }
-        ensures fault { OnErr result
-            (Failed (W.failed sink.old) most (W.failed sink.new) (W.interrupted sink.new)) }
+        ensures counts { OnOk result (Worked (W.calls sink.old) most (W.calls sink.new)) }
+        ensures fault { OnErr result (Failed (W.calls sink.old) most (W.calls sink.new)) }
     {
         if piece.len() <= SIZE - self.len {
             self.keep(piece);
@@ -75,15 +73,13 @@ impl Page {
 
     /// Writes all that is kept back. The page keeps nothing back then, after a fault too.
     pub fn finish<W: Sink>(&mut self, sink: &mut W, most: u64) -> Result<(), WriteFault>
-        requires failed_fits { W.failed sink.old < u64.MAX }
-        requires interrupted_fits { W.interrupted sink.old ≤ most }
+        requires failed_fits { (W.calls sink.old).failed < u64.MAX }
+        requires interrupted_fits { (W.calls sink.old).interrupted ≤ most }
         requires most_fits { most < u64.MAX }
         ensures emptied { self.new ≡ [] }
         ensures text { Writes (W.contents sink.old) (W.contents sink.new) self.old result }
-        ensures counts { OnOk result
-            ((W.failed sink.new ≡ W.failed sink.old) × (W.interrupted sink.new ≤ most)) }
-        ensures fault { OnErr result
-            (Failed (W.failed sink.old) most (W.failed sink.new) (W.interrupted sink.new)) }
+        ensures counts { OnOk result (Worked (W.calls sink.old) most (W.calls sink.new)) }
+        ensures fault { OnErr result (Failed (W.calls sink.old) most (W.calls sink.new)) }
     {
         let len = self.len;
         self.len = 0;

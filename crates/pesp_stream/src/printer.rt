@@ -1,7 +1,7 @@
 //! A text that goes to a writer, page by page.
 ghost use Rattle.std.specs.Prelude.{◌≡◌, ◌<◌, ◌≤◌, ◌+◌, ◌^◌, [], true, false, IsErr, OnOk, OnErr};
 ghost use Rattle.pesp_stream.specs.Printing.{Sending, Sends};
-ghost use Rattle.pesp_stream.specs.Counts.{Failed, DeviceFailed};
+ghost use Rattle.pesp_stream.specs.Counts.{FewerThan, Worked, Failed, HasWorked, DeviceFailed};
 ghost use Rattle.pesp_stream.specs.Writing.{Writes};
 ghost use Rattle.std.below.core.specs.declared.int.u64.TheConstants.{MAX};
 
@@ -19,16 +19,15 @@ struct Printer<'a, W: Sink> {
     page: Page,
     most: u64,
     stopped: bool,
-    ghost failed_fits: { stopped ≡ false → W.failed sink.now < MAX },
-    ghost interrupted_fits: { stopped ≡ false → W.interrupted sink.now ≤ most },
+    ghost failed_fits: { stopped ≡ false → (W.calls sink.now).failed < MAX },
+    ghost interrupted_fits: { stopped ≡ false → (W.calls sink.now).interrupted ≤ most },
     ghost most_fits: { most < MAX },
 }
 
 impl<W: Sink> Output for Printer<'_, W> {
     ghost sending = { λ s. record {
       told = W.contents s.sink.now;
-      failed = W.failed s.sink.now;
-      interrupted = W.interrupted s.sink.now;
+      calls = W.calls s.sink.now;
       most = s.most;
       kept = s.page;
       stopped = s.stopped;
@@ -44,11 +43,10 @@ impl<W: Sink> Output for Printer<'_, W> {
 
 impl<'a, W: Sink> Printer<'a, W> {
     fn new(sink: &'a mut W) -> Printer<'a, W>
-        requires failed_fits { W.failed sink.old < 2 ^ 63 }
-        requires interrupted_fits { W.interrupted sink.old < 2 ^ 63 }
+        requires fits { FewerThan (2 ^ 63) (W.calls sink.old) }
         ensures writer { result.sink.ghost_name ≡ sink.entry.ghost_name }
         ensures same { result.sink.now ≡ sink.old }
-        ensures most { result.most ≡ W.interrupted sink.old + 1000 }
+        ensures most { result.most ≡ (W.calls sink.old).interrupted + 1000 }
         ensures page { result.page ≡ [] }
         ensures going { result.stopped ≡ false }
     {
@@ -68,11 +66,9 @@ impl<'a, W: Sink> Printer<'a, W> {
         ensures text { self.old.stopped ≡ false → Writes (W.contents self.old.sink.now)
             (W.contents self.new.sink.now) self.old.page result }
         ensures counts { self.old.stopped ≡ false
-            → OnOk result ((W.failed self.new.sink.now ≡ W.failed self.old.sink.now)
-            × (W.interrupted self.new.sink.now ≤ self.old.most)) }
+            → OnOk result (Worked (W.calls self.old.sink.now) self.old.most (W.calls self.new.sink.now)) }
         ensures fault { self.old.stopped ≡ false
-            → OnErr result (Failed (W.failed self.old.sink.now) self.old.most
-            (W.failed self.new.sink.now) (W.interrupted self.new.sink.now)) }
+            → OnErr result (Failed (W.calls self.old.sink.now) self.old.most (W.calls self.new.sink.now)) }
     {
         if self.stopped {
             return Err(WriteFault);
@@ -85,13 +81,10 @@ impl<'a, W: Sink> Printer<'a, W> {
 /// Writes the text of the value, a page at a time. An interrupted write is repeated, at most 1000 times in all; a write
 /// that takes no byte is a fault. After a fault a front of the text is written.
 pub fn print_to<W: Sink, T: Printed>(sink: &mut W, value: &T) -> Result<(), WriteFault>
-    requires failed_fits { W.failed sink.old < 2 ^ 63 }
-    requires interrupted_fits { W.interrupted sink.old < 2 ^ 63 }
+    requires fits { FewerThan (2 ^ 63) (W.calls sink.old) }
     ensures text { Writes (W.contents sink.old) (W.contents sink.new) (T.text value.now) result }
-    ensures counts { OnOk result ((W.failed sink.new ≡ W.failed sink.old)
-        × (W.interrupted sink.new ≤ W.interrupted sink.old + 1000)) }
-    ensures fault { OnErr result (DeviceFailed (W.failed sink.old) (W.interrupted sink.old)
-        (W.failed sink.new) (W.interrupted sink.new)) }
+    ensures counts { OnOk result (HasWorked (W.calls sink.old) (W.calls sink.new)) }
+    ensures fault { OnErr result (DeviceFailed (W.calls sink.old) (W.calls sink.new)) }
 {
     let mut printer = Printer::new(sink);
     value.print(&mut printer);

@@ -2,7 +2,7 @@
 ghost use Rattle.std.specs.Prelude.{◌≡◌, ◌+◌, ◌<◌, ◌≤◌, ◌^◌, ◌⊎◌, length, take, IfOk, IfErr, OnOk, OnErr, IfSome};
 ghost use Rattle.std.specs.Io.{ReadsAtMost};
 ghost use Rattle.std.specs.Io.KnownBytes.{Consumes, Keeps, IsAtEnd, ReadConsumes};
-ghost use Rattle.pesp_stream.specs.Counts.{Failed, DeviceFailed};
+ghost use Rattle.pesp_stream.specs.Counts.{FewerThan, Worked, Failed, HasWorked, DeviceFailed};
 ghost use Rattle.pesp_stream.specs.Reading.{ReadsText, ReadFaults};
 
 use crate::source::Source;
@@ -30,16 +30,14 @@ pub struct Unread;
 /// One read, repeated while it is interrupted and no more than `most` calls of the reader were. It gives how many bytes were
 /// read into the front of `buf`; 0, where `buf` has room, at the end.
 pub fn read_repeating<S: Source>(source: &mut S, buf: &mut [u8], most: u64) -> Result<usize, Unread>
-    requires failed_fits { S.failed source.old < u64.MAX }
-    requires interrupted_fits { S.interrupted source.old ≤ most }
+    requires failed_fits { (S.calls source.old).failed < u64.MAX }
+    requires interrupted_fits { (S.calls source.old).interrupted ≤ most }
     requires most_fits { most < u64.MAX }
     ensures bound { IfOk result (λ n. n ≤ length buf.new) }
     ensures length { length buf.new ≡ length buf.old }
     ensures bytes { ReadConsumes (S.remaining source.old) (S.remaining source.new) result buf.new }
-    ensures counts { OnOk result
-        ((S.failed source.new ≡ S.failed source.old) × (S.interrupted source.new ≤ most)) }
-    ensures fault { OnErr result
-        (Failed (S.failed source.old) most (S.failed source.new) (S.interrupted source.new)) }
+    ensures counts { OnOk result (Worked (S.calls source.old) most (S.calls source.new)) }
+    ensures fault { OnErr result (Failed (S.calls source.old) most (S.calls source.new)) }
 {
     loop {
         match source.read(buf) {
@@ -59,15 +57,12 @@ pub fn read_all<S: Source>(
     source: &mut S,
     limit: usize,
 ) -> Result<Vec<u8>, ReadFault>
-    requires failed_fits { S.failed source.old < 2 ^ 63 }
-    requires interrupted_fits { S.interrupted source.old < 2 ^ 63 }
+    requires fits { FewerThan (2 ^ 63) (S.calls source.old) }
     ensures ok { IfOk result
         (λ bytes. ReadsText (S.remaining source.old) (S.remaining source.new) limit bytes.items) }
-    ensures counts { OnOk result ((S.failed source.new ≡ S.failed source.old)
-        × (S.interrupted source.new ≤ S.interrupted source.old + 1000)) }
+    ensures counts { OnOk result (HasWorked (S.calls source.old) (S.calls source.new)) }
     ensures fault { IfErr result (λ e. ReadFaults e
-        (DeviceFailed (S.failed source.old) (S.interrupted source.old) (S.failed source.new)
-        (S.interrupted source.new))) }
+        (DeviceFailed (S.calls source.old) (S.calls source.new))) }
 {
     let most = source.interrupted_reads() + MOST_INTERRUPTED;
     let mut bytes = Vec::new(alloc);

@@ -2,7 +2,7 @@
 ghost use Rattle.std.specs.Prelude.{◌≡◌, ◌<◌, ℕ, List, Option, length};
 ghost use Rattle.std.specs.Io.{WritesAtMost};
 ghost use Rattle.std.specs.Io.KnownBytes.{WriteAppends};
-ghost use Rattle.pesp_stream.specs.Counts.{CountsWrite};
+ghost use Rattle.pesp_stream.specs.Counts.{Calls, CountsWrite};
 
 use std::io;
 
@@ -13,18 +13,15 @@ pub trait Sink {
     ghost contents: { Self → Option (List ℕ) };
 
     // How many calls failed, and how many were interrupted.
-    ghost failed: { Self → ℕ };
-
-    ghost interrupted: { Self → ℕ };
+    ghost calls: { Self → Calls };
 
     fn write(&mut self, buf: &[u8]) -> io::Result<usize>
-        requires failed_fits { failed self.old < u64.MAX }
-        requires interrupted_fits { interrupted self.old < u64.MAX }
+        requires failed_fits { (calls self.old).failed < u64.MAX }
+        requires interrupted_fits { (calls self.old).interrupted < u64.MAX }
         ensures bound { WritesAtMost result buf.now }
         ensures bytes { WriteAppends (contents self.old) (contents self.new) result buf.now }
-        ensures counts { CountsWrite (length buf.now) (failed self.old) (interrupted self.old)
-            (failed self.new) (interrupted self.new) result };
+        ensures counts { CountsWrite (length buf.now) (calls self.old) (calls self.new) result };
 
     fn interrupted_writes(&self) -> u64
-        ensures { result ≡ interrupted self.now };
+        ensures { result ≡ (calls self.now).interrupted };
 }

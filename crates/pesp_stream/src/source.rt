@@ -2,7 +2,7 @@
 ghost use Rattle.std.specs.Prelude.{◌≡◌, ◌<◌, ℕ, List, Option};
 ghost use Rattle.std.specs.Io.{ReadsAtMost};
 ghost use Rattle.std.specs.Io.KnownBytes.{ReadConsumes};
-ghost use Rattle.pesp_stream.specs.Counts.{CountsRead};
+ghost use Rattle.pesp_stream.specs.Counts.{Calls, CountsRead};
 
 use std::io;
 
@@ -12,18 +12,15 @@ pub trait Source {
     ghost remaining: { Self → Option (List ℕ) };
 
     // How many calls failed, and how many were interrupted.
-    ghost failed: { Self → ℕ };
-
-    ghost interrupted: { Self → ℕ };
+    ghost calls: { Self → Calls };
 
     fn read(&mut self, buf: &mut [u8]) -> io::Result<usize>
-        requires failed_fits { failed self.old < u64.MAX }
-        requires interrupted_fits { interrupted self.old < u64.MAX }
+        requires failed_fits { (calls self.old).failed < u64.MAX }
+        requires interrupted_fits { (calls self.old).interrupted < u64.MAX }
         ensures bound { ReadsAtMost result buf.new }
         ensures bytes { ReadConsumes (remaining self.old) (remaining self.new) result buf.new }
-        ensures counts { CountsRead (failed self.old) (interrupted self.old) (failed self.new)
-            (interrupted self.new) result };
+        ensures counts { CountsRead (calls self.old) (calls self.new) result };
 
     fn interrupted_reads(&self) -> u64
-        ensures { result ≡ interrupted self.now };
+        ensures { result ≡ (calls self.now).interrupted };
 }

@@ -14,4 +14,4 @@ loop-rest-preserved-in-Ok g c =
     let rest = c.loop-rest.rest.now in
     let n = c.in-Ok.n in
     let bytes = c.in-Ok.ensures.bytes in
-    ((done ++ take n rest, moves_front _ done rest n split, Appends-trans _ _ _ _ _ appended bytes), search rules, search rules)
+    ((done ++ take n rest, moves_front _ done rest n split, Appends-trans _ _ _ _ _ appended bytes), search rules)

@@ -1,9 +1,9 @@
 //! Printing a certificate.
 
-ghost use Rattle.std.specs.Prelude.{◌≡◌, ◌<◌, ◌≤◌, ◌+◌, ◌^◌, ◌++◌, codes, OnOk, OnErr, if◌then◌else◌};
+ghost use Rattle.std.specs.Prelude.{◌≡◌, ◌<◌, ◌+◌, ◌^◌, ◌++◌, codes, OnOk, OnErr, if◌then◌else◌};
 ghost use Rattle.std.specs.List.{flat_map};
 ghost use Rattle.std.specs.Fmt.{signed_decimal};
-ghost use Rattle.pesp_stream.specs.Counts.{DeviceFailed};
+ghost use Rattle.pesp_stream.specs.Counts.{FewerThan, HasWorked, DeviceFailed};
 ghost use Rattle.pesp_stream.specs.Printing.{Sending, Sends};
 ghost use Rattle.pesp_stream.specs.Writing.{Writes};
 ghost use Rattle.pesp_cert.specs.Print.{head_lines, time_line, pair_text, pairs_text, row_text, rows_text, cycle_line, tree_line, cost_text, answer_line};
@@ -207,16 +207,13 @@ fn has_text(certificate: &Certificate)
 /// Writes the certificate's one text, a page at a time. An interrupted write is repeated, at most 1000 times in all, and a
 /// write that takes no byte is a fault. After a fault a front of the text went out. It takes no memory.
 pub fn print<W: Sink>(certificate: &Certificate, sink: &mut W) -> Result<(), WriteFault>
-    requires failed_fits { W.failed sink.old < 2 ^ 63 }
-    requires interrupted_fits { W.interrupted sink.old < 2 ^ 63 }
+    requires fits { FewerThan (2 ^ 63) (W.calls sink.old) }
     ensures has_text { HasText certificate.now }
     ensures text { Writes (W.contents sink.old) (W.contents sink.new) (spelling certificate.now)
         result }
-    ensures counts { OnOk result ((W.failed sink.new ≡ W.failed sink.old)
-        × (W.interrupted sink.new ≤ W.interrupted sink.old + 1000)) }
+    ensures counts { OnOk result (HasWorked (W.calls sink.old) (W.calls sink.new)) }
     // The device is blamed only where it failed.
-    ensures fault { OnErr result (DeviceFailed (W.failed sink.old) (W.interrupted sink.old)
-        (W.failed sink.new) (W.interrupted sink.new)) }
+    ensures fault { OnErr result (DeviceFailed (W.calls sink.old) (W.calls sink.new)) }
 {
     has_text(certificate);
     print_to(sink, certificate)

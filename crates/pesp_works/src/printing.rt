@@ -1,7 +1,7 @@
 //! Printing a work.
 
-ghost use Rattle.std.specs.Prelude.{◌≡◌, ◌<◌, ◌≤◌, ◌+◌, ◌^◌, OnOk, OnErr};
-ghost use Rattle.pesp_stream.specs.Counts.{DeviceFailed};
+ghost use Rattle.std.specs.Prelude.{◌<◌, ◌^◌, OnOk, OnErr};
+ghost use Rattle.pesp_stream.specs.Counts.{FewerThan, HasWorked, DeviceFailed};
 ghost use Rattle.pesp_stream.specs.Printing.{Sending, Sends};
 ghost use Rattle.pesp_stream.specs.Writing.{Writes};
 ghost use Rattle.pesp_works.specs.Print.{head_text};
@@ -40,14 +40,11 @@ impl Printed for WorkText {
 /// fault. After a fault a front of the text went out. It takes no memory.
 pub fn print_work<W: Sink>(work: &WorkText, sink: &mut W) -> Result<(), WriteFault>
     requires has_text { HasText work.now }
-    requires failed_fits { W.failed sink.old < 2 ^ 63 }
-    requires interrupted_fits { W.interrupted sink.old < 2 ^ 63 }
+    requires fits { FewerThan (2 ^ 63) (W.calls sink.old) }
     ensures text { Writes (W.contents sink.old) (W.contents sink.new) (spelling work.now) result }
-    ensures counts { OnOk result ((W.failed sink.new ≡ W.failed sink.old)
-        × (W.interrupted sink.new ≤ W.interrupted sink.old + 1000)) }
+    ensures counts { OnOk result (HasWorked (W.calls sink.old) (W.calls sink.new)) }
     // The device is blamed only where it failed.
-    ensures fault { OnErr result (DeviceFailed (W.failed sink.old) (W.interrupted sink.old)
-        (W.failed sink.new) (W.interrupted sink.new)) }
+    ensures fault { OnErr result (DeviceFailed (W.calls sink.old) (W.calls sink.new)) }
 {
     print_to(sink, work)
 }

@@ -1,7 +1,7 @@
 //! The piece of a text that was read last.
 ghost use Rattle.std.specs.Prelude.{◌≡◌, ◌↔◌, IsTrue, ◌<◌, ◌≤◌, ◌+◌, ◌++◌, ℕ, List, length, [], IfOk, OnOk, OnErr, slice_range, min};
 ghost use Rattle.std.specs.Io.KnownBytes.{Consumes, IsAtEnd};
-ghost use Rattle.pesp_stream.specs.Counts.{Failed};
+ghost use Rattle.pesp_stream.specs.Counts.{Worked, Failed};
 ghost use Rattle.pesp_lines.specs.Lines.{LONGEST};
 ghost use Rattle.pesp_items.specs.Fronts.{CutsAt};
 
@@ -76,17 +76,15 @@ impl Chunk {
         limit: usize,
         most: u64,
     ) -> Result<usize, Unread>
-        requires failed_fits { S.failed source.old < u64.MAX }
-        requires interrupted_fits { S.interrupted source.old ≤ most }
+        requires failed_fits { (S.calls source.old).failed < u64.MAX }
+        requires interrupted_fits { (S.calls source.old).interrupted ≤ most }
         requires most_fits { most < u64.MAX }
         ensures length { IfOk result (λ n. (n ≡ length self.new) × (n ≤ limit)) }
         ensures bytes { OnOk result
             (Consumes (S.remaining source.old) (S.remaining source.new) self.new) }
         ensures end { IfOk result (λ n. n ≡ 0 → 0 < limit → IsAtEnd (S.remaining source.new)) }
-        ensures counts { OnOk result
-            ((S.failed source.new ≡ S.failed source.old) × (S.interrupted source.new ≤ most)) }
-        ensures fault { OnErr result
-            (Failed (S.failed source.old) most (S.failed source.new) (S.interrupted source.new)) }
+        ensures counts { OnOk result (Worked (S.calls source.old) most (S.calls source.new)) }
+        ensures fault { OnErr result (Failed (S.calls source.old) most (S.calls source.new)) }
     {
         let room = limit.min(SIZE);
         self.start = 0;

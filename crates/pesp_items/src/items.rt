@@ -4,7 +4,7 @@ ghost use Rattle.std.specs.Prelude.{◌≡◌, ◌+◌, ◌<◌, ◌≤◌, ◌^
 ghost use Rattle.std.below.core.specs.declared.int.u64.TheConstants.{MAX};
 ghost use Rattle.std.specs.Borrow.{sem};
 ghost use Rattle.std.specs.Io.BufRead.{Rests};
-ghost use Rattle.pesp_stream.specs.Counts.{Failed};
+ghost use Rattle.pesp_stream.specs.Counts.{FewerThan, Failed};
 ghost use Rattle.pesp_lines.specs.Counts.{start};
 ghost use Rattle.pesp_items.specs.declared.stage.Stage.TheVariants as stages;
 ghost use Rattle.pesp_items.specs.Readings.{is_open};
@@ -20,8 +20,8 @@ use std::alloc::Global;
 pub struct Items<S: Source> {
     source: S,
     reader: ItemReader,
-    ghost failed_fits: { is_open reader.stage ≡ true → S.failed source < MAX },
-    ghost interrupted_fits: { is_open reader.stage ≡ true → S.interrupted source ≤ reader.most },
+    ghost failed_fits: { is_open reader.stage ≡ true → (S.calls source).failed < MAX },
+    ghost interrupted_fits: { is_open reader.stage ≡ true → (S.calls source).interrupted ≤ reader.most },
 }
 
 impl<S: Source> Items<S> {
@@ -32,10 +32,9 @@ impl<S: Source> Items<S> {
 
     /// The items of the reader's text. Nothing is read so far.
     pub fn new(alloc: Global, source: S) -> Items<S>
-        requires failed_fits { S.failed source < 2 ^ 63 }
-        requires interrupted_fits { S.interrupted source < 2 ^ 63 }
+        requires fits { FewerThan (2 ^ 63) (S.calls source) }
         ensures source { result.source ≡ source }
-        ensures most { result.reader.most ≡ S.interrupted source + 1000 }
+        ensures most { result.reader.most ≡ (S.calls source).interrupted + 1000 }
         ensures begins { reading (S.remaining source) result.reader
             ≡ record {
               told = S.remaining source;
@@ -60,13 +59,12 @@ impl<S: Source> Items<S> {
     pub fn next(&mut self) -> Result<Option<Item<'_>>, ItemFault>
         ensures* after_borrow { sem 𝓛 (Rests (the_row S.row S.Source) self.entry
             (λ new. (new.reader.most ≡ self.old.reader.most)
-            × OnOk result (S.failed new.source ≡ S.failed self.old.source)
+            × OnOk result ((S.calls new.source).failed ≡ (S.calls self.old.source).failed)
             × Answers self.old.reader.stage (reading (S.remaining self.old.source) self.old.reader)
             (reading (S.remaining new.source) new.reader) (said_by result)
             × (is_open self.old.reader.stage ≡ true
             → IfErr result (λ fault. Blamed fault
-            (Failed (S.failed self.old.source) self.old.reader.most (S.failed new.source)
-            (S.interrupted new.source)))))) }
+            (Failed (S.calls self.old.source) self.old.reader.most (S.calls new.source)))))) }
     {
         if !self.reader.step(&mut self.source)? {
             return Ok(None);

@@ -1,7 +1,7 @@
 //! The lines of a text that a reader gives in pieces.
 
 ghost use Rattle.std.specs.Prelude.{◌≡◌, ◌<◌, ◌≤◌, [], IfOk, IfErr, OnOk, OnErr};
-ghost use Rattle.pesp_stream.specs.Counts.{Failed};
+ghost use Rattle.pesp_stream.specs.Counts.{Worked, Failed};
 ghost use Rattle.pesp_items.specs.Cuts.{Advances, EndsHere, Blames};
 
 use crate::chunk::{Chunk, Front};
@@ -60,15 +60,14 @@ fn advance<S: Source>(
     source: &mut S,
     most: u64,
 ) -> Result<Next, LinesFault>
-    requires failed_fits { S.failed source.old < u64.MAX }
-    requires interrupted_fits { S.interrupted source.old ≤ most }
+    requires failed_fits { (S.calls source.old).failed < u64.MAX }
+    requires interrupted_fits { (S.calls source.old).interrupted ≤ most }
     requires most_fits { most < u64.MAX }
     ensures ok { IfOk result (Advances (S.remaining source.old) (S.remaining source.new) left.old
         left.new chunk.old chunk.new line.new.items) }
-    ensures counts { OnOk result
-        ((S.failed source.new ≡ S.failed source.old) × (S.interrupted source.new ≤ most)) }
+    ensures counts { OnOk result (Worked (S.calls source.old) most (S.calls source.new)) }
     ensures fault { IfErr result (λ e. Blames e
-        (Failed (S.failed source.old) most (S.failed source.new) (S.interrupted source.new))) }
+        (Failed (S.calls source.old) most (S.calls source.new))) }
 {
     line.clear();
     loop {
@@ -115,15 +114,14 @@ impl LineBuffer {
 
     /// Reads up to the next LF.
     pub fn advance<S: Source>(&mut self, source: &mut S, most: u64) -> Result<Next, LinesFault>
-        requires failed_fits { S.failed source.old < u64.MAX }
-        requires interrupted_fits { S.interrupted source.old ≤ most }
+        requires failed_fits { (S.calls source.old).failed < u64.MAX }
+        requires interrupted_fits { (S.calls source.old).interrupted ≤ most }
         requires most_fits { most < u64.MAX }
         ensures ok { IfOk result (Advances (S.remaining source.old) (S.remaining source.new)
             self.old.left self.new.left self.old.chunk self.new.chunk self.new.line.items) }
-        ensures counts { OnOk result
-            ((S.failed source.new ≡ S.failed source.old) × (S.interrupted source.new ≤ most)) }
+        ensures counts { OnOk result (Worked (S.calls source.old) most (S.calls source.new)) }
         ensures fault { IfErr result (λ e. Blames e
-            (Failed (S.failed source.old) most (S.failed source.new) (S.interrupted source.new))) }
+            (Failed (S.calls source.old) most (S.calls source.new))) }
     {
         advance(
             &mut self.chunk,
@@ -136,15 +134,13 @@ impl LineBuffer {
 
     /// Whether no byte stands behind the line that was read last.
     pub fn is_over<S: Source>(&mut self, source: &mut S, most: u64) -> Result<bool, Unread>
-        requires failed_fits { S.failed source.old < u64.MAX }
-        requires interrupted_fits { S.interrupted source.old ≤ most }
+        requires failed_fits { (S.calls source.old).failed < u64.MAX }
+        requires interrupted_fits { (S.calls source.old).interrupted ≤ most }
         requires most_fits { most < u64.MAX }
         ensures ok { IfOk result (λ over. EndsHere (S.remaining source.old) (S.remaining source.new)
             self.old.left self.new.left self.old.chunk over) }
-        ensures counts { OnOk result
-            ((S.failed source.new ≡ S.failed source.old) × (S.interrupted source.new ≤ most)) }
-        ensures fault { OnErr result
-            (Failed (S.failed source.old) most (S.failed source.new) (S.interrupted source.new)) }
+        ensures counts { OnOk result (Worked (S.calls source.old) most (S.calls source.new)) }
+        ensures fault { OnErr result (Failed (S.calls source.old) most (S.calls source.new)) }
     {
         if !self.chunk.is_empty() {
             return Ok(false);

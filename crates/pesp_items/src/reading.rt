@@ -4,7 +4,7 @@ ghost use Rattle.std.specs.Str.{bytes_eq};
 ghost use Rattle.std.below.core.specs.declared.int.u64.TheConstants.{MAX};
 ghost use Rattle.std.specs.Borrow.{sem};
 ghost use Rattle.std.specs.Io.BufRead.{Rests};
-ghost use Rattle.pesp_stream.specs.Counts.{Failed};
+ghost use Rattle.pesp_stream.specs.Counts.{Worked, Failed};
 ghost use Rattle.pesp_lines.specs.Counts.{IsKept, start};
 ghost use Rattle.pesp_items.specs.declared.stage.Stage.TheVariants as stages;
 ghost use Rattle.pesp_items.specs.Readings.{is_open};
@@ -67,11 +67,10 @@ impl ItemReader {
     /// Reads the next line.
     fn read_line<S: Source>(&mut self, source: &mut S) -> Result<(), ItemFault>
         requires open { is_open self.old.stage ≡ true }
-        requires failed_fits { S.failed source.old < u64.MAX }
-        requires interrupted_fits { S.interrupted source.old ≤ self.old.most }
+        requires failed_fits { (S.calls source.old).failed < u64.MAX }
+        requires interrupted_fits { (S.calls source.old).interrupted ≤ self.old.most }
         ensures most { self.new.most ≡ self.old.most }
-        ensures failed { OnOk result ((S.failed source.new ≡ S.failed source.old)
-            × (S.interrupted source.new ≤ self.old.most)) }
+        ensures failed { OnOk result (Worked (S.calls source.old) self.old.most (S.calls source.new)) }
         ensures same { OnOk result ((self.new.stage ≡ self.old.stage)
             × (self.new.progress ≡ self.old.progress) × (self.new.n ≡ self.old.n)) }
         ensures counted { OnOk result
@@ -82,8 +81,7 @@ impl ItemReader {
         ensures fault { IfErr result (λ fault. Faults (reading (S.remaining source.old) self.old)
             (reading (S.remaining source.new) self.new) fault) }
         ensures blamed { IfErr result (λ fault. Blamed fault
-            (Failed (S.failed source.old) self.old.most (S.failed source.new)
-            (S.interrupted source.new))) }
+            (Failed (S.calls source.old) self.old.most (S.calls source.new))) }
     {
         let n = self.n + 1;
         match self.lines.advance(source, self.most) {
@@ -113,19 +111,17 @@ impl ItemReader {
     /// Reads and judges the next line; false where it is the last one and nothing stands behind it.
     fn go<S: Source>(&mut self, source: &mut S) -> Result<bool, ItemFault>
         requires going { self.old.stage ≡ stages.Going }
-        requires failed_fits { S.failed source.old < u64.MAX }
-        requires interrupted_fits { S.interrupted source.old ≤ self.old.most }
+        requires failed_fits { (S.calls source.old).failed < u64.MAX }
+        requires interrupted_fits { (S.calls source.old).interrupted ≤ self.old.most }
         ensures most { self.new.most ≡ self.old.most }
-        ensures failed { OnOk result ((S.failed source.new ≡ S.failed source.old)
-            × (S.interrupted source.new ≤ self.old.most)) }
+        ensures failed { OnOk result (Worked (S.calls source.old) self.old.most (S.calls source.new)) }
         ensures gives { Gives (reading (S.remaining source.old) self.old)
             (reading (S.remaining source.new) self.new)
             (stepped (read_back self.new.said self.new.lines.line.items) result) }
         ensures spelt { IfOk result
             (λ more. more ≡ true → IsSpelt self.new.said self.new.lines.line.items) }
         ensures blamed { IfErr result (λ fault. Blamed fault
-            (Failed (S.failed source.old) self.old.most (S.failed source.new)
-            (S.interrupted source.new))) }
+            (Failed (S.calls source.old) self.old.most (S.calls source.new))) }
     {
         self.read_line(source)?;
         self.n += 1;
@@ -167,12 +163,12 @@ impl ItemReader {
 
     /// Reads and judges the next line that is an item's; false where none comes any more.
     pub fn step<S: Source>(&mut self, source: &mut S) -> Result<bool, ItemFault>
-        requires failed_fits { is_open self.old.stage ≡ true → S.failed source.old < u64.MAX }
+        requires failed_fits { is_open self.old.stage ≡ true → (S.calls source.old).failed < u64.MAX }
         requires interrupted_fits { is_open self.old.stage ≡ true
-            → S.interrupted source.old ≤ self.old.most }
+            → (S.calls source.old).interrupted ≤ self.old.most }
         ensures most { self.new.most ≡ self.old.most }
-        ensures failed { OnOk result ((S.failed source.new ≡ S.failed source.old)
-            × (is_open self.old.stage ≡ true → S.interrupted source.new ≤ self.old.most)) }
+        ensures failed { OnOk result (((S.calls source.new).failed ≡ (S.calls source.old).failed)
+            × (is_open self.old.stage ≡ true → (S.calls source.new).interrupted ≤ self.old.most)) }
         ensures answers { Answers self.old.stage (reading (S.remaining source.old) self.old)
             (reading (S.remaining source.new) self.new)
             (stepped (read_back self.new.said self.new.lines.line.items) result) }
@@ -180,8 +176,7 @@ impl ItemReader {
             (λ more. more ≡ true → IsSpelt self.new.said self.new.lines.line.items) }
         ensures blamed { is_open self.old.stage ≡ true
             → IfErr result (λ fault. Blamed fault
-            (Failed (S.failed source.old) self.old.most (S.failed source.new)
-            (S.interrupted source.new))) }
+            (Failed (S.calls source.old) self.old.most (S.calls source.new))) }
     {
         match self.stage {
             Stage::Going => self.go(source),
@@ -201,17 +196,16 @@ impl ItemReader {
     /// The next item, which is lent until the next call; None behind the last one. After a fault each call answers that
     /// fault, after None it answers None.
     pub fn next_from<S: Source>(&mut self, source: &mut S) -> Result<Option<Item<'_>>, ItemFault>
-        requires failed_fits { is_open self.old.stage ≡ true → S.failed source.old < u64.MAX }
+        requires failed_fits { is_open self.old.stage ≡ true → (S.calls source.old).failed < u64.MAX }
         requires interrupted_fits { is_open self.old.stage ≡ true
-            → S.interrupted source.old ≤ self.old.most }
+            → (S.calls source.old).interrupted ≤ self.old.most }
         ensures* after_borrow { sem 𝓛 (Rests the_row self.entry (λ new. (new.most ≡ self.old.most)
-            × OnOk result ((S.failed source.new ≡ S.failed source.old)
-            × (is_open self.old.stage ≡ true → S.interrupted source.new ≤ self.old.most))
+            × OnOk result (((S.calls source.new).failed ≡ (S.calls source.old).failed)
+            × (is_open self.old.stage ≡ true → (S.calls source.new).interrupted ≤ self.old.most))
             × Answers self.old.stage (reading (S.remaining source.old) self.old)
             (reading (S.remaining source.new) new) (said_by result)
             × (is_open self.old.stage ≡ true → IfErr result
-            (λ fault. Blamed fault (Failed (S.failed source.old) self.old.most (S.failed source.new)
-            (S.interrupted source.new)))))) }
+            (λ fault. Blamed fault (Failed (S.calls source.old) self.old.most (S.calls source.new)))))) }
     {
         if !self.step(source)? {
             return Ok(None);

@@ -14,6 +14,5 @@ pub loop-chunk-preserved : goal.loop-chunk-preserved
 loop-chunk-preserved g c =
     let read = c.in_ok-read.ensures in (
       cut_more _ _ _ _ _ _ _ _ _ c.take_front.new.self _ _ c.loop-chunk.invariant.0 (rw c.in-Part.is at c.in_ok-take_front.ensures) read.bytes (left_after _ _ _ read.length.0 read.length.1),
-      read.counts.0 ∙ c.loop-chunk.invariant.1,
-      read.counts.1,
+      (read.counts.0 ∙ c.loop-chunk.invariant.1.0, read.counts.1),
     )

@@ -1,7 +1,7 @@
 //! The check of a text as a whole.
 
-ghost use Rattle.std.specs.Prelude.{◌≡◌, ◌+◌, ◌<◌, ◌≤◌, ◌^◌, IfOk, IfErr, OnOk};
-ghost use Rattle.pesp_stream.specs.Counts.{DeviceFailed};
+ghost use Rattle.std.specs.Prelude.{◌+◌, ◌<◌, ◌^◌, IfOk, IfErr, OnOk};
+ghost use Rattle.pesp_stream.specs.Counts.{FewerThan, HasWorked, DeviceFailed};
 ghost use Rattle.pesp_check_text.specs.Texts.{ChecksText, Faults};
 
 use crate::fault::CheckFault;
@@ -27,16 +27,13 @@ pub fn check_text<S: Source>(
     instance: &Instance,
     source: &mut S,
 ) -> Result<(Verdict, Answer), CheckFault>
-    requires failed_fits { S.failed source.old < 2 ^ 63 }
-    requires interrupted_fits { S.interrupted source.old < 2 ^ 63 }
+    requires fits { FewerThan (2 ^ 63) (S.calls source.old) }
     ensures ok { IfOk result (λ found. ChecksText (S.remaining source.old) (S.remaining source.new)
         instance.now found.0 found.1) }
-    ensures counts { OnOk result ((S.failed source.new ≡ S.failed source.old)
-        × (S.interrupted source.new ≤ S.interrupted source.old + 1000)) }
+    ensures counts { OnOk result (HasWorked (S.calls source.old) (S.calls source.new)) }
     ensures fault { IfErr result
         (λ fault. Faults fault (S.remaining source.old) (S.remaining source.new)
-        (DeviceFailed (S.failed source.old) (S.interrupted source.old) (S.failed source.new)
-        (S.interrupted source.new))) }
+        (DeviceFailed (S.calls source.old) (S.calls source.new))) }
 {
     valid_is_true();
     let most = source.interrupted_reads() + MOST_INTERRUPTED;

@@ -20,8 +20,7 @@ loop-judge-init g c =
       zeros = c.in_ok-working.ensures.zeros;
       long = c.in_ok-working.ensures.long ∙ ap length c.rows.ensures.rows;
       most = refl;
-      failed = refl;
-      interrupted = omega (arith, c.new-items.ensures.most, c.interrupted_reads-most.ensures);
+      worked = (refl, omega (arith, c.new-items.ensures.most, c.interrupted_reads-most.ensures));
     }
 
 pub returns-in-Ok-None-clause-ok : goal.returns-in-Ok-None-clause-ok
@@ -37,7 +36,7 @@ pub returns-in-Ok-None-clause-counts : goal.returns-in-Ok-None-clause-counts
 returns-in-Ok-None-clause-counts g c =
     let inv = c.loop-judge.invariant in
     let counts = on_ok _ c.next_from.result _ c.in-Ok-None.is c.next_from.follows.holds-at-none.1 in
-    (counts.0 ∙ inv.failed, omega (arith, counts.1 inv.checked.going, inv.most, c.new-items.ensures.most, c.interrupted_reads-most.ensures))
+    (counts.0 ∙ inv.worked.0, omega (arith, counts.1 inv.checked.going, inv.most, c.new-items.ensures.most, c.interrupted_reads-most.ensures))
 
 pub take-requires-clause-limits : goal.take-requires-clause-limits
 take-requires-clause-limits g c =
@@ -65,8 +64,7 @@ loop-judge-preserved g c =
       zeros = subst AreZeros (sym written) took.zeros;
       long = ap length written ∙ same ∙ inv.long;
       most = holds.0 ∙ inv.most;
-      failed = counts.0 ∙ inv.failed;
-      interrupted = omega (arith, few, holds.0);
+      worked = (counts.0 ∙ inv.worked.0, omega (arith, few, holds.0));
     }
 
 pub returns-in-Err-clause-fault : goal.returns-in-Err-clause-fault
@@ -76,5 +74,5 @@ returns-in-Err-clause-fault g c =
     let answers = rw c.in-Err.is at holds.2 in
     let gives = gives_of _ _ _ _ inv.checked.going answers in
     let most = inv.most ∙ c.new-items.ensures.most ∙ ap (λ n. n + 1000) c.interrupted_reads-most.ensures in
-    let blamed = rw (c.in-Err.is, inv.failed, most) at (holds.3 inv.checked.going) in
+    let blamed = rw (c.in-Err.is, inv.worked.0, most) at (holds.3 inv.checked.going) in
     rw c.from.ensures (checked_fault c.args.instance.now _ _ _ c.loop-judge.judge.stage (kept c.loop-judge.judge) c.in-Err.fault _ inv.checked gives blamed)

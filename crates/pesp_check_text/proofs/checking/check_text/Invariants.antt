@@ -1,5 +1,6 @@
 -- What came was judged, the working numbers are 0, and the reader worked.
 use Rattle.std.proofs.Common.{◌≡◌, ◌-◌, ◌+◌, ◌≤◌, length}
+use Rattle.pesp_stream.specs.Counts.{Worked}
 use Rattle.pesp_items.specs.Views.{reading}
 use Rattle.pesp_items.proofs.Telling.{at_first}
 use Rattle.pesp_check.specs.Nets.{AreZeros}
@@ -15,8 +16,7 @@ invariant-loop-judge g l = record {
   zeros : AreZeros l.working.items;
   long : length l.working.items ≡ length l.instance.rows;
   most : l.items.most ≡ l.initial.items.most;
-  failed : g.S.Source.failed l.source ≡ g.S.Source.failed l.initial.source;
-  interrupted : g.S.Source.interrupted l.source ≤ l.items.most;
+  worked : Worked (g.S.Source.calls l.initial.source) l.items.most (g.S.Source.calls l.source);
 }
 
 abbrev pub decreases-loop-judge : goal.decreases-loop-judge

@@ -1,8 +1,8 @@
 //! The picture of a timetable.
 
-ghost use Rattle.std.specs.Prelude.{◌≡◌, ◌+◌, ◌<◌, ◌≤◌, ◌^◌, ℕ, List, IfErr, OnOk};
+ghost use Rattle.std.specs.Prelude.{◌≡◌, ◌<◌, ◌^◌, ℕ, List, IfErr, OnOk};
 ghost use Rattle.std.specs.Io.KnownBytes.{Appends};
-ghost use Rattle.pesp_stream.specs.Counts.{DeviceFailed};
+ghost use Rattle.pesp_stream.specs.Counts.{FewerThan, HasWorked, DeviceFailed};
 ghost use Rattle.pesp_stream.specs.Writing.{AppendsFront};
 ghost use Rattle.pesp_problem.specs.Timetables.{IsTimetable, AreTimes};
 ghost use Rattle.pesp_report.specs.Reporting.{IfBlamed, Refuses, UnlessBlamed};
@@ -33,21 +33,18 @@ pub fn draw<W: Sink>(
     most: u32,
     sink: &mut W,
 ) -> Result<(), ReportRefusal>
-    requires failed_fits { W.failed sink.old < 2 ^ 63 }
-    requires interrupted_fits { W.interrupted sink.old < 2 ^ 63 }
+    requires fits { FewerThan (2 ^ 63) (W.calls sink.old) }
     ensures timetable { OnOk result (IsTimetable instance.now times.now) }
     ensures refused { IfErr result (Refuses instance.now times.now) }
 
     // Something is written at Ok, a front of it where the writer failed, and else nothing.
     ensures text { OnOk result
         ((text : List ℕ) × Appends (W.contents sink.old) (W.contents sink.new) text) }
-    ensures counts { OnOk result ((W.failed sink.new ≡ W.failed sink.old)
-        × (W.interrupted sink.new ≤ W.interrupted sink.old + 1000)) }
+    ensures counts { OnOk result (HasWorked (W.calls sink.old) (W.calls sink.new)) }
     ensures front { IfErr result (λ e. IfBlamed e
         ((text : List ℕ) × AppendsFront (W.contents sink.old) (W.contents sink.new) text)) }
     ensures fault { IfErr result (λ e. IfBlamed e
-        (DeviceFailed (W.failed sink.old) (W.interrupted sink.old) (W.failed sink.new)
-        (W.interrupted sink.new))) }
+        (DeviceFailed (W.calls sink.old) (W.calls sink.new))) }
     ensures silent { IfErr result (λ e. UnlessBlamed e (sink.new ≡ sink.old)) }
 {
     match score(instance, times) {

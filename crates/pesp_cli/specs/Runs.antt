@@ -1,5 +1,5 @@
 -- What runs read and write, and when they tell which fault.
-use Rattle.std.specs.Prelude.{◌≡◌, ◌↔◌, ◌⊎◌, ℕ, ◌+◌, ◌≤◌, List, Option, Ok, Err, IfSome}
+use Rattle.std.specs.Prelude.{◌≡◌, ◌↔◌, ◌⊎◌, ℕ, List, Option, Ok, Err, IfSome}
 use Rattle.std.specs.Io.KnownBytes.{Consumes, IsAtEnd}
 use Rattle.pesp_stream.specs.Reading.{ReadsText}
 use Rattle.pesp_stream.specs.Writing.{AppendsFront}
@@ -27,10 +27,6 @@ use Rattle.pesp_report.specs.declared.refusal.ReportRefusal.TheVariants.{Violate
 use Rattle.pesp_cli.specs.Verdicts.{verdict_line}
 use Rattle.pesp_cli.specs.declared.fault.Fault.{Fault}
 use Rattle.pesp_cli.specs.declared.fault.Fault.TheVariants.{Instance, Certificate, Times, Search, Report, Memory, Read, Write}
-
--- no call of a reader or a writer failed, and no more than 1000 were interrupted
-abbrev pub HasWorked : ℕ → ℕ → ℕ → ℕ → Type 0
-HasWorked failed interrupted failed' interrupted' = (failed' ≡ failed) × (interrupted' ≤ interrupted + 1000)
 
 -- ---- the instance, which each run reads first
 

@@ -2,8 +2,8 @@
 
 ghost use Rattle.std.specs.Prelude.{◌≡◌, ◌≢◌, ◌<◌, ◌≤◌, ◌^◌, OnOk, IfErr};
 ghost use Rattle.std.specs.Io.KnownBytes.{Appends};
-ghost use Rattle.pesp_stream.specs.Counts.{DeviceFailed};
-ghost use Rattle.pesp_cli.specs.Runs.{HasWorked, Draws, DrawCause};
+ghost use Rattle.pesp_stream.specs.Counts.{FewerThan, HasWorked, DeviceFailed};
+ghost use Rattle.pesp_cli.specs.Runs.{Draws, DrawCause};
 
 use crate::fault::Fault;
 use crate::runs::{MOST_TIMES, read_whole_instance};
@@ -23,35 +23,26 @@ pub fn run_draw<R: Source, T: Source, W: Sink>(
     period: u32,
     rows: u32,
 ) -> Result<(), Fault>
-    requires failed_reads { R.failed instance_reader.old < 2 ^ 62 }
-    requires interrupted_reads { R.interrupted instance_reader.old < 2 ^ 62 }
-    requires failed_times_reads { T.failed times_reader.old < 2 ^ 62 }
-    requires interrupted_times_reads { T.interrupted times_reader.old < 2 ^ 62 }
-    requires failed_writes { W.failed writer.old < 2 ^ 62 }
-    requires interrupted_writes { W.interrupted writer.old < 2 ^ 62 }
+    requires reads_fit { FewerThan (2 ^ 62) (R.calls instance_reader.old) }
+    requires times_reads_fit { FewerThan (2 ^ 62) (T.calls times_reader.old) }
+    requires writes_fit { FewerThan (2 ^ 62) (W.calls writer.old) }
     ensures ok { OnOk result
         (Draws (R.remaining instance_reader.old) (R.remaining instance_reader.new)
         (T.remaining times_reader.old) (T.remaining times_reader.new) period
         (Appends (W.contents writer.old) (W.contents writer.new))) }
     ensures reads { OnOk result
-        (HasWorked (R.failed instance_reader.old) (R.interrupted instance_reader.old)
-        (R.failed instance_reader.new) (R.interrupted instance_reader.new)) }
+        (HasWorked (R.calls instance_reader.old) (R.calls instance_reader.new)) }
     ensures times_reads { OnOk result
-        (HasWorked (T.failed times_reader.old) (T.interrupted times_reader.old)
-        (T.failed times_reader.new) (T.interrupted times_reader.new)) }
-    ensures writes { OnOk result (HasWorked (W.failed writer.old) (W.interrupted writer.old)
-        (W.failed writer.new) (W.interrupted writer.new)) }
+        (HasWorked (T.calls times_reader.old) (T.calls times_reader.new)) }
+    ensures writes { OnOk result (HasWorked (W.calls writer.old) (W.calls writer.new)) }
     ensures cause { IfErr result (λ fault. DrawCause fault (R.remaining instance_reader.old)
         (R.remaining instance_reader.new)
         (T.remaining times_reader.old) (T.remaining times_reader.new) period
         (W.contents writer.old) (W.contents writer.new)
-        (DeviceFailed (R.failed instance_reader.old) (R.interrupted instance_reader.old)
-        (R.failed instance_reader.new) (R.interrupted instance_reader.new))
+        (DeviceFailed (R.calls instance_reader.old) (R.calls instance_reader.new))
         (times_reader.new ≡ times_reader.old)
-        (DeviceFailed (T.failed times_reader.old) (T.interrupted times_reader.old)
-        (T.failed times_reader.new) (T.interrupted times_reader.new))
-        (DeviceFailed (W.failed writer.old) (W.interrupted writer.old) (W.failed writer.new)
-        (W.interrupted writer.new))) }
+        (DeviceFailed (T.calls times_reader.old) (T.calls times_reader.new))
+        (DeviceFailed (W.calls writer.old) (W.calls writer.new))) }
     ensures silent { IfErr result (λ fault. fault ≢ Fault.Write → writer.new ≡ writer.old) }
 {
     // The instance is judged before the times are read.

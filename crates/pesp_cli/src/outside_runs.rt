@@ -2,9 +2,8 @@
 
 ghost use Rattle.std.specs.Prelude.{◌≡◌, ◌≢◌, ◌⊎◌, ◌<◌, ◌≤◌, ◌^◌, OnOk, IfOk, IfErr};
 ghost use Rattle.std.specs.Io.KnownBytes.{Appends};
-ghost use Rattle.pesp_stream.specs.Counts.{DeviceFailed};
+ghost use Rattle.pesp_stream.specs.Counts.{FewerThan, HasWorked, DeviceFailed};
 ghost use Rattle.pesp_cli.specs.FaultLines.{works_fault};
-ghost use Rattle.pesp_cli.specs.Runs.{HasWorked};
 ghost use Rattle.pesp_cli.specs.Outside.{ReadsBase, ReadsWorks, Splits, WritesWork, GraftsWorks, BaseCause, WorksCause, WorkCause, SplitCause, GraftCause};
 
 use crate::fault::Fault;
@@ -24,16 +23,13 @@ fn read_base<R: Source>(
     instance: &Instance,
     reader: &mut R,
 ) -> Result<Certificate, Fault>
-    requires failed { R.failed reader.old < 2 ^ 63 }
-    requires interrupted { R.interrupted reader.old < 2 ^ 63 }
+    requires fits { FewerThan (2 ^ 63) (R.calls reader.old) }
     ensures ok { IfOk result
         (ReadsBase (R.remaining reader.old) (R.remaining reader.new) instance.now) }
-    ensures counts { OnOk result (HasWorked (R.failed reader.old) (R.interrupted reader.old)
-        (R.failed reader.new) (R.interrupted reader.new)) }
+    ensures counts { OnOk result (HasWorked (R.calls reader.old) (R.calls reader.new)) }
     ensures cause { IfErr result
         (λ fault. BaseCause fault (R.remaining reader.old) (R.remaining reader.new) instance.now
-        (DeviceFailed (R.failed reader.old) (R.interrupted reader.old) (R.failed reader.new)
-        (R.interrupted reader.new))) }
+        (DeviceFailed (R.calls reader.old) (R.calls reader.new))) }
 {
     let text = read_all(alloc, reader, MOST_TIMES)?;
     let base = parse(alloc, &text)?;
@@ -56,16 +52,13 @@ fn works_fault(refusal: CertRefusal) -> Fault
 /// Reads works.
 #[tactic(auto, using(crate::proofs::OutsideCauses::works_text_cause))]
 fn read_works<R: Source>(alloc: Global, reader: &mut R) -> Result<Vec<WorkText>, Fault>
-    requires failed { R.failed reader.old < 2 ^ 63 }
-    requires interrupted { R.interrupted reader.old < 2 ^ 63 }
+    requires fits { FewerThan (2 ^ 63) (R.calls reader.old) }
     ensures ok { IfOk result
         (λ works. ReadsWorks (R.remaining reader.old) (R.remaining reader.new) works.items) }
-    ensures counts { OnOk result (HasWorked (R.failed reader.old) (R.interrupted reader.old)
-        (R.failed reader.new) (R.interrupted reader.new)) }
+    ensures counts { OnOk result (HasWorked (R.calls reader.old) (R.calls reader.new)) }
     ensures cause { IfErr result
         (λ fault. WorksCause fault (R.remaining reader.old) (R.remaining reader.new)
-        (DeviceFailed (R.failed reader.old) (R.interrupted reader.old) (R.failed reader.new)
-        (R.interrupted reader.new))) }
+        (DeviceFailed (R.calls reader.old) (R.calls reader.new))) }
 {
     let text = read_all(alloc, reader, MOST_TIMES)?;
     match parse_works(alloc, &text) {
@@ -83,35 +76,26 @@ pub fn run_split<R: Source, B: Source, W: Sink>(
     writer: &mut W,
     period: u32,
 ) -> Result<(), Fault>
-    requires failed_reads { R.failed instance_reader.old < 2 ^ 62 }
-    requires interrupted_reads { R.interrupted instance_reader.old < 2 ^ 62 }
-    requires failed_base_reads { B.failed base_reader.old < 2 ^ 62 }
-    requires interrupted_base_reads { B.interrupted base_reader.old < 2 ^ 62 }
-    requires failed_writes { W.failed writer.old < 2 ^ 62 }
-    requires interrupted_writes { W.interrupted writer.old < 2 ^ 62 }
+    requires reads_fit { FewerThan (2 ^ 62) (R.calls instance_reader.old) }
+    requires base_reads_fit { FewerThan (2 ^ 62) (B.calls base_reader.old) }
+    requires writes_fit { FewerThan (2 ^ 62) (W.calls writer.old) }
     ensures ok { OnOk result
         (Splits (R.remaining instance_reader.old) (R.remaining instance_reader.new)
         (B.remaining base_reader.old) (B.remaining base_reader.new) period
         (Appends (W.contents writer.old) (W.contents writer.new))) }
     ensures reads { OnOk result
-        (HasWorked (R.failed instance_reader.old) (R.interrupted instance_reader.old)
-        (R.failed instance_reader.new) (R.interrupted instance_reader.new)) }
+        (HasWorked (R.calls instance_reader.old) (R.calls instance_reader.new)) }
     ensures base_reads { OnOk result
-        (HasWorked (B.failed base_reader.old) (B.interrupted base_reader.old)
-        (B.failed base_reader.new) (B.interrupted base_reader.new)) }
-    ensures writes { OnOk result (HasWorked (W.failed writer.old) (W.interrupted writer.old)
-        (W.failed writer.new) (W.interrupted writer.new)) }
+        (HasWorked (B.calls base_reader.old) (B.calls base_reader.new)) }
+    ensures writes { OnOk result (HasWorked (W.calls writer.old) (W.calls writer.new)) }
     ensures cause { IfErr result (λ fault. SplitCause fault
         (R.remaining instance_reader.old) (R.remaining instance_reader.new)
         (B.remaining base_reader.old) (B.remaining base_reader.new) period
         (W.contents writer.old) (W.contents writer.new)
-        (DeviceFailed (R.failed instance_reader.old) (R.interrupted instance_reader.old)
-        (R.failed instance_reader.new) (R.interrupted instance_reader.new))
+        (DeviceFailed (R.calls instance_reader.old) (R.calls instance_reader.new))
         (base_reader.new ≡ base_reader.old)
-        (DeviceFailed (B.failed base_reader.old) (B.interrupted base_reader.old)
-        (B.failed base_reader.new) (B.interrupted base_reader.new))
-        (DeviceFailed (W.failed writer.old) (W.interrupted writer.old)
-        (W.failed writer.new) (W.interrupted writer.new))) }
+        (DeviceFailed (B.calls base_reader.old) (B.calls base_reader.new))
+        (DeviceFailed (W.calls writer.old) (W.calls writer.new))) }
     ensures silent { IfErr result (λ fault. fault ≢ Fault.Write → writer.new ≡ writer.old) }
 {
     let instance = read_whole_instance(alloc, instance_reader, period)?;
@@ -134,35 +118,26 @@ pub fn run_work<R: Source, B: Source, W: Sink>(
     job: u64,
 ) -> Result<(), Fault>
     requires steps { steps ≤ 100000 }
-    requires failed_reads { R.failed instance_reader.old < 2 ^ 62 }
-    requires interrupted_reads { R.interrupted instance_reader.old < 2 ^ 62 }
-    requires failed_base_reads { B.failed base_reader.old < 2 ^ 62 }
-    requires interrupted_base_reads { B.interrupted base_reader.old < 2 ^ 62 }
-    requires failed_writes { W.failed writer.old < 2 ^ 62 }
-    requires interrupted_writes { W.interrupted writer.old < 2 ^ 62 }
+    requires reads_fit { FewerThan (2 ^ 62) (R.calls instance_reader.old) }
+    requires base_reads_fit { FewerThan (2 ^ 62) (B.calls base_reader.old) }
+    requires writes_fit { FewerThan (2 ^ 62) (W.calls writer.old) }
     ensures ok { OnOk result
         (WritesWork (R.remaining instance_reader.old) (R.remaining instance_reader.new)
         (B.remaining base_reader.old) (B.remaining base_reader.new) period job steps
         (Appends (W.contents writer.old) (W.contents writer.new))) }
     ensures reads { OnOk result
-        (HasWorked (R.failed instance_reader.old) (R.interrupted instance_reader.old)
-        (R.failed instance_reader.new) (R.interrupted instance_reader.new)) }
+        (HasWorked (R.calls instance_reader.old) (R.calls instance_reader.new)) }
     ensures base_reads { OnOk result
-        (HasWorked (B.failed base_reader.old) (B.interrupted base_reader.old)
-        (B.failed base_reader.new) (B.interrupted base_reader.new)) }
-    ensures writes { OnOk result (HasWorked (W.failed writer.old) (W.interrupted writer.old)
-        (W.failed writer.new) (W.interrupted writer.new)) }
+        (HasWorked (B.calls base_reader.old) (B.calls base_reader.new)) }
+    ensures writes { OnOk result (HasWorked (W.calls writer.old) (W.calls writer.new)) }
     ensures cause { IfErr result (λ fault. WorkCause fault
         (R.remaining instance_reader.old) (R.remaining instance_reader.new)
         (B.remaining base_reader.old) (B.remaining base_reader.new) period job steps
         (W.contents writer.old) (W.contents writer.new)
-        (DeviceFailed (R.failed instance_reader.old) (R.interrupted instance_reader.old)
-        (R.failed instance_reader.new) (R.interrupted instance_reader.new))
+        (DeviceFailed (R.calls instance_reader.old) (R.calls instance_reader.new))
         (base_reader.new ≡ base_reader.old)
-        (DeviceFailed (B.failed base_reader.old) (B.interrupted base_reader.old)
-        (B.failed base_reader.new) (B.interrupted base_reader.new))
-        (DeviceFailed (W.failed writer.old) (W.interrupted writer.old)
-        (W.failed writer.new) (W.interrupted writer.new))) }
+        (DeviceFailed (B.calls base_reader.old) (B.calls base_reader.new))
+        (DeviceFailed (W.calls writer.old) (W.calls writer.new))) }
     ensures silent { IfErr result (λ fault. fault ≢ Fault.Write → writer.new ≡ writer.old) }
 {
     let instance = read_whole_instance(alloc, instance_reader, period)?;
@@ -185,16 +160,11 @@ pub fn run_graft<R: Source, B: Source, T: Source, W: Sink, E: Sink>(
     teller: &mut E,
     period: u32,
 ) -> Result<(), Fault>
-    requires failed_reads { R.failed instance_reader.old < 2 ^ 62 }
-    requires interrupted_reads { R.interrupted instance_reader.old < 2 ^ 62 }
-    requires failed_base_reads { B.failed base_reader.old < 2 ^ 62 }
-    requires interrupted_base_reads { B.interrupted base_reader.old < 2 ^ 62 }
-    requires failed_works_reads { T.failed works_reader.old < 2 ^ 62 }
-    requires interrupted_works_reads { T.interrupted works_reader.old < 2 ^ 62 }
-    requires failed_writes { W.failed writer.old < 2 ^ 62 }
-    requires interrupted_writes { W.interrupted writer.old < 2 ^ 62 }
-    requires failed_tellings { E.failed teller.old < 2 ^ 62 }
-    requires interrupted_tellings { E.interrupted teller.old < 2 ^ 62 }
+    requires reads_fit { FewerThan (2 ^ 62) (R.calls instance_reader.old) }
+    requires base_reads_fit { FewerThan (2 ^ 62) (B.calls base_reader.old) }
+    requires works_reads_fit { FewerThan (2 ^ 62) (T.calls works_reader.old) }
+    requires writes_fit { FewerThan (2 ^ 62) (W.calls writer.old) }
+    requires tellings_fit { FewerThan (2 ^ 62) (E.calls teller.old) }
     ensures ok { OnOk result
         (GraftsWorks (R.remaining instance_reader.old) (R.remaining instance_reader.new)
         (B.remaining base_reader.old) (B.remaining base_reader.new)
@@ -202,36 +172,26 @@ pub fn run_graft<R: Source, B: Source, T: Source, W: Sink, E: Sink>(
         (Appends (W.contents writer.old) (W.contents writer.new))
         (Appends (E.contents teller.old) (E.contents teller.new))) }
     ensures reads { OnOk result
-        (HasWorked (R.failed instance_reader.old) (R.interrupted instance_reader.old)
-        (R.failed instance_reader.new) (R.interrupted instance_reader.new)) }
+        (HasWorked (R.calls instance_reader.old) (R.calls instance_reader.new)) }
     ensures base_reads { OnOk result
-        (HasWorked (B.failed base_reader.old) (B.interrupted base_reader.old)
-        (B.failed base_reader.new) (B.interrupted base_reader.new)) }
+        (HasWorked (B.calls base_reader.old) (B.calls base_reader.new)) }
     ensures works_reads { OnOk result
-        (HasWorked (T.failed works_reader.old) (T.interrupted works_reader.old)
-        (T.failed works_reader.new) (T.interrupted works_reader.new)) }
-    ensures writes { OnOk result (HasWorked (W.failed writer.old) (W.interrupted writer.old)
-        (W.failed writer.new) (W.interrupted writer.new)) }
-    ensures tellings { OnOk result (HasWorked (E.failed teller.old) (E.interrupted teller.old)
-        (E.failed teller.new) (E.interrupted teller.new)) }
+        (HasWorked (T.calls works_reader.old) (T.calls works_reader.new)) }
+    ensures writes { OnOk result (HasWorked (W.calls writer.old) (W.calls writer.new)) }
+    ensures tellings { OnOk result (HasWorked (E.calls teller.old) (E.calls teller.new)) }
     ensures cause { IfErr result (λ fault. GraftCause fault
         (R.remaining instance_reader.old) (R.remaining instance_reader.new)
         (B.remaining base_reader.old) (B.remaining base_reader.new)
         (T.remaining works_reader.old) (T.remaining works_reader.new) period
         (W.contents writer.old) (W.contents writer.new) (E.contents teller.old)
         (E.contents teller.new)
-        (DeviceFailed (R.failed instance_reader.old) (R.interrupted instance_reader.old)
-        (R.failed instance_reader.new) (R.interrupted instance_reader.new))
+        (DeviceFailed (R.calls instance_reader.old) (R.calls instance_reader.new))
         (base_reader.new ≡ base_reader.old)
-        (DeviceFailed (B.failed base_reader.old) (B.interrupted base_reader.old)
-        (B.failed base_reader.new) (B.interrupted base_reader.new))
+        (DeviceFailed (B.calls base_reader.old) (B.calls base_reader.new))
         (works_reader.new ≡ works_reader.old)
-        (DeviceFailed (T.failed works_reader.old) (T.interrupted works_reader.old)
-        (T.failed works_reader.new) (T.interrupted works_reader.new))
-        (DeviceFailed (E.failed teller.old) (E.interrupted teller.old)
-        (E.failed teller.new) (E.interrupted teller.new)
-        ⊎ DeviceFailed (W.failed writer.old) (W.interrupted writer.old)
-        (W.failed writer.new) (W.interrupted writer.new))) }
+        (DeviceFailed (T.calls works_reader.old) (T.calls works_reader.new))
+        (DeviceFailed (E.calls teller.old) (E.calls teller.new)
+        ⊎ DeviceFailed (W.calls writer.old) (W.calls writer.new))) }
     ensures silent { IfErr result (λ fault. fault ≢ Fault.Write → writer.new ≡ writer.old) }
     ensures untold { IfErr result (λ fault. fault ≢ Fault.Write → teller.new ≡ teller.old) }
 {

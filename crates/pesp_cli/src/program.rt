@@ -1,6 +1,7 @@
 //! The program, over any runtime.
 
 ghost use Rattle.std.specs.Prelude.{◌<◌, ◌≤◌, ◌^◌};
+ghost use Rattle.pesp_stream.specs.Counts.{FewerThan};
 ghost use Rattle.pesp_cli.specs.Requests.{IsWithinLimits};
 
 use crate::command::{Request, request_of};
@@ -70,8 +71,7 @@ fn solve<R: AllocGlobal + Print + Eprint, S: Source>(
     progress: bool,
 ) -> Result<u8, Fault>
     requires steps { steps ≤ 100000 }
-    requires failed { S.failed reader.old < 2 ^ 62 }
-    requires interrupted { S.interrupted reader.old < 2 ^ 62 }
+    requires fits { FewerThan (2 ^ 62) (S.calls reader.old) }
 {
     let mut writer = Counted::new(io::writer(rt));
     if progress {
@@ -91,8 +91,7 @@ fn draw<R: AllocGlobal + Print + Files, S: Source>(
     rows: u32,
     file: &str,
 ) -> Result<u8, Fault>
-    requires failed { S.failed reader.old < 2 ^ 62 }
-    requires interrupted { S.interrupted reader.old < 2 ^ 62 }
+    requires fits { FewerThan (2 ^ 62) (S.calls reader.old) }
 {
     let mut instance = Counted::new(opened(rt, file)?);
     let mut writer = Counted::new(io::writer(rt));
@@ -110,8 +109,7 @@ fn work_on<R: AllocGlobal + Print + Files, S: Source>(
     job: u64,
 ) -> Result<u8, Fault>
     requires steps { steps ≤ 100000 }
-    requires failed { S.failed reader.old < 2 ^ 62 }
-    requires interrupted { S.interrupted reader.old < 2 ^ 62 }
+    requires fits { FewerThan (2 ^ 62) (S.calls reader.old) }
 {
     let mut instance = Counted::new(opened(rt, file)?);
     let mut writer = Counted::new(io::writer(rt));
@@ -135,8 +133,7 @@ fn graft<R: AllocGlobal + Print + Eprint + Files, S: Source>(
     file: &str,
     base: &str,
 ) -> Result<u8, Fault>
-    requires failed { S.failed reader.old < 2 ^ 62 }
-    requires interrupted { S.interrupted reader.old < 2 ^ 62 }
+    requires fits { FewerThan (2 ^ 62) (S.calls reader.old) }
 {
     let mut instance = Counted::new(opened(rt, file)?);
     let mut base = Counted::new(opened(rt, base)?);

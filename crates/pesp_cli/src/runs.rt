@@ -2,11 +2,11 @@
 
 ghost use Rattle.std.specs.Prelude.{◌≡◌, ◌≢◌, ℕ, ◌<◌, ◌≤◌, ◌^◌, OnOk, IfOk, IfErr};
 ghost use Rattle.std.specs.Io.KnownBytes.{Appends};
-ghost use Rattle.pesp_stream.specs.Counts.{DeviceFailed};
+ghost use Rattle.pesp_stream.specs.Counts.{FewerThan, HasWorked, DeviceFailed};
 ghost use Rattle.pesp_truth.specs.Truth.{IsTrueAnswer};
 ghost use Rattle.pesp_truth.specs.Certificates.{shown_times};
 ghost use Rattle.pesp_search.specs.Solving.{IsSolved, IsSearchRefusal};
-ghost use Rattle.pesp_cli.specs.Runs.{HasWorked, ReadsInstance, InstanceCause, Solves, SolveCause, Checks, CheckCause, Reports, ReportCause};
+ghost use Rattle.pesp_cli.specs.Runs.{ReadsInstance, InstanceCause, Solves, SolveCause, Checks, CheckCause, Reports, ReportCause};
 
 use crate::fault::Fault;
 use crate::verdict::write_verdict;
@@ -34,16 +34,13 @@ pub fn read_whole_instance<R: Source>(
     reader: &mut R,
     period: u32,
 ) -> Result<Instance, Fault>
-    requires failed { R.failed reader.old < 2 ^ 63 }
-    requires interrupted { R.interrupted reader.old < 2 ^ 63 }
+    requires fits { FewerThan (2 ^ 63) (R.calls reader.old) }
     ensures ok { IfOk result
         (ReadsInstance (R.remaining reader.old) (R.remaining reader.new) period) }
-    ensures counts { OnOk result (HasWorked (R.failed reader.old) (R.interrupted reader.old)
-        (R.failed reader.new) (R.interrupted reader.new)) }
+    ensures counts { OnOk result (HasWorked (R.calls reader.old) (R.calls reader.new)) }
     ensures cause { IfErr result
         (λ fault. InstanceCause fault (R.remaining reader.old) (R.remaining reader.new) period
-        (DeviceFailed (R.failed reader.old) (R.interrupted reader.old) (R.failed reader.new)
-        (R.interrupted reader.new))) }
+        (DeviceFailed (R.calls reader.old) (R.calls reader.new))) }
 {
     let text = read_all(alloc, reader, MOST_INSTANCE + 1)?;
     let instance = read_instance(alloc, &text, period)?;
@@ -85,23 +82,17 @@ pub fn run_solve<R: Source, W: Sink>(
     steps: u32,
 ) -> Result<(), Fault>
     requires steps { steps ≤ 100000 }
-    requires failed_reads { R.failed reader.old < 2 ^ 62 }
-    requires interrupted_reads { R.interrupted reader.old < 2 ^ 62 }
-    requires failed_writes { W.failed writer.old < 2 ^ 62 }
-    requires interrupted_writes { W.interrupted writer.old < 2 ^ 62 }
+    requires reads_fit { FewerThan (2 ^ 62) (R.calls reader.old) }
+    requires writes_fit { FewerThan (2 ^ 62) (W.calls writer.old) }
     ensures ok { OnOk result (Solves (R.remaining reader.old) (R.remaining reader.new) period steps
         (Appends (W.contents writer.old) (W.contents writer.new))) }
-    ensures reads { OnOk result (HasWorked (R.failed reader.old) (R.interrupted reader.old)
-        (R.failed reader.new) (R.interrupted reader.new)) }
-    ensures writes { OnOk result (HasWorked (W.failed writer.old) (W.interrupted writer.old)
-        (W.failed writer.new) (W.interrupted writer.new)) }
+    ensures reads { OnOk result (HasWorked (R.calls reader.old) (R.calls reader.new)) }
+    ensures writes { OnOk result (HasWorked (W.calls writer.old) (W.calls writer.new)) }
     ensures cause { IfErr result
         (λ fault. SolveCause fault (R.remaining reader.old) (R.remaining reader.new) period steps
         (W.contents writer.old) (W.contents writer.new)
-        (DeviceFailed (R.failed reader.old) (R.interrupted reader.old) (R.failed reader.new)
-        (R.interrupted reader.new))
-        (DeviceFailed (W.failed writer.old) (W.interrupted writer.old) (W.failed writer.new)
-        (W.interrupted writer.new))) }
+        (DeviceFailed (R.calls reader.old) (R.calls reader.new))
+        (DeviceFailed (W.calls writer.old) (W.calls writer.new))) }
 
     // Before the certificate stands the writer isn't called.
     ensures silent { IfErr result (λ fault. fault ≢ Fault.Write → writer.new ≡ writer.old) }
@@ -119,23 +110,17 @@ pub fn run_solve_watched<R: Source, W: Sink, O: Observer>(
     observer: &mut O,
 ) -> Result<(), Fault>
     requires steps { steps ≤ 100000 }
-    requires failed_reads { R.failed reader.old < 2 ^ 62 }
-    requires interrupted_reads { R.interrupted reader.old < 2 ^ 62 }
-    requires failed_writes { W.failed writer.old < 2 ^ 62 }
-    requires interrupted_writes { W.interrupted writer.old < 2 ^ 62 }
+    requires reads_fit { FewerThan (2 ^ 62) (R.calls reader.old) }
+    requires writes_fit { FewerThan (2 ^ 62) (W.calls writer.old) }
     ensures ok { OnOk result (Solves (R.remaining reader.old) (R.remaining reader.new) period steps
         (Appends (W.contents writer.old) (W.contents writer.new))) }
-    ensures reads { OnOk result (HasWorked (R.failed reader.old) (R.interrupted reader.old)
-        (R.failed reader.new) (R.interrupted reader.new)) }
-    ensures writes { OnOk result (HasWorked (W.failed writer.old) (W.interrupted writer.old)
-        (W.failed writer.new) (W.interrupted writer.new)) }
+    ensures reads { OnOk result (HasWorked (R.calls reader.old) (R.calls reader.new)) }
+    ensures writes { OnOk result (HasWorked (W.calls writer.old) (W.calls writer.new)) }
     ensures cause { IfErr result
         (λ fault. SolveCause fault (R.remaining reader.old) (R.remaining reader.new) period steps
         (W.contents writer.old) (W.contents writer.new)
-        (DeviceFailed (R.failed reader.old) (R.interrupted reader.old) (R.failed reader.new)
-        (R.interrupted reader.new))
-        (DeviceFailed (W.failed writer.old) (W.interrupted writer.old) (W.failed writer.new)
-        (W.interrupted writer.new))) }
+        (DeviceFailed (R.calls reader.old) (R.calls reader.new))
+        (DeviceFailed (W.calls writer.old) (W.calls writer.new))) }
     ensures silent { IfErr result (λ fault. fault ≢ Fault.Write → writer.new ≡ writer.old) }
 {
     let instance = read_whole_instance(alloc, reader, period)?;
@@ -155,35 +140,26 @@ pub fn run_check<R: Source, C: Source, W: Sink>(
     writer: &mut W,
     period: u32,
 ) -> Result<Verdict, Fault>
-    requires failed_reads { R.failed instance_reader.old < 2 ^ 62 }
-    requires interrupted_reads { R.interrupted instance_reader.old < 2 ^ 62 }
-    requires failed_certificate_reads { C.failed certificate_reader.old < 2 ^ 62 }
-    requires interrupted_certificate_reads { C.interrupted certificate_reader.old < 2 ^ 62 }
-    requires failed_writes { W.failed writer.old < 2 ^ 62 }
-    requires interrupted_writes { W.interrupted writer.old < 2 ^ 62 }
+    requires reads_fit { FewerThan (2 ^ 62) (R.calls instance_reader.old) }
+    requires certificate_reads_fit { FewerThan (2 ^ 62) (C.calls certificate_reader.old) }
+    requires writes_fit { FewerThan (2 ^ 62) (W.calls writer.old) }
     ensures ok { IfOk result
         (λ verdict. Checks (R.remaining instance_reader.old) (R.remaining instance_reader.new)
         (C.remaining certificate_reader.old) (C.remaining certificate_reader.new) period verdict
         (Appends (W.contents writer.old) (W.contents writer.new))) }
     ensures reads { OnOk result
-        (HasWorked (R.failed instance_reader.old) (R.interrupted instance_reader.old)
-        (R.failed instance_reader.new) (R.interrupted instance_reader.new)) }
+        (HasWorked (R.calls instance_reader.old) (R.calls instance_reader.new)) }
     ensures certificate_reads { OnOk result
-        (HasWorked (C.failed certificate_reader.old) (C.interrupted certificate_reader.old)
-        (C.failed certificate_reader.new) (C.interrupted certificate_reader.new)) }
-    ensures writes { OnOk result (HasWorked (W.failed writer.old) (W.interrupted writer.old)
-        (W.failed writer.new) (W.interrupted writer.new)) }
+        (HasWorked (C.calls certificate_reader.old) (C.calls certificate_reader.new)) }
+    ensures writes { OnOk result (HasWorked (W.calls writer.old) (W.calls writer.new)) }
     ensures cause { IfErr result (λ fault. CheckCause fault (R.remaining instance_reader.old)
         (R.remaining instance_reader.new)
         (C.remaining certificate_reader.old) (C.remaining certificate_reader.new) period
         (W.contents writer.old) (W.contents writer.new)
-        (DeviceFailed (R.failed instance_reader.old) (R.interrupted instance_reader.old)
-        (R.failed instance_reader.new) (R.interrupted instance_reader.new))
+        (DeviceFailed (R.calls instance_reader.old) (R.calls instance_reader.new))
         (certificate_reader.new ≡ certificate_reader.old)
-        (DeviceFailed (C.failed certificate_reader.old) (C.interrupted certificate_reader.old)
-        (C.failed certificate_reader.new) (C.interrupted certificate_reader.new))
-        (DeviceFailed (W.failed writer.old) (W.interrupted writer.old) (W.failed writer.new)
-        (W.interrupted writer.new))) }
+        (DeviceFailed (C.calls certificate_reader.old) (C.calls certificate_reader.new))
+        (DeviceFailed (W.calls writer.old) (W.calls writer.new))) }
     ensures silent { IfErr result (λ fault. fault ≢ Fault.Write → writer.new ≡ writer.old) }
 {
     // The instance is judged before the certificate is read.
@@ -202,35 +178,26 @@ pub fn run_report<R: Source, T: Source, W: Sink>(
     writer: &mut W,
     period: u32,
 ) -> Result<(), Fault>
-    requires failed_reads { R.failed instance_reader.old < 2 ^ 62 }
-    requires interrupted_reads { R.interrupted instance_reader.old < 2 ^ 62 }
-    requires failed_times_reads { T.failed times_reader.old < 2 ^ 62 }
-    requires interrupted_times_reads { T.interrupted times_reader.old < 2 ^ 62 }
-    requires failed_writes { W.failed writer.old < 2 ^ 62 }
-    requires interrupted_writes { W.interrupted writer.old < 2 ^ 62 }
+    requires reads_fit { FewerThan (2 ^ 62) (R.calls instance_reader.old) }
+    requires times_reads_fit { FewerThan (2 ^ 62) (T.calls times_reader.old) }
+    requires writes_fit { FewerThan (2 ^ 62) (W.calls writer.old) }
     ensures ok { OnOk result
         (Reports (R.remaining instance_reader.old) (R.remaining instance_reader.new)
         (T.remaining times_reader.old) (T.remaining times_reader.new) period
         (Appends (W.contents writer.old) (W.contents writer.new))) }
     ensures reads { OnOk result
-        (HasWorked (R.failed instance_reader.old) (R.interrupted instance_reader.old)
-        (R.failed instance_reader.new) (R.interrupted instance_reader.new)) }
+        (HasWorked (R.calls instance_reader.old) (R.calls instance_reader.new)) }
     ensures times_reads { OnOk result
-        (HasWorked (T.failed times_reader.old) (T.interrupted times_reader.old)
-        (T.failed times_reader.new) (T.interrupted times_reader.new)) }
-    ensures writes { OnOk result (HasWorked (W.failed writer.old) (W.interrupted writer.old)
-        (W.failed writer.new) (W.interrupted writer.new)) }
+        (HasWorked (T.calls times_reader.old) (T.calls times_reader.new)) }
+    ensures writes { OnOk result (HasWorked (W.calls writer.old) (W.calls writer.new)) }
     ensures cause { IfErr result (λ fault. ReportCause fault (R.remaining instance_reader.old)
         (R.remaining instance_reader.new)
         (T.remaining times_reader.old) (T.remaining times_reader.new) period
         (W.contents writer.old) (W.contents writer.new)
-        (DeviceFailed (R.failed instance_reader.old) (R.interrupted instance_reader.old)
-        (R.failed instance_reader.new) (R.interrupted instance_reader.new))
+        (DeviceFailed (R.calls instance_reader.old) (R.calls instance_reader.new))
         (times_reader.new ≡ times_reader.old)
-        (DeviceFailed (T.failed times_reader.old) (T.interrupted times_reader.old)
-        (T.failed times_reader.new) (T.interrupted times_reader.new))
-        (DeviceFailed (W.failed writer.old) (W.interrupted writer.old) (W.failed writer.new)
-        (W.interrupted writer.new))) }
+        (DeviceFailed (T.calls times_reader.old) (T.calls times_reader.new))
+        (DeviceFailed (W.calls writer.old) (W.calls writer.new))) }
     ensures silent { IfErr result (λ fault. fault ≢ Fault.Write → writer.new ≡ writer.old) }
 {
     // The instance is judged before the times are read.

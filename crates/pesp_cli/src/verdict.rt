@@ -2,9 +2,8 @@
 
 ghost use Rattle.std.specs.Prelude.{◌≡◌, ◌⊎◌, ◌<◌, ◌^◌, OnOk, IfErr};
 ghost use Rattle.std.specs.Io.KnownBytes.{Appends};
-ghost use Rattle.pesp_stream.specs.Counts.{DeviceFailed};
+ghost use Rattle.pesp_stream.specs.Counts.{FewerThan, HasWorked, DeviceFailed};
 ghost use Rattle.pesp_stream.specs.Writing.{AppendsFront};
-ghost use Rattle.pesp_cli.specs.Runs.{HasWorked};
 ghost use Rattle.pesp_cli.specs.Verdicts.{verdict_line, verdict_status};
 
 use crate::fault::Fault;
@@ -99,15 +98,12 @@ pub fn write_verdict<W: Sink>(
     answer: Answer,
     verdict: Verdict,
 ) -> Result<(), Fault>
-    requires failed { W.failed writer.old < 2 ^ 63 }
-    requires interrupted { W.interrupted writer.old < 2 ^ 63 }
+    requires fits { FewerThan (2 ^ 63) (W.calls writer.old) }
     ensures line { OnOk result
         (Appends (W.contents writer.old) (W.contents writer.new) (verdict_line answer verdict)) }
-    ensures counts { OnOk result (HasWorked (W.failed writer.old) (W.interrupted writer.old)
-        (W.failed writer.new) (W.interrupted writer.new)) }
+    ensures counts { OnOk result (HasWorked (W.calls writer.old) (W.calls writer.new)) }
     ensures fault { IfErr result (λ fault. ((fault ≡ Fault.Memory) × (writer.new ≡ writer.old))
-        ⊎ ((fault ≡ Fault.Write) × DeviceFailed (W.failed writer.old) (W.interrupted writer.old)
-        (W.failed writer.new) (W.interrupted writer.new)
+        ⊎ ((fault ≡ Fault.Write) × DeviceFailed (W.calls writer.old) (W.calls writer.new)
         × AppendsFront (W.contents writer.old) (W.contents writer.new)
         (verdict_line answer verdict))) }
 {

@@ -2,11 +2,8 @@ use Rattle.std.proofs.Common.{rules}
 use Rattle.pesp_cli.proofs.CheckCauses.{judged_text, write_cause}
 use Rattle.pesp_cli.proofs.runs.run_check.Goals as goal
 
-pub check_text-requires-clause-failed_fits : goal.check_text-requires-clause-failed_fits
-check_text-requires-clause-failed_fits g c = search rules
-
-pub check_text-requires-clause-interrupted_fits : goal.check_text-requires-clause-interrupted_fits
-check_text-requires-clause-interrupted_fits g c = search rules
+pub check_text-requires : goal.check_text-requires
+check_text-requires g c = search rules
 
 pub returns-in_err-instance-clause-cause : goal.returns-in_err-instance-clause-cause
 returns-in_err-instance-clause-cause g c = search rules

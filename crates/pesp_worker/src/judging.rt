@@ -85,6 +85,30 @@ fn taken(
     Ok(lines_in(work))
 }
 
+// the lines, where they have at most so many branches and may stand in the place of the leaf with which the number is lent; else
+// that leaf alone
+fn judged_on(
+    alloc: Global,
+    board: &mut Board,
+    number: u64,
+    steps: u32,
+    found: Vec<TreeLine>,
+) -> Result<Vec<TreeLine>, Memory>
+    requires { IsLentNumber board.old.state number }
+    ensures fits { IfOk result
+        (λ tree. Fits board.old.problem board.old.state number tree.items) }
+    ensures few { IfOk result (λ tree. branch_lines (map line_of tree.items) ≤ steps) }
+{
+    let own = own_tree(alloc, board, number)?;
+    if !has_few_branches(&found, steps) {
+        return Ok(own);
+    }
+    match taken(alloc, board, number, found)? {
+        Some(tree) => Ok(tree),
+        None => Ok(own),
+    }
+}
+
 /// The tree that was found for a job, where it has at most so many branches and may stand in the place of the job's leaf; else
 /// that leaf alone.
 pub(crate) fn judged(
@@ -104,12 +128,6 @@ pub(crate) fn judged(
     if job >= lent.jobs.len() as u64 {
         return Err(WorkRefusal::NoSuchJob);
     }
-    let own = own_tree(alloc, &lent.board, job)?;
-    if !has_few_branches(&found, steps) {
-        return Ok(own);
-    }
-    match taken(alloc, &mut lent.board, job, found)? {
-        Some(tree) => Ok(tree),
-        None => Ok(own),
-    }
+    let tree = judged_on(alloc, &mut lent.board, job, steps, found)?;
+    Ok(tree)
 }

@@ -4,6 +4,7 @@ ghost use Rattle.std.specs.Prelude.{◌≡◌, ◌≤◌, IfOk, IfErr};
 ghost use Rattle.pesp_problem.specs.Timetables.{Pesp};
 ghost use Rattle.pesp_truth.specs.Certificates.{IsValid};
 ghost use Rattle.pesp_machine.specs.Certificates.{IsProblemOf};
+ghost use Rattle.pesp_branching.specs.Passing.{ArePassedRows};
 ghost use Rattle.pesp_worker.specs.HandingIn.{AreTimesFor, AreShort, IsWorkRefusal};
 
 use crate::cutting_out::cut_out;
@@ -14,6 +15,7 @@ use crate::turning::{Known, improve_leaf, run_turns};
 use pesp_board::Board;
 use pesp_branching::passed_rows;
 use pesp_cert::Certificate;
+use pesp_nodes::Problem;
 use pesp_outside::{Lent, lend_base};
 use pesp_problem::{Cut, Instance, Memory, Side};
 use pesp_truth::TreeLine;
@@ -26,6 +28,25 @@ pub(crate) struct Found {
     pub(crate) tree: Vec<TreeLine>,
 }
 
+// what stays as it is through the work on a problem
+fn known_of(alloc: Global, instance: &Instance, problem: &Problem) -> Result<Known, Memory>
+    ensures { IfOk result (λ known. ArePassedRows problem.now known.passed.items) }
+{
+    let reduced = replanted(alloc, instance, problem.table())?;
+    let passed = passed_rows(alloc, problem)?;
+    Ok(Known { reduced, passed })
+}
+
+// takes turns on the leaves that are open, by at most so many splits
+fn split_on(alloc: Global, instance: &Instance, board: &mut Board, steps: u32) -> Result<(), Memory>
+    requires { steps ≤ 100000 }
+    ensures { board.new.problem ≡ board.old.problem }
+{
+    let known = known_of(alloc, instance, board.problem())?;
+    let mut strategy = strategy_for(alloc, &known.reduced, board.problem())?;
+    run_turns(alloc, board, &known, &mut strategy, steps)
+}
+
 // works on the leaf that is open, by at most so many splits
 fn work_on(alloc: Global, instance: &Instance, board: &mut Board, steps: u32) -> Result<(), Memory>
     requires { steps ≤ 100000 }
@@ -34,11 +55,7 @@ fn work_on(alloc: Global, instance: &Instance, board: &mut Board, steps: u32) ->
     if !improve_leaf(alloc, board)? || steps == 0 {
         return Ok(());
     }
-    let reduced = replanted(alloc, instance, board.problem().table())?;
-    let passed = passed_rows(alloc, board.problem())?;
-    let mut strategy = strategy_for(alloc, &reduced, board.problem())?;
-    let known = Known { reduced, passed };
-    run_turns(alloc, board, &known, &mut strategy, steps)
+    split_on(alloc, instance, board, steps)
 }
 
 // the same times once more

@@ -1,6 +1,9 @@
 //! A search that begins.
 
-ghost use Rattle.std.specs.Prelude.{IfOk, IfErr};
+ghost use Rattle.std.specs.Prelude.{◌≡◌, IfOk, IfErr};
+ghost use Rattle.pesp_nodes.specs.Problems.{IsNodeOf};
+ghost use Rattle.pesp_machine.specs.States.{root_of};
+ghost use Rattle.pesp_branching.specs.Passing.{ArePassedRows};
 ghost use Rattle.pesp_search.specs.Beginning.{IsBegun};
 ghost use Rattle.pesp_search.specs.Solving.{IsSearchRefusal};
 
@@ -8,8 +11,8 @@ use crate::preparing::{Prepared, prepare};
 use crate::refusal::SolveRefusal;
 use pesp_board::Board;
 use pesp_branching::passed_rows;
-use pesp_nodes::Node;
-use pesp_problem::{Instance, Walk};
+use pesp_nodes::{Node, Problem};
+use pesp_problem::{Instance, Memory, Walk};
 use pesp_reduce::Reduced;
 use std::alloc::Global;
 
@@ -30,25 +33,36 @@ pub(crate) struct Begun {
     pub(crate) board: Board,
 }
 
+// for each row whether some cycle of the problem passes it, and its root
+fn rows_and_root(alloc: Global, problem: &Problem) -> Result<(Vec<bool>, Node), Memory>
+    ensures passed { IfOk result (λ made. ArePassedRows problem.now made.0.items) }
+    ensures root { IfOk result (λ made. made.1 ≡ root_of problem.now) }
+    ensures node { IfOk result (λ made. IsNodeOf problem.now made.1) }
+{
+    let passed = passed_rows(alloc, problem)?;
+    let root = problem.root(alloc)?;
+    Ok((passed, root))
+}
+
 /// Begins the search for an instance: the board's problem is its network with the lifted walks of what is left of it.
 pub(crate) fn begin(alloc: Global, instance: &Instance, steps: u32) -> Result<Begun, SolveRefusal>
     ensures begun { IfOk result (IsBegun instance.now) }
     ensures refused { IfErr result (IsSearchRefusal instance.now 0) }
 {
     let _limits = instance.rows();
+    let prepared = prepare(alloc, instance, steps)?;
+    let (passed, root) = rows_and_root(alloc, &prepared.problem)?;
     let Prepared {
         reduced,
         walks,
         problem,
-    } = prepare(alloc, instance, steps)?;
-    let passed = passed_rows(alloc, &problem)?;
-    let root = problem.root(alloc)?;
-    let board = Board::new(alloc, problem)?;
+    } = prepared;
     let known = Known {
         reduced,
         walks,
         passed,
         root,
     };
+    let board = Board::new(alloc, problem)?;
     Ok(Begun { known, board })
 }

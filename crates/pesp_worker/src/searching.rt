@@ -38,13 +38,13 @@ fn known_of(alloc: Global, instance: &Instance, problem: &Problem) -> Result<Kno
 }
 
 // takes turns on the leaves that are open, by at most so many splits
-fn split_on(alloc: Global, instance: &Instance, board: &mut Board, steps: u32) -> Result<(), Memory>
-    requires { steps ≤ 100000 }
+fn split_on(alloc: Global, board: &mut Board, known: &Known, steps: u32) -> Result<(), Memory>
+    requires passed { ArePassedRows board.old.problem known.now.passed.items }
+    requires few { steps ≤ 100000 }
     ensures { board.new.problem ≡ board.old.problem }
 {
-    let known = known_of(alloc, instance, board.problem())?;
     let mut strategy = strategy_for(alloc, &known.reduced, board.problem())?;
-    run_turns(alloc, board, &known, &mut strategy, steps)
+    run_turns(alloc, board, known, &mut strategy, steps)
 }
 
 // works on the leaf that is open, by at most so many splits
@@ -55,7 +55,8 @@ fn work_on(alloc: Global, instance: &Instance, board: &mut Board, steps: u32) ->
     if !improve_leaf(alloc, board)? || steps == 0 {
         return Ok(());
     }
-    split_on(alloc, instance, board, steps)
+    let known = known_of(alloc, instance, board.problem())?;
+    split_on(alloc, board, &known, steps)
 }
 
 // the same times once more

@@ -1,7 +1,7 @@
 use Rattle.std.proofs.Common.{subst}
 use Rattle.pesp_nodes.specs.Problems.{ProblemValue}
 use Rattle.pesp_branching.specs.Passing.{ArePassedRows}
-use Rattle.pesp_worker.proofs.searching.split_on.Goals as goal
+use Rattle.pesp_worker.proofs.searching.work_on.Goals as goal
 
-pub run_turns-requires-clause-passed : goal.run_turns-requires-clause-passed
-run_turns-requires-clause-passed c = subst (λ (x : ProblemValue). ArePassedRows x c.in_ok-known.known.passed.items) c.problem.ensures c.in_ok-known.ensures
+pub split_on-requires-clause-passed : goal.split_on-requires-clause-passed
+split_on-requires-clause-passed c = subst (λ (x : ProblemValue). ArePassedRows x c.in_ok-known.known.passed.items) c.problem.ensures c.in_ok-known.ensures

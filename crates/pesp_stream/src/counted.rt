@@ -19,7 +19,10 @@ pub struct Counted<T> {
 impl<T> Model for Counted<T> {
     ghost Value = { Counting T };
 
-    ghost view = { λ c. record { inner = c.inner; calls = record { failed = c.failed; interrupted = c.interrupted } } };
+    ghost view = { λ c. record {
+      inner = c.inner;
+      calls = record { failed = c.failed; interrupted = c.interrupted };
+    } };
 }
 
 impl<T> Counted<T> {

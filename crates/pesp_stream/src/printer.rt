@@ -66,9 +66,11 @@ impl<'a, W: Sink> Printer<'a, W> {
         ensures text { self.old.stopped ≡ false → Writes (W.contents self.old.sink.now)
             (W.contents self.new.sink.now) self.old.page result }
         ensures counts { self.old.stopped ≡ false
-            → OnOk result (Worked (W.calls self.old.sink.now) self.old.most (W.calls self.new.sink.now)) }
+            → OnOk result (Worked (W.calls self.old.sink.now) self.old.most
+            (W.calls self.new.sink.now)) }
         ensures fault { self.old.stopped ≡ false
-            → OnErr result (Failed (W.calls self.old.sink.now) self.old.most (W.calls self.new.sink.now)) }
+            → OnErr result (Failed (W.calls self.old.sink.now) self.old.most
+            (W.calls self.new.sink.now)) }
     {
         if self.stopped {
             return Err(WriteFault);

@@ -21,7 +21,8 @@ pub struct Items<S: Source> {
     source: S,
     reader: ItemReader,
     ghost failed_fits: { is_open reader.stage ≡ true → (S.calls source).failed < MAX },
-    ghost interrupted_fits: { is_open reader.stage ≡ true → (S.calls source).interrupted ≤ reader.most },
+    ghost interrupted_fits: { is_open reader.stage ≡ true
+        → (S.calls source).interrupted ≤ reader.most },
 }
 
 impl<S: Source> Items<S> {

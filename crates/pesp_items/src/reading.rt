@@ -70,7 +70,8 @@ impl ItemReader {
         requires failed_fits { (S.calls source.old).failed < u64.MAX }
         requires interrupted_fits { (S.calls source.old).interrupted ≤ self.old.most }
         ensures most { self.new.most ≡ self.old.most }
-        ensures failed { OnOk result (Worked (S.calls source.old) self.old.most (S.calls source.new)) }
+        ensures failed { OnOk result
+            (Worked (S.calls source.old) self.old.most (S.calls source.new)) }
         ensures same { OnOk result ((self.new.stage ≡ self.old.stage)
             × (self.new.progress ≡ self.old.progress) × (self.new.n ≡ self.old.n)) }
         ensures counted { OnOk result
@@ -114,7 +115,8 @@ impl ItemReader {
         requires failed_fits { (S.calls source.old).failed < u64.MAX }
         requires interrupted_fits { (S.calls source.old).interrupted ≤ self.old.most }
         ensures most { self.new.most ≡ self.old.most }
-        ensures failed { OnOk result (Worked (S.calls source.old) self.old.most (S.calls source.new)) }
+        ensures failed { OnOk result
+            (Worked (S.calls source.old) self.old.most (S.calls source.new)) }
         ensures gives { Gives (reading (S.remaining source.old) self.old)
             (reading (S.remaining source.new) self.new)
             (stepped (read_back self.new.said self.new.lines.line.items) result) }
@@ -163,7 +165,8 @@ impl ItemReader {
 
     /// Reads and judges the next line that is an item's; false where none comes any more.
     pub fn step<S: Source>(&mut self, source: &mut S) -> Result<bool, ItemFault>
-        requires failed_fits { is_open self.old.stage ≡ true → (S.calls source.old).failed < u64.MAX }
+        requires failed_fits { is_open self.old.stage ≡ true
+            → (S.calls source.old).failed < u64.MAX }
         requires interrupted_fits { is_open self.old.stage ≡ true
             → (S.calls source.old).interrupted ≤ self.old.most }
         ensures most { self.new.most ≡ self.old.most }
@@ -196,7 +199,8 @@ impl ItemReader {
     /// The next item, which is lent until the next call; None behind the last one. After a fault each call answers that
     /// fault, after None it answers None.
     pub fn next_from<S: Source>(&mut self, source: &mut S) -> Result<Option<Item<'_>>, ItemFault>
-        requires failed_fits { is_open self.old.stage ≡ true → (S.calls source.old).failed < u64.MAX }
+        requires failed_fits { is_open self.old.stage ≡ true
+            → (S.calls source.old).failed < u64.MAX }
         requires interrupted_fits { is_open self.old.stage ≡ true
             → (S.calls source.old).interrupted ≤ self.old.most }
         ensures* after_borrow { sem 𝓛 (Rests the_row self.entry (λ new. (new.most ≡ self.old.most)
@@ -205,7 +209,8 @@ impl ItemReader {
             × Answers self.old.stage (reading (S.remaining source.old) self.old)
             (reading (S.remaining source.new) new) (said_by result)
             × (is_open self.old.stage ≡ true → IfErr result
-            (λ fault. Blamed fault (Failed (S.calls source.old) self.old.most (S.calls source.new)))))) }
+            (λ fault. Blamed fault
+            (Failed (S.calls source.old) self.old.most (S.calls source.new)))))) }
     {
         if !self.step(source)? {
             return Ok(None);

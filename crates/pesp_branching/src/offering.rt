@@ -6,7 +6,6 @@ ghost use Rattle.pesp_network.specs.Networks.{net_of_network};
 ghost use Rattle.pesp_turns.specs.Turns.{IsWorked};
 
 use crate::chaining::chained;
-use crate::keeping::limits;
 use crate::meeting::Met;
 use pesp_board::Board;
 use pesp_network::Network;
@@ -31,7 +30,7 @@ fn offer(board: &mut Board, times: Vec<u32>)
         → IsWorked board.old.problem used board.new.state }
 {
     times_are_offered();
-    limits(board.problem());
+    board.problem().keeps_limits();
     board.offer(times);
 }
 

@@ -13,7 +13,6 @@ use crate::single::best_single;
 use crate::turning::lend_next;
 use pesp_board::{Board, Work};
 use pesp_bound::{Leaf, best_leaf_from};
-use pesp_branching::limits;
 use pesp_nodes::Node;
 use std::alloc::Global;
 
@@ -45,7 +44,7 @@ pub(crate) fn look_at_root(
     ensures least { OnOk result (IsRootBound board.old.problem board.new.state) }
     ensures refused { IfErr result (AreTurnsRefused board.old.problem 0) }
 {
-    limits(board.problem());
+    board.problem().keeps_limits();
     let Some(job) = lend_next(alloc, board, 0)? else {
         unreachable!();
     };

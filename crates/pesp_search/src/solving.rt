@@ -15,7 +15,7 @@ use crate::rooting::look_at_root;
 use crate::running::run_turns;
 use crate::watching::{Nobody, Observer};
 use pesp_board::Board;
-use pesp_branching::{limits, offer_times, root_prices};
+use pesp_branching::{offer_times, root_prices};
 use pesp_cert::Certificate;
 use pesp_problem::{Instance, Memory};
 use pesp_strategy::Strategy;
@@ -63,7 +63,7 @@ fn certify(
     ensures { (steps : ℕ) → IsSearchedThrough board.now.problem steps steps_used board.now.state
         → IfOk result (λ s. IsSolved instance.now steps s.steps_used s.certificate) }
 {
-    limits(board.problem());
+    board.problem().keeps_limits();
     let certificate = board.certificate(alloc, instance)?;
     Ok(Solved {
         certificate,

@@ -21,7 +21,7 @@ use crate::refusal::SolveRefusal;
 use crate::settling::settle;
 use crate::walking::node_from;
 use pesp_board::{Board, Job, LendRefusal, Work};
-use pesp_branching::{Advised, Choice, ask, choose, expand, gap_at, limits, offer_met};
+use pesp_branching::{Advised, Choice, ask, choose, expand, gap_at, offer_met};
 use pesp_nodes::Node;
 use pesp_strategy::Strategy;
 use pesp_turns::laws::turns_begin;
@@ -116,7 +116,7 @@ pub(crate) fn take_turn(
         (λ turn. IsTurn board.old.problem used board.old.state turn board.new.state) }
     ensures refused { IfErr result (IsTurnRefusal board.old.problem used) }
 {
-    limits(board.problem());
+    board.problem().keeps_limits();
     let Some(job) = lend_next(alloc, board, used)? else {
         return Ok(Turn::Over);
     };

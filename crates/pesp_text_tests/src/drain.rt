@@ -41,8 +41,8 @@ impl Write for Drain {
 
 /// The writer on a device.
 pub(crate) fn drain_of(alloc: Global, device: Device) -> Counted<Drain>
-    ensures failed { result.failed ≡ 0 }
-    ensures interrupted { result.interrupted ≡ 0 }
+    ensures failed { result.calls.failed ≡ 0 }
+    ensures interrupted { result.calls.interrupted ≡ 0 }
 {
     Counted::new(Drain {
         taken: Vec::new(alloc),

@@ -33,8 +33,8 @@ impl Read for Feed<'_> {
 
 /// The reader of a text on a device.
 pub(crate) fn feed_of<'a>(bytes: &'a [u8], device: Device) -> Counted<Feed<'a>>
-    ensures failed { result.failed ≡ 0 }
-    ensures interrupted { result.interrupted ≡ 0 }
+    ensures failed { result.calls.failed ≡ 0 }
+    ensures interrupted { result.calls.interrupted ≡ 0 }
 {
     Counted::new(Feed {
         rest: bytes,

@@ -9,9 +9,7 @@ use crate::holding::{Held, hand_in, hold};
 use crate::settling::offer_least;
 use pesp_board::{Board, is_shut_by_propagation};
 use pesp_bound::best_leaf_from;
-use pesp_branching::{
-    Advised, Proposal, ask, choose, expand, gap_at, leaf_line, limits, offer_met,
-};
+use pesp_branching::{Advised, Proposal, ask, choose, expand, gap_at, leaf_line, offer_met};
 use pesp_nodes::Problem;
 use pesp_problem::Memory;
 use pesp_reduce::Reduced;
@@ -72,7 +70,7 @@ fn lines_for(
     requires passed { ArePassedRows problem.now known.now.passed.items }
     requires held { IsHeld problem.now held.now }
 {
-    limits(problem);
+    problem.keeps_limits();
     if let Some(choice) = choose(problem, &held.node, &known.passed, cut) {
         let node = held.node.copy(alloc)?;
         let lines = expand(alloc, problem, node, choice, held.pairs.as_slice())?;

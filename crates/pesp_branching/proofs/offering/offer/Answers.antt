@@ -7,8 +7,8 @@ use Rattle.pesp_branching.proofs.offering.offer.Goals as goal
 
 pub returns-clause-worked : goal.returns-clause-worked
 returns-clause-worked c used worked =
-    let limits = subst (λ (x : ProblemValue). KeepsNetLimits x.network) c.problem.ensures c.limits.ensures.network in
-    let small = subst (λ (x : ProblemValue). IsSmallTable x.table) c.problem.ensures c.limits.ensures.table in
+    let limits = subst (λ (x : ProblemValue). KeepsNetLimits x.network) c.problem.ensures c.keeps_limits.ensures.network in
+    let small = subst (λ (x : ProblemValue). IsSmallTable x.table) c.problem.ensures c.keeps_limits.ensures.table in
     offers c.args.board.now.problem used c.args.board.now.state c.offer.new.self.state c.args.times.items c.offer.result limits small worked c.offer.ensures.state
 
 pub returns-clause-numbers : goal.returns-clause-numbers

@@ -1,20 +1,21 @@
 -- The net counts of a walk, collected along it.
-use Rattle.std.proofs.Common.{◌≡◌, inl, inr, ℕ, ◌+◌, ◌<◌, ◌≤◌, ◌≢◌, ◌++◌, ◌∷◌, [], Bool, arith, refl, ap, sym, ◌∙◌, List, length, get_or, set, drop, fold}
+use Rattle.std.proofs.Common.{◌≡◌, inl, inr, ℕ, ◌+◌, ◌<◌, ◌≤◌, ◌≢◌, ◌++◌, ◌∷◌, [], Bool, arith, refl, ap, sym, ◌∙◌, List, length, get_or, set, drop}
 use Rattle.std.specs.Prelude.{ℤ, pos, ◌+ℤ◌, unsigned_abs, All, count_by, cond, ◌==◌}
 use Rattle.std.proofs.lemmas.Int.{ints}
 use Rattle.std.proofs.lemmas.Bool.{cases_eq}
 use Rattle.std.proofs.lemmas.List.{get_or-set_same, get_or-set_other, length-set, length-drop}
 use Rattle.std.proofs.lemmas.List.Elements.{All-push, All-nil}
-use Rattle.std.proofs.lemmas.List.Sums.{fold_push, sum_by-cons, sum_by-drop_more, count_by-le-length}
+use Rattle.std.proofs.lemmas.List.Sums.{fold_push, sum_by-drop_more, count_by-le-length}
 use Rattle.std.proofs.Math.IntN.{+ℤ_idl}
 use Rattle.pesp_problem.specs.declared.row.SignedRow.{SignedRow}
 use Rattle.pesp_problem.specs.Sums.{sum_below}
 use Rattle.pesp_problem.specs.Walks.{net_count}
-use Rattle.pesp_check.specs.declared.nets.NetCount.{NetCount}
-use Rattle.pesp_check.specs.Nets.{sum_of, amount, ArePlaces, AreNetCounts}
+use Rattle.pesp_walks.specs.declared.nets.NetCount.{NetCount}
+use Rattle.pesp_walks.specs.Nets.{sum_of, AreNetCounts}
+use Rattle.pesp_check.specs.Nets.{ArePlaces}
 use Rattle.pesp_problem.proofs.Integers.{sum_below-same}
 use Rattle.pesp_check.proofs.Sums.{held, held-take, held-zeros, small-set}
-use Rattle.pesp_check.proofs.Counts.{eq-false, amounts_short}
+use Rattle.pesp_walks.proofs.Counts.{eq-false, amounts_short, amount_is}
 
 -- the entries so far and what the working numbers still hold; what the places that are left don't name is collected
 pub record AreCollected (places : List ℕ) (initial working : List ℤ) (counts : List NetCount) (k : ℕ) : Type 0 where
@@ -72,13 +73,6 @@ collected-none places working are small = record {
   small = small;
   taken = are.named;
 }
-
-amount_from : (counts : List NetCount) (z : ℤ) → fold (λ z e. z +ℤ pos (unsigned_abs e.count)) z counts ≡ z +ℤ pos (amount counts)
-amount_from [] z = omega (arith, ints)
-amount_from (e ∷ counts) z = omega (arith, ints, amount_from counts (z +ℤ pos (unsigned_abs e.count)), sum_by-cons (λ (e : NetCount). unsigned_abs e.count) e counts)
-
-pub amount_is : (counts : List NetCount) → sum_of (λ i z. pos (unsigned_abs z)) counts ≡ pos (amount counts)
-amount_is counts = omega (arith, ints, amount_from counts (pos 0))
 
 pub all_zeros : (places : List ℕ) (initial working : List ℤ) (counts : List NetCount) (k : ℕ) → length places ≤ k → AreCollected places initial working counts k → (i : ℕ) → i < length working → get_or working i (pos 0) ≡ pos 0
 all_zeros places initial working counts k done h i l = h.taken i l (omega (arith, count_by-le-length (λ (place : ℕ). place == i) (drop k places), length-drop k places))

@@ -4,20 +4,17 @@ use Rattle.std.specs.Prelude.{ℤ, pos, ◌+ℤ◌, ◌*ℤ◌, ◌-ℤ◌, unsi
 use Rattle.std.specs.Int.{int_min}
 use Rattle.std.proofs.lemmas.Int.{ints, clamps}
 use Rattle.std.proofs.Math.Nat.{mul-le-mul}
-use Rattle.std.proofs.lemmas.List.{get_or-map, get_or-set_same, get_or-set_other, length-set}
+use Rattle.std.proofs.lemmas.List.{get_or-set_same, get_or-set_other, length-set}
 use Rattle.std.proofs.lemmas.List.Elements.{All-get_or, All-set}
 use Rattle.pesp_problem.specs.declared.arc.Arc.{Arc}
-use Rattle.pesp_problem.specs.Timetables.{Pesp, no_row, row_at}
+use Rattle.pesp_problem.specs.Timetables.{Pesp, no_row}
 use Rattle.pesp_problem.specs.Limits.{KeepsLimits, RowKeepsLimits}
-use Rattle.pesp_problem.specs.Arcs.{arcs_of, arc_of, arc_at, no_arc}
+use Rattle.pesp_problem.specs.Arcs.{arcs_of, arc_at}
 use Rattle.pesp_problem.specs.Nodes.{slack_range}
 use Rattle.pesp_check.specs.Offsets.{AreSlackRanges}
 use Rattle.pesp_check.specs.Ranges.{idle_term, idle_sum}
 use Rattle.pesp_check.proofs.Sums.{sum_below-change, sum_below-small}
-use Rattle.pesp_check.proofs.Durations.{arcs_long}
-
-pub arc_is : (p : Pesp) (i : ℕ) → i < length p.rows → arc_at (arcs_of p) i ≡ arc_of p.period (row_at p.rows i)
-arc_is p i l = get_or-map (arc_of p.period) p.rows i no_row no_arc l
+use Rattle.pesp_check.proofs.Arcs.{arcs_long, arc_is}
 
 pub small_weight : (p : Pesp) (i : ℕ) → KeepsLimits p → i < length p.rows → (arc_at (arcs_of p) i).weight ≤ 1000000000
 small_weight p i keeps l =

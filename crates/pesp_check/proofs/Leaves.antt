@@ -1,73 +1,24 @@
 -- The value of a leaf, put together from its parts.
-use Rattle.std.proofs.Common.{◌≡◌, ℕ, ◌-◌, ◌<◌, arith, refl, ap, sym, ◌∙◌, List, length, get_or, Bool, true, false, Option, Some, None, subst, [], ◌∷◌}
-use Rattle.std.specs.Prelude.{ℤ, pos, negsuc, ◌+ℤ◌, ◌-ℤ◌, ◌*ℤ◌, option_map, option_and_then}
+use Rattle.std.proofs.Common.{◌≡◌, ℕ, ◌<◌, arith, refl, ap, sym, ◌∙◌, List, length, get_or, Bool, true, false, Option, Some, None, subst}
+use Rattle.std.specs.Prelude.{ℤ, pos, ◌+ℤ◌, ◌-ℤ◌, ◌*ℤ◌, option_map}
 use Rattle.std.specs.Int.{int_min}
 use Rattle.std.proofs.lemmas.Int.{ints}
 use Rattle.std.proofs.lemmas.List.{get_or_default}
 use Rattle.pesp_problem.specs.declared.row.SignedRow.{SignedRow}
 use Rattle.pesp_problem.specs.declared.pair.Pair.{Pair}
 use Rattle.pesp_problem.specs.declared.arc.Arc.{Arc}
-use Rattle.pesp_problem.specs.Sums.{sum_below, scaled}
+use Rattle.pesp_problem.specs.Sums.{sum_below}
 use Rattle.pesp_problem.specs.Timetables.{Pesp}
 use Rattle.pesp_problem.specs.Arcs.{Net, net_of, arcs_of, arc_at, over_arcs}
 use Rattle.pesp_problem.specs.Nodes.{Node, cycle_at, offset_range, offsets_left, offset_part, weight_of, slack_part, slack_range, flow, leaf_value}
-use Rattle.pesp_check.specs.Flows.{number_at, flow_term, flow_sum, lesser, AreNets, nets_at}
+use Rattle.pesp_walks.specs.Ranges.{lesser, left_of}
+use Rattle.pesp_walks.specs.Nets.{AreNets, nets_at, AreNetCounts}
+use Rattle.pesp_check.specs.Flows.{number_at, flow_term, flow_sum}
 use Rattle.pesp_check.specs.Ranges.{idle_part}
-use Rattle.pesp_problem.proofs.Integers.{mul_assoc, mul_comm, mul-add, sum_below-same, sum_below-sub, sum_below-zero}
-use Rattle.pesp_check.specs.declared.nets.NetCount.{NetCount}
-use Rattle.pesp_check.specs.Nets.{AreNetCounts}
-use Rattle.pesp_check.specs.Leaves.{left_of}
-use Rattle.pesp_check.proofs.Durations.{arcs_long}
+use Rattle.pesp_problem.proofs.Integers.{sum_below-same, sum_below-sub, sum_below-zero}
+use Rattle.pesp_walks.specs.declared.nets.NetCount.{NetCount}
+use Rattle.pesp_check.proofs.Arcs.{arcs_long}
 use Rattle.pesp_check.proofs.Flowing.{nets_read}
-
-swap : (a b c : ℤ) → a *ℤ (b *ℤ c) ≡ b *ℤ (a *ℤ c)
-swap a b c = sym (mul_assoc a b c) ∙ ap (λ z. z *ℤ c) (mul_comm a b) ∙ mul_assoc b a c
-
--- a factor passes through the choice of an end
-pub scaled_scaled : (t m a b : ℤ) → scaled m (t *ℤ a) (t *ℤ b) ≡ t *ℤ scaled m a b
-scaled_scaled t (pos n) a b = swap (pos n) t a
-scaled_scaled t (negsuc n) a b = swap (negsuc n) t b
-
--- the sum so far and what the rest adds make the whole
-abbrev pub IsWhole : ℕ → ℤ → Option ℤ → Option ℤ → Type 0
-IsWhole period sum rest whole = ◌≡◌ {A = Option ℤ} (option_map (λ z. sum +ℤ pos period *ℤ z) rest) (option_map (λ z. pos period *ℤ z) whole)
-
--- one pair more
-part_more : (period : ℕ) (sum here : ℤ) (rest whole : Option ℤ) (t : ℤ) → here ≡ pos period *ℤ t → IsWhole period sum (option_map (λ z. t +ℤ z) rest) whole → IsWhole period (sum +ℤ here) rest whole
-part_more period sum here None whole t e h = h
-part_more period sum here (Some z) whole t e h =
-    let apart = mul-add (pos period) t z in
-    let same : (sum +ℤ here) +ℤ pos period *ℤ z ≡ sum +ℤ pos period *ℤ (t +ℤ z) = omega (arith, ints) in
-    ap Some same ∙ h
-
-module _ (n : Net) (walks : List (List SignedRow)) (node : Node) (pairs left : List Pair) (p : Pair) (is : pairs ≡ p ∷ left) where
-  here_is : offset_part n walks node pairs ≡ option_and_then (λ range. option_map (λ rest. scaled p.mult range.0 range.1 +ℤ rest) (offset_part n walks node left)) (offsets_left n walks node (p.cycle - 1))
-  here_is = ap (offset_part n walks node) is
-
-  pub offset_more : (sum here : ℤ) (range : ℤ × ℤ) (whole : Option ℤ) → ◌≡◌ {A = Option (ℤ × ℤ)} (Some range) (offsets_left n walks node (p.cycle - 1)) → here ≡ pos n.period *ℤ scaled p.mult range.0 range.1
-      → IsWhole n.period sum (offset_part n walks node pairs) whole → IsWhole n.period (sum +ℤ here) (offset_part n walks node left) whole
-  offset_more sum here range whole some e h =
-      let rest = offset_part n walks node left in
-      let is : offset_part n walks node pairs ≡ option_map (λ z. scaled p.mult range.0 range.1 +ℤ z) rest =
-      here_is ∙ ap (option_and_then (λ (range : ℤ × ℤ). option_map (λ z. scaled p.mult range.0 range.1 +ℤ z) rest)) (sym some) in
-      part_more n.period sum here rest whole (scaled p.mult range.0 range.1) e (ap (option_map (λ z. sum +ℤ pos n.period *ℤ z)) (sym is) ∙ h)
-
-  pub offset_none : (sum : ℤ) (whole : Option ℤ) → ◌≡◌ {A = Option (ℤ × ℤ)} None (offsets_left n walks node (p.cycle - 1)) → IsWhole n.period sum (offset_part n walks node pairs) whole → ◌≡◌ {A = Option ℤ} None (option_map (λ z. pos n.period *ℤ z) whole)
-  offset_none sum whole none h =
-      let rest = offset_part n walks node left in
-      let is : offset_part n walks node pairs ≡ None =
-      here_is ∙ ap (option_and_then (λ (range : ℤ × ℤ). option_map (λ z. scaled p.mult range.0 range.1 +ℤ z) rest)) (sym none) in
-      ap (option_map (λ z. sum +ℤ pos n.period *ℤ z)) (sym is) ∙ h
-
-pub offset_first : (period : ℕ) (whole : Option ℤ) → IsWhole period (pos 0) whole whole
-offset_first period None = refl
-offset_first period (Some z) = let e : pos 0 +ℤ pos period *ℤ z ≡ pos period *ℤ z = omega (arith, ints) in ap Some e
-
-pub offset_all : (n : Net) (walks : List (List SignedRow)) (node : Node) (pairs : List Pair) (sum : ℤ) (whole : Option ℤ) → pairs ≡ [] → IsWhole n.period sum (offset_part n walks node pairs) whole → ◌≡◌ {A = Option ℤ} (Some sum) (option_map (λ z. pos n.period *ℤ z) whole)
-offset_all n walks node pairs sum whole done h =
-    let e : sum ≡ sum +ℤ pos n.period *ℤ pos 0 = omega (arith, ints) in
-    let none : offset_part n walks node pairs ≡ Some (pos 0) = ap (offset_part n walks node) done in
-    ap Some e ∙ ap (option_map (λ z. sum +ℤ pos n.period *ℤ z)) (sym none) ∙ h
 
 -- ---- what the rows add
 
@@ -118,14 +69,6 @@ value_is p walks node pairs weighted flows offsets moved idle value long are par
         let none = idle_is p node.slacks weighted in
         let all : value ≡ pos p.period *ℤ z -ℤ over_arcs (arcs_of p) (lower_of (net_of p) walks pairs) +ℤ over_arcs (arcs_of p) (slack_part (net_of p) walks node pairs weighted) = omega (arith, ints) in
         ap Some all
-
-pub value_none : (p : Pesp) (walks : List (List SignedRow)) (node : Node) (pairs : List Pair) (weighted : Bool) → ◌≡◌ {A = Option ℤ} None (option_map (λ z. pos p.period *ℤ z) (offset_part (net_of p) walks node pairs)) → ◌≡◌ {A = Option ℤ} None (leaf_value (net_of p) walks node pairs weighted)
-value_none p walks node pairs weighted part = go (offset_part (net_of p) walks node pairs) part
-  where
-    go : (o : Option ℤ) → ◌≡◌ {A = Option ℤ} None (option_map (λ z. pos p.period *ℤ z) o)
-        → ◌≡◌ {A = Option ℤ} None (option_map (λ offsets. pos p.period *ℤ offsets -ℤ over_arcs (arcs_of p) (lower_of (net_of p) walks pairs) +ℤ over_arcs (arcs_of p) (slack_part (net_of p) walks node pairs weighted)) o)
-    go None e = refl
-    go (Some z) e = cc
 
 -- what the code reads of a cycle is what the definition reads
 pub left_read : (n : ℕ) (net : Net) (walks : List (List SignedRow)) (table : List (List NetCount)) (node : Node) (c : ℕ) (counts read : List NetCount) (slacks : List (ℕ × ℕ)) (range : ℤ × ℤ) (left : Option (ℤ × ℤ)) → AreNets n walks table → c < length table → length node.offsets ≡ length table

@@ -1,10 +1,8 @@
 pub mod Reading
 pub mod Sums
-pub mod Counts
 pub mod Collecting
-pub mod Durations
+pub mod Arcs
 pub mod Idle
-pub mod Walking
 pub mod Flowing
 pub mod Taking
 pub mod Leaves

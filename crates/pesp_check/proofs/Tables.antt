@@ -14,12 +14,11 @@ use Rattle.pesp_problem.specs.Arcs.{Net, net_of, arcs_of, arc_of, arc_at, no_arc
 use Rattle.pesp_problem.specs.Walks.{IsWalk, Names}
 use Rattle.pesp_problem.specs.Nodes.{cycle_at, root_slacks, slack_range, odijk_range}
 use Rattle.pesp_problem.proofs.Integers.{sum_below-zero}
-use Rattle.pesp_check.specs.declared.nets.NetCount.{NetCount}
-use Rattle.pesp_check.specs.Nets.{AreNetCounts, AreSmallCounts}
+use Rattle.pesp_walks.specs.declared.nets.NetCount.{NetCount}
+use Rattle.pesp_walks.specs.Nets.{AreNetCounts, AreNets, nets_at}
 use Rattle.pesp_check.specs.Offsets.{AreSlackRanges}
-use Rattle.pesp_check.specs.Flows.{AreNets, nets_at}
 use Rattle.pesp_check.specs.Ranges.{idle_sum, idle_term}
-use Rattle.pesp_check.proofs.Durations.{arcs_long}
+use Rattle.pesp_check.proofs.Arcs.{arcs_long}
 
 nets_push : (n : ℕ) (walks : List (List SignedRow)) (table : List (List NetCount)) (walk : List SignedRow) (counts : List NetCount) → AreNets n walks table → AreNetCounts n walk counts → AreNets n (walks ++ walk ∷ []) (table ++ counts ∷ [])
 nets_push n walks table walk counts h new = record {
@@ -46,9 +45,6 @@ walk_rows p (s ∷ walk) n e h = let P : ℕ → Type 0 = λ m. All (λ (s : Sig
 
 pub short_walk : (cycles : List (List SignedRow)) (k m : ℕ) (walk : List SignedRow) → k < length cycles → walk ≡ get_or cycles k walk → sum_by (λ walk. length walk) cycles ≤ m → length walk ≤ m
 short_walk cycles k m walk l is few = omega (arith, get_or-le-sum_by (λ (w : List SignedRow). length w) cycles k walk l, ap (λ (w : List SignedRow). length w) is)
-
-pub nets_small : (n : ℕ) (walks : List (List SignedRow)) (table : List (List NetCount)) → AreNets n walks table → All (AreSmallCounts n) table
-nets_small n walks table h = λ c d l. let P : List NetCount → Type 0 = AreSmallCounts n in subst P (get_or_default table c [] d l) ((h.each c l).small)
 
 -- ---- the root
 

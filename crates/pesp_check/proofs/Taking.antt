@@ -1,5 +1,5 @@
 -- Flows as they are taken, row by row.
-use Rattle.std.proofs.Common.{◌≡◌, ◌≢◌, inl, inr, ℕ, ◌+◌, ◌-◌, ◌*◌, ◌^◌, ◌<◌, ◌≤◌, arith, ap, sym, ◌∙◌, List, [], ◌∷◌, length, get_or, set, drop, Bool, true, false}
+use Rattle.std.proofs.Common.{◌≡◌, ◌≢◌, inl, inr, ℕ, ◌+◌, ◌-◌, ◌*◌, ◌^◌, ◌<◌, ◌≤◌, arith, ap, sym, ◌∙◌, List, [], ◌∷◌, length, get_or, set, drop, Bool}
 use Rattle.std.specs.Prelude.{ℤ, pos, ◌+ℤ◌, ◌-ℤ◌, ◌*ℤ◌, unsigned_abs, ◌==◌, count_by, cond}
 use Rattle.std.proofs.lemmas.Int.{ints, clamps, unsigned_abs-mul}
 use Rattle.std.proofs.Math.Nat.{mul-le-mul}
@@ -13,14 +13,17 @@ use Rattle.pesp_problem.specs.Timetables.{Pesp, no_row}
 use Rattle.pesp_problem.specs.Limits.{KeepsLimits, RowKeepsLimits}
 use Rattle.pesp_problem.specs.Arcs.{arcs_of, arc_at}
 use Rattle.pesp_problem.specs.Nodes.{weight_of, slack_range}
-use Rattle.pesp_check.specs.declared.nets.NetCount.{NetCount}
-use Rattle.pesp_check.specs.Nets.{AreZeros}
+use Rattle.pesp_walks.specs.declared.nets.NetCount.{NetCount}
+use Rattle.pesp_walks.specs.Nets.{AreZeros, nets_at}
 use Rattle.pesp_check.specs.Offsets.{AreSlackRanges}
-use Rattle.pesp_check.specs.Flows.{number_at, nets_at, entries_at, lesser, flow_term, flow_sum, AreSmallFlows, ArePairs}
-use Rattle.pesp_check.proofs.Counts.{eq-false}
+use Rattle.pesp_walks.specs.Ranges.{lesser}
+use Rattle.pesp_check.specs.Flows.{number_at, entries_at, flow_term, flow_sum, AreSmallFlows, ArePairs}
+use Rattle.pesp_walks.proofs.Counts.{eq-false}
+use Rattle.pesp_walks.proofs.LeafValues.{weight_small}
 use Rattle.pesp_check.proofs.Flowing.{pairs_apart}
 use Rattle.pesp_check.proofs.Sums.{sum_below-small, held-take, held-zeros, small-set}
-use Rattle.pesp_check.proofs.Idle.{arc_is, small_weight}
+use Rattle.pesp_check.proofs.Arcs.{arc_is}
+use Rattle.pesp_check.proofs.Idle.{small_weight}
 
 -- ---- sizes
 
@@ -32,10 +35,6 @@ lesser_small factor range m h low high =
   where
     omega-ready : (factor : ℤ) (y m : ℕ) → unsigned_abs factor ≤ m → y ≤ 10000 → unsigned_abs (factor *ℤ pos y) ≤ m * 10000
     omega-ready factor y m h l = omega (arith, unsigned_abs-mul factor (pos y), mul-le-mul h l)
-
-weight_small : (weighted : Bool) (arc : Arc) → arc.weight ≤ 1000000000 → unsigned_abs (weight_of weighted arc) ≤ 1000000000
-weight_small true arc h = h
-weight_small false arc h = omega arith
 
 lower_small : (p : Pesp) (i : ℕ) → KeepsLimits p → i < length p.rows → unsigned_abs (arc_at (arcs_of p) i).lower ≤ 1000000
 lower_small p i keeps l =

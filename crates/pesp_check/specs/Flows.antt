@@ -1,15 +1,14 @@
 -- Flows on rows, and what they change of a leaf's value.
-use Rattle.std.specs.Prelude.{◌≡◌, ℕ, ◌<◌, ◌≤◌, ◌^◌, List, [], length, slice_index_or, ℤ, pos, ◌-ℤ◌, ◌*ℤ◌, ◌-◌, unsigned_abs, if◌then◌else◌, ◌==◌, Bool, All, count_by, sum_by}
-use Rattle.std.specs.Int.{int_min}
-use Rattle.pesp_problem.specs.declared.row.SignedRow.{SignedRow}
+use Rattle.std.specs.Prelude.{ℕ, ◌<◌, ◌≤◌, ◌^◌, List, length, slice_index_or, ℤ, pos, ◌-ℤ◌, ◌*ℤ◌, ◌-◌, unsigned_abs, if◌then◌else◌, ◌==◌, Bool, All, count_by, sum_by}
 use Rattle.pesp_problem.specs.declared.pair.Pair.{Pair}
 use Rattle.pesp_problem.specs.declared.arc.Arc.{Arc}
 use Rattle.pesp_problem.specs.Sums.{sum_below}
 use Rattle.pesp_problem.specs.Arcs.{arc_at}
 use Rattle.pesp_problem.specs.Walks.{Names}
-use Rattle.pesp_problem.specs.Nodes.{slack_range, weight_of, cycle_at}
-use Rattle.pesp_check.specs.declared.nets.NetCount.{NetCount}
-use Rattle.pesp_check.specs.Nets.{sum_of, AreNetCounts}
+use Rattle.pesp_problem.specs.Nodes.{slack_range, weight_of}
+use Rattle.pesp_walks.specs.declared.nets.NetCount.{NetCount}
+use Rattle.pesp_walks.specs.Nets.{sum_of, nets_at}
+use Rattle.pesp_walks.specs.Ranges.{lesser}
 
 -- the entries at place i, added up
 abbrev pub count_of : List NetCount → ℕ → ℤ
@@ -18,14 +17,6 @@ count_of counts i = sum_of (λ place count. if place == i then count else pos 0)
 abbrev pub number_at : List ℤ → ℕ → ℤ
 number_at numbers i = slice_index_or numbers i (pos 0)
 
-abbrev pub nets_at : List (List NetCount) → ℕ → List NetCount
-nets_at table c = slice_index_or table c []
-
--- the net counts of each walk of a table
-pub record AreNets (n : ℕ) (walks : List (List SignedRow)) (table : List (List NetCount)) : Type 0 where
-  pub long : length table ≡ length walks
-  pub each : (c : ℕ) → c < length table → AreNetCounts n (cycle_at walks c) (nets_at table c)
-
 -- flows that a leaf can have
 abbrev pub AreSmallFlows : List ℤ → Type 0
 AreSmallFlows flows = (i : ℕ) → i < length flows → unsigned_abs (number_at flows i) ≤ 10 ^ 24
@@ -33,10 +24,6 @@ AreSmallFlows flows = (i : ℕ) → i < length flows → unsigned_abs (number_at
 -- pairs of so many cycles, with multipliers within their limit
 abbrev pub ArePairs : ℕ → List Pair → Type 0
 ArePairs cycles pairs = All (λ pair. Names cycles pair.cycle × (unsigned_abs pair.mult ≤ 1000000000000)) pairs × (length pairs ≤ 100000)
-
--- the lesser of a factor times each end of a range
-abbrev pub lesser : ℤ → ℕ × ℕ → ℤ
-lesser factor range = int_min (factor *ℤ pos range.0) (factor *ℤ pos range.1)
 
 -- what a flow on the row at place i changes: of what its slack costs at least, and by its lower bound
 abbrev pub flow_term : List Arc → List (ℕ × ℕ) → Bool → ℕ → ℤ → ℤ

@@ -4,7 +4,6 @@ pub mod Ranges
 pub mod Propagations
 pub mod Pending
 pub mod Flows
-pub mod Leaves
 pub mod Faults
 pub mod Lines
 pub mod LeafLines

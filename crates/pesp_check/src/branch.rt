@@ -1,25 +1,14 @@
-//! Branches on the way to a node, each with the one range that it changed.
+//! What a cut changes of the ranges, and how it is taken back.
 
 ghost use Rattle.std.specs.Prelude.{◌≡◌, ◌-◌, length};
-ghost use Rattle.pesp_check.specs.Ranges.{node_of, AreRanges, IsCut};
-ghost use Rattle.pesp_check.specs.Pending.{cut_of, change_of, restored, IsChange};
+ghost use Rattle.pesp_walks.specs.Ranges.{IsCut};
+ghost use Rattle.pesp_check.specs.Ranges.{node_of, AreRanges};
+ghost use Rattle.pesp_walks.specs.Pending.{change_of, restored};
+ghost use Rattle.pesp_check.specs.Pending.{IsChange};
 
 use crate::ranges::{Ranges, set_slack};
-use pesp_problem::{Cut, Instance, Side};
-
-/// A cut, and the range that it cuts as it was.
-#[derive(Clone, Copy, Debug, PartialEq, Eq)]
-pub enum Change {
-    Slack { row: u32, k: u32, was: (u32, u32) },
-    Offset { cycle: u32, k: i64, was: (i64, i64) },
-}
-
-/// A cut on the way to the present node, and the part that the way goes through.
-#[derive(Clone, Copy, Debug, PartialEq, Eq)]
-pub struct Branch {
-    pub change: Change,
-    pub side: Side,
-}
+use pesp_problem::{Cut, Instance};
+use pesp_walks::Change;
 
 /// What a cut is going to change.
 pub fn change_of(instance: &Instance, ranges: &Ranges, cut: Cut) -> Change
@@ -39,16 +28,6 @@ pub fn change_of(instance: &Instance, ranges: &Ranges, cut: Cut) -> Change
             k,
             was: ranges.offsets[cycle as usize - 1],
         },
-    }
-}
-
-/// The cut that made a change.
-pub fn cut_of(change: Change) -> Cut
-    ensures { result ≡ cut_of change }
-{
-    match change {
-        Change::Slack { row, k, .. } => Cut::Slack { row, k },
-        Change::Offset { cycle, k, .. } => Cut::Offset { cycle, k },
     }
 }
 

@@ -5,18 +5,17 @@ ghost use Rattle.pesp_problem.specs.declared.row.SignedRow.{SignedRow};
 ghost use Rattle.pesp_problem.specs.Arcs.{net_of};
 ghost use Rattle.pesp_problem.specs.Walks.{Names};
 ghost use Rattle.pesp_truth.specs.Trees as trees;
-ghost use Rattle.pesp_check.specs.Nets.{AreZeros, AreSmallCounts};
-ghost use Rattle.pesp_check.specs.Flows.{AreNets};
+ghost use Rattle.pesp_walks.specs.Nets.{AreZeros, AreSmallCounts, AreNets};
 ghost use Rattle.pesp_check.specs.Ranges.{node_of, AreRanges};
 ghost use Rattle.pesp_check.specs.Lines.{IsLeafVerdict, IsReasonVerdict, ArePairLimits};
 ghost use Rattle.pesp_check.specs.LeafLines.{leaf_said, KeepsLeafLimits};
 
 use crate::elements::Elements;
 use crate::leaf::{leaf_value, offsets_left};
-use crate::nets::Nets;
 use crate::ranges::Ranges;
 use crate::refusal::Refusal;
 use pesp_problem::{Instance, Pair};
+use pesp_walks::Nets;
 
 /// A leaf as a line says it: pairs for a bound, pairs that show that no timetable lies there, or a cycle with no offset left.
 #[derive(Clone, Copy)]

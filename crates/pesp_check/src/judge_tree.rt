@@ -6,19 +6,18 @@ ghost use Rattle.pesp_problem.specs.Arcs.{net_of};
 ghost use Rattle.pesp_problem.specs.Nodes as nodes;
 ghost use Rattle.pesp_truth.specs.Trees.{AreSound, are_trees};
 ghost use Rattle.pesp_truth.specs.Certificates.{line_of};
-ghost use Rattle.pesp_check.specs.Nets.{AreZeros, AreSmallCounts};
-ghost use Rattle.pesp_check.specs.Flows.{AreNets};
+ghost use Rattle.pesp_walks.specs.Nets.{AreZeros, AreSmallCounts, AreNets};
 ghost use Rattle.pesp_check.specs.Lines.{IsLinesFault, KeepsLineLimits};
 ghost use Rattle.pesp_check.specs.SaidLines.{line_said, KeepsSaidLimits};
 
 use crate::judge_leaf::LeafLine;
-use crate::nets::Nets;
 use crate::node_walk::NodeWalk;
 use crate::refusal::Refusal;
 use crate::table::root;
 use crate::tree::{SaidLine, take_line};
 use pesp_problem::{Cut, Instance, Pair};
 use pesp_truth::TreeLine;
+use pesp_walks::Nets;
 use std::alloc::{AllocError, Global};
 
 /// A line of the tree as the list of its lines says it.

@@ -3,43 +3,12 @@
 ghost use Rattle.std.specs.Prelude.{◌≡◌, ℕ, List, ◌-◌, ◌+ℤ◌, ◌<◌, ◌≤◌, pos, length, unsigned_abs, slice_index_or, slice_set, IfOk, OnOk};
 ghost use Rattle.pesp_problem.specs.declared.row.SignedRow.{SignedRow};
 ghost use Rattle.pesp_problem.specs.Walks.{Names, sign};
-ghost use Rattle.pesp_check.specs.Nets.{AreZeros, AreCounts, ArePlaces, IsEntered, AreNetCounts};
+ghost use Rattle.pesp_walks.specs.Nets.{AreZeros, AreNetCounts};
+ghost use Rattle.pesp_check.specs.Nets.{AreCounts, ArePlaces, IsEntered};
 
 use pesp_problem::SignedRow;
+use pesp_walks::{NetCount, Nets};
 use std::alloc::{AllocError, Global};
-use std::marker::Model;
-
-/// The net count of the row at a place, from 0: how often a walk passes it under a plus sign, less how often under a minus
-/// sign.
-#[derive(Clone, Copy, Debug, PartialEq, Eq)]
-pub struct NetCount {
-    pub place: u32,
-    pub count: i64,
-}
-
-/// The net counts of a walk's rows, each row once.
-#[derive(Debug, Drop)]
-pub struct Nets {
-    counts: Vec<NetCount>,
-}
-
-impl Model for Nets {
-    ghost use Rattle.std.specs.Prelude.{List};
-    ghost use Rattle.pesp_check.specs.declared.nets.NetCount.{NetCount};
-
-    ghost Value = { List NetCount };
-
-    ghost view = { λ n. n.counts.items };
-}
-
-impl Nets {
-    /// The net counts in the order in which the walk first passes their rows.
-    pub fn counts(&self) -> &[NetCount]
-        ensures { result.now ≡ self.now }
-    {
-        &self.counts
-    }
-}
 
 /// 1 under a plus sign, -1 under a minus sign.
 #[inline]
@@ -134,5 +103,5 @@ pub fn take_nets(alloc: Global, places: &[u32], working: &mut [i128]) -> Result<
     ensures zeros { OnOk result (AreZeros working.new) }
 {
     let counts = take_counts(alloc, places, working)?;
-    Ok(Nets { counts })
+    Ok(Nets::of(counts))
 }

@@ -6,14 +6,17 @@ ghost use Rattle.pesp_problem.specs.Arcs.{net_of};
 ghost use Rattle.pesp_truth.specs.Trees.{IsShut, ByPropagation};
 ghost use Rattle.pesp_check.specs.Propagations.{rows_of};
 ghost use Rattle.pesp_problem.specs.Nodes.{Node};
-ghost use Rattle.pesp_check.specs.Ranges.{node_of, AreRanges, IsCut};
-ghost use Rattle.pesp_check.specs.Pending.{pending, waiting, branched, AreChanges, Standing};
+ghost use Rattle.pesp_walks.specs.Ranges.{IsCut};
+ghost use Rattle.pesp_check.specs.Ranges.{node_of, AreRanges};
+ghost use Rattle.pesp_walks.specs.Pending.{pending, waiting, branched};
+ghost use Rattle.pesp_check.specs.Pending.{AreChanges, Standing};
 
-use crate::branch::{Branch, change_of, cut_of, put_back};
+use crate::branch::{change_of, put_back};
 use crate::propagation::shuts;
 use crate::ranges::{Ranges, take_part};
 use pesp_problem::{Cut, Instance, Side};
 use pesp_support::Support;
+use pesp_walks::Branch;
 use std::alloc::{AllocError, Global};
 use std::marker::Model;
 
@@ -64,7 +67,7 @@ fn next_part(instance: &Instance, ranges: &mut Ranges, path: &mut Vec<Branch>) -
         match last.side {
             Side::High => path.truncate(top),
             Side::Low => {
-                take_part(instance, ranges, cut_of(last.change), Side::High);
+                take_part(instance, ranges, last.change.to_cut(), Side::High);
                 path[top] = Branch {
                     change: last.change,
                     side: Side::High,
@@ -102,7 +105,8 @@ impl<'a> Model for NodeWalk<'a> {
     ghost use Rattle.pesp_check.specs.Ranges.{node_of, AreRanges};
     ghost use Rattle.std.specs.Prelude.{◌≡◌};
     ghost use Rattle.std.specs.Option.{ForSome};
-    ghost use Rattle.pesp_check.specs.Pending.{waiting, AreChanges, Standing};
+    ghost use Rattle.pesp_walks.specs.Pending.{waiting};
+    ghost use Rattle.pesp_check.specs.Pending.{AreChanges, Standing};
     ghost use Rattle.pesp_check.specs.Propagations.{rows_of};
 
     ghost Value = { Standing };

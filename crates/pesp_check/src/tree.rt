@@ -4,18 +4,17 @@ ghost use Rattle.std.specs.Prelude.{◌≡◌, ◌≢◌, ◌↔◌, ℕ, ◌+�
 ghost use Rattle.pesp_problem.specs.declared.row.SignedRow.{SignedRow};
 ghost use Rattle.pesp_problem.specs.Arcs.{net_of};
 ghost use Rattle.pesp_truth.specs.Trees.{CutLine, EndLine, Shut, ByPropagation};
-ghost use Rattle.pesp_check.specs.Nets.{AreZeros, AreSmallCounts};
-ghost use Rattle.pesp_check.specs.Flows.{AreNets};
+ghost use Rattle.pesp_walks.specs.Nets.{AreZeros, AreSmallCounts, AreNets};
 ghost use Rattle.pesp_check.specs.Lines.{after, IsLineVerdict, CutIsNamed, IsSmallCut};
 ghost use Rattle.pesp_check.specs.LeafLines.{leaf_said, KeepsLeafLimits};
 ghost use Rattle.pesp_check.specs.SaidLines.{line_said, KeepsSaidLimits};
 
 use crate::elements::Elements;
 use crate::judge_leaf::{LeafLine, judge_leaf, names};
-use crate::nets::Nets;
 use crate::node_walk::NodeWalk;
 use crate::refusal::Refusal;
 use pesp_problem::{Cut, Instance, Pair};
+use pesp_walks::Nets;
 use std::alloc::{AllocError, Global};
 
 /// A line of the tree as a text or a list says it: a branch, a leaf, or a leaf that propagation closes.

@@ -11,7 +11,7 @@ use Rattle.pesp_lines.specs.declared.item.Item.TheVariants.{Version, Period, Ans
 use Rattle.pesp_lines.proofs.Tests.{and_left}
 use Rattle.pesp_cert.specs.Texts.{time_item}
 use Rattle.pesp_check.specs.declared.refusal.Refusal.{Refusal}
-use Rattle.pesp_check.specs.Flows.{AreNets}
+use Rattle.pesp_walks.specs.Nets.{AreNets}
 use Rattle.pesp_check.proofs.Tables.{nets_none}
 use Rattle.pesp_check_text.specs.Items.{is_later, begins_later}
 use Rattle.pesp_check_text.specs.declared.stage.Stage.{Stage}

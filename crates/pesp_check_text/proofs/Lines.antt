@@ -13,7 +13,7 @@ use Rattle.pesp_lines.specs.declared.item.Item.{Item}
 use Rattle.pesp_lines.specs.declared.item.Item.TheVariants.{Cycle, End}
 use Rattle.pesp_cert.specs.Texts.{tree_item}
 use Rattle.pesp_check.specs.declared.refusal.Refusal.{Refusal}
-use Rattle.pesp_check.specs.Flows.{AreNets}
+use Rattle.pesp_walks.specs.Nets.{AreNets}
 use Rattle.pesp_check.specs.Pending.{Standing}
 use Rattle.pesp_check.specs.Faults.{first_tree_line}
 use Rattle.pesp_check.specs.Lines.{after, IsSoundLine, IsLineFault, IsLineVerdict, AreJudged}

@@ -8,7 +8,7 @@ ghost use Rattle.pesp_lines.specs.declared.item.Item.{Item as LineItem};
 ghost use Rattle.pesp_lines.specs.declared.item.Item.TheVariants as items;
 ghost use Rattle.pesp_cert.specs.Texts.{tree_item};
 ghost use Rattle.pesp_items.specs.Lent.{listed, rows_in};
-ghost use Rattle.pesp_check.specs.Nets.{AreZeros, AreSmallCounts};
+ghost use Rattle.pesp_walks.specs.Nets.{AreZeros, AreSmallCounts};
 ghost use Rattle.pesp_check.specs.SaidLines.{KeepsSaidLimits};
 ghost use Rattle.pesp_check.specs.Faults.{IsVerdict};
 ghost use Rattle.pesp_check_text.specs.Said.{pairs_of, tree_line};

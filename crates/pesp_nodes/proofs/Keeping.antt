@@ -7,10 +7,9 @@ use Rattle.pesp_problem.specs.declared.row.SignedRow.{SignedRow}
 use Rattle.pesp_problem.specs.Arcs.{no_arc}
 use Rattle.pesp_problem.specs.Walks.{IsWalk, AreRows}
 use Rattle.pesp_network.specs.Networks.{NetworkValue, KeepsNetLimits, arcs_of_network, arc_of_net, no_net_row}
-use Rattle.pesp_nodes.specs.declared.nets.NetCount.{NetCount}
 use Rattle.pesp_nodes.specs.declared.passages.Passage.{Passage}
-use Rattle.pesp_nodes.specs.Nets.{AreNets, AreSmallCounts}
-use Rattle.pesp_nodes.specs.Offsets.{AreArcs, AreSlackEnds}
+use Rattle.pesp_walks.specs.Ranges.{AreSlackEnds}
+use Rattle.pesp_nodes.specs.Offsets.{AreArcs}
 use Rattle.pesp_nodes.specs.Passages.{ArePassages, passages_at}
 use Rattle.pesp_nodes.specs.Problems.{IsSmallTable}
 use Rattle.pesp_nodes.proofs.Tables.{passages_short}
@@ -22,9 +21,6 @@ arcs_small n h k d l =
     let is = get_or-map arc_of_net n.rows k no_net_row d l' in
     let period = h.period_most in
     rw is (keeps.lower, omega (arith, keeps.span), keeps.weight)
-
-pub nets_small : (n : ℕ) (walks : List (List SignedRow)) (nets : List (List NetCount)) → AreNets n walks nets → All (AreSmallCounts n) nets
-nets_small n walks nets h k d l = rw (get_or_default nets k d [] l) ((h.each k l).small)
 
 pub passages_small : (n : ℕ) (walks : List (List SignedRow)) (by_row : List (List Passage)) → IsSmallTable walks → ArePassages n (length walks) walks by_row → All (λ ps. sum_by (λ e. unsigned_abs e.count) ps ≤ 10000000) by_row
 passages_small n walks by_row small h k d l =

@@ -1,6 +1,6 @@
 -- The value of a leaf as it is added up.
 use Rattle.std.proofs.Common.{◌≡◌, ℕ, zero, suc, ◌+◌, ◌-◌, ◌*◌, ◌<◌, ◌≤◌, List, ◌∷◌, length, get_or, drop, drop-cons, add-one, ap, sym, ◌∙◌, refl, arith, Bool, Option, Some, None}
-use Rattle.std.specs.Prelude.{ℤ, pos, negsuc, ◌+ℤ◌, ◌-ℤ◌, ◌*ℤ◌, unsigned_abs, option_map, option_and_then}
+use Rattle.std.specs.Prelude.{ℤ, pos, ◌+ℤ◌, ◌-ℤ◌, ◌*ℤ◌, unsigned_abs, option_map}
 use Rattle.std.proofs.lemmas.Int.{ints}
 use Rattle.std.proofs.lemmas.Bool.{cases_lt}
 use Rattle.std.proofs.Common.{inl, inr}
@@ -10,13 +10,10 @@ use Rattle.pesp_problem.specs.declared.pair.Pair.{Pair}
 use Rattle.pesp_problem.specs.Sums.{sum_below, scaled}
 use Rattle.pesp_problem.specs.Arcs.{Net, arc_at, over_arcs}
 use Rattle.pesp_problem.specs.Nodes.{Node, offsets_left, offset_part, slack_part, flow, leaf_value}
-use Rattle.pesp_problem.proofs.Integers.{cong_add, swap_left, mul-add, sum_below-sub}
+use Rattle.pesp_problem.proofs.Integers.{cong_add, sum_below-sub}
+use Rattle.pesp_walks.proofs.LeafValues.{IsWhole, offset_first, offset_more, offset_none, offset_all}
 use Rattle.pesp_nodes.specs.Problems.{ArePairs}
 use Rattle.pesp_nodes.specs.Values.{row_term_at}
-
-pub scaled_times : (t m a b : ℤ) → scaled m (t *ℤ a) (t *ℤ b) ≡ t *ℤ scaled m a b
-scaled_times t (pos n) a b = swap_left (pos n) t a
-scaled_times t (negsuc n) a b = swap_left (negsuc n) t b
 
 -- the k-th pair's cycle is at least k + 1
 pub place_below : (pairs : List Pair) (n k : ℕ) (d : Pair) → ArePairs n pairs → k < length pairs → k + 1 ≤ (get_or pairs k d).cycle
@@ -34,54 +31,28 @@ few_pairs pairs n k d h l =
 
 -- the first k pairs are added: with what is left they give the whole
 pub record IsOffsetSum (n : Net) (table : List (List SignedRow)) (node : Node) (pairs : List Pair) (k : ℕ) (sum : ℤ) : Type 0 where
-  pub is : option_map (λ rest. sum +ℤ pos n.period *ℤ rest) (offset_part n table node (drop k pairs)) ≡ option_map (λ z. pos n.period *ℤ z) (offset_part n table node pairs)
+  pub is : IsWhole n.period sum (offset_part n table node (drop k pairs)) (offset_part n table node pairs)
   pub size : unsigned_abs sum ≤ k * (1000000000000 * 10300000000000)
 
-none_added : (t : ℤ) (o : Option ℤ) → option_map (λ rest. pos 0 +ℤ t *ℤ rest) o ≡ option_map (λ z. t *ℤ z) o
-none_added t None = refl
-none_added t (Some z) = let e : pos 0 +ℤ t *ℤ z ≡ t *ℤ z = omega (arith, ints) in ap Some e
-
 pub offset_sum_none : (n : Net) (table : List (List SignedRow)) (node : Node) (pairs : List Pair) → IsOffsetSum n table node pairs 0 (pos 0)
-offset_sum_none n table node pairs = record { is = none_added (pos n.period) (offset_part n table node pairs); size = omega arith }
+offset_sum_none n table node pairs = record { is = offset_first n.period (offset_part n table node pairs); size = omega arith }
 
 left : (pairs : List Pair) (k : ℕ) (d : Pair) → k < length pairs → drop k pairs ≡ get_or pairs k d ∷ drop (k + 1) pairs
 left pairs k d l = rw (add-one, drop-cons pairs k d) refl
 
-pub part_some : (n : Net) (table : List (List SignedRow)) (node : Node) (p : Pair) (rest : List Pair) (ends : ℤ × ℤ) → offsets_left n table node (p.cycle - 1) ≡ Some ends → offset_part n table node (p ∷ rest) ≡ option_map (λ z. scaled p.mult ends.0 ends.1 +ℤ z) (offset_part n table node rest)
-part_some n table node p rest ends e = ap (option_and_then (λ (left : ℤ × ℤ). option_map (λ z. scaled p.mult left.0 left.1 +ℤ z) (offset_part n table node rest))) e
-
-pub part_none : (n : Net) (table : List (List SignedRow)) (node : Node) (p : Pair) (rest : List Pair) → offsets_left n table node (p.cycle - 1) ≡ None → offset_part n table node (p ∷ rest) ≡ None
-part_none n table node p rest e = ap (option_and_then (λ (left : ℤ × ℤ). option_map (λ z. scaled p.mult left.0 left.1 +ℤ z) (offset_part n table node rest))) e
-
-one_added : (t sum sum' s : ℤ) (o : Option ℤ) → sum' ≡ sum +ℤ t *ℤ s → option_map (λ rest. sum' +ℤ t *ℤ rest) o ≡ option_map (λ rest. sum +ℤ t *ℤ rest) (option_map (λ z. s +ℤ z) o)
-one_added t sum sum' s None e = refl
-one_added t sum sum' s (Some z) e = let f : sum' +ℤ t *ℤ z ≡ sum +ℤ t *ℤ (s +ℤ z) = omega (arith, ints, mul-add t s z) in ap Some f
-
 pub offset_sum_more : (n : Net) (table : List (List SignedRow)) (node : Node) (pairs : List Pair) (k : ℕ) (d : Pair) (ends : ℤ × ℤ) (sum here sum' : ℤ) → k < length pairs → Some ends ≡ offsets_left n table node ((get_or pairs k d).cycle - 1) → here ≡ pos n.period *ℤ scaled (get_or pairs k d).mult ends.0 ends.1 → unsigned_abs here ≤ 1000000000000 * 10300000000000 → sum' ≡ sum +ℤ here
     → IsOffsetSum n table node pairs k sum → IsOffsetSum n table node pairs (k + 1) sum'
 offset_sum_more n table node pairs k d ends sum here sum' l e h small s before = record {
-  is =
-      let p = get_or pairs k d in
-      let add : ℤ → Option ℤ → Option ℤ = λ s o. option_map (λ rest. s +ℤ pos n.period *ℤ rest) o in
-      let one = one_added (pos n.period) sum sum' (scaled p.mult ends.0 ends.1) (offset_part n table node (drop (k + 1) pairs)) (s ∙ ap (λ z. sum +ℤ z) h) in
-      let whole : offset_part n table node (drop k pairs) ≡ option_map (λ z. scaled p.mult ends.0 ends.1 +ℤ z) (offset_part n table node (drop (k + 1) pairs)) = ap (offset_part n table node) (left pairs k d l) ∙ part_some n table node p (drop (k + 1) pairs) ends (sym e) in
-      one ∙ ap (add sum) (sym whole) ∙ before.is;
+  is = rw s (offset_more n table node (drop k pairs) (drop (k + 1) pairs) (get_or pairs k d) (left pairs k d l) sum here ends (offset_part n table node pairs) e h before.is);
   size = (let size = before.size in omega (arith, ints));
 }
 
 pub offset_sum_stops : (n : Net) (table : List (List SignedRow)) (node : Node) (pairs : List Pair) (k : ℕ) (d : Pair) (sum : ℤ) → k < length pairs → None ≡ offsets_left n table node ((get_or pairs k d).cycle - 1)
     → IsOffsetSum n table node pairs k sum → ◌≡◌ {A = Option ℤ} None (option_map (λ z. pos n.period *ℤ z) (offset_part n table node pairs))
-offset_sum_stops n table node pairs k d sum l e before =
-    let add : Option ℤ → Option ℤ = λ o. option_map (λ rest. sum +ℤ pos n.period *ℤ rest) o in
-    let whole : offset_part n table node (drop k pairs) ≡ None = ap (offset_part n table node) (left pairs k d l) ∙ part_none n table node (get_or pairs k d) (drop (k + 1) pairs) (sym e) in
-    sym (ap add whole) ∙ before.is
+offset_sum_stops n table node pairs k d sum l e before = offset_none n table node (drop k pairs) (drop (k + 1) pairs) (get_or pairs k d) (left pairs k d l) sum (offset_part n table node pairs) e before.is
 
 pub offset_sum_all : (n : Net) (table : List (List SignedRow)) (node : Node) (pairs : List Pair) (k : ℕ) (sum : ℤ) → length pairs ≤ k → IsOffsetSum n table node pairs k sum → Some sum ≡ option_map (λ z. pos n.period *ℤ z) (offset_part n table node pairs)
-offset_sum_all n table node pairs k sum done before =
-    let add : Option ℤ → Option ℤ = λ o. option_map (λ rest. sum +ℤ pos n.period *ℤ rest) o in
-    let zero_more : sum ≡ sum +ℤ pos n.period *ℤ pos 0 = omega (arith, ints) in
-    let none : offset_part n table node (drop k pairs) ≡ Some (pos 0) = ap (offset_part n table node) (drop_all k pairs done) in
-    ap Some zero_more ∙ sym (ap add none) ∙ before.is
+offset_sum_all n table node pairs k sum done before = offset_all n table node (drop k pairs) sum (offset_part n table node pairs) (drop_all k pairs done) before.is
 
 -- ---- the whole
 
@@ -97,13 +68,6 @@ value_is n table node pairs weighted offsets rows total o r e =
     let split = sum_below-sub (length n.arcs) (slack_part n table node pairs weighted) lower in
     let same : total ≡ offsets +ℤ (over_arcs n.arcs (slack_part n table node pairs weighted) -ℤ over_arcs n.arcs lower) = e ∙ ap (λ z. offsets +ℤ z) (r ∙ split) in
     ap Some same ∙ apart (pos n.period) (over_arcs n.arcs lower) (over_arcs n.arcs (slack_part n table node pairs weighted)) offsets (offset_part n table node pairs) o
-
-no_apart : (t a b : ℤ) (o : Option ℤ) → ◌≡◌ {A = Option ℤ} None (option_map (λ z. t *ℤ z) o) → ◌≡◌ {A = Option ℤ} None (option_map (λ z. t *ℤ z -ℤ a +ℤ b) o)
-no_apart t a b None e = refl
-no_apart t a b (Some z) e = cc
-
-pub value_none : (n : Net) (table : List (List SignedRow)) (node : Node) (pairs : List Pair) (weighted : Bool) → ◌≡◌ {A = Option ℤ} None (option_map (λ z. pos n.period *ℤ z) (offset_part n table node pairs)) → None ≡ leaf_value n table node pairs weighted
-value_none n table node pairs weighted o = no_apart (pos n.period) (over_arcs n.arcs (λ i. flow table pairs i *ℤ (arc_at n.arcs i).lower)) (over_arcs n.arcs (slack_part n table node pairs weighted)) (offset_part n table node pairs) o
 
 pub few_all : (pairs : List Pair) (n : ℕ) → ArePairs n pairs → length pairs ≤ n
 few_all pairs n h = elim (cases_lt 0 (length pairs)) [

@@ -1,4 +1,3 @@
-pub mod Counts
 pub mod Passing
 pub mod Transposing
 pub mod Durations
@@ -11,4 +10,3 @@ pub mod LeafValues
 pub mod Rising
 pub mod Sizes
 pub mod Singles
-pub mod Walking

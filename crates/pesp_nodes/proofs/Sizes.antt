@@ -1,5 +1,5 @@
 -- How large the value of a leaf can be: the net counts of a table add up to no more than its signed rows.
-use Rattle.std.proofs.Common.{◌≡◌, ℕ, zero, suc, ◌+◌, ◌-◌, ◌*◌, ◌^◌, ◌<◌, ◌≤◌, List, [], ◌∷◌, length, get_or, take, All, Option, Some, None, Bool, true, false, refl, ap, arith}
+use Rattle.std.proofs.Common.{◌≡◌, ℕ, zero, suc, ◌+◌, ◌-◌, ◌*◌, ◌^◌, ◌<◌, ◌≤◌, List, [], ◌∷◌, length, get_or, take, All, Option, Some, None, Bool, refl, ap, arith}
 use Rattle.std.specs.Prelude.{ℤ, pos, negsuc, ◌+ℤ◌, ◌-ℤ◌, ◌*ℤ◌, ◌≤ℤ◌, unsigned_abs, sum_by, IfSome, option_map, option_and_then}
 use Rattle.std.proofs.lemmas.Int.{ints, clamps, unsigned_abs-mul}
 use Rattle.std.proofs.Math.Nat.{mul-le-mul}
@@ -14,13 +14,14 @@ use Rattle.pesp_problem.specs.Arcs.{Net, arc_at, no_arc, over_arcs}
 use Rattle.pesp_problem.specs.Walks.{net_count}
 use Rattle.pesp_problem.specs.Nodes.{Node, cycle_at, slack_range, least_sum, greatest_sum, offsets_left, offset_part, offset_range, weight_of, slack_part, flow, leaf_value}
 use Rattle.pesp_problem.proofs.Integers.{mul-add, mul-le, sum_below-le, sum_below-add, sum_below-mul, sum_below-zero}
-use Rattle.pesp_nodes.specs.Offsets.{AreArcs, AreSlackEnds}
+use Rattle.pesp_walks.specs.Ranges.{AreSlackEnds}
+use Rattle.pesp_nodes.specs.Offsets.{AreArcs}
 use Rattle.pesp_network.specs.Networks.{KeepsNetLimits, arc_of_net}
 use Rattle.pesp_nodes.specs.Problems.{ProblemValue, net_of, IsNodeOf, IsSmallTable, Rise, ArePairs}
-use Rattle.pesp_nodes.proofs.Counts.{amounts_short}
-use Rattle.pesp_nodes.proofs.Durations.{left_small}
+use Rattle.pesp_walks.proofs.Counts.{amounts_short}
+use Rattle.pesp_walks.proofs.Durations.{left_small}
 use Rattle.pesp_nodes.proofs.Keeping.{arcs_small}
-use Rattle.pesp_nodes.proofs.LeafValues.{scaled_times}
+use Rattle.pesp_walks.proofs.LeafValues.{scaled_times, weight_small}
 
 -- ---- sums and products
 
@@ -158,16 +159,12 @@ rows_few table pairs small are =
 slack_within : (n : Net) (table : List (List SignedRow)) (node : Node) (pairs : List Pair) (weighted : Bool) (i : ℕ) → i < length n.arcs → AreArcs n.arcs → AreSlackEnds node.slacks → length node.slacks ≡ length n.arcs
     → pos (unsigned_abs (slack_part n table node pairs weighted i)) ≤ℤ (pos 10000 *ℤ (amounts table pairs i +ℤ pos 1000000000))
 slack_within n table node pairs weighted i l limits ends long =
-    let weight = weight_within weighted (arc_at n.arcs i) (limits i no_arc l).2 in
+    let weight = weight_small weighted (arc_at n.arcs i) (limits i no_arc l).2 in
     let range = ends i (0, 0) (omega arith) in
     let rest = weight_of weighted (arc_at n.arcs i) -ℤ flow table pairs i in
     let low = product_within rest (pos (slack_range node.slacks i).0) 10000 range.0 in
     let high = product_within rest (pos (slack_range node.slacks i).1) 10000 range.1 in
     omega (arith, ints, clamps)
-  where
-    weight_within : (b : Bool) (arc : Arc) → arc.weight ≤ 1000000000 → unsigned_abs (weight_of b arc) ≤ 1000000000
-    weight_within true arc h = h
-    weight_within false arc h = omega arith
 
 lower_within : (n : Net) (table : List (List SignedRow)) (pairs : List Pair) (i : ℕ) → i < length n.arcs → AreArcs n.arcs → pos (unsigned_abs (flow table pairs i *ℤ (arc_at n.arcs i).lower)) ≤ℤ (pos 1020000 *ℤ amounts table pairs i)
 lower_within n table pairs i l limits =

@@ -1,21 +1,22 @@
 -- The net counts of the cycles, from the passages of the rows.
-use Rattle.std.proofs.Common.{◌≡◌, ◌≢◌, ℕ, zero, suc, ◌+◌, ◌<◌, ◌≤◌, List, [], ◌∷◌, ◌++◌, length, get_or, set, take, All, Bool, true, false, ap, sym, ◌∙◌, refl, arith, inl, inr, fold, add-one}
+use Rattle.std.proofs.Common.{◌≡◌, ◌≢◌, ℕ, zero, suc, ◌+◌, ◌<◌, ◌≤◌, List, [], ◌∷◌, ◌++◌, length, get_or, set, take, All, Bool, true, false, ap, sym, ◌∙◌, refl, arith, inl, inr, add-one}
 use Rattle.std.specs.Prelude.{ℤ, pos, ◌+ℤ◌, unsigned_abs, replicate, if◌then◌else◌, ◌==◌}
 use Rattle.std.proofs.lemmas.Int.{ints}
 use Rattle.std.proofs.lemmas.Bool.{cases_eq}
 use Rattle.std.proofs.lemmas.List.{get_or-set_same, get_or-set_other, length-set, get_or_default}
 use Rattle.std.proofs.lemmas.List.Elements.{All-push}
-use Rattle.std.proofs.lemmas.List.Sums.{fold_more, fold_push, sum_by-cons}
+use Rattle.std.proofs.lemmas.List.Sums.{fold_more, fold_push}
 use Rattle.pesp_problem.specs.declared.row.SignedRow.{SignedRow}
 use Rattle.pesp_problem.specs.Sums.{sum_below}
 use Rattle.pesp_problem.specs.Walks.{net_count}
 use Rattle.pesp_problem.specs.Nodes.{cycle_at}
 use Rattle.pesp_problem.proofs.Integers.{sum_below-same, sum_below-single}
-use Rattle.pesp_nodes.specs.declared.nets.NetCount.{NetCount}
+use Rattle.pesp_walks.specs.declared.nets.NetCount.{NetCount}
 use Rattle.pesp_nodes.specs.declared.passages.Passage.{Passage}
-use Rattle.pesp_nodes.specs.Nets.{sum_of, amount, nets_at, of_cycle, IsRowAdded, AreNetCounts, AreNets}
+use Rattle.pesp_walks.specs.Nets.{sum_of, nets_at, AreNetCounts, AreNets}
+use Rattle.pesp_nodes.specs.Nets.{of_cycle, IsRowAdded}
 use Rattle.pesp_nodes.specs.Passages.{sum_over, passages_at, ArePassages}
-use Rattle.pesp_nodes.proofs.Counts.{eq-true, eq-false, amounts_short}
+use Rattle.pesp_walks.proofs.Counts.{eq-true, eq-false, amounts_short, amount_is}
 use Rattle.pesp_nodes.proofs.Tables.{empty_at, length-replicate}
 
 -- ---- one row
@@ -94,10 +95,6 @@ rows_more cycles by_row nets nets' k added h = record {
   places = λ n l. added.places n (omega arith) (h.places n (omega arith));
 }
 
-amount_from : (counts : List NetCount) (z : ℤ) → fold (λ z e. z +ℤ pos (unsigned_abs e.count)) z counts ≡ z +ℤ pos (amount counts)
-amount_from [] z = omega (arith, ints)
-amount_from (e ∷ counts) z = omega (arith, ints, amount_from counts (z +ℤ pos (unsigned_abs e.count)), sum_by-cons (λ (e : NetCount). unsigned_abs e.count) e counts)
-
 -- the sum over a row's passages of one cycle is that of its net count
 one_cycle : (n m : ℕ) (walks : List (List SignedRow)) (by_row : List (List Passage)) (c i : ℕ) (term : ℕ → ℤ → ℤ) → c < m → i < n → ((i : ℕ) → term i (pos 0) ≡ pos 0) → ArePassages n m walks by_row → sum_over (of_cycle term i c) (passages_at by_row i) ≡ term i (net_count (cycle_at walks c) i)
 one_cycle n m walks by_row c i term l l' none are =
@@ -122,7 +119,7 @@ nets_are n m walks by_row nets long short are h = record { long = h.long ∙ sym
       small = (
         h.places n (omega arith) c [] (omega (arith, h.long)),
         (let s = sums c l (λ i z. pos (unsigned_abs z)) (λ i. refl) in
-            let a = amount_from (nets_at nets c) (pos 0) in
+            let a = amount_is (nets_at nets c) in
             let most = amounts_short n (cycle_at walks c) in
             let few = short c [] (omega arith) in
             omega (arith, ints)),

@@ -1,21 +1,16 @@
 -- What slack ranges allow of sums along a walk, by its net counts.
-use Rattle.std.specs.Prelude.{ℕ, ◌≤◌, List, ℤ, pos, neg_ℤ, ◌+ℤ◌, ◌*ℤ◌, ◌≤ℤ◌, unsigned_abs, All, Option}
-use Rattle.std.specs.Int.{int_min, int_max}
+use Rattle.std.specs.Prelude.{ℕ, ◌≤◌, List, ℤ, pos, neg_ℤ, ◌+ℤ◌, ◌*ℤ◌, ◌≤ℤ◌, unsigned_abs, All}
 use Rattle.pesp_problem.specs.declared.arc.Arc.{Arc}
 use Rattle.pesp_problem.specs.declared.row.SignedRow.{SignedRow}
 use Rattle.pesp_problem.specs.Sums.{scaled}
-use Rattle.pesp_problem.specs.Arcs.{Net, arc_at}
-use Rattle.pesp_problem.specs.Nodes.{slack_range, least_sum, greatest_sum, odijk_range, range_or_none}
+use Rattle.pesp_problem.specs.Arcs.{arc_at}
+use Rattle.pesp_problem.specs.Nodes.{slack_range, least_sum, greatest_sum}
 use Rattle.pesp_nodes.specs.declared.ends.End.{End}
 use Rattle.pesp_nodes.specs.declared.ends.End.TheVariants.{Low, High}
 
 -- arcs of a network: bounds, spans and weights are within their limits
 abbrev pub AreArcs : List Arc → Type 0
 AreArcs arcs = All (λ arc. (unsigned_abs arc.lower ≤ 1020000) × (arc.span ≤ 9999) × (arc.weight ≤ 1000000000)) arcs
-
--- slack ranges with ends that a cut can make
-abbrev pub AreSlackEnds : List (ℕ × ℕ) → Type 0
-AreSlackEnds slacks = All (λ range. (range.0 ≤ 10000) × (range.1 ≤ 10000)) slacks
 
 -- an offset range within the limits of the number of a cut
 abbrev pub IsOffsetEnds : ℤ × ℤ → Type 0
@@ -46,8 +41,3 @@ end_sum High arcs slacks walk = greatest_sum arcs slacks walk
 -- the period times an offset is no more than a sum along a walk
 abbrev pub IsSmallOffset : ℕ → ℤ → Type 0
 IsSmallOffset period z = unsigned_abs (pos period *ℤ z) ≤ 10300000000000
-
--- the least and the greatest offset that an offset range and slack ranges leave to a walk
-abbrev pub left_of : Net → List (ℕ × ℕ) → ℤ × ℤ → List SignedRow → Option (ℤ × ℤ)
-left_of n slacks range walk =
-    let bounds = odijk_range n slacks walk in range_or_none (int_max range.0 bounds.0) (int_min range.1 bounds.1)

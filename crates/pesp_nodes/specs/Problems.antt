@@ -1,16 +1,13 @@
 -- Problems: a network with a table of closed walks, its nodes, and the pairs of its leaves.
-use Rattle.std.specs.Prelude.{◌≡◌, ⊤, ℕ, ℤ, ◌+◌, ◌+ℤ◌, min, max, ◌-◌, ◌<◌, ◌≤◌, List, length, slice_index_or, unsigned_abs, All, pos}
+use Rattle.std.specs.Prelude.{◌≡◌, ⊤, ℕ, ◌-◌, ◌<◌, ◌≤◌, List, length, slice_index_or, unsigned_abs, All}
 use Rattle.pesp_problem.specs.declared.row.SignedRow.{SignedRow}
 use Rattle.pesp_problem.specs.declared.arc.Arc.{Arc}
 use Rattle.pesp_problem.specs.declared.pair.Pair.{Pair}
 use Rattle.pesp_problem.specs.declared.cut.Cut.{Cut}
-use Rattle.pesp_problem.specs.declared.cut.Cut.TheVariants.{Slack, Offset}
-use Rattle.pesp_problem.specs.declared.cut.Side.{Side}
-use Rattle.pesp_problem.specs.declared.cut.Side.TheVariants.{Low, High}
-use Rattle.std.specs.Int.{int_min, int_max}
 use Rattle.pesp_problem.specs.Arcs.{Net}
 use Rattle.pesp_problem.specs.Walks.{Names, IsWalk}
 use Rattle.pesp_problem.specs.Nodes.{Node, cycle_at}
+use Rattle.pesp_walks.specs.Ranges.{IsCut}
 use Rattle.pesp_network.specs.Networks.{NetworkValue, net_of_network, signed_rows}
 use Rattle.pesp_nodes.specs.declared.refusal.ProblemRefusal.{ProblemRefusal}
 use Rattle.pesp_nodes.specs.declared.refusal.ProblemRefusal.TheVariants.{Memory, OpenWalk, TableTooLarge}
@@ -53,17 +50,7 @@ pub record IsNodeOf (p : ProblemValue) (node : Node) : Type 0 where
 
 -- the row or the cycle exists, and the number keeps its limit
 abbrev pub IsCutOf : Node → Cut → Type 0
-IsCutOf node (Slack row k) = Names (length node.slacks) row × (k ≤ 9999)
-IsCutOf node (Offset cycle k) = Names (length node.offsets) cycle × (unsigned_abs k ≤ 100000000000000)
-
--- a part of a range that is cut at k
-abbrev pub cut_slack : ℕ × ℕ → ℕ → Side → ℕ × ℕ
-cut_slack range k Low = (range.0, min range.1 k)
-cut_slack range k High = (max range.0 (k + 1), range.1)
-
-abbrev pub cut_offset : ℤ × ℤ → ℤ → Side → ℤ × ℤ
-cut_offset range k Low = (range.0, int_min range.1 k)
-cut_offset range k High = (int_max range.0 (k +ℤ pos 1), range.1)
+IsCutOf node cut = IsCut (length node.slacks) (length node.offsets) cut
 
 -- the pairs' cycles rise
 abbrev pub Rise : List Pair → Type 0

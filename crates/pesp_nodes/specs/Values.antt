@@ -1,13 +1,9 @@
 -- What a row adds to the value of a leaf.
 use Rattle.std.specs.Prelude.{ℕ, ℤ, pos, ◌-ℤ◌, ◌*ℤ◌, Bool, true, List}
-use Rattle.std.specs.Int.{int_min}
 use Rattle.pesp_problem.specs.declared.arc.Arc.{Arc}
 use Rattle.pesp_problem.specs.Arcs.{arc_at}
 use Rattle.pesp_problem.specs.Nodes.{weight_of, slack_range}
-
--- the lesser of a factor times each end of a range
-abbrev pub lesser : ℤ → ℕ × ℕ → ℤ
-lesser factor range = int_min (factor *ℤ pos range.0) (factor *ℤ pos range.1)
+use Rattle.pesp_walks.specs.Ranges.{lesser}
 
 -- the least that the slack costs beyond the flow, less the flow times the lower bound
 abbrev pub row_term : Arc → ℕ × ℕ → Bool → ℤ → ℤ

@@ -1,61 +1,14 @@
 //! Net counts of a walk, each row once.
 
-ghost use Rattle.std.specs.Prelude.{◌≡◌, ℕ, ◌+ℤ◌, ◌<◌, ◌≤◌, ◌++◌, ◌∷◌, [], pos, length, vec_len, unsigned_abs, All, OnOk, slice_index_or};
+ghost use Rattle.std.specs.Prelude.{◌≡◌, ℕ, ◌+ℤ◌, ◌<◌, ◌≤◌, pos, length, vec_len, unsigned_abs, All, OnOk, slice_index_or};
 ghost use Rattle.pesp_problem.specs.Walks.{Names, sign, net_count};
-ghost use Rattle.pesp_nodes.specs.Nets.{AreZeros, IsRowAdded};
+ghost use Rattle.pesp_walks.specs.Nets.{AreZeros};
+ghost use Rattle.pesp_nodes.specs.Nets.{IsRowAdded};
 
 use crate::passages::Passage;
 use pesp_problem::SignedRow;
-use std::alloc::{AllocError, Global};
-use std::marker::Model;
-
-/// How often a walk passes the row at a place, from 0: plus signs less minus signs.
-#[derive(Clone, Copy, Debug, PartialEq, Eq)]
-pub struct NetCount {
-    pub place: u32,
-    pub count: i64,
-}
-
-/// The net counts of a walk's rows, each row once.
-#[derive(Debug, Drop)]
-pub struct Nets {
-    counts: Vec<NetCount>,
-}
-
-impl Model for Nets {
-    ghost use Rattle.std.specs.Prelude.{List};
-    ghost use Rattle.pesp_nodes.specs.declared.nets.NetCount.{NetCount};
-
-    ghost Value = { List NetCount };
-
-    ghost view = { λ n. n.counts.items };
-}
-
-impl Nets {
-    /// No net counts.
-    pub fn new(alloc: Global) -> Nets
-        ensures { result ≡ [] }
-    {
-        Nets {
-            counts: Vec::new(alloc),
-        }
-    }
-
-    /// The net counts in the order of their rows.
-    pub fn counts(&self) -> &[NetCount]
-        ensures { result.now ≡ self.now }
-    {
-        &self.counts
-    }
-
-    /// One net count more.
-    pub fn push(&mut self, net: NetCount) -> Result<(), AllocError>
-        ensures { OnOk result (self.new ≡ self.old ++ net ∷ []) }
-    {
-        self.counts.push(net)?;
-        Ok(())
-    }
-}
+use pesp_walks::{NetCount, Nets};
+use std::alloc::AllocError;
 
 /// A count after one signed row more.
 pub fn with_sign(count: i64, s: &SignedRow) -> i64

@@ -3,11 +3,14 @@
 ghost use Rattle.std.specs.Prelude.{◌≡◌, ℕ, ◌-◌, ◌≤◌, List, length, unsigned_abs, IfOk};
 ghost use Rattle.pesp_problem.specs.Nodes as spec;
 ghost use Rattle.pesp_problem.specs.Nodes.{part};
-ghost use Rattle.pesp_nodes.specs.Offsets.{AreSlackEnds, IsOffsetEnds, AreOffsetEnds};
-ghost use Rattle.pesp_nodes.specs.Problems.{ProblemValue, IsNodeOf, IsCutOf, cut_slack, cut_offset};
-ghost use Rattle.pesp_nodes.specs.Pending.{cut_of, change_of, restored, IsChange};
+ghost use Rattle.pesp_walks.specs.Ranges.{AreSlackEnds, cut_slack, cut_offset};
+ghost use Rattle.pesp_nodes.specs.Offsets.{IsOffsetEnds, AreOffsetEnds};
+ghost use Rattle.pesp_nodes.specs.Problems.{ProblemValue, IsNodeOf, IsCutOf};
+ghost use Rattle.pesp_walks.specs.Pending.{change_of, restored};
+ghost use Rattle.pesp_nodes.specs.Pending.{IsChange};
 
 use pesp_problem::{Cut, Memory, Side};
+use pesp_walks::Change;
 use std::alloc::Global;
 use std::marker::Model;
 
@@ -21,32 +24,14 @@ pub struct Node {
 
 impl Model for Node {
     ghost use Rattle.pesp_problem.specs.Nodes.{Node as Ranges};
-    ghost use Rattle.pesp_nodes.specs.Offsets.{AreSlackEnds, AreOffsetEnds};
+    ghost use Rattle.pesp_walks.specs.Ranges.{AreSlackEnds};
+    ghost use Rattle.pesp_nodes.specs.Offsets.{AreOffsetEnds};
 
     ghost Value = { Ranges };
 
     ghost view = { λ n. record { slacks = n.slacks.items; offsets = n.offsets.items } };
 
     ghost invariant = { λ n. AreSlackEnds n.slacks.items × AreOffsetEnds n.offsets.items };
-}
-
-/// A cut, and the range that it cuts as it was.
-#[derive(Clone, Copy, Debug, PartialEq, Eq)]
-pub(crate) enum Change {
-    Slack { row: u32, k: u32, was: (u32, u32) },
-    Offset { cycle: u32, k: i64, was: (i64, i64) },
-}
-
-impl Change {
-    /// The cut.
-    pub(crate) fn to_cut(self) -> Cut
-        ensures { result ≡ cut_of self }
-    {
-        match self {
-            Change::Slack { row, k, .. } => Cut::Slack { row, k },
-            Change::Offset { cycle, k, .. } => Cut::Offset { cycle, k },
-        }
-    }
 }
 
 // a part of a slack range that is cut at k

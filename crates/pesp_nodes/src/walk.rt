@@ -3,19 +3,14 @@
 ghost use Rattle.std.specs.Prelude.{◌≡◌, ◌≢◌, ◌↔◌, IsTrue, List, [], ◌∷◌, true, length, reverse, drop, OnOk, OnErr};
 ghost use Rattle.pesp_problem.specs.Nodes as spec;
 ghost use Rattle.pesp_nodes.specs.Problems.{IsCutOf};
-ghost use Rattle.pesp_nodes.specs.Pending.{pending, waiting, branched, AreChanges, CutsFirst};
+ghost use Rattle.pesp_walks.specs.Pending.{pending, waiting, branched};
+ghost use Rattle.pesp_nodes.specs.Pending.{AreChanges, CutsFirst};
 
-use crate::node::{Change, Node};
+use crate::node::Node;
 use pesp_problem::{Cut, Memory, Side};
+use pesp_walks::Branch;
 use std::alloc::Global;
 use std::marker::Model;
-
-/// A cut on the way to the present node with the range that it cut as it was, and the part that the way goes through.
-#[derive(Clone, Copy, Debug, PartialEq, Eq)]
-pub(crate) struct Branch {
-    pub(crate) change: Change,
-    pub(crate) side: Side,
-}
 
 /// Goes to the first part of a cut.
 fn enter(node: &mut Node, path: &mut Vec<Branch>, cut: Cut) -> Result<(), Memory>
@@ -73,7 +68,8 @@ pub struct NodeWalk {
 impl Model for NodeWalk {
     ghost use Rattle.std.specs.Prelude.{List, length};
     ghost use Rattle.pesp_problem.specs.Nodes.{Node as Ranges};
-    ghost use Rattle.pesp_nodes.specs.Pending.{waiting, AreChanges};
+    ghost use Rattle.pesp_walks.specs.Pending.{waiting};
+    ghost use Rattle.pesp_nodes.specs.Pending.{AreChanges};
 
     ghost Value = { List Ranges };
 

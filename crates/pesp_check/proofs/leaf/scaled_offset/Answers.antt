@@ -2,7 +2,7 @@ use Rattle.std.proofs.Common.{arith, rules, unsigned_abs, FitsSigned, to_z, of_z
 use Rattle.std.specs.Prelude.{pos}
 use Rattle.std.specs.Int.{w64, w128}
 use Rattle.std.proofs.lemmas.Int.{ints, to_z-of_z}
-use Rattle.pesp_check.proofs.Leaves.{scaled_scaled}
+use Rattle.pesp_walks.proofs.LeafValues.{scaled_times}
 use Rattle.pesp_check.proofs.leaf.scaled_offset.Goals as goal
 
 pub returns-clause-value : goal.returns-clause-value
@@ -15,7 +15,7 @@ returns-clause-value c =
     let mult : to_z w128 (of_z w128 c.from.result) ≡ c.args.mult = omega (arith, ints) in
     let low = to_z-of_z w128 _ low_fits ∙ (rw (to_z-of_z w64 _ left_fits) at c.period_times-low.ensures.value) in
     let high = to_z-of_z w128 _ high_fits ∙ (rw (to_z-of_z w64 _ right_fits) at c.period_times-high.ensures.value) in
-    to_z-of_z w128 _ fits ∙ (rw (mult, low, high) at c.scaled.ensures.value) ∙ scaled_scaled (pos c.args.period) c.args.mult c.args.left.0 c.args.left.1
+    to_z-of_z w128 _ fits ∙ (rw (mult, low, high) at c.scaled.ensures.value) ∙ scaled_times (pos c.args.period) c.args.mult c.args.left.0 c.args.left.1
 
 pub returns-clause-size : goal.returns-clause-size
 returns-clause-size c =

@@ -4,7 +4,7 @@ use Rattle.std.specs.Int.{w64, w128, int_max, int_min}
 use Rattle.std.proofs.lemmas.Int.{ints, clamps, to_z-of_z}
 use Rattle.pesp_problem.specs.Sums.{ceil_div, floor_div}
 use Rattle.pesp_check.specs.Offsets.{IsSmallOffset}
-use Rattle.pesp_check.proofs.Durations.{left_small}
+use Rattle.pesp_walks.proofs.Durations.{left_small}
 use Rattle.pesp_check.proofs.offsets.left_between.Goals as goal
 
 pub range_of-requires-clause-from : goal.range_of-requires-clause-from
@@ -22,4 +22,4 @@ returns-clause-small c =
     let greatest : to_z w128 (of_z w128 c.high_end.result) ≡ int_min c.args.range.1 (floor_div c.args.ends.1 c.args.period) = to_z-of_z w128 _ greatest_fits ∙ (rw (to_z-of_z w64 c.args.range.1 to_fits, to_z-of_z w128 c.args.ends.1 high_fits) at c.high_end.ensures) in
     let is = rw (least, greatest) at c.range_of.ensures in
     let P : Option (ℤ × ℤ) → Type 0 = λ o. IfSome o (λ left. IsSmallOffset c.args.period left.0 × IsSmallOffset c.args.period left.1) in
-    subst P (sym is) (left_small c.args.period c.args.ends.0 c.args.ends.1 c.args.range.0 c.args.range.1 c.requires.period c.requires.least c.requires.greatest)
+    subst P (sym is) (left_small c.args.period 10100000000000 c.args.ends.0 c.args.ends.1 c.args.range.0 c.args.range.1 c.requires.period c.requires.least c.requires.greatest)

@@ -1,11 +1,11 @@
-use Rattle.std.proofs.Common.{◌≡◌, pos, to_z, of_z, get_or, FitsSigned, rules, arith}
+use Rattle.std.proofs.Common.{◌≡◌, pos, to_z, of_z, arith}
 use Rattle.std.specs.Prelude.{◌+ℤ◌}
-use Rattle.std.specs.Int.{w64, w128}
-use Rattle.std.proofs.lemmas.Int.{ints, to_z-of_z}
+use Rattle.std.specs.Int.{w128}
+use Rattle.std.proofs.lemmas.Int.{ints}
 use Rattle.pesp_nodes.specs.declared.ends.End.TheVariants.{Low, High}
-use Rattle.pesp_nodes.specs.declared.nets.NetCount.{NetCount}
+use Rattle.pesp_walks.specs.declared.nets.NetCount.{NetCount}
 use Rattle.pesp_nodes.specs.Offsets.{end_term}
-use Rattle.pesp_nodes.proofs.Durations.{so_far_more}
+use Rattle.pesp_walks.proofs.Durations.{so_far_more}
 use Rattle.pesp_nodes.proofs.offsets.sums_of.Goals as goal
 
 none : NetCount
@@ -16,6 +16,6 @@ unfolding none
 loop-net-preserved c =
     let least : to_z w128 (of_z w128 c.plus-least.result) ≡ to_z w128 c.loop-net.least-bits +ℤ c.term_at.result = (let value = c.plus-least.ensures.value in omega (arith, ints)) in
     let greatest : to_z w128 (of_z w128 c.plus-greatest.result) ≡ to_z w128 c.loop-net.greatest-bits +ℤ c.term_at-in-loop-net.result = (let value = c.plus-greatest.ensures.value in omega (arith, ints)) in (
-      rw least (so_far_more (end_term Low c.args.arcs.now c.args.slacks.now) c.args.counts.now c.loop-net.net-index none (to_z w128 c.loop-net.least-bits) c.term_at.result c.loop-net-test.true c.term_at.ensures.value c.term_at.ensures.size c.loop-net.invariant.0),
-      rw greatest (so_far_more (end_term High c.args.arcs.now c.args.slacks.now) c.args.counts.now c.loop-net.net-index none (to_z w128 c.loop-net.greatest-bits) c.term_at-in-loop-net.result c.loop-net-test.true c.term_at-in-loop-net.ensures.value c.term_at-in-loop-net.ensures.size c.loop-net.invariant.1),
+      rw least (so_far_more 1030000 (end_term Low c.args.arcs.now c.args.slacks.now) c.args.counts.now c.loop-net.net-index none (to_z w128 c.loop-net.least-bits) c.term_at.result c.loop-net-test.true c.term_at.ensures.value c.term_at.ensures.size c.loop-net.invariant.0),
+      rw greatest (so_far_more 1030000 (end_term High c.args.arcs.now c.args.slacks.now) c.args.counts.now c.loop-net.net-index none (to_z w128 c.loop-net.greatest-bits) c.term_at-in-loop-net.result c.loop-net-test.true c.term_at-in-loop-net.ensures.value c.term_at-in-loop-net.ensures.size c.loop-net.invariant.1),
     )

@@ -1,7 +1,7 @@
 use Rattle.pesp_nodes.specs.declared.ends.End.TheVariants.{Low, High}
 use Rattle.pesp_nodes.specs.Offsets.{end_term}
-use Rattle.pesp_nodes.proofs.Durations.{SoFar}
+use Rattle.pesp_walks.proofs.Durations.{SoFar}
 use Rattle.pesp_nodes.proofs.offsets.sums_of.Given as goal
 
 abbrev pub invariant-loop-net : goal.invariant-loop-net
-invariant-loop-net l = SoFar (end_term Low l.arcs l.slacks) l.counts l.net-index l.least × SoFar (end_term High l.arcs l.slacks) l.counts l.net-index l.greatest
+invariant-loop-net l = SoFar 1030000 (end_term Low l.arcs l.slacks) l.counts l.net-index l.least × SoFar 1030000 (end_term High l.arcs l.slacks) l.counts l.net-index l.greatest

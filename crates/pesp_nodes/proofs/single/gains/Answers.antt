@@ -3,9 +3,9 @@ use Rattle.std.specs.Prelude.{ℤ, ◌+ℤ◌}
 use Rattle.std.specs.Int.{w128}
 use Rattle.std.proofs.lemmas.Int.{ints}
 use Rattle.std.proofs.lemmas.List.{take_all}
-use Rattle.pesp_nodes.specs.declared.nets.NetCount.{NetCount}
-use Rattle.pesp_nodes.specs.Nets.{sum_of}
-use Rattle.pesp_nodes.proofs.Durations.{SoFar, so_far_more}
+use Rattle.pesp_walks.specs.declared.nets.NetCount.{NetCount}
+use Rattle.pesp_walks.specs.Nets.{sum_of}
+use Rattle.pesp_walks.proofs.Durations.{SoFar, so_far_more}
 use Rattle.pesp_nodes.proofs.Singles.{term_of, gains_are}
 use Rattle.pesp_nodes.proofs.single.gains.Goals as goal
 
@@ -18,9 +18,9 @@ loop-net-preserved c =
     let term = term_of c.args.arcs.now c.args.slacks.now c.args.pair.now.mult in
     let sum : to_z w128 (of_z w128 c.plus-sum.result) ≡ to_z w128 c.loop-net.sum-bits +ℤ c.gain_at.result = (let value = c.plus-sum.ensures.value in omega (arith, ints)) in
     let n = c.loop-net.net-index in
-    let P : ℤ → Type 0 = λ z. SoFar term c.args.counts.now (n + 1) z in
+    let P : ℤ → Type 0 = λ z. SoFar 1030000 term c.args.counts.now (n + 1) z in
     subst P (sym sum)
-    (so_far_more term c.args.counts.now c.loop-net.net-index none (to_z w128 c.loop-net.sum-bits) c.gain_at.result c.loop-net-test.true c.gain_at.ensures.value c.gain_at.ensures.size c.loop-net.invariant)
+    (so_far_more 1030000 term c.args.counts.now c.loop-net.net-index none (to_z w128 c.loop-net.sum-bits) c.gain_at.result c.loop-net-test.true c.gain_at.ensures.value c.gain_at.ensures.size c.loop-net.invariant)
 
 pub returns-clause-value : goal.returns-clause-value
 returns-clause-value c walk are =

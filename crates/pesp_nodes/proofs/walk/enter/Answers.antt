@@ -1,4 +1,4 @@
-use Rattle.pesp_nodes.proofs.Walking.{enter_parts}
+use Rattle.pesp_walks.proofs.Walking.{enter_parts}
 use Rattle.pesp_nodes.proofs.walk.enter.Goals as goal
 
 pub returns-clause-parts : goal.returns-clause-parts

@@ -1,14 +1,16 @@
--- Net counts of a walk's first part.
-use Rattle.std.proofs.Common.{◌≡◌, ℕ, ◌+◌, ◌-◌, ◌≤◌, ◌<◌, ◌≢◌, inl, inr, Bool, true, false, cond, not, List, [], ◌∷◌, length, get_or, set, take, refl, ap, arith, ◌∙◌}
-use Rattle.std.specs.Prelude.{ℤ, pos, negsuc, ◌+ℤ◌, ◌-ℤ◌, neg_ℤ, ◌≤ℤ◌, unsigned_abs, ◌&&◌, ◌==◌, if◌then◌else◌}
+-- Net counts of walks: of a walk's first part, by amount, and as entries.
+use Rattle.std.proofs.Common.{◌≡◌, ℕ, ◌+◌, ◌-◌, ◌≤◌, ◌<◌, ◌≢◌, inl, inr, Bool, true, false, cond, not, List, [], ◌∷◌, length, get_or, set, take, refl, ap, arith, ◌∙◌, fold}
+use Rattle.std.specs.Prelude.{ℤ, pos, negsuc, ◌+ℤ◌, ◌-ℤ◌, neg_ℤ, ◌≤ℤ◌, unsigned_abs, ◌&&◌, ◌==◌, if◌then◌else◌, All}
 use Rattle.std.proofs.lemmas.Int.{ints}
 use Rattle.std.proofs.lemmas.Bool.Decides.{nat_tests}
 use Rattle.std.proofs.lemmas.Bool.{cases_eq, cases_lt}
-use Rattle.std.proofs.lemmas.List.{get_or-set_same, get_or-set_other, length-take}
+use Rattle.std.proofs.lemmas.List.{get_or-set_same, get_or-set_other, get_or_default, length-take}
 use Rattle.std.proofs.lemmas.List.Sums.{sum_by_more, sum_by-cons, count_by-le-length}
 use Rattle.pesp_problem.specs.declared.row.SignedRow.{SignedRow}
 use Rattle.pesp_problem.specs.Sums.{sum_below}
 use Rattle.pesp_problem.specs.Walks.{sign, net_count}
+use Rattle.pesp_walks.specs.declared.nets.NetCount.{NetCount}
+use Rattle.pesp_walks.specs.Nets.{sum_of, amount, AreSmallCounts, AreNets}
 use Rattle.pesp_problem.proofs.Integers.{sum_below-zero, sum_below-single, sum_below-le, sum_below-add}
 
 pub one_more : (plus here : Bool) → pos (cond (plus && here) 1 0) -ℤ pos (cond (not plus && here) 1 0) ≡ (if here then (if plus then pos 1 else negsuc 0) else pos 0)
@@ -110,3 +112,16 @@ amounts_short n (s ∷ walk) =
     let each = sum_below-le n (by_amount (s ∷ walk)) (λ i. here_or_not s.row i +ℤ by_amount walk i) (λ i l. amount-cons s walk i) in
     let apart = sum_below-add n (here_or_not s.row) (by_amount walk) in
     omega (arith, ints, each, apart, at_most_one n s.row, amounts_short n walk)
+
+-- ---- entries
+
+amount_from : (counts : List NetCount) (z : ℤ) → fold (λ z e. z +ℤ pos (unsigned_abs e.count)) z counts ≡ z +ℤ pos (amount counts)
+amount_from [] z = omega (arith, ints)
+amount_from (e ∷ counts) z = omega (arith, ints, amount_from counts (z +ℤ pos (unsigned_abs e.count)), sum_by-cons (λ (e : NetCount). unsigned_abs e.count) e counts)
+
+-- the sum of the amounts is the amount
+pub amount_is : (counts : List NetCount) → sum_of (λ i z. pos (unsigned_abs z)) counts ≡ pos (amount counts)
+amount_is counts = omega (arith, ints, amount_from counts (pos 0))
+
+pub nets_small : (n : ℕ) (walks : List (List SignedRow)) (nets : List (List NetCount)) → AreNets n walks nets → All (AreSmallCounts n) nets
+nets_small n walks nets h k d l = rw (get_or_default nets k d [] l) ((h.each k l).small)

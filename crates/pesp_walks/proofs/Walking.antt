@@ -9,10 +9,10 @@ use Rattle.pesp_problem.specs.declared.cut.Cut.TheVariants.{Slack, Offset}
 use Rattle.pesp_problem.specs.declared.cut.Side.{Side}
 use Rattle.pesp_problem.specs.declared.cut.Side.TheVariants.{Low, High}
 use Rattle.pesp_problem.specs.Nodes.{Node, slack_range, offset_range, low_part, high_part, part}
-use Rattle.pesp_check.specs.declared.branch.Change.{Change}
-use Rattle.pesp_check.specs.declared.branch.Change.TheVariants.{Slack as SlackChange, Offset as OffsetChange}
-use Rattle.pesp_check.specs.declared.branch.Branch.{Branch}
-use Rattle.pesp_check.specs.Pending.{cut_of, change_of, restored, with_second, pending, waiting, branched}
+use Rattle.pesp_walks.specs.declared.path.Change.{Change}
+use Rattle.pesp_walks.specs.declared.path.Change.TheVariants.{Slack as SlackChange, Offset as OffsetChange}
+use Rattle.pesp_walks.specs.declared.path.Branch.{Branch}
+use Rattle.pesp_walks.specs.Pending.{cut_of, change_of, restored, with_second, pending, waiting, branched}
 
 -- a change is undone by its range from before
 undone : (node : Node) (cut : Cut) → restored (low_part node cut) (change_of node cut) ≡ node

@@ -1,0 +1,4 @@
+pub mod Counts
+pub mod Durations
+pub mod Walking
+pub mod LeafValues

@@ -6,9 +6,9 @@ use Rattle.pesp_problem.specs.Arcs.{arc_at}
 use Rattle.pesp_cuts.specs.declared.crossing.Entry.{Entry}
 use Rattle.pesp_cuts.specs.declared.cuts.Cuts.{Cuts}
 use Rattle.pesp_cuts.specs.Entries.{entry_if, entries_of}
-use Rattle.pesp_cuts.specs.Roots.{Roots, AreRoots, below}
+use Rattle.pesp_problem.specs.Roots.{Roots, AreRoots, below}
 use Rattle.pesp_cuts.specs.Lists.{pushed, Puts, if_same, IsClimbed, IsStep, AreListed}
-use Rattle.pesp_cuts.proofs.Below.{below_here, below_up, not_below}
+use Rattle.pesp_problem.proofs.Below.{below_here, below_up, not_below}
 use Rattle.pesp_cuts.proofs.Listing.{pushed_here, pushed_other, same_lists}
 
 same : {A : Type 0} (p q : Bool) (a b : A) → p ≡ q → if_same p q a b ≡ a

@@ -13,7 +13,7 @@ use Rattle.pesp_cuts.specs.Slacks.{AreSlacks}
 use Rattle.pesp_cuts.specs.Cuts.{arc_moved, IsCutBest}
 use Rattle.pesp_cuts.specs.Shifts.{moved, change, row_change, AllFit, crossing_at, IsBestShift}
 use Rattle.pesp_cuts.specs.Entries.{crossing_of, crossings_of, entry_if, entries_of, entry_at, no_entry}
-use Rattle.pesp_cuts.specs.Roots.{Roots, below}
+use Rattle.pesp_problem.specs.Roots.{Roots, below}
 use Rattle.pesp_problem.proofs.Integers.{sum_below-same, lt-or-same}
 use Rattle.pesp_cuts.proofs.Crossings.{crosses_in, crosses_out, stays}
 use Rattle.pesp_cuts.proofs.Tallying.{crossing_at-entry, length-crossings_of}

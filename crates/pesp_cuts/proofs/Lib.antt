@@ -1,16 +1,13 @@
-pub mod Cases
 pub mod Prefixes
 pub mod Moving
 pub mod Taking
 pub mod Summing
 pub mod Choosing
-pub mod Below
 pub mod Sides
 pub mod Shifting
 pub mod Locals
 pub mod Crossings
 pub mod Trees
-pub mod Spanning
 pub mod Tallying
 pub mod Listing
 pub mod Climbing

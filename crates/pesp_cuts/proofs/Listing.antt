@@ -5,14 +5,13 @@ use Rattle.std.proofs.lemmas.List.{get_or-set_other, length_push, get_or-append_
 use Rattle.pesp_cuts.specs.declared.crossing.Entry.{Entry}
 use Rattle.pesp_cuts.specs.Entries.{entry_at, no_entry}
 use Rattle.pesp_cuts.specs.Lists.{HaveLists, pushed}
-use Rattle.pesp_cuts.proofs.Cases.{same_test, other_test}
-use Rattle.std.proofs.lemmas.Bool.{cases_eq, cases_lt}
+use Rattle.std.proofs.lemmas.Bool.{cases_eq, cases_lt, eq-eqb, ne_eqb}
 
 pub pushed_here : (lists : ℕ → List Entry) (cut : ℕ) (e : Entry) (c : ℕ) → c ≡ cut → pushed lists cut e c ≡ lists c ++ e ∷ []
-pushed_here lists cut e c q = rw (same_test c cut q) refl
+pushed_here lists cut e c q = rw (eq-eqb c cut q) refl
 
 pub pushed_other : (lists : ℕ → List Entry) (cut : ℕ) (e : Entry) (c : ℕ) → c ≢ cut → pushed lists cut e c ≡ lists c
-pushed_other lists cut e c ne = rw (other_test c cut ne) refl
+pushed_other lists cut e c ne = rw (ne_eqb c cut ne) refl
 
 last_of : (xs : List Entry) (e : Entry) (k : ℕ) → k ≡ length xs → entry_at (xs ++ e ∷ []) k ≡ e
 last_of xs e k q = get_or-append_right xs (e ∷ []) (length xs) k no_entry refl (omega arith) ∙ ap (λ (i : ℕ). get_or (e ∷ []) i no_entry) (let z : k - length xs ≡ 0 = omega arith in z)

@@ -3,17 +3,16 @@ use Rattle.std.proofs.Common.{◌≡◌, ◌≢◌, ◌⊎◌, inl, inr, ℕ, �
 use Rattle.std.specs.Prelude.{unsigned_abs, neg_ℤ, Bool, ◌≤ℤ◌, if◌then◌else◌}
 use Rattle.std.specs.Int.{int_rem_euclid, int_div_euclid}
 use Rattle.std.proofs.lemmas.Int.{ints}
-use Rattle.std.proofs.lemmas.Bool.{false≢true}
+use Rattle.std.proofs.lemmas.Bool.{false≢true, cases_Bool}
 use Rattle.pesp_problem.specs.declared.arc.Arc.{Arc}
 use Rattle.pesp_problem.specs.Arcs.{Net, arc_at, no_arc, arc_slack}
 use Rattle.pesp_problem.specs.NetTimetables.{net_cost}
 use Rattle.pesp_cuts.specs.Cuts.{arc_growth, arc_moved, cut_change, AreCutsBest}
 use Rattle.pesp_cuts.specs.Local.{IsLocal, IsFundamentalSide}
-use Rattle.pesp_cuts.specs.Roots.{Roots, AreRoots, AreTreeRows, below}
+use Rattle.pesp_problem.specs.Roots.{Roots, AreRoots, AreTreeRows, below}
 use Rattle.pesp_problem.proofs.Integers.{mul-add, mul-sub, mul-neg, sum_below-same, quotient-remainder, remainder-lt}
 use Rattle.pesp_cuts.proofs.Shifting.{remainder_of, slack_shifts, cost_shifts}
 use Rattle.pesp_cuts.proofs.Sides.{outside, within, parted}
-use Rattle.pesp_cuts.proofs.Cases.{true_or_false}
 
 -- multiples of the period don't count
 laps : (period : ℕ) (y a b w : ℤ) → 0 < period → a ≡ b +ℤ pos period *ℤ w → unsigned_abs (int_rem_euclid (y +ℤ a) (pos period)) ≡ unsigned_abs (int_rem_euclid (y +ℤ b) (pos period))
@@ -117,7 +116,7 @@ amount n net forest r side times c d some a tree f lc jc =
     let period = net.period in
     let arcs = net.arcs in
     let st : (i : ℕ) → i < length arcs → Stands (side c) (below r c (arc_at arcs i).head) (below r c (arc_at arcs i).tail) (side (arc_at arcs i).head) (side (arc_at arcs i).tail) = λ i l. row_stands n arcs forest r side c i a tree f lc jc l in
-    elim (true_or_false (side c)) [
+    elim (cases_Bool (side c)) [
       | inl is ↦
           let z = pos d in let e = unsigned_abs (int_rem_euclid z (pos period)) in
           let k = turned z (pos period *ℤ int_div_euclid z (pos period)) (pos e) (quotient-remainder z period some) in (

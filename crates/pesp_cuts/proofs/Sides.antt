@@ -3,11 +3,10 @@ use Rattle.std.proofs.Common.{◌≡◌, ◌≢◌, inl, inr, ℕ, ◌-◌, ◌<
 use Rattle.std.specs.Prelude.{Bool}
 use Rattle.std.proofs.lemmas.Bool.{false≢true, cases_eq}
 use Rattle.pesp_problem.specs.declared.arc.Arc.{Arc}
-use Rattle.pesp_problem.specs.Arcs.{arc_at}
+use Rattle.pesp_problem.specs.Arcs.{tail_of, head_of}
 use Rattle.pesp_cuts.specs.Local.{IsFundamentalSide}
-use Rattle.pesp_cuts.specs.Roots.{Roots, AreRoots, AreTreeRows, below}
-use Rattle.pesp_cuts.proofs.Below.{below_here, below_up, below_root, not_below}
-use Rattle.pesp_cuts.proofs.Cases.{some_or_none}
+use Rattle.pesp_problem.specs.Roots.{Roots, AreRoots, AreTreeRows, below}
+use Rattle.pesp_problem.proofs.Below.{some_or_none, below_here, below_up, below_root, not_below}
 
 differ : (a b : Bool) → a ≡ true → b ≡ false → a ≡ b → {A : Type 0} → A
 differ a b e f g = absurd (false≢true (sym f ∙ sym g ∙ e))
@@ -17,7 +16,7 @@ pub once : (n : ℕ) (arcs : List Arc) (r : Roots) (x y : ℕ) → AreRoots n ar
 once n arcs r x y a lx ly j e =
     let jy : 0 < r.by y = omega arith in
     let cx = a.climbs x lx j in let cy = a.climbs y ly jy in
-    let t = ap (λ k. (arc_at arcs (k - 1)).tail) e in let h = ap (λ k. (arc_at arcs (k - 1)).head) e in
+    let t = ap (tail_of arcs) e in let h = ap (head_of arcs) e in
     elim (a.ends x lx j) [
       | inl p ↦ elim (a.ends y ly jy) [
         | inl q ↦ sym p.0 ∙ t ∙ q.0

@@ -5,12 +5,13 @@ use Rattle.std.specs.Prelude.{Contains}
 use Rattle.std.proofs.lemmas.List.Elements.{Contains-append_left, Contains-get_or, Contains-push, Contains-push_cases}
 use Rattle.std.proofs.lemmas.List.Quantifiers.{all_pairs_push}
 use Rattle.pesp_problem.specs.declared.arc.Arc.{Arc}
-use Rattle.pesp_problem.specs.Arcs.{arc_at}
-use Rattle.pesp_cuts.specs.Roots.{Roots, AreRoots, AreTreeRows, IsJoined, IsSpanned}
+use Rattle.pesp_problem.specs.Arcs.{arc_at, tail_of, head_of}
+use Rattle.pesp_problem.specs.Roots.{Roots, AreRoots, AreTreeRows}
+use Rattle.pesp_cuts.specs.Rooted.{IsJoined, IsSpanned}
 
 -- the row of this number joins one of its ends upwards
 abbrev pub JoinsEnd : List Arc → Roots → ℕ → Type 0
-JoinsEnd arcs r k = (r.by (arc_at arcs (k - 1)).tail ≡ k) ⊎ (r.by (arc_at arcs (k - 1)).head ≡ k)
+JoinsEnd arcs r k = (r.by (tail_of arcs k) ≡ k) ⊎ (r.by (head_of arcs k) ≡ k)
 
 -- the list has those of the first rows that join events upwards
 pub record AreTreeRowsTo (count : ℕ) (arcs : List Arc) (r : Roots) (rows : List ℕ) : Type 0 where
@@ -41,8 +42,8 @@ tree_rows-from_all n arcs r rows count a all most t = record {
       let w = t.joined k c in let some = w.0 in let few = w.1 in
       let e = a.inside (k - 1) (omega arith) in
       elim w.2 [
-        | inl j ↦ ((arc_at arcs (k - 1)).tail, e.0, omega arith, j)
-        | inr j ↦ ((arc_at arcs (k - 1)).head, e.1, omega arith, j)
+        | inl j ↦ (tail_of arcs k, e.0, omega arith, j)
+        | inr j ↦ (head_of arcs k, e.1, omega arith, j)
       ];
 }
 

@@ -3,7 +3,7 @@ use Rattle.std.specs.Prelude.{ℕ, ◌<◌, ◌≤◌, List, length, ℤ, pos, �
 use Rattle.pesp_problem.specs.declared.arc.Arc.{Arc}
 use Rattle.pesp_problem.specs.Timetables.{remainder}
 use Rattle.pesp_problem.specs.Arcs.{Net, arc_at, arc_slack, over_arcs}
-use Rattle.pesp_cuts.specs.Roots.{Roots, below}
+use Rattle.pesp_problem.specs.Roots.{Roots, below}
 
 -- by how much the difference of the ends' times grows
 abbrev pub arc_growth : (ℕ → Bool) → Arc → ℕ → ℤ

@@ -2,7 +2,6 @@ pub mod Slacks
 pub mod Shifts
 pub mod Tallies
 pub mod Entries
-pub mod Roots
 pub mod Rooted
 pub mod Cuts
 pub mod Lists

@@ -5,7 +5,7 @@ use Rattle.pesp_problem.specs.Arcs.{arc_at}
 use Rattle.pesp_cuts.specs.declared.crossing.Entry.{Entry}
 use Rattle.pesp_cuts.specs.declared.cuts.Cuts.{Cuts}
 use Rattle.pesp_cuts.specs.Entries.{entry_at, entries_of}
-use Rattle.pesp_cuts.specs.Roots.{Roots, below}
+use Rattle.pesp_problem.specs.Roots.{Roots, below}
 
 -- n lists, from a place up to another, each with room up to where the next begins
 pub record HaveLists (n : ℕ) (starts ends : List ℕ) (entries : List Entry) (lists : ℕ → List Entry) : Type 0 where

@@ -1,13 +1,13 @@
 -- Sides of fundamental cuts, times with one side shifted, and timetables that no such shift makes cheaper.
 use Rattle.std.specs.Prelude.{◌≡◌, ◌≢◌, ℕ, ◌+◌, ◌%◌, ◌-◌, ◌<◌, ◌≤◌, List, length, slice_index, Bool, if◌then◌else◌, Contains}
 use Rattle.pesp_problem.specs.declared.arc.Arc.{Arc}
-use Rattle.pesp_problem.specs.Arcs.{Net, arc_at}
+use Rattle.pesp_problem.specs.Arcs.{Net, tail_of, head_of}
 use Rattle.pesp_problem.specs.NetTimetables.{IsNetTimetable, net_cost}
 
 -- of the forest's rows, named by their numbers, this one alone joins the side to the rest
 pub record IsFundamentalSide (arcs : List Arc) (forest : List ℕ) (row : ℕ) (side : ℕ → Bool) : Type 0 where
-  pub crosses : side (arc_at arcs (row - 1)).tail ≢ side (arc_at arcs (row - 1)).head
-  pub keeps : (k : ℕ) → Contains forest k → k ≢ row → side (arc_at arcs (k - 1)).tail ≡ side (arc_at arcs (k - 1)).head
+  pub crosses : side (tail_of arcs row) ≢ side (head_of arcs row)
+  pub keeps : (k : ℕ) → Contains forest k → k ≢ row → side (tail_of arcs k) ≡ side (head_of arcs k)
 
 -- the times of the side are so much later, around the period, and the others stay
 pub record IsShifted (period : ℕ) (side : ℕ → Bool) (amount : ℕ) (times others : List ℕ) : Type 0 where

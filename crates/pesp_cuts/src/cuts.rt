@@ -1,7 +1,7 @@
 //! The rows that cross each cut of a rooted forest.
 
 ghost use Rattle.std.specs.Prelude.{◌≡◌, ◌≢◌, ℕ, ◌+◌, ◌<◌, ◌≤◌, ◌↔◌, List, [], IsTrue, IfSome, OnSome, length, vec_len, slice_index};
-ghost use Rattle.pesp_cuts.specs.Roots.{AreRoots};
+ghost use Rattle.pesp_problem.specs.Roots.{AreRoots};
 ghost use Rattle.pesp_cuts.specs.Rooted.{roots_of, IsFor};
 ghost use Rattle.pesp_cuts.specs.declared.crossing.Entry.{Entry};
 ghost use Rattle.pesp_cuts.specs.Lists.{Hold, HasRoom, HasRoomFor, Puts, IsStep, AreListed};

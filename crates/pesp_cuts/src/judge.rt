@@ -3,7 +3,7 @@
 ghost use Rattle.std.specs.Prelude.{◌≡◌, ℕ, ◌<◌, ◌≤◌, List, IsTrue, length, vec_len};
 ghost use Rattle.pesp_cuts.specs.Slacks.{AreSlacks};
 ghost use Rattle.pesp_cuts.specs.Cuts.{IsCutBest, AreCutsBest};
-ghost use Rattle.pesp_cuts.specs.Roots.{Roots, AreRoots};
+ghost use Rattle.pesp_problem.specs.Roots.{Roots, AreRoots};
 ghost use Rattle.pesp_cuts.specs.Rooted.{roots_of, IsFor};
 ghost use Rattle.pesp_cuts.specs.Lists.{AreListed};
 

@@ -1,9 +1,9 @@
 //! Forests with roots.
 
 ghost use Rattle.std.specs.Prelude.{◌≡◌, ℕ, ◌<◌, ◌≤◌, ◌⊎◌, ◌↔◌, IsTrue, IfOk, length, slice_index, vec_len};
-ghost use Rattle.pesp_problem.specs.Arcs.{arc_at};
-ghost use Rattle.pesp_cuts.specs.Roots.{AreRoots, AreTreeRows, HasEnds, IsJoined, IsSpanned};
-ghost use Rattle.pesp_cuts.specs.Rooted.{roots_of, IsFor};
+ghost use Rattle.pesp_problem.specs.Arcs.{arc_at, HasEnds};
+ghost use Rattle.pesp_problem.specs.Roots.{AreRoots, AreTreeRows};
+ghost use Rattle.pesp_cuts.specs.Rooted.{roots_of, IsFor, IsJoined, IsSpanned};
 
 use pesp_problem::{Arc, Memory};
 use std::alloc::Global;

@@ -7,7 +7,7 @@ use Rattle.pesp_problem.specs.Walks.{IsWalk}
 use Rattle.pesp_problem.specs.Forests.{IsSimple}
 use Rattle.pesp_problem.specs.Nodes.{cycle_at}
 use Rattle.pesp_network.specs.Networks.{arcs_of_network}
-use Rattle.pesp_reduce.specs.Congruences.{IsSame}
+use Rattle.pesp_problem.specs.Congruences.{IsSame}
 use Rattle.pesp_reduce.specs.LiftedWalks.{original_row, passes_kept, IsKeptOrContracted, lower_sum, HasNoRowTwice}
 use Rattle.pesp_reduce.specs.Reductions.{ReducedValue, IsReducedRow, AreKeptRows, AreFatesOf, origin_place}
 

@@ -1,32 +1,29 @@
 -- Which arcs are bridges.
-use Rattle.std.proofs.Common.{◌≡◌, ◌≢◌, ℕ, zero, suc, ◌-◌, ◌<◌, ◌≤◌, ◌⊎◌, inl, inr, refl, sym, ◌∙◌, ap, arith, List, ◌∷◌, length, true, Bool, IsTrue, ◌↔◌}
+use Rattle.std.proofs.Common.{◌≡◌, ◌≢◌, ℕ, zero, suc, ◌-◌, ◌<◌, ◌≤◌, ◌⊎◌, inl, inr, refl, sym, ◌∙◌, ap, arith, subst, ◌+◌, pos, List, ◌∷◌, length, true, Bool, IsTrue, ◌↔◌}
 use Rattle.std.proofs.lemmas.Bool.{cases_eq, cases_lt}
 use Rattle.std.proofs.lemmas.List.Elements.{All-cons, All-weaker}
-use Rattle.std.proofs.lemmas.Bool.Decides.{nat_tests}
+use Rattle.std.proofs.lemmas.Int.{ints}
 use Rattle.pesp_problem.specs.declared.arc.Arc.{Arc}
 use Rattle.pesp_problem.specs.declared.row.SignedRow.{SignedRow}
-use Rattle.pesp_problem.specs.declared.row.SignedRow.{SignedRow}
-use Rattle.pesp_problem.specs.declared.arc.Arc.{Arc}
-use Rattle.pesp_problem.specs.Walks.{Names, RowExists, IsWalk}
+use Rattle.pesp_problem.specs.Walks.{Names, RowExists, IsWalk, net_count}
 use Rattle.pesp_problem.specs.Forests.{IsBridge}
 use Rattle.pesp_network.specs.declared.parts.Forest.{Forest}
 use Rattle.pesp_network.specs.Growing.{at}
-use Rattle.pesp_network.specs.Ends.{tail_of, head_of, HasEnds}
+use Rattle.pesp_problem.specs.Arcs.{arc_at, tail_of, head_of, HasEnds}
 use Rattle.pesp_network.specs.Rooted.{Under, IsForest, IsTreeRow, AreReaches, IsReached}
-use Rattle.pesp_network.proofs.Climbing.{self_inside, ends_of, one_tree}
-use Rattle.pesp_network.proofs.Cuts.{KeepsSide, closed, is_walk, cut_walk, crossing, crossing_back, some_net, plus_cons, minus_cons, none_of_other, up_by, down_by}
-use Rattle.pesp_network.proofs.Spanning.{side, side_in, side_out, side_same, own_cut, tree_keeps, passes, TreeWay, tree_way, seen_joined}
+use Rattle.pesp_network.proofs.Climbing.{self_inside, ends_of}
+use Rattle.pesp_problem.proofs.Walks.{step_same, step_other, net_count-cons}
+use Rattle.pesp_problem.proofs.Ways.{WayOver, closed, is_walk}
+use Rattle.pesp_problem.proofs.Crossings.{KeepsSide, same_side, cut_walk, passes}
+use Rattle.pesp_network.proofs.Spanning.{side, side_in, side_out, side_same, own_cut, tree_keeps, loop_of, seen_joined}
 
 pub tree_is_row : (n : ℕ) (arcs : List Arc) (g : Forest) → IsForest n arcs g → (s : SignedRow) → IsTreeRow g s.row → Names (length arcs) s.row
 tree_is_row n arcs g f s t = let b = f.grown.by_row t.0 in let p = t.1 in let e = t.2 in (omega arith, omega arith)
 
 -- a row and the way along the forest from its head back to its tail
-loop_of : (n : ℕ) (arcs : List Arc) (g : Forest) (j : ℕ) → IsForest n arcs g → Names (length arcs) j → TreeWay arcs g (head_of arcs j) (tail_of arcs j)
-loop_of n arcs g j f r = let e = ends_of n arcs j f.ends r in tree_way n arcs g (head_of arcs j) (tail_of arcs j) f e.1 e.0 (one_tree n arcs g j f r)
-
-loop_walks : (n : ℕ) (arcs : List Arc) (g : Forest) (j : ℕ) → IsForest n arcs g → Names (length arcs) j → (w : TreeWay arcs g (head_of arcs j) (tail_of arcs j)) → IsWalk arcs (record { row = j; plus = true } ∷ w.way)
+loop_walks : (n : ℕ) (arcs : List Arc) (g : Forest) (j : ℕ) → IsForest n arcs g → Names (length arcs) j → (w : WayOver arcs (IsTreeRow g) (head_of arcs j) (tail_of arcs j)) → IsWalk arcs (record { row = j; plus = true } ∷ w.way)
 loop_walks n arcs g j f r w = is_walk arcs (tail_of arcs j) (record { row = j; plus = true }) w.way
-    (All-cons (RowExists arcs) (record { row = j; plus = true }) w.way r (All-weaker (λ (s : SignedRow). IsTreeRow g s.row) (λ (s : SignedRow). Names (length arcs) s.row) (tree_is_row n arcs g f) w.way w.tree)) (refl, w.leads)
+    (All-cons (RowExists arcs) (record { row = j; plus = true }) w.way r (All-weaker (λ (s : SignedRow). IsTreeRow g s.row) (λ (s : SignedRow). Names (length arcs) s.row) (tree_is_row n arcs g f) w.way w.over)) (refl, w.leads)
 
 -- another row that crosses the cut of e closes a walk with e's row
 pub no_bridge : (n : ℕ) (arcs : List Arc) (g : Forest) (e k j : ℕ) → IsForest n arcs g → 0 < at g.by.items e → at g.by.items e ≡ k → Names (length arcs) j → j ≢ k
@@ -34,39 +31,37 @@ pub no_bridge : (n : ℕ) (arcs : List Arc) (g : Forest) (e k j : ℕ) → IsFor
 no_bridge n arcs g e k j f b q r ne differ bridge =
     let w = loop_of n arcs g j f r in
     let s : SignedRow = record { row = j; plus = true } in
-    let d = side g e in
-    let keeps = All-weaker (λ (x : SignedRow). IsTreeRow g x.row) (KeepsSide arcs d k) (tree_keeps n arcs g e k f b q) w.way w.tree in
-    let p = plus_cons s w.way k in let m = minus_cons s w.way k in let o = none_of_other k j true ne in
-    some_net (s ∷ w.way) (k - 1) k (omega arith) (λ z. differ (elim (own_cut n arcs g e k f b q) [
-      | inl u ↦ let c = crossing arcs d k u (head_of arcs j) (tail_of arcs j) w.way w.leads keeps in omega arith
-      | inr u ↦ let c = crossing_back arcs d k u (head_of arcs j) (tail_of arcs j) w.way w.leads keeps in omega arith
-    ]))
-    (bridge (s ∷ w.way) (loop_walks n arcs g j f r w))
-
-one_of_own : (k : ℕ) → (up_by k k true ≡ 1) × (down_by k k true ≡ 0)
-one_of_own k = (grind (arith, nat_tests), refl)
+    let i = k - 1 in
+    let own : at g.by.items e ≡ i + 1 = omega arith in
+    let keeps = All-weaker (λ (x : SignedRow). IsTreeRow g x.row) (KeepsSide arcs (side g e) i) (tree_keeps n arcs g e i f b own) w.way w.over in
+    let none : net_count w.way i ≡ pos 0 = omega (arith, ints, bridge (s ∷ w.way) (loop_walks n arcs g j f r w), net_count-cons s w.way i, step_other s i (λ z. ne (omega arith))) in
+    differ (sym (same_side arcs (side g e) i (head_of arcs j) (tail_of arcs j) w.way w.leads keeps none))
 
 -- a row outside the forest is none
 pub outside_no_bridge : (n : ℕ) (arcs : List Arc) (g : Forest) (k : ℕ) → IsForest n arcs g → Names (length arcs) k → (IsTreeRow g k → ⊥) → IsBridge arcs k → ⊥
 outside_no_bridge n arcs g k f r outside bridge =
     let w = loop_of n arcs g k f r in
     let s : SignedRow = record { row = k; plus = true } in
-    let p = plus_cons s w.way k in let m = minus_cons s w.way k in let o = one_of_own k in
-    elim (passes g k w.way w.tree) [
-      | inl z ↦ some_net (s ∷ w.way) (k - 1) k (let z = r.0 in omega arith) (λ h. let a = z.0 in let b = z.1 in omega arith) (bridge (s ∷ w.way) (loop_walks n arcs g k f r w))
-      | inr t ↦ outside t
+    let i = k - 1 in
+    let own : k ≡ i + 1 = let z = r.0 in omega arith in
+    elim (passes (IsTreeRow g) i w.way w.over) [
+      | inl z ↦ absurd (omega (arith, ints, bridge (s ∷ w.way) (loop_walks n arcs g k f r w), net_count-cons s w.way i, step_same s i own, z))
+      | inr t ↦ outside (subst (λ (m : ℕ). IsTreeRow g m) (sym own) t)
     ]
 
 -- no other row crosses the cut of e
 pub a_bridge : (n : ℕ) (arcs : List Arc) (g : Forest) (e k : ℕ) → IsForest n arcs g → 0 < at g.by.items e → at g.by.items e ≡ k
-    → ((j x y : ℕ) → Names (length arcs) j → j ≢ k → HasEnds arcs j x y → Under g e x → Under g e y) → IsBridge arcs k
+    → ((j x y : ℕ) → Names (length arcs) j → j ≢ k → HasEnds (arc_at arcs (j - 1)) x y → Under g e x → Under g e y) → IsBridge arcs k
 a_bridge n arcs g e k f b q inside walk w =
-    let c = closed arcs walk w in
-    cut_walk arcs (side g e) (k - 1) k walk (omega arith) (own_cut n arcs g e k f b q) c
-    (All-weaker (RowExists arcs) (KeepsSide arcs (side g e) k)
-    (λ s r ne. side_same g e (tail_of arcs s.row) (head_of arcs s.row)
-    (inside s.row (tail_of arcs s.row) (head_of arcs s.row) r ne (inl (refl, refl)))
-    (inside s.row (head_of arcs s.row) (tail_of arcs s.row) r ne (inr (refl, refl)))) walk c.rows)
+    let i = k - 1 in
+    let own : at g.by.items e ≡ i + 1 = omega arith in
+    cut_walk arcs (side g e) i walk (own_cut n arcs g e i f b own) w
+    (All-weaker (RowExists arcs) (KeepsSide arcs (side g e) i)
+    (λ s r ne.
+    let other : s.row ≢ k = λ z. ne (omega arith) in
+    side_same g e (tail_of arcs s.row) (head_of arcs s.row)
+    (inside s.row (tail_of arcs s.row) (head_of arcs s.row) r other (inl (refl, refl)))
+    (inside s.row (head_of arcs s.row) (tail_of arcs s.row) r other (inr (refl, refl)))) walk (closed arcs walk w).rows)
 
 -- what is reached from below is reached
 low_below : (n : ℕ) (arcs : List Arc) (g : Forest) (low high : List ℕ) (f : IsForest n arcs g) (o : AreReaches n arcs g low high) (e : ℕ) → 0 < at g.place.items e → (k x : ℕ) → at g.place.items x ≤ k → 0 < at g.place.items x → Under g e x → (at low e ≤ at low x) × (at high x ≤ at high e)
@@ -83,12 +78,12 @@ low_below n arcs g low high f o e se (suc k) x h sx i =
       ]
     ]
 
-pub end_seen : (n : ℕ) (arcs : List Arc) (g : Forest) (j x y : ℕ) → IsForest n arcs g → Names (length arcs) j → HasEnds arcs j x y → (0 < at g.place.items x) × (x < n)
+pub end_seen : (n : ℕ) (arcs : List Arc) (g : Forest) (j x y : ℕ) → IsForest n arcs g → Names (length arcs) j → HasEnds (arc_at arcs (j - 1)) x y → (0 < at g.place.items x) × (x < n)
 end_seen n arcs g j x y f r (inl h) = let e = ends_of n arcs j f.ends r in let l : x < n = (let a = h.0 in omega arith) in (f.all_seen x l, l)
 end_seen n arcs g j x y f r (inr h) = let e = ends_of n arcs j f.ends r in let l : x < n = (let a = h.0 in omega arith) in (f.all_seen x l, l)
 
 -- the other end of the row that joins x to the one above it
-above : (n : ℕ) (arcs : List Arc) (g : Forest) (j x y : ℕ) → IsForest n arcs g → 0 < at g.by.items x → at g.by.items x ≡ j → HasEnds arcs j x y → y ≡ at g.up.items x
+above : (n : ℕ) (arcs : List Arc) (g : Forest) (j x y : ℕ) → IsForest n arcs g → 0 < at g.by.items x → at g.by.items x ≡ j → HasEnds (arc_at arcs (j - 1)) x y → y ≡ at g.up.items x
 above n arcs g j x y f b q ends =
     let t = ap (tail_of arcs) q in let h = ap (head_of arcs) q in
     elim (f.grown.by_ends x b) [

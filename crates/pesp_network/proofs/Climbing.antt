@@ -1,14 +1,12 @@
 -- Up and down in a rooted forest.
-use Rattle.std.proofs.Common.{◌≡◌, ◌≢◌, ℕ, zero, suc, ◌+◌, ◌-◌, ◌<◌, ◌≤◌, inl, inr, sym, ◌∙◌, ap, arith, subst, List, [], ◌∷◌, ◌++◌, length}
+use Rattle.std.proofs.Common.{◌≡◌, ◌≢◌, ℕ, zero, suc, ◌-◌, ◌<◌, ◌≤◌, inl, inr, sym, ◌∙◌, ap, arith, List, length}
 use Rattle.std.proofs.lemmas.Bool.{cases_lt}
 use Rattle.pesp_problem.specs.declared.arc.Arc.{Arc}
-use Rattle.pesp_problem.specs.declared.row.SignedRow.{SignedRow}
-use Rattle.pesp_problem.specs.declared.row.SignedRow.{SignedRow}
-use Rattle.pesp_problem.specs.declared.arc.Arc.{Arc}
-use Rattle.pesp_problem.specs.Walks.{Names, Leads, finish}
+use Rattle.pesp_problem.specs.Walks.{Names}
 use Rattle.pesp_network.specs.declared.parts.Forest.{Forest}
 use Rattle.pesp_network.specs.Growing.{at}
-use Rattle.pesp_network.specs.Ends.{tail_of, head_of, HaveEnds}
+use Rattle.pesp_problem.specs.Arcs.{tail_of, head_of}
+use Rattle.pesp_problem.specs.ArcLimits.{HaveEnds}
 use Rattle.pesp_network.specs.Rooted.{Under, IsForest}
 
 pub self_inside : (n : ℕ) (arcs : List Arc) (g : Forest) (x : ℕ) → IsForest n arcs g → 0 < at g.place.items x → Under g x x
@@ -72,18 +70,8 @@ up_below n arcs g v f j = let w = f.grown.seen_below (at g.up.items v) (f.grown.
 pub still_above : (n : ℕ) (arcs : List Arc) (g : Forest) (u v : ℕ) → IsForest n arcs g → u < n → 0 < at g.by.items v → v ≢ u → Under g u v → Under g u (at g.up.items v)
 still_above n arcs g u v f bu j ne i = f.grown.inner_up u v (f.all_seen u bu) j (λ e. ne (sym e)) i
 
-pub leads_append : (g : List Arc) (a b c : ℕ) (v w : List SignedRow) → Leads g a v b → Leads g b w c → Leads g a (v ++ w) c
-leads_append g a b c [] w h k = let P : ℕ → Type 0 = λ x. Leads g x w c in subst P (sym h) k
-leads_append g a b c (s ∷ v) w h k = (h.0, leads_append g (finish g s) b c v w h.1 k)
-
-pub leads_from : (g : List Arc) (a b c : ℕ) (w : List SignedRow) → a ≡ b → Leads g b w c → Leads g a w c
-leads_from g a b c w e k = let P : ℕ → Type 0 = λ x. Leads g x w c in subst P (sym e) k
-
-pub leads_to : (g : List Arc) (a b c : ℕ) (w : List SignedRow) → b ≡ c → Leads g a w b → Leads g a w c
-leads_to g a b c w e k = let P : ℕ → Type 0 = λ x. Leads g a w x in subst P e k
-
 pub ends_of : (n : ℕ) (arcs : List Arc) (k : ℕ) → HaveEnds n arcs → Names (length arcs) k → (tail_of arcs k < n) × (head_of arcs k < n)
-ends_of n arcs k h r = let w = h (k - 1) (let a = r.0 in let b = r.1 in omega arith) in let q : k - 1 + 1 ≡ k = (let a = r.0 in omega arith) in let t = ap (tail_of arcs) q in let d = ap (head_of arcs) q in (omega arith, omega arith)
+ends_of n arcs k h r = let a = r.0 in let b = r.1 in h (k - 1) (omega arith)
 
 -- both ends of a row are in one tree
 pub one_tree : (n : ℕ) (arcs : List Arc) (g : Forest) (k : ℕ) → IsForest n arcs g → Names (length arcs) k → at g.root.items (head_of arcs k) ≡ at g.root.items (tail_of arcs k)

@@ -8,22 +8,22 @@ use Rattle.std.specs.Prelude.{slice_index, slice_index_or, unsigned_abs, if◌th
 use Rattle.std.specs.Int.{int_rem_euclid}
 use Rattle.pesp_problem.specs.declared.row.SignedRow.{SignedRow}
 use Rattle.pesp_problem.specs.declared.arc.Arc.{Arc}
-use Rattle.pesp_problem.specs.Arcs.{Net, arc_at, arc_slack}
+use Rattle.pesp_problem.specs.Arcs.{Net, arc_at, arc_slack, tail_of, head_of}
 use Rattle.pesp_problem.specs.Walks.{Names, IsWalk, Leads, HasWholeOffset}
 use Rattle.pesp_problem.specs.Forests.{KeepsTo}
+use Rattle.pesp_problem.specs.Congruences.{IsSame}
 use Rattle.pesp_problem.proofs.Walks.{sum_along, net_count_sum}
 use Rattle.pesp_network.specs.declared.parts.Forest.{Forest}
 use Rattle.pesp_network.specs.declared.row.NetRow.{NetRow}
 use Rattle.pesp_network.specs.Networks.{HasOpenRow, arcs_of_network, arc_of_net, no_net_row}
 use Rattle.pesp_network.specs.Growing.{at}
-use Rattle.pesp_network.specs.Ends.{tail_of, head_of}
 use Rattle.pesp_network.specs.Rooted.{IsForest, IsTreeRow, AreTreeRows}
 use Rattle.pesp_network.specs.Ways.{walk_of}
-use Rattle.pesp_network.specs.Times.{IsSame, IsWhole, duration, duration_of, FitsForest, OpensRow, AreSlacks}
+use Rattle.pesp_network.specs.Times.{IsWhole, duration, duration_of, FitsForest, OpensRow, AreSlacks}
 use Rattle.pesp_network.proofs.Places.{count, arc_is, lower_at, tail_at}
-use Rattle.pesp_network.proofs.Climbing.{leads_to}
-use Rattle.pesp_network.proofs.Cuts.{closed}
-use Rattle.pesp_network.proofs.Timing.{FitsRow, closes_row, same_rem}
+use Rattle.pesp_problem.proofs.Ways.{leads_to, closed}
+use Rattle.pesp_problem.proofs.Congruences.{same_rem}
+use Rattle.pesp_network.proofs.Timing.{FitsRow, closes_row}
 use Rattle.pesp_network.proofs.Tables.{not_listed, fundamental}
 
 -- the slack of a row at times, as a whole number

@@ -8,7 +8,7 @@ use Rattle.pesp_network.specs.declared.parts.Growth.{Growth}
 use Rattle.pesp_network.specs.declared.chains.Chains.{Chains}
 use Rattle.pesp_network.specs.Chains.{Chained, AreChains}
 use Rattle.pesp_network.specs.Growing.{Fns, Grown, Opens, OpensRoot, Closes, ClosesCurrent, at}
-use Rattle.pesp_network.specs.Ends.{tail_of, head_of}
+use Rattle.pesp_problem.specs.Arcs.{tail_of, head_of}
 use Rattle.pesp_network.specs.Floods.{OPEN_END, fns_of, GrownOver, IsCurrent, AllClosed, KeepsSeen, work_left}
 use Rattle.pesp_network.proofs.Rooting.{rooted, rooted_at}
 use Rattle.pesp_network.proofs.Closing.{closed_grown, closed_at, all_closed, current_open}

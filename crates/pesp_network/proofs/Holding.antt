@@ -7,7 +7,7 @@ use Rattle.std.proofs.lemmas.List.Elements.{All-get_or, All-weaker, All-from_get
 use Rattle.pesp_problem.specs.declared.row.SignedRow.{SignedRow}
 use Rattle.pesp_problem.specs.declared.arc.Arc.{Arc}
 use Rattle.pesp_problem.specs.Arcs.{no_arc, arc_at, arc_slack}
-use Rattle.pesp_problem.specs.ArcLimits.{ArcKeepsLimits, KeepArcLimits}
+use Rattle.pesp_problem.specs.ArcLimits.{ArcKeepsLimits, KeepArcLimits, HaveEnds}
 use Rattle.pesp_problem.specs.NetTimetables.{IsNetTimetable}
 use Rattle.pesp_problem.specs.Walks.{RowExists, AreRows, Leads, start}
 use Rattle.pesp_problem.specs.Forests.{KeepsTo, IsSimple, AreJoined, IsFirstOf}
@@ -19,12 +19,12 @@ use Rattle.pesp_network.specs.declared.parts.Reaches.{Reaches}
 use Rattle.pesp_network.specs.Held.{IsHeld}
 use Rattle.pesp_network.specs.Networks.{NetworkValue, arc_of_net, arcs_of_network, net_of_network, net_row_at, no_net_row, RowKeepsNetLimits, KeepsNetLimits, IsTableRefusal, signed_rows}
 use Rattle.pesp_network.specs.Growing.{at}
-use Rattle.pesp_network.specs.Ends.{HaveEnds}
 use Rattle.pesp_network.specs.Rooted.{IsForest, IsTreeRow, AreTreeRows}
 use Rattle.pesp_network.specs.Ways.{way_between, IsForestWay, walks_of, IsTooMany}
 use Rattle.pesp_network.specs.Times.{AreSlacks}
-use Rattle.pesp_network.proofs.Places.{count, tail_more, head_more, lower_at}
-use Rattle.pesp_network.proofs.Spanning.{along}
+use Rattle.pesp_network.proofs.Places.{count, arc_is, lower_at}
+use Rattle.pesp_problem.proofs.Spanning.{along}
+use Rattle.pesp_network.proofs.Spanning.{as_roots, are_roots}
 use Rattle.pesp_network.proofs.Bridging.{tree_is_row}
 use Rattle.pesp_network.proofs.Paths.{is_path}
 use Rattle.pesp_network.proofs.Tables.{keeps_to, too_many}
@@ -37,7 +37,7 @@ ends_kept period events rows view e each =
     let c = count rows in
     let l : k < length rows = omega arith in
     let r = All-get_or (RowKeepsNetLimits period events) rows k no_net_row l each in
-    let t = tail_more rows k l in let d = head_more rows k l in let rt = r.tail in let rh = r.head in (omega arith, omega arith) in
+    let q = arc_is rows k no_net_row l in let t = ap (λ (a : Arc). a.tail) q in let d = ap (λ (a : Arc). a.head) q in let rt = r.tail in let rh = r.head in (omega arith, omega arith) in
     let P : List NetRow → Type 0 = λ x. HaveEnds events (arcs_of_network x) in
     subst P (sym e) have
 
@@ -99,7 +99,7 @@ apart_held v n held g r from to same k b ne h =
     let events = ap (λ (x : NetworkValue). x.events) same in
     let P : NetworkValue → Type 0 = λ x. AreJoined (arcs_of_network x.rows) from to in
     let j = subst P (sym same) h in
-    ne (along v.events (arcs_of_network v.rows) g from to j.0 k.forest (omega arith) j.1 j.2).1
+    ne (along v.events (arcs_of_network v.rows) (as_roots g) from to j.0 (are_roots v.events (arcs_of_network v.rows) g k.forest) (omega arith) j.1 j.2).1
 
 pub none_then : {T : Type 0} {P Q : Type 0} (o : Option T) → IfNone o P → (P → Q) → IfNone o Q
 none_then None h f = f h

@@ -7,7 +7,6 @@ pub mod Steps
 pub mod Flooding
 pub mod Picking
 pub mod Climbing
-pub mod Cuts
 pub mod Spanning
 pub mod Bridging
 pub mod Reaching

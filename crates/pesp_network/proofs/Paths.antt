@@ -11,11 +11,11 @@ use Rattle.pesp_problem.specs.Walks.{Names, RowExists, Leads, IsWalk, start, fin
 use Rattle.pesp_problem.specs.Forests.{IsSimple}
 use Rattle.pesp_network.specs.declared.parts.Forest.{Forest}
 use Rattle.pesp_network.specs.Growing.{at}
-use Rattle.pesp_network.specs.Ends.{tail_of, head_of}
+use Rattle.pesp_problem.specs.Arcs.{tail_of, head_of}
 use Rattle.pesp_network.specs.Rooted.{Under, IsForest, IsTreeRow}
 use Rattle.pesp_network.specs.Ways.{step_up, step_down, is_under, up_way, top, down_way, way_between, walk_of}
-use Rattle.pesp_network.proofs.Climbing.{self_inside, climbs_on, descends_on, up_below, still_above, leads_append, leads_from, ends_of, one_tree}
-use Rattle.pesp_network.proofs.Cuts.{is_walk}
+use Rattle.pesp_network.proofs.Climbing.{self_inside, climbs_on, descends_on, up_below, still_above, ends_of, one_tree}
+use Rattle.pesp_problem.proofs.Ways.{leads_append, leads_from, is_walk}
 use Rattle.pesp_network.proofs.Bridging.{inside_trans, tree_is_row}
 use Rattle.pesp_network.proofs.Distinct.{IsChain, chain_append, chain_distinct, chain_bounds, apart_below, apart_all, distinct_cons}
 
@@ -197,7 +197,7 @@ one_down n arcs g most t u y way f j iy ip w =
     let P : List ℕ → Type 0 = λ z. IsChain (rank most g t) most z (hy - 1) in
     let Q : List ℕ → Type 0 = λ z. IsChain R most z hy in
     record {
-      leads = leads_append arcs u p y way (s ∷ []) w.leads (e.0, e.1);
+      leads = leads_append arcs way (s ∷ []) u p y w.leads (e.0, e.1);
       rises = record {
         tree = All-push (λ (z : SignedRow). IsTreeRow g z.row) way s w.rises.tree (y, j, refl);
         starts = subst P (sym (map-append (start arcs) way (s ∷ []))) (chain_append (rank most g t) most (hp - 1) (hy - 1) (map (start arcs) way) ts w.rises.starts more_starts);
@@ -256,7 +256,7 @@ way_facts n arcs g most x t f room bx bt r =
     let P : List ℕ → Type 0 = λ z. IsChain (rank most g t) 0 z (most + at g.place.items t - 1) in
     let Q : List ℕ → Type 0 = λ z. IsChain R 0 z (most + at g.place.items t) in
     record {
-      leads = leads_append arcs x u t up down a.leads b.leads;
+      leads = leads_append arcs up down x u t a.leads b.leads;
       tree = All-append T up down rises.tree b.rises.tree;
       starts = subst P (sym (map-append (start arcs) up down)) (chain_append (rank most g t) 0 most (most + at g.place.items t - 1) (map (start arcs) up) (map (start arcs) down) rises.starts b.rises.starts);
       rows = subst Q (sym (map-append row up down)) (chain_append R 0 most (most + at g.place.items t) (map row up) (map row down) rises.rows b.rises.rows);

@@ -6,16 +6,17 @@ use Rattle.std.proofs.lemmas.Bool.Decides.{nat_tests}
 use Rattle.std.proofs.lemmas.List.{get_or-map, get_or_past, length-map}
 use Rattle.std.proofs.lemmas.List.Elements.{All-from_get_or}
 use Rattle.pesp_problem.specs.declared.arc.Arc.{Arc}
-use Rattle.pesp_problem.specs.Arcs.{arc_at}
+use Rattle.pesp_problem.specs.Arcs.{arc_at, tail_of, head_of}
 use Rattle.pesp_problem.specs.Walks.{Names}
 use Rattle.pesp_network.specs.declared.row.NetRow.{NetRow}
 use Rattle.pesp_network.specs.declared.parts.Growth.{Growth}
 use Rattle.pesp_network.specs.declared.parts.Forest.{Forest}
 use Rattle.pesp_network.specs.Networks.{arcs_of_network, arc_of_net, net_row_at, no_net_row}
-use Rattle.pesp_network.specs.Ends.{tail_of, head_of, HaveEnds}
+use Rattle.pesp_problem.specs.ArcLimits.{HaveEnds}
 use Rattle.pesp_network.specs.Growing.{Fns, Grown, at}
 use Rattle.pesp_network.specs.Floods.{OPEN_END, fns_of, GrownOver, AllClosed}
 use Rattle.pesp_network.specs.Rooted.{IsRooted, IsGrown, IsForest, IsMetBy, number_of}
+use Rattle.pesp_network.proofs.Climbing.{ends_of}
 use Rattle.pesp_network.proofs.Places.{count, arc_is, tail_more, head_more}
 
 -- the rows of these numbers
@@ -103,9 +104,9 @@ picked_ends n rows numbers names ends k h =
     let a = picked_arc rows numbers (k + 1) names (omega arith) (omega arith) in
     let a0 = a.0 in
     let w = ends (number_of numbers (k + 1) - 1) (omega arith) in
-    let q : number_of numbers (k + 1) - 1 + 1 ≡ number_of numbers (k + 1) = omega arith in
-    let t = ap (tail_of (arcs_of_network rows)) q in let u = ap (head_of (arcs_of_network rows)) q in
-    let x = ap (λ (r : Arc). r.tail) a.1 in let y = ap (λ (r : Arc). r.head) a.1 in (omega arith, omega arith)
+    let z : k + 1 - 1 ≡ k = omega arith in
+    let q = a.1 ∙ ap (arc_at (arcs_of_network (picked rows numbers))) z in
+    let x = ap (λ (r : Arc). r.tail) q in let y = ap (λ (r : Arc). r.head) q in (omega arith, omega arith)
 
 -- both ends of a picked row are in one tree
 pub picked_met : (n : ℕ) (rows : List NetRow) (numbers : List ℕ) (g : Growth) (i : ℕ) → All (Names (length rows)) numbers → HaveEnds n (arcs_of_network rows) → GrownOver (arcs_of_network (picked rows numbers)) g → AllClosed g
@@ -113,7 +114,7 @@ pub picked_met : (n : ℕ) (rows : List NetRow) (numbers : List ℕ) (g : Growth
 picked_met n rows numbers g i names ends grown closed seen h =
     let arcs = arcs_of_network (picked rows numbers) in
     let c = count (picked rows numbers) in let e = length-map numbers (λ j. net_row_at rows (j - 1)) in
-    let w = picked_ends n rows numbers names ends i (omega arith) in
+    let w = ends_of n arcs (i + 1) (picked_ends n rows numbers names ends) (omega arith, omega arith) in
     let t = tail_of arcs (i + 1) in
     let k = grown.closed t (closed t (seen t w.0)) in
     let m = grown.tail_met (i + 1) (omega arith) (omega arith) (omega arith) in

@@ -2,11 +2,11 @@
 use Rattle.std.proofs.Common.{◌≡◌, ℕ, ◌+◌, ◌-◌, ◌<◌, sym, ◌∙◌, ap, arith, List, length, slice_index_or}
 use Rattle.std.proofs.lemmas.List.{get_or-map, length-map}
 use Rattle.pesp_problem.specs.declared.arc.Arc.{Arc}
-use Rattle.pesp_problem.specs.Arcs.{arc_at, no_arc}
+use Rattle.pesp_problem.specs.Arcs.{arc_at, no_arc, tail_of, head_of}
 use Rattle.pesp_problem.specs.Walks.{Names}
 use Rattle.pesp_network.specs.declared.row.NetRow.{NetRow}
 use Rattle.pesp_network.specs.Networks.{arcs_of_network, arc_of_net, no_net_row}
-use Rattle.pesp_network.specs.Ends.{tail_of, head_of, HaveEnds}
+use Rattle.pesp_problem.specs.ArcLimits.{HaveEnds}
 
 pub count : (rows : List NetRow) → length (arcs_of_network rows) ≡ length rows
 count rows = length-map rows arc_of_net
@@ -24,10 +24,10 @@ pub head_more : (rows : List NetRow) (i : ℕ) → i < length rows → (slice_in
 head_more rows i h = ap (λ (r : Arc). r.head) (sym (arc_more rows i h))
 
 pub tail_below : (n : ℕ) (rows : List NetRow) (i : ℕ) → HaveEnds n (arcs_of_network rows) → i < length rows → (slice_index_or rows i no_net_row).tail < n
-tail_below n rows i h lt = let c = count rows in let w = h i (omega arith) in let e = tail_more rows i lt in omega arith
+tail_below n rows i h lt = let c = count rows in let w = h i (omega arith) in let e = ap (λ (r : Arc). r.tail) (arc_is rows i no_net_row lt) in omega arith
 
 pub head_below : (n : ℕ) (rows : List NetRow) (i : ℕ) → HaveEnds n (arcs_of_network rows) → i < length rows → (slice_index_or rows i no_net_row).head < n
-head_below n rows i h lt = let c = count rows in let w = h i (omega arith) in let e = head_more rows i lt in omega arith
+head_below n rows i h lt = let c = count rows in let w = h i (omega arith) in let e = ap (λ (r : Arc). r.head) (arc_is rows i no_net_row lt) in omega arith
 
 pub named : (rows : List NetRow) (k : ℕ) → Names (length rows) k → Names (length (arcs_of_network rows)) k
 named rows k h = let c = count rows in let h0 = h.0 in let h1 = h.1 in (omega arith, omega arith)

@@ -6,7 +6,7 @@ use Rattle.pesp_problem.specs.declared.arc.Arc.{Arc}
 use Rattle.pesp_problem.specs.Walks.{Names}
 use Rattle.pesp_network.specs.declared.parts.Forest.{Forest}
 use Rattle.pesp_network.specs.Growing.{at}
-use Rattle.pesp_network.specs.Ends.{tail_of, head_of, HasEnds}
+use Rattle.pesp_problem.specs.Arcs.{arc_at, tail_of, head_of, HasEnds}
 use Rattle.pesp_network.specs.Rooted.{IsForest, AreReaches, IsReached, TakesRows, Takes, TakesUp}
 use Rattle.pesp_network.proofs.Climbing.{self_inside}
 use Rattle.pesp_network.proofs.Bridging.{reached_up, end_seen}
@@ -21,7 +21,7 @@ reached_same arcs g x v w e h = let P : ℕ → Type 0 = λ z. IsReached arcs g 
 reached_at : (arcs : List Arc) (g : Forest) (x z v : ℕ) → z ≡ x → IsReached arcs g x v → IsReached arcs g z v
 reached_at arcs g x z v e h = let P : ℕ → Type 0 = λ u. IsReached arcs g u v in subst P (sym e) h
 
-by_row_end : (n : ℕ) (arcs : List Arc) (g : Forest) (k x y : ℕ) → IsForest n arcs g → Names (length arcs) k → HasEnds arcs k x y → at g.by.items x ≢ k → IsReached arcs g x (at g.place.items y)
+by_row_end : (n : ℕ) (arcs : List Arc) (g : Forest) (k x y : ℕ) → IsForest n arcs g → Names (length arcs) k → HasEnds (arc_at arcs (k - 1)) x y → at g.by.items x ≢ k → IsReached arcs g x (at g.place.items y)
 by_row_end n arcs g k x y f r ends ne = inr (x, k, y, self_inside n arcs g x f (end_seen n arcs g k x y f r ends).0, r, ends, ne, refl)
 
 taken_mono : (g : Forest) (k x y : ℕ) (low high low2 high2 : List ℕ) → TakenRow g k x y low high low2 high2 → (z : ℕ) → (at low2 z ≤ at low z) × (at high z ≤ at high2 z)
@@ -30,7 +30,7 @@ taken_mono g k x y low high low2 high2 t z = elim (cases_eq (at g.by.items x) k)
   | inr ne ↦ let w = t.takes ne in (w.low_less z, w.high_more z)
 ]
 
-taken_one : (n : ℕ) (arcs : List Arc) (g : Forest) (i k x y : ℕ) (low high low2 high2 : List ℕ) → IsForest n arcs g → TakesRows n arcs g i low high → Names (length arcs) k → HasEnds arcs k x y → TakenRow g k x y low high low2 high2
+taken_one : (n : ℕ) (arcs : List Arc) (g : Forest) (i k x y : ℕ) (low high low2 high2 : List ℕ) → IsForest n arcs g → TakesRows n arcs g i low high → Names (length arcs) k → HasEnds (arc_at arcs (k - 1)) x y → TakenRow g k x y low high low2 high2
     → TakesRows n arcs g i low2 high2
 taken_one n arcs g i k x y low high low2 high2 f o r ends t = record {
   row_low = λ j u v ij le e ne. let a = o.row_low j u v ij le e ne in let m = taken_mono g k x y low high low2 high2 t u in omega arith;

@@ -6,7 +6,8 @@ use Rattle.pesp_problem.specs.declared.arc.Arc.{Arc}
 use Rattle.pesp_network.specs.declared.parts.Growth.{Growth}
 use Rattle.pesp_network.specs.Chains.{IsNext}
 use Rattle.pesp_network.specs.Growing.{Fns, IsMet, Grown, Opens, OpensChild, Looks, at}
-use Rattle.pesp_network.specs.Ends.{tail_of, head_of, HaveEnds}
+use Rattle.pesp_problem.specs.Arcs.{tail_of, head_of}
+use Rattle.pesp_problem.specs.ArcLimits.{HaveEnds}
 use Rattle.pesp_network.specs.Floods.{OPEN_END, fns_of, GrownOver, IsCurrent}
 use Rattle.pesp_network.proofs.Opening.{opened, opened_at}
 use Rattle.pesp_network.proofs.Closing.{looked, looked_at, meets_tail, meets_head, current_open}
@@ -18,7 +19,7 @@ room g = let a = g.order.ok.1 in let b = g.order.small in omega arith
 pub end_below : (n : ℕ) (arcs : List Arc) (k u y : ℕ) → HaveEnds n arcs → 0 < k → k ≤ length arcs
     → ((tail_of arcs k ≡ y) × (head_of arcs k ≡ u)) ⊎ ((head_of arcs k ≡ y) × (tail_of arcs k ≡ u)) → y < n
 end_below n arcs k u y h a b e =
-    let w = h (k - 1) (omega arith) in let q : k - 1 + 1 ≡ k = omega arith in let t = ap (tail_of arcs) q in let d = ap (head_of arcs) q in
+    let w = h (k - 1) (omega arith) in
     elim e [ inl x ↦ omega arith | inr x ↦ omega arith ]
 
 pub grown_from : (arcs : List Arc) (n n2 : ℕ) (s : Fns) → n2 ≡ n → Grown n (length arcs) OPEN_END (tail_of arcs) (head_of arcs) s → Grown n2 (length arcs) OPEN_END (tail_of arcs) (head_of arcs) s

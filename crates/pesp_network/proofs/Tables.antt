@@ -2,8 +2,6 @@
 use Rattle.std.proofs.Common.{◌≡◌, ℕ, zero, suc, ◌+◌, ◌-◌, ◌<◌, ◌≤◌, inl, inr, refl, sym, ◌∙◌, ap, arith, subst, List, [], ◌∷◌, ◌++◌, length, map, get_or, true, false, Bool, All, add-one}
 use Rattle.std.specs.Prelude.{if◌then◌else◌, ◌==◌, ◌||◌, Contains}
 use Rattle.std.specs.List.Sorted.{IsStrictlyIncreasing}
-use Rattle.std.proofs.lemmas.Bool.Decides.{Decides-eqb}
-use Rattle.std.proofs.lemmas.Map.Made.{IsDistinct-from_AllPairs}
 use Rattle.std.proofs.lemmas.Bool.{cases_lt, cases_Bool, eq-eqb, eqb-true, or_cases, or_parts, cond-true, cond-false}
 use Rattle.std.proofs.lemmas.List.{map-append, length_push, get_or-append_right}
 use Rattle.std.proofs.lemmas.List.Sums.{sum_by-append}
@@ -17,12 +15,12 @@ use Rattle.pesp_network.specs.declared.row.NetRow.{NetRow}
 use Rattle.pesp_network.specs.declared.parts.Forest.{Forest}
 use Rattle.pesp_network.specs.Networks.{arcs_of_network, signed_rows, no_net_row, AreTooMany}
 use Rattle.pesp_network.specs.Growing.{at}
-use Rattle.pesp_network.specs.Ends.{tail_of, head_of}
+use Rattle.pesp_problem.specs.Arcs.{tail_of, head_of}
 use Rattle.pesp_network.specs.Rooted.{IsForest, IsTreeRow, AreTreeRows}
 use Rattle.pesp_network.specs.Ways.{is_kept, outside, walk_of, walks_of}
 use Rattle.pesp_network.proofs.Places.{tail_more, head_more}
-use Rattle.pesp_network.proofs.Spanning.{seen_joined, listed_no_cycle, listed_joins}
-use Rattle.pesp_network.proofs.Bridging.{tree_is_row}
+use Rattle.pesp_problem.proofs.Spanning.{roots_span}
+use Rattle.pesp_network.proofs.Spanning.{as_roots, are_roots, event_below}
 use Rattle.pesp_network.proofs.Paths.{walk_facts, walk_simple}
 
 -- ---- rows of the forest and rows outside it
@@ -107,7 +105,7 @@ pub keeps_to : (n : ℕ) (arcs : List Arc) (g : Forest) (rows : List ℕ) → Is
 keeps_to n arcs g rows f t way a =
     let P : ℕ → Type 0 = λ k. Contains rows k in
     All-weaker (λ (s : SignedRow). IsTreeRow g s.row) (λ (s : SignedRow). Contains rows s.row)
-    (λ s h. subst P h.2 (t.all h.0 (let v = f.grown.seen_below h.0 (seen_joined n arcs g h.0 f h.1) in let e = f.events in omega arith) h.1)) way a
+    (λ s h. subst P h.2 (t.all h.0 (event_below n arcs g h.0 f h.1) h.1)) way a
 
 pub fundamental : (n : ℕ) (arcs : List Arc) (g : Forest) (rows : List ℕ) (k : ℕ) → IsForest n arcs g → AreTreeRows n g rows → Names (length arcs) k → IsFundamental arcs rows k (walk_of arcs g k)
 fundamental n arcs g rows k f t r =
@@ -122,12 +120,11 @@ names_of : (arcs : List Arc) (g : Forest) (k : ℕ) → IsOutside g (length arcs
 names_of arcs g k o = (o.some, o.most)
 
 pub spanning : (n : ℕ) (arcs : List Arc) (g : Forest) (rows : List ℕ) → IsForest n arcs g → AreTreeRows n g rows → IsSpanningForest arcs rows
-spanning n arcs g rows f t = record {
-  exist = All-weaker (IsTreeRow g) (Names (length arcs)) (λ k h. tree_is_row n arcs g f (record { row = k; plus = true }) h) rows t.tree;
-  once = IsDistinct-from_AllPairs Decides-eqb rows t.apart;
-  no_cycle = listed_no_cycle n arcs g rows f t.tree;
-  joins = listed_joins n arcs g rows f t.all;
-}
+spanning n arcs g rows f t = roots_span n arcs (as_roots g) rows (are_roots n arcs g f) (record {
+  apart = t.apart;
+  listed = t.all;
+  joined = λ k c. let w = All-contains (IsTreeRow g) rows k t.tree c in (w.0, event_below n arcs g w.0 f w.1, w.1, w.2);
+})
 
 pub not_listed : (g : Forest) (n : ℕ) (rows : List ℕ) (k : ℕ) → AreTreeRows n g rows → (IsTreeRow g k → ⊥) → Contains rows k → ⊥
 not_listed g n rows k t free h = free (All-contains (IsTreeRow g) rows k t.tree h)
@@ -135,7 +132,7 @@ not_listed g n rows k t free h = free (All-contains (IsTreeRow g) rows k t.tree 
 pub not_tree : (n : ℕ) (arcs : List Arc) (g : Forest) (rows : List ℕ) (k : ℕ) → IsForest n arcs g → AreTreeRows n g rows → (Contains rows k → ⊥) → IsTreeRow g k → ⊥
 not_tree n arcs g rows k f t free h =
     let P : ℕ → Type 0 = λ j. Contains rows j in
-    free (subst P h.2 (t.all h.0 (let v = f.grown.seen_below h.0 (seen_joined n arcs g h.0 f h.1) in let e = f.events in omega arith) h.1))
+    free (subst P h.2 (t.all h.0 (event_below n arcs g h.0 f h.1) h.1))
 
 pub table_fundamental : (n : ℕ) (arcs : List Arc) (g : Forest) (rows : List ℕ) → IsForest n arcs g → AreTreeRows n g rows → AreFundamental arcs rows (walks_of arcs g (length arcs))
 table_fundamental n arcs g rows f t =

@@ -1,28 +1,15 @@
 -- Times along the forest.
-use Rattle.std.proofs.Common.{◌≡◌, ℕ, suc, ◌+◌, ◌*◌, ◌/◌, ◌%◌, ◌<◌, refl, sym, ◌∙◌, ap, arith, List, [], ◌∷◌, All, true, false, Bool, ℤ, pos, negsuc, neg_ℤ, ◌+ℤ◌, ◌-ℤ◌, ◌*ℤ◌}
-use Rattle.std.proofs.lemmas.Int.{ints, int_rem_euclid_is}
+use Rattle.std.proofs.Common.{◌≡◌, ℕ, suc, ◌+◌, ◌<◌, ap, arith, List, [], ◌∷◌, All, true, false, Bool, ℤ, pos, negsuc, neg_ℤ, ◌+ℤ◌, ◌-ℤ◌, ◌*ℤ◌}
+use Rattle.std.proofs.lemmas.Int.{ints}
 use Rattle.std.specs.Int.{int_rem_euclid}
 use Rattle.std.proofs.lemmas.List.Elements.{All-head, All-tail}
 use Rattle.pesp_problem.specs.declared.row.SignedRow.{SignedRow}
 use Rattle.pesp_problem.specs.declared.arc.Arc.{Arc}
 use Rattle.pesp_problem.specs.Walks.{Leads, start, finish}
-use Rattle.pesp_network.specs.Ends.{tail_of, head_of}
-use Rattle.pesp_network.specs.Times.{duration_of, IsWhole, IsSame}
-
-pub same_trans : (p : ℕ) (a b c : ℤ) → IsSame p a b → IsSame p b c → IsSame p a c
-same_trans p a b c x y = record { more = x.more + y.more; less = x.less + y.less; even = let e = x.even in let f = y.even in omega (arith, ints) }
-
-pub same_sym : (p : ℕ) (a b : ℤ) → IsSame p a b → IsSame p b a
-same_sym p a b x = record { more = x.less; less = x.more; even = sym x.even }
-
-pub same_add : (p : ℕ) (a b c d : ℤ) → IsSame p a b → IsSame p c d → IsSame p (a +ℤ c) (b +ℤ d)
-same_add p a b c d x y = record { more = x.more + y.more; less = x.less + y.less; even = let e = x.even in let f = y.even in omega (arith, ints) }
-
-pub same_neg : (p : ℕ) (a b : ℤ) → IsSame p a b → IsSame p (neg_ℤ a) (neg_ℤ b)
-same_neg p a b x = record { more = x.less; less = x.more; even = let e = x.even in omega (arith, ints) }
-
-pub same_is : (p : ℕ) (a b : ℤ) → a ≡ b → IsSame p a b
-same_is p a b e = record { more = 0; less = 0; even = omega (arith, ints) }
+use Rattle.pesp_problem.specs.Arcs.{tail_of, head_of}
+use Rattle.pesp_problem.specs.Congruences.{IsSame}
+use Rattle.pesp_problem.proofs.Congruences.{same_trans, same_add, same_neg, same_is, rem_same, same_rem}
+use Rattle.pesp_network.specs.Times.{duration_of, IsWhole}
 
 whole_from : (p : ℕ) (a z : ℤ) → a ≡ pos p *ℤ z → IsSame p a (pos 0)
 whole_from p a (pos z) e = record { more = 0; less = z; even = omega (arith, ints) }
@@ -30,22 +17,6 @@ whole_from p a (negsuc z) e = record { more = suc z; less = 0; even = omega (ari
 
 pub whole_same : (p : ℕ) (a : ℤ) → IsWhole p a → IsSame p a (pos 0)
 whole_same p a w = whole_from p a w.0 w.1
-
--- the remainder
-rem_from : (p : ℕ) (a : ℤ) → 0 < p → IsSame p a (int_rem_euclid a (pos p))
-rem_from p (pos a) h = record { more = 0; less = a / p; even = omega (arith, ints) }
-rem_from p (negsuc a) h = record { more = suc (a / p); less = 0; even = omega (arith, ints) }
-
-pub rem_same : (p : ℕ) (a : ℤ) → 0 < p → IsSame p (int_rem_euclid a (pos p)) a
-rem_same p a h = same_sym p a (int_rem_euclid a (pos p)) (rem_from p a h)
-
-mod_small : (p y l : ℕ) → 0 < p → y < p → (y + p * l) % p ≡ y
-mod_small p y l h k = grind arith
-
-pub same_rem : (p y : ℕ) (a : ℤ) → y < p → IsSame p a (pos y) → int_rem_euclid a (pos p) ≡ pos y
-same_rem p y a h s =
-    let e = s.even in
-    int_rem_euclid_is a (pos p) p s.more (y + p * s.less) (omega arith) refl (omega (arith, ints)) ∙ ap pos (mod_small p y s.less (omega arith) h)
 
 -- the time from the start of a signed row to its end
 goes : (p : ℕ) (g : List Arc) (d : ℕ → ℤ) (t : ℕ → ℕ) (row : ℕ) (b : Bool) → IsSame p (pos (t (head_of g row)) -ℤ pos (t (tail_of g row))) (d row)

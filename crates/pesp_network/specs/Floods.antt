@@ -1,9 +1,9 @@
 -- What holds while a forest grows depth first over rows.
-use Rattle.std.specs.Prelude.{◌≡◌, ℕ, ◌+◌, ◌<◌, List, length, sum, count_by, ◌==◌, vec_len}
+use Rattle.std.specs.Prelude.{ℕ, ◌+◌, ◌<◌, List, length, sum, count_by, ◌==◌, vec_len}
 use Rattle.pesp_problem.specs.declared.arc.Arc.{Arc}
 use Rattle.pesp_network.specs.declared.parts.Growth.{Growth}
 use Rattle.pesp_network.specs.Growing.{Fns, Grown, OpenAt, at}
-use Rattle.pesp_network.specs.Ends.{tail_of, head_of}
+use Rattle.pesp_problem.specs.Arcs.{tail_of, head_of}
 
 -- what an open event has as its last place
 abbrev pub OPEN_END : ℕ

@@ -1,5 +1,4 @@
 pub mod Networks
-pub mod Ends
 pub mod Chains
 pub mod Growing
 pub mod Floods

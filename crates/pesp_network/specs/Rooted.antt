@@ -5,7 +5,8 @@ use Rattle.pesp_problem.specs.declared.arc.Arc.{Arc}
 use Rattle.pesp_problem.specs.Walks.{Names}
 use Rattle.pesp_network.specs.declared.parts.Forest.{Forest}
 use Rattle.pesp_network.specs.Growing.{at}
-use Rattle.pesp_network.specs.Ends.{tail_of, head_of, HaveEnds, HasEnds}
+use Rattle.pesp_problem.specs.Arcs.{arc_at, tail_of, head_of, HasEnds}
+use Rattle.pesp_problem.specs.ArcLimits.{HaveEnds}
 
 -- y is x or lies below it
 abbrev pub Under : Forest → ℕ → ℕ → Type 0
@@ -69,12 +70,12 @@ pub record AreTreeRows (n : ℕ) (g : Forest) (rows : List ℕ) : Type 0 where
 -- v is the place of an event at or below x, or of one to which a row leads from there, other than the row to the event above
 abbrev pub IsReached : List Arc → Forest → ℕ → ℕ → Type 0
 IsReached arcs g x v = ((z : ℕ) × Under g x z × (v ≡ at g.place.items z))
-    ⊎ ((z : ℕ) × (j : ℕ) × (y : ℕ) × Under g x z × Names (length arcs) j × HasEnds arcs j z y × (at g.by.items z ≡ j → ⊥) × (v ≡ at g.place.items y))
+    ⊎ ((z : ℕ) × (j : ℕ) × (y : ℕ) × Under g x z × Names (length arcs) j × HasEnds (arc_at arcs (j - 1)) z y × (at g.by.items z ≡ j → ⊥) × (v ≡ at g.place.items y))
 
 -- the first and the last place that are reached from each event
 pub record AreReaches (n : ℕ) (arcs : List Arc) (g : Forest) (low high : List ℕ) : Type 0 where
-  pub row_low : (j x y : ℕ) → Names (length arcs) j → HasEnds arcs j x y → (at g.by.items x ≡ j → ⊥) → at low x ≤ at g.place.items y
-  pub row_high : (j x y : ℕ) → Names (length arcs) j → HasEnds arcs j x y → (at g.by.items x ≡ j → ⊥) → at g.place.items y ≤ at high x
+  pub row_low : (j x y : ℕ) → Names (length arcs) j → HasEnds (arc_at arcs (j - 1)) x y → (at g.by.items x ≡ j → ⊥) → at low x ≤ at g.place.items y
+  pub row_high : (j x y : ℕ) → Names (length arcs) j → HasEnds (arc_at arcs (j - 1)) x y → (at g.by.items x ≡ j → ⊥) → at g.place.items y ≤ at high x
   pub up_low : (x : ℕ) → 0 < at g.by.items x → at low (at g.up.items x) ≤ at low x
   pub up_high : (x : ℕ) → 0 < at g.by.items x → at high x ≤ at high (at g.up.items x)
   pub low_reached : (x : ℕ) → x < n → IsReached arcs g x (at low x)
@@ -82,8 +83,8 @@ pub record AreReaches (n : ℕ) (arcs : List Arc) (g : Forest) (low high : List 
 
 -- the first rows up to i are taken in
 pub record TakesRows (n : ℕ) (arcs : List Arc) (g : Forest) (i : ℕ) (low high : List ℕ) : Type 0 where
-  pub row_low : (j x y : ℕ) → Names (length arcs) j → j ≤ i → HasEnds arcs j x y → (at g.by.items x ≡ j → ⊥) → at low x ≤ at g.place.items y
-  pub row_high : (j x y : ℕ) → Names (length arcs) j → j ≤ i → HasEnds arcs j x y → (at g.by.items x ≡ j → ⊥) → at g.place.items y ≤ at high x
+  pub row_low : (j x y : ℕ) → Names (length arcs) j → j ≤ i → HasEnds (arc_at arcs (j - 1)) x y → (at g.by.items x ≡ j → ⊥) → at low x ≤ at g.place.items y
+  pub row_high : (j x y : ℕ) → Names (length arcs) j → j ≤ i → HasEnds (arc_at arcs (j - 1)) x y → (at g.by.items x ≡ j → ⊥) → at g.place.items y ≤ at high x
   pub low_reached : (x : ℕ) → x < n → IsReached arcs g x (at low x)
   pub high_reached : (x : ℕ) → x < n → IsReached arcs g x (at high x)
 

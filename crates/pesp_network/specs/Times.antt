@@ -1,13 +1,13 @@
--- Durations along a way, and numbers that differ by a multiple of the period.
-use Rattle.std.specs.Prelude.{◌≡◌, ℕ, ◌-◌, ◌*◌, ◌<◌, ◌≤◌, List, [], ◌∷◌, ℤ, pos, neg_ℤ, ◌+ℤ◌, ◌-ℤ◌, ◌*ℤ◌, if◌then◌else◌, length, slice_index, unsigned_abs}
+-- Durations along a way, and times that fit a forest.
+use Rattle.std.specs.Prelude.{◌≡◌, ℕ, ◌-◌, ◌<◌, ◌≤◌, List, [], ◌∷◌, ℤ, pos, neg_ℤ, ◌+ℤ◌, ◌-ℤ◌, ◌*ℤ◌, if◌then◌else◌, length, slice_index, unsigned_abs}
 use Rattle.pesp_problem.specs.declared.row.SignedRow.{SignedRow}
 use Rattle.pesp_problem.specs.declared.arc.Arc.{Arc}
-use Rattle.pesp_problem.specs.Arcs.{arc_at}
+use Rattle.pesp_problem.specs.Arcs.{arc_at, tail_of, head_of}
+use Rattle.pesp_problem.specs.Congruences.{IsSame}
 use Rattle.pesp_network.specs.declared.parts.Forest.{Forest}
 use Rattle.pesp_network.specs.Networks.{HasOpenRow}
 use Rattle.pesp_network.specs.Growing.{at}
 use Rattle.pesp_network.specs.Rooted.{AreTreeRows}
-use Rattle.pesp_network.specs.Ends.{tail_of, head_of}
 
 -- the durations of the rows, with their signs
 abbrev pub duration_of : (ℕ → ℤ) → List SignedRow → ℤ
@@ -17,12 +17,6 @@ duration_of d (s ∷ way) = (if s.plus then d s.row else neg_ℤ (d s.row)) +ℤ
 -- it is a multiple of the period
 abbrev pub IsWhole : ℕ → ℤ → Type 0
 IsWhole period sum = (z : ℤ) × (sum ≡ pos period *ℤ z)
-
--- two numbers are the same but for a multiple of the period
-pub record IsSame (period : ℕ) (a b : ℤ) : Type 0 where
-  pub more : ℕ
-  pub less : ℕ
-  pub even : (a +ℤ pos (period * more)) ≡ (b +ℤ pos (period * less))
 
 -- the lower bound of a row and its slack
 abbrev pub duration : List Arc → List ℕ → ℕ → ℤ

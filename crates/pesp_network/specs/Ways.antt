@@ -7,7 +7,7 @@ use Rattle.pesp_network.specs.declared.refusal.NetRefusal.{NetRefusal}
 use Rattle.pesp_network.specs.declared.refusal.NetRefusal.TheVariants.{Memory, TableTooLarge, BadRow}
 use Rattle.pesp_network.specs.Networks.{signed_rows}
 use Rattle.pesp_network.specs.Growing.{at}
-use Rattle.pesp_network.specs.Ends.{tail_of, head_of}
+use Rattle.pesp_problem.specs.Arcs.{tail_of, head_of}
 
 -- from an event to the one above it, and from there down to it
 abbrev pub step_up : List Arc → Forest → ℕ → SignedRow

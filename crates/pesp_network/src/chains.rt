@@ -2,7 +2,8 @@
 
 ghost use Rattle.std.specs.Prelude.{◌≡◌, ℕ, ◌+◌, ◌-◌, ◌<◌, ◌≤◌, ◌⊎◌, length, IfOk, vec_len};
 ghost use Rattle.pesp_network.specs.Networks.{arcs_of_network};
-ghost use Rattle.pesp_network.specs.Ends.{tail_of, head_of, HaveEnds};
+ghost use Rattle.pesp_problem.specs.Arcs.{tail_of, head_of};
+ghost use Rattle.pesp_problem.specs.ArcLimits.{HaveEnds};
 ghost use Rattle.pesp_network.specs.Chains.{IsNext, AreChains};
 
 use crate::row::NetRow;

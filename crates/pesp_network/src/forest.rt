@@ -3,7 +3,7 @@
 ghost use Rattle.std.specs.Prelude.{◌≡◌, ℕ, ◌+◌, ◌-◌, ◌<◌, ◌≤◌, length, map, slice_index, slice_index_or, IfOk, IsTrue, All, vec_len};
 ghost use Rattle.pesp_problem.specs.Walks.{Names};
 ghost use Rattle.pesp_network.specs.Networks.{arcs_of_network, net_row_at};
-ghost use Rattle.pesp_network.specs.Ends.{HaveEnds};
+ghost use Rattle.pesp_problem.specs.ArcLimits.{HaveEnds};
 ghost use Rattle.pesp_network.specs.Rooted.{IsGrown, IsForest, IsMetBy, number_of};
 
 use crate::growth::grow;

@@ -2,7 +2,7 @@
 
 ghost use Rattle.std.specs.Prelude.{◌≡◌, ℕ, ◌+◌, ◌-◌, ◌<◌, ◌≤◌, ◌⊎◌, length, sum, slice_set, replicate, [], OnOk, IfOk, vec_len};
 ghost use Rattle.pesp_network.specs.Networks.{arcs_of_network};
-ghost use Rattle.pesp_network.specs.Ends.{HaveEnds};
+ghost use Rattle.pesp_problem.specs.ArcLimits.{HaveEnds};
 ghost use Rattle.pesp_network.specs.Growing.{Opens, Closes, Looks, at};
 ghost use Rattle.pesp_network.specs.Chains.{AreChains};
 ghost use Rattle.pesp_network.specs.Floods.{OPEN_END, fns_of, GrownOver, IsCurrent, AllClosed, KeepsSeen};

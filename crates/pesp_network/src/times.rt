@@ -5,9 +5,10 @@ ghost use Rattle.std.specs.Int.{int_rem_euclid};
 ghost use Rattle.pesp_problem.specs.Arcs as spec;
 ghost use Rattle.pesp_network.specs.Networks.{arcs_of_network};
 ghost use Rattle.pesp_network.specs.Growing.{at};
-ghost use Rattle.pesp_network.specs.Ends.{tail_of};
+ghost use Rattle.pesp_problem.specs.Arcs.{tail_of};
 ghost use Rattle.pesp_network.specs.Rooted.{IsForest};
-ghost use Rattle.pesp_network.specs.Times.{IsSame, duration, AreSlacks, FitsForest, OpensRow};
+ghost use Rattle.pesp_problem.specs.Congruences.{IsSame};
+ghost use Rattle.pesp_network.specs.Times.{duration, AreSlacks, FitsForest, OpensRow};
 
 use crate::parts::Forest;
 use crate::row::NetRow;

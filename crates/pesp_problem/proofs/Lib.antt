@@ -1,7 +1,12 @@
 pub mod Judging
 pub mod Integers
+pub mod Congruences
 pub mod Walks
 pub mod Arcs
+pub mod Ways
+pub mod Crossings
+pub mod Below
+pub mod Spanning
 pub mod NetTimetables
 pub mod Nodes
 pub mod Offsets

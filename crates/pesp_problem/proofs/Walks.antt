@@ -3,7 +3,7 @@ use Rattle.std.proofs.Common.{◌≡◌, ℕ, ◌+◌, ◌-◌, ◌<◌, ◌≢�
 use Rattle.std.specs.Prelude.{ℤ, pos, negsuc, ◌+ℤ◌, ◌-ℤ◌, ◌*ℤ◌, neg_ℤ, slice_index, ◌&&◌, ◌==◌, if◌then◌else◌}
 use Rattle.std.specs.Int.{int_div_euclid}
 use Rattle.std.proofs.lemmas.Int.{ints}
-use Rattle.std.proofs.lemmas.Bool.Decides.{nat_tests}
+use Rattle.std.proofs.lemmas.Bool.{eq-eqb, ne_eqb}
 use Rattle.std.proofs.lemmas.List.Sums.{sum_by-cons}
 use Rattle.std.proofs.lemmas.List.Elements.{All-head, All-tail}
 use Rattle.pesp_problem.specs.declared.arc.Arc.{Arc}
@@ -33,17 +33,11 @@ net_count-cons s walk i =
     let one = step_is s.plus (s.row == i + 1) in
     omega (arith, ints, plus, minus, one)
 
-eq-true : (a b : ℕ) → a ≡ b → (a == b) ≡ true
-eq-true a b e = grind (arith, nat_tests)
-
-eq-false : (a b : ℕ) → a ≢ b → (a == b) ≡ false
-eq-false a b e = grind (arith, nat_tests)
-
 pub step_same : (s : SignedRow) (i : ℕ) → s.row ≡ i + 1 → step s i ≡ sign s
-step_same s i e = ap (λ b. if b then sign s else pos 0) (eq-true s.row (i + 1) e)
+step_same s i e = ap (λ b. if b then sign s else pos 0) (eq-eqb s.row (i + 1) e)
 
 pub step_other : (s : SignedRow) (i : ℕ) → s.row ≢ i + 1 → step s i ≡ pos 0
-step_other s i ne = ap (λ b. if b then sign s else pos 0) (eq-false s.row (i + 1) ne)
+step_other s i ne = ap (λ b. if b then sign s else pos 0) (ne_eqb s.row (i + 1) ne)
 
 -- ---- sums along a walk
 

@@ -1,5 +1,5 @@
 -- Nets: a period and arcs, all that walks, nodes and leaf values see of a problem.
-use Rattle.std.specs.Prelude.{ℕ, ◌-◌, min, List, map, length, slice_index_or, ℤ, pos, ◌-ℤ◌, unsigned_abs}
+use Rattle.std.specs.Prelude.{◌≡◌, ℕ, ◌-◌, ◌⊎◌, min, List, map, length, slice_index_or, ℤ, pos, ◌-ℤ◌, unsigned_abs}
 use Rattle.pesp_problem.specs.declared.row.Row.{Row}
 use Rattle.pesp_problem.specs.declared.arc.Arc.{Arc}
 use Rattle.pesp_problem.specs.Sums.{sum_below}
@@ -17,6 +17,17 @@ no_arc = record { tail = 0; head = 0; lower = pos 0; span = 0; weight = 0 }
 -- the arc at a place, from 0
 abbrev pub arc_at : List Arc → ℕ → Arc
 arc_at arcs i = slice_index_or arcs i no_arc
+
+-- the events at the ends of the row of a number, from 1
+abbrev pub tail_of : List Arc → ℕ → ℕ
+tail_of arcs k = (arc_at arcs (k - 1)).tail
+
+abbrev pub head_of : List Arc → ℕ → ℕ
+head_of arcs k = (arc_at arcs (k - 1)).head
+
+-- the arc has these two ends, in one order or the other
+abbrev pub HasEnds : Arc → ℕ → ℕ → Type 0
+HasEnds arc x y = ((arc.tail ≡ x) × (arc.head ≡ y)) ⊎ ((arc.head ≡ x) × (arc.tail ≡ y))
 
 -- the greatest slack that a row may have
 abbrev pub span : ℕ → Row → ℕ

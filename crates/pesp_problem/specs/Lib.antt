@@ -1,5 +1,6 @@
 pub mod Sums
 pub mod Timetables
+pub mod Congruences
 pub mod Limits
 pub mod Arcs
 pub mod ArcLimits
@@ -7,5 +8,6 @@ pub mod NetTimetables
 pub mod Walks
 pub mod Nodes
 pub mod Forests
+pub mod Roots
 pub mod Families
 pub mod Scores

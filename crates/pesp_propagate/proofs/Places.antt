@@ -1,8 +1,7 @@
 -- Rows by their numbers.
 use Rattle.std.proofs.Common.{◌≡◌, ◌≢◌, ℕ, ◌+◌, ◌-◌, ◌<◌, ◌≤◌, refl, sym, ◌∙◌, ap, arith, List, length, slice_index_or}
 use Rattle.pesp_problem.specs.declared.arc.Arc.{Arc}
-use Rattle.pesp_problem.specs.Arcs.{arc_at}
-use Rattle.pesp_network.specs.Ends.{tail_of, head_of}
+use Rattle.pesp_problem.specs.Arcs.{arc_at, tail_of, head_of}
 
 pub row_more : (arcs : List Arc) (i : ℕ) → arc_at arcs (i + 1 - 1) ≡ arc_at arcs i
 row_more arcs i = let e : i + 1 - 1 ≡ i = omega arith in ap (λ (j : ℕ). arc_at arcs j) e

@@ -7,14 +7,13 @@ use Rattle.std.proofs.lemmas.List.{get_or_default}
 use Rattle.std.proofs.lemmas.List.Elements.{All-nil}
 use Rattle.pesp_problem.specs.declared.arc.Arc.{Arc}
 use Rattle.pesp_problem.specs.declared.memory.Memory.{Memory}
-use Rattle.pesp_problem.specs.Arcs.{arc_at}
+use Rattle.pesp_problem.specs.Arcs.{arc_at, tail_of, head_of}
 use Rattle.pesp_problem.specs.Nodes.{slack_range}
 use Rattle.pesp_problem.specs.Families.{IsSupportedBy}
 use Rattle.pesp_propagate.specs.declared.waiting.Waiting.{Waiting}
 use Rattle.pesp_propagate.specs.Bits.{bit}
 use Rattle.pesp_propagate.specs.Sets.{set_of, family, Changes}
 use Rattle.pesp_propagate.specs.Domains.{width_of}
-use Rattle.pesp_network.specs.Ends.{tail_of, head_of}
 use Rattle.pesp_propagate.specs.Waiting.{waits_at, Grows, Leaves, AreListed}
 use Rattle.pesp_propagate.specs.declared.outcome.Outcome.{Outcome}
 use Rattle.pesp_propagate.specs.declared.outcome.Outcome.TheVariants.{Stable, Empty}

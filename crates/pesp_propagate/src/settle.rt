@@ -1,10 +1,9 @@
 //! Differences without partners are taken away until each that is left has one, or a set is empty.
 
 ghost use Rattle.std.specs.Prelude.{◌≡◌, ℕ, ◌+◌, ◌-◌, ◌<◌, ◌≤◌, ◌≢◌, ◌⊎◌, length, true, false, All, Contains, [], IfOk, IfSome, IfNone, OnOk, Ok, Some, None, vec_len};
-ghost use Rattle.pesp_problem.specs.Arcs.{arc_at};
+ghost use Rattle.pesp_problem.specs.Arcs.{arc_at, tail_of, head_of};
 ghost use Rattle.pesp_propagate.specs.Domains.{family_of, HaveSizes};
 ghost use Rattle.pesp_network.specs.Chains.{AreChains};
-ghost use Rattle.pesp_network.specs.Ends.{tail_of, head_of};
 ghost use Rattle.pesp_problem.specs.ArcLimits.{HaveEnds};
 ghost use Rattle.pesp_propagate.specs.declared.outcome.Outcome.{Outcome};
 ghost use Rattle.pesp_propagate.specs.Waiting.{waits_at, Grows, AreListed};

@@ -2,7 +2,7 @@
 
 ghost use Rattle.std.specs.Prelude.{◌≡◌, ℕ, ◌+◌, ◌-◌, ◌<◌, ◌≤◌, ◌≢◌, ◌⊎◌, length, IfOk, OnOk, vec_len, true, false, []};
 ghost use Rattle.pesp_network.specs.Chains.{AreChains};
-ghost use Rattle.pesp_network.specs.Ends.{tail_of, head_of};
+ghost use Rattle.pesp_problem.specs.Arcs.{tail_of, head_of};
 ghost use Rattle.pesp_propagate.specs.Waiting.{waits_at, Grows, Leaves, AreListed};
 
 use pesp_network::Chains;

@@ -1,5 +1,5 @@
 -- Walks without bridges.
-use Rattle.std.proofs.Common.{◌≡◌, ◌≢◌, ℕ, zero, suc, ◌+◌, ◌-◌, ◌<◌, ◌≤◌, ◌⊎◌, inl, inr, refl, sym, ◌∙◌, ap, arith, subst, List, [], ◌∷◌, ◌++◌, length, true, false, Bool, All, pos, negsuc, ◌+ℤ◌}
+use Rattle.std.proofs.Common.{◌≡◌, ◌≢◌, ℕ, zero, suc, ◌+◌, ◌-◌, ◌<◌, ◌≤◌, ◌⊎◌, inl, inr, refl, sym, ◌∙◌, ap, arith, subst, List, [], ◌∷◌, ◌++◌, length, true, false, Bool, All, pos, negsuc}
 use Rattle.std.specs.Prelude.{if◌then◌else◌}
 use Rattle.std.proofs.lemmas.Int.{ints}
 use Rattle.std.proofs.lemmas.Bool.{cases_Bool, cases_eq}
@@ -11,12 +11,8 @@ use Rattle.pesp_problem.specs.Arcs.{arc_at}
 use Rattle.pesp_problem.specs.Walks.{RowExists, AreRows, Leads, start, finish, sign, net_count}
 use Rattle.pesp_problem.specs.Forests.{IsBridge}
 use Rattle.pesp_problem.proofs.Walks.{net_count-cons, step_same, step_other}
-use Rattle.pesp_reduce.proofs.Ways.{leads_append}
+use Rattle.pesp_problem.proofs.Ways.{leads_append, net_count-append}
 use Rattle.pesp_reduce.proofs.Trees.{loop_stays}
-
-pub net_count-append : (v w : List SignedRow) (i : ℕ) → net_count (v ++ w) i ≡ net_count v i +ℤ net_count w i
-net_count-append [] w i = omega (arith, ints)
-net_count-append (s ∷ v) w i = omega (arith, ints, net_count-cons s (v ++ w) i, net_count-cons s v i, net_count-append v w i)
 
 pub absent : (i : ℕ) (way : List SignedRow) → All (λ s. s.row ≢ i + 1) way → net_count way i ≡ pos 0
 absent i [] h = refl

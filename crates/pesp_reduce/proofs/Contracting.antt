@@ -13,7 +13,7 @@ use Rattle.pesp_network.specs.declared.row.NetRow.{NetRow}
 use Rattle.pesp_network.specs.Networks.{net_row_at, no_net_row, arc_of_net, arcs_of_network, KeepsNetLimits, RowKeepsNetLimits}
 use Rattle.pesp_reduce.specs.Rows.{flag, part, loop_at, fixed_row}
 use Rattle.pesp_reduce.specs.Contractions.{AreTree, AreShifts, AreTogether, AreFlags, IsStanding}
-use Rattle.pesp_reduce.proofs.Congruences.{none_left}
+use Rattle.pesp_problem.proofs.Congruences.{none_left}
 use Rattle.pesp_reduce.proofs.Lists.{arc_at_net, arcs_length, row_of_map}
 use Rattle.pesp_reduce.proofs.Ways.{leads_same}
 use Rattle.pesp_reduce.proofs.Trees.{no_loop_in, same_arc}

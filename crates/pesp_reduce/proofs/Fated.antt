@@ -17,7 +17,7 @@ use Rattle.pesp_network.specs.Networks.{NetworkValue, net_row_at, no_net_row, ar
 use Rattle.pesp_reduce.specs.declared.fate.Fate.{Fate}
 use Rattle.pesp_reduce.specs.declared.fate.Fate.TheVariants.{Free, Contracted, Bridge, Kept}
 use Rattle.pesp_reduce.specs.declared.contraction.Contraction.{Contraction}
-use Rattle.pesp_reduce.specs.Congruences.{IsSame}
+use Rattle.pesp_problem.specs.Congruences.{IsSame}
 use Rattle.pesp_reduce.specs.Rows.{flag, IsFree}
 use Rattle.pesp_reduce.specs.Fates.{fate_at, is_kept, mapped_row, kept_below}
 use Rattle.pesp_reduce.specs.Reductions.{IsReduction, ReducedValue, IsFateOf, AreFatesOf, AreKeptRows, AreMerged, AreForEvents, AreJoinedByContracted}

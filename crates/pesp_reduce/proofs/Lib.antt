@@ -1,4 +1,3 @@
-pub mod Congruences
 pub mod Ways
 pub mod Lists
 pub mod Trees

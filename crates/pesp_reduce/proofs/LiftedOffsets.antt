@@ -14,7 +14,7 @@ use Rattle.pesp_problem.proofs.Walks.{step, sum_along, net_count_sum, net_count-
 use Rattle.pesp_network.specs.Networks.{net_row_at, arcs_of_network, net_of_network}
 use Rattle.pesp_reduce.specs.declared.fate.Fate.{Fate}
 use Rattle.pesp_reduce.specs.declared.fate.Fate.TheVariants.{Contracted, Kept}
-use Rattle.pesp_reduce.specs.Congruences.{IsSame}
+use Rattle.pesp_problem.specs.Congruences.{IsSame}
 use Rattle.pesp_reduce.specs.Fates.{fate_at, is_kept}
 use Rattle.pesp_reduce.specs.LiftedWalks.{original_row, passes_kept, IsKeptOrContracted, lower_sum}
 use Rattle.pesp_reduce.specs.Reductions.{ReducedValue, IsReducedRow, AreTightAtContracted, left_slacks, origin_place}

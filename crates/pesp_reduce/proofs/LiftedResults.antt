@@ -14,7 +14,7 @@ use Rattle.pesp_network.specs.Networks.{NetworkValue, net_row_at, arcs_of_networ
 use Rattle.pesp_reduce.specs.declared.fate.Fate.{Fate}
 use Rattle.pesp_reduce.specs.declared.fate.Fate.TheVariants.{Free, Kept}
 use Rattle.pesp_reduce.specs.declared.contraction.Contraction.{Contraction}
-use Rattle.pesp_reduce.specs.Congruences.{IsSame}
+use Rattle.pesp_problem.specs.Congruences.{IsSame}
 use Rattle.pesp_reduce.specs.Rows.{flag}
 use Rattle.pesp_reduce.specs.Contractions.{IsStanding}
 use Rattle.pesp_reduce.specs.Fates.{fate_at, is_kept}

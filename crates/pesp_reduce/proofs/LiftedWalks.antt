@@ -21,7 +21,8 @@ use Rattle.pesp_reduce.specs.Rows.{flag}
 use Rattle.pesp_reduce.specs.Contractions.{AreTree}
 use Rattle.pesp_reduce.specs.LiftedWalks.{original_row, HasNoRowTwice, is_other, no_signed_row, passed_at, passed_in_turn, row_after, IsContractionOf, AreLeftOf, IsLiftOf}
 use Rattle.pesp_reduce.proofs.Lists.{arc_at_net, arcs_length}
-use Rattle.pesp_reduce.proofs.Ways.{leads_append, leads_same}
+use Rattle.pesp_problem.proofs.Ways.{leads_append}
+use Rattle.pesp_reduce.proofs.Ways.{leads_same}
 use Rattle.pesp_reduce.proofs.Trees.{same_arc, loop_arc, loop_stays, filter_on, filter_off}
 use Rattle.pesp_reduce.proofs.Fated.{map_push}
 use Rattle.pesp_reduce.proofs.LowerSums.{rows_of_walk}

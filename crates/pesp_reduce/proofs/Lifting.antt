@@ -23,13 +23,13 @@ use Rattle.pesp_network.specs.Networks.{NetworkValue, net_row_at, arc_of_net, ar
 use Rattle.pesp_reduce.specs.declared.fate.Fate.{Fate}
 use Rattle.pesp_reduce.specs.declared.fate.Fate.TheVariants.{Free, Contracted, Bridge, Kept}
 use Rattle.pesp_reduce.specs.declared.contraction.Contraction.{Contraction}
-use Rattle.pesp_reduce.specs.Congruences.{IsSame}
+use Rattle.pesp_problem.specs.Congruences.{IsSame}
 use Rattle.pesp_reduce.specs.Rows.{flag, IsFree}
 use Rattle.pesp_reduce.specs.Contractions.{AreTree}
 use Rattle.pesp_reduce.specs.Fates.{fate_at, is_kept, mapped_row}
 use Rattle.pesp_reduce.specs.Reductions.{IsReduction, origin_place}
 use Rattle.pesp_reduce.specs.Times.{lowered_time, shifted, lifted_slack}
-use Rattle.pesp_reduce.proofs.Congruences.{same_trans, same_sym, same_is, same_remainders, none_left, none_left_of}
+use Rattle.pesp_problem.proofs.Congruences.{same_trans, same_sym, same_is, same_remainders, none_left, none_left_of}
 use Rattle.pesp_reduce.proofs.Lists.{arc_at_net, arcs_length}
 use Rattle.pesp_reduce.proofs.Trees.{same_arc, loop_arc, loop_stays}
 use Rattle.pesp_reduce.proofs.Keeping.{keeps, places, places_before, sum_kept}

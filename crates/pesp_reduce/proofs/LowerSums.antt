@@ -12,9 +12,9 @@ use Rattle.pesp_problem.proofs.Integers.{mul-add}
 use Rattle.pesp_problem.proofs.Walks.{sum_along, net_count_sum, rise, telescope}
 use Rattle.pesp_network.specs.declared.row.NetRow.{NetRow}
 use Rattle.pesp_network.specs.Networks.{arcs_of_network}
-use Rattle.pesp_reduce.specs.Congruences.{IsSame}
+use Rattle.pesp_problem.specs.Congruences.{IsSame}
 use Rattle.pesp_reduce.specs.LiftedWalks.{original_row, lower_sum}
-use Rattle.pesp_reduce.proofs.Congruences.{same_trans, same_add, same_is}
+use Rattle.pesp_problem.proofs.Congruences.{same_trans, same_add, same_is}
 use Rattle.pesp_reduce.proofs.Trees.{filter_on, filter_off}
 
 same_sign : (period : ℕ) (b : Bool) (z w : ℤ) → IsSame period z w → IsSame period ((if b then pos 1 else negsuc 0) *ℤ z) ((if b then pos 1 else negsuc 0) *ℤ w)

@@ -1,41 +1,13 @@
--- Ways: joined end to end, turned round, and what they join.
-use Rattle.std.proofs.Common.{◌≡◌, ℕ, ◌-◌, ◌≤◌, refl, sym, ◌∙◌, ap, arith, subst, List, [], ◌∷◌, ◌++◌, length, true, false, Bool, not, All}
+-- Ways over other arcs, and what ways join.
+use Rattle.std.proofs.Common.{◌≡◌, ℕ, ◌-◌, ◌≤◌, refl, sym, ◌∙◌, ap, arith, subst, List, [], ◌∷◌, ◌++◌, length, All}
 use Rattle.std.specs.Prelude.{if◌then◌else◌}
-use Rattle.std.proofs.lemmas.List.Elements.{All-append, All-nil, All-push, All-head, All-tail}
+use Rattle.std.proofs.lemmas.List.Elements.{All-append, All-nil, All-head, All-tail}
 use Rattle.pesp_problem.specs.declared.row.SignedRow.{SignedRow}
 use Rattle.pesp_problem.specs.declared.arc.Arc.{Arc}
 use Rattle.pesp_problem.specs.Arcs.{arc_at}
 use Rattle.pesp_problem.specs.Walks.{Names, RowExists, Leads, IsWalk, start, finish}
 use Rattle.pesp_problem.specs.Forests.{AreJoined, IsFirstOf}
-
-pub leads_append : (arcs : List Arc) (v w : List SignedRow) (a b c : ℕ) → Leads arcs a v b → Leads arcs b w c → Leads arcs a (v ++ w) c
-leads_append arcs [] w a b c h k = subst (λ x. Leads arcs x w c) (sym h) k
-leads_append arcs (s ∷ v) w a b c h k = (h.0, leads_append arcs v w (finish arcs s) b c h.1 k)
-
-abbrev pub turned : SignedRow → SignedRow
-turned s = record { row = s.row; plus = not s.plus }
-
-abbrev pub back : List SignedRow → List SignedRow
-back [] = []
-back (s ∷ way) = back way ++ turned s ∷ []
-
-swapped : (b : Bool) (x y : ℕ) → (if not b then x else y) ≡ (if b then y else x)
-swapped true x y = refl
-swapped false x y = refl
-
-pub leads_back : (arcs : List Arc) (way : List SignedRow) (a b : ℕ) → Leads arcs a way b → Leads arcs b (back way) a
-leads_back arcs [] a b h = sym h
-leads_back arcs (s ∷ way) a b h =
-    let arc = arc_at arcs (s.row - 1) in
-    let last : Leads arcs (finish arcs s) (turned s ∷ []) a = (swapped s.plus arc.tail arc.head, swapped s.plus arc.head arc.tail ∙ h.0) in
-    leads_append arcs (back way) (turned s ∷ []) b (finish arcs s) a (leads_back arcs way (finish arcs s) b h.1) last
-
--- what holds of each row of a way holds on the way back
-pub all_back : (P : ℕ → Type 0) (way : List SignedRow) → All (λ s. P s.row) way → All (λ s. P s.row) (back way)
-all_back P [] h = h
-all_back P (s ∷ way) h =
-    let Q : SignedRow → Type 0 = λ x. P x.row in
-    All-push Q (back way) (turned s) (all_back P way (All-tail Q s way h)) (All-head Q s way h)
+use Rattle.pesp_problem.proofs.Ways.{leads_append, back, leads_back, all_back}
 
 -- a way is one over other arcs that agree at its rows
 pub leads_same : (arcs others : List Arc) (way : List SignedRow) (a b : ℕ) → All (λ s. arc_at others (s.row - 1) ≡ arc_at arcs (s.row - 1)) way → Leads arcs a way b → Leads others a way b

@@ -17,9 +17,10 @@ use Rattle.pesp_reduce.specs.Rows.{flag}
 use Rattle.pesp_reduce.specs.Contractions.{AreTree, IsStanding}
 use Rattle.pesp_reduce.specs.Fates.{mapped_row}
 use Rattle.pesp_reduce.proofs.Lists.{arc_at_net, arcs_length}
-use Rattle.pesp_reduce.proofs.Ways.{leads_append, joined_sym, joined_trans}
+use Rattle.pesp_problem.proofs.Ways.{leads_append, net_count-append}
+use Rattle.pesp_reduce.proofs.Ways.{joined_sym, joined_trans}
 use Rattle.pesp_reduce.proofs.Trees.{is_flagged, leads_flagged, loop_stays}
-use Rattle.pesp_reduce.proofs.Bridges.{net_count-append, absent}
+use Rattle.pesp_reduce.proofs.Bridges.{absent}
 use Rattle.pesp_reduce.proofs.Reducing.{mapped_ends}
 
 -- ---- flagged rows between events with one number

@@ -6,7 +6,7 @@ use Rattle.pesp_problem.specs.Walks.{IsWalk, net_count}
 use Rattle.pesp_problem.specs.Forests.{IsFirstOf}
 use Rattle.pesp_network.specs.declared.row.NetRow.{NetRow}
 use Rattle.pesp_network.specs.Networks.{net_row_at, arcs_of_network}
-use Rattle.pesp_reduce.specs.Congruences.{IsSame}
+use Rattle.pesp_problem.specs.Congruences.{IsSame}
 use Rattle.pesp_reduce.specs.Rows.{flag, part}
 
 -- no walk along the flagged rows alone passes a row more often one way than the other

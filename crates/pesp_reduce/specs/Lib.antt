@@ -1,4 +1,3 @@
-pub mod Congruences
 pub mod Rows
 pub mod Contractions
 pub mod Contracting

@@ -7,7 +7,7 @@ ghost use Rattle.pesp_problem.specs.NetTimetables.{IsNetTimetable, net_cost};
 ghost use Rattle.pesp_problem.specs.Walks.{Names, IsWalk, net_count, HasWholeOffset};
 ghost use Rattle.pesp_problem.specs.Forests.{IsBridge, IsSimple};
 ghost use Rattle.pesp_network.specs.Networks.{net_row_at, arc_of_net, arcs_of_network, net_of_network};
-ghost use Rattle.pesp_reduce.specs.Congruences.{IsSame};
+ghost use Rattle.pesp_problem.specs.Congruences.{IsSame};
 ghost use Rattle.pesp_reduce.specs.Rows.{IsFree};
 ghost use Rattle.pesp_reduce.specs.LiftedWalks.{original_row, passes_kept, IsKeptOrContracted, lower_sum, HasNoRowTwice};
 ghost use Rattle.pesp_reduce.specs.Reductions.{IsReducedRow, AreKeptRows, AreFatesOf, AreMerged, AreForEvents, HaveNoContractedCycle, AreTightAtContracted, left_slacks, origin_place};

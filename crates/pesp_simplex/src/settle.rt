@@ -4,7 +4,7 @@ ghost use Rattle.std.specs.Prelude.{◌≡◌, ℕ, ◌<◌, ◌≤◌, ◌↔�
 ghost use Rattle.pesp_problem.specs.Forests.{IsSpanningForest};
 ghost use Rattle.pesp_problem.specs.ArcLimits.{KeepArcLimits};
 ghost use Rattle.pesp_problem.specs.NetTimetables.{IsNetTimetable, net_cost};
-ghost use Rattle.pesp_cuts.specs.Roots.{AreRoots, AreTreeRows};
+ghost use Rattle.pesp_problem.specs.Roots.{AreRoots, AreTreeRows};
 ghost use Rattle.pesp_cuts.specs.Rooted.{roots_of, IsFor};
 ghost use Rattle.pesp_cuts.specs.Lists.{AreListed};
 ghost use Rattle.pesp_cuts.specs.Local.{IsLocal};

@@ -3,7 +3,7 @@ use Rattle.std.proofs.lemmas.Bool.Decides.{nat_tests}
 use Rattle.pesp_cuts.specs.declared.crossing.Entry.{Entry}
 use Rattle.pesp_cuts.specs.Shifts.{IsBestShift}
 use Rattle.pesp_cuts.specs.Entries.{crossings_of, entries_of}
-use Rattle.pesp_cuts.specs.Roots.{below}
+use Rattle.pesp_problem.specs.Roots.{below}
 use Rattle.pesp_cuts.proofs.Judging.{cut_is_best}
 use Rattle.pesp_cuts.proofs.judge.is_cut_best.Goals as goal
 

@@ -1,6 +1,5 @@
 use Rattle.std.proofs.Common.{ℕ, ◌<◌}
-use Rattle.pesp_cuts.specs.Roots.{IsJoined}
-use Rattle.pesp_cuts.specs.Rooted.{roots_of}
+use Rattle.pesp_cuts.specs.Rooted.{roots_of, IsJoined}
 use Rattle.pesp_cuts.proofs.rooted.are_joined.Given as goal
 
 abbrev pub invariant-loop-event : goal.invariant-loop-event

@@ -1,7 +1,6 @@
 use Rattle.std.proofs.Common.{ℕ, ◌<◌}
 use Rattle.pesp_problem.specs.Arcs.{arc_at}
-use Rattle.pesp_cuts.specs.Roots.{IsSpanned}
-use Rattle.pesp_cuts.specs.Rooted.{roots_of}
+use Rattle.pesp_cuts.specs.Rooted.{roots_of, IsSpanned}
 use Rattle.pesp_cuts.proofs.rooted.are_spanned.Given as goal
 
 abbrev pub invariant-loop-arc : goal.invariant-loop-arc

@@ -1,17 +1,36 @@
-use Rattle.std.proofs.Common.{◌-◌, ◌<◌, arith, sym, ◌∙◌, ap, slice_index_or}
+use Rattle.std.proofs.Common.{ℕ, ◌-◌, ◌<◌, arith, sym, ◌∙◌, ap, List, length, vec_len, slice_index_or}
 use Rattle.std.proofs.lemmas.Bool.{false≢true}
 use Rattle.std.proofs.lemmas.List.{get_or_read}
+use Rattle.pesp_problem.specs.Walks.{Names}
+use Rattle.pesp_network.specs.declared.row.NetRow.{NetRow}
+use Rattle.pesp_network.specs.declared.parts.Forest.{Forest}
 use Rattle.pesp_network.specs.Networks.{arcs_of_network, no_net_row}
 use Rattle.pesp_network.specs.Growing.{at}
+use Rattle.pesp_network.specs.Rooted.{IsForest}
 use Rattle.pesp_network.proofs.Climbing.{ends_of}
-use Rattle.pesp_network.proofs.Places.{named, tail_at, head_at}
+use Rattle.pesp_network.proofs.Places.{named, tail_at, head_at, tail_below, head_below}
 use Rattle.pesp_network.proofs.Bridging.{tells, tells_outside}
 use Rattle.pesp_network.proofs.bridges.is_bridge.Goals as goal
 
+-- both ends of a row are events
+ends : (n : ℕ) (rows : List NetRow) (g : Forest) (k : ℕ) → IsForest n (arcs_of_network rows) g → Names (length rows) k → let row = slice_index_or rows (k - 1) no_net_row in (row.tail < vec_len g.up) × (row.head < vec_len g.up)
+ends n rows g k f r =
+    let low = r.0 in let high = r.1 in
+    let within : k - 1 < length rows = omega (arith, low, high) in
+    let count = f.events in
+    (omega (arith, count, tail_below n rows (k - 1) f.ends within), omega (arith, count, head_below n rows (k - 1) f.ends within))
+
 pub index-tail_row-requires : goal.index-tail_row-requires
-index-tail_row-requires c =
-    let rows = c.args.rows.now in let k = c.args.k in let f = c.requires.forest in
-    let e = ends_of c.args.events (arcs_of_network rows) k f.ends (named rows k c.requires.row) in let q = tail_at rows k c.requires.row in let e0 = e.0 in let n = f.events in let s = c.args.forest.now.sized in omega arith
+index-tail_row-requires c = let e = (ends _ _ _ _ c.requires.forest c.requires.row).0 in let s = c.args.forest.now.sized in omega arith
+
+pub is_cut-requires-clause-event : goal.is_cut-requires-clause-event
+is_cut-requires-clause-event c = (ends _ _ _ _ c.requires.forest c.requires.row).0
+
+pub index-head_row-requires : goal.index-head_row-requires
+index-head_row-requires c = let e = (ends _ _ _ _ c.requires.forest c.requires.row).1 in let s = c.args.forest.now.sized in omega arith
+
+pub is_cut-requires-then-head_row-k-clause-event : goal.is_cut-requires-then-head_row-k-clause-event
+is_cut-requires-then-head_row-k-clause-event c = (ends _ _ _ _ c.requires.forest c.requires.row).1
 
 pub returns-then-tail_row-k : goal.returns-then-tail_row-k
 returns-then-tail_row-k c =

@@ -1,7 +1,7 @@
 use Rattle.std.proofs.Common.{arith}
 use Rattle.std.proofs.lemmas.List.{get_or_read}
 use Rattle.pesp_network.specs.Networks.{arcs_of_network}
-use Rattle.pesp_network.specs.Ends.{tail_of, head_of}
+use Rattle.pesp_problem.specs.Arcs.{tail_of, head_of}
 use Rattle.pesp_network.proofs.Places.{tail_below, head_below, tail_more, head_more}
 use Rattle.pesp_network.proofs.Chaining.{chained_lists}
 use Rattle.pesp_network.proofs.chains.chain_rows.Goals as goal

@@ -2,7 +2,7 @@ use Rattle.std.proofs.Common.{◌≡◌, ◌+◌, length, vec_len}
 use Rattle.pesp_network.specs.Chains.{Chained}
 use Rattle.pesp_network.specs.Growing.{at}
 use Rattle.pesp_network.specs.Networks.{arcs_of_network}
-use Rattle.pesp_network.specs.Ends.{tail_of, head_of}
+use Rattle.pesp_problem.specs.Arcs.{tail_of, head_of}
 use Rattle.pesp_network.proofs.chains.chain_rows.Given as goal
 
 abbrev pub invariant-loop-i : goal.invariant-loop-i

@@ -1,6 +1,6 @@
 use Rattle.std.proofs.Common.{arith, refl, sym}
 use Rattle.pesp_cuts.specs.Rooted.{roots_of}
-use Rattle.pesp_cuts.proofs.Spanning.{roots_span}
+use Rattle.pesp_problem.proofs.Spanning.{roots_span}
 use Rattle.pesp_simplex.proofs.settle.settle.Goals as goal
 
 pub returns : goal.returns

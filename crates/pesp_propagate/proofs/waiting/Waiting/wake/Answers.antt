@@ -1,6 +1,6 @@
 use Rattle.std.proofs.Common.{rules, ◌≡◌, ◌≢◌, ℕ, ◌+◌, ◌-◌, ◌<◌, ◌≤◌, length, vec_len, true, subst, sym, arith, refl}
 use Rattle.pesp_propagate.specs.declared.waiting.Waiting.{Waiting}
-use Rattle.pesp_network.specs.Ends.{tail_of, head_of}
+use Rattle.pesp_problem.specs.Arcs.{tail_of, head_of}
 use Rattle.pesp_propagate.specs.Waiting.{waits_at, Grows}
 use Rattle.pesp_propagate.proofs.Queueing.{grows_none, grows_more, woken_more}
 use Rattle.pesp_propagate.proofs.waiting.Waiting.wake.Goals as goal

@@ -1,5 +1,5 @@
 use Rattle.std.proofs.Common.{◌≡◌, ◌≢◌, ℕ, ◌+◌, ◌-◌, ◌<◌, ◌≤◌, ◌⊎◌, length, vec_len, true}
-use Rattle.pesp_network.specs.Ends.{tail_of, head_of}
+use Rattle.pesp_problem.specs.Arcs.{tail_of, head_of}
 use Rattle.pesp_propagate.specs.Waiting.{waits_at, Grows}
 use Rattle.pesp_propagate.proofs.waiting.Waiting.wake.Given as goal
 

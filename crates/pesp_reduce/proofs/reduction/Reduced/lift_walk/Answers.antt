@@ -5,7 +5,7 @@ use Rattle.pesp_problem.specs.Arcs.{arcs_of, net_of}
 use Rattle.pesp_problem.specs.Walks.{IsWalk, net_count, HasWholeOffset}
 use Rattle.pesp_network.specs.declared.row.NetRow.{NetRow}
 use Rattle.pesp_network.specs.Networks.{arcs_of_network, net_of_network}
-use Rattle.pesp_reduce.specs.Congruences.{IsSame}
+use Rattle.pesp_problem.specs.Congruences.{IsSame}
 use Rattle.pesp_reduce.specs.Reductions.{ReducedValue, AreTightAtContracted, left_slacks, origin_place}
 use Rattle.pesp_reduce.specs.LiftedWalks.{original_row, passes_kept, IsKeptOrContracted, lower_sum, AreLeftOf, IsLiftOf}
 use Rattle.pesp_reduce.proofs.LiftedResults.{left_of, lifted_closes, lifted_kept, lifted_others, lifted_lower}

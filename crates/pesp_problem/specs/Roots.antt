@@ -1,8 +1,9 @@
 -- Forests with roots.
-use Rattle.std.specs.Prelude.{◌≡◌, ◌≢◌, ℕ, ◌-◌, ◌<◌, ◌≤◌, ◌⊎◌, List, length, Contains, zero, suc, Bool, true, false, ◌==◌, if◌then◌else◌}
+use Rattle.std.specs.Prelude.{◌≡◌, ◌≢◌, ℕ, ◌-◌, ◌<◌, ◌≤◌, List, length, Contains, zero, suc, Bool, true, false, ◌==◌, if◌then◌else◌}
 use Rattle.std.specs.List.{AllPairs}
 use Rattle.pesp_problem.specs.declared.arc.Arc.{Arc}
-use Rattle.pesp_problem.specs.Arcs.{arc_at}
+use Rattle.pesp_problem.specs.Arcs.{arc_at, HasEnds}
+use Rattle.pesp_problem.specs.ArcLimits.{HaveEnds}
 
 -- for each event: the event above it, the number of the row that joins the two, or 0 at a root, the depth, and the root
 pub record Roots : Type 0 where
@@ -10,10 +11,6 @@ pub record Roots : Type 0 where
   pub by : ℕ → ℕ
   pub depth : ℕ → ℕ
   pub root : ℕ → ℕ
-
--- the row has these two ends, in one order or the other
-abbrev pub HasEnds : Arc → ℕ → ℕ → Type 0
-HasEnds arc x y = ((arc.tail ≡ x) × (arc.head ≡ y)) ⊎ ((arc.head ≡ x) × (arc.tail ≡ y))
 
 -- the rows that join events upwards are a forest, and it joins the ends of each row
 pub record AreRoots (n : ℕ) (arcs : List Arc) (r : Roots) : Type 0 where
@@ -23,7 +20,7 @@ pub record AreRoots (n : ℕ) (arcs : List Arc) (r : Roots) : Type 0 where
   pub climbs : (x : ℕ) → x < n → 0 < r.by x → r.depth (r.up x) < r.depth x
   pub same_root : (x : ℕ) → x < n → 0 < r.by x → r.root (r.up x) ≡ r.root x
   pub own_root : (x : ℕ) → x < n → r.by x ≡ 0 → r.root x ≡ x
-  pub inside : (i : ℕ) → i < length arcs → ((arc_at arcs i).tail < n) × ((arc_at arcs i).head < n)
+  pub inside : HaveEnds n arcs
   pub spans : (i : ℕ) → i < length arcs → r.root (arc_at arcs i).tail ≡ r.root (arc_at arcs i).head
 
 -- some event is joined upwards by this row
@@ -35,21 +32,6 @@ pub record AreTreeRows (n : ℕ) (r : Roots) (forest : List ℕ) : Type 0 where
   pub apart : AllPairs (λ a b. a ≢ b) forest
   pub listed : (x : ℕ) → x < n → 0 < r.by x → Contains forest (r.by x)
   pub joined : (k : ℕ) → Contains forest k → IsTreeRow n r k
-
--- an event is a root, or a row joins it to the event above it, which is less deep and has the same root
-pub record IsJoined (n : ℕ) (arcs : List Arc) (r : Roots) (x : ℕ) : Type 0 where
-  pub row : r.by x ≤ length arcs
-  pub ends : 0 < r.by x → HasEnds (arc_at arcs (r.by x - 1)) x (r.up x)
-  pub above : 0 < r.by x → r.up x < n
-  pub climbs : 0 < r.by x → r.depth (r.up x) < r.depth x
-  pub same_root : 0 < r.by x → r.root (r.up x) ≡ r.root x
-  pub own_root : r.by x ≡ 0 → r.root x ≡ x
-
--- both ends of an arc are events with the same root
-pub record IsSpanned (n : ℕ) (arc : Arc) (r : Roots) : Type 0 where
-  pub tail : arc.tail < n
-  pub head : arc.head < n
-  pub same : r.root arc.tail ≡ r.root arc.head
 
 -- c is met within so many steps upwards from x
 unfoldable pub meets : Roots → ℕ → ℕ → ℕ → Bool

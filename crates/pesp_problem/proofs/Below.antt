@@ -1,23 +1,26 @@
 -- What hangs below an event of a rooted forest.
-use Rattle.std.proofs.Common.{◌≡◌, ◌≢◌, inl, inr, ℕ, ◌-◌, ◌<◌, ◌≤◌, zero, suc, refl, ap, sym, ◌∙◌, arith, List, true, false}
-use Rattle.std.proofs.lemmas.Bool.{false≢true, cases_eq}
+use Rattle.std.proofs.Common.{◌≡◌, ◌≢◌, ◌⊎◌, inl, inr, ℕ, ◌-◌, ◌<◌, ◌≤◌, zero, suc, refl, ap, sym, ◌∙◌, arith, List, true, false}
+use Rattle.std.proofs.lemmas.Bool.{false≢true, cases_eq, cases_Bool, eq-eqb, ne_eqb}
 use Rattle.pesp_problem.specs.declared.arc.Arc.{Arc}
-use Rattle.pesp_cuts.specs.Roots.{Roots, AreRoots, meets, below}
-use Rattle.pesp_cuts.proofs.Cases.{true_or_false, same_test, other_test, some_or_none}
+use Rattle.pesp_problem.specs.Roots.{Roots, AreRoots, meets, below}
+
+pub some_or_none : (n : ℕ) → (0 < n) ⊎ (n ≡ 0)
+some_or_none zero = inr refl
+some_or_none (suc n) = inl (omega arith)
 
 meets_here : (r : Roots) (fuel c x : ℕ) → x ≡ c → meets r fuel c x ≡ true
 unfolding meets
-meets_here r zero c x e = same_test x c e
-meets_here r (suc fuel) c x e = rw (same_test x c e) refl
+meets_here r zero c x e = eq-eqb x c e
+meets_here r (suc fuel) c x e = rw (eq-eqb x c e) refl
 
 meets_up : (r : Roots) (fuel c x : ℕ) → x ≢ c → 0 < r.by x → meets r (suc fuel) c x ≡ meets r fuel c (r.up x)
 unfolding meets
-meets_up r fuel c x ne j = rw (other_test x c ne, other_test (r.by x) 0 (λ e. omega arith)) refl
+meets_up r fuel c x ne j = rw (ne_eqb x c ne, ne_eqb (r.by x) 0 (λ e. omega arith)) refl
 
 meets_root : (r : Roots) (fuel c x : ℕ) → x ≢ c → r.by x ≡ 0 → meets r fuel c x ≡ false
 unfolding meets
-meets_root r zero c x ne z = other_test x c ne
-meets_root r (suc fuel) c x ne z = rw (other_test x c ne, same_test (r.by x) 0 z) refl
+meets_root r zero c x ne z = ne_eqb x c ne
+meets_root r (suc fuel) c x ne z = rw (ne_eqb x c ne, eq-eqb (r.by x) 0 z) refl
 
 -- more steps than the depth make no difference
 meets_more : (n : ℕ) (arcs : List Arc) (r : Roots) (fuel more c x : ℕ) → AreRoots n arcs r → x < n → r.depth x ≤ fuel → r.depth x ≤ more → meets r fuel c x ≡ meets r more c x
@@ -83,7 +86,7 @@ deeper n arcs r (suc m) c x a lx h b =
 pub not_below : (n : ℕ) (arcs : List Arc) (r : Roots) (c x : ℕ) → AreRoots n arcs r → c < n → x < n → r.depth x ≤ r.depth c → x ≢ c → below r c x ≡ false
 not_below n arcs r c x a lc lx h ne =
     elim (some_or_none (r.by x)) [
-      | inl j ↦ elim (true_or_false (below r c x)) [
+      | inl j ↦ elim (cases_Bool (below r c x)) [
         | inl b ↦ absurd (
             let l = a.climbs x lx j in
             let d = deeper n arcs r (suc (r.depth (r.up x))) c (r.up x) a (a.above x lx j) (omega arith) (sym (below_up n arcs r c x a lx j ne) ∙ b) in omega arith)

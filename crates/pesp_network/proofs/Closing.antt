@@ -2,7 +2,7 @@
 use Rattle.std.proofs.Common.{◌≡◌, ℕ, ◌-◌, ◌<◌, ◌≤◌, inl, inr, sym, ◌∙◌, ap, arith, subst}
 use Rattle.std.proofs.lemmas.Bool.{cases_eq, cases_lt}
 use Rattle.pesp_network.specs.Growing.{Fns, Inside, IsMet, Grown, OpenAt, ClosesCurrent, Looks, LooksAt}
-use Rattle.pesp_network.proofs.Opening.{ends_moved, left_moved}
+use Rattle.pesp_network.proofs.Opening.{ends_moved, left_moved, met_kept}
 
 pub inside_self : (n m M : ℕ) (T H : ℕ → ℕ) (s : Fns) (x : ℕ) → Grown n m M T H s → s.count < M → Inside s x x
 inside_self n m M T H s x g room =
@@ -35,11 +35,6 @@ to_up n m M T H s t u x y o i = let e = o.step.same y in let w = inside_back n m
 from_up : (n m M : ℕ) (T H : ℕ → ℕ) (s t : Fns) (u x y : ℕ) → ClosesCurrent n m M T H s t u → Inside t x (t.up y) → Inside s x (s.up y)
 from_up n m M T H s t u x y o i = let e = o.step.same y in let q = ap t.place e.0 in let j : Inside t x (s.up y) = (omega arith, omega arith) in inside_kept n m M T H s t u x (s.up y) o j
 
-met_kept : (T H : ℕ → ℕ) (s t : Fns) (j : ℕ) → ((x : ℕ) → (t.place x ≡ s.place x) × (t.root x ≡ s.root x)) → IsMet T H s j → IsMet T H t j
-met_kept T H s t j same met =
-    let a = same (T j) in let b = same (H j) in let p = met.tail_seen in let q = met.head_seen in let r = met.same in
-    record { tail_seen = omega arith; head_seen = omega arith; same = omega arith }
-
 pub closed_grown : (n m M : ℕ) (T H : ℕ → ℕ) (s t : Fns) (u : ℕ) → ClosesCurrent n m M T H s t u → Grown n m M T H t
 closed_grown n m M T H s t u o =
     let here = o.step.here in
@@ -68,8 +63,8 @@ closed_grown n m M T H s t u o =
       ];
       left_row = λ x. let e = o.step.same x in let q = o.g.left_row x in omega arith;
       left_end = λ x h. let e = o.step.same x in left_moved T H (s.left x) x (t.left x) e.4 (o.g.left_end x (omega arith));
-      tail_met = λ j a b h. let e = o.step.same (T j) in met_kept T H s t j (λ x. let f = o.step.same x in (f.2, f.3)) (o.g.tail_met j a b (omega arith));
-      head_met = λ j a b h. let e = o.step.same (H j) in met_kept T H s t j (λ x. let f = o.step.same x in (f.2, f.3)) (o.g.head_met j a b (omega arith));
+      tail_met = λ j a b h. let e = o.step.same (T j) in met_kept T H s t j (λ x seen. let f = o.step.same x in (f.2, f.3)) (o.g.tail_met j a b (omega arith));
+      head_met = λ j a b h. let e = o.step.same (H j) in met_kept T H s t j (λ x seen. let f = o.step.same x in (f.2, f.3)) (o.g.head_met j a b (omega arith));
     }
 
 -- below a root nothing stays open
@@ -116,7 +111,7 @@ looked n m M T H s t u next o =
     let count = o.step.count in
     let kept : (x y : ℕ) → Inside t x y → Inside s x y = λ x y i. let e = o.step.same x in let f = o.step.same y in (omega arith, omega arith) in
     let back : (x y : ℕ) → Inside s x y → Inside t x y = λ x y i. let e = o.step.same x in let f = o.step.same y in (omega arith, omega arith) in
-    let met : (j : ℕ) → IsMet T H s j → IsMet T H t j = λ j i. met_kept T H s t j (λ x. let f = o.step.same x in (f.2, f.3)) i in
+    let met : (j : ℕ) → IsMet T H s j → IsMet T H t j = λ j i. met_kept T H s t j (λ x seen. let f = o.step.same x in (f.2, f.3)) i in
     record {
       seen_below = λ x h. let e = o.step.same x in o.g.seen_below x (omega arith);
       places = λ x. let e = o.step.same x in let q = o.g.places x in omega arith;

@@ -1,7 +1,7 @@
 -- The forest stays one as an event is opened below the current one.
-use Rattle.std.proofs.Common.{◌≡◌, ◌≢◌, ℕ, ◌-◌, ◌<◌, ◌⊎◌, inl, inr, sym, ◌∙◌, ap, arith}
+use Rattle.std.proofs.Common.{◌≡◌, ◌≢◌, ℕ, ◌+◌, ◌-◌, ◌<◌, ◌⊎◌, inl, inr, sym, ◌∙◌, ap, arith}
 use Rattle.std.proofs.lemmas.Bool.{cases_eq, cases_lt}
-use Rattle.pesp_network.specs.Growing.{Fns, Inside, IsMet, Grown, OpenAt, OpensChild}
+use Rattle.pesp_network.specs.Growing.{Fns, Inside, IsMet, Grown, OpenAt, Opens, OpensChild}
 
 -- an event whose end lies beyond all that is seen is open
 pub still_open : (n m M : ℕ) (T H : ℕ → ℕ) (s : Fns) (x : ℕ) → Grown n m M T H s → s.count < s.last x → s.last x ≡ M
@@ -96,12 +96,6 @@ inner_root n m M T H s t y p k o x z sx sz bz i =
           ]
     ]
 
-seen_met : (n m M : ℕ) (T H : ℕ → ℕ) (s t : Fns) (y p k : ℕ) → OpensChild n m M T H s t y p k → (j : ℕ) → IsMet T H s j → IsMet T H t j
-seen_met n m M T H s t y p k o j met =
-    let a = o.step.else (T j) (other s (T j) y o.fresh met.tail_seen) in
-    let b = o.step.else (H j) (other s (H j) y o.fresh met.head_seen) in
-    record { tail_seen = let h = met.tail_seen in omega arith; head_seen = let h = met.head_seen in omega arith; same = let h = met.same in omega arith }
-
 pub ends_moved : (T H : ℕ → ℕ) (b x u b2 u2 : ℕ) → b2 ≡ b → u2 ≡ u → ((T b ≡ x) × (H b ≡ u)) ⊎ ((H b ≡ x) × (T b ≡ u)) → ((T b2 ≡ x) × (H b2 ≡ u2)) ⊎ ((H b2 ≡ x) × (T b2 ≡ u2))
 ends_moved T H b x u b2 u2 eb eu (inl e) = inl (ap T eb ∙ e.0, ap H eb ∙ e.1 ∙ sym eu)
 ends_moved T H b x u b2 u2 eb eu (inr e) = inr (ap H eb ∙ e.0, ap T eb ∙ e.1 ∙ sym eu)
@@ -109,6 +103,36 @@ ends_moved T H b x u b2 u2 eb eu (inr e) = inr (ap H eb ∙ e.0, ap T eb ∙ e.1
 pub left_moved : (T H : ℕ → ℕ) (b x b2 : ℕ) → b2 ≡ b → (T b ≡ x) ⊎ (H b ≡ x) → (T b2 ≡ x) ⊎ (H b2 ≡ x)
 left_moved T H b x b2 eb (inl e) = inl (ap T eb ∙ e)
 left_moved T H b x b2 eb (inr e) = inr (ap H eb ∙ e)
+
+-- a row that was met stays met where events that were seen keep their places and their roots
+pub met_kept : (T H : ℕ → ℕ) (s t : Fns) (j : ℕ) → ((x : ℕ) → 0 < s.place x → (t.place x ≡ s.place x) × (t.root x ≡ s.root x)) → IsMet T H s j → IsMet T H t j
+met_kept T H s t j same met =
+    let p = met.tail_seen in let q = met.head_seen in let r = met.same in
+    let a = same (T j) p in let b = same (H j) q in
+    record { tail_seen = omega arith; head_seen = omega arith; same = omega arith }
+
+-- the other events keep theirs as an event is opened
+pub seen_kept : (s t : Fns) (y p k r : ℕ) → s.place y ≡ 0 → Opens s t y p k r → (x : ℕ) → 0 < s.place x → (t.place x ≡ s.place x) × (t.root x ≡ s.root x)
+seen_kept s t y p k r fresh step x seen = let e = step.else x (other s x y fresh seen) in (e.2, e.3)
+
+-- and the order goes on with the new one
+pub order_goes_on : (n m M : ℕ) (T H : ℕ → ℕ) (s t : Fns) (y p k r : ℕ) → Grown n m M T H s → s.place y ≡ 0 → Opens s t y p k r → (i : ℕ) → i < t.count → t.place (t.order i) ≡ i + 1
+order_goes_on n m M T H s t y p k r g fresh step i h =
+    let here = step.here in let count = step.count in
+    elim (cases_lt i s.count) [
+      | inl lt ↦ let e = step.order_else i lt in let q = g.order_at i lt in
+          let w = step.else (s.order i) (other s (s.order i) y fresh (omega arith)) in let r = ap t.place e in omega arith
+      | inr ge ↦ let e : i ≡ s.count = omega arith in let q = ap (λ j. t.place (t.order j)) e in let r = ap t.place step.order_here in omega arith
+    ]
+
+pub places_go_on : (n m M : ℕ) (T H : ℕ → ℕ) (s t : Fns) (y p k r : ℕ) → Grown n m M T H s → Opens s t y p k r → (x : ℕ) → 0 < t.place x → t.order (t.place x - 1) ≡ x
+places_go_on n m M T H s t y p k r g step x sx =
+    let here = step.here in
+    elim (cases_eq x y) [
+      | inl e ↦ let q = ap t.place e in let c : t.place x - 1 ≡ s.count = omega arith in ap t.order c ∙ step.order_here ∙ sym e
+      | inr nx ↦ let e = step.else x nx in let old : 0 < s.place x = omega arith in let q = g.place_at x old in let most = g.places x in
+          let c : t.place x - 1 ≡ s.place x - 1 = omega arith in ap t.order c ∙ step.order_else (s.place x - 1) (omega arith) ∙ q
+    ]
 
 -- the upper end of an event that was joined before, or of the new one, is an old event
 up_old : (n m M : ℕ) (T H : ℕ → ℕ) (s t : Fns) (y p k : ℕ) → OpensChild n m M T H s t y p k → (x : ℕ) → 0 < t.by x
@@ -141,16 +165,8 @@ opened n m M T H s t y p k o =
     let fresh = o.fresh in record {
       seen_below = λ x sx. elim (cases_eq x y) [ inl e ↦ let b = o.below in omega arith | inr nx ↦ let e = o.step.else x nx in o.g.seen_below x (omega arith) ];
       places = λ x. elim (cases_eq x y) [ inl e ↦ let q = ap t.place e in omega arith | inr nx ↦ let e = o.step.else x nx in let q = o.g.places x in omega arith ];
-      order_at = λ i h. elim (cases_lt i s.count) [
-        | inl lt ↦ let e = o.step.order_else i lt in let q = o.g.order_at i lt in
-            let w = o.step.else (s.order i) (other s (s.order i) y o.fresh (omega arith)) in let r = ap t.place e in omega arith
-        | inr ge ↦ let e : i ≡ s.count = omega arith in let q = ap (λ j. t.place (t.order j)) e in let r = ap t.place o.step.order_here in omega arith
-      ];
-      place_at = λ x sx. elim (cases_eq x y) [
-        | inl e ↦ let q = ap t.place e in let c : t.place x - 1 ≡ s.count = omega arith in ap t.order c ∙ o.step.order_here ∙ sym e
-        | inr nx ↦ let e = o.step.else x nx in let old : 0 < s.place x = omega arith in let q = o.g.place_at x old in let most = o.g.places x in
-            let c : t.place x - 1 ≡ s.place x - 1 = omega arith in ap t.order c ∙ o.step.order_else (s.place x - 1) (omega arith) ∙ q
-      ];
+      order_at = order_goes_on n m M T H s t y p k (s.root p) o.g o.fresh o.step;
+      place_at = places_go_on n m M T H s t y p k (s.root p) o.g o.step;
       by_row = λ x. elim (cases_eq x y) [ inl e ↦ let q = ap t.by e in let r = o.row in omega arith | inr nx ↦ let e = o.step.else x nx in let q = o.g.by_row x in omega arith ];
       by_ends = λ x bx. elim (cases_eq x y) [
         | inl e ↦ ends_moved T H k x p (t.by x) (t.up x) (ap t.by e ∙ here.1) (ap t.up e ∙ here.0) (elim o.ends [ inl w ↦ inl (w.0 ∙ sym e, w.1) | inr w ↦ inr (w.0 ∙ sym e, w.1) ])
@@ -179,8 +195,8 @@ opened n m M T H s t y p k o =
       ];
       left_row = λ x. let e = o.step.lefts x in let l = o.g.left_row x in omega arith;
       left_end = λ x h. let e = o.step.lefts x in left_moved T H (s.left x) x (t.left x) e (o.g.left_end x (omega arith));
-      tail_met = λ j a b h. seen_met n m M T H s t y p k o j (o.g.tail_met j a b (let e = o.step.lefts (T j) in omega arith));
-      head_met = λ j a b h. seen_met n m M T H s t y p k o j (o.g.head_met j a b (let e = o.step.lefts (H j) in omega arith));
+      tail_met = λ j a b h. met_kept T H s t j (seen_kept s t y p k (s.root p) o.fresh o.step) (o.g.tail_met j a b (let e = o.step.lefts (T j) in omega arith));
+      head_met = λ j a b h. met_kept T H s t j (seen_kept s t y p k (s.root p) o.fresh o.step) (o.g.head_met j a b (let e = o.step.lefts (H j) in omega arith));
     }
 
 -- the new event is the current one

@@ -1,8 +1,8 @@
 -- The forest stays one as an event is opened as a root, while none is open.
-use Rattle.std.proofs.Common.{◌≡◌, ◌≢◌, ℕ, ◌-◌, ◌<◌, inl, inr, sym, ◌∙◌, ap, arith}
-use Rattle.std.proofs.lemmas.Bool.{cases_eq, cases_lt}
-use Rattle.pesp_network.specs.Growing.{Fns, Inside, IsMet, Grown, OpenAt, OpensRoot}
-use Rattle.pesp_network.proofs.Opening.{ends_moved, left_moved, other}
+use Rattle.std.proofs.Common.{◌≡◌, ◌≢◌, ℕ, ◌<◌, inl, inr, sym, ◌∙◌, ap, arith}
+use Rattle.std.proofs.lemmas.Bool.{cases_eq}
+use Rattle.pesp_network.specs.Growing.{Fns, Inside, Grown, OpenAt, OpensRoot}
+use Rattle.pesp_network.proofs.Opening.{ends_moved, left_moved, other, met_kept, seen_kept, order_goes_on, places_go_on}
 
 -- an event that is joined to another isn't the new one, and both were seen before
 old : (n m M : ℕ) (T H : ℕ → ℕ) (s t : Fns) (y x : ℕ) → OpensRoot n m M T H s t y → 0 < t.by x
@@ -23,13 +23,6 @@ reaches n m M T H s t y x o nx sx i =
     let e = o.step.else x nx in let l = o.step.lasts x in let here = o.step.here in
     let c = o.g.closed x (o.all_closed x (omega arith)) in omega arith
 
-met_kept : (n m M : ℕ) (T H : ℕ → ℕ) (s t : Fns) (y : ℕ) → OpensRoot n m M T H s t y → (j : ℕ) → IsMet T H s j → IsMet T H t j
-met_kept n m M T H s t y o j met =
-    let a = o.step.else (T j) (other s (T j) y o.fresh met.tail_seen) in
-    let b = o.step.else (H j) (other s (H j) y o.fresh met.head_seen) in
-    let p = met.tail_seen in let q = met.head_seen in let r = met.same in
-    record { tail_seen = omega arith; head_seen = omega arith; same = omega arith }
-
 pub rooted : (n m M : ℕ) (T H : ℕ → ℕ) (s t : Fns) (y : ℕ) → OpensRoot n m M T H s t y → Grown n m M T H t
 rooted n m M T H s t y o =
     let here = o.step.here in
@@ -37,16 +30,8 @@ rooted n m M T H s t y o =
     let fresh = o.fresh in record {
       seen_below = λ x sx. elim (cases_eq x y) [ inl e ↦ let b = o.below in omega arith | inr nx ↦ let e = o.step.else x nx in o.g.seen_below x (omega arith) ];
       places = λ x. elim (cases_eq x y) [ inl e ↦ let q = ap t.place e in omega arith | inr nx ↦ let e = o.step.else x nx in let q = o.g.places x in omega arith ];
-      order_at = λ i h. elim (cases_lt i s.count) [
-        | inl lt ↦ let e = o.step.order_else i lt in let q = o.g.order_at i lt in
-            let w = o.step.else (s.order i) (other s (s.order i) y o.fresh (omega arith)) in let r = ap t.place e in omega arith
-        | inr ge ↦ let e : i ≡ s.count = omega arith in let q = ap (λ j. t.place (t.order j)) e in let r = ap t.place o.step.order_here in omega arith
-      ];
-      place_at = λ x sx. elim (cases_eq x y) [
-        | inl e ↦ let q = ap t.place e in let c : t.place x - 1 ≡ s.count = omega arith in ap t.order c ∙ o.step.order_here ∙ sym e
-        | inr nx ↦ let e = o.step.else x nx in let old : 0 < s.place x = omega arith in let q = o.g.place_at x old in let most = o.g.places x in
-            let c : t.place x - 1 ≡ s.place x - 1 = omega arith in ap t.order c ∙ o.step.order_else (s.place x - 1) (omega arith) ∙ q
-      ];
+      order_at = order_goes_on n m M T H s t y y 0 y o.g o.fresh o.step;
+      place_at = places_go_on n m M T H s t y y 0 y o.g o.step;
       by_row = λ x. elim (cases_eq x y) [ inl e ↦ let q = ap t.by e in omega arith | inr nx ↦ let e = o.step.else x nx in let q = o.g.by_row x in omega arith ];
       by_ends = λ x bx. let w = old n m M T H s t y x o bx in let e = o.step.else x w.0 in ends_moved T H (s.by x) x (s.up x) (t.by x) (t.up x) e.1 e.0 (o.g.by_ends x w.1);
       by_seen = λ x bx. let w = old n m M T H s t y x o bx in omega arith;
@@ -81,8 +66,8 @@ rooted n m M T H s t y o =
       ];
       left_row = λ x. let e = o.step.lefts x in let l = o.g.left_row x in omega arith;
       left_end = λ x h. let e = o.step.lefts x in left_moved T H (s.left x) x (t.left x) e (o.g.left_end x (omega arith));
-      tail_met = λ j a b h. met_kept n m M T H s t y o j (o.g.tail_met j a b (let e = o.step.lefts (T j) in omega arith));
-      head_met = λ j a b h. met_kept n m M T H s t y o j (o.g.head_met j a b (let e = o.step.lefts (H j) in omega arith));
+      tail_met = λ j a b h. met_kept T H s t j (seen_kept s t y y 0 y o.fresh o.step) (o.g.tail_met j a b (let e = o.step.lefts (T j) in omega arith));
+      head_met = λ j a b h. met_kept T H s t j (seen_kept s t y y 0 y o.fresh o.step) (o.g.head_met j a b (let e = o.step.lefts (H j) in omega arith));
     }
 
 pub rooted_at : (n m M : ℕ) (T H : ℕ → ℕ) (s t : Fns) (y : ℕ) → OpensRoot n m M T H s t y → OpenAt M t y

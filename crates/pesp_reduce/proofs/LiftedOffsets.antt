@@ -1,26 +1,31 @@
 -- How often a lifted walk passes kept rows, and which slacks give it a whole offset.
-use Rattle.std.proofs.Common.{◌≡◌, ◌≢◌, ℕ, ◌+◌, ◌-◌, ◌*◌, ◌<◌, inl, inr, refl, sym, ◌∙◌, ap, arith, List, [], ◌∷◌, length, map, true, false, All, ℤ, pos, ◌+ℤ◌, ◌-ℤ◌, ◌*ℤ◌}
+use Rattle.std.proofs.Common.{◌≡◌, ◌≢◌, ℕ, ◌+◌, ◌-◌, ◌*◌, ◌<◌, inl, inr, refl, sym, ◌∙◌, ap, arith, subst, Bool, List, [], ◌∷◌, length, map, true, false, All, ℤ, pos, ◌+ℤ◌, ◌-ℤ◌, ◌*ℤ◌}
 use Rattle.std.specs.Prelude.{filter, ◌↔◌}
 use Rattle.std.proofs.lemmas.Int.{ints}
 use Rattle.std.proofs.lemmas.Bool.{cases_Bool, cases_eq}
 use Rattle.std.proofs.lemmas.List.Elements.{All-head, All-tail}
 use Rattle.pesp_problem.specs.declared.arc.Arc.{Arc}
 use Rattle.pesp_problem.specs.declared.row.SignedRow.{SignedRow}
+use Rattle.pesp_problem.specs.Timetables.{Pesp}
 use Rattle.pesp_problem.specs.Arcs.{Net, arc_at, arcs_of, net_of, over_arcs}
 use Rattle.pesp_problem.specs.Walks.{RowExists, AreRows, IsWalk, sign, net_count, HasWholeOffset}
 use Rattle.pesp_problem.proofs.Arcs.{length-arcs_of}
 use Rattle.pesp_problem.proofs.Integers.{mul-add, mul-sub, sum_below-same, sum_below-add}
 use Rattle.pesp_problem.proofs.Walks.{step, sum_along, net_count_sum, net_count-cons, step_same, step_other}
-use Rattle.pesp_network.specs.Networks.{net_row_at, arcs_of_network, net_of_network}
+use Rattle.pesp_network.specs.declared.row.NetRow.{NetRow}
+use Rattle.pesp_network.specs.Networks.{NetworkValue, net_row_at, arcs_of_network, net_of_network}
 use Rattle.pesp_reduce.specs.declared.fate.Fate.{Fate}
 use Rattle.pesp_reduce.specs.declared.fate.Fate.TheVariants.{Contracted, Kept}
+use Rattle.pesp_reduce.specs.declared.contraction.Contraction.{Contraction}
 use Rattle.pesp_problem.specs.Congruences.{IsSame}
 use Rattle.pesp_reduce.specs.Fates.{fate_at, is_kept}
-use Rattle.pesp_reduce.specs.LiftedWalks.{original_row, passes_kept, IsKeptOrContracted, lower_sum}
-use Rattle.pesp_reduce.specs.Reductions.{ReducedValue, IsReducedRow, AreTightAtContracted, left_slacks, origin_place}
+use Rattle.pesp_reduce.specs.LiftedWalks.{original_row, passes_kept, IsKeptOrContracted, lower_sum, IsLiftOf}
+use Rattle.pesp_reduce.specs.Reductions.{ReducedValue, IsReduction, IsReducedRow, AreTightAtContracted, left_slacks, origin_place}
 use Rattle.pesp_reduce.proofs.Lists.{arcs_length}
 use Rattle.pesp_reduce.proofs.Trees.{filter_on, filter_off}
 use Rattle.pesp_reduce.proofs.LowerSums.{rows_of_walk, sum_of_originals}
+use Rattle.pesp_reduce.proofs.Results.{reduced_row}
+use Rattle.pesp_reduce.proofs.LiftedResults.{left_of, lifted_closes, lifted_kept, lifted_others, lifted_lower}
 
 -- a walk of what is left, as it is lifted to the instance
 pub record IsLifted (r : ReducedValue) (walk lifted : List SignedRow) : Type 0 where
@@ -164,3 +169,40 @@ up r walk lifted slacks period closed h tight o =
 pub lifted_offsets : (r : ReducedValue) (walk lifted : List SignedRow) (slacks : ℕ → ℕ) → r.network.period ≡ r.original.period → IsWalk (arcs_of_network r.network.rows) walk → IsLifted r walk lifted → AreTightAtContracted r slacks
     → HasWholeOffset (net_of r.original) slacks lifted ↔ HasWholeOffset (net_of_network r.network) (left_slacks r slacks) walk
 lifted_offsets r walk lifted slacks period closed h tight = (down r walk lifted slacks period closed h tight, up r walk lifted slacks period closed h tight)
+
+-- ---- the lift of a walk
+
+-- it closes over kept and contracted rows, counts as the walk does, and takes the slacks that the walk takes
+pub record HasLift (r : ReducedValue) (walk lifted : List SignedRow) : Type 0 where
+  pub is : IsLifted r walk lifted
+  pub counts : (j : ℕ) → j < length r.network.rows → net_count lifted (origin_place r.network j) ≡ net_count walk j
+  pub offsets : (slacks : ℕ → ℕ) → AreTightAtContracted r slacks → HasWholeOffset (net_of r.original) slacks lifted ↔ HasWholeOffset (net_of_network r.network) (left_slacks r slacks) walk
+
+abbrev value_of : Pesp → List Fate → NetworkValue → Contraction → ReducedValue
+value_of p fates network c = record { original = p; fates = fates; stands = c.stands.items; shifts = c.shifts.items; network = network }
+
+-- the lift of a lent walk over lent rows
+lift_at : (whole lent left lent_left : List NetRow) (flags : List Bool) (walk lent_walk rows : List SignedRow) → lent ≡ whole → lent_left ≡ left → lent_walk ≡ walk → IsLiftOf lent flags lent_left lent_walk rows → IsLiftOf whole flags left walk rows
+lift_at whole lent left lent_left flags walk lent_walk rows e f g h =
+    subst (λ xs. IsLiftOf whole flags left xs rows) g (subst (λ xs. IsLiftOf whole flags xs lent_walk rows) f (subst (λ xs. IsLiftOf xs flags lent_left lent_walk rows) e h))
+
+pub has_lift : (p : Pesp) (fates : List Fate) (whole network : NetworkValue) (c : Contraction) (r : ReducedValue) (lent lent_left : List NetRow) (walk lent_walk rows lifted : List SignedRow)
+    → IsReduction p fates whole c network → value_of p fates network c ≡ r → lent ≡ whole.rows → lent_left ≡ network.rows → lent_walk ≡ walk
+    → IsWalk (arcs_of_network r.network.rows) walk → IsLiftOf lent c.contracted.items lent_left lent_walk rows → lifted ≡ rows → HasLift r walk lifted
+has_lift p fates whole network c r lent lent_left walk lent_walk rows lifted h value whole_is left_is walk_is closed lift lifted_is =
+    let v = value_of p fates network c in
+    let given = subst (λ (x : ReducedValue). IsWalk (arcs_of_network x.network.rows) walk) (sym value) closed in
+    let own = lift_at whole.rows lent network.rows lent_left c.contracted.items walk lent_walk rows whole_is left_is walk_is lift in
+    let apart : ComeApart v = record { rows = λ j l. reduced_row p fates whole network c j h l; apart = (left_of p fates whole network c h).apart } in
+    let is : IsLifted v walk rows = record {
+      closes = lifted_closes p fates whole network c walk rows h given own;
+      kept = lifted_kept p fates whole network c walk rows h given own;
+      others = lifted_others p fates whole network c walk rows h given own;
+      lower = lifted_lower p fates whole network c walk rows h given own;
+    } in
+    let all : HasLift v walk rows = record {
+      is = is;
+      counts = λ j l. lifted_counts v walk rows j apart given is l;
+      offsets = λ slacks tight. lifted_offsets v walk rows slacks h.period given is tight;
+    } in
+    subst (λ x. HasLift x walk lifted) value (subst (λ xs. HasLift v walk xs) (sym lifted_is) all)

@@ -1,10 +1,11 @@
 use Rattle.std.proofs.Common.{◌≡◌, ◌+◌, ◌<◌, ℕ, length, map, ap, sym, ◌∙◌, arith, subst, List, Bool}
-use Rattle.std.specs.Prelude.{ℤ, unsigned_abs, ◌≤◌, []}
+use Rattle.std.specs.Prelude.{ℤ, unsigned_abs, ◌≤◌, [], All}
 use Rattle.pesp_problem.specs.declared.arc.Arc.{Arc}
 use Rattle.pesp_problem.specs.declared.row.Row.{Row}
 use Rattle.pesp_problem.specs.Timetables.{Pesp}
+use Rattle.pesp_problem.specs.Arcs.{arcs_of}
 use Rattle.pesp_network.specs.declared.row.NetRow.{NetRow}
-use Rattle.pesp_network.specs.Networks.{net_row_at, arcs_of_network, KeepsNetLimits}
+use Rattle.pesp_network.specs.Networks.{NetworkValue, net_row_at, arcs_of_network, KeepsNetLimits}
 use Rattle.pesp_reduce.specs.declared.fate.Fate.{Fate}
 use Rattle.pesp_reduce.specs.declared.contraction.Contraction.{Contraction}
 use Rattle.pesp_reduce.specs.Rows.{flag, row_that_matters}
@@ -76,75 +77,62 @@ new-original-requires c =
     let p = c.args.instance.now in
     subst (λ q. KeepsLimits q) (sym (copy_is p c.period-own.result c.in_ok-labels.labels.items c.in_ok-copied.copied.items c.period-own.ensures.period (c.in_ok-labels.ensures.items ∙ c.events-2.ensures.events) (c.in_ok-copied.ensures.items ∙ c.rows-5.ensures.rows))) c.period-own.ensures.limits
 
+-- what the steps give, over what each of them was lent
+reduction_of : (p original : Pesp) (given lent lent_whole lent_given lent_left : List NetRow) (whole left network : NetworkValue) (c : Contraction) (fates lent_fates : List Fate) (stands shifts : List ℕ) (flags : List Bool) (own : ℕ)
+    → KeepsLimits p → arcs_of_network given ≡ arcs_of p → ((i : ℕ) → i < length given → (net_row_at given i).origin ≡ i + 1) → own ≡ p.period
+    → whole.period ≡ own → whole.events ≡ length p.events → whole.rows ≡ map (row_that_matters own) lent → lent ≡ given → IsContraction whole.period whole.events whole.rows c
+    → left.rows ≡ map (mapped_row stands shifts) lent_whole → stands ≡ c.stands.items → shifts ≡ c.shifts.items → lent_whole ≡ whole.rows
+    → length fates ≡ length given → lent_given ≡ given → flags ≡ c.contracted.items → ((i : ℕ) → i < length lent_given → IsFate own (net_row_at lent_given i) (flag flags i) (arcs_of_network left.rows) (i + 1) (fate_at fates i))
+    → network.period ≡ own → network.events ≡ length c.firsts.items → network.rows ≡ kept_below lent_fates lent_left (length lent_left) → lent_fates ≡ fates → lent_left ≡ left.rows → original ≡ p
+    → IsReduction original fates whole c network
+reduction_of p original given lent lent_whole lent_given lent_left whole left network c fates lent_fates stands shifts flags own limits arcs_are origins own_is
+        whole_period whole_events whole_rows lent_is contraction left_rows stands_are shifts_are lent_whole_is fates_count lent_given_is flags_are fates_are net_period net_events net_rows lent_fates_are lent_left_is same =
+    let T = p.period in
+    let whole_is : whole.rows ≡ map (row_that_matters T) given = whole_rows ∙ ap (λ t. map (row_that_matters t) lent) own_is ∙ ap (map (row_that_matters T)) lent_is in
+    let left_is : left.rows ≡ map (mapped_row c.stands.items c.shifts.items) whole.rows =
+    left_rows ∙ ap (λ xs. map (mapped_row xs shifts) lent_whole) stands_are ∙ ap (λ xs. map (mapped_row c.stands.items xs) lent_whole) shifts_are ∙ ap (map (mapped_row c.stands.items c.shifts.items)) lent_whole_is in
+    let net_is : network.rows ≡ kept_below fates left.rows (length left.rows) = net_rows ∙ ap (λ xs. kept_below xs lent_left (length lent_left)) lent_fates_are ∙ ap (λ rows. kept_below fates rows (length rows)) lent_left_is in
+    subst (λ q. IsReduction q fates whole c network) (sym same) (is_reduction p given whole left network c fates limits arcs_are origins (whole_period ∙ own_is) whole_events whole_is
+    (contraction_at T (length p.events) whole.period whole.events whole.rows c (whole_period ∙ own_is) whole_events contraction) left_is fates_count
+    (fates_at T own lent_given given flags c.contracted.items (arcs_of_network left.rows) fates own_is lent_given_is flags_are fates_are) (net_period ∙ own_is) net_events net_is)
+
 pub returns : goal.returns
 returns c =
     let p = c.args.instance.now in
-    let given = c.in_ok-given.given.rows in
-    let whole = c.in_ok-whole.whole in
-    let left = c.in_ok-left.left in
-    let network = c.in_ok-network.network in
     let k = c.in_ok-contraction.contraction in
     let fates = c.in_ok-fates.fates.items in
-    let T = p.period in
-    let period_is : c.period-period.result ≡ T = c.period-period.ensures.period ∙ c.in_ok-given.ensures.period in
-    let whole_period = c.in_ok-whole.ensures.period ∙ period_is in
-    let whole_events = c.in_ok-whole.ensures.events ∙ c.events.ensures.events ∙ c.in_ok-given.ensures.events in
-    let whole_rows : whole.rows ≡ map (row_that_matters T) given = c.in_ok-whole.ensures.rows ∙ c.in_ok-matter.ensures ∙ ap (λ t. map (row_that_matters t) c.rows.result.now) period_is ∙ ap (map (row_that_matters T)) c.rows.ensures.rows in
-    let contraction = contraction_at T (length p.events) whole.period whole.events whole.rows k whole_period whole_events c.in_ok-contraction.ensures in
-    let left_rows : left.rows ≡ map (mapped_row k.stands.items k.shifts.items) whole.rows = c.in_ok-left.ensures.rows ∙ c.in_ok-mapped.ensures
-    ∙ ap (λ xs. map (mapped_row xs c.as_slice-shifts.result.now) c.rows-2.result.now) c.as_slice-stands.ensures.value
-    ∙ ap (λ xs. map (mapped_row k.stands.items xs) c.rows-2.result.now) c.as_slice-shifts.ensures.value
-    ∙ ap (map (mapped_row k.stands.items k.shifts.items)) c.rows-2.ensures.rows in
-    let fates_count : length fates ≡ length given = let a = c.in_ok-fates.ensures.count in let b = c.in_ok-fates.fates.ok.0 in let d = ap length c.rows-3.ensures.rows in omega arith in
-    let fates_are : AreFates T given k.contracted.items (arcs_of_network left.rows) fates = fates_at T c.period-period.result c.rows-3.result.now given c.as_slice-contracted.result.now k.contracted.items (arcs_of_network left.rows) fates period_is c.rows-3.ensures.rows c.as_slice-contracted.ensures.value c.in_ok-fates.ensures.each in
-    let net_period = c.in_ok-network.ensures.period ∙ period_is in
-    let net_events : network.events ≡ length k.firsts.items = c.in_ok-network.ensures.events ∙ (let a = c.len-events.ensures in let b = k.firsts.ok.0 in omega arith) in
-    let net_rows : network.rows ≡ kept_below fates left.rows (length left.rows) = c.in_ok-network.ensures.rows ∙ c.in_ok-rows.ensures
-    ∙ ap (λ xs. kept_below xs c.rows-4.result.now (length c.rows-4.result.now)) c.as_slice.ensures.value ∙ ap (λ rows. kept_below fates rows (length rows)) c.rows-4.ensures.rows in
-    let r = is_reduction p given whole left network k fates c.period-own.ensures.limits c.in_ok-given.ensures.rows c.in_ok-given.ensures.origins whole_period whole_events whole_rows contraction left_rows fates_count fates_are net_period net_events net_rows in
     let same : c.new-original.result ≡ p = c.new-original.ensures ∙ copy_is p c.period-own.result c.in_ok-labels.labels.items c.in_ok-copied.copied.items c.period-own.ensures.period (c.in_ok-labels.ensures.items ∙ c.events-2.ensures.events) (c.in_ok-copied.ensures.items ∙ c.rows-5.ensures.rows) in
-    let rn : IsReduction c.new-original.result fates whole k network = subst (λ q. IsReduction q fates whole k network) (sym same) r in
+    let fates_count : length fates ≡ length c.in_ok-given.given.rows = let a = c.in_ok-fates.ensures.count in let b = c.in_ok-fates.fates.ok.0 in let d = ap length c.rows-3.ensures.rows in omega arith in
+    let net_events : c.in_ok-network.network.events ≡ length k.firsts.items = c.in_ok-network.ensures.events ∙ (let a = c.len-events.ensures in let b = k.firsts.ok.0 in omega arith) in
+    let r = reduction_of p _ _ _ _ _ _ c.in_ok-whole.whole c.in_ok-left.left c.in_ok-network.network k _ _ _ _ _ _ c.period-own.ensures.limits c.in_ok-given.ensures.rows c.in_ok-given.ensures.origins (c.period-period.ensures.period ∙ c.in_ok-given.ensures.period)
+    c.in_ok-whole.ensures.period (c.in_ok-whole.ensures.events ∙ c.events.ensures.events ∙ c.in_ok-given.ensures.events) (c.in_ok-whole.ensures.rows ∙ c.in_ok-matter.ensures) c.rows.ensures.rows c.in_ok-contraction.ensures
+    (c.in_ok-left.ensures.rows ∙ c.in_ok-mapped.ensures) c.as_slice-stands.ensures.value c.as_slice-shifts.ensures.value c.rows-2.ensures.rows fates_count c.rows-3.ensures.rows c.as_slice-contracted.ensures.value c.in_ok-fates.ensures.each
+    c.in_ok-network.ensures.period net_events (c.in_ok-network.ensures.rows ∙ c.in_ok-rows.ensures) c.as_slice.ensures.value c.rows-4.ensures.rows same in
     record {
       original = same;
-      period = net_period;
+      period = c.in_ok-network.ensures.period ∙ c.period-period.ensures.period ∙ c.in_ok-given.ensures.period;
       no_bridge = r.no_bridge;
-      no_free = λ j l. none_free p fates whole network k j r l;
-      no_fixed = λ j l. none_fixed p fates whole network k j r l;
-      rows = λ j l. reduced_row c.new-original.result fates whole network k j rn l;
-      kept = kept_in_order c.new-original.result fates whole network k rn;
-      fates = fates_are_right c.new-original.result fates whole network k rn;
-      merged = are_merged c.new-original.result fates whole network k rn;
-      lengths = are_for_events c.new-original.result fates whole network k rn;
-      shifts = r.contraction.shifts.below;
-      no_cycle = no_contracted_cycle c.new-original.result fates whole network k rn;
+      no_free = λ j l. none_free _ _ _ _ _ j r l;
+      no_fixed = λ j l. none_fixed _ _ _ _ _ j r l;
+      rows = λ j l. reduced_row _ _ _ _ _ j r l;
+      kept = kept_in_order _ _ _ _ _ r;
+      fates = fates_are_right _ _ _ _ _ r;
+      merged = are_merged _ _ _ _ _ r;
+      lengths = are_for_events _ _ _ _ _ r;
+      shifts = subst (λ (q : Pesp). All (λ t. t < q.period) k.shifts.items) same r.contraction.shifts.below;
+      no_cycle = no_contracted_cycle _ _ _ _ _ r;
     }
 
 pub invariant_of-result : goal.invariant_of-result
 invariant_of-result c =
     let p = c.args.instance.now in
-    let given = c.in_ok-given.given.rows in
-    let whole = c.in_ok-whole.whole in
-    let left = c.in_ok-left.left in
-    let network = c.in_ok-network.network in
     let k = c.in_ok-contraction.contraction in
     let fates = c.in_ok-fates.fates.items in
-    let T = p.period in
-    let period_is : c.period-period.result ≡ T = c.period-period.ensures.period ∙ c.in_ok-given.ensures.period in
-    let whole_period = c.in_ok-whole.ensures.period ∙ period_is in
-    let whole_events = c.in_ok-whole.ensures.events ∙ c.events.ensures.events ∙ c.in_ok-given.ensures.events in
-    let whole_rows : whole.rows ≡ map (row_that_matters T) given = c.in_ok-whole.ensures.rows ∙ c.in_ok-matter.ensures ∙ ap (λ t. map (row_that_matters t) c.rows.result.now) period_is ∙ ap (map (row_that_matters T)) c.rows.ensures.rows in
-    let contraction = contraction_at T (length p.events) whole.period whole.events whole.rows k whole_period whole_events c.in_ok-contraction.ensures in
-    let left_rows : left.rows ≡ map (mapped_row k.stands.items k.shifts.items) whole.rows = c.in_ok-left.ensures.rows ∙ c.in_ok-mapped.ensures
-    ∙ ap (λ xs. map (mapped_row xs c.as_slice-shifts.result.now) c.rows-2.result.now) c.as_slice-stands.ensures.value
-    ∙ ap (λ xs. map (mapped_row k.stands.items xs) c.rows-2.result.now) c.as_slice-shifts.ensures.value
-    ∙ ap (map (mapped_row k.stands.items k.shifts.items)) c.rows-2.ensures.rows in
-    let fates_count : length fates ≡ length given = let a = c.in_ok-fates.ensures.count in let b = c.in_ok-fates.fates.ok.0 in let d = ap length c.rows-3.ensures.rows in omega arith in
-    let fates_are : AreFates T given k.contracted.items (arcs_of_network left.rows) fates = fates_at T c.period-period.result c.rows-3.result.now given c.as_slice-contracted.result.now k.contracted.items (arcs_of_network left.rows) fates period_is c.rows-3.ensures.rows c.as_slice-contracted.ensures.value c.in_ok-fates.ensures.each in
-    let net_period = c.in_ok-network.ensures.period ∙ period_is in
-    let net_events : network.events ≡ length k.firsts.items = c.in_ok-network.ensures.events ∙ (let a = c.len-events.ensures in let b = k.firsts.ok.0 in omega arith) in
-    let net_rows : network.rows ≡ kept_below fates left.rows (length left.rows) = c.in_ok-network.ensures.rows ∙ c.in_ok-rows.ensures
-    ∙ ap (λ xs. kept_below xs c.rows-4.result.now (length c.rows-4.result.now)) c.as_slice.ensures.value ∙ ap (λ rows. kept_below fates rows (length rows)) c.rows-4.ensures.rows in
-    let r = is_reduction p given whole left network k fates c.period-own.ensures.limits c.in_ok-given.ensures.rows c.in_ok-given.ensures.origins whole_period whole_events whole_rows contraction left_rows fates_count fates_are net_period net_events net_rows in
     let same : c.new-original.result ≡ p = c.new-original.ensures ∙ copy_is p c.period-own.result c.in_ok-labels.labels.items c.in_ok-copied.copied.items c.period-own.ensures.period (c.in_ok-labels.ensures.items ∙ c.events-2.ensures.events) (c.in_ok-copied.ensures.items ∙ c.rows-5.ensures.rows) in
-    let rn : IsReduction c.new-original.result fates whole k network = subst (λ q. IsReduction q fates whole k network) (sym same) r in
-    rn
+    let fates_count : length fates ≡ length c.in_ok-given.given.rows = let a = c.in_ok-fates.ensures.count in let b = c.in_ok-fates.fates.ok.0 in let d = ap length c.rows-3.ensures.rows in omega arith in
+    let net_events : c.in_ok-network.network.events ≡ length k.firsts.items = c.in_ok-network.ensures.events ∙ (let a = c.len-events.ensures in let b = k.firsts.ok.0 in omega arith) in
+    let r = reduction_of p _ _ _ _ _ _ c.in_ok-whole.whole c.in_ok-left.left c.in_ok-network.network k _ _ _ _ _ _ c.period-own.ensures.limits c.in_ok-given.ensures.rows c.in_ok-given.ensures.origins (c.period-period.ensures.period ∙ c.in_ok-given.ensures.period)
+    c.in_ok-whole.ensures.period (c.in_ok-whole.ensures.events ∙ c.events.ensures.events ∙ c.in_ok-given.ensures.events) (c.in_ok-whole.ensures.rows ∙ c.in_ok-matter.ensures) c.rows.ensures.rows c.in_ok-contraction.ensures
+    (c.in_ok-left.ensures.rows ∙ c.in_ok-mapped.ensures) c.as_slice-stands.ensures.value c.as_slice-shifts.ensures.value c.rows-2.ensures.rows fates_count c.rows-3.ensures.rows c.as_slice-contracted.ensures.value c.in_ok-fates.ensures.each
+    c.in_ok-network.ensures.period net_events (c.in_ok-network.ensures.rows ∙ c.in_ok-rows.ensures) c.as_slice.ensures.value c.rows-4.ensures.rows same in
+    r

@@ -16,7 +16,7 @@ use Rattle.pesp_problem.proofs.Integers.{mul-add, mul-neg, add-mul, zero-mul, su
 use Rattle.pesp_problem.proofs.Walks.{step, step_same, step_other, net_count-cons, sum_along, net_count_sum}
 use Rattle.pesp_walks.proofs.Counts.{eq-true, eq-false}
 use Rattle.pesp_bound.specs.Differences.{over_pairs, AreMultipliers, own_flow}
-use Rattle.pesp_bound.proofs.Ways.{back, net_count-append, net_count-one, net_count-back, Leads-append, Leads-back, All-back}
+use Rattle.pesp_problem.proofs.Ways.{back, net_count-append, net_count-one, net_count-back, leads_append, leads_back, all_back}
 use Rattle.pesp_bound.proofs.Owners.{none_or_some, InForest, plus_row, GoesBack, AreOwned}
 use Rattle.pesp_bound.proofs.Levels.{shift, bound, IsFixed}
 
@@ -99,9 +99,9 @@ around : (arcs : List Arc) (table : List (List SignedRow)) (owner : ℕ → ℕ)
 around arcs table owner k true c =
     record {
       way = back c.rest;
-      rows = All-back (Names (length arcs)) c.rest c.rows;
-      forest = All-back (λ (x : ℕ). owner (x - 1) ≡ 0) c.rest c.forest;
-      leads = Leads-back arcs c.rest (arc_at arcs (k - 1)).head (arc_at arcs (k - 1)).tail c.leads;
+      rows = all_back (Names (length arcs)) c.rest c.rows;
+      forest = all_back (λ (x : ℕ). owner (x - 1) ≡ 0) c.rest c.forest;
+      leads = leads_back arcs c.rest (arc_at arcs (k - 1)).head (arc_at arcs (k - 1)).tail c.leads;
       counts = λ i. omega (arith, ints, net_count-back c.rest i, c.counts i);
     }
 around arcs table owner k false c =
@@ -130,7 +130,7 @@ walk_detour arcs table owner (s ∷ walk) a b f h l =
       way = first.way ++ rest.way;
       rows = All-append (RowExists arcs) first.way rest.way first.rows rest.rows;
       forest = All-append (λ (x : SignedRow). owner (x.row - 1) ≡ 0) first.way rest.way first.forest rest.forest;
-      leads = Leads-append arcs first.way rest.way a (finish arcs s) b (subst (λ (x : ℕ). Leads arcs x first.way (finish arcs s)) l.0 first.leads) rest.leads;
+      leads = leads_append arcs first.way rest.way a (finish arcs s) b (subst (λ (x : ℕ). Leads arcs x first.way (finish arcs s)) l.0 first.leads) rest.leads;
       counts = λ i. omega (arith, ints, net_count-append first.way rest.way i, first.counts i, rest.counts i, net_count-cons s walk i);
     }
 

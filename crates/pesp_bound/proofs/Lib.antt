@@ -1,4 +1,3 @@
-pub mod Ways
 pub mod Owners
 pub mod Levels
 pub mod Circulations

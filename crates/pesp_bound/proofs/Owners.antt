@@ -11,6 +11,7 @@ use Rattle.pesp_problem.specs.Arcs.{arc_at}
 use Rattle.pesp_problem.specs.Walks.{Names, RowExists, AreRows, IsWalk, Leads, net_count}
 use Rattle.pesp_problem.specs.Forests.{HaveNoCycle, IsFundamental, AreFundamental, own_row}
 use Rattle.pesp_problem.specs.Nodes.{cycle_at}
+use Rattle.pesp_problem.proofs.Counting.{differ}
 use Rattle.pesp_walks.proofs.Counts.{eq-true, eq-false}
 use Rattle.pesp_bound.specs.Differences.{last_owner}
 
@@ -63,30 +64,6 @@ owns_last table (suc m) c i l own only =
       | inr other ↦
           let later : own_row (cycle_at table m) ≢ i + 1 = λ e. other (only m (omega arith) e) in
           ap (λ b. if b then m + 1 else last_owner table m i) (eq-false (own_row (cycle_at table m)) (i + 1) later) ∙ owns_last table m c i (omega arith) own (λ d k e. only d (omega arith) e)
-    ]
-
--- ---- rising rows differ
-
-rises : (xs : List ℕ) (i j k : ℕ) → IsStrictlyIncreasing xs → j ≡ i + k + 1 → j < length xs → slice_index xs i < slice_index xs j
-rises xs i j zero h e l = let next = h i (omega arith) in let same : i + 1 ≡ j = omega arith in let r = ap (slice_index xs) same in omega (arith, next, r)
-rises xs i j (suc k) h e l =
-    let before = rises xs i (j - 1) k h (omega arith) (omega arith) in
-    let next = h (j - 1) (omega arith) in
-    let same : j - 1 + 1 ≡ j = omega arith in
-    let r = ap (slice_index xs) same in
-    omega (arith, before, next, r)
-
-order : (a b : ℕ) → (a ≡ b) ⊎ ((a < b) ⊎ (b < a))
-order a b = grind arith
-
-differ : (xs : List ℕ) (i j : ℕ) → IsStrictlyIncreasing xs → i < length xs → j < length xs → slice_index xs i ≡ slice_index xs j → i ≡ j
-differ xs i j h k l e =
-    elim (order i j) [
-      | inl same ↦ same
-      | inr other ↦ elim other [
-        | inl less ↦ let r = rises xs i j (j - i - 1) h (omega arith) l in absurd (omega (arith, r, e))
-        | inr more ↦ let r = rises xs j i (i - j - 1) h (omega arith) k in absurd (omega (arith, r, e))
-      ]
     ]
 
 -- ---- rows of the forest

@@ -19,7 +19,7 @@ use Rattle.pesp_reduce.specs.Fates.{fate_at, is_kept}
 use Rattle.pesp_reduce.specs.LiftedWalks.{original_row, passes_kept, HasNoRowTwice}
 use Rattle.pesp_reduce.specs.Reductions.{ReducedValue}
 use Rattle.pesp_lifting.specs.Lifted.{IsReduced, AreLifted, Passes, HasOwnRow, IsFrugal}
-use Rattle.pesp_lifting.proofs.Places.{differ, rises_to, rising_short, distinct_short}
+use Rattle.pesp_problem.proofs.Counting.{differ, rises_to, rising_short, distinct_short}
 
 -- which default is read doesn't matter inside a list
 pub any_default : {A : Type 0} (xs : List A) (i : ℕ) (d e : A) → i < length xs → get_or xs i d ≡ get_or xs i e

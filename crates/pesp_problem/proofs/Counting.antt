@@ -1,15 +1,16 @@
 -- Numbers that rise, and numbers without one twice: how many there are.
-use Rattle.std.proofs.Common.{◌≡◌, ℕ, zero, suc, ◌+◌, ◌<◌, ◌≤◌, ◌⊎◌, Bool, true, false, List, [], ◌∷◌, length, map, refl, ap, arith, sym, inl, inr, subst}
-use Rattle.std.specs.Prelude.{slice_index, nat_eq, ◌||◌, All}
-use Rattle.std.specs.List.{IsDistinct, list_any, range_with_len}
+use Rattle.std.proofs.Common.{◌≡◌, ℕ, zero, suc, ◌+◌, ◌-◌, ◌<◌, ◌≤◌, inl, inr, List, [], ◌∷◌, length, map, arith}
+use Rattle.std.specs.Prelude.{◌≡◌, slice_index, nat_eq, All}
+use Rattle.std.specs.List.{IsDistinct, range_with_len}
 use Rattle.std.specs.List.Sorted.{IsStrictlyIncreasing}
-use Rattle.std.proofs.lemmas.Bool.{cases_eq}
-use Rattle.std.proofs.lemmas.Bool.Decides.{nat_tests}
+use Rattle.std.proofs.lemmas.Bool.{cases_order, eqb-true}
 use Rattle.std.proofs.lemmas.Cmp.{nat_eq_equiv}
 use Rattle.std.proofs.lemmas.Map.Made.{length-le_from_is_member}
+use Rattle.std.proofs.lemmas.Map.Views.{Contains-from_any, list_any-from_Contains}
+use Rattle.std.proofs.lemmas.List.Kept.{AllPairs-from_increasing}
 use Rattle.std.proofs.lemmas.List.{length-map}
-use Rattle.std.proofs.lemmas.List.FromFn.{length-range_with_len}
-use Rattle.std.proofs.lemmas.List.Elements.{All-head, All-tail, All-map, All-get_or}
+use Rattle.std.proofs.lemmas.List.FromFn.{length-range_with_len, get_or-range_with_len}
+use Rattle.std.proofs.lemmas.List.Elements.{All-head, All-map, All-get_or, All-contains}
 use Rattle.pesp_problem.specs.declared.arc.Arc.{Arc}
 use Rattle.pesp_problem.specs.declared.row.SignedRow.{SignedRow}
 use Rattle.pesp_problem.specs.Walks.{Names, RowExists, AreRows}
@@ -17,15 +18,23 @@ use Rattle.pesp_problem.specs.Forests.{IsSpanningForest, IsFundamental, AreFunda
 
 -- ---- numbers that rise
 
+pub rises_to : (xs : List ℕ) (i j : ℕ) → IsStrictlyIncreasing xs → i < j → j < length xs → slice_index xs i < slice_index xs j
+rises_to xs i j h l m = AllPairs-from_increasing xs h i j 0 l m
+
+pub differ : (xs : List ℕ) (i j : ℕ) → IsStrictlyIncreasing xs → i < length xs → j < length xs → slice_index xs i ≡ slice_index xs j → i ≡ j
+differ xs i j h k l e =
+    elim (cases_order i j) [
+      | inl same ↦ same
+      | inr other ↦ elim other [
+        | inl less ↦ let r = rises_to xs i j h less l in absurd (omega (arith, r, e))
+        | inr more ↦ let r = rises_to xs j i h more k in absurd (omega (arith, r, e))
+      ]
+    ]
+
 -- the number at a place is above the place, where the first is above 0
 above_place : (xs : List ℕ) (i : ℕ) → IsStrictlyIncreasing xs → ((k : ℕ) → k < length xs → 1 ≤ slice_index xs k) → i < length xs → i + 1 ≤ slice_index xs i
 above_place xs zero h some l = let first = some 0 l in omega (arith, first)
-above_place xs (suc i) h some l =
-    let before = above_place xs i h some (omega arith) in
-    let same : i + 1 ≡ suc i = omega arith in
-    let next = h i (omega arith) in
-    let r = ap (slice_index xs) same in
-    omega (arith, before, next, r)
+above_place xs (suc i) h some l = let before = above_place xs i h some (omega arith) in let next = rises_to xs i (suc i) h (omega arith) l in omega (arith, before, next)
 
 -- names that rise are no more than what they name
 pub rising_short : (xs : List ℕ) (n : ℕ) → IsStrictlyIncreasing xs → ((k : ℕ) → k < length xs → Names n (slice_index xs k)) → length xs ≤ n
@@ -37,44 +46,17 @@ rising_short (x ∷ xs) n h names =
 
 -- ---- numbers without one twice
 
-or_true : (a b : Bool) → (a || b) ≡ true → (a ≡ true) ⊎ (b ≡ true)
-or_true true b h = inl refl
-or_true false b h = inr h
-
-or_second : (a b : Bool) → b ≡ true → (a || b) ≡ true
-or_second true b h = refl
-or_second false b h = h
-
-or_first : (a b : Bool) → a ≡ true → (a || b) ≡ true
-or_first true b h = refl
-or_first false b h = cc
-
-same_number : (a b : ℕ) → nat_eq a b ≡ true → a ≡ b
-same_number a b e = grind (arith, nat_tests)
-
-equal_numbers : (a b : ℕ) → a ≡ b → nat_eq a b ≡ true
-equal_numbers a b e = grind (arith, nat_tests)
-
-member_named : (n : ℕ) (xs : List ℕ) (q : ℕ) → All (Names n) xs → list_any (nat_eq q) xs ≡ true → Names n q
-member_named n [] q h m = cc
-member_named n (x ∷ xs) q h m =
-    elim (or_true (nat_eq q x) (list_any (nat_eq q) xs) m) [
-      | inl here ↦ subst (Names n) (sym (same_number q x here)) (All-head (Names n) x xs h)
-      | inr there ↦ member_named n xs q (All-tail (Names n) x xs h) there
-    ]
-
-in_range : (q n a : ℕ) → a ≤ q → q < a + n → list_any (nat_eq q) (range_with_len a n) ≡ true
-in_range q zero a h l = absurd (omega arith)
-in_range q (suc n) a h l =
-    elim (cases_eq q a) [
-      | inl same ↦ or_first (nat_eq q a) _ (equal_numbers q a same)
-      | inr other ↦ or_second (nat_eq q a) _ (in_range q n (a + 1) (omega arith) (omega arith))
-    ]
-
 -- names without one twice are no more than what they name
 pub distinct_short : (xs : List ℕ) (n : ℕ) → IsDistinct nat_eq xs → All (Names n) xs → length xs ≤ n
 distinct_short xs n d h =
-    let within = length-le_from_is_member nat_eq_equiv xs (range_with_len 1 n) d (λ q m. let named = member_named n xs q h m in in_range q n 1 named.0 (omega (arith, named.1))) in
+    let all = range_with_len 1 n in
+    let within = length-le_from_is_member nat_eq_equiv xs all d (λ q m.
+    let named = All-contains (Names n) xs q h (Contains-from_any eqb-true q xs m) in
+    let low = named.0 in let high = named.1 in
+    let long = length-range_with_len 1 n in
+    let inside : q - 1 < n = omega (arith, low, high) in
+    let at_place = get_or-range_with_len 1 n (q - 1) q inside in
+    list_any-from_Contains nat_eq_equiv q all (q - 1, omega (arith, inside, long), omega (arith, at_place, low))) in
     omega (arith, within, length-range_with_len 1 n)
 
 -- ---- ways, forests and tables

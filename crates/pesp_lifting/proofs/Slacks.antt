@@ -1,56 +1,26 @@
 -- Offsets and costs that slacks of the instance's rows leave to what is left of it.
-use Rattle.std.proofs.Common.{◌≡◌, ℕ, zero, suc, ◌-◌, ◌*◌, ◌<◌, ◌≤◌, Bool, true, false, cond, List, [], ◌∷◌, length, map, get_or, take, add-one, refl, ap, arith, sym, ◌∙◌, inl, inr, subst}
-use Rattle.std.specs.Prelude.{ℤ, pos, ◌+ℤ◌, ◌-ℤ◌, ◌*ℤ◌, ◌≤ℤ◌, All, slice_index, sum_by}
-use Rattle.std.specs.List.{filter}
+use Rattle.std.proofs.Common.{◌≡◌, ℕ, zero, suc, ◌*◌, ◌<◌, ◌≤◌, List, length, get_or, take, add-one, refl, ap, arith, ◌∙◌, subst}
+use Rattle.std.specs.Prelude.{pos, ◌+ℤ◌, ◌*ℤ◌, ◌≤ℤ◌, All, slice_index, sum_by}
 use Rattle.std.proofs.lemmas.Int.{ints}
 use Rattle.std.proofs.lemmas.List.{get_or-map, length-map, take_all}
 use Rattle.std.proofs.lemmas.List.Sums.{sum_by_more}
-use Rattle.std.proofs.lemmas.List.Elements.{All-head, All-tail}
 use Rattle.pesp_problem.specs.declared.arc.Arc.{Arc}
 use Rattle.pesp_problem.specs.declared.row.SignedRow.{SignedRow}
 use Rattle.pesp_problem.specs.Sums.{sum_below}
-use Rattle.pesp_problem.specs.Arcs.{Net, no_arc, arc_at, arcs_of, arc_of, net_of, over_arcs, arc_slack, slacks_at}
+use Rattle.pesp_problem.specs.Arcs.{no_arc, arc_at, arcs_of, arc_of, net_of, arc_slack, slacks_at}
 use Rattle.pesp_problem.specs.NetTimetables.{IsNetTimetable, net_cost}
-use Rattle.pesp_problem.specs.Walks.{RowExists, AreRows, IsWalk, sign, net_count, HasWholeOffset}
-use Rattle.pesp_problem.proofs.Integers.{mul-add, mul-sub, sum_below-same, sum_below-add}
-use Rattle.pesp_problem.proofs.Walks.{sum_along, net_count_sum}
-use Rattle.pesp_network.specs.declared.row.NetRow.{NetRow}
+use Rattle.pesp_problem.specs.Walks.{IsWalk, net_count, HasWholeOffset}
+use Rattle.pesp_problem.proofs.Integers.{sum_below-same}
 use Rattle.pesp_network.specs.Networks.{net_row_at, no_net_row, arc_of_net, arcs_of_network, net_of_network}
 use Rattle.pesp_reduce.specs.declared.fate.Fate.{Fate}
 use Rattle.pesp_reduce.specs.declared.fate.Fate.TheVariants.{Contracted}
-use Rattle.pesp_reduce.specs.Fates.{fate_at, is_kept}
-use Rattle.pesp_reduce.specs.LiftedWalks.{original_row, passes_kept, IsKeptOrContracted, lower_sum}
+use Rattle.pesp_reduce.specs.Fates.{fate_at}
 use Rattle.pesp_reduce.specs.Reductions.{ReducedValue, IsFateOf, origin_place}
+use Rattle.pesp_reduce.proofs.LiftedOffsets.{lifted_offsets}
+use Rattle.pesp_reduce.proofs.LiftedOffsets.{IsLifted as IsLiftedWalk}
 use Rattle.pesp_lifting.specs.Lifted.{IsReduced, IsLifted, AreSlacksOf, AreWithin, weighted}
 use Rattle.pesp_lifting.proofs.Places.{sum_at_places}
-use Rattle.pesp_lifting.proofs.Tables.{origins_rise, walk_rows, any_default}
-
--- ---- along walks
-
--- a number for each row that is 0 at contracted rows adds up alike over what is kept
-along_kept : (arcs : List Arc) (fates : List Fate) (g : ℕ → ℤ) (walk : List SignedRow) → AreRows arcs walk → All (IsKeptOrContracted fates) walk → ((i : ℕ) → i < length arcs → fate_at fates i ≡ Contracted → g i ≡ pos 0) → sum_along walk g ≡ sum_along (filter (passes_kept fates) walk) g
-along_kept arcs fates g [] rows which zeros = refl
-along_kept arcs fates g (s ∷ walk) rows which zeros =
-    let rest = along_kept arcs fates g walk (All-tail (RowExists arcs) s walk rows) (All-tail (IsKeptOrContracted fates) s walk which) zeros in
-    let exists = All-head (RowExists arcs) s walk rows in
-    elim (All-head (IsKeptOrContracted fates) s walk which) [
-      | inl kept ↦ with_kept s walk (passes_kept fates s) (ap is_kept kept) rest
-      | inr contracted ↦
-          let none : g (s.row - 1) ≡ pos 0 = zeros (s.row - 1) (omega (arith, exists)) contracted in
-          without s walk (passes_kept fates s) (ap is_kept contracted) none rest
-    ]
-  where
-    with_kept : (s : SignedRow) (walk : List SignedRow) (b : Bool) → b ≡ true → sum_along walk g ≡ sum_along (filter (passes_kept fates) walk) g → sum_along (s ∷ walk) g ≡ sum_along (cond b (s ∷ filter (passes_kept fates) walk) (filter (passes_kept fates) walk)) g
-    with_kept s walk true e rest = ap (λ (x : ℤ). sign s *ℤ g (s.row - 1) +ℤ x) rest
-    with_kept s walk false e rest = cc
-
-    without : (s : SignedRow) (walk : List SignedRow) (b : Bool) → b ≡ false → g (s.row - 1) ≡ pos 0 → sum_along walk g ≡ sum_along (filter (passes_kept fates) walk) g → sum_along (s ∷ walk) g ≡ sum_along (cond b (s ∷ filter (passes_kept fates) walk) (filter (passes_kept fates) walk)) g
-    without s walk true e none rest = cc
-    without s walk false e none rest = let first : sign s *ℤ g (s.row - 1) ≡ pos 0 = rw none (omega (arith, ints)) in omega (arith, ints, first, rest)
-
-along_original : (rows : List NetRow) (g : ℕ → ℤ) (walk : List SignedRow) → sum_along (map (original_row rows) walk) g ≡ sum_along walk (λ j. g ((net_row_at rows j).origin - 1))
-along_original rows g [] = refl
-along_original rows g (s ∷ walk) = ap (λ (x : ℤ). sign s *ℤ g ((net_row_at rows (s.row - 1)).origin - 1) +ℤ x) (along_original rows g walk)
+use Rattle.pesp_lifting.proofs.Tables.{origins_rise, any_default}
 
 -- ---- offsets
 
@@ -62,47 +32,14 @@ none_contracted r slacks h w i l e =
     let within = w i l in
     omega (arith, within, fate.1)
 
--- the sum of net count times slack along the lifted walk and along the walk
-same_slacks : (r : ReducedValue) (walk lifted : List SignedRow) (slacks : ℕ → ℕ) (left : List ℕ) → IsReduced r → IsWalk (arcs_of_network r.network.rows) walk → IsLifted r walk lifted → AreWithin (net_of r.original) slacks → AreSlacksOf r slacks left
-    → over_arcs (arcs_of r.original) (λ i. net_count lifted i *ℤ pos (slacks i)) ≡ over_arcs (arcs_of_network r.network.rows) (λ j. net_count walk j *ℤ pos (slice_index left j))
-same_slacks r walk lifted slacks left h closed lift w a =
-    let g : ℕ → ℤ = λ i. pos (slacks i) in
-    let rows = r.network.rows in
-    let arcs = arcs_of_network rows in
-    let own : ℕ → ℤ = λ j. g ((net_row_at rows j).origin - 1) in
-    let lifted_rows = walk_rows (arcs_of r.original) lifted lift.closes in
-    let along = net_count_sum (arcs_of r.original) lifted g lifted_rows in
-    let kept = along_kept (arcs_of r.original) r.fates g lifted lifted_rows lift.others (λ i l e. ap (λ (n : ℕ). pos n) (none_contracted r slacks h w i l e)) in
-    let original = ap (λ (way : List SignedRow). sum_along way g) lift.kept in
-    let back = along_original rows g walk in
-    let over = net_count_sum arcs walk own (walk_rows arcs walk closed) in
-    let long = length-map rows arc_of_net in
-    let same = sum_below-same (length arcs) (λ j. net_count walk j *ℤ pos (slice_index left j)) (λ j. net_count walk j *ℤ own j) (λ j l. ap (λ (n : ℕ). net_count walk j *ℤ pos n) (a.each j (omega (arith, l, long)))) in
-    along ∙ kept ∙ original ∙ back ∙ sym over ∙ sym same
-
--- sums of net count times lower bound and slack apart
-split_sum : (n : Net) (walk : List SignedRow) (slacks : ℕ → ℕ) → over_arcs n.arcs (λ i. net_count walk i *ℤ ((arc_at n.arcs i).lower +ℤ pos (slacks i))) ≡ lower_sum n.arcs walk +ℤ over_arcs n.arcs (λ i. net_count walk i *ℤ pos (slacks i))
-split_sum n walk slacks =
-    sum_below-same (length n.arcs) _ (λ i. net_count walk i *ℤ (arc_at n.arcs i).lower +ℤ net_count walk i *ℤ pos (slacks i)) (λ i l. mul-add (net_count walk i) (arc_at n.arcs i).lower (pos (slacks i)))
-    ∙ sum_below-add (length n.arcs) (λ i. net_count walk i *ℤ (arc_at n.arcs i).lower) (λ i. net_count walk i *ℤ pos (slacks i))
-
-whole_again : (t more less : ℕ) (a b s z : ℤ) → a +ℤ s ≡ pos t *ℤ z → (a +ℤ pos (t * more)) ≡ (b +ℤ pos (t * less)) → b +ℤ s ≡ pos t *ℤ ((z +ℤ pos more) -ℤ pos less)
-whole_again t more less a b s z h e =
-    let out = mul-sub (pos t) (z +ℤ pos more) (pos less) in
-    let sum = mul-add (pos t) z (pos more) in
-    let first : pos t *ℤ pos more ≡ pos (t * more) = refl in
-    let second : pos t *ℤ pos less ≡ pos (t * less) = refl in
-    omega (arith, ints, h, e, out, sum, first, second)
-
 pub offsets_come_back : (r : ReducedValue) (walk lifted : List SignedRow) (slacks : ℕ → ℕ) (left : List ℕ) → IsReduced r → IsWalk (arcs_of_network r.network.rows) walk → IsLifted r walk lifted → AreWithin (net_of r.original) slacks → AreSlacksOf r slacks left → HasWholeOffset (net_of r.original) slacks lifted → HasWholeOffset (net_of_network r.network) (slice_index left) walk
 offsets_come_back r walk lifted slacks left h closed lift w a o =
-    let slack_sums = same_slacks r walk lifted slacks left h closed lift w a in
-    let whole = split_sum (net_of r.original) lifted slacks in
-    let part = split_sum (net_of_network r.network) walk (slice_index left) in
-    let t = r.original.period in
-    let sum : lower_sum (arcs_of r.original) lifted +ℤ over_arcs (arcs_of r.original) (λ i. net_count lifted i *ℤ pos (slacks i)) ≡ pos t *ℤ o.0 = sym whole ∙ o.1 in
-    let again = whole_again t lift.lower.more lift.lower.less (lower_sum (arcs_of r.original) lifted) (lower_sum (arcs_of_network r.network.rows) walk) (over_arcs (arcs_of r.original) (λ i. net_count lifted i *ℤ pos (slacks i))) o.0 sum lift.lower.even in
-    (((o.0 +ℤ pos lift.lower.more) -ℤ pos lift.lower.less), part ∙ ap (λ (x : ℤ). lower_sum (arcs_of_network r.network.rows) walk +ℤ x) (sym slack_sums) ∙ again ∙ ap (λ (k : ℕ). pos k *ℤ ((o.0 +ℤ pos lift.lower.more) -ℤ pos lift.lower.less)) (sym h.period))
+    let arcs = arcs_of_network r.network.rows in
+    let many = length-map r.original.rows (arc_of r.original.period) in
+    let long = length-map r.network.rows arc_of_net in
+    let lifted_is : IsLiftedWalk r walk lifted = record { closes = lift.closes; kept = lift.kept; others = lift.others; lower = lift.lower } in
+    let own = (lifted_offsets r walk lifted slacks h.period closed lifted_is (λ i l e. none_contracted r slacks h w i (omega (arith, l, many)) e)).0 o in
+    (own.0, sum_below-same (length arcs) _ _ (λ j l. ap (λ (n : ℕ). net_count walk j *ℤ ((arc_at arcs j).lower +ℤ pos n)) (a.each j (omega (arith, l, long)))) ∙ own.1)
 
 -- ---- timetables
 

@@ -19,22 +19,8 @@ use Rattle.pesp_machine.specs.Limits.{IsLineOf, KeepsTreeLimits}
 use Rattle.pesp_machine.specs.States.{root_of, node_at}
 use Rattle.pesp_machine.specs.Events.{LeavesBoth}
 use Rattle.pesp_machine.proofs.Ranges.{cut_keeps_limits}
-use Rattle.pesp_machine.proofs.TreeLimits.{All-first, All-second, leaf_line}
+use Rattle.pesp_machine.proofs.TreeLimits.{leaf_line, cuts_along}
 use Rattle.pesp_board.specs.Giving.{AreCuts}
-
--- what holds of the lines of a tree holds of the cuts of the path to a leaf
-cuts_along : (P : Line → Type 0) (tree : Tree) (path : List (Cut × Side)) (leaf : Leaf) → IsLeafAt tree path leaf → All P (preorder tree) → All (λ (step : Cut × Side). P (CutLine step.0)) path
-cuts_along P (Ends there) [] leaf h k = All-nil (λ (step : Cut × Side). P (CutLine step.0))
-cuts_along P (Ends there) (step ∷ path) leaf h k = absurd h
-cuts_along P (Branch cut low high) [] leaf h k = absurd h
-cuts_along P (Branch cut low high) ((c, Low) ∷ path) leaf h k =
-    let first = subst (λ (x : Cut). P (CutLine x)) (sym h.0) (All-head P (CutLine cut) (preorder low ++ preorder high) k) in
-    let rest = All-tail P (CutLine cut) (preorder low ++ preorder high) k in
-    All-cons (λ (step : Cut × Side). P (CutLine step.0)) (c, Low) path first (cuts_along P low path leaf h.1 (All-first P (preorder low) (preorder high) rest))
-cuts_along P (Branch cut low high) ((c, High) ∷ path) leaf h k =
-    let first = subst (λ (x : Cut). P (CutLine x)) (sym h.0) (All-head P (CutLine cut) (preorder low ++ preorder high) k) in
-    let rest = All-tail P (CutLine cut) (preorder low ++ preorder high) k in
-    All-cons (λ (step : Cut × Side). P (CutLine step.0)) (c, High) path first (cuts_along P high path leaf h.1 (All-second P (preorder low) (preorder high) rest))
 
 pub path_cuts : (p : ProblemValue) (t : WorkTreeValue) (node : ℕ) (leaf : Leaf) → IsWhole t → KeepsTreeLimits p t.tree → leaf_at t node ≡ Some leaf → AreCuts p (path_to t node)
 path_cuts p t node leaf w k e = cuts_along (IsLineOf p) t.tree (path_to t node) leaf (w.stands node leaf e) k.lines

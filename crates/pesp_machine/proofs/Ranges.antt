@@ -47,13 +47,13 @@ duration_size arcs slacks i h k l e =
     let range = k i (0, 0) (omega arith) in
     (omega (arith, ints, arc.0, range.0), omega (arith, ints, arc.0, range.1))
 
-walk_size : (arcs : List Arc) (walk : List SignedRow) (f : ℕ → ℤ) → length walk ≤ 10000000 → ((i : ℕ) → i < length arcs → unsigned_abs (f i) ≤ 1030000 * unsigned_abs (net_count walk i)) → unsigned_abs (over_arcs arcs f) ≤ 10300000000000
+pub walk_size : (arcs : List Arc) (walk : List SignedRow) (f : ℕ → ℤ) → length walk ≤ 10000000 → ((i : ℕ) → i < length arcs → unsigned_abs (f i) ≤ 1030000 * unsigned_abs (net_count walk i)) → unsigned_abs (over_arcs arcs f) ≤ 10300000000000
 walk_size arcs walk f h k = omega (arith, ints, sum_size (length arcs) f (λ i. unsigned_abs (net_count walk i)) k, amounts_short (length arcs) walk)
 
-least_size : (arcs : List Arc) (slacks : List (ℕ × ℕ)) (walk : List SignedRow) → AreArcs arcs → AreSlackEnds slacks → length slacks ≡ length arcs → length walk ≤ 10000000 → unsigned_abs (least_sum arcs slacks walk) ≤ 10300000000000
+pub least_size : (arcs : List Arc) (slacks : List (ℕ × ℕ)) (walk : List SignedRow) → AreArcs arcs → AreSlackEnds slacks → length slacks ≡ length arcs → length walk ≤ 10000000 → unsigned_abs (least_sum arcs slacks walk) ≤ 10300000000000
 least_size arcs slacks walk h k e l = walk_size arcs walk _ l (λ i b. let sizes = duration_size arcs slacks i h k b e in term_size (net_count walk i) _ _ sizes.0 sizes.1)
 
-greatest_size : (arcs : List Arc) (slacks : List (ℕ × ℕ)) (walk : List SignedRow) → AreArcs arcs → AreSlackEnds slacks → length slacks ≡ length arcs → length walk ≤ 10000000 → unsigned_abs (greatest_sum arcs slacks walk) ≤ 10300000000000
+pub greatest_size : (arcs : List Arc) (slacks : List (ℕ × ℕ)) (walk : List SignedRow) → AreArcs arcs → AreSlackEnds slacks → length slacks ≡ length arcs → length walk ≤ 10000000 → unsigned_abs (greatest_sum arcs slacks walk) ≤ 10300000000000
 greatest_size arcs slacks walk h k e l = walk_size arcs walk _ l (λ i b. let sizes = duration_size arcs slacks i h k b e in term_size (net_count walk i) _ _ sizes.1 sizes.0)
 
 -- ---- quotients

@@ -39,6 +39,20 @@ leaf_line P (Branch cut low high) [] leaf h k = absurd h
 leaf_line P (Branch cut low high) ((c, Low) ∷ path) leaf h k = leaf_line P low path leaf h.1 (All-first P (preorder low) (preorder high) (All-tail P (CutLine cut) (preorder low ++ preorder high) k))
 leaf_line P (Branch cut low high) ((c, High) ∷ path) leaf h k = leaf_line P high path leaf h.1 (All-second P (preorder low) (preorder high) (All-tail P (CutLine cut) (preorder low ++ preorder high) k))
 
+-- what holds of the lines of a tree holds of the cuts of the path to a leaf
+pub cuts_along : (P : Line → Type 0) (tree : Tree) (path : List (Cut × Side)) (leaf : Leaf) → IsLeafAt tree path leaf → All P (preorder tree) → All (λ (step : Cut × Side). P (CutLine step.0)) path
+cuts_along P (Ends there) [] leaf h k = All-nil (λ (step : Cut × Side). P (CutLine step.0))
+cuts_along P (Ends there) (step ∷ path) leaf h k = absurd h
+cuts_along P (Branch cut low high) [] leaf h k = absurd h
+cuts_along P (Branch cut low high) ((c, Low) ∷ path) leaf h k =
+    let first = subst (λ (x : Cut). P (CutLine x)) (sym h.0) (All-head P (CutLine cut) (preorder low ++ preorder high) k) in
+    let rest = All-tail P (CutLine cut) (preorder low ++ preorder high) k in
+    All-cons (λ (step : Cut × Side). P (CutLine step.0)) (c, Low) path first (cuts_along P low path leaf h.1 (All-first P (preorder low) (preorder high) rest))
+cuts_along P (Branch cut low high) ((c, High) ∷ path) leaf h k =
+    let first = subst (λ (x : Cut). P (CutLine x)) (sym h.0) (All-head P (CutLine cut) (preorder low ++ preorder high) k) in
+    let rest = All-tail P (CutLine cut) (preorder low ++ preorder high) k in
+    All-cons (λ (step : Cut × Side). P (CutLine step.0)) (c, High) path first (cuts_along P high path leaf h.1 (All-second P (preorder low) (preorder high) rest))
+
 -- what holds of the lines of a tree and of those of another holds where that one takes the place of a leaf
 pub put_lines : (P : Line → Type 0) (tree : Tree) (path : List (Cut × Side)) (new : Tree) → All P (preorder tree) → All P (preorder new) → All P (preorder (put tree path new))
 put_lines P (Ends there) [] new k n = n

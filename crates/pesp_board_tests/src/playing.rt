@@ -8,7 +8,7 @@ use crate::board::{board_of, instance_of};
 use crate::changing::{adopt, change, spend};
 use crate::lent::Lent;
 use pesp_board::Board;
-use pesp_cases::{split_word, words_of};
+use pesp_cases::{look_up, split_word, words_of};
 use pesp_problem::Instance;
 use std::alloc::Global;
 
@@ -60,6 +60,26 @@ fn play_line(
     }
 }
 
+/// Whose answer a line asks for.
+#[derive(Clone, Copy, Debug, PartialEq, Eq)]
+enum Asked {
+    Certificate,
+    Adopted,
+    Spent,
+    Changed,
+}
+
+/// The first word of each event, and of what is asked of the whole board.
+const EVENTS: [(&str, Asked); 7] = [
+    ("certificate", Asked::Certificate),
+    ("adopt", Asked::Adopted),
+    ("spend", Asked::Spent),
+    ("lend", Asked::Changed),
+    ("recall", Asked::Changed),
+    ("offer", Asked::Changed),
+    ("give", Asked::Changed),
+];
+
 /// The answer to an event or a question.
 fn answer_of(
     alloc: Global,
@@ -72,11 +92,11 @@ fn answer_of(
     ensures { IsProblemOf instance.now board.new.problem }
 {
     let words = words_of(alloc, line)?;
-    match *words.get(0)? {
-        "certificate" => certified(alloc, instance, board),
-        "adopt" => adopt(alloc, instance, board),
-        "spend" => spend(alloc, instance, board, &words),
-        "lend" | "recall" | "offer" | "give" => change(alloc, board, lent, &words),
-        _ => ask(alloc, board, lent, &words),
+    match look_up(&EVENTS, words.get(0)?) {
+        Some(Asked::Certificate) => certified(alloc, instance, board),
+        Some(Asked::Adopted) => adopt(alloc, instance, board),
+        Some(Asked::Spent) => spend(alloc, instance, board, &words),
+        Some(Asked::Changed) => change(alloc, board, lent, &words),
+        None => ask(alloc, board, lent, &words),
     }
 }

@@ -7,4 +7,6 @@ mod words;
 
 pub use blocks::cases_of;
 pub use spelling::{spell_cut, spell_list, spell_pairs, spell_ranges, spell_round, spell_rows};
-pub use words::{cut_of, numbers, pairs_of, signed_rows, small, split_word, whole, words_of};
+pub use words::{
+    cut_of, look_up, numbers, pairs_of, signed_rows, small, split_word, whole, words_of,
+};

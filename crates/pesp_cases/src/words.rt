@@ -19,6 +19,16 @@ pub fn words_of<'a>(alloc: Global, line: &'a str) -> Option<Vec<&'a str>> {
     Some(words)
 }
 
+/// What stands under a word in a table.
+pub fn look_up<T: Copy>(table: &[(&str, T)], word: &str) -> Option<T> {
+    for (name, found) in table {
+        if *name == word {
+            return Some(*found);
+        }
+    }
+    None
+}
+
 /// The word at a place, as a number of 32 bits.
 pub fn small(words: &[&str], place: usize) -> Option<u32> {
     words.get(place)?.parse().ok()

@@ -7,8 +7,60 @@ use crate::levels::ask_levels;
 use crate::networks::ask_network;
 use crate::nodes::{ask_node, ask_problem};
 use crate::reducing::ask_reduced;
-use pesp_cases::{split_word, words_of};
+use pesp_cases::{look_up, split_word, words_of};
 use std::alloc::Global;
+
+/// What a line asks of.
+#[derive(Clone, Copy, Debug, PartialEq, Eq)]
+enum Subject {
+    Network,
+    Reduced,
+    Domains,
+    Dive,
+    Improve,
+    Problem,
+    Node,
+    Leaf,
+    Levels,
+    Circulation,
+}
+
+/// The first word of each question.
+const SUBJECTS: [(&str, Subject); 10] = [
+    ("network", Subject::Network),
+    ("reduced", Subject::Reduced),
+    ("domains", Subject::Domains),
+    ("dive", Subject::Dive),
+    ("improve", Subject::Improve),
+    ("problem", Subject::Problem),
+    ("node", Subject::Node),
+    ("leaf", Subject::Leaf),
+    ("levels", Subject::Levels),
+    ("circulation", Subject::Circulation),
+];
+
+/// What a line that is no question is there for.
+#[derive(Clone, Copy, Debug, PartialEq, Eq)]
+enum Role {
+    Given,
+    Name,
+}
+
+/// The first word of each line that is no question.
+const ROLES: [(&str, Role); 12] = [
+    ("period", Role::Given),
+    ("events", Role::Given),
+    ("row", Role::Given),
+    ("rows", Role::Given),
+    ("activity", Role::Given),
+    ("cycle", Role::Given),
+    ("cut", Role::Given),
+    ("times", Role::Given),
+    ("slacks", Role::Given),
+    ("edge", Role::Given),
+    ("line", Role::Given),
+    ("case", Role::Name),
+];
 
 /// What is told of a case: its name, and each question with its answer.
 pub(crate) fn play(alloc: Global, lines: &[&str]) -> Option<String> {
@@ -21,20 +73,10 @@ pub(crate) fn play(alloc: Global, lines: &[&str]) -> Option<String> {
 
 /// A line with its answer; nothing of what is given.
 fn tell(alloc: Global, lines: &[&str], line: &str) -> Option<String> {
-    match split_word(line).0 {
-        "period"
-        | "events"
-        | "row"
-        | "rows"
-        | "activity"
-        | "cycle"
-        | "cut"
-        | "times"
-        | "slacks"
-        | "edge"
-        | "line" => Some(String::new(alloc)),
-        "case" => format!(in alloc; "{line}\n").ok(),
-        _ => {
+    match look_up(&ROLES, split_word(line).0) {
+        Some(Role::Given) => Some(String::new(alloc)),
+        Some(Role::Name) => format!(in alloc; "{line}\n").ok(),
+        None => {
             let answer = answer_of(alloc, lines, &words_of(alloc, line)?)?;
             format!(in alloc; "{line}: {answer}\n").ok()
         }
@@ -43,17 +85,16 @@ fn tell(alloc: Global, lines: &[&str], line: &str) -> Option<String> {
 
 /// The answer to a question.
 fn answer_of(alloc: Global, lines: &[&str], words: &[&str]) -> Option<String> {
-    match *words.get(0)? {
-        "network" => ask_network(alloc, lines, words),
-        "reduced" => ask_reduced(alloc, lines, words),
-        "domains" => ask_domains(alloc, lines, words),
-        "dive" => ask_dive(alloc, lines, words),
-        "improve" => ask_improvement(alloc, lines, words),
-        "problem" => ask_problem(alloc, lines),
-        "node" => ask_node(alloc, lines, words),
-        "leaf" => ask_leaf(alloc, lines, words),
-        "levels" => ask_levels(alloc, lines),
-        "circulation" => circulate(alloc, lines, words),
-        _ => None,
+    match look_up(&SUBJECTS, words.get(0)?)? {
+        Subject::Network => ask_network(alloc, lines, words),
+        Subject::Reduced => ask_reduced(alloc, lines, words),
+        Subject::Domains => ask_domains(alloc, lines, words),
+        Subject::Dive => ask_dive(alloc, lines, words),
+        Subject::Improve => ask_improvement(alloc, lines, words),
+        Subject::Problem => ask_problem(alloc, lines),
+        Subject::Node => ask_node(alloc, lines, words),
+        Subject::Leaf => ask_leaf(alloc, lines, words),
+        Subject::Levels => ask_levels(alloc, lines),
+        Subject::Circulation => circulate(alloc, lines, words),
     }
 }

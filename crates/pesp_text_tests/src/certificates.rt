@@ -47,18 +47,29 @@ fn ask_fronts(alloc: Global, text: &[u8]) -> Option<String> {
     String::from_str(alloc, "each is truncated").ok()
 }
 
-/// A certificate at period 10 of no timetable, with one time, one cycle and so many gap leaves.
-pub(crate) fn make_certificate(alloc: Global, rest: &str) -> Option<String> {
-    let mut times = Vec::new(alloc);
-    times.push((1, 0)).ok()?;
+/// A walk along the first row.
+fn one_cycle(alloc: Global) -> Option<Vec<Walk>> {
     let mut rows = Vec::new(alloc);
     rows.push(SignedRow { row: 1, plus: true }).ok()?;
     let mut cycles = Vec::new(alloc);
     cycles.push(Walk::new(rows)).ok()?;
+    Some(cycles)
+}
+
+/// A certificate at period 10 of no timetable, with one time, one cycle and this tree, where there is one.
+fn made_of(alloc: Global, tree: Vec<TreeLine>) -> Option<Option<Certificate>> {
+    let mut times = Vec::new(alloc);
+    times.push((1, 0)).ok()?;
+    let cycles = one_cycle(alloc)?;
+    Some(Certificate::new(1, 10, Answer::Infeasible, times, cycles, tree).ok())
+}
+
+/// What a certificate with so many gap leaves is, or `none` where there is none.
+pub(crate) fn make_certificate(alloc: Global, rest: &str) -> Option<String> {
     let tree = gaps(alloc, rest.parse().ok()?)?;
-    match Certificate::new(1, 10, Answer::Infeasible, times, cycles, tree) {
-        Ok(certificate) => spell_parts(alloc, &certificate),
-        Err(_) => String::from_str(alloc, "none").ok(),
+    match made_of(alloc, tree)? {
+        Some(certificate) => spell_parts(alloc, &certificate),
+        None => String::from_str(alloc, "none").ok(),
     }
 }
 

@@ -12,9 +12,66 @@ use crate::spellings::{ask_lines, ask_number, ask_words};
 use crate::statuses::ask_status;
 use crate::streams::{ask_bytes, ask_pages};
 use crate::works::ask_works;
-use pesp_cases::split_word;
+use pesp_cases::{look_up, split_word};
 use std::alloc::Global;
 use std::rt::Files;
+
+/// What a line asks for.
+#[derive(Clone, Copy, Debug, PartialEq, Eq)]
+enum Question {
+    Solve,
+    Solved,
+    Progress,
+    Check,
+    Report,
+    Draw,
+    Drawn,
+    Split,
+    Work,
+    Worked,
+    Graft,
+    Command,
+    Read,
+    Score,
+    Times,
+    Reported,
+    Parse,
+    Made,
+    Works,
+    Number,
+    Words,
+    Lines,
+    Bytes,
+    Pages,
+}
+
+/// The first word of each question.
+const QUESTIONS: [(&str, Question); 24] = [
+    ("solve", Question::Solve),
+    ("solved", Question::Solved),
+    ("progress", Question::Progress),
+    ("check", Question::Check),
+    ("report", Question::Report),
+    ("draw", Question::Draw),
+    ("drawn", Question::Drawn),
+    ("split", Question::Split),
+    ("work", Question::Work),
+    ("worked", Question::Worked),
+    ("graft", Question::Graft),
+    ("command", Question::Command),
+    ("read", Question::Read),
+    ("score", Question::Score),
+    ("times", Question::Times),
+    ("reported", Question::Reported),
+    ("parse", Question::Parse),
+    ("made", Question::Made),
+    ("works", Question::Works),
+    ("number", Question::Number),
+    ("words", Question::Words),
+    ("lines", Question::Lines),
+    ("bytes", Question::Bytes),
+    ("pages", Question::Pages),
+];
 
 /// What is told of a case: its name, and each question with its answer.
 pub(crate) fn play<R: AllocGlobal + Input + Print + Eprint + Files>(
@@ -28,6 +85,25 @@ pub(crate) fn play<R: AllocGlobal + Input + Print + Eprint + Files>(
     Some(told)
 }
 
+/// What a line is there for.
+#[derive(Clone, Copy, Debug, PartialEq, Eq)]
+enum Role {
+    Given,
+    Name,
+    Status,
+}
+
+/// The first word of each line that is no question.
+const ROLES: [(&str, Role); 7] = [
+    ("instance", Role::Given),
+    ("base", Role::Given),
+    ("input", Role::Given),
+    ("period", Role::Given),
+    ("device", Role::Given),
+    ("case", Role::Name),
+    ("status", Role::Status),
+];
+
 /// A line with its answer; nothing of what is given.
 fn tell<R: AllocGlobal + Input + Print + Eprint + Files>(
     rt: &R,
@@ -39,14 +115,14 @@ fn tell<R: AllocGlobal + Input + Print + Eprint + Files>(
         return Some(String::new(alloc));
     }
     let (word, rest) = split_word(line);
-    match word {
-        "instance" | "base" | "input" | "period" | "device" => Some(String::new(alloc)),
-        "case" => format!(in alloc; "{line}\n").ok(),
-        "status" => {
+    match look_up(&ROLES, word) {
+        Some(Role::Given) => Some(String::new(alloc)),
+        Some(Role::Name) => format!(in alloc; "{line}\n").ok(),
+        Some(Role::Status) => {
             let status = ask_status(rt, rest)?;
             format!(in alloc; "{line}: {status}\n").ok()
         }
-        _ => {
+        None => {
             let answer = answer_of(alloc, lines, word, rest)?;
             format!(in alloc; "{line}: {answer}\n").ok()
         }
@@ -55,31 +131,30 @@ fn tell<R: AllocGlobal + Input + Print + Eprint + Files>(
 
 /// The answer to a question.
 fn answer_of(alloc: Global, lines: &[&str], word: &str, rest: &str) -> Option<String> {
-    match word {
-        "solve" => ask_solve(alloc, lines, rest),
-        "solved" => ask_solved(alloc, lines, rest),
-        "progress" => ask_progress(alloc, lines, rest),
-        "check" => ask_check(alloc, lines, rest),
-        "report" => ask_run_report(alloc, lines),
-        "draw" => ask_draw(alloc, lines, rest),
-        "drawn" => ask_drawn(alloc, lines, rest),
-        "split" => ask_split(alloc, lines),
-        "work" => ask_work(alloc, lines, rest),
-        "worked" => ask_worked(alloc, lines, rest),
-        "graft" => ask_graft(alloc, lines),
-        "command" => ask_command(alloc, rest),
-        "read" => ask_instance(alloc, lines),
-        "score" => ask_score(alloc, lines, rest),
-        "times" => ask_times(alloc, lines),
-        "reported" => ask_report(alloc, lines, rest),
-        "parse" => ask_certificate(alloc, lines, rest),
-        "made" => make_certificate(alloc, rest),
-        "works" => ask_works(alloc, lines),
-        "number" => ask_number(alloc, rest),
-        "words" => ask_words(alloc, rest),
-        "lines" => ask_lines(alloc, lines),
-        "bytes" => ask_bytes(alloc, lines, rest),
-        "pages" => ask_pages(alloc, lines),
-        _ => None,
+    match look_up(&QUESTIONS, word)? {
+        Question::Solve => ask_solve(alloc, lines, rest),
+        Question::Solved => ask_solved(alloc, lines, rest),
+        Question::Progress => ask_progress(alloc, lines, rest),
+        Question::Check => ask_check(alloc, lines, rest),
+        Question::Report => ask_run_report(alloc, lines),
+        Question::Draw => ask_draw(alloc, lines, rest),
+        Question::Drawn => ask_drawn(alloc, lines, rest),
+        Question::Split => ask_split(alloc, lines),
+        Question::Work => ask_work(alloc, lines, rest),
+        Question::Worked => ask_worked(alloc, lines, rest),
+        Question::Graft => ask_graft(alloc, lines),
+        Question::Command => ask_command(alloc, rest),
+        Question::Read => ask_instance(alloc, lines),
+        Question::Score => ask_score(alloc, lines, rest),
+        Question::Times => ask_times(alloc, lines),
+        Question::Reported => ask_report(alloc, lines, rest),
+        Question::Parse => ask_certificate(alloc, lines, rest),
+        Question::Made => make_certificate(alloc, rest),
+        Question::Works => ask_works(alloc, lines),
+        Question::Number => ask_number(alloc, rest),
+        Question::Words => ask_words(alloc, rest),
+        Question::Lines => ask_lines(alloc, lines),
+        Question::Bytes => ask_bytes(alloc, lines, rest),
+        Question::Pages => ask_pages(alloc, lines),
     }
 }

@@ -15,7 +15,7 @@ use Rattle.pesp_cert.proofs.TextLengths.{texts_short}
 use Rattle.pesp_items.specs.Texts.{RefusesText}
 use Rattle.pesp_check.specs.declared.refusal.Verdict.{Verdict}
 use Rattle.pesp_check.specs.declared.refusal.Verdict.TheVariants.{Accepted}
-use Rattle.pesp_cli.specs.Runs.{Solves, Checks, RefusesInstance, RefusesCertificate}
+use Rattle.pesp_cli.specs.Runs.{Solves, Checks, RefusesInstance}
 
 -- what a writer got behind what it held before
 appended_is : (before bytes text : List ℕ) → Appends (Some before) (Some (before ++ bytes)) text → text ≡ bytes
@@ -35,25 +35,26 @@ accepted p q c d verdict same is valid exactly = exactly.1 (rw (← same, is) va
 
 pub accepts_what_is_solved : (text before bytes : List ℕ) (left left_instance left_certificate old new : Option (List ℕ)) (period steps : ℕ) (verdict : Verdict)
     → Solves (Some text) left period steps (Appends (Some before) (Some (before ++ bytes))) → Checks (Some text) left_instance (Some bytes) left_certificate period verdict (Appends old new) → verdict ≡ Accepted
-accepts_what_is_solved text before bytes left left_instance left_certificate old new period steps verdict solved checked =
-    let one = ap (λ t. instance_of t period) (solved.read.read.whole) ∙ solved.read.is_instance in
-    let other = ap (λ t. instance_of t period) (checked.read.read.whole) ∙ checked.read.is_instance in
+accepts_what_is_solved text before bytes left left_instance left_certificate old new period steps verdict (p, read, solved) (q, read_again, checked) =
+    let one = ap (λ t. instance_of t period) (read.read.whole) ∙ read.is_instance in
+    let other = ap (λ t. instance_of t period) (read_again.read.whole) ∙ read_again.is_instance in
     let written = appended_is before bytes (spelling solved.certificate) solved.written in
+    let judged = checked.judged in
     accepted
-    solved.instance
-    checked.instance
+    p
+    q
     solved.certificate
-    checked.certificate
+    judged.content
     verdict
-    (same_instance text period solved.instance checked.instance one other)
-    (same_content bytes checked.text 1073741824 solved.certificate checked.certificate solved.has_text written checked.read_certificate.front checked.is_text)
+    (same_instance text period p q one other)
+    (same_content bytes judged.text 1073741824 solved.certificate judged.content solved.has_text written judged.read.front judged.spelt)
     solved.solved.valid
-    checked.exactly
+    judged.exactly
 
 pub instance_is_read : (text : List ℕ) (left left_instance old new : Option (List ℕ)) (period steps : ℕ) (refusal : ReadRefusal) → Solves (Some text) left period steps (Appends old new) → RefusesInstance (Some text) left_instance period refusal → ⊥
-instance_is_read text left left_instance old new period steps refusal solved refused =
-    let one = ap (λ t. instance_of t period) (solved.read.read.whole) ∙ solved.read.is_instance in
-    let bad : ◌≡◌ {A = Result Pesp ReadRefusal} (Ok solved.instance) (Err refusal) = sym one ∙ refused.whole in
+instance_is_read text left left_instance old new period steps refusal (p, read, solved) refused =
+    let one = ap (λ t. instance_of t period) (read.read.whole) ∙ read.is_instance in
+    let bad : ◌≡◌ {A = Result Pesp ReadRefusal} (Ok p) (Err refusal) = sym one ∙ refused.whole in
     cc
 
 -- a text that is shorter than the limit has nothing behind what was read, where no more of it is read
@@ -70,8 +71,8 @@ never_refused bytes (Some rest) c refusal is refused =
     let bad = sym (text_read_of bytes c is) ∙ ap items_of_text refused.consumed ∙ first in
     cc
 
-pub certificate_is_read : (text before bytes : List ℕ) (left left_instance left_certificate : Option (List ℕ)) (period steps : ℕ) (refusal : CertRefusal)
-    → Solves (Some text) left period steps (Appends (Some before) (Some (before ++ bytes))) → RefusesCertificate (Some text) left_instance (Some bytes) left_certificate period refusal → ⊥
-certificate_is_read text before bytes left left_instance left_certificate period steps refusal solved refused =
+pub certificate_is_read : (text before bytes : List ℕ) (left left_certificate : Option (List ℕ)) (period steps : ℕ) (refusal : CertRefusal)
+    → Solves (Some text) left period steps (Appends (Some before) (Some (before ++ bytes))) → RefusesText (Some bytes) left_certificate 1073741824 refusal → ⊥
+certificate_is_read text before bytes left left_certificate period steps refusal (p, read, solved) refused =
     let written = appended_is before bytes (spelling solved.certificate) solved.written in
-    never_refused bytes left_certificate solved.certificate refusal (record { has_text = solved.has_text; spelt = sym written }) refused.refused
+    never_refused bytes left_certificate solved.certificate refusal (record { has_text = solved.has_text; spelt = sym written }) refused

@@ -1,5 +1,3 @@
 pub mod RunLemmas
 pub mod Joining
-pub mod SolveCauses
-pub mod CheckCauses
-pub mod OutsideCauses
+pub mod Causes

@@ -4,11 +4,13 @@ use Rattle.std.specs.Prelude.{Option, Result, IfErr, IsErrAnd}
 use Rattle.std.proofs.lemmas.List.{length-take, take_all}
 use Rattle.std.proofs.lemmas.Bool.Decides.{nat_tests}
 use Rattle.pesp_problem.specs.Timetables.{Pesp}
+use Rattle.pesp_stream.specs.Counts.{Calls}
 use Rattle.pesp_stream.specs.Reading.{ReadsText}
 use Rattle.pesp_instance.specs.declared.refusal.ReadRefusal.{ReadRefusal}
 use Rattle.pesp_instance.specs.declared.refusal.ReadRefusal.TheVariants.{Period, TextTooLong, FieldCount, NotANumber, OutOfRange, BoundsCrossed, TooManyRows, TooManyEvents, Memory as NoMemory}
 use Rattle.pesp_instance.specs.Instance.{instance_of}
 use Rattle.pesp_cli.specs.FaultLines.{instance_fault}
+use Rattle.pesp_cli.specs.Devices.{over}
 use Rattle.pesp_cli.specs.Runs.{ReadsAll, ReadsInstance, RefusesInstance, InstanceCause}
 
 -- a text that is too long is refused before its records are looked at
@@ -64,17 +66,17 @@ refuses told left bytes period refusal read is = record {
     by (Some text) front = sym (same_instance text period) ∙ ap (λ t. instance_of t period) (sym front) ∙ is
 
 -- a refusal of the text, or of memory
-pub refusal_has_cause : (refusal : ReadRefusal) (told left : Option (List ℕ)) (bytes : List ℕ) (period : ℕ) (R : Type 0) → ReadsText told left 16777217 bytes
-    → (◌≡◌ {A = Result Pesp ReadRefusal} (Err refusal) (instance_of bytes period)) ⊎ (◌≡◌ {A = Result Pesp ReadRefusal} (Err refusal) (Err NoMemory)) → InstanceCause (instance_fault refusal) told left period R
-refusal_has_cause NoMemory told left bytes period R read exact = tt
-refusal_has_cause Period told left bytes period R read exact = elim exact [ inl e ↦ refuses told left bytes period Period read (sym e) | inr e ↦ cc ]
-refusal_has_cause TextTooLong told left bytes period R read exact = elim exact [ inl e ↦ refuses told left bytes period TextTooLong read (sym e) | inr e ↦ cc ]
-refusal_has_cause (FieldCount at) told left bytes period R read exact = elim exact [ inl e ↦ refuses told left bytes period (FieldCount at) read (sym e) | inr e ↦ cc ]
-refusal_has_cause (NotANumber at field) told left bytes period R read exact = elim exact [ inl e ↦ refuses told left bytes period (NotANumber at field) read (sym e) | inr e ↦ cc ]
-refusal_has_cause (OutOfRange at field) told left bytes period R read exact = elim exact [ inl e ↦ refuses told left bytes period (OutOfRange at field) read (sym e) | inr e ↦ cc ]
-refusal_has_cause (BoundsCrossed at) told left bytes period R read exact = elim exact [ inl e ↦ refuses told left bytes period (BoundsCrossed at) read (sym e) | inr e ↦ cc ]
-refusal_has_cause (TooManyRows at) told left bytes period R read exact = elim exact [ inl e ↦ refuses told left bytes period (TooManyRows at) read (sym e) | inr e ↦ cc ]
-refusal_has_cause (TooManyEvents at) told left bytes period R read exact = elim exact [ inl e ↦ refuses told left bytes period (TooManyEvents at) read (sym e) | inr e ↦ cc ]
+pub refusal_has_cause : (refusal : ReadRefusal) (told left : Option (List ℕ)) (calls after : Calls) (bytes : List ℕ) (period : ℕ) → ReadsText told left 16777217 bytes
+    → (◌≡◌ {A = Result Pesp ReadRefusal} (Err refusal) (instance_of bytes period)) ⊎ (◌≡◌ {A = Result Pesp ReadRefusal} (Err refusal) (Err NoMemory)) → InstanceCause (instance_fault refusal) (over told left calls after) period
+refusal_has_cause NoMemory told left calls after bytes period read exact = tt
+refusal_has_cause Period told left calls after bytes period read exact = elim exact [ inl e ↦ refuses told left bytes period Period read (sym e) | inr e ↦ cc ]
+refusal_has_cause TextTooLong told left calls after bytes period read exact = elim exact [ inl e ↦ refuses told left bytes period TextTooLong read (sym e) | inr e ↦ cc ]
+refusal_has_cause (FieldCount at) told left calls after bytes period read exact = elim exact [ inl e ↦ refuses told left bytes period (FieldCount at) read (sym e) | inr e ↦ cc ]
+refusal_has_cause (NotANumber at field) told left calls after bytes period read exact = elim exact [ inl e ↦ refuses told left bytes period (NotANumber at field) read (sym e) | inr e ↦ cc ]
+refusal_has_cause (OutOfRange at field) told left calls after bytes period read exact = elim exact [ inl e ↦ refuses told left bytes period (OutOfRange at field) read (sym e) | inr e ↦ cc ]
+refusal_has_cause (BoundsCrossed at) told left calls after bytes period read exact = elim exact [ inl e ↦ refuses told left bytes period (BoundsCrossed at) read (sym e) | inr e ↦ cc ]
+refusal_has_cause (TooManyRows at) told left calls after bytes period read exact = elim exact [ inl e ↦ refuses told left bytes period (TooManyRows at) read (sym e) | inr e ↦ cc ]
+refusal_has_cause (TooManyEvents at) told left calls after bytes period read exact = elim exact [ inl e ↦ refuses told left bytes period (TooManyEvents at) read (sym e) | inr e ↦ cc ]
 
 -- the bytes that were read are an instance, and they are all that the reader had
 pub reads_instance : (told left : Option (List ℕ)) (bytes : List ℕ) (period : ℕ) (p : Pesp) → ReadsText told left 16777217 bytes → instance_of bytes period ≡ Ok p → ReadsInstance told left period p

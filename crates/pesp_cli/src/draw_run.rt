@@ -2,8 +2,9 @@
 
 ghost use Rattle.std.specs.Prelude.{◌≡◌, ◌≢◌, ◌<◌, ◌≤◌, ◌^◌, OnOk, IfErr};
 ghost use Rattle.std.specs.Io.KnownBytes.{Appends};
-ghost use Rattle.pesp_stream.specs.Counts.{FewerThan, HasWorked, DeviceFailed};
-ghost use Rattle.pesp_cli.specs.Runs.{Draws, DrawCause};
+ghost use Rattle.pesp_stream.specs.Counts.{FewerThan, HasWorked};
+ghost use Rattle.pesp_cli.specs.Devices.{over};
+ghost use Rattle.pesp_cli.specs.Runs.{ReadsTimetable, TimetableCause, WritesPicture};
 
 use crate::fault::Fault;
 use crate::runs::{MOST_TIMES, read_whole_instance};
@@ -27,22 +28,22 @@ pub fn run_draw<R: Source, T: Source, W: Sink>(
     requires times_reads_fit { FewerThan (2 ^ 62) (T.calls times_reader.old) }
     requires writes_fit { FewerThan (2 ^ 62) (W.calls writer.old) }
     ensures ok { OnOk result
-        (Draws (R.remaining instance_reader.old) (R.remaining instance_reader.new)
+        (ReadsTimetable (R.remaining instance_reader.old) (R.remaining instance_reader.new)
         (T.remaining times_reader.old) (T.remaining times_reader.new) period
-        (Appends (W.contents writer.old) (W.contents writer.new))) }
+        (λ p times. WritesPicture p times (Appends (W.contents writer.old) (W.contents writer.new)))) }
     ensures reads { OnOk result
         (HasWorked (R.calls instance_reader.old) (R.calls instance_reader.new)) }
     ensures times_reads { OnOk result
         (HasWorked (T.calls times_reader.old) (T.calls times_reader.new)) }
     ensures writes { OnOk result (HasWorked (W.calls writer.old) (W.calls writer.new)) }
-    ensures cause { IfErr result (λ fault. DrawCause fault (R.remaining instance_reader.old)
-        (R.remaining instance_reader.new)
-        (T.remaining times_reader.old) (T.remaining times_reader.new) period
-        (W.contents writer.old) (W.contents writer.new)
-        (DeviceFailed (R.calls instance_reader.old) (R.calls instance_reader.new))
-        (times_reader.new ≡ times_reader.old)
-        (DeviceFailed (T.calls times_reader.old) (T.calls times_reader.new))
-        (DeviceFailed (W.calls writer.old) (W.calls writer.new))) }
+    ensures cause { IfErr result (λ fault. TimetableCause fault
+        (over (R.remaining instance_reader.old) (R.remaining instance_reader.new)
+        (R.calls instance_reader.old) (R.calls instance_reader.new))
+        (over (T.remaining times_reader.old) (T.remaining times_reader.new)
+        (T.calls times_reader.old) (T.calls times_reader.new))
+        (over (W.contents writer.old) (W.contents writer.new)
+        (W.calls writer.old) (W.calls writer.new))
+        period (times_reader.new ≡ times_reader.old) WritesPicture) }
     ensures silent { IfErr result (λ fault. fault ≢ Fault.Write → writer.new ≡ writer.old) }
 {
     // The instance is judged before the times are read.

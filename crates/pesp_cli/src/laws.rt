@@ -6,7 +6,8 @@ ghost use Rattle.pesp_instance.specs.declared.refusal.ReadRefusal.{ReadRefusal};
 ghost use Rattle.pesp_cert.specs.declared.refusal.CertRefusal.{CertRefusal};
 ghost use Rattle.pesp_check.specs.declared.refusal.Verdict.{Verdict};
 ghost use Rattle.pesp_check.specs.declared.refusal.Verdict.TheVariants.{Accepted};
-ghost use Rattle.pesp_cli.specs.Runs.{Solves, Checks, RefusesInstance, RefusesCertificate};
+ghost use Rattle.pesp_items.specs.Texts.{RefusesText};
+ghost use Rattle.pesp_cli.specs.Runs.{Solves, Checks, RefusesInstance};
 
 /// The bytes that `run_solve` appended for an instance's text, within whichever number of steps, `run_check` accepts for the
 /// same text and period, where it answers Ok.
@@ -26,10 +27,8 @@ pub fn what_is_solved_is_read()
         (period steps : ℕ) (refusal : ReadRefusal)
         → Solves (Some text) left period steps (Appends old new)
         → RefusesInstance (Some text) left_instance period refusal → ⊥ }
-    ensures certificate { (text before bytes : List ℕ)
-        (left left_instance left_certificate : Option (List ℕ)) (period steps : ℕ)
-        (refusal : CertRefusal)
+    ensures certificate { (text before bytes : List ℕ) (left left_certificate : Option (List ℕ))
+        (period steps : ℕ) (refusal : CertRefusal)
         → Solves (Some text) left period steps (Appends (Some before) (Some (before ++ bytes)))
-        → RefusesCertificate (Some text) left_instance (Some bytes) left_certificate period refusal
-        → ⊥ }
+        → RefusesText (Some bytes) left_certificate 1073741824 refusal → ⊥ }
 {}

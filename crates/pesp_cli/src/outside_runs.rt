@@ -2,9 +2,10 @@
 
 ghost use Rattle.std.specs.Prelude.{◌≡◌, ◌≢◌, ◌⊎◌, ◌<◌, ◌≤◌, ◌^◌, OnOk, IfOk, IfErr};
 ghost use Rattle.std.specs.Io.KnownBytes.{Appends};
-ghost use Rattle.pesp_stream.specs.Counts.{FewerThan, HasWorked, DeviceFailed};
+ghost use Rattle.pesp_stream.specs.Counts.{FewerThan, HasWorked};
 ghost use Rattle.pesp_cli.specs.FaultLines.{works_fault};
-ghost use Rattle.pesp_cli.specs.Outside.{ReadsBase, ReadsWorks, Splits, WritesWork, GraftsWorks, BaseCause, WorksCause, WorkCause, SplitCause, GraftCause};
+ghost use Rattle.pesp_cli.specs.Devices.{over};
+ghost use Rattle.pesp_cli.specs.Outside.{ReadsBase, ReadsWorks, BaseCause, WorksCause, HasBase, WritesJobs, SplitCause, WritesWork, WorkCause, Grafts, GraftCause};
 
 use crate::fault::Fault;
 use crate::runs::{MOST_TIMES, read_whole_instance};
@@ -28,8 +29,9 @@ fn read_base<R: Source>(
         (ReadsBase (R.remaining reader.old) (R.remaining reader.new) instance.now) }
     ensures counts { OnOk result (HasWorked (R.calls reader.old) (R.calls reader.new)) }
     ensures cause { IfErr result
-        (λ fault. BaseCause fault (R.remaining reader.old) (R.remaining reader.new) instance.now
-        (DeviceFailed (R.calls reader.old) (R.calls reader.new))) }
+        (λ fault. BaseCause fault
+        (over (R.remaining reader.old) (R.remaining reader.new)
+        (R.calls reader.old) (R.calls reader.new)) instance.now) }
 {
     let text = read_all(alloc, reader, MOST_TIMES)?;
     let base = parse(alloc, &text)?;
@@ -50,15 +52,16 @@ fn works_fault(refusal: CertRefusal) -> Fault
 }
 
 /// Reads works.
-#[tactic(auto, using(crate::proofs::OutsideCauses::works_text_cause))]
+#[tactic(auto, using(crate::proofs::Causes::works_cause))]
 fn read_works<R: Source>(alloc: Global, reader: &mut R) -> Result<Vec<WorkText>, Fault>
     requires fits { FewerThan (2 ^ 63) (R.calls reader.old) }
     ensures ok { IfOk result
         (λ works. ReadsWorks (R.remaining reader.old) (R.remaining reader.new) works.items) }
     ensures counts { OnOk result (HasWorked (R.calls reader.old) (R.calls reader.new)) }
     ensures cause { IfErr result
-        (λ fault. WorksCause fault (R.remaining reader.old) (R.remaining reader.new)
-        (DeviceFailed (R.calls reader.old) (R.calls reader.new))) }
+        (λ fault. WorksCause fault
+        (over (R.remaining reader.old) (R.remaining reader.new)
+        (R.calls reader.old) (R.calls reader.new))) }
 {
     let text = read_all(alloc, reader, MOST_TIMES)?;
     match parse_works(alloc, &text) {
@@ -80,22 +83,22 @@ pub fn run_split<R: Source, B: Source, W: Sink>(
     requires base_reads_fit { FewerThan (2 ^ 62) (B.calls base_reader.old) }
     requires writes_fit { FewerThan (2 ^ 62) (W.calls writer.old) }
     ensures ok { OnOk result
-        (Splits (R.remaining instance_reader.old) (R.remaining instance_reader.new)
+        (HasBase (R.remaining instance_reader.old) (R.remaining instance_reader.new)
         (B.remaining base_reader.old) (B.remaining base_reader.new) period
-        (Appends (W.contents writer.old) (W.contents writer.new))) }
+        (λ p base. WritesJobs p base (Appends (W.contents writer.old) (W.contents writer.new)))) }
     ensures reads { OnOk result
         (HasWorked (R.calls instance_reader.old) (R.calls instance_reader.new)) }
     ensures base_reads { OnOk result
         (HasWorked (B.calls base_reader.old) (B.calls base_reader.new)) }
     ensures writes { OnOk result (HasWorked (W.calls writer.old) (W.calls writer.new)) }
     ensures cause { IfErr result (λ fault. SplitCause fault
-        (R.remaining instance_reader.old) (R.remaining instance_reader.new)
-        (B.remaining base_reader.old) (B.remaining base_reader.new) period
-        (W.contents writer.old) (W.contents writer.new)
-        (DeviceFailed (R.calls instance_reader.old) (R.calls instance_reader.new))
-        (base_reader.new ≡ base_reader.old)
-        (DeviceFailed (B.calls base_reader.old) (B.calls base_reader.new))
-        (DeviceFailed (W.calls writer.old) (W.calls writer.new))) }
+        (over (R.remaining instance_reader.old) (R.remaining instance_reader.new)
+        (R.calls instance_reader.old) (R.calls instance_reader.new))
+        (over (B.remaining base_reader.old) (B.remaining base_reader.new)
+        (B.calls base_reader.old) (B.calls base_reader.new))
+        (over (W.contents writer.old) (W.contents writer.new)
+        (W.calls writer.old) (W.calls writer.new))
+        period (base_reader.new ≡ base_reader.old)) }
     ensures silent { IfErr result (λ fault. fault ≢ Fault.Write → writer.new ≡ writer.old) }
 {
     let instance = read_whole_instance(alloc, instance_reader, period)?;
@@ -122,22 +125,23 @@ pub fn run_work<R: Source, B: Source, W: Sink>(
     requires base_reads_fit { FewerThan (2 ^ 62) (B.calls base_reader.old) }
     requires writes_fit { FewerThan (2 ^ 62) (W.calls writer.old) }
     ensures ok { OnOk result
-        (WritesWork (R.remaining instance_reader.old) (R.remaining instance_reader.new)
-        (B.remaining base_reader.old) (B.remaining base_reader.new) period job steps
-        (Appends (W.contents writer.old) (W.contents writer.new))) }
+        (HasBase (R.remaining instance_reader.old) (R.remaining instance_reader.new)
+        (B.remaining base_reader.old) (B.remaining base_reader.new) period
+        (λ p base. WritesWork p base job steps
+        (Appends (W.contents writer.old) (W.contents writer.new)))) }
     ensures reads { OnOk result
         (HasWorked (R.calls instance_reader.old) (R.calls instance_reader.new)) }
     ensures base_reads { OnOk result
         (HasWorked (B.calls base_reader.old) (B.calls base_reader.new)) }
     ensures writes { OnOk result (HasWorked (W.calls writer.old) (W.calls writer.new)) }
     ensures cause { IfErr result (λ fault. WorkCause fault
-        (R.remaining instance_reader.old) (R.remaining instance_reader.new)
-        (B.remaining base_reader.old) (B.remaining base_reader.new) period job steps
-        (W.contents writer.old) (W.contents writer.new)
-        (DeviceFailed (R.calls instance_reader.old) (R.calls instance_reader.new))
-        (base_reader.new ≡ base_reader.old)
-        (DeviceFailed (B.calls base_reader.old) (B.calls base_reader.new))
-        (DeviceFailed (W.calls writer.old) (W.calls writer.new))) }
+        (over (R.remaining instance_reader.old) (R.remaining instance_reader.new)
+        (R.calls instance_reader.old) (R.calls instance_reader.new))
+        (over (B.remaining base_reader.old) (B.remaining base_reader.new)
+        (B.calls base_reader.old) (B.calls base_reader.new))
+        (over (W.contents writer.old) (W.contents writer.new)
+        (W.calls writer.old) (W.calls writer.new))
+        period job steps (base_reader.new ≡ base_reader.old)) }
     ensures silent { IfErr result (λ fault. fault ≢ Fault.Write → writer.new ≡ writer.old) }
 {
     let instance = read_whole_instance(alloc, instance_reader, period)?;
@@ -166,11 +170,11 @@ pub fn run_graft<R: Source, B: Source, T: Source, W: Sink, E: Sink>(
     requires writes_fit { FewerThan (2 ^ 62) (W.calls writer.old) }
     requires tellings_fit { FewerThan (2 ^ 62) (E.calls teller.old) }
     ensures ok { OnOk result
-        (GraftsWorks (R.remaining instance_reader.old) (R.remaining instance_reader.new)
-        (B.remaining base_reader.old) (B.remaining base_reader.new)
-        (T.remaining works_reader.old) (T.remaining works_reader.new) period
+        (HasBase (R.remaining instance_reader.old) (R.remaining instance_reader.new)
+        (B.remaining base_reader.old) (B.remaining base_reader.new) period
+        (λ p base. Grafts (T.remaining works_reader.old) (T.remaining works_reader.new) p base
         (Appends (W.contents writer.old) (W.contents writer.new))
-        (Appends (E.contents teller.old) (E.contents teller.new))) }
+        (Appends (E.contents teller.old) (E.contents teller.new)))) }
     ensures reads { OnOk result
         (HasWorked (R.calls instance_reader.old) (R.calls instance_reader.new)) }
     ensures base_reads { OnOk result
@@ -180,18 +184,17 @@ pub fn run_graft<R: Source, B: Source, T: Source, W: Sink, E: Sink>(
     ensures writes { OnOk result (HasWorked (W.calls writer.old) (W.calls writer.new)) }
     ensures tellings { OnOk result (HasWorked (E.calls teller.old) (E.calls teller.new)) }
     ensures cause { IfErr result (λ fault. GraftCause fault
-        (R.remaining instance_reader.old) (R.remaining instance_reader.new)
-        (B.remaining base_reader.old) (B.remaining base_reader.new)
-        (T.remaining works_reader.old) (T.remaining works_reader.new) period
-        (W.contents writer.old) (W.contents writer.new) (E.contents teller.old)
-        (E.contents teller.new)
-        (DeviceFailed (R.calls instance_reader.old) (R.calls instance_reader.new))
-        (base_reader.new ≡ base_reader.old)
-        (DeviceFailed (B.calls base_reader.old) (B.calls base_reader.new))
-        (works_reader.new ≡ works_reader.old)
-        (DeviceFailed (T.calls works_reader.old) (T.calls works_reader.new))
-        (DeviceFailed (E.calls teller.old) (E.calls teller.new)
-        ⊎ DeviceFailed (W.calls writer.old) (W.calls writer.new))) }
+        (over (R.remaining instance_reader.old) (R.remaining instance_reader.new)
+        (R.calls instance_reader.old) (R.calls instance_reader.new))
+        (over (B.remaining base_reader.old) (B.remaining base_reader.new)
+        (B.calls base_reader.old) (B.calls base_reader.new))
+        (over (T.remaining works_reader.old) (T.remaining works_reader.new)
+        (T.calls works_reader.old) (T.calls works_reader.new))
+        (over (W.contents writer.old) (W.contents writer.new)
+        (W.calls writer.old) (W.calls writer.new))
+        (over (E.contents teller.old) (E.contents teller.new)
+        (E.calls teller.old) (E.calls teller.new))
+        period (base_reader.new ≡ base_reader.old) (works_reader.new ≡ works_reader.old)) }
     ensures silent { IfErr result (λ fault. fault ≢ Fault.Write → writer.new ≡ writer.old) }
     ensures untold { IfErr result (λ fault. fault ≢ Fault.Write → teller.new ≡ teller.old) }
 {

@@ -2,11 +2,12 @@
 
 ghost use Rattle.std.specs.Prelude.{◌≡◌, ◌≢◌, ℕ, ◌<◌, ◌≤◌, ◌^◌, OnOk, IfOk, IfErr};
 ghost use Rattle.std.specs.Io.KnownBytes.{Appends};
-ghost use Rattle.pesp_stream.specs.Counts.{FewerThan, HasWorked, DeviceFailed};
+ghost use Rattle.pesp_stream.specs.Counts.{FewerThan, HasWorked};
 ghost use Rattle.pesp_truth.specs.Truth.{IsTrueAnswer};
 ghost use Rattle.pesp_truth.specs.Certificates.{shown_times};
 ghost use Rattle.pesp_search.specs.Solving.{IsSolved, IsSearchRefusal};
-ghost use Rattle.pesp_cli.specs.Runs.{ReadsInstance, InstanceCause, Solves, SolveCause, Checks, CheckCause, Reports, ReportCause};
+ghost use Rattle.pesp_cli.specs.Devices.{over};
+ghost use Rattle.pesp_cli.specs.Runs.{ReadsInstance, InstanceCause, Solves, SolveCause, Checks, CheckCause, ReadsTimetable, TimetableCause, WritesReport};
 
 use crate::fault::Fault;
 use crate::verdict::write_verdict;
@@ -39,8 +40,9 @@ pub fn read_whole_instance<R: Source>(
         (ReadsInstance (R.remaining reader.old) (R.remaining reader.new) period) }
     ensures counts { OnOk result (HasWorked (R.calls reader.old) (R.calls reader.new)) }
     ensures cause { IfErr result
-        (λ fault. InstanceCause fault (R.remaining reader.old) (R.remaining reader.new) period
-        (DeviceFailed (R.calls reader.old) (R.calls reader.new))) }
+        (λ fault. InstanceCause fault
+        (over (R.remaining reader.old) (R.remaining reader.new)
+        (R.calls reader.old) (R.calls reader.new)) period) }
 {
     let text = read_all(alloc, reader, MOST_INSTANCE + 1)?;
     let instance = read_instance(alloc, &text, period)?;
@@ -89,10 +91,11 @@ pub fn run_solve<R: Source, W: Sink>(
     ensures reads { OnOk result (HasWorked (R.calls reader.old) (R.calls reader.new)) }
     ensures writes { OnOk result (HasWorked (W.calls writer.old) (W.calls writer.new)) }
     ensures cause { IfErr result
-        (λ fault. SolveCause fault (R.remaining reader.old) (R.remaining reader.new) period steps
-        (W.contents writer.old) (W.contents writer.new)
-        (DeviceFailed (R.calls reader.old) (R.calls reader.new))
-        (DeviceFailed (W.calls writer.old) (W.calls writer.new))) }
+        (λ fault. SolveCause fault
+        (over (R.remaining reader.old) (R.remaining reader.new)
+        (R.calls reader.old) (R.calls reader.new))
+        (over (W.contents writer.old) (W.contents writer.new)
+        (W.calls writer.old) (W.calls writer.new)) period steps) }
 
     // Before the certificate stands the writer isn't called.
     ensures silent { IfErr result (λ fault. fault ≢ Fault.Write → writer.new ≡ writer.old) }
@@ -117,10 +120,11 @@ pub fn run_solve_watched<R: Source, W: Sink, O: Observer>(
     ensures reads { OnOk result (HasWorked (R.calls reader.old) (R.calls reader.new)) }
     ensures writes { OnOk result (HasWorked (W.calls writer.old) (W.calls writer.new)) }
     ensures cause { IfErr result
-        (λ fault. SolveCause fault (R.remaining reader.old) (R.remaining reader.new) period steps
-        (W.contents writer.old) (W.contents writer.new)
-        (DeviceFailed (R.calls reader.old) (R.calls reader.new))
-        (DeviceFailed (W.calls writer.old) (W.calls writer.new))) }
+        (λ fault. SolveCause fault
+        (over (R.remaining reader.old) (R.remaining reader.new)
+        (R.calls reader.old) (R.calls reader.new))
+        (over (W.contents writer.old) (W.contents writer.new)
+        (W.calls writer.old) (W.calls writer.new)) period steps) }
     ensures silent { IfErr result (λ fault. fault ≢ Fault.Write → writer.new ≡ writer.old) }
 {
     let instance = read_whole_instance(alloc, reader, period)?;
@@ -152,14 +156,14 @@ pub fn run_check<R: Source, C: Source, W: Sink>(
     ensures certificate_reads { OnOk result
         (HasWorked (C.calls certificate_reader.old) (C.calls certificate_reader.new)) }
     ensures writes { OnOk result (HasWorked (W.calls writer.old) (W.calls writer.new)) }
-    ensures cause { IfErr result (λ fault. CheckCause fault (R.remaining instance_reader.old)
-        (R.remaining instance_reader.new)
-        (C.remaining certificate_reader.old) (C.remaining certificate_reader.new) period
-        (W.contents writer.old) (W.contents writer.new)
-        (DeviceFailed (R.calls instance_reader.old) (R.calls instance_reader.new))
-        (certificate_reader.new ≡ certificate_reader.old)
-        (DeviceFailed (C.calls certificate_reader.old) (C.calls certificate_reader.new))
-        (DeviceFailed (W.calls writer.old) (W.calls writer.new))) }
+    ensures cause { IfErr result (λ fault. CheckCause fault
+        (over (R.remaining instance_reader.old) (R.remaining instance_reader.new)
+        (R.calls instance_reader.old) (R.calls instance_reader.new))
+        (over (C.remaining certificate_reader.old) (C.remaining certificate_reader.new)
+        (C.calls certificate_reader.old) (C.calls certificate_reader.new))
+        (over (W.contents writer.old) (W.contents writer.new)
+        (W.calls writer.old) (W.calls writer.new))
+        period (certificate_reader.new ≡ certificate_reader.old)) }
     ensures silent { IfErr result (λ fault. fault ≢ Fault.Write → writer.new ≡ writer.old) }
 {
     // The instance is judged before the certificate is read.
@@ -182,22 +186,22 @@ pub fn run_report<R: Source, T: Source, W: Sink>(
     requires times_reads_fit { FewerThan (2 ^ 62) (T.calls times_reader.old) }
     requires writes_fit { FewerThan (2 ^ 62) (W.calls writer.old) }
     ensures ok { OnOk result
-        (Reports (R.remaining instance_reader.old) (R.remaining instance_reader.new)
+        (ReadsTimetable (R.remaining instance_reader.old) (R.remaining instance_reader.new)
         (T.remaining times_reader.old) (T.remaining times_reader.new) period
-        (Appends (W.contents writer.old) (W.contents writer.new))) }
+        (λ p times. WritesReport p times (Appends (W.contents writer.old) (W.contents writer.new)))) }
     ensures reads { OnOk result
         (HasWorked (R.calls instance_reader.old) (R.calls instance_reader.new)) }
     ensures times_reads { OnOk result
         (HasWorked (T.calls times_reader.old) (T.calls times_reader.new)) }
     ensures writes { OnOk result (HasWorked (W.calls writer.old) (W.calls writer.new)) }
-    ensures cause { IfErr result (λ fault. ReportCause fault (R.remaining instance_reader.old)
-        (R.remaining instance_reader.new)
-        (T.remaining times_reader.old) (T.remaining times_reader.new) period
-        (W.contents writer.old) (W.contents writer.new)
-        (DeviceFailed (R.calls instance_reader.old) (R.calls instance_reader.new))
-        (times_reader.new ≡ times_reader.old)
-        (DeviceFailed (T.calls times_reader.old) (T.calls times_reader.new))
-        (DeviceFailed (W.calls writer.old) (W.calls writer.new))) }
+    ensures cause { IfErr result (λ fault. TimetableCause fault
+        (over (R.remaining instance_reader.old) (R.remaining instance_reader.new)
+        (R.calls instance_reader.old) (R.calls instance_reader.new))
+        (over (T.remaining times_reader.old) (T.remaining times_reader.new)
+        (T.calls times_reader.old) (T.calls times_reader.new))
+        (over (W.contents writer.old) (W.contents writer.new)
+        (W.calls writer.old) (W.calls writer.new))
+        period (times_reader.new ≡ times_reader.old) WritesReport) }
     ensures silent { IfErr result (λ fault. fault ≢ Fault.Write → writer.new ≡ writer.old) }
 {
     // The instance is judged before the times are read.

@@ -1,42 +1,36 @@
 use Rattle.std.proofs.Common.{inl, inr}
 use Rattle.pesp_cli.proofs.RunLemmas.{told_as}
-use Rattle.pesp_cli.proofs.OutsideCauses.{job_cause}
+use Rattle.pesp_cli.proofs.Causes.{job_cause}
 use Rattle.pesp_cli.proofs.outside_runs.run_work.Goals as goal
-
-pub returns-clause-ok : goal.returns-clause-ok
-returns-clause-ok g c = record {
-  instance = c.in_ok-instance.instance;
-  read = c.in_ok-instance.ensures.ok;
-  base = c.in_ok-base.base;
-  read_base = c.in_ok-base.ensures.ok;
-  work = c.in_ok-found.found;
-  is_work = c.in_ok-found.ensures.work;
-  written = c.in_ok-print_work.ensures.text;
-}
 
 pub returns-in_err-found-clause-cause : goal.returns-in_err-found-clause-cause
 returns-in_err-found-clause-cause g c =
-    told_as _ _ _ c.from_residual-in_err-found.ensures.1 (inr (c.in_ok-instance.instance, c.in_ok-instance.ensures.ok, inr (c.in_ok-base.base, c.in_ok-base.ensures.ok, inl (job_cause _ _ _ _ c.in_err-found.ensures.refused))))
+    told_as _ _ _ c.from_residual-in_err-found.ensures.1 (inr (
+      c.in_ok-instance.instance,
+      c.in_ok-instance.ensures.ok,
+      inr (c.in_ok-base.base, c.in_ok-base.ensures.ok, inl (job_cause _ _ _ _ c.in_err-found.ensures.refused)),
+    ))
 
 pub returns-in_err-print_work-clause-cause : goal.returns-in_err-print_work-clause-cause
 returns-in_err-print_work-clause-cause g c =
+    let out = c.in_err-print_work.ensures in
     told_as _ _ _ c.from_residual-in_err-print_work.ensures.1 (inr (
       c.in_ok-instance.instance,
       c.in_ok-instance.ensures.ok,
       inr (
         c.in_ok-base.base,
         c.in_ok-base.ensures.ok,
-        inr (
-          c.in_err-print_work.ensures.fault,
-          record {
-            instance = c.in_ok-instance.instance;
-            read = c.in_ok-instance.ensures.ok;
-            base = c.in_ok-base.base;
-            read_base = c.in_ok-base.ensures.ok;
-            work = c.in_ok-found.found;
-            is_work = c.in_ok-found.ensures.work;
-            written = c.in_err-print_work.ensures.text;
-          },
-        ),
+        inr (out.fault, record { work = c.in_ok-found.found; is_work = c.in_ok-found.ensures.work; written = out.text }),
       ),
     ))
+
+pub returns-clause-ok : goal.returns-clause-ok
+returns-clause-ok g c = (
+  c.in_ok-instance.instance,
+  c.in_ok-instance.ensures.ok,
+  (
+    c.in_ok-base.base,
+    c.in_ok-base.ensures.ok,
+    record { work = c.in_ok-found.found; is_work = c.in_ok-found.ensures.work; written = c.in_ok-print_work.ensures.text },
+  ),
+)

@@ -2,7 +2,7 @@
 
 use crate::drain::drain_of;
 use crate::feed::feed_of;
-use crate::given::{device_of, period_of, text_of};
+use crate::given::given_by;
 use crate::telling::tell_fault;
 use pesp_cli::{Fault, run_draw};
 use std::alloc::Global;
@@ -25,18 +25,18 @@ pub(crate) fn ask_drawn(alloc: Global, lines: &[&str], rows: &str) -> Option<Str
 
 /// How `draw` ends with so many rows, and what it has written.
 fn drawn(alloc: Global, lines: &[&str], rows: &str) -> Option<(Result<(), Fault>, Vec<u8>)> {
-    let instance = text_of(alloc, lines, "instance")?;
-    let input = text_of(alloc, lines, "input")?;
-    let mut first = feed_of(&instance, device_of(alloc, lines, "instance")?);
-    let mut second = feed_of(&input, device_of(alloc, lines, "input")?);
-    let mut writer = drain_of(alloc, device_of(alloc, lines, "output")?);
+    let rows = rows.parse().ok()?;
+    let given = given_by(alloc, lines)?;
+    let mut first = feed_of(&given.instance, given.first);
+    let mut second = feed_of(&given.input, given.second);
+    let mut writer = drain_of(alloc, given.output);
     let answer = run_draw(
         alloc,
         &mut first,
         &mut second,
         &mut writer,
-        period_of(lines)?,
-        rows.parse().ok()?,
+        given.period,
+        rows,
     );
     Some((answer, writer.into_inner().taken))
 }

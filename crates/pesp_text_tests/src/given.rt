@@ -45,3 +45,27 @@ pub(crate) fn device_of(alloc: Global, lines: &[&str], name: &str) -> Option<Dev
     }
     Some(Device::whole())
 }
+
+/// What a run over two texts is given: an instance and what stands behind the line `input`, the devices of both and of the
+/// output, and the period.
+#[derive(Drop)]
+pub(crate) struct Given {
+    pub(crate) first: Device,
+    pub(crate) second: Device,
+    pub(crate) output: Device,
+    pub(crate) period: u32,
+    pub(crate) instance: Vec<u8>,
+    pub(crate) input: Vec<u8>,
+}
+
+/// What the lines of a case give to a run over two texts.
+pub(crate) fn given_by(alloc: Global, lines: &[&str]) -> Option<Given> {
+    Some(Given {
+        first: device_of(alloc, lines, "instance")?,
+        second: device_of(alloc, lines, "input")?,
+        output: device_of(alloc, lines, "output")?,
+        period: period_of(lines)?,
+        instance: text_of(alloc, lines, "instance")?,
+        input: text_of(alloc, lines, "input")?,
+    })
+}

@@ -3,26 +3,20 @@
 use crate::devices::Device;
 use crate::drain::drain_of;
 use crate::feed::feed_of;
-use crate::given::{device_of, period_of, text_of};
-use crate::telling::{joined, tell_fault, tell_written};
+use crate::given::{device_of, given_by, period_of, text_of};
+use crate::telling::{joined, tell_end, tell_fault, tell_written};
 use pesp_cases::words_of;
 use pesp_cli::{Fault, run_check, run_graft, run_split, run_work, status_of_verdict};
 use std::alloc::Global;
 
 /// What `split` writes.
 pub(crate) fn ask_split(alloc: Global, lines: &[&str]) -> Option<String> {
-    let instance = text_of(alloc, lines, "instance")?;
-    let input = text_of(alloc, lines, "input")?;
-    let period = period_of(lines)?;
-    let mut first = feed_of(&instance, device_of(alloc, lines, "instance")?);
-    let mut second = feed_of(&input, device_of(alloc, lines, "input")?);
-    let mut writer = drain_of(alloc, device_of(alloc, lines, "output")?);
-    let answer = run_split(alloc, &mut first, &mut second, &mut writer, period);
-    let taken = writer.into_inner().taken;
-    match answer {
-        Ok(()) => tell_written(alloc, 0, &taken),
-        Err(fault) => tell_fault(alloc, &fault, &taken),
-    }
+    let given = given_by(alloc, lines)?;
+    let mut first = feed_of(&given.instance, given.first);
+    let mut second = feed_of(&given.input, given.second);
+    let mut writer = drain_of(alloc, given.output);
+    let answer = run_split(alloc, &mut first, &mut second, &mut writer, given.period);
+    tell_end(alloc, answer.map(|()| 0), writer)
 }
 
 /// A certificate with works grafted onto it, and what is told of them.
@@ -39,6 +33,7 @@ fn grafted(
     base: &[u8],
     works: &[u8],
 ) -> Option<Result<Graft, Fault>> {
+    let period = period_of(lines)?;
     let instance = text_of(alloc, lines, "instance")?;
     let mut first = feed_of(&instance, Device::whole());
     let mut second = feed_of(base, Device::whole());
@@ -52,7 +47,7 @@ fn grafted(
         &mut third,
         &mut writer,
         &mut teller,
-        period_of(lines)?,
+        period,
     );
     let graft = Graft {
         certificate: writer.into_inner().taken,
@@ -83,12 +78,13 @@ fn work_text(
     steps: u32,
     job: u64,
 ) -> Option<Result<Vec<u8>, Fault>> {
+    let output = device_of(alloc, lines, "output")?;
+    let period = period_of(lines)?;
+    let steps = steps.min(100_000);
     let instance = text_of(alloc, lines, "instance")?;
     let mut first = feed_of(&instance, Device::whole());
     let mut second = feed_of(base, Device::whole());
-    let mut writer = drain_of(alloc, device_of(alloc, lines, "output")?);
-    let period = period_of(lines)?;
-    let steps = steps.min(100_000);
+    let mut writer = drain_of(alloc, output);
     let answer = run_work(
         alloc,
         &mut first,
@@ -130,19 +126,27 @@ fn works_for(
     Some(works)
 }
 
-/// What `check` says of the certificate of the input, once the works that `work` writes for these jobs are grafted onto it.
-pub(crate) fn ask_worked(alloc: Global, lines: &[&str], rest: &str) -> Option<String> {
-    let input = text_of(alloc, lines, "input")?;
-    let words = words_of(alloc, rest)?;
+/// The certificate of the input, once the works that `work STEPS JOB ..` writes are grafted onto it.
+fn worked(alloc: Global, lines: &[&str], words: &[&str]) -> Option<Vec<u8>> {
     let steps = words.first()?.parse().ok()?;
+    let input = text_of(alloc, lines, "input")?;
     let works = works_for(alloc, lines, &input, steps, words.get(1..)?)?;
     let graft = grafted(alloc, lines, &input, &works)?.ok()?;
+    Some(graft.certificate)
+}
+
+/// What `check` says of the certificate of the input, once the works that `work` writes for these jobs are grafted onto it.
+pub(crate) fn ask_worked(alloc: Global, lines: &[&str], rest: &str) -> Option<String> {
+    let period = period_of(lines)?;
+    let certificate = worked(alloc, lines, &words_of(alloc, rest)?)?;
     let instance = text_of(alloc, lines, "instance")?;
     let mut first = feed_of(&instance, Device::whole());
-    let mut second = feed_of(&graft.certificate, Device::whole());
+    let mut second = feed_of(&certificate, Device::whole());
     let mut writer = drain_of(alloc, Device::whole());
-    let period = period_of(lines)?;
-    let verdict = run_check(alloc, &mut first, &mut second, &mut writer, period).ok()?;
-    let taken = writer.into_inner().taken;
-    tell_written(alloc, status_of_verdict(verdict), &taken)
+    let answer = run_check(alloc, &mut first, &mut second, &mut writer, period);
+    tell_end(
+        alloc,
+        answer.map(|verdict| status_of_verdict(verdict)),
+        writer,
+    )
 }

@@ -3,8 +3,8 @@
 use crate::devices::Device;
 use crate::drain::drain_of;
 use crate::feed::feed_of;
-use crate::given::{device_of, period_of, text_of};
-use crate::telling::{tell_fault, tell_written};
+use crate::given::{given_by, period_of, text_of};
+use crate::telling::tell_end;
 use pesp_board::Board;
 use pesp_cli::{
     Milestones, run_check, run_report, run_solve, run_solve_watched, status_of_verdict,
@@ -14,16 +14,12 @@ use std::alloc::Global;
 
 /// What `solve` writes in so many steps.
 pub(crate) fn ask_solve(alloc: Global, lines: &[&str], steps: &str) -> Option<String> {
-    let instance = text_of(alloc, lines, "instance")?;
     let steps = steps.parse::<u32>().ok()?.min(100_000);
-    let mut reader = feed_of(&instance, device_of(alloc, lines, "instance")?);
-    let mut writer = drain_of(alloc, device_of(alloc, lines, "output")?);
-    let answer = run_solve(alloc, &mut reader, &mut writer, period_of(lines)?, steps);
-    let taken = writer.into_inner().taken;
-    match answer {
-        Ok(()) => tell_written(alloc, 0, &taken),
-        Err(fault) => tell_fault(alloc, &fault, &taken),
-    }
+    let given = given_by(alloc, lines)?;
+    let mut reader = feed_of(&given.instance, given.first);
+    let mut writer = drain_of(alloc, given.output);
+    let answer = run_solve(alloc, &mut reader, &mut writer, given.period, steps);
+    tell_end(alloc, answer.map(|()| 0), writer)
 }
 
 /// What is told of a search, each line with a `/` for its end.
@@ -47,9 +43,9 @@ impl Observer for Notes {
 
 /// What is told while `solve` takes so many steps.
 pub(crate) fn ask_progress(alloc: Global, lines: &[&str], steps: &str) -> Option<String> {
-    let instance = text_of(alloc, lines, "instance")?;
     let steps = steps.parse::<u32>().ok()?.min(100_000);
     let period = period_of(lines)?;
+    let instance = text_of(alloc, lines, "instance")?;
     let mut reader = feed_of(&instance, Device::whole());
     let mut writer = drain_of(alloc, Device::whole());
     let mut notes = Notes {
@@ -72,68 +68,50 @@ fn solved(alloc: Global, instance: &[u8], period: u32, steps: u32) -> Option<Vec
 
 /// What `check` says of the certificate that `solve` writes in so many steps.
 pub(crate) fn ask_solved(alloc: Global, lines: &[&str], steps: &str) -> Option<String> {
-    let instance = text_of(alloc, lines, "instance")?;
     let period = period_of(lines)?;
     let steps = steps.parse().ok()?;
+    let instance = text_of(alloc, lines, "instance")?;
     let certificate = solved(alloc, &instance, period, steps)?;
     let mut first = feed_of(&instance, Device::whole());
     let mut second = feed_of(&certificate, Device::whole());
     let mut writer = drain_of(alloc, Device::whole());
     let answer = run_check(alloc, &mut first, &mut second, &mut writer, period);
-    let taken = writer.into_inner().taken;
-    match answer {
-        Ok(verdict) => tell_written(alloc, status_of_verdict(verdict), &taken),
-        Err(fault) => tell_fault(alloc, &fault, &taken),
-    }
+    tell_end(
+        alloc,
+        answer.map(|verdict| status_of_verdict(verdict)),
+        writer,
+    )
 }
 
-/// The device of the certificate, which gives at most `piece` bytes at a call where a piece is named.
-fn certificate_device(alloc: Global, lines: &[&str], piece: &str) -> Option<Device> {
-    let mut device = device_of(alloc, lines, "input")?;
-    if !piece.is_empty() {
-        device.piece = piece.parse().ok()?;
+/// A device that gives at most `piece` bytes at a call, where a piece is named.
+fn in_pieces(device: Device, piece: &str) -> Option<Device> {
+    if piece.is_empty() {
+        return Some(device);
     }
-    Some(device)
+    let piece = piece.parse().ok()?;
+    Some(Device { piece, ..device })
 }
 
 /// What `check` writes of a certificate that comes in pieces, where their length is named.
 pub(crate) fn ask_check(alloc: Global, lines: &[&str], piece: &str) -> Option<String> {
-    let instance = text_of(alloc, lines, "instance")?;
-    let input = text_of(alloc, lines, "input")?;
-    let mut first = feed_of(&instance, device_of(alloc, lines, "instance")?);
-    let mut second = feed_of(&input, certificate_device(alloc, lines, piece)?);
-    let mut writer = drain_of(alloc, device_of(alloc, lines, "output")?);
-    let answer = run_check(
+    let given = given_by(alloc, lines)?;
+    let mut first = feed_of(&given.instance, given.first);
+    let mut second = feed_of(&given.input, in_pieces(given.second, piece)?);
+    let mut writer = drain_of(alloc, given.output);
+    let answer = run_check(alloc, &mut first, &mut second, &mut writer, given.period);
+    tell_end(
         alloc,
-        &mut first,
-        &mut second,
-        &mut writer,
-        period_of(lines)?,
-    );
-    let taken = writer.into_inner().taken;
-    match answer {
-        Ok(verdict) => tell_written(alloc, status_of_verdict(verdict), &taken),
-        Err(fault) => tell_fault(alloc, &fault, &taken),
-    }
+        answer.map(|verdict| status_of_verdict(verdict)),
+        writer,
+    )
 }
 
 /// What `report` writes.
 pub(crate) fn ask_run_report(alloc: Global, lines: &[&str]) -> Option<String> {
-    let instance = text_of(alloc, lines, "instance")?;
-    let input = text_of(alloc, lines, "input")?;
-    let mut first = feed_of(&instance, device_of(alloc, lines, "instance")?);
-    let mut second = feed_of(&input, device_of(alloc, lines, "input")?);
-    let mut writer = drain_of(alloc, device_of(alloc, lines, "output")?);
-    let answer = run_report(
-        alloc,
-        &mut first,
-        &mut second,
-        &mut writer,
-        period_of(lines)?,
-    );
-    let taken = writer.into_inner().taken;
-    match answer {
-        Ok(()) => tell_written(alloc, 0, &taken),
-        Err(fault) => tell_fault(alloc, &fault, &taken),
-    }
+    let given = given_by(alloc, lines)?;
+    let mut first = feed_of(&given.instance, given.first);
+    let mut second = feed_of(&given.input, given.second);
+    let mut writer = drain_of(alloc, given.output);
+    let answer = run_report(alloc, &mut first, &mut second, &mut writer, given.period);
+    tell_end(alloc, answer.map(|()| 0), writer)
 }

@@ -1,6 +1,8 @@
 //! Answers of runs.
 
+use crate::drain::Drain;
 use pesp_cli::{Fault, status_of};
+use pesp_stream::Counted;
 use std::alloc::Global;
 
 /// The lines of a text, each with a `/` for its end.
@@ -31,4 +33,17 @@ pub(crate) fn tell_fault(alloc: Global, fault: &Fault, taken: &[u8]) -> Option<S
     }
     let text = joined(alloc, taken)?;
     format!(in alloc; "{status} {fault}, behind {text}").ok()
+}
+
+/// How a run ended, with which status where it has one of its own, and what it has written.
+pub(crate) fn tell_end(
+    alloc: Global,
+    answer: Result<u8, Fault>,
+    writer: Counted<Drain>,
+) -> Option<String> {
+    let taken = writer.into_inner().taken;
+    match answer {
+        Ok(status) => tell_written(alloc, status, &taken),
+        Err(fault) => tell_fault(alloc, &fault, &taken),
+    }
 }

@@ -9,7 +9,7 @@ use pesp_bound::{Cut, Node, Problem, Side};
 use pesp_network::Network;
 use std::alloc::Global;
 
-// whether a node has what the cut names, and the cut keeps its limit
+/// Whether a node has what the cut names, and the cut keeps its limit.
 fn has_cut(node: &Node, cut: Cut) -> bool
     ensures { IsTrue result → IsCutOf node.now cut }
 {
@@ -23,7 +23,7 @@ fn has_cut(node: &Node, cut: Cut) -> bool
     }
 }
 
-// the node to which a path leads
+/// The node to which a path leads.
 fn node_along(alloc: Global, problem: &Problem, path: &[(Cut, Side)]) -> Option<Node> {
     let mut node = root_of(alloc, problem)?;
     for (cut, side) in path {
@@ -35,7 +35,7 @@ fn node_along(alloc: Global, problem: &Problem, path: &[(Cut, Side)]) -> Option<
     Some(node)
 }
 
-// the jobs of all open leaves
+/// The jobs of all open leaves.
 fn lend_all(alloc: Global, board: &mut Board) -> Option<Vec<Job>> {
     let mut jobs = Vec::new(alloc);
     for _ in 0..1_000_000 {
@@ -47,7 +47,7 @@ fn lend_all(alloc: Global, board: &mut Board) -> Option<Vec<Job>> {
     None
 }
 
-// splits the leaf of a job
+/// Splits the leaf of a job.
 fn split_job(alloc: Global, board: &mut Board, job: &Job) -> Option<()> {
     let node = node_along(alloc, board.problem(), &job.path)?;
     let (cycle, k) = wide_cycle(&node)?;
@@ -55,7 +55,7 @@ fn split_job(alloc: Global, board: &mut Board, job: &Job) -> Option<()> {
     board.give(alloc, job.number, &Work::Split(cut)).ok()
 }
 
-// splits the leaves of the first of some jobs; how many
+/// Splits the leaves of the first of some jobs; how many.
 fn split_some(alloc: Global, board: &mut Board, jobs: &[Job], most: u32) -> Option<u32> {
     let mut done = 0u32;
     for job in jobs {

@@ -8,13 +8,13 @@ use pesp_bound::{Cut, Leaf, Node, Pair, Pairs, Problem, Side, best_leaf, best_le
 use pesp_network::Network;
 use std::alloc::Global;
 
-// the problem of a network with its fundamental walks
+/// The problem of a network with its fundamental walks.
 pub(crate) fn problem_of(alloc: Global, network: Network) -> Option<Problem> {
     let table = network.cycles(alloc).ok()?;
     Problem::new(alloc, network, table).ok()
 }
 
-// the value of a leaf that has one
+/// The value of a leaf that has one.
 fn value_of(leaf: &Leaf) -> Option<u64> {
     match leaf {
         Leaf::Bound { value, .. } => u64::try_from(*value).ok(),
@@ -29,7 +29,7 @@ pub(crate) fn root_leaf(alloc: Global, network: Network, rounds: u32) -> Option<
     value_of(&best_leaf(alloc, &problem, &root, rounds).ok()?)
 }
 
-// the first cycle with more than one offset, numbered from 1, with the least
+/// The first cycle with more than one offset, numbered from 1, with the least.
 pub(crate) fn wide_cycle(node: &Node) -> Option<(u32, i64)>
     ensures { IfSome result (λ found. IsCutOf node.now (Offset found.0 found.1)) }
 {
@@ -43,7 +43,7 @@ pub(crate) fn wide_cycle(node: &Node) -> Option<(u32, i64)>
     None
 }
 
-// the root
+/// The root.
 pub(crate) fn root_of(alloc: Global, problem: &Problem) -> Option<Node>
     ensures { IfSome result (IsNodeOf problem.now) }
 {
@@ -53,7 +53,7 @@ pub(crate) fn root_of(alloc: Global, problem: &Problem) -> Option<Node>
     }
 }
 
-// the pairs of the best leaf that is found, where it is a bound
+/// The pairs of the best leaf that is found, where it is a bound.
 fn bound_pairs(alloc: Global, problem: &Problem, node: &Node, rounds: u32) -> Option<Pairs>
     requires { IsNodeOf problem.now node.now }
     ensures { IfSome result (ArePairs (length problem.now.table)) }
@@ -64,7 +64,7 @@ fn bound_pairs(alloc: Global, problem: &Problem, node: &Node, rounds: u32) -> Op
     }
 }
 
-// goes to the high part of a cut
+/// Goes to the high part of a cut.
 fn go_high(problem: &Problem, node: &mut Node) -> Option<()>
     requires { IsNodeOf problem.now node.old }
     ensures { IsNodeOf problem.now node.new }
@@ -83,10 +83,10 @@ pub(crate) fn child_leaf(alloc: Global, network: Network, rounds: u32) -> Option
     value_of(&best_leaf_from(alloc, &problem, &node, pairs.as_slice(), rounds).ok()?)
 }
 
-// more rounds than any leaf uses
+/// More rounds than any leaf uses.
 const MOST: u32 = 1_000_000;
 
-// the value of the best leaf that is found from pairs in so many rounds
+/// The value of the best leaf that is found from pairs in so many rounds.
 fn value_from(
     alloc: Global,
     problem: &Problem,
@@ -100,7 +100,7 @@ fn value_from(
     value_of(&best_leaf_from(alloc, problem, node, start, rounds).ok()?)
 }
 
-// the fewest rounds that give a leaf its greatest value; more rounds never give less
+/// The fewest rounds that give a leaf its greatest value; more rounds never give less.
 fn fewest(alloc: Global, problem: &Problem, node: &Node, start: &[Pair]) -> Option<u64>
     requires node { IsNodeOf problem.now node.now }
     requires start { ArePairs (length problem.now.table) start.now }

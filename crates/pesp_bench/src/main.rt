@@ -24,7 +24,7 @@ fn main(rt: HostRuntime) -> ExitCode {
     }
 }
 
-// a word as a number
+/// A word as a number.
 fn number(words: &[String], place: usize) -> Option<u32> {
     words.get(place)?.parse().ok()
 }

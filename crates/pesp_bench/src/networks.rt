@@ -44,7 +44,7 @@ pub(crate) fn task_of(word: &str, own: u32) -> Option<Task> {
     }
 }
 
-// how many signed rows the fundamental walks have
+/// How many signed rows the fundamental walks have.
 fn signed_rows(alloc: Global, network: &Network) -> Option<u64> {
     let table = network.cycles(alloc).ok()?;
     let mut rows = 0u64;
@@ -54,7 +54,7 @@ fn signed_rows(alloc: Global, network: &Network) -> Option<u64> {
     Some(rows)
 }
 
-// 1 where the full sets of differences stay possible, else 0
+/// 1 where the full sets of differences stay possible, else 0.
 fn settled(alloc: Global, network: &Network) -> Option<u64> {
     let ranges = network
         .rows()
@@ -69,7 +69,7 @@ fn settled(alloc: Global, network: &Network) -> Option<u64> {
     }
 }
 
-// the cost of the timetable that a dive finds
+/// The cost of the timetable that a dive finds.
 fn dived(alloc: Global, instance: &Instance, network: &Network, tries: u32) -> Option<u64> {
     let times = dive(alloc, network, tries).ok()??;
     match score(instance, &times) {
@@ -78,13 +78,13 @@ fn dived(alloc: Global, instance: &Instance, network: &Network, tries: u32) -> O
     }
 }
 
-// the cost of the timetable that is made of the one that a dive finds
+/// The cost of the timetable that is made of the one that a dive finds.
 fn improved(alloc: Global, network: &Network, rounds: u32) -> Option<u64> {
     let times = dive(alloc, network, 100).ok()??;
     Some(improve(alloc, network, &times, rounds).ok()?.cost)
 }
 
-// does a task once: the figure that came out
+/// Does a task once: the figure that came out.
 fn figure(alloc: Global, task: Task, instance: &Instance) -> Option<u64> {
     if task == Task::Read {
         return Some(instance.rows().len() as u64);

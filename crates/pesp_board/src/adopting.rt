@@ -35,7 +35,7 @@ use pesp_tree::{Leaf, WorkTree};
 use pesp_truth::{Answer, TreeLine};
 use std::alloc::Global;
 
-// an instance and a certificate keep their limits
+/// An instance and a certificate keep their limits.
 pub(crate) fn keep_limits(instance: &Instance, certificate: &Certificate)
     ensures instance { instances.KeepsLimits instance.now }
     ensures certificate { KeepsLimits certificate.now }

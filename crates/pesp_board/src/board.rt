@@ -55,7 +55,7 @@ impl Model for Board {
     ghost invariant = { λ b. IsBoard b.problem b.tree b.slots.items b.queue b.best b.pairs };
 }
 
-// no item stands in a queue twice
+/// No item stands in a queue twice.
 fn items_differ(queue: &Queue)
     ensures { ItemsDiffer (all_of queue.now) }
 {

@@ -110,7 +110,7 @@ pub(crate) fn plant(
     }
 }
 
-// a queue keeps its limits
+/// A queue keeps its limits.
 fn keeps_limits(queue: &Queue)
     ensures { KeepsLimits queue.now }
 {

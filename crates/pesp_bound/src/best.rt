@@ -14,7 +14,7 @@ use pesp_nodes::{Node, Problem, are_pairs, leaf_value, offset_range};
 use pesp_problem::{Memory, Pair, Pairs};
 use std::alloc::Global;
 
-// the first cycle that has no offset left
+/// The first cycle that has no offset left.
 fn first_gap(problem: &Problem, node: &Node) -> Option<u32>
     requires { IsNodeOf problem.now node.now }
     ensures { MatchOption result (HasNoGap problem.now node.now)
@@ -30,7 +30,7 @@ fn first_gap(problem: &Problem, node: &Node) -> Option<u32>
     None
 }
 
-// the value of pairs, where they are pairs of the problem and have one
+/// The value of pairs, where they are pairs of the problem and have one.
 fn judged(problem: &Problem, node: &Node, pairs: &[Pair], weighted: bool) -> Option<i128>
     requires { IsNodeOf problem.now node.now }
     ensures pairs { IfSome result (λ _. ArePairs (length problem.now.table) pairs.now) }
@@ -43,14 +43,14 @@ fn judged(problem: &Problem, node: &Node, pairs: &[Pair], weighted: bool) -> Opt
     leaf_value(problem, node, pairs, weighted)
 }
 
-// pairs with their value
+/// Pairs with their value.
 #[derive(Debug, Drop)]
 struct Best {
     pairs: Vec<Pair>,
     value: i128,
 }
 
-// the pairs of the greater value, the ones kept where equal or where the others have none
+/// The pairs of the greater value, the ones kept where equal or where the others have none.
 fn better(best: Best, pairs: Vec<Pair>, value: Option<i128>) -> Best
     ensures which { ((result.pairs.items ≡ best.pairs.items) × (result.value ≡ best.value))
         ⊎ ((result.pairs.items ≡ pairs.items) × (value ≡ Some result.value)) }
@@ -63,7 +63,7 @@ fn better(best: Best, pairs: Vec<Pair>, value: Option<i128>) -> Best
     }
 }
 
-// no pairs, with their value
+/// No pairs, with their value.
 fn no_pairs(alloc: Global, problem: &Problem, node: &Node) -> Best
     requires { IsNodeOf problem.now node.now }
     ensures pairs { result.pairs.items ≡ [] }
@@ -79,7 +79,7 @@ fn no_pairs(alloc: Global, problem: &Problem, node: &Node) -> Best
     }
 }
 
-// whether each cycle begins with a row that no other cycle passes
+/// Whether each cycle begins with a row that no other cycle passes.
 fn begin_apart(problem: &Problem) -> bool {
     let by_row = problem.passages();
     problem.table().iter().all(|walk| {
@@ -90,7 +90,7 @@ fn begin_apart(problem: &Problem) -> bool {
     })
 }
 
-// pairs of value above 0 without weights along a closed way; at a decided node there are some
+/// Pairs of value above 0 without weights along a closed way; at a decided node there are some.
 fn closing_proof(
     alloc: Global,
     problem: &Problem,
@@ -113,7 +113,7 @@ fn closing_proof(
     }
 }
 
-// pairs of value above 0 without weights that so many pivots find
+/// Pairs of value above 0 without weights that so many pivots find.
 fn proposed_proof(
     alloc: Global,
     problem: &Problem,
@@ -133,7 +133,7 @@ fn proposed_proof(
     }
 }
 
-// pairs of value above 0 without weights, where some are found by so many pivots; at a decided node they are
+/// Pairs of value above 0 without weights, where some are found by so many pivots; at a decided node they are.
 fn proof_of_nothing(
     alloc: Global,
     problem: &Problem,
@@ -155,7 +155,7 @@ fn proof_of_nothing(
     proposed_proof(alloc, problem, node, rounds)
 }
 
-// whether what is proposed has a value above 0 without weights
+/// Whether what is proposed has a value above 0 without weights.
 fn is_endless(problem: &Problem, node: &Node, found: &Proposal) -> bool
     requires { IsNodeOf problem.now node.now }
     ensures pairs { IsTrue result → ArePairs (length problem.now.table) found.now.pairs.items }
@@ -172,7 +172,7 @@ fn is_endless(problem: &Problem, node: &Node, found: &Proposal) -> bool
     }
 }
 
-// the best of no pairs, the start and what is found from it
+/// The best of no pairs, the start and what is found from it.
 fn best_pairs(
     alloc: Global,
     problem: &Problem,

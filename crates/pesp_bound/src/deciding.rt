@@ -23,7 +23,7 @@ struct System {
     edges: Vec<Edge>,
 }
 
-// the system of differences of a node; None where some cycle has no offset left
+/// The system of differences of a node; None where some cycle has no offset left.
 fn system_of(alloc: Global, problem: &Problem, node: &Node) -> Result<Option<System>, AllocError>
     requires { IsNodeOf problem.now node.now }
     ensures system { IfOk result (λ o. IfSome o
@@ -41,7 +41,7 @@ fn system_of(alloc: Global, problem: &Problem, node: &Node) -> Result<Option<Sys
     Ok(Some(System { rows, edges }))
 }
 
-// a closed way along which no levels meet the demands of the edges, where the given levels don't meet them
+/// A closed way along which no levels meet the demands of the edges, where the given levels don't meet them.
 fn closing_way(
     alloc: Global,
     edges: &[Edge],

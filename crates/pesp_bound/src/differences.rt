@@ -33,7 +33,7 @@ pub fn passed_rows(alloc: Global, by_row: &[Passages]) -> Result<Vec<SignedRow>,
     Ok(rows)
 }
 
-// the duration of a row at a slack
+/// The duration of a row at a slack.
 fn duration(lower: i64, slack: u32) -> i64
     requires lower { unsigned_abs lower ≤ 1020000 }
     requires slack { slack ≤ 10000 }
@@ -43,7 +43,7 @@ fn duration(lower: i64, slack: u32) -> i64
     lower + i64::from(slack)
 }
 
-// the period times an offset
+/// The period times an offset.
 fn periods(period: u32, offset: i64) -> i64
     requires { IsSmallOffset period offset }
     ensures value { result ≡ pos period *ℤ offset }
@@ -52,7 +52,7 @@ fn periods(period: u32, offset: i64) -> i64
     i64::from(period) * offset
 }
 
-// the most by which levels may rise along a row
+/// The most by which levels may rise along a row.
 fn rise_bound(period: u32, arc: &Arc, slacks: (u32, u32), shift: (i64, i64), plus: bool) -> i64
     requires lower { unsigned_abs arc.now.lower ≤ 1020000 }
     requires low { slacks.0 ≤ 10000 }
@@ -69,7 +69,7 @@ fn rise_bound(period: u32, arc: &Arc, slacks: (u32, u32), shift: (i64, i64), plu
     }
 }
 
-// the edge between two events by which levels rise by at most the bound
+/// The edge between two events by which levels rise by at most the bound.
 fn edge_between(start: u32, finish: u32, bound: i64) -> Edge
     requires { unsigned_abs bound ≤ 10300001030000 }
     ensures start { result.start ≡ start }
@@ -90,7 +90,7 @@ fn edge_between(start: u32, finish: u32, bound: i64) -> Edge
     }
 }
 
-// the edge along a signed row
+/// The edge along a signed row.
 fn edge_along(
     period: u32,
     arcs: &[Arc],

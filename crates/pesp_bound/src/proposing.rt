@@ -15,7 +15,7 @@ struct Own {
     plus: bool,
 }
 
-// the cycle that alone passes a row, and the sign
+/// The cycle that alone passes a row, and the sign.
 fn owner(passages: &[Passage]) -> Option<(usize, bool)> {
     if passages.len() != 1 {
         return None;
@@ -29,7 +29,7 @@ fn owner(passages: &[Passage]) -> Option<(usize, bool)> {
     }
 }
 
-// a row of its own for each cycle that has one
+/// A row of its own for each cycle that has one.
 fn own_rows(alloc: Global, problem: &Problem) -> Result<Vec<Option<Own>>, AllocError> {
     let mut owns: Vec<Option<Own>> = vec![in alloc; None; problem.table().len()]?;
     let by_row = problem.passages();
@@ -43,7 +43,7 @@ fn own_rows(alloc: Global, problem: &Problem) -> Result<Vec<Option<Own>>, AllocE
     Ok(owns)
 }
 
-// a line without events of its own and without a cost
+/// A line without events of its own and without a cost.
 fn idle_line() -> Line {
     Line {
         tail: 0,
@@ -56,7 +56,8 @@ fn idle_line() -> Line {
     }
 }
 
-// a row with its costs at a slack range: a unit of flow up to the weight costs the least duration, one above it the greatest
+/// A row with its costs at a slack range: a unit of flow up to the weight costs the least duration, one above it the
+/// greatest.
 fn line_of(arc: &Arc, range: (u32, u32), weighted: bool, flow: i64) -> Option<Line> {
     let weight = if weighted {
         i64::try_from(arc.weight).ok()?
@@ -76,8 +77,8 @@ fn line_of(arc: &Arc, range: (u32, u32), weighted: bool, flow: i64) -> Option<Li
     })
 }
 
-// takes off what a unit of flow on a cycle's own row brings: the period times the least offset where the cycle's multiplier
-// is above 0, times the greatest below 0
+/// Takes off what a unit of flow on a cycle's own row brings: the period times the least offset where the cycle's
+/// multiplier is above 0, times the greatest below 0.
 fn take_offsets(line: &mut Line, period: u32, left: (i64, i64), plus: bool) -> Option<()> {
     let low = left.0.checked_mul(i64::from(period))?;
     let high = left.1.checked_mul(i64::from(period))?;
@@ -92,7 +93,7 @@ fn take_offsets(line: &mut Line, period: u32, left: (i64, i64), plus: bool) -> O
     Some(())
 }
 
-// adds a multiplier to the flows along a walk
+/// Adds a multiplier to the flows along a walk.
 fn add_walk(flows: &mut [i64], walk: &[SignedRow], mult: i64) -> Option<()> {
     for s in walk {
         let flow = flows.get_mut((s.row as usize).checked_sub(1)?)?;
@@ -105,13 +106,13 @@ fn add_walk(flows: &mut [i64], walk: &[SignedRow], mult: i64) -> Option<()> {
     Some(())
 }
 
-// adds the flow of a pair
+/// Adds the flow of a pair.
 fn add_pair(flows: &mut [i64], table: &[Walk], pair: &Pair) -> Option<()> {
     let walk = table.get((pair.cycle as usize).checked_sub(1)?)?;
     add_walk(flows, walk.rows(), pair.mult)
 }
 
-// the flow of pairs on each row; None where one passes 64 bits
+/// The flow of pairs on each row; None where one passes 64 bits.
 fn flows_of(
     alloc: Global,
     problem: &Problem,
@@ -126,7 +127,7 @@ fn flows_of(
     Ok(Some(flows))
 }
 
-// the rows with flows; a row that no cycle passes has no part in a circulation
+/// The rows with flows; a row that no cycle passes has no part in a circulation.
 fn lines_of(
     alloc: Global,
     problem: &Problem,
@@ -154,7 +155,7 @@ fn lines_of(
     Ok(Some(lines))
 }
 
-// takes off what the cycles' own rows bring
+/// Takes off what the cycles' own rows bring.
 fn with_offsets(
     problem: &Problem,
     node: &Node,
@@ -172,7 +173,7 @@ fn with_offsets(
     Some(())
 }
 
-// the multiplier of a cycle: the flow on its own row
+/// The multiplier of a cycle: the flow on its own row.
 fn mult_of(flows: &[i64], own: Option<Own>) -> Option<i64> {
     let own = own?;
     let flow = flows.get(own.place).copied()?;
@@ -183,7 +184,7 @@ fn mult_of(flows: &[i64], own: Option<Own>) -> Option<i64> {
     }
 }
 
-// the cycles whose own rows carry a flow
+/// The cycles whose own rows carry a flow.
 fn pairs_of(alloc: Global, owns: &[Option<Own>], flows: &[i64]) -> Result<Vec<Pair>, AllocError>
     requires { length owns.now ≤ 100000 }
 {
@@ -209,7 +210,7 @@ pub struct Proposal {
     pub levels: Vec<usize>,
 }
 
-// no pairs
+/// No pairs.
 fn nothing_proposed(alloc: Global) -> Proposal {
     Proposal {
         pairs: Vec::new(alloc),
@@ -218,7 +219,7 @@ fn nothing_proposed(alloc: Global) -> Proposal {
     }
 }
 
-// the greatest of prices
+/// The greatest of prices.
 fn greatest(prices: &[i64]) -> i64 {
     let mut greatest = 0;
     for price in prices {
@@ -227,7 +228,7 @@ fn greatest(prices: &[i64]) -> i64 {
     greatest
 }
 
-// levels that rise where prices fall
+/// Levels that rise where prices fall.
 fn levels_of(alloc: Global, prices: &[i64]) -> Result<Vec<usize>, AllocError> {
     let top = greatest(prices);
     let mut levels = Vec::new(alloc);
@@ -238,7 +239,7 @@ fn levels_of(alloc: Global, prices: &[i64]) -> Result<Vec<usize>, AllocError> {
     Ok(levels)
 }
 
-// the rows with the flows of pairs, and what they cost and bring
+/// The rows with the flows of pairs, and what they cost and bring.
 fn network_of(
     alloc: Global,
     problem: &Problem,

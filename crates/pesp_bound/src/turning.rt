@@ -11,7 +11,7 @@ use pesp_nodes::count_rows;
 use pesp_problem::{Pair, SignedRow, Walk};
 use std::alloc::{AllocError, Global};
 
-// the signed rows at these places
+/// The signed rows at these places.
 fn walk_along(
     alloc: Global,
     rows: &[SignedRow],
@@ -47,7 +47,7 @@ pub fn flows_along(
     Ok(flows)
 }
 
-// a cycle with its multiplier
+/// A cycle with its multiplier.
 fn pair_of(cycle: u32, mult: &i64) -> Pair
     ensures cycle { result.cycle ≡ cycle }
     ensures mult { result.mult ≡ mult.now }
@@ -55,7 +55,7 @@ fn pair_of(cycle: u32, mult: &i64) -> Pair
     Pair { cycle, mult: *mult }
 }
 
-// whether a flow is 0
+/// Whether a flow is 0.
 fn is_zero(flow: &i64) -> bool
     ensures { MatchBool result (flow.now ≡ pos 0) (1 ≤ unsigned_abs flow.now) }
 {

@@ -12,7 +12,7 @@ use std::alloc::Global;
 /// How many rows may be left where the root's prices are asked for.
 const MOST_ROWS: usize = 20_000;
 
-// how many jobs are lent before slacks aren't cut any more by choice
+/// How many jobs are lent before slacks aren't cut any more by choice.
 const NARROWED: u64 = 64;
 
 /// A cut that is proposed: of a cycle's offsets, with pairs for both parts, or of a row's slacks.
@@ -30,7 +30,7 @@ pub struct Advised {
 }
 
 impl Advised {
-    // nothing is proposed
+    /// Nothing is proposed.
     fn nothing() -> Advised {
         Advised {
             cut: None,
@@ -39,7 +39,7 @@ impl Advised {
     }
 }
 
-// the slack ranges of the rows that are left
+/// The slack ranges of the rows that are left.
 fn slacks_left(alloc: Global, reduced: &Reduced, node: &Node) -> Result<Vec<(u32, u32)>, Memory> {
     let slacks = node.slacks();
     let mut left = Vec::new(alloc);
@@ -69,7 +69,7 @@ pub fn root_prices(
     Ok(Vec::from_slice(alloc, strategy.prices())?)
 }
 
-// what the strategy proposes for the leaf, at this node, after so many splits: nothing where there is no strategy
+/// What the strategy proposes for the leaf, at this node, after so many splits: nothing where there is no strategy.
 fn ask_strategy(
     alloc: Global,
     strategy: &mut Option<Strategy>,

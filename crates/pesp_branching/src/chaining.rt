@@ -7,13 +7,13 @@ use pesp_propagate::dive_to;
 use pesp_simplex::{Improved, SimplexRefusal, improve};
 use std::alloc::Global;
 
-// how many rounds the first improvement has; each later one has half as many more
+/// How many rounds the first improvement has; each later one has half as many more.
 const FIRST: u32 = 150;
 
-// how many improvements there are at most
+/// How many improvements there are at most.
 const MOST: u32 = 20;
 
-// how many tries a dive to the prices has
+/// How many tries a dive to the prices has.
 const TRIES: u32 = 50;
 
 /// The times that were found last, the cheapest times so far, and what these cost.
@@ -24,7 +24,7 @@ struct Chain {
     cost: u64,
 }
 
-// how many rounds all improvements have on a network of so many rows: a round takes the longer, the more rows there are
+/// How many rounds all improvements have on a network of so many rows: a round takes the longer, the more rows there are.
 fn rounds_for(rows: usize) -> u32 {
     let rows = rows.clamp(1, 100_000) as u32;
     if rows > 20_000 {
@@ -34,7 +34,7 @@ fn rounds_for(rows: usize) -> u32 {
 }
 
 impl Chain {
-    // takes times that cost so much as the last
+    /// Takes times that cost so much as the last.
     fn take(&mut self, alloc: Global, times: Vec<u32>, cost: u64) -> Result<(), Memory> {
         if cost < self.cost {
             self.best = Vec::from_slice(alloc, &times)?;
@@ -44,7 +44,7 @@ impl Chain {
         Ok(())
     }
 
-    // goes on from the last times in so many rounds; does nothing where these are no timetable
+    /// Goes on from the last times in so many rounds; does nothing where these are no timetable.
     fn go_on(&mut self, alloc: Global, network: &Network, rounds: u32) -> Result<(), Memory> {
         match improve(alloc, network, &self.last, rounds) {
             Ok(Improved { times, cost, .. }) => self.take(alloc, times, cost),
@@ -53,7 +53,7 @@ impl Chain {
         }
     }
 
-    // goes near the prices, where a dive finds times there
+    /// Goes near the prices, where a dive finds times there.
     fn go_near(&mut self, alloc: Global, network: &Network, prices: &[i64]) -> Result<(), Memory> {
         if prices.is_empty() {
             return Ok(());

@@ -24,7 +24,7 @@ pub struct Choice {
     pub high: Option<Part>,
 }
 
-// the first range of offsets with two values, and the least of them
+/// The first range of offsets with two values, and the least of them.
 fn offset_to_cut(offsets: &[(i64, i64)]) -> Option<(u32, i64)>
     requires { length offsets.now ≤ 100000 }
     ensures exists { IfSome result (λ cut. Names (length offsets.now) cut.0) }
@@ -43,7 +43,7 @@ fn offset_to_cut(offsets: &[(i64, i64)]) -> Option<(u32, i64)>
     None
 }
 
-// the first range of slacks with two values of a row that is passed, and the least of them
+/// The first range of slacks with two values of a row that is passed, and the least of them.
 fn slack_to_cut(slacks: &[(u32, u32)], passed: &[bool]) -> Option<(u32, u32)>
     requires few { length slacks.now ≤ 100000 }
     requires long { length passed.now ≡ length slacks.now }
@@ -64,7 +64,7 @@ fn slack_to_cut(slacks: &[(u32, u32)], passed: &[bool]) -> Option<(u32, u32)>
     None
 }
 
-// whether a cycle exists, and a cut of its offsets at a number leaves both sides a value
+/// Whether a cycle exists, and a cut of its offsets at a number leaves both sides a value.
 fn leaves_both(offsets: &[(i64, i64)], cycle: u32, k: i64) -> bool
     ensures exists { IsTrue result → Names (length offsets.now) cycle }
     ensures low { IsTrue result → (offset_range offsets.now (cycle - 1)).0 ≤ℤ k }
@@ -77,7 +77,7 @@ fn leaves_both(offsets: &[(i64, i64)], cycle: u32, k: i64) -> bool
     range.0 <= k && k < range.1
 }
 
-// a cut that is proposed, where it leaves both sides a value
+/// A cut that is proposed, where it leaves both sides a value.
 fn proposed_cut(problem: &Problem, node: &Node, split: Split) -> Option<Choice>
     requires { IsNodeOf problem.now node.now }
     ensures exists { IfSome result
@@ -103,7 +103,7 @@ fn proposed_cut(problem: &Problem, node: &Node, split: Split) -> Option<Choice>
     })
 }
 
-// whether a row exists that is passed, and a cut of its slacks at a number leaves both sides a value
+/// Whether a row exists that is passed, and a cut of its slacks at a number leaves both sides a value.
 fn narrows(slacks: &[(u32, u32)], passed: &[bool], row: u32, k: u32) -> bool
     requires long { length passed.now ≡ length slacks.now }
     ensures exists { IsTrue result → Names (length slacks.now) row }
@@ -119,7 +119,7 @@ fn narrows(slacks: &[(u32, u32)], passed: &[bool], row: u32, k: u32) -> bool
     passed[place] && k >= range.0 && k < range.1
 }
 
-// a cut of slacks that is proposed, where it counts and leaves both sides a value
+/// A cut of slacks that is proposed, where it counts and leaves both sides a value.
 fn narrowing_cut(
     problem: &Problem,
     node: &Node,
@@ -146,7 +146,7 @@ fn narrowing_cut(
     })
 }
 
-// a cut that is proposed, where it counts and leaves both sides a value
+/// A cut that is proposed, where it counts and leaves both sides a value.
 fn chosen_cut(problem: &Problem, node: &Node, passed: &[bool], proposal: Proposal) -> Option<Choice>
     requires node { IsNodeOf problem.now node.now }
     requires passed { ArePassedRows problem.now passed.now }
@@ -162,7 +162,7 @@ fn chosen_cut(problem: &Problem, node: &Node, passed: &[bool], proposal: Proposa
     }
 }
 
-// a cut that counts and leaves both sides a value; None where nothing is left to cut
+/// A cut that counts and leaves both sides a value; None where nothing is left to cut.
 fn cut_at(problem: &Problem, node: &Node, passed: &[bool]) -> Option<Cut>
     requires node { IsNodeOf problem.now node.now }
     requires passed { ArePassedRows problem.now passed.now }

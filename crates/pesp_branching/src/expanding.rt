@@ -18,7 +18,7 @@ use pesp_strategy::Part;
 use pesp_truth::TreeLine;
 use std::alloc::Global;
 
-// how many pivots look for the leaf of a part, from the pairs of the leaf above it
+/// How many pivots look for the leaf of a part, from the pairs of the leaf above it.
 const ROUNDS: u32 = 100;
 
 /// The line of a leaf.
@@ -32,7 +32,7 @@ pub fn leaf_line(leaf: Leaf) -> TreeLine
     }
 }
 
-// the line of a cut
+/// The line of a cut.
 fn cut_line(cut: Cut) -> TreeLine
     ensures { line_of result ≡ CutLine cut }
 {
@@ -42,7 +42,7 @@ fn cut_line(cut: Cut) -> TreeLine
     }
 }
 
-// the leaf of a part: the one that is proposed for it where it is one, else the best that is found
+/// The leaf of a part: the one that is proposed for it where it is one, else the best that is found.
 fn leaf_at(
     alloc: Global,
     problem: &Problem,
@@ -63,7 +63,7 @@ fn leaf_at(
     best_leaf_from(alloc, problem, node, start, ROUNDS)
 }
 
-// whether a cut makes a slack range smaller: propagation sees no other cut
+/// Whether a cut makes a slack range smaller: propagation sees no other cut.
 fn narrows(cut: &Cut) -> bool {
     match cut {
         Cut::Slack { .. } => true,
@@ -71,7 +71,7 @@ fn narrows(cut: &Cut) -> bool {
     }
 }
 
-// the line of the leaf at a part of a cut: where the cut made a slack range smaller, propagation is tried first
+/// The line of the leaf at a part of a cut: where the cut made a slack range smaller, propagation is tried first.
 fn found_at(
     alloc: Global,
     problem: &Problem,

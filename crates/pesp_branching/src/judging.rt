@@ -28,7 +28,7 @@ pub fn gap_at(problem: &Problem, node: &Node) -> Option<u32>
     None
 }
 
-// whether pairs show that no timetable lies in the node
+/// Whether pairs show that no timetable lies in the node.
 fn shows_nothing(problem: &Problem, node: &Node, pairs: &[Pair]) -> bool
     requires node { IsNodeOf problem.now node.now }
     requires pairs { ArePairs (length problem.now.table) pairs.now }
@@ -41,7 +41,7 @@ fn shows_nothing(problem: &Problem, node: &Node, pairs: &[Pair]) -> bool
     }
 }
 
-// the value of pairs, where they have one and the start isn't worth more
+/// The value of pairs, where they have one and the start isn't worth more.
 fn value_from(problem: &Problem, node: &Node, start: &[Pair], pairs: &[Pair]) -> Option<i128>
     requires node { IsNodeOf problem.now node.now }
     requires start { ArePairs (length problem.now.table) start.now }
@@ -59,7 +59,7 @@ fn value_from(problem: &Problem, node: &Node, start: &[Pair], pairs: &[Pair]) ->
     }
 }
 
-// the leaf of pairs that are proposed where no cycle is without an offset
+/// The leaf of pairs that are proposed where no cycle is without an offset.
 fn leaf_of_pairs(problem: &Problem, node: &Node, start: &[Pair], part: Part) -> Option<Leaf>
     requires node { IsNodeOf problem.now node.now }
     requires left { HaveOffsetsLeft (net_of problem.now) problem.now.table node.now }

@@ -21,18 +21,18 @@ pub struct Met {
     pub rounds: u32,
 }
 
-// whether times near the prices are looked for after so many splits
+/// Whether times near the prices are looked for after so many splits.
 fn is_due(used: u32) -> bool {
     used >= FIRST && used & (used - 1) == 0
 }
 
-// how many rounds an improvement has on a network of so many rows: a round takes the longer, the more rows there are
+/// How many rounds an improvement has on a network of so many rows: a round takes the longer, the more rows there are.
 fn rounds_for(rows: usize, least: u32) -> u32 {
     let rows = rows.clamp(1, 100_000) as u32;
     (300_000 / rows).max(least).min(350)
 }
 
-// half as many rounds more after every second doubling
+/// Half as many rounds more after every second doubling.
 fn grown(rounds: u32, used: u32) -> u32 {
     let doublings = 27u32.saturating_sub(used.leading_zeros());
     let mut grown = rounds;

@@ -7,7 +7,7 @@ use pesp_propagate::supports_none;
 use pesp_reduce::Reduced;
 use std::alloc::Global;
 
-// how many cuts are looked at
+/// How many cuts are looked at.
 const LOOKS: u32 = 16;
 
 /// A cut of the slacks of a row, numbered from 1, at a number.
@@ -17,7 +17,7 @@ pub struct Narrowing {
     pub k: u32,
 }
 
-// how wide the slack range of a row is
+/// How wide the slack range of a row is.
 #[derive(Clone, Copy, Debug)]
 struct Width {
     slacks: u32,
@@ -25,19 +25,19 @@ struct Width {
 }
 
 impl Width {
-    // whether it is less than another; where both are equal, the number of the row decides
+    /// Whether it is less than another; where both are equal, the number of the row decides.
     fn is_below(&self, other: &Width) -> bool {
         self.slacks < other.slacks || (self.slacks == other.slacks && self.row < other.row)
     }
 }
 
-// the slack range of a row; one of 0 alone where there is no such row
+/// The slack range of a row; one of 0 alone where there is no such row.
 fn range_of(slacks: &[(u32, u32)], row: u32) -> (u32, u32) {
     let place = (row as usize).wrapping_sub(1);
     slacks.get(place).copied().unwrap_or((0, 0))
 }
 
-// the greatest width below another, of a row that is left of the instance
+/// The greatest width below another, of a row that is left of the instance.
 fn next_width(reduced: &Reduced, slacks: &[(u32, u32)], last: Width) -> Width {
     let mut next = Width { slacks: 0, row: 0 };
     for row in reduced.network().rows() {
@@ -53,7 +53,7 @@ fn next_width(reduced: &Reduced, slacks: &[(u32, u32)], last: Width) -> Width {
     next
 }
 
-// whether propagation shuts a node with these slack ranges once that of a row is another
+/// Whether propagation shuts a node with these slack ranges once that of a row is another.
 fn is_shut_with(
     alloc: Global,
     network: &Network,
@@ -72,7 +72,7 @@ fn is_shut_with(
     supports_none(alloc, network, &ranges)
 }
 
-// whether propagation shuts a part of a cut
+/// Whether propagation shuts a part of a cut.
 fn shuts_a_part(
     alloc: Global,
     network: &Network,

@@ -16,12 +16,12 @@ use pesp_simplex::{Improved, SimplexRefusal, improve};
 use pesp_turns::laws::times_are_offered;
 use std::alloc::Global;
 
-// how many tries a dive has on a network of so many rows
+/// How many tries a dive has on a network of so many rows.
 fn tries_for(rows: usize) -> u32 {
     if rows > 20_000 { 1 } else { 100 }
 }
 
-// offers times
+/// Offers times.
 fn offer(board: &mut Board, times: Vec<u32>)
     ensures problem { board.new.problem ≡ board.old.problem }
     ensures tree { board.new.state.tree ≡ board.old.state.tree }
@@ -34,7 +34,7 @@ fn offer(board: &mut Board, times: Vec<u32>)
     board.offer(times);
 }
 
-// times that are made cheaper in so many rounds, where they are a timetable of the network
+/// Times that are made cheaper in so many rounds, where they are a timetable of the network.
 fn improved(
     alloc: Global,
     network: &Network,
@@ -51,7 +51,7 @@ fn improved(
     }
 }
 
-// a timetable of a network that a dive finds and improvements make cheaper; None says nothing
+/// A timetable of a network that a dive finds and improvements make cheaper; None says nothing.
 fn found_times(alloc: Global, network: &Network, prices: &[i64]) -> Result<Option<Vec<u32>>, Memory>
     ensures { IfOk result (λ found. IfSome found
         (λ times. IsNetTimetable (net_of_network network.now) network.now.events times.items)) }

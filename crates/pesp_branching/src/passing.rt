@@ -9,7 +9,7 @@ use pesp_nodes::Problem;
 use pesp_problem::{Memory, SignedRow};
 use std::alloc::Global;
 
-// marks the rows of a walk
+/// Marks the rows of a walk.
 fn mark(passed: &mut [bool], rows: &[SignedRow])
     requires { All (λ s. Names (length passed.old) s.row) rows.now }
     ensures long { length passed.new ≡ length passed.old }

@@ -4,7 +4,7 @@ use pesp_problem::{Cut, Pair, SignedRow};
 use std::alloc::Global;
 use std::fmt::Display;
 
-// adds a word, behind a space where it isn't the first
+/// Adds a word, behind a space where it isn't the first.
 fn add_word(text: &mut String, word: &str) -> Option<()> {
     if !text.is_empty() {
         text.push_str(" ").ok()?;
@@ -44,7 +44,7 @@ pub fn spell_pairs(alloc: Global, pairs: &[Pair]) -> Option<String> {
     Some(text)
 }
 
-// a row and whether it has a plus sign
+/// A row and whether it has a plus sign.
 fn spell_row(alloc: Global, row: u32, plus: bool) -> Option<String> {
     let sign = if plus { "+" } else { "-" };
     format!(in alloc; "{sign}{row}").ok()

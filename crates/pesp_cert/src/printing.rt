@@ -196,7 +196,7 @@ impl Printed for Certificate {
     }
 }
 
-// every certificate has a text
+/// Every certificate has a text.
 fn has_text(certificate: &Certificate)
     ensures { HasText certificate.now }
 {

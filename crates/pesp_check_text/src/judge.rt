@@ -43,7 +43,8 @@ pub struct Judge<'a> {
     ghost small: { All (AreSmallCounts (length instance.now.rows)) table.items },
     ghost few: { length table.items ≤ line },
     ghost begun: { is_before_tree stage ≡ true → is_some walk ≡ false },
-    ghost standing: { ForSome walk (λ w. (w.problem ≡ instance.now) × (w.cycles ≡ length table.items)) },
+    ghost standing: { ForSome walk (λ w. (w.problem ≡ instance.now)
+        × (w.cycles ≡ length table.items)) },
 }
 
 /// What is wrong with a period, or with an answer and the times that are shown with it.

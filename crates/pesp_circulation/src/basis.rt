@@ -41,7 +41,7 @@ struct Room {
     most: i64,
 }
 
-// the least number whose square is above another
+/// The least number whose square is above another.
 fn root_above(number: usize) -> usize {
     let mut root = 1usize;
     for _ in 0..number {
@@ -76,12 +76,12 @@ impl Basis {
         self.tree.prices()
     }
 
-    // the piece in which one more unit along a step lies
+    /// The piece in which one more unit along a step lies.
     fn piece(&self, step: Step) -> Option<Piece> {
         self.lines.get(step.line)?.piece(step.forward)
     }
 
-    // what a unit along a step and up to the root costs more than one from where the step begins
+    /// What a unit along a step and up to the root costs more than one from where the step begins.
     fn cost(&self, step: Step) -> Option<i64> {
         let line = self.lines.get(step.line)?;
         let slope = line.slope(step.forward)?;
@@ -90,7 +90,7 @@ impl Basis {
         slope.checked_add(end)?.checked_sub(begin)
     }
 
-    // the cheaper of a line's steps, with its cost
+    /// The cheaper of a line's steps, with its cost.
     fn cheaper(&self, line: usize) -> Option<(i64, Step)> {
         let forward = Step {
             line,
@@ -105,7 +105,7 @@ impl Basis {
         }
     }
 
-    // the cheapest step of the next lines that costs less than nothing
+    /// The cheapest step of the next lines that costs less than nothing.
     fn cheapest_of_block(&mut self) -> Option<Step> {
         let mut least = 0;
         let mut cheapest = None;
@@ -135,7 +135,7 @@ impl Basis {
         None
     }
 
-    // the closed way of a step
+    /// The closed way of a step.
     fn round(&self, step: Step) -> Option<Round> {
         let line = self.lines.get(step.line)?;
         let from = line.start(step.forward);
@@ -149,7 +149,7 @@ impl Basis {
         })
     }
 
-    // the room upwards from an event, at the last of the lines that have least
+    /// The room upwards from an event, at the last of the lines that have least.
     fn room_up(&self, from: usize, top: usize) -> Option<Room> {
         let mut room = Room {
             event: from,
@@ -174,7 +174,7 @@ impl Basis {
         None
     }
 
-    // the room downwards to an event, at the last of the lines that have least
+    /// The room downwards to an event, at the last of the lines that have least.
     fn room_down(&self, to: usize, top: usize) -> Option<Room> {
         let mut room = Room {
             event: to,
@@ -199,7 +199,7 @@ impl Basis {
         None
     }
 
-    // so many units more along a step
+    /// So many units more along a step.
     fn add(&mut self, step: Step, units: i64) -> Option<()> {
         let line = self.lines.get_mut(step.line)?;
         line.flow = if step.forward {
@@ -210,7 +210,7 @@ impl Basis {
         Some(())
     }
 
-    // so many units more upwards from an event
+    /// So many units more upwards from an event.
     fn send_up(&mut self, from: usize, top: usize, units: i64) -> Option<()> {
         let mut event = from;
         for _ in 0..self.tree.events() {
@@ -224,14 +224,14 @@ impl Basis {
         None
     }
 
-    // so many units more along a closed way
+    /// So many units more along a closed way.
     fn send(&mut self, round: Round, units: i64) -> Option<()> {
         self.add(round.step, units)?;
         self.send_up(round.to, round.top, units)?;
         self.send_up(round.from, round.top, units.checked_neg()?)
     }
 
-    // hangs the part below `top` anew, by an event of it
+    /// Hangs the part below `top` anew, by an event of it.
     fn hang(&mut self, event: usize, top: usize, up: Up) -> Option<()> {
         let slope = self.lines.get(up.step.line)?.slope(up.step.forward)?;
         let price = slope.checked_add(self.tree.price(up.event)?)?;

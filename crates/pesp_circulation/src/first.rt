@@ -21,7 +21,7 @@ impl Waiting {
         }
     }
 
-    // one step more
+    /// One step more.
     fn push(&mut self, step: Step, rank: Rank) -> Result<(), AllocError> {
         match rank {
             Rank::Between => self.between.push(step)?,
@@ -31,7 +31,7 @@ impl Waiting {
         Ok(())
     }
 
-    // a step of the first rank that waits
+    /// A step of the first rank that waits.
     fn pop(&mut self) -> Option<Step> {
         if let Some(step) = self.between.pop() {
             return Some(step);
@@ -51,7 +51,7 @@ struct Growth {
     waiting: Waiting,
 }
 
-// a list without a step for each event
+/// A list without a step for each event.
 fn empty_stars(alloc: Global, events: usize) -> Result<Vec<Vec<Step>>, AllocError> {
     let mut stars = Vec::with_capacity(alloc, events)?;
     for _ in 0..events {
@@ -60,7 +60,7 @@ fn empty_stars(alloc: Global, events: usize) -> Result<Vec<Vec<Step>>, AllocErro
     Ok(stars)
 }
 
-// the steps that end at each event
+/// The steps that end at each event.
 fn stars_of(alloc: Global, lines: &[Line], events: usize) -> Result<Vec<Vec<Step>>, AllocError> {
     let mut stars = empty_stars(alloc, events)?;
     for place in 0..lines.len() {
@@ -69,7 +69,7 @@ fn stars_of(alloc: Global, lines: &[Line], events: usize) -> Result<Vec<Vec<Step
     Ok(stars)
 }
 
-// a line's steps, each where it ends
+/// A line's steps, each where it ends.
 fn add_ends(stars: &mut [Vec<Step>], line: &Line, place: usize) -> Result<(), AllocError> {
     for forward in [true, false] {
         if let Some(star) = stars.get_mut(line.end(forward)) {
@@ -83,7 +83,7 @@ fn add_ends(stars: &mut [Vec<Step>], line: &Line, place: usize) -> Result<(), Al
 }
 
 impl Growth {
-    // takes an event into the tree: the steps that end there wait
+    /// Takes an event into the tree: the steps that end there wait.
     fn reach(&mut self, lines: &[Line], star: &[Step], event: usize) -> Result<(), AllocError> {
         if let Some(reached) = self.reached.get_mut(event) {
             *reached = true;
@@ -96,12 +96,12 @@ impl Growth {
         Ok(())
     }
 
-    // whether an event is in the tree
+    /// Whether an event is in the tree.
     fn has(&self, event: usize) -> bool {
         self.reached.get(event).copied().unwrap_or(true)
     }
 
-    // hangs the start of a step below its end; the start, where it wasn't in the tree
+    /// Hangs the start of a step below its end; the start, where it wasn't in the tree.
     fn hang(&mut self, lines: &[Line], step: Step) -> Option<usize> {
         let line = lines.get(step.line)?;
         let event = line.start(step.forward);
@@ -116,7 +116,7 @@ impl Growth {
         Some(event)
     }
 
-    // a tree from a root, where the root isn't in one
+    /// A tree from a root, where the root isn't in one.
     fn grow(&mut self, lines: &[Line], stars: &[Vec<Step>], root: usize) -> Result<(), AllocError> {
         if self.has(root) {
             return Ok(());

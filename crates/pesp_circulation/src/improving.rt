@@ -16,7 +16,7 @@ pub enum Found {
     Ray { flows: Vec<i64> },
 }
 
-// the flow of a line; None where it passes the limit
+/// The flow of a line; None where it passes the limit.
 fn flow_at(lines: &[Line], place: usize) -> Option<i64>
     ensures { IfSome result (λ flow. unsigned_abs flow ≤ 1000000000000) }
 {
@@ -27,7 +27,7 @@ fn flow_at(lines: &[Line], place: usize) -> Option<i64>
     Some(flow)
 }
 
-// the flows of so many lines; None where one passes the limit
+/// The flows of so many lines; None where one passes the limit.
 fn flows_of(alloc: Global, lines: &[Line], count: usize) -> Result<Option<Vec<i64>>, AllocError>
     ensures { IfOk result (λ o. IfSome o (λ flows. AreFlows count flows.items)) }
 {
@@ -41,7 +41,7 @@ fn flows_of(alloc: Global, lines: &[Line], count: usize) -> Result<Option<Vec<i6
     Ok(Some(flows))
 }
 
-// so many pivots, or as many as there are; the closed way of the one that nothing blocks
+/// So many pivots, or as many as there are; the closed way of the one that nothing blocks.
 fn ray_of(basis: &mut Basis, rounds: u32) -> Option<Round> {
     for _ in 0..rounds {
         let step = basis.entering()?;

@@ -56,7 +56,7 @@ impl Step {
 }
 
 impl Piece {
-    // the part without what lies beyond a bend so many units ahead, or behind where it isn't ahead
+    /// The part without what lies beyond a bend so many units ahead, or behind where it isn't ahead.
     fn cut(self, way: i64) -> Option<Piece> {
         if way > 0 {
             return Some(Piece {
@@ -82,12 +82,12 @@ impl Line {
         if forward { self.head } else { self.tail }
     }
 
-    // whether the cost bends at 0, the flow's part below
+    /// Whether the cost bends at 0, the flow's part below.
     fn bends_below(&self) -> bool {
         self.below != self.between
     }
 
-    // whether the cost bends at the weight
+    /// Whether the cost bends at the weight.
     fn bends_above(&self) -> bool {
         self.between != self.above
     }
@@ -113,7 +113,7 @@ impl Line {
         }
     }
 
-    // how many units along a step it is to a flow
+    /// How many units along a step it is to a flow.
     fn way_to(&self, flow: i64, forward: bool) -> Option<i64> {
         if forward {
             flow.checked_sub(self.flow)

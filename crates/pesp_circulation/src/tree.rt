@@ -64,7 +64,7 @@ impl Tree {
         &self.prices
     }
 
-    // how many steps lead up to the root
+    /// How many steps lead up to the root.
     fn depth(&self, event: usize) -> Option<usize> {
         Some(self.places.get(event)?.depth)
     }
@@ -83,7 +83,7 @@ impl Tree {
         Some(())
     }
 
-    // takes an event from where it hangs; what led up from it
+    /// Takes an event from where it hangs; what led up from it.
     fn unhang(&mut self, event: usize) -> Option<Up> {
         let place = self.places.get(event).copied()?;
         let up = place.up?;
@@ -144,7 +144,7 @@ impl Tree {
         None
     }
 
-    // the event after another in the part below `top`, an event before those below it
+    /// The event after another in the part below `top`, an event before those below it.
     fn following(&self, event: usize, top: usize) -> Option<usize> {
         let below = self.places.get(event)?.below;
         if below.is_some() {

@@ -30,7 +30,8 @@ pub fn run_draw<R: Source, T: Source, W: Sink>(
     ensures ok { OnOk result
         (ReadsTimetable (R.remaining instance_reader.old) (R.remaining instance_reader.new)
         (T.remaining times_reader.old) (T.remaining times_reader.new) period
-        (λ p times. WritesPicture p times (Appends (W.contents writer.old) (W.contents writer.new)))) }
+        (λ p times. WritesPicture p times
+        (Appends (W.contents writer.old) (W.contents writer.new)))) }
     ensures reads { OnOk result
         (HasWorked (R.calls instance_reader.old) (R.calls instance_reader.new)) }
     ensures times_reads { OnOk result

@@ -11,12 +11,12 @@ pub struct Forest {
     tree: Tree,
 }
 
-// whether a row is chosen
+/// Whether a row is chosen.
 fn is_chosen(chosen: &[bool], row: u32) -> bool {
     chosen.get(row as usize).copied().unwrap_or(false)
 }
 
-// hangs below an event the roots to which chosen rows lead from it
+/// Hangs below an event the roots to which chosen rows lead from it.
 fn hang_beside(
     frame: &Frame,
     chosen: &[bool],
@@ -34,7 +34,7 @@ fn hang_beside(
     Some(())
 }
 
-// hangs below a root all to which chosen rows lead
+/// Hangs below a root all to which chosen rows lead.
 fn grow(frame: &Frame, chosen: &[bool], tree: &mut Tree, root: u32) -> Option<()> {
     let mut event = root;
     for _ in 0..tree.events() {
@@ -58,7 +58,7 @@ pub fn grow_all(frame: &Frame, chosen: &[bool], tree: &mut Tree) -> Option<()> {
     Some(())
 }
 
-// marks the rows of these numbers, from 1
+/// Marks the rows of these numbers, from 1.
 fn mark(chosen: &mut [bool], numbers: &[u32]) {
     for number in numbers {
         let place = (*number as usize).wrapping_sub(1);
@@ -105,7 +105,7 @@ impl Forest {
         Ok(rows)
     }
 
-    // the events of a tree, each before those below it
+    /// The events of a tree, each before those below it.
     fn list_down(&self, list: &mut Vec<u32>, root: u32) -> Result<(), AllocError> {
         let mut event = root;
         for _ in 0..self.tree.events() {
@@ -160,7 +160,7 @@ impl Forest {
         }
     }
 
-    // whether an event is another one or lies below it
+    /// Whether an event is another one or lies below it.
     fn is_below(&self, event: u32, top: u32) -> bool {
         let mut current = event;
         for _ in 0..self.tree.events() {

@@ -19,7 +19,7 @@ pub struct Frame {
     stars: Vec<Vec<Link>>,
 }
 
-// a list without a row for each event
+/// A list without a row for each event.
 fn empty_stars(alloc: Global, events: u32) -> Result<Vec<Vec<Link>>, AllocError> {
     let mut stars = Vec::with_capacity(alloc, events as usize)?;
     for _ in 0..events {
@@ -28,7 +28,7 @@ fn empty_stars(alloc: Global, events: u32) -> Result<Vec<Vec<Link>>, AllocError>
     Ok(stars)
 }
 
-// a row at an event
+/// A row at an event.
 fn put_at(stars: &mut [Vec<Link>], event: u32, link: Link) -> Result<(), AllocError> {
     if let Some(star) = stars.get_mut(event as usize) {
         star.push(link)?;
@@ -36,7 +36,7 @@ fn put_at(stars: &mut [Vec<Link>], event: u32, link: Link) -> Result<(), AllocEr
     Ok(())
 }
 
-// the rows at each event
+/// The rows at each event.
 fn stars_of(alloc: Global, events: u32, rows: &[NetRow]) -> Result<Vec<Vec<Link>>, AllocError> {
     let mut stars = empty_stars(alloc, events)?;
     for (place, row) in rows.iter().enumerate() {

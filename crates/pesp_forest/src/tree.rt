@@ -78,7 +78,7 @@ impl Tree {
         self.place(event).is_some_and(|place| place.up == NONE)
     }
 
-    // the place of an event, to be changed
+    /// The place of an event, to be changed.
     fn place_mut(&mut self, event: u32) -> Option<&mut Place> {
         self.places.get_mut(event as usize)
     }
@@ -99,7 +99,7 @@ impl Tree {
         Some(())
     }
 
-    // takes an event from where it hangs; its place before that
+    /// Takes an event from where it hangs; its place before that.
     fn unhang(&mut self, event: u32) -> Option<Place> {
         let place = self.place(event)?;
         if place.before == NONE {
@@ -159,7 +159,7 @@ impl Tree {
         None
     }
 
-    // the first event after one of the part below `top` that isn't below it
+    /// The first event after one of the part below `top` that isn't below it.
     fn next_beside(&self, event: u32, top: u32) -> u32 {
         let mut current = event;
         for _ in 0..self.places.len() {

@@ -5,14 +5,14 @@ ghost use Rattle.pesp_levels.specs.Settling.{at, Settles, AreSettled};
 
 use crate::edge::Edge;
 
-// the level of an event, 0 where it has none
+/// The level of an event, 0 where it has none.
 fn level_of(levels: &[usize], event: usize) -> usize
     ensures { result ≡ at levels.now event }
 {
     levels.get(event).copied().unwrap_or(0)
 }
 
-// whether levels meet the demand of one edge
+/// Whether levels meet the demand of one edge.
 fn is_settled(edges: &[Edge], k: usize, levels: &[usize]) -> bool
     requires { k < length edges.now }
     ensures { IsTrue result ↔ Settles edges.now (at levels.now) k }

@@ -7,14 +7,14 @@ ghost use Rattle.pesp_levels.specs.Growing.{IsGrown};
 use crate::edge::{Edge, Outcome};
 use std::alloc::{AllocError, Global};
 
-// so many zeros
+/// So many zeros.
 fn zeros(alloc: Global, count: usize) -> Result<Vec<usize>, AllocError>
     ensures { IfOk result (λ v. v.items ≡ replicate count 0) }
 {
     vec![in alloc; 0usize; count]
 }
 
-// lifts the start of one edge, where the edge demands it
+/// Lifts the start of one edge, where the edge demands it.
 fn lift(
     edges: &[Edge],
     k: usize,
@@ -47,7 +47,7 @@ fn lift(
     true
 }
 
-// goes over all edges, up to the first event that comes above the limit; the event that was lifted last
+/// Goes over all edges, up to the first event that comes above the limit; the event that was lifted last.
 fn pass(
     edges: &[Edge],
     level: &mut [usize],
@@ -80,7 +80,7 @@ fn pass(
     last
 }
 
-// the way back from an event along the edges that lifted, from where it comes to an event again
+/// The way back from an event along the edges that lifted, from where it comes to an event again.
 fn climb(
     alloc: Global,
     edges: &[Edge],
@@ -113,7 +113,7 @@ fn climb(
     Ok(Some(closed))
 }
 
-// passes until the levels settle, or until some event's way back closes
+/// Passes until the levels settle, or until some event's way back closes.
 fn settle_in(
     alloc: Global,
     edges: &[Edge],

@@ -12,7 +12,7 @@ use crate::row::NetRow;
 use std::alloc::{AllocError, Global};
 
 impl Reaches {
-    // takes two places in at an event
+    /// Takes two places in at an event.
     fn take(&mut self, event: usize, low: usize, high: usize)
         requires { event < vec_len self.old.low }
         ensures takes { Takes self.old.low.items self.old.high.items self.new.low.items
@@ -23,7 +23,7 @@ impl Reaches {
         self.high[event] = self.high[event].max(high);
     }
 
-    // takes in, at one end of the row k, the place of its other end
+    /// Takes in, at one end of the row k, the place of its other end.
     fn take_row(&mut self, forest: &Forest, k: usize, event: usize, other: usize)
         requires event { event < vec_len forest.now.up }
         requires other { other < vec_len forest.now.up }
@@ -42,7 +42,7 @@ impl Reaches {
         self.take(event, place, place);
     }
 
-    // takes in, at the event above, what an event reaches
+    /// Takes in, at the event above, what an event reaches.
     fn take_up(&mut self, forest: &Forest, event: usize)
         requires event { event < vec_len forest.now.up }
         requires up { 0 < at forest.now.by.items event
@@ -65,7 +65,7 @@ impl Reaches {
     }
 }
 
-// what is reached from each event itself
+/// What is reached from each event itself.
 fn reach_rows(
     alloc: Global,
     events: usize,
@@ -111,7 +111,7 @@ pub fn reach(
     Ok(reaches)
 }
 
-// whether nothing beyond an event and what is below it is reached
+/// Whether nothing beyond an event and what is below it is reached.
 fn is_cut(forest: &Forest, reaches: &Reaches, event: usize) -> bool
     requires event { event < vec_len forest.now.up }
     requires sized { vec_len reaches.now.low ≡ vec_len forest.now.up }

@@ -12,7 +12,7 @@ use crate::proposal::propose;
 use crate::row::NetRow;
 use std::alloc::{AllocError, Global};
 
-// the rows of these numbers
+/// The rows of these numbers.
 fn pick(alloc: Global, rows: &[NetRow], numbers: &[u32]) -> Result<Vec<NetRow>, AllocError>
     requires { All (Names (length rows.now)) numbers.now }
     ensures { IfOk result
@@ -24,7 +24,7 @@ fn pick(alloc: Global, rows: &[NetRow], numbers: &[u32]) -> Result<Vec<NetRow>, 
         .collect(alloc)
 }
 
-// the number of the k-th of these rows, and 0 for 0
+/// The number of the k-th of these rows, and 0 for 0.
 fn numbered(numbers: &[u32], k: usize) -> usize
     requires { k ≤ length numbers.now }
     ensures { result ≡ number_of numbers.now k }
@@ -35,7 +35,7 @@ fn numbered(numbers: &[u32], k: usize) -> usize
     numbers[k - 1] as usize
 }
 
-// the same for each
+/// The same for each.
 fn renumber(alloc: Global, by: &[usize], numbers: &[u32]) -> Result<Vec<usize>, AllocError>
     requires { All (λ k. k ≤ length numbers.now) by.now }
     ensures { IfOk result (λ named. named.items ≡ map (number_of numbers.now) by.now) }
@@ -43,7 +43,7 @@ fn renumber(alloc: Global, by: &[usize], numbers: &[u32]) -> Result<Vec<usize>, 
     by.iter().map(|k| numbered(numbers, *k)).collect(alloc)
 }
 
-// trees of the rows of these numbers
+/// Trees of the rows of these numbers.
 fn grow_over(
     alloc: Global,
     events: usize,
@@ -79,7 +79,7 @@ fn grow_over(
     })
 }
 
-// whether both ends of each row are in one tree
+/// Whether both ends of each row are in one tree.
 fn meets_all(events: usize, rows: &[NetRow], forest: &Forest) -> bool
     requires { IsGrown events (arcs_of_network rows.now) forest.now }
     ensures { IsTrue result → (k : ℕ) → Names (length (arcs_of_network rows.now)) k
@@ -93,7 +93,7 @@ fn meets_all(events: usize, rows: &[NetRow], forest: &Forest) -> bool
     true
 }
 
-// the numbers of so many rows
+/// The numbers of so many rows.
 fn all_numbers(alloc: Global, count: usize) -> Result<Vec<u32>, AllocError>
     requires { count ≤ 100000 }
     ensures len { IfOk result (λ numbers. vec_len numbers ≡ count) }

@@ -12,7 +12,7 @@ use crate::parts::Growth;
 use crate::row::NetRow;
 use std::alloc::{AllocError, Global};
 
-// the numbers as places
+/// The numbers as places.
 fn widened(alloc: Global, numbers: &[u32]) -> Result<Vec<usize>, AllocError>
     ensures { IfOk result (λ places. places.items ≡ numbers.now) }
 {
@@ -20,7 +20,7 @@ fn widened(alloc: Global, numbers: &[u32]) -> Result<Vec<usize>, AllocError>
 }
 
 impl Growth {
-    // nothing is seen, and each event has the rows that the chains give it
+    /// Nothing is seen, and each event has the rows that the chains give it.
     fn empty(alloc: Global, events: usize, chains: &Chains) -> Result<Growth, AllocError>
         requires { vec_len chains.now.first ≡ events }
         ensures events { IfOk result (λ g. vec_len g.up ≡ events) }
@@ -48,7 +48,7 @@ impl Growth {
         })
     }
 
-    // opens an event that isn't seen
+    /// Opens an event that isn't seen.
     fn open(&mut self, event: usize, up: usize, by: usize, root: usize) -> Result<(), AllocError>
         requires { event < vec_len self.old.up }
         ensures opens { OnOk result (Opens (fns_of self.old) (fns_of self.new) event up by root) }
@@ -64,7 +64,7 @@ impl Growth {
         Ok(())
     }
 
-    // closes an event below which all is seen
+    /// Closes an event below which all is seen.
     fn close(&mut self, event: usize)
         requires { event < vec_len self.old.up }
         ensures closes { Closes (fns_of self.old) (fns_of self.new) event }
@@ -76,7 +76,7 @@ impl Growth {
         self.last[event] = self.order.len();
     }
 
-    // goes on to the next row at an event
+    /// Goes on to the next row at an event.
     fn look(&mut self, event: usize, next: usize)
         requires { event < vec_len self.old.up }
         ensures looks { Looks (fns_of self.old) (fns_of self.new) event next }
@@ -87,7 +87,7 @@ impl Growth {
         self.left[event] = next;
     }
 
-    // looks at a row at the current event, and gives the event that is the current one then
+    /// Looks at a row at the current event, and gives the event that is the current one then.
     fn advance(
         &mut self,
         rows: &[NetRow],
@@ -118,7 +118,7 @@ impl Growth {
         Ok(other)
     }
 
-    // sees all that can be reached from an event
+    /// Sees all that can be reached from an event.
     fn flood(&mut self, rows: &[NetRow], chains: &Chains, start: usize) -> Result<(), AllocError>
         requires ends { HaveEnds (vec_len self.old.up) (arcs_of_network rows.now) }
         requires chains { AreChains (arcs_of_network rows.now) (vec_len self.old.up) chains.now }

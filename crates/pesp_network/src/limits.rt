@@ -9,7 +9,7 @@ use crate::row::NetRow;
 use pesp_problem::{Row, arc_of};
 use std::alloc::{AllocError, Global};
 
-// whether a row keeps its limits
+/// Whether a row keeps its limits.
 fn is_good(period: u32, events: u32, row: &NetRow) -> bool
     ensures { IsTrue result ↔ RowKeepsNetLimits period events row.now }
 {

@@ -45,7 +45,7 @@ impl Model for Network {
 }
 
 impl Network {
-    // the network of these parts, which keep the limits
+    /// The network of these parts, which keep the limits.
     fn make(alloc: Global, period: u32, events: u32, rows: Vec<NetRow>) -> Result<Network, Memory>
         requires sizes { KeepsSizes period events }
         requires few { length rows.items ≤ 100000 }
@@ -59,7 +59,7 @@ impl Network {
         Network::with(alloc, period, events, rows, forest)
     }
 
-    // the network of these parts, which keep the limits, and of a forest of them
+    /// The network of these parts, which keep the limits, and of a forest of them.
     fn with(
         alloc: Global,
         period: u32,

@@ -17,7 +17,7 @@ struct Candidate {
 }
 
 impl Candidate {
-    // by rising span / (weight + 1), compared as products, and then by rising place
+    /// By rising span / (weight + 1), compared as products, and then by rising place.
     fn order(&self, other: &Candidate) -> Ordering {
         let here = u128::from(self.span) * (u128::from(other.weight) + 1);
         let there = u128::from(other.span) * (u128::from(self.weight) + 1);
@@ -32,13 +32,13 @@ struct Groups {
 }
 
 impl Groups {
-    // each event is its own group
+    /// Each event is its own group.
     fn apart(alloc: Global, events: usize) -> Result<Groups, AllocError> {
         let next = (0..events).collect(alloc)?;
         Ok(Groups { next })
     }
 
-    // the last event of an event's group; the way there is halved
+    /// The last event of an event's group; the way there is halved.
     fn last_of(&mut self, event: usize) -> usize {
         let mut at = event;
         for _ in 0..self.next.len() {
@@ -55,7 +55,7 @@ impl Groups {
         at
     }
 
-    // makes one group of two; false where they are one already
+    /// Makes one group of two; false where they are one already.
     fn join(&mut self, one: usize, other: usize) -> bool {
         let here = self.last_of(one);
         let there = self.last_of(other);
@@ -69,7 +69,7 @@ impl Groups {
     }
 }
 
-// the rows in the order in which they are taken
+/// The rows in the order in which they are taken.
 fn candidates_of(alloc: Global, rows: &[NetRow]) -> Result<Vec<Candidate>, AllocError>
     ensures { IfOk result (λ candidates. vec_len candidates ≡ length rows.now) }
 {
@@ -107,7 +107,7 @@ pub fn propose(alloc: Global, events: usize, rows: &[NetRow]) -> Result<Vec<u32>
     Ok(numbers)
 }
 
-// whether these are numbers of rows, no more than a network can have
+/// Whether these are numbers of rows, no more than a network can have.
 fn are_numbers(count: usize, numbers: &[u32]) -> bool
     ensures names { IsTrue result → All (Names count) numbers.now }
     ensures few { IsTrue result → length numbers.now ≤ 100000 }

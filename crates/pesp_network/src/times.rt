@@ -15,7 +15,7 @@ use crate::row::NetRow;
 use pesp_problem::net_times::arc_slack;
 use std::alloc::{AllocError, Global};
 
-// the remainder by the period
+/// The remainder by the period.
 fn wrapped(period: u32, z: i64) -> u32
     requires some { 0 < period }
     requires most { period ≤ 10000 }
@@ -26,7 +26,7 @@ fn wrapped(period: u32, z: i64) -> u32
     z.rem_euclid(period as i64) as u32
 }
 
-// a duration later
+/// A duration later.
 fn later(period: u32, time: u32, row: &NetRow, slack: u32) -> u32
     requires some { 0 < period }
     requires most { period ≤ 10000 }
@@ -39,7 +39,7 @@ fn later(period: u32, time: u32, row: &NetRow, slack: u32) -> u32
     wrapped(period, time as i64 + row.lower + slack as i64)
 }
 
-// a duration earlier
+/// A duration earlier.
 fn earlier(period: u32, time: u32, row: &NetRow, slack: u32) -> u32
     requires some { 0 < period }
     requires most { period ≤ 10000 }
@@ -52,7 +52,7 @@ fn earlier(period: u32, time: u32, row: &NetRow, slack: u32) -> u32
     wrapped(period, time as i64 - row.lower - slack as i64)
 }
 
-// the time of an event that is joined upwards, from the time of the event above it
+/// The time of an event that is joined upwards, from the time of the event above it.
 fn time_of(
     period: u32,
     events: usize,
@@ -90,7 +90,7 @@ fn time_of(
     }
 }
 
-// times in which each row of the forest has its slack
+/// Times in which each row of the forest has its slack.
 fn spread(
     alloc: Global,
     period: u32,

@@ -16,7 +16,7 @@ use std::alloc::{AllocError, Global};
 /// How many signed rows a table of walks may have in all.
 const MOST_SIGNED_ROWS: usize = 10_000_000;
 
-// the row that joins an event to the one above it, from the event upwards
+/// The row that joins an event to the one above it, from the event upwards.
 fn upward(rows: &[NetRow], forest: &Forest, event: usize) -> SignedRow
     requires event { event < vec_len forest.now.up }
     requires row { Names (length rows.now) (at forest.now.by.items event) }
@@ -30,7 +30,7 @@ fn upward(rows: &[NetRow], forest: &Forest, event: usize) -> SignedRow
     }
 }
 
-// the row that joins an event to the one above it, from there down to the event
+/// The row that joins an event to the one above it, from there down to the event.
 fn downward(rows: &[NetRow], forest: &Forest, event: usize) -> SignedRow
     requires event { event < vec_len forest.now.up }
     requires row { Names (length rows.now) (at forest.now.by.items event) }
@@ -44,7 +44,7 @@ fn downward(rows: &[NetRow], forest: &Forest, event: usize) -> SignedRow
     }
 }
 
-// whether an event is another one or lies below it in its tree
+/// Whether an event is another one or lies below it in its tree.
 fn is_above(forest: &Forest, upper: usize, lower: usize) -> bool
     requires upper { upper < vec_len forest.now.up }
     requires lower { lower < vec_len forest.now.up }
@@ -54,7 +54,7 @@ fn is_above(forest: &Forest, upper: usize, lower: usize) -> bool
     forest.place[upper] <= place && place <= forest.last[upper]
 }
 
-// goes up from an event until it is above another one of its tree, and gives the event where it stops
+/// Goes up from an event until it is above another one of its tree, and gives the event where it stops.
 fn climb(
     events: usize,
     rows: &[NetRow],
@@ -80,7 +80,7 @@ fn climb(
     Ok(upper)
 }
 
-// the way from an event up to one above it, each row signed as the way down passes it
+/// The way from an event up to one above it, each row signed as the way down passes it.
 fn descend(
     alloc: Global,
     events: usize,
@@ -105,7 +105,7 @@ fn descend(
     Ok(way)
 }
 
-// goes on along the forest from an event to another one of its tree
+/// Goes on along the forest from an event to another one of its tree.
 fn go_on(
     alloc: Global,
     events: usize,
@@ -178,7 +178,7 @@ pub fn walk_back(
     Ok(walk)
 }
 
-// whether the row k joins one of its ends to the event above it
+/// Whether the row k joins one of its ends to the event above it.
 fn is_kept(forest: &Forest, row: &NetRow, k: usize) -> bool
     requires tail { row.now.tail < vec_len forest.now.up }
     requires head { row.now.head < vec_len forest.now.up }

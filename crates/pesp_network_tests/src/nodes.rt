@@ -36,7 +36,7 @@ pub(crate) fn ask_problem(alloc: Global, lines: &[&str]) -> Option<String> {
     }
 }
 
-// whether a node has what the cut names, and the cut keeps its limit
+/// Whether a node has what the cut names, and the cut keeps its limit.
 fn has_cut(node: &Node, cut: Cut) -> bool
     ensures { IsTrue result → IsCutOf node.now cut }
 {

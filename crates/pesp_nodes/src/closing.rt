@@ -7,14 +7,14 @@ ghost use Rattle.pesp_nodes.specs.Problems.{IsFirstOpen};
 
 use pesp_problem::{Arc, SignedRow, Walk};
 
-// whether the row exists
+/// Whether the row exists.
 fn exists(arcs: &[Arc], s: &SignedRow) -> bool
     ensures { IsTrue result ↔ RowExists arcs.now s.now }
 {
     1 <= s.row && s.row as usize <= arcs.len()
 }
 
-// the event at which a signed row begins
+/// The event at which a signed row begins.
 fn start(arcs: &[Arc], s: &SignedRow) -> u32
     requires { RowExists arcs.now s.now }
     ensures { result ≡ start arcs.now s.now }
@@ -23,7 +23,7 @@ fn start(arcs: &[Arc], s: &SignedRow) -> u32
     if s.plus { arc.tail } else { arc.head }
 }
 
-// the event at which it ends
+/// The event at which it ends.
 fn finish(arcs: &[Arc], s: &SignedRow) -> u32
     requires { RowExists arcs.now s.now }
     ensures { result ≡ finish arcs.now s.now }
@@ -32,7 +32,7 @@ fn finish(arcs: &[Arc], s: &SignedRow) -> u32
     if s.plus { arc.head } else { arc.tail }
 }
 
-// whether rows that exist lead from one event to another
+/// Whether rows that exist lead from one event to another.
 fn leads(arcs: &[Arc], from: u32, way: &[SignedRow], to: u32) -> bool
     ensures { IsTrue result ↔ (AreRows arcs.now way.now × Leads arcs.now from way.now to) }
 {
@@ -49,7 +49,7 @@ fn leads(arcs: &[Arc], from: u32, way: &[SignedRow], to: u32) -> bool
     event == to
 }
 
-// whether a walk closes: it has a row, its rows exist, and their ends meet in order and close
+/// Whether a walk closes: it has a row, its rows exist, and their ends meet in order and close.
 fn closes(arcs: &[Arc], walk: &[SignedRow]) -> bool
     ensures { IsTrue result ↔ IsWalk arcs.now walk.now }
 {

@@ -11,7 +11,7 @@ pub enum End {
 }
 
 impl End {
-    // the other end
+    /// The other end.
     fn other(self) -> End
         ensures { (low high : ℤ) → at_end result low high ≡ at_end self high low }
     {

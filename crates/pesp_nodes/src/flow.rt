@@ -9,7 +9,7 @@ use pesp_problem::Pair;
 use pesp_problem::exact::{plus, times};
 use std::alloc::Global;
 
-// the multiplier of a cycle, 0 where no pair has it
+/// The multiplier of a cycle, 0 where no pair has it.
 fn mult_of(pairs: &[Pair], cycle: u32) -> i64
     requires rise { Rise pairs.now }
     requires mults { All (λ p. unsigned_abs p.mult ≤ 1000000000000) pairs.now }
@@ -50,7 +50,7 @@ pub(crate) fn mults_of(alloc: Global, pairs: &[Pair], cycles: usize) -> Vec<i64>
     mults
 }
 
-// the multiplier of a cycle: at its place, where the list is long enough, else found among the pairs
+/// The multiplier of a cycle: at its place, where the list is long enough, else found among the pairs.
 fn mult_at(pairs: &[Pair], mults: &[i64], cycle: u32) -> i64
     requires rise { Rise pairs.now }
     requires small { All (λ p. unsigned_abs p.mult ≤ 1000000000000) pairs.now }

@@ -34,7 +34,7 @@ impl Model for Node {
     ghost invariant = { λ n. AreSlackEnds n.slacks.items × AreOffsetEnds n.offsets.items };
 }
 
-// a part of a slack range that is cut at k
+/// A part of a slack range that is cut at k.
 fn cut_slack(slacks: (u32, u32), k: u32, side: Side) -> (u32, u32)
     requires { k ≤ 9999 }
     ensures { result ≡ cut_slack slacks k side }
@@ -45,7 +45,7 @@ fn cut_slack(slacks: (u32, u32), k: u32, side: Side) -> (u32, u32)
     }
 }
 
-// a part of an offset range that is cut at k
+/// A part of an offset range that is cut at k.
 fn cut_offset(offsets: (i64, i64), k: i64, side: Side) -> (i64, i64)
     requires { unsigned_abs k ≤ 100000000000000 }
     ensures part { result ≡ cut_offset offsets k side }

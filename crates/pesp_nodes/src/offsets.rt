@@ -16,7 +16,7 @@ use pesp_problem::Arc;
 use pesp_problem::exact::{ceil_div, floor_div, plus, times};
 use pesp_walks::NetCount;
 
-// the duration of the row at a place, at an end of its slack range
+/// The duration of the row at a place, at an end of its slack range.
 fn duration_at(arcs: &[Arc], slacks: &[(u32, u32)], place: u32, end: End) -> i64
     requires arcs { AreArcs arcs.now }
     requires slacks { AreSlackEnds slacks.now }
@@ -35,7 +35,7 @@ fn duration_at(arcs: &[Arc], slacks: &[(u32, u32)], place: u32, end: End) -> i64
     arcs[place as usize].lower + i64::from(slack)
 }
 
-// the least of a net count times the durations of its row that a slack range allows, or the greatest
+/// The least of a net count times the durations of its row that a slack range allows, or the greatest.
 fn term_at(arcs: &[Arc], slacks: &[(u32, u32)], net: &NetCount, end: End) -> i128
     requires arcs { AreArcs arcs.now }
     requires slacks { AreSlackEnds slacks.now }
@@ -50,7 +50,7 @@ fn term_at(arcs: &[Arc], slacks: &[(u32, u32)], net: &NetCount, end: End) -> i12
     times(i128::from(net.count), i128::from(duration))
 }
 
-// the least and the greatest sum of net count times duration that the slack ranges allow along a walk
+/// The least and the greatest sum of net count times duration that the slack ranges allow along a walk.
 fn sums_of(arcs: &[Arc], slacks: &[(u32, u32)], counts: &[NetCount]) -> (i128, i128)
     requires arcs { AreArcs arcs.now }
     requires slacks { AreSlackEnds slacks.now }
@@ -72,7 +72,7 @@ fn sums_of(arcs: &[Arc], slacks: &[(u32, u32)], counts: &[NetCount]) -> (i128, i
     (least, greatest)
 }
 
-// the least offset that a sum allows, or the greatest
+/// The least offset that a sum allows, or the greatest.
 fn offset_at(period: u32, sum: i128, end: End) -> i64
     requires period { 0 < period }
     requires small { unsigned_abs sum ≤ 10300000000000 }
@@ -111,7 +111,7 @@ pub fn bounds_of(
     )
 }
 
-// what two ranges share
+/// What two ranges share.
 fn shared(range: (i64, i64), bounds: (i64, i64)) -> Option<(i64, i64)>
     ensures value { result ≡ range_or_none (int_max range.0 bounds.0) (int_min range.1 bounds.1) }
     ensures within { IfSome result

@@ -5,7 +5,7 @@ ghost use Rattle.pesp_nodes.specs.Problems.{IsPairOf, ArePairs};
 
 use pesp_problem::Pair;
 
-// whether a pair names one of so many cycles and keeps its limit
+/// Whether a pair names one of so many cycles and keeps its limit.
 fn is_pair(pair: &Pair, cycles: usize) -> bool
     ensures { IsTrue result ↔ IsPairOf cycles pair.now }
 {

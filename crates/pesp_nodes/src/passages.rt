@@ -49,7 +49,7 @@ impl Passages {
         &self.passages
     }
 
-    // one signed row more of a cycle; no passage but the last is of it
+    /// One signed row more of a cycle; no passage but the last is of it.
     pub(crate) fn pass(&mut self, cycle: u32, s: &SignedRow) -> Result<(), AllocError>
         requires { All (λ e. unsigned_abs e.count ≤ 10000000) self.old }
         ensures { (before : List declared.Passage) (count : ℤ) → AreBefore cycle before
@@ -64,7 +64,7 @@ impl Passages {
     }
 }
 
-// takes off the last passage where it is of this cycle; its count, or 0
+/// Takes off the last passage where it is of this cycle; its count, or 0.
 fn take_last(passages: &mut Vec<Passage>, cycle: u32) -> i64
     requires { All (λ e. unsigned_abs e.count ≤ 10000000) passages.old.items }
     ensures value { (before : List declared.Passage) (count : ℤ) → AreBefore cycle before

@@ -44,7 +44,7 @@ impl Model for Problem {
     ghost invariant = { λ p. IsPrepared (record { network = p.network; table = p.table.items }) p.nets.items p.by_row.items };
 }
 
-// whether the walks of a table close, and are few enough
+/// Whether the walks of a table close, and are few enough.
 fn judge(arcs: &[Arc], table: &[Walk]) -> Result<(), ProblemRefusal>
     ensures closed { OnOk result (All (IsWalk arcs.now) table.now) }
     ensures small { OnOk result (IsSmallTable table.now) }
@@ -59,7 +59,7 @@ fn judge(arcs: &[Arc], table: &[Walk]) -> Result<(), ProblemRefusal>
     Ok(())
 }
 
-// the slack ranges of a root
+/// The slack ranges of a root.
 fn root_slacks(alloc: Global, arcs: &[Arc]) -> Result<Vec<(u32, u32)>, AllocError>
     requires { AreArcs arcs.now }
     ensures slacks { IfOk result (λ v. v.items ≡ map (λ arc. (0, arc.span)) arcs.now) }
@@ -69,7 +69,7 @@ fn root_slacks(alloc: Global, arcs: &[Arc]) -> Result<Vec<(u32, u32)>, AllocErro
     arcs.iter().map(|arc| (0, arc.span)).collect(alloc)
 }
 
-// the offset ranges that slack ranges allow
+/// The offset ranges that slack ranges allow.
 fn root_offsets(
     alloc: Global,
     period: u32,
@@ -147,12 +147,12 @@ impl Problem {
         Ok(Node::new(slacks, offsets))
     }
 
-    // where memory comes from
+    /// Where memory comes from.
     pub(crate) fn alloc(&self) -> Global {
         self.alloc
     }
 
-    // the period, in the instance's own unit
+    /// The period, in the instance's own unit.
     pub(crate) fn period(&self) -> u32
         ensures period { result ≡ self.now.network.period }
         ensures some { 1 ≤ result }
@@ -180,7 +180,7 @@ impl Problem {
         let _ = &self.nets;
     }
 
-    // the net counts of each cycle
+    /// The net counts of each cycle.
     pub(crate) fn nets(&self) -> &[Nets]
         ensures nets { AreNets (length self.now.network.rows) self.now.table result.now }
         ensures each { All (AreSmallCounts (length self.now.network.rows)) result.now }

@@ -18,7 +18,7 @@ use pesp_problem::exact::{minus, plus, times};
 use pesp_problem::{Arc, Pair};
 use pesp_walks::NetCount;
 
-// the flow of one pair on a row of its cycle
+/// The flow of one pair on a row of its cycle.
 fn flow_of(pair: &Pair, net: &NetCount) -> i128
     requires one { unsigned_abs pair.now.mult ≡ 1 }
     requires small { unsigned_abs net.now.count ≤ 10000000 }
@@ -28,7 +28,7 @@ fn flow_of(pair: &Pair, net: &NetCount) -> i128
     times(i128::from(pair.mult), i128::from(net.count))
 }
 
-// what a row adds to the value with this flow beyond what it adds with none
+/// What a row adds to the value with this flow beyond what it adds with none.
 fn gain(arc: &Arc, range: (u32, u32), flow: i128) -> i128
     requires weight { arc.now.weight ≤ 1000000000 }
     requires lower { unsigned_abs arc.now.lower ≤ 1020000 }
@@ -45,7 +45,7 @@ fn gain(arc: &Arc, range: (u32, u32), flow: i128) -> i128
     )
 }
 
-// what the row of a net count adds to the value of a pair beyond what it adds with no flow
+/// What the row of a net count adds to the value of a pair beyond what it adds with no flow.
 fn gain_at(arcs: &[Arc], slacks: &[(u32, u32)], pair: &Pair, net: &NetCount) -> i128
     requires arcs { AreArcs arcs.now }
     requires slacks { AreSlackEnds slacks.now }
@@ -61,7 +61,7 @@ fn gain_at(arcs: &[Arc], slacks: &[(u32, u32)], pair: &Pair, net: &NetCount) -> 
     gain(&arcs[place], slacks[place], flow_of(pair, net))
 }
 
-// what the rows of a pair's cycle add to its value beyond what they add with no flow
+/// What the rows of a pair's cycle add to its value beyond what they add with no flow.
 fn gains(arcs: &[Arc], slacks: &[(u32, u32)], counts: &[NetCount], pair: &Pair) -> i128
     requires arcs { AreArcs arcs.now }
     requires slacks { AreSlackEnds slacks.now }

@@ -30,7 +30,7 @@ pub fn is_small(table: &[Walk]) -> bool
     true
 }
 
-// no passages of any row
+/// No passages of any row.
 fn no_passages(alloc: Global, rows: usize) -> Result<Vec<Passages>, AllocError>
     ensures { IfOk result (λ v. v.items ≡ replicate rows []) }
 {
@@ -60,7 +60,7 @@ pub fn passages_of_table(
     Ok(by_row)
 }
 
-// no net counts of any cycle
+/// No net counts of any cycle.
 fn no_nets(alloc: Global, cycles: usize) -> Result<Vec<Nets>, AllocError>
     ensures { IfOk result (λ v. v.items ≡ replicate cycles []) }
 {

@@ -54,7 +54,7 @@ pub fn offset_range(problem: &Problem, node: &Node, cycle: u32) -> Option<(i64, 
     left_at(problem, node, cycle as usize - 1)
 }
 
-// the period times an offset
+/// The period times an offset.
 fn period_times(period: u32, offset: i64) -> i128
     requires { IsSmallOffset period offset }
     ensures value { result ≡ pos period *ℤ offset }
@@ -63,7 +63,7 @@ fn period_times(period: u32, offset: i64) -> i128
     times(i128::from(period), i128::from(offset))
 }
 
-// the period times a multiplier times the least offset left, or the greatest where the multiplier is negative
+/// The period times a multiplier times the least offset left, or the greatest where the multiplier is negative.
 pub(crate) fn offset_term(period: u32, mult: i64, left: (i64, i64)) -> i128
     requires mult { unsigned_abs mult ≤ 1000000000000 }
     requires low { IsSmallOffset period left.0 }
@@ -75,7 +75,7 @@ pub(crate) fn offset_term(period: u32, mult: i64, left: (i64, i64)) -> i128
     times(i128::from(mult), period_times(period, offset))
 }
 
-// what the offsets of the pairs' cycles add up to, times the period
+/// What the offsets of the pairs' cycles add up to, times the period.
 fn offset_sum(problem: &Problem, node: &Node, pairs: &[Pair]) -> Option<i128>
     requires node { IsNodeOf problem.now node.now }
     requires pairs { ArePairs (length problem.now.table) pairs.now }
@@ -92,7 +92,7 @@ fn offset_sum(problem: &Problem, node: &Node, pairs: &[Pair]) -> Option<i128>
     Some(sum)
 }
 
-// the weight of a row, or 0 for a leaf without weights
+/// The weight of a row, or 0 for a leaf without weights.
 fn weight_of(arc: &Arc, weighted: bool) -> i128
     requires { arc.now.weight ≤ 1000000000 }
     ensures value { result ≡ weight_of weighted arc.now }
@@ -101,7 +101,7 @@ fn weight_of(arc: &Arc, weighted: bool) -> i128
     if weighted { i128::from(arc.weight) } else { 0 }
 }
 
-// the lesser of a factor times each end of a range
+/// The lesser of a factor times each end of a range.
 fn lesser(factor: i128, range: (u32, u32)) -> i128
     requires factor { unsigned_abs factor ≤ 2 * 10 ^ 19 }
     requires low { range.0 ≤ 10000 }
@@ -114,7 +114,7 @@ fn lesser(factor: i128, range: (u32, u32)) -> i128
     low.min(high)
 }
 
-// a flow times a lower bound
+/// A flow times a lower bound.
 fn lower_part(flow: i128, lower: i64) -> i128
     requires flow { unsigned_abs flow ≤ 10 ^ 19 }
     requires lower { unsigned_abs lower ≤ 1020000 }
@@ -124,7 +124,7 @@ fn lower_part(flow: i128, lower: i64) -> i128
     times(flow, i128::from(lower))
 }
 
-// what a row adds to the value
+/// What a row adds to the value.
 pub(crate) fn row_term(arc: &Arc, range: (u32, u32), weighted: bool, flow: i128) -> i128
     requires weight { arc.now.weight ≤ 1000000000 }
     requires lower { unsigned_abs arc.now.lower ≤ 1020000 }
@@ -138,7 +138,7 @@ pub(crate) fn row_term(arc: &Arc, range: (u32, u32), weighted: bool, flow: i128)
     minus(lesser(rest, range), lower_part(flow, arc.lower))
 }
 
-// what the rows add to the value
+/// What the rows add to the value.
 fn row_sum(
     arcs: &[Arc],
     slacks: &[(u32, u32)],

@@ -27,7 +27,7 @@ pub struct Grafted {
     pub replies: Vec<Reply>,
 }
 
-// whether the labels are these events in order
+/// Whether the labels are these events in order.
 fn are_labels(shown: &[(i64, u32)], events: &[i64]) -> bool
     ensures { IsTrue result ↔ (map (λ t. t.0) shown.now ≡ events.now) }
 {
@@ -42,14 +42,14 @@ fn are_labels(shown: &[(i64, u32)], events: &[i64]) -> bool
     true
 }
 
-// the times without their labels
+/// The times without their labels.
 fn times_of(alloc: Global, shown: &[(i64, u32)]) -> Result<Vec<u32>, Memory>
     ensures { IfOk result (λ times. times.items ≡ map (λ t. t.1) shown.now) }
 {
     Ok(shown.iter().map(|t| t.1).collect(alloc)?)
 }
 
-// offers the times, where their labels are the events in order
+/// Offers the times, where their labels are the events in order.
 fn offer_shown(
     alloc: Global,
     events: &[i64],
@@ -68,7 +68,7 @@ fn offer_shown(
     Ok(())
 }
 
-// a reply that is no refusal of memory
+/// A reply that is no refusal of memory.
 fn answered(given: Result<(), GiveRefusal>) -> Result<Result<(), GiveRefusal>, Memory>
     ensures same { IfOk result (λ reply. reply ≡ given) }
     ensures answered { IfOk result (λ reply. reply ≡ Err Refused → ⊥) }
@@ -85,7 +85,7 @@ fn answered(given: Result<(), GiveRefusal>) -> Result<Result<(), GiveRefusal>, M
     }
 }
 
-// gives a work, and then offers its times
+/// Gives a work, and then offers its times.
 fn take_work(
     alloc: Global,
     events: &[i64],
@@ -102,7 +102,7 @@ fn take_work(
     Ok(Reply { job, given })
 }
 
-// puts a reply behind those before it
+/// Puts a reply behind those before it.
 fn keep(replies: &mut Vec<Reply>, reply: Reply) -> Result<(), Memory>
     ensures { OnOk result (replies.new.items ≡ replies.old.items ++ reply ∷ []) }
 {
@@ -110,7 +110,7 @@ fn keep(replies: &mut Vec<Reply>, reply: Reply) -> Result<(), Memory>
     Ok(())
 }
 
-// takes works in order; what became of each
+/// Takes works in order; what became of each.
 fn take_works(
     alloc: Global,
     events: &[i64],
@@ -129,7 +129,7 @@ fn take_works(
     Ok(replies)
 }
 
-// takes works, and certifies what is known then
+/// Takes works, and certifies what is known then.
 fn graft_on(
     alloc: Global,
     instance: &Instance,

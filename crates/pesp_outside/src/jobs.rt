@@ -21,7 +21,7 @@ pub struct OpenJob {
     pub value: u64,
 }
 
-// the job with the value of its leaf
+/// The job with the value of its leaf.
 fn valued(board: &Board, job: Job) -> OpenJob
     requires { IsLentNumber board.now.state job.number }
     ensures job { result.job ≡ job }
@@ -33,7 +33,7 @@ fn valued(board: &Board, job: Job) -> OpenJob
     OpenJob { job, value }
 }
 
-// puts a job behind those before it
+/// Puts a job behind those before it.
 fn keep(opens: &mut Vec<OpenJob>, leaf: OpenJob) -> Result<(), Memory>
     ensures { OnOk result (opens.new.items ≡ opens.old.items ++ leaf ∷ []) }
 {
@@ -41,7 +41,7 @@ fn keep(opens: &mut Vec<OpenJob>, leaf: OpenJob) -> Result<(), Memory>
     Ok(())
 }
 
-// the jobs that were lent, with the values of their leaves
+/// The jobs that were lent, with the values of their leaves.
 fn valued_jobs(alloc: Global, board: &Board, jobs: Vec<Job>) -> Result<Vec<OpenJob>, Memory>
     requires { (opening : State) × LendsEach board.now.problem opening jobs.items board.now.state }
     ensures jobs { IfOk result (λ opens. map (λ leaf. leaf.job) opens.items ≡ jobs.items) }

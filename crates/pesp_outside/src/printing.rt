@@ -108,7 +108,7 @@ impl Printed for JobsText<'_> {
     }
 }
 
-// what became of a work, in words
+/// What became of a work, in words.
 fn reply_text(given: Result<(), GiveRefusal>) -> &'static str
     ensures { result.now ≡ reply_words given }
 {

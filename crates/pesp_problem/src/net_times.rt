@@ -8,7 +8,7 @@ ghost use Rattle.pesp_problem.specs.Timetables.{difference, remainder};
 
 use crate::arc::Arc;
 
-// the remainder by the period of what the difference of two events' times exceeds a lower bound by
+/// The remainder by the period of what the difference of two events' times exceeds a lower bound by.
 pub(crate) fn slack_between(period: u32, times: &[u32], tail: u32, head: u32, lower: i64) -> u32
     requires some { 0 < period }
     requires tail { tail < length times.now }
@@ -43,7 +43,7 @@ pub fn are_below(period: u32, times: &[u32]) -> bool
     times.iter().all(|time| *time < period)
 }
 
-// whether the slack of each arc is at most its span
+/// Whether the slack of each arc is at most its span.
 fn are_satisfied(period: u32, events: u32, arcs: &[Arc], times: &[u32]) -> bool
     requires limits { KeepArcLimits period events arcs.now }
     requires count { length times.now ≡ events }

@@ -17,7 +17,7 @@ struct Leader {
 }
 
 impl Leader {
-    // no event
+    /// No event.
     fn none() -> Leader {
         Leader {
             rank: u64::MAX,
@@ -63,7 +63,7 @@ impl Experience {
         }
     }
 
-    // how late an event is chosen that has so many differences left; never, where it has but one
+    /// How late an event is chosen that has so many differences left; never, where it has but one.
     fn rank_of(&self, event: u32, count: u32) -> u64 {
         if count < 2 {
             return u64::MAX;
@@ -74,7 +74,7 @@ impl Experience {
         }
     }
 
-    // the leader of a block, by what is left of its events
+    /// The leader of a block, by what is left of its events.
     fn leader_of(&self, domains: &Domains, block: usize) -> Leader {
         let mut leader = Leader::none();
         for step in 0..BLOCK {
@@ -88,7 +88,7 @@ impl Experience {
         leader
     }
 
-    // the leader of a block, which is looked at where a set of it has changed since it was
+    /// The leader of a block, which is looked at where a set of it has changed since it was.
     fn leader_at(&mut self, domains: &mut Domains, block: usize) -> Leader
         ensures { domains.new ≡ domains.old }
     {
@@ -150,7 +150,7 @@ impl Experience {
     }
 }
 
-// for each difference how far it is from a target round the period, and 1
+/// For each difference how far it is from a target round the period, and 1.
 fn measure_distances(costs: &mut [u64], target: u32) {
     let period = costs.len() as u64;
     for (difference, cost) in costs.iter_mut().enumerate() {
@@ -159,7 +159,7 @@ fn measure_distances(costs: &mut [u64], target: u32) {
     }
 }
 
-// for each difference of an event, the sum over its rows of weight times least slack to what is left at the other end
+/// For each difference of an event, the sum over its rows of weight times least slack to what is left at the other end.
 fn add_up_costs(costs: &mut [u64], domains: &Domains, rows: &Rows, event: u32) {
     costs.fill(0);
     let mut row = rows.last_at(event);
@@ -175,8 +175,8 @@ fn add_up_costs(costs: &mut [u64], domains: &Domains, rows: &Rows, event: u32) {
     }
 }
 
-// adds what one arc costs. The other end's set is gone through twice against the arc, so that the way to the nearest
-// difference that is left is known at each place the second time
+/// Adds what one arc costs. The other end's set is gone through twice against the arc, so that the way to the nearest
+/// difference that is left is known at each place the second time.
 fn add_costs(costs: &mut [u64], domains: &Domains, arc: &Arc, is_tail: bool) {
     let period = costs.len();
     let other = if is_tail { arc.head } else { arc.tail };
@@ -200,7 +200,7 @@ fn add_costs(costs: &mut [u64], domains: &Domains, arc: &Arc, is_tail: bool) {
     }
 }
 
-// a lower bound as a shift round the period
+/// A lower bound as a shift round the period.
 fn shift_of(arc: &Arc, period: u32) -> u32 {
     let shift = arc.lower.checked_rem_euclid(i64::from(period)).unwrap_or(0);
     u32::try_from(shift).unwrap_or(0)

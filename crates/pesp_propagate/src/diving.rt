@@ -13,21 +13,21 @@ use pesp_network::Network;
 use pesp_problem::{Arc, Memory};
 use std::alloc::Global;
 
-// how many values a try may find impossible before it gives up
+/// How many values a try may find impossible before it gives up.
 const MOST_FAILURES: u32 = 60;
 
-// by how many sixteenths chance may raise what a difference costs, from the second try on
+/// By how many sixteenths chance may raise what a difference costs, from the second try on.
 const MOST_CHANCE: u32 = 8;
 
-// how many events are fixed until the sets are saved again: where a value is impossible, all since then are fixed anew
+/// How many events are fixed until the sets are saved again: where a value is impossible, all since then are fixed anew.
 const MOST_UNSAVED: usize = 256;
 
-// the slack range of an arc from 0 to its span
+/// The slack range of an arc from 0 to its span.
 fn range_of(arc: &Arc) -> (u32, u32) {
     (0, arc.span)
 }
 
-// the differences of an event with one each, as times: each component's first event is at time 0
+/// The differences of an event with one each, as times: each component's first event is at time 0.
 fn times_of(alloc: Global, domains: &Domains) -> Result<Vec<u32>, Memory> {
     let mut times = Vec::new(alloc);
     for event in 0..domains.events() {
@@ -43,7 +43,7 @@ struct Fixed {
     difference: u32,
 }
 
-// notes what was fixed since the sets were saved, and saves them again after so many
+/// Notes what was fixed since the sets were saved, and saves them again after so many.
 fn note_fixed(
     domains: &Domains,
     saved: &mut Domains,
@@ -61,7 +61,7 @@ fn note_fixed(
     Ok(())
 }
 
-// goes back to the saved sets, and fixes again what was fixed since then
+/// Goes back to the saved sets, and fixes again what was fixed since then.
 fn restore(
     alloc: Global,
     rows: &Rows,
@@ -85,7 +85,7 @@ fn restore(
     Ok(())
 }
 
-// fixes an event to a value, or takes the value away where some set would be empty; tells whether it is fixed
+/// Fixes an event to a value, or takes the value away where some set would be empty; tells whether it is fixed.
 fn fix(
     alloc: Global,
     rows: &Rows,
@@ -112,7 +112,7 @@ fn fix(
     Ok(false)
 }
 
-// one try: a timetable, or None where too many values were impossible
+/// One try: a timetable, or None where too many values were impossible.
 fn descend(
     alloc: Global,
     rows: &Rows,
@@ -157,7 +157,7 @@ fn descend(
     Ok(None)
 }
 
-// so many tries with some experience
+/// So many tries with some experience.
 fn try_again(
     alloc: Global,
     network: &Network,
@@ -185,7 +185,7 @@ fn try_again(
     Ok(None)
 }
 
-// the differences to the first event of their component that prices give, at the period
+/// The differences to the first event of their component that prices give, at the period.
 fn targets_of(alloc: Global, network: &Network, prices: &[i64]) -> Result<Vec<u32>, Memory> {
     let period = i64::from(network.period());
     let mut targets = Vec::new(alloc);

@@ -37,7 +37,7 @@ impl Model for Domains {
     ghost invariant = { λ d. AreKept (record { period = d.period; events = d.events; words = d.words.items }) × HasRoom d.period (length d.beside.items) (length d.twice.items) };
 }
 
-// how many words a set has
+/// How many words a set has.
 fn width_of(period: u32) -> usize
     requires { period ≤ 10000 }
     ensures { result ≡ width_of period }
@@ -45,7 +45,7 @@ fn width_of(period: u32) -> usize
     (period as usize).div_ceil(64)
 }
 
-// the sets of so many events: 0 alone for a component's first event, every difference for the others
+/// The sets of so many events: 0 alone for a component's first event, every difference for the others.
 fn fill_sets(words: &mut [u64], network: &Network)
     requires { length words.old ≡ network.now.events * width_of network.now.period }
     ensures { AreFull (net_of_network network.now) network.now.events words.new }
@@ -60,7 +60,7 @@ fn fill_sets(words: &mut [u64], network: &Network)
     }
 }
 
-// how many differences each event has before anything is known
+/// How many differences each event has before anything is known.
 fn full_counts(alloc: Global, network: &Network) -> Result<Counts, Memory> {
     let mut counts = Vec::new(alloc);
     for event in 0..network.events() {
@@ -70,7 +70,7 @@ fn full_counts(alloc: Global, network: &Network) -> Result<Counts, Memory> {
     Counts::of(alloc, counts)
 }
 
-// how many numbers a set has
+/// How many numbers a set has.
 fn count_of(set: &[u64]) -> u32 {
     let mut count = 0u32;
     for word in set.iter() {
@@ -80,7 +80,7 @@ fn count_of(set: &[u64]) -> u32 {
 }
 
 impl Domains {
-    // the sets before anything is known, with these counts
+    /// The sets before anything is known, with these counts.
     fn full_sets(alloc: Global, network: &Network, counts: Counts) -> Result<Domains, Memory>
         ensures sizes { IfOk result (HaveSizes network.now.period network.now.events) }
         ensures full { IfOk result
@@ -156,7 +156,7 @@ impl Domains {
         revise::has_none(&self.words[base..base + width])
     }
 
-    // counts the differences of an event anew
+    /// Counts the differences of an event anew.
     fn recount(&mut self, event: u32)
         requires { event < self.old.events }
         ensures { self.new ≡ self.old }
@@ -167,7 +167,7 @@ impl Domains {
         self.counts.set(event, count);
     }
 
-    // counts the differences at the ends of an arc anew, where they changed
+    /// Counts the differences at the ends of an arc anew, where they changed.
     fn recount_ends(&mut self, arc: &Arc, changed: Changed)
         requires tail { arc.now.tail < self.old.events }
         requires head { arc.now.head < self.old.events }
@@ -192,7 +192,7 @@ impl Domains {
         changed
     }
 
-    // takes from the sets at both ends of an arc each difference with no partner, and counts none anew
+    /// Takes from the sets at both ends of an arc each difference with no partner, and counts none anew.
     fn narrow_ends(&mut self, arc: &Arc, range: (u32, u32)) -> Changed
         requires tail { arc.now.tail < self.old.events }
         requires head { arc.now.head < self.old.events }

@@ -10,7 +10,7 @@ ghost use Rattle.std.specs.Int.{int_rem_euclid};
 use crate::step::{self, Shifts};
 use pesp_problem::Arc;
 
-// keeps those differences of one event from which some shift leads to one of another
+/// Keeps those differences of one event from which some shift leads to one of another.
 fn narrow(
     words: &mut [u64],
     beside: &mut [u64],
@@ -46,7 +46,7 @@ fn narrow(
     )
 }
 
-// a lower bound as a shift round the period
+/// A lower bound as a shift round the period.
 fn shift_of(lower: &i64, period: usize) -> usize
     requires { (0 < period) × (period ≤ 10000) }
     ensures { pos result ≡ int_rem_euclid lower.now (pos period) }
@@ -127,7 +127,7 @@ pub fn has_none(set: &[u64]) -> bool
     true
 }
 
-// keeps what a mask has at one place, and what another has everywhere else
+/// Keeps what a mask has at one place, and what another has everywhere else.
 fn mask_set(set: &mut [u64], place: usize, mask: u64, others: u64)
     ensures { (d : ℕ) → bit set.new d ≡ 1 → bit set.old d ≡ 1 }
 {

@@ -18,7 +18,7 @@ use pesp_problem::{Arc, Memory};
 use std::alloc::Global;
 use std::mem;
 
-// where the set of an event is another, the rows at it wait, but for the one that changed it; or the set is empty
+/// Where the set of an event is another, the rows at it wait, but for the one that changed it; or the set is empty.
 fn pass_on(
     domains: &Domains,
     arcs: &[Arc],
@@ -51,7 +51,7 @@ fn pass_on(
     Ok(None)
 }
 
-// a row takes away what it does not support, and gives an event whose set is empty then
+/// A row takes away what it does not support, and gives an event whose set is empty then.
 fn visit(
     domains: &mut Domains,
     arcs: &[Arc],
@@ -83,7 +83,7 @@ fn visit(
     pass_on(domains, arcs, chains, waiting, changed.head, arc.head, row)
 }
 
-// the rows of a line are visited in order
+/// The rows of a line are visited in order.
 fn pass(
     domains: &mut Domains,
     arcs: &[Arc],
@@ -116,7 +116,7 @@ fn pass(
     Ok(None)
 }
 
-// whether some set is empty
+/// Whether some set is empty.
 fn outcome_of(domains: &Domains) -> Outcome
     ensures { IsOutcome domains.now.events (family_of domains.now) result }
 {

@@ -13,7 +13,7 @@ pub struct Shifts {
     pub count: usize,
 }
 
-// the word at a place, 0 past the end
+/// The word at a place, 0 past the end.
 fn word_at(words: &[u64], at: usize) -> u64
     ensures { result ≡ slice_index words.now at }
 {
@@ -34,7 +34,7 @@ pub(crate) fn word_from(words: &[u64], place: usize) -> u64
     (low >> by) | (high << (64 - by))
 }
 
-// adds to each place what stands so many places further on
+/// Adds to each place what stands so many places further on.
 fn or_ahead(words: &mut [u64], by: usize)
     requires few { length words.old ≤ 2 ^ 32 }
     requires by { by ≤ 2 ^ 32 }
@@ -54,7 +54,7 @@ fn or_ahead(words: &mut [u64], by: usize)
     }
 }
 
-// the 64 bits from a word on, of the set that is moved so many places up
+/// The 64 bits from a word on, of the set that is moved so many places up.
 fn word_behind(words: &[u64], k: usize, by: usize) -> u64
     requires { k ≤ 2 ^ 32 }
     ensures above { (j : ℕ) → j < 64 → by ≤ 64 * k + j
@@ -72,7 +72,7 @@ fn word_behind(words: &[u64], k: usize, by: usize) -> u64
     0
 }
 
-// takes all away
+/// Takes all away.
 fn clear(words: &mut [u64])
     ensures { (d : ℕ) → bit words.new d ≡ 0 }
 {
@@ -159,7 +159,7 @@ pub(crate) fn keep_shifted(kept: &mut [u64], wide: &[u64], down: usize, up: usiz
     changed
 }
 
-// so many ones
+/// So many ones.
 fn ones(count: usize) -> u64
     ensures ones { (j : ℕ) → j < 64 → j < count → bit_at result j ≡ 1 }
     ensures zeros { (j : ℕ) → j < 64 → count ≤ j → bit_at result j ≡ 0 }

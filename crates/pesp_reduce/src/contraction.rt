@@ -35,7 +35,7 @@ pub struct Standing {
     pub firsts: Vec<u32>,
 }
 
-// for each row, whether it is one of these
+/// For each row, whether it is one of these.
 fn flags_of(alloc: Global, count: usize, forest: &[u32]) -> Result<Vec<bool>, AllocError>
     requires { All (Names count) forest.now }
     ensures { IfOk result (λ flags. AreFlags count forest.now flags.items) }
@@ -48,7 +48,7 @@ fn flags_of(alloc: Global, count: usize, forest: &[u32]) -> Result<Vec<bool>, Al
     Ok(flags)
 }
 
-// times that give each row slack 0
+/// Times that give each row slack 0.
 fn shifts_of(alloc: Global, tree: &Network) -> Result<Vec<u32>, Memory>
     requires { (slacks : ℕ → ℕ) (walk : List SignedRow) → ((i : ℕ) → slacks i ≡ 0)
         → IsWalk (arcs_of_network tree.now.rows) walk
@@ -65,7 +65,7 @@ fn shifts_of(alloc: Global, tree: &Network) -> Result<Vec<u32>, Memory>
     }
 }
 
-// numbers for the first events of those that are joined, and for all that are joined with them
+/// Numbers for the first events of those that are joined, and for all that are joined with them.
 fn standing_of(alloc: Global, tree: &Network) -> Result<Standing, AllocError>
     ensures { IfOk result (λ s. IsStanding (arcs_of_network tree.now.rows) tree.now.events
         s.stands.items s.firsts.items) }

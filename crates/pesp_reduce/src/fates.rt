@@ -11,7 +11,7 @@ use crate::rows::is_free;
 use pesp_network::{NetRow, Network};
 use std::alloc::{AllocError, Global};
 
-// a row between the events that its ends become
+/// A row between the events that its ends become.
 fn mapped_row(stands: &[u32], shifts: &[u32], row: &NetRow) -> NetRow
     requires tail { row.now.tail < length stands.now }
     requires head { row.now.head < length stands.now }
@@ -52,7 +52,7 @@ pub fn mapped_rows(
     Ok(made)
 }
 
-// what becomes of a row
+/// What becomes of a row.
 fn fate_of(period: u32, row: &NetRow, contracted: bool, left: &Network, number: u32) -> Fate
     requires period { 0 < period }
     requires number { Names (length left.now.rows) number }
@@ -95,7 +95,7 @@ pub fn fates_of(
     Ok(fates)
 }
 
-// whether a row with this fate is kept
+/// Whether a row with this fate is kept.
 fn is_kept(fate: Fate) -> bool
     ensures { result ≡ spec.is_kept fate }
 {

@@ -8,7 +8,7 @@ use pesp_network::{NetRefusal, NetRow, Network};
 use pesp_problem::Memory;
 use std::alloc::{AllocError, Global};
 
-// a loop at the row's tail
+/// A loop at the row's tail.
 fn loop_at(row: &NetRow) -> NetRow
     ensures { result ≡ spec.loop_at row.now }
 {
@@ -22,7 +22,7 @@ fn loop_at(row: &NetRow) -> NetRow
     }
 }
 
-// the row where it takes part, else a loop
+/// The row where it takes part, else a loop.
 fn part(takes: bool, row: &NetRow) -> NetRow
     ensures { result ≡ spec.part takes row.now }
 {
@@ -37,7 +37,7 @@ pub fn is_free(period: u32, row: &NetRow) -> bool
     row.span == period - 1 && row.weight == 0
 }
 
-// the row, or a loop where it is free and of weight 0
+/// The row, or a loop where it is free and of weight 0.
 fn row_that_matters(period: u32, row: &NetRow) -> NetRow
     requires { 0 < period }
     ensures { result ≡ spec.row_that_matters period row.now }
@@ -49,7 +49,7 @@ fn row_that_matters(period: u32, row: &NetRow) -> NetRow
     }
 }
 
-// the row, or a loop where it isn't fixed
+/// The row, or a loop where it isn't fixed.
 fn fixed_row(row: &NetRow) -> NetRow
     ensures { result ≡ spec.fixed_row row.now }
 {

@@ -11,7 +11,7 @@ use crate::fate::Fate;
 use pesp_network::NetRow;
 use std::alloc::{AllocError, Global};
 
-// the time that an event's shift leads back to
+/// The time that an event's shift leads back to.
 fn lowered_time(period: u32, times: &[u32], shifts: &[u32], event: u32) -> u32
     requires some { 0 < period }
     requires most { period ≤ 10000 }
@@ -48,7 +48,7 @@ pub fn lowered_times(
     Ok(made)
 }
 
-// the remainder by the period
+/// The remainder by the period.
 fn wrapped(period: u32, z: &i64) -> u32
     requires some { 0 < period }
     requires most { period ≤ 10000 }
@@ -70,7 +70,7 @@ fn is_bridge(fate: Fate) -> bool
     }
 }
 
-// the time of the event that an event becomes, and the shift
+/// The time of the event that an event becomes, and the shift.
 fn shifted(period: u32, stands: &[u32], shifts: &[u32], times: &[u32], event: u32) -> i64
     requires most { period ≤ 10000 }
     requires stand { event < length stands.now }
@@ -85,7 +85,7 @@ fn shifted(period: u32, stands: &[u32], shifts: &[u32], times: &[u32], event: u3
     i64::from(times[stand]) + i64::from(shifts[event as usize])
 }
 
-// the slack of a row at shifted times, 0 for a bridge
+/// The slack of a row at shifted times, 0 for a bridge.
 fn lifted_slack(
     period: u32,
     stands: &[u32],

@@ -11,7 +11,7 @@ use pesp_network::{NetRow, Network};
 use pesp_problem::{Memory, SignedRow};
 use std::alloc::Global;
 
-// the row from which a signed row of what is left comes
+/// The row from which a signed row of what is left comes.
 fn original_row(left: &[NetRow], signed: SignedRow) -> SignedRow
     requires { Names (length left.now) signed.row }
     ensures { result ≡ spec.original_row left.now signed }
@@ -22,7 +22,7 @@ fn original_row(left: &[NetRow], signed: SignedRow) -> SignedRow
     }
 }
 
-// the event at which a signed row begins
+/// The event at which a signed row begins.
 fn start_of(rows: &[NetRow], signed: SignedRow) -> u32
     requires { Names (length rows.now) signed.row }
     ensures { result ≡ start (arcs_of_network rows.now) signed }
@@ -31,7 +31,7 @@ fn start_of(rows: &[NetRow], signed: SignedRow) -> u32
     if signed.plus { row.tail } else { row.head }
 }
 
-// the event at which a signed row ends
+/// The event at which a signed row ends.
 fn finish_of(rows: &[NetRow], signed: SignedRow) -> u32
     requires { Names (length rows.now) signed.row }
     ensures { result ≡ finish (arcs_of_network rows.now) signed }
@@ -40,7 +40,7 @@ fn finish_of(rows: &[NetRow], signed: SignedRow) -> u32
     if signed.plus { row.head } else { row.tail }
 }
 
-// the signed row after that at a place, the first after the last
+/// The signed row after that at a place, the first after the last.
 fn row_after(walk: &[SignedRow], i: usize) -> SignedRow
     requires { i < length walk.now }
     ensures { result ≡ spec.row_after walk.now i }
@@ -52,7 +52,7 @@ fn row_after(walk: &[SignedRow], i: usize) -> SignedRow
     }
 }
 
-// a way without loops between events that are joined, with no row twice
+/// A way without loops between events that are joined, with no row twice.
 fn between(alloc: Global, tree: &Network, from: u32, to: u32) -> Result<Vec<SignedRow>, Memory>
     requires from { from < tree.now.events }
     requires to { to < tree.now.events }

@@ -37,7 +37,7 @@ pub struct Basis {
     is_stale: bool,
 }
 
-// a row without a flow and without costs
+/// A row without a flow and without costs.
 fn idle_row(weight: u64, tail: u32, head: u32) -> Row {
     Row {
         slopes: Slopes {
@@ -124,7 +124,7 @@ impl Basis {
         cost
     }
 
-    // the step along a row outside the tree that costs less than nothing, and what it costs
+    /// The step along a row outside the tree that costs less than nothing, and what it costs.
     fn paying(&self, place: u32) -> Option<(i64, Step)> {
         let row = self.rows.get(place as usize)?;
         if row.is_basic {
@@ -143,14 +143,14 @@ impl Basis {
         ))
     }
 
-    // lists a row where a step along it costs less than nothing
+    /// Lists a row where a step along it costs less than nothing.
     fn note(&mut self, row: u32) {
         if !self.violated.has(row) && self.paying(row).is_some() {
             self.violated.put(row);
         }
     }
 
-    // lists all rows along which a step costs less than nothing
+    /// Lists all rows along which a step costs less than nothing.
     fn note_all(&mut self) {
         for place in 0..self.rows.len() {
             self.note(u32::try_from(place).unwrap_or(NONE));
@@ -158,7 +158,7 @@ impl Basis {
         self.is_stale = false;
     }
 
-    // lists such rows from an event of the part that moved last to one outside it: other rows cost what they did
+    /// Lists such rows from an event of the part that moved last to one outside it: other rows cost what they did.
     fn note_star(&mut self, frame: &Frame, event: u32) {
         for link in frame.star(event) {
             if number(&self.moved, link.other) != Some(self.moves) {
@@ -167,7 +167,7 @@ impl Basis {
         }
     }
 
-    // lists such rows at the events of the part below one, which moved last
+    /// Lists such rows at the events of the part below one, which moved last.
     fn note_below(&mut self, frame: &Frame, top: u32) {
         let mut event = top;
         for _ in 0..self.prices.len() {
@@ -179,8 +179,8 @@ impl Basis {
         }
     }
 
-    // the step that costs least along so many listed rows, less than nothing, from the row that is looked at next and past the
-    // end of the list from its first row; rows along which no step pays are taken off the list
+    /// The step that costs least along so many listed rows, less than nothing, from the row that is looked at next and past
+    /// the end of the list from its first row; rows along which no step pays are taken off the list.
     fn least_of(&mut self, most: u32) -> Option<Step> {
         let mut least = 0;
         let mut found = None;
@@ -202,7 +202,7 @@ impl Basis {
         found
     }
 
-    // the step that costs least along the rows of the first block that has a row along which a step pays
+    /// The step that costs least along the rows of the first block that has a row along which a step pays.
     fn least_of_block(&mut self) -> Option<Step> {
         let blocks = (self.violated.count() / BLOCK).saturating_add(1);
         for _ in 0..blocks {
@@ -228,7 +228,7 @@ impl Basis {
         self.least_of(count)
     }
 
-    // the price that the row upwards from an event gives it
+    /// The price that the row upwards from an event gives it.
     fn price_by_row(&self, event: u32) -> Option<i64> {
         let place = self.tree.place(event)?;
         let row = self.rows.get(place.by as usize)?;
@@ -241,7 +241,7 @@ impl Basis {
         }
     }
 
-    // sets the depths of an event and of the part below it and adds to their prices; how many they are
+    /// Sets the depths of an event and of the part below it and adds to their prices; how many they are.
     fn settle(&mut self, top: u32, change: i64) -> Option<u32> {
         self.moves = self.moves.wrapping_add(1);
         let mut event = top;
@@ -272,7 +272,7 @@ impl Basis {
         Some(())
     }
 
-    // puts right the prices of the part below a root
+    /// Puts right the prices of the part below a root.
     fn reprice_below(&mut self, root: u32) -> Option<()> {
         let mut event = root;
         for _ in 0..self.prices.len() {

@@ -16,7 +16,7 @@ impl Groups {
         Ok(Groups { next })
     }
 
-    // the last event of an event's group; the way there is halved
+    /// The last event of an event's group; the way there is halved.
     fn last_of(&mut self, event: u32) -> Option<u32> {
         let mut current = event;
         for _ in 0..self.next.len() {

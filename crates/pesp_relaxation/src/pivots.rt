@@ -28,7 +28,7 @@ enum Pivot {
 }
 
 impl Basis {
-    // the closed way of a step
+    /// The closed way of a step.
     fn round(&self, step: Step) -> Option<Round> {
         let row = self.rows.get(step.row as usize)?;
         let (from, to) = if step.forward {
@@ -45,7 +45,7 @@ impl Basis {
         })
     }
 
-    // the room down to where a step begins, at the lowest of the rows that have least
+    /// The room down to where a step begins, at the lowest of the rows that have least.
     fn room_down(&self, round: Round) -> Option<Room> {
         let mut room = Room {
             event: NONE,
@@ -67,7 +67,7 @@ impl Basis {
         None
     }
 
-    // the room up from where a step ends, at the highest of the rows that have least
+    /// The room up from where a step ends, at the highest of the rows that have least.
     fn room_up(&self, round: Round) -> Option<Room> {
         let mut room = Room {
             event: NONE,
@@ -89,7 +89,7 @@ impl Basis {
         None
     }
 
-    // more flow on a row, or less
+    /// More flow on a row, or less.
     fn add(&mut self, row: u32, more: bool, units: i64) -> Option<()> {
         let row = self.rows.get_mut(row as usize)?;
         row.flow = if more {
@@ -100,7 +100,7 @@ impl Basis {
         Some(())
     }
 
-    // so many units more up from an event to another, or down from there
+    /// So many units more up from an event to another, or down from there.
     fn send_along(&mut self, from: u32, top: u32, upwards: bool, units: i64) -> Option<()> {
         let mut event = from;
         for _ in 0..self.tree.events() {
@@ -115,7 +115,7 @@ impl Basis {
         None
     }
 
-    // so many units more along a closed way
+    /// So many units more along a closed way.
     fn send(&mut self, round: Round, units: i64) -> Option<()> {
         if units == 0 {
             return Some(());
@@ -125,7 +125,7 @@ impl Basis {
         self.send_along(round.from, round.top, false, units)
     }
 
-    // takes the row up from an event out of the tree, and a step's row in; `inner` is the step's end below the event
+    /// Takes the row up from an event out of the tree, and a step's row in; `inner` is the step's end below the event.
     fn swap(
         &mut self,
         frame: &Frame,
@@ -145,8 +145,8 @@ impl Basis {
         self.settle_below(frame, inner)
     }
 
-    // sends what a step's closed way takes, and takes the step's row into the tree in place of the last one along the way
-    // that takes no more
+    /// Sends what a step's closed way takes, and takes the step's row into the tree in place of the last one along the way
+    /// that takes no more.
     fn pivot(&mut self, frame: &Frame, step: Step) -> Option<Pivot> {
         let round = self.round(step)?;
         let row = self.rows.get_mut(step.row as usize)?;
@@ -175,7 +175,7 @@ impl Basis {
         Some(Pivot::Done)
     }
 
-    // no flow but one unit along a closed way
+    /// No flow but one unit along a closed way.
     fn keep_only(&mut self, round: Round) -> Option<()> {
         for row in self.rows.iter_mut() {
             row.flow = 0;

@@ -7,14 +7,14 @@ use pesp_forest::{Cycles, Frame};
 use pesp_problem::Pair;
 use std::alloc::{AllocError, Global};
 
-// adds to the amount at a place
+/// Adds to the amount at a place.
 fn add_at(amounts: &mut [i64], place: u32, more: i64) -> Option<()> {
     let sum = amount(amounts, place)?.checked_add(more)?;
     set_amount(amounts, place, sum)
 }
 
 impl Basis {
-    // what flow on each row costs by its slack range, as though it were in the forest
+    /// What flow on each row costs by its slack range, as though it were in the forest.
     fn set_slacks(&mut self, frame: &Frame, slacks: &[(u32, u32)]) -> Option<()> {
         for (place, row) in frame.rows().iter().enumerate() {
             let range = slacks.get(place).copied()?;
@@ -24,7 +24,7 @@ impl Basis {
         Some(())
     }
 
-    // what flow on the row of a cycle costs
+    /// What flow on the row of a cycle costs.
     fn set_cycle(
         &mut self,
         frame: &Frame,
@@ -54,7 +54,7 @@ impl Basis {
         Some(())
     }
 
-    // sets the flow on a row
+    /// Sets the flow on a row.
     fn set_flow(&mut self, row: u32, flow: i64) -> Option<()> {
         self.rows.get_mut(row as usize)?.flow = flow;
         Some(())
@@ -67,7 +67,7 @@ impl Basis {
         }
     }
 
-    // the flow of a pair on its cycle's row, which arrives at one event and leaves another
+    /// The flow of a pair on its cycle's row, which arrives at one event and leaves another.
     fn put_pair(&mut self, cycles: &Cycles, arriving: &mut [i64], pair: &Pair) -> Option<()> {
         let place = cycles.row(pair.cycle)?;
         self.set_flow(place, pair.mult)?;
@@ -76,7 +76,7 @@ impl Basis {
         add_at(arriving, row.tail, pair.mult.checked_neg()?)
     }
 
-    // sends what arrives at an event on by the row of the forest upwards
+    /// Sends what arrives at an event on by the row of the forest upwards.
     fn send_on(&mut self, cycles: &Cycles, arriving: &mut [i64], event: u32) -> Option<()> {
         let place = cycles.forest().tree().place(event)?;
         let units = amount(arriving, event)?;
@@ -89,7 +89,7 @@ impl Basis {
         add_at(arriving, place.up, units)
     }
 
-    // the flow that pairs have on the rows of the forest
+    /// The flow that pairs have on the rows of the forest.
     fn fill_forest(&mut self, cycles: &Cycles, arriving: &mut [i64]) -> Option<()> {
         for event in cycles.downwards().iter().rev() {
             if !cycles.forest().tree().is_root(*event) {
@@ -99,7 +99,7 @@ impl Basis {
         Some(())
     }
 
-    // the flow of pairs on each row
+    /// The flow of pairs on each row.
     fn fill(&mut self, cycles: &Cycles, arriving: &mut [i64], pairs: &[Pair]) -> Option<()> {
         self.clear_flows();
         for pair in pairs {

@@ -71,7 +71,7 @@ pub(crate) struct Step {
 }
 
 impl Slopes {
-    // the slope of a part
+    /// The slope of a part.
     pub(crate) fn of(&self, part: Part) -> i64 {
         match part {
             Part::Below => self.below,

@@ -7,13 +7,13 @@ use pesp_forest::{Frame, grow_all};
 use std::alloc::{AllocError, Global};
 
 impl Basis {
-    // the row at a place joins two groups
+    /// The row at a place joins two groups.
     fn joins(&self, groups: &mut Groups, place: u32) -> Option<bool> {
         let row = self.rows.get(place as usize)?;
         groups.join(row.tail, row.head)
     }
 
-    // takes in each row whose flow lies between two bends; None where these rows close a cycle
+    /// Takes in each row whose flow lies between two bends; None where these rows close a cycle.
     fn choose_between(
         &self,
         groups: &mut Groups,
@@ -32,7 +32,7 @@ impl Basis {
         Some(())
     }
 
-    // takes in each row, in order, that closes no cycle
+    /// Takes in each row, in order, that closes no cycle.
     fn choose_rest(&self, groups: &mut Groups, chosen: &mut [bool], order: &[u32]) -> Option<()> {
         for place in order {
             if self.joins(groups, *place)? {
@@ -42,7 +42,7 @@ impl Basis {
         Some(())
     }
 
-    // marks the rows of the tree, and gives the others the bend of their flow
+    /// Marks the rows of the tree, and gives the others the bend of their flow.
     fn mark(&mut self, chosen: &[bool]) {
         for (row, is_chosen) in self.rows.iter_mut().zip(chosen.iter()) {
             row.is_basic = *is_chosen;
@@ -54,7 +54,7 @@ impl Basis {
         }
     }
 
-    // gives the row upwards from an event its part
+    /// Gives the row upwards from an event its part.
     fn set_part(&mut self, event: u32) -> Option<()> {
         let place = self.tree.place(event)?;
         let row = self.rows.get_mut(place.by as usize)?;
@@ -62,7 +62,7 @@ impl Basis {
         Some(())
     }
 
-    // gives each row of the tree its part
+    /// Gives each row of the tree its part.
     fn set_parts(&mut self) -> Option<()> {
         for place in 0..self.tree.events() {
             let event = u32::try_from(place).ok()?;
@@ -73,13 +73,13 @@ impl Basis {
         Some(())
     }
 
-    // a spanning tree of the rows, those between two bends first; None where these close a cycle
+    /// A spanning tree of the rows, those between two bends first; None where these close a cycle.
     fn choose(&self, groups: &mut Groups, chosen: &mut [bool], order: &[u32]) -> Option<()> {
         self.choose_between(groups, chosen, order)?;
         self.choose_rest(groups, chosen, order)
     }
 
-    // makes the tree of the chosen rows, with its prices
+    /// Makes the tree of the chosen rows, with its prices.
     fn plant(&mut self, frame: &Frame, chosen: &[bool]) -> Option<()> {
         self.mark(chosen);
         self.tree.clear();

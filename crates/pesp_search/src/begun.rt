@@ -33,7 +33,7 @@ pub(crate) struct Begun {
     pub(crate) board: Board,
 }
 
-// for each row whether some cycle of the problem passes it, and its root
+/// For each row whether some cycle of the problem passes it, and its root.
 fn rows_and_root(alloc: Global, problem: &Problem) -> Result<(Vec<bool>, Node), Memory>
     ensures passed { IfOk result (λ made. ArePassedRows problem.now made.0.items) }
     ensures root { IfOk result (λ made. made.1 ≡ root_of problem.now) }

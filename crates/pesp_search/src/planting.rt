@@ -8,7 +8,8 @@ use pesp_reduce::{Reduced, reduce};
 use pesp_strategy::search_forest;
 use std::alloc::Global;
 
-// how many exchanges of a row the search for a forest tries: more for more steps, and fewer where many rows make each dear
+/// How many exchanges of a row the search for a forest tries: more for more steps, and fewer where many rows make each
+/// dear.
 fn exchanges_for(rows: usize, cycles: usize, steps: u32) -> u32 {
     let by_steps = 1000 + 10 * (steps as usize).min(100000);
     let by_rows = 40_000_000 / rows.max(1);
@@ -19,7 +20,7 @@ fn exchanges_for(rows: usize, cycles: usize, steps: u32) -> u32 {
         .min(by_rows) as u32
 }
 
-// the rows of a forest, by their numbers from 1, whose cycles promise a strong bound
+/// The rows of a forest, by their numbers from 1, whose cycles promise a strong bound.
 fn forest_for(alloc: Global, reduced: &Reduced, steps: u32) -> Result<Vec<u32>, Memory> {
     let network = reduced.network();
     let rows = network.rows().len();

@@ -16,10 +16,10 @@ use pesp_bound::{Leaf, best_leaf_from};
 use pesp_nodes::Node;
 use std::alloc::Global;
 
-// how many pivots look for the leaf of the root
+/// How many pivots look for the leaf of the root.
 const ROUNDS: u32 = 1_000;
 
-// the work that a leaf is
+/// The work that a leaf is.
 fn work_of(leaf: Leaf) -> Work
     ensures { result ≡ work_of leaf }
 {

@@ -11,14 +11,14 @@ use pesp_nodes::{Node, Problem, leaf_value, single_value};
 use pesp_problem::{Memory, Pair};
 use std::alloc::Global;
 
-// pairs with their value
+/// Pairs with their value.
 #[derive(Debug, Drop)]
 struct Valued {
     pairs: Vec<Pair>,
     value: i128,
 }
 
-// no pairs, with their value
+/// No pairs, with their value.
 fn no_pairs(alloc: Global, problem: &Problem, node: &Node) -> Valued
     requires { IsNodeOf problem.now node.now }
     ensures pairs { result.pairs.items ≡ [] }
@@ -33,7 +33,7 @@ fn no_pairs(alloc: Global, problem: &Problem, node: &Node) -> Valued
     }
 }
 
-// the pair where it is worth more than the best so far
+/// The pair where it is worth more than the best so far.
 fn with_pair(
     alloc: Global,
     problem: &Problem,
@@ -62,7 +62,7 @@ fn with_pair(
     }
 }
 
-// the pairs of a cycle, with either sign, where one is worth more than the best so far
+/// The pairs of a cycle, with either sign, where one is worth more than the best so far.
 fn with_cycle(
     alloc: Global,
     problem: &Problem,

@@ -28,7 +28,7 @@ pub struct Solved {
     pub steps_used: u32,
 }
 
-// searches on a new board; says how many leaves were split
+/// Searches on a new board; says how many leaves were split.
 fn search<O: Observer>(
     alloc: Global,
     board: &mut Board,
@@ -51,7 +51,7 @@ fn search<O: Observer>(
     run_turns(alloc, board, known, strategy, steps, observer)
 }
 
-// what the board certifies after a search
+/// What the board certifies after a search.
 fn certify(
     alloc: Global,
     instance: &Instance,
@@ -71,7 +71,7 @@ fn certify(
     })
 }
 
-// searches on the opening board of an instance, and certifies what is known then
+/// Searches on the opening board of an instance, and certifies what is known then.
 fn solve_on<O: Observer>(
     alloc: Global,
     instance: &Instance,
@@ -94,7 +94,7 @@ fn solve_on<O: Observer>(
     Ok(certify(alloc, instance, board, steps_used)?)
 }
 
-// a strategy for the network of what is left, where there is one
+/// A strategy for the network of what is left, where there is one.
 fn strategy_for(alloc: Global, known: &Known) -> Result<Option<Strategy>, SolveRefusal>
     ensures { IfErr result (λ refusal. refusal ≡ Refused) }
 {
@@ -104,7 +104,7 @@ fn strategy_for(alloc: Global, known: &Known) -> Result<Option<Strategy>, SolveR
     }
 }
 
-// searches on what was begun, and certifies what is known then
+/// Searches on what was begun, and certifies what is known then.
 fn solve_begun<O: Observer>(
     alloc: Global,
     instance: &Instance,

@@ -36,7 +36,7 @@ pub(crate) enum Turn {
     Over,
 }
 
-// lends a leaf, where one is open
+/// Lends a leaf, where one is open.
 pub(crate) fn lend_next(
     alloc: Global,
     board: &mut Board,
@@ -57,7 +57,7 @@ pub(crate) fn lend_next(
     }
 }
 
-// splits the leaf that was just lent, at this node
+/// Splits the leaf that was just lent, at this node.
 fn split_leaf(
     alloc: Global,
     board: &mut Board,
@@ -81,7 +81,7 @@ fn split_leaf(
     hand_in(alloc, board, job, &Work::Tree(lines), used)
 }
 
-// closes the leaf that was just lent by a cycle that has no offset left
+/// Closes the leaf that was just lent by a cycle that has no offset left.
 fn close_leaf(
     alloc: Global,
     board: &mut Board,

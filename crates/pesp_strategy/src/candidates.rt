@@ -20,7 +20,7 @@ pub(crate) struct Candidate {
 }
 
 impl Candidate {
-    // by falling score, then by rising cycle
+    /// By falling score, then by rising cycle.
     fn order(&self, other: &Candidate) -> Ordering {
         other
             .score
@@ -28,7 +28,7 @@ impl Candidate {
             .then(self.cycle.cmp(&other.cycle))
     }
 
-    // how well a cut is thought of where a gain beyond the cap doesn't count
+    /// How well a cut is thought of where a gain beyond the cap doesn't count.
     fn rate(&mut self, low: &Side, high: &Side, cap: u128) {
         let below = low.estimate(self.cycle, self.weight, self.low).min(cap);
         let above = high.estimate(self.cycle, self.weight, self.high).min(cap);
@@ -38,8 +38,8 @@ impl Candidate {
     }
 }
 
-// the cut between the offsets on either side of what the prices give a cycle; None where that is whole, or where not both
-// sides are left
+/// The cut between the offsets on either side of what the prices give a cycle; None where that is whole, or where not both
+/// sides are left.
 fn cut_at(
     frame: &Frame,
     basis: &Basis,

@@ -13,8 +13,8 @@ pub(crate) struct Exchange {
     pub(crate) leaves: u32,
 }
 
-// whether a row costs what it must by the prices of the root: it has no weight, its prices rise by more or less than open
-// offsets allow, or by as much as a slack of 0 gives
+/// Whether a row costs what it must by the prices of the root: it has no weight, its prices rise by more or less than open
+/// offsets allow, or by as much as a slack of 0 gives.
 fn is_paid(frame: &Frame, table: &Table, place: u32) -> Option<bool> {
     let row = frame.row(place)?;
     let rise = table.basis.rise(place)?;
@@ -26,7 +26,7 @@ fn is_paid(frame: &Frame, table: &Table, place: u32) -> Option<bool> {
     Some(slack.checked_rem_euclid(i64::from(frame.period()))? == 0)
 }
 
-// the row upwards from the event so many rows above another
+/// The row upwards from the event so many rows above another.
 fn row_above(forest: &Forest, event: u32, steps: u32) -> Option<u32> {
     let mut current = event;
     for _ in 0..steps {
@@ -35,7 +35,7 @@ fn row_above(forest: &Forest, event: u32, steps: u32) -> Option<u32> {
     Some(forest.tree().place(current)?.by)
 }
 
-// a row of the way along the forest between the ends of another
+/// A row of the way along the forest between the ends of another.
 fn draw_between(random: &mut Random, forest: &Forest, row: &NetRow) -> Option<u32> {
     let top = forest.tree().meeting(row.head, row.tail)?;
     let depth = forest.tree().place(top)?.depth;
@@ -51,7 +51,7 @@ fn draw_between(random: &mut Random, forest: &Forest, row: &NetRow) -> Option<u3
     }
 }
 
-// whether it looks bad to have one row in the forest in place of another: its span is far greater by its weight
+/// Whether it looks bad to have one row in the forest in place of another: its span is far greater by its weight.
 fn looks_bad(enters: &NetRow, leaves: &NetRow) -> bool {
     let out = u128::from(leaves.span).saturating_mul(u128::from(enters.weight).saturating_add(1));
     let into = u128::from(enters.span).saturating_mul(u128::from(leaves.weight).saturating_add(1));

@@ -19,13 +19,13 @@ pub(crate) struct Side {
 }
 
 impl Gains {
-    // one gain more
+    /// One gain more.
     fn add(&mut self, gain: u128) {
         self.sum = self.sum.saturating_add(gain);
         self.count = self.count.saturating_add(1);
     }
 
-    // their mean; None where there are none
+    /// Their mean; None where there are none.
     fn mean(&self) -> Option<u128> {
         self.sum.checked_div(u128::from(self.count))
     }
@@ -40,7 +40,7 @@ impl Side {
         })
     }
 
-    // the gain for each unit that is to be expected at a cycle, numbered from 1, whose row has this weight
+    /// The gain for each unit that is to be expected at a cycle, numbered from 1, whose row has this weight.
     fn unit(&self, cycle: u32, weight: u64) -> u128 {
         let heavy = u128::from(weight).saturating_add(1);
         let place = (cycle as usize).wrapping_sub(1);

@@ -24,7 +24,7 @@ struct Search {
     count: u32,
 }
 
-// numbers of rows from 1, from places from 0
+/// Numbers of rows from 1, from places from 0.
 fn numbered(alloc: Global, places: &[u32]) -> Result<Vec<u32>, AllocError> {
     let mut numbers = Vec::with_capacity(alloc, places.len())?;
     for place in places {
@@ -34,7 +34,7 @@ fn numbered(alloc: Global, places: &[u32]) -> Result<Vec<u32>, AllocError> {
 }
 
 impl Search {
-    // a search of so many exchanges from a table
+    /// A search of so many exchanges from a table.
     fn new(
         alloc: Global,
         frame: &Frame,
@@ -58,7 +58,7 @@ impl Search {
         })
     }
 
-    // keeps an exchange that was made, and its rows where they are the best
+    /// Keeps an exchange that was made, and its rows where they are the best.
     fn keep(
         &mut self,
         alloc: Global,
@@ -77,7 +77,7 @@ impl Search {
         Ok(Some(()))
     }
 
-    // tries an exchange: keeps it, or takes it back; None where the search ends, with the forest as it stands then
+    /// Tries an exchange: keeps it, or takes it back; None where the search ends, with the forest as it stands then.
     fn attempt(
         &mut self,
         alloc: Global,
@@ -98,7 +98,7 @@ impl Search {
         Ok(self.table.restore(frame, enters, leaves))
     }
 
-    // tries so many exchanges, of fifty times as many drawn at most
+    /// Tries so many exchanges, of fifty times as many drawn at most.
     fn run(&mut self, alloc: Global, frame: &Frame, most: u32) -> Result<(), AllocError> {
         for _ in 0..most.saturating_mul(50) {
             if self.count >= most {

@@ -44,7 +44,7 @@ impl Goal {
         }
     }
 
-    // the sum over the rows of their weights and 1, times the logarithm of how many offsets are left
+    /// The sum over the rows of their weights and 1, times the logarithm of how many offsets are left.
     fn open(frame: &Frame, basis: &Basis) -> u64 {
         let mut sum = 0u64;
         for (place, row) in frame.rows().iter().enumerate() {

@@ -11,7 +11,7 @@ pub(crate) struct Heat {
     most: u32,
 }
 
-// the mean of the rows' weights, and 1
+/// The mean of the rows' weights, and 1.
 fn mean_weight(frame: &Frame) -> u64 {
     let mut sum = 0u64;
     for row in frame.rows() {
@@ -37,7 +37,7 @@ impl Heat {
         }
     }
 
-    // the heat after so many exchanges, halved step by step along lines
+    /// The heat after so many exchanges, halved step by step along lines.
     fn after(self, count: u32) -> u64 {
         let steps = u64::from(count).saturating_mul(112);
         let step = steps.checked_div(u64::from(self.most)).unwrap_or(0);

@@ -13,7 +13,7 @@ pub(crate) struct Kept {
     pub(crate) times: Option<Vec<u32>>,
 }
 
-// what no timetable costs: all weights times spans, and 1
+/// What no timetable costs: all weights times spans, and 1.
 fn no_cost(frame: &Frame) -> i128 {
     let mut sum = 1i128;
     for row in frame.rows() {

@@ -46,7 +46,7 @@ pub(crate) struct Looked {
 }
 
 impl Parts {
-    // without flows
+    /// Without flows.
     fn idle(alloc: Global, frame: &Frame) -> Result<Parts, AllocError> {
         Ok(Parts {
             low: Basis::idle(alloc, frame)?,
@@ -67,7 +67,7 @@ impl Bases {
 }
 
 impl Experience {
-    // notes what the parts of a cut have gained
+    /// Notes what the parts of a cut have gained.
     fn note(&mut self, looked: &Looked) {
         let cut = looked.cut;
         if !looked.low.is_endless {
@@ -81,7 +81,7 @@ impl Experience {
     }
 }
 
-// looks at both parts of a cut
+/// Looks at both parts of a cut.
 fn look_at(leaf: &Leaf<'_>, kept: &Kept, bases: &mut Bases, cut: &Candidate) -> Option<Looked> {
     let low = leaf.weigh(kept, &bases.leaf, &mut bases.looked_at.low, cut, false)?;
     let high = leaf.weigh(kept, &bases.leaf, &mut bases.looked_at.high, cut, true)?;
@@ -92,7 +92,7 @@ fn look_at(leaf: &Leaf<'_>, kept: &Kept, bases: &mut Bases, cut: &Candidate) -> 
     })
 }
 
-// offers the prices of the parts that was looked at as times
+/// Offers the prices of the parts that was looked at as times.
 fn offer_parts(
     alloc: Global,
     frame: &Frame,

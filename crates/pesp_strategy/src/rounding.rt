@@ -4,7 +4,7 @@ use pesp_forest::Frame;
 use pesp_relaxation::Basis;
 use std::alloc::{AllocError, Global};
 
-// what the slack of a row costs at the prices; None where it is beyond the row's span
+/// What the slack of a row costs at the prices; None where it is beyond the row's span.
 fn row_cost(frame: &Frame, basis: &Basis, place: u32) -> Option<i128> {
     let row = frame.row(place)?;
     let slack = basis

@@ -11,12 +11,12 @@ pub(crate) struct Spans {
     greatest: Vec<i64>,
 }
 
-// the greatest duration of a row
+/// The greatest duration of a row.
 fn upper(row: &NetRow) -> Option<i64> {
     row.lower.checked_add(i64::from(row.span))
 }
 
-// the least whole number of periods above an amount
+/// The least whole number of periods above an amount.
 fn periods_above(amount: i64, period: i64) -> Option<i64> {
     amount
         .checked_neg()?
@@ -24,12 +24,12 @@ fn periods_above(amount: i64, period: i64) -> Option<i64> {
         .checked_neg()
 }
 
-// the sum at a place
+/// The sum at a place.
 fn sum_at(sums: &[i64], event: u32) -> Option<i64> {
     sums.get(event as usize).copied()
 }
 
-// the difference of the sums at two places
+/// The difference of the sums at two places.
 fn sum_between(sums: &[i64], event: u32, top: u32) -> Option<i64> {
     sum_at(sums, event)?.checked_sub(sum_at(sums, top)?)
 }
@@ -53,7 +53,7 @@ impl Spans {
         Ok(Some(spans))
     }
 
-    // the sums of an event from those of the event above it
+    /// The sums of an event from those of the event above it.
     pub(crate) fn set(&mut self, frame: &Frame, forest: &Forest, event: u32) -> Option<()> {
         let place = forest.tree().place(event)?;
         let row = frame.row(place.by)?;

@@ -65,7 +65,7 @@ pub struct Strategy {
     work: Work,
 }
 
-// by how much offsets are named above those of the network's own cycles
+/// By how much offsets are named above those of the network's own cycles.
 fn shifts_of(
     alloc: Global,
     own: &[(i64, i64)],
@@ -78,7 +78,7 @@ fn shifts_of(
     Ok(shifts)
 }
 
-// the offsets of the network's own cycles
+/// The offsets of the network's own cycles.
 fn own_offsets(
     alloc: Global,
     offsets: &[(i64, i64)],
@@ -94,7 +94,7 @@ fn own_offsets(
     Ok(own)
 }
 
-// what the rows cost by their least slacks
+/// What the rows cost by their least slacks.
 fn base_cost(frame: &Frame, slacks: &[(u32, u32)]) -> i128 {
     let mut sum = 0i128;
     for (row, range) in frame.rows().iter().zip(slacks.iter()) {
@@ -104,7 +104,7 @@ fn base_cost(frame: &Frame, slacks: &[(u32, u32)]) -> i128 {
     sum
 }
 
-// the pairs of a basis
+/// The pairs of a basis.
 fn part_of(
     alloc: Global,
     cycles: &Cycles,
@@ -120,7 +120,7 @@ fn part_of(
     })
 }
 
-// the best basis of a leaf; None where it has no ranges for some row or cycle
+/// The best basis of a leaf; None where it has no ranges for some row or cycle.
 fn settle_leaf(
     alloc: Global,
     setting: &Setting,
@@ -139,7 +139,7 @@ fn settle_leaf(
     Ok(Some(basis.solve(frame, MOST_PIVOTS)))
 }
 
-// the cuts that may be made at a leaf, the best first
+/// The cuts that may be made at a leaf, the best first.
 fn cuts(
     alloc: Global,
     setting: &Setting,
@@ -160,7 +160,7 @@ fn cuts(
     Ok(found)
 }
 
-// the pairs of a part that was looked at
+/// The pairs of a part that was looked at.
 fn weighed(
     alloc: Global,
     setting: &Setting,
@@ -175,7 +175,7 @@ fn weighed(
     part_of(alloc, &setting.cycles, basis, value, is_endless)
 }
 
-// the split of a cut that was looked at
+/// The split of a cut that was looked at.
 fn split_of(
     alloc: Global,
     setting: &Setting,
@@ -194,7 +194,7 @@ fn split_of(
     })
 }
 
-// the best cut of a leaf whose basis is settled
+/// The best cut of a leaf whose basis is settled.
 fn choose<'x>(
     alloc: Global,
     setting: &'x Setting,

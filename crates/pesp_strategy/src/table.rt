@@ -20,7 +20,7 @@ pub(crate) struct Table {
     is_beyond: Vec<bool>,
 }
 
-// the best basis of a root
+/// The best basis of a root.
 fn best_basis(
     alloc: Global,
     frame: &Frame,
@@ -70,7 +70,7 @@ impl Table {
         }))
     }
 
-    // marks an event and what is below it, or takes the marks off
+    /// Marks an event and what is below it, or takes the marks off.
     fn mark(&mut self, top: u32, is_beyond: bool) {
         let mut event = top;
         for _ in 0..self.is_beyond.len() {
@@ -84,12 +84,12 @@ impl Table {
         }
     }
 
-    // whether one end of a row is beyond the row that is exchanged, and the other one not
+    /// Whether one end of a row is beyond the row that is exchanged, and the other one not.
     fn crosses(&self, tail: u32, head: u32) -> bool {
         self.is_beyond.get(tail as usize).copied() != self.is_beyond.get(head as usize).copied()
     }
 
-    // what flow on a row costs at the root; None where its cycle has no offset
+    /// What flow on a row costs at the root; None where its cycle has no offset.
     fn slopes(&self, frame: &Frame, place: u32) -> Option<Slopes> {
         let row = frame.row(place)?;
         let range = (0, row.span);
@@ -103,7 +103,7 @@ impl Table {
         slopes_of(frame.period(), row, range, (low, high))
     }
 
-    // puts right what flow on the rows that cross costs
+    /// Puts right what flow on the rows that cross costs.
     fn set_crossing(&mut self, frame: &Frame) -> Option<()> {
         for (number, row) in frame.rows().iter().enumerate() {
             if self.crosses(row.tail, row.head) {
@@ -115,7 +115,7 @@ impl Table {
         Some(())
     }
 
-    // takes a row in and another one out
+    /// Takes a row in and another one out.
     fn swap(&mut self, frame: &Frame, enters: u32, leaves: u32) -> Option<u32> {
         let inner = self.forest.exchange(frame, enters, leaves)?;
         self.spans.settle(frame, &mut self.forest, inner)?;

@@ -27,7 +27,7 @@ pub(crate) struct Weight {
 }
 
 impl Leaf<'_> {
-    // the offsets of the cut's cycle in a part
+    /// The offsets of the cut's cycle in a part.
     fn part(&self, cut: &Candidate, is_high: bool) -> Option<(i64, i64)> {
         let place = (cut.cycle as usize).checked_sub(1)?;
         let (low, high) = self.offsets.get(place).copied()?;
@@ -38,7 +38,7 @@ impl Leaf<'_> {
         }
     }
 
-    // goes on from the leaf's basis to a best one of a part
+    /// Goes on from the leaf's basis to a best one of a part.
     fn solve_part(
         &self,
         leaf: &Basis,
@@ -84,12 +84,12 @@ impl Leaf<'_> {
 }
 
 impl Weight {
-    // whether the part has no timetable that costs less than the best one
+    /// Whether the part has no timetable that costs less than the best one.
     fn is_closed(self, kept: &Kept) -> bool {
         self.is_endless || kept.closes(self.value)
     }
 
-    // the gain up to a cap, in 1/1048576 of it
+    /// The gain up to a cap, in 1/1048576 of it.
     fn share(self, cap: u128) -> u128 {
         let scaled = self.gain.min(cap).saturating_mul(1_048_576);
         scaled.checked_div(cap).unwrap_or(0)

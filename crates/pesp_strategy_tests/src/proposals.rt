@@ -18,7 +18,7 @@ fn row(lower: i64, weight: u64) -> NetRow {
     }
 }
 
-// the network, with the first row as its forest
+/// The network, with the first row as its forest.
 fn network_of(alloc: Global) -> Result<Network, Fail> {
     let rows = Vec::from_slice(alloc, [row(0, 1), row(3, 5), row(6, 5)].as_slice())?;
     let network = Network::new(alloc, 10, 2, rows)?;

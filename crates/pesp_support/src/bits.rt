@@ -12,7 +12,7 @@ pub fn words_for(period: usize, events: usize) -> usize
     events * period.div_ceil(64)
 }
 
-// where the bit of an event's difference is
+/// Where the bit of an event's difference is.
 fn place_of(period: usize, event: usize, difference: usize) -> usize
     requires period { period ≤ 10000 }
     requires event { event ≤ 100000 }

@@ -8,7 +8,7 @@ ghost use Rattle.pesp_problem.specs.ArcLimits.{HaveEnds};
 use pesp_problem::{Arc, Memory};
 use std::alloc::Global;
 
-// the events, each under its own number
+/// The events, each under its own number.
 fn alone(alloc: Global, events: u32) -> Result<Vec<u32>, Memory>
     ensures long { IfOk result (λ v. length v.items ≡ events) }
     ensures own { IfOk result
@@ -21,7 +21,7 @@ fn alone(alloc: Global, events: u32) -> Result<Vec<u32>, Memory>
     Ok(labels)
 }
 
-// writes one number in the place of another
+/// Writes one number in the place of another.
 fn relabel(labels: &mut [u32], from: u32, to: u32)
     ensures changed { (event : ℕ) → event < length labels.old → slice_index labels.old event ≡ from
         → slice_index labels.new event ≡ to }
@@ -37,7 +37,7 @@ fn relabel(labels: &mut [u32], from: u32, to: u32)
     }
 }
 
-// gives the events at each row the lesser of their two labels, and so do all events that have one of these
+/// Gives the events at each row the lesser of their two labels, and so do all events that have one of these.
 fn join_rows(labels: &mut [u32], arcs: &[Arc])
     requires ends { HaveEnds (length labels.old) arcs.now }
     requires own { (event : ℕ) → event < length labels.old → slice_index labels.old event ≡ event }

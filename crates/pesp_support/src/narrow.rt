@@ -29,7 +29,7 @@ pub fn least(words: &[u64], period: usize, event: usize) -> usize
     period
 }
 
-// the difference from which a shift leads to a place
+/// The difference from which a shift leads to a place.
 fn before(place: usize, shift: usize, period: usize) -> usize
     requires period { period ≤ 10000 }
     requires place { place < period }
@@ -44,7 +44,7 @@ fn before(place: usize, shift: usize, period: usize) -> usize
     }
 }
 
-// how far the next difference of an event is from a place, round the period, where it is so far from the next place
+/// How far the next difference of an event is from a place, round the period, where it is so far from the next place.
 fn gap_at(words: &[u64], period: usize, other: usize, place: usize, gap: usize) -> usize
     requires period { period ≤ 10000 }
     requires other { other ≤ 100000 }
@@ -63,7 +63,8 @@ fn gap_at(words: &[u64], period: usize, other: usize, place: usize, gap: usize) 
     }
 }
 
-// takes the difference from which the first shift leads to a place, where the next one of the other event is past the window
+/// Takes the difference from which the first shift leads to a place, where the next one of the other event is past the
+/// window.
 fn take_lonely(
     words: &mut [u64],
     period: usize,

@@ -21,7 +21,7 @@ pub enum Round {
     Settled,
 }
 
-// gives each event the same mark
+/// Gives each event the same mark.
 fn mark_all(marks: &mut [bool], mark: bool)
     ensures { (event : ℕ) → event < length marks.old → is_marked marks.new event ≡ mark }
 {
@@ -30,7 +30,7 @@ fn mark_all(marks: &mut [bool], mark: bool)
     }
 }
 
-// marks the ends at which the set became smaller
+/// Marks the ends at which the set became smaller.
 fn mark_ends(marks: &mut [bool], arc: &Arc, narrowed: Narrowed)
     requires tail { arc.now.tail < length marks.old }
     requires head { arc.now.head < length marks.old }
@@ -46,7 +46,7 @@ fn mark_ends(marks: &mut [bool], arc: &Arc, narrowed: Narrowed)
     marks[arc.head as usize] = head;
 }
 
-// whether an end of a row is marked
+/// Whether an end of a row is marked.
 fn has_mark(marks: &[bool], arc: &Arc) -> bool
     requires tail { arc.now.tail < length marks.now }
     requires head { arc.now.head < length marks.now }
@@ -55,7 +55,7 @@ fn has_mark(marks: &[bool], arc: &Arc) -> bool
     marks[arc.tail as usize] || marks[arc.head as usize]
 }
 
-// visits a row where an end is marked, and tells whether a set became smaller; None where no family is supported
+/// Visits a row where an end is marked, and tells whether a set became smaller; None where no family is supported.
 fn visit_at(
     words: &mut [u64],
     period: usize,
@@ -90,7 +90,7 @@ fn visit_at(
     Some(narrowed.tail | narrowed.head)
 }
 
-// one visit of each row at which a set became smaller in the round before or in this one
+/// One visit of each row at which a set became smaller in the round before or in this one.
 fn visit_rows(
     words: &mut [u64],
     period: usize,

@@ -37,7 +37,7 @@ impl Model for Support {
     ghost invariant = { λ s. AreReady (record { net = record { period = s.period; arcs = s.arcs.items }; events = s.events }) s.firsts.items (length s.words.items) (length s.before.items) (length s.now.items) };
 }
 
-// puts every place into the set
+/// Puts every place into the set.
 fn fill(words: &mut [u64])
     ensures { (place : ℕ) → place < 64 * length words.old → is_set words.new place ≡ true }
 {
@@ -46,7 +46,7 @@ fn fill(words: &mut [u64])
     }
 }
 
-// takes from an event every difference but 0, where it is the first of its component
+/// Takes from an event every difference but 0, where it is the first of its component.
 fn start_one(words: &mut [u64], period: usize, event: usize, first: usize)
     requires period { period ≤ 10000 }
     requires event { event ≤ 100000 }
@@ -65,7 +65,7 @@ fn start_one(words: &mut [u64], period: usize, event: usize, first: usize)
     }
 }
 
-// the sets at the start: 0 alone for a component's first event, every difference for the others
+/// The sets at the start: 0 alone for a component's first event, every difference for the others.
 fn start(words: &mut [u64], period: usize, firsts: &[u32])
     requires period { (0 < period) × (period ≤ 10000) }
     requires events { length firsts.now ≤ 100000 }

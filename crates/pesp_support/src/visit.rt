@@ -17,7 +17,7 @@ pub struct Narrowed {
     pub head: bool,
 }
 
-// a lower bound as a shift round the period
+/// A lower bound as a shift round the period.
 fn shift_of(lower: &i64, period: usize) -> usize
     requires { (0 < period) × (period ≤ 10000) }
     ensures { pos result ≡ int_rem_euclid lower.now (pos period) }
@@ -25,7 +25,7 @@ fn shift_of(lower: &i64, period: usize) -> usize
     lower.rem_euclid(period as i64) as usize
 }
 
-// whether the remainder of a loop, which is one for all differences, is in the range
+/// Whether the remainder of a loop, which is one for all differences, is in the range.
 fn loop_holds(period: usize, shift: usize, range: (u32, u32)) -> bool
     requires period { 0 < period }
     requires shift { shift ≤ period }
@@ -36,7 +36,7 @@ fn loop_holds(period: usize, shift: usize, range: (u32, u32)) -> bool
     range.0 as usize <= remainder && remainder <= range.1 as usize
 }
 
-// whether an event has a difference left
+/// Whether an event has a difference left.
 fn has_some(words: &[u64], period: usize, event: usize) -> bool
     requires period { (0 < period) × (period ≤ 10000) }
     requires event { event ≤ 100000 }
@@ -49,7 +49,7 @@ fn has_some(words: &[u64], period: usize, event: usize) -> bool
     least(words, period, event) < period
 }
 
-// the shifts from the tail to its partners at the head, and from the head to those at the tail
+/// The shifts from the tail to its partners at the head, and from the head to those at the tail.
 fn windows(period: usize, shift: usize, range: (u32, u32)) -> (Window, Window)
     requires period { (0 < period) × (period ≤ 10000) }
     requires shift { shift ≤ period }
@@ -72,7 +72,7 @@ fn windows(period: usize, shift: usize, range: (u32, u32)) -> (Window, Window)
     (ahead, back)
 }
 
-// takes from the sets at both ends of a row that is no loop each difference without a partner
+/// Takes from the sets at both ends of a row that is no loop each difference without a partner.
 fn revise(
     words: &mut [u64],
     period: usize,

@@ -9,7 +9,7 @@ ghost use Rattle.pesp_support.specs.Words.{IsBelow, IsTurned, HavePartners, IsKe
 
 use crate::narrow::Window;
 
-// the numbers of a word below the period
+/// The numbers of a word below the period.
 fn below(word: u64, period: usize) -> u64
     requires { (0 < period) × (period ≤ 64) }
     ensures { IsBelow period word result }
@@ -17,7 +17,7 @@ fn below(word: u64, period: usize) -> u64
     word & (u64::MAX >> (64 - period))
 }
 
-// the set of an event
+/// The set of an event.
 fn set_of(words: &[u64], period: usize, event: usize) -> u64
     requires period { (0 < period) × (period ≤ 64) }
     requires event { event < length words.now }
@@ -26,7 +26,7 @@ fn set_of(words: &[u64], period: usize, event: usize) -> u64
     below(words[event], period)
 }
 
-// each number of a set, moved down by a shift round the period
+/// Each number of a set, moved down by a shift round the period.
 fn turned(set: u64, period: usize, shift: usize) -> u64
     requires period { (0 < period) × (period ≤ 64) }
     requires shift { shift < period }
@@ -40,7 +40,7 @@ fn turned(set: u64, period: usize, shift: usize) -> u64
     (set >> shift) | round
 }
 
-// the numbers from which a shift of the window leads to one of a set
+/// The numbers from which a shift of the window leads to one of a set.
 fn partners_of(set: u64, period: usize, window: Window) -> u64
     requires period { (0 < period) × (period ≤ 64) }
     requires first { window.first < period }
@@ -62,7 +62,7 @@ fn partners_of(set: u64, period: usize, window: Window) -> u64
     partners
 }
 
-// keeps those numbers of an event's set that are among others, and says whether something was taken away
+/// Keeps those numbers of an event's set that are among others, and says whether something was taken away.
 fn keep(words: &mut [u64], period: usize, event: usize, others: u64) -> bool
     requires period { (0 < period) × (period ≤ 64) }
     requires event { event < length words.old }

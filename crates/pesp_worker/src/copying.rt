@@ -13,7 +13,7 @@ pub(crate) fn copy_pairs(alloc: Global, pairs: &[Pair]) -> Result<Pairs, Memory>
     Ok(Pairs::new(pairs.to_vec(alloc)?))
 }
 
-// the same line once more
+/// The same line once more.
 fn copy_line(alloc: Global, line: &TreeLine) -> Result<TreeLine, Memory> {
     match line {
         TreeLine::Slack { row, k } => Ok(TreeLine::Slack { row: *row, k: *k }),

@@ -19,7 +19,7 @@ pub(crate) fn branches_in(line: &TreeLine) -> u32
     }
 }
 
-// the place behind the tree that begins at a place
+/// The place behind the tree that begins at a place.
 fn end_of(lines: &[TreeLine], start: usize) -> usize {
     let mut open = 1usize;
     for place in start..lines.len() {
@@ -35,7 +35,7 @@ fn end_of(lines: &[TreeLine], start: usize) -> usize {
     lines.len()
 }
 
-// the place at which a side of the branch at a place begins
+/// The place at which a side of the branch at a place begins.
 fn side_of(lines: &[TreeLine], place: usize, side: Side) -> usize {
     let low = place.saturating_add(1);
     match side {
@@ -44,7 +44,7 @@ fn side_of(lines: &[TreeLine], place: usize, side: Side) -> usize {
     }
 }
 
-// the place of the line at the end of a path
+/// The place of the line at the end of a path.
 fn place_of(lines: &[TreeLine], path: &[(Cut, Side)]) -> usize {
     let mut place = 0;
     for step in path {

@@ -19,7 +19,7 @@ pub(crate) struct Held {
     pub(crate) pairs: Pairs,
 }
 
-// lends a leaf, where one is open and a number is left
+/// Lends a leaf, where one is open and a number is left.
 fn lend_next(alloc: Global, board: &mut Board) -> Result<Option<Job>, Memory>
     ensures problem { board.new.problem ≡ board.old.problem }
     ensures lends { IfOk result (λ next. IfSome next

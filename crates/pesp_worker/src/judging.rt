@@ -21,7 +21,7 @@ use pesp_problem::{Instance, Memory};
 use pesp_truth::TreeLine;
 use std::alloc::Global;
 
-// whether lines have at most so many branches
+/// Whether lines have at most so many branches.
 fn has_few_branches(lines: &[TreeLine], most: u32) -> bool
     ensures { IsTrue result → branch_lines (map line_of lines.now) ≤ most }
 {
@@ -36,7 +36,7 @@ fn has_few_branches(lines: &[TreeLine], most: u32) -> bool
     true
 }
 
-// the leaf with which the number is lent, as a tree
+/// The leaf with which the number is lent, as a tree.
 fn own_tree(alloc: Global, board: &Board, number: u64) -> Result<Vec<TreeLine>, Memory>
     requires { IsLentNumber board.now.state number }
     ensures fits { IfOk result (λ tree. Fits board.now.problem board.now.state number tree.items) }
@@ -51,7 +51,7 @@ fn own_tree(alloc: Global, board: &Board, number: u64) -> Result<Vec<TreeLine>, 
     one_line(alloc, TreeLine::Bound(copy))
 }
 
-// the lines of a work that is a tree
+/// The lines of a work that is a tree.
 fn lines_in(work: Work) -> Option<Vec<TreeLine>>
     ensures { (lines : Vec TreeLine) → work ≡ Tree lines → result ≡ Some lines }
 {
@@ -65,7 +65,7 @@ fn lines_in(work: Work) -> Option<Vec<TreeLine>>
     }
 }
 
-// the lines as they are, where the board takes them for the number
+/// The lines as they are, where the board takes them for the number.
 fn taken(
     alloc: Global,
     board: &mut Board,
@@ -85,8 +85,8 @@ fn taken(
     Ok(lines_in(work))
 }
 
-// the lines, where they have at most so many branches and may stand in the place of the leaf with which the number is lent; else
-// that leaf alone
+/// The lines, where they have at most so many branches and may stand in the place of the leaf with which the number is
+/// lent; else that leaf alone.
 fn judged_on(
     alloc: Global,
     board: &mut Board,

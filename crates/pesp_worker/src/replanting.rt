@@ -4,7 +4,7 @@ use pesp_problem::{Instance, Memory, Walk};
 use pesp_reduce::{Reduced, reduce};
 use std::alloc::Global;
 
-// for each row of the instance its number in what is left, 0 where it isn't left
+/// For each row of the instance its number in what is left, 0 where it isn't left.
 fn numbers_left(alloc: Global, instance: &Instance, reduced: &Reduced) -> Result<Vec<u32>, Memory> {
     let mut numbers = vec![in alloc; 0u32; instance.rows().len()]?;
     for (place, row) in reduced.network().rows().iter().enumerate() {
@@ -16,7 +16,7 @@ fn numbers_left(alloc: Global, instance: &Instance, reduced: &Reduced) -> Result
     Ok(numbers)
 }
 
-// the number of the first row of a cycle that is left, 0 where none is
+/// The number of the first row of a cycle that is left, 0 where none is.
 fn first_left(numbers: &[u32], cycle: &Walk) -> u32 {
     for s in cycle.rows() {
         let place = (s.row as usize).wrapping_sub(1);
@@ -28,7 +28,7 @@ fn first_left(numbers: &[u32], cycle: &Walk) -> u32 {
     0
 }
 
-// which of so many rows that are left are the first of a cycle
+/// Which of so many rows that are left are the first of a cycle.
 fn firsts(
     alloc: Global,
     numbers: &[u32],
@@ -45,7 +45,7 @@ fn firsts(
     Ok(firsts)
 }
 
-// the numbers of the rows that are left and aren't the first of a cycle
+/// The numbers of the rows that are left and aren't the first of a cycle.
 fn forest_of(
     alloc: Global,
     instance: &Instance,

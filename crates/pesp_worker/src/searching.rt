@@ -28,7 +28,7 @@ pub(crate) struct Found {
     pub(crate) tree: Vec<TreeLine>,
 }
 
-// what stays as it is through the work on a problem
+/// What stays as it is through the work on a problem.
 fn known_of(alloc: Global, instance: &Instance, problem: &Problem) -> Result<Known, Memory>
     ensures { IfOk result (λ known. ArePassedRows problem.now known.passed.items) }
 {
@@ -37,7 +37,7 @@ fn known_of(alloc: Global, instance: &Instance, problem: &Problem) -> Result<Kno
     Ok(Known { reduced, passed })
 }
 
-// takes turns on the leaves that are open, by at most so many splits
+/// Takes turns on the leaves that are open, by at most so many splits.
 fn split_on(alloc: Global, board: &mut Board, known: &Known, steps: u32) -> Result<(), Memory>
     requires passed { ArePassedRows board.old.problem known.now.passed.items }
     requires few { steps ≤ 100000 }
@@ -47,7 +47,7 @@ fn split_on(alloc: Global, board: &mut Board, known: &Known, steps: u32) -> Resu
     run_turns(alloc, board, known, &mut strategy, steps)
 }
 
-// works on the leaf that is open, by at most so many splits
+/// Works on the leaf that is open, by at most so many splits.
 fn work_on(alloc: Global, instance: &Instance, board: &mut Board, steps: u32) -> Result<(), Memory>
     requires { steps ≤ 100000 }
     ensures { board.new.problem ≡ board.old.problem }
@@ -59,14 +59,14 @@ fn work_on(alloc: Global, instance: &Instance, board: &mut Board, steps: u32) ->
     split_on(alloc, board, &known, steps)
 }
 
-// the same times once more
+/// The same times once more.
 fn copy_times(alloc: Global, times: &[(i64, u32)]) -> Result<Vec<(i64, u32)>, Memory>
     ensures { IfOk result (λ copy. copy.items ≡ times.now) }
 {
     Ok(times.to_vec(alloc)?)
 }
 
-// the times that a certificate shows, where they are wanted
+/// The times that a certificate shows, where they are wanted.
 fn shown(alloc: Global, certificate: &Certificate, wanted: bool) -> Result<Vec<(i64, u32)>, Memory>
     ensures times { (instance : Pesp) → IsValid instance certificate.now
         → IfOk result (λ times. AreTimesFor instance times.items) }
@@ -79,7 +79,7 @@ fn shown(alloc: Global, certificate: &Certificate, wanted: bool) -> Result<Vec<(
     Ok(copy)
 }
 
-// what is found for the leaf that is open, to which this path leads: a tree, and times that are cheaper than those so far
+/// What is found for the leaf that is open, to which this path leads: a tree, and times that are cheaper than those so far.
 fn found_below(
     alloc: Global,
     instance: &Instance,

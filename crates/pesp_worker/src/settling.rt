@@ -10,7 +10,7 @@ use pesp_problem::Memory;
 use pesp_reduce::Reduced;
 use std::alloc::Global;
 
-// the least slack of a row that is left, below the period
+/// The least slack of a row that is left, below the period.
 fn least_slack(reduced: &Reduced, slacks: &[(u32, u32)], row: &NetRow) -> u32
     ensures { result < reduced.now.network.period }
 {
@@ -20,7 +20,7 @@ fn least_slack(reduced: &Reduced, slacks: &[(u32, u32)], row: &NetRow) -> u32
     range.0.min(most)
 }
 
-// the least slacks of the rows that are left
+/// The least slacks of the rows that are left.
 fn least_slacks(alloc: Global, reduced: &Reduced, node: &Node) -> Result<Vec<u32>, Memory>
     ensures count { IfOk result (λ left. length left.items ≡ length reduced.now.network.rows) }
     ensures below { IfOk result (λ left. All (λ y. y < reduced.now.network.period) left.items) }

@@ -12,7 +12,7 @@ use pesp_reduce::Reduced;
 use pesp_strategy::Strategy;
 use std::alloc::Global;
 
-// the fundamental walks of what is left; None where they have too many signed rows
+/// The fundamental walks of what is left; None where they have too many signed rows.
 fn walks_of(alloc: Global, reduced: &Reduced) -> Result<Option<Vec<Walk>>, Memory>
     ensures { IfOk result (λ found. IfSome found
         (λ walks. AreFundamental (arcs_of_network reduced.now.network.rows)
@@ -25,12 +25,12 @@ fn walks_of(alloc: Global, reduced: &Reduced) -> Result<Option<Vec<Walk>>, Memor
     }
 }
 
-// whether two walks pass the same rows with the same signs
+/// Whether two walks pass the same rows with the same signs.
 fn is_same(walk: &Walk, other: &Walk) -> bool {
     walk.rows() == other.rows()
 }
 
-// whether each walk, as it is lifted, is the cycle at its place
+/// Whether each walk, as it is lifted, is the cycle at its place.
 fn lift_to(alloc: Global, reduced: &Reduced, walks: &[Walk], table: &[Walk]) -> Result<bool, Memory>
     requires { All (IsWalk (arcs_of_network reduced.now.network.rows)) walks.now }
 {
@@ -45,7 +45,7 @@ fn lift_to(alloc: Global, reduced: &Reduced, walks: &[Walk], table: &[Walk]) -> 
     Ok(true)
 }
 
-// whether the fundamental walks, as they are lifted, are the table
+/// Whether the fundamental walks, as they are lifted, are the table.
 fn are_lifted(
     alloc: Global,
     reduced: &Reduced,

@@ -17,7 +17,7 @@ use pesp_strategy::Strategy;
 use pesp_truth::TreeLine;
 use std::alloc::Global;
 
-// how many pivots look for the leaf that is worked on
+/// How many pivots look for the leaf that is worked on.
 const ROUNDS: u32 = 1_000;
 
 /// What stays as it is: what is left of the instance, and for each row of the instance whether some cycle passes it.
@@ -36,7 +36,7 @@ enum Turn {
     Over,
 }
 
-// the line of the best leaf that is found
+/// The line of the best leaf that is found.
 fn found_line(alloc: Global, problem: &Problem, held: &Held) -> Result<TreeLine, Memory>
     requires { IsHeld problem.now held.now }
 {
@@ -59,7 +59,7 @@ pub(crate) fn improve_leaf(alloc: Global, board: &mut Board) -> Result<bool, Mem
     hand_in(alloc, board, held.job.number, lines)
 }
 
-// the lines for a leaf: a cut with a leaf on either side, or a cycle that has no offset left; None where there is neither
+/// The lines for a leaf: a cut with a leaf on either side, or a cycle that has no offset left; None where there is neither.
 fn lines_for(
     alloc: Global,
     problem: &Problem,
@@ -82,7 +82,7 @@ fn lines_for(
     Ok(Some(one_line(alloc, TreeLine::Gap(cycle))?))
 }
 
-// lends a leaf, and splits or closes it
+/// Lends a leaf, and splits or closes it.
 fn take_turn(
     alloc: Global,
     board: &mut Board,

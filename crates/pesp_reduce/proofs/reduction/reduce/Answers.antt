@@ -86,7 +86,7 @@ reduction_of : (p original : Pesp) (given lent lent_whole lent_given lent_left :
     → network.period ≡ own → network.events ≡ length c.firsts.items → network.rows ≡ kept_below lent_fates lent_left (length lent_left) → lent_fates ≡ fates → lent_left ≡ left.rows → original ≡ p
     → IsReduction original fates whole c network
 reduction_of p original given lent lent_whole lent_given lent_left whole left network c fates lent_fates stands shifts flags own limits arcs_are origins own_is
-        whole_period whole_events whole_rows lent_is contraction left_rows stands_are shifts_are lent_whole_is fates_count lent_given_is flags_are fates_are net_period net_events net_rows lent_fates_are lent_left_is same =
+    whole_period whole_events whole_rows lent_is contraction left_rows stands_are shifts_are lent_whole_is fates_count lent_given_is flags_are fates_are net_period net_events net_rows lent_fates_are lent_left_is same =
     let T = p.period in
     let whole_is : whole.rows ≡ map (row_that_matters T) given = whole_rows ∙ ap (λ t. map (row_that_matters t) lent) own_is ∙ ap (map (row_that_matters T)) lent_is in
     let left_is : left.rows ≡ map (mapped_row c.stands.items c.shifts.items) whole.rows =

@@ -14,7 +14,6 @@ use Rattle.pesp_truth.specs.Trees.{Tree, Ends, Branch, Leaf, Bound, Shut, Reason
 use Rattle.pesp_truth.specs.Certificates.{Content, IsValid, ShowsAnswer, ShowsTimetable, shown_labels, shown_times, least_of, cost_of, lines_of}
 use Rattle.pesp_truth.proofs.Lines.{whole_tree, one_tree, sound_as_tree}
 use Rattle.pesp_check.specs.declared.refusal.Refusal.{Refusal}
-use Rattle.pesp_check.specs.declared.refusal.Refusal.TheVariants.{OtherPeriod, Times, Violates, WrongCost, OpenWalk, NoSuch, LeafBelow, NotEmpty, NotAGap, BoundInInfeasible, AnswerShape, NotPropagated}
 use Rattle.pesp_check.specs.Faults.{HasShape, IsTimesFault, IsAnswerFault, IsCycleFault, IsReasonFault, IsLeafFault, IsTreeFault, IsLaterFault, IsFirstFault, first_tree_line}
 use Rattle.pesp_check.specs.Lines.{IsLinesFault}
 
@@ -79,20 +78,9 @@ timetable_of p (Bounded least (Some d)) labels times c h e = let same : d ≡ c 
 timetable_of p (Bounded least None) labels times c h e = cc
 
 times_fault : (p : Pesp) (c : ℕ) (labels : List ℤ) (times : List ℕ) (refusal : Refusal) → ShowsTimetable p labels times c → IsTimesFault p c labels times refusal → ⊥
-times_fault p c labels times Times h f = f (h.0, h.1.0.0)
-times_fault p c labels times (Violates row) h f =
-    let v = f.1 in
-    v.violated (h.1.0.1 (row - 1) no_row (omega (arith, v.exists)))
-times_fault p c labels times WrongCost h f = f.2 h.1.1
-times_fault p c labels times OtherPeriod h f = f
-times_fault p c labels times (OpenWalk cycle) h f = f
-times_fault p c labels times (NoSuch line) h f = f
-times_fault p c labels times (LeafBelow line) h f = f
-times_fault p c labels times (NotEmpty line) h f = f
-times_fault p c labels times (NotAGap line) h f = f
-times_fault p c labels times (BoundInInfeasible line) h f = f
-times_fault p c labels times AnswerShape h f = f
-times_fault p c labels times (NotPropagated line) h f = f
+times_fault p c labels times refusal h (inl f) = f.1 (h.0, h.1.0.0)
+times_fault p c labels times refusal h (inr (inl f)) = f.3.violated (h.1.0.1 (f.0 - 1) no_row (omega (arith, f.3.exists)))
+times_fault p c labels times refusal h (inr (inr f)) = f.3 h.1.1
 
 answer_fault : (p : Pesp) (answer : Answer) (labels : List ℤ) (times : List ℕ) (refusal : Refusal) → ShowsAnswer p answer labels times → IsAnswerFault p answer labels times refusal → ⊥
 answer_fault p answer labels times refusal h (inl f) = f.1 (shape_of p answer labels times h)

@@ -31,18 +31,10 @@ AreShown p labels times = (labels ≡ p.events) × AreTimes p times
 
 -- the first thing that is wrong with times that should be a timetable of this cost
 abbrev pub IsTimesFault : Pesp → ℕ → List ℤ → List ℕ → Refusal → Type 0
-IsTimesFault p c labels times Times = AreShown p labels times → ⊥
-IsTimesFault p c labels times (Violates row) = AreShown p labels times × IsFirstViolated p times row
-IsTimesFault p c labels times WrongCost = AreShown p labels times × IsTimetable p times × (cost p.period p.rows times ≡ c → ⊥)
-IsTimesFault p c labels times OtherPeriod = ⊥
-IsTimesFault p c labels times (OpenWalk cycle) = ⊥
-IsTimesFault p c labels times (NoSuch line) = ⊥
-IsTimesFault p c labels times (LeafBelow line) = ⊥
-IsTimesFault p c labels times (NotEmpty line) = ⊥
-IsTimesFault p c labels times (NotAGap line) = ⊥
-IsTimesFault p c labels times (BoundInInfeasible line) = ⊥
-IsTimesFault p c labels times AnswerShape = ⊥
-IsTimesFault p c labels times (NotPropagated line) = ⊥
+IsTimesFault p c labels times refusal =
+    ((refusal ≡ Times) × (AreShown p labels times → ⊥))
+    ⊎ ((row : ℕ) × (refusal ≡ Violates row) × AreShown p labels times × IsFirstViolated p times row)
+    ⊎ ((refusal ≡ WrongCost) × AreShown p labels times × IsTimetable p times × (cost p.period p.rows times ≡ c → ⊥))
 
 -- the first thing that is wrong with an answer and what is shown with it
 abbrev pub IsAnswerFault : Pesp → Answer → List ℤ → List ℕ → Refusal → Type 0

@@ -1,6 +1,6 @@
 //! The check of a certificate as a whole.
 
-ghost use Rattle.std.specs.Prelude.{◌≡◌, ◌↔◌, ℕ, ◌+◌, List, [], ◌∷◌, length, map, All, Ok, IfOk, MatchOption};
+ghost use Rattle.std.specs.Prelude.{◌≡◌, ◌↔◌, ◌+◌, [], ◌∷◌, length, Ok, IfOk, MatchOption};
 ghost use Rattle.pesp_problem.specs.Arcs.{net_of};
 ghost use Rattle.pesp_problem.specs.Limits.{KeepsLimits};
 ghost use Rattle.pesp_problem.specs.Nodes as nodes;
@@ -9,9 +9,10 @@ ghost use Rattle.pesp_truth.specs.Truth.{IsTrueAnswer};
 ghost use Rattle.pesp_truth.specs.Certificates.{IsValid, lines_of, shown_times};
 ghost use Rattle.pesp_truth.specs.Certificates as spec;
 ghost use Rattle.pesp_walks.specs.Nets.{AreZeros, AreNets};
-ghost use Rattle.pesp_check.specs.Faults.{IsVerdict, IsFirstFault, line_before_cycles, first_tree_line};
+ghost use Rattle.pesp_check.specs.Faults.{IsVerdict, IsFirstFault, first_tree_line};
 ghost use Rattle.pesp_check.specs.Lines.{IsLinesFault};
 
+use crate::checker::Checker;
 use crate::judge_answer::judge_answer;
 use crate::judge_tree::judge_tree;
 use crate::refusal::{Refusal, Verdict};
@@ -63,9 +64,8 @@ fn tree_fault(
         (first_tree_line certificate.now) refusal)) }
 {
     let first = 4 + certificate.times().len() as u64 + certificate.cycles().len() as u64;
-    let least = least_of(certificate.answer());
-    let tree = certificate.tree();
-    judge_tree(alloc, instance, table, tree, least, first, working)
+    let checker = Checker::new(instance, table, least_of(certificate.answer()));
+    judge_tree(alloc, &checker, certificate.tree(), first, working)
 }
 
 /// The first fault of a certificate.

@@ -5,17 +5,17 @@ ghost use Rattle.pesp_problem.specs.declared.row.SignedRow.{SignedRow};
 ghost use Rattle.pesp_problem.specs.Arcs.{net_of};
 ghost use Rattle.pesp_problem.specs.Walks.{Names};
 ghost use Rattle.pesp_truth.specs.Trees as trees;
-ghost use Rattle.pesp_walks.specs.Nets.{AreZeros, AreSmallCounts, AreNets};
+ghost use Rattle.pesp_walks.specs.Nets.{AreZeros, AreNets};
 ghost use Rattle.pesp_check.specs.Ranges.{node_of, AreRanges};
 ghost use Rattle.pesp_check.specs.Lines.{IsLeafVerdict, IsReasonVerdict, ArePairLimits};
 ghost use Rattle.pesp_check.specs.LeafLines.{leaf_said, KeepsLeafLimits};
 
+use crate::checker::Checker;
 use crate::elements::Elements;
 use crate::leaf::{leaf_value, offsets_left};
 use crate::ranges::Ranges;
 use crate::refusal::Refusal;
-use pesp_problem::{Instance, Pair};
-use pesp_walks::Nets;
+use pesp_problem::Pair;
 
 /// A leaf as a line says it: pairs for a bound, pairs that show that no timetable lies there, or a cycle with no offset left.
 #[derive(Clone, Copy)]
@@ -67,36 +67,30 @@ fn is_positive(value: Option<i128>) -> bool
 
 /// What is wrong with a leaf that should show that each timetable in the node costs at least `least`.
 fn judge_bound<P: Elements<Pair>>(
-    instance: &Instance,
-    table: &[Nets],
+    checker: &Checker<'_>,
     ranges: &Ranges,
     pairs: P,
-    least: Option<u64>,
     line: u64,
     working: &mut [i128],
 ) -> Option<Refusal>
-    requires ranges { AreRanges instance.now ranges.now }
-    requires table { All (AreSmallCounts (length instance.now.rows)) table.now }
-    requires cycles { length ranges.now.offsets.items ≡ length table.now }
+    requires ranges { AreRanges checker.now.instance.now ranges.now }
+    requires cycles { length ranges.now.offsets.items ≡ length checker.now.table.now }
     requires pairs { ArePairLimits (P.elements pairs) }
-    requires long { length working.old ≡ length instance.now.rows }
+    requires long { length working.old ≡ length checker.now.instance.now.rows }
     requires zeros { AreZeros working.old }
     ensures verdict { (walks : List (List SignedRow))
-        → AreNets (length instance.now.rows) walks table.now
-        → IsLeafVerdict (net_of instance.now) walks least (trees.Bound (P.elements pairs))
-        (node_of ranges.now) line result }
+        → AreNets (length checker.now.instance.now.rows) walks checker.now.table.now
+        → IsLeafVerdict (net_of checker.now.instance.now) walks checker.now.least
+        (trees.Bound (P.elements pairs)) (node_of ranges.now) line result }
     ensures zeros { AreZeros working.new }
 {
-    if !pairs_exist(table.len(), pairs) {
+    if !pairs_exist(checker.table.len(), pairs) {
         return Some(Refusal::NoSuch { line });
     }
-    let Some(least) = least else {
+    let Some(least) = checker.least else {
         return Some(Refusal::BoundInInfeasible { line });
     };
-    if !is_at_least(
-        leaf_value(instance, table, ranges, pairs, true, working),
-        least,
-    ) {
+    if !is_at_least(leaf_value(checker, ranges, pairs, true, working), least) {
         return Some(Refusal::LeafBelow { line });
     }
     None
@@ -104,56 +98,48 @@ fn judge_bound<P: Elements<Pair>>(
 
 /// What is wrong with a leaf that should show that no timetable lies in the node.
 fn judge_nothing<P: Elements<Pair>>(
-    instance: &Instance,
-    table: &[Nets],
+    checker: &Checker<'_>,
     ranges: &Ranges,
     pairs: P,
     line: u64,
     working: &mut [i128],
 ) -> Option<Refusal>
-    requires ranges { AreRanges instance.now ranges.now }
-    requires table { All (AreSmallCounts (length instance.now.rows)) table.now }
-    requires cycles { length ranges.now.offsets.items ≡ length table.now }
+    requires ranges { AreRanges checker.now.instance.now ranges.now }
+    requires cycles { length ranges.now.offsets.items ≡ length checker.now.table.now }
     requires pairs { ArePairLimits (P.elements pairs) }
-    requires long { length working.old ≡ length instance.now.rows }
+    requires long { length working.old ≡ length checker.now.instance.now.rows }
     requires zeros { AreZeros working.old }
     ensures verdict { (walks : List (List SignedRow))
-        → AreNets (length instance.now.rows) walks table.now
-        → IsReasonVerdict (net_of instance.now) walks (trees.ByPairs (P.elements pairs))
+        → AreNets (length checker.now.instance.now.rows) walks checker.now.table.now
+        → IsReasonVerdict (net_of checker.now.instance.now) walks (trees.ByPairs (P.elements pairs))
         (node_of ranges.now) line result }
     ensures zeros { AreZeros working.new }
 {
-    if !pairs_exist(table.len(), pairs) {
+    if !pairs_exist(checker.table.len(), pairs) {
         return Some(Refusal::NoSuch { line });
     }
-    if !is_positive(leaf_value(instance, table, ranges, pairs, false, working)) {
+    if !is_positive(leaf_value(checker, ranges, pairs, false, working)) {
         return Some(Refusal::NotEmpty { line });
     }
     None
 }
 
 /// What is wrong with a leaf that should name a cycle with no offset left.
-fn judge_gap(
-    instance: &Instance,
-    table: &[Nets],
-    ranges: &Ranges,
-    cycle: u32,
-    line: u64,
-) -> Option<Refusal>
-    requires ranges { AreRanges instance.now ranges.now }
-    requires table { All (AreSmallCounts (length instance.now.rows)) table.now }
-    requires cycles { length ranges.now.offsets.items ≡ length table.now }
-    ensures { (walks : List (List SignedRow)) → AreNets (length instance.now.rows) walks table.now
-        → IsReasonVerdict (net_of instance.now) walks (trees.ByGap cycle) (node_of ranges.now) line
-        result }
+fn judge_gap(checker: &Checker<'_>, ranges: &Ranges, cycle: u32, line: u64) -> Option<Refusal>
+    requires ranges { AreRanges checker.now.instance.now ranges.now }
+    requires cycles { length ranges.now.offsets.items ≡ length checker.now.table.now }
+    ensures { (walks : List (List SignedRow))
+        → AreNets (length checker.now.instance.now.rows) walks checker.now.table.now
+        → IsReasonVerdict (net_of checker.now.instance.now) walks (trees.ByGap cycle)
+        (node_of ranges.now) line result }
 {
-    if !names(table.len(), cycle) {
+    if !names(checker.table.len(), cycle) {
         return Some(Refusal::NoSuch { line });
     }
     let place = cycle as usize - 1;
     let left = offsets_left(
-        instance,
-        table[place].counts(),
+        checker.instance,
+        checker.table[place].counts(),
         &ranges.slacks,
         ranges.offsets[place],
     );
@@ -165,29 +151,26 @@ fn judge_gap(
 
 /// What is wrong with a leaf at a node.
 pub fn judge_leaf<P: Elements<Pair>>(
-    instance: &Instance,
-    table: &[Nets],
+    checker: &Checker<'_>,
     ranges: &Ranges,
     leaf: LeafLine<P>,
-    least: Option<u64>,
     line: u64,
     working: &mut [i128],
 ) -> Option<Refusal>
-    requires ranges { AreRanges instance.now ranges.now }
-    requires table { All (AreSmallCounts (length instance.now.rows)) table.now }
-    requires cycles { length ranges.now.offsets.items ≡ length table.now }
+    requires ranges { AreRanges checker.now.instance.now ranges.now }
+    requires cycles { length ranges.now.offsets.items ≡ length checker.now.table.now }
     requires limits { KeepsLeafLimits P.elements leaf }
-    requires long { length working.old ≡ length instance.now.rows }
+    requires long { length working.old ≡ length checker.now.instance.now.rows }
     requires zeros { AreZeros working.old }
     ensures verdict { (walks : List (List SignedRow))
-        → AreNets (length instance.now.rows) walks table.now
-        → IsLeafVerdict (net_of instance.now) walks least (leaf_said P.elements leaf)
-        (node_of ranges.now) line result }
+        → AreNets (length checker.now.instance.now.rows) walks checker.now.table.now
+        → IsLeafVerdict (net_of checker.now.instance.now) walks checker.now.least
+        (leaf_said P.elements leaf) (node_of ranges.now) line result }
     ensures zeros { AreZeros working.new }
 {
     match leaf {
-        LeafLine::Bound(pairs) => judge_bound(instance, table, ranges, pairs, least, line, working),
-        LeafLine::Nothing(pairs) => { judge_nothing(instance, table, ranges, pairs, line, working) }
-        LeafLine::Gap(cycle) => judge_gap(instance, table, ranges, cycle, line),
+        LeafLine::Bound(pairs) => judge_bound(checker, ranges, pairs, line, working),
+        LeafLine::Nothing(pairs) => judge_nothing(checker, ranges, pairs, line, working),
+        LeafLine::Gap(cycle) => judge_gap(checker, ranges, cycle, line),
     }
 }

@@ -1,23 +1,23 @@
 //! Whether the lines of a certificate are a tree that is sound at the root.
 
-ghost use Rattle.std.specs.Prelude.{◌≡◌, ℕ, ◌+◌, ◌≤◌, ◌<◌, ◌^◌, List, [], ◌∷◌, length, true, map, All, IfOk, MatchOption};
+ghost use Rattle.std.specs.Prelude.{◌≡◌, ◌+◌, ◌≤◌, ◌<◌, ◌^◌, List, [], ◌∷◌, length, true, map, All, IfOk, MatchOption};
 ghost use Rattle.pesp_problem.specs.declared.row.SignedRow.{SignedRow};
 ghost use Rattle.pesp_problem.specs.Arcs.{net_of};
 ghost use Rattle.pesp_problem.specs.Nodes as nodes;
 ghost use Rattle.pesp_truth.specs.Trees.{AreSound, are_trees};
 ghost use Rattle.pesp_truth.specs.Certificates.{line_of};
-ghost use Rattle.pesp_walks.specs.Nets.{AreZeros, AreSmallCounts, AreNets};
+ghost use Rattle.pesp_walks.specs.Nets.{AreZeros, AreNets};
 ghost use Rattle.pesp_check.specs.Lines.{IsLinesFault, KeepsLineLimits};
 ghost use Rattle.pesp_check.specs.SaidLines.{line_said, KeepsSaidLimits};
 
+use crate::checker::Checker;
 use crate::judge_leaf::LeafLine;
 use crate::node_walk::NodeWalk;
 use crate::refusal::Refusal;
 use crate::table::root;
 use crate::tree::{SaidLine, take_line};
-use pesp_problem::{Cut, Instance, Pair};
+use pesp_problem::{Cut, Pair};
 use pesp_truth::TreeLine;
-use pesp_walks::Nets;
 use std::alloc::{AllocError, Global};
 
 /// A line of the tree as the list of its lines says it.
@@ -41,40 +41,31 @@ fn said_by(tree_line: &TreeLine) -> SaidLine<&[Pair]>
 /// The first fault of a tree at the root; its lines begin with the line `first`.
 pub fn judge_tree(
     alloc: Global,
-    instance: &Instance,
-    table: &[Nets],
+    checker: &Checker<'_>,
     lines: &[TreeLine],
-    least: Option<u64>,
     first: u64,
     working: &mut [i128],
 ) -> Result<Option<Refusal>, AllocError>
-    requires table { All (AreSmallCounts (length instance.now.rows)) table.now }
     requires lines { All KeepsLineLimits lines.now }
     requires whole { are_trees 1 (map line_of lines.now) ≡ true }
     requires first { first < 2 ^ 62 }
     requires few { length lines.now ≤ 1000000 }
-    requires long { length working.old ≡ length instance.now.rows }
+    requires long { length working.old ≡ length checker.now.instance.now.rows }
     requires zeros { AreZeros working.old }
     ensures { IfOk result (λ found. (walks : List (List SignedRow))
-        → AreNets (length instance.now.rows) walks table.now → MatchOption found
-        (AreSound (net_of instance.now) walks least (map line_of lines.now)
-        (nodes.root (net_of instance.now) walks ∷ []))
-        (λ refusal. IsLinesFault (net_of instance.now) walks least (map line_of lines.now)
-        (nodes.root (net_of instance.now) walks ∷ []) first refusal)) }
+        → AreNets (length checker.now.instance.now.rows) walks checker.now.table.now
+        → MatchOption found
+        (AreSound (net_of checker.now.instance.now) walks checker.now.least
+        (map line_of lines.now) (nodes.root (net_of checker.now.instance.now) walks ∷ []))
+        (λ refusal. IsLinesFault (net_of checker.now.instance.now) walks checker.now.least
+        (map line_of lines.now) (nodes.root (net_of checker.now.instance.now) walks ∷ []) first
+        refusal)) }
 {
-    let mut walk = NodeWalk::new(alloc, instance, root(alloc, instance, table)?);
+    let ranges = root(alloc, checker.instance, checker.table)?;
+    let mut walk = NodeWalk::new(alloc, checker.instance, ranges);
     for (place, tree_line) in lines.iter().enumerate() {
         let line = first + place as u64;
-        let found = take_line(
-            alloc,
-            instance,
-            table,
-            &mut walk,
-            said_by(tree_line),
-            least,
-            line,
-            working,
-        )?;
+        let found = take_line(alloc, checker, &mut walk, said_by(tree_line), line, working)?;
         if found.is_some() {
             return Ok(found);
         }

@@ -1,6 +1,6 @@
 //! What a leaf is worth at a node.
 
-ghost use Rattle.std.specs.Prelude.{◌≡◌, ℕ, ◌*◌, ◌^◌, ◌<◌, ◌≤◌, List, length, pos, ◌*ℤ◌, unsigned_abs, All, IfSome, option_map};
+ghost use Rattle.std.specs.Prelude.{◌≡◌, ◌*◌, ◌^◌, ◌<◌, ◌≤◌, List, length, pos, ◌*ℤ◌, unsigned_abs, IfSome, option_map};
 ghost use Rattle.pesp_problem.specs.declared.row.SignedRow.{SignedRow};
 ghost use Rattle.pesp_problem.specs.Limits.{KeepsLimits};
 ghost use Rattle.pesp_problem.specs.Sums as sums;
@@ -12,13 +12,14 @@ ghost use Rattle.pesp_check.specs.Flows.{ArePairs};
 ghost use Rattle.pesp_walks.specs.Ranges.{left_of};
 ghost use Rattle.pesp_check.specs.Ranges.{node_of, AreRanges, idle_part};
 
+use crate::checker::Checker;
 use crate::elements::Elements;
 use crate::flows::{add_flows, take_flows};
 use crate::offsets::{duration_sums, left_between, scaled};
 use crate::ranges::Ranges;
 use pesp_problem::exact::{plus, times};
 use pesp_problem::{Instance, Pair};
-use pesp_walks::{NetCount, Nets};
+use pesp_walks::NetCount;
 
 /// The least and the greatest offset that an offset range and slack ranges leave to a cycle.
 pub fn offsets_left(
@@ -68,31 +69,26 @@ fn scaled_offset(period: u32, mult: i64, left: (i64, i64)) -> i128
 
 /// The period times the sum over the pairs of the multiplier times the offset that it takes; none where a cycle has no
 /// offset left.
-fn offset_sum<P: Elements<Pair>>(
-    instance: &Instance,
-    table: &[Nets],
-    ranges: &Ranges,
-    pairs: P,
-) -> Option<i128>
-    requires ranges { AreRanges instance.now ranges.now }
-    requires table { All (AreSmallCounts (length instance.now.rows)) table.now }
-    requires cycles { length ranges.now.offsets.items ≡ length table.now }
-    requires pairs { ArePairs (length table.now) (P.elements pairs) }
+fn offset_sum<P: Elements<Pair>>(checker: &Checker<'_>, ranges: &Ranges, pairs: P) -> Option<i128>
+    requires ranges { AreRanges checker.now.instance.now ranges.now }
+    requires cycles { length ranges.now.offsets.items ≡ length checker.now.table.now }
+    requires pairs { ArePairs (length checker.now.table.now) (P.elements pairs) }
     ensures value { (walks : List (List SignedRow))
-        → AreNets (length instance.now.rows) walks table.now
-        → result ≡ option_map (λ z. pos instance.now.period *ℤ z)
-        (nodes.offset_part (net_of instance.now) walks (node_of ranges.now) (P.elements pairs)) }
+        → AreNets (length checker.now.instance.now.rows) walks checker.now.table.now
+        → result ≡ option_map (λ z. pos checker.now.instance.now.period *ℤ z)
+        (nodes.offset_part (net_of checker.now.instance.now) walks (node_of ranges.now)
+        (P.elements pairs)) }
     ensures size { IfSome result (λ z. unsigned_abs z ≤ 100000 * (1000000000000 * 10100000000000)) }
-    ensures limits { KeepsLimits instance.now }
+    ensures limits { KeepsLimits checker.now.instance.now }
 {
-    let period = instance.period();
+    let period = checker.instance.period();
     let mut left = pairs;
     let mut sum = 0;
     while let Some(pair) = left.take_next() {
         let at = pair.cycle as usize - 1;
         let range = offsets_left(
-            instance,
-            table[at].counts(),
+            checker.instance,
+            checker.table[at].counts(),
             &ranges.slacks,
             ranges.offsets[at],
         )?;
@@ -114,26 +110,29 @@ fn idle_part(instance: &Instance, ranges: &Ranges, weighted: bool) -> i128
 /// The value of a leaf with these pairs, by weak duality for circulations; none where a cycle of a pair has no offset left.
 /// The working numbers, one a row, are 0 before and after.
 pub fn leaf_value<P: Elements<Pair>>(
-    instance: &Instance,
-    table: &[Nets],
+    checker: &Checker<'_>,
     ranges: &Ranges,
     pairs: P,
     weighted: bool,
     working: &mut [i128],
 ) -> Option<i128>
-    requires ranges { AreRanges instance.now ranges.now }
-    requires table { All (AreSmallCounts (length instance.now.rows)) table.now }
-    requires cycles { length ranges.now.offsets.items ≡ length table.now }
-    requires pairs { ArePairs (length table.now) (P.elements pairs) }
-    requires long { length working.old ≡ length instance.now.rows }
+    requires ranges { AreRanges checker.now.instance.now ranges.now }
+    requires cycles { length ranges.now.offsets.items ≡ length checker.now.table.now }
+    requires pairs { ArePairs (length checker.now.table.now) (P.elements pairs) }
+    requires long { length working.old ≡ length checker.now.instance.now.rows }
     requires zeros { AreZeros working.old }
     ensures value { (walks : List (List SignedRow))
-        → AreNets (length instance.now.rows) walks table.now
-        → result ≡ nodes.leaf_value (net_of instance.now) walks (node_of ranges.now)
+        → AreNets (length checker.now.instance.now.rows) walks checker.now.table.now
+        → result ≡ nodes.leaf_value (net_of checker.now.instance.now) walks (node_of ranges.now)
         (P.elements pairs) weighted }
     ensures zeros { AreZeros working.new }
 {
-    let offsets = offset_sum(instance, table, ranges, pairs)?;
+    let offsets = offset_sum(checker, ranges, pairs)?;
+    let Checker {
+        instance,
+        table,
+        ..
+    } = *checker;
     add_flows(working, table, pairs);
     let moved = take_flows(instance, &ranges.slacks, weighted, table, pairs, working);
     let idle = idle_part(instance, ranges, weighted);

@@ -2,6 +2,7 @@
 #![tactic(auto)]
 
 mod branch;
+mod checker;
 mod checking;
 mod elements;
 mod flows;

@@ -1,5 +1,6 @@
 //! The parts of the check, one answer, one cycle and one line at a time, for a check of a text while it is read.
 
+pub use crate::checker::Checker;
 pub use crate::checking::{least_of, zeros};
 pub use crate::elements::Elements;
 pub use crate::judge_answer::judge_answer;

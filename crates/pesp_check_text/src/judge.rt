@@ -19,7 +19,8 @@ ghost use Rattle.pesp_check_text.specs.Judging.{Kept, JudgedAt, behind, IsFrontF
 use crate::elements::{PairsLeft, RowsLeft};
 use crate::stage::Stage;
 use pesp_check::parts::{
-    LeafLine, Nets, NodeWalk, SaidLine, judge_answer, judge_cycle, least_of, root, take_line,
+    Checker, LeafLine, Nets, NodeWalk, SaidLine, judge_answer, judge_cycle, least_of, root,
+    take_line,
 };
 use pesp_check::{Refusal, Verdict};
 use pesp_items::{Item, SignedRows};
@@ -229,23 +230,14 @@ impl<'a> Judge<'a> {
     {
         let least = least_of(self.answer);
         self.line += 1;
-        let Some(mut walk) = self.walk.take() else {
+        let Some(walk) = &mut self.walk else {
             return Ok(());
         };
         if walk.is_done() {
             return Ok(());
         }
-        let found = take_line(
-            alloc,
-            self.instance,
-            &self.table,
-            &mut walk,
-            said,
-            least,
-            self.line,
-            working,
-        )?;
-        self.walk = Some(walk);
+        let checker = Checker::new(self.instance, &self.table, least);
+        let found = take_line(alloc, &checker, walk, said, self.line, working)?;
         if let Some(refusal) = found {
             self.stage = Stage::Refused(refusal);
             return Ok(());

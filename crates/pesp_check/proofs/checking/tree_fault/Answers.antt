@@ -8,4 +8,4 @@ use Rattle.pesp_check.proofs.checking.tree_fault.Goals as goal
 pub judge_tree-requires-clause-lines : goal.judge_tree-requires-clause-lines
 judge_tree-requires-clause-lines c =
     let P : List TreeLine → Type 0 = All KeepsLineLimits in
-    subst P (sym c.tree-tree.ensures.value) (line_limits c.args.certificate.now.tree c.tree-tree.ensures.limits.each_line)
+    subst P (sym c.tree.ensures.value) (line_limits c.args.certificate.now.tree c.tree.ensures.limits.each_line)

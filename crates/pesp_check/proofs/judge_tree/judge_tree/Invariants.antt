@@ -10,9 +10,9 @@ use Rattle.pesp_check.proofs.judge_tree.judge_tree.Given as goal
 
 abbrev pub invariant-loop-place : goal.invariant-loop-place
 invariant-loop-place l = record {
-  problem : l.walk.problem ≡ l.instance;
-  cycles : l.walk.cycles ≡ length l.table;
+  problem : l.walk.problem ≡ l.checker.instance.now;
+  cycles : l.walk.cycles ≡ length l.checker.table.now;
   zeros : AreZeros l.working;
   whole : are_trees (length l.walk.nodes) (map line_of (drop l.place l.lines)) ≡ true;
-  judged : (walks : List (List SignedRow)) → AreNets (length l.instance.rows) walks l.table → AreJudged (net_of l.instance) walks l.fn.least l.lines (root (net_of l.instance) walks) l.fn.first l.walk.nodes l.place;
+  judged : (walks : List (List SignedRow)) → AreNets (length l.checker.instance.now.rows) walks l.checker.table.now → AreJudged (net_of l.checker.instance.now) walks l.checker.least l.lines (root (net_of l.checker.instance.now) walks) l.fn.first l.walk.nodes l.place;
 }

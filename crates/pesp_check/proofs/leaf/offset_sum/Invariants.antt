@@ -11,9 +11,9 @@ use Rattle.pesp_check.proofs.leaf.offset_sum.Given as goal
 
 abbrev pub invariant-loop-pair : goal.invariant-loop-pair
 invariant-loop-pair g l = record {
-  exist : ArePairs (length l.table) (g.P.Elements.elements l.left);
-  whole : (walks : List (List SignedRow)) → AreNets (length l.instance.rows) walks l.table
-      → IsWhole l.instance.period l.sum (offset_part (net_of l.instance) walks (node_of l.ranges) (g.P.Elements.elements l.left)) (offset_part (net_of l.instance) walks (node_of l.ranges) (g.P.Elements.elements l.fn.pairs));
+  exist : ArePairs (length l.checker.table.now) (g.P.Elements.elements l.left);
+  whole : (walks : List (List SignedRow)) → AreNets (length l.checker.instance.now.rows) walks l.checker.table.now
+      → IsWhole l.checker.instance.now.period l.sum (offset_part (net_of l.checker.instance.now) walks (node_of l.ranges) (g.P.Elements.elements l.left)) (offset_part (net_of l.checker.instance.now) walks (node_of l.ranges) (g.P.Elements.elements l.fn.pairs));
   size : unsigned_abs l.sum + length (g.P.Elements.elements l.left) * (1000000000000 * 10100000000000) ≤ 100000 * (1000000000000 * 10100000000000);
 }
 

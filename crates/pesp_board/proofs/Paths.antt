@@ -1,23 +1,19 @@
 -- Nodes along paths, and the cuts of the path to a leaf.
-use Rattle.std.proofs.Common.{◌≡◌, ℕ, List, [], ◌∷◌, ◌++◌, length, sym, ◌∙◌, arith, subst}
-use Rattle.std.specs.Prelude.{Some, All}
+use Rattle.std.proofs.Common.{◌≡◌, ℕ, List, length, ◌∙◌, arith, subst}
+use Rattle.std.specs.Prelude.{Some}
 use Rattle.std.proofs.lemmas.List.{length-map}
-use Rattle.std.proofs.lemmas.List.Elements.{All-cons, All-head, All-tail, All-nil}
 use Rattle.pesp_problem.specs.declared.arc.Arc.{Arc}
 use Rattle.pesp_problem.specs.declared.pair.Pair.{Pair}
 use Rattle.pesp_problem.specs.declared.cut.Cut.{Cut}
 use Rattle.pesp_problem.specs.declared.cut.Cut.TheVariants.{Slack, Offset}
 use Rattle.pesp_problem.specs.declared.cut.Side.{Side}
-use Rattle.pesp_problem.specs.declared.cut.Side.TheVariants.{Low, High}
-use Rattle.pesp_problem.specs.Nodes.{Node, odijk_range, root_slacks}
-use Rattle.pesp_truth.specs.Trees.{Tree, Leaf, Line, Ends, Branch, Bound, CutLine, CutExists, preorder}
-use Rattle.pesp_truth.specs.Leaves.{IsLeafAt}
+use Rattle.pesp_problem.specs.Nodes.{Node, odijk_range, root_slacks, LeavesBoth}
+use Rattle.pesp_truth.specs.Trees.{Leaf, Bound, CutExists}
 use Rattle.pesp_network.specs.Networks.{KeepsNetLimits, arc_of_net}
 use Rattle.pesp_nodes.specs.Problems.{ProblemValue, net_of, IsSmallTable, IsNodeOf, IsCutOf, ArePairs}
 use Rattle.pesp_tree.specs.WorkTrees.{WorkTreeValue, IsWhole, path_to, leaf_at}
 use Rattle.pesp_machine.specs.Limits.{IsLineOf, KeepsTreeLimits}
 use Rattle.pesp_machine.specs.States.{root_of, node_at}
-use Rattle.pesp_machine.specs.Events.{LeavesBoth}
 use Rattle.pesp_machine.proofs.Ranges.{cut_keeps_limits}
 use Rattle.pesp_machine.proofs.TreeLimits.{leaf_line, cuts_along}
 use Rattle.pesp_board.specs.Giving.{AreCuts}

@@ -3,14 +3,14 @@ use Rattle.std.specs.Prelude.{◌≡◌, ◌≢◌, ℤ, List, [], ◌∷◌, Op
 use Rattle.std.specs.Global.{Vec}
 use Rattle.pesp_problem.specs.declared.cut.Cut.{Cut}
 use Rattle.pesp_problem.specs.declared.cut.Side.{Side}
-use Rattle.pesp_problem.specs.Nodes.{Node, low_part, high_part}
+use Rattle.pesp_problem.specs.Nodes.{Node, low_part, high_part, LeavesBoth}
 use Rattle.pesp_truth.specs.Trees.{Line, Ends, EndLine, CutLine, CutExists}
 use Rattle.pesp_nodes.specs.Problems.{ProblemValue, net_of, IsNodeOf}
 use Rattle.pesp_nodes.specs.Pending.{CutsFirst}
 use Rattle.pesp_machine.specs.declared.refusal.GiveRefusal.{GiveRefusal}
 use Rattle.pesp_machine.specs.declared.refusal.GiveRefusal.TheVariants.{UnknownJob, AlreadyGiven, NotValid, Memory, TooLarge}
 use Rattle.pesp_machine.specs.States.{node_at}
-use Rattle.pesp_machine.specs.Events.{LeavesBoth, IsGraft}
+use Rattle.pesp_machine.specs.Events.{IsGraft}
 use Rattle.pesp_board.specs.declared.part.Part.{Part}
 use Rattle.pesp_board.specs.declared.part.Part.TheVariants.{Cut as CutPart, Leaf as LeafPart}
 use Rattle.pesp_board.specs.Parts.{IsValued, AreValued, part_line, part_lines}

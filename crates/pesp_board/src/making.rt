@@ -4,14 +4,14 @@ ghost use Rattle.std.specs.Prelude.{List, ◌≡◌, ℤ, ◌↔◌, ◌-◌, �
 ghost use Rattle.pesp_problem.specs.declared.pair.Pair.{Pair};
 ghost use Rattle.pesp_problem.specs.Walks.{Names};
 ghost use Rattle.pesp_problem.specs.Nodes as spec;
-ghost use Rattle.pesp_problem.specs.Nodes.{part, offsets_left};
+ghost use Rattle.pesp_problem.specs.Nodes.{part, offsets_left, LeavesBoth};
 ghost use Rattle.pesp_truth.specs.Trees.{Bound, ByGap, CutExists};
 ghost use Rattle.pesp_nodes.specs.Problems.{net_of, IsNodeOf, IsCutOf, ArePairs};
 ghost use Rattle.pesp_tree.specs.Leaves.{leaf_of};
 ghost use Rattle.pesp_machine.specs.declared.work.Work.TheVariants as works;
 ghost use Rattle.pesp_machine.specs.Leaves.{told};
 ghost use Rattle.pesp_machine.specs.States.{node_at};
-ghost use Rattle.pesp_machine.specs.Events.{Uses, Keeps, LeavesBoth, MayShut};
+ghost use Rattle.pesp_machine.specs.Events.{Uses, Keeps, MayShut};
 ghost use Rattle.pesp_board.specs.Parts.{IsValued};
 ghost use Rattle.pesp_board.specs.Grafting.{IsReached};
 ghost use Rattle.pesp_board.specs.Giving.{AreCuts, HaveValue, MakesOf};

@@ -2,10 +2,9 @@
 
 ghost use Rattle.std.specs.Prelude.{◌≡◌, ◌<◌, ◌≤◌, ◌≤ℤ◌, ◌+ℤ◌, ◌+◌, ◌-◌, ℕ, ℤ, pos, length, true, false, slice_index_or, IfSome, IfNone, IsTrue};
 ghost use Rattle.pesp_problem.specs.Walks.{Names};
-ghost use Rattle.pesp_problem.specs.Nodes.{slack_range, offset_range};
+ghost use Rattle.pesp_problem.specs.Nodes.{slack_range, offset_range, LeavesBoth};
 ghost use Rattle.pesp_truth.specs.Trees.{CutExists};
 ghost use Rattle.pesp_nodes.specs.Problems.{net_of, IsNodeOf};
-ghost use Rattle.pesp_machine.specs.Events.{LeavesBoth};
 ghost use Rattle.pesp_room.specs.Rooms.{IsCounted};
 ghost use Rattle.pesp_room.specs.Settled.{IsSettled};
 ghost use Rattle.pesp_branching.specs.Passing.{ArePassedRows};

@@ -27,7 +27,7 @@ use Rattle.pesp_report.specs.declared.refusal.TimesRefusal.TheVariants.{BadLine,
 use Rattle.pesp_report.specs.declared.refusal.ReportRefusal.{ReportRefusal}
 use Rattle.pesp_report.specs.declared.refusal.ReportRefusal.TheVariants.{Violates, NotTimes, Memory as ReportMemory, Write as ReportWrite}
 use Rattle.pesp_works.specs.Works.{WorkValue}
-use Rattle.pesp_works.specs.Refusals.{works_of_text, RefusesFirst}
+use Rattle.pesp_works.specs.Refusals.{RefusesFirst}
 use Rattle.pesp_outside.specs.declared.grafting.Reply.{Reply}
 use Rattle.pesp_outside.specs.Grafts.{IsGrafted}
 use Rattle.pesp_outside.specs.Texts.{reply_line}

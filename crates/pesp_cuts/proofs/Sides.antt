@@ -1,5 +1,5 @@
 -- Each side of a fundamental cut is, but for whole components, what hangs below a forest row or the rest.
-use Rattle.std.proofs.Common.{◌≡◌, ◌≢◌, inl, inr, ℕ, ◌-◌, ◌<◌, zero, suc, refl, ap, sym, ◌∙◌, arith, List, true, false}
+use Rattle.std.proofs.Common.{◌≡◌, ◌≢◌, inl, inr, ℕ, ◌<◌, zero, suc, refl, ap, sym, ◌∙◌, arith, List, true, false}
 use Rattle.std.specs.Prelude.{Bool}
 use Rattle.std.proofs.lemmas.Bool.{false≢true, cases_eq}
 use Rattle.pesp_problem.specs.declared.arc.Arc.{Arc}

@@ -1,5 +1,5 @@
 -- Sides of fundamental cuts, times with one side shifted, and timetables that no such shift makes cheaper.
-use Rattle.std.specs.Prelude.{◌≡◌, ◌≢◌, ℕ, ◌+◌, ◌%◌, ◌-◌, ◌<◌, ◌≤◌, List, length, slice_index, Bool, if◌then◌else◌, Contains}
+use Rattle.std.specs.Prelude.{◌≡◌, ◌≢◌, ℕ, ◌+◌, ◌%◌, ◌<◌, ◌≤◌, List, length, slice_index, Bool, if◌then◌else◌, Contains}
 use Rattle.pesp_problem.specs.declared.arc.Arc.{Arc}
 use Rattle.pesp_problem.specs.Arcs.{Net, tail_of, head_of}
 use Rattle.pesp_problem.specs.NetTimetables.{IsNetTimetable, net_cost}

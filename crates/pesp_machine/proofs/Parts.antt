@@ -12,10 +12,9 @@ use Rattle.pesp_problem.specs.declared.cut.Side.TheVariants.{Low, High}
 use Rattle.pesp_problem.specs.Sums.{scaled, ceil_div, floor_div}
 use Rattle.pesp_problem.specs.Arcs.{Net, arc_at, over_arcs}
 use Rattle.pesp_problem.specs.Walks.{net_count}
-use Rattle.pesp_problem.specs.Nodes.{Node, slack_range, offset_range, cycle_at, weight_of, flow, offset_part, slack_part, leaf_value, least_sum, greatest_sum, offsets_left, range_or_none, part}
+use Rattle.pesp_problem.specs.Nodes.{Node, slack_range, offset_range, cycle_at, weight_of, flow, offset_part, slack_part, leaf_value, least_sum, greatest_sum, offsets_left, range_or_none, part, LeavesBoth}
 use Rattle.pesp_problem.proofs.Integers.{mul-le, mul-le_negative, min_scaled-le, le-min, le_trans, ceil_div-le, le-ceil_div, le-floor_div, floor_div-le, sum_below-le}
 use Rattle.pesp_problem.proofs.Nodes.{range_or_none_is}
-use Rattle.pesp_machine.specs.Events.{LeavesBoth}
 
 -- ---- ranges that shrink
 

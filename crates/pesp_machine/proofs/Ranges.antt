@@ -15,7 +15,7 @@ use Rattle.pesp_problem.specs.declared.cut.Side.TheVariants.{Low, High}
 use Rattle.pesp_problem.specs.Sums.{sum_below, scaled, ceil_div, floor_div}
 use Rattle.pesp_problem.specs.Arcs.{no_arc, arc_at, over_arcs}
 use Rattle.pesp_problem.specs.Walks.{net_count}
-use Rattle.pesp_problem.specs.Nodes.{Node, slack_range, offset_range, cycle_at, least_sum, greatest_sum, odijk_range, root_slacks, part}
+use Rattle.pesp_problem.specs.Nodes.{Node, slack_range, offset_range, cycle_at, least_sum, greatest_sum, odijk_range, root_slacks, part, LeavesBoth}
 use Rattle.pesp_problem.proofs.Integers.{le-ceil_div, floor_div-le}
 use Rattle.pesp_problem.proofs.Nodes.{set_cases}
 use Rattle.pesp_truth.specs.Trees.{CutExists}
@@ -27,7 +27,6 @@ use Rattle.pesp_nodes.specs.Problems.{ProblemValue, net_of, IsSmallTable, IsCutO
 use Rattle.pesp_walks.proofs.Counts.{amounts_short}
 use Rattle.pesp_nodes.proofs.Keeping.{arcs_small, spans_small}
 use Rattle.pesp_machine.specs.States.{root_of, node_at}
-use Rattle.pesp_machine.specs.Events.{LeavesBoth}
 
 -- ---- sums along a walk
 

@@ -9,13 +9,13 @@ use Rattle.pesp_problem.specs.declared.cut.Cut.{Cut}
 use Rattle.pesp_problem.specs.declared.cut.Side.{Side}
 use Rattle.pesp_problem.specs.declared.cut.Side.TheVariants.{Low, High}
 use Rattle.pesp_problem.specs.Walks.{Names}
-use Rattle.pesp_problem.specs.Nodes.{Node, leaf_value, part, low_part, high_part}
+use Rattle.pesp_problem.specs.Nodes.{Node, leaf_value, part, low_part, high_part, LeavesBoth}
 use Rattle.pesp_truth.specs.Trees.{Tree, Leaf, Reason, Ends, Branch, Bound, Shut, ByPairs, ByGap, ByPropagation, IsShut, IsSoundLeaf, IsSound, PairsExist}
 use Rattle.pesp_nodes.specs.Problems.{ProblemValue, net_of, ArePairs}
 use Rattle.pesp_machine.specs.declared.work.Work.{Work}
 use Rattle.pesp_machine.specs.declared.work.Work.TheVariants as works
 use Rattle.pesp_machine.specs.Leaves.{least_value}
-use Rattle.pesp_machine.specs.Events.{Makes, Shuts, MayShut, Splits, Uses, Keeps, LeavesBoth, IsGraft, is_better}
+use Rattle.pesp_machine.specs.Events.{Makes, Shuts, Splits, Uses, Keeps, IsGraft, is_better}
 use Rattle.pesp_machine.proofs.Parts.{parts_shrink, leaf_value_shrinks}
 use Rattle.pesp_machine.proofs.Trees.{IsUnder, under_lesser, value_of, and_is}
 

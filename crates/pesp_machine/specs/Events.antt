@@ -1,11 +1,10 @@
 -- The events of a board, and what each does to its state.
-use Rattle.std.specs.Prelude.{◌≡◌, ℕ, ◌+◌, ◌-◌, ◌<◌, ◌≤◌, List, Contains, [], ◌∷◌, ◌++◌, length, map, slice_set, ℤ, pos, ◌+ℤ◌, ◌≤ℤ◌, int_lt, Option, Some, None, IsNone, IsSome, IsSomeAnd, IfSome, Result, Ok, Err, Bool, true, false, if◌then◌else◌}
+use Rattle.std.specs.Prelude.{◌≡◌, ℕ, ◌-◌, ◌<◌, ◌≤◌, List, Contains, [], ◌∷◌, ◌++◌, length, map, slice_set, ℤ, ◌≤ℤ◌, int_lt, Option, Some, None, IsNone, IsSome, IsSomeAnd, IfSome, Result, Ok, Err, Bool, true, false, if◌then◌else◌}
 use Rattle.pesp_problem.specs.declared.pair.Pair.{Pair}
 use Rattle.pesp_problem.specs.declared.cut.Cut.{Cut}
-use Rattle.pesp_problem.specs.declared.cut.Cut.TheVariants.{Slack, Offset}
 use Rattle.pesp_problem.specs.declared.cut.Side.{Side}
 use Rattle.pesp_problem.specs.NetTimetables.{IsNetTimetable, net_cost}
-use Rattle.pesp_problem.specs.Nodes.{Node, leaf_value, offsets_left, slack_range, offset_range, low_part, high_part}
+use Rattle.pesp_problem.specs.Nodes.{Node, leaf_value, offsets_left, low_part, high_part, LeavesBoth}
 use Rattle.pesp_truth.specs.Trees.{Tree, Leaf, Reason, Ends, Branch, Bound, Shut, ByPairs, ByGap, ByPropagation, CutExists, IsShut, preorder}
 use Rattle.pesp_truth.specs.declared.tree.TreeLine.{TreeLine}
 use Rattle.pesp_truth.specs.Certificates.{line_of}
@@ -38,11 +37,6 @@ Lends p old (Err lending.NumbersSpent) new = (new ≡ old) × ((path : List (Cut
 Lends p old (Err lending.Memory) new = new ≡ old
 
 -- ---- give
-
--- both sides of the cut have a value of the range that it cuts
-abbrev pub LeavesBoth : Node → Cut → Type 0
-LeavesBoth node (Slack row k) = let range = slack_range node.slacks (row - 1) in (range.0 ≤ k) × (k + 1 ≤ range.1)
-LeavesBoth node (Offset cycle k) = let range = offset_range node.offsets (cycle - 1) in (range.0 ≤ℤ k) × ((k +ℤ pos 1) ≤ℤ range.1)
 
 -- the second value is greater than the first, where there is a first
 abbrev pub is_better : Option ℤ → Option ℤ → Bool

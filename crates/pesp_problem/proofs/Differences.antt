@@ -1,10 +1,9 @@
 -- The differences of times to the first events of their components are a family without an empty set, and the rows support it
 -- under ranges that have the slacks.
-use Rattle.std.proofs.Common.{◌≡◌, ℕ, ◌-◌, ◌<◌, List, length, sym, ap, ◌∙◌, arith, subst, true}
+use Rattle.std.proofs.Common.{◌≡◌, ℕ, ◌<◌, List, length, sym, ap, ◌∙◌, arith, subst, true}
 use Rattle.std.specs.Prelude.{pos, ◌-ℤ◌, ◌==◌}
 use Rattle.std.proofs.lemmas.Int.{ints}
 use Rattle.std.proofs.lemmas.Bool.Decides.{nat_tests}
-use Rattle.pesp_problem.specs.declared.arc.Arc.{Arc}
 use Rattle.pesp_problem.specs.Timetables.{remainder, difference}
 use Rattle.pesp_problem.specs.Arcs.{Net, arc_at, slacks_at}
 use Rattle.pesp_problem.specs.Nodes.{SlacksIn, slack_range}

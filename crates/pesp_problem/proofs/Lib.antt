@@ -17,3 +17,4 @@ pub mod Joined
 pub mod Remainders
 pub mod Differences
 pub mod Supporting
+pub mod Words

@@ -1,12 +1,10 @@
 -- An event that no arc joins always has a set, so a family may have more events than the arcs do.
-use Rattle.std.proofs.Common.{◌≡◌, ℕ, ◌<◌, ◌≤◌, List, length, refl, ap, ◌∙◌, sym, arith, subst, true, inl, inr}
-use Rattle.std.specs.Prelude.{All, nat_lt, ◌==◌, if◌then◌else◌, ◌↔◌}
+use Rattle.std.proofs.Common.{◌≡◌, ℕ, ◌<◌, ◌≤◌, List, ◌∙◌, sym, arith, true, inl, inr}
+use Rattle.std.specs.Prelude.{All, nat_lt, ◌==◌, if◌then◌else◌}
 use Rattle.std.proofs.lemmas.Bool.{cases_lt}
 use Rattle.std.proofs.lemmas.Bool.Decides.{nat_tests}
-use Rattle.pesp_problem.specs.declared.arc.Arc.{Arc}
 use Rattle.pesp_problem.specs.Arcs.{Net, arc_at, no_arc}
-use Rattle.pesp_problem.specs.Nodes.{slack_range}
-use Rattle.pesp_problem.specs.Families.{Family, IsFamily, IsSupportedBy, IsSupported, HasNoEmpty, NoFamilyIsSupported}
+use Rattle.pesp_problem.specs.Families.{Family, IsFamily, IsSupported, HasNoEmpty, NoFamilyIsSupported}
 
 -- the sets of the first events, and 0 alone for each other one
 abbrev extended : ℕ → Family → Family

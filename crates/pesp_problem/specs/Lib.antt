@@ -10,4 +10,5 @@ pub mod Nodes
 pub mod Forests
 pub mod Roots
 pub mod Families
+pub mod Words
 pub mod Scores

@@ -90,6 +90,11 @@ abbrev pub part : Node → Cut → Side → Node
 part node cut Low = low_part node cut
 part node cut High = high_part node cut
 
+-- both sides of the cut have a value of the range that it cuts
+abbrev pub LeavesBoth : Node → Cut → Type 0
+LeavesBoth node (Slack row k) = let range = slack_range node.slacks (row - 1) in (range.0 ≤ k) × (k + 1 ≤ range.1)
+LeavesBoth node (Offset cycle k) = let range = offset_range node.offsets (cycle - 1) in (range.0 ≤ℤ k) × ((k +ℤ pos 1) ≤ℤ range.1)
+
 -- ---- the value of a leaf
 
 -- the sum over the pairs of the multiplier times the net count of the row at place i

@@ -1,12 +1,9 @@
 -- What of the words is another after an arc's step.
-use Rattle.std.proofs.Common.{◌≡◌, ◌≢◌, ℕ, ◌<◌, ◌≤◌, List, refl, ap, arith, sym, ◌∙◌, Bool, true, false, sum}
+use Rattle.std.proofs.Common.{◌≢◌, ℕ, List, ap, arith, sym, ◌∙◌, Bool}
 use Rattle.pesp_problem.specs.declared.arc.Arc.{Arc}
-use Rattle.pesp_propagate.specs.Bits.{IsLess}
+use Rattle.pesp_problem.specs.Words.{IsLess}
+use Rattle.pesp_problem.proofs.Words.{sum_most}
 use Rattle.pesp_propagate.specs.Sets.{set_of, Narrows, Changes}
-
-sum_most : (xs ys : List ℕ) (b : Bool) → IsLess xs ys b → sum ys ≤ sum xs
-sum_most xs ys true h = let l : sum ys < sum xs = h.less refl in omega arith
-sum_most xs ys false h = let e : sum ys ≡ sum xs = ap sum (h.same refl) in omega arith
 
 pub changed_both : (t w ahead back m n : ℕ) (arc : Arc) (xs ys zs : List ℕ) (tail head : Bool) → arc.tail ≢ arc.head
     → Narrows t w arc.tail arc.head ahead m xs ys → Narrows t w arc.head arc.tail back n ys zs → IsLess xs ys tail → IsLess ys zs head → Changes w arc xs zs tail head

@@ -1,13 +1,12 @@
 -- Full sets, one after another.
-use Rattle.std.proofs.Common.{◌≡◌, ◌≢◌, ℕ, ◌+◌, ◌-◌, ◌*◌, ◌/◌, ◌%◌, ◌<◌, ◌≤◌, ◌⊎◌, inl, inr, List, [], length, refl, ap, arith, sym, ◌∙◌, subst, Bool, true, false}
-use Rattle.std.specs.Prelude.{◌↔◌, nat_eq}
+use Rattle.std.proofs.Common.{◌≡◌, ◌≢◌, ℕ, ◌+◌, ◌*◌, ◌<◌, ◌≤◌, inl, inr, List, length, arith, sym, subst}
+use Rattle.std.specs.Prelude.{◌↔◌}
 use Rattle.std.proofs.lemmas.Bool.{cases_eq, cases_lt}
 use borrow.Rule.Slice.PartMut.{put_mid}
-use Rattle.std.proofs.lemmas.Slice.{between-put_mid}
 use Rattle.pesp_problem.specs.Arcs.{Net}
-use Rattle.pesp_problem.specs.Forests.{AreJoined, IsFirstOf}
+use Rattle.pesp_problem.specs.Forests.{IsFirstOf}
 use Rattle.pesp_propagate.specs.Bits.{bit}
-use Rattle.pesp_propagate.specs.Sets.{set_of, IsClear}
+use Rattle.pesp_propagate.specs.Sets.{set_of}
 use Rattle.pesp_propagate.specs.Domains.{width_of, SetRows, AreKept, family_of}
 use Rattle.pesp_propagate.specs.Full.{IsFull}
 use Rattle.pesp_propagate.specs.Filling.{IsFullSet, AreFull}

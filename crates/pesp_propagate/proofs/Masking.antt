@@ -1,5 +1,5 @@
 -- Words under masks.
-use Rattle.std.proofs.Common.{◌≡◌, ◌≢◌, ℕ, ◌+◌, ◌*◌, ◌/◌, ◌%◌, ◌<◌, ◌≤◌, ◌⊎◌, inl, inr, List, length, get_or, ap, sym, ◌∙◌, arith, subst}
+use Rattle.std.proofs.Common.{◌≡◌, ℕ, ◌+◌, ◌*◌, ◌/◌, ◌%◌, ◌<◌, ◌≤◌, inl, inr, List, length, get_or, ap, sym, ◌∙◌, arith, subst}
 use Rattle.std.proofs.Math.ListN.{set}
 use Rattle.std.specs.Prelude.{bit_and, min}
 use Rattle.std.specs.Int.{bit_at}

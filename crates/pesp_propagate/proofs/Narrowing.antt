@@ -1,14 +1,14 @@
 -- One set of a family is narrowed, in the words of all.
-use Rattle.std.proofs.Common.{◌≡◌, ℕ, zero, suc, ◌+◌, ◌-◌, ◌*◌, ◌/◌, ◌%◌, ◌^◌, ◌<◌, ◌≤◌, ◌⊎◌, ◌≢◌, List, length, get_or, refl, ap, sym, ◌∙◌, arith, inl, inr, rules, subst, Bool, true, false, sum, [], ◌∷◌, ◌++◌, take, drop, length-drop, length-take}
+use Rattle.std.proofs.Common.{◌≡◌, ℕ, ◌+◌, ◌*◌, ◌<◌, ◌≤◌, ◌⊎◌, ◌≢◌, List, length, ap, sym, ◌∙◌, arith, inl, inr, subst, Bool, sum, ◌++◌, take, drop, length-drop, length-take}
 use Rattle.std.specs.Prelude.{slice_range}
 use Rattle.std.proofs.Math.Nat.{mul-le-mul_left}
 use Rattle.std.proofs.lemmas.List.{take-append-drop, drop-take}
 use Rattle.std.proofs.lemmas.Slice.{between-put_mid, between_is, take-put_mid_below, drop-put_mid}
 use Rattle.std.proofs.lemmas.List.Sums.{sum_by-append}
 use borrow.Rule.Slice.PartMut.{put_mid, post_of}
-use Rattle.pesp_propagate.specs.Bits.{bit, IsTwice, IsWindow, KeepsShifted, KeepsSupported, IsLess}
-use Rattle.pesp_propagate.specs.Sets.{set_of, IsClear, Narrows, family}
-use Rattle.pesp_propagate.proofs.Words.{supported_kept}
+use Rattle.pesp_problem.specs.Words.{IsLess}
+use Rattle.pesp_propagate.specs.Bits.{KeepsSupported}
+use Rattle.pesp_propagate.specs.Sets.{set_of, Narrows}
 
 sum_append : (xs ys : List ℕ) → sum (xs ++ ys) ≡ sum xs + sum ys
 sum_append xs ys = sum_by-append (λ (n : ℕ). n) xs ys

@@ -1,12 +1,11 @@
 -- What propagation answers, in the words of networks.
-use Rattle.std.proofs.Common.{◌≡◌, ℕ, ◌<◌, ◌⊎◌, inl, inr, List, length, refl, ap, arith, sym, ◌∙◌, subst, Bool, true, false}
+use Rattle.std.proofs.Common.{◌≡◌, ℕ, ◌<◌, ◌⊎◌, inl, inr, List, length, refl, arith, sym, ◌∙◌, subst, Bool, true, false}
 use Rattle.std.specs.Prelude.{Result, Ok, Err, IfOk, ◌↔◌, nat_lt, ◌&&◌}
 use Rattle.std.proofs.lemmas.Bool.{cases_lt}
 use Rattle.std.proofs.lemmas.Bool.Decides.{nat_tests}
-use Rattle.std.proofs.lemmas.List.{get_or-map, length-map}
 use Rattle.pesp_problem.specs.declared.arc.Arc.{Arc}
 use Rattle.pesp_problem.specs.declared.memory.Memory.{Memory}
-use Rattle.pesp_problem.specs.Arcs.{Net, arc_at, no_arc}
+use Rattle.pesp_problem.specs.Arcs.{Net, no_arc}
 use Rattle.pesp_problem.specs.Forests.{IsFirstOf}
 use Rattle.pesp_problem.specs.Families.{Family, IsFamily, IsSupported, IsWithin, HasNoEmpty, NoFamilyIsSupported}
 use Rattle.pesp_network.specs.Networks.{NetworkValue, arcs_of_network, net_of_network, KeepsNetLimits}

@@ -1,6 +1,6 @@
 -- Rows that wait, and those that begin to wait.
-use Rattle.std.proofs.Common.{◌≡◌, ◌≢◌, ℕ, ◌+◌, ◌-◌, ◌<◌, ◌≤◌, ◌⊎◌, inl, inr, refl, sym, ◌∙◌, ap, arith, subst, length, vec_len, true, false, List}
-use Rattle.std.specs.Prelude.{All, Contains, []}
+use Rattle.std.proofs.Common.{◌≡◌, ◌≢◌, ℕ, ◌-◌, ◌<◌, ◌≤◌, ◌⊎◌, inl, inr, refl, sym, ◌∙◌, ap, arith, subst, vec_len, true, false, List}
+use Rattle.std.specs.Prelude.{All, []}
 use Rattle.std.proofs.lemmas.Bool.{cases_eq, cases_lt}
 use Rattle.std.proofs.lemmas.List.Elements.{All-nil}
 use Rattle.pesp_propagate.specs.declared.waiting.Waiting.{Waiting}

@@ -1,5 +1,5 @@
 -- Visits of rows, one after another.
-use Rattle.std.proofs.Common.{◌≡◌, ◌≢◌, ℕ, ◌+◌, ◌-◌, ◌*◌, ◌/◌, ◌<◌, ◌≤◌, ◌⊎◌, inl, inr, List, [], ◌∷◌, length, get_or, refl, ap, arith, sym, ◌∙◌, subst, Bool, true, false, sum, vec_len, min}
+use Rattle.std.proofs.Common.{◌≡◌, ◌≢◌, ℕ, ◌+◌, ◌-◌, ◌<◌, ◌≤◌, ◌⊎◌, inl, inr, List, [], length, get_or, refl, ap, arith, sym, ◌∙◌, subst, Bool, true, false, sum, vec_len, min}
 use Rattle.std.specs.Prelude.{Option, Some, None, Result, Ok, Err, IfOk, IfSome, is_some, All, Contains, ◌==◌}
 use Rattle.std.proofs.lemmas.Bool.{cases_eq}
 use Rattle.std.proofs.lemmas.Bool.Decides.{nat_tests}
@@ -11,8 +11,7 @@ use Rattle.pesp_problem.specs.Arcs.{arc_at, tail_of, head_of}
 use Rattle.pesp_problem.specs.Nodes.{slack_range}
 use Rattle.pesp_problem.specs.Families.{IsSupportedBy}
 use Rattle.pesp_propagate.specs.declared.waiting.Waiting.{Waiting}
-use Rattle.pesp_propagate.specs.Bits.{bit}
-use Rattle.pesp_propagate.specs.Sets.{set_of, family, Changes}
+use Rattle.pesp_propagate.specs.Sets.{set_of, Changes}
 use Rattle.pesp_propagate.specs.Domains.{width_of}
 use Rattle.pesp_propagate.specs.Waiting.{waits_at, Grows, Leaves, AreListed}
 use Rattle.pesp_propagate.specs.declared.outcome.Outcome.{Outcome}

@@ -1,5 +1,5 @@
 -- Bits of words under shifts.
-use Rattle.std.proofs.Common.{◌≡◌, ℕ, zero, suc, ◌+◌, ◌-◌, ◌*◌, ◌/◌, ◌%◌, ◌^◌, ◌<◌, ◌≤◌, ◌⊎◌, ◌≢◌, List, length, get_or, refl, ap, sym, ◌∙◌, arith, inl, inr, rules, get_or-set_same, get_or-set_other, add-zero, subst, Bool, true, false, sum, [], ◌∷◌}
+use Rattle.std.proofs.Common.{◌≡◌, ℕ, ◌+◌, ◌-◌, ◌*◌, ◌/◌, ◌%◌, ◌^◌, ◌<◌, ◌≤◌, ◌⊎◌, ◌≢◌, List, length, get_or, refl, ap, sym, ◌∙◌, arith, inl, inr, get_or-set_same, get_or-set_other, add-zero, subst, Bool, true, false, sum}
 use Rattle.std.proofs.Math.ListN.{set}
 use Rattle.std.proofs.Math.Nat.{div-one, add-mul-mod_self_left, mod-eq_of_lt}
 use Rattle.std.proofs.lemmas.List.{get_or_past, set-get_or}
@@ -10,7 +10,8 @@ use Rattle.std.specs.Prelude.{◌||◌, not, ◌==◌, bit_or, bit_and, max, min
 use Rattle.std.specs.Int.{bit_at, w64, trailing_zeros}
 use Rattle.std.proofs.lemmas.Nat.{and_le_l, one_shl, shr-shr, shr_split, pow_pos}
 use Rattle.std.proofs.lemmas.Nat.Bits.{bit_at_or, bit_at_and, bit_at_cat_low, bit_at_cat_high, bit_at_above, bit_at-zero, bit_at-lt, bit_at-trailing_zeros, bit_at_ones, bit_at_ones_above}
-use Rattle.pesp_propagate.specs.Bits.{bit, ahead, IsWindow, IsTwice, IsTwiceAt, KeepsShifted, KeepsShiftedAt, KeepsSupported, HasPartner, IsLess}
+use Rattle.pesp_problem.specs.Words.{IsLess}
+use Rattle.pesp_propagate.specs.Bits.{bit, ahead, IsWindow, IsTwice, IsTwiceAt, KeepsShifted, KeepsShiftedAt, KeepsSupported}
 
 pub bit_shr : (n r j : ℕ) → bit_at (n / 2 ^ r) j ≡ bit_at n (r + j)
 bit_shr n r j = ap (λ (m : ℕ). m % 2) (shr-shr n r j)

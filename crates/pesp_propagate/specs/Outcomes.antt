@@ -1,7 +1,7 @@
 -- What propagation makes of sets of differences.
-use Rattle.std.specs.Prelude.{◌≡◌, ℕ, ◌<◌, ◌⊎◌, ◌↔◌, List, length, Bool, true, false}
+use Rattle.std.specs.Prelude.{◌≡◌, ℕ, ◌<◌, List, false}
 use Rattle.pesp_problem.specs.Arcs.{Net}
-use Rattle.pesp_problem.specs.Families.{Family, IsFamily, IsSupported, IsWithin, HasNoEmpty}
+use Rattle.pesp_problem.specs.Families.{Family, IsSupported, IsWithin, HasNoEmpty}
 use Rattle.pesp_propagate.specs.declared.outcome.Outcome.{Outcome}
 use Rattle.pesp_propagate.specs.declared.outcome.Outcome.TheVariants.{Stable, Empty}
 

@@ -1,5 +1,5 @@
 -- Rows that are visited one after another while others wait. t is the period, xs and ys are the words of all sets.
-use Rattle.std.specs.Prelude.{◌≡◌, ◌≢◌, ℕ, ◌+◌, ◌<◌, ◌≤◌, ◌⊎◌, List, length, slice_index, sum, Bool, true, false, All, Contains, Option, Some, None, vec_len}
+use Rattle.std.specs.Prelude.{◌≡◌, ◌≢◌, ℕ, ◌<◌, ◌≤◌, ◌⊎◌, List, length, slice_index, sum, true, false, All, Contains, Option, Some, None, vec_len}
 use Rattle.pesp_problem.specs.declared.arc.Arc.{Arc}
 use Rattle.pesp_problem.specs.Arcs.{Net, arc_at}
 use Rattle.pesp_problem.specs.Nodes.{slack_range}

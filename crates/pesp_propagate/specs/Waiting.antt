@@ -1,5 +1,5 @@
 -- The rows that wait for a visit, by their places from 0.
-use Rattle.std.specs.Prelude.{◌≡◌, ℕ, ◌<◌, ◌⊎◌, List, length, slice_index_or, Bool, true, false, All, Contains, vec_len}
+use Rattle.std.specs.Prelude.{◌≡◌, ℕ, ◌<◌, ◌⊎◌, slice_index_or, Bool, true, false, All, Contains, vec_len}
 use Rattle.pesp_propagate.specs.declared.waiting.Waiting.{Waiting}
 
 -- whether the row at a place waits

@@ -2,7 +2,8 @@
 
 ghost use Rattle.std.specs.Prelude.{◌≡◌, ℕ, ◌+◌, ◌-◌, ◌*◌, ◌/◌, ◌%◌, ◌^◌, ◌<◌, ◌≤◌, ◌≢◌, ◌↔◌, ◌⊎◌, length, true, false};
 ghost use Rattle.pesp_problem.specs.Families.{IsWithin};
-ghost use Rattle.pesp_propagate.specs.Bits.{bit, IsLess};
+ghost use Rattle.pesp_problem.specs.Words.{IsLess};
+ghost use Rattle.pesp_propagate.specs.Bits.{bit};
 ghost use Rattle.pesp_propagate.specs.Sets.{IsClear, Narrows, Revises, Changes, family};
 ghost use Rattle.std.specs.Prelude.{pos};
 ghost use Rattle.std.specs.Int.{int_rem_euclid};

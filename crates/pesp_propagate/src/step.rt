@@ -2,7 +2,8 @@
 
 ghost use Rattle.std.specs.Prelude.{◌≡◌, ℕ, ◌+◌, ◌-◌, ◌*◌, ◌/◌, ◌%◌, ◌^◌, ◌<◌, ◌≤◌, ◌≢◌, ◌↔◌, ◌⊎◌, length, slice_index, bit_or, bit_and, max, min};
 ghost use Rattle.std.specs.Int.{bit_at};
-ghost use Rattle.pesp_propagate.specs.Bits.{bit, IsWindow, IsTwice, IsLess, KeepsSupported, KeepsShifted};
+ghost use Rattle.pesp_problem.specs.Words.{IsLess};
+ghost use Rattle.pesp_propagate.specs.Bits.{bit, IsWindow, IsTwice, KeepsSupported, KeepsShifted};
 
 use crate::lanes;
 

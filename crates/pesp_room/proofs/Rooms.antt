@@ -10,10 +10,10 @@ use Rattle.pesp_problem.specs.declared.row.SignedRow.{SignedRow}
 use Rattle.pesp_problem.specs.declared.cut.Cut.{Cut}
 use Rattle.pesp_problem.specs.declared.cut.Cut.TheVariants.{Slack, Offset}
 use Rattle.pesp_problem.specs.Arcs.{Net}
-use Rattle.pesp_problem.specs.Nodes.{Node, slack_range, offset_range, low_part, high_part}
+use Rattle.pesp_problem.specs.Nodes.{Node, slack_range, offset_range, low_part, high_part, LeavesBoth}
 use Rattle.pesp_problem.proofs.Integers.{lt-or-same}
 use Rattle.pesp_truth.specs.Trees.{Tree, Ends, Branch}
-use Rattle.pesp_room.specs.Rooms.{product_below, slack_values, offset_values, is_passed, slack_room, offset_room, room, LeavesBoth, IsCounted, BranchesLeaveBoth, branches}
+use Rattle.pesp_room.specs.Rooms.{product_below, slack_values, offset_values, is_passed, slack_room, offset_room, room, IsCounted, BranchesLeaveBoth, branches}
 
 -- ---- products
 

@@ -16,7 +16,7 @@ use Rattle.pesp_problem.specs.declared.cut.Side.TheVariants.{Low, High}
 use Rattle.pesp_problem.specs.Sums.{scaled}
 use Rattle.pesp_problem.specs.Arcs.{Net, no_arc, arc_at, over_arcs}
 use Rattle.pesp_problem.specs.Walks.{Names, sign, net_count, HasWholeOffset}
-use Rattle.pesp_problem.specs.Nodes.{Node, slack_range, cycle_at, least_sum, greatest_sum, offsets_left, IsOffsetLeft, root, part, low_part, high_part, weight_of, flow, offset_part, slack_part, leaf_value}
+use Rattle.pesp_problem.specs.Nodes.{Node, slack_range, cycle_at, least_sum, greatest_sum, offsets_left, IsOffsetLeft, root, part, low_part, high_part, weight_of, flow, offset_part, slack_part, leaf_value, LeavesBoth}
 use Rattle.pesp_problem.proofs.Integers.{mul-le, mul-add, add-mul, sub-mul, mul_assoc, swap_left, zero-mul, sum_below-same, sum_below-add, sum_below-sub, sum_below-mul, sum_below-zero}
 use Rattle.pesp_problem.proofs.Walks.{net_count-cons}
 use Rattle.pesp_problem.proofs.Nodes.{duration, set_cases}
@@ -24,7 +24,7 @@ use Rattle.pesp_problem.proofs.Offsets.{exactly_left, ends_in_order}
 use Rattle.pesp_truth.specs.Trees.{Tree, Leaf, Ends, Branch, PairsExist}
 use Rattle.pesp_truth.specs.Paths.{along}
 use Rattle.pesp_truth.specs.Leaves.{IsLeafAt}
-use Rattle.pesp_room.specs.Rooms.{is_passed, LeavesBoth, BranchesLeaveBoth}
+use Rattle.pesp_room.specs.Rooms.{is_passed, BranchesLeaveBoth}
 use Rattle.pesp_room.specs.Settled.{low_slack, HaveSlacks, KeepSpans, IsSettled, HaveOffsetsLeft}
 
 -- ---- no slack range is empty

@@ -3,6 +3,7 @@ use Rattle.std.specs.Prelude.{◌≡◌, ◌⊎◌, ⊤, ℕ, ◌+◌, ◌*◌, 
 use Rattle.std.specs.Global.{Vec}
 use Rattle.pesp_problem.specs.declared.cut.Cut.{Cut}
 use Rattle.pesp_problem.specs.declared.cut.Side.{Side}
+use Rattle.pesp_problem.specs.Nodes.{LeavesBoth}
 use Rattle.pesp_network.specs.Networks.{KeepsNetLimits}
 use Rattle.pesp_truth.specs.declared.tree.TreeLine.{TreeLine}
 use Rattle.pesp_truth.specs.Trees.{Leaf, CutExists}
@@ -10,7 +11,7 @@ use Rattle.pesp_nodes.specs.Problems.{ProblemValue, net_of, IsSmallTable}
 use Rattle.pesp_machine.specs.declared.job.Job.{Job}
 use Rattle.pesp_machine.specs.declared.work.Work.TheVariants as works
 use Rattle.pesp_machine.specs.States.{State, IsOpen, IsAtMost, node_at, least}
-use Rattle.pesp_machine.specs.Events.{LeavesBoth, LendsLeaf, Takes}
+use Rattle.pesp_machine.specs.Events.{LendsLeaf, Takes}
 use Rattle.pesp_turns.specs.Turns.{IsWorked, AreStep}
 use Rattle.pesp_search.specs.Rooting.{IsRootBound}
 use Rattle.pesp_search.specs.declared.turning.Turn.{Turn}

@@ -6,7 +6,7 @@ ghost use Rattle.pesp_problem.specs.Nodes.{offsets_left};
 ghost use Rattle.pesp_truth.specs.Trees.{Gap, CutExists, IsSoundLeaf};
 ghost use Rattle.pesp_nodes.specs.Problems.{net_of, IsNodeOf};
 ghost use Rattle.pesp_machine.specs.States.{State, node_at};
-ghost use Rattle.pesp_machine.specs.Events.{LeavesBoth, Lends, Takes};
+ghost use Rattle.pesp_machine.specs.Events.{Lends, Takes};
 ghost use Rattle.pesp_machine.specs.declared.work.Work.TheVariants.{Gap as GivesGap};
 ghost use Rattle.pesp_room.specs.Rooms.{IsCounted};
 ghost use Rattle.pesp_room.specs.Settled.{IsSettled, HaveOffsetsLeft};

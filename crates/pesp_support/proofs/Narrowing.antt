@@ -1,11 +1,10 @@
 -- A set is narrowed place by place, from the period's end down.
-use Rattle.std.proofs.Common.{◌≡◌, ◌≢◌, ℕ, zero, suc, ◌+◌, ◌-◌, ◌*◌, ◌/◌, ◌%◌, ◌<◌, ◌≤◌, ◌⊎◌, inl, inr, List, refl, ap, sym, ◌∙◌, arith, subst, Bool, true, false, sum}
-use Rattle.std.specs.Prelude.{◌||◌}
+use Rattle.std.proofs.Common.{◌≡◌, ◌≢◌, ℕ, zero, suc, ◌+◌, ◌-◌, ◌*◌, ◌/◌, ◌%◌, ◌<◌, ◌≤◌, ◌⊎◌, inl, inr, List, refl, ap, sym, ◌∙◌, arith, subst, Bool, true, false}
 use Rattle.std.proofs.Math.Nat.{mod-eq_of_lt, add-mul-mod_self_left}
 use Rattle.std.proofs.lemmas.Bool.{cases_lt}
 use Rattle.pesp_problem.specs.Families.{Family}
 use Rattle.pesp_problem.proofs.Shifts.{mod_more, mod_same, mod_inner, cancel}
-use Rattle.pesp_support.specs.Sets.{is_set, span, family_at, IsLess}
+use Rattle.pesp_support.specs.Sets.{is_set, span, family_at}
 use Rattle.pesp_support.specs.Windows.{HasPartner, Narrows, IsLeast, IsTaken}
 use Rattle.pesp_support.proofs.Placing.{at_place, below, places_apart, same_places}
 
@@ -183,9 +182,3 @@ partly_step t kept other first n i p next old xs ys l ep m lf gaps part taken sa
       | inl g ↦ subst (λ zs. Partly t kept other first n p old (family_at t zs)) (sym (same g)) (kept_one t kept other first n p next old (family_at t xs) lp m g gaps before)
       | inr g ↦ taken_one t kept other first n p next old xs ys lp lf g gaps (taken g) before
     ]
-
-pub less_step : (xs ys zs : List ℕ) (b c : Bool) → IsLess xs ys b → IsLess ys zs c → IsLess xs zs (b || c)
-less_step xs ys zs true true h k = record { same = λ e. absurd (cc); less = λ _. let l = h.less refl in let m = k.less refl in omega arith }
-less_step xs ys zs true false h k = record { same = λ e. absurd (cc); less = λ _. let l = h.less refl in let m : sum zs ≡ sum ys = ap sum (k.same refl) in omega arith }
-less_step xs ys zs false true h k = record { same = λ e. absurd (cc); less = λ _. let l : sum ys ≡ sum xs = ap sum (h.same refl) in let m = k.less refl in omega arith }
-less_step xs ys zs false false h k = record { same = λ _. k.same refl ∙ h.same refl; less = λ e. absurd (cc) }

@@ -1,11 +1,13 @@
 -- Both ends of a row are narrowed, or a loop is kept or refuted.
-use Rattle.std.proofs.Common.{◌≡◌, ◌≢◌, ℕ, ◌+◌, ◌-◌, ◌*◌, ◌%◌, ◌<◌, ◌≤◌, ◌⊎◌, inl, inr, List, refl, ap, sym, ◌∙◌, arith, subst, Bool, true, false, sum}
+use Rattle.std.proofs.Common.{◌≡◌, ◌≢◌, ℕ, ◌+◌, ◌-◌, ◌*◌, ◌%◌, ◌<◌, ◌≤◌, ◌⊎◌, inl, inr, List, refl, ap, sym, ◌∙◌, arith, subst, Bool, true, false}
 use Rattle.std.specs.Prelude.{pos, min}
 use Rattle.std.specs.Int.{int_rem_euclid}
 use Rattle.pesp_problem.specs.declared.arc.Arc.{Arc}
 use Rattle.pesp_problem.specs.Families.{Family, IsSupportedBy, IsWithin, ArePartners, remainder_of}
 use Rattle.pesp_problem.proofs.Shifts.{LeadBoth, lead_both, loop_remainder}
-use Rattle.pesp_support.specs.Sets.{family_at, IsLess}
+use Rattle.pesp_problem.specs.Words.{IsLess}
+use Rattle.pesp_problem.proofs.Words.{sum_most}
+use Rattle.pesp_support.specs.Sets.{family_at}
 use Rattle.pesp_support.specs.Windows.{Narrows}
 use Rattle.pesp_support.specs.Visits.{HasSome, LiesAt, RefutesAt, Revises, IsNarrowed}
 use Rattle.pesp_support.proofs.Placing.{below}
@@ -73,10 +75,6 @@ revised t arc low high ahead back n old mid new p ne bel lead one two =
           );
       else = λ event d nt nh. two.else event d nh ∙ one.else event d nt;
     }
-
-sum_most : (xs ys : List ℕ) (b : Bool) → IsLess xs ys b → sum ys ≤ sum xs
-sum_most xs ys true h = let l : sum ys < sum xs = h.less refl in omega arith
-sum_most xs ys false h = let e : sum ys ≡ sum xs = ap sum (h.same refl) in omega arith
 
 words_below : (t : ℕ) (xs : List ℕ) → AreBelow t (family_at t xs)
 words_below t xs event d s = below t event d xs s

@@ -1,5 +1,5 @@
 -- Sets of numbers below the period as bits of 64-bit words, each set from a word's first bit on.
-use Rattle.std.specs.Prelude.{◌≡◌, ℕ, ◌+◌, ◌*◌, ◌/◌, ◌%◌, ◌<◌, List, slice_index, nat_eq, nat_lt, sum, Bool, true, false, ◌&&◌}
+use Rattle.std.specs.Prelude.{ℕ, ◌+◌, ◌*◌, ◌/◌, ◌%◌, List, slice_index, nat_eq, nat_lt, Bool, ◌&&◌}
 use Rattle.std.specs.Int.{bit_at}
 use Rattle.pesp_problem.specs.Families.{Family}
 
@@ -14,8 +14,3 @@ span period = (period + 63) / 64 * 64
 -- the sets of the events in order
 unfoldable pub family_at : ℕ → List ℕ → Family
 family_at period words event difference = nat_lt difference period && is_set words (event * span period + difference)
-
--- nothing was taken away, or something was
-pub record IsLess (old new : List ℕ) (changed : Bool) : Type 0 where
-  pub same : changed ≡ false → new ≡ old
-  pub less : changed ≡ true → sum new < sum old

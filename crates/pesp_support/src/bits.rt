@@ -1,7 +1,8 @@
 //! Many small sets as the bits of 64-bit words, each from a word's first bit on.
 
 ghost use Rattle.std.specs.Prelude.{◌≡◌, ◌≢◌, ℕ, ◌+◌, ◌*◌, ◌<◌, ◌≤◌, length, false};
-ghost use Rattle.pesp_support.specs.Sets.{is_set, span, IsLess};
+ghost use Rattle.pesp_problem.specs.Words.{IsLess};
+ghost use Rattle.pesp_support.specs.Sets.{is_set, span};
 
 /// How many words the sets of so many events take.
 pub fn words_for(period: usize, events: usize) -> usize

@@ -1,7 +1,8 @@
 //! One set is narrowed to the differences that have a partner in another.
 
 ghost use Rattle.std.specs.Prelude.{◌≡◌, ◌≢◌, ℕ, ◌+◌, ◌*◌, ◌%◌, ◌^◌, ◌<◌, ◌≤◌, length, true, false};
-ghost use Rattle.pesp_support.specs.Sets.{is_set, span, family_at, IsLess};
+ghost use Rattle.pesp_problem.specs.Words.{IsLess};
+ghost use Rattle.pesp_support.specs.Sets.{is_set, span, family_at};
 ghost use Rattle.pesp_support.specs.Windows.{IsLeast, IsTaken, Narrows};
 
 use crate::bits::{has, remove};

@@ -2,7 +2,7 @@
 
 ghost use Rattle.std.specs.Prelude.{◌≡◌, ◌≢◌, ◌↔◌, ℕ, ◌+◌, ◌-◌, ◌*◌, ◌%◌, ◌<◌, ◌≤◌, length, pos, min, true, false, IsTrue};
 ghost use Rattle.std.specs.Int.{int_rem_euclid};
-ghost use Rattle.pesp_support.specs.Sets.{span, family_at, IsLess};
+ghost use Rattle.pesp_support.specs.Sets.{span, family_at};
 ghost use Rattle.pesp_support.specs.Windows.{Narrows};
 ghost use Rattle.pesp_support.specs.Visits.{HasSome, IsVisit};
 

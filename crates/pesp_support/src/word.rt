@@ -2,7 +2,8 @@
 
 ghost use Rattle.std.specs.Prelude.{◌≡◌, ℕ, ◌+◌, ◌*◌, ◌%◌, ◌<◌, ◌≤◌, ◌↔◌, length, slice_index, IsTrue};
 ghost use Rattle.std.specs.Int.{bit_at};
-ghost use Rattle.pesp_support.specs.Sets.{span, family_at, IsLess};
+ghost use Rattle.pesp_problem.specs.Words.{IsLess};
+ghost use Rattle.pesp_support.specs.Sets.{span, family_at};
 ghost use Rattle.pesp_support.specs.Visits.{HasSome};
 ghost use Rattle.pesp_support.specs.Windows.{Narrows};
 ghost use Rattle.pesp_support.specs.Words.{IsBelow, IsTurned, HavePartners, IsKept};

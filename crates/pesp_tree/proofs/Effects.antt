@@ -1,5 +1,5 @@
 -- What another leaf or a split changes in a tree under work, and what it leaves.
-use Rattle.std.proofs.Common.{◌≡◌, ◌≢◌, ℕ, ◌+◌, ◌<◌, List, [], ◌∷◌, ◌++◌, length}
+use Rattle.std.proofs.Common.{◌≡◌, ◌≢◌, ℕ, ◌+◌, ◌<◌, [], ◌∷◌, ◌++◌, length}
 use Rattle.std.specs.Prelude.{Some, None, IsSome}
 use Rattle.std.proofs.lemmas.List.{get_or-set_other, get_or-set_same}
 use Rattle.pesp_problem.specs.declared.cut.Cut.{Cut}

@@ -5,8 +5,7 @@ use Rattle.std.proofs.lemmas.List.{length-set, length-append}
 use Rattle.std.proofs.lemmas.Int.{clamps}
 use Rattle.pesp_problem.specs.declared.cut.Cut.{Cut}
 use Rattle.pesp_problem.specs.declared.cut.Side.{Side}
-use Rattle.pesp_problem.specs.declared.cut.Side.TheVariants.{Low, High}
-use Rattle.pesp_truth.specs.Trees.{Tree, Leaf, Ends, Branch, preorder}
+use Rattle.pesp_truth.specs.Trees.{Leaf, Ends, Branch, preorder}
 use Rattle.pesp_tree.specs.declared.leaf.Leaf.{Leaf as OwnLeaf}
 use Rattle.pesp_tree.specs.declared.node.Branching.{Branching}
 use Rattle.pesp_tree.specs.declared.node.Kept.{Kept}

@@ -1,4 +1,4 @@
-use Rattle.std.proofs.Common.{◌≡◌, ◌∙◌, ◌+◌, ◌-◌, ◌*◌, ◌<◌, ◌≤◌, ℕ, List, arith, sym, subst, ap, length}
+use Rattle.std.proofs.Common.{◌≡◌, ◌∙◌, ◌+◌, ◌-◌, ◌*◌, ◌<◌, ◌≤◌, ℕ, arith, sym, subst, ap, length}
 use Rattle.std.specs.Prelude.{slice_range}
 use Rattle.pesp_propagate.specs.Domains.{width_of}
 use borrow.Rule.Slice.PartMut.{put_mid}

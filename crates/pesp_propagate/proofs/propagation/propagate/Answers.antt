@@ -1,4 +1,4 @@
-use Rattle.std.proofs.Common.{◌≡◌, ◌∙◌, ap, refl}
+use Rattle.std.proofs.Common.{◌∙◌, ap}
 use Rattle.pesp_network.specs.Networks.{net_of_network}
 use Rattle.pesp_propagate.specs.Rows.{RowsValue}
 use Rattle.pesp_propagate.specs.Domains.{family_of}

@@ -1,4 +1,4 @@
-use Rattle.std.proofs.Common.{arith, ◌≡◌, true, false, refl}
+use Rattle.std.proofs.Common.{arith, refl}
 use Rattle.pesp_propagate.proofs.Words.{cleared, some_bit}
 use Rattle.pesp_propagate.proofs.revise.has_none.Goals as goal
 

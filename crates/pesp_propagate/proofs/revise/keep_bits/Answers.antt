@@ -1,4 +1,4 @@
-use Rattle.std.proofs.Common.{◌∙◌, ◌*◌, arith, length}
+use Rattle.std.proofs.Common.{◌∙◌, ◌*◌, arith}
 use Rattle.pesp_propagate.proofs.Narrowing.{part_length}
 use Rattle.pesp_propagate.proofs.Masking.{masked_within}
 use Rattle.pesp_propagate.proofs.revise.keep_bits.Goals as goal

@@ -1,4 +1,4 @@
-use Rattle.std.proofs.Common.{arith, ◌≡◌, ◌∙◌, ◌+◌, ◌*◌, ◌≤◌, length}
+use Rattle.std.proofs.Common.{arith, ◌∙◌, ◌*◌, length}
 use Rattle.pesp_propagate.proofs.Narrowing.{narrowed, part_length}
 use Rattle.pesp_propagate.proofs.revise.narrow.Goals as goal
 

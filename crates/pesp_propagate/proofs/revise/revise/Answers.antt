@@ -1,5 +1,5 @@
-use Rattle.std.proofs.Common.{arith, ◌≡◌, ℕ, ◌+◌, ◌-◌, ◌%◌, ◌*◌, subst, sym, List, refl, length}
-use Rattle.pesp_propagate.specs.Sets.{Narrows, Revises}
+use Rattle.std.proofs.Common.{arith, ℕ, ◌-◌, ◌%◌, subst, refl, length}
+use Rattle.pesp_propagate.specs.Sets.{Narrows}
 use Rattle.pesp_propagate.proofs.Ends.{both_ends, loop_kept, loop_cleared}
 use Rattle.pesp_propagate.proofs.Holding.{narrows_at}
 use Rattle.pesp_propagate.proofs.Changing.{changed_both, changed_loop}

@@ -1,4 +1,4 @@
-use Rattle.std.proofs.Common.{◌≡◌, ◌<◌, ℕ, true}
+use Rattle.std.proofs.Common.{◌≡◌, ℕ, true}
 use borrow.Author.Count.{below_more}
 use Rattle.pesp_propagate.specs.Domains.{family_of}
 use Rattle.pesp_propagate.proofs.settle.outcome_of.Goals as goal

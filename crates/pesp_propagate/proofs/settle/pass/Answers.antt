@@ -1,4 +1,4 @@
-use Rattle.std.proofs.Common.{◌≡◌, ◌∙◌, ap, sym, refl, length, subst, ℕ}
+use Rattle.std.proofs.Common.{◌∙◌, sym, refl}
 use Rattle.pesp_propagate.proofs.Visiting.{takes_at, shrinks_more, none_visited, some_passed, passed_none, passed_more}
 use Rattle.pesp_propagate.proofs.settle.pass.Goals as goal
 

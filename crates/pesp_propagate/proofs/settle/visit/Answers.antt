@@ -1,4 +1,4 @@
-use Rattle.std.proofs.Common.{◌≡◌, ◌∙◌, ap, sym, ℕ}
+use Rattle.std.proofs.Common.{◌∙◌, ap, sym, ℕ}
 use Rattle.std.specs.Prelude.{Ok, Option, Result}
 use Rattle.pesp_problem.specs.declared.memory.Memory.{Memory}
 use Rattle.pesp_propagate.proofs.Visiting.{none_of, visit_result, visited, empty_at}

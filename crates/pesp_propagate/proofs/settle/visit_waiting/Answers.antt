@@ -1,8 +1,8 @@
-use Rattle.std.proofs.Common.{◌≡◌, ◌∙◌, ap, sym, ℕ, refl, subst, arith, vec_len}
+use Rattle.std.proofs.Common.{◌≡◌, ◌∙◌, sym, ℕ, refl, subst, arith, vec_len}
 use Rattle.std.specs.Prelude.{Option}
 use Rattle.pesp_propagate.specs.declared.waiting.Waiting.{Waiting}
 use Rattle.pesp_propagate.specs.Visits.{IsPass}
-use Rattle.pesp_propagate.proofs.Visiting.{settling_none, settling_more, settling_less, shrinks_both, shrinks_at, passed_at, settled, is_zero}
+use Rattle.pesp_propagate.proofs.Visiting.{settling_more, shrinks_both, shrinks_at, passed_at, settled, is_zero}
 use Rattle.pesp_propagate.proofs.settle.visit_waiting.Goals as goal
 
 pub returns-in_err-event-clause-shrinks : goal.returns-in_err-event-clause-shrinks

@@ -1,4 +1,4 @@
-use Rattle.std.proofs.Common.{arith, rules}
+use Rattle.std.proofs.Common.{arith}
 use Rattle.pesp_propagate.proofs.Words.{shifting_more, shifting_all, less_more}
 use Rattle.pesp_propagate.proofs.step.keep_shifted.Goals as goal
 

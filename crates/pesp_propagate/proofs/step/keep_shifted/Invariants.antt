@@ -1,5 +1,5 @@
+use Rattle.pesp_problem.specs.Words.{IsLess}
 use Rattle.pesp_propagate.proofs.Words.{Shifting}
-use Rattle.pesp_propagate.specs.Bits.{IsLess}
 use Rattle.pesp_propagate.proofs.step.keep_shifted.Given as goal
 
 abbrev pub invariant-loop-k : goal.invariant-loop-k

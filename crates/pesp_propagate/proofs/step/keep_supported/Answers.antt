@@ -1,4 +1,3 @@
-use Rattle.std.proofs.Common.{arith}
 use Rattle.pesp_propagate.proofs.Words.{supported_kept}
 use Rattle.pesp_propagate.proofs.step.keep_supported.Goals as goal
 

@@ -1,4 +1,3 @@
-use Rattle.std.proofs.Common.{arith}
 use Rattle.std.proofs.lemmas.Nat.Bits.{bit_at_ones}
 use Rattle.pesp_propagate.proofs.Words.{low_ones, low_zeros}
 use Rattle.pesp_propagate.proofs.step.ones.Goals as goal

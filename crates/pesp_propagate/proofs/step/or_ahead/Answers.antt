@@ -1,6 +1,6 @@
-use Rattle.std.proofs.Common.{arith, rules, length, ◌+◌, ◌≤◌, ◌≡◌, ◌∙◌}
+use Rattle.std.proofs.Common.{arith, rules, ◌∙◌}
 use Rattle.std.proofs.lemmas.Simd.{length-put_chunk}
-use Rattle.pesp_propagate.proofs.Words.{joins_more, joins_all, Joins}
+use Rattle.pesp_propagate.proofs.Words.{joins_more, joins_all}
 use Rattle.pesp_propagate.proofs.Eights.{joins_eight}
 use Rattle.pesp_propagate.proofs.step.or_ahead.Goals as goal
 

@@ -1,4 +1,4 @@
-use Rattle.std.proofs.Common.{length, ◌-◌, ◌+◌, ◌≤◌}
+use Rattle.std.proofs.Common.{length, ◌-◌, ◌≤◌}
 use Rattle.pesp_propagate.proofs.Words.{Joins}
 use Rattle.pesp_propagate.proofs.step.or_ahead.Given as goal
 

@@ -1,4 +1,4 @@
-use Rattle.std.proofs.Common.{arith, subst, sym, ◌<◌, ◌≤◌, ◌≡◌, ℕ}
+use Rattle.std.proofs.Common.{arith, subst, sym, ◌≡◌, ℕ}
 use Rattle.pesp_propagate.proofs.Words.{window_more, window_one, window_none}
 use Rattle.pesp_propagate.specs.Bits.{IsWindow}
 use Rattle.pesp_propagate.proofs.step.spread.Goals as goal

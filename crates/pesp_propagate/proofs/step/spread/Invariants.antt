@@ -1,4 +1,4 @@
-use Rattle.std.proofs.Common.{◌≡◌, ◌-◌, ◌≤◌, length}
+use Rattle.std.proofs.Common.{◌-◌, ◌≤◌}
 use Rattle.pesp_propagate.specs.Bits.{IsWindow}
 use Rattle.pesp_propagate.proofs.step.spread.Given as goal
 

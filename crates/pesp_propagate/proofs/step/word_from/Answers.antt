@@ -1,4 +1,4 @@
-use Rattle.std.proofs.Common.{◌≡◌, ◌∙◌, ℕ, ap}
+use Rattle.std.proofs.Common.{◌∙◌, ℕ, ap}
 use Rattle.std.specs.Int.{bit_at}
 use Rattle.pesp_propagate.proofs.Words.{ahead_whole, bit-ahead}
 use Rattle.pesp_propagate.proofs.step.word_from.Goals as goal

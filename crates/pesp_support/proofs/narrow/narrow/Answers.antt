@@ -1,6 +1,7 @@
 use Rattle.std.proofs.Common.{◌≡◌, arith, refl, ◌+◌, ◌-◌, ◌<◌, subst, ℕ}
+use Rattle.pesp_problem.proofs.Words.{less_step}
 use Rattle.pesp_support.specs.Sets.{family_at}
-use Rattle.pesp_support.proofs.Narrowing.{IsGap, Partly, whole, gap_first, none_yet, all_places, gap_step, partly_step, less_step}
+use Rattle.pesp_support.proofs.Narrowing.{IsGap, Partly, whole, gap_first, none_yet, all_places, gap_step, partly_step}
 use Rattle.pesp_support.proofs.narrow.narrow.Goals as goal
 
 pub returns-then-window-period-clause-narrows : goal.returns-then-window-period-clause-narrows

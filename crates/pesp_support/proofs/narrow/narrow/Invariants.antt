@@ -1,5 +1,6 @@
 use Rattle.std.proofs.Common.{◌+◌, ◌-◌, ◌≤◌}
-use Rattle.pesp_support.specs.Sets.{family_at, IsLess}
+use Rattle.pesp_problem.specs.Words.{IsLess}
+use Rattle.pesp_support.specs.Sets.{family_at}
 use Rattle.pesp_support.proofs.Narrowing.{IsGap, Partly}
 use Rattle.pesp_support.proofs.narrow.narrow.Given as goal
 

@@ -1,6 +1,6 @@
-use Rattle.std.proofs.Common.{◌≡◌, ◌∙◌, ℕ, List, arith, sym, subst, ap, length}
+use Rattle.std.proofs.Common.{◌≡◌, arith, sym, length}
 use Rattle.pesp_network.specs.Networks.{net_of_network}
-use Rattle.pesp_propagate.specs.Domains.{SetRows, family_of}
+use Rattle.pesp_propagate.specs.Domains.{family_of}
 use Rattle.pesp_propagate.specs.Full.{IsFull}
 use Rattle.pesp_propagate.proofs.Holding.{whole}
 use Rattle.pesp_propagate.proofs.Filling.{full_is, full_view}

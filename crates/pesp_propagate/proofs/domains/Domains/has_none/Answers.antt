@@ -1,4 +1,4 @@
-use Rattle.std.proofs.Common.{◌≡◌, ◌∙◌, ◌+◌, ◌*◌, ap, ℕ, List}
+use Rattle.std.proofs.Common.{◌∙◌, ◌+◌, ◌*◌, ap, ℕ, List}
 use Rattle.std.specs.Prelude.{slice_range}
 use Rattle.pesp_propagate.proofs.Holding.{some_difference}
 use Rattle.pesp_propagate.proofs.domains.Domains.has_none.Goals as goal

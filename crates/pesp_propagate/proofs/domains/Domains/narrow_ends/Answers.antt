@@ -1,4 +1,4 @@
-use Rattle.std.proofs.Common.{◌≡◌, ◌∙◌, sym, length, arith, ap, subst, ℕ}
+use Rattle.std.proofs.Common.{◌≡◌, ◌∙◌, length, arith, ap}
 use Rattle.pesp_propagate.specs.Domains.{width_of}
 use Rattle.pesp_propagate.proofs.Holding.{whole, kept_is, revised_is, revises_at, changes_at, room_is}
 use Rattle.pesp_propagate.proofs.domains.Domains.narrow_ends.Goals as goal

@@ -1,4 +1,4 @@
-use Rattle.std.proofs.Common.{◌≡◌, ◌<◌, ℕ, true, arith}
+use Rattle.std.proofs.Common.{◌≡◌, true, arith}
 use borrow.Author.Count.{below_more}
 use Rattle.pesp_propagate.specs.Waiting.{waits_at}
 use Rattle.pesp_propagate.proofs.Queueing.{listed_none, listed_more}

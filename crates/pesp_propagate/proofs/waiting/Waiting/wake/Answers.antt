@@ -1,4 +1,4 @@
-use Rattle.std.proofs.Common.{rules, ◌≡◌, ◌≢◌, ℕ, ◌+◌, ◌-◌, ◌<◌, ◌≤◌, length, vec_len, true, subst, sym, arith, refl}
+use Rattle.std.proofs.Common.{◌≡◌, ◌≢◌, ◌-◌, length, true, subst, sym, arith}
 use Rattle.pesp_propagate.specs.declared.waiting.Waiting.{Waiting}
 use Rattle.pesp_problem.specs.Arcs.{tail_of, head_of}
 use Rattle.pesp_propagate.specs.Waiting.{waits_at, Grows}

@@ -1,4 +1,4 @@
-use Rattle.std.proofs.Common.{◌≡◌, ◌≢◌, ℕ, ◌+◌, ◌-◌, ◌<◌, ◌≤◌, ◌⊎◌, length, vec_len, true}
+use Rattle.std.proofs.Common.{◌≡◌, ◌≢◌, ℕ, ◌-◌, ◌<◌, ◌≤◌, ◌⊎◌, length, true}
 use Rattle.pesp_problem.specs.Arcs.{tail_of, head_of}
 use Rattle.pesp_propagate.specs.Waiting.{waits_at, Grows}
 use Rattle.pesp_propagate.proofs.waiting.Waiting.wake.Given as goal

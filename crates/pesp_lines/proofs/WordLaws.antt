@@ -146,35 +146,35 @@ as_kind w k j e f = e ∙ ap kind_word f
 pub kind_spells : (w : List ℕ) (j : Kind) → kind_of w ≡ Some j → w ≡ kind_word j
 unfolding kind_of
 kind_spells w j h0 =
-    elim (kind_step w (codes "period") kinds.Period j _ h0) [
-      | inl e ↦ as_kind w kinds.Period j e.0 e.1
+    elim (kind_step w (codes "s") kinds.Slack j _ h0) [
+      | inl e ↦ as_kind w kinds.Slack j e.0 e.1
       | inr h1 ↦
-          elim (kind_step w (codes "answer") kinds.Answer j _ h1) [
-            | inl e ↦ as_kind w kinds.Answer j e.0 e.1
+          elim (kind_step w (codes "o") kinds.Offset j _ h1) [
+            | inl e ↦ as_kind w kinds.Offset j e.0 e.1
             | inr h2 ↦
-                elim (kind_step w (codes "time") kinds.Time j _ h2) [
-                  | inl e ↦ as_kind w kinds.Time j e.0 e.1
+                elim (kind_step w (codes "b") kinds.Bound j _ h2) [
+                  | inl e ↦ as_kind w kinds.Bound j e.0 e.1
                   | inr h3 ↦
-                      elim (kind_step w (codes "cycle") kinds.Cycle j _ h3) [
-                        | inl e ↦ as_kind w kinds.Cycle j e.0 e.1
+                      elim (kind_step w (codes "n") kinds.Nothing j _ h3) [
+                        | inl e ↦ as_kind w kinds.Nothing j e.0 e.1
                         | inr h4 ↦
-                            elim (kind_step w (codes "s") kinds.Slack j _ h4) [
-                              | inl e ↦ as_kind w kinds.Slack j e.0 e.1
+                            elim (kind_step w (codes "g") kinds.Gap j _ h4) [
+                              | inl e ↦ as_kind w kinds.Gap j e.0 e.1
                               | inr h5 ↦
-                                  elim (kind_step w (codes "o") kinds.Offset j _ h5) [
-                                    | inl e ↦ as_kind w kinds.Offset j e.0 e.1
+                                  elim (kind_step w (codes "p") kinds.Propagated j _ h5) [
+                                    | inl e ↦ as_kind w kinds.Propagated j e.0 e.1
                                     | inr h6 ↦
-                                        elim (kind_step w (codes "b") kinds.Bound j _ h6) [
-                                          | inl e ↦ as_kind w kinds.Bound j e.0 e.1
+                                        elim (kind_step w (codes "time") kinds.Time j _ h6) [
+                                          | inl e ↦ as_kind w kinds.Time j e.0 e.1
                                           | inr h7 ↦
-                                              elim (kind_step w (codes "n") kinds.Nothing j _ h7) [
-                                                | inl e ↦ as_kind w kinds.Nothing j e.0 e.1
+                                              elim (kind_step w (codes "cycle") kinds.Cycle j _ h7) [
+                                                | inl e ↦ as_kind w kinds.Cycle j e.0 e.1
                                                 | inr h8 ↦
-                                                    elim (kind_step w (codes "g") kinds.Gap j _ h8) [
-                                                      | inl e ↦ as_kind w kinds.Gap j e.0 e.1
+                                                    elim (kind_step w (codes "period") kinds.Period j _ h8) [
+                                                      | inl e ↦ as_kind w kinds.Period j e.0 e.1
                                                       | inr h9 ↦
-                                                          elim (kind_step w (codes "p") kinds.Propagated j _ h9) [
-                                                            | inl e ↦ as_kind w kinds.Propagated j e.0 e.1
+                                                          elim (kind_step w (codes "answer") kinds.Answer j _ h9) [
+                                                            | inl e ↦ as_kind w kinds.Answer j e.0 e.1
                                                             | inr h10 ↦
                                                                 elim (kind_step w (codes "pesp-certificate") kinds.Version j _ h10) [
                                                                   | inl e ↦ as_kind w kinds.Version j e.0 e.1

@@ -77,17 +77,18 @@ is_item_within End = true
 
 -- ---- reading, in three passes: the form, the numbers, the limits
 
+-- the kind of line that begins with this word
 unfoldable pub kind_of : List ℕ → Option Kind
-kind_of w = if bytes_eq w (codes "period") then Some kinds.Period else
-    if bytes_eq w (codes "answer") then Some kinds.Answer else
-    if bytes_eq w (codes "time") then Some kinds.Time else
-    if bytes_eq w (codes "cycle") then Some kinds.Cycle else
-    if bytes_eq w (codes "s") then Some kinds.Slack else
+kind_of w = if bytes_eq w (codes "s") then Some kinds.Slack else
     if bytes_eq w (codes "o") then Some kinds.Offset else
     if bytes_eq w (codes "b") then Some kinds.Bound else
     if bytes_eq w (codes "n") then Some kinds.Nothing else
     if bytes_eq w (codes "g") then Some kinds.Gap else
     if bytes_eq w (codes "p") then Some kinds.Propagated else
+    if bytes_eq w (codes "time") then Some kinds.Time else
+    if bytes_eq w (codes "cycle") then Some kinds.Cycle else
+    if bytes_eq w (codes "period") then Some kinds.Period else
+    if bytes_eq w (codes "answer") then Some kinds.Answer else
     if bytes_eq w (codes "pesp-certificate") then Some kinds.Version else
     if bytes_eq w (codes "end") then Some kinds.End else None
 

@@ -50,7 +50,10 @@ impl Model for Board {
 
     ghost coded = { board_code };
 
-    ghost view = { λ b. record { problem = b.problem; state = state_of b.tree b.slots.items (times_of b.best) } };
+    ghost view = { λ b. record {
+      problem = b.problem;
+      state = state_of b.tree b.slots.items (times_of b.best);
+    } };
 
     ghost invariant = { λ b. IsBoard b.problem b.tree b.slots.items b.queue b.best b.pairs };
 }

@@ -30,9 +30,24 @@ impl Model for Certificate {
 
     ghost Value = { Content };
 
-    ghost view = { λ c. record { version = c.version; period = c.period; answer = c.answer; times = c.times.items; cycles = c.cycles.items; tree = c.tree.items } };
+    ghost view = { λ c. record {
+      version = c.version;
+      period = c.period;
+      answer = c.answer;
+      times = c.times.items;
+      cycles = c.cycles.items;
+      tree = c.tree.items;
+    } };
 
-    ghost invariant = { λ c. keeps_limits (record { version = c.version; period = c.period; answer = c.answer; times = c.times.items; cycles = c.cycles.items; tree = c.tree.items }) ≡ true };
+    ghost invariant = { λ c. keeps_limits (record {
+      version = c.version;
+      period = c.period;
+      answer = c.answer;
+      times = c.times.items;
+      cycles = c.cycles.items;
+      tree = c.tree.items;
+    })
+        ≡ true };
 }
 
 /// The parts are no certificate's: the version is another than 1 and 2, a leaf is closed by propagation in version 1, a limit

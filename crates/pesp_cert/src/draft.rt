@@ -26,7 +26,14 @@ impl Model for Draft {
 
     ghost Value = { Content };
 
-    ghost view = { λ d. record { version = d.version; period = d.period; answer = d.answer; times = d.times.items; cycles = d.cycles.items; tree = d.tree.items } };
+    ghost view = { λ d. record {
+      version = d.version;
+      period = d.period;
+      answer = d.answer;
+      times = d.times.items;
+      cycles = d.cycles.items;
+      tree = d.tree.items;
+    } };
 }
 
 /// The walk along these rows.

@@ -111,9 +111,15 @@ impl<'a> Model for NodeWalk<'a> {
 
     ghost Value = { Standing };
 
-    ghost view = { λ w. record { problem = w.instance.now; cycles = length w.ranges.offsets.items; nodes = waiting w.is_open (node_of w.ranges) w.path.items } };
+    ghost view = { λ w. record {
+      problem = w.instance.now;
+      cycles = length w.ranges.offsets.items;
+      nodes = waiting w.is_open (node_of w.ranges) w.path.items;
+    } };
 
-    ghost invariant = { λ w. AreRanges w.instance.now w.ranges × AreChanges (length w.instance.now.rows) (length w.ranges.offsets.items) w.path.items × ForSome w.pass (λ pass. pass ≡ rows_of w.instance.now) };
+    ghost invariant = { λ w. AreRanges w.instance.now w.ranges
+        × AreChanges (length w.instance.now.rows) (length w.ranges.offsets.items) w.path.items
+        × ForSome w.pass (λ pass. pass ≡ rows_of w.instance.now) };
 }
 
 impl<'a> NodeWalk<'a> {

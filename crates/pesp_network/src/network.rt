@@ -39,9 +39,19 @@ impl Model for Network {
 
     ghost Value = { NetworkValue };
 
-    ghost view = { λ n. record { period = n.period; events = n.events; rows = n.rows.items; forest = n.kept.items } };
+    ghost view = { λ n. record {
+      period = n.period;
+      events = n.events;
+      rows = n.rows.items;
+      forest = n.kept.items;
+    } };
 
-    ghost invariant = { λ n. IsHeld (record { period = n.period; events = n.events; rows = n.rows.items; forest = n.kept.items }) n.arcs.items n.forest n.reaches };
+    ghost invariant = { λ n. IsHeld (record {
+      period = n.period;
+      events = n.events;
+      rows = n.rows.items;
+      forest = n.kept.items;
+    }) n.arcs.items n.forest n.reaches };
 }
 
 impl Network {

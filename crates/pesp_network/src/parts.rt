@@ -14,7 +14,9 @@ pub struct Growth {
     pub root: Vec<usize>,
     pub left: Vec<usize>,
     pub order: Vec<usize>,
-    ghost sized: { (vec_len by ≡ vec_len up) × (vec_len place ≡ vec_len up) × (vec_len last ≡ vec_len up) × (vec_len root ≡ vec_len up) × (vec_len left ≡ vec_len up) },
+    ghost sized: { (vec_len by ≡ vec_len up) × (vec_len place ≡ vec_len up)
+        × (vec_len last ≡ vec_len up) × (vec_len root ≡ vec_len up)
+        × (vec_len left ≡ vec_len up) },
 }
 
 /// A rooted spanning forest: for each event the event above it and the row that joins them (0 at a root), its place in
@@ -27,7 +29,8 @@ pub struct Forest {
     pub last: Vec<usize>,
     pub root: Vec<usize>,
     pub order: Vec<usize>,
-    ghost sized: { (vec_len by ≡ vec_len up) × (vec_len place ≡ vec_len up) × (vec_len last ≡ vec_len up) × (vec_len root ≡ vec_len up) },
+    ghost sized: { (vec_len by ≡ vec_len up) × (vec_len place ≡ vec_len up)
+        × (vec_len last ≡ vec_len up) × (vec_len root ≡ vec_len up) },
 }
 
 /// The first and the last place that are reached from each event or below it, by a row other than the event's own.

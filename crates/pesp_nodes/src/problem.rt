@@ -41,7 +41,8 @@ impl Model for Problem {
 
     ghost view = { λ p. record { network = p.network; table = p.table.items } };
 
-    ghost invariant = { λ p. IsPrepared (record { network = p.network; table = p.table.items }) p.nets.items p.by_row.items };
+    ghost invariant = { λ p. IsPrepared (record { network = p.network; table = p.table.items })
+        p.nets.items p.by_row.items };
 }
 
 /// Whether the walks of a table close, and are few enough.

@@ -75,7 +75,8 @@ impl Model for NodeWalk {
 
     ghost view = { λ w. waiting w.is_open w.node w.path.items };
 
-    ghost invariant = { λ w. AreChanges (length w.node.slacks) (length w.node.offsets) w.path.items };
+    ghost invariant = { λ w. AreChanges (length w.node.slacks) (length w.node.offsets)
+        w.path.items };
 }
 
 impl NodeWalk {

@@ -27,9 +27,17 @@ impl Model for Instance {
 
     ghost Value = { Pesp };
 
-    ghost view = { λ s. record { period = s.period; events = s.events.items; rows = s.rows.items } };
+    ghost view = { λ s. record {
+      period = s.period;
+      events = s.events.items;
+      rows = s.rows.items;
+    } };
 
-    ghost invariant = { λ s. KeepsLimits (record { period = s.period; events = s.events.items; rows = s.rows.items }) };
+    ghost invariant = { λ s. KeepsLimits (record {
+      period = s.period;
+      events = s.events.items;
+      rows = s.rows.items;
+    }) };
 }
 
 impl Instance {

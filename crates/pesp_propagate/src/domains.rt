@@ -34,7 +34,12 @@ impl Model for Domains {
 
     ghost view = { λ d. record { period = d.period; events = d.events; words = d.words.items } };
 
-    ghost invariant = { λ d. AreKept (record { period = d.period; events = d.events; words = d.words.items }) × HasRoom d.period (length d.beside.items) (length d.twice.items) };
+    ghost invariant = { λ d. AreKept (record {
+      period = d.period;
+      events = d.events;
+      words = d.words.items;
+    })
+        × HasRoom d.period (length d.beside.items) (length d.twice.items) };
 }
 
 /// How many words a set has.

@@ -35,7 +35,8 @@ impl Model for Rows {
 
     ghost view = { λ r. record { period = r.period; events = r.events; arcs = r.arcs.items } };
 
-    ghost invariant = { λ r. (length r.arcs.items ≤ 100000) × HaveEnds r.events r.arcs.items × AreChains r.arcs.items r.events r.chains };
+    ghost invariant = { λ r. (length r.arcs.items ≤ 100000) × HaveEnds r.events r.arcs.items
+        × AreChains r.arcs.items r.events r.chains };
 }
 
 impl Rows {

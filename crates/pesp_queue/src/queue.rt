@@ -33,9 +33,15 @@ impl Model for Queue {
 
     ghost Value = { QueueValue };
 
-    ghost view = { λ q. record { waiting = take q.waiting q.entries.items; parked = drop q.waiting q.entries.items; numbers = length q.places.items; room = q.room } };
+    ghost view = { λ q. record {
+      waiting = take q.waiting q.entries.items;
+      parked = drop q.waiting q.entries.items;
+      numbers = length q.places.items;
+      room = q.room;
+    } };
 
-    ghost invariant = { λ q. IsHeld q.entries.items q.waiting q.places.items q.room (vec_capacity q.entries) };
+    ghost invariant = { λ q. IsHeld q.entries.items q.waiting q.places.items q.room
+        (vec_capacity q.entries) };
 }
 
 impl Queue {

@@ -39,7 +39,13 @@ impl Model for Reduced {
 
     ghost Value = { ReducedValue };
 
-    ghost view = { λ r. record { original = r.original; fates = r.fates.items; stands = r.contraction.stands.items; shifts = r.contraction.shifts.items; network = r.network } };
+    ghost view = { λ r. record {
+      original = r.original;
+      fates = r.fates.items;
+      stands = r.contraction.stands.items;
+      shifts = r.contraction.shifts.items;
+      network = r.network;
+    } };
 
     ghost invariant = { λ r. IsReduction r.original r.fates.items r.whole r.contraction r.network };
 }

@@ -91,7 +91,8 @@ impl<A: Printed, B: Printed, C: Printed, D: Printed, E: Printed> Printed for (A,
 
 impl<A: Printed, B: Printed, C: Printed, D: Printed, E: Printed, F: Printed> Printed
     for (A, B, C, D, E, F) {
-    ghost text = { λ t. A.text t.0 ++ B.text t.1 ++ C.text t.2 ++ D.text t.3 ++ E.text t.4 ++ F.text t.5 };
+    ghost text = { λ t. A.text t.0 ++ B.text t.1 ++ C.text t.2 ++ D.text t.3 ++ E.text t.4
+        ++ F.text t.5 };
 
     fn print<O: Output>(&self, out: &mut O) {
         self.0.print(out);
@@ -105,7 +106,8 @@ impl<A: Printed, B: Printed, C: Printed, D: Printed, E: Printed, F: Printed> Pri
 
 impl<A: Printed, B: Printed, C: Printed, D: Printed, E: Printed, F: Printed, G: Printed> Printed
     for (A, B, C, D, E, F, G) {
-    ghost text = { λ t. A.text t.0 ++ B.text t.1 ++ C.text t.2 ++ D.text t.3 ++ E.text t.4 ++ F.text t.5 ++ G.text t.6 };
+    ghost text = { λ t. A.text t.0 ++ B.text t.1 ++ C.text t.2 ++ D.text t.3 ++ E.text t.4
+        ++ F.text t.5 ++ G.text t.6 };
 
     fn print<O: Output>(&self, out: &mut O) {
         self.0.print(out);
@@ -128,7 +130,8 @@ impl<
     G: Printed,
     H: Printed,
 > Printed for (A, B, C, D, E, F, G, H) {
-    ghost text = { λ t. A.text t.0 ++ B.text t.1 ++ C.text t.2 ++ D.text t.3 ++ E.text t.4 ++ F.text t.5 ++ G.text t.6 ++ H.text t.7 };
+    ghost text = { λ t. A.text t.0 ++ B.text t.1 ++ C.text t.2 ++ D.text t.3 ++ E.text t.4
+        ++ F.text t.5 ++ G.text t.6 ++ H.text t.7 };
 
     fn print<O: Output>(&self, out: &mut O) {
         self.0.print(out);

@@ -32,9 +32,16 @@ impl Model for Support {
 
     ghost Value = { Rows };
 
-    ghost view = { λ s. record { net = record { period = s.period; arcs = s.arcs.items }; events = s.events } };
+    ghost view = { λ s. record {
+      net = record { period = s.period; arcs = s.arcs.items };
+      events = s.events;
+    } };
 
-    ghost invariant = { λ s. AreReady (record { net = record { period = s.period; arcs = s.arcs.items }; events = s.events }) s.firsts.items (length s.words.items) (length s.before.items) (length s.now.items) };
+    ghost invariant = { λ s. AreReady (record {
+      net = record { period = s.period; arcs = s.arcs.items };
+      events = s.events;
+    })
+        s.firsts.items (length s.words.items) (length s.before.items) (length s.now.items) };
 }
 
 /// Puts every place into the set.

@@ -40,7 +40,8 @@ impl Model for WorkTree {
 
     ghost view = { λ t. value_of t.branchings.items t.nodes.items t.room };
 
-    ghost invariant = { λ t. AreKept t.branchings.items t.nodes.items t.room (vec_capacity t.branchings) (vec_capacity t.nodes) };
+    ghost invariant = { λ t. AreKept t.branchings.items t.nodes.items t.room
+        (vec_capacity t.branchings) (vec_capacity t.nodes) };
 }
 
 impl WorkTree {

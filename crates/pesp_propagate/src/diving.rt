@@ -157,6 +157,19 @@ fn descend(
     Ok(None)
 }
 
+/// What a try found, where it is a timetable.
+fn tested(network: &Network, found: Option<Vec<u32>>) -> Option<Vec<u32>>
+    ensures { IfSome result
+        (λ times. IsNetTimetable (net_of_network network.now) network.now.events times.items) }
+{
+    let times = found?;
+    if network.is_timetable(&times) {
+        Some(times)
+    } else {
+        None
+    }
+}
+
 /// So many tries with some experience.
 fn try_again(
     alloc: Global,
@@ -177,9 +190,9 @@ fn try_again(
     for attempt in 0..tries {
         let sixteenths = if attempt == 0 { 0 } else { MOST_CHANCE };
         let found = descend(alloc, &rows, &ranges, &start, &mut experience, sixteenths)?;
-        let Some(times) = found else { continue };
-        if network.is_timetable(&times) {
-            return Ok(Some(times));
+        let timetable = tested(network, found);
+        if timetable.is_some() {
+            return Ok(timetable);
         }
     }
     Ok(None)

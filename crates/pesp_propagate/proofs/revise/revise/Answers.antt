@@ -8,7 +8,7 @@ use Rattle.pesp_propagate.proofs.revise.revise.Goals.{then-low-back+then-back-hi
 
 pub returns-clause-revises : goal.returns-clause-revises
 returns-clause-revises c =
-    both_ends c.args.period (length c.args.beside.now) c.shift_of-shift.result c.args.arc.now c.args.range.0 c.args.range.1 c.min-high.result c.saturating_sub-count.result c.args.words.now _ _ c.min-high.ensures (omega (arith, c.saturating_sub-count.ensures)) c.requires.period.0 c.if-tail-head.false c.requires.clear
+    both_ends c.args.period (length c.args.beside.now) c.shift_of-shift.result c.args.arc.now c.args.range.0 c.args.range.1 c.min-high.result c.saturating_sub-count.result c.args.words.now _ _ c.min-high.ensures c.saturating_sub-count.ensures c.requires.period.0 c.if-tail-head.false c.requires.clear
     c.shift_of-shift.ensures c.narrow-fewer_tails.ensures.narrows (narrows_at c.args.period _ (length c.args.beside.now) _ _ _ _ _ _ c.narrow-fewer_tails.auto.beside c.narrow-fewer_heads.ensures.narrows)
 
 pub returns-then-tail-head-clause-revises : goal.returns-then-tail-head-clause-revises

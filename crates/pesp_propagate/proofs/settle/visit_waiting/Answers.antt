@@ -1,9 +1,12 @@
-use Rattle.std.proofs.Common.{◌≡◌, ◌∙◌, sym, ℕ, refl, subst, arith, vec_len}
+use Rattle.std.proofs.Common.{◌≡◌, ◌∙◌, sym, ℕ, refl, subst, arith, rules, vec_len}
 use Rattle.std.specs.Prelude.{Option}
 use Rattle.pesp_propagate.specs.declared.waiting.Waiting.{Waiting}
 use Rattle.pesp_propagate.specs.Visits.{IsPass}
 use Rattle.pesp_propagate.proofs.Visiting.{settling_more, shrinks_both, shrinks_at, passed_at, settled, is_zero}
 use Rattle.pesp_propagate.proofs.settle.visit_waiting.Goals as goal
+
+pub pass-requires-clause-listed : goal.pass-requires-clause-listed
+pass-requires-clause-listed c = search rules
 
 pub returns-in_err-event-clause-shrinks : goal.returns-in_err-event-clause-shrinks
 returns-in_err-event-clause-shrinks c =

@@ -15,3 +15,11 @@ loop-rest-preserved-in-Ok g c =
     let n = c.in-Ok.n in
     let bytes = c.in-Ok.ensures.bytes in
     ((done ++ take n rest, moves_front _ done rest n split, Appends-trans _ _ _ _ _ appended bytes), search rules)
+
+pub returns-in-Ok-eq0-clause-text : goal.returns-in-Ok-eq0-clause-text
+returns-in-Ok-eq0-clause-text g c =
+    let (done, split, appended) = c.loop-rest.invariant.0 in
+    record { front = done; rest = c.loop-rest.rest.now; whole = split; appended = search rules }
+
+pub returns-in-Ok-eq0-clause-counts : goal.returns-in-Ok-eq0-clause-counts
+returns-in-Ok-eq0-clause-counts g c = tt

@@ -15,3 +15,12 @@ make_tree-requires-clause-node c = record { path = c.args.path.now; at = c.in_ok
 
 pub returns-in-Propagated : goal.returns-in-Propagated
 returns-in-Propagated c = rw (c.in-Propagated.is) (subst (λ (n : Node). MakesOf c.args.problem.now n c.args.old.now works.Propagated c.make_propagated.result) c.in_ok-node.ensures.at (c.make_propagated.ensures c.args.old.now))
+
+pub make_branch-requires-clause-at : goal.make_branch-requires-clause-at
+make_branch-requires-clause-at c = c.in_ok-node.ensures.at
+
+pub returns-in-Split : goal.returns-in-Split
+returns-in-Split c = rw (c.in-Split.is) (subst (λ (n : Node). MakesOf c.args.problem.now n c.args.old.now (works.Split c.in-Split.cut) c.make_branch.result) c.in_ok-node.ensures.at c.make_branch.ensures)
+
+pub returns-in-Tree : goal.returns-in-Tree
+returns-in-Tree c = rw (c.in-Tree.is) (subst (λ (n : Node). MakesOf c.args.problem.now n c.args.old.now (works.Tree c.in-Tree.lines) c.make_tree.result) c.in_ok-node.ensures.at c.make_tree.ensures)

@@ -25,7 +25,7 @@ use Rattle.pesp_truth.proofs.Lines.{whole_tree}
 use Rattle.pesp_nodes.specs.Problems.{ProblemValue, net_of, IsSmallTable, IsPairOf, ArePairs, Rise}
 use Rattle.pesp_text.specs.Number.{NATURALS}
 use Rattle.pesp_lines.specs.Rows.{is_name, rows_are_named}
-use Rattle.pesp_lines.specs.Pairs.{is_pair_within, all_within}
+use Rattle.pesp_lines.specs.Pairs.{is_pair_within, all_within, follows, rise_from}
 use Rattle.pesp_lines.proofs.Tests.{and_both}
 use Rattle.pesp_machine.specs.Leaves.{least_value, told}
 use Rattle.pesp_machine.specs.States.{State, BoardValue, root_of, least, best_cost}
@@ -34,7 +34,7 @@ use Rattle.pesp_machine.specs.Limits as machine
 use Rattle.pesp_machine.specs.Reached.{IsOrderly}
 use Rattle.pesp_machine.specs.Certificates.{answer_of, is_propagated, version_of, ShowsBest, IsCertificateOf}
 use Rattle.pesp_machine.proofs.Costs.{costs_are_small}
-use Rattle.pesp_cert.specs.Limits.{has_costs, is_time, is_cycle, follows, rise_from, is_line, has_line, pairs_in, total_pairs, KeepsLimits}
+use Rattle.pesp_cert.specs.Limits.{has_costs, is_time, is_cycle, is_line, has_line, pairs_in, total_pairs, KeepsLimits}
 
 -- ---- costs
 

@@ -6,7 +6,6 @@ use Rattle.std.proofs.lemmas.Bool.{ne_eqb, eqb-true}
 use Rattle.std.proofs.lemmas.Bool.Decides.{nat_tests}
 use Rattle.std.proofs.lemmas.List.Sums.{sum_by-cons}
 use Rattle.pesp_problem.specs.declared.row.SignedRow.{SignedRow}
-use Rattle.pesp_problem.specs.declared.pair.Pair.{Pair}
 use Rattle.pesp_truth.specs.declared.answer.Answer.{Answer}
 use Rattle.pesp_truth.specs.declared.answer.Answer.TheVariants as answers
 use Rattle.pesp_truth.specs.declared.tree.TreeLine.{TreeLine}
@@ -21,11 +20,11 @@ use Rattle.pesp_lines.specs.declared.progress.Place.{Place}
 use Rattle.pesp_lines.specs.declared.progress.Place.TheVariants as places
 use Rattle.pesp_lines.specs.declared.progress.Progress.{Progress}
 use Rattle.pesp_lines.specs.Rows.{rows_are_named}
-use Rattle.pesp_lines.specs.Pairs.{all_within, RiseFrom}
+use Rattle.pesp_lines.specs.Pairs.{rise_from, all_within}
 use Rattle.pesp_lines.specs.Items.{IsProper, HasProperCosts, is_item_within}
 use Rattle.pesp_lines.specs.Counts.{start, after, after_tree, allows, may_follow, has_kind, is_end_kind, keeps_counts, kind_in, CanStand}
 use Rattle.pesp_lines.proofs.Tests.{and_left, and_right, and_both}
-use Rattle.pesp_cert.specs.Limits.{has_costs, is_period, is_time, are_times, is_cycle, total_rows, are_cycles, follows, rise_from, is_line, is_branch, pairs_in, total_pairs, are_lines, has_line, has_lines, keeps_limits, KeepsLimits}
+use Rattle.pesp_cert.specs.Limits.{has_costs, is_period, is_time, are_times, is_cycle, total_rows, are_cycles, is_line, is_branch, pairs_in, total_pairs, are_lines, has_line, has_lines, keeps_limits, KeepsLimits}
 use Rattle.pesp_cert.specs.Texts.{is_end, IsRun, HasText, time_item, tree_item}
 use Rattle.pesp_cert.proofs.LimitFacts.{limits_of}
 
@@ -57,21 +56,11 @@ proper_costs answers.Infeasible h = refl
 proper_costs (answers.Bounded least None) h = grind (arith, nat_tests, h.0)
 proper_costs (answers.Bounded least (Some c)) h = grind (arith, nat_tests, h.0, h.1)
 
-rises : (least : ℕ) (ps : List Pair) → rise_from least ps ≡ true → RiseFrom least ps
-rises least [] h = tt
-rises least (p ∷ ps) h =
-    let one = and_left (follows least p) (rise_from (p.cycle + 1) ps) h in
-    (grind (arith, nat_tests, one), grind (arith, nat_tests, one), rises (p.cycle + 1) ps (and_right (follows least p) (rise_from (p.cycle + 1) ps) h))
-
-pub do_rise : (least : ℕ) (ps : List Pair) → RiseFrom least ps → rise_from least ps ≡ true
-do_rise least [] h = refl
-do_rise least (p ∷ ps) h = and_both (follows least p) (rise_from (p.cycle + 1) ps) (grind (arith, nat_tests, h.0, h.1)) (do_rise (p.cycle + 1) ps h.2)
-
 line_proper : (line : TreeLine) → is_line line ≡ true → IsProper (tree_item line)
 line_proper (lines.Slack row k) h = tt
 line_proper (lines.Offset cycle k) h = tt
-line_proper (lines.Bound ps) h = rises 0 ps (and_left (rise_from 0 ps) (all_within ps) h)
-line_proper (lines.Nothing ps) h = rises 0 ps (and_left (rise_from 0 ps) (all_within ps) h)
+line_proper (lines.Bound ps) h = and_left (rise_from 0 ps) (all_within ps) h
+line_proper (lines.Nothing ps) h = and_left (rise_from 0 ps) (all_within ps) h
 line_proper (lines.Gap cycle) h = tt
 line_proper lines.Propagated h = tt
 
@@ -86,8 +75,8 @@ line_within lines.Propagated h = h
 proper_line : (line : TreeLine) → IsProper (tree_item line) → is_item_within (tree_item line) ≡ true → is_line line ≡ true
 proper_line (lines.Slack row k) h w = w
 proper_line (lines.Offset cycle k) h w = w
-proper_line (lines.Bound ps) h w = and_both (rise_from 0 ps) (all_within ps) (do_rise 0 ps h) w
-proper_line (lines.Nothing ps) h w = and_both (rise_from 0 ps) (all_within ps) (do_rise 0 ps h) w
+proper_line (lines.Bound ps) h w = and_both (rise_from 0 ps) (all_within ps) h w
+proper_line (lines.Nothing ps) h w = and_both (rise_from 0 ps) (all_within ps) h w
 proper_line (lines.Gap cycle) h w = w
 proper_line lines.Propagated h w = w
 

@@ -11,7 +11,7 @@ use Rattle.pesp_truth.specs.declared.answer.Answer.TheVariants as answers
 use Rattle.pesp_lines.specs.declared.progress.Progress.{Progress}
 use Rattle.pesp_text.specs.Number.{NATURALS}
 use Rattle.pesp_text.specs.Words.{spaced, line_of}
-use Rattle.pesp_lines.specs.Pairs.{pair_words, is_pair_within, all_within, RiseFrom}
+use Rattle.pesp_lines.specs.Pairs.{pair_words, is_pair_within, all_within, follows, rise_from}
 use Rattle.pesp_lines.specs.declared.item.Item.{Item}
 use Rattle.pesp_lines.specs.declared.item.Item.TheVariants.{Version, Period, Answer as Says, Time, Cycle, Slack, Offset, Bound, Nothing, Gap, Propagated, End}
 use Rattle.pesp_lines.specs.Rows.{is_name, rows_are_named, row_word, row_words}
@@ -34,12 +34,15 @@ int_len (pos n) lt = omega (arith, nat_len n lt)
 int_len (negsuc n) lt = omega (arith, nat_len (suc n) lt)
 
 -- the pairs rise below 100001, so there are few of them
-pairs_few : (least : ℕ) (ps : List Pair) → least ≤ 100001 → RiseFrom least ps → all_within ps ≡ true → least + length ps ≤ 100001
+pub pairs_few : (least : ℕ) (ps : List Pair) → least ≤ 100001 → rise_from least ps ≡ true → all_within ps ≡ true → least + length ps ≤ 100001
 pairs_few least [] le h k = omega (arith, le)
 pairs_few least (p ∷ ps) le h k =
     let within = and_left (is_pair_within p) (all_within ps) k in
     let small : p.cycle ≤ 100000 = grind (arith, nat_tests, within) in
-    omega (arith, h.0, pairs_few (p.cycle + 1) ps (omega (arith, small)) h.2 (and_right (is_pair_within p) (all_within ps) k))
+    let first = and_left (follows least p) (rise_from (p.cycle + 1) ps) h in
+    let low : least ≤ p.cycle = grind (arith, nat_tests, first) in
+    let rest = and_right (follows least p) (rise_from (p.cycle + 1) ps) h in
+    omega (arith, low, pairs_few (p.cycle + 1) ps (omega (arith, small)) rest (and_right (is_pair_within p) (all_within ps) k))
 
 pub pairs_len : (ps : List Pair) → all_within ps ≡ true → length (spaced (pair_words ps)) ≤ 39 * length ps
 pairs_len [] h = omega arith
@@ -50,7 +53,7 @@ pairs_len (p ∷ ps) h =
     let first : length (decimal p.cycle ++ 32 ∷ (signed_decimal p.mult ++ rest)) ≡ length (decimal p.cycle) + suc (length (signed_decimal p.mult ++ rest)) = length-append (decimal p.cycle) (32 ∷ (signed_decimal p.mult ++ rest)) in
     omega (arith, first, second, nat_len p.cycle (cycle_below p one), int_len p.mult (mult_below p one), pairs_len ps (and_right (is_pair_within p) (all_within ps) h))
 
-leaf_short : (ps : List Pair) → RiseFrom 0 ps → all_within ps ≡ true → length (spaced (pair_words ps)) ≤ 3900039
+leaf_short : (ps : List Pair) → rise_from 0 ps ≡ true → all_within ps ≡ true → length (spaced (pair_words ps)) ≤ 3900039
 leaf_short ps h k = omega (arith, pairs_len ps k, pairs_few 0 ps (omega arith) h k)
 
 row_len : (r : SignedRow) → is_name r.row ≡ true → length (row_word r) ≤ 7

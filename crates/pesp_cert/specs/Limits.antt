@@ -1,5 +1,5 @@
 -- The limits that every certificate keeps.
-use Rattle.std.specs.Prelude.{◌≡◌, ℕ, ◌+◌, ◌≤◌, Bool, true, false, ◌&&◌, not, ◌==◌, nat_lt, nat_le, ℤ, nat_abs, Option, Some, None, List, [], ◌∷◌, length, map}
+use Rattle.std.specs.Prelude.{◌≡◌, ℕ, ◌≤◌, Bool, true, false, ◌&&◌, nat_lt, nat_le, ℤ, nat_abs, Option, Some, None, List, length, map}
 use Rattle.std.specs.List.{list_all, sum_by}
 use Rattle.pesp_problem.specs.declared.row.SignedRow.{SignedRow}
 use Rattle.pesp_problem.specs.declared.pair.Pair.{Pair}
@@ -11,7 +11,7 @@ use Rattle.pesp_truth.specs.Trees.{are_trees}
 use Rattle.pesp_truth.specs.Certificates.{Content, line_of, lines_of}
 use Rattle.pesp_text.specs.Number.{NATURALS}
 use Rattle.pesp_lines.specs.Rows.{is_name, rows_are_named}
-use Rattle.pesp_lines.specs.Pairs.{all_within}
+use Rattle.pesp_lines.specs.Pairs.{rise_from, all_within}
 
 -- costs have at most 18 digits
 abbrev pub is_cost : Option ℕ → Bool
@@ -43,15 +43,6 @@ total_rows cycles = sum_by (λ rows. length rows) cycles
 
 abbrev pub are_cycles : List (List SignedRow) → Bool
 are_cycles cycles = nat_le (length cycles) 100000 && nat_le (total_rows cycles) 10000000 && list_all is_cycle cycles
-
--- a cycle number of at least `least`, and a multiplier other than 0
-abbrev pub follows : ℕ → Pair → Bool
-follows least p = nat_le least p.cycle && not (nat_abs p.mult == 0)
-
--- the cycle numbers rise from least on, and no multiplier is 0
-abbrev pub rise_from : ℕ → List Pair → Bool
-rise_from least [] = true
-rise_from least (p ∷ ps) = follows least p && rise_from (p.cycle + 1) ps
 
 abbrev pub are_pairs : List Pair → Bool
 are_pairs ps = rise_from 0 ps && all_within ps

@@ -7,9 +7,10 @@ use Rattle.std.proofs.lemmas.List.Elements.{All-nil, All-cons}
 use Rattle.pesp_problem.specs.declared.pair.Pair.{Pair}
 use Rattle.pesp_truth.specs.declared.tree.TreeLine.{TreeLine}
 use Rattle.pesp_truth.specs.declared.tree.TreeLine.TheVariants.{Slack, Offset, Bound, Nothing, Gap, Propagated}
-use Rattle.pesp_lines.specs.Pairs.{is_pair_within, all_within}
+use Rattle.pesp_lines.specs.Pairs.{is_pair_within, all_within, follows, rise_from}
 use Rattle.pesp_lines.specs.Rows.{is_name}
-use Rattle.pesp_cert.specs.Limits.{follows, rise_from, are_pairs, is_line}
+use Rattle.pesp_cert.specs.Limits.{are_pairs, is_line}
+use Rattle.pesp_cert.proofs.ShortLaws.{pairs_few}
 use Rattle.pesp_check.specs.Lines.{ArePairLimits, KeepsLineLimits}
 
 both : (a b : Bool) → (a && b) ≡ true → (a ≡ true) × (b ≡ true)
@@ -18,18 +19,6 @@ both false b e = cc
 
 le_of : (a b : ℕ) → nat_le a b ≡ true → a ≤ b
 le_of a b e = grind (arith, nat_tests)
-
--- the numbers of cycles rise, so that a leaf has no more pairs than there can be cycles
-few_from : (least : ℕ) (pairs : List Pair) → rise_from least pairs ≡ true → list_all is_pair_within pairs ≡ true → least ≤ 100001 → least + length pairs ≤ 100001
-few_from least [] r w l = omega arith
-few_from least (pair ∷ pairs) r w l =
-    let here = both (follows least pair) (rise_from (pair.cycle + 1) pairs) r in
-    let low = le_of least pair.cycle ((both (nat_le least pair.cycle) _ here.0).0) in
-    let within = both (is_pair_within pair) (list_all is_pair_within pairs) w in
-    let numbers = both (nat_le 1 pair.cycle && nat_le pair.cycle 100000) (nat_le (nat_abs pair.mult) 1000000000000) within.0 in
-    let high = le_of pair.cycle 100000 ((both (nat_le 1 pair.cycle) (nat_le pair.cycle 100000) numbers.0).1) in
-    let rest = few_from (pair.cycle + 1) pairs here.1 within.1 (omega arith) in
-    omega arith
 
 mults_of : (pairs : List Pair) → list_all is_pair_within pairs ≡ true → All (λ pair. unsigned_abs pair.mult ≤ 1000000000000) pairs
 mults_of [] w = All-nil (λ (pair : Pair). unsigned_abs pair.mult ≤ 1000000000000)
@@ -51,8 +40,7 @@ pair_limits pairs e =
         let numbers = both (nat_le 1 pair.cycle && nat_le pair.cycle 100000) (nat_le (nat_abs pair.mult) 1000000000000) within.0 in
         let low = le_of 1 pair.cycle ((both (nat_le 1 pair.cycle) (nat_le pair.cycle 100000) numbers.0).0) in
         let high = le_of pair.cycle 100000 ((both (nat_le 1 pair.cycle) (nat_le pair.cycle 100000) numbers.0).1) in
-        let rest = few_from (pair.cycle + 1) pairs here.1 within.1 (omega arith) in
-        omega arith
+        omega (arith, pairs_few (pair.cycle + 1) pairs (omega (arith, high)) here.1 within.1)
 
 line_keeps : (line : TreeLine) → is_line line ≡ true → KeepsLineLimits line
 line_keeps (Slack row k) e = le_of k 9999 ((both (is_name row) (nat_le k 9999) e).1)

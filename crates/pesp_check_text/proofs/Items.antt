@@ -7,10 +7,8 @@ use Rattle.pesp_lines.specs.declared.item.Item.TheVariants.{Version, Period, Ans
 use Rattle.pesp_lines.specs.declared.progress.Progress.{Progress}
 use Rattle.pesp_lines.specs.Counts.{CanStand, after, keeps_counts}
 use Rattle.pesp_lines.specs.Rows.{is_name}
-use Rattle.pesp_lines.specs.Pairs.{all_within}
+use Rattle.pesp_lines.specs.Pairs.{rise_from, all_within}
 use Rattle.pesp_lines.proofs.Tests.{and_left, and_right, and_both}
-use Rattle.pesp_cert.specs.Limits.{rise_from}
-use Rattle.pesp_cert.proofs.Runs.{do_rise}
 use Rattle.pesp_check.proofs.Limits.{pair_limits}
 use Rattle.pesp_check_text.specs.Items.{KeepsItemLimits}
 
@@ -31,8 +29,8 @@ item_limits p (Time label time) h = tt
 item_limits p (Cycle rows) h = let few = few_rows (after p (Cycle rows)) h.counts in omega (arith, few)
 item_limits p (Slack row k) h = le_of k 9999 (and_right (is_name row) (nat_le k 9999) h.within)
 item_limits p (Offset cycle k) h = le_of (nat_abs k) 100000000000000 (and_right (is_name cycle) (nat_le (nat_abs k) 100000000000000) h.within)
-item_limits p (Bound ps) h = pair_limits ps (and_both (rise_from 0 ps) (all_within ps) (do_rise 0 ps h.proper) h.within)
-item_limits p (Nothing ps) h = pair_limits ps (and_both (rise_from 0 ps) (all_within ps) (do_rise 0 ps h.proper) h.within)
+item_limits p (Bound ps) h = pair_limits ps (and_both (rise_from 0 ps) (all_within ps) h.proper h.within)
+item_limits p (Nothing ps) h = pair_limits ps (and_both (rise_from 0 ps) (all_within ps) h.proper h.within)
 item_limits p (Gap cycle) h = tt
 item_limits p Propagated h = tt
 item_limits p End h = tt

@@ -1,5 +1,5 @@
 -- What is read is spelt so, and what is spelt is read: words, pairs, rows, answers.
-use Rattle.std.proofs.Common.{◌≡◌, ℕ, ◌+◌, ◌<◌, Bool, true, false, cond, not, ◌&&◌, List, [], ◌∷◌, get_or, drop, Option, Some, None, refl, ap, ◌∙◌, arith, inl, inr}
+use Rattle.std.proofs.Common.{◌≡◌, ℕ, ◌+◌, ◌<◌, ◌≤◌, Bool, true, false, cond, not, ◌&&◌, List, [], ◌∷◌, get_or, drop, Option, Some, None, refl, ap, ◌∙◌, arith, inl, inr}
 use Rattle.std.specs.Prelude.{ℤ, nat_abs, nat_le, ◌==◌, ◌⊎◌, codes, decimal, slice_index}
 use Rattle.std.specs.Str.{bytes_eq}
 use Rattle.std.specs.Fmt.{signed_decimal}
@@ -13,10 +13,10 @@ use Rattle.pesp_problem.specs.declared.pair.Pair.{Pair}
 use Rattle.pesp_lines.specs.declared.kind.Kind.{Kind}
 use Rattle.pesp_lines.specs.declared.kind.Kind.TheVariants as kinds
 use Rattle.pesp_text.specs.Number.{NATURALS, natural_of, whole_of}
-use Rattle.pesp_lines.specs.Pairs.{pair_at, pairs_from, pair_words, is_pair_within, all_within, RiseFrom}
+use Rattle.pesp_lines.specs.Pairs.{pair_at, pairs_from, pair_words, is_pair_within, all_within, follows, rise_from}
 use Rattle.pesp_lines.specs.Rows.{row_at, row_made, row_word, row_words, rows_of, rows_are_named, signed, both, is_name}
 use Rattle.pesp_lines.specs.Items.{kind_of}
-use Rattle.pesp_lines.proofs.Tests.{and_left, and_right, cases}
+use Rattle.pesp_lines.proofs.Tests.{and_left, and_right, and_both, cases}
 use Rattle.pesp_text.proofs.Digits.{natural_spells, natural_read, whole_spells, whole_read}
 use Rattle.pesp_lines.proofs.PairLoop.{pair_parts}
 
@@ -29,9 +29,14 @@ joined a b xs ys e f = cc
 
 -- ---- pairs
 
-pub pairs_spell : (least : ℕ) (ws : List (List ℕ)) (ps : List Pair) → pairs_from least ws ≡ Some ps → (ws ≡ pair_words ps) × RiseFrom least ps
+now_rise : (least : ℕ) (p : ℕ × ℤ) (ps : List Pair) → least ≤ p.0 → 0 < nat_abs p.1 → rise_from (p.0 + 1) ps ≡ true → rise_from least (record { cycle = p.0; mult = p.1 } ∷ ps) ≡ true
+now_rise least p ps low some rest =
+    let one : (nat_le least p.0 && not (nat_abs p.1 == 0)) ≡ true = grind (arith, nat_tests, low, some) in
+    and_both (nat_le least p.0 && not (nat_abs p.1 == 0)) (rise_from (p.0 + 1) ps) one rest
+
+pub pairs_spell : (least : ℕ) (ws : List (List ℕ)) (ps : List Pair) → pairs_from least ws ≡ Some ps → (ws ≡ pair_words ps) × (rise_from least ps ≡ true)
 unfolding pairs_from
-pairs_spell least [] ps h = let e : [] ≡ ps = same_Some [] ps h in rw (← e) (refl, tt)
+pairs_spell least [] ps h = let e : [] ≡ ps = same_Some [] ps h in rw (← e) (refl, refl)
 pairs_spell least (c ∷ []) ps h = absurd cc
 pairs_spell least (c ∷ m ∷ ws) ps h =
     option_and_then_some (λ (p : ℕ × ℤ). option_map (λ (qs : List Pair). record { cycle = p.0; mult = p.1 } ∷ qs) (pairs_from (p.0 + 1) ws)) (pair_at least c m) ps h (λ p good made.
@@ -40,7 +45,7 @@ pairs_spell least (c ∷ m ∷ ws) ps h =
     let others = pairs_spell (p.0 + 1) ws rest.0 rest.1 in
     let cycle = natural_spells c p.0 parts.cycle in
     let mult = whole_spells m p.1 parts.mult in
-    rw (← rest.2) (joined c (decimal p.0) (m ∷ ws) (signed_decimal p.1 ∷ pair_words rest.0) cycle.1 (joined m (signed_decimal p.1) ws (pair_words rest.0) mult.1 others.0), (parts.rises, parts.nonzero, others.1)))
+    rw (← rest.2) (joined c (decimal p.0) (m ∷ ws) (signed_decimal p.1 ∷ pair_words rest.0) cycle.1 (joined m (signed_decimal p.1) ws (pair_words rest.0) mult.1 others.0), now_rise least p rest.0 parts.rises parts.nonzero others.1))
 
 pub cycle_below : (p : Pair) → is_pair_within p ≡ true → p.cycle < NATURALS
 cycle_below p h = grind (arith, nat_tests, h)
@@ -48,15 +53,15 @@ cycle_below p h = grind (arith, nat_tests, h)
 pub mult_below : (p : Pair) → is_pair_within p ≡ true → nat_abs p.mult < NATURALS
 mult_below p h = grind (arith, nat_tests, h)
 
-pub pairs_read : (least : ℕ) (ps : List Pair) → RiseFrom least ps → all_within ps ≡ true → pairs_from least (pair_words ps) ≡ Some ps
+pub pairs_read : (least : ℕ) (ps : List Pair) → rise_from least ps ≡ true → all_within ps ≡ true → pairs_from least (pair_words ps) ≡ Some ps
 unfolding pairs_from pair_at
 pairs_read least [] h k = refl
 pairs_read least (p ∷ ps) h k =
     let one = and_left (is_pair_within p) (all_within ps) k in
     let c : natural_of (decimal p.cycle) ≡ Some p.cycle = natural_read (decimal p.cycle) p.cycle (cycle_below p one, refl) in
     let m : whole_of (signed_decimal p.mult) ≡ Some p.mult = whole_read (signed_decimal p.mult) p.mult (mult_below p one, refl) in
-    let test : (nat_le least p.cycle && not (nat_abs p.mult == 0)) ≡ true = grind (arith, nat_tests, h.0, h.1) in
-    rw (c, m, test, pairs_read (p.cycle + 1) ps h.2 (and_right (is_pair_within p) (all_within ps) k)) refl
+    let test : follows least p ≡ true = and_left (follows least p) (rise_from (p.cycle + 1) ps) h in
+    rw (c, m, test, pairs_read (p.cycle + 1) ps (and_right (follows least p) (rise_from (p.cycle + 1) ps) h) (and_right (is_pair_within p) (all_within ps) k)) refl
 
 -- ---- rows
 

@@ -1,5 +1,5 @@
 -- What one line of a certificate says, how it is spelt, and how it is read.
-use Rattle.std.specs.Prelude.{ℕ, ◌<◌, ◌%◌, Bool, true, false, ◌&&◌, ◌==◌, nat_le, if◌then◌else◌, nat_abs, Option, Some, None, IfSome, Result, Ok, Err, List, [], ◌∷◌, ◌++◌, length, codes, decimal}
+use Rattle.std.specs.Prelude.{◌≡◌, ℕ, ◌<◌, ◌%◌, Bool, true, false, ◌&&◌, ◌==◌, nat_le, if◌then◌else◌, nat_abs, Option, Some, None, IfSome, Result, Ok, Err, List, [], ◌∷◌, ◌++◌, length, codes, decimal}
 use Rattle.std.specs.Option.{option_map}
 use Rattle.std.specs.Str.{bytes_eq}
 use Rattle.std.specs.Fmt.{signed_decimal}
@@ -14,7 +14,7 @@ use Rattle.pesp_lines.specs.declared.item.Item.TheVariants.{Version, Period, Ans
 use Rattle.pesp_lines.specs.declared.fault.LineFault.{LineFault}
 use Rattle.pesp_lines.specs.declared.fault.LineFault.TheVariants as faults
 use Rattle.pesp_lines.specs.Rows.{is_name, rows_are_named, row_words, rows_of, both}
-use Rattle.pesp_lines.specs.Pairs.{pair_words, pairs_from, all_within, RiseFrom}
+use Rattle.pesp_lines.specs.Pairs.{pair_words, pairs_from, all_within, rise_from}
 
 -- ---- the spelling
 
@@ -56,8 +56,8 @@ HasProperCosts (answers.Bounded least cost) = (least < NATURALS) × IfSome cost 
 abbrev pub IsProper : Item → Type 0
 IsProper (Says a) = HasProperCosts a
 IsProper (Cycle rows) = 0 < length rows
-IsProper (Bound ps) = RiseFrom 0 ps
-IsProper (Nothing ps) = RiseFrom 0 ps
+IsProper (Bound ps) = rise_from 0 ps ≡ true
+IsProper (Nothing ps) = rise_from 0 ps ≡ true
 IsProper _ = Unit {0}
 
 -- the limits of its numbers

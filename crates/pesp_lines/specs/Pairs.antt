@@ -1,5 +1,5 @@
 -- The pairs of a leaf line: cycle numbers that rise, each with a multiplier other than 0.
-use Rattle.std.specs.Prelude.{◌≡◌, ℕ, ◌+◌, ◌<◌, ◌≤◌, Bool, true, false, ◌&&◌, not, ◌==◌, nat_le, if◌then◌else◌, ℤ, nat_abs, Option, Some, None, Result, Ok, Err, List, [], ◌∷◌, length, decimal}
+use Rattle.std.specs.Prelude.{◌≡◌, ℕ, ◌+◌, ◌≤◌, Bool, true, false, ◌&&◌, not, ◌==◌, nat_le, if◌then◌else◌, ℤ, nat_abs, Option, Some, None, Result, Ok, Err, List, [], ◌∷◌, length, decimal}
 use Rattle.std.specs.List.{list_all}
 use Rattle.std.specs.Option.{option_and_then, option_map}
 use Rattle.std.specs.Fmt.{signed_decimal}
@@ -20,10 +20,14 @@ abbrev pub pair_words : List Pair → List (List ℕ)
 pair_words [] = []
 pair_words (p ∷ ps) = decimal p.cycle ∷ signed_decimal p.mult ∷ pair_words ps
 
+-- a cycle number of at least `least`, and a multiplier other than 0
+abbrev pub follows : ℕ → Pair → Bool
+follows least p = nat_le least p.cycle && not (nat_abs p.mult == 0)
+
 -- the cycle numbers rise from least on, and no multiplier is 0
-abbrev pub RiseFrom : ℕ → List Pair → Type 0
-RiseFrom least [] = Unit {0}
-RiseFrom least (p ∷ ps) = (least ≤ p.cycle) × (0 < nat_abs p.mult) × RiseFrom (p.cycle + 1) ps
+abbrev pub rise_from : ℕ → List Pair → Bool
+rise_from least [] = true
+rise_from least (p ∷ ps) = follows least p && rise_from (p.cycle + 1) ps
 
 -- ---- reading
 

@@ -1,6 +1,6 @@
 //! The judge of a text's items, one after another.
 
-ghost use Rattle.std.specs.Prelude.{◌≡◌, ℕ, ◌+◌, ◌<◌, ◌≤◌, ◌^◌, List, ◌∷◌, ◌++◌, [], true, false, length, map, All, Option, IfOk, OnOk, IfNone, ◌≢◌, MatchOption, ◌⊎◌};
+ghost use Rattle.std.specs.Prelude.{◌≡◌, ℕ, ◌+◌, ◌<◌, ◌≤◌, ◌^◌, List, ◌∷◌, ◌++◌, [], true, false, length, map, All, Option, IfOk, OnOk, MatchOption};
 ghost use Rattle.std.specs.Option.{ForSome, is_some};
 ghost use Rattle.pesp_truth.specs.Trees.{are_trees};
 ghost use Rattle.pesp_truth.specs.Certificates.{Content, lines_of, ShowsAnswer};
@@ -12,9 +12,9 @@ ghost use Rattle.pesp_walks.specs.Nets.{AreZeros, AreSmallCounts};
 ghost use Rattle.pesp_check.specs.SaidLines.{KeepsSaidLimits};
 ghost use Rattle.pesp_check.specs.Faults.{IsVerdict};
 ghost use Rattle.pesp_check_text.specs.Said.{pairs_of, tree_line};
-ghost use Rattle.pesp_check_text.specs.Items.{KeepsItemLimits, begins_later, begins_tree};
+ghost use Rattle.pesp_check_text.specs.Items.{KeepsItemLimits, begins_later, begins_tree, is_line};
 ghost use Rattle.pesp_check_text.specs.declared.stage.Stage.TheVariants as stages;
-ghost use Rattle.pesp_check_text.specs.Judging.{Kept, JudgedAt, behind, IsFrontFault, is_front, is_before_tree};
+ghost use Rattle.pesp_check_text.specs.Judging.{JudgedAt, behind, IsFrontFault, is_front, is_before_tree};
 
 use crate::elements::{PairsLeft, RowsLeft};
 use crate::stage::Stage;
@@ -77,6 +77,24 @@ fn add_nets(table: &mut Vec<Nets>, nets: Nets) -> Result<(), AllocError>
 {
     table.push(nets)?;
     Ok(())
+}
+
+/// A line of the tree, as the checker takes it.
+fn said_line(item: Item<'_>) -> SaidLine<PairsLeft<'_>>
+    requires line { is_line (listed item) ≡ true }
+    ensures same { listed item.entry ≡ tree_item (tree_line pairs_of result) }
+    ensures limits { KeepsItemLimits (listed item.entry) → KeepsSaidLimits pairs_of result }
+{
+    match item {
+        Item::Slack { row, k } => SaidLine::Branch(Cut::Slack { row, k }),
+        Item::Offset { cycle, k } => SaidLine::Branch(Cut::Offset { cycle, k }),
+        Item::Bound(pairs) => SaidLine::Leaf(LeafLine::Bound(PairsLeft(pairs))),
+        Item::Nothing(pairs) => SaidLine::Leaf(LeafLine::Nothing(PairsLeft(pairs))),
+        Item::Gap(cycle) => SaidLine::Leaf(LeafLine::Gap(cycle)),
+        Item::Propagated => SaidLine::Propagated,
+        Item::Version(_) | Item::Period(_) | Item::Answer(_) | Item::Time(_, _) | Item::Cycle(_) =>
+            unreachable!(),
+    }
 }
 
 impl<'a> Judge<'a> {
@@ -315,26 +333,7 @@ impl<'a> Judge<'a> {
                 Ok(())
             }
             Item::Cycle(rows) => self.take_cycle(alloc, rows, working),
-            Item::Slack { row, k } => {
-                let said = SaidLine::Branch(Cut::Slack { row, k });
-                self.take_line(alloc, said, working)
-            }
-            Item::Offset { cycle, k } => {
-                let said = SaidLine::Branch(Cut::Offset { cycle, k });
-                self.take_line(alloc, said, working)
-            }
-            Item::Bound(pairs) => {
-                let leaf = LeafLine::Bound(PairsLeft(pairs));
-                self.take_line(alloc, SaidLine::Leaf(leaf), working)
-            }
-            Item::Nothing(pairs) => {
-                let leaf = LeafLine::Nothing(PairsLeft(pairs));
-                self.take_line(alloc, SaidLine::Leaf(leaf), working)
-            }
-            Item::Gap(cycle) => {
-                self.take_line(alloc, SaidLine::Leaf(LeafLine::Gap(cycle)), working)
-            }
-            Item::Propagated => self.take_line(alloc, SaidLine::Propagated, working),
+            line => self.take_line(alloc, said_line(line), working),
         }
     }
 

@@ -1,4 +1,5 @@
 use Rattle.std.proofs.Common.{◌≡◌, ℕ, ◌<◌, ◌≤◌, List, length, ap, arith, subst}
+use Rattle.std.proofs.lemmas.Grind.{common_steps}
 use Rattle.std.specs.Prelude.{pos, slice_index_or}
 use Rattle.pesp_problem.specs.Walks.{net_count}
 use Rattle.pesp_network.specs.Networks.{NetworkValue}
@@ -73,3 +74,6 @@ returns-clause-decided c d =
     let are : ArePairs (length p.table) pairs.items = rw c.table-table.ensures.table at c.in_ok-pairs_of-in-Some-2.ensures.pairs in
     let mults : AreMultipliers (length p.table) (own_flow p.table (λ i. slice_index_or flows.items i (pos 0))) pairs.items = mults_as p.table c.table-table.result.now flows.items c.deref-in-Some-2-3.result.now pairs.items c.table-table.ensures.table c.deref-in-Some-2-3.ensures.value c.in_ok-pairs_of-in-Some-2.ensures.mults in
     gains_are_nothing p c.args.node.now s.rows.items s.edges.items way.items flows.items pairs.items spans.no_cycle c.table-table.ensures.closed y g (λ i l. counted i (omega (arith, l, rows))) are mults d
+
+pub flows_along-requires-clause-exist : goal.flows_along-requires-clause-exist
+flows_along-requires-clause-exist c = grind (arith, common_steps)

@@ -1,4 +1,5 @@
-use Rattle.std.proofs.Common.{◌∙◌, inl, inr, sym, Option}
+use Rattle.std.proofs.Common.{◌∙◌, inl, inr, sym, Option, arith}
+use Rattle.std.proofs.lemmas.Grind.{common_steps}
 use Rattle.std.proofs.lemmas.Result.{IfOk-weaker}
 use Rattle.pesp_truth.specs.Certificates.{IsValid}
 use Rattle.pesp_check.specs.declared.refusal.Refusal.{Refusal}
@@ -31,3 +32,6 @@ returns-in-Ok-clause-found c =
     match_map found _ (IsValid c.args.instance.now c.args.certificate.now) _ (λ refusal. IsFirstFault c.args.instance.now c.args.certificate.now refusal)
     (λ sound. valid_is c.args.instance.now c.args.certificate.now period answer cycles sound)
     (λ refusal f. inr (period, later_tree_fault c.args.instance.now c.args.certificate.now refusal c.times-times.ensures.limits.whole answer cycles f)) h) c.tree_fault.ensures
+
+pub tree_fault-requires-clause-zeros : goal.tree_fault-requires-clause-zeros
+tree_fault-requires-clause-zeros c = grind (arith, common_steps)

@@ -1,4 +1,5 @@
 use Rattle.std.proofs.Common.{arith, unsigned_abs, FitsSigned, to_z, of_z, get_or, ◌≡◌, ◌≤◌, ◌<◌, ◌+◌, ◌^◌, ◌∙◌, ap, sym, length, refl}
+use Rattle.std.proofs.lemmas.Grind.{common_steps}
 use Rattle.std.specs.Prelude.{pos, ◌+ℤ◌, ◌*ℤ◌}
 use Rattle.std.specs.Int.{w64, w128}
 use Rattle.std.proofs.lemmas.Int.{ints, to_z-of_z}
@@ -55,3 +56,6 @@ returns-clause-size c i l =
     let so_far = rw (to_z-of_z w64 c.args.mult fits) at (c.loop-net.invariant.sum i (omega arith)) in
     let added = added_small (length c.args.flows.now) c.args.counts.now c.args.mult c.loop-net.net-index i c.requires.counts c.requires.mult in
     omega (arith, ints, ap unsigned_abs so_far)
+
+pub returns-clause-sum : goal.returns-clause-sum
+returns-clause-sum c = grind (arith, common_steps)

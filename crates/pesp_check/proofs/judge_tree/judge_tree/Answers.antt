@@ -1,4 +1,5 @@
-use Rattle.std.proofs.Common.{◌≡◌, ◌+◌, ◌∙◌, sym, subst, false, Option, Some, None}
+use Rattle.std.proofs.Common.{◌≡◌, ◌+◌, ◌∙◌, sym, subst, false, Option, Some, None, arith}
+use Rattle.std.proofs.lemmas.Grind.{common_steps}
 use Rattle.std.specs.Prelude.{is_some, IfNone, MatchOption}
 use Rattle.pesp_problem.specs.Arcs.{net_of}
 use Rattle.pesp_problem.specs.Nodes.{root}
@@ -32,3 +33,12 @@ loop-place-preserved c =
           let sound = of_match c.in_ok-found.found _ _ none (subst V c.said_by.ensures.line (c.in_ok-found.ensures.verdict walks nets)) in
           judged_more c.args.lines.now c.loop-place.place c.index-lines-place.result c.loop-place-test.true c.index-lines-place.is (net_of c.args.checker.now.instance.now) walks c.args.checker.now.least (root (net_of c.args.checker.now.instance.now) walks) c.args.first c.loop-place.walk.nodes (c.loop-place.invariant.judged walks nets) c.take_line.new.walk.nodes sound.0 nodes;
     }
+
+pub take_line-requires-clause-open : goal.take_line-requires-clause-open
+take_line-requires-clause-open c = grind (arith, common_steps)
+
+pub returns-then-is_some : goal.returns-then-is_some
+returns-then-is_some c = grind (arith, common_steps)
+
+pub returns : goal.returns
+returns c = grind (arith, common_steps)

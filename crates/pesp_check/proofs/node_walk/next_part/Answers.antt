@@ -1,4 +1,5 @@
 use Rattle.std.proofs.Common.{◌≡◌, ◌+◌, ◌-◌, ◌∙◌, ap, length, arith}
+use Rattle.std.proofs.lemmas.Grind.{common_steps}
 use Rattle.std.proofs.lemmas.Bool.Decides.{nat_tests}
 use Rattle.pesp_problem.specs.declared.cut.Side.TheVariants.{High}
 use Rattle.pesp_problem.specs.declared.cut.Cut.{Cut}
@@ -13,3 +14,9 @@ returns-in-Low-clause-parts c =
     turn_parts (node_of c.loop-path.ranges) (node_of c.put_back.new.ranges) (node_of c.take_part.new.ranges) c.loop-path.path.items (c.len-top.result - 1) c.index-last.result.now top c.index-last.ensures c.in-Low.is c.put_back.ensures.node
     (c.take_part.ensures.node ∙ ap (λ (cut : Cut). part (node_of c.put_back.new.ranges) cut High) c.to_cut.ensures)
     ∙ c.loop-path.invariant.parts
+
+pub loop-path-preserved : goal.loop-path-preserved
+loop-path-preserved c = grind (arith, common_steps)
+
+pub returns-clause-parts : goal.returns-clause-parts
+returns-clause-parts c = grind (arith, common_steps)

@@ -1,4 +1,5 @@
-use Rattle.std.proofs.Common.{◌+◌, ap, refl, length}
+use Rattle.std.proofs.Common.{◌+◌, ap, refl, length, arith}
+use Rattle.std.proofs.lemmas.Grind.{common_steps}
 use Rattle.std.proofs.lemmas.List.{take_all}
 use Rattle.pesp_problem.specs.Arcs.{arcs_of}
 use Rattle.pesp_check.proofs.Closing.{cycle_is, walk_fault, all_walks, walks_more}
@@ -28,3 +29,6 @@ returns-clause-verdict c =
     let cycles = c.args.cycles.now in
     let k = c.loop-place.place in
     (all_walks (arcs_of c.args.instance.now) cycles k c.loop-place-test.false c.loop-place.invariant.walks, rw (take_all k cycles c.loop-place-test.false) at c.loop-place.invariant.nets)
+
+pub judge_cycle-requires-clause-short : goal.judge_cycle-requires-clause-short
+judge_cycle-requires-clause-short c = grind (arith, common_steps)

@@ -1,4 +1,5 @@
 use Rattle.std.proofs.Common.{arith}
+use Rattle.std.proofs.lemmas.Grind.{common_steps}
 use Rattle.std.proofs.lemmas.List.{get_or_read}
 use Rattle.pesp_network.specs.Networks.{arcs_of_network}
 use Rattle.pesp_problem.specs.Arcs.{tail_of, head_of}
@@ -38,3 +39,9 @@ loop-i-preserved c =
       tails = te;
       heads = he;
     }
+
+pub loop-i-init : goal.loop-i-init
+loop-i-init c = grind (arith, common_steps)
+
+pub returns : goal.returns
+returns c = grind (arith, common_steps)

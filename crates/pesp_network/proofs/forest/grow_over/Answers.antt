@@ -1,4 +1,5 @@
-use Rattle.std.proofs.Common.{◌∙◌, ap, map}
+use Rattle.std.proofs.Common.{◌∙◌, ap, map, arith}
+use Rattle.std.proofs.lemmas.Grind.{common_steps}
 use Rattle.pesp_network.specs.Rooted.{number_of}
 use Rattle.pesp_network.specs.Growing.{at}
 use Rattle.pesp_network.proofs.Picking.{bys_few, kept_ends, kept_grown, regrown, picked_met, grown_among}
@@ -22,3 +23,9 @@ returns-clause-met c = λ i h.
     let g = c.in_ok-growth.growth in let e = c.in_ok-growth.ensures in
     picked_met c.args.events c.args.rows.now c.args.numbers.now g i c.requires.names c.requires.ends
     (kept_grown c.args.rows.now c.args.numbers.now c.as_slice.result.now g (c.as_slice.ensures.value ∙ c.in_ok-kept.ensures) e.grown) e.closed e.all_seen h
+
+pub grow-requires-clause-count : goal.grow-requires-clause-count
+grow-requires-clause-count c = grind (arith, common_steps)
+
+pub invariant_of-result : goal.invariant_of-result
+invariant_of-result c = grind (arith, common_steps)

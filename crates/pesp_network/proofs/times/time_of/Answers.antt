@@ -1,4 +1,5 @@
-use Rattle.std.proofs.Common.{pos, ap, sym, ◌∙◌, ◌-ℤ◌}
+use Rattle.std.proofs.Common.{pos, ap, sym, ◌∙◌, ◌-ℤ◌, arith}
+use Rattle.std.proofs.lemmas.Grind.{common_steps}
 use Rattle.pesp_network.specs.Growing.{at}
 use Rattle.pesp_network.proofs.Fitting.{reads_up, same_both}
 use Rattle.pesp_network.proofs.times.time_of.Goals as goal
@@ -26,3 +27,21 @@ returns-else-row-up-clause-as_head c = λ same. let r = reads_up c.args.events c
 
 pub returns-else-row-up-clause-as_tail : goal.returns-else-row-up-clause-as_tail
 returns-else-row-up-clause-as_tail c = λ other. let r = reads_up c.args.events c.args.period c.args.rows.now c.args.forest.now c.args.slacks.now c.args.event _ _ c.requires.forest c.requires.slacks c.requires.event c.requires.joined c.index-by.ensures c.index-up.ensures in same_both c.args.period _ _ _ _ (ap (λ u. pos (at c.args.times.now u) -ℤ pos c.earlier.result) (sym r.up_is)) r.lasts c.earlier.ensures.same
+
+pub offset_bounds-rows-by : goal.offset_bounds-rows-by
+offset_bounds-rows-by c = grind (arith, common_steps)
+
+pub bounds-rows-by : goal.bounds-rows-by
+bounds-rows-by c = grind (arith, common_steps)
+
+pub offset_bounds-slacks-by : goal.offset_bounds-slacks-by
+offset_bounds-slacks-by c = grind (arith, common_steps)
+
+pub bounds-slacks-by : goal.bounds-slacks-by
+bounds-slacks-by c = grind (arith, common_steps)
+
+pub offset_bounds-times-up : goal.offset_bounds-times-up
+offset_bounds-times-up c = grind (arith, common_steps)
+
+pub bounds-times-up : goal.bounds-times-up
+bounds-times-up c = grind (arith, common_steps)

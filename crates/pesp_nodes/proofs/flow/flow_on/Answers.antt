@@ -1,4 +1,5 @@
 use Rattle.std.proofs.Common.{◌≡◌, ◌≤◌, arith, rules, unsigned_abs, FitsSigned, to_z, of_z, get_or, ◌*ℤ◌, ◌+ℤ◌, pos}
+use Rattle.std.proofs.lemmas.Grind.{common_steps}
 use Rattle.std.specs.Int.{w64, w128}
 use Rattle.std.proofs.lemmas.Int.{ints}
 use Rattle.pesp_nodes.specs.declared.passages.Passage.{Passage}
@@ -33,3 +34,9 @@ loop-passage-preserved c =
     let most = flow_small c.args.pairs.now c.args.passages.now c.loop-passage.passage-index none (to_z w128 c.loop-passage.flow-bits) c.times.result c.loop-passage-test.true (here c.before) (small c.before) c.requires.small c.loop-passage.invariant in
     let sum : to_z w128 (of_z w128 c.plus-flow.result) ≡ to_z w128 c.loop-passage.flow-bits +ℤ c.times.result = (let value = c.plus-flow.ensures.value in omega (arith, ints)) in
     rw sum (flow_more c.args.pairs.now c.args.passages.now c.loop-passage.passage-index none (to_z w128 c.loop-passage.flow-bits) c.times.result c.loop-passage-test.true (here c.before) (small c.before) c.loop-passage.invariant)
+
+pub returns-clause-value : goal.returns-clause-value
+returns-clause-value c = grind (arith, common_steps)
+
+pub returns-clause-size : goal.returns-clause-size
+returns-clause-size c = grind (arith, common_steps)

@@ -1,4 +1,5 @@
-use Rattle.std.proofs.Common.{◌≡◌, ◌∙◌, [], List, length, subst, sym}
+use Rattle.std.proofs.Common.{◌≡◌, ◌∙◌, [], List, length, subst, sym, arith}
+use Rattle.std.proofs.lemmas.Grind.{common_steps}
 use Rattle.std.specs.Prelude.{ℤ}
 use Rattle.std.proofs.lemmas.List.{get_or_default}
 use Rattle.std.proofs.lemmas.List.Elements.{All-push}
@@ -21,3 +22,6 @@ loop-counts-preserved c = record {
       let within = rw nets.long at c.loop-counts-test.true in
       rw c.in_ok-push.ensures.items (ranges_more (spec.odijk_range (record { period = c.args.period; arcs = c.args.arcs.now }) c.args.slacks.now) walks c.loop-counts.offsets.items k [] _ within (pair_is c.bounds_of.result _ _ low high) (c.loop-counts.invariant.offsets walks nets));
 }
+
+pub returns-clause-offsets : goal.returns-clause-offsets
+returns-clause-offsets c = grind (arith, common_steps)

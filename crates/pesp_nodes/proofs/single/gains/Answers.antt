@@ -1,4 +1,5 @@
 use Rattle.std.proofs.Common.{◌≡◌, ◌∙◌, ◌+◌, to_z, of_z, arith, pos, ap, sym, subst}
+use Rattle.std.proofs.lemmas.Grind.{common_steps}
 use Rattle.std.specs.Prelude.{ℤ, ◌+ℤ◌}
 use Rattle.std.specs.Int.{w128}
 use Rattle.std.proofs.lemmas.Int.{ints}
@@ -27,3 +28,12 @@ returns-clause-value c walk are =
     let term = term_of c.args.arcs.now c.args.slacks.now c.args.pair.now.mult in
     let all = take_all c.loop-net.net-index c.args.counts.now (let done = c.loop-net-test.false in omega (arith, done)) in
     c.loop-net.invariant.is ∙ ap (sum_of term) all ∙ gains_are c.args.arcs.now c.args.slacks.now c.args.pair.now.mult walk c.args.counts.now are
+
+pub gain_at-requires-clause-small : goal.gain_at-requires-clause-small
+gain_at-requires-clause-small c = grind (arith, common_steps)
+
+pub plus-sum-requires : goal.plus-sum-requires
+plus-sum-requires c = grind (arith, common_steps)
+
+pub returns-clause-size : goal.returns-clause-size
+returns-clause-size c = grind (arith, common_steps)

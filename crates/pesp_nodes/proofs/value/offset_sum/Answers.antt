@@ -1,4 +1,5 @@
 use Rattle.std.proofs.Common.{◌≡◌, get_or, length, pos, FitsSigned, to_z, of_z, arith, rules}
+use Rattle.std.proofs.lemmas.Grind.{common_steps}
 use Rattle.std.specs.Prelude.{◌*ℤ◌, ◌+ℤ◌}
 use Rattle.std.specs.Int.{w64, w128}
 use Rattle.std.proofs.lemmas.Int.{ints, to_z-of_z}
@@ -43,3 +44,9 @@ returns-clause-size c =
     let size = c.loop-pair.invariant.size in
     let end = c.loop-pair.auto.pair-index-end in
     omega arith
+
+pub returns-in_err-left-clause-value : goal.returns-in_err-left-clause-value
+returns-in_err-left-clause-value c = grind (arith, common_steps)
+
+pub returns-clause-value : goal.returns-clause-value
+returns-clause-value c = grind (arith, common_steps)

@@ -1,4 +1,5 @@
 use Rattle.std.proofs.Common.{◌≡◌, ◌+◌, ◌-◌, ◌∙◌, ap, length, arith}
+use Rattle.std.proofs.lemmas.Grind.{common_steps}
 use Rattle.std.proofs.lemmas.Bool.Decides.{nat_tests}
 use Rattle.pesp_problem.specs.declared.cut.Side.TheVariants.{High}
 use Rattle.pesp_problem.specs.declared.cut.Cut.{Cut}
@@ -12,3 +13,9 @@ returns-in-Low-clause-parts c =
     turn_parts c.loop-path.node c.put_back.new.self c.cut.new.self c.loop-path.path.items (c.len-top.result - 1) c.index-last.result.now top c.index-last.ensures c.in-Low.is c.put_back.ensures.node
     (c.cut.ensures.part ∙ ap (λ (cut : Cut). part c.put_back.new.self cut High) c.to_cut.ensures)
     ∙ c.loop-path.invariant.parts
+
+pub loop-path-preserved : goal.loop-path-preserved
+loop-path-preserved c = grind (arith, common_steps)
+
+pub returns-clause-parts : goal.returns-clause-parts
+returns-clause-parts c = grind (arith, common_steps)

@@ -1,4 +1,5 @@
 use Rattle.std.proofs.Common.{sym, ap, arith, rules, ◌<◌, ◌≤◌, length, ◌++◌, ◌∷◌, [], inr, to_z-of_z, w64, SFits}
+use Rattle.std.proofs.lemmas.Grind.{common_steps}
 use Rattle.pesp_instance.specs.Activities.{events_of}
 use Rattle.pesp_instance.proofs.Tables.{admit-crowded, admit-ok, length-table, one-more}
 use Rattle.pesp_instance.proofs.table.Table.add.Goals as goal
@@ -40,3 +41,6 @@ returns-then-len-gt-MAX_EVENTS-clause-refused c = λ before t.
     let count = ap length (sym m.in_order) in
     let crowd : 100000 < length (events_of (before ++ c.args.activity ∷ [])) = omega (arith, count, ap length k2, c.len-2.ensures.len, c.if-len-gt-MAX_EVENTS.true) in
     inr (admit-crowded before c.args.at c.args.activity few crowd)
+
+pub returns-then-len-ge-MAX_ROWS-clause-refused : goal.returns-then-len-ge-MAX_ROWS-clause-refused
+returns-then-len-ge-MAX_ROWS-clause-refused c = grind (arith, common_steps)

@@ -1,4 +1,5 @@
 use Rattle.std.proofs.Common.{arith, sym, ◌∙◌}
+use Rattle.std.proofs.lemmas.Grind.{common_steps}
 use Rattle.std.proofs.lemmas.List.{get_or_read}
 use Rattle.pesp_network.specs.Networks.{arcs_of_network}
 use Rattle.pesp_network.proofs.Steps.{read_left, current_below}
@@ -57,3 +58,24 @@ pub events-preserved : goal.events-preserved
 events-preserved c =
     let i = c.events.invariant in let a = c.in_ok-current.ensures in
     record { grown = a.grown; current = a.current; seen = λ x sx. a.seen x (i.seen x sx); started = a.seen c.args.start i.started; events = a.events ∙ i.events }
+
+pub returns-then-index-ne0-clause-start_seen : goal.returns-then-index-ne0-clause-start_seen
+returns-then-index-ne0-clause-start_seen c = grind (arith, common_steps)
+
+pub index-row_left-requires : goal.index-row_left-requires
+index-row_left-requires c = grind (arith, common_steps)
+
+pub close-requires : goal.close-requires
+close-requires c = grind (arith, common_steps)
+
+pub index-row_up-requires : goal.index-row_up-requires
+index-row_up-requires c = grind (arith, common_steps)
+
+pub index-current-requires : goal.index-current-requires
+index-current-requires c = grind (arith, common_steps)
+
+pub advance-requires-clause-ends : goal.advance-requires-clause-ends
+advance-requires-clause-ends c = grind (arith, common_steps)
+
+pub advance-requires-clause-some_left : goal.advance-requires-clause-some_left
+advance-requires-clause-some_left c = grind (arith, common_steps)

@@ -1,4 +1,5 @@
 use Rattle.std.proofs.Common.{◌≡◌, ◌∙◌, ◌-◌, ◌≤◌, ◌<◌, ℕ, List, length, ap, sym, subst, arith, FitsSigned}
+use Rattle.std.proofs.lemmas.Grind.{common_steps}
 use Rattle.std.specs.Prelude.{ℤ, pos, unsigned_abs, slice_set}
 use Rattle.std.specs.Int.{w64}
 use Rattle.std.proofs.lemmas.Int.{ints, to_z-of_z}
@@ -51,3 +52,6 @@ returns-in-Offset-clause-part c =
     part_of_offset slacks offsets cycle k c.args.side c.cut_offset.result is
     ∙ ap (λ (n : Node). part n (Offset cycle k) c.args.side) c.self.view_is
     ∙ ap (λ (x : Cut). part c.args.self.now x c.args.side) (sym c.in-Offset.is)
+
+pub returns-in-Slack-clause-part : goal.returns-in-Slack-clause-part
+returns-in-Slack-clause-part c = grind (arith, common_steps)

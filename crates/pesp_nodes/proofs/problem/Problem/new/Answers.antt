@@ -1,4 +1,5 @@
 use Rattle.std.proofs.Common.{◌≡◌, ◌≤◌, refl, ap, arith, List, length, All}
+use Rattle.std.proofs.lemmas.Grind.{common_steps}
 use Rattle.std.proofs.lemmas.List.{length-map}
 use Rattle.std.proofs.lemmas.List.Sums.{get_or-le-sum_by}
 use Rattle.pesp_problem.specs.declared.row.SignedRow.{SignedRow}
@@ -28,3 +29,6 @@ invariant_of-result c =
       counts = nets;
       passages = passages;
     }
+
+pub passages_of_table-requires-clause-short : goal.passages_of_table-requires-clause-short
+passages_of_table-requires-clause-short c = grind (arith, common_steps)

@@ -28,3 +28,27 @@ returns-clause-parked c =
 
 pub returns-clause-waiting : goal.returns-clause-waiting
 returns-clause-waiting c = grind (arith, common_steps)
+
+pub add-requires-clause-memory : goal.add-requires-clause-memory
+add-requires-clause-memory c = grind (arith, common_steps)
+
+pub add-requires-clause-fresh : goal.add-requires-clause-fresh
+add-requires-clause-fresh c = grind (arith, common_steps)
+
+pub overflow_sub-last : goal.overflow_sub-last
+overflow_sub-last c = grind (arith, common_steps)
+
+pub join-requires-clause-behind : goal.join-requires-clause-behind
+join-requires-clause-behind c = grind (arith, common_steps)
+
+pub join-requires-clause-within : goal.join-requires-clause-within
+join-requires-clause-within c = grind (arith, common_steps)
+
+pub join-requires-clause-heap : goal.join-requires-clause-heap
+join-requires-clause-heap c = grind (arith, common_steps)
+
+pub invariant_of-self : goal.invariant_of-self
+invariant_of-self c = grind (arith, common_steps)
+
+pub returns-clause-room : goal.returns-clause-room
+returns-clause-room c = grind (arith, common_steps)

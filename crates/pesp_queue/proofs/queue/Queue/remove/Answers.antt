@@ -4,3 +4,9 @@ use Rattle.pesp_queue.proofs.queue.Queue.remove.Goals as goal
 
 pub returns-clause-parked : goal.returns-clause-parked
 returns-clause-parked c = grind (arith, common_steps)
+
+pub invariant_of-self : goal.invariant_of-self
+invariant_of-self c = grind (arith, common_steps)
+
+pub returns-clause-room : goal.returns-clause-room
+returns-clause-room c = grind (arith, common_steps)

@@ -1,4 +1,5 @@
-use Rattle.std.proofs.Common.{◌≡◌, ◌<◌, length, sym, ap, subst}
+use Rattle.std.proofs.Common.{◌≡◌, ◌<◌, length, sym, ap, subst, arith}
+use Rattle.std.proofs.lemmas.Grind.{common_steps}
 use Rattle.std.specs.List.{Contains}
 use Rattle.pesp_queue.specs.Entries.{entry, item_at, HasItem}
 use Rattle.pesp_queue.proofs.Placing.{contained_before, not_before}
@@ -20,3 +21,6 @@ returns-then-at-self-clause-value c = λ has.
     let d = c.deref.ensures.value in
     not_before xs c.self.inside.places.items c.self.invariant.placed c.self.inside.waiting at item c.if-at-self.true (subst (λ l. at < length l) d h.0) (subst (λ l. item_at l at ≡ item) d h.1)
     (subst (λ l. HasItem l item) (sym (ap (λ q. q.waiting) c.self.view_is)) has)
+
+pub returns-in_err-at-clause-value : goal.returns-in_err-at-clause-value
+returns-in_err-at-clause-value c = grind (arith, common_steps)

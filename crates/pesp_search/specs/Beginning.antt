@@ -25,7 +25,7 @@ pub record IsSearched (p : ProblemValue) (r : ReducedValue) (walks : List (List 
 
 -- this is known of the problem
 pub record IsKnown (p : ProblemValue) (known : Known) : Type 0 where
-  pub searched : IsSearched p known.reduced known.walks.items known.passed.items
+  pub searched : IsSearched p known.reduced.now known.walks.items known.passed.items
   pub root : known.root ≡ root_of p
   pub node : IsNodeOf p known.root
 

@@ -3,13 +3,14 @@
 ghost use Rattle.std.specs.Prelude.{◌≡◌, ℕ, ◌≤◌, IfOk, IfErr, length};
 ghost use Rattle.pesp_machine.specs.States.{opening};
 ghost use Rattle.pesp_machine.specs.Certificates.{IsProblemOf};
-ghost use Rattle.pesp_lifting.specs.Lifted.{IsFrugal};
+ghost use Rattle.pesp_lifting.specs.Lifted.{IsReduced, IsFrugal};
 ghost use Rattle.pesp_search.specs.declared.refusal.SolveRefusal.TheVariants.{Memory as Refused};
 ghost use Rattle.pesp_search.specs.Solving.{IsSolved, IsSearchRefusal};
 ghost use Rattle.pesp_search.specs.Beginning.{IsKnown, IsBegun};
 ghost use Rattle.pesp_search.specs.Turning.{IsSearchedThrough, AreTurnsRefused};
 
 use crate::begun::{Begun, Known, begin};
+use crate::planting::planted;
 use crate::refusal::SolveRefusal;
 use crate::rooting::look_at_root;
 use crate::running::run_turns;
@@ -18,6 +19,7 @@ use pesp_board::Board;
 use pesp_branching::{offer_times, root_prices};
 use pesp_cert::Certificate;
 use pesp_problem::{Instance, Memory};
+use pesp_reduce::Reduced;
 use pesp_strategy::Strategy;
 use std::alloc::Global;
 
@@ -46,8 +48,8 @@ fn search<O: Observer>(
     ensures refused { IfErr result (AreTurnsRefused board.old.problem steps) }
 {
     look_at_root(alloc, board, &known.root)?;
-    let prices = root_prices(alloc, strategy, &known.reduced, &known.root)?;
-    offer_times(alloc, board, &known.reduced, &prices)?;
+    let prices = root_prices(alloc, strategy, known.reduced, &known.root)?;
+    offer_times(alloc, board, known.reduced, &prices)?;
     run_turns(alloc, board, known, strategy, steps, observer)
 }
 
@@ -129,6 +131,24 @@ fn solve_begun<O: Observer>(
     )
 }
 
+/// Searches over what is left of an instance, and certifies what is known then.
+fn solve_reduced<O: Observer>(
+    alloc: Global,
+    instance: &Instance,
+    reduced: &Reduced,
+    steps: u32,
+    observer: &mut O,
+) -> Result<Solved, SolveRefusal>
+    requires original { reduced.now.original ≡ instance.now }
+    requires reduced { IsReduced reduced.now }
+    requires most { steps ≤ 100000 }
+    ensures solved { IfOk result (λ s. IsSolved instance.now steps s.steps_used s.certificate) }
+    ensures refused { IfErr result (IsSearchRefusal instance.now steps) }
+{
+    let mut begun = begin(alloc, instance, reduced)?;
+    solve_begun(alloc, instance, &mut begun, steps, observer)
+}
+
 /// Searches for a best timetable, by at most so many splits of a leaf. The certificate is valid for the instance. An answer
 /// that is open has used all splits; its bound is at least the value at the root of no pairs and of each single pair whose
 /// multiplier is 1 or -1. The tree has as many branches as splits were used, fewer than the room of its root, and each of them
@@ -155,6 +175,6 @@ pub fn solve_watched<O: Observer>(
     ensures solved { IfOk result (λ s. IsSolved instance.now steps s.steps_used s.certificate) }
     ensures refused { IfErr result (IsSearchRefusal instance.now steps) }
 {
-    let mut begun = begin(alloc, instance, steps)?;
-    solve_begun(alloc, instance, &mut begun, steps, observer)
+    let reduced = planted(alloc, instance, steps)?;
+    solve_reduced(alloc, instance, &reduced, steps, observer)
 }

@@ -121,16 +121,16 @@ pub(crate) fn take_turn(
         return Ok(Turn::Over);
     };
     let node = node_from(alloc, &known.root, &job.path)?;
-    let Advised { cut, met } = ask(alloc, strategy, board, &known.reduced, &job, &node, used)?;
+    let Advised { cut, met } = ask(alloc, strategy, board, known.reduced, &job, &node, used)?;
     if let Some(choice) = choose(board.problem(), &node, &known.passed, cut) {
         split_leaf(alloc, board, &job, node, choice, used)?;
-        offer_met(alloc, board, &known.reduced, met)?;
+        offer_met(alloc, board, known.reduced, met)?;
         return Ok(Turn::Split);
     }
     if let Some(cycle) = gap_at(board.problem(), &node) {
         close_leaf(alloc, board, &job, cycle, used)?;
         return Ok(Turn::Closed);
     }
-    settle(alloc, board, &known.reduced, &known.walks, &job, &node)?;
+    settle(alloc, board, known.reduced, &known.walks, &job, &node)?;
     Ok(Turn::Closed)
 }

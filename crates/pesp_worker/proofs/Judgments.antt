@@ -1,5 +1,5 @@
 -- What is judged is handed in.
-use Rattle.std.proofs.Common.{◌≡◌, ℕ, List, [], ◌∷◌, map, refl, ap, sym, ◌∙◌, subst}
+use Rattle.std.proofs.Common.{◌≡◌, ◌≤◌, ◌<◌, ℕ, List, [], ◌∷◌, length, map, refl, ap, sym, ◌∙◌, subst}
 use Rattle.std.specs.Prelude.{Option, Some, Result, Ok, Err, IfOk, IfErr, IfSome, IsErrAnd, IsOk}
 use Rattle.std.specs.Global.{Vec}
 use Rattle.pesp_problem.specs.declared.pair.Pair.{Pair}
@@ -11,14 +11,19 @@ use Rattle.pesp_truth.specs.Trees.{Bound, EndLine}
 use Rattle.pesp_truth.specs.Certificates.{Content, line_of}
 use Rattle.pesp_nodes.specs.Problems.{ProblemValue, IsSmallTable}
 use Rattle.pesp_machine.specs.declared.work.Work.TheVariants as works
+use Rattle.pesp_machine.specs.declared.job.Job.{Job}
 use Rattle.pesp_machine.specs.declared.refusal.GiveRefusal.{GiveRefusal}
 use Rattle.pesp_machine.specs.States.{State, IsJobLeaf}
 use Rattle.pesp_machine.specs.Reached.{IsOrderly}
 use Rattle.pesp_machine.specs.Events.{Takes, Gives}
 use Rattle.pesp_worker.specs.declared.refusal.WorkRefusal.{WorkRefusal}
 use Rattle.pesp_worker.specs.declared.refusal.WorkRefusal.TheVariants.{Memory, NoSuchJob}
-use Rattle.pesp_worker.specs.HandingIn.{Fits, IsWorkRefusal}
+use Rattle.pesp_outside.specs.Lent.{IsLentFrom}
+use Rattle.pesp_room.specs.Rooms.{branch_lines}
+use Rattle.pesp_works.specs.Works.{HasText}
+use Rattle.pesp_worker.specs.HandingIn.{Fits, IsTreeOn, IsWorkRefusal, without_times}
 use Rattle.pesp_worker.proofs.Fitting.{own_fits, taken_fits}
+use Rattle.pesp_worker.proofs.Numbers.{few_jobs}
 
 pub own_tree_fits : {E : Type 0} (p q : ProblemValue) (state : State) (number value : ℕ) (pairs copy : List Pair) (r : Result (Vec TreeLine) E) → q ≡ p → KeepsNetLimits p.network → IsSmallTable q.table → IsOrderly p state → IsJobLeaf p state number value pairs → copy ≡ pairs → IfOk r (λ tree. tree.items ≡ lines.Bound copy ∷ []) → IfOk r (λ tree. Fits p state number tree.items)
 own_tree_fits p q state number value pairs copy (Ok tree) e limits table orderly leaf same is =
@@ -39,3 +44,19 @@ pub memory_refused : {A : Type 0} (i : Pesp) (base : Content) (job : ℕ) (r : R
 memory_refused i base job (Ok a) h = tt
 memory_refused i base job (Err Memory) h = tt
 memory_refused i base job (Err NoSuchJob) h = cc
+
+-- what is found for a job of a base that is lent is refused as the work on the base is
+pub missing_refused : {A : Type 0} (i : Pesp) (base : Content) (p : ProblemValue) (jobs : List Job) (state : State) (job : ℕ) (r : Result A WorkRefusal) → IsLentFrom i base p jobs state → IfErr r (λ refusal. refusal ≡ NoSuchJob → length jobs ≤ job) → IfErr r (IsWorkRefusal i base job)
+missing_refused i base p jobs state job (Ok a) lent h = tt
+missing_refused i base p jobs state job (Err Memory) lent h = tt
+missing_refused i base p jobs state job (Err NoSuchJob) lent h = record { problem = p; jobs = jobs; lent = state; begins = lent; few = h refl }
+
+-- and a tree that fits there is one on the base
+pub tree_on : (i : Pesp) (base : Content) (p : ProblemValue) (jobs : List Job) (state : State) (job steps : ℕ) (r : Result (Vec TreeLine) WorkRefusal) → IsLentFrom i base p jobs state → IfOk r (λ tree. Fits p state job tree.items) → IfOk r (λ tree. branch_lines (map line_of tree.items) ≤ steps) → IfOk r (λ tree. IsTreeOn i base job steps tree.items)
+tree_on i base p jobs state job steps (Ok tree) lent fits few = record { problem = p; jobs = jobs; lent = state; begins = lent; stands = fits.stands; few = few }
+tree_on i base p jobs state job steps (Err refusal) lent fits few = tt
+
+-- with a text
+pub text_on : (i : Pesp) (base : Content) (p : ProblemValue) (jobs : List Job) (state : State) (job : ℕ) (r : Result (Vec TreeLine) WorkRefusal) → IsLentFrom i base p jobs state → (IsOk r → job < length jobs) → IfOk r (λ tree. Fits p state job tree.items) → IfOk r (λ tree. HasText (without_times job tree.items))
+text_on i base p jobs state job (Ok tree) lent there fits = fits.text (few_jobs i base p jobs state job lent (there refl))
+text_on i base p jobs state job (Err refusal) lent there fits = tt

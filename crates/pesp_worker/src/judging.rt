@@ -1,6 +1,6 @@
 //! What was found for a job, judged by a board on which its leaf is lent.
 
-ghost use Rattle.std.specs.Prelude.{◌≡◌, ◌≤◌, map, Some, IfOk, IfErr, IfSome, IsTrue};
+ghost use Rattle.std.specs.Prelude.{◌≡◌, ◌≤◌, ◌<◌, ℕ, length, map, Some, IfOk, IfErr, IfSome, IsOk, IsTrue};
 ghost use Rattle.std.specs.Global.{Vec};
 ghost use Rattle.pesp_truth.specs.declared.tree.TreeLine.{TreeLine};
 ghost use Rattle.pesp_truth.specs.Certificates.{IsValid, line_of};
@@ -8,6 +8,7 @@ ghost use Rattle.pesp_machine.specs.declared.work.Work.TheVariants.{Tree};
 ghost use Rattle.pesp_machine.specs.States.{IsLentNumber};
 ghost use Rattle.pesp_room.specs.Rooms.{branch_lines};
 ghost use Rattle.pesp_works.specs.Works.{HasText};
+ghost use Rattle.pesp_worker.specs.declared.refusal.WorkRefusal.TheVariants.{NoSuchJob};
 ghost use Rattle.pesp_worker.specs.HandingIn.{Fits, IsTreeOn, IsWorkRefusal, without_times};
 
 use crate::copying::{copy_pairs, one_line};
@@ -16,7 +17,7 @@ use crate::holding::is_taken;
 use crate::refusal::WorkRefusal;
 use pesp_board::{Board, Work};
 use pesp_cert::Certificate;
-use pesp_outside::lend_base;
+use pesp_outside::{Lent, lend_base};
 use pesp_problem::{Instance, Memory};
 use pesp_truth::TreeLine;
 use std::alloc::Global;
@@ -109,6 +110,29 @@ fn judged_on(
     }
 }
 
+/// The tree that was found, or the leaf alone, for a job of a base that is lent.
+fn judged_for(
+    alloc: Global,
+    lent: &mut Lent,
+    job: u64,
+    steps: u32,
+    found: Vec<TreeLine>,
+) -> Result<Vec<TreeLine>, WorkRefusal>
+    requires { (n : ℕ) → n < length lent.old.jobs.items → IsLentNumber lent.old.board.state n }
+    ensures there { IsOk result → job < length lent.old.jobs.items }
+    ensures fits { IfOk result
+        (λ tree. Fits lent.old.board.problem lent.old.board.state job tree.items) }
+    ensures few { IfOk result (λ tree. branch_lines (map line_of tree.items) ≤ steps) }
+    ensures missing { IfErr result
+        (λ refusal. refusal ≡ NoSuchJob → length lent.old.jobs.items ≤ job) }
+{
+    if job >= lent.jobs.len() as u64 {
+        return Err(WorkRefusal::NoSuchJob);
+    }
+    let tree = judged_on(alloc, &mut lent.board, job, steps, found)?;
+    Ok(tree)
+}
+
 /// The tree that was found for a job, where it has at most so many branches and may stand in the place of the job's leaf; else
 /// that leaf alone.
 pub(crate) fn judged(
@@ -125,9 +149,5 @@ pub(crate) fn judged(
     ensures refused { IfErr result (IsWorkRefusal instance.now base.now job) }
 {
     let mut lent = lend_base(alloc, instance, base)?;
-    if job >= lent.jobs.len() as u64 {
-        return Err(WorkRefusal::NoSuchJob);
-    }
-    let tree = judged_on(alloc, &mut lent.board, job, steps, found)?;
-    Ok(tree)
+    judged_for(alloc, &mut lent, job, steps, found)
 }

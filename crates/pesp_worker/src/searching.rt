@@ -1,10 +1,11 @@
 //! The search for a tree and for times on a board where one leaf is open.
 
-ghost use Rattle.std.specs.Prelude.{◌≡◌, ◌≤◌, IfOk, IfErr};
+ghost use Rattle.std.specs.Prelude.{◌≡◌, ◌≤◌, length, IfOk, IfErr};
 ghost use Rattle.pesp_problem.specs.Timetables.{Pesp};
 ghost use Rattle.pesp_truth.specs.Certificates.{IsValid};
 ghost use Rattle.pesp_machine.specs.Certificates.{IsProblemOf};
 ghost use Rattle.pesp_branching.specs.Passing.{ArePassedRows};
+ghost use Rattle.pesp_worker.specs.declared.refusal.WorkRefusal.TheVariants.{NoSuchJob};
 ghost use Rattle.pesp_worker.specs.HandingIn.{AreTimesFor, AreShort, IsWorkRefusal};
 
 use crate::cutting_out::cut_out;
@@ -100,6 +101,30 @@ fn found_below(
     Ok(Found { times, tree })
 }
 
+/// What is found below the leaf of a job of a base that is lent.
+fn found_for(
+    alloc: Global,
+    instance: &Instance,
+    lent: &mut Lent,
+    job: u64,
+    steps: u32,
+) -> Result<Found, WorkRefusal>
+    requires of { IsProblemOf instance.now lent.old.board.problem }
+    requires few { steps ≤ 100000 }
+    ensures times { IfOk result (λ found. AreTimesFor instance.now found.times.items) }
+    ensures short { IfOk result (λ found. AreShort found.times.items) }
+    ensures missing { IfErr result
+        (λ refusal. refusal ≡ NoSuchJob → length lent.old.jobs.items ≤ job) }
+{
+    if job >= lent.jobs.len() as u64 {
+        return Err(WorkRefusal::NoSuchJob);
+    }
+    lent.board.recall(job);
+    let path = &lent.jobs[job as usize].path;
+    let found = found_below(alloc, instance, &mut lent.board, path, steps)?;
+    Ok(found)
+}
+
 /// Searches below the leaf of a job, by at most so many splits, for a tree in its place, and for times that are cheaper than
 /// those of the base.
 pub(crate) fn search_below(
@@ -115,13 +140,6 @@ pub(crate) fn search_below(
     ensures short { IfOk result (λ found. AreShort found.times.items) }
     ensures refused { IfErr result (IsWorkRefusal instance.now base.now job) }
 {
-    let Lent { board, jobs } = lend_base(alloc, instance, base)?;
-    if job >= jobs.len() as u64 {
-        return Err(WorkRefusal::NoSuchJob);
-    }
-    let mut board = board;
-    board.recall(job);
-    let path = &jobs[job as usize].path;
-    let found = found_below(alloc, instance, &mut board, path, steps)?;
-    Ok(found)
+    let mut lent = lend_base(alloc, instance, base)?;
+    found_for(alloc, instance, &mut lent, job, steps)
 }

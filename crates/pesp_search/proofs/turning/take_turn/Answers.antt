@@ -34,8 +34,8 @@ settle-requires-clause-settles c =
     let settled = rw (c.in_default-choose.is) at c.choose.ensures.none in
     let left = rw (c.in_default-gap_at.is) at c.gap_at.ensures in
     let at = node_is c.args.board.now.problem c.args.known.now.root c.deref.result.now c.in-Some.job.path.items c.in_ok-node.node c.requires.known.root c.deref.ensures.value c.in_ok-node.ensures.at in
-    subst (λ (ws : List (List SignedRow)). Settles c.lend_next.new.board.problem c.args.known.now.reduced ws c.in_ok-node.node) (sym c.deref-3.ensures.value)
-    (settles_there c.args.board.now.problem c.lend_next.new.board.problem c.problem-2.result.now c.problem-3.result.now c.args.used c.args.board.now.state c.lend_next.new.board.state c.in-Some.job c.in_ok-node.node c.args.known.now.reduced c.args.known.now.walks.items c.args.known.now.passed.items c.in_ok-job.ensures.problem c.problem-2.ensures c.problem-3.ensures at c.requires.known.searched
+    subst (λ (ws : List (List SignedRow)). Settles c.lend_next.new.board.problem c.args.known.now.reduced.now ws c.in_ok-node.node) (sym c.deref-3.ensures.value)
+    (settles_there c.args.board.now.problem c.lend_next.new.board.problem c.problem-2.result.now c.problem-3.result.now c.args.used c.args.board.now.state c.lend_next.new.board.state c.in-Some.job c.in_ok-node.node c.args.known.now.reduced.now c.args.known.now.walks.items c.args.known.now.passed.items c.in_ok-job.ensures.problem c.problem-2.ensures c.problem-3.ensures at c.requires.known.searched
     (begun c.args.board.now.problem c.problem.result.now c.args.used c.args.board.now.state c.lend_next.new.board.state c.in-Some.job c.in_ok-job.field-0 c.problem.ensures c.keeps_limits.ensures.network c.keeps_limits.ensures.table c.requires.worked c.requires.few c.in-Some.is c.in_ok-job.ensures.lends)
     settled left)
 

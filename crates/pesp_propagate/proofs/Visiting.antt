@@ -38,6 +38,11 @@ visit_result t events arcs row xs ys before after (Err e) a b = tt
 visit_result t events arcs row xs ys before after (Ok None) a b = b refl
 visit_result t events arcs row xs ys before after (Ok (Some e)) a b = a
 
+pub some_visit : (t events : ℕ) (arcs : List Arc) (row : ℕ) (xs ys : List ℕ) (before after : Waiting) (o : Option ℕ)
+    → is_some o ≡ true → IfSome o (λ e. IsEmptyAt t events ys e) → IsVisit t events arcs row xs ys before after o
+some_visit t events arcs row xs ys before after None h a = cc
+some_visit t events arcs row xs ys before after (Some e) h a = a
+
 pub visited : (t : ℕ) (arcs : List Arc) (row : ℕ) (xs ys : List ℕ) (w0 w1 w2 w3 : Waiting) (tail head : Bool)
     → Leaves row w0 w1 → Changes (width_of t) (arc_at arcs row) xs ys tail head → Grows w1 w2 → Grows w2 w3
     → (tail ≡ true → (k : ℕ) → 0 < k → k ≤ length arcs → (tail_of arcs k ≡ (arc_at arcs row).tail) ⊎ (head_of arcs k ≡ (arc_at arcs row).tail) → k ≢ row + 1 → waits_at w2 (k - 1) ≡ true)

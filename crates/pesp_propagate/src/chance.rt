@@ -1,7 +1,7 @@
 //! Numbers that look like chance, and are the same in every run.
 
 /// A linear congruential generator.
-#[derive(Debug, Drop)]
+#[derive(Drop)]
 pub struct Chance {
     state: u64,
 }

@@ -10,7 +10,7 @@ use pesp_problem::{Arc, Memory};
 use std::alloc::Global;
 
 /// The event of a block that is chosen first, and how late it is.
-#[derive(Clone, Copy, Debug)]
+#[derive(Clone, Copy)]
 struct Leader {
     rank: u64,
     event: u32,
@@ -29,13 +29,14 @@ impl Leader {
 /// What one try leaves to the next: how often each event could not take the value that was tried, and chance; and the
 /// difference that each event is to have, where such are given. Beside these the leader of each block of events, as it was when
 /// the block was looked at.
-#[derive(Debug, Drop)]
+#[derive(Drop)]
 pub struct Experience {
     leaders: Vec<Leader>,
     failures: Vec<u32>,
     costs: Vec<u64>,
     targets: Vec<u32>,
     chance: Chance,
+    sixteenths: u32,
 }
 
 impl Experience {
@@ -53,7 +54,13 @@ impl Experience {
             costs: vec![in alloc; 0u64; period as usize]?,
             targets,
             chance: Chance::new(),
+            sixteenths: 0,
         })
+    }
+
+    /// From here on chance makes each cost greater, by up to so many sixteenths.
+    pub fn allow_chance(&mut self, sixteenths: u32) {
+        self.sixteenths = sixteenths;
     }
 
     /// An event could not take the value that was tried.
@@ -121,14 +128,8 @@ impl Experience {
     }
 
     /// The difference of an event that costs least: by what is left of its neighbours, the sum over its rows of weight times
-    /// least slack; or by how far it is from the event's target. Chance makes each cost greater, by up to so many sixteenths.
-    pub fn choose_difference(
-        &mut self,
-        domains: &Domains,
-        rows: &Rows,
-        event: u32,
-        sixteenths: u32,
-    ) -> u32 {
+    /// least slack; or by how far it is from the event's target. Chance makes each cost greater, as far as it is allowed.
+    pub fn choose_difference(&mut self, domains: &Domains, rows: &Rows, event: u32) -> u32 {
         match self.targets.get(event as usize).copied() {
             Some(target) => measure_distances(&mut self.costs, target),
             None => add_up_costs(&mut self.costs, domains, rows, event),
@@ -138,7 +139,7 @@ impl Experience {
         for (difference, cost) in self.costs.iter().enumerate() {
             let difference = u32::try_from(difference).unwrap_or(0);
             if domains.has(event, difference) {
-                let more = self.chance.next() % sixteenths.saturating_add(1).max(1);
+                let more = self.chance.next() % self.sixteenths.saturating_add(1).max(1);
                 let cost = cost.saturating_mul(16 + u64::from(more));
                 if least.is_none_or(|least| cost < least) {
                     least = Some(cost);

@@ -4,6 +4,7 @@ ghost use Rattle.std.specs.Prelude.{◌≡◌, ℕ, ◌<◌, ◌≤◌, length, 
 ghost use Rattle.pesp_problem.specs.NetTimetables.{IsNetTimetable};
 ghost use Rattle.pesp_network.specs.Networks.{net_of_network};
 ghost use Rattle.pesp_propagate.specs.Domains.{HaveSizes};
+ghost use Rattle.pesp_propagate.specs.Rows.{rows_of};
 
 use crate::choice::Experience;
 use crate::domains::Domains;
@@ -37,7 +38,7 @@ fn times_of(alloc: Global, domains: &Domains) -> Result<Vec<u32>, Memory> {
 }
 
 /// An event that is fixed to a difference.
-#[derive(Clone, Copy, Debug)]
+#[derive(Clone, Copy)]
 struct Fixed {
     event: u32,
     difference: u32,
@@ -112,6 +113,65 @@ fn fix(
     Ok(false)
 }
 
+/// Goes on from what is left behind a value that was impossible, and saves it; tells whether no set is empty.
+fn go_on(
+    alloc: Global,
+    rows: &Rows,
+    ranges: &[(u32, u32)],
+    domains: &mut Domains,
+    saved: &mut Domains,
+    trail: &mut Vec<Fixed>,
+    event: u32,
+) -> Result<bool, Memory>
+    requires sizes { HaveSizes rows.now.period rows.now.events domains.old }
+    requires saved { HaveSizes rows.now.period rows.now.events saved.old }
+    requires ranges { length ranges.now ≡ length rows.now.arcs }
+    requires event { event < rows.now.events }
+    ensures sizes { HaveSizes rows.now.period rows.now.events domains.new }
+    ensures saved { HaveSizes rows.now.period rows.now.events saved.new }
+{
+    if rows.settle_at(alloc, domains, ranges, event)? != Outcome::Stable {
+        return Ok(false);
+    }
+    saved.copy_from(domains);
+    trail.clear();
+    Ok(true)
+}
+
+/// One event after another is fixed: a timetable, or None where too many values were impossible.
+fn fix_all(
+    alloc: Global,
+    rows: &Rows,
+    ranges: &[(u32, u32)],
+    domains: &mut Domains,
+    saved: &mut Domains,
+    trail: &mut Vec<Fixed>,
+    experience: &mut Experience,
+) -> Result<Option<Vec<u32>>, Memory>
+    requires sizes { HaveSizes rows.now.period rows.now.events domains.old }
+    requires saved { HaveSizes rows.now.period rows.now.events saved.old }
+    requires ranges { length ranges.now ≡ length rows.now.arcs }
+{
+    let mut failed = 0u32;
+    'turns: for _ in 0..domains.events().saturating_add(MOST_FAILURES) {
+        let Some(event) = experience.choose_event(domains) else {
+            return Ok(Some(times_of(alloc, domains)?));
+        };
+        let difference = experience.choose_difference(domains, rows, event);
+        let fixed = Fixed { event, difference };
+        if fix(alloc, rows, ranges, domains, saved, trail, fixed)? {
+            continue;
+        }
+        experience.note_failure(event);
+        failed = failed.saturating_add(1);
+        let goes_on = go_on(alloc, rows, ranges, domains, saved, trail, event)?;
+        if failed > MOST_FAILURES || !goes_on {
+            return Ok(None);
+        }
+    }
+    Ok(None)
+}
+
 /// One try: a timetable, or None where too many values were impossible.
 fn descend(
     alloc: Global,
@@ -119,7 +179,6 @@ fn descend(
     ranges: &[(u32, u32)],
     start: &Domains,
     experience: &mut Experience,
-    sixteenths: u32,
 ) -> Result<Option<Vec<u32>>, Memory>
     requires start { HaveSizes rows.now.period rows.now.events start.now }
     requires ranges { length ranges.now ≡ length rows.now.arcs }
@@ -127,34 +186,15 @@ fn descend(
     let mut domains = start.copy(alloc)?;
     let mut saved = start.copy(alloc)?;
     let mut trail = Vec::new(alloc);
-    let mut failed = 0u32;
-    'turns: for _ in 0..domains.events().saturating_add(MOST_FAILURES) {
-        let Some(event) = experience.choose_event(&mut domains) else {
-            return Ok(Some(times_of(alloc, &domains)?));
-        };
-        let difference = experience.choose_difference(&domains, rows, event, sixteenths);
-        let fixed = Fixed { event, difference };
-        if fix(
-            alloc,
-            rows,
-            ranges,
-            &mut domains,
-            &mut saved,
-            &mut trail,
-            fixed,
-        )? {
-            continue;
-        }
-        experience.note_failure(event);
-        failed = failed.saturating_add(1);
-        let outcome = rows.settle_at(alloc, &mut domains, ranges, event)?;
-        if failed > MOST_FAILURES || outcome != Outcome::Stable {
-            return Ok(None);
-        }
-        saved.copy_from(&domains);
-        trail.clear();
-    }
-    Ok(None)
+    fix_all(
+        alloc,
+        rows,
+        ranges,
+        &mut domains,
+        &mut saved,
+        &mut trail,
+        experience,
+    )
 }
 
 /// What a try found, where it is a timetable.
@@ -170,6 +210,52 @@ fn tested(network: &Network, found: Option<Vec<u32>>) -> Option<Vec<u32>>
     }
 }
 
+/// So many tries, each from what all rows support.
+fn try_from(
+    alloc: Global,
+    network: &Network,
+    rows: &Rows,
+    ranges: &[(u32, u32)],
+    start: &mut Domains,
+    experience: &mut Experience,
+    tries: u32,
+) -> Result<Option<Vec<u32>>, Memory>
+    requires start { HaveSizes rows.now.period rows.now.events start.old }
+    requires ranges { length ranges.now ≡ length rows.now.arcs }
+    ensures { IfOk result (λ found. IfSome found
+        (λ times. IsNetTimetable (net_of_network network.now) network.now.events times.items)) }
+{
+    if rows.settle_all(alloc, start, ranges)? != Outcome::Stable {
+        return Ok(None);
+    }
+    for attempt in 0..tries {
+        experience.allow_chance(if attempt == 0 { 0 } else { MOST_CHANCE });
+        let found = descend(alloc, rows, ranges, start, experience)?;
+        let timetable = tested(network, found);
+        if timetable.is_some() {
+            return Ok(timetable);
+        }
+    }
+    Ok(None)
+}
+
+/// So many tries with the rows of a network.
+fn try_rows(
+    alloc: Global,
+    network: &Network,
+    rows: &Rows,
+    experience: &mut Experience,
+    tries: u32,
+) -> Result<Option<Vec<u32>>, Memory>
+    requires { rows.now ≡ rows_of network.now }
+    ensures { IfOk result (λ found. IfSome found
+        (λ times. IsNetTimetable (net_of_network network.now) network.now.events times.items)) }
+{
+    let ranges: Vec<(u32, u32)> = rows.arcs().iter().map(range_of).collect(alloc)?;
+    let mut start = Domains::full(alloc, network)?;
+    try_from(alloc, network, rows, &ranges, &mut start, experience, tries)
+}
+
 /// So many tries with some experience.
 fn try_again(
     alloc: Global,
@@ -180,22 +266,9 @@ fn try_again(
     ensures { IfOk result (λ found. IfSome found
         (λ times. IsNetTimetable (net_of_network network.now) network.now.events times.items)) }
 {
-    let rows = Rows::of(alloc, network)?;
-    let ranges: Vec<(u32, u32)> = rows.arcs().iter().map(range_of).collect(alloc)?;
-    let mut start = Domains::full(alloc, network)?;
-    if rows.settle_all(alloc, &mut start, &ranges)? != Outcome::Stable {
-        return Ok(None);
-    }
     let mut experience = Experience::new(alloc, network.events(), network.period(), targets)?;
-    for attempt in 0..tries {
-        let sixteenths = if attempt == 0 { 0 } else { MOST_CHANCE };
-        let found = descend(alloc, &rows, &ranges, &start, &mut experience, sixteenths)?;
-        let timetable = tested(network, found);
-        if timetable.is_some() {
-            return Ok(timetable);
-        }
-    }
-    Ok(None)
+    let rows = Rows::of(alloc, network)?;
+    try_rows(alloc, network, &rows, &mut experience, tries)
 }
 
 /// The differences to the first event of their component that prices give, at the period.

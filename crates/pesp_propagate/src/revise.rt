@@ -56,7 +56,7 @@ fn shift_of(lower: &i64, period: usize) -> usize
 }
 
 /// At which ends of an arc a set is another.
-#[derive(Clone, Copy, Debug, PartialEq, Eq)]
+#[derive(Clone, Copy)]
 pub struct Changed {
     pub tail: bool,
     pub head: bool,

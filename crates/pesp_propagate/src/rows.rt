@@ -17,7 +17,7 @@ use std::alloc::Global;
 use std::marker::Model;
 
 /// The arcs of a network in order, and the rows at each event.
-#[derive(Debug, Drop)]
+#[derive(Drop)]
 pub struct Rows {
     period: u32,
     events: u32,

@@ -10,7 +10,7 @@ use pesp_problem::{Arc, Memory};
 use std::alloc::Global;
 
 /// Which rows wait for a visit, by their places, and a list that has each of them.
-#[derive(Debug, Drop)]
+#[derive(Drop)]
 pub struct Waiting {
     pub flags: Vec<bool>,
     pub rows: Vec<u32>,

@@ -20,7 +20,7 @@ use Rattle.pesp_reduce.specs.declared.fate.Fate.{Fate}
 use Rattle.pesp_reduce.specs.declared.fate.Fate.TheVariants.{Free, Contracted, Bridge, Kept}
 use Rattle.pesp_reduce.specs.Rows.{flag, loop_at, is_free, IsFree, row_that_matters}
 use Rattle.pesp_reduce.specs.Contractions.{AreTree, AreTogether, IsStanding}
-use Rattle.pesp_reduce.specs.Fates.{fate_at, is_kept, IsFate, mapped_row, kept_below}
+use Rattle.pesp_reduce.specs.Fates.{AreFates, fate_at, is_kept, IsFate, mapped_row, kept_below}
 use Rattle.pesp_reduce.proofs.Lists.{arc_at_net, arcs_length, row_of_map}
 use Rattle.pesp_reduce.proofs.Contracting.{keeps_parts}
 use Rattle.pesp_reduce.proofs.Keeping.{keeps, places, length_kept, places_before, one_place, kept_at, which, all_kept, few_kept}
@@ -231,10 +231,6 @@ flagged_no_loop rows tree flags i t e loop =
     cc
 
 -- ---- fates
-
--- what the fates of rows are told by
-pub record AreFates (period : ℕ) (rows : List NetRow) (flags : List Bool) (left : List Arc) (fates : List Fate) : Type 0 where
-  pub each : (i : ℕ) → i < length rows → IsFate period (net_row_at rows i) (flag flags i) left (i + 1) (fate_at fates i)
 
 pub free_fate : (period : ℕ) (row : NetRow) (b : Bool) (left : List Arc) (k : ℕ) (fate : Fate) → IsFate period row b left k fate → fate ≡ Free → IsFree period (arc_of_net row)
 free_fate period row b left k fate f e = free_is period row (subst (λ x. IsFate period row b left k x) e f)

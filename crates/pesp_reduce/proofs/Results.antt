@@ -19,13 +19,13 @@ use Rattle.pesp_reduce.specs.declared.fate.Fate.TheVariants.{Free, Contracted, B
 use Rattle.pesp_reduce.specs.declared.contraction.Contraction.{Contraction}
 use Rattle.pesp_reduce.specs.Rows.{flag, is_free, IsFree, loop_at, row_that_matters}
 use Rattle.pesp_reduce.specs.Contracting.{IsContraction}
-use Rattle.pesp_reduce.specs.Fates.{fate_at, is_kept, mapped_row, kept_below}
+use Rattle.pesp_reduce.specs.Fates.{AreFates, fate_at, is_kept, mapped_row, kept_below}
 use Rattle.pesp_reduce.specs.Reductions.{IsReduction, IsReducedRow, HaveNoContractedCycle, IsOnNoCycle, origin_place}
 use Rattle.pesp_reduce.proofs.Lists.{arc_at_net, arcs_length}
 use Rattle.pesp_reduce.proofs.Ways.{leads_same, walk_same}
 use Rattle.pesp_reduce.proofs.Keeping.{keeps, places, length_kept, kept_at, which}
 use Rattle.pesp_reduce.proofs.WaysBack.{IsContractedApart, bridge_of_mapped}
-use Rattle.pesp_reduce.proofs.Reducing.{AreFates, matters_at, matters_on, matters_off, matter_ends, is_not_free, kept_parts, free_fate, other_fate, contracted_fate, bridge_fate, flagged_fate, flagged_matters, bridge_below, together_no_bridge, left_sorted, none_left_over, mapped_at}
+use Rattle.pesp_reduce.proofs.Reducing.{matters_at, matters_on, matters_off, matter_ends, is_not_free, kept_parts, free_fate, other_fate, contracted_fate, bridge_fate, flagged_fate, flagged_matters, bridge_below, together_no_bridge, left_sorted, none_left_over, mapped_at}
 
 origin_stays : (b : Bool) (row : NetRow) → (if b then loop_at row else row).origin ≡ row.origin
 origin_stays true row = refl
@@ -70,18 +70,19 @@ kept_on_cycle p given c fates i limits arcs_are count ic f l e none =
     parts.2 (bridge_of_mapped W c.tree.rows flags free (length p.events) S c.firsts.items H i (contracted_apart p given c limits arcs_are count ic) parts.0 parts.1
     (λ walk w m. none walk (walk_same R A walk sizes (All-weaker F (λ s. arc_at A (s.row - 1) ≡ arc_at R (s.row - 1)) same walk m) w) (All-weaker F (λ s. IsFree T (arc_at A (s.row - 1)) → ⊥) matters walk m)))
 
-pub is_reduction : (p : Pesp) (given : List NetRow) (whole left network : NetworkValue) (c : Contraction) (fates : List Fate) → KeepsLimits p → arcs_of_network given ≡ arcs_of p → ((i : ℕ) → i < length given → (net_row_at given i).origin ≡ i + 1)
+pub is_reduction : (p : Pesp) (given : List NetRow) (whole network : NetworkValue) (c : Contraction) (fates : List Fate) → KeepsLimits p → arcs_of_network given ≡ arcs_of p → ((i : ℕ) → i < length given → (net_row_at given i).origin ≡ i + 1)
     → whole.period ≡ p.period → whole.events ≡ length p.events → whole.rows ≡ map (row_that_matters p.period) given → IsContraction p.period (length p.events) whole.rows c
-    → left.rows ≡ map (mapped_row c.stands.items c.shifts.items) whole.rows → length fates ≡ length given → AreFates p.period given c.contracted.items (arcs_of_network left.rows) fates
-    → network.period ≡ p.period → network.events ≡ length c.firsts.items → network.rows ≡ kept_below fates left.rows (length left.rows) → IsReduction p fates whole c network
-is_reduction p given whole left network c fates limits arcs_are origins period_is events_are whole_is contraction left_is fates_count fates_are net_period net_events net_rows =
+    → length fates ≡ length given → AreFates p.period given c.contracted.items (arcs_of_network (map (mapped_row c.stands.items c.shifts.items) whole.rows)) fates
+    → network.period ≡ p.period → network.events ≡ length c.firsts.items
+    → network.rows ≡ kept_below fates (map (mapped_row c.stands.items c.shifts.items) whole.rows) (length (map (mapped_row c.stands.items c.shifts.items) whole.rows)) → IsReduction p fates whole c network
+is_reduction p given whole network c fates limits arcs_are origins period_is events_are whole_is contraction fates_count fates_are net_period net_events net_rows =
     let T = p.period in
     let S = c.stands.items in let H = c.shifts.items in let flags = c.contracted.items in
     let W = map (row_that_matters T) given in
     let B = map (mapped_row S H) W in
     let ic = subst (λ rows. IsContraction T (length p.events) rows c) whole_is contraction in
     let t = ic.tree in
-    let left_rows : left.rows ≡ B = left_is ∙ ap (map (mapped_row S H)) whole_is in
+    let left_rows : map (mapped_row S H) whole.rows ≡ B = ap (map (mapped_row S H)) whole_is in
     let f = subst (λ rows. AreFates T given flags (arcs_of_network rows) fates) left_rows fates_are in
     let count_given : length given ≡ length p.rows = sym (arcs_length given) ∙ ap length arcs_are ∙ length-arcs_of p in
     let count_whole : length W ≡ length given = length-map given (row_that_matters T) in

@@ -1,13 +1,13 @@
 -- What the contraction of fixed rows keeps.
-use Rattle.std.specs.Prelude.{◌≡◌, ℕ, ◌+◌, ◌-◌, ◌<◌, ◌≤◌, List, length, slice_index, Bool, true, pos, ◌-ℤ◌, All, Contains}
+use Rattle.std.specs.Prelude.{◌≡◌, ℕ, ◌+◌, ◌-◌, ◌<◌, ◌≤◌, List, length, map, slice_index, Bool, true, pos, ◌-ℤ◌, All, Contains}
 use Rattle.pesp_problem.specs.declared.arc.Arc.{Arc}
 use Rattle.pesp_problem.specs.declared.row.SignedRow.{SignedRow}
 use Rattle.pesp_problem.specs.Walks.{IsWalk, net_count}
-use Rattle.pesp_problem.specs.Forests.{IsFirstOf}
+use Rattle.pesp_problem.specs.Forests.{IsFirstOf, IsSpanningForest}
 use Rattle.pesp_network.specs.declared.row.NetRow.{NetRow}
 use Rattle.pesp_network.specs.Networks.{net_row_at, arcs_of_network}
 use Rattle.pesp_problem.specs.Congruences.{IsSame}
-use Rattle.pesp_reduce.specs.Rows.{flag, part}
+use Rattle.pesp_reduce.specs.Rows.{flag, part, fixed_row}
 
 -- no walk along the flagged rows alone passes a row more often one way than the other
 abbrev pub HaveNoCycleAt : List Arc → List Bool → Type 0
@@ -46,3 +46,7 @@ pub record AreFlags (count : ℕ) (numbers : List ℕ) (flags : List Bool) : Typ
   pub count_is : length flags ≡ count
   pub only : (i : ℕ) → flag flags i ≡ true → Contains numbers (i + 1)
   pub all : (k : ℕ) → Contains numbers k → flag flags (k - 1) ≡ true
+
+-- those rows are flagged that are in one spanning forest of the fixed rows
+abbrev pub AreForestFlags : List NetRow → List Bool → Type 0
+AreForestFlags rows flags = (forest : List ℕ) × IsSpanningForest (arcs_of_network (map fixed_row rows)) forest × AreFlags (length rows) forest flags

@@ -1,11 +1,13 @@
 //! The contraction of fixed rows.
 
-ghost use Rattle.std.specs.Prelude.{◌≡◌, ℕ, ◌<◌, ◌≤◌, List, length, slice_index, IfOk, All, vec_len};
+ghost use Rattle.std.specs.Prelude.{◌≡◌, ℕ, ◌<◌, ◌≤◌, List, length, map, slice_index, IfOk, All, vec_len};
 ghost use Rattle.pesp_problem.specs.declared.row.SignedRow.{SignedRow};
 ghost use Rattle.pesp_problem.specs.Arcs.{slacks_at};
 ghost use Rattle.pesp_problem.specs.Walks.{Names, IsWalk, HasWholeOffset};
-ghost use Rattle.pesp_network.specs.Networks.{arcs_of_network, net_of_network};
-ghost use Rattle.pesp_reduce.specs.Contractions.{IsStanding, AreFlags};
+ghost use Rattle.pesp_problem.specs.Forests.{IsSpanningForest};
+ghost use Rattle.pesp_network.specs.Networks.{arcs_of_network, net_of_network, KeepsNetLimits};
+ghost use Rattle.pesp_reduce.specs.Rows.{fixed_row};
+ghost use Rattle.pesp_reduce.specs.Contractions.{AreTree, IsStanding, AreFlags, AreForestFlags};
 ghost use Rattle.pesp_reduce.specs.Contracting.{IsContraction};
 
 use crate::rows::{fixed_rows, network_of, part_of};
@@ -85,18 +87,43 @@ fn standing_of(alloc: Global, tree: &Network) -> Result<Standing, AllocError>
     Ok(Standing { stands, firsts })
 }
 
+/// The rows of a spanning forest of the fixed rows.
+fn fixed_forest(alloc: Global, whole: &Network) -> Result<Vec<u32>, Memory>
+    ensures { IfOk result (λ forest. IsSpanningForest (arcs_of_network (map fixed_row whole.now.rows))
+        forest.items) }
+{
+    let rows = fixed_rows(alloc, whole.rows())?;
+    let ties = network_of(alloc, whole.period(), whole.events(), rows)?;
+    ties.forest(alloc)
+}
+
+/// For each row, whether it is in a spanning forest of the fixed rows.
+fn contracted_of(alloc: Global, whole: &Network) -> Result<Vec<bool>, Memory>
+    ensures { IfOk result (λ flags. AreForestFlags whole.now.rows flags.items) }
+{
+    let forest = fixed_forest(alloc, whole)?;
+    Ok(flags_of(alloc, whole.rows().len(), forest.as_slice())?)
+}
+
+/// The contracted rows, with a loop for each other row.
+fn tree_of(alloc: Global, whole: &Network, contracted: &[bool]) -> Result<Network, Memory>
+    requires { AreForestFlags whole.now.rows contracted.now }
+    ensures limits { KeepsNetLimits whole.now }
+    ensures period { IfOk result (λ tree. tree.period ≡ whole.now.period) }
+    ensures events { IfOk result (λ tree. tree.events ≡ whole.now.events) }
+    ensures tree { IfOk result (λ tree. AreTree whole.now.rows tree.rows contracted.now) }
+{
+    let parts = part_of(alloc, whole.rows(), contracted)?;
+    let tree = network_of(alloc, whole.period(), whole.events(), parts)?;
+    Ok(tree)
+}
+
 /// Contracts the fixed rows of a network that join different events and close no cycle.
 pub fn contract(alloc: Global, whole: &Network) -> Result<Contraction, Memory>
     ensures { IfOk result (IsContraction whole.now.period whole.now.events whole.now.rows) }
 {
-    let period = whole.period();
-    let events = whole.events();
-    let rows = whole.rows();
-    let ties = network_of(alloc, period, events, fixed_rows(alloc, rows)?)?;
-    let forest = ties.forest(alloc)?;
-    let contracted = flags_of(alloc, rows.len(), forest.as_slice())?;
-    let parts = part_of(alloc, rows, contracted.as_slice())?;
-    let tree = network_of(alloc, period, events, parts)?;
+    let contracted = contracted_of(alloc, whole)?;
+    let tree = tree_of(alloc, whole, contracted.as_slice())?;
     let shifts = shifts_of(alloc, &tree)?;
     let Standing { stands, firsts } = standing_of(alloc, &tree)?;
     Ok(Contraction {

@@ -4,6 +4,7 @@
 mod contraction;
 mod fate;
 mod fates;
+mod parts;
 mod reduction;
 mod rows;
 mod times;

@@ -12,10 +12,9 @@ ghost use Rattle.pesp_reduce.specs.Rows.{IsFree};
 ghost use Rattle.pesp_reduce.specs.LiftedWalks.{original_row, passes_kept, IsKeptOrContracted, lower_sum, HasNoRowTwice};
 ghost use Rattle.pesp_reduce.specs.Reductions.{IsReducedRow, AreKeptRows, AreFatesOf, AreMerged, AreForEvents, HaveNoContractedCycle, AreTightAtContracted, left_slacks, origin_place};
 
-use crate::contraction::{Contraction, contract};
+use crate::contraction::Contraction;
 use crate::fate::Fate;
-use crate::fates::{fates_of, kept_rows, mapped_rows};
-use crate::rows::{network_of, rows_that_matter};
+use crate::parts::{Parts, parts_of};
 use crate::times::{lifted_slacks, lowered_times};
 use crate::walks::lifted;
 use pesp_network::Network;
@@ -50,6 +49,15 @@ impl Model for Reduced {
     ghost invariant = { λ r. IsReduction r.original r.fates.items r.whole r.contraction r.network };
 }
 
+/// The same instance again.
+fn copy_of(alloc: Global, instance: &Instance) -> Result<Instance, Memory>
+    ensures { IfOk result (λ copy. copy ≡ instance.now) }
+{
+    let events = Vec::from_slice(alloc, instance.events())?;
+    let rows = Vec::from_slice(alloc, instance.rows())?;
+    Ok(Instance::new(instance.period(), events, rows))
+}
+
 /// Decides what can be decided without searching: drops free rows of weight 0, contracts fixed rows with shifts from 0 to
 /// the period less 1, and then drops the bridges of what is left. A fixed row that closes a cycle of fixed rows stays as a
 /// loop.
@@ -71,24 +79,14 @@ pub fn reduce(alloc: Global, instance: &Instance) -> Result<Reduced, Memory>
     ensures shifts { IfOk result (λ r. All (λ t. t < instance.now.period) r.shifts) }
     ensures no_cycle { IfOk result HaveNoContractedCycle }
 {
-    let own = instance.period();
+    let original = copy_of(alloc, instance)?;
     let given = Network::of(alloc, instance)?;
-    let period = given.period();
-    let matter = rows_that_matter(alloc, period, given.rows())?;
-    let whole = network_of(alloc, period, given.events(), matter)?;
-    let contraction = contract(alloc, &whole)?;
-    let stands = contraction.stands.as_slice();
-    let shifts = contraction.shifts.as_slice();
-    let events = contraction.firsts.len() as u32;
-    let mapped = mapped_rows(alloc, stands, shifts, whole.rows())?;
-    let left = network_of(alloc, period, events, mapped)?;
-    let contracted = contraction.contracted.as_slice();
-    let fates = fates_of(alloc, period, given.rows(), contracted, &left)?;
-    let rows = kept_rows(alloc, left.rows(), fates.as_slice())?;
-    let network = network_of(alloc, period, events, rows)?;
-    let labels = Vec::from_slice(alloc, instance.events())?;
-    let copied = Vec::from_slice(alloc, instance.rows())?;
-    let original = Instance::new(own, labels, copied);
+    let Parts {
+        whole,
+        contraction,
+        fates,
+        network,
+    } = parts_of(alloc, instance, &given)?;
     Ok(Reduced {
         original,
         whole,

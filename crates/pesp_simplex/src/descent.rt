@@ -1,12 +1,10 @@
 //! Shifts of cuts that make times cheaper, tried over forests drawn at random.
 
-use crate::drawing::Drawing;
-use crate::guarded::fill;
-use crate::low::{Low, count_rows, list_low};
-use crate::moves::{cheapest, shift, warm};
+use crate::moves::shift_side;
+use crate::planting::Planting;
 use crate::random::Random;
-use crate::stars::{empty_lists, stars_of};
-use pesp_cuts::{Cuts, Entry, MOST_ENTRIES, Numbers, Rooted, lay_out, list, shift_costs};
+use crate::stars::stars_of;
+use pesp_cuts::{Cuts, Entry, Numbers, Rooted, list};
 use pesp_problem::{Arc, Memory};
 use std::alloc::Global;
 
@@ -20,18 +18,16 @@ enum Side {
     Alone(u32),
 }
 
-/// Slacks and their cost, the best that were met, the forest in use and the lists of its cuts, and the rows at each event.
+/// Slacks and their cost, the best that were met, the forest in use with its cuts, and the rows at each event.
 #[derive(Drop)]
 pub(crate) struct Descent {
     period: u32,
+    rounds: u32,
     slacks: Vec<u32>,
     cost: i64,
     best: Vec<u32>,
     best_cost: i64,
-    drawing: Drawing,
-    counts: Vec<u32>,
-    heights: Vec<u32>,
-    cuts: Cuts,
+    planting: Planting,
     stars: Cuts,
     sides: Vec<Side>,
     numbers: Numbers,
@@ -56,22 +52,19 @@ fn entries_at<'a>(cuts: &'a Cuts, stars: &'a Cuts, side: Side) -> Option<&'a [En
     }
 }
 
-/// Makes room for so many entries.
-fn make_room(entries: &mut Vec<Entry>, room: usize) -> Result<(), Memory> {
-    for _ in entries.len()..room {
-        entries.push(Entry {
-            row: 0,
-            inward: false,
-        })?;
+/// Copies numbers over as many others.
+fn copy(from: &[u32], to: &mut [u32]) {
+    if from.len() == to.len() {
+        to.copy_from_slice(from);
     }
-    Ok(())
 }
 
-/// Copies numbers over others.
-fn copy(from: &[u32], to: &mut [u32]) {
-    for (number, place) in from.iter().zip(to.iter_mut()) {
-        *place = *number;
-    }
+/// Room for the costs of all shifts of a cut.
+pub(crate) fn numbers_for(alloc: Global, period: u32) -> Result<Numbers, Memory> {
+    Ok(Numbers {
+        costs: vec![in alloc; 0i64; period as usize + 1]?,
+        bars: vec![in alloc; 0i64; period as usize + 1]?,
+    })
 }
 
 /// The heat in a round of a cycle that begins at `top` and falls by so many halves.
@@ -87,7 +80,7 @@ fn heat_at(top: u64, halves: u32, round: u32, rounds: u32) -> u64 {
 }
 
 impl Descent {
-    /// A descent from these slacks, which cost so much.
+    /// A descent from these slacks, which cost so much, in so many rounds.
     pub(crate) fn new(
         alloc: Global,
         period: u32,
@@ -95,114 +88,55 @@ impl Descent {
         arcs: &[Arc],
         slacks: Vec<u32>,
         cost: i64,
+        rounds: u32,
     ) -> Result<Descent, Memory> {
-        let count = events as usize;
         Ok(Descent {
             period,
+            rounds,
             best: slacks.clone()?,
             slacks,
             cost,
             best_cost: cost,
-            drawing: Drawing::new(alloc, events, arcs)?,
-            counts: vec![in alloc; 0u32; count]?,
-            heights: vec![in alloc; 0u32; count]?,
-            cuts: empty_lists(alloc, count, 0)?,
-            stars: stars_of(alloc, count, arcs)?,
+            numbers: numbers_for(alloc, period)?,
             sides: sides_of(alloc, events)?,
-            numbers: Numbers {
-                costs: vec![in alloc; 0i64; period as usize + 1]?,
-                bars: vec![in alloc; 0i64; period as usize + 1]?,
-            },
+            stars: stars_of(alloc, events as usize, arcs)?,
+            planting: Planting::new(alloc, events, arcs)?,
             random: Random::new(),
         })
     }
 
     /// The forest in use.
     pub(crate) fn rooted(&self) -> &Rooted {
-        &self.drawing.rooted
+        &self.planting.drawing.rooted
     }
 
     /// The times of the slacks, along the forest in use.
     pub(crate) fn times(&self, alloc: Global, arcs: &[Arc]) -> Result<Option<Vec<u32>>, Memory> {
-        self.drawing
+        self.planting
+            .drawing
             .times_of(alloc, self.period, arcs, &self.slacks)
     }
 
-    /// Draws a forest.
-    fn draw(&mut self, arcs: &[Arc]) -> Option<()> {
-        self.drawing.draw(arcs, &self.slacks, &mut self.random)?;
-        self.drawing.measure(&mut self.heights)
-    }
-
-    /// Draws a forest and lists its cuts, or the low ones where that is too much. False where it gave up.
+    /// Draws a forest and lists its cuts. False where it gave up.
     fn plant(&mut self, arcs: &[Arc]) -> Result<bool, Memory> {
-        if self.draw(arcs).is_none() {
-            return Ok(false);
-        }
-        for most in [u32::MAX, 64, 16, 4, 1] {
-            if let Some(room) = self.count(arcs, most) {
-                make_room(&mut self.cuts.entries, room)?;
-                return Ok(self.list(arcs, most).is_some());
-            }
-        }
-        Ok(false)
-    }
-
-    /// How many rows cross the cuts below which no event hangs more rows down than `most`, in all.
-    fn count(&mut self, arcs: &[Arc], most: u32) -> Option<usize> {
-        fill(&mut self.counts, 0);
-        let low = Low {
-            heights: &self.heights,
-            most,
-        };
-        count_rows(
-            &self.drawing.rooted,
-            &low,
-            &mut self.counts,
-            arcs,
-            MOST_ENTRIES,
-        )
-    }
-
-    /// Lists the rows that were counted.
-    fn list(&mut self, arcs: &[Arc], most: u32) -> Option<()> {
-        if !lay_out(&mut self.cuts, &self.counts) {
-            return None;
-        }
-        let low = Low {
-            heights: &self.heights,
-            most,
-        };
-        list_low(&self.drawing.rooted, &low, &mut self.cuts, arcs)
+        self.planting.plant(arcs, &self.slacks, &mut self.random)
     }
 
     /// Tries the shifts of a side, and gives by how much the one that was taken is dearer.
     fn try_side(&mut self, arcs: &[Arc], side: Side, heat: u64) -> Option<i64> {
-        let entries = entries_at(&self.cuts, &self.stars, side)?;
+        let entries = entries_at(&self.planting.cuts, &self.stars, side)?;
         if entries.is_empty() {
             return Some(0);
         }
-        let numbers = &mut self.numbers;
-        if !shift_costs(
+        let dearer = shift_side(
             self.period,
             arcs,
-            &self.slacks,
+            &mut self.slacks,
             entries,
-            &mut numbers.costs,
-            &mut numbers.bars,
-        ) {
-            return None;
-        }
-        let amount = if heat == 0 {
-            cheapest(self.period, &self.numbers)
-        } else {
-            warm(self.period, &self.numbers, heat, &mut self.random)
-        };
-        if amount == 0 {
-            return Some(0);
-        }
-        let dearer = *self.numbers.costs.get(amount as usize)?;
-        shift(self.period, &mut self.slacks, entries, amount);
+            &mut self.numbers,
+            heat,
+            &mut self.random,
+        )?;
         self.cost = self.cost.wrapping_add(dearer);
         Some(dearer)
     }
@@ -256,11 +190,7 @@ impl Descent {
             let place = round % cycle;
             let first = round < cycle;
             if place == 0 {
-                top = if first {
-                    self.mean().saturating_mul(8)
-                } else {
-                    self.mean()
-                };
+                top = self.mean().saturating_mul(if first { 8 } else { 1 });
             }
             if self.best_cost == 0 {
                 return Ok(true);
@@ -297,9 +227,10 @@ impl Descent {
         Ok(is_planted)
     }
 
-    /// Makes the slacks cheaper in so many rounds: first by cheaper shifts alone, then by heat, and then by cheaper shifts
+    /// Makes the slacks cheaper in its rounds: first by cheaper shifts alone, then by heat, and then by cheaper shifts
     /// again. It may give up before.
-    pub(crate) fn run(&mut self, arcs: &[Arc], rounds: u32) -> Result<(), Memory> {
+    pub(crate) fn run(&mut self, arcs: &[Arc]) -> Result<(), Memory> {
+        let rounds = self.rounds;
         let reserve = (rounds / 4).clamp(16, 400);
         let first = rounds.min(16);
         let cooled = self.cool(arcs, first)?;

@@ -8,6 +8,7 @@ mod improved;
 mod improvement;
 mod low;
 mod moves;
+mod planting;
 mod random;
 mod settle;
 mod stars;

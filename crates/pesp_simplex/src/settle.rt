@@ -10,16 +10,28 @@ ghost use Rattle.pesp_cuts.specs.Lists.{AreListed};
 ghost use Rattle.pesp_cuts.specs.Local.{IsLocal};
 ghost use Rattle.pesp_simplex.specs.Improvements.{IsImproved};
 
-use crate::descent::Descent;
+use crate::descent::{Descent, numbers_for};
 use crate::improved::{Improved, Stop};
 use crate::low::{Low, count_rows};
+use crate::stars::empty_lists;
 use pesp_cuts::{
-    Cuts, Entry, MOST_ENTRIES, Numbers, Rooted, are_cuts_best, is_rooted, lay_out, list_rows,
-    slacks_of, tree_rows,
+    Cuts, MOST_ENTRIES, Rooted, are_cuts_best, is_rooted, lay_out, list_rows, slacks_of, tree_rows,
 };
 use pesp_problem::net_times::{cost_of, is_timetable};
 use pesp_problem::{Arc, Memory};
 use std::alloc::Global;
+
+/// Lists the rows of all cuts of a rooted forest, of which so many cross each; false where the lists have too little room.
+fn list_cuts(events: u32, arcs: &[Arc], rooted: &Rooted, counts: &[u32], cuts: &mut Cuts) -> bool
+    requires lists { IsFor events rooted.now }
+    requires trees { AreRoots events arcs.now (roots_of rooted.now) }
+    requires few { length arcs.now ≤ 100000 }
+    requires counts { length counts.now ≡ events }
+    ensures { IsTrue result
+        → AreListed events arcs.now (roots_of rooted.now) (length arcs.now) cuts.new }
+{
+    lay_out(cuts, counts) && list_rows(events, arcs, rooted, cuts)
+}
 
 /// The lists of all cuts of a rooted forest; None where they have more than `MOST_ENTRIES` entries.
 fn cuts_of(
@@ -42,16 +54,8 @@ fn cuts_of(
     let Some(total) = count_rows(rooted, &all, &mut counts, arcs, MOST_ENTRIES) else {
         return Ok(None);
     };
-    let none = Entry {
-        row: 0,
-        inward: false,
-    };
-    let mut cuts = Cuts {
-        starts: vec![in alloc; 0usize; events as usize + 1]?,
-        ends: vec![in alloc; 0usize; events as usize]?,
-        entries: vec![in alloc; none; total]?,
-    };
-    if !lay_out(&mut cuts, &counts) || !list_rows(events, arcs, rooted, &mut cuts) {
+    let mut cuts = empty_lists(alloc, events as usize, total)?;
+    if !list_cuts(events, arcs, rooted, &counts, &mut cuts) {
         return Ok(None);
     }
     Ok(Some(cuts))
@@ -79,10 +83,7 @@ fn is_local(
     let Some(cuts) = cuts_of(alloc, events, arcs, rooted)? else {
         return Ok(false);
     };
-    let mut numbers = Numbers {
-        costs: vec![in alloc; 0i64; period as usize + 1]?,
-        bars: vec![in alloc; 0i64; period as usize + 1]?,
-    };
+    let mut numbers = numbers_for(alloc, period)?;
     Ok(are_cuts_best(period, arcs, &slacks, rooted, &cuts, &mut numbers))
 }
 
@@ -153,6 +154,45 @@ pub(crate) fn cheaper(
     Ok(Vec::from_slice(alloc, times)?)
 }
 
+/// A descent from times.
+fn descent_from(
+    alloc: Global,
+    period: u32,
+    events: u32,
+    arcs: &[Arc],
+    times: &[u32],
+    rounds: u32,
+) -> Result<Descent, Memory>
+    requires limits { KeepArcLimits period events arcs.now }
+    requires times { IsNetTimetable (record { period = period; arcs = arcs.now }) events times.now }
+{
+    let slacks = slacks_of(alloc, period, events, arcs, times)?;
+    let cost = i64::try_from(cost_of(period, events, arcs, times)).unwrap_or(i64::MAX);
+    Descent::new(alloc, period, events, arcs, slacks, cost, rounds)
+}
+
+/// Runs a descent from times, and judges what it found.
+fn improve_by(
+    descent: &mut Descent,
+    alloc: Global,
+    period: u32,
+    events: u32,
+    arcs: &[Arc],
+    times: &[u32],
+    other: Vec<u32>,
+) -> Result<Improved, Memory>
+    requires limits { KeepArcLimits period events arcs.now }
+    requires times { IsNetTimetable (record { period = period; arcs = arcs.now }) events times.now }
+    requires other { IsSpanningForest arcs.now other.items }
+    ensures { IfOk result
+        (IsImproved (record { period = period; arcs = arcs.now }) events times.now) }
+{
+    descent.run(arcs)?;
+    let found = descent.times(alloc, arcs)?.unwrap_or(Vec::new(alloc));
+    let best = cheaper(alloc, period, events, arcs, found, times)?;
+    settle(alloc, period, events, arcs, best, descent.rooted(), other)
+}
+
 /// Makes times cheaper in so many rounds, and judges what was found.
 pub(crate) fn improve_times(
     alloc: Global,
@@ -169,11 +209,6 @@ pub(crate) fn improve_times(
     ensures { IfOk result
         (IsImproved (record { period = period; arcs = arcs.now }) events times.now) }
 {
-    let slacks = slacks_of(alloc, period, events, arcs, times)?;
-    let cost = i64::try_from(cost_of(period, events, arcs, times)).unwrap_or(i64::MAX);
-    let mut descent = Descent::new(alloc, period, events, arcs, slacks, cost)?;
-    descent.run(arcs, rounds)?;
-    let found = descent.times(alloc, arcs)?.unwrap_or(Vec::new(alloc));
-    let best = cheaper(alloc, period, events, arcs, found, times)?;
-    settle(alloc, period, events, arcs, best, descent.rooted(), other)
+    let mut descent = descent_from(alloc, period, events, arcs, times, rounds)?;
+    improve_by(&mut descent, alloc, period, events, arcs, times, other)
 }

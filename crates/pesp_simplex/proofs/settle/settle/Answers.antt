@@ -1,7 +1,27 @@
-use Rattle.std.proofs.Common.{arith, refl, sym}
+use Rattle.std.proofs.Common.{arith, refl, rules, sym}
 use Rattle.pesp_cuts.specs.Rooted.{roots_of}
 use Rattle.pesp_problem.proofs.Spanning.{roots_span}
 use Rattle.pesp_simplex.proofs.settle.settle.Goals as goal
+
+pub cost_of-cost-requires-clause-count : goal.cost_of-cost-requires-clause-count
+cost_of-cost-requires-clause-count c = rw c.deref.ensures.value c.requires.times.count
+
+pub tree_rows-requires-clause-few : goal.tree_rows-requires-clause-few
+tree_rows-requires-clause-few c = c.requires.limits.arcs_most
+
+pub is_local-requires-clause-count : goal.is_local-requires-clause-count
+is_local-requires-clause-count c = rw c.deref-2.ensures.value c.requires.times.count
+
+pub returns-then-not-is_rooted : goal.returns-then-not-is_rooted
+returns-then-not-is_rooted c =
+    let cost = rw c.deref.ensures.value at c.cost_of-cost.ensures in
+    record {
+      timetable = c.requires.times;
+      cost = cost;
+      never_dearer = omega arith;
+      forest = c.requires.other;
+      ended = search rules;
+    }
 
 pub returns : goal.returns
 returns c =

@@ -1,4 +1,5 @@
 use Rattle.std.proofs.Common.{◌≡◌, ◌≢◌, ◌-◌, length, true, subst, sym, arith}
+use Rattle.std.proofs.lemmas.Grind.{elements}
 use Rattle.pesp_propagate.specs.declared.waiting.Waiting.{Waiting}
 use Rattle.pesp_problem.specs.Arcs.{tail_of, head_of}
 use Rattle.pesp_propagate.specs.Waiting.{waits_at, Grows}
@@ -24,3 +25,6 @@ loop-row-preserved c =
       end = c.next_at-row.ensures.end;
       woken = woken_more (length c.args.arcs.now) (tail_of c.args.arcs.now) (head_of c.args.arcs.now) c.args.event c.args.but c.loop-row.row c.next_at-row.result c.loop-row.self c.if-row-but.self c.next_at-row.ensures step.0 step.1 c.loop-row.invariant.woken;
     }
+
+pub loop-row-init : goal.loop-row-init
+loop-row-init c = grind (arith, elements)

@@ -1,5 +1,6 @@
 use Rattle.std.proofs.Common.{◌≡◌, ◌<◌, ℕ, length, sym, subst, arith}
 use Rattle.std.specs.Prelude.{slice_index}
+use Rattle.std.proofs.lemmas.Grind.{common_steps}
 use Rattle.pesp_problem.specs.Timetables.{IsTimetable, slack, cost, row_at}
 use Rattle.pesp_problem.specs.Arcs.{arc_slack}
 use Rattle.pesp_problem.specs.NetTimetables.{IsNetTimetable, net_cost}
@@ -48,3 +49,30 @@ returns c =
       slacks = subst Q c.self.view_is are_slacks;
       cost = subst R c.self.view_is costs;
     }
+
+pub lifted_slacks-requires-clause-count : goal.lifted_slacks-requires-clause-count
+lifted_slacks-requires-clause-count c = grind (arith, common_steps)
+
+pub lifted_slacks-requires-clause-fates : goal.lifted_slacks-requires-clause-fates
+lifted_slacks-requires-clause-fates c = grind (arith, common_steps)
+
+pub lifted_slacks-requires-clause-tails : goal.lifted_slacks-requires-clause-tails
+lifted_slacks-requires-clause-tails c = grind (arith, common_steps)
+
+pub lifted_slacks-requires-clause-heads : goal.lifted_slacks-requires-clause-heads
+lifted_slacks-requires-clause-heads c = grind (arith, common_steps)
+
+pub lifted_slacks-requires-clause-times : goal.lifted_slacks-requires-clause-times
+lifted_slacks-requires-clause-times c = grind (arith, common_steps)
+
+pub lifted_slacks-requires-clause-shifts : goal.lifted_slacks-requires-clause-shifts
+lifted_slacks-requires-clause-shifts c = grind (arith, common_steps)
+
+pub lifted_slacks-requires-clause-lowers : goal.lifted_slacks-requires-clause-lowers
+lifted_slacks-requires-clause-lowers c = grind (arith, common_steps)
+
+pub timetable_of-requires-clause-count : goal.timetable_of-requires-clause-count
+timetable_of-requires-clause-count c = grind (arith, common_steps)
+
+pub timetable_of-requires-clause-below : goal.timetable_of-requires-clause-below
+timetable_of-requires-clause-below c = grind (arith, common_steps)

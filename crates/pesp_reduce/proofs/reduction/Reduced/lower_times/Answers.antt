@@ -1,4 +1,5 @@
-use Rattle.std.proofs.Common.{◌≡◌, ◌<◌, ℕ, length, map, ap, sym, ◌∙◌, subst, List}
+use Rattle.std.proofs.Common.{◌≡◌, ◌<◌, ℕ, length, map, ap, sym, ◌∙◌, subst, List, arith}
+use Rattle.std.proofs.lemmas.Grind.{common_steps}
 use Rattle.pesp_problem.specs.Timetables.{IsTimetable, slack, row_at}
 use Rattle.pesp_problem.specs.Arcs.{arc_slack}
 use Rattle.pesp_problem.specs.NetTimetables.{IsNetTimetable}
@@ -31,3 +32,18 @@ returns c =
       timetable = subst (λ r. P r made) c.self.view_is is_timetable;
       slacks = subst (λ r. Q r made) c.self.view_is are_slacks;
     }
+
+pub lowered_times-requires-clause-some : goal.lowered_times-requires-clause-some
+lowered_times-requires-clause-some c = grind (arith, common_steps)
+
+pub lowered_times-requires-clause-most : goal.lowered_times-requires-clause-most
+lowered_times-requires-clause-most c = grind (arith, common_steps)
+
+pub lowered_times-requires-clause-times : goal.lowered_times-requires-clause-times
+lowered_times-requires-clause-times c = grind (arith, common_steps)
+
+pub lowered_times-requires-clause-shifts : goal.lowered_times-requires-clause-shifts
+lowered_times-requires-clause-shifts c = grind (arith, common_steps)
+
+pub lowered_times-requires-clause-count : goal.lowered_times-requires-clause-count
+lowered_times-requires-clause-count c = grind (arith, common_steps)

@@ -1,5 +1,5 @@
 use Rattle.pesp_propagate.specs.Domains.{HaveSizes}
-use Rattle.pesp_propagate.proofs.diving.descend.Given as goal
+use Rattle.pesp_propagate.proofs.diving.fix_all.Given as goal
 
 abbrev pub invariant-turns : goal.invariant-turns
 invariant-turns l = record {

@@ -10,6 +10,7 @@ mod levels;
 mod networks;
 mod nodes;
 mod playing;
+mod proposals;
 mod reducing;
 
 use pesp_cases::cases_of;

@@ -6,6 +6,7 @@ use crate::leaves::ask_leaf;
 use crate::levels::ask_levels;
 use crate::networks::ask_network;
 use crate::nodes::{ask_node, ask_problem};
+use crate::proposals::ask_proposal;
 use crate::reducing::ask_reduced;
 use pesp_cases::{look_up, split_word, words_of};
 use std::alloc::Global;
@@ -23,10 +24,11 @@ enum Subject {
     Leaf,
     Levels,
     Circulation,
+    Proposed,
 }
 
 /// The first word of each question.
-const SUBJECTS: [(&str, Subject); 10] = [
+const SUBJECTS: [(&str, Subject); 11] = [
     ("network", Subject::Network),
     ("reduced", Subject::Reduced),
     ("domains", Subject::Domains),
@@ -37,6 +39,7 @@ const SUBJECTS: [(&str, Subject); 10] = [
     ("leaf", Subject::Leaf),
     ("levels", Subject::Levels),
     ("circulation", Subject::Circulation),
+    ("proposed", Subject::Proposed),
 ];
 
 /// What a line that is no question is there for.
@@ -47,7 +50,7 @@ enum Role {
 }
 
 /// The first word of each line that is no question.
-const ROLES: [(&str, Role); 12] = [
+const ROLES: [(&str, Role); 15] = [
     ("period", Role::Given),
     ("events", Role::Given),
     ("row", Role::Given),
@@ -59,6 +62,9 @@ const ROLES: [(&str, Role); 12] = [
     ("slacks", Role::Given),
     ("edge", Role::Given),
     ("line", Role::Given),
+    ("forest", Role::Given),
+    ("offsets", Role::Given),
+    ("prices", Role::Given),
     ("case", Role::Name),
 ];
 
@@ -96,5 +102,6 @@ fn answer_of(alloc: Global, lines: &[&str], words: &[&str]) -> Option<String> {
         Subject::Leaf => ask_leaf(alloc, lines, words),
         Subject::Levels => ask_levels(alloc, lines),
         Subject::Circulation => circulate(alloc, lines, words),
+        Subject::Proposed => ask_proposal(alloc, lines, words),
     }
 }

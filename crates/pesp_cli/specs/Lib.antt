@@ -1,6 +1,1 @@
-pub mod Devices
-pub mod Runs
-pub mod Verdicts
-pub mod Outside
-pub mod FaultLines
 pub mod Requests

@@ -7,7 +7,7 @@ use clap::{Arg, ArgAction, ArgMatches, Command, Error, value_parser};
 use std::alloc::{AllocError, Global};
 
 /// What the words of a command line ask for. Periods are in the unit of the instance's durations.
-#[derive(Debug, PartialEq, Drop)]
+#[derive(Debug, Drop)]
 pub enum Request<'a> {
     /// A search of at most so many steps; the instance is on standard input where no file is named.
     Solve {
@@ -220,34 +220,58 @@ fn graft_command<'a>(alloc: Global) -> Result<Command<'a>, AllocError> {
     .arg(base_argument(alloc))
 }
 
-fn pesp<'a>(alloc: Global) -> Result<Command<'a>, AllocError> {
-    let check = file_command(
+fn check_command<'a>(alloc: Global) -> Result<Command<'a>, AllocError> {
+    file_command(
         alloc,
         "check",
         "Reads a certificate from standard input and says whether it is valid for the instance in FILE",
-    )?;
-    let report = file_command(
+    )
+}
+
+fn report_command<'a>(alloc: Global) -> Result<Command<'a>, AllocError> {
+    file_command(
         alloc,
         "report",
         "Reads time lines or a certificate from standard input and lists the slack of each activity in FILE",
-    )?;
-    let draw = file_command(
+    )
+}
+
+fn draw_command<'a>(alloc: Global) -> Result<Command<'a>, AllocError> {
+    file_command(
         alloc,
         "draw",
         "Reads time lines or a certificate from standard input and draws the timetable of FILE in SVG",
-    )?;
-    Command::new(alloc, "pesp")
+    )?
+    .arg(rows_option(alloc))
+}
+
+/// A command with one more subcommand.
+fn with<'a>(
+    command: Command<'a>,
+    subcommand: Result<Command<'a>, AllocError>,
+) -> Result<Command<'a>, AllocError> {
+    command.subcommand(subcommand?)
+}
+
+/// The program with its commands for an instance alone and for what belongs to it.
+fn with_round_trip<'a>(alloc: Global) -> Result<Command<'a>, AllocError> {
+    let pesp = Command::new(alloc, "pesp")
         .version(VERSION)
         .about("Periodic timetables with certificates that can be checked")
         .after_help(ROUND_TRIP)
-        .subcommand_required(true)
-        .subcommand(solve_command(alloc)?)?
-        .subcommand(check)?
-        .subcommand(report)?
-        .subcommand(draw.arg(rows_option(alloc))?)?
-        .subcommand(split_command(alloc)?)?
-        .subcommand(work_command(alloc)?)?
-        .subcommand(graft_command(alloc)?)
+        .subcommand_required(true);
+    let pesp = with(pesp, solve_command(alloc))?;
+    let pesp = with(pesp, check_command(alloc))?;
+    let pesp = with(pesp, report_command(alloc))?;
+    with(pesp, draw_command(alloc))
+}
+
+/// The program with all its commands.
+fn pesp<'a>(alloc: Global) -> Result<Command<'a>, AllocError> {
+    let pesp = with_round_trip(alloc)?;
+    let pesp = with(pesp, split_command(alloc))?;
+    let pesp = with(pesp, work_command(alloc))?;
+    with(pesp, graft_command(alloc))
 }
 
 fn period_of(matches: &ArgMatches<'_>) -> u32
@@ -296,42 +320,56 @@ fn graft_of<'a>(matches: &ArgMatches<'a>) -> Request<'a>
     }
 }
 
+/// What the words behind `solve` ask for.
+fn solve_of<'a>(matches: &ArgMatches<'a>) -> Request<'a>
+    ensures { IsWithinLimits result }
+{
+    Request::Solve {
+        period: period_of(matches),
+        steps: steps_of(matches),
+        progress: matches.get_flag("progress"),
+        file: matches.get_str("file"),
+    }
+}
+
+/// What the words ask for, as clap found them.
+fn request_in<'a>(matches: &ArgMatches<'a>) -> Request<'a>
+    ensures { IsWithinLimits result }
+{
+    match matches.subcommand() {
+        Some(("check", found)) => Request::Check {
+            period: period_of(found),
+            file: found.get_str("file").unwrap_or(""),
+        },
+        Some(("report", found)) => Request::Report {
+            period: period_of(found),
+            file: found.get_str("file").unwrap_or(""),
+        },
+        Some(("draw", found)) => Request::Draw {
+            period: period_of(found),
+            rows: rows_of(found),
+            file: found.get_str("file").unwrap_or(""),
+        },
+        Some(("split", found)) => Request::Split {
+            period: period_of(found),
+            file: found.get_str("file").unwrap_or(""),
+        },
+        Some(("work", found)) => work_of(found),
+        Some(("graft", found)) => graft_of(found),
+        Some(("solve", found)) => solve_of(found),
+        _ => Request::Solve {
+            period: 60,
+            steps: 1000,
+            progress: false,
+            file: None,
+        },
+    }
+}
+
 /// What the words ask for, the program's name first; or clap's error, with the text that it prints.
 pub fn request_of<'a>(alloc: Global, words: &'a [String]) -> Result<Request<'a>, Error>
     ensures { IfOk result IsWithinLimits }
 {
     let matches = pesp(alloc)?.try_get_matches_from(words)?;
-    match matches.subcommand() {
-        Some(("check", found)) => Ok(Request::Check {
-            period: period_of(found),
-            file: found.get_str("file").unwrap_or(""),
-        }),
-        Some(("report", found)) => Ok(Request::Report {
-            period: period_of(found),
-            file: found.get_str("file").unwrap_or(""),
-        }),
-        Some(("draw", found)) => Ok(Request::Draw {
-            period: period_of(found),
-            rows: rows_of(found),
-            file: found.get_str("file").unwrap_or(""),
-        }),
-        Some(("split", found)) => Ok(Request::Split {
-            period: period_of(found),
-            file: found.get_str("file").unwrap_or(""),
-        }),
-        Some(("work", found)) => Ok(work_of(found)),
-        Some(("graft", found)) => Ok(graft_of(found)),
-        Some(("solve", found)) => Ok(Request::Solve {
-            period: period_of(found),
-            steps: steps_of(found),
-            progress: found.get_flag("progress"),
-            file: found.get_str("file"),
-        }),
-        _ => Ok(Request::Solve {
-            period: 60,
-            steps: 1000,
-            progress: false,
-            file: None,
-        }),
-    }
+    Ok(request_in(&matches))
 }

@@ -5,14 +5,13 @@ ghost use Rattle.pesp_stream.specs.Counts.{FewerThan};
 ghost use Rattle.pesp_cli.specs.Requests.{IsWithinLimits};
 
 use crate::command::{Request, request_of};
-use crate::draw_run::run_draw;
-use crate::fault::{Fault, status_of};
-use crate::outside_runs::{run_graft, run_split, run_work};
 use crate::progress::Teller;
-use crate::runs::{run_check, run_report, run_solve, run_solve_watched};
 use crate::telling::Telling;
-use crate::verdict::status_of_verdict;
 use clap::error::ErrorKind;
+use pesp_runs::{
+    Fault, run_check, run_draw, run_graft, run_report, run_solve, run_solve_watched, run_split,
+    run_work, status_of, status_of_verdict,
+};
 use pesp_stream::{Counted, Source};
 use std::fs::File;
 use std::process::ExitCode;
@@ -83,6 +82,57 @@ fn solve<R: AllocGlobal + Print + Eprint, S: Source>(
     Ok(0)
 }
 
+/// Solves the instance in a file, or that of the reader where none is named.
+fn solve_in<R: AllocGlobal + Print + Eprint + Files, S: Source>(
+    rt: &R,
+    reader: &mut S,
+    period: u32,
+    steps: u32,
+    progress: bool,
+    file: Option<&str>,
+) -> Result<u8, Fault>
+    requires steps { steps ≤ 100000 }
+    requires fits { FewerThan (2 ^ 62) (S.calls reader.old) }
+{
+    match file {
+        None => solve(rt, reader, period, steps, progress),
+        Some(file) => {
+            let mut instance = Counted::new(opened(rt, file)?);
+            solve(rt, &mut instance, period, steps, progress)
+        }
+    }
+}
+
+/// Judges the certificate that the reader gives.
+fn check<R: AllocGlobal + Print + Files, S: Source>(
+    rt: &R,
+    reader: &mut S,
+    period: u32,
+    file: &str,
+) -> Result<u8, Fault>
+    requires fits { FewerThan (2 ^ 62) (S.calls reader.old) }
+{
+    let mut instance = Counted::new(opened(rt, file)?);
+    let mut writer = Counted::new(io::writer(rt));
+    let verdict = run_check(rt.alloc(), &mut instance, reader, &mut writer, period)?;
+    Ok(status_of_verdict(verdict))
+}
+
+/// Reports the times that the reader gives.
+fn report<R: AllocGlobal + Print + Files, S: Source>(
+    rt: &R,
+    reader: &mut S,
+    period: u32,
+    file: &str,
+) -> Result<u8, Fault>
+    requires fits { FewerThan (2 ^ 62) (S.calls reader.old) }
+{
+    let mut instance = Counted::new(opened(rt, file)?);
+    let mut writer = Counted::new(io::writer(rt));
+    run_report(rt.alloc(), &mut instance, reader, &mut writer, period)?;
+    Ok(0)
+}
+
 /// Draws the times that the reader gives.
 fn draw<R: AllocGlobal + Print + Files, S: Source>(
     rt: &R,
@@ -96,6 +146,21 @@ fn draw<R: AllocGlobal + Print + Files, S: Source>(
     let mut instance = Counted::new(opened(rt, file)?);
     let mut writer = Counted::new(io::writer(rt));
     run_draw(rt.alloc(), &mut instance, reader, &mut writer, period, rows)?;
+    Ok(0)
+}
+
+/// Lists the open leaves of the certificate that the reader gives.
+fn split<R: AllocGlobal + Print + Files, S: Source>(
+    rt: &R,
+    reader: &mut S,
+    period: u32,
+    file: &str,
+) -> Result<u8, Fault>
+    requires fits { FewerThan (2 ^ 62) (S.calls reader.old) }
+{
+    let mut instance = Counted::new(opened(rt, file)?);
+    let mut writer = Counted::new(io::writer(rt));
+    run_split(rt.alloc(), &mut instance, reader, &mut writer, period)?;
     Ok(0)
 }
 
@@ -158,7 +223,6 @@ fn answer<R: AllocGlobal + Input + Print + Eprint + Files>(
 ) -> Result<u8, Fault>
     requires { IsWithinLimits request }
 {
-    let mut writer = Counted::new(io::writer(rt));
     let mut reader = Counted::new(rt.reader());
     match request {
         Request::Solve {
@@ -166,29 +230,11 @@ fn answer<R: AllocGlobal + Input + Print + Eprint + Files>(
             steps,
             progress,
             file,
-        } => match file {
-            None => solve(rt, &mut reader, period, steps, progress),
-            Some(file) => {
-                let mut instance = Counted::new(opened(rt, file)?);
-                solve(rt, &mut instance, period, steps, progress)
-            }
-        },
-        Request::Check { period, file } => {
-            let mut instance = Counted::new(opened(rt, file)?);
-            let verdict = run_check(rt.alloc(), &mut instance, &mut reader, &mut writer, period)?;
-            Ok(status_of_verdict(verdict))
-        }
-        Request::Report { period, file } => {
-            let mut instance = Counted::new(opened(rt, file)?);
-            run_report(rt.alloc(), &mut instance, &mut reader, &mut writer, period)?;
-            Ok(0)
-        }
+        } => solve_in(rt, &mut reader, period, steps, progress, file),
+        Request::Check { period, file } => check(rt, &mut reader, period, file),
+        Request::Report { period, file } => report(rt, &mut reader, period, file),
         Request::Draw { period, rows, file } => draw(rt, &mut reader, period, rows, file),
-        Request::Split { period, file } => {
-            let mut instance = Counted::new(opened(rt, file)?);
-            run_split(rt.alloc(), &mut instance, &mut reader, &mut writer, period)?;
-            Ok(0)
-        }
+        Request::Split { period, file } => split(rt, &mut reader, period, file),
         Request::Work {
             period,
             steps,

@@ -4,7 +4,7 @@ use crate::drain::drain_of;
 use crate::feed::feed_of;
 use crate::given::given_by;
 use crate::telling::tell_fault;
-use pesp_cli::{Fault, run_draw};
+use pesp_runs::{Fault, run_draw};
 use std::alloc::Global;
 
 /// The bars of what `draw` writes with so many rows.

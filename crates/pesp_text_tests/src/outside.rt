@@ -6,7 +6,7 @@ use crate::feed::feed_of;
 use crate::given::{device_of, given_by, period_of, text_of};
 use crate::telling::{joined, tell_end, tell_fault, tell_written};
 use pesp_cases::words_of;
-use pesp_cli::{Fault, run_check, run_graft, run_split, run_work, status_of_verdict};
+use pesp_runs::{Fault, run_check, run_graft, run_split, run_work, status_of_verdict};
 use std::alloc::Global;
 
 /// What `split` writes.

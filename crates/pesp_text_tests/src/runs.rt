@@ -6,9 +6,8 @@ use crate::feed::feed_of;
 use crate::given::{given_by, period_of, text_of};
 use crate::telling::tell_end;
 use pesp_board::Board;
-use pesp_cli::{
-    Milestones, run_check, run_report, run_solve, run_solve_watched, status_of_verdict,
-};
+use pesp_cli::Milestones;
+use pesp_runs::{run_check, run_report, run_solve, run_solve_watched, status_of_verdict};
 use pesp_search::Observer;
 use std::alloc::Global;
 

@@ -1,7 +1,7 @@
 //! Answers of runs.
 
 use crate::drain::Drain;
-use pesp_cli::{Fault, status_of};
+use pesp_runs::{Fault, status_of};
 use pesp_stream::Counted;
 use std::alloc::Global;
 

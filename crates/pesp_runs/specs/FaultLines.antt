@@ -1,0 +1,140 @@
+-- Each fault's line and exit status.
+use Rattle.std.specs.Prelude.{ℕ, List, ◌++◌, codes, decimal}
+use Rattle.pesp_instance.specs.declared.refusal.ReadRefusal.{ReadRefusal}
+use Rattle.pesp_instance.specs.declared.refusal.ReadRefusal.TheVariants.{Period, TextTooLong, FieldCount, NotANumber, OutOfRange, BoundsCrossed, TooManyRows, TooManyEvents, Memory as NoMemory}
+use Rattle.pesp_stream.specs.declared.reading.ReadFault.{ReadFault}
+use Rattle.pesp_stream.specs.declared.reading.ReadFault.TheVariants.{Memory as ReadMemory, Device}
+use Rattle.pesp_cert.specs.declared.refusal.CertRefusal.{CertRefusal}
+use Rattle.pesp_cert.specs.declared.refusal.CertRefusal.TheVariants.{Header, Line, Number, Limit, Truncated, Trailing, Memory as CertMemory}
+use Rattle.pesp_check_text.specs.declared.fault.CheckFault.{CheckFault}
+use Rattle.pesp_check_text.specs.declared.fault.CheckFault.TheVariants.{Text, Read as CheckRead, Memory as CheckMemory}
+use Rattle.pesp_search.specs.declared.refusal.SolveRefusal.{SolveRefusal}
+use Rattle.pesp_search.specs.declared.refusal.SolveRefusal.TheVariants.{Memory as SearchMemory, TableTooLarge, PairsTooMany}
+use Rattle.pesp_worker.specs.declared.refusal.WorkRefusal.{WorkRefusal}
+use Rattle.pesp_worker.specs.declared.refusal.WorkRefusal.TheVariants.{Memory as WorkMemory, NoSuchJob}
+use Rattle.pesp_report.specs.declared.refusal.TimesRefusal.{TimesRefusal}
+use Rattle.pesp_report.specs.declared.refusal.TimesRefusal.TheVariants.{BadLine, WrongCount, Memory as TimesMemory}
+use Rattle.pesp_report.specs.declared.refusal.ReportRefusal.{ReportRefusal}
+use Rattle.pesp_report.specs.declared.refusal.ReportRefusal.TheVariants.{Violates, NotTimes, Memory as ReportMemory, Write as ReportWrite}
+use Rattle.pesp_runs.specs.Verdicts.{refusal_text}
+use Rattle.pesp_runs.specs.declared.fault.Fault.{Fault}
+use Rattle.pesp_runs.specs.declared.fault.Fault.TheVariants.{Instance, Certificate, Times, Search, Report, Base, Works, NoJob, Memory, Read, Write, NoFile}
+
+-- a refusal of memory is told as such
+abbrev pub instance_fault : ReadRefusal → Fault
+instance_fault NoMemory = Memory
+instance_fault refusal = Instance refusal
+
+abbrev pub check_fault : CheckFault → Fault
+check_fault (Text refusal) = Certificate refusal
+check_fault CheckRead = Read
+check_fault CheckMemory = Memory
+
+abbrev pub certificate_fault : CertRefusal → Fault
+certificate_fault CertMemory = Memory
+certificate_fault refusal = Certificate refusal
+
+abbrev pub works_fault : CertRefusal → Fault
+works_fault CertMemory = Memory
+works_fault refusal = Works refusal
+
+abbrev pub times_fault : TimesRefusal → Fault
+times_fault TimesMemory = Memory
+times_fault refusal = Times refusal
+
+abbrev pub search_fault : SolveRefusal → Fault
+search_fault SearchMemory = Memory
+search_fault refusal = Search refusal
+
+abbrev pub work_fault : WorkRefusal → Fault
+work_fault WorkMemory = Memory
+work_fault NoSuchJob = NoJob
+
+-- and a writer's fault too
+abbrev pub report_fault : ReportRefusal → Fault
+report_fault ReportMemory = Memory
+report_fault ReportWrite = Write
+report_fault refusal = Report refusal
+
+abbrev pub read_fault : ReadFault → Fault
+read_fault ReadMemory = Memory
+read_fault Device = Read
+
+-- the record's number
+abbrev pub at_record : ℕ → List ℕ
+at_record at = codes " record " ++ decimal at
+
+-- the record's number and the field's
+abbrev pub at_field : ℕ → ℕ → List ℕ
+at_field at field = codes " record " ++ decimal at ++ codes " field " ++ decimal field
+
+-- number, name and place of a refusal of an instance's text
+abbrev pub instance_line : ReadRefusal → List ℕ
+instance_line Period = codes "1 Period"
+instance_line TextTooLong = codes "2 TextTooLong"
+instance_line (FieldCount at) = codes "3 FieldCount" ++ at_record at
+instance_line (NotANumber at field) = codes "4 NotANumber" ++ at_field at field
+instance_line (OutOfRange at field) = codes "5 OutOfRange" ++ at_field at field
+instance_line (BoundsCrossed at) = codes "6 BoundsCrossed" ++ at_record at
+instance_line (TooManyRows at) = codes "7 TooManyRows" ++ at_record at
+instance_line (TooManyEvents at) = codes "8 TooManyEvents" ++ at_record at
+instance_line NoMemory = codes "9 Memory"
+
+-- number, name and line of a refusal of a certificate's text
+abbrev pub certificate_line : CertRefusal → List ℕ
+certificate_line Header = codes "1 Header"
+certificate_line (Line n) = codes "2 Line line " ++ decimal n
+certificate_line (Number n) = codes "3 Number line " ++ decimal n
+certificate_line (Limit n) = codes "4 Limit line " ++ decimal n
+certificate_line Truncated = codes "5 Truncated"
+certificate_line (Trailing n) = codes "6 Trailing line " ++ decimal n
+certificate_line CertMemory = codes "7 Memory"
+
+-- number, name and line of a refusal of a times text
+abbrev pub times_line : TimesRefusal → List ℕ
+times_line (BadLine n) = codes "1 BadLine line " ++ decimal n
+times_line WrongCount = codes "2 WrongCount"
+times_line TimesMemory = codes "3 Memory"
+
+-- number and name of a refusal of the search
+abbrev pub search_line : SolveRefusal → List ℕ
+search_line SearchMemory = codes "1 Memory"
+search_line TableTooLarge = codes "2 TableTooLarge"
+search_line PairsTooMany = codes "3 PairsTooMany"
+
+-- number, name and row of a refusal of a report
+abbrev pub report_line : ReportRefusal → List ℕ
+report_line (Violates row) = codes "1 Violates row " ++ decimal row
+report_line NotTimes = codes "2 NotTimes"
+report_line ReportMemory = codes "3 Memory"
+report_line ReportWrite = codes "4 Write"
+
+-- the line of a fault, without its line feed
+abbrev pub fault_line : Fault → List ℕ
+fault_line (Instance refusal) = codes "instance: " ++ instance_line refusal
+fault_line (Certificate refusal) = codes "certificate: " ++ certificate_line refusal
+fault_line (Times refusal) = codes "times: " ++ times_line refusal
+fault_line (Search refusal) = codes "search: " ++ search_line refusal
+fault_line (Report refusal) = codes "report: " ++ report_line refusal
+fault_line (Base refusal) = codes "base: " ++ refusal_text refusal
+fault_line (Works refusal) = codes "works: " ++ certificate_line refusal
+fault_line NoJob = codes "job: none"
+fault_line Memory = codes "memory"
+fault_line Read = codes "device: read"
+fault_line Write = codes "device: write"
+fault_line NoFile = codes "device: no file"
+
+-- 1 for times that violate a row and a certificate that is not valid, 3 for a text that is refused and a job that is not there, 4 for memory, devices and a search that passes its limits
+abbrev pub exit_status : Fault → ℕ
+exit_status (Instance refusal) = 3
+exit_status (Certificate refusal) = 3
+exit_status (Times refusal) = 3
+exit_status (Search refusal) = 4
+exit_status (Report refusal) = 1
+exit_status (Base refusal) = 1
+exit_status (Works refusal) = 3
+exit_status NoJob = 3
+exit_status Memory = 4
+exit_status Read = 4
+exit_status Write = 4
+exit_status NoFile = 4

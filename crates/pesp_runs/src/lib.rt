@@ -1,0 +1,15 @@
+//! The runs over any readers and writers, from whole texts to whole texts, their fault lines and exit statuses.
+#![tactic(auto)]
+
+mod draw_run;
+mod fault;
+pub mod laws;
+mod outside_runs;
+mod runs;
+mod verdict;
+
+pub use draw_run::run_draw;
+pub use fault::{Fault, status_of};
+pub use outside_runs::{run_graft, run_split, run_work};
+pub use runs::{run_check, run_report, run_solve, run_solve_watched};
+pub use verdict::status_of_verdict;

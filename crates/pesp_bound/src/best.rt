@@ -44,7 +44,7 @@ fn judged(problem: &Problem, node: &Node, pairs: &[Pair], weighted: bool) -> Opt
 }
 
 /// Pairs with their value.
-#[derive(Debug, Drop)]
+#[derive(Drop)]
 struct Best {
     pairs: Vec<Pair>,
     value: i128,

@@ -17,7 +17,7 @@ use pesp_problem::{Pair, SignedRow};
 use std::alloc::{AllocError, Global};
 
 /// The rows that cycles pass, under both signs, and an edge along each.
-#[derive(Debug, Drop)]
+#[derive(Drop)]
 struct System {
     rows: Vec<SignedRow>,
     edges: Vec<Edge>,

@@ -9,7 +9,7 @@ use pesp_problem::{Arc, Memory, Pair, SignedRow, Walk};
 use std::alloc::{AllocError, Global};
 
 /// The row that a cycle alone passes, and whether it passes it under a plus sign.
-#[derive(Clone, Copy, Debug, PartialEq, Eq)]
+#[derive(Clone, Copy)]
 struct Own {
     place: usize,
     plus: bool,
@@ -203,7 +203,7 @@ fn pairs_of(alloc: Global, owns: &[Option<Own>], flows: &[i64]) -> Result<Vec<Pa
 
 /// Pairs that are proposed for a leaf, whether their value grows without end as they are multiplied, and levels of events
 /// that may meet the demands of all rows; none where none were found.
-#[derive(Debug, Drop)]
+#[derive(Drop)]
 pub struct Proposal {
     pub pairs: Vec<Pair>,
     pub endless: bool,

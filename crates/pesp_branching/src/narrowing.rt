@@ -18,7 +18,7 @@ pub struct Narrowing {
 }
 
 /// How wide the slack range of a row is.
-#[derive(Clone, Copy, Debug)]
+#[derive(Clone, Copy)]
 struct Width {
     slacks: u32,
     row: u32,

@@ -14,7 +14,7 @@ use pesp_problem::{Cut, Instance, Side};
 
 /// A slack range for each row and an offset range for each cycle, and, kept up to date under cuts, the sum over all rows of
 /// the lesser of the weight times each end of the slack range.
-#[derive(Debug, Drop)]
+#[derive(Drop)]
 pub struct Ranges {
     pub slacks: Vec<(u32, u32)>,
     pub offsets: Vec<(i64, i64)>,

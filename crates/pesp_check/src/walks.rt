@@ -41,7 +41,7 @@ fn ends(instance: &Instance, s: &SignedRow) -> (u32, u32)
 }
 
 /// What the rows of a cycle are: one of them doesn't exist, or their ends don't meet in order and close, or they do.
-#[derive(Clone, Copy, Debug, PartialEq, Eq)]
+#[derive(Clone, Copy)]
 pub enum Way {
     Missing,
     Open,

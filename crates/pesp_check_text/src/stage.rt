@@ -3,7 +3,7 @@
 use pesp_check::Refusal;
 
 /// Which items of a text were judged so far.
-#[derive(Clone, Copy, Debug, PartialEq, Eq)]
+#[derive(Clone, Copy, PartialEq, Eq)]
 pub enum Stage {
     /// None: the period, the answer and the times are kept until all times came.
     Front,

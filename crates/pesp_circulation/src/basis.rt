@@ -9,7 +9,7 @@ use crate::tree::{Tree, Up};
 use std::alloc::{AllocError, Global};
 
 /// Lines with a circulation, a spanning tree of them, and where the search for a step goes on.
-#[derive(Debug, Drop)]
+#[derive(Drop)]
 pub(crate) struct Basis {
     lines: Vec<Line>,
     tree: Tree,
@@ -18,14 +18,14 @@ pub(crate) struct Basis {
 }
 
 /// What became of a pivot.
-#[derive(Clone, Copy, Debug, PartialEq, Eq)]
+#[derive(Clone, Copy)]
 pub(crate) enum Pivot {
     Done,
     Ray(Round),
 }
 
 /// A closed way: a step, from where it ends up to an event of the tree, and from there down to where it begins.
-#[derive(Clone, Copy, Debug, PartialEq, Eq)]
+#[derive(Clone, Copy)]
 pub(crate) struct Round {
     step: Step,
     from: usize,
@@ -34,7 +34,7 @@ pub(crate) struct Round {
 }
 
 /// How many units a way takes: the event whose way up takes no more, how many, and how many until a flow is at its limit.
-#[derive(Clone, Copy, Debug, PartialEq, Eq)]
+#[derive(Clone, Copy)]
 struct Room {
     event: usize,
     units: i64,

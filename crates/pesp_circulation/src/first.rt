@@ -5,7 +5,7 @@ use crate::tree::{Tree, Up};
 use std::alloc::{AllocError, Global};
 
 /// Steps that may hang their start below their end, by the rank of their lines.
-#[derive(Debug, Drop)]
+#[derive(Drop)]
 struct Waiting {
     between: Vec<Step>,
     straight: Vec<Step>,
@@ -44,7 +44,7 @@ impl Waiting {
 }
 
 /// A tree that grows.
-#[derive(Debug, Drop)]
+#[derive(Drop)]
 struct Growth {
     tree: Tree,
     reached: Vec<bool>,

@@ -21,7 +21,7 @@ pub struct Line {
 }
 
 /// A line that is passed from tail to head, or from head to tail.
-#[derive(Clone, Copy, Debug, PartialEq, Eq)]
+#[derive(Clone, Copy)]
 pub(crate) struct Step {
     pub(crate) line: usize,
     pub(crate) forward: bool,
@@ -29,7 +29,7 @@ pub(crate) struct Step {
 
 /// The part of a line's cost in which one more unit along a step lies: what the unit costs, and how many units the part has
 /// ahead and behind.
-#[derive(Clone, Copy, Debug, PartialEq, Eq)]
+#[derive(Clone, Copy)]
 pub(crate) struct Piece {
     pub(crate) slope: i64,
     pub(crate) ahead: i64,
@@ -38,7 +38,7 @@ pub(crate) struct Piece {
 
 /// How early a line is taken into a first tree: where its flow lies between two bends, else where its cost doesn't bend at
 /// 0, else last.
-#[derive(Clone, Copy, Debug, PartialEq, Eq)]
+#[derive(Clone, Copy)]
 pub(crate) enum Rank {
     Between,
     Straight,

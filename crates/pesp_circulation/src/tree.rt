@@ -4,7 +4,7 @@ use crate::line::Step;
 use std::alloc::{AllocError, Global};
 
 /// The step that leads up from an event, and the event at which it ends.
-#[derive(Clone, Copy, Debug, PartialEq, Eq)]
+#[derive(Clone, Copy)]
 pub(crate) struct Up {
     pub(crate) step: Step,
     pub(crate) event: usize,
@@ -12,7 +12,7 @@ pub(crate) struct Up {
 
 /// An event of a tree: what leads up from it, how many steps lead up to the root, the first event that hangs below it, and
 /// the events before and after it among those that hang where it hangs.
-#[derive(Clone, Copy, Debug, PartialEq, Eq)]
+#[derive(Clone, Copy)]
 struct Place {
     up: Option<Up>,
     depth: usize,
@@ -22,7 +22,7 @@ struct Place {
 }
 
 /// Trees over events, each with the price of a unit that goes from it up to its root.
-#[derive(Debug, Drop)]
+#[derive(Drop)]
 pub(crate) struct Tree {
     places: Vec<Place>,
     prices: Vec<i64>,

@@ -15,7 +15,7 @@ const SIZE: usize = 65_536;
 const LONGEST: usize = 100_000_000;
 
 /// What stands at the front of a chunk.
-#[derive(Clone, Copy, Debug, PartialEq, Eq)]
+#[derive(Clone, Copy)]
 pub enum Front {
     /// The rest of a line, and its LF.
     Line,

@@ -12,7 +12,7 @@ use std::alloc::{AllocError, Global};
 const MOST: usize = 1_073_741_824;
 
 /// What stands next in a text.
-#[derive(Clone, Copy, Debug, PartialEq, Eq)]
+#[derive(Clone, Copy)]
 pub enum Next {
     /// A line with its LF.
     Line,
@@ -23,7 +23,7 @@ pub enum Next {
 }
 
 /// Why the next line was not read.
-#[derive(Debug, Drop)]
+#[derive(Drop)]
 pub enum LinesFault {
     Memory,
     Device,

@@ -1,7 +1,7 @@
 //! The kinds of line.
 
 /// What the first word of a line says about it.
-#[derive(Clone, Copy, Debug, PartialEq, Eq)]
+#[derive(Clone, Copy)]
 pub enum Kind {
     Version,
     Period,

@@ -4,7 +4,7 @@ use crate::numbers::{number, set_number};
 use std::alloc::{AllocError, Global};
 
 /// Each event leads to another event of its group, and the group's last one to itself.
-#[derive(Debug, Drop)]
+#[derive(Drop)]
 pub(crate) struct Groups {
     next: Vec<u32>,
 }

@@ -5,7 +5,7 @@ use crate::row::{FREE, Part, Step};
 use pesp_forest::{Frame, NONE};
 
 /// A closed way: a step, from where it ends up to an event of the tree, and from there down to where it begins.
-#[derive(Clone, Copy, Debug, PartialEq, Eq)]
+#[derive(Clone, Copy)]
 struct Round {
     step: Step,
     from: u32,
@@ -14,14 +14,14 @@ struct Round {
 }
 
 /// How many units one side of a closed way takes, and the event whose row upwards takes no more.
-#[derive(Clone, Copy, Debug, PartialEq, Eq)]
+#[derive(Clone, Copy)]
 struct Room {
     event: u32,
     units: i64,
 }
 
 /// What became of a pivot.
-#[derive(Clone, Copy, Debug, PartialEq, Eq)]
+#[derive(Clone, Copy)]
 enum Pivot {
     Done,
     Endless,

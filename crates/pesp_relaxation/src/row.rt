@@ -35,7 +35,7 @@ pub fn slopes_of(
 pub(crate) const FREE: i64 = i64::MAX;
 
 /// A part of a row's cost between its bends.
-#[derive(Clone, Copy, Debug, PartialEq, Eq)]
+#[derive(Clone, Copy, Debug)]
 pub(crate) enum Part {
     Below,
     Between,
@@ -43,7 +43,7 @@ pub(crate) enum Part {
 }
 
 /// A bend of a row's cost.
-#[derive(Clone, Copy, Debug, PartialEq, Eq)]
+#[derive(Clone, Copy, Debug)]
 pub(crate) enum Bend {
     Zero,
     Weight,
@@ -51,7 +51,7 @@ pub(crate) enum Bend {
 
 /// A row with its flow from tail to head. A row of the basis has the part that its flow lies in, another one the bend at
 /// which its flow is.
-#[derive(Clone, Copy, Debug, PartialEq, Eq)]
+#[derive(Clone, Copy, Debug)]
 pub(crate) struct Row {
     pub(crate) slopes: Slopes,
     pub(crate) weight: i64,
@@ -64,7 +64,7 @@ pub(crate) struct Row {
 }
 
 /// More flow along a row that isn't in the basis, or less.
-#[derive(Clone, Copy, Debug, PartialEq, Eq)]
+#[derive(Clone, Copy)]
 pub(crate) struct Step {
     pub(crate) row: u32,
     pub(crate) forward: bool,

@@ -9,7 +9,7 @@ use crate::bits::{has, remove};
 use crate::word::narrow_word;
 
 /// The shifts from a difference to its partners: `first`, and the `count` from there on, round the period.
-#[derive(Clone, Copy, Debug, PartialEq, Eq)]
+#[derive(Clone, Copy)]
 pub struct Window {
     pub first: usize,
     pub count: usize,

@@ -11,7 +11,7 @@ use crate::visit::{Narrowed, visit};
 use pesp_problem::Arc;
 
 /// What a round shows.
-#[derive(Clone, Copy, Debug, PartialEq, Eq)]
+#[derive(Clone, Copy)]
 pub enum Round {
     /// No family without an empty set is supported.
     Emptied,

@@ -11,7 +11,7 @@ use crate::word::has_number;
 use pesp_problem::Arc;
 
 /// At which ends of a row the set became smaller.
-#[derive(Clone, Copy, Debug, PartialEq, Eq)]
+#[derive(Clone, Copy)]
 pub struct Narrowed {
     pub tail: bool,
     pub head: bool,

@@ -9,14 +9,14 @@ use pesp_problem::{Cut, Memory, Side};
 use std::alloc::Global;
 
 /// A node that became a branch, and its cut. The branching at place `b` made the nodes `2b + 1`, its low part, and `2b + 2`.
-#[derive(Clone, Copy, Debug)]
+#[derive(Clone, Copy)]
 pub(crate) struct Branching {
     pub(crate) node: u32,
     pub(crate) cut: Cut,
 }
 
 /// What is kept of a node: its leaf, or the place of its branching.
-#[derive(Debug, Drop)]
+#[derive(Drop)]
 pub(crate) enum Kept {
     Leaf(Leaf),
     Branched(u32),

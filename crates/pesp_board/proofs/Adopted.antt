@@ -20,7 +20,7 @@ use Rattle.pesp_truth.specs.Certificates as certificates
 use Rattle.pesp_truth.proofs.Lines.{sound_as_lines}
 use Rattle.pesp_network.specs.Networks.{KeepsNetLimits}
 use Rattle.pesp_nodes.specs.Problems.{ProblemValue, IsSmallTable}
-use Rattle.pesp_tree.specs.WorkTrees.{WorkTreeValue, IsWhole, opening, with_room}
+use Rattle.pesp_tree.specs.WorkTrees.{WorkTreeValue, opening, with_room}
 use Rattle.pesp_queue.specs.declared.entry.Entry.{Entry}
 use Rattle.pesp_queue.specs.Entries.{entry}
 use Rattle.pesp_queue.specs.Queues.{QueueValue}
@@ -40,7 +40,7 @@ use Rattle.pesp_board.specs.declared.slot.Slot.{Slot}
 use Rattle.pesp_board.specs.Insides.{ticket_of, times_of, cost_of, state_of, IsQueue, IsBoard}
 use Rattle.pesp_board.specs.Parts.{part_line, part_lines, AreValued}
 use Rattle.pesp_board.specs.Growing.{grown, news}
-use Rattle.pesp_board.specs.Adopting.{AreSoundLines, AreLinesOf, IsPlantedAlone}
+use Rattle.pesp_board.specs.Adopting.{AreSoundLines, AreLinesOf, IsPlantedAlone, IsGrownOf}
 use Rattle.pesp_board.proofs.Queues.{none_held}
 use Rattle.pesp_board.proofs.Opening.{nothing_lent}
 use Rattle.pesp_board.proofs.Changing.{IsChanged}
@@ -121,27 +121,23 @@ module _ (p : ProblemValue) (parts : List Part) (u : WorkTreeValue) (r : QueueVa
   alone_tree tree said = ap (λ (x : WorkTreeValue). x.tree) k.tree ∙ one_tree_grown alone 0 parts tree refl refl said
 
 -- what is made of a valid certificate
-pub record IsMadeOf (i : Pesp) (p : ProblemValue) (content : Content) (parts : List Part) (pairs : ℕ) (u : WorkTreeValue) (r : QueueValue) (slots : List Slot) (best : Option Best) : Type 0 where
+pub record IsMadeOf (i : Pesp) (p : ProblemValue) (content : Content) (pairs : ℕ) (u : WorkTreeValue) (r : QueueValue) (slots : List Slot) (best : Option Best) : Type 0 where
   pub instance : instances.KeepsLimits i
   pub certificate : KeepsLimits content
   pub valid : IsValid i content
   pub of : IsProblemOf i p
   pub cycles : p.table ≡ content.cycles
-  pub said : part_lines parts ≡ lines_of content
-  pub shape : are_trees 1 (part_lines parts) ≡ true
-  pub valued : AreValued p (root_of p ∷ []) parts
-  pub count : pairs ≡ sum_by pairs_in (lines_of content)
-  pub planted : IsPlantedAlone parts u r
+  pub grown : IsGrownOf p content u r pairs
   pub none : slots ≡ []
   pub times : times_of best ≡ shown_best content.answer (shown_times content)
   pub cost : cost_of best ≡ certificates.cost_of content.answer
 
-module _ (i : Pesp) (p : ProblemValue) (content : Content) (parts : List Part) (pairs : ℕ) (u : WorkTreeValue) (r : QueueValue) (slots : List Slot) (best : Option Best) (m : IsMadeOf i p content parts pairs u r slots best) where
+module _ (i : Pesp) (p : ProblemValue) (content : Content) (pairs : ℕ) (u : WorkTreeValue) (r : QueueValue) (slots : List Slot) (best : Option Best) (m : IsMadeOf i p content pairs u r slots best) where
   abbrev pub state : State
   state = state_of u slots (times_of best)
 
   same_lines : preorder u.tree ≡ lines_of content
-  same_lines = ap preorder (alone_tree p parts u r m.shape m.valued m.planted m.valid.tree.0 (m.valid.tree.1 ∙ sym m.said)) ∙ m.valid.tree.1
+  same_lines = ap preorder (alone_tree p m.grown.parts u r m.grown.shape m.grown.valued m.grown.planted m.valid.tree.0 (m.valid.tree.1 ∙ sym m.grown.lines)) ∙ m.valid.tree.1
 
   pub made_adopts : Adopts content state
   made_adopts = record { tree = same_lines; numbers = ap (map (ticket_of u)) m.none; best = m.times }
@@ -157,15 +153,15 @@ module _ (i : Pesp) (p : ProblemValue) (content : Content) (parts : List Part) (
         lines = subst (AreLinesOf p) (sym same_lines) (sound_lines_keep p content.tree (root_of p ∷ []) m.certificate.each_line (certificate_sound i p content m.of m.cycles m.valid));
       }
 
-  pub made_board : KeepsNetLimits p.network → IsSmallTable p.table → IsWhole u → IsBoard p u slots r best pairs
-  made_board network table whole = record {
+  pub made_board : KeepsNetLimits p.network → IsSmallTable p.table → IsBoard p u slots r best pairs
+  made_board network table = record {
     network = network;
     table = table;
-    whole = whole;
+    whole = m.grown.whole;
     orderly = adopted_is_orderly i p content state m.instance m.of (sym m.cycles) m.valid in_limits made_adopts;
-    queue = alone_queue p parts u r m.shape m.valued m.planted slots m.none;
+    queue = alone_queue p m.grown.parts u r m.grown.shape m.grown.valued m.grown.planted slots m.none;
     cost = m.cost ∙ sym (adopted_cost i p content state m.of m.valid made_adopts);
-    pairs = m.count ∙ ap (sum_by pairs_in) (sym same_lines);
+    pairs = m.grown.count ∙ ap (sum_by pairs_in) (sym same_lines);
   }
 
   pub made_bound : IsAtMost (least_of content.answer) (least p state)

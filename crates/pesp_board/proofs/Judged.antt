@@ -100,20 +100,20 @@ is_graft p worth node lines tree l g = subst (λ (x : List Line). AreGrafts p wo
 
 -- ---- the lines that are left
 
-pub record AreJudged (p : ProblemValue) (worth : Option ℤ) (node : Node) (lines left : List Line) (nodes : List Node) (parts : List Part) : Type 0 where
-  pub grafts : AreGrafts p worth left nodes → AreGrafts p worth lines (node ∷ [])
-  pub needed : AreGrafts p worth lines (node ∷ []) → AreGrafts p worth left nodes
+pub record AreJudged (p : ProblemValue) (worth : Option ℤ) (start : List Node) (lines left : List Line) (nodes : List Node) (parts : List Part) : Type 0 where
+  pub grafts : AreGrafts p worth left nodes → AreGrafts p worth lines start
+  pub needed : AreGrafts p worth lines start → AreGrafts p worth left nodes
   pub said : part_lines parts ++ left ≡ lines
-  pub valued : (rest : List Part) → AreValued p nodes rest → AreValued p (node ∷ []) (parts ++ rest)
+  pub valued : (rest : List Part) → AreValued p nodes rest → AreValued p start (parts ++ rest)
   pub reached : AreReached p nodes
 
-pub judged_none : (p : ProblemValue) (worth : Option ℤ) (node : Node) (lines : List Line) → IsReached p node → AreJudged p worth node lines lines (node ∷ []) []
-judged_none p worth node lines r = record {
+pub judged_none : (p : ProblemValue) (worth : Option ℤ) (start : List Node) (lines : List Line) → AreReached p start → AreJudged p worth start lines lines start []
+judged_none p worth start lines r = record {
   grafts = λ a. a;
   needed = λ a. a;
   said = refl;
   valued = λ rest v. v;
-  reached = (r, tt);
+  reached = r;
 }
 
 pub lines_more : (parts : List Part) (part : Part) → part_lines (parts ++ part ∷ []) ≡ part_lines parts ++ part_line part ∷ []
@@ -124,15 +124,15 @@ pub value_more : (p : ProblemValue) (node : Node) (nodes : List Node) (part : Pa
 value_more p node nodes (CutPart cut) rest v h = h
 value_more p node nodes (LeafPart part) rest v h = (v, h)
 
-judged_step : (p : ProblemValue) (worth : Option ℤ) (node : Node) (lines left : List Line) (n : Node) (nodes : List Node) (parts : List Part) (line : Line) (part : Part) → AreJudged p worth node lines (line ∷ left) (n ∷ nodes) parts → MakesPartOf p worth n line (Ok part)
-    → AreJudged p worth node lines left (after line n nodes) (parts ++ part ∷ [])
-judged_step p worth node lines left n nodes parts line part j m = record {
+judged_step : (p : ProblemValue) (worth : Option ℤ) (start : List Node) (lines left : List Line) (n : Node) (nodes : List Node) (parts : List Part) (line : Line) (part : Part) → AreJudged p worth start lines (line ∷ left) (n ∷ nodes) parts → MakesPartOf p worth n line (Ok part)
+    → AreJudged p worth start lines left (after line n nodes) (parts ++ part ∷ [])
+judged_step p worth start lines left n nodes parts line part j m = record {
   grafts = λ a. j.grafts (m.0, a);
   needed = λ a. (j.needed a).1;
   said = ap (λ (x : List Line). x ++ left) (lines_more parts part) ∙ append_assoc (part_lines parts) (part_line part ∷ []) left ∙ ap (λ (x : Line). part_lines parts ++ x ∷ left) m.1 ∙ j.said;
   valued = λ rest v.
       let v' = subst (λ (x : Line). AreValued p (after x n nodes) rest) (sym m.1) v in
-      subst (λ (x : List Part). AreValued p (node ∷ []) x) (sym (append_assoc parts (part ∷ []) rest)) (j.valued (part ∷ rest) (value_more p n nodes part rest m.2 v'));
+      subst (λ (x : List Part). AreValued p start x) (sym (append_assoc parts (part ∷ []) rest)) (j.valued (part ∷ rest) (value_more p n nodes part rest m.2 v'));
   reached = reached_after p line n nodes j.reached;
 }
 
@@ -140,17 +140,17 @@ module _ (lines : List TreeLine) (k : ℕ) (line : TreeLine) (within : k < lengt
   next_line : map line_of (drop k lines) ≡ line_of line ∷ map line_of (drop (k + 1) lines)
   next_line = ap (map line_of) (drop_more lines k line within) ∙ ap (λ (l : TreeLine). line_of l ∷ map line_of (drop (k + 1) lines)) (sym is)
 
-  module _ (p : ProblemValue) (worth : Option ℤ) (node : Node) (nodes : List Node) (parts : List Part) (before : AreJudged p worth node (map line_of lines) (map line_of (drop k lines)) nodes parts) where
-    here : AreJudged p worth node (map line_of lines) (line_of line ∷ map line_of (drop (k + 1) lines)) nodes parts
-    here = subst (λ (x : List Line). AreJudged p worth node (map line_of lines) x nodes parts) next_line before
+  module _ (p : ProblemValue) (worth : Option ℤ) (start : List Node) (nodes : List Node) (parts : List Part) (before : AreJudged p worth start (map line_of lines) (map line_of (drop k lines)) nodes parts) where
+    here : AreJudged p worth start (map line_of lines) (line_of line ∷ map line_of (drop (k + 1) lines)) nodes parts
+    here = subst (λ (x : List Line). AreJudged p worth start (map line_of lines) x nodes parts) next_line before
 
     -- no node waits, and there is a line
-    pub past_the_end : nodes ≡ [] → AreGrafts p worth (map line_of lines) (node ∷ []) → ⊥
+    pub past_the_end : nodes ≡ [] → AreGrafts p worth (map line_of lines) start → ⊥
     past_the_end e g = subst (λ (x : List Node). AreGrafts p worth (line_of line ∷ map line_of (drop (k + 1) lines)) x) e (here.needed g)
 
     module _ (n : Node) (rest : List Node) (e : nodes ≡ n ∷ rest) where
-      first : AreJudged p worth node (map line_of lines) (line_of line ∷ map line_of (drop (k + 1) lines)) (n ∷ rest) parts
-      first = subst (λ (x : List Node). AreJudged p worth node (map line_of lines) (line_of line ∷ map line_of (drop (k + 1) lines)) x parts) e here
+      first : AreJudged p worth start (map line_of lines) (line_of line ∷ map line_of (drop (k + 1) lines)) (n ∷ rest) parts
+      first = subst (λ (x : List Node). AreJudged p worth start (map line_of lines) (line_of line ∷ map line_of (drop (k + 1) lines)) x parts) e here
 
       pub fits_there : IsNodeOf p n
       fits_there = first.reached.0.fits
@@ -161,13 +161,13 @@ module _ (lines : List TreeLine) (k : ℕ) (line : TreeLine) (within : k < lengt
           rw e (cut_at p reached.path n n cut limits small reached.at (subst (IsGraftLine p worth n) (sym m.1) m.0) reached.fits)
       stands_there (LeafPart part) limits small m = λ none. let no = sym e ∙ none in cc
 
-      pub judged_more : (part : Part) (nodes' : List Node) → MakesPartOf p worth n (line_of line) (Ok part) → nodes' ≡ after_first (part_line part) nodes → AreJudged p worth node (map line_of lines) (map line_of (drop (k + 1) lines)) nodes' (parts ++ part ∷ [])
+      pub judged_more : (part : Part) (nodes' : List Node) → MakesPartOf p worth n (line_of line) (Ok part) → nodes' ≡ after_first (part_line part) nodes → AreJudged p worth start (map line_of lines) (map line_of (drop (k + 1) lines)) nodes' (parts ++ part ∷ [])
       judged_more part nodes' m s =
           let next : after (line_of line) n rest ≡ nodes' = sym (s ∙ ap (λ (x : List Node). after_first (part_line part) x) e ∙ ap (λ (x : Line). after x n rest) m.1) in
-          subst (λ (x : List Node). AreJudged p worth node (map line_of lines) (map line_of (drop (k + 1) lines)) x (parts ++ part ∷ [])) next
-          (judged_step p worth node (map line_of lines) (map line_of (drop (k + 1) lines)) n rest parts (line_of line) part first m)
+          subst (λ (x : List Node). AreJudged p worth start (map line_of lines) (map line_of (drop (k + 1) lines)) x (parts ++ part ∷ [])) next
+          (judged_step p worth start (map line_of lines) (map line_of (drop (k + 1) lines)) n rest parts (line_of line) part first m)
 
-      pub not_there : (refusal : GiveRefusal) (result : Result (Vec Part) GiveRefusal) → MakesPartOf p worth n (line_of line) (Err refusal) → IsErrAnd result (λ told. told ≡ refusal) → IsJudged p worth node (map line_of lines) result
+      pub not_there : (refusal : GiveRefusal) (result : Result (Vec Part) GiveRefusal) → MakesPartOf p worth n (line_of line) (Err refusal) → IsErrAnd result (λ told. told ≡ refusal) → IsJudged p worth start (map line_of lines) result
       not_there UnknownJob result m e = absurd m
       not_there AlreadyGiven result m e = absurd m
       not_there TooLarge result m e = absurd m
@@ -180,23 +180,23 @@ still_open : (p : ProblemValue) (worth : Option ℤ) (nodes : List Node) → nod
 still_open p worth [] n a = n refl
 still_open p worth (node ∷ nodes) n a = a
 
-module _ (p : ProblemValue) (worth : Option ℤ) (node : Node) (lines : List TreeLine) (nodes : List Node) (parts : List Part) (k : ℕ) (done : length lines ≤ k) (before : AreJudged p worth node (map line_of lines) (map line_of (drop k lines)) nodes parts) where
-  last : AreJudged p worth node (map line_of lines) [] nodes parts
-  last = subst (λ (x : List Line). AreJudged p worth node (map line_of lines) x nodes parts) (ap (map line_of) (drop_all k lines done)) before
+module _ (p : ProblemValue) (worth : Option ℤ) (start : List Node) (lines : List TreeLine) (nodes : List Node) (parts : List Part) (k : ℕ) (done : length lines ≤ k) (before : AreJudged p worth start (map line_of lines) (map line_of (drop k lines)) nodes parts) where
+  last : AreJudged p worth start (map line_of lines) [] nodes parts
+  last = subst (λ (x : List Line). AreJudged p worth start (map line_of lines) x nodes parts) (ap (map line_of) (drop_all k lines done)) before
 
   -- a node waits, and there is no line
-  pub too_short : nodes ≢ [] → AreGrafts p worth (map line_of lines) (node ∷ []) → ⊥
+  pub too_short : nodes ≢ [] → AreGrafts p worth (map line_of lines) start → ⊥
   too_short n g = still_open p worth nodes n (last.needed g)
 
-  pub judged_all : nodes ≡ [] → AreGrafts p worth (map line_of lines) (node ∷ []) × (part_lines parts ≡ map line_of lines) × AreValued p (node ∷ []) parts
+  pub judged_all : nodes ≡ [] → AreGrafts p worth (map line_of lines) start × (part_lines parts ≡ map line_of lines) × AreValued p start parts
   judged_all e =
-      let whole = subst (λ (x : List Node). AreJudged p worth node (map line_of lines) [] x parts) e last in
-      (whole.grafts tt, sym (append-nil (part_lines parts)) ∙ whole.said, subst (AreValued p (node ∷ [])) (append-nil parts) (whole.valued [] tt))
+      let whole = subst (λ (x : List Node). AreJudged p worth start (map line_of lines) [] x parts) e last in
+      (whole.grafts tt, sym (append-nil (part_lines parts)) ∙ whole.said, subst (AreValued p start) (append-nil parts) (whole.valued [] tt))
 
 -- ---- what a work of lines makes
 
 -- what was judged, where the worth is that of the leaf
-pub tree_made : (p : ProblemValue) (worth : Option ℤ) (node : Node) (old : List Pair) (lines : Vec TreeLine) (parts : Vec Part) → worth ≡ leaf_value (net_of p) p.table node old true → IsJudged p worth node (map line_of lines.items) (Ok parts) → MakesParts p node old (works.Tree lines) parts.items
+pub tree_made : (p : ProblemValue) (worth : Option ℤ) (node : Node) (old : List Pair) (lines : Vec TreeLine) (parts : Vec Part) → worth ≡ leaf_value (net_of p) p.table node old true → IsJudged p worth (node ∷ []) (map line_of lines.items) (Ok parts) → MakesParts p node old (works.Tree lines) parts.items
 tree_made p worth node old lines parts e j =
     let whole = graft_is p worth node (map line_of lines.items) j.0 in
     record {
@@ -206,7 +206,7 @@ tree_made p worth node old lines parts e j =
       valued = j.2;
     }
 
-pub tree_not_made : (p : ProblemValue) (worth : Option ℤ) (node : Node) (old : List Pair) (lines : Vec TreeLine) (refusal : GiveRefusal) (result : Result Made GiveRefusal) → worth ≡ leaf_value (net_of p) p.table node old true → IsJudged p worth node (map line_of lines.items) (Err refusal)
+pub tree_not_made : (p : ProblemValue) (worth : Option ℤ) (node : Node) (old : List Pair) (lines : Vec TreeLine) (refusal : GiveRefusal) (result : Result Made GiveRefusal) → worth ≡ leaf_value (net_of p) p.table node old true → IsJudged p worth (node ∷ []) (map line_of lines.items) (Err refusal)
     → IsErrAnd result (λ told. told ≡ refusal) → MakesOf p node old (works.Tree lines) result
 tree_not_made p worth node old lines UnknownJob result e j t = absurd j
 tree_not_made p worth node old lines AlreadyGiven result e j t = absurd j

@@ -26,7 +26,7 @@ use Rattle.pesp_board.specs.declared.part.Part.{Part}
 use Rattle.pesp_board.specs.declared.part.Part.TheVariants.{Cut as CutPart, Leaf as LeafPart}
 use Rattle.pesp_board.specs.Parts.{part_line, part_lines, AreValued}
 use Rattle.pesp_board.specs.Grafting.{after, after_first, StandsFirst, IsValuedPart}
-use Rattle.pesp_board.specs.Adopting.{IsSoundLine, AreSoundLines, AreLinesOf}
+use Rattle.pesp_board.specs.Adopting.{IsSoundLine, AreSoundLines, AreLinesOf, AreNodesOf}
 use Rattle.pesp_board.proofs.Paths.{root_is_node, cut_of_node}
 use Rattle.pesp_board.proofs.Judged.{part_fits, lines_more, value_more}
 
@@ -104,19 +104,15 @@ sound_lines_keep p lines nodes e s = lines_keep p s.0 lines nodes e s.1
 
 -- ---- the lines that are left
 
-abbrev AreNodesOf : ProblemValue → List Node → Type 0
-AreNodesOf p [] = Unit {0}
-AreNodesOf p (node ∷ nodes) = IsNodeOf p node × AreNodesOf p nodes
-
-pub record AreTaken (p : ProblemValue) (node : Node) (lines left : List Line) (nodes : List Node) (parts : List Part) : Type 0 where
+pub record AreTaken (p : ProblemValue) (start : List Node) (lines left : List Line) (nodes : List Node) (parts : List Part) : Type 0 where
   pub sound : AreSoundLines p left nodes
   pub limits : AreLinesOf p left
   pub fits : AreNodesOf p nodes
   pub said : part_lines parts ++ left ≡ lines
-  pub valued : (rest : List Part) → AreValued p nodes rest → AreValued p (node ∷ []) (parts ++ rest)
+  pub valued : (rest : List Part) → AreValued p nodes rest → AreValued p start (parts ++ rest)
 
-pub taken_none : (p : ProblemValue) (node : Node) (lines : List Line) → IsNodeOf p node → AreSoundLines p lines (node ∷ []) → AreLinesOf p lines → AreTaken p node lines lines (node ∷ []) []
-taken_none p node lines fits sound limits = record { sound = sound; limits = limits; fits = (fits, tt); said = refl; valued = λ rest v. v }
+pub taken_none : (p : ProblemValue) (start : List Node) (lines : List Line) → AreNodesOf p start → AreSoundLines p lines start → AreLinesOf p lines → AreTaken p start lines lines start []
+taken_none p start lines fits sound limits = record { sound = sound; limits = limits; fits = fits; said = refl; valued = λ rest v. v }
 
 fits_after : (p : ProblemValue) (line : Line) (node : Node) (nodes : List Node) → AreNodesOf p (node ∷ nodes) → AreNodesOf p (after line node nodes)
 fits_after p (EndLine leaf) node nodes f = f.1
@@ -126,27 +122,27 @@ sound_first : (p : ProblemValue) (line : Line) (lines : List Line) (node : Node)
 sound_first p (EndLine leaf) lines node nodes s = ((s.0, s.1.0), (s.0, s.1.1))
 sound_first p (CutLine cut) lines node nodes s = (s.1.0, (s.0, s.1.1))
 
-taken_step : (p : ProblemValue) (node : Node) (lines left : List Line) (n : Node) (nodes : List Node) (parts : List Part) (line : Line) (part : Part) → AreTaken p node lines (line ∷ left) (n ∷ nodes) parts → part_line part ≡ line → IsValuedPart p n part → AreTaken p node lines left (after line n nodes) (parts ++ part ∷ [])
-taken_step p node lines left n nodes parts line part t is v = record {
+taken_step : (p : ProblemValue) (start : List Node) (lines left : List Line) (n : Node) (nodes : List Node) (parts : List Part) (line : Line) (part : Part) → AreTaken p start lines (line ∷ left) (n ∷ nodes) parts → part_line part ≡ line → IsValuedPart p n part → AreTaken p start lines left (after line n nodes) (parts ++ part ∷ [])
+taken_step p start lines left n nodes parts line part t is v = record {
   sound = (sound_first p line left n nodes t.sound).1;
   limits = All-tail (IsLineOf p) line left t.limits;
   fits = fits_after p line n nodes t.fits;
   said = ap (λ (x : List Line). x ++ left) (lines_more parts part) ∙ append_assoc (part_lines parts) (part_line part ∷ []) left ∙ ap (λ (x : Line). part_lines parts ++ x ∷ left) is ∙ t.said;
   valued = λ rest w.
       let w' = subst (λ (x : Line). AreValued p (after x n nodes) rest) (sym is) w in
-      subst (λ (x : List Part). AreValued p (node ∷ []) x) (sym (append_assoc parts (part ∷ []) rest)) (t.valued (part ∷ rest) (value_more p n nodes part rest v w'));
+      subst (λ (x : List Part). AreValued p start x) (sym (append_assoc parts (part ∷ []) rest)) (t.valued (part ∷ rest) (value_more p n nodes part rest v w'));
 }
 
 none_left : (p : ProblemValue) (line : Line) (left : List Line) (nodes : List Node) → AreSoundLines p (line ∷ left) nodes → nodes ≢ []
 none_left p line left [] s e = s.1
 none_left p line left (node ∷ nodes) s e = cc
 
-module _ (lines : List TreeLine) (k : ℕ) (line : TreeLine) (within : k < length lines) (is : line ≡ get_or lines k line) (p : ProblemValue) (node : Node) (nodes : List Node) (parts : List Part) (before : AreTaken p node (map line_of lines) (map line_of (drop k lines)) nodes parts) where
+module _ (lines : List TreeLine) (k : ℕ) (line : TreeLine) (within : k < length lines) (is : line ≡ get_or lines k line) (p : ProblemValue) (start : List Node) (nodes : List Node) (parts : List Part) (before : AreTaken p start (map line_of lines) (map line_of (drop k lines)) nodes parts) where
   next_line : map line_of (drop k lines) ≡ line_of line ∷ map line_of (drop (k + 1) lines)
   next_line = ap (map line_of) (drop_more lines k line within) ∙ ap (λ (l : TreeLine). line_of l ∷ map line_of (drop (k + 1) lines)) (sym is)
 
-  here : AreTaken p node (map line_of lines) (line_of line ∷ map line_of (drop (k + 1) lines)) nodes parts
-  here = subst (λ (x : List Line). AreTaken p node (map line_of lines) x nodes parts) next_line before
+  here : AreTaken p start (map line_of lines) (line_of line ∷ map line_of (drop (k + 1) lines)) nodes parts
+  here = subst (λ (x : List Line). AreTaken p start (map line_of lines) x nodes parts) next_line before
 
   pub some_waits : nodes ≢ []
   some_waits = none_left p (line_of line) (map line_of (drop (k + 1) lines)) nodes here.sound
@@ -155,8 +151,8 @@ module _ (lines : List TreeLine) (k : ℕ) (line : TreeLine) (within : k < lengt
   keeps_there = All-head (IsLineOf p) (line_of line) (map line_of (drop (k + 1) lines)) here.limits
 
   module _ (n : Node) (rest : List Node) (e : nodes ≡ n ∷ rest) where
-    first : AreTaken p node (map line_of lines) (line_of line ∷ map line_of (drop (k + 1) lines)) (n ∷ rest) parts
-    first = subst (λ (x : List Node). AreTaken p node (map line_of lines) (line_of line ∷ map line_of (drop (k + 1) lines)) x parts) e here
+    first : AreTaken p start (map line_of lines) (line_of line ∷ map line_of (drop (k + 1) lines)) (n ∷ rest) parts
+    first = subst (λ (x : List Node). AreTaken p start (map line_of lines) (line_of line ∷ map line_of (drop (k + 1) lines)) x parts) e here
 
     pub fits_there : IsNodeOf p n
     fits_there = first.fits.0
@@ -168,18 +164,18 @@ module _ (lines : List TreeLine) (k : ℕ) (line : TreeLine) (within : k < lengt
     may_pass (CutPart cut) says = rw e (cut_of_node p n cut first.fits.0 (subst (IsLineOf p) (sym says) keeps_there))
     may_pass (LeafPart part) says = some_waits
 
-    pub taken_more : (part : Part) (nodes' : List Node) → part_line part ≡ line_of line → IsValuedPart p n part → nodes' ≡ after_first (part_line part) nodes → AreTaken p node (map line_of lines) (map line_of (drop (k + 1) lines)) nodes' (parts ++ part ∷ [])
+    pub taken_more : (part : Part) (nodes' : List Node) → part_line part ≡ line_of line → IsValuedPart p n part → nodes' ≡ after_first (part_line part) nodes → AreTaken p start (map line_of lines) (map line_of (drop (k + 1) lines)) nodes' (parts ++ part ∷ [])
     taken_more part nodes' says v s =
         let next : after (line_of line) n rest ≡ nodes' = sym (s ∙ ap (λ (x : List Node). after_first (part_line part) x) e ∙ ap (λ (x : Line). after x n rest) says) in
-        subst (λ (x : List Node). AreTaken p node (map line_of lines) (map line_of (drop (k + 1) lines)) x (parts ++ part ∷ [])) next
-        (taken_step p node (map line_of lines) (map line_of (drop (k + 1) lines)) n rest parts (line_of line) part first says v)
+        subst (λ (x : List Node). AreTaken p start (map line_of lines) (map line_of (drop (k + 1) lines)) x (parts ++ part ∷ [])) next
+        (taken_step p start (map line_of lines) (map line_of (drop (k + 1) lines)) n rest parts (line_of line) part first says v)
 
 nodes_end : (p : ProblemValue) (nodes : List Node) → AreSoundLines p [] nodes → nodes ≡ []
 nodes_end p [] s = refl
 nodes_end p (node ∷ nodes) s = absurd s.1
 
-pub taken_all : (p : ProblemValue) (node : Node) (lines : List TreeLine) (nodes : List Node) (parts : List Part) (k : ℕ) → length lines ≤ k → AreTaken p node (map line_of lines) (map line_of (drop k lines)) nodes parts → (part_lines parts ≡ map line_of lines) × AreValued p (node ∷ []) parts
-taken_all p node lines nodes parts k done before =
-    let last : AreTaken p node (map line_of lines) [] nodes parts = subst (λ (x : List Line). AreTaken p node (map line_of lines) x nodes parts) (ap (map line_of) (drop_all k lines done)) before in
+pub taken_all : (p : ProblemValue) (start : List Node) (lines : List TreeLine) (nodes : List Node) (parts : List Part) (k : ℕ) → length lines ≤ k → AreTaken p start (map line_of lines) (map line_of (drop k lines)) nodes parts → (part_lines parts ≡ map line_of lines) × AreValued p start parts
+taken_all p start lines nodes parts k done before =
+    let last : AreTaken p start (map line_of lines) [] nodes parts = subst (λ (x : List Line). AreTaken p start (map line_of lines) x nodes parts) (ap (map line_of) (drop_all k lines done)) before in
     let ends = nodes_end p nodes last.sound in
-    (sym (append-nil (part_lines parts)) ∙ last.said, subst (AreValued p (node ∷ [])) (append-nil parts) (last.valued [] (subst (λ (x : List Node). AreValued p x []) (sym ends) tt)))
+    (sym (append-nil (part_lines parts)) ∙ last.said, subst (AreValued p start) (append-nil parts) (last.valued [] (subst (λ (x : List Node). AreValued p x []) (sym ends) tt)))

@@ -1,13 +1,16 @@
 -- The lines of a valid certificate's tree, and the tree and the queue that are made of them.
-use Rattle.std.specs.Prelude.{◌≡◌, ℕ, List, [], ◌∷◌, All, Option}
+use Rattle.std.specs.Prelude.{◌≡◌, ℕ, List, [], ◌∷◌, All, Option, sum_by, true}
 use Rattle.std.specs.List.Sorted.{IsPermutation}
 use Rattle.pesp_problem.specs.Nodes.{Node}
-use Rattle.pesp_truth.specs.Trees.{Line, EndLine, CutLine, CutExists, IsSoundLeaf, AreSound}
-use Rattle.pesp_nodes.specs.Problems.{ProblemValue, net_of}
-use Rattle.pesp_tree.specs.WorkTrees.{WorkTreeValue, opening, with_room}
+use Rattle.pesp_truth.specs.Trees.{Line, EndLine, CutLine, CutExists, IsSoundLeaf, AreSound, are_trees}
+use Rattle.pesp_truth.specs.Certificates.{Content, lines_of}
+use Rattle.pesp_nodes.specs.Problems.{ProblemValue, net_of, IsNodeOf}
+use Rattle.pesp_tree.specs.WorkTrees.{WorkTreeValue, IsWhole, opening, with_room}
 use Rattle.pesp_queue.specs.Queues.{QueueValue}
-use Rattle.pesp_machine.specs.Limits.{IsLineOf}
+use Rattle.pesp_machine.specs.Limits.{pairs_in, IsLineOf}
+use Rattle.pesp_machine.specs.States.{root_of}
 use Rattle.pesp_board.specs.declared.part.Part.{Part}
+use Rattle.pesp_board.specs.Parts.{part_lines, AreValued}
 use Rattle.pesp_board.specs.Growing.{grown, news}
 
 -- the line is sound at a node, for a least cost or for none
@@ -19,6 +22,11 @@ IsSoundLine p node (CutLine cut) = CutExists (net_of p) p.table cut
 abbrev pub AreSoundLines : ProblemValue → List Line → List Node → Type 0
 AreSoundLines p lines nodes = (least : Option ℕ) × AreSound (net_of p) p.table least lines nodes
 
+-- each of them is a node of the problem
+abbrev pub AreNodesOf : ProblemValue → List Node → Type 0
+AreNodesOf p [] = Unit {0}
+AreNodesOf p (node ∷ nodes) = IsNodeOf p node × AreNodesOf p nodes
+
 -- each of the lines keeps its limits
 abbrev pub AreLinesOf : ProblemValue → List Line → Type 0
 AreLinesOf p lines = All (IsLineOf p) lines
@@ -29,3 +37,13 @@ pub record IsPlantedAlone (parts : List Part) (u : WorkTreeValue) (r : QueueValu
   pub tree : u ≡ grown (with_room opening room) (0 ∷ []) parts
   pub waiting : IsPermutation (news (with_room opening room) (0 ∷ []) parts) r.waiting
   pub parked : r.parked ≡ []
+
+-- the tree and the queue are made of the certificate's lines, which have so many pairs
+pub record IsGrownOf (p : ProblemValue) (content : Content) (u : WorkTreeValue) (r : QueueValue) (pairs : ℕ) : Type 0 where
+  pub parts : List Part
+  pub lines : part_lines parts ≡ lines_of content
+  pub shape : are_trees 1 (part_lines parts) ≡ true
+  pub valued : AreValued p (root_of p ∷ []) parts
+  pub count : pairs ≡ sum_by pairs_in (lines_of content)
+  pub planted : IsPlantedAlone parts u r
+  pub whole : IsWhole u

@@ -66,11 +66,11 @@ abbrev pub AreReached : ProblemValue → List Node → Type 0
 AreReached p [] = Unit {0}
 AreReached p (node ∷ nodes) = IsReached p node × AreReached p nodes
 
--- the parts that lines make of a bound leaf at a node, or that they aren't one whole tree that may stand there
-abbrev pub IsJudged : ProblemValue → Option ℤ → Node → List Line → Result (Vec Part) GiveRefusal → Type 0
-IsJudged p worth node lines (Ok parts) = AreGrafts p worth lines (node ∷ []) × (part_lines parts.items ≡ lines) × AreValued p (node ∷ []) parts.items
-IsJudged p worth node lines (Err NotValid) = AreGrafts p worth lines (node ∷ []) → ⊥
-IsJudged p worth node lines (Err Memory) = Unit {0}
-IsJudged p worth node lines (Err UnknownJob) = ⊥
-IsJudged p worth node lines (Err AlreadyGiven) = ⊥
-IsJudged p worth node lines (Err TooLarge) = ⊥
+-- the parts that lines make of a bound leaf at nodes, or that they aren't whole trees that may stand there, one for each of the nodes
+abbrev pub IsJudged : ProblemValue → Option ℤ → List Node → List Line → Result (Vec Part) GiveRefusal → Type 0
+IsJudged p worth nodes lines (Ok parts) = AreGrafts p worth lines nodes × (part_lines parts.items ≡ lines) × AreValued p nodes parts.items
+IsJudged p worth nodes lines (Err NotValid) = AreGrafts p worth lines nodes → ⊥
+IsJudged p worth nodes lines (Err Memory) = Unit {0}
+IsJudged p worth nodes lines (Err UnknownJob) = ⊥
+IsJudged p worth nodes lines (Err AlreadyGiven) = ⊥
+IsJudged p worth nodes lines (Err TooLarge) = ⊥

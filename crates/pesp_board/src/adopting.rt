@@ -3,11 +3,11 @@
 ghost use Rattle.std.specs.Prelude.{◌≡◌, ◌≤◌, ◌∷◌, [], length, map, sum_by, true, IsSome, IfOk};
 ghost use Rattle.pesp_problem.specs.Limits as instances;
 ghost use Rattle.pesp_problem.specs.Nodes as spec;
-ghost use Rattle.pesp_truth.specs.Trees.{Bound, EndLine, are_trees};
+ghost use Rattle.pesp_truth.specs.Trees.{Bound, Nothing, EndLine, are_trees};
 ghost use Rattle.pesp_truth.specs.Certificates as certificates;
 ghost use Rattle.pesp_truth.specs.Certificates.{IsValid, line_of, lines_of, shown_times};
 ghost use Rattle.pesp_cert.specs.Limits.{KeepsLimits};
-ghost use Rattle.pesp_nodes.specs.Problems.{net_of, IsNodeOf, ArePairs};
+ghost use Rattle.pesp_nodes.specs.Problems.{ProblemValue, net_of, IsNodeOf, ArePairs};
 ghost use Rattle.pesp_tree.specs.WorkTrees.{IsWhole};
 ghost use Rattle.pesp_machine.specs.Adopting.{shown_best};
 ghost use Rattle.pesp_machine.specs.Certificates.{IsProblemOf};
@@ -17,7 +17,7 @@ ghost use Rattle.pesp_board.specs.Insides as insides;
 ghost use Rattle.pesp_board.specs.Insides.{times_of};
 ghost use Rattle.pesp_board.specs.Parts.{part_line, part_lines, AreValued};
 ghost use Rattle.pesp_board.specs.Grafting.{IsValuedPart};
-ghost use Rattle.pesp_board.specs.Adopting.{IsSoundLine, AreSoundLines, AreLinesOf, IsPlantedAlone};
+ghost use Rattle.pesp_board.specs.Adopting.{IsSoundLine, AreNodesOf, AreSoundLines, AreLinesOf, IsPlantedAlone, IsGrownOf};
 
 use crate::best::Best;
 use crate::certifying::copy_table;
@@ -34,6 +34,15 @@ use pesp_queue::Queue;
 use pesp_tree::{Leaf, WorkTree};
 use pesp_truth::{Answer, TreeLine};
 use std::alloc::Global;
+
+/// What a board keeps of a certificate beside its cycles.
+#[derive(Drop)]
+pub(crate) struct Kept {
+    pub(crate) tree: WorkTree,
+    pub(crate) queue: Queue,
+    pub(crate) best: Option<Best>,
+    pub(crate) pairs: u64,
+}
 
 /// An instance and a certificate keep their limits.
 pub(crate) fn keep_limits(instance: &Instance, certificate: &Certificate)
@@ -84,7 +93,7 @@ fn unlabelled(alloc: Global, shown: &[(i64, u32)]) -> Result<Vec<u32>, Memory>
 }
 
 /// The times that a certificate shows, with their cost; None where its answer has no cost.
-pub(crate) fn best_of(alloc: Global, certificate: &Certificate) -> Result<Option<Best>, Memory>
+fn best_of(alloc: Global, certificate: &Certificate) -> Result<Option<Best>, Memory>
     ensures times { IfOk result
         (λ best. times_of best ≡ shown_best certificate.now.answer (shown_times certificate.now)) }
     ensures cost { IfOk result
@@ -117,6 +126,16 @@ fn valued_bound(
     Ok(Part::Leaf(bound(copy_of(alloc, pairs)?, value)))
 }
 
+/// A leaf of pairs that show that no timetable lies in a node.
+fn valued_nothing(alloc: Global, pairs: &[Pair]) -> Result<Part, Memory>
+    ensures line { IfOk result (λ part. part_line part ≡ EndLine (Nothing pairs.now)) }
+    ensures valued { (p : ProblemValue) (node : spec.Node)
+        → IfOk result (IsValuedPart p node) }
+{
+    let copy = copy_of(alloc, pairs)?;
+    Ok(Part::Leaf(closed(Leaf::Nothing(copy))))
+}
+
 /// The part of a line that is sound at a node.
 fn valued_part(
     alloc: Global,
@@ -137,40 +156,36 @@ fn valued_part(
             k: *k,
         })),
         TreeLine::Bound(pairs) => valued_bound(alloc, problem, node, pairs.as_slice()),
-        TreeLine::Nothing(pairs) => {
-            let copy = copy_of(alloc, pairs.as_slice())?;
-            Ok(Part::Leaf(closed(Leaf::Nothing(copy))))
-        }
+        TreeLine::Nothing(pairs) => valued_nothing(alloc, pairs.as_slice()),
         TreeLine::Gap(cycle) => Ok(Part::Leaf(closed(Leaf::Gap(*cycle)))),
         TreeLine::Propagated => Ok(Part::Leaf(closed(Leaf::Propagated))),
     }
 }
 
-/// The parts of lines that are a sound tree at a node.
+/// The parts of lines that are sound trees at the nodes of a walk.
 fn value_lines(
     alloc: Global,
     problem: &Problem,
-    node: Node,
+    walk: &mut NodeWalk,
     lines: &[TreeLine],
 ) -> Result<Vec<Part>, Memory>
-    requires node { IsNodeOf problem.now node }
-    requires sound { AreSoundLines problem.now (map line_of lines.now) (node ∷ []) }
+    requires nodes { AreNodesOf problem.now walk.old }
+    requires sound { AreSoundLines problem.now (map line_of lines.now) walk.old }
     requires limits { AreLinesOf problem.now (map line_of lines.now) }
     ensures lines { IfOk result (λ parts. part_lines parts.items ≡ map line_of lines.now) }
-    ensures valued { IfOk result (λ parts. AreValued problem.now (node ∷ []) parts.items) }
+    ensures valued { IfOk result (λ parts. AreValued problem.now walk.old parts.items) }
 {
-    let mut walk = NodeWalk::new(alloc, node);
     let mut parts = Vec::new(alloc);
     for line in lines {
         let part = valued_part(alloc, problem, walk.node(), line)?;
-        pass(&mut walk, &part)?;
+        pass(walk, &part)?;
         parts.push(part)?;
     }
     Ok(parts)
 }
 
 /// The parts of a certificate's tree, which is sound, and how many pairs they have.
-pub(crate) fn parts_of_tree(
+fn parts_of_tree(
     alloc: Global,
     problem: &Problem,
     certificate: &Certificate,
@@ -183,8 +198,8 @@ pub(crate) fn parts_of_tree(
     ensures shape { IfOk result (λ made. are_trees 1 (part_lines made.0.items) ≡ true) }
     ensures few { IfOk result (λ made. length made.0.items ≤ 1000000) }
 {
-    let root = problem.root(alloc)?;
-    let parts = value_lines(alloc, problem, root, certificate.tree())?;
+    let mut walk = NodeWalk::new(alloc, problem.root(alloc)?);
+    let parts = value_lines(alloc, problem, &mut walk, certificate.tree())?;
     let Some(pairs) = size_with(1, 0, &parts) else {
         unreachable!();
     };
@@ -192,7 +207,7 @@ pub(crate) fn parts_of_tree(
 }
 
 /// The tree of these parts, and the queue of its bound leaves.
-pub(crate) fn plant_alone(alloc: Global, parts: Vec<Part>) -> Result<(WorkTree, Queue), Memory>
+fn plant_alone(alloc: Global, parts: Vec<Part>) -> Result<(WorkTree, Queue), Memory>
     requires shape { are_trees 1 (part_lines parts.items) ≡ true }
     requires few { length parts.items ≤ 1000000 }
     ensures planted { IfOk result (λ made. IsPlantedAlone parts.items made.0 made.1) }
@@ -210,4 +225,29 @@ pub(crate) fn plant_alone(alloc: Global, parts: Vec<Part>) -> Result<(WorkTree, 
     turned.reverse();
     plant(&mut tree, &mut queue, &mut waiting, turned);
     Ok((tree, queue))
+}
+
+/// What a board keeps of a certificate whose tree is sound.
+pub(crate) fn kept_of(
+    alloc: Global,
+    problem: &Problem,
+    certificate: &Certificate,
+) -> Result<Kept, Memory>
+    requires { AreSoundLines problem.now (lines_of certificate.now) (root_of problem.now ∷ []) }
+    ensures grown { IfOk result
+        (λ kept. IsGrownOf problem.now certificate.now kept.tree kept.queue kept.pairs) }
+    ensures times { IfOk result (λ kept. times_of kept.best
+        ≡ shown_best certificate.now.answer (shown_times certificate.now)) }
+    ensures cost { IfOk result
+        (λ kept. insides.cost_of kept.best ≡ certificates.cost_of certificate.now.answer) }
+{
+    let best = best_of(alloc, certificate)?;
+    let (parts, pairs) = parts_of_tree(alloc, problem, certificate)?;
+    let (tree, queue) = plant_alone(alloc, parts)?;
+    Ok(Kept {
+        tree,
+        queue,
+        best,
+        pairs,
+    })
 }

@@ -1,8 +1,21 @@
 //! The best timetable that was offered.
 
+ghost use Rattle.std.specs.Prelude.{◌≡◌};
+ghost use Rattle.pesp_board.specs.Insides as spec;
+
 /// Times, in the order of the events, and their cost.
 #[derive(Debug, Drop)]
 pub(crate) struct Best {
     pub(crate) times: Vec<u32>,
     pub(crate) cost: u64,
+}
+
+/// The cost of the best times; None where there are none.
+pub(crate) fn cost_of(best: &Option<Best>) -> Option<u64>
+    ensures { result ≡ spec.cost_of best.now }
+{
+    match best {
+        None => None,
+        Some(best) => Some(best.cost),
+    }
 }

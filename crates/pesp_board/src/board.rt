@@ -12,7 +12,8 @@ ghost use Rattle.pesp_machine.specs.Certificates.{IsProblemOf, IsCertificateOf};
 ghost use Rattle.pesp_truth.specs.Certificates.{IsValid, least_of, cost_of};
 ghost use Rattle.pesp_board.specs.Lending.{LendsFirst};
 
-use crate::adopting::{best_of, keep_limits, parts_of_tree, plant_alone, problem_of};
+use crate::adopting::{keep_limits, kept_of, problem_of};
+use crate::best;
 use crate::best::Best;
 use crate::certifying::{answer_of, copy_table, shown_times, version_of};
 use crate::give::{lent_with, make_at};
@@ -104,16 +105,14 @@ impl Board {
         keep_limits(instance, certificate);
         let problem = problem_of(alloc, instance, certificate)?;
         problem.keeps_limits();
-        let (parts, pairs) = parts_of_tree(alloc, &problem, certificate)?;
-        let (tree, queue) = plant_alone(alloc, parts)?;
-        let best = best_of(alloc, certificate)?;
+        let kept = kept_of(alloc, &problem, certificate)?;
         Ok(Board {
             problem,
-            tree,
+            tree: kept.tree,
             slots: Vec::new(alloc),
-            queue,
-            best,
-            pairs,
+            queue: kept.queue,
+            best: kept.best,
+            pairs: kept.pairs,
         })
     }
 
@@ -130,10 +129,7 @@ impl Board {
         ensures orderly { IsOrderly self.now.problem self.now.state }
         ensures limits { KeepsNetLimits self.now.problem.network }
     {
-        match &self.best {
-            None => None,
-            Some(best) => Some(best.cost),
-        }
+        best::cost_of(&self.best)
     }
 
     /// The least value of a bound leaf, lent or not, one above 999999999999999999 told as that number; None where there is
@@ -148,9 +144,9 @@ impl Board {
 
     /// How many leaves are open, where values compare as `least` tells them. A number to be told, which no promise rests on.
     pub fn open_leaves(&self) -> usize {
-        match &self.best {
+        match best::cost_of(&self.best) {
             None => self.queue.waiting_below(u64::MAX),
-            Some(best) => self.queue.waiting_below(best.cost),
+            Some(cost) => self.queue.waiting_below(cost),
         }
     }
 

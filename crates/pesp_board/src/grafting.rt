@@ -5,7 +5,7 @@ ghost use Rattle.pesp_truth.specs.Trees.{Bound, Shut, Nothing, Gap, ByPropagatio
 ghost use Rattle.pesp_truth.specs.Certificates.{line_of};
 ghost use Rattle.pesp_nodes.specs.Problems.{IsNodeOf};
 ghost use Rattle.pesp_board.specs.Parts.{part_line};
-ghost use Rattle.pesp_board.specs.Grafting.{MakesPartOf, IsReached, IsJudged, after_first, StandsFirst};
+ghost use Rattle.pesp_board.specs.Grafting.{MakesPartOf, AreReached, IsJudged, after_first, StandsFirst};
 
 use crate::making::{bound, closed, copy_of, is_gap, judged, leaves_both};
 use crate::part::Part;
@@ -158,27 +158,26 @@ pub(crate) fn pass(walk: &mut NodeWalk, part: &Part) -> Result<(), Memory>
     }
 }
 
-/// The parts that lines make of a bound leaf of this worth, or of one without a worth, at a node that a path leads to; refused
-/// as `NotValid` where they aren't one whole tree that may stand there.
+/// The parts that lines make of a bound leaf of this worth, or of one without a worth, at nodes that paths lead to; refused as
+/// `NotValid` where they aren't whole trees that may stand there, one for each of the nodes.
 pub(crate) fn judge_lines(
     alloc: Global,
     problem: &Problem,
-    node: Node,
+    walk: &mut NodeWalk,
     worth: Option<i128>,
     lines: &[TreeLine],
 ) -> Result<Vec<Part>, GiveRefusal>
-    requires { IsReached problem.now node }
-    ensures { IsJudged problem.now worth node (map line_of lines.now) result }
+    requires { AreReached problem.now walk.old }
+    ensures { IsJudged problem.now worth walk.old (map line_of lines.now) result }
 {
     problem.keeps_limits();
-    let mut walk = NodeWalk::new(alloc, node);
     let mut parts = Vec::new(alloc);
     for line in lines {
         if walk.is_done() {
             return Err(GiveRefusal::NotValid);
         }
         let part = graft_line(alloc, problem, walk.node(), worth, line)?;
-        pass(&mut walk, &part)?;
+        pass(walk, &part)?;
         parts.push(part)?;
     }
     if !walk.is_done() {

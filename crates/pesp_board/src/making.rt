@@ -21,7 +21,7 @@ use crate::grafting::judge_lines;
 use crate::part::{Made, Valued};
 use crate::shutting::is_shut_by_propagation;
 use pesp_machine::{GiveRefusal, Work};
-use pesp_nodes::{Node, Problem, are_pairs, leaf_value, offset_range};
+use pesp_nodes::{Node, NodeWalk, Problem, are_pairs, leaf_value, offset_range};
 use pesp_problem::{Cut, Memory, Pair, Pairs, Side};
 use pesp_tree::Leaf;
 use pesp_truth::TreeLine;
@@ -269,7 +269,8 @@ fn make_tree(
     ensures { MakesOf problem.now node old.now (works.Tree lines.now) result }
 {
     let worth = leaf_value(problem, &node, old, true);
-    let parts = judge_lines(alloc, problem, node, worth, lines)?;
+    let mut walk = NodeWalk::new(alloc, node);
+    let parts = judge_lines(alloc, problem, &mut walk, worth, lines)?;
     Ok(Made::Tree(parts))
 }
 

@@ -2,34 +2,30 @@ use Rattle.pesp_board.proofs.Adopted.{certificate_sound, IsMadeOf, made_adopts, 
 use Rattle.pesp_board.proofs.board.Board.adopt.Goals.{After-new}
 use Rattle.pesp_board.proofs.board.Board.adopt.Goals as goal
 
-pub parts_of_tree-requires : goal.parts_of_tree-requires
-parts_of_tree-requires c = certificate_sound c.args.instance.now c.in_ok-problem.problem c.args.certificate.now c.in_ok-problem.ensures.problem c.in_ok-problem.ensures.cycles c.requires
+pub kept_of-requires : goal.kept_of-requires
+kept_of-requires c = certificate_sound c.args.instance.now c.in_ok-problem.problem c.args.certificate.now c.in_ok-problem.ensures.problem c.in_ok-problem.ensures.cycles c.requires
 
-made : (c : After-new) → IsMadeOf c.args.instance.now c.in_ok-problem.problem c.args.certificate.now c.in_ok-parts.parts.items c.in_ok-parts.pairs c.in_ok-tree.tree c.in_ok-tree.queue c.new.result.items c.in_ok-best.best
+made : (c : After-new) → IsMadeOf c.args.instance.now c.in_ok-problem.problem c.args.certificate.now c.in_ok-kept.kept.pairs c.in_ok-kept.kept.tree c.in_ok-kept.kept.queue c.new.result.items c.in_ok-kept.kept.best
 made c = record {
   instance = c.keep_limits.ensures.instance;
   certificate = c.keep_limits.ensures.certificate;
   valid = c.requires;
   of = c.in_ok-problem.ensures.problem;
   cycles = c.in_ok-problem.ensures.cycles;
-  said = c.in_ok-parts.ensures.lines;
-  shape = c.in_ok-parts.ensures.shape;
-  valued = c.in_ok-parts.ensures.valued;
-  count = c.in_ok-parts.ensures.pairs;
-  planted = c.in_ok-tree.ensures.planted;
+  grown = c.in_ok-kept.ensures.grown;
   none = c.new.ensures.items;
-  times = c.in_ok-best.ensures.times;
-  cost = c.in_ok-best.ensures.cost;
+  times = c.in_ok-kept.ensures.times;
+  cost = c.in_ok-kept.ensures.cost;
 }
 
 pub invariant_of-result : goal.invariant_of-result
-invariant_of-result c = made_board c.args.instance.now c.in_ok-problem.problem c.args.certificate.now c.in_ok-parts.parts.items c.in_ok-parts.pairs c.in_ok-tree.tree c.in_ok-tree.queue c.new.result.items c.in_ok-best.best (made (goal.at.invariant_of-result c).After-new) c.keeps_limits.ensures.network c.keeps_limits.ensures.table c.in_ok-tree.ensures.whole
+invariant_of-result c = made_board c.args.instance.now c.in_ok-problem.problem c.args.certificate.now c.in_ok-kept.kept.pairs c.in_ok-kept.kept.tree c.in_ok-kept.kept.queue c.new.result.items c.in_ok-kept.kept.best (made (goal.at.invariant_of-result c).After-new) c.keeps_limits.ensures.network c.keeps_limits.ensures.table
 
 pub returns-clause-adopts : goal.returns-clause-adopts
-returns-clause-adopts c = made_adopts c.args.instance.now c.in_ok-problem.problem c.args.certificate.now c.in_ok-parts.parts.items c.in_ok-parts.pairs c.in_ok-tree.tree c.in_ok-tree.queue c.new.result.items c.in_ok-best.best (made (goal.at.returns-clause-adopts c).After-new)
+returns-clause-adopts c = made_adopts c.args.instance.now c.in_ok-problem.problem c.args.certificate.now c.in_ok-kept.kept.pairs c.in_ok-kept.kept.tree c.in_ok-kept.kept.queue c.new.result.items c.in_ok-kept.kept.best (made (goal.at.returns-clause-adopts c).After-new)
 
 pub returns-clause-bound : goal.returns-clause-bound
-returns-clause-bound c = made_bound c.args.instance.now c.in_ok-problem.problem c.args.certificate.now c.in_ok-parts.parts.items c.in_ok-parts.pairs c.in_ok-tree.tree c.in_ok-tree.queue c.new.result.items c.in_ok-best.best (made (goal.at.returns-clause-bound c).After-new)
+returns-clause-bound c = made_bound c.args.instance.now c.in_ok-problem.problem c.args.certificate.now c.in_ok-kept.kept.pairs c.in_ok-kept.kept.tree c.in_ok-kept.kept.queue c.new.result.items c.in_ok-kept.kept.best (made (goal.at.returns-clause-bound c).After-new)
 
 pub returns-clause-cost : goal.returns-clause-cost
-returns-clause-cost c = made_cost c.args.instance.now c.in_ok-problem.problem c.args.certificate.now c.in_ok-parts.parts.items c.in_ok-parts.pairs c.in_ok-tree.tree c.in_ok-tree.queue c.new.result.items c.in_ok-best.best (made (goal.at.returns-clause-cost c).After-new)
+returns-clause-cost c = made_cost c.args.instance.now c.in_ok-problem.problem c.args.certificate.now c.in_ok-kept.kept.pairs c.in_ok-kept.kept.tree c.in_ok-kept.kept.queue c.new.result.items c.in_ok-kept.kept.best (made (goal.at.returns-clause-cost c).After-new)

@@ -4,7 +4,7 @@ ghost use Rattle.std.specs.Prelude.{◌≡◌};
 ghost use Rattle.pesp_board.specs.Insides as spec;
 
 /// Times, in the order of the events, and their cost.
-#[derive(Debug, Drop)]
+#[derive(Drop)]
 pub(crate) struct Best {
     pub(crate) times: Vec<u32>,
     pub(crate) cost: u64,

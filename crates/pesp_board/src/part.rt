@@ -8,21 +8,21 @@ use pesp_tree::Leaf;
 use std::alloc::Global;
 
 /// A leaf, and the value under which its node waits, as it is told; there is one for a bound leaf alone.
-#[derive(Debug, Drop)]
+#[derive(Drop)]
 pub(crate) struct Valued {
     pub(crate) leaf: Leaf,
     pub(crate) value: Option<u64>,
 }
 
 /// A part of a tree in preorder: the cut of a branch, or a leaf.
-#[derive(Debug, Drop)]
+#[derive(Drop)]
 pub(crate) enum Part {
     Cut(Cut),
     Leaf(Valued),
 }
 
 /// What a work makes of a leaf: another leaf, a branch with two, or a whole tree by its parts.
-#[derive(Debug, Drop)]
+#[derive(Drop)]
 pub(crate) enum Made {
     Leaf(Valued),
     Branch { cut: Cut, low: Valued, high: Valued },

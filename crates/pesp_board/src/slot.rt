@@ -3,7 +3,7 @@
 ghost use Rattle.pesp_board.specs.Insides.{LendsNode};
 
 /// What became of a number: it is lent with the leaf of a node, something was taken for it, or it was recalled.
-#[derive(Clone, Copy, Debug)]
+#[derive(Clone, Copy)]
 pub(crate) enum Slot {
     Lent(u32),
     Given,

@@ -7,10 +7,14 @@ use pesp_forest::{Frame, grow_all};
 use std::alloc::{AllocError, Global};
 
 impl Basis {
-    /// The row at a place joins two groups.
-    fn joins(&self, groups: &mut Groups, place: u32) -> Option<bool> {
+    /// Takes in a row that closes no cycle; whether it is one.
+    fn take_in(&self, groups: &mut Groups, chosen: &mut [bool], place: u32) -> Option<bool> {
         let row = self.rows.get(place as usize)?;
-        groups.join(row.tail, row.head)
+        let joins = groups.join(row.tail, row.head)?;
+        if joins {
+            *chosen.get_mut(place as usize)? = true;
+        }
+        Some(joins)
     }
 
     /// Takes in each row whose flow lies between two bends; None where these rows close a cycle.
@@ -21,13 +25,10 @@ impl Basis {
         order: &[u32],
     ) -> Option<()> {
         for place in order {
-            if !self.rows.get(*place as usize)?.is_between() {
-                continue;
-            }
-            if !self.joins(groups, *place)? {
+            let is_between = self.rows.get(*place as usize)?.is_between();
+            if is_between && !self.take_in(groups, chosen, *place)? {
                 return None;
             }
-            *chosen.get_mut(*place as usize)? = true;
         }
         Some(())
     }
@@ -35,9 +36,7 @@ impl Basis {
     /// Takes in each row, in order, that closes no cycle.
     fn choose_rest(&self, groups: &mut Groups, chosen: &mut [bool], order: &[u32]) -> Option<()> {
         for place in order {
-            if self.joins(groups, *place)? {
-                *chosen.get_mut(*place as usize)? = true;
-            }
+            self.take_in(groups, chosen, *place)?;
         }
         Some(())
     }

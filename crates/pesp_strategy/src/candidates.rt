@@ -63,8 +63,8 @@ fn cut_at(
         cycle,
         row: place,
         k,
-        low: u64::try_from(rest).ok()?,
-        high: u64::try_from(period.checked_sub(rest)?).ok()?,
+        low: rest.unsigned_abs(),
+        high: period.abs_diff(rest),
         weight: row.weight,
         score: 0,
     })

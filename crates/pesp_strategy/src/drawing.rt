@@ -35,20 +35,22 @@ fn row_above(forest: &Forest, event: u32, steps: u32) -> Option<u32> {
     Some(forest.tree().place(current)?.by)
 }
 
+/// How many rows lead from an event up to another.
+fn steps_up(forest: &Forest, event: u32, top: u32) -> Option<u32> {
+    let depth = forest.tree().place(event)?.depth;
+    depth.checked_sub(forest.tree().place(top)?.depth)
+}
+
 /// A row of the way along the forest between the ends of another.
 fn draw_between(random: &mut Random, forest: &Forest, row: &NetRow) -> Option<u32> {
     let top = forest.tree().meeting(row.head, row.tail)?;
-    let depth = forest.tree().place(top)?.depth;
-    let from_head = forest.tree().place(row.head)?.depth.checked_sub(depth)?;
-    let from_tail = forest.tree().place(row.tail)?.depth.checked_sub(depth)?;
-    let drawn = random.below(from_head.checked_add(from_tail)?);
-    match drawn.checked_sub(from_head) {
-        None => row_above(forest, row.head, drawn),
-        Some(rest) => {
-            let steps = from_tail.checked_sub(rest)?.checked_sub(1)?;
-            row_above(forest, row.tail, steps)
-        }
+    let from_head = steps_up(forest, row.head, top)?;
+    let both = from_head.checked_add(steps_up(forest, row.tail, top)?)?;
+    let drawn = random.below(both);
+    if drawn < from_head {
+        return row_above(forest, row.head, drawn);
     }
+    row_above(forest, row.tail, both.saturating_sub(drawn).checked_sub(1)?)
 }
 
 /// Whether it looks bad to have one row in the forest in place of another: its span is far greater by its weight.

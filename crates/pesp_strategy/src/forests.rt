@@ -34,7 +34,7 @@ fn numbered(alloc: Global, places: &[u32]) -> Result<Vec<u32>, AllocError> {
 }
 
 impl Search {
-    /// A search of so many exchanges from a table.
+    /// A search of so many exchanges from a table; no rows are kept yet.
     fn new(
         alloc: Global,
         frame: &Frame,
@@ -47,7 +47,7 @@ impl Search {
         let worth = goal.worth(frame, &table.basis);
         Ok(Search {
             heat: Heat::new(frame, goal, outside.len(), most),
-            rows: table.forest.rows(alloc, true)?,
+            rows: Vec::new(alloc),
             table,
             outside,
             goal,
@@ -56,6 +56,12 @@ impl Search {
             best: worth,
             count: 0,
         })
+    }
+
+    /// Keeps the rows of the forest as it stands.
+    fn keep_rows(&mut self, alloc: Global) -> Result<(), AllocError> {
+        self.rows = self.table.forest.rows(alloc, true)?;
+        Ok(())
     }
 
     /// Keeps an exchange that was made, and its rows where they are the best.
@@ -72,7 +78,7 @@ impl Search {
         self.worth = worth;
         if worth > self.best {
             self.best = worth;
-            self.rows = self.table.forest.rows(alloc, true)?;
+            self.keep_rows(alloc)?;
         }
         Ok(Some(()))
     }
@@ -86,7 +92,7 @@ impl Search {
     ) -> Result<Option<()>, AllocError> {
         let Exchange { enters, leaves, .. } = exchange;
         if self.table.exchange(frame, enters, leaves).is_none() {
-            self.rows = self.table.forest.rows(alloc, true)?;
+            self.keep_rows(alloc)?;
             return Ok(None);
         }
         let worth = self.goal.worth(frame, &self.table.basis);
@@ -113,6 +119,28 @@ impl Search {
         }
         Ok(())
     }
+
+    /// The best rows of so many exchanges, numbered from 1.
+    fn found(&mut self, alloc: Global, frame: &Frame, most: u32) -> Result<Vec<u32>, AllocError> {
+        self.keep_rows(alloc)?;
+        self.run(alloc, frame, most)?;
+        numbered(alloc, &self.rows)
+    }
+}
+
+/// The rows that are found from those of a forest, numbered from 1; None where its root has no timetable.
+fn found_from(
+    alloc: Global,
+    frame: &Frame,
+    numbers: &[u32],
+    seed: u32,
+    exchanges: u32,
+) -> Result<Option<Vec<u32>>, AllocError> {
+    let Some(table) = Table::new(alloc, frame, numbers)? else {
+        return Ok(None);
+    };
+    let mut search = Search::new(alloc, frame, table, seed, exchanges)?;
+    Ok(Some(search.found(alloc, frame, exchanges)?))
 }
 
 /// The rows of a spanning forest, by their numbers from 1, whose cycles promise a strong bound: found from the network's own
@@ -126,11 +154,6 @@ pub fn search_forest(
 ) -> Result<Vec<u32>, Memory> {
     let frame = Frame::new(alloc, network)?;
     let numbers = network.forest(alloc)?;
-    let Some(table) = Table::new(alloc, &frame, &numbers)? else {
-        return Ok(numbers);
-    };
-    let mut search = Search::new(alloc, &frame, table, seed, exchanges)?;
-    search.run(alloc, &frame, exchanges)?;
-    let rows = numbered(alloc, &search.rows)?;
-    Ok(rows)
+    let found = found_from(alloc, &frame, &numbers, seed, exchanges)?;
+    Ok(found.unwrap_or(numbers))
 }

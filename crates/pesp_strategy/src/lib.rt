@@ -13,6 +13,7 @@ mod looking;
 mod random;
 mod root;
 mod rounding;
+mod settling;
 mod spans;
 mod strategy;
 mod table;

@@ -67,6 +67,14 @@ impl Bases {
 }
 
 impl Experience {
+    /// No gains for so many cycles.
+    pub(crate) fn new(alloc: Global, cycles: usize) -> Result<Experience, AllocError> {
+        Ok(Experience {
+            low: Side::new(alloc, cycles)?,
+            high: Side::new(alloc, cycles)?,
+        })
+    }
+
     /// Notes what the parts of a cut have gained.
     fn note(&mut self, looked: &Looked) {
         let cut = looked.cut;

@@ -1,8 +1,16 @@
 //! The ranges of a network's root.
 
 use crate::spans::Spans;
-use pesp_forest::{Cycles, Frame};
+use pesp_forest::{Cycles, Forest, Frame};
 use std::alloc::{AllocError, Global};
+
+/// A forest's cycles with sums of durations along it, and the offsets that the root leaves to each cycle.
+#[derive(Drop)]
+pub(crate) struct Root {
+    pub(crate) cycles: Cycles,
+    pub(crate) spans: Spans,
+    pub(crate) offsets: Vec<(i64, i64)>,
+}
 
 /// Slacks from 0 to the span of each row.
 pub(crate) fn root_slacks(alloc: Global, frame: &Frame) -> Result<Vec<(u32, u32)>, AllocError> {
@@ -13,8 +21,17 @@ pub(crate) fn root_slacks(alloc: Global, frame: &Frame) -> Result<Vec<(u32, u32)
     Ok(slacks)
 }
 
+/// The offsets that these slacks leave to a cycle's row; None where there are none.
+fn offsets_of(frame: &Frame, cycles: &Cycles, spans: &Spans, row: u32) -> Option<(i64, i64)> {
+    let (low, high) = spans.offsets(frame, cycles.forest(), row)?;
+    if low > high {
+        return None;
+    }
+    Some((low, high))
+}
+
 /// The offsets that these slacks leave to each cycle; None where one has none.
-pub(crate) fn root_offsets(
+fn root_offsets(
     alloc: Global,
     frame: &Frame,
     cycles: &Cycles,
@@ -22,10 +39,47 @@ pub(crate) fn root_offsets(
 ) -> Result<Option<Vec<(i64, i64)>>, AllocError> {
     let mut offsets = Vec::with_capacity(alloc, cycles.count())?;
     for row in cycles.outside() {
-        match spans.offsets(frame, cycles.forest(), *row) {
-            Some((low, high)) if low <= high => offsets.push((low, high))?,
-            _ => return Ok(None),
-        }
+        let Some(range) = offsets_of(frame, cycles, spans, *row) else {
+            return Ok(None);
+        };
+        offsets.push(range)?;
     }
     Ok(Some(offsets))
+}
+
+/// The cycles of a forest's rows, numbered from 1, with sums along the forest.
+fn summed(
+    alloc: Global,
+    frame: &Frame,
+    numbers: &[u32],
+) -> Result<Option<(Cycles, Spans)>, AllocError> {
+    let Some(forest) = Forest::new(alloc, frame, numbers)? else {
+        return Ok(None);
+    };
+    let Some(spans) = Spans::new(alloc, frame, &forest)? else {
+        return Ok(None);
+    };
+    let cycles = Cycles::new(alloc, forest)?;
+    Ok(Some((cycles, spans)))
+}
+
+impl Root {
+    /// The root by a forest's rows, numbered from 1; None where a cycle has no offset.
+    pub(crate) fn new(
+        alloc: Global,
+        frame: &Frame,
+        numbers: &[u32],
+    ) -> Result<Option<Root>, AllocError> {
+        let Some((cycles, spans)) = summed(alloc, frame, numbers)? else {
+            return Ok(None);
+        };
+        let Some(offsets) = root_offsets(alloc, frame, &cycles, &spans)? else {
+            return Ok(None);
+        };
+        Ok(Some(Root {
+            cycles,
+            spans,
+            offsets,
+        }))
+    }
 }

@@ -4,11 +4,22 @@ use pesp_forest::{Forest, Frame, NONE};
 use pesp_network::NetRow;
 use std::alloc::{AllocError, Global};
 
+/// The least and the greatest of some sums of durations.
+#[derive(Clone, Copy)]
+struct Span {
+    least: i64,
+    greatest: i64,
+}
+
+const NO_SPAN: Span = Span {
+    least: 0,
+    greatest: 0,
+};
+
 /// The least and the greatest sum of durations from the root of its tree down to each event.
 #[derive(Drop)]
 pub(crate) struct Spans {
-    least: Vec<i64>,
-    greatest: Vec<i64>,
+    sums: Vec<Span>,
 }
 
 /// The greatest duration of a row.
@@ -24,14 +35,44 @@ fn periods_above(amount: i64, period: i64) -> Option<i64> {
         .checked_neg()
 }
 
-/// The sum at a place.
-fn sum_at(sums: &[i64], event: u32) -> Option<i64> {
-    sums.get(event as usize).copied()
+/// The whole numbers of periods within a span.
+fn periods_within(span: Span, period: i64) -> Option<(i64, i64)> {
+    let low = periods_above(span.least, period)?;
+    let high = span.greatest.checked_div_euclid(period)?;
+    Some((low, high))
 }
 
-/// The difference of the sums at two places.
-fn sum_between(sums: &[i64], event: u32, top: u32) -> Option<i64> {
-    sum_at(sums, event)?.checked_sub(sum_at(sums, top)?)
+impl Span {
+    /// A row's duration more.
+    fn plus(self, row: &NetRow) -> Option<Span> {
+        let least = self.least.checked_add(row.lower)?;
+        let greatest = self.greatest.checked_add(upper(row)?)?;
+        Some(Span { least, greatest })
+    }
+
+    /// A row's duration less.
+    fn minus(self, row: &NetRow) -> Option<Span> {
+        let least = self.least.checked_sub(upper(row)?)?;
+        let greatest = self.greatest.checked_sub(row.lower)?;
+        Some(Span { least, greatest })
+    }
+
+    /// These sums counted from an event above, which has the sums of `top`.
+    fn since(self, top: Span) -> Option<Span> {
+        let least = self.least.checked_sub(top.least)?;
+        let greatest = self.greatest.checked_sub(top.greatest)?;
+        Some(Span { least, greatest })
+    }
+
+    /// The sums along the cycle that a row closes, of these to its head and those to its tail.
+    fn closed_by(self, row: &NetRow, tail: Span) -> Option<Span> {
+        let least = row.lower.checked_sub(self.greatest)?;
+        let greatest = upper(row)?.checked_sub(self.least)?;
+        Some(Span {
+            least: least.checked_add(tail.least)?,
+            greatest: greatest.checked_add(tail.greatest)?,
+        })
+    }
 }
 
 impl Spans {
@@ -41,38 +82,55 @@ impl Spans {
         frame: &Frame,
         forest: &Forest,
     ) -> Result<Option<Spans>, AllocError> {
+        let downwards = forest.downwards(alloc)?;
         let mut spans = Spans {
-            least: vec![in alloc; 0i64; frame.events()]?,
-            greatest: vec![in alloc; 0i64; frame.events()]?,
+            sums: vec![in alloc; NO_SPAN; frame.events()]?,
         };
-        for event in forest.downwards(alloc)? {
-            if !forest.tree().is_root(event) && spans.set(frame, forest, event).is_none() {
-                return Ok(None);
-            }
+        if spans.fill(frame, forest, &downwards).is_none() {
+            return Ok(None);
         }
         Ok(Some(spans))
+    }
+
+    /// Sets the sums of these events, each below those before it.
+    fn fill(&mut self, frame: &Frame, forest: &Forest, downwards: &[u32]) -> Option<()> {
+        for event in downwards {
+            if !forest.tree().is_root(*event) {
+                self.set(frame, forest, *event)?;
+            }
+        }
+        Some(())
+    }
+
+    /// The sums of an event.
+    fn at(&self, event: u32) -> Option<Span> {
+        self.sums.get(event as usize).copied()
+    }
+
+    /// The sums of an event from another one above it.
+    fn between(&self, event: u32, top: u32) -> Option<Span> {
+        let sums = self.at(event)?;
+        sums.since(self.at(top)?)
     }
 
     /// The sums of an event from those of the event above it.
     pub(crate) fn set(&mut self, frame: &Frame, forest: &Forest, event: u32) -> Option<()> {
         let place = forest.tree().place(event)?;
         let row = frame.row(place.by)?;
-        let least = sum_at(&self.least, place.up)?;
-        let greatest = sum_at(&self.greatest, place.up)?;
-        let (low, high) = if row.head == event {
-            (
-                least.checked_add(row.lower)?,
-                greatest.checked_add(upper(row)?)?,
-            )
+        let above = self.at(place.up)?;
+        let sums = if row.head == event {
+            above.plus(row)
         } else {
-            (
-                least.checked_sub(upper(row)?)?,
-                greatest.checked_sub(row.lower)?,
-            )
+            above.minus(row)
         };
-        *self.least.get_mut(event as usize)? = low;
-        *self.greatest.get_mut(event as usize)? = high;
+        *self.sums.get_mut(event as usize)? = sums?;
         Some(())
+    }
+
+    /// The sums along the cycle that a row closes, whose ends meet at an event.
+    fn around(&self, row: &NetRow, top: u32) -> Option<Span> {
+        let head = self.between(row.head, top)?;
+        head.closed_by(row, self.between(row.tail, top)?)
     }
 
     /// The offsets that slacks from 0 to the span of each row leave to the cycle that a row closes (Odijk 1996). The first is
@@ -80,18 +138,8 @@ impl Spans {
     pub(crate) fn offsets(&self, frame: &Frame, forest: &Forest, row: u32) -> Option<(i64, i64)> {
         let row = frame.row(row)?;
         let top = forest.tree().meeting(row.tail, row.head)?;
-        let period = i64::from(frame.period());
-        let low = row
-            .lower
-            .checked_sub(sum_between(&self.greatest, row.head, top)?)?
-            .checked_add(sum_between(&self.least, row.tail, top)?)?;
-        let high = upper(row)?
-            .checked_sub(sum_between(&self.least, row.head, top)?)?
-            .checked_add(sum_between(&self.greatest, row.tail, top)?)?;
-        Some((
-            periods_above(low, period)?,
-            high.checked_div_euclid(period)?,
-        ))
+        let span = self.around(row, top)?;
+        periods_within(span, i64::from(frame.period()))
     }
 
     /// Puts right the depths and the sums of an event that was hung anew and of what is below it.

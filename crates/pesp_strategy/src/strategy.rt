@@ -1,20 +1,16 @@
 //! What is tried next at a leaf.
 
 use crate::candidates::{Candidate, candidates, rank};
-use crate::experience::Side;
 use crate::kept::Kept;
 use crate::looking::{Bases, Experience, Looked, best_cut};
-use crate::root::root_offsets;
-use crate::spans::Spans;
+use crate::root::Root;
+use crate::settling::settle;
 use crate::weighing::{Leaf, Weight};
-use pesp_forest::{Cycles, Forest, Frame};
+use pesp_forest::{Cycles, Frame};
 use pesp_network::Network;
 use pesp_problem::{Memory, Pair};
 use pesp_relaxation::{Basis, Ended};
 use std::alloc::{AllocError, Global};
-
-/// How many pivots a leaf may take.
-const MOST_PIVOTS: u32 = 1_000_000;
 
 /// Pairs for a leaf, with the value that they should have there; or, where it is endless, pairs whose value with all weights 0
 /// should be above 0, so that no timetable is there.
@@ -120,25 +116,6 @@ fn part_of(
     })
 }
 
-/// The best basis of a leaf; None where it has no ranges for some row or cycle.
-fn settle_leaf(
-    alloc: Global,
-    setting: &Setting,
-    basis: &mut Basis,
-    slacks: &[(u32, u32)],
-    offsets: &[(i64, i64)],
-    pairs: &[Pair],
-) -> Result<Option<Ended>, AllocError> {
-    let Setting { frame, cycles, .. } = setting;
-    if basis.set_ranges(frame, cycles, slacks, offsets).is_none() {
-        return Ok(None);
-    }
-    if basis.rebuild(alloc, frame, cycles, pairs)?.is_none() {
-        return Ok(None);
-    }
-    Ok(Some(basis.solve(frame, MOST_PIVOTS)))
-}
-
 /// The cuts that may be made at a leaf, the best first.
 fn cuts(
     alloc: Global,
@@ -223,6 +200,43 @@ fn choose<'x>(
     }
 }
 
+/// The root of a network by its own forest; None where it has a cycle without an offset.
+fn root_of(alloc: Global, network: &Network, frame: &Frame) -> Result<Option<Root>, Memory> {
+    let numbers = network.forest(alloc)?;
+    let root = Root::new(alloc, frame, &numbers)?;
+    Ok(root)
+}
+
+impl Setting {
+    /// The setting of a network, where the root's offsets are named so. None where the root has a cycle without an offset.
+    fn new(
+        alloc: Global,
+        network: &Network,
+        named: &[(i64, i64)],
+    ) -> Result<Option<Setting>, Memory> {
+        let frame = Frame::new(alloc, network)?;
+        let Some(root) = root_of(alloc, network, &frame)? else {
+            return Ok(None);
+        };
+        let shifts = shifts_of(alloc, &root.offsets, named)?;
+        let Root { cycles, .. } = root;
+        Ok(Some(Setting {
+            frame,
+            cycles,
+            shifts,
+        }))
+    }
+}
+
+impl Work {
+    /// No flows, and no gains.
+    fn new(alloc: Global, setting: &Setting) -> Result<Work, AllocError> {
+        let experience = Experience::new(alloc, setting.cycles.count())?;
+        let bases = Bases::idle(alloc, &setting.frame)?;
+        Ok(Work { bases, experience })
+    }
+}
+
 impl Strategy {
     /// The strategy for a network with its forest, where the root's offsets are named so. None where the network's root has a
     /// cycle without an offset.
@@ -231,29 +245,10 @@ impl Strategy {
         network: &Network,
         root: &[(i64, i64)],
     ) -> Result<Option<Strategy>, Memory> {
-        let frame = Frame::new(alloc, network)?;
-        let numbers = network.forest(alloc)?;
-        let Some(forest) = Forest::new(alloc, &frame, &numbers)? else {
+        let Some(setting) = Setting::new(alloc, network, root)? else {
             return Ok(None);
         };
-        let Some(spans) = Spans::new(alloc, &frame, &forest)? else {
-            return Ok(None);
-        };
-        let cycles = Cycles::new(alloc, forest)?;
-        let Some(own) = root_offsets(alloc, &frame, &cycles, &spans)? else {
-            return Ok(None);
-        };
-        let low = Side::new(alloc, cycles.count())?;
-        let high = Side::new(alloc, cycles.count())?;
-        let work = Work {
-            bases: Bases::idle(alloc, &frame)?,
-            experience: Experience { low, high },
-        };
-        let setting = Setting {
-            shifts: shifts_of(alloc, &own, root)?,
-            frame,
-            cycles,
-        };
+        let work = Work::new(alloc, &setting)?;
         Ok(Some(Strategy { setting, work }))
     }
 
@@ -277,7 +272,8 @@ impl Strategy {
         let Strategy { setting, work } = self;
         let own = own_offsets(alloc, offsets, &setting.shifts)?;
         let basis = &mut work.bases.leaf;
-        let Some(ended) = settle_leaf(alloc, setting, basis, slacks, &own, pairs)? else {
+        let Setting { frame, cycles, .. } = setting;
+        let Some(ended) = settle(alloc, frame, cycles, basis, slacks, &own, pairs)? else {
             return Ok(None);
         };
         let mut kept = Kept::new(&setting.frame, best);

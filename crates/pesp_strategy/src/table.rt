@@ -1,44 +1,61 @@
 //! A forest with the relaxation of its root, and exchanges of rows.
 
-use crate::root::{root_offsets, root_slacks};
+use crate::root::{Root, root_slacks};
+use crate::settling::{MOST_PIVOTS, settle};
 use crate::spans::Spans;
-use pesp_forest::{Cycles, Forest, Frame, NONE};
+use pesp_forest::{Forest, Frame, NONE};
 use pesp_relaxation::{Basis, Ended, Slopes, slopes_of};
 use std::alloc::{AllocError, Global};
 
-/// How many pivots one exchange may take.
-const MOST_PIVOTS: u32 = 1_000_000;
+/// The basis before the last exchange, and the events beyond the row that is exchanged.
+#[derive(Drop)]
+struct Spare {
+    before: Basis,
+    is_beyond: Vec<bool>,
+}
 
-/// A forest with sums of durations along it and the best basis of its root; the basis before the last exchange; and the
-/// events beyond the row that is exchanged.
+/// A forest with sums of durations along it and the best basis of its root, and what an exchange needs.
 #[derive(Drop)]
 pub(crate) struct Table {
     pub(crate) forest: Forest,
     pub(crate) basis: Basis,
     spans: Spans,
-    before: Basis,
-    is_beyond: Vec<bool>,
+    spare: Spare,
+}
+
+/// Makes a basis the best one of a root; whether there is one.
+fn settle_root(
+    alloc: Global,
+    frame: &Frame,
+    root: &Root,
+    basis: &mut Basis,
+) -> Result<bool, AllocError> {
+    let Root {
+        cycles,
+        offsets,
+        ..
+    } = root;
+    let slacks = root_slacks(alloc, frame)?;
+    let ended = settle(alloc, frame, cycles, basis, &slacks, offsets, &[])?;
+    Ok(ended == Some(Ended::Best))
 }
 
 /// The best basis of a root.
-fn best_basis(
-    alloc: Global,
-    frame: &Frame,
-    cycles: &Cycles,
-    offsets: &[(i64, i64)],
-) -> Result<Option<Basis>, AllocError> {
-    let slacks = root_slacks(alloc, frame)?;
+fn best_basis(alloc: Global, frame: &Frame, root: &Root) -> Result<Option<Basis>, AllocError> {
     let mut basis = Basis::idle(alloc, frame)?;
-    if basis.set_ranges(frame, cycles, &slacks, offsets).is_none() {
-        return Ok(None);
-    }
-    if basis.rebuild(alloc, frame, cycles, &[])?.is_none() {
-        return Ok(None);
-    }
-    if basis.solve(frame, MOST_PIVOTS) != Ended::Best {
+    if !settle_root(alloc, frame, root, &mut basis)? {
         return Ok(None);
     }
     Ok(Some(basis))
+}
+
+impl Spare {
+    /// No flows, and no events.
+    fn new(alloc: Global, frame: &Frame) -> Result<Spare, AllocError> {
+        let is_beyond = vec![in alloc; false; frame.events()]?;
+        let before = Basis::idle(alloc, frame)?;
+        Ok(Spare { before, is_beyond })
+    }
 }
 
 impl Table {
@@ -48,33 +65,27 @@ impl Table {
         frame: &Frame,
         numbers: &[u32],
     ) -> Result<Option<Table>, AllocError> {
-        let Some(forest) = Forest::new(alloc, frame, numbers)? else {
+        let Some(root) = Root::new(alloc, frame, numbers)? else {
             return Ok(None);
         };
-        let Some(spans) = Spans::new(alloc, frame, &forest)? else {
+        let Some(basis) = best_basis(alloc, frame, &root)? else {
             return Ok(None);
         };
-        let cycles = Cycles::new(alloc, forest)?;
-        let Some(offsets) = root_offsets(alloc, frame, &cycles, &spans)? else {
-            return Ok(None);
-        };
-        let Some(basis) = best_basis(alloc, frame, &cycles, &offsets)? else {
-            return Ok(None);
-        };
+        let spare = Spare::new(alloc, frame)?;
+        let Root { cycles, spans, .. } = root;
         Ok(Some(Table {
             forest: cycles.into_forest(),
             basis,
             spans,
-            before: Basis::idle(alloc, frame)?,
-            is_beyond: vec![in alloc; false; frame.events()]?,
+            spare,
         }))
     }
 
     /// Marks an event and what is below it, or takes the marks off.
     fn mark(&mut self, top: u32, is_beyond: bool) {
         let mut event = top;
-        for _ in 0..self.is_beyond.len() {
-            if let Some(slot) = self.is_beyond.get_mut(event as usize) {
+        for _ in 0..self.spare.is_beyond.len() {
+            if let Some(slot) = self.spare.is_beyond.get_mut(event as usize) {
                 *slot = is_beyond;
             }
             event = self.forest.tree().following(event, top);
@@ -86,7 +97,8 @@ impl Table {
 
     /// Whether one end of a row is beyond the row that is exchanged, and the other one not.
     fn crosses(&self, tail: u32, head: u32) -> bool {
-        self.is_beyond.get(tail as usize).copied() != self.is_beyond.get(head as usize).copied()
+        let is_beyond = &self.spare.is_beyond;
+        is_beyond.get(tail as usize) != is_beyond.get(head as usize)
     }
 
     /// What flow on a row costs at the root; None where its cycle has no offset.
@@ -126,7 +138,7 @@ impl Table {
     /// the root of that forest has no timetable.
     pub(crate) fn exchange(&mut self, frame: &Frame, enters: u32, leaves: u32) -> Option<()> {
         let top = self.forest.lower_end(frame, leaves)?;
-        self.before.copy_from(&self.basis)?;
+        self.spare.before.copy_from(&self.basis)?;
         self.mark(top, true);
         let inner = self.swap(frame, enters, leaves)?;
         let found = self.set_crossing(frame);
@@ -142,6 +154,6 @@ impl Table {
     /// Takes back the last exchange.
     pub(crate) fn restore(&mut self, frame: &Frame, entered: u32, left: u32) -> Option<()> {
         self.swap(frame, left, entered)?;
-        self.basis.copy_from(&self.before)
+        self.basis.copy_from(&self.spare.before)
     }
 }

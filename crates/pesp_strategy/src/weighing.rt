@@ -2,11 +2,9 @@
 
 use crate::candidates::Candidate;
 use crate::kept::Kept;
+use crate::settling::MOST_PIVOTS;
 use pesp_forest::Frame;
 use pesp_relaxation::{Basis, Ended, slopes_of};
-
-/// How many pivots one part may take.
-const MOST_PIVOTS: u32 = 1_000_000;
 
 /// A leaf: its ranges, what its rows cost by their least slacks, and its value.
 #[derive(Clone, Copy)]

@@ -3,10 +3,9 @@
 ghost use Rattle.std.specs.Prelude.{IsTrue};
 ghost use Rattle.pesp_nodes.specs.Problems.{IsCutOf};
 
-use crate::leaves::{problem_of, root_of, wide_cycle};
+use crate::leaves::{root_of, wide_cycle};
 use pesp_board::{Board, Job, Work};
 use pesp_bound::{Cut, Node, Problem, Side};
-use pesp_network::Network;
 use std::alloc::Global;
 
 /// Whether a node has what the cut names, and the cut keeps its limit.
@@ -35,23 +34,37 @@ fn node_along(alloc: Global, problem: &Problem, path: &[(Cut, Side)]) -> Option<
     Some(node)
 }
 
+/// Lends a leaf and keeps its job; whether there was one.
+fn lend_next(alloc: Global, board: &mut Board, jobs: &mut Vec<Job>) -> Option<bool> {
+    match board.lend(alloc).ok()? {
+        Some(job) => {
+            jobs.push(job).ok()?;
+            Some(true)
+        }
+        None => Some(false),
+    }
+}
+
 /// The jobs of all open leaves.
 fn lend_all(alloc: Global, board: &mut Board) -> Option<Vec<Job>> {
     let mut jobs = Vec::new(alloc);
     for _ in 0..1_000_000 {
-        let Some(job) = board.lend(alloc).ok()? else {
+        if !lend_next(alloc, board, &mut jobs)? {
             return Some(jobs);
-        };
-        jobs.push(job).ok()?;
+        }
     }
     None
 }
 
+/// A cut of the leaf to which a path leads.
+fn cut_along(alloc: Global, problem: &Problem, path: &[(Cut, Side)]) -> Option<Cut> {
+    let (cycle, k) = wide_cycle(&node_along(alloc, problem, path)?)?;
+    Some(Cut::Offset { cycle, k })
+}
+
 /// Splits the leaf of a job.
 fn split_job(alloc: Global, board: &mut Board, job: &Job) -> Option<()> {
-    let node = node_along(alloc, board.problem(), &job.path)?;
-    let (cycle, k) = wide_cycle(&node)?;
-    let cut = Cut::Offset { cycle, k };
+    let cut = cut_along(alloc, board.problem(), &job.path)?;
     board.give(alloc, job.number, &Work::Split(cut)).ok()
 }
 
@@ -68,17 +81,32 @@ fn split_some(alloc: Global, board: &mut Board, jobs: &[Job], most: u32) -> Opti
     Some(done)
 }
 
-/// Lends all open leaves and splits them, again and again, until so many are split: the least value that is left.
-pub(crate) fn splits(alloc: Global, network: Network, count: u32) -> Option<u64> {
-    let problem = problem_of(alloc, network)?;
-    let mut board = Board::new(alloc, problem).ok()?;
+/// Lends all open leaves and splits the first of them; how many.
+fn split_all(alloc: Global, board: &mut Board, most: u32) -> Option<u32> {
+    let jobs = lend_all(alloc, board)?;
+    split_some(alloc, board, &jobs, most)
+}
+
+/// Lends all open leaves and splits them, again and again, until so many are split.
+fn split_again(alloc: Global, board: &mut Board, count: u32) -> Option<()> {
     let mut left = count;
     for _ in 0..count {
         if left == 0 {
-            return board.least();
+            return Some(());
         }
-        let jobs = lend_all(alloc, &mut board)?;
-        left = left.saturating_sub(split_some(alloc, &mut board, &jobs, left)?);
+        left = left.saturating_sub(split_all(alloc, board, left)?);
     }
+    Some(())
+}
+
+/// The least value that is left once so many leaves are split.
+fn least_split(alloc: Global, board: &mut Board, count: u32) -> Option<u64> {
+    split_again(alloc, board, count)?;
     board.least()
+}
+
+/// Lends all open leaves and splits them, again and again, until so many are split: the least value that is left.
+pub(crate) fn splits(alloc: Global, problem: Problem, count: u32) -> Option<u64> {
+    let mut board = Board::new(alloc, problem).ok()?;
+    least_split(alloc, &mut board, count)
 }

@@ -6,10 +6,12 @@ ghost use Rattle.pesp_nodes.specs.Problems.{IsCutOf, IsNodeOf, ArePairs};
 
 use pesp_bound::{Cut, Leaf, Node, Pair, Pairs, Problem, Side, best_leaf, best_leaf_from};
 use pesp_network::Network;
+use pesp_problem::Instance;
 use std::alloc::Global;
 
-/// The problem of a network with its fundamental walks.
-pub(crate) fn problem_of(alloc: Global, network: Network) -> Option<Problem> {
+/// The problem of an instance's network with its fundamental walks.
+pub(crate) fn problem_of(alloc: Global, instance: &Instance) -> Option<Problem> {
+    let network = Network::of(alloc, instance).ok()?;
     let table = network.cycles(alloc).ok()?;
     Problem::new(alloc, network, table).ok()
 }
@@ -20,13 +22,6 @@ fn value_of(leaf: &Leaf) -> Option<u64> {
         Leaf::Bound { value, .. } => u64::try_from(*value).ok(),
         _ => None,
     }
-}
-
-/// The value of the best leaf that is found at the root in so many rounds.
-pub(crate) fn root_leaf(alloc: Global, network: Network, rounds: u32) -> Option<u64> {
-    let problem = problem_of(alloc, network)?;
-    let root = root_of(alloc, &problem)?;
-    value_of(&best_leaf(alloc, &problem, &root, rounds).ok()?)
 }
 
 /// The first cycle with more than one offset, numbered from 1, with the least.
@@ -74,17 +69,15 @@ fn go_high(problem: &Problem, node: &mut Node) -> Option<()>
     Some(())
 }
 
-/// The value of the best leaf that is found at the high part of a cut of the root, from the pairs of the root's leaf.
-pub(crate) fn child_leaf(alloc: Global, network: Network, rounds: u32) -> Option<u64> {
-    let problem = problem_of(alloc, network)?;
-    let mut node = root_of(alloc, &problem)?;
-    let pairs = bound_pairs(alloc, &problem, &node, rounds)?;
-    go_high(&problem, &mut node)?;
-    value_of(&best_leaf_from(alloc, &problem, &node, pairs.as_slice(), rounds).ok()?)
-}
-
 /// More rounds than any leaf uses.
 const MOST: u32 = 1_000_000;
+
+/// The value of the best leaf that is found at a node in so many rounds.
+fn value_at(alloc: Global, problem: &Problem, node: &Node, rounds: u32) -> Option<u64>
+    requires { IsNodeOf problem.now node.now }
+{
+    value_of(&best_leaf(alloc, problem, node, rounds).ok()?)
+}
 
 /// The value of the best leaf that is found from pairs in so many rounds.
 fn value_from(
@@ -119,19 +112,36 @@ fn fewest(alloc: Global, problem: &Problem, node: &Node, start: &[Pair]) -> Opti
     Some(u64::from(high))
 }
 
+/// The value of the best leaf that is found at the root in so many rounds.
+pub(crate) fn root_leaf(alloc: Global, problem: &Problem, rounds: u32) -> Option<u64> {
+    value_at(alloc, problem, &root_of(alloc, problem)?, rounds)
+}
+
 /// The fewest rounds that give the root's leaf its greatest value.
-pub(crate) fn root_rounds(alloc: Global, network: Network) -> Option<u64> {
-    let problem = problem_of(alloc, network)?;
-    let root = root_of(alloc, &problem)?;
-    fewest(alloc, &problem, &root, &[])
+pub(crate) fn root_rounds(alloc: Global, problem: &Problem) -> Option<u64> {
+    fewest(alloc, problem, &root_of(alloc, problem)?, &[])
+}
+
+/// The high part of a cut of the root, and the pairs of the best leaf that is found at the root in so many rounds.
+fn child_of(alloc: Global, problem: &Problem, rounds: u32) -> Option<(Node, Pairs)>
+    ensures node { IfSome result (λ child. IsNodeOf problem.now child.0) }
+    ensures pairs { IfSome result (λ child. ArePairs (length problem.now.table) child.1) }
+{
+    let mut node = root_of(alloc, problem)?;
+    let pairs = bound_pairs(alloc, problem, &node, rounds)?;
+    go_high(problem, &mut node)?;
+    Some((node, pairs))
+}
+
+/// The value of the best leaf that is found at the high part of a cut of the root, from the pairs of the root's leaf.
+pub(crate) fn child_leaf(alloc: Global, problem: &Problem, rounds: u32) -> Option<u64> {
+    let (node, pairs) = child_of(alloc, problem, rounds)?;
+    value_from(alloc, problem, &node, pairs.as_slice(), rounds)
 }
 
 /// The fewest rounds that give the leaf at the high part of a cut of the root its greatest value, from the pairs of the
 /// root's leaf.
-pub(crate) fn child_rounds(alloc: Global, network: Network) -> Option<u64> {
-    let problem = problem_of(alloc, network)?;
-    let mut node = root_of(alloc, &problem)?;
-    let pairs = bound_pairs(alloc, &problem, &node, MOST)?;
-    go_high(&problem, &mut node)?;
-    fewest(alloc, &problem, &node, pairs.as_slice())
+pub(crate) fn child_rounds(alloc: Global, problem: &Problem) -> Option<u64> {
+    let (node, pairs) = child_of(alloc, problem, MOST)?;
+    fewest(alloc, problem, &node, pairs.as_slice())
 }

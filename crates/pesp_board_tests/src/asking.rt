@@ -5,9 +5,9 @@ ghost use Rattle.pesp_machine.specs.Certificates.{IsProblemOf};
 use crate::lent::{Lent, number_of, path_of};
 use pesp_board::Board;
 use pesp_cases::spell_pairs;
-use pesp_cert::print;
+use pesp_cert::{Certificate, print};
 use pesp_check::{Verdict, check};
-use pesp_problem::Instance;
+use pesp_problem::{Instance, Pair};
 use pesp_stream::Counted;
 use std::alloc::Global;
 
@@ -25,35 +25,48 @@ pub(crate) fn ask(alloc: Global, board: &Board, lent: &[Lent], words: &[&str]) -
         "best" => told(alloc, board.best()),
         "least" => told(alloc, board.least()),
         "leaf" => leaf(alloc, board, number_of(lent, words)?),
-        "path" => String::from_str(alloc, path_of(lent, number_of(lent, words)?)?).ok(),
-        "problem" => {
-            let period = board.problem().network().period();
-            let cycles = board.problem().table().len();
-            format!(in alloc; "period {period}, {cycles} cycles").ok()
-        }
+        "path" => path(alloc, lent, words),
+        "problem" => size(alloc, board),
         _ => None,
     }
+}
+
+/// The period of the board's problem, and how many cycles it has.
+fn size(alloc: Global, board: &Board) -> Option<String> {
+    let period = board.problem().network().period();
+    let cycles = board.problem().table().len();
+    format!(in alloc; "period {period}, {cycles} cycles").ok()
+}
+
+/// The path of the job that the second word names.
+fn path(alloc: Global, lent: &[Lent], words: &[&str]) -> Option<String> {
+    String::from_str(alloc, path_of(lent, number_of(lent, words)?)?).ok()
 }
 
 /// The value and the pairs of a job's leaf.
 fn leaf(alloc: Global, board: &Board, number: u64) -> Option<String> {
     match board.job_leaf(number) {
         Some((value, [])) => format!(in alloc; "value {value}, no pairs").ok(),
-        Some((value, pairs)) => {
-            let pairs = spell_pairs(alloc, pairs)?;
-            format!(in alloc; "value {value}, pairs {pairs}").ok()
-        }
+        Some((value, pairs)) => spell_leaf(alloc, value, pairs),
         None => String::from_str(alloc, "not lent").ok(),
     }
+}
+
+fn spell_leaf(alloc: Global, value: u64, pairs: &[Pair]) -> Option<String> {
+    let pairs = spell_pairs(alloc, pairs)?;
+    format!(in alloc; "value {value}, pairs {pairs}").ok()
 }
 
 /// The certificate so far, a `/` for each end of a line.
 pub(crate) fn certified(alloc: Global, instance: &Instance, board: &Board) -> Option<String>
     requires { IsProblemOf instance.now board.now.problem }
 {
-    let certificate = board.certificate(alloc, instance).ok()?;
+    printed(alloc, &board.certificate(alloc, instance).ok()?)
+}
+
+fn printed(alloc: Global, certificate: &Certificate) -> Option<String> {
     let mut writer = Counted::new(Vec::new(alloc));
-    print(&certificate, &mut writer).ok()?;
+    print(certificate, &mut writer).ok()?;
     joined(alloc, &writer.into_inner())
 }
 
@@ -75,8 +88,11 @@ fn joined(alloc: Global, bytes: &[u8]) -> Option<String> {
 pub(crate) fn fault_of(alloc: Global, instance: &Instance, board: &Board) -> Option<String>
     requires { IsProblemOf instance.now board.now.problem }
 {
-    let certificate = board.certificate(alloc, instance).ok()?;
-    match check(alloc, instance, &certificate).ok()? {
+    spell_fault(alloc, instance, &board.certificate(alloc, instance).ok()?)
+}
+
+fn spell_fault(alloc: Global, instance: &Instance, certificate: &Certificate) -> Option<String> {
+    match check(alloc, instance, certificate).ok()? {
         Verdict::Accepted => Some(String::new(alloc)),
         Verdict::Refused(refusal) => format!(in alloc; ", and not accepted: {refusal:?}").ok(),
     }

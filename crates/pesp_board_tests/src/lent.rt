@@ -2,7 +2,7 @@
 
 use pesp_board::Job;
 use pesp_cases::spell_cut;
-use pesp_problem::Side;
+use pesp_problem::{Cut, Side};
 use std::alloc::Global;
 
 /// A job that was lent: its number, and its path in words.
@@ -21,21 +21,26 @@ impl Lent {
     }
 }
 
+/// Adds a branch with the side that is taken, behind a comma where it isn't the first.
+fn add_branch(alloc: Global, text: &mut String, cut: Cut, side: Side) -> Option<()> {
+    let side = match side {
+        Side::Low => "low",
+        Side::High => "high",
+    };
+    let behind = if text.is_empty() { "" } else { ", " };
+    let cut = spell_cut(alloc, cut)?;
+    text.push_str(format!(in alloc; "{behind}{cut} {side}").ok()?.as_str())
+        .ok()
+}
+
 /// The branches of a path with the sides that are taken, as `o 1 -1 low`; `root` where there is none.
 fn spell_path(alloc: Global, job: &Job) -> Option<String> {
+    if job.path.is_empty() {
+        return String::from_str(alloc, "root").ok();
+    }
     let mut text = String::new(alloc);
     for (cut, side) in &job.path {
-        let cut = spell_cut(alloc, *cut)?;
-        let side = match side {
-            Side::Low => "low",
-            Side::High => "high",
-        };
-        let behind = if text.is_empty() { "" } else { ", " };
-        text.push_str(format!(in alloc; "{behind}{cut} {side}").ok()?.as_str())
-            .ok()?;
-    }
-    if text.is_empty() {
-        text.push_str("root").ok()?;
+        add_branch(alloc, &mut text, *cut, *side)?;
     }
     Some(text)
 }

@@ -14,10 +14,24 @@ use std::alloc::Global;
 
 /// What is told of a case: its name, and each event and question with its answer.
 pub(crate) fn play(alloc: Global, lines: &[&str]) -> Option<String> {
-    let instance = instance_of(alloc, lines)?;
-    let mut board = board_of(alloc, &instance, lines)?;
+    play_instance(alloc, &instance_of(alloc, lines)?, lines)
+}
+
+fn play_instance(alloc: Global, instance: &Instance, lines: &[&str]) -> Option<String> {
+    let mut board = board_of(alloc, instance, lines)?;
+    play_board(alloc, instance, &mut board, lines)
+}
+
+fn play_board(
+    alloc: Global,
+    instance: &Instance,
+    board: &mut Board,
+    lines: &[&str],
+) -> Option<String>
+    requires { IsProblemOf instance.now board.old.problem }
+{
     let mut lent = Vec::new(alloc);
-    play_on(alloc, &instance, &mut board, &mut lent, lines)
+    play_on(alloc, instance, board, &mut lent, lines)
 }
 
 /// Plays the lines on the board of the instance.
@@ -52,16 +66,28 @@ fn play_line(
     match split_word(line).0 {
         "row" | "cycle" | "period" => Some(String::new(alloc)),
         "case" => format!(in alloc; "{line}\n").ok(),
-        _ => {
-            let answer = answer_of(alloc, instance, board, lent, line)?;
-            let fault = fault_of(alloc, instance, board)?;
-            format!(in alloc; "{line}: {answer}{fault}\n").ok()
-        }
+        _ => tell(alloc, instance, board, lent, line),
     }
 }
 
+/// An event or a question with its answer, and what is wrong with the certificate then.
+fn tell(
+    alloc: Global,
+    instance: &Instance,
+    board: &mut Board,
+    lent: &mut Vec<Lent>,
+    line: &str,
+) -> Option<String>
+    requires { IsProblemOf instance.now board.old.problem }
+    ensures { IsProblemOf instance.now board.new.problem }
+{
+    let answer = answer_to(alloc, instance, board, lent, line)?;
+    let fault = fault_of(alloc, instance, board)?;
+    format!(in alloc; "{line}: {answer}{fault}\n").ok()
+}
+
 /// Whose answer a line asks for.
-#[derive(Clone, Copy, Debug, PartialEq, Eq)]
+#[derive(Clone, Copy)]
 enum Asked {
     Certificate,
     Adopted,
@@ -80,8 +106,28 @@ const EVENTS: [(&str, Asked); 7] = [
     ("give", Asked::Changed),
 ];
 
-/// The answer to an event or a question.
+/// The answer to the words of a line.
 fn answer_of(
+    alloc: Global,
+    instance: &Instance,
+    board: &mut Board,
+    lent: &mut Vec<Lent>,
+    words: &[&str],
+) -> Option<String>
+    requires { IsProblemOf instance.now board.old.problem }
+    ensures { IsProblemOf instance.now board.new.problem }
+{
+    match look_up(&EVENTS, words.get(0)?) {
+        Some(Asked::Certificate) => certified(alloc, instance, board),
+        Some(Asked::Adopted) => adopt(alloc, instance, board),
+        Some(Asked::Spent) => spend(alloc, instance, board, words),
+        Some(Asked::Changed) => change(alloc, board, lent, words),
+        None => ask(alloc, board, lent, words),
+    }
+}
+
+/// The answer to an event or a question.
+fn answer_to(
     alloc: Global,
     instance: &Instance,
     board: &mut Board,
@@ -91,12 +137,8 @@ fn answer_of(
     requires { IsProblemOf instance.now board.old.problem }
     ensures { IsProblemOf instance.now board.new.problem }
 {
-    let words = words_of(alloc, line)?;
-    match look_up(&EVENTS, words.get(0)?) {
-        Some(Asked::Certificate) => certified(alloc, instance, board),
-        Some(Asked::Adopted) => adopt(alloc, instance, board),
-        Some(Asked::Spent) => spend(alloc, instance, board, &words),
-        Some(Asked::Changed) => change(alloc, board, lent, &words),
-        None => ask(alloc, board, lent, &words),
+    match words_of(alloc, line) {
+        Some(words) => answer_of(alloc, instance, board, lent, &words),
+        None => None,
     }
 }

@@ -1,79 +1,124 @@
 //! What is found over a network.
 
-use crate::given::{list_of, network_of};
+use crate::given::{given_network, list_of, ranges_of};
 use pesp_cases::{small, spell_list};
 use pesp_network::Network;
 use pesp_propagate::{Domains, Outcome, dive, propagate};
-use pesp_simplex::improve;
+use pesp_simplex::{Improved, improve};
 use std::alloc::Global;
 
 /// A question to the sets that propagation leaves: the outcome, the empty event, or what is left of an event.
 pub(crate) fn ask_domains(alloc: Global, lines: &[&str], words: &[&str]) -> Option<String> {
-    let network = network_of(alloc, lines)?.ok()?;
-    let (outcome, domains) = propagated(alloc, &network)?;
+    ask_left(alloc, &given_network(alloc, lines)?, words)
+}
+
+fn ask_left(alloc: Global, network: &Network, words: &[&str]) -> Option<String> {
+    let (outcome, domains) = propagated(alloc, network)?;
+    answer(alloc, outcome, &domains, words)
+}
+
+fn answer(alloc: Global, outcome: Outcome, domains: &Domains, words: &[&str]) -> Option<String> {
     match *words.get(1)? {
-        "outcome" => match outcome {
-            Outcome::Stable => String::from_str(alloc, "stable").ok(),
-            Outcome::Empty { .. } => String::from_str(alloc, "empty").ok(),
-        },
-        "empty" => match outcome {
-            Outcome::Stable => String::from_str(alloc, "none").ok(),
-            Outcome::Empty { event } => format!(in alloc; "{event}").ok(),
-        },
-        "left" => left(alloc, &domains, small(words, 2)?),
+        "outcome" => spell_outcome(alloc, outcome),
+        "empty" => spell_empty(alloc, outcome),
+        "left" => left(alloc, domains, small(words, 2)?),
         _ => None,
+    }
+}
+
+fn spell_outcome(alloc: Global, outcome: Outcome) -> Option<String> {
+    let word = match outcome {
+        Outcome::Stable => "stable",
+        Outcome::Empty { .. } => "empty",
+    };
+    String::from_str(alloc, word).ok()
+}
+
+/// The event of which no difference is left.
+fn spell_empty(alloc: Global, outcome: Outcome) -> Option<String> {
+    match outcome {
+        Outcome::Stable => String::from_str(alloc, "none").ok(),
+        Outcome::Empty { event } => format!(in alloc; "{event}").ok(),
     }
 }
 
 /// What propagation makes of full sets under slacks from 0 to the span.
 fn propagated(alloc: Global, network: &Network) -> Option<(Outcome, Domains)> {
-    let ranges: Vec<(u32, u32)> = network
-        .rows()
-        .iter()
-        .map(|row| (0, row.span))
-        .collect(alloc)
-        .ok()?;
+    let ranges = ranges_of(alloc, network)?;
     let mut domains = Domains::full(alloc, network).ok()?;
     let outcome = propagate(alloc, network, &ranges, &mut domains).ok()?;
     Some((outcome, domains))
 }
 
 /// The differences that are left of an event.
-fn left(alloc: Global, domains: &Domains, event: u32) -> Option<String> {
+fn left_of(alloc: Global, domains: &Domains, event: u32) -> Option<Vec<u32>> {
     let mut differences = Vec::new(alloc);
     for difference in 0..10_000u32 {
         if domains.has(event, difference) {
             differences.push(difference).ok()?;
         }
     }
-    if differences.is_empty() {
+    Some(differences)
+}
+
+/// The differences that are left of an event, or `none`.
+fn left(alloc: Global, domains: &Domains, event: u32) -> Option<String> {
+    spell_some(alloc, &left_of(alloc, domains, event)?)
+}
+
+/// Numbers, or `none` where there are none.
+fn spell_some(alloc: Global, numbers: &[u32]) -> Option<String> {
+    if numbers.is_empty() {
         return String::from_str(alloc, "none").ok();
     }
-    spell_list(alloc, &differences)
+    spell_list(alloc, numbers)
+}
+
+/// The times that a dive finds in so many tries.
+fn dived(alloc: Global, lines: &[&str], tries: u32) -> Option<Option<Vec<u32>>> {
+    dive(alloc, &given_network(alloc, lines)?, tries).ok()
 }
 
 /// The times that a dive finds in so many tries: `found`, or the times themselves where they are asked for.
 pub(crate) fn ask_dive(alloc: Global, lines: &[&str], words: &[&str]) -> Option<String> {
-    let network = network_of(alloc, lines)?.ok()?;
-    let found = dive(alloc, &network, small(words, 1)?).ok()?;
-    match (found, words.get(2).copied()) {
-        (Some(times), Some("times")) => spell_list(alloc, &times),
-        (Some(_), _) => String::from_str(alloc, "found").ok(),
-        (None, _) => String::from_str(alloc, "none").ok(),
+    match dived(alloc, lines, small(words, 1)?)? {
+        Some(times) => tell_times(alloc, &times, words),
+        None => String::from_str(alloc, "none").ok(),
+    }
+}
+
+fn tell_times(alloc: Global, times: &[u32], words: &[&str]) -> Option<String> {
+    match words.get(2).copied() {
+        Some("times") => spell_list(alloc, times),
+        _ => String::from_str(alloc, "found").ok(),
     }
 }
 
 /// What an improvement of the times ends with in so many rounds.
 pub(crate) fn ask_improvement(alloc: Global, lines: &[&str], words: &[&str]) -> Option<String> {
-    let network = network_of(alloc, lines)?.ok()?;
-    let times = list_of(alloc, lines, "times")?;
-    match improve(alloc, &network, &times, small(words, 1)?) {
-        Ok(found) => {
-            let stop = found.stop;
-            let cost = found.cost;
-            let rows = found.forest.len();
-            format!(in alloc; "{stop:?}, cost {cost}, {rows} forest rows").ok()
-        }
+    improve_given(alloc, &given_network(alloc, lines)?, lines, words)
+}
+
+fn improve_given(
+    alloc: Global,
+    network: &Network,
+    lines: &[&str],
+    words: &[&str],
+) -> Option<String> {
+    let rounds = small(words, 1)?;
+    improved(alloc, network, &list_of(alloc, lines, "times")?, rounds)
+}
+
+fn improved(alloc: Global, network: &Network, times: &[u32], rounds: u32) -> Option<String> {
+    match improve(alloc, network, times, rounds) {
+        Ok(found) => spell_improved(alloc, &found),
         Err(refusal) => format!(in alloc; "{refusal:?}").ok(),
     }
+}
+
+fn spell_improved(alloc: Global, found: &Improved) -> Option<String> {
+    let stop = found.stop;
+    let cost = found.cost;
+    let rows = found.forest.len();
+    format!(in alloc; "{stop:?}, cost {cost}, {rows} forest rows").ok()
 }

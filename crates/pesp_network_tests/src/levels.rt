@@ -2,12 +2,24 @@
 
 ghost use Rattle.std.specs.Prelude.{◌<◌, ◌≤◌, IsTrue};
 
-use pesp_cases::{small, spell_list, split_word, words_of};
+use crate::given::size;
+use pesp_cases::{spell_list, split_word, words_of};
 use pesp_levels::{Edge, Outcome, settle};
 use std::alloc::Global;
 
-fn size(words: &[&str], place: usize) -> Option<usize> {
-    usize::try_from(small(words, place)?).ok()
+/// The edge of the words start, finish, gain and loss.
+fn edge_of(words: &[&str]) -> Option<Edge> {
+    Some(Edge {
+        start: size(words, 0)?,
+        finish: size(words, 1)?,
+        gain: size(words, 2)?,
+        loss: size(words, 3)?,
+    })
+}
+
+/// Adds the edge of the words of a text.
+fn add_edge(alloc: Global, edges: &mut Vec<Edge>, text: &str) -> Option<()> {
+    edges.push(edge_of(&words_of(alloc, text)?)?).ok()
 }
 
 /// The edges of the lines `edge START FINISH GAIN LOSS`.
@@ -16,15 +28,7 @@ fn edges_of(alloc: Global, lines: &[&str]) -> Option<Vec<Edge>> {
     for line in lines {
         let (word, rest) = split_word(line);
         if word == "edge" {
-            let words = words_of(alloc, rest)?;
-            edges
-                .push(Edge {
-                    start: size(&words, 0)?,
-                    finish: size(&words, 1)?,
-                    gain: size(&words, 2)?,
-                    loss: size(&words, 3)?,
-                })
-                .ok()?;
+            add_edge(alloc, &mut edges, rest)?;
         }
     }
     Some(edges)
@@ -38,15 +42,19 @@ fn is_within(edge: &Edge) -> bool
 
 /// The least levels of three events, or how many edges a closed way that gains has; no gain is above 9.
 pub(crate) fn ask_levels(alloc: Global, lines: &[&str]) -> Option<String> {
-    let edges = edges_of(alloc, lines)?;
+    settled(alloc, &edges_of(alloc, lines)?)
+}
+
+fn settled(alloc: Global, edges: &[Edge]) -> Option<String> {
     if !edges.iter().all(is_within) {
         return None;
     }
-    match settle(alloc, &edges, 3, 9).ok()? {
+    match settle(alloc, edges, 3, 9).ok()? {
         Outcome::Levels(levels) => spell_list(alloc, &levels),
-        Outcome::Gains(way) => {
-            let count = way.len();
-            format!(in alloc; "a closed way of {count} edges").ok()
-        }
+        Outcome::Gains(way) => spell_way(alloc, way.len()),
     }
+}
+
+fn spell_way(alloc: Global, count: usize) -> Option<String> {
+    format!(in alloc; "a closed way of {count} edges").ok()
 }

@@ -12,7 +12,7 @@ use pesp_cases::{look_up, split_word, words_of};
 use std::alloc::Global;
 
 /// What a line asks of.
-#[derive(Clone, Copy, Debug, PartialEq, Eq)]
+#[derive(Clone, Copy)]
 enum Subject {
     Network,
     Reduced,
@@ -43,7 +43,7 @@ const SUBJECTS: [(&str, Subject); 11] = [
 ];
 
 /// What a line that is no question is there for.
-#[derive(Clone, Copy, Debug, PartialEq, Eq)]
+#[derive(Clone, Copy)]
 enum Role {
     Given,
     Name,

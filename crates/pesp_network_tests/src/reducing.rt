@@ -7,7 +7,8 @@ ghost use Rattle.pesp_problem.specs.Walks.{IsWalk};
 ghost use Rattle.pesp_network.specs.Networks.{arcs_of_network, net_of_network};
 
 use crate::given::{instance_of, list_of};
-use pesp_cases::{spell_list, spell_round};
+use crate::networks::spell_later;
+use pesp_cases::spell_round;
 use pesp_network::{NetRow, Network};
 use pesp_problem::{Instance, Score, Walk, score};
 use pesp_reduce::{Reduced, reduce};
@@ -15,11 +16,28 @@ use std::alloc::Global;
 
 /// A question to what is left of the instance.
 pub(crate) fn ask_reduced(alloc: Global, lines: &[&str], words: &[&str]) -> Option<String> {
-    let instance = instance_of(alloc, lines)?;
-    let left = reduced(alloc, &instance)?;
+    answer(alloc, &instance_of(alloc, lines)?, lines, words)
+}
+
+fn answer(alloc: Global, instance: &Instance, lines: &[&str], words: &[&str]) -> Option<String> {
+    match reduced(alloc, instance) {
+        Some(left) => ask_left(alloc, instance, &left, lines, words),
+        None => None,
+    }
+}
+
+fn ask_left(
+    alloc: Global,
+    instance: &Instance,
+    left: &Reduced,
+    lines: &[&str],
+    words: &[&str],
+) -> Option<String>
+    requires { left.now.original ≡ instance.now }
+{
     match list_of(alloc, lines, "times") {
-        Some(times) => ask_times(alloc, &instance, &left, &times, words),
-        None => ask_rows(alloc, &left, words),
+        Some(times) => ask_times(alloc, instance, left, &times, words),
+        None => ask_rows(alloc, left, words),
     }
 }
 
@@ -112,15 +130,14 @@ fn lowered(alloc: Global, instance: &Instance, left: &Reduced, times: &[u32]) ->
     requires { left.now.original ≡ instance.now }
 {
     cost_of(instance, times)?;
-    let low = low_times(alloc, left, times)?;
-    let period = instance.period();
-    let first = low.first().copied()?;
-    let mut later = Vec::new(alloc);
-    for time in &low {
-        let by = time.wrapping_add(period).wrapping_sub(first);
-        later.push(by.checked_rem(period)?).ok()?;
-    }
-    spell_list(alloc, &later)
+    spell_later(alloc, &low_times(alloc, left, times)?, instance.period())
+}
+
+/// The cost of the times of what is left, lifted.
+fn lifted_cost(alloc: Global, instance: &Instance, left: &Reduced, low: &[u32]) -> Option<u64>
+    requires { IsNetTimetable (net_of_network left.now.network) left.now.network.events low.now }
+{
+    cost_of(instance, &left.lift_times(alloc, low).ok()?)
 }
 
 /// The cost of the times, and of the same times lowered and lifted.
@@ -128,9 +145,7 @@ fn costs(alloc: Global, instance: &Instance, left: &Reduced, times: &[u32]) -> O
     requires { left.now.original ≡ instance.now }
 {
     let before = cost_of(instance, times)?;
-    let low = low_times(alloc, left, times)?;
-    let lifted = left.lift_times(alloc, &low).ok()?;
-    let after = cost_of(instance, &lifted)?;
+    let after = lifted_cost(alloc, instance, left, &low_times(alloc, left, times)?)?;
     format!(in alloc; "{before}, {after} lowered and lifted").ok()
 }
 
@@ -145,8 +160,10 @@ fn a_walk(alloc: Global, network: &Network) -> Option<Walk>
 }
 
 /// A walk of what is left, lifted.
+fn lifted_walk(alloc: Global, left: &Reduced) -> Option<Walk> {
+    left.lift_walk(alloc, &a_walk(alloc, left.network())?).ok()
+}
+
 fn spell_walk(alloc: Global, left: &Reduced) -> Option<String> {
-    let walk = a_walk(alloc, left.network())?;
-    let lifted = left.lift_walk(alloc, &walk).ok()?;
-    spell_round(alloc, lifted.rows())
+    spell_round(alloc, lifted_walk(alloc, left)?.rows())
 }

@@ -1,17 +1,26 @@
 //! Command lines.
 
+use clap::Error;
 use pesp_cases::words_of;
 use pesp_cli::{Request, request_of};
 use std::alloc::Global;
 
-/// The words of a command line, the program's name first.
-pub(crate) fn words_with_name(alloc: Global, line: &str) -> Option<Vec<String>> {
+fn add_word(alloc: Global, words: &mut Vec<String>, word: &str) -> Option<()> {
+    words.push(String::from_str(alloc, word).ok()?).ok()
+}
+
+fn with_name(alloc: Global, line: &[&str]) -> Option<Vec<String>> {
     let mut words = Vec::new(alloc);
-    words.push(String::from_str(alloc, "pesp").ok()?).ok()?;
-    for word in &words_of(alloc, line)? {
-        words.push(String::from_str(alloc, word).ok()?).ok()?;
+    add_word(alloc, &mut words, "pesp")?;
+    for word in line {
+        add_word(alloc, &mut words, word)?;
     }
     Some(words)
+}
+
+/// The words of a command line, the program's name first.
+pub(crate) fn words_with_name(alloc: Global, line: &str) -> Option<Vec<String>> {
+    with_name(alloc, &words_of(alloc, line)?)
 }
 
 /// A search that is asked for.
@@ -31,49 +40,61 @@ fn tell_solve(
     }
 }
 
+/// What is asked for over a file alone.
+fn tell_file(alloc: Global, verb: &str, period: u32, file: &str) -> Option<String> {
+    format!(in alloc; "{verb} {file} at period {period}").ok()
+}
+
+fn tell_draw(alloc: Global, period: u32, rows: u32, file: &str) -> Option<String> {
+    format!(in alloc; "draw {file} at period {period} in {rows} rows").ok()
+}
+
+fn tell_work(alloc: Global, period: u32, steps: u32, file: &str, job: u64) -> Option<String> {
+    format!(in alloc; "work on job {job} of {file} at period {period} in {steps} steps").ok()
+}
+
+fn tell_graft(alloc: Global, period: u32, file: &str, base: &str) -> Option<String> {
+    format!(in alloc; "graft {file} onto {base} at period {period}").ok()
+}
+
+/// What is asked for.
+fn tell_request(alloc: Global, request: Request<'_>) -> Option<String> {
+    match request {
+        Request::Solve {
+            period,
+            steps,
+            progress,
+            file,
+        } => tell_solve(alloc, period, steps, progress, file),
+        Request::Check { period, file } => tell_file(alloc, "check", period, file),
+        Request::Report { period, file } => tell_file(alloc, "report", period, file),
+        Request::Draw { period, rows, file } => tell_draw(alloc, period, rows, file),
+        Request::Split { period, file } => tell_file(alloc, "split", period, file),
+        Request::Work {
+            period,
+            steps,
+            file,
+            job,
+        } => tell_work(alloc, period, steps, file, job),
+        Request::Graft { period, file, base } => tell_graft(alloc, period, file, base),
+    }
+}
+
+/// The kind of a fault and the exit status.
+fn tell_error(alloc: Global, error: &Error) -> Option<String> {
+    let kind = error.kind();
+    let status = error.exit_code();
+    format!(in alloc; "{kind:?}, status {status}").ok()
+}
+
+fn tell_words(alloc: Global, words: &[String]) -> Option<String> {
+    match request_of(alloc, words) {
+        Ok(request) => tell_request(alloc, request),
+        Err(error) => tell_error(alloc, &error),
+    }
+}
+
 /// What a command line asks for, or the kind of its fault and the exit status.
 pub(crate) fn ask_command(alloc: Global, line: &str) -> Option<String> {
-    let words = words_with_name(alloc, line)?;
-    match request_of(alloc, &words) {
-        Ok(
-            Request::Solve {
-                period,
-                steps,
-                progress,
-                file,
-            },
-        ) => tell_solve(alloc, period, steps, progress, file),
-        Ok(Request::Check { period, file }) => {
-            format!(in alloc; "check {file} at period {period}").ok()
-        }
-        Ok(Request::Report { period, file }) => {
-            format!(in alloc; "report {file} at period {period}").ok()
-        }
-        Ok(Request::Draw { period, rows, file }) => {
-            format!(in alloc; "draw {file} at period {period} in {rows} rows").ok()
-        }
-        Ok(Request::Split { period, file }) => {
-            format!(in alloc; "split {file} at period {period}").ok()
-        }
-        Ok(
-            Request::Work {
-                period,
-                steps,
-                file,
-                job,
-            },
-        ) => {
-            format!(in alloc;
-                "work on job {job} of {file} at period {period} in {steps} steps"
-            ).ok()
-        }
-        Ok(Request::Graft { period, file, base }) => {
-            format!(in alloc; "graft {file} onto {base} at period {period}").ok()
-        }
-        Err(error) => {
-            let kind = error.kind();
-            let status = error.exit_code();
-            format!(in alloc; "{kind:?}, status {status}").ok()
-        }
-    }
+    tell_words(alloc, &words_with_name(alloc, line)?)
 }

@@ -2,24 +2,26 @@
 
 use crate::drain::drain_of;
 use crate::feed::feed_of;
-use crate::given::given_by;
+use crate::given::{Given, given_by};
 use crate::telling::tell_fault;
 use pesp_runs::{Fault, run_draw};
 use std::alloc::Global;
 
 /// The bars of what `draw` writes with so many rows.
 pub(crate) fn ask_draw(alloc: Global, lines: &[&str], rows: &str) -> Option<String> {
-    match drawn(alloc, lines, rows)? {
-        (Ok(()), taken) => tell_picture(alloc, str::from_utf8(&taken).ok()?),
-        (Err(fault), taken) => tell_fault(alloc, &fault, &taken),
+    let (answer, taken) = drawn(alloc, lines, rows)?;
+    match answer {
+        Ok(()) => tell_picture(alloc, str::from_utf8(&taken).ok()?),
+        Err(fault) => tell_fault(alloc, &fault, &taken),
     }
 }
 
 /// The words and the dots of what `draw` writes with so many rows.
 pub(crate) fn ask_drawn(alloc: Global, lines: &[&str], rows: &str) -> Option<String> {
-    match drawn(alloc, lines, rows)? {
-        (Ok(()), taken) => tell_words(alloc, str::from_utf8(&taken).ok()?),
-        (Err(fault), taken) => tell_fault(alloc, &fault, &taken),
+    let (answer, taken) = drawn(alloc, lines, rows)?;
+    match answer {
+        Ok(()) => tell_words(alloc, str::from_utf8(&taken).ok()?),
+        Err(fault) => tell_fault(alloc, &fault, &taken),
     }
 }
 
@@ -27,6 +29,10 @@ pub(crate) fn ask_drawn(alloc: Global, lines: &[&str], rows: &str) -> Option<Str
 fn drawn(alloc: Global, lines: &[&str], rows: &str) -> Option<(Result<(), Fault>, Vec<u8>)> {
     let rows = rows.parse().ok()?;
     let given = given_by(alloc, lines)?;
+    Some(draw(alloc, &given, rows))
+}
+
+fn draw(alloc: Global, given: &Given, rows: u32) -> (Result<(), Fault>, Vec<u8>) {
     let mut first = feed_of(&given.instance, given.first);
     let mut second = feed_of(&given.input, given.second);
     let mut writer = drain_of(alloc, given.output);
@@ -38,7 +44,18 @@ fn drawn(alloc: Global, lines: &[&str], rows: &str) -> Option<(Result<(), Fault>
         given.period,
         rows,
     );
-    Some((answer, writer.into_inner().taken))
+    (answer, writer.into_inner().taken)
+}
+
+/// Adds the text of an element, or where its dot stands.
+fn tell_element(told: &mut String, tag: &str, text: &str) -> Option<()> {
+    if tag.starts_with("circle ") {
+        let place = tag.split("\"").nth(3)?;
+        write!(told, " dot {place},").ok()?;
+    } else if tag != "style" && !text.trim().is_empty() {
+        write!(told, " {text},").ok()?;
+    }
+    Some(())
 }
 
 /// Each text of a picture, titles too, and where each dot stands from the left, in their order.
@@ -46,43 +63,50 @@ fn tell_words(alloc: Global, picture: &str) -> Option<String> {
     let mut told = String::from_str(alloc, "0").ok()?;
     for element in picture.split("<") {
         if let Some((tag, text)) = element.split_once(">") {
-            if tag.starts_with("circle ") {
-                let place = tag.split("\"").nth(3)?;
-                write!(told, " dot {place},").ok()?;
-            } else if tag != "style" && !text.trim().is_empty() {
-                write!(told, " {text},").ok()?;
-            }
+            tell_element(&mut told, tag, text)?;
         }
+    }
+    Some(told)
+}
+
+/// The bars of a picture in their order.
+fn tell_bars(alloc: Global, picture: &str) -> Option<String> {
+    let mut told = String::from_str(alloc, "0").ok()?;
+    for rectangle in picture.split("<rect ").skip(1) {
+        told.push_str(tell_bar(alloc, rectangle)?.as_str()).ok()?;
     }
     Some(told)
 }
 
 /// The bars of a picture in their order, how many events it has, and whether each element is closed.
 fn tell_picture(alloc: Global, picture: &str) -> Option<String> {
-    let mut told = String::from_str(alloc, "0").ok()?;
-    for rectangle in picture.split("<rect ").skip(1) {
-        let bar = tell_bar(alloc, rectangle)?;
-        told.push_str(bar.as_str()).ok()?;
-    }
+    let mut told = tell_bars(alloc, picture)?;
     let events = picture.split("<circle ").skip(2).count();
     let closed = if is_closed(picture) { "closed" } else { "open" };
     write!(told, " {events} events, {closed}").ok()?;
     Some(told)
 }
 
-/// The class, the beginning and the length of a bar; nothing for a rectangle that is none.
-fn tell_bar(alloc: Global, rectangle: &str) -> Option<String> {
-    let mut words = rectangle.split("\"");
-    if words.next() == Some("class=") {
-        let class = words.next()?;
-        if words.next() == Some(" x=") {
-            let from = words.next()?;
-            let _name = words.next()?;
-            let length = words.next()?;
-            return format!(in alloc; " {class} {from} {length},").ok();
-        }
+/// The class, the beginning and the length of a bar; nothing for a rectangle that is none. The words stand between its
+/// quotation marks.
+fn spell_bar(alloc: Global, words: &[&str]) -> Option<String> {
+    let is_bar = words.get(0).copied() == Some("class=") && words.get(2).copied() == Some(" x=");
+    if !is_bar {
+        return Some(String::new(alloc));
     }
-    Some(String::new(alloc))
+    let class = words.get(1)?;
+    let from = words.get(3)?;
+    let length = words.get(5)?;
+    format!(in alloc; " {class} {from} {length},").ok()
+}
+
+/// The bar of a rectangle.
+fn tell_bar(alloc: Global, rectangle: &str) -> Option<String> {
+    let mut words = Vec::new(alloc);
+    for word in rectangle.split("\"").take(6) {
+        words.push(word).ok()?;
+    }
+    spell_bar(alloc, &words)
 }
 
 /// Whether as many elements end as begin, and none before it begins.

@@ -30,20 +30,34 @@ pub(crate) fn period_of(lines: &[&str]) -> Option<u32> {
     Some(10)
 }
 
-/// The device of the line `device NAME PIECE INTERRUPTED CALLS END`, or one that never fails.
-pub(crate) fn device_of(alloc: Global, lines: &[&str], name: &str) -> Option<Device> {
+/// What stands behind the line `device NAME`.
+fn device_line<'a>(lines: &[&'a str], name: &str) -> Option<&'a str> {
     for line in lines {
-        let words = words_of(alloc, line)?;
-        if words.first().copied() == Some("device") && words.get(1).copied() == Some(name) {
-            return Some(Device {
-                piece: usize::try_from(small(&words, 2)?).ok()?,
-                interrupted: small(&words, 3)?,
-                calls: small(&words, 4)?,
-                takes_none: words.get(5).copied() == Some("none"),
-            });
+        let (word, rest) = split_word(line);
+        let (device, numbers) = split_word(rest);
+        if word == "device" && device == name {
+            return Some(numbers);
         }
     }
-    Some(Device::whole())
+    None
+}
+
+/// The device of the words piece, interrupted, calls and end.
+fn read_device(words: &[&str]) -> Option<Device> {
+    Some(Device {
+        piece: usize::try_from(small(words, 0)?).ok()?,
+        interrupted: small(words, 1)?,
+        calls: small(words, 2)?,
+        takes_none: words.get(3).copied() == Some("none"),
+    })
+}
+
+/// The device of the line `device NAME PIECE INTERRUPTED CALLS END`, or one that never fails.
+pub(crate) fn device_of(alloc: Global, lines: &[&str], name: &str) -> Option<Device> {
+    match device_line(lines, name) {
+        Some(numbers) => read_device(&words_of(alloc, numbers)?),
+        None => Some(Device::whole()),
+    }
 }
 
 /// What a run over two texts is given: an instance and what stands behind the line `input`, the devices of both and of the

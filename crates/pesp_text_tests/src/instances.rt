@@ -8,27 +8,36 @@ use std::alloc::Global;
 
 /// The instance of a case.
 pub(crate) fn instance_of(alloc: Global, lines: &[&str]) -> Option<Instance> {
-    let text = text_of(alloc, lines, "instance")?;
-    read_instance(alloc, &text, period_of(lines)?).ok()
+    let period = period_of(lines)?;
+    read_instance(alloc, &text_of(alloc, lines, "instance")?, period).ok()
 }
 
 /// The instance that is read, or why its text is refused.
 pub(crate) fn ask_instance(alloc: Global, lines: &[&str]) -> Option<String> {
-    let text = text_of(alloc, lines, "instance")?;
-    match read_instance(alloc, &text, period_of(lines)?) {
+    let period = period_of(lines)?;
+    tell_read(alloc, &text_of(alloc, lines, "instance")?, period)
+}
+
+fn tell_read(alloc: Global, text: &[u8], period: u32) -> Option<String> {
+    match read_instance(alloc, text, period) {
         Ok(instance) => spell_instance(alloc, &instance),
         Err(refusal) => format!(in alloc; "{refusal:?}").ok(),
     }
 }
 
-/// The period, the labels of the events, and the rows.
-fn spell_instance(alloc: Global, instance: &Instance) -> Option<String> {
+/// The period, and the labels of the events.
+fn spell_head(alloc: Global, instance: &Instance) -> Option<String> {
     let period = instance.period();
     if instance.events().is_empty() {
         return format!(in alloc; "period {period}, events none").ok();
     }
     let events = spell_list(alloc, instance.events())?;
-    let mut text = format!(in alloc; "period {period}, events {events}").ok()?;
+    format!(in alloc; "period {period}, events {events}").ok()
+}
+
+/// The period, the labels of the events, and the rows.
+fn spell_instance(alloc: Global, instance: &Instance) -> Option<String> {
+    let mut text = spell_head(alloc, instance)?;
     for row in instance.rows() {
         text.push_str(spell_row(alloc, row)?.as_str()).ok()?;
     }
@@ -47,10 +56,8 @@ fn spell_row(alloc: Global, row: &Row) -> Option<String> {
 }
 
 /// What times are worth.
-pub(crate) fn ask_score(alloc: Global, lines: &[&str], rest: &str) -> Option<String> {
-    let instance = instance_of(alloc, lines)?;
-    let times = times_of(alloc, rest)?;
-    match score(&instance, &times) {
+fn spell_score(alloc: Global, score: Score) -> Option<String> {
+    match score {
         Score::Feasible { cost } => format!(in alloc; "cost {cost}").ok(),
         Score::Violates { row, slack } => {
             format!(in alloc; "row {row} is violated by slack {slack}").ok()
@@ -59,10 +66,18 @@ pub(crate) fn ask_score(alloc: Global, lines: &[&str], rest: &str) -> Option<Str
     }
 }
 
+/// What the times of the instance are worth.
+fn score_of(alloc: Global, lines: &[&str], times: &[u32]) -> Option<Score> {
+    Some(score(&instance_of(alloc, lines)?, times))
+}
+
+/// What times are worth.
+pub(crate) fn ask_score(alloc: Global, lines: &[&str], rest: &str) -> Option<String> {
+    spell_score(alloc, score_of(alloc, lines, &times_of(alloc, rest)?)?)
+}
+
 /// A list of times.
 pub(crate) fn times_of(alloc: Global, rest: &str) -> Option<Vec<u32>> {
-    let mut words = Vec::new(alloc);
-    words.push("1").ok()?;
-    words.extend_from_slice(&words_of(alloc, rest)?).ok()?;
-    numbers(alloc, &words)
+    let once = format!(in alloc; "1 {rest}").ok()?;
+    numbers(alloc, &words_of(alloc, once.as_str())?)
 }

@@ -72,17 +72,30 @@ fn add_all_counted(alloc: Global, bytes: &mut Vec<u8>, part: &[u8], count: u32) 
     Some(())
 }
 
+/// Adds a text so many times.
+fn add_repeated(alloc: Global, bytes: &mut Vec<u8>, text: &str, count: u32) -> Option<()> {
+    add_often(bytes, &bytes_of(alloc, text)?, count)
+}
+
+/// Adds a text so many times with its numbers.
+fn add_counting(alloc: Global, bytes: &mut Vec<u8>, text: &str, count: u32) -> Option<()> {
+    add_all_counted(alloc, bytes, &bytes_of(alloc, text)?, count)
+}
+
+/// Adds a text and the end of a line.
+fn add_line(alloc: Global, bytes: &mut Vec<u8>, text: &str) -> Option<()> {
+    add_repeated(alloc, bytes, text, 1)?;
+    bytes.push(b'\n').ok()
+}
+
 /// Adds the piece of a line.
 pub(crate) fn add_piece(alloc: Global, bytes: &mut Vec<u8>, line: &str) -> Option<()> {
     let (mark, text) = line.split_at_checked(1)?;
     let (count, part) = split_word(text);
     match mark {
-        "|" => {
-            add_often(bytes, &bytes_of(alloc, text)?, 1)?;
-            bytes.push(b'\n').ok()
-        }
-        "*" => add_often(bytes, &bytes_of(alloc, part)?, count.parse().ok()?),
-        "#" => add_all_counted(alloc, bytes, &bytes_of(alloc, part)?, count.parse().ok()?),
-        _ => add_often(bytes, &bytes_of(alloc, text)?, 1),
+        "|" => add_line(alloc, bytes, text),
+        "*" => add_repeated(alloc, bytes, part, count.parse().ok()?),
+        "#" => add_counting(alloc, bytes, part, count.parse().ok()?),
+        _ => add_repeated(alloc, bytes, text, 1),
     }
 }

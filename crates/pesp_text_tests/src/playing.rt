@@ -17,7 +17,7 @@ use std::alloc::Global;
 use std::rt::Files;
 
 /// What a line asks for.
-#[derive(Clone, Copy, Debug, PartialEq, Eq)]
+#[derive(Clone, Copy)]
 enum Question {
     Solve,
     Solved,
@@ -86,7 +86,7 @@ pub(crate) fn play<R: AllocGlobal + Input + Print + Eprint + Files>(
 }
 
 /// What a line is there for.
-#[derive(Clone, Copy, Debug, PartialEq, Eq)]
+#[derive(Clone, Copy)]
 enum Role {
     Given,
     Name,
@@ -122,11 +122,15 @@ fn tell<R: AllocGlobal + Input + Print + Eprint + Files>(
             let status = ask_status(rt, rest)?;
             format!(in alloc; "{line}: {status}\n").ok()
         }
-        None => {
-            let answer = answer_of(alloc, lines, word, rest)?;
-            format!(in alloc; "{line}: {answer}\n").ok()
-        }
+        None => tell_answer(alloc, lines, line),
     }
+}
+
+/// A question with its answer.
+fn tell_answer(alloc: Global, lines: &[&str], line: &str) -> Option<String> {
+    let (word, rest) = split_word(line);
+    let answer = answer_of(alloc, lines, word, rest)?;
+    format!(in alloc; "{line}: {answer}\n").ok()
 }
 
 /// The answer to a question.

@@ -3,22 +3,26 @@
 use crate::devices::Device;
 use crate::drain::drain_of;
 use crate::feed::feed_of;
-use crate::given::{given_by, period_of, text_of};
-use crate::telling::tell_end;
+use crate::given::{Given, given_by, period_of, text_of};
+use crate::telling::{tell_check, tell_run, tell_verdict};
 use pesp_board::Board;
 use pesp_cli::Milestones;
-use pesp_runs::{run_check, run_report, run_solve, run_solve_watched, status_of_verdict};
+use pesp_runs::{run_check, run_report, run_solve, run_solve_watched};
 use pesp_search::Observer;
 use std::alloc::Global;
 
 /// What `solve` writes in so many steps.
 pub(crate) fn ask_solve(alloc: Global, lines: &[&str], steps: &str) -> Option<String> {
-    let steps = steps.parse::<u32>().ok()?.min(100_000);
-    let given = given_by(alloc, lines)?;
+    let steps = steps.parse().ok()?;
+    solve(alloc, &given_by(alloc, lines)?, steps)
+}
+
+fn solve(alloc: Global, given: &Given, steps: u32) -> Option<String> {
     let mut reader = feed_of(&given.instance, given.first);
     let mut writer = drain_of(alloc, given.output);
+    let steps = steps.min(100_000);
     let answer = run_solve(alloc, &mut reader, &mut writer, given.period, steps);
-    tell_end(alloc, answer.map(|()| 0), writer)
+    tell_run(alloc, answer, writer)
 }
 
 /// What is told of a search, each line with a `/` for its end.
@@ -40,20 +44,25 @@ impl Observer for Notes {
     }
 }
 
-/// What is told while `solve` takes so many steps.
-pub(crate) fn ask_progress(alloc: Global, lines: &[&str], steps: &str) -> Option<String> {
-    let steps = steps.parse::<u32>().ok()?.min(100_000);
-    let period = period_of(lines)?;
-    let instance = text_of(alloc, lines, "instance")?;
-    let mut reader = feed_of(&instance, Device::whole());
+/// What is told while `solve` takes so many steps over the text of an instance.
+fn watched(alloc: Global, instance: &[u8], period: u32, steps: u32) -> Option<String> {
+    let mut reader = feed_of(instance, Device::whole());
     let mut writer = drain_of(alloc, Device::whole());
     let mut notes = Notes {
         alloc,
         milestones: Milestones::new(),
         text: String::new(alloc),
     };
+    let steps = steps.min(100_000);
     run_solve_watched(alloc, &mut reader, &mut writer, period, steps, &mut notes).ok()?;
     Some(notes.text)
+}
+
+/// What is told while `solve` takes so many steps.
+pub(crate) fn ask_progress(alloc: Global, lines: &[&str], steps: &str) -> Option<String> {
+    let steps = steps.parse().ok()?;
+    let period = period_of(lines)?;
+    watched(alloc, &text_of(alloc, lines, "instance")?, period, steps)
 }
 
 /// The certificate that `solve` writes in so many steps.
@@ -65,21 +74,21 @@ fn solved(alloc: Global, instance: &[u8], period: u32, steps: u32) -> Option<Vec
     Some(writer.into_inner().taken)
 }
 
+/// What `check` says of the certificate that `solve` writes in so many steps for the text of an instance.
+fn check_solved(alloc: Global, instance: &[u8], period: u32, steps: u32) -> Option<String> {
+    tell_check(
+        alloc,
+        instance,
+        &solved(alloc, instance, period, steps)?,
+        period,
+    )
+}
+
 /// What `check` says of the certificate that `solve` writes in so many steps.
 pub(crate) fn ask_solved(alloc: Global, lines: &[&str], steps: &str) -> Option<String> {
     let period = period_of(lines)?;
     let steps = steps.parse().ok()?;
-    let instance = text_of(alloc, lines, "instance")?;
-    let certificate = solved(alloc, &instance, period, steps)?;
-    let mut first = feed_of(&instance, Device::whole());
-    let mut second = feed_of(&certificate, Device::whole());
-    let mut writer = drain_of(alloc, Device::whole());
-    let answer = run_check(alloc, &mut first, &mut second, &mut writer, period);
-    tell_end(
-        alloc,
-        answer.map(|verdict| status_of_verdict(verdict)),
-        writer,
-    )
+    check_solved(alloc, &text_of(alloc, lines, "instance")?, period, steps)
 }
 
 /// A device that gives at most `piece` bytes at a call, where a piece is named.
@@ -91,26 +100,32 @@ fn in_pieces(device: Device, piece: &str) -> Option<Device> {
     Some(Device { piece, ..device })
 }
 
-/// What `check` writes of a certificate that comes in pieces, where their length is named.
-pub(crate) fn ask_check(alloc: Global, lines: &[&str], piece: &str) -> Option<String> {
-    let given = given_by(alloc, lines)?;
+fn check_on(alloc: Global, given: &Given, input: Device) -> Option<String> {
     let mut first = feed_of(&given.instance, given.first);
-    let mut second = feed_of(&given.input, in_pieces(given.second, piece)?);
+    let mut second = feed_of(&given.input, input);
     let mut writer = drain_of(alloc, given.output);
     let answer = run_check(alloc, &mut first, &mut second, &mut writer, given.period);
-    tell_end(
-        alloc,
-        answer.map(|verdict| status_of_verdict(verdict)),
-        writer,
-    )
+    tell_verdict(alloc, answer, writer)
 }
 
-/// What `report` writes.
-pub(crate) fn ask_run_report(alloc: Global, lines: &[&str]) -> Option<String> {
-    let given = given_by(alloc, lines)?;
+fn check_in_pieces(alloc: Global, given: &Given, piece: &str) -> Option<String> {
+    check_on(alloc, given, in_pieces(given.second, piece)?)
+}
+
+/// What `check` writes of a certificate that comes in pieces, where their length is named.
+pub(crate) fn ask_check(alloc: Global, lines: &[&str], piece: &str) -> Option<String> {
+    check_in_pieces(alloc, &given_by(alloc, lines)?, piece)
+}
+
+fn tell_report(alloc: Global, given: &Given) -> Option<String> {
     let mut first = feed_of(&given.instance, given.first);
     let mut second = feed_of(&given.input, given.second);
     let mut writer = drain_of(alloc, given.output);
     let answer = run_report(alloc, &mut first, &mut second, &mut writer, given.period);
-    tell_end(alloc, answer.map(|()| 0), writer)
+    tell_run(alloc, answer, writer)
+}
+
+/// What `report` writes.
+pub(crate) fn ask_run_report(alloc: Global, lines: &[&str]) -> Option<String> {
+    tell_report(alloc, &given_by(alloc, lines)?)
 }

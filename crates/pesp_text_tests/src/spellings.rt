@@ -4,33 +4,50 @@ use crate::given::text_of;
 use crate::pieces::bytes_of;
 use pesp_text::{Lines, Words, count_words, is_word, natural, whole};
 use std::alloc::Global;
+use std::fmt::Display;
 
-/// The natural and the whole number that a word spells.
-pub(crate) fn ask_number(alloc: Global, rest: &str) -> Option<String> {
-    let word = bytes_of(alloc, rest)?;
-    let first = match natural(&word) {
-        Some(number) => format!(in alloc; "{number}").ok()?,
-        None => String::from_str(alloc, "none").ok()?,
-    };
-    match whole(&word) {
-        Some(number) => format!(in alloc; "{first}, {number}").ok(),
-        None => format!(in alloc; "{first}, none").ok(),
+/// A number, or `none`.
+fn spell_number<T: Display + Copy>(alloc: Global, number: Option<T>) -> Option<String> {
+    match number {
+        Some(number) => format!(in alloc; "{number}").ok(),
+        None => String::from_str(alloc, "none").ok(),
     }
 }
 
-/// How many words a line has, where single spaces part them, and how many of them are `time`.
-pub(crate) fn ask_words(alloc: Global, rest: &str) -> Option<String> {
-    let line = bytes_of(alloc, rest)?;
-    let Some(count) = count_words(&line) else {
-        return String::from_str(alloc, "none").ok();
-    };
+/// The natural and the whole number that a word spells.
+fn spell_both(alloc: Global, word: &[u8]) -> Option<String> {
+    let first = spell_number(alloc, natural(word))?;
+    let second = spell_number(alloc, whole(word))?;
+    format!(in alloc; "{first}, {second}").ok()
+}
+
+/// The natural and the whole number that a word spells.
+pub(crate) fn ask_number(alloc: Global, rest: &str) -> Option<String> {
+    spell_both(alloc, &bytes_of(alloc, rest)?)
+}
+
+/// How many words of a line are `time`.
+fn named_time(line: &[u8]) -> u32 {
     let mut named = 0u32;
-    for word in Words::new(&line) {
+    for word in Words::new(line) {
         if is_word(word, "time") {
             named = named.saturating_add(1);
         }
     }
+    named
+}
+
+fn tell_words(alloc: Global, line: &[u8]) -> Option<String> {
+    let Some(count) = count_words(line) else {
+        return String::from_str(alloc, "none").ok();
+    };
+    let named = named_time(line);
     format!(in alloc; "{count}, {named} of them time").ok()
+}
+
+/// How many words a line has, where single spaces part them, and how many of them are `time`.
+pub(crate) fn ask_words(alloc: Global, rest: &str) -> Option<String> {
+    tell_words(alloc, &bytes_of(alloc, rest)?)
 }
 
 /// How many lines the input has, and how many bytes are in them.

@@ -1,7 +1,10 @@
 //! Answers of runs.
 
-use crate::drain::Drain;
-use pesp_runs::{Fault, status_of};
+use crate::devices::Device;
+use crate::drain::{Drain, drain_of};
+use crate::feed::feed_of;
+use pesp_check::Verdict;
+use pesp_runs::{Fault, run_check, status_of, status_of_verdict};
 use pesp_stream::Counted;
 use std::alloc::Global;
 
@@ -35,12 +38,44 @@ pub(crate) fn tell_fault(alloc: Global, fault: &Fault, taken: &[u8]) -> Option<S
     format!(in alloc; "{status} {fault}, behind {text}").ok()
 }
 
-/// How a run ended, with which status where it has one of its own, and what it has written.
-pub(crate) fn tell_end(
+/// How a run without a status of its own ended, and what it has written.
+pub(crate) fn tell_run(
     alloc: Global,
-    answer: Result<u8, Fault>,
+    answer: Result<(), Fault>,
     writer: Counted<Drain>,
 ) -> Option<String> {
+    tell_end(alloc, answer.map(|()| 0), writer)
+}
+
+/// What `check` says of a certificate, and what it has written.
+pub(crate) fn tell_verdict(
+    alloc: Global,
+    answer: Result<Verdict, Fault>,
+    writer: Counted<Drain>,
+) -> Option<String> {
+    tell_end(
+        alloc,
+        answer.map(|verdict| status_of_verdict(verdict)),
+        writer,
+    )
+}
+
+/// What `check` says of the text of a certificate for that of an instance.
+pub(crate) fn tell_check(
+    alloc: Global,
+    instance: &[u8],
+    certificate: &[u8],
+    period: u32,
+) -> Option<String> {
+    let mut first = feed_of(instance, Device::whole());
+    let mut second = feed_of(certificate, Device::whole());
+    let mut writer = drain_of(alloc, Device::whole());
+    let answer = run_check(alloc, &mut first, &mut second, &mut writer, period);
+    tell_verdict(alloc, answer, writer)
+}
+
+/// How a run ended, with which status where it has one of its own, and what it has written.
+fn tell_end(alloc: Global, answer: Result<u8, Fault>, writer: Counted<Drain>) -> Option<String> {
     let taken = writer.into_inner().taken;
     match answer {
         Ok(status) => tell_written(alloc, status, &taken),

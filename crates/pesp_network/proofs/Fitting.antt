@@ -172,28 +172,27 @@ duration_read rows slacks k j slack names e q =
 pub same_both : (p : ℕ) (a b c d : ℤ) → b ≡ a → d ≡ c → IsSame p a c → IsSame p b d
 same_both p a b c d e q s = let P : ℤ → Type 0 = λ z. IsSame p z c in let Q : ℤ → Type 0 = λ z. IsSame p b z in subst Q (sym q) (subst P (sym e) s)
 
-pub slack_read : (period : ℕ) (rows : List NetRow) (times view : List ℕ) (i v : ℕ) → view ≡ times → i < length rows → v ≡ arc_slack period view (arc_of_net (slice_index_or rows i no_net_row)) → v ≡ arc_slack period times (arc_at (arcs_of_network rows) i)
-slack_read period rows times view i v same lt here = here ∙ ap (λ xs. arc_slack period xs (arc_of_net (slice_index_or rows i no_net_row))) same ∙ ap (arc_slack period times) (sym (arc_is rows i no_net_row lt))
+pub slack_read : (period : ℕ) (rows : List NetRow) (times : List ℕ) (i v : ℕ) → i < length rows → v ≡ arc_slack period times (arc_of_net (slice_index_or rows i no_net_row)) → v ≡ arc_slack period times (arc_at (arcs_of_network rows) i)
+slack_read period rows times i v lt here = here ∙ ap (arc_slack period times) (sym (arc_is rows i no_net_row lt))
 
-pub slack_more : (period : ℕ) (rows : List NetRow) (slacks times view : List ℕ) (i v : ℕ) → view ≡ times → i < length rows → ((j : ℕ) → j < i → arc_slack period times (arc_at (arcs_of_network rows) j) ≡ slice_index slacks j)
-    → v ≡ arc_slack period view (arc_of_net (slice_index_or rows i no_net_row)) → v ≡ slice_index slacks i → (j : ℕ) → j < i + 1 → arc_slack period times (arc_at (arcs_of_network rows) j) ≡ slice_index slacks j
-slack_more period rows slacks times view i v same lt before here ok j h = elim (cases_lt j i) [
+pub slack_more : (period : ℕ) (rows : List NetRow) (slacks times : List ℕ) (i v : ℕ) → i < length rows → ((j : ℕ) → j < i → arc_slack period times (arc_at (arcs_of_network rows) j) ≡ slice_index slacks j)
+    → v ≡ arc_slack period times (arc_of_net (slice_index_or rows i no_net_row)) → v ≡ slice_index slacks i → (j : ℕ) → j < i + 1 → arc_slack period times (arc_at (arcs_of_network rows) j) ≡ slice_index slacks j
+slack_more period rows slacks times i v lt before here ok j h = elim (cases_lt j i) [
   | inl w ↦ before j w
   | inr w ↦
       let e : i ≡ j = omega arith in
       let P : ℕ → Type 0 = λ x. arc_slack period times (arc_at (arcs_of_network rows) x) ≡ slice_index slacks x in
-      subst P e (sym (slack_read period rows times view i v same lt here) ∙ ok)
+      subst P e (sym (slack_read period rows times i v lt here) ∙ ok)
 ]
 
 -- a row that hasn't its slack is open
-pub opens_row : (n p : ℕ) (rows : List NetRow) (g : Forest) (slacks times view : List ℕ) (i v : ℕ) → IsForest n (arcs_of_network rows) g → FitsForest p (arcs_of_network rows) g slacks times (vec_len g.order) → view ≡ times → i < length rows → slice_index slacks i < p
-    → v ≡ arc_slack p view (arc_of_net (slice_index_or rows i no_net_row)) → v ≢ slice_index slacks i → OpensRow p n (arcs_of_network rows) g slacks
-opens_row n p rows g slacks times view i v f o same lt y here ne kept t =
+pub opens_row : (n p : ℕ) (rows : List NetRow) (g : Forest) (slacks times : List ℕ) (i : ℕ) → IsForest n (arcs_of_network rows) g → FitsForest p (arcs_of_network rows) g slacks times (vec_len g.order) → i < length rows → slice_index slacks i < p
+    → arc_slack p times (arc_at (arcs_of_network rows) i) ≢ slice_index slacks i → OpensRow p n (arcs_of_network rows) g slacks
+opens_row n p rows g slacks times i f o lt y ne kept t =
     let z : i + 1 - 1 ≡ i = omega arith in
     let c = count rows in
     let a = ap (slice_index slacks) z in
     let b = ap (λ j. arc_slack p times (arc_at (arcs_of_network rows) j)) z in
-    let r = slack_read p rows times view i v same lt here in
     open_row n p (arcs_of_network rows) g kept slacks times (i + 1) f t o (omega arith, omega arith) (omega arith) (λ e. ne (omega arith))
 
 -- what is read at an event that is joined upwards: the row b, and the event u above

@@ -2,7 +2,7 @@
 use Rattle.std.proofs.Common.{◌≡◌, ℕ, ◌<◌, ◌≤◌, inl, inr, sym, ◌∙◌, ap, arith, subst, List, length, vec_len, set, sum, count_by, cond, ◌==◌, replicate, []}
 use Rattle.std.proofs.lemmas.List.{get_or-replicate, get_or_past}
 use Rattle.std.proofs.lemmas.List.Sums.{sum_by-set}
-use Rattle.std.proofs.lemmas.Bool.{cases_eq, cases_lt}
+use Rattle.std.proofs.lemmas.Bool.{cases_lt}
 use Rattle.pesp_problem.specs.declared.arc.Arc.{Arc}
 use Rattle.pesp_network.specs.declared.parts.Growth.{Growth}
 use Rattle.pesp_network.specs.declared.chains.Chains.{Chains}
@@ -12,7 +12,7 @@ use Rattle.pesp_problem.specs.Arcs.{tail_of, head_of}
 use Rattle.pesp_network.specs.Floods.{OPEN_END, fns_of, GrownOver, IsCurrent, AllClosed, KeepsSeen, work_left}
 use Rattle.pesp_network.proofs.Rooting.{rooted, rooted_at}
 use Rattle.pesp_network.proofs.Closing.{closed_grown, closed_at, all_closed, current_open}
-use Rattle.pesp_network.proofs.Steps.{room, grown_from}
+use Rattle.pesp_network.proofs.Steps.{room, grown_from, keeps_opening}
 use Rattle.pesp_network.proofs.Chaining.{all_zero}
 
 pub start_flood : (arcs : List Arc) (g h : Growth) (y : ℕ) → GrownOver arcs g → AllClosed g → y < vec_len g.up → ((x : ℕ) → x < y → 0 < at g.place.items x) → at g.place.items y ≡ 0 → Opens (fns_of g) (fns_of h) y y 0 y → vec_len h.up ≡ vec_len g.up
@@ -31,7 +31,7 @@ start_flood arcs g h y grown closed below before fresh opens e =
     let here = opens.here in (
       grown_from arcs (vec_len g.up) (vec_len h.up) (fns_of h) e (rooted (vec_len g.up) (length arcs) OPEN_END T H (fns_of g) (fns_of h) y root),
       rooted_at (vec_len g.up) (length arcs) OPEN_END T H (fns_of g) (fns_of h) y root,
-      (λ x sx. elim (cases_eq x y) [ inl q ↦ let p = ap (at h.place.items) q in omega arith | inr ne ↦ let o = opens.else x ne in omega arith ]),
+      keeps_opening g h y y 0 y opens,
       omega arith,
     )
 

@@ -17,7 +17,7 @@ use Rattle.pesp_network.specs.declared.refusal.NetRefusal.TheVariants.{Memory, T
 use Rattle.pesp_network.specs.declared.parts.Forest.{Forest}
 use Rattle.pesp_network.specs.declared.parts.Reaches.{Reaches}
 use Rattle.pesp_network.specs.Held.{IsHeld}
-use Rattle.pesp_network.specs.Networks.{NetworkValue, arc_of_net, arcs_of_network, net_of_network, net_row_at, no_net_row, RowKeepsNetLimits, KeepsNetLimits, IsTableRefusal, signed_rows}
+use Rattle.pesp_network.specs.Networks.{NetworkValue, arc_of_net, arcs_of_network, net_of_network, net_row_at, no_net_row, RowKeepsNetLimits, AreGood, KeepsNetLimits, IsTableRefusal, signed_rows}
 use Rattle.pesp_network.specs.Growing.{at}
 use Rattle.pesp_network.specs.Rooted.{IsForest, IsTreeRow, AreTreeRows}
 use Rattle.pesp_network.specs.Ways.{way_between, IsForestWay, walks_of, IsTooMany}
@@ -40,6 +40,12 @@ ends_kept period events rows view e each =
     let q = arc_is rows k no_net_row l in let t = ap (λ (a : Arc). a.tail) q in let d = ap (λ (a : Arc). a.head) q in let rt = r.tail in let rh = r.head in (omega arith, omega arith) in
     let P : List NetRow → Type 0 = λ x. HaveEnds events (arcs_of_network x) in
     subst P (sym e) have
+
+-- each of good rows keeps its limits
+pub each_good : (period events : ℕ) (rows view : List NetRow) → view ≡ rows → AreGood period events view → All (RowKeepsNetLimits period events) rows
+each_good period events rows view e good =
+    let P : List NetRow → Type 0 = λ x. All (RowKeepsNetLimits period events) x in
+    subst P e (All-from_get_or (RowKeepsNetLimits period events) view no_net_row (λ i l. (good.each i l).keeps))
 
 pub slacks_kept : (n : NetworkValue) (slacks : List ℕ) (view : List NetRow) → view ≡ n.rows → KeepsNetLimits n → length slacks ≡ length n.rows → All (λ y. y < n.period) slacks → AreSlacks n.period (arcs_of_network view) slacks
 slacks_kept n slacks view e k len below =

@@ -2,13 +2,14 @@
 use Rattle.std.proofs.Common.{◌≡◌, ℕ, ◌+◌, ◌-◌, ◌<◌, ◌≤◌, ◌⊎◌, inl, inr, sym, ◌∙◌, ap, arith, subst, List, length, vec_len, get_or, set, sum}
 use Rattle.std.proofs.lemmas.List.{get_or_read}
 use Rattle.std.proofs.lemmas.List.Sums.{sum_by-set}
+use Rattle.std.proofs.lemmas.Bool.{cases_eq}
 use Rattle.pesp_problem.specs.declared.arc.Arc.{Arc}
 use Rattle.pesp_network.specs.declared.parts.Growth.{Growth}
 use Rattle.pesp_network.specs.Chains.{IsNext}
 use Rattle.pesp_network.specs.Growing.{Fns, IsMet, Grown, Opens, OpensChild, Looks, at}
 use Rattle.pesp_problem.specs.Arcs.{tail_of, head_of}
 use Rattle.pesp_problem.specs.ArcLimits.{HaveEnds}
-use Rattle.pesp_network.specs.Floods.{OPEN_END, fns_of, GrownOver, IsCurrent}
+use Rattle.pesp_network.specs.Floods.{OPEN_END, fns_of, GrownOver, IsCurrent, KeepsSeen}
 use Rattle.pesp_network.proofs.Opening.{opened, opened_at}
 use Rattle.pesp_network.proofs.Closing.{looked, looked_at, meets_tail, meets_head, current_open}
 
@@ -36,6 +37,14 @@ pub record LeadsOn (arcs : List Arc) (g : Growth) (u k y next : ℕ) : Type 0 wh
 
 pub left_below : (arcs : List Arc) (g : Growth) (u k y next : ℕ) → LeadsOn arcs g u k y next → (0 < k) × (k ≤ length arcs)
 left_below arcs g u k y next o = let l = o.left in let s = o.some in let r = o.grown.left_row u in (omega arith, omega arith)
+
+pub keeps_opening : (g h : Growth) (y p k r : ℕ) → Opens (fns_of g) (fns_of h) y p k r → KeepsSeen g h
+keeps_opening g h y p k r opens =
+    let here = opens.here in
+    λ x sx. elim (cases_eq x y) [ inl q ↦ let w = ap (at h.place.items) q in omega arith | inr ne ↦ let o = opens.else x ne in omega arith ]
+
+pub keeps_looking : (g h : Growth) (u next : ℕ) → Looks (fns_of g) (fns_of h) u next → KeepsSeen g h
+keeps_looking g h u next looks = λ x sx. let e = looks.same x in omega arith
 
 pub advance_seen : (arcs : List Arc) (g h : Growth) (u k y next : ℕ) → LeadsOn arcs g u k y next → 0 < at g.place.items y → Looks (fns_of g) (fns_of h) u next → vec_len h.up ≡ vec_len g.up
     → GrownOver arcs h × IsCurrent h u

@@ -7,7 +7,7 @@ ghost use Rattle.pesp_problem.specs.NetTimetables.{IsNetTimetable, net_cost};
 ghost use Rattle.pesp_problem.specs.Walks.{Names, AreRows, Leads, start};
 ghost use Rattle.pesp_problem.specs.Forests.{KeepsTo, IsSpanningForest, AreFundamental, IsSimple, IsBridge, AreJoined, IsFirstOf};
 ghost use Rattle.pesp_network.specs.Chains.{AreChains};
-ghost use Rattle.pesp_network.specs.Rooted.{IsForest};
+ghost use Rattle.pesp_network.specs.Rooted.{IsForest, AreReaches, AreTreeRows};
 ghost use Rattle.pesp_network.specs.Networks.{arcs_of_network, net_of_network, net_row_at, KeepsSizes, RowKeepsNetLimits, KeepsNetLimits, IsNewRefusal, IsTableRefusal, HasOpenRow, signed_rows};
 
 use crate::chains::{Chains, chain_rows};
@@ -18,8 +18,41 @@ use crate::refusal::NetRefusal;
 use crate::row::{NetRow, without_origins};
 use crate::{bridges, forest, times, walks};
 use pesp_problem::{Arc, Instance, Memory, SignedRow, Walk, net_times};
-use std::alloc::Global;
+use std::alloc::{AllocError, Global};
 use std::marker::Model;
+
+/// What is found in rows and a forest of them: the rows without their origins, the places that are reached, and the
+/// forest's rows.
+#[derive(Drop)]
+struct Findings {
+    arcs: Vec<Arc>,
+    reaches: Reaches,
+    kept: Vec<u32>,
+}
+
+/// What is found in these rows and this forest.
+fn find(
+    alloc: Global,
+    events: usize,
+    rows: &[NetRow],
+    forest: &Forest,
+) -> Result<Findings, AllocError>
+    requires { IsForest events (arcs_of_network rows.now) forest.now }
+    ensures arcs { IfOk result (λ found. found.arcs.items ≡ arcs_of_network rows.now) }
+    ensures reaches { IfOk result (λ found. AreReaches events (arcs_of_network rows.now) forest.now
+        found.reaches.low.items found.reaches.high.items) }
+    ensures sized { IfOk result (λ found. vec_len found.reaches.low ≡ vec_len forest.now.up) }
+    ensures kept { IfOk result (λ found. AreTreeRows events forest.now found.kept.items) }
+{
+    let kept = walks::forest_rows(alloc, events, rows, forest)?;
+    let arcs = without_origins(alloc, rows)?;
+    let reaches = bridges::reach(alloc, events, rows, forest)?;
+    Ok(Findings {
+        arcs,
+        reaches,
+        kept,
+    })
+}
 
 /// Rows between events, within their limits, with a spanning forest that is chosen when the network is made.
 #[derive(Drop)]
@@ -85,9 +118,11 @@ impl Network {
         ensures events { IfOk result (λ n. n.events ≡ events) }
         ensures rows { IfOk result (λ n. n.rows ≡ rows.items) }
     {
-        let reaches = bridges::reach(alloc, events, rows.as_slice(), &forest)?;
-        let kept = walks::forest_rows(alloc, events, rows.as_slice(), &forest)?;
-        let arcs = without_origins(alloc, rows.as_slice())?;
+        let Findings {
+            arcs,
+            reaches,
+            kept,
+        } = find(alloc, events, rows.as_slice(), &forest)?;
         Ok(Network {
             period,
             events,

@@ -1,7 +1,7 @@
 //! Which rows a spanning forest is to be made of. Nothing depends on the choice but the strength of bounds and the length
 //! of walks, so it is safe and otherwise unproved.
 
-ghost use Rattle.std.specs.Prelude.{◌≡◌, ◌≤◌, length, IfOk, IsTrue, All, vec_len};
+ghost use Rattle.std.specs.Prelude.{◌≡◌, ◌<◌, ◌≤◌, length, IfOk, IsTrue, All, vec_len};
 ghost use Rattle.pesp_problem.specs.Walks.{Names};
 
 use crate::row::NetRow;
@@ -85,6 +85,37 @@ fn candidates_of(alloc: Global, rows: &[NetRow]) -> Result<Vec<Candidate>, Alloc
     Ok(candidates)
 }
 
+/// Whether the row at a place joins two groups; they are one then.
+fn joins(rows: &[NetRow], groups: &mut Groups, place: usize) -> bool
+    ensures { IsTrue result → place < length rows.now }
+{
+    let Some(row) = rows.get(place) else {
+        return false;
+    };
+    groups.join(row.tail as usize, row.head as usize)
+}
+
+/// The numbers of the rows that join groups as they are taken in this order.
+fn taken(
+    alloc: Global,
+    rows: &[NetRow],
+    candidates: &[Candidate],
+    groups: &mut Groups,
+) -> Result<Vec<u32>, AllocError>
+    requires few { length rows.now ≤ 100000 }
+    requires each_once { length candidates.now ≡ length rows.now }
+    ensures names { IfOk result (λ numbers. All (Names (length rows.now)) numbers.items) }
+    ensures few { IfOk result (λ numbers. vec_len numbers ≤ length rows.now) }
+{
+    let mut numbers = Vec::new(alloc);
+    for candidate in candidates {
+        if joins(rows, groups, candidate.place) {
+            numbers.push(candidate.place as u32 + 1)?;
+        }
+    }
+    Ok(numbers)
+}
+
 /// The rows of a spanning forest, by their numbers from 1: each row in turn, of least span / (weight + 1) first, that
 /// closes no cycle with those taken before it (Kruskal 1956).
 pub fn propose(alloc: Global, events: usize, rows: &[NetRow]) -> Result<Vec<u32>, AllocError>
@@ -94,17 +125,7 @@ pub fn propose(alloc: Global, events: usize, rows: &[NetRow]) -> Result<Vec<u32>
 {
     let candidates = candidates_of(alloc, rows)?;
     let mut groups = Groups::apart(alloc, events)?;
-    let mut numbers = Vec::new(alloc);
-    for candidate in &candidates {
-        let place = candidate.place;
-        let Some(row) = rows.get(place) else {
-            continue;
-        };
-        if groups.join(row.tail as usize, row.head as usize) {
-            numbers.push(place as u32 + 1)?;
-        }
-    }
-    Ok(numbers)
+    taken(alloc, rows, candidates.as_slice(), &mut groups)
 }
 
 /// Whether these are numbers of rows, no more than a network can have.

@@ -1,10 +1,11 @@
 //! Times that have given slacks.
 
-ghost use Rattle.std.specs.Prelude.{◌≡◌, ℕ, ◌+◌, ◌-◌, ◌*◌, ◌<◌, ◌≤◌, ◌≢◌, ◌-ℤ◌, ◌+ℤ◌, pos, unsigned_abs, length, slice_index, IfOk, IfSome, IfNone, All, vec_len};
+ghost use Rattle.std.specs.Prelude.{◌≡◌, ℕ, ◌+◌, ◌-◌, ◌*◌, ◌<◌, ◌≤◌, ◌≢◌, ◌-ℤ◌, ◌+ℤ◌, pos, unsigned_abs, length, slice_index, IfOk, IfSome, IfNone, IsTrue, All, false, vec_len};
 ghost use Rattle.std.specs.Int.{int_rem_euclid};
 ghost use Rattle.pesp_problem.specs.Arcs as spec;
 ghost use Rattle.pesp_network.specs.Networks.{arcs_of_network};
 ghost use Rattle.pesp_network.specs.Growing.{at};
+ghost use Rattle.pesp_problem.specs.ArcLimits.{HaveEnds};
 ghost use Rattle.pesp_problem.specs.Arcs.{tail_of};
 ghost use Rattle.pesp_network.specs.Rooted.{IsForest};
 ghost use Rattle.pesp_problem.specs.Congruences.{IsSame};
@@ -126,6 +127,26 @@ fn spread(
     Ok(times)
 }
 
+/// Whether every row has its slack in these times.
+fn have_slacks(period: u32, rows: &[NetRow], slacks: &[u32], times: &[u32]) -> bool
+    requires slacks { AreSlacks period (arcs_of_network rows.now) slacks.now }
+    requires ends { HaveEnds (length times.now) (arcs_of_network rows.now) }
+    ensures all { IsTrue result → (i : ℕ) → i < length rows.now → spec.arc_slack period times.now
+        (spec.arc_at (arcs_of_network rows.now) i) ≡ slice_index slacks.now i }
+    ensures other { result ≡ false → (i : ℕ) × (i < length rows.now)
+        × (spec.arc_slack period times.now (spec.arc_at (arcs_of_network rows.now) i)
+        ≢ slice_index slacks.now i) }
+{
+    for (i, row) in rows.iter().enumerate() {
+        let arc = row.arc();
+        let slack = arc_slack(period, times, &arc);
+        if slack != slacks[i] {
+            return false;
+        }
+    }
+    true
+}
+
 /// Times with exactly these slacks.
 pub fn timetable_of(
     alloc: Global,
@@ -146,12 +167,8 @@ pub fn timetable_of(
         (λ o. IfNone o (OpensRow period events (arcs_of_network rows.now) forest.now slacks.now)) }
 {
     let times = spread(alloc, period, events, rows, forest, slacks)?;
-    for (i, row) in rows.iter().enumerate() {
-        let arc = row.arc();
-        let slack = arc_slack(period, times.as_slice(), &arc);
-        if slack != slacks[i] {
-            return Ok(None);
-        }
+    if have_slacks(period, rows, slacks, times.as_slice()) {
+        return Ok(Some(times));
     }
-    Ok(Some(times))
+    Ok(None)
 }

@@ -1,6 +1,6 @@
-use Rattle.std.proofs.Common.{arith}
+use Rattle.std.proofs.Common.{◌∙◌, ap, arith, set}
 use Rattle.pesp_network.specs.Networks.{arcs_of_network}
-use Rattle.pesp_network.proofs.Steps.{leads_on, other_below, read_place, read_root, current_below, advance_seen, advance_new, sum_less}
+use Rattle.pesp_network.proofs.Steps.{leads_on, other_below, read_place, read_root, current_below, advance_seen, advance_new, sum_less, keeps_opening, keeps_looking}
 use Rattle.pesp_network.proofs.parts.Growth.advance.Goals as goal
 
 pub index-requires : goal.index-requires
@@ -62,3 +62,17 @@ returns-clause-current c =
     let t = c.if-index-ne0.false in
     (advance_new (arcs_of_network c.args.rows.now) g c.open.new.self c.look-2.new.self c.args.current _ _ _ _ o c.requires.ends (omega arith) (read_root g c.args.current _ d c.index-root.ensures)
     c.in_ok-open.ensures.opens c.open.ensures.lefts c.open.ensures.events c.look-2.ensures.looks c.look-2.ensures.events).1
+
+pub returns-then-index-ne0-clause-seen : goal.returns-then-index-ne0-clause-seen
+returns-then-index-ne0-clause-seen c = keeps_looking c.args.self.now c.look.new.self c.args.current _ c.look.ensures.looks
+
+pub returns-clause-seen : goal.returns-clause-seen
+returns-clause-seen c = λ x seen. keeps_looking c.open.new.self c.look-2.new.self c.args.current _ c.look-2.ensures.looks x (keeps_opening c.args.self.now c.open.new.self _ _ _ _ c.in_ok-open.ensures.opens x seen)
+
+pub returns-clause-smaller : goal.returns-clause-smaller
+returns-clause-smaller c =
+    let g = c.args.self.now in
+    let o = leads_on (arcs_of_network c.args.rows.now) g c.args.current _ _ _ c.requires.grown c.requires.current c.index-k.ensures c.requires.some_left c.beyond-next.ensures.next c.beyond-next.ensures.ends in
+    let b = current_below (arcs_of_network c.args.rows.now) g c.args.current c.requires.grown c.requires.current in
+    let s = g.sized in let l = g.left.ok.0 in let e = o.left in let f = c.beyond-next.ensures.next.less in
+    sum_less g.left.items c.look-2.new.self.left.items c.args.current c.beyond-next.result.0 (c.look-2.ensures.lefts ∙ ap (λ xs. set xs c.args.current c.beyond-next.result.0) c.open.ensures.lefts) (omega arith) (omega arith)

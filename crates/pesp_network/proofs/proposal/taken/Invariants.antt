@@ -1,6 +1,6 @@
 use Rattle.std.proofs.Common.{◌≤◌, vec_len, length, All}
 use Rattle.pesp_problem.specs.Walks.{Names}
-use Rattle.pesp_network.proofs.proposal.propose.Given as goal
+use Rattle.pesp_network.proofs.proposal.taken.Given as goal
 
 abbrev pub invariant-loop-candidate : goal.invariant-loop-candidate
 invariant-loop-candidate l = record {

@@ -20,8 +20,8 @@ fn owner(passages: &[Passage]) -> Option<(usize, bool)> {
     if passages.len() != 1 {
         return None;
     }
-    let only = passages.get(0).copied()?;
-    let cycle = (only.cycle as usize).checked_sub(1)?;
+    let only = passages.get(0)?;
+    let cycle = (only.cycle as usize).wrapping_sub(1);
     match only.count {
         1 => Some((cycle, true)),
         -1 => Some((cycle, false)),
@@ -58,15 +58,15 @@ fn idle_line() -> Line {
 
 /// A row with its costs at a slack range: a unit of flow up to the weight costs the least duration, one above it the
 /// greatest.
-fn line_of(arc: &Arc, range: (u32, u32), weighted: bool, flow: i64) -> Option<Line> {
+fn line_of(arc: &Arc, range: (u32, u32), weighted: bool, flow: i64) -> Line {
     let weight = if weighted {
-        i64::try_from(arc.weight).ok()?
+        i64::try_from(arc.weight).unwrap_or(i64::MAX)
     } else {
         0
     };
-    let low = arc.lower.checked_add(i64::from(range.0.min(range.1)))?;
-    let high = arc.lower.checked_add(i64::from(range.0.max(range.1)))?;
-    Some(Line {
+    let low = arc.lower.saturating_add(i64::from(range.0.min(range.1)));
+    let high = arc.lower.saturating_add(i64::from(range.0.max(range.1)));
+    Line {
         tail: arc.tail as usize,
         head: arc.head as usize,
         weight,
@@ -74,41 +74,41 @@ fn line_of(arc: &Arc, range: (u32, u32), weighted: bool, flow: i64) -> Option<Li
         between: low,
         above: high,
         flow,
-    })
+    }
 }
 
 /// Takes off what a unit of flow on a cycle's own row brings: the period times the least offset where the cycle's
 /// multiplier is above 0, times the greatest below 0.
-fn take_offsets(line: &mut Line, period: u32, left: (i64, i64), plus: bool) -> Option<()> {
-    let low = left.0.checked_mul(i64::from(period))?;
-    let high = left.1.checked_mul(i64::from(period))?;
+fn take_offsets(line: &mut Line, period: u32, left: (i64, i64), plus: bool) {
+    let low = left.0.saturating_mul(i64::from(period));
+    let high = left.1.saturating_mul(i64::from(period));
     let (under, over) = if plus {
         (high, low)
     } else {
-        (low.checked_neg()?, high.checked_neg()?)
+        (low.saturating_neg(), high.saturating_neg())
     };
-    line.below = line.below.checked_sub(under)?;
-    line.between = line.between.checked_sub(over)?;
-    line.above = line.above.checked_sub(over)?;
-    Some(())
+    line.below = line.below.saturating_sub(under);
+    line.between = line.between.saturating_sub(over);
+    line.above = line.above.saturating_sub(over);
 }
 
 /// Adds a multiplier to the flows along a walk.
 fn add_walk(flows: &mut [i64], walk: &[SignedRow], mult: i64) -> Option<()> {
     for s in walk {
-        let flow = flows.get_mut((s.row as usize).checked_sub(1)?)?;
-        *flow = if s.plus {
-            flow.checked_add(mult)?
+        let flow = flows.get_mut((s.row as usize).wrapping_sub(1))?;
+        let sum = if s.plus {
+            flow.checked_add(mult)
         } else {
-            flow.checked_sub(mult)?
+            flow.checked_sub(mult)
         };
+        *flow = sum?;
     }
     Some(())
 }
 
 /// Adds the flow of a pair.
 fn add_pair(flows: &mut [i64], table: &[Walk], pair: &Pair) -> Option<()> {
-    let walk = table.get((pair.cycle as usize).checked_sub(1)?)?;
+    let walk = table.get((pair.cycle as usize).wrapping_sub(1))?;
     add_walk(flows, walk.rows(), pair.mult)
 }
 
@@ -134,7 +134,7 @@ fn lines_of(
     node: &Node,
     flows: &[i64],
     weighted: bool,
-) -> Result<Option<Vec<Line>>, AllocError>
+) -> Result<Vec<Line>, AllocError>
     requires { IsNodeOf problem.now node.now }
 {
     let arcs = problem.arcs();
@@ -147,12 +147,9 @@ fn lines_of(
             continue;
         }
         let flow = flows.get(place).copied().unwrap_or(0);
-        let Some(line) = line_of(&arcs[place], slacks[place], weighted, flow) else {
-            return Ok(None);
-        };
-        lines.push(line)?;
+        lines.push(line_of(&arcs[place], slacks[place], weighted, flow))?;
     }
-    Ok(Some(lines))
+    Ok(lines)
 }
 
 /// Takes off what the cycles' own rows bring.
@@ -168,7 +165,7 @@ fn with_offsets(
         let own = owns.get(place).copied()??;
         let left = offset_range(problem, node, place as u32 + 1)?;
         let line = lines.get_mut(own.place)?;
-        take_offsets(line, problem.network().period(), left, own.plus)?;
+        take_offsets(line, problem.network().period(), left, own.plus);
     }
     Some(())
 }
@@ -185,11 +182,9 @@ fn mult_of(flows: &[i64], own: Option<Own>) -> Option<i64> {
 }
 
 /// The cycles whose own rows carry a flow.
-fn pairs_of(alloc: Global, owns: &[Option<Own>], flows: &[i64]) -> Result<Vec<Pair>, AllocError>
-    requires { length owns.now ≤ 100000 }
-{
+fn pairs_of(alloc: Global, owns: &[Option<Own>], flows: &[i64]) -> Result<Vec<Pair>, AllocError> {
     let mut pairs = Vec::new(alloc);
-    for place in 0..owns.len() {
+    for place in 0..owns.len().min(100_000) {
         let mult = mult_of(flows, owns[place]).unwrap_or(0);
         if mult != 0 {
             pairs.push(Pair {
@@ -253,13 +248,47 @@ fn network_of(
     let Some(flows) = flows_of(alloc, problem, start)? else {
         return Ok(None);
     };
-    let Some(mut lines) = lines_of(alloc, problem, node, &flows, weighted)? else {
-        return Ok(None);
-    };
+    let mut lines = lines_of(alloc, problem, node, &flows, weighted)?;
     if with_offsets(problem, node, owns, &mut lines).is_none() {
         return Ok(None);
     }
     Ok(Some(lines))
+}
+
+/// What so many pivots of the circulation of pairs end with.
+fn circulation_of(
+    alloc: Global,
+    problem: &Problem,
+    node: &Node,
+    owns: &[Option<Own>],
+    start: &[Pair],
+    weighted: bool,
+    rounds: u32,
+) -> Result<Option<Found>, AllocError>
+    requires { IsNodeOf problem.now node.now }
+{
+    let Some(lines) = network_of(alloc, problem, node, owns, start, weighted)? else {
+        return Ok(None);
+    };
+    improve(alloc, lines, problem.network().events() as usize, rounds)
+}
+
+/// The pairs of what was found.
+fn proposal_of(
+    alloc: Global,
+    owns: &[Option<Own>],
+    found: Option<Found>,
+) -> Result<Proposal, AllocError> {
+    let (flows, endless, levels) = match found {
+        Some(Found::Flows { flows, prices }) => (flows, false, levels_of(alloc, &prices)?),
+        Some(Found::Ray { flows }) => (flows, true, Vec::new(alloc)),
+        None => return Ok(nothing_proposed(alloc)),
+    };
+    Ok(Proposal {
+        pairs: pairs_of(alloc, owns, &flows)?,
+        endless,
+        levels,
+    })
 }
 
 /// Pairs for a leaf, found from pairs by so many pivots of their circulation.
@@ -274,22 +303,6 @@ pub fn propose(
     requires { IsNodeOf problem.now node.now }
 {
     let owns = own_rows(alloc, problem)?;
-    let Some(lines) = network_of(alloc, problem, node, &owns, start, weighted)? else {
-        return Ok(nothing_proposed(alloc));
-    };
-    let events = problem.network().events() as usize;
-    let (flows, endless, levels) = match improve(alloc, lines, events, rounds)? {
-        Some(Found::Flows { flows, prices }) => (flows, false, levels_of(alloc, &prices)?),
-        Some(Found::Ray { flows }) => (flows, true, Vec::new(alloc)),
-        None => return Ok(nothing_proposed(alloc)),
-    };
-    if owns.len() > 100000 {
-        return Ok(nothing_proposed(alloc));
-    }
-    let pairs = pairs_of(alloc, &owns, &flows)?;
-    Ok(Proposal {
-        pairs,
-        endless,
-        levels,
-    })
+    let found = circulation_of(alloc, problem, node, &owns, start, weighted, rounds)?;
+    Ok(proposal_of(alloc, &owns, found)?)
 }

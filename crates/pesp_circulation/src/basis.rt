@@ -4,7 +4,7 @@
 //! the one upwards, and each line of the tree has room upwards.
 
 use crate::first::first_tree;
-use crate::line::{FREE, Line, Piece, Step};
+use crate::line::{FREE, Line, Step};
 use crate::tree::{Tree, Up};
 use std::alloc::{AllocError, Global};
 
@@ -41,6 +41,19 @@ struct Room {
     most: i64,
 }
 
+impl Room {
+    /// The room of a way and of what follows at its upper end. Of lines with equal room the upper one counts upwards, the
+    /// lower one downwards.
+    fn with(self, next: Room, upwards: bool) -> Room {
+        let most = self.most.min(next.most);
+        if next.units < self.units || (upwards && next.units == self.units) {
+            Room { most, ..next }
+        } else {
+            Room { most, ..self }
+        }
+    }
+}
+
 /// The least number whose square is above another.
 fn root_above(number: usize) -> usize {
     let mut root = 1usize;
@@ -72,22 +85,8 @@ impl Basis {
     }
 
     /// What one more unit from each event costs on its way up to the root.
-    pub(crate) fn prices(&self) -> &[i64] {
-        self.tree.prices()
-    }
-
-    /// The piece in which one more unit along a step lies.
-    fn piece(&self, step: Step) -> Option<Piece> {
-        self.lines.get(step.line)?.piece(step.forward)
-    }
-
-    /// What a unit along a step and up to the root costs more than one from where the step begins.
-    fn cost(&self, step: Step) -> Option<i64> {
-        let line = self.lines.get(step.line)?;
-        let slope = line.slope(step.forward)?;
-        let begin = self.tree.price(line.start(step.forward))?;
-        let end = self.tree.price(line.end(step.forward))?;
-        slope.checked_add(end)?.checked_sub(begin)
+    pub(crate) fn prices(&self, alloc: Global) -> Result<Vec<i64>, AllocError> {
+        self.tree.prices(alloc)
     }
 
     /// The cheaper of a line's steps, with its cost.
@@ -96,8 +95,8 @@ impl Basis {
             line,
             forward: true,
         };
-        let there = self.cost(forward)?;
-        let back = self.cost(forward.back())?;
+        let there = self.tree.cost(&self.lines, forward)?;
+        let back = self.tree.cost(&self.lines, forward.back())?;
         if there <= back {
             Some((there, forward))
         } else {
@@ -149,8 +148,19 @@ impl Basis {
         })
     }
 
-    /// The room upwards from an event, at the last of the lines that have least.
-    fn room_up(&self, from: usize, top: usize) -> Option<Room> {
+    /// The room along the step that leads up from an event, or down again.
+    fn room_above(&self, event: usize, step: Step, upwards: bool) -> Option<Room> {
+        let line = self.lines.get(step.line)?;
+        let piece = line.piece(step.forward);
+        Some(Room {
+            event,
+            units: if upwards { piece.ahead } else { piece.behind },
+            most: line.most(step.forward == upwards),
+        })
+    }
+
+    /// The room upwards from an event, or downwards to it, at the last of the lines along the way that have least.
+    fn room(&self, from: usize, top: usize, upwards: bool) -> Option<Room> {
         let mut room = Room {
             event: from,
             units: FREE,
@@ -162,38 +172,7 @@ impl Basis {
                 return Some(room);
             }
             let up = self.tree.up(event)?;
-            let line = self.lines.get(up.step.line)?;
-            let units = line.piece(up.step.forward)?.ahead;
-            room.most = room.most.min(line.most(up.step.forward)?);
-            if units <= room.units {
-                room.units = units;
-                room.event = event;
-            }
-            event = up.event;
-        }
-        None
-    }
-
-    /// The room downwards to an event, at the last of the lines that have least.
-    fn room_down(&self, to: usize, top: usize) -> Option<Room> {
-        let mut room = Room {
-            event: to,
-            units: FREE,
-            most: FREE,
-        };
-        let mut event = to;
-        for _ in 0..self.tree.events() {
-            if event == top {
-                return Some(room);
-            }
-            let up = self.tree.up(event)?;
-            let line = self.lines.get(up.step.line)?;
-            let units = line.piece(up.step.forward)?.behind;
-            room.most = room.most.min(line.most(!up.step.forward)?);
-            if units < room.units {
-                room.units = units;
-                room.event = event;
-            }
+            room = room.with(self.room_above(event, up.step, upwards)?, upwards);
             event = up.event;
         }
         None
@@ -202,11 +181,12 @@ impl Basis {
     /// So many units more along a step.
     fn add(&mut self, step: Step, units: i64) -> Option<()> {
         let line = self.lines.get_mut(step.line)?;
-        line.flow = if step.forward {
-            line.flow.checked_add(units)?
+        let flow = if step.forward {
+            line.flow.checked_add(units)
         } else {
-            line.flow.checked_sub(units)?
+            line.flow.checked_sub(units)
         };
+        line.flow = flow?;
         Some(())
     }
 
@@ -228,14 +208,12 @@ impl Basis {
     fn send(&mut self, round: Round, units: i64) -> Option<()> {
         self.add(round.step, units)?;
         self.send_up(round.to, round.top, units)?;
-        self.send_up(round.from, round.top, units.checked_neg()?)
+        self.send_up(round.from, round.top, units.saturating_neg())
     }
 
     /// Hangs the part below `top` anew, by an event of it.
     fn hang(&mut self, event: usize, top: usize, up: Up) -> Option<()> {
-        let slope = self.lines.get(up.step.line)?.slope(up.step.forward)?;
-        let price = slope.checked_add(self.tree.price(up.event)?)?;
-        let change = price.checked_sub(self.tree.price(event)?)?;
+        let change = self.tree.cost(&self.lines, up.step)?;
         self.tree.rehang(event, top, up)?;
         self.tree.settle_below(event, change)
     }
@@ -244,23 +222,22 @@ impl Basis {
     /// that takes no more. None where a flow would pass its limit, or a price 64 bits.
     pub(crate) fn pivot(&mut self, step: Step) -> Option<Pivot> {
         let round = self.round(step)?;
-        let ahead = self.piece(step)?.ahead;
-        let up = self.room_up(round.to, round.top)?;
-        let down = self.room_down(round.from, round.top)?;
-        let units = ahead.min(up.units).min(down.units);
+        let (from, to) = (round.from, round.to);
+        let along = self.room_above(from, step, true)?;
+        let up = self.room(to, round.top, true)?;
+        let down = self.room(from, round.top, false)?;
+        let units = along.units.min(up.units).min(down.units);
         if units == FREE {
             return Some(Pivot::Ray(round));
         }
-        let most = self.lines.get(step.line)?.most(step.forward)?;
-        if units > most.min(up.most).min(down.most) {
+        if units > along.most.min(up.most).min(down.most) {
             return None;
         }
         self.send(round, units)?;
-        let (from, to) = (round.from, round.to);
         if up.units == units {
             let step = step.back();
             self.hang(to, up.event, Up { step, event: from })?;
-        } else if ahead > units {
+        } else if along.units > units {
             self.hang(from, down.event, Up { step, event: to })?;
         }
         Some(Pivot::Done)

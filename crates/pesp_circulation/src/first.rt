@@ -23,12 +23,12 @@ impl Waiting {
 
     /// One step more.
     fn push(&mut self, step: Step, rank: Rank) -> Result<(), AllocError> {
-        match rank {
-            Rank::Between => self.between.push(step)?,
-            Rank::Straight => self.straight.push(step)?,
-            Rank::Bent => self.bent.push(step)?,
-        }
-        Ok(())
+        let steps = match rank {
+            Rank::Between => &mut self.between,
+            Rank::Straight => &mut self.straight,
+            Rank::Bent => &mut self.bent,
+        };
+        Ok(steps.push(step)?)
     }
 
     /// A step of the first rank that waits.
@@ -105,14 +105,13 @@ impl Growth {
     fn hang(&mut self, lines: &[Line], step: Step) -> Option<usize> {
         let line = lines.get(step.line)?;
         let event = line.start(step.forward);
-        let above = line.end(step.forward);
         if self.has(event) {
             return None;
         }
-        let price = self.tree.price(above)?;
-        let price = price.checked_add(line.slope(step.forward)?)?;
+        let change = self.tree.cost(lines, step)?;
+        let above = line.end(step.forward);
         self.tree.hang(event, Up { step, event: above })?;
-        self.tree.settle(event, price)?;
+        self.tree.settle(event, change)?;
         Some(event)
     }
 

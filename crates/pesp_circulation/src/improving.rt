@@ -3,7 +3,7 @@
 ghost use Rattle.std.specs.Prelude.{◌≤◌, IfOk, IfSome, length, unsigned_abs};
 ghost use Rattle.pesp_circulation.specs.Flows.{AreFlows, HasFlows};
 
-use crate::basis::{Basis, Pivot, Round};
+use crate::basis::{Basis, Pivot};
 use crate::line::{LIMIT, Line};
 use std::alloc::{AllocError, Global};
 
@@ -41,15 +41,36 @@ fn flows_of(alloc: Global, lines: &[Line], count: usize) -> Result<Option<Vec<i6
     Ok(Some(flows))
 }
 
-/// So many pivots, or as many as there are; the closed way of the one that nothing blocks.
-fn ray_of(basis: &mut Basis, rounds: u32) -> Option<Round> {
+/// So many pivots, or as many as there are. Where nothing blocks one, a unit along its closed way is all the flow that is
+/// left.
+fn end_in_ray(basis: &mut Basis, rounds: u32) -> Option<()> {
     for _ in 0..rounds {
         let step = basis.entering()?;
         if let Pivot::Ray(round) = basis.pivot(step)? {
-            return Some(round);
+            return basis.keep_only(round);
         }
     }
     None
+}
+
+/// What so many pivots of a circulation end with.
+fn found_by(
+    alloc: Global,
+    basis: &mut Basis,
+    count: usize,
+    rounds: u32,
+) -> Result<Option<Found>, AllocError>
+    ensures { IfOk result (λ o. IfSome o (HasFlows count)) }
+{
+    let ray = end_in_ray(basis, rounds);
+    let Some(flows) = flows_of(alloc, basis.lines(), count)? else {
+        return Ok(None);
+    };
+    if ray.is_some() {
+        return Ok(Some(Found::Ray { flows }));
+    }
+    let prices = basis.prices(alloc)?;
+    Ok(Some(Found::Flows { flows, prices }))
 }
 
 /// A cheaper circulation than that of the lines' flows, by so many pivots of a network simplex (Dantzig 1951), or a cheapest
@@ -66,13 +87,5 @@ pub fn improve(
 {
     let count = lines.len();
     let mut basis = Basis::new(alloc, lines, events)?;
-    let ray = ray_of(&mut basis, rounds).and_then(|round| basis.keep_only(round));
-    let Some(flows) = flows_of(alloc, basis.lines(), count)? else {
-        return Ok(None);
-    };
-    if ray.is_some() {
-        return Ok(Some(Found::Ray { flows }));
-    }
-    let prices = basis.prices().to_vec(alloc)?;
-    Ok(Some(Found::Flows { flows, prices }))
+    found_by(alloc, &mut basis, count, rounds)
 }

@@ -27,11 +27,9 @@ pub(crate) struct Step {
     pub(crate) forward: bool,
 }
 
-/// The part of a line's cost in which one more unit along a step lies: what the unit costs, and how many units the part has
-/// ahead and behind.
+/// The part of a line's cost in which one more unit along a step lies: how many units it has ahead and behind.
 #[derive(Clone, Copy)]
 pub(crate) struct Piece {
-    pub(crate) slope: i64,
     pub(crate) ahead: i64,
     pub(crate) behind: i64,
 }
@@ -57,17 +55,18 @@ impl Step {
 
 impl Piece {
     /// The part without what lies beyond a bend so many units ahead, or behind where it isn't ahead.
-    fn cut(self, way: i64) -> Option<Piece> {
+    fn cut(self, way: i64) -> Piece {
         if way > 0 {
-            return Some(Piece {
+            Piece {
                 ahead: self.ahead.min(way),
                 ..self
-            });
+            }
+        } else {
+            Piece {
+                behind: self.behind.min(way.saturating_neg()),
+                ..self
+            }
         }
-        Some(Piece {
-            behind: self.behind.min(way.checked_neg()?),
-            ..self
-        })
     }
 }
 
@@ -114,36 +113,35 @@ impl Line {
     }
 
     /// How many units along a step it is to a flow.
-    fn way_to(&self, flow: i64, forward: bool) -> Option<i64> {
+    fn way_to(&self, flow: i64, forward: bool) -> i64 {
         if forward {
-            flow.checked_sub(self.flow)
+            flow.saturating_sub(self.flow)
         } else {
-            self.flow.checked_sub(flow)
+            self.flow.saturating_sub(flow)
         }
     }
 
     /// The piece in which one more unit along a step lies.
-    pub(crate) fn piece(&self, forward: bool) -> Option<Piece> {
+    pub(crate) fn piece(&self, forward: bool) -> Piece {
         let mut piece = Piece {
-            slope: self.slope(forward)?,
             ahead: FREE,
             behind: FREE,
         };
         if self.bends_below() {
-            piece = piece.cut(self.way_to(0, forward)?)?;
+            piece = piece.cut(self.way_to(0, forward));
         }
         if self.bends_above() {
-            piece = piece.cut(self.way_to(self.weight, forward)?)?;
+            piece = piece.cut(self.way_to(self.weight, forward));
         }
-        Some(piece)
+        piece
     }
 
     /// How many units along a step the flow is from its limit.
-    pub(crate) fn most(&self, forward: bool) -> Option<i64> {
+    pub(crate) fn most(&self, forward: bool) -> i64 {
         if forward {
-            LIMIT.checked_sub(self.flow)
+            LIMIT.saturating_sub(self.flow)
         } else {
-            LIMIT.checked_add(self.flow)
+            LIMIT.saturating_add(self.flow)
         }
     }
 

@@ -1,6 +1,6 @@
 //! Spanning trees whose events know what hangs below them.
 
-use crate::line::Step;
+use crate::line::{Line, Step};
 use std::alloc::{AllocError, Global};
 
 /// The step that leads up from an event, and the event at which it ends.
@@ -10,22 +10,22 @@ pub(crate) struct Up {
     pub(crate) event: usize,
 }
 
-/// An event of a tree: what leads up from it, how many steps lead up to the root, the first event that hangs below it, and
-/// the events before and after it among those that hang where it hangs.
+/// An event of a tree: what leads up from it, how many steps lead up to the root, the price of a unit that goes up there,
+/// the first event that hangs below it, and the events before and after it among those that hang where it hangs.
 #[derive(Clone, Copy)]
 struct Place {
     up: Option<Up>,
     depth: usize,
+    price: i64,
     below: Option<usize>,
     before: Option<usize>,
     after: Option<usize>,
 }
 
-/// Trees over events, each with the price of a unit that goes from it up to its root.
+/// Trees over events.
 #[derive(Drop)]
 pub(crate) struct Tree {
     places: Vec<Place>,
-    prices: Vec<i64>,
 }
 
 impl Tree {
@@ -34,13 +34,13 @@ impl Tree {
         let root = Place {
             up: None,
             depth: 0,
+            price: 0,
             below: None,
             before: None,
             after: None,
         };
         Ok(Tree {
             places: vec![in alloc; root; events]?,
-            prices: vec![in alloc; 0i64; events]?,
         })
     }
 
@@ -55,13 +55,26 @@ impl Tree {
     }
 
     /// The price of a unit that goes from an event up to the root.
-    pub(crate) fn price(&self, event: usize) -> Option<i64> {
-        self.prices.get(event).copied()
+    fn price(&self, event: usize) -> Option<i64> {
+        Some(self.places.get(event)?.price)
     }
 
     /// The price of a unit from each event.
-    pub(crate) fn prices(&self) -> &[i64] {
-        &self.prices
+    pub(crate) fn prices(&self, alloc: Global) -> Result<Vec<i64>, AllocError> {
+        let mut prices = Vec::with_capacity(alloc, self.places.len())?;
+        for place in &self.places {
+            prices.push(place.price)?;
+        }
+        Ok(prices)
+    }
+
+    /// What a unit along a step and up to the root costs more than one from where the step begins.
+    pub(crate) fn cost(&self, lines: &[Line], step: Step) -> Option<i64> {
+        let line = lines.get(step.line)?;
+        let slope = line.slope(step.forward)?;
+        let begin = self.price(line.start(step.forward))?;
+        let end = self.price(line.end(step.forward))?;
+        slope.checked_add(end)?.checked_sub(begin)
     }
 
     /// How many steps lead up to the root.
@@ -69,17 +82,27 @@ impl Tree {
         Some(self.places.get(event)?.depth)
     }
 
+    /// Makes two events below another neighbours; without one before, the other is the first.
+    fn join(&mut self, above: usize, before: Option<usize>, after: Option<usize>) {
+        if let Some(place) = self.places.get_mut(before.unwrap_or(above)) {
+            match before {
+                Some(_) => place.after = after,
+                None => place.below = after,
+            }
+        }
+        if let Some(after) = after {
+            if let Some(place) = self.places.get_mut(after) {
+                place.before = before;
+            }
+        }
+    }
+
     /// Hangs an event below another. Its depth and price are as before.
     pub(crate) fn hang(&mut self, event: usize, up: Up) -> Option<()> {
         let after = self.places.get(up.event)?.below;
-        self.places.get_mut(up.event)?.below = Some(event);
-        if let Some(after) = after {
-            self.places.get_mut(after)?.before = Some(event);
-        }
-        let place = self.places.get_mut(event)?;
-        place.up = Some(up);
-        place.before = None;
-        place.after = after;
+        self.join(up.event, None, Some(event));
+        self.join(up.event, Some(event), after);
+        self.places.get_mut(event)?.up = Some(up);
         Some(())
     }
 
@@ -87,23 +110,16 @@ impl Tree {
     fn unhang(&mut self, event: usize) -> Option<Up> {
         let place = self.places.get(event).copied()?;
         let up = place.up?;
-        match place.before {
-            Some(before) => self.places.get_mut(before)?.after = place.after,
-            None => self.places.get_mut(up.event)?.below = place.after,
-        }
-        if let Some(after) = place.after {
-            self.places.get_mut(after)?.before = place.before;
-        }
+        self.join(up.event, place.before, place.after);
         Some(up)
     }
 
     /// Sets the depth of an event that hangs, and changes its price.
     pub(crate) fn settle(&mut self, event: usize, change: i64) -> Option<()> {
-        let above = self.up(event)?.event;
-        let depth = self.depth(above)?.checked_add(1)?;
-        let price = self.price(event)?.checked_add(change)?;
-        self.places.get_mut(event)?.depth = depth;
-        *self.prices.get_mut(event)? = price;
+        let depth = self.depth(self.up(event)?.event)?.saturating_add(1);
+        let place = self.places.get_mut(event)?;
+        place.price = place.price.checked_add(change)?;
+        place.depth = depth;
         Some(())
     }
 
@@ -115,7 +131,7 @@ impl Tree {
             if one == other {
                 return Some(one);
             }
-            if self.depth(one)? >= self.depth(other)? {
+            if self.depth(one) >= self.depth(other) {
                 one = self.up(one)?.event;
             } else {
                 other = self.up(other)?.event;

@@ -77,3 +77,9 @@ returns-clause-decided c d =
 
 pub flows_along-requires-clause-exist : goal.flows_along-requires-clause-exist
 flows_along-requires-clause-exist c = grind (arith, common_steps)
+
+pub closing_way-requires-clause-few : goal.closing_way-requires-clause-few
+closing_way-requires-clause-few c = grind (arith, common_steps)
+
+pub pairs_of-requires-clause-few : goal.pairs_of-requires-clause-few
+pairs_of-requires-clause-few c = grind (arith, common_steps)

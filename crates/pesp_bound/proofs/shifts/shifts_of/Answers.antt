@@ -1,4 +1,5 @@
 use Rattle.std.proofs.Common.{◌≡◌, ◌+◌, ◌-◌, ◌<◌, List, [], length, get_or, ap, sym, ◌∙◌, arith}
+use Rattle.std.proofs.lemmas.Grind.{common_steps}
 use Rattle.std.proofs.lemmas.List.{get_or_default}
 use Rattle.pesp_problem.specs.declared.row.SignedRow.{SignedRow}
 use Rattle.pesp_problem.specs.Forests.{own_row}
@@ -60,3 +61,6 @@ pub returns-clause-shifts : goal.returns-clause-shifts
 returns-clause-shifts c =
     let end : c.loop-place.place ≡ length c.args.problem.now.table = let t = c.loop-place-test.false in let u = c.loop-place.auto.place-end in let e = ap length c.table-table.ensures.table in omega (arith, t, u, e) in
     as_shifts (net_of c.args.problem.now) c.args.problem.now.table c.args.node.now c.loop-place.place c.loop-place.shifts.items (length c.args.problem.now.table) end c.loop-place.invariant.shifts
+
+pub offset_range-requires-clause-cycle : goal.offset_range-requires-clause-cycle
+offset_range-requires-clause-cycle c = grind (arith, common_steps)

@@ -1,4 +1,5 @@
 use Rattle.std.proofs.Common.{◌≡◌, ℕ, ◌-◌, List, [], length, ap, ◌∙◌, arith}
+use Rattle.std.proofs.lemmas.Grind.{common_steps}
 use Rattle.std.specs.Prelude.{ℤ, pos, unsigned_abs, slice_index_or}
 use Rattle.std.proofs.lemmas.List.{get_or_default}
 use Rattle.pesp_problem.specs.declared.row.SignedRow.{SignedRow}
@@ -22,3 +23,9 @@ loop-c-preserved c =
     let names = c.requires.own k [] within in
     let most = c.requires.small (own_row (cycle_at table k) - 1) (pos 0) (omega (arith, names)) in
     rw c.in_ok-push.ensures.items (pairs_more (length table) (own_flow table flow) k c.loop-c.pairs.items c.pair_of.result within c.pair_of.ensures.cycle (c.pair_of.ensures.mult ∙ same) (omega (arith, some, amount)) most c.loop-c.invariant)
+
+pub own_place-requires : goal.own_place-requires
+own_place-requires c = grind (arith, common_steps)
+
+pub bounds-flows-own_place : goal.bounds-flows-own_place
+bounds-flows-own_place c = grind (arith, common_steps)

@@ -1,7 +1,7 @@
 -- What is known of a leaf that was just lent, and what a turn leaves.
-use Rattle.std.proofs.Common.{◌≡◌, ℕ, ◌+◌, ◌<◌, ◌≤◌, List, length, refl, ap, arith, sym, ◌∙◌, subst}
+use Rattle.std.proofs.Common.{◌≡◌, ℕ, ◌+◌, ◌*◌, ◌<◌, ◌≤◌, List, length, refl, ap, arith, sym, ◌∙◌, subst}
 use Rattle.std.specs.Global.{Vec}
-use Rattle.std.specs.Prelude.{Option, Some, None, Result, Ok, Err, OnOk, option_map}
+use Rattle.std.specs.Prelude.{Option, Some, None, Result, Ok, Err, IfErr, OnOk, option_map}
 use Rattle.pesp_problem.specs.declared.pair.Pair.{Pair}
 use Rattle.pesp_problem.specs.declared.cut.Cut.{Cut}
 use Rattle.pesp_problem.specs.Nodes.{Node}
@@ -29,9 +29,10 @@ use Rattle.pesp_turns.proofs.Turns.{steps, closes_by_gap}
 use Rattle.pesp_turns.proofs.Ends.{step_tightens}
 use Rattle.pesp_turns.proofs.Spent.{given_one}
 use Rattle.pesp_search.specs.declared.refusal.SolveRefusal.{SolveRefusal}
-use Rattle.pesp_search.specs.Handing.{IsHandedIn}
+use Rattle.pesp_search.specs.declared.refusal.SolveRefusal.TheVariants.{Memory, TableTooLarge, PairsTooMany}
+use Rattle.pesp_search.specs.Handing.{IsHandedIn, IsHandedBack}
 use Rattle.pesp_branching.specs.Expanding.{IsExpanded}
-use Rattle.pesp_search.specs.Turning.{IsJustLent, IsSplitAt, TakesStep, GoesOn}
+use Rattle.pesp_search.specs.Turning.{IsJustLent, IsSplitAt, TakesStep, IsTurnRefusal, GoesOn}
 
 some_period : (p : ProblemValue) → KeepsNetLimits p.network → 0 < p.network.period
 some_period p limits = let some = limits.some_period in omega (arith, some)
@@ -84,6 +85,16 @@ on_ok (Err e) f h = tt
 
 pub step_taken : (p q : ProblemValue) (old new : State) (number : ℕ) (start : List Pair) (node : Node) (cut : Cut) (lines : Vec TreeLine) (r : Result (Unit {0}) SolveRefusal) → IsExpanded q start node cut lines.items → OnOk r (Takes p old number (works.Tree lines) new) → OnOk r (TakesStep p old number cut new)
 step_taken p q old new number start node cut lines r x h = on_ok r (λ t. record { lines = lines; low = x.low; high = x.high; step = x.step; takes = t }) h
+
+-- why a step isn't taken
+pub step_refused : (p q : ProblemValue) (used : ℕ) (start : List Pair) (node : Node) (cut : Cut) (lines : Vec TreeLine) (r : Result (Unit {0}) SolveRefusal) → IsExpanded q start node cut lines.items → IfErr r (IsHandedBack p used (works.Tree lines)) → IfErr r (IsTurnRefusal p used)
+step_refused p q used start node cut lines (Ok x) is h = tt
+step_refused p q used start node cut lines (Err Memory) is h = tt
+step_refused p q used start node cut lines (Err TableTooLarge) is h = h
+step_refused p q used start node cut lines (Err PairsTooMany) is h =
+    let one = step_is_one lines q start node cut is in
+    let two : used + splits_of (works.Tree lines) + 1 ≡ used + 2 = omega (arith, one) in
+    subst (λ (n : ℕ). 20000000 < n * length p.table) two h
 
 -- ---- turns
 

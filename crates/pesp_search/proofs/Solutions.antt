@@ -79,10 +79,15 @@ refused_for_rows instance p steps Memory few h = tt
 refused_for_rows instance p steps TableTooLarge few h = absurd h
 refused_for_rows instance p steps PairsTooMany few h = let more = mul-le-mul_left (steps + 1) few in omega (arith, h, more)
 
+one_more : (n : ℕ) → 1 ≤ n + 1
+one_more n = omega arith
+
+pub refused_at_root : (p : ProblemValue) (steps : ℕ) (r : SolveRefusal) → AreTurnsRefused p 0 r → AreTurnsRefused p steps r
+refused_at_root p steps Memory h = tt
+refused_at_root p steps TableTooLarge h = h
+refused_at_root p steps PairsTooMany h = let more : 1 * length p.table ≤ (steps + 1) * length p.table = mul-le-mul_right (length p.table) (one_more steps) in omega (arith, h, more)
+
 pub refused_at_once : (instance : Pesp) (steps : ℕ) (r : SolveRefusal) → IsSearchRefusal instance 0 r → IsSearchRefusal instance steps r
 refused_at_once instance steps Memory h = tt
 refused_at_once instance steps TableTooLarge h = h
 refused_at_once instance steps PairsTooMany h = let more : 1 * length instance.rows ≤ (steps + 1) * length instance.rows = mul-le-mul_right (length instance.rows) (one_more steps) in omega (arith, h, more)
-  where
-    one_more : (n : ℕ) → 1 ≤ n + 1
-    one_more n = omega arith

@@ -12,7 +12,7 @@ use pesp_problem::{Memory, Pair};
 use std::alloc::Global;
 
 /// Pairs with their value.
-#[derive(Debug, Drop)]
+#[derive(Drop)]
 struct Valued {
     pairs: Vec<Pair>,
     value: i128,

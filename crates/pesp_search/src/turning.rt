@@ -29,7 +29,7 @@ use std::alloc::Global;
 
 /// What a turn did: it split a leaf; it closed one, by a gap or by times that cost no more than it is worth; or no leaf is
 /// open.
-#[derive(Clone, Copy, Debug, PartialEq, Eq)]
+#[derive(Clone, Copy)]
 pub(crate) enum Turn {
     Split,
     Closed,
@@ -100,7 +100,60 @@ fn close_leaf(
     hand_in(alloc, board, job, &Work::Gap(cycle), used)
 }
 
-/// Lends an open leaf, and splits it where something is left to cut at its node, as the strategy proposes; else closes it.
+/// Closes the leaf that was just lent, at whose node nothing is left to cut: by a cycle that has no offset left, or by times.
+fn close_at(
+    alloc: Global,
+    board: &mut Board,
+    known: &Known,
+    job: &Job,
+    node: &Node,
+    used: u32,
+) -> Result<Turn, SolveRefusal>
+    requires known { IsKnown board.old.problem known.now }
+    requires lent { IsJustLent board.old.problem used board.old.state job.now }
+    requires at { node.now ≡ node_at board.old.problem job.now.path.items }
+    requires node { IsNodeOf board.old.problem node.now }
+    requires settled { IsSettled (net_of board.old.problem) board.old.problem.table node.now }
+    ensures problem { board.new.problem ≡ board.old.problem }
+    ensures goes { (lent : IsJustLent board.old.problem used board.old.state job.now) → IfOk result
+        (λ turn. IsTurn board.old.problem used lent.before turn board.new.state) }
+    ensures refused { IfErr result (IsTurnRefusal board.old.problem used) }
+{
+    if let Some(cycle) = gap_at(board.problem(), node) {
+        close_leaf(alloc, board, job, cycle, used)?;
+        return Ok(Turn::Closed);
+    }
+    settle(alloc, board, known.reduced, &known.walks, job, node)?;
+    Ok(Turn::Closed)
+}
+
+/// Splits the leaf that was just lent where something is left to cut at its node, as the strategy proposes; else closes it.
+fn turn_on(
+    alloc: Global,
+    board: &mut Board,
+    known: &Known,
+    strategy: &mut Option<Strategy>,
+    job: &Job,
+    used: u32,
+) -> Result<Turn, SolveRefusal>
+    requires known { IsKnown board.old.problem known.now }
+    requires lent { IsJustLent board.old.problem used board.old.state job.now }
+    ensures problem { board.new.problem ≡ board.old.problem }
+    ensures goes { (lent : IsJustLent board.old.problem used board.old.state job.now) → IfOk result
+        (λ turn. IsTurn board.old.problem used lent.before turn board.new.state) }
+    ensures refused { IfErr result (IsTurnRefusal board.old.problem used) }
+{
+    let node = node_from(alloc, &known.root, &job.path)?;
+    let Advised { cut, met } = ask(alloc, strategy, board, known.reduced, job, &node, used)?;
+    let Some(choice) = choose(board.problem(), &node, &known.passed, cut) else {
+        return close_at(alloc, board, known, job, &node, used);
+    };
+    split_leaf(alloc, board, job, node, choice, used)?;
+    offer_met(alloc, board, known.reduced, met)?;
+    Ok(Turn::Split)
+}
+
+/// Lends an open leaf, and splits or closes it.
 pub(crate) fn take_turn(
     alloc: Global,
     board: &mut Board,
@@ -120,17 +173,5 @@ pub(crate) fn take_turn(
     let Some(job) = lend_next(alloc, board, used)? else {
         return Ok(Turn::Over);
     };
-    let node = node_from(alloc, &known.root, &job.path)?;
-    let Advised { cut, met } = ask(alloc, strategy, board, known.reduced, &job, &node, used)?;
-    if let Some(choice) = choose(board.problem(), &node, &known.passed, cut) {
-        split_leaf(alloc, board, &job, node, choice, used)?;
-        offer_met(alloc, board, known.reduced, met)?;
-        return Ok(Turn::Split);
-    }
-    if let Some(cycle) = gap_at(board.problem(), &node) {
-        close_leaf(alloc, board, &job, cycle, used)?;
-        return Ok(Turn::Closed);
-    }
-    settle(alloc, board, known.reduced, &known.walks, &job, &node)?;
-    Ok(Turn::Closed)
+    turn_on(alloc, board, known, strategy, &job, used)
 }

@@ -16,9 +16,9 @@ use crate::turning::{Known, improve_leaf, run_turns};
 use pesp_board::Board;
 use pesp_branching::passed_rows;
 use pesp_cert::Certificate;
-use pesp_nodes::Problem;
 use pesp_outside::{Lent, lend_base};
 use pesp_problem::{Cut, Instance, Memory, Side};
+use pesp_reduce::Reduced;
 use pesp_truth::TreeLine;
 use std::alloc::Global;
 
@@ -29,23 +29,37 @@ pub(crate) struct Found {
     pub(crate) tree: Vec<TreeLine>,
 }
 
-/// What stays as it is through the work on a problem.
-fn known_of(alloc: Global, instance: &Instance, problem: &Problem) -> Result<Known, Memory>
-    ensures { IfOk result (λ known. ArePassedRows problem.now known.passed.items) }
-{
-    let reduced = replanted(alloc, instance, problem.table())?;
-    let passed = passed_rows(alloc, problem)?;
-    Ok(Known { reduced, passed })
-}
-
-/// Takes turns on the leaves that are open, by at most so many splits.
-fn split_on(alloc: Global, board: &mut Board, known: &Known, steps: u32) -> Result<(), Memory>
+/// Takes turns on the leaves that are open, as a strategy proposes where there is one, by at most so many splits.
+fn split_by_strategy(
+    alloc: Global,
+    board: &mut Board,
+    known: &Known,
+    steps: u32,
+) -> Result<(), Memory>
     requires passed { ArePassedRows board.old.problem known.now.passed.items }
     requires few { steps ≤ 100000 }
     ensures { board.new.problem ≡ board.old.problem }
 {
-    let mut strategy = strategy_for(alloc, &known.reduced, board.problem())?;
+    let mut strategy = strategy_for(alloc, known.reduced, board.problem())?;
     run_turns(alloc, board, known, &mut strategy, steps)
+}
+
+/// Takes turns on the leaves that are open, over what is left of the instance, by at most so many splits.
+fn split_over(alloc: Global, board: &mut Board, reduced: &Reduced, steps: u32) -> Result<(), Memory>
+    requires { steps ≤ 100000 }
+    ensures { board.new.problem ≡ board.old.problem }
+{
+    let passed = passed_rows(alloc, board.problem())?;
+    split_by_strategy(alloc, board, &Known { reduced, passed }, steps)
+}
+
+/// Takes turns on the leaves that are open, by at most so many splits.
+fn split_on(alloc: Global, instance: &Instance, board: &mut Board, steps: u32) -> Result<(), Memory>
+    requires { steps ≤ 100000 }
+    ensures { board.new.problem ≡ board.old.problem }
+{
+    let reduced = replanted(alloc, instance, board.problem().table())?;
+    split_over(alloc, board, &reduced, steps)
 }
 
 /// Works on the leaf that is open, by at most so many splits.
@@ -56,8 +70,7 @@ fn work_on(alloc: Global, instance: &Instance, board: &mut Board, steps: u32) ->
     if !improve_leaf(alloc, board)? || steps == 0 {
         return Ok(());
     }
-    let known = known_of(alloc, instance, board.problem())?;
-    split_on(alloc, board, &known, steps)
+    split_on(alloc, instance, board, steps)
 }
 
 /// The same times once more.

@@ -9,8 +9,8 @@ use crate::holding::{Held, hand_in, hold};
 use crate::settling::offer_least;
 use pesp_board::{Board, is_shut_by_propagation};
 use pesp_bound::best_leaf_from;
-use pesp_branching::{Advised, Proposal, ask, choose, expand, gap_at, leaf_line, offer_met};
-use pesp_nodes::Problem;
+use pesp_branching::{Advised, Met, Proposal, ask, choose, expand, gap_at, leaf_line, offer_met};
+use pesp_nodes::{Node, Problem};
 use pesp_problem::Memory;
 use pesp_reduce::Reduced;
 use pesp_strategy::Strategy;
@@ -22,17 +22,18 @@ const ROUNDS: u32 = 1_000;
 
 /// What stays as it is: what is left of the instance, and for each row of the instance whether some cycle passes it.
 #[derive(Drop)]
-pub(crate) struct Known {
-    pub(crate) reduced: Reduced,
+pub(crate) struct Known<'a> {
+    pub(crate) reduced: &'a Reduced,
     pub(crate) passed: Vec<bool>,
 }
 
-/// What a turn did: it split a leaf; it closed one, or gave it up; or no leaf can be lent any more, or what was found for it isn't
-/// taken.
-#[derive(Clone, Copy, Debug, PartialEq, Eq)]
+/// What a turn did: it split a leaf; it closed one; it found nothing to give for one; or no leaf can be lent any more, or what
+/// was found for it isn't taken.
+#[derive(Clone, Copy)]
 enum Turn {
     Split,
     Closed,
+    GivenUp,
     Over,
 }
 
@@ -82,6 +83,69 @@ fn lines_for(
     Ok(Some(one_line(alloc, TreeLine::Gap(cycle))?))
 }
 
+/// Gives the lines for a leaf, where there are any.
+fn give_lines(
+    alloc: Global,
+    board: &mut Board,
+    known: &Known,
+    held: &Held,
+    cut: Option<Proposal>,
+) -> Result<Turn, Memory>
+    requires passed { ArePassedRows board.old.problem known.now.passed.items }
+    requires held { IsHeld board.old.problem held.now }
+    ensures { board.new.problem ≡ board.old.problem }
+{
+    let Some(lines) = lines_for(alloc, board.problem(), known, held, cut)? else {
+        return Ok(Turn::GivenUp);
+    };
+    let done = if lines.len() > 1 {
+        Turn::Split
+    } else {
+        Turn::Closed
+    };
+    let is_taken = hand_in(alloc, board, held.job.number, lines)?;
+    Ok(if is_taken { done } else { Turn::Over })
+}
+
+/// Offers times after a turn: those that were met with where lines were taken, and those of the least slacks where there were
+/// none to give.
+fn offer_after(
+    alloc: Global,
+    board: &mut Board,
+    reduced: &Reduced,
+    node: &Node,
+    met: Option<Met>,
+    done: Turn,
+) -> Result<(), Memory>
+    ensures { board.new.problem ≡ board.old.problem }
+{
+    match done {
+        Turn::Split | Turn::Closed => offer_met(alloc, board, reduced, met),
+        Turn::GivenUp => offer_least(alloc, board, reduced, node),
+        Turn::Over => Ok(()),
+    }
+}
+
+/// Splits or closes the leaf that is lent.
+fn turn_on(
+    alloc: Global,
+    board: &mut Board,
+    known: &Known,
+    strategy: &mut Option<Strategy>,
+    held: &Held,
+    used: u32,
+) -> Result<Turn, Memory>
+    requires passed { ArePassedRows board.old.problem known.now.passed.items }
+    requires held { IsHeld board.old.problem held.now }
+    ensures { board.new.problem ≡ board.old.problem }
+{
+    let reduced = known.reduced;
+    let Advised { cut, met } = ask(alloc, strategy, board, reduced, &held.job, &held.node, used)?;
+    let done = give_lines(alloc, board, known, held, cut)?;
+    offer_after(alloc, board, reduced, &held.node, met, done)?;
+    Ok(done)
+}
+
 /// Lends a leaf, and splits or closes it.
 fn take_turn(
     alloc: Global,
@@ -96,21 +160,7 @@ fn take_turn(
     let Some(held) = hold(alloc, board)? else {
         return Ok(Turn::Over);
     };
-    let reduced = &known.reduced;
-    let Advised { cut, met } = ask(alloc, strategy, board, reduced, &held.job, &held.node, used)?;
-    let Some(lines) = lines_for(alloc, board.problem(), known, &held, cut)? else {
-        offer_least(alloc, board, reduced, &held.node)?;
-        return Ok(Turn::Closed);
-    };
-    let is_split = lines.len() > 1;
-    if !hand_in(alloc, board, held.job.number, lines)? {
-        return Ok(Turn::Over);
-    }
-    offer_met(alloc, board, reduced, met)?;
-    if is_split {
-        return Ok(Turn::Split);
-    }
-    Ok(Turn::Closed)
+    turn_on(alloc, board, known, strategy, &held, used)
 }
 
 /// Takes turns until so many leaves were split, or there is nothing to do any more.
@@ -132,7 +182,7 @@ pub(crate) fn run_turns(
         }
         match take_turn(alloc, board, known, strategy, used)? {
             Turn::Split => used += 1,
-            Turn::Closed => {}
+            Turn::Closed | Turn::GivenUp => {}
             Turn::Over => return Ok(()),
         }
     }

@@ -1,5 +1,12 @@
-use Rattle.pesp_search.proofs.Lent.{lent_pairs, split_cut, handed_step, step_taken}
+use Rattle.pesp_turns.proofs.Replies.{lent_here}
+use Rattle.pesp_search.proofs.Lent.{lent_pairs, split_cut, handed_step, step_taken, step_refused}
 use Rattle.pesp_search.proofs.turning.split_leaf.Goals as goal
+
+pub unreachable-requires : goal.unreachable-requires
+unreachable-requires c =
+    let lent = c.requires.split.lent in
+    let never = rw c.in_default.is at c.job_leaf.ensures in
+    never (c.args.job.now.path.items, lent_here c.args.board.now.problem lent.before c.args.board.now.state c.args.job.now lent.lends)
 
 pub expand-requires-clause-cut : goal.expand-requires-clause-cut
 expand-requires-clause-cut c = split_cut c.args.board.now.problem c.args.used c.args.board.now.state c.args.job.now c.args.choice.cut c.args.node c.requires.node c.requires.split
@@ -12,3 +19,6 @@ hand_in-requires c = handed_step c.args.board.now.problem c.problem.result.now c
 
 pub returns-clause-takes : goal.returns-clause-takes
 returns-clause-takes c = step_taken c.args.board.now.problem c.problem.result.now c.args.board.now.state c.hand_in.new.board.state c.args.job.now.number c.in-Some.start.now _ c.args.choice.cut c.in_ok-lines.lines c.hand_in.result c.in_ok-lines.ensures c.hand_in.ensures.taken
+
+pub returns-clause-refused : goal.returns-clause-refused
+returns-clause-refused c = step_refused c.args.board.now.problem c.problem.result.now c.args.used c.in-Some.start.now _ c.args.choice.cut c.in_ok-lines.lines c.hand_in.result c.in_ok-lines.ensures c.hand_in.ensures.refused

@@ -14,9 +14,9 @@ pub grow_over-requires-2-clause-names : goal.grow_over-requires-2-clause-names
 grow_over-requires-2-clause-names c =
     let n = length c.args.rows.now in let a = c.in_ok-all.ensures in let s = c.as_slice.ensures in let l = s.len in let m = a.len in
     All-from_get_or (Names n) c.as_slice.result.now 0 (λ i h.
-        let below : i < n = omega arith in
-        let e = lent n _ c.as_slice.result.now s.value a.each i below in
-        (omega arith, omega arith))
+    let below : i < n = omega arith in
+    let e = lent n _ c.as_slice.result.now s.value a.each i below in
+    (omega arith, omega arith))
 
 pub returns : goal.returns
 returns c =

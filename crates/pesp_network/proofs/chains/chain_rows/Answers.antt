@@ -1,4 +1,4 @@
-use Rattle.std.proofs.Common.{◌≡◌, ◌<◌, ◌∙◌, ℕ, ap, arith, length, refl, subst, sym}
+use Rattle.std.proofs.Common.{◌≡◌, ◌∙◌, ℕ, ap, arith, length, refl, subst}
 use Rattle.pesp_network.specs.Networks.{arcs_of_network}
 use Rattle.pesp_network.specs.Chains.{Chained}
 use Rattle.pesp_network.specs.Growing.{at}

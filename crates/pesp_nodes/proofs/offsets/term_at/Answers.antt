@@ -12,3 +12,6 @@ returns-clause-size c =
     let duration : unsigned_abs (to_z w128 (of_z w128 c.from-2.result)) ≤ 1030000 = omega (arith, ap unsigned_abs duration_wide, c.duration_at-duration.ensures.size) in
     let fits : FitsSigned w128 c.times.result = search rules in
     rw (to_z-of_z w128 c.times.result fits) (c.times.ensures.size (unsigned_abs c.args.net.now.count) 1030000 count duration)
+
+pub returns-clause-value : goal.returns-clause-value
+returns-clause-value c = search rules

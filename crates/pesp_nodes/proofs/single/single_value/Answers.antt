@@ -51,3 +51,21 @@ returns c =
     let add : ℤ → ℤ = λ z. c.args.none +ℤ z in
     ap Some (to_z-of_z w128 c.plus-2.result total_fits)
     ∙ single_is (net_of p) p.table c.args.node.now pair c.in_ok-left.left c.args.none c.offset_term-offsets.result c.gains-rows.result c.plus-2.result c.requires.none c.in_ok-left.ensures.value offsets rows (total ∙ ap add sum)
+
+pub returns-in_err-left : goal.returns-in_err-left
+returns-in_err-left c = search rules
+
+pub gains-rows-requires-clause-one : goal.gains-rows-requires-clause-one
+gains-rows-requires-clause-one c = search rules
+
+pub offset_term-offsets-requires-clause-mult : goal.offset_term-offsets-requires-clause-mult
+offset_term-offsets-requires-clause-mult c = search rules
+
+pub offset_term-offsets-requires-clause-low : goal.offset_term-offsets-requires-clause-low
+offset_term-offsets-requires-clause-low c = search rules
+
+pub offset_term-offsets-requires-clause-high : goal.offset_term-offsets-requires-clause-high
+offset_term-offsets-requires-clause-high c = search rules
+
+pub plus-requires : goal.plus-requires
+plus-requires c = search rules

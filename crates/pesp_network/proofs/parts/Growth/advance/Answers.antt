@@ -1,6 +1,8 @@
-use Rattle.std.proofs.Common.{◌∙◌, ap, arith, set}
+use Rattle.std.proofs.Common.{◌≡◌, ◌⊎◌, ◌∙◌, ℕ, ap, arith, set, subst, sym}
 use Rattle.pesp_network.specs.Networks.{arcs_of_network}
-use Rattle.pesp_network.proofs.Steps.{leads_on, other_below, read_place, read_root, current_below, advance_seen, advance_new, sum_less, keeps_opening, keeps_looking}
+use Rattle.pesp_problem.specs.Arcs.{tail_of, head_of}
+use Rattle.pesp_network.proofs.Places.{count}
+use Rattle.pesp_network.proofs.Steps.{leads_on, read_left, other_below, read_place, read_root, current_below, advance_seen, advance_new, sum_less, keeps_opening, keeps_looking}
 use Rattle.pesp_network.proofs.parts.Growth.advance.Goals as goal
 
 pub index-requires : goal.index-requires
@@ -76,3 +78,16 @@ returns-clause-smaller c =
     let b = current_below (arcs_of_network c.args.rows.now) g c.args.current c.requires.grown c.requires.current in
     let s = g.sized in let l = g.left.ok.0 in let e = o.left in let f = c.beyond-next.ensures.next.less in
     sum_less g.left.items c.look-2.new.self.left.items c.args.current c.beyond-next.result.0 (c.look-2.ensures.lefts ∙ ap (λ xs. set xs c.args.current c.beyond-next.result.0) c.open.ensures.lefts) (omega arith) (omega arith)
+
+pub beyond-next-requires-clause-row : goal.beyond-next-requires-clause-row
+beyond-next-requires-clause-row c =
+    let g = c.args.self.now in let u = c.args.current in
+    let l = read_left g u _ (current_below (arcs_of_network c.args.rows.now) g u c.requires.grown c.requires.current) c.index-k.ensures in
+    let s = c.requires.some_left in let r = c.requires.grown.left_row u in let n = count c.args.rows.now in (omega arith, omega arith)
+
+pub beyond-next-requires-clause-at_event : goal.beyond-next-requires-clause-at_event
+beyond-next-requires-clause-at_event c =
+    let g = c.args.self.now in let u = c.args.current in let arcs = arcs_of_network c.args.rows.now in
+    let l = read_left g u _ (current_below arcs g u c.requires.grown c.requires.current) c.index-k.ensures in
+    let P : ℕ → Type 0 = λ k. (tail_of arcs k ≡ u) ⊎ (head_of arcs k ≡ u) in
+    subst P (sym l) (c.requires.grown.left_end u c.requires.some_left)

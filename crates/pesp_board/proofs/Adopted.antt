@@ -25,7 +25,7 @@ use Rattle.pesp_queue.specs.declared.entry.Entry.{Entry}
 use Rattle.pesp_queue.specs.Entries.{entry}
 use Rattle.pesp_queue.specs.Queues.{QueueValue}
 use Rattle.pesp_text.specs.Number.{NATURALS}
-use Rattle.pesp_lines.proofs.Tests.{and_left}
+use Rattle.pesp_cert_lines.proofs.Tests.{and_left}
 use Rattle.pesp_cert.specs.Limits.{has_costs, is_cost, KeepsLimits}
 use Rattle.pesp_machine.specs.Limits.{pairs_in, KeepsTreeLimits}
 use Rattle.pesp_machine.specs.States.{State, root_of, least, best_cost, IsAtMost}

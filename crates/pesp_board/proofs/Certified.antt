@@ -24,9 +24,9 @@ use Rattle.pesp_truth.specs.Certificates.{Content, line_of, lines_of, shown_time
 use Rattle.pesp_truth.proofs.Lines.{whole_tree}
 use Rattle.pesp_nodes.specs.Problems.{ProblemValue, net_of, IsSmallTable, IsPairOf, ArePairs, Rise}
 use Rattle.pesp_text.specs.Number.{NATURALS}
-use Rattle.pesp_lines.specs.Rows.{is_name, rows_are_named}
-use Rattle.pesp_lines.specs.Pairs.{is_pair_within, all_within, follows, rise_from}
-use Rattle.pesp_lines.proofs.Tests.{and_both}
+use Rattle.pesp_cert_lines.specs.Rows.{is_name, rows_are_named}
+use Rattle.pesp_cert_lines.specs.Pairs.{is_pair_within, all_within, follows, rise_from}
+use Rattle.pesp_cert_lines.proofs.Tests.{and_both}
 use Rattle.pesp_machine.specs.Leaves.{least_value, told}
 use Rattle.pesp_machine.specs.States.{State, BoardValue, root_of, least, best_cost}
 use Rattle.pesp_machine.specs.Limits.{IsLineOf}

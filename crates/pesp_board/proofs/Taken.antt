@@ -16,9 +16,9 @@ use Rattle.pesp_truth.specs.declared.tree.TreeLine.TheVariants.{Slack, Offset, B
 use Rattle.pesp_truth.specs.Certificates.{line_of}
 use Rattle.pesp_network.specs.Networks.{arc_of_net}
 use Rattle.pesp_nodes.specs.Problems.{ProblemValue, net_of, IsNodeOf, IsCutOf, IsPairOf, ArePairs, Rise}
-use Rattle.pesp_lines.specs.Pairs.{is_pair_within, all_within, follows, rise_from}
-use Rattle.pesp_lines.specs.Rows.{is_name}
-use Rattle.pesp_lines.proofs.Tests.{and_left, and_right}
+use Rattle.pesp_cert_lines.specs.Pairs.{is_pair_within, all_within, follows, rise_from}
+use Rattle.pesp_cert_lines.specs.Rows.{is_name}
+use Rattle.pesp_cert_lines.proofs.Tests.{and_left, and_right}
 use Rattle.pesp_cert.specs.Limits.{are_pairs, is_line}
 use Rattle.pesp_machine.specs.Limits.{IsLineOf}
 use Rattle.pesp_machine.specs.States.{root_of}

@@ -14,7 +14,7 @@ use Rattle.pesp_problem.specs.Forests.{own_row}
 use Rattle.pesp_problem.specs.Nodes.{Node, cycle_at, slack_range, offset_range, offset_part, flow, slack_part, leaf_value}
 use Rattle.pesp_problem.proofs.Integers.{mul-add, mul-neg, add-mul, zero-mul, sum_below-same, sum_below-le, sum_below-add, sum_below-zero, sum_below-single}
 use Rattle.pesp_problem.proofs.Walks.{step, step_same, step_other, net_count-cons, sum_along, net_count_sum}
-use Rattle.pesp_walks.proofs.Counts.{eq-true, eq-false}
+use Rattle.pesp_nets.proofs.Counts.{eq-true, eq-false}
 use Rattle.pesp_bound.specs.Differences.{over_pairs, AreMultipliers, own_flow}
 use Rattle.pesp_problem.proofs.Ways.{back, net_count-append, net_count-one, net_count-back, leads_append, leads_back, all_back}
 use Rattle.pesp_bound.proofs.Owners.{none_or_some, InForest, plus_row, GoesBack, AreOwned}

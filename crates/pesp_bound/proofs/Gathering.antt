@@ -20,7 +20,7 @@ use Rattle.pesp_nodes.specs.declared.passages.Passage.{Passage}
 use Rattle.pesp_nodes.specs.Passages.{passages_at}
 use Rattle.pesp_nodes.specs.Offsets.{IsSmallOffset}
 use Rattle.pesp_nodes.specs.Problems.{IsPairOf, Rise}
-use Rattle.pesp_walks.proofs.Counts.{eq-true, eq-false, net_count_bound}
+use Rattle.pesp_nets.proofs.Counts.{eq-true, eq-false, net_count_bound}
 use Rattle.pesp_levels.specs.declared.edge.Edge.{Edge}
 use Rattle.pesp_levels.specs.Settling.{edge_at, no_edge}
 use Rattle.pesp_bound.specs.Differences.{last_owner, IsShift, shift_at, AreShifts, IsDemand, AreDemands, signed_at, no_signed, ArePassed, over_pairs, AreMultipliers}

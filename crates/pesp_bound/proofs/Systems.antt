@@ -17,7 +17,7 @@ use Rattle.pesp_network.specs.Networks.{arc_of_net, net_row_at, no_net_row, Keep
 use Rattle.pesp_nodes.specs.declared.passages.Passage.{Passage}
 use Rattle.pesp_nodes.specs.Passages.{ArePassages, ArePassagesOf, passages_at, sum_over}
 use Rattle.pesp_nodes.specs.Problems.{ProblemValue, net_of, ArePairs}
-use Rattle.pesp_walks.proofs.Counts.{eq-true, eq-false}
+use Rattle.pesp_nets.proofs.Counts.{eq-true, eq-false}
 use Rattle.pesp_levels.specs.declared.edge.Edge.{Edge}
 use Rattle.pesp_levels.specs.Settling.{edge_at, AreWithin, AreSettled, IsWay, GainsForEver, gains, losses}
 use Rattle.pesp_bound.specs.Decided.{IsDecided}

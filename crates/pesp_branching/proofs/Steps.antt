@@ -15,7 +15,7 @@ use Rattle.pesp_bound.specs.declared.leaf.Leaf.TheVariants.{Gap, Nothing, Bound}
 use Rattle.pesp_bound.specs.Leaves.{IsLeafOf, IsNoLess}
 use Rattle.pesp_machine.specs.Events.{MayShut}
 use Rattle.pesp_machine.proofs.Works.{pairs_exist}
-use Rattle.pesp_turns.specs.Turns.{IsFoundAt}
+use Rattle.pesp_search_laws.specs.Turns.{IsFoundAt}
 use Rattle.pesp_branching.specs.Expanding.{leaf_of, IsFoundLine, IsExpanded}
 
 is_none : {A : Type 0} (o : Option A) → o ≡ None → IsNone o

@@ -11,7 +11,7 @@ use Rattle.pesp_truth.specs.Certificates.{line_of}
 use Rattle.pesp_nodes.specs.Problems.{ProblemValue}
 use Rattle.pesp_bound.specs.declared.leaf.Leaf.{Leaf as Found}
 use Rattle.pesp_bound.specs.declared.leaf.Leaf.TheVariants.{Gap, Nothing, Bound}
-use Rattle.pesp_turns.specs.Turns.{AreStep, IsFoundAt}
+use Rattle.pesp_search_laws.specs.Turns.{AreStep, IsFoundAt}
 
 -- a leaf that was found as a leaf of a tree
 abbrev pub leaf_of : Found → Leaf

@@ -5,8 +5,8 @@ ghost use Rattle.pesp_problem.specs.Walks.{Names};
 ghost use Rattle.pesp_problem.specs.Nodes.{slack_range, offset_range, LeavesBoth};
 ghost use Rattle.pesp_truth.specs.Trees.{CutExists};
 ghost use Rattle.pesp_nodes.specs.Problems.{net_of, IsNodeOf};
-ghost use Rattle.pesp_room.specs.Rooms.{IsCounted};
-ghost use Rattle.pesp_room.specs.Settled.{IsSettled};
+ghost use Rattle.pesp_search_laws.specs.Rooms.{IsCounted};
+ghost use Rattle.pesp_search_laws.specs.Settled.{IsSettled};
 ghost use Rattle.pesp_branching.specs.Passing.{ArePassedRows};
 
 use crate::advising::Proposal;

@@ -5,7 +5,7 @@ ghost use Rattle.pesp_problem.specs.Nodes as spec;
 ghost use Rattle.pesp_truth.specs.Trees.{Gap, IsSoundLeaf};
 ghost use Rattle.pesp_nodes.specs.Problems.{net_of, IsNodeOf, ArePairs};
 ghost use Rattle.pesp_bound.specs.Leaves.{IsLeafOf, IsNoLess};
-ghost use Rattle.pesp_room.specs.Settled.{HaveOffsetsLeft};
+ghost use Rattle.pesp_search_laws.specs.Settled.{HaveOffsetsLeft};
 
 use pesp_bound::Leaf;
 use pesp_nodes::{Node, Pairs, Problem, are_pairs, leaf_value, offset_range};

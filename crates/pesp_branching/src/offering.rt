@@ -3,7 +3,7 @@
 ghost use Rattle.std.specs.Prelude.{◌≡◌, ℕ, length, IfOk, IfSome};
 ghost use Rattle.pesp_problem.specs.NetTimetables.{IsNetTimetable};
 ghost use Rattle.pesp_network.specs.Networks.{net_of_network};
-ghost use Rattle.pesp_turns.specs.Turns.{IsWorked};
+ghost use Rattle.pesp_search_laws.specs.Turns.{IsWorked};
 
 use crate::chaining::chained;
 use crate::meeting::Met;
@@ -13,7 +13,7 @@ use pesp_problem::Memory;
 use pesp_propagate::dive;
 use pesp_reduce::Reduced;
 use pesp_simplex::{Improved, SimplexRefusal, improve};
-use pesp_turns::laws::times_are_offered;
+use pesp_search_laws::turns::times_are_offered;
 use std::alloc::Global;
 
 /// How many tries a dive has on a network of so many rows.

@@ -5,7 +5,7 @@ use Rattle.std.specs.List.{list_all}
 use Rattle.std.proofs.lemmas.Bool.Decides.{nat_tests}
 use Rattle.pesp_truth.specs.Trees.{are_trees}
 use Rattle.pesp_truth.specs.Certificates.{Content, lines_of}
-use Rattle.pesp_lines.proofs.Tests.{and_left, and_right}
+use Rattle.pesp_cert_lines.proofs.Tests.{and_left, and_right}
 use Rattle.pesp_cert.specs.Limits.{is_period, has_costs, is_time, are_times, total_rows, is_cycle, are_cycles, total_pairs, is_line, are_lines, has_line, has_lines, keeps_limits, KeepsLimits}
 
 le_of : (m n : ℕ) → nat_le m n ≡ true → m ≤ n

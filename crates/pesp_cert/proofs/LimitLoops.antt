@@ -10,7 +10,7 @@ use Rattle.pesp_truth.specs.declared.tree.TreeLine.{TreeLine}
 use Rattle.pesp_truth.specs.declared.tree.TreeLine.TheVariants.{Slack, Offset, Bound, Nothing, Gap, Propagated}
 use Rattle.pesp_truth.specs.Trees.{Line, are_trees}
 use Rattle.pesp_truth.specs.Certificates.{line_of}
-use Rattle.pesp_lines.specs.Pairs.{follows, rise_from}
+use Rattle.pesp_cert_lines.specs.Pairs.{follows, rise_from}
 use Rattle.pesp_cert.specs.Limits.{is_branch}
 
 -- what is left of a limit after the first i of the things that are counted

@@ -13,11 +13,11 @@ use Rattle.pesp_truth.specs.declared.tree.TreeLine.{TreeLine}
 use Rattle.pesp_truth.specs.declared.tree.TreeLine.TheVariants as lines
 use Rattle.pesp_truth.specs.Certificates.{Content}
 use Rattle.pesp_text.specs.Words.{spaced}
-use Rattle.pesp_lines.specs.Pairs.{pair_words}
-use Rattle.pesp_lines.specs.Rows.{row_words}
-use Rattle.pesp_lines.specs.declared.item.Item.{Item}
-use Rattle.pesp_lines.specs.declared.item.Item.TheVariants.{Version, Period, Answer as Says, Cycle, End}
-use Rattle.pesp_lines.specs.Items.{item_line}
+use Rattle.pesp_cert_lines.specs.Pairs.{pair_words}
+use Rattle.pesp_cert_lines.specs.Rows.{row_words}
+use Rattle.pesp_cert_lines.specs.declared.item.Item.{Item}
+use Rattle.pesp_cert_lines.specs.declared.item.Item.TheVariants.{Version, Period, Answer as Says, Cycle, End}
+use Rattle.pesp_cert_lines.specs.Items.{item_line}
 use Rattle.pesp_cert.specs.Print.{head_lines, time_line, pairs_text, pair_text, row_text, rows_text, cycle_line, tree_line, answer_line, certificate_text}
 use Rattle.pesp_cert.specs.Texts.{time_item, tree_item, spelling}
 

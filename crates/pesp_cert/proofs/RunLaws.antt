@@ -5,14 +5,14 @@ use Rattle.pesp_problem.specs.declared.row.SignedRow.{SignedRow}
 use Rattle.pesp_truth.specs.declared.answer.Answer.{Answer}
 use Rattle.pesp_truth.specs.declared.tree.TreeLine.{TreeLine}
 use Rattle.pesp_truth.specs.declared.tree.TreeLine.TheVariants as lines
-use Rattle.pesp_lines.specs.declared.progress.Place.{Place}
-use Rattle.pesp_lines.specs.declared.progress.Place.TheVariants as places
-use Rattle.pesp_lines.specs.declared.progress.Progress.{Progress}
+use Rattle.pesp_cert_lines.specs.declared.progress.Place.{Place}
+use Rattle.pesp_cert_lines.specs.declared.progress.Place.TheVariants as places
+use Rattle.pesp_cert_lines.specs.declared.progress.Progress.{Progress}
 use Rattle.pesp_truth.specs.Certificates.{Content}
-use Rattle.pesp_lines.specs.declared.item.Item.{Item}
-use Rattle.pesp_lines.specs.declared.item.Item.TheVariants.{Version, Period, Answer as Says, Time, Cycle, Slack, Offset, Bound, Nothing, Gap, Propagated, End}
-use Rattle.pesp_lines.specs.Counts.{start, after, may_follow, has_kind, is_end_kind, kind_in, CanStand}
-use Rattle.pesp_lines.proofs.Tests.{and_left}
+use Rattle.pesp_cert_lines.specs.declared.item.Item.{Item}
+use Rattle.pesp_cert_lines.specs.declared.item.Item.TheVariants.{Version, Period, Answer as Says, Time, Cycle, Slack, Offset, Bound, Nothing, Gap, Propagated, End}
+use Rattle.pesp_cert_lines.specs.Counts.{start, after, may_follow, has_kind, is_end_kind, kind_in, CanStand}
+use Rattle.pesp_cert_lines.proofs.Tests.{and_left}
 use Rattle.pesp_cert.specs.Texts.{IsRun, time_item, tree_item, items_of}
 
 -- whether an item is a line of the tree, or the end

@@ -12,18 +12,18 @@ use Rattle.pesp_truth.specs.declared.tree.TreeLine.{TreeLine}
 use Rattle.pesp_truth.specs.declared.tree.TreeLine.TheVariants as lines
 use Rattle.pesp_truth.specs.Trees.{Line, are_trees}
 use Rattle.pesp_truth.specs.Certificates.{Content, line_of, lines_of}
-use Rattle.pesp_lines.specs.declared.kind.Kind.{Kind}
-use Rattle.pesp_lines.specs.declared.kind.Kind.TheVariants as kinds
-use Rattle.pesp_lines.specs.declared.item.Item.{Item}
-use Rattle.pesp_lines.specs.declared.item.Item.TheVariants.{Version, Period, Answer as Says, Cycle, End}
-use Rattle.pesp_lines.specs.declared.progress.Place.{Place}
-use Rattle.pesp_lines.specs.declared.progress.Place.TheVariants as places
-use Rattle.pesp_lines.specs.declared.progress.Progress.{Progress}
-use Rattle.pesp_lines.specs.Rows.{rows_are_named}
-use Rattle.pesp_lines.specs.Pairs.{rise_from, all_within}
-use Rattle.pesp_lines.specs.Items.{IsProper, HasProperCosts, is_item_within}
-use Rattle.pesp_lines.specs.Counts.{start, after, after_tree, allows, may_follow, has_kind, is_end_kind, keeps_counts, kind_in, CanStand}
-use Rattle.pesp_lines.proofs.Tests.{and_left, and_right, and_both}
+use Rattle.pesp_cert_lines.specs.declared.kind.Kind.{Kind}
+use Rattle.pesp_cert_lines.specs.declared.kind.Kind.TheVariants as kinds
+use Rattle.pesp_cert_lines.specs.declared.item.Item.{Item}
+use Rattle.pesp_cert_lines.specs.declared.item.Item.TheVariants.{Version, Period, Answer as Says, Cycle, End}
+use Rattle.pesp_cert_lines.specs.declared.progress.Place.{Place}
+use Rattle.pesp_cert_lines.specs.declared.progress.Place.TheVariants as places
+use Rattle.pesp_cert_lines.specs.declared.progress.Progress.{Progress}
+use Rattle.pesp_cert_lines.specs.Rows.{rows_are_named}
+use Rattle.pesp_cert_lines.specs.Pairs.{rise_from, all_within}
+use Rattle.pesp_cert_lines.specs.Items.{IsProper, HasProperCosts, is_item_within}
+use Rattle.pesp_cert_lines.specs.Counts.{start, after, after_tree, allows, may_follow, has_kind, is_end_kind, keeps_counts, kind_in, CanStand}
+use Rattle.pesp_cert_lines.proofs.Tests.{and_left, and_right, and_both}
 use Rattle.pesp_cert.specs.Limits.{has_costs, is_period, is_time, are_times, is_cycle, total_rows, are_cycles, is_line, is_branch, pairs_in, total_pairs, are_lines, has_line, has_lines, keeps_limits, KeepsLimits}
 use Rattle.pesp_cert.specs.Texts.{is_end, IsRun, HasText, time_item, tree_item}
 use Rattle.pesp_cert.proofs.LimitFacts.{limits_of}

@@ -8,19 +8,19 @@ use Rattle.std.proofs.lemmas.Fmt.{length-decimal-le}
 use Rattle.pesp_problem.specs.declared.row.SignedRow.{SignedRow}
 use Rattle.pesp_problem.specs.declared.pair.Pair.{Pair}
 use Rattle.pesp_truth.specs.declared.answer.Answer.TheVariants as answers
-use Rattle.pesp_lines.specs.declared.progress.Progress.{Progress}
+use Rattle.pesp_cert_lines.specs.declared.progress.Progress.{Progress}
 use Rattle.pesp_text.specs.Number.{NATURALS}
 use Rattle.pesp_text.specs.Words.{spaced, line_of}
-use Rattle.pesp_lines.specs.Pairs.{pair_words, is_pair_within, all_within, follows, rise_from}
-use Rattle.pesp_lines.specs.declared.item.Item.{Item}
-use Rattle.pesp_lines.specs.declared.item.Item.TheVariants.{Version, Period, Answer as Says, Time, Cycle, Slack, Offset, Bound, Nothing, Gap, Propagated, End}
-use Rattle.pesp_lines.specs.Rows.{is_name, rows_are_named, row_word, row_words}
-use Rattle.pesp_lines.specs.Items.{item_words}
-use Rattle.pesp_lines.specs.Counts.{after, CanStand}
+use Rattle.pesp_cert_lines.specs.Pairs.{pair_words, is_pair_within, all_within, follows, rise_from}
+use Rattle.pesp_cert_lines.specs.declared.item.Item.{Item}
+use Rattle.pesp_cert_lines.specs.declared.item.Item.TheVariants.{Version, Period, Answer as Says, Time, Cycle, Slack, Offset, Bound, Nothing, Gap, Propagated, End}
+use Rattle.pesp_cert_lines.specs.Rows.{is_name, rows_are_named, row_word, row_words}
+use Rattle.pesp_cert_lines.specs.Items.{item_words}
+use Rattle.pesp_cert_lines.specs.Counts.{after, CanStand}
 use Rattle.pesp_cert.specs.Texts.{IsRun}
-use Rattle.pesp_lines.specs.Lines.{LONGEST}
-use Rattle.pesp_lines.proofs.Tests.{and_left, and_right}
-use Rattle.pesp_lines.proofs.WordLaws.{cycle_below, mult_below}
+use Rattle.pesp_cert_lines.specs.Lines.{LONGEST}
+use Rattle.pesp_cert_lines.proofs.Tests.{and_left, and_right}
+use Rattle.pesp_cert_lines.proofs.WordLaws.{cycle_below, mult_below}
 
 -- a line that is not too long
 abbrev pub IsShort : Item → Type 0

@@ -6,25 +6,25 @@ use Rattle.std.proofs.lemmas.Bool.Decides.{nat_tests}
 use Rattle.std.proofs.lemmas.List.{append-nil}
 use Rattle.std.proofs.lemmas.List.Concat.{flat_map-cons}
 use Rattle.std.proofs.lemmas.List.Splits.{slice_split_at, join_with_byte-slice_split}
-use Rattle.pesp_lines.specs.declared.fault.LineFault.{LineFault}
+use Rattle.pesp_cert_lines.specs.declared.fault.LineFault.{LineFault}
 use Rattle.pesp_cert.specs.declared.refusal.CertRefusal.{CertRefusal}
 use Rattle.pesp_cert.specs.declared.refusal.CertRefusal.TheVariants as refusals
-use Rattle.pesp_lines.specs.declared.progress.Progress.{Progress}
+use Rattle.pesp_cert_lines.specs.declared.progress.Progress.{Progress}
 use Rattle.pesp_text.specs.Words.{is_byte, pieces, spaced, line_of}
-use Rattle.pesp_lines.specs.declared.item.Item.{Item}
-use Rattle.pesp_lines.specs.Items.{item_words, item_line}
-use Rattle.pesp_lines.specs.Counts.{start, after, CanStand}
-use Rattle.pesp_lines.specs.Lines.{LONGEST, line_at}
+use Rattle.pesp_cert_lines.specs.declared.item.Item.{Item}
+use Rattle.pesp_cert_lines.specs.Items.{item_words, item_line}
+use Rattle.pesp_cert_lines.specs.Counts.{start, after, CanStand}
+use Rattle.pesp_cert_lines.specs.Lines.{LONGEST, line_at}
 use Rattle.pesp_cert.specs.Texts.{is_end, IsRun, text_of, items_of, spelling, NoneBeginsAnother}
 use Rattle.pesp_cert.specs.Refusals.{items_from, items_of_text, onto, is_nothing, refusal_at, IsTextOf, ReadsTexts}
-use Rattle.pesp_lines.proofs.Tests.{cases, and_left, and_right}
+use Rattle.pesp_cert_lines.proofs.Tests.{cases, and_left, and_right}
 use Rattle.pesp_cert.proofs.TextSteps.{nonempty, at_end, at_item, nothing_more}
 use Rattle.pesp_truth.specs.Certificates.{Content}
 use Rattle.pesp_cert.specs.Drafts.{blank, all_added, ReadsItems}
 use Rattle.pesp_cert.proofs.DraftLaws.{all_added-items_of}
 use Rattle.pesp_cert.proofs.RunLaws.{run_content}
 use Rattle.pesp_cert.proofs.ShortLaws.{IsShort, run_short}
-use Rattle.pesp_lines.proofs.LineLaws.{line_found, line_read, item_plain, is_plain, is_inner, all_plain}
+use Rattle.pesp_cert_lines.proofs.LineLaws.{line_found, line_read, item_plain, is_plain, is_inner, all_plain}
 
 -- what one step of reading that gives items says
 is_ok : (b : Bool) (r : CertRefusal) (q : Result (List Item) CertRefusal) (items : List Item) → cond b (Err r) q ≡ Ok items → q ≡ Ok items

@@ -13,12 +13,12 @@ use Rattle.pesp_truth.specs.declared.tree.TreeLine.{TreeLine}
 use Rattle.pesp_truth.specs.declared.tree.TreeLine.TheVariants as lines
 use Rattle.pesp_truth.specs.Certificates.{Content}
 use Rattle.pesp_text.specs.Words.{spaced}
-use Rattle.pesp_lines.specs.Pairs.{pair_words, rise_from, all_within}
-use Rattle.pesp_lines.specs.declared.item.Item.{Item}
-use Rattle.pesp_lines.specs.declared.item.Item.TheVariants.{Version, Period, Answer as Says, Cycle, End}
-use Rattle.pesp_lines.specs.Rows.{rows_are_named, row_words}
-use Rattle.pesp_lines.specs.Items.{item_line}
-use Rattle.pesp_lines.proofs.Tests.{and_left, and_right}
+use Rattle.pesp_cert_lines.specs.Pairs.{pair_words, rise_from, all_within}
+use Rattle.pesp_cert_lines.specs.declared.item.Item.{Item}
+use Rattle.pesp_cert_lines.specs.declared.item.Item.TheVariants.{Version, Period, Answer as Says, Cycle, End}
+use Rattle.pesp_cert_lines.specs.Rows.{rows_are_named, row_words}
+use Rattle.pesp_cert_lines.specs.Items.{item_line}
+use Rattle.pesp_cert_lines.proofs.Tests.{and_left, and_right}
 use Rattle.pesp_cert.specs.Limits.{has_costs, is_time, is_cycle, total_rows, is_line, pairs_in, total_pairs, KeepsLimits}
 use Rattle.pesp_cert.specs.Texts.{HasText, time_item, tree_item, spelling}
 use Rattle.pesp_cert.proofs.LimitFacts.{limits_of}

@@ -5,11 +5,11 @@ use Rattle.std.specs.List.{onto_first}
 use Rattle.std.proofs.lemmas.Bool.Decides.{nat_tests}
 use Rattle.std.proofs.lemmas.Bool.{le-ltb, lt-ltb}
 use Rattle.pesp_text.specs.Words.{pieces, is_byte}
-use Rattle.pesp_lines.specs.declared.fault.LineFault.{LineFault}
-use Rattle.pesp_lines.specs.declared.item.Item.{Item}
-use Rattle.pesp_lines.specs.declared.progress.Progress.{Progress}
-use Rattle.pesp_lines.specs.Counts.{after}
-use Rattle.pesp_lines.specs.Lines.{line_at, LONGEST}
+use Rattle.pesp_cert_lines.specs.declared.fault.LineFault.{LineFault}
+use Rattle.pesp_cert_lines.specs.declared.item.Item.{Item}
+use Rattle.pesp_cert_lines.specs.declared.progress.Progress.{Progress}
+use Rattle.pesp_cert_lines.specs.Counts.{after}
+use Rattle.pesp_cert_lines.specs.Lines.{line_at, LONGEST}
 use Rattle.pesp_cert.specs.declared.refusal.CertRefusal.TheVariants as refusals
 use Rattle.pesp_cert.specs.Texts.{is_end}
 use Rattle.pesp_cert.specs.Refusals.{items_from, refusal_at, is_nothing, onto}

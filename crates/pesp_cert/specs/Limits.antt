@@ -10,8 +10,8 @@ use Rattle.pesp_truth.specs.declared.tree.TreeLine.TheVariants.{Slack, Offset, B
 use Rattle.pesp_truth.specs.Trees.{are_trees}
 use Rattle.pesp_truth.specs.Certificates.{Content, line_of, lines_of}
 use Rattle.pesp_text.specs.Number.{NATURALS}
-use Rattle.pesp_lines.specs.Rows.{is_name, rows_are_named}
-use Rattle.pesp_lines.specs.Pairs.{rise_from, all_within}
+use Rattle.pesp_cert_lines.specs.Rows.{is_name, rows_are_named}
+use Rattle.pesp_cert_lines.specs.Pairs.{rise_from, all_within}
 
 -- costs have at most 18 digits
 abbrev pub is_cost : Option ℕ → Bool

@@ -2,12 +2,12 @@
 use Rattle.std.specs.Prelude.{◌≡◌, ℕ, ◌+◌, Bool, true, ◌&&◌, ◌==◌, nat_lt, if◌then◌else◌, Result, Ok, Err, List, [], ◌∷◌, ◌⊎◌, length}
 use Rattle.pesp_truth.specs.Certificates.{Content}
 use Rattle.pesp_text.specs.Words.{pieces}
-use Rattle.pesp_lines.specs.declared.fault.LineFault.{LineFault}
-use Rattle.pesp_lines.specs.declared.fault.LineFault.TheVariants as faults
-use Rattle.pesp_lines.specs.declared.item.Item.{Item}
-use Rattle.pesp_lines.specs.declared.progress.Progress.{Progress}
-use Rattle.pesp_lines.specs.Counts.{after, start}
-use Rattle.pesp_lines.specs.Lines.{line_at, LONGEST}
+use Rattle.pesp_cert_lines.specs.declared.fault.LineFault.{LineFault}
+use Rattle.pesp_cert_lines.specs.declared.fault.LineFault.TheVariants as faults
+use Rattle.pesp_cert_lines.specs.declared.item.Item.{Item}
+use Rattle.pesp_cert_lines.specs.declared.progress.Progress.{Progress}
+use Rattle.pesp_cert_lines.specs.Counts.{after, start}
+use Rattle.pesp_cert_lines.specs.Lines.{line_at, LONGEST}
 use Rattle.pesp_cert.specs.declared.refusal.CertRefusal.{CertRefusal}
 use Rattle.pesp_cert.specs.declared.refusal.CertRefusal.TheVariants as refusals
 use Rattle.pesp_cert.specs.Texts.{is_end, HasText, spelling}

@@ -3,7 +3,7 @@
 ghost use Rattle.std.specs.Prelude.{◌≡◌, IfOk, OnOk};
 ghost use Rattle.pesp_cert.specs.Drafts.{blank, added};
 
-use pesp_lines::{Item, LinePairs, SignedRows};
+use pesp_cert_lines::{Item, LinePairs, SignedRows};
 use pesp_problem::{Memory, Pairs, Walk};
 use pesp_truth::{Answer, TreeLine};
 use std::alloc::Global;

@@ -1,8 +1,8 @@
 //! The limits of a certificate's parts.
 
 ghost use Rattle.std.specs.Prelude.{◌≡◌, nat_le, map};
-ghost use Rattle.pesp_lines.specs.Rows.{is_name, rows_are_named};
-ghost use Rattle.pesp_lines.specs.Pairs.{all_within, follows, is_pair_within, rise_from};
+ghost use Rattle.pesp_cert_lines.specs.Rows.{is_name, rows_are_named};
+ghost use Rattle.pesp_cert_lines.specs.Pairs.{all_within, follows, is_pair_within, rise_from};
 ghost use Rattle.pesp_truth.specs.Trees.{are_trees};
 ghost use Rattle.pesp_truth.specs.Certificates.{line_of};
 ghost use Rattle.pesp_cert.specs.Limits.{is_period, has_costs, is_time, are_times, is_cycle, total_rows, are_cycles, are_pairs, is_line, is_branch, pairs_in, total_pairs, are_lines, has_line, has_lines, keeps_limits};

@@ -8,7 +8,7 @@ ghost use Rattle.pesp_cert.specs.Refusals.{items_of_text, IsTextOf, ReadsTexts, 
 use crate::certificate::Certificate;
 use crate::draft::Draft;
 use crate::refusal::{CertRefusal, refusal_at};
-use pesp_lines::{Item, Progress, take_line};
+use pesp_cert_lines::{Item, Progress, take_line};
 use pesp_text::split_at_byte;
 use std::alloc::Global;
 

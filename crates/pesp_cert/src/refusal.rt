@@ -3,7 +3,7 @@
 ghost use Rattle.std.specs.Prelude.{◌≡◌};
 ghost use Rattle.pesp_cert.specs.Refusals.{refusal_at};
 
-use pesp_lines::LineFault;
+use pesp_cert_lines::LineFault;
 use pesp_problem::Memory;
 use thiserror::Error;
 

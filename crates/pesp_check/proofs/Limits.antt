@@ -7,8 +7,8 @@ use Rattle.std.proofs.lemmas.List.Elements.{All-nil, All-cons}
 use Rattle.pesp_problem.specs.declared.pair.Pair.{Pair}
 use Rattle.pesp_truth.specs.declared.tree.TreeLine.{TreeLine}
 use Rattle.pesp_truth.specs.declared.tree.TreeLine.TheVariants.{Slack, Offset, Bound, Nothing, Gap, Propagated}
-use Rattle.pesp_lines.specs.Pairs.{is_pair_within, all_within, follows, rise_from}
-use Rattle.pesp_lines.specs.Rows.{is_name}
+use Rattle.pesp_cert_lines.specs.Pairs.{is_pair_within, all_within, follows, rise_from}
+use Rattle.pesp_cert_lines.specs.Rows.{is_name}
 use Rattle.pesp_cert.specs.Limits.{are_pairs, is_line}
 use Rattle.pesp_cert.proofs.ShortLaws.{pairs_few}
 use Rattle.pesp_check.specs.Lines.{ArePairLimits, KeepsLineLimits}

@@ -13,8 +13,8 @@ use Rattle.pesp_truth.specs.Trees.{EndLine, Shut, ByPropagation, IsShut}
 use Rattle.pesp_check.specs.declared.refusal.Refusal.TheVariants.{NotPropagated}
 use Rattle.pesp_truth.proofs.Events.{any_count}
 use Rattle.pesp_support.specs.Supports.{Rows}
-use Rattle.pesp_walks.specs.declared.path.Branch.{Branch}
-use Rattle.pesp_walks.specs.Pending.{pending, waiting}
+use Rattle.pesp_nets.specs.declared.path.Branch.{Branch}
+use Rattle.pesp_nets.specs.Pending.{pending, waiting}
 use Rattle.pesp_check.specs.Propagations.{rows_of}
 use Rattle.pesp_check.specs.Lines.{after, IsSoundLine, IsLineFault}
 

@@ -13,13 +13,13 @@ use Rattle.pesp_problem.specs.Timetables.{Pesp, no_row}
 use Rattle.pesp_problem.specs.Limits.{KeepsLimits, RowKeepsLimits}
 use Rattle.pesp_problem.specs.Arcs.{arcs_of, arc_at}
 use Rattle.pesp_problem.specs.Nodes.{weight_of, slack_range}
-use Rattle.pesp_walks.specs.declared.nets.NetCount.{NetCount}
-use Rattle.pesp_walks.specs.Nets.{AreZeros, nets_at}
+use Rattle.pesp_nets.specs.declared.nets.NetCount.{NetCount}
+use Rattle.pesp_nets.specs.Nets.{AreZeros, nets_at}
 use Rattle.pesp_check.specs.Offsets.{AreSlackRanges}
-use Rattle.pesp_walks.specs.Ranges.{lesser}
+use Rattle.pesp_nets.specs.Ranges.{lesser}
 use Rattle.pesp_check.specs.Flows.{number_at, entries_at, flow_term, flow_sum, AreSmallFlows, ArePairs}
-use Rattle.pesp_walks.proofs.Counts.{eq-false}
-use Rattle.pesp_walks.proofs.LeafValues.{weight_small}
+use Rattle.pesp_nets.proofs.Counts.{eq-false}
+use Rattle.pesp_nets.proofs.LeafValues.{weight_small}
 use Rattle.pesp_check.proofs.Flowing.{pairs_apart}
 use Rattle.pesp_check.proofs.Sums.{sum_below-small, held-take, held-zeros, small-set}
 use Rattle.pesp_check.proofs.Arcs.{arc_is}

@@ -6,9 +6,9 @@ use Rattle.pesp_problem.specs.Sums.{sum_below}
 use Rattle.pesp_problem.specs.Arcs.{arc_at}
 use Rattle.pesp_problem.specs.Walks.{Names}
 use Rattle.pesp_problem.specs.Nodes.{slack_range, weight_of}
-use Rattle.pesp_walks.specs.declared.nets.NetCount.{NetCount}
-use Rattle.pesp_walks.specs.Nets.{sum_of, nets_at}
-use Rattle.pesp_walks.specs.Ranges.{lesser}
+use Rattle.pesp_nets.specs.declared.nets.NetCount.{NetCount}
+use Rattle.pesp_nets.specs.Nets.{sum_of, nets_at}
+use Rattle.pesp_nets.specs.Ranges.{lesser}
 
 -- the entries at place i, added up
 abbrev pub count_of : List NetCount → ℕ → ℤ

@@ -1,14 +1,14 @@
 //! What a cut changes of the ranges, and how it is taken back.
 
 ghost use Rattle.std.specs.Prelude.{◌≡◌, ◌-◌, length};
-ghost use Rattle.pesp_walks.specs.Ranges.{IsCut};
+ghost use Rattle.pesp_nets.specs.Ranges.{IsCut};
 ghost use Rattle.pesp_check.specs.Ranges.{node_of, AreRanges};
-ghost use Rattle.pesp_walks.specs.Pending.{change_of, restored};
+ghost use Rattle.pesp_nets.specs.Pending.{change_of, restored};
 ghost use Rattle.pesp_check.specs.Pending.{IsChange};
 
 use crate::ranges::{Ranges, set_slack};
+use pesp_nets::Change;
 use pesp_problem::{Cut, Instance};
-use pesp_walks::Change;
 
 /// What a cut is going to change.
 pub fn change_of(instance: &Instance, ranges: &Ranges, cut: Cut) -> Change

@@ -1,10 +1,10 @@
 //! What the lines of a tree are judged by.
 
 ghost use Rattle.std.specs.Prelude.{◌≡◌, length, All};
-ghost use Rattle.pesp_walks.specs.Nets.{AreSmallCounts};
+ghost use Rattle.pesp_nets.specs.Nets.{AreSmallCounts};
 
+use pesp_nets::Nets;
 use pesp_problem::Instance;
-use pesp_walks::Nets;
 
 /// What the lines of a certificate's tree are judged by: the instance, the net counts of the certificate's cycles, and the
 /// least cost for which the tree has to be sound; none where it has to show that no timetable exists.

@@ -8,7 +8,7 @@ ghost use Rattle.pesp_truth.specs.Trees.{AreSound};
 ghost use Rattle.pesp_truth.specs.Truth.{IsTrueAnswer};
 ghost use Rattle.pesp_truth.specs.Certificates.{IsValid, lines_of, shown_times};
 ghost use Rattle.pesp_truth.specs.Certificates as spec;
-ghost use Rattle.pesp_walks.specs.Nets.{AreZeros, AreNets};
+ghost use Rattle.pesp_nets.specs.Nets.{AreZeros, AreNets};
 ghost use Rattle.pesp_check.specs.Faults.{IsVerdict, IsFirstFault, first_tree_line};
 ghost use Rattle.pesp_check.specs.Lines.{IsLinesFault};
 
@@ -18,10 +18,10 @@ use crate::judge_tree::judge_tree;
 use crate::refusal::{Refusal, Verdict};
 use crate::walks::judge_cycles;
 use pesp_cert::Certificate;
+use pesp_nets::Nets;
 use pesp_problem::{Instance, Memory};
 use pesp_truth::Answer;
 use pesp_truth::laws::valid_is_true;
-use pesp_walks::Nets;
 use std::alloc::{AllocError, Global};
 
 /// The least cost for which the tree has to be sound.

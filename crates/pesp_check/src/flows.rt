@@ -5,17 +5,17 @@ ghost use Rattle.pesp_problem.specs.declared.row.SignedRow.{SignedRow};
 ghost use Rattle.pesp_problem.specs.Arcs.{arcs_of, arc_at};
 ghost use Rattle.pesp_problem.specs.Limits.{KeepsLimits};
 ghost use Rattle.pesp_problem.specs.Nodes.{weight_of, slack_range, flow};
-ghost use Rattle.pesp_walks.specs.Nets.{AreSmallCounts, AreZeros, AreNets};
+ghost use Rattle.pesp_nets.specs.Nets.{AreSmallCounts, AreZeros, AreNets};
 ghost use Rattle.pesp_check.specs.Offsets.{AreSlackRanges};
-ghost use Rattle.pesp_walks.specs.Ranges.{lesser};
+ghost use Rattle.pesp_nets.specs.Ranges.{lesser};
 ghost use Rattle.pesp_check.specs.Flows.{count_of, number_at, AreSmallFlows, ArePairs, flow_term, flow_sum, entries_at};
 
 use crate::elements::Elements;
 use crate::nets::take;
 use crate::rows::arc_at;
+use pesp_nets::{NetCount, Nets};
 use pesp_problem::exact::{minus, plus, times};
 use pesp_problem::{Arc, Instance, Pair};
-use pesp_walks::{NetCount, Nets};
 
 /// A multiplier times a net count.
 fn product(mult: i64, count: i64) -> i128

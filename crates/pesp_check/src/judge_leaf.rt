@@ -5,7 +5,7 @@ ghost use Rattle.pesp_problem.specs.declared.row.SignedRow.{SignedRow};
 ghost use Rattle.pesp_problem.specs.Arcs.{net_of};
 ghost use Rattle.pesp_problem.specs.Walks.{Names};
 ghost use Rattle.pesp_truth.specs.Trees as trees;
-ghost use Rattle.pesp_walks.specs.Nets.{AreZeros, AreNets};
+ghost use Rattle.pesp_nets.specs.Nets.{AreZeros, AreNets};
 ghost use Rattle.pesp_check.specs.Ranges.{node_of, AreRanges};
 ghost use Rattle.pesp_check.specs.Lines.{IsLeafVerdict, IsReasonVerdict, ArePairLimits};
 ghost use Rattle.pesp_check.specs.LeafLines.{leaf_said, KeepsLeafLimits};

@@ -6,7 +6,7 @@ ghost use Rattle.pesp_problem.specs.Arcs.{net_of};
 ghost use Rattle.pesp_problem.specs.Nodes as nodes;
 ghost use Rattle.pesp_truth.specs.Trees.{AreSound, are_trees};
 ghost use Rattle.pesp_truth.specs.Certificates.{line_of};
-ghost use Rattle.pesp_walks.specs.Nets.{AreZeros, AreNets};
+ghost use Rattle.pesp_nets.specs.Nets.{AreZeros, AreNets};
 ghost use Rattle.pesp_check.specs.Lines.{IsLinesFault, KeepsLineLimits};
 ghost use Rattle.pesp_check.specs.SaidLines.{line_said, KeepsSaidLimits};
 

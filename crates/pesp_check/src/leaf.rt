@@ -6,10 +6,10 @@ ghost use Rattle.pesp_problem.specs.Limits.{KeepsLimits};
 ghost use Rattle.pesp_problem.specs.Sums as sums;
 ghost use Rattle.pesp_problem.specs.Arcs.{net_of};
 ghost use Rattle.pesp_problem.specs.Nodes as nodes;
-ghost use Rattle.pesp_walks.specs.Nets.{AreSmallCounts, AreNetCounts, AreZeros, AreNets};
+ghost use Rattle.pesp_nets.specs.Nets.{AreSmallCounts, AreNetCounts, AreZeros, AreNets};
 ghost use Rattle.pesp_check.specs.Offsets.{AreSlackRanges, IsSmallOffset};
 ghost use Rattle.pesp_check.specs.Flows.{ArePairs};
-ghost use Rattle.pesp_walks.specs.Ranges.{left_of};
+ghost use Rattle.pesp_nets.specs.Ranges.{left_of};
 ghost use Rattle.pesp_check.specs.Ranges.{node_of, AreRanges, idle_part};
 
 use crate::checker::Checker;
@@ -17,9 +17,9 @@ use crate::elements::Elements;
 use crate::flows::{add_flows, take_flows};
 use crate::offsets::{duration_sums, left_between, scaled};
 use crate::ranges::Ranges;
+use pesp_nets::NetCount;
 use pesp_problem::exact::{plus, times};
 use pesp_problem::{Instance, Pair};
-use pesp_walks::NetCount;
 
 /// The least and the greatest offset that an offset range and slack ranges leave to a cycle.
 pub fn offsets_left(

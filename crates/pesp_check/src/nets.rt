@@ -3,11 +3,11 @@
 ghost use Rattle.std.specs.Prelude.{◌≡◌, ℕ, List, ◌-◌, ◌+ℤ◌, ◌<◌, ◌≤◌, pos, length, unsigned_abs, slice_index_or, slice_set, IfOk, OnOk};
 ghost use Rattle.pesp_problem.specs.declared.row.SignedRow.{SignedRow};
 ghost use Rattle.pesp_problem.specs.Walks.{Names, sign};
-ghost use Rattle.pesp_walks.specs.Nets.{AreZeros, AreNetCounts};
+ghost use Rattle.pesp_nets.specs.Nets.{AreZeros, AreNetCounts};
 ghost use Rattle.pesp_check.specs.Nets.{AreCounts, ArePlaces, IsEntered};
 
+use pesp_nets::{NetCount, Nets};
 use pesp_problem::SignedRow;
-use pesp_walks::{NetCount, Nets};
 use std::alloc::{AllocError, Global};
 
 /// 1 under a plus sign, -1 under a minus sign.

@@ -6,17 +6,17 @@ ghost use Rattle.pesp_problem.specs.Arcs.{net_of};
 ghost use Rattle.pesp_truth.specs.Trees.{IsShut, ByPropagation};
 ghost use Rattle.pesp_check.specs.Propagations.{rows_of};
 ghost use Rattle.pesp_problem.specs.Nodes.{Node};
-ghost use Rattle.pesp_walks.specs.Ranges.{IsCut};
+ghost use Rattle.pesp_nets.specs.Ranges.{IsCut};
 ghost use Rattle.pesp_check.specs.Ranges.{node_of, AreRanges};
-ghost use Rattle.pesp_walks.specs.Pending.{pending, waiting, branched};
+ghost use Rattle.pesp_nets.specs.Pending.{pending, waiting, branched};
 ghost use Rattle.pesp_check.specs.Pending.{AreChanges, Standing};
 
 use crate::branch::{change_of, put_back};
 use crate::propagation::shuts;
 use crate::ranges::{Ranges, take_part};
+use pesp_nets::Branch;
 use pesp_problem::{Cut, Instance, Side};
 use pesp_support::Support;
-use pesp_walks::Branch;
 use std::alloc::{AllocError, Global};
 use std::marker::Model;
 
@@ -105,7 +105,7 @@ impl<'a> Model for NodeWalk<'a> {
     ghost use Rattle.pesp_check.specs.Ranges.{node_of, AreRanges};
     ghost use Rattle.std.specs.Prelude.{◌≡◌};
     ghost use Rattle.std.specs.Option.{ForSome};
-    ghost use Rattle.pesp_walks.specs.Pending.{waiting};
+    ghost use Rattle.pesp_nets.specs.Pending.{waiting};
     ghost use Rattle.pesp_check.specs.Pending.{AreChanges, Standing};
     ghost use Rattle.pesp_check.specs.Propagations.{rows_of};
 

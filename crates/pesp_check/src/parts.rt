@@ -10,4 +10,4 @@ pub use crate::ranges::Ranges;
 pub use crate::table::root;
 pub use crate::tree::{SaidLine, take_line};
 pub use crate::walks::judge_cycle;
-pub use pesp_walks::Nets;
+pub use pesp_nets::Nets;

@@ -5,7 +5,7 @@ ghost use Rattle.std.specs.Int.{int_min};
 ghost use Rattle.pesp_problem.specs.Arcs.{arcs_of, arc_at};
 ghost use Rattle.pesp_problem.specs.Limits.{KeepsLimits};
 ghost use Rattle.pesp_problem.specs.Nodes.{part};
-ghost use Rattle.pesp_walks.specs.Ranges.{cut_slack, cut_offset, IsCut};
+ghost use Rattle.pesp_nets.specs.Ranges.{cut_slack, cut_offset, IsCut};
 ghost use Rattle.pesp_check.specs.Ranges.{node_of, AreRanges};
 
 use crate::rows::arc_at;

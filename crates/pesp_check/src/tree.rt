@@ -4,7 +4,7 @@ ghost use Rattle.std.specs.Prelude.{◌≡◌, ◌≢◌, ◌↔◌, ℕ, ◌<�
 ghost use Rattle.pesp_problem.specs.declared.row.SignedRow.{SignedRow};
 ghost use Rattle.pesp_problem.specs.Arcs.{net_of};
 ghost use Rattle.pesp_truth.specs.Trees.{CutLine, EndLine, Shut, ByPropagation};
-ghost use Rattle.pesp_walks.specs.Nets.{AreZeros, AreNets};
+ghost use Rattle.pesp_nets.specs.Nets.{AreZeros, AreNets};
 ghost use Rattle.pesp_check.specs.Lines.{after, IsLineVerdict, CutIsNamed, IsSmallCut};
 ghost use Rattle.pesp_check.specs.LeafLines.{leaf_said, KeepsLeafLimits};
 ghost use Rattle.pesp_check.specs.SaidLines.{line_said, KeepsSaidLimits};

@@ -4,7 +4,7 @@ ghost use Rattle.std.specs.Prelude.{◌≡◌, ◌↔◌, ℕ, ◌≤◌, ◌<�
 ghost use Rattle.pesp_problem.specs.Arcs.{arcs_of};
 ghost use Rattle.pesp_problem.specs.Walks.{RowExists, IsWalk};
 ghost use Rattle.pesp_problem.specs.Walks as spec;
-ghost use Rattle.pesp_walks.specs.Nets.{AreZeros, AreNets};
+ghost use Rattle.pesp_nets.specs.Nets.{AreZeros, AreNets};
 ghost use Rattle.pesp_check.specs.Nets.{AreCounts, ArePlaces};
 ghost use Rattle.pesp_check.specs.Faults.{IsCycleFault};
 ghost use Rattle.pesp_check.specs.Ways.{IsWay, IsWayOf, IsCycleVerdict};
@@ -13,8 +13,8 @@ use crate::elements::Elements;
 use crate::nets::{count_row, take_nets};
 use crate::refusal::Refusal;
 use crate::rows::arc_at;
+use pesp_nets::Nets;
 use pesp_problem::{Instance, SignedRow, Walk};
-use pesp_walks::Nets;
 use std::alloc::{AllocError, Global};
 
 /// Whether the row exists.

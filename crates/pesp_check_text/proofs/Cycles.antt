@@ -8,12 +8,12 @@ use Rattle.pesp_problem.specs.Arcs.{arcs_of}
 use Rattle.pesp_problem.specs.Walks.{IsWalk}
 use Rattle.pesp_problem.specs.Nodes.{cycle_at}
 use Rattle.pesp_truth.specs.Certificates.{Content}
-use Rattle.pesp_lines.specs.declared.item.Item.{Item}
-use Rattle.pesp_lines.specs.declared.item.Item.TheVariants.{Cycle}
-use Rattle.pesp_lines.proofs.Tests.{and_right}
-use Rattle.pesp_walks.specs.declared.nets.NetCount.{NetCount}
+use Rattle.pesp_cert_lines.specs.declared.item.Item.{Item}
+use Rattle.pesp_cert_lines.specs.declared.item.Item.TheVariants.{Cycle}
+use Rattle.pesp_cert_lines.proofs.Tests.{and_right}
+use Rattle.pesp_nets.specs.declared.nets.NetCount.{NetCount}
 use Rattle.pesp_check.specs.declared.refusal.Refusal.{Refusal}
-use Rattle.pesp_walks.specs.Nets.{AreNetCounts}
+use Rattle.pesp_nets.specs.Nets.{AreNetCounts}
 use Rattle.pesp_check.specs.Faults.{IsWalkFault, line_before_cycles}
 use Rattle.pesp_check_text.specs.Items.{is_later}
 use Rattle.pesp_check_text.specs.declared.stage.Stage.{Stage}

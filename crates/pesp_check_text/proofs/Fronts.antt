@@ -6,12 +6,12 @@ use Rattle.std.proofs.lemmas.List.{take_more, take_all}
 use Rattle.pesp_problem.specs.Timetables.{Pesp}
 use Rattle.pesp_truth.specs.declared.answer.Answer.{Answer}
 use Rattle.pesp_truth.specs.Certificates.{Content, ShowsAnswer}
-use Rattle.pesp_lines.specs.declared.item.Item.{Item}
-use Rattle.pesp_lines.specs.declared.item.Item.TheVariants.{Version, Period, Answer as Says, Time}
-use Rattle.pesp_lines.proofs.Tests.{and_left}
+use Rattle.pesp_cert_lines.specs.declared.item.Item.{Item}
+use Rattle.pesp_cert_lines.specs.declared.item.Item.TheVariants.{Version, Period, Answer as Says, Time}
+use Rattle.pesp_cert_lines.proofs.Tests.{and_left}
 use Rattle.pesp_cert.specs.Texts.{time_item}
 use Rattle.pesp_check.specs.declared.refusal.Refusal.{Refusal}
-use Rattle.pesp_walks.specs.Nets.{AreNets}
+use Rattle.pesp_nets.specs.Nets.{AreNets}
 use Rattle.pesp_check.proofs.Tables.{nets_none}
 use Rattle.pesp_check_text.specs.Items.{is_later, begins_later}
 use Rattle.pesp_check_text.specs.declared.stage.Stage.{Stage}

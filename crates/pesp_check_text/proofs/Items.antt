@@ -2,13 +2,13 @@
 use Rattle.std.proofs.Common.{◌≡◌, ℕ, ◌≤◌, arith, true}
 use Rattle.std.specs.Prelude.{nat_abs, nat_le, ◌&&◌}
 use Rattle.std.proofs.lemmas.Bool.Decides.{nat_tests}
-use Rattle.pesp_lines.specs.declared.item.Item.{Item}
-use Rattle.pesp_lines.specs.declared.item.Item.TheVariants.{Version, Period, Answer as Says, Time, Cycle, Slack, Offset, Bound, Nothing, Gap, Propagated, End}
-use Rattle.pesp_lines.specs.declared.progress.Progress.{Progress}
-use Rattle.pesp_lines.specs.Counts.{CanStand, after, keeps_counts}
-use Rattle.pesp_lines.specs.Rows.{is_name}
-use Rattle.pesp_lines.specs.Pairs.{rise_from, all_within}
-use Rattle.pesp_lines.proofs.Tests.{and_left, and_right, and_both}
+use Rattle.pesp_cert_lines.specs.declared.item.Item.{Item}
+use Rattle.pesp_cert_lines.specs.declared.item.Item.TheVariants.{Version, Period, Answer as Says, Time, Cycle, Slack, Offset, Bound, Nothing, Gap, Propagated, End}
+use Rattle.pesp_cert_lines.specs.declared.progress.Progress.{Progress}
+use Rattle.pesp_cert_lines.specs.Counts.{CanStand, after, keeps_counts}
+use Rattle.pesp_cert_lines.specs.Rows.{is_name}
+use Rattle.pesp_cert_lines.specs.Pairs.{rise_from, all_within}
+use Rattle.pesp_cert_lines.proofs.Tests.{and_left, and_right, and_both}
 use Rattle.pesp_check.proofs.Limits.{pair_limits}
 use Rattle.pesp_check_text.specs.Items.{KeepsItemLimits}
 

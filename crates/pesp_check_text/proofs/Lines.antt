@@ -9,11 +9,11 @@ use Rattle.pesp_problem.specs.Nodes.{Node, root}
 use Rattle.pesp_truth.specs.declared.tree.TreeLine.{TreeLine}
 use Rattle.pesp_truth.specs.Trees.{are_trees}
 use Rattle.pesp_truth.specs.Certificates.{Content, IsValid, line_of, lines_of, least_of}
-use Rattle.pesp_lines.specs.declared.item.Item.{Item}
-use Rattle.pesp_lines.specs.declared.item.Item.TheVariants.{Cycle, End}
+use Rattle.pesp_cert_lines.specs.declared.item.Item.{Item}
+use Rattle.pesp_cert_lines.specs.declared.item.Item.TheVariants.{Cycle, End}
 use Rattle.pesp_cert.specs.Texts.{tree_item}
 use Rattle.pesp_check.specs.declared.refusal.Refusal.{Refusal}
-use Rattle.pesp_walks.specs.Nets.{AreNets}
+use Rattle.pesp_nets.specs.Nets.{AreNets}
 use Rattle.pesp_check.specs.Pending.{Standing}
 use Rattle.pesp_check.specs.Faults.{first_tree_line}
 use Rattle.pesp_check.specs.Lines.{after, IsSoundLine, IsLineFault, IsLineVerdict, AreJudged}

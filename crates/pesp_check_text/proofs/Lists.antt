@@ -9,8 +9,8 @@ use Rattle.pesp_problem.specs.declared.cut.Cut.TheVariants.{Slack as SlackCut, O
 use Rattle.pesp_truth.specs.declared.tree.TreeLine.{TreeLine}
 use Rattle.pesp_truth.specs.declared.tree.TreeLine.TheVariants as lines
 use Rattle.pesp_truth.specs.Certificates.{Content, line_of}
-use Rattle.pesp_lines.specs.declared.item.Item.{Item}
-use Rattle.pesp_lines.specs.declared.item.Item.TheVariants.{Time, Cycle, Slack, Offset, Bound, Nothing, Gap, Propagated, End}
+use Rattle.pesp_cert_lines.specs.declared.item.Item.{Item}
+use Rattle.pesp_cert_lines.specs.declared.item.Item.TheVariants.{Time, Cycle, Slack, Offset, Bound, Nothing, Gap, Propagated, End}
 use Rattle.pesp_cert.specs.Texts.{time_item, tree_item}
 use Rattle.pesp_check.specs.declared.judge_leaf.LeafLine.TheVariants.{Bound as BoundLeaf, Nothing as NothingLeaf, Gap as GapLeaf}
 use Rattle.pesp_check.specs.declared.tree.SaidLine.{SaidLine}

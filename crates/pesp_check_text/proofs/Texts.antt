@@ -7,20 +7,20 @@ use Rattle.pesp_truth.specs.declared.answer.Answer.{Answer}
 use Rattle.pesp_truth.specs.Truth.{IsTrueAnswer}
 use Rattle.pesp_truth.specs.Trees.{are_trees}
 use Rattle.pesp_truth.specs.Certificates.{Content, IsValid, lines_of, shown_times}
-use Rattle.pesp_lines.specs.declared.item.Item.{Item}
-use Rattle.pesp_lines.specs.declared.item.Item.TheVariants.{Version, Period, Answer as Says, Cycle, End}
+use Rattle.pesp_cert_lines.specs.declared.item.Item.{Item}
+use Rattle.pesp_cert_lines.specs.declared.item.Item.TheVariants.{Version, Period, Answer as Says, Cycle, End}
 use Rattle.pesp_cert.specs.declared.refusal.CertRefusal.{CertRefusal}
 use Rattle.pesp_cert.specs.declared.refusal.CertRefusal.TheVariants as refusals
 use Rattle.pesp_cert.specs.Texts.{items_of, time_item, tree_item}
 use Rattle.pesp_cert.proofs.Runs.{items_shape, text_keeps_limits}
 use Rattle.pesp_cert.proofs.LimitFacts.{limits_of}
 use Rattle.pesp_cert.proofs.TextLaws.{text_found_of}
-use Rattle.pesp_items.specs.declared.fault.ItemFault.{ItemFault}
-use Rattle.pesp_items.specs.declared.fault.ItemFault.TheVariants as items
-use Rattle.pesp_items.specs.Readings.{Reading, is_open, Gives, Blamed, Refuses}
-use Rattle.pesp_items.specs.Texts.{RefusesText}
-use Rattle.pesp_items.proofs.Running.{Runs, runs_none, runs_more, runs_all, runs_refused}
-use Rattle.pesp_items.proofs.Telling.{at_first, ran_text, refused_text}
+use Rattle.pesp_cert_items.specs.declared.fault.ItemFault.{ItemFault}
+use Rattle.pesp_cert_items.specs.declared.fault.ItemFault.TheVariants as items
+use Rattle.pesp_cert_items.specs.Readings.{Reading, is_open, Gives, Blamed, Refuses}
+use Rattle.pesp_cert_items.specs.Texts.{RefusesText}
+use Rattle.pesp_cert_items.proofs.Running.{Runs, runs_none, runs_more, runs_all, runs_refused}
+use Rattle.pesp_cert_items.proofs.Telling.{at_first, ran_text, refused_text}
 use Rattle.pesp_check.specs.declared.refusal.Verdict.{Verdict}
 use Rattle.pesp_check.specs.declared.refusal.Verdict.TheVariants.{Accepted, Refused}
 use Rattle.pesp_check.specs.Faults.{IsVerdict}

@@ -1,7 +1,7 @@
 -- Faults of items as faults of a check.
 use Rattle.pesp_cert.specs.declared.refusal.CertRefusal.TheVariants.{Memory as NoMemory}
-use Rattle.pesp_items.specs.declared.fault.ItemFault.{ItemFault}
-use Rattle.pesp_items.specs.declared.fault.ItemFault.TheVariants as items
+use Rattle.pesp_cert_items.specs.declared.fault.ItemFault.{ItemFault}
+use Rattle.pesp_cert_items.specs.declared.fault.ItemFault.TheVariants as items
 use Rattle.pesp_check_text.specs.declared.fault.CheckFault.{CheckFault}
 use Rattle.pesp_check_text.specs.declared.fault.CheckFault.TheVariants.{Text, Read, Memory}
 

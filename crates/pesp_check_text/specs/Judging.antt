@@ -8,14 +8,14 @@ use Rattle.pesp_problem.specs.Nodes.{root, cycle_at}
 use Rattle.pesp_truth.specs.declared.answer.Answer.{Answer}
 use Rattle.pesp_truth.specs.Trees.{are_trees}
 use Rattle.pesp_truth.specs.Certificates.{Content, line_of, least_of, shown_labels, shown_times, ShowsAnswer}
-use Rattle.pesp_lines.specs.declared.item.Item.{Item}
-use Rattle.pesp_lines.specs.declared.item.Item.TheVariants.{Version, Period, Answer as Says, Cycle, End}
+use Rattle.pesp_cert_lines.specs.declared.item.Item.{Item}
+use Rattle.pesp_cert_lines.specs.declared.item.Item.TheVariants.{Version, Period, Answer as Says, Cycle, End}
 use Rattle.pesp_cert.specs.Texts.{time_item, tree_item}
-use Rattle.pesp_walks.specs.declared.nets.NetCount.{NetCount}
+use Rattle.pesp_nets.specs.declared.nets.NetCount.{NetCount}
 use Rattle.pesp_check.specs.declared.refusal.Refusal.{Refusal}
 use Rattle.pesp_check.specs.declared.refusal.Refusal.TheVariants.{OtherPeriod}
 use Rattle.pesp_check.specs.Pending.{Standing}
-use Rattle.pesp_walks.specs.Nets.{AreNets}
+use Rattle.pesp_nets.specs.Nets.{AreNets}
 use Rattle.pesp_check.specs.Faults.{IsAnswerFault, IsFirstFault, first_tree_line}
 use Rattle.pesp_check.specs.Lines.{AreJudged}
 use Rattle.pesp_check_text.specs.Items.{is_later}

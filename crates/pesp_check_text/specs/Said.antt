@@ -4,7 +4,7 @@ use Rattle.pesp_problem.specs.declared.pair.Pair.{Pair}
 use Rattle.pesp_problem.specs.declared.cut.Cut.TheVariants.{Slack, Offset}
 use Rattle.pesp_truth.specs.declared.tree.TreeLine.{TreeLine}
 use Rattle.pesp_truth.specs.declared.tree.TreeLine.TheVariants as lines
-use Rattle.pesp_items.specs.Lent.{pairs_in}
+use Rattle.pesp_cert_items.specs.Lent.{pairs_in}
 use Rattle.pesp_check.specs.declared.judge_leaf.LeafLine.TheVariants.{Bound, Nothing, Gap}
 use Rattle.pesp_check.specs.declared.tree.SaidLine.{SaidLine}
 use Rattle.pesp_check.specs.declared.tree.SaidLine.TheVariants.{Branch, Leaf, Propagated}

@@ -6,7 +6,7 @@ use Rattle.pesp_truth.specs.declared.answer.Answer.{Answer}
 use Rattle.pesp_truth.specs.Truth.{IsTrueAnswer}
 use Rattle.pesp_truth.specs.Certificates.{Content, IsValid, shown_times}
 use Rattle.pesp_cert.specs.Refusals.{IsTextOf}
-use Rattle.pesp_items.specs.Texts.{RefusesText}
+use Rattle.pesp_cert_items.specs.Texts.{RefusesText}
 use Rattle.pesp_check.specs.declared.refusal.Verdict.{Verdict}
 use Rattle.pesp_check.specs.declared.refusal.Verdict.TheVariants.{Accepted}
 use Rattle.pesp_check.specs.Faults.{IsVerdict}

@@ -8,7 +8,7 @@ use crate::fault::CheckFault;
 use crate::judge::Judge;
 use pesp_check::Verdict;
 use pesp_check::parts::zeros;
-use pesp_items::ItemReader;
+use pesp_cert_items::ItemReader;
 use pesp_problem::Instance;
 use pesp_stream::{MOST_INTERRUPTED, Source};
 use pesp_truth::Answer;

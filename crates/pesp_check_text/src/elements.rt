@@ -1,9 +1,9 @@
 //! The list of a line, read from the line as often as is asked.
 
-ghost use Rattle.pesp_items.specs.Lent.{pairs_in, rows_in};
+ghost use Rattle.pesp_cert_items.specs.Lent.{pairs_in, rows_in};
 
 use pesp_check::parts::Elements;
-use pesp_items::{LinePairs, SignedRows};
+use pesp_cert_items::{LinePairs, SignedRows};
 use pesp_problem::{Pair, SignedRow};
 
 /// The pairs of a leaf's line that are still to come.

@@ -1,7 +1,7 @@
 //! Why a text has no verdict.
 
 use pesp_cert::CertRefusal;
-use pesp_items::ItemFault;
+use pesp_cert_items::ItemFault;
 use std::alloc::AllocError;
 
 /// Why a text has no verdict: it is no certificate's, the reader failed, or a growth was refused.

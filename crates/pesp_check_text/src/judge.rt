@@ -4,11 +4,11 @@ ghost use Rattle.std.specs.Prelude.{◌≡◌, ℕ, ◌+◌, ◌<◌, ◌≤◌,
 ghost use Rattle.std.specs.Option.{ForSome, is_some};
 ghost use Rattle.pesp_truth.specs.Trees.{are_trees};
 ghost use Rattle.pesp_truth.specs.Certificates.{Content, lines_of, ShowsAnswer};
-ghost use Rattle.pesp_lines.specs.declared.item.Item.{Item as LineItem};
-ghost use Rattle.pesp_lines.specs.declared.item.Item.TheVariants as items;
+ghost use Rattle.pesp_cert_lines.specs.declared.item.Item.{Item as LineItem};
+ghost use Rattle.pesp_cert_lines.specs.declared.item.Item.TheVariants as items;
 ghost use Rattle.pesp_cert.specs.Texts.{tree_item};
-ghost use Rattle.pesp_items.specs.Lent.{listed, rows_in};
-ghost use Rattle.pesp_walks.specs.Nets.{AreZeros, AreSmallCounts};
+ghost use Rattle.pesp_cert_items.specs.Lent.{listed, rows_in};
+ghost use Rattle.pesp_nets.specs.Nets.{AreZeros, AreSmallCounts};
 ghost use Rattle.pesp_check.specs.SaidLines.{KeepsSaidLimits};
 ghost use Rattle.pesp_check.specs.Faults.{IsVerdict};
 ghost use Rattle.pesp_check_text.specs.Said.{pairs_of, tree_line};
@@ -23,7 +23,7 @@ use pesp_check::parts::{
     take_line,
 };
 use pesp_check::{Refusal, Verdict};
-use pesp_items::{Item, SignedRows};
+use pesp_cert_items::{Item, SignedRows};
 use pesp_problem::{Cut, Instance};
 use pesp_truth::Answer;
 use std::alloc::{AllocError, Global};

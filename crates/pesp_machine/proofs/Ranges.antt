@@ -21,10 +21,10 @@ use Rattle.pesp_problem.proofs.Nodes.{set_cases}
 use Rattle.pesp_truth.specs.Trees.{CutExists}
 use Rattle.pesp_truth.specs.Paths.{along}
 use Rattle.pesp_network.specs.Networks.{KeepsNetLimits}
-use Rattle.pesp_walks.specs.Ranges.{AreSlackEnds}
+use Rattle.pesp_nets.specs.Ranges.{AreSlackEnds}
 use Rattle.pesp_nodes.specs.Offsets.{AreArcs}
 use Rattle.pesp_nodes.specs.Problems.{ProblemValue, net_of, IsSmallTable, IsCutOf}
-use Rattle.pesp_walks.proofs.Counts.{amounts_short}
+use Rattle.pesp_nets.proofs.Counts.{amounts_short}
 use Rattle.pesp_nodes.proofs.Keeping.{arcs_small, spans_small}
 use Rattle.pesp_machine.specs.States.{root_of, node_at}
 

@@ -12,10 +12,10 @@ use Rattle.pesp_problem.specs.Arcs.{Net, over_arcs}
 use Rattle.pesp_problem.specs.Walks.{net_count}
 use Rattle.pesp_problem.specs.Nodes.{Node, cycle_at, offsets_left, offset_part, flow, leaf_value}
 use Rattle.pesp_problem.proofs.Integers.{mul_comm, zero-mul, sub-mul, sum_below-same, sum_below-add}
-use Rattle.pesp_walks.specs.declared.nets.NetCount.{NetCount}
-use Rattle.pesp_walks.specs.Nets.{sum_of, AreNetCounts}
+use Rattle.pesp_nets.specs.declared.nets.NetCount.{NetCount}
+use Rattle.pesp_nets.specs.Nets.{sum_of, AreNetCounts}
 use Rattle.pesp_nodes.specs.Values.{row_term, row_term_at, gain_at}
-use Rattle.pesp_walks.proofs.LeafValues.{part_some, part_none, value_none}
+use Rattle.pesp_nets.proofs.LeafValues.{part_some, part_none, value_none}
 use Rattle.pesp_nodes.proofs.LeafValues.{value_is}
 
 -- ---- one row

@@ -14,14 +14,14 @@ use Rattle.pesp_problem.specs.Arcs.{Net, arc_at, no_arc, over_arcs}
 use Rattle.pesp_problem.specs.Walks.{net_count}
 use Rattle.pesp_problem.specs.Nodes.{Node, cycle_at, slack_range, least_sum, greatest_sum, offsets_left, offset_part, offset_range, weight_of, slack_part, flow, leaf_value}
 use Rattle.pesp_problem.proofs.Integers.{mul-add, mul-le, sum_below-le, sum_below-add, sum_below-mul, sum_below-zero}
-use Rattle.pesp_walks.specs.Ranges.{AreSlackEnds}
+use Rattle.pesp_nets.specs.Ranges.{AreSlackEnds}
 use Rattle.pesp_nodes.specs.Offsets.{AreArcs}
 use Rattle.pesp_network.specs.Networks.{KeepsNetLimits, arc_of_net}
 use Rattle.pesp_nodes.specs.Problems.{ProblemValue, net_of, IsNodeOf, IsSmallTable, Rise, ArePairs}
-use Rattle.pesp_walks.proofs.Counts.{amounts_short}
-use Rattle.pesp_walks.proofs.Durations.{left_small}
+use Rattle.pesp_nets.proofs.Counts.{amounts_short}
+use Rattle.pesp_nets.proofs.Durations.{left_small}
 use Rattle.pesp_nodes.proofs.Keeping.{arcs_small}
-use Rattle.pesp_walks.proofs.LeafValues.{scaled_times, weight_small}
+use Rattle.pesp_nets.proofs.LeafValues.{scaled_times, weight_small}
 
 -- ---- sums and products
 

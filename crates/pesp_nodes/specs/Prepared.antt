@@ -2,9 +2,9 @@
 use Rattle.std.specs.Prelude.{List, length, All}
 use Rattle.pesp_problem.specs.Walks.{IsWalk}
 use Rattle.pesp_network.specs.Networks.{KeepsNetLimits}
-use Rattle.pesp_walks.specs.declared.nets.NetCount.{NetCount}
+use Rattle.pesp_nets.specs.declared.nets.NetCount.{NetCount}
 use Rattle.pesp_nodes.specs.declared.passages.Passage.{Passage}
-use Rattle.pesp_walks.specs.Nets.{AreNets}
+use Rattle.pesp_nets.specs.Nets.{AreNets}
 use Rattle.pesp_nodes.specs.Passages.{ArePassages}
 use Rattle.pesp_nodes.specs.Problems.{ProblemValue, net_of, IsSmallTable}
 

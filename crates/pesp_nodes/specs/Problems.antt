@@ -7,7 +7,7 @@ use Rattle.pesp_problem.specs.declared.cut.Cut.{Cut}
 use Rattle.pesp_problem.specs.Arcs.{Net}
 use Rattle.pesp_problem.specs.Walks.{Names, IsWalk}
 use Rattle.pesp_problem.specs.Nodes.{Node, cycle_at}
-use Rattle.pesp_walks.specs.Ranges.{IsCut}
+use Rattle.pesp_nets.specs.Ranges.{IsCut}
 use Rattle.pesp_network.specs.Networks.{NetworkValue, net_of_network, signed_rows}
 use Rattle.pesp_nodes.specs.declared.refusal.ProblemRefusal.{ProblemRefusal}
 use Rattle.pesp_nodes.specs.declared.refusal.ProblemRefusal.TheVariants.{Memory, OpenWalk, TableTooLarge}

@@ -3,7 +3,7 @@ use Rattle.std.specs.Prelude.{ℕ, ℤ, pos, ◌-ℤ◌, ◌*ℤ◌, Bool, true,
 use Rattle.pesp_problem.specs.declared.arc.Arc.{Arc}
 use Rattle.pesp_problem.specs.Arcs.{arc_at}
 use Rattle.pesp_problem.specs.Nodes.{weight_of, slack_range}
-use Rattle.pesp_walks.specs.Ranges.{lesser}
+use Rattle.pesp_nets.specs.Ranges.{lesser}
 
 -- the least that the slack costs beyond the flow, less the flow times the lower bound
 abbrev pub row_term : Arc → ℕ × ℕ → Bool → ℤ → ℤ

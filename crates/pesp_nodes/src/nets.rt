@@ -2,12 +2,12 @@
 
 ghost use Rattle.std.specs.Prelude.{◌≡◌, ℕ, ◌+ℤ◌, ◌<◌, ◌≤◌, pos, length, vec_len, unsigned_abs, All, OnOk, slice_index_or};
 ghost use Rattle.pesp_problem.specs.Walks.{Names, sign, net_count};
-ghost use Rattle.pesp_walks.specs.Nets.{AreZeros};
+ghost use Rattle.pesp_nets.specs.Nets.{AreZeros};
 ghost use Rattle.pesp_nodes.specs.Nets.{IsRowAdded};
 
 use crate::passages::Passage;
 use pesp_problem::SignedRow;
-use pesp_walks::{NetCount, Nets};
+use pesp_nets::{NetCount, Nets};
 use std::alloc::AllocError;
 
 /// A count after one signed row more.

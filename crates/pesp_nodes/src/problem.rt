@@ -5,9 +5,9 @@ ghost use Rattle.pesp_problem.specs.Nodes as spec;
 ghost use Rattle.pesp_problem.specs.Walks.{IsWalk};
 ghost use Rattle.pesp_network.specs.Networks.{arcs_of_network, net_of_network, KeepsNetLimits};
 ghost use Rattle.pesp_problem.specs.declared.row.SignedRow.{SignedRow};
-ghost use Rattle.pesp_walks.specs.Nets.{AreNets, AreSmallCounts};
+ghost use Rattle.pesp_nets.specs.Nets.{AreNets, AreSmallCounts};
 ghost use Rattle.pesp_nodes.specs.Passages.{ArePassages};
-ghost use Rattle.pesp_walks.specs.Ranges.{AreSlackEnds};
+ghost use Rattle.pesp_nets.specs.Ranges.{AreSlackEnds};
 ghost use Rattle.pesp_nodes.specs.Offsets.{AreArcs, AreOffsetEnds};
 ghost use Rattle.pesp_nodes.specs.Problems.{net_of, IsNodeOf, IsProblemRefusal, IsSmallTable};
 
@@ -19,7 +19,7 @@ use crate::refusal::ProblemRefusal;
 use crate::table::{is_small, nets_of_passages, passages_of_table};
 use pesp_network::Network;
 use pesp_problem::{Arc, Memory, Walk};
-use pesp_walks::Nets;
+use pesp_nets::Nets;
 use std::alloc::{AllocError, Global};
 use std::marker::Model;
 

@@ -5,8 +5,8 @@ ghost use Rattle.pesp_problem.specs.declared.row.SignedRow.{SignedRow};
 ghost use Rattle.pesp_problem.specs.Arcs.{over_arcs};
 ghost use Rattle.pesp_problem.specs.Walks.{Names, net_count};
 ghost use Rattle.pesp_problem.specs.Nodes as spec;
-ghost use Rattle.pesp_walks.specs.Nets.{AreSmallCounts, AreNetCounts};
-ghost use Rattle.pesp_walks.specs.Ranges.{AreSlackEnds};
+ghost use Rattle.pesp_nets.specs.Nets.{AreSmallCounts, AreNetCounts};
+ghost use Rattle.pesp_nets.specs.Ranges.{AreSlackEnds};
 ghost use Rattle.pesp_nodes.specs.Offsets.{AreArcs};
 ghost use Rattle.pesp_nodes.specs.Problems.{net_of, IsNodeOf};
 ghost use Rattle.pesp_nodes.specs.Values.{row_term, gain_at};
@@ -16,7 +16,7 @@ use crate::problem::Problem;
 use crate::value::{left_at, offset_term, row_term};
 use pesp_problem::exact::{minus, plus, times};
 use pesp_problem::{Arc, Pair};
-use pesp_walks::NetCount;
+use pesp_nets::NetCount;
 
 /// The flow of one pair on a row of its cycle.
 fn flow_of(pair: &Pair, net: &NetCount) -> i128

@@ -3,14 +3,14 @@
 ghost use Rattle.std.specs.Prelude.{◌≡◌, ℕ, ◌+◌, ◌<◌, ◌≤◌, ◌↔◌, List, [], length, replicate, All, IsTrue, IfOk};
 ghost use Rattle.pesp_problem.specs.declared.row.SignedRow.{SignedRow};
 ghost use Rattle.pesp_problem.specs.Walks.{Names};
-ghost use Rattle.pesp_walks.specs.Nets.{AreNets};
+ghost use Rattle.pesp_nets.specs.Nets.{AreNets};
 ghost use Rattle.pesp_nodes.specs.Passages.{AreBefore, ArePassages};
 ghost use Rattle.pesp_nodes.specs.Problems.{IsSmallTable};
 
 use crate::nets::add_row;
 use crate::passages::{Passages, add_walk};
 use pesp_problem::Walk;
-use pesp_walks::Nets;
+use pesp_nets::Nets;
 use std::alloc::{AllocError, Global};
 
 /// Whether a table has at most 100000 cycles and at most 10000000 signed rows.

@@ -7,7 +7,7 @@ ghost use Rattle.pesp_problem.specs.Arcs.{over_arcs};
 ghost use Rattle.pesp_problem.specs.Walks.{Names};
 ghost use Rattle.pesp_problem.specs.Nodes.{offsets_left, offset_part, weight_of, flow};
 ghost use Rattle.pesp_problem.specs.Nodes as spec;
-ghost use Rattle.pesp_walks.specs.Ranges.{AreSlackEnds, lesser};
+ghost use Rattle.pesp_nets.specs.Ranges.{AreSlackEnds, lesser};
 ghost use Rattle.pesp_nodes.specs.Offsets.{AreArcs, IsSmallOffset};
 ghost use Rattle.pesp_nodes.specs.Passages.{ArePassages, AreMults};
 ghost use Rattle.pesp_nodes.specs.Problems.{net_of, IsNodeOf, Rise, ArePairs};

@@ -10,7 +10,7 @@ use Rattle.pesp_truth.specs.Truth.{IsTrueAnswer}
 use Rattle.pesp_truth.specs.Certificates.{Content, shown_times}
 use Rattle.pesp_truth.specs.declared.answer.Answer.{Answer}
 use Rattle.pesp_cert.specs.Texts.{spelling, HasText}
-use Rattle.pesp_items.specs.Texts.{RefusesText}
+use Rattle.pesp_cert_items.specs.Texts.{RefusesText}
 use Rattle.pesp_check.specs.declared.refusal.Verdict.{Verdict}
 use Rattle.pesp_check_text.specs.Texts.{ChecksText}
 use Rattle.pesp_search.specs.Solving.{IsSolved, IsSearchRefusal}

@@ -6,7 +6,7 @@ ghost use Rattle.pesp_instance.specs.declared.refusal.ReadRefusal.{ReadRefusal};
 ghost use Rattle.pesp_cert.specs.declared.refusal.CertRefusal.{CertRefusal};
 ghost use Rattle.pesp_check.specs.declared.refusal.Verdict.{Verdict};
 ghost use Rattle.pesp_check.specs.declared.refusal.Verdict.TheVariants.{Accepted};
-ghost use Rattle.pesp_items.specs.Texts.{RefusesText};
+ghost use Rattle.pesp_cert_items.specs.Texts.{RefusesText};
 ghost use Rattle.pesp_runs.specs.Runs.{Solves, Checks, RefusesInstance};
 
 /// The bytes that `run_solve` appended for an instance's text, within whichever number of steps, `run_check` accepts for the

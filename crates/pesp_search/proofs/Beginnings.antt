@@ -9,8 +9,8 @@ use Rattle.pesp_network.specs.Networks.{arcs_of_network}
 use Rattle.pesp_nodes.specs.Problems.{ProblemValue, IsNodeOf}
 use Rattle.pesp_machine.specs.States.{BoardValue, opening, root_of}
 use Rattle.pesp_machine.specs.Certificates.{IsProblemOf}
-use Rattle.pesp_lifting.specs.Lifted.{IsReduced, AreLifted, IsFrugal}
-use Rattle.pesp_lifting.proofs.Tables.{short_table, fewer_rows, count_arcs}
+use Rattle.pesp_search_laws.specs.Lifted.{IsReduced, AreLifted, IsFrugal}
+use Rattle.pesp_search_laws.proofs.Tables.{short_table, fewer_rows, count_arcs}
 use Rattle.pesp_search.specs.declared.begun.Known.{Known}
 use Rattle.pesp_search.specs.declared.begun.Begun.{Begun}
 use Rattle.pesp_branching.specs.Passing.{ArePassedRows}

@@ -20,14 +20,14 @@ use Rattle.pesp_machine.proofs.Ranges.{cut_keeps_limits}
 use Rattle.pesp_machine.proofs.OneSize.{same_pairs}
 use Rattle.pesp_board.specs.Giving.{AreCuts}
 use Rattle.pesp_board.proofs.Paths.{cut_of_node}
-use Rattle.pesp_room.specs.Rooms.{branches, branch_lines, IsCounted}
-use Rattle.pesp_turns.specs.Turns.{IsWorked, splits_of}
-use Rattle.pesp_turns.proofs.Replies.{lent_leaf}
-use Rattle.pesp_turns.proofs.Sizes.{path_cuts, leaf_pairs}
-use Rattle.pesp_turns.proofs.Found.{found_is_valid}
-use Rattle.pesp_turns.proofs.Turns.{steps, closes_by_gap}
-use Rattle.pesp_turns.proofs.Ends.{step_tightens}
-use Rattle.pesp_turns.proofs.Spent.{given_one}
+use Rattle.pesp_search_laws.specs.Rooms.{branches, branch_lines, IsCounted}
+use Rattle.pesp_search_laws.specs.Turns.{IsWorked, splits_of}
+use Rattle.pesp_search_laws.proofs.Replies.{lent_leaf}
+use Rattle.pesp_search_laws.proofs.Sizes.{path_cuts, leaf_pairs}
+use Rattle.pesp_search_laws.proofs.Found.{found_is_valid}
+use Rattle.pesp_search_laws.proofs.Turns.{steps, closes_by_gap}
+use Rattle.pesp_search_laws.proofs.Ends.{step_tightens}
+use Rattle.pesp_search_laws.proofs.Spent.{given_one}
 use Rattle.pesp_search.specs.declared.refusal.SolveRefusal.{SolveRefusal}
 use Rattle.pesp_search.specs.declared.refusal.SolveRefusal.TheVariants.{Memory, TableTooLarge, PairsTooMany}
 use Rattle.pesp_search.specs.Handing.{IsHandedIn, IsHandedBack}

@@ -26,10 +26,10 @@ use Rattle.pesp_machine.specs.Leaves.{told, least_value}
 use Rattle.pesp_machine.specs.States.{State, opening, IsLent, IsOpen, IsAtMost, root_of, node_at, least}
 use Rattle.pesp_machine.specs.Events.{Lends, LendsLeaf, Takes, IsValidAt}
 use Rattle.pesp_machine.proofs.Works.{pairs_exist}
-use Rattle.pesp_turns.specs.Turns.{IsWorked, splits_of}
-use Rattle.pesp_turns.proofs.Turns.{opening_is_worked, looks, closes_by_nothing, closes_by_gap}
-use Rattle.pesp_turns.proofs.Ends.{root_sets_least}
-use Rattle.pesp_turns.proofs.Singles.{single_small}
+use Rattle.pesp_search_laws.specs.Turns.{IsWorked, splits_of}
+use Rattle.pesp_search_laws.proofs.Turns.{opening_is_worked, looks, closes_by_nothing, closes_by_gap}
+use Rattle.pesp_search_laws.proofs.Ends.{root_sets_least}
+use Rattle.pesp_search_laws.proofs.Singles.{single_small}
 use Rattle.pesp_search.specs.declared.refusal.SolveRefusal.{SolveRefusal}
 use Rattle.pesp_search.specs.declared.refusal.SolveRefusal.TheVariants.{Memory, TableTooLarge, PairsTooMany}
 use Rattle.pesp_search.specs.Singles.{IsSingle, IsBestSingle}

@@ -15,9 +15,9 @@ use Rattle.pesp_nodes.specs.Problems.{ProblemValue, net_of}
 use Rattle.pesp_machine.specs.Leaves.{told, least_value}
 use Rattle.pesp_machine.specs.States.{State, IsAtMost, IsOpen, root_of, least, best_cost}
 use Rattle.pesp_machine.specs.Certificates.{IsProblemOf, IsCertificateOf, answer_of}
-use Rattle.pesp_turns.specs.Turns.{IsWorked, IsOpenAnswer}
-use Rattle.pesp_turns.proofs.Ends.{same_net, has_branches, fewer_than_room, not_open}
-use Rattle.pesp_lifting.specs.Lifted.{IsFrugal}
+use Rattle.pesp_search_laws.specs.Turns.{IsWorked, IsOpenAnswer}
+use Rattle.pesp_search_laws.proofs.Ends.{same_net, has_branches, fewer_than_room, not_open}
+use Rattle.pesp_search_laws.specs.Lifted.{IsFrugal}
 use Rattle.pesp_search.specs.declared.refusal.SolveRefusal.{SolveRefusal}
 use Rattle.pesp_search.specs.declared.refusal.SolveRefusal.TheVariants.{Memory, TableTooLarge, PairsTooMany}
 use Rattle.pesp_search.specs.Solving.{IsSolved, IsSearchRefusal}

@@ -15,10 +15,10 @@ use Rattle.pesp_machine.specs.States.{State, Lent, IsAtMost, root_of, node_at, l
 use Rattle.pesp_machine.specs.Events.{Lends, LendsLeaf}
 use Rattle.pesp_board.specs.Giving.{AreCuts}
 use Rattle.pesp_reduce.specs.Reductions.{ReducedValue}
-use Rattle.pesp_room.specs.Rooms.{IsCounted}
-use Rattle.pesp_room.specs.Settled.{IsSettled, HaveOffsetsLeft, HaveSlacks, KeepSpans}
-use Rattle.pesp_room.proofs.Settled.{slacks_at_root, slacks_along, paths_keep_spans}
-use Rattle.pesp_turns.specs.Turns.{IsWorked}
+use Rattle.pesp_search_laws.specs.Rooms.{IsCounted}
+use Rattle.pesp_search_laws.specs.Settled.{IsSettled, HaveOffsetsLeft, HaveSlacks, KeepSpans}
+use Rattle.pesp_search_laws.proofs.Settled.{slacks_at_root, slacks_along, paths_keep_spans}
+use Rattle.pesp_search_laws.specs.Turns.{IsWorked}
 use Rattle.pesp_search.specs.Closing.{Settles}
 use Rattle.pesp_search.specs.Beginning.{IsSearched}
 use Rattle.pesp_search.specs.declared.turning.Turn.{Turn}

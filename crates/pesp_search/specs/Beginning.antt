@@ -10,7 +10,7 @@ use Rattle.pesp_machine.specs.States.{opening, root_of}
 use Rattle.pesp_machine.specs.Certificates.{IsProblemOf}
 use Rattle.pesp_reduce.specs.Reductions.{ReducedValue}
 use Rattle.pesp_branching.specs.Passing.{ArePassedRows}
-use Rattle.pesp_lifting.specs.Lifted.{IsReduced, AreLifted, IsFrugal}
+use Rattle.pesp_search_laws.specs.Lifted.{IsReduced, AreLifted, IsFrugal}
 use Rattle.pesp_search.specs.declared.begun.Known.{Known}
 use Rattle.pesp_search.specs.declared.begun.Begun.{Begun}
 

@@ -12,7 +12,7 @@ use Rattle.pesp_machine.specs.declared.job.Job.{Job}
 use Rattle.pesp_machine.specs.declared.work.Work.TheVariants as works
 use Rattle.pesp_machine.specs.States.{State, IsOpen, IsAtMost, node_at, least}
 use Rattle.pesp_machine.specs.Events.{LendsLeaf, Takes}
-use Rattle.pesp_turns.specs.Turns.{IsWorked, AreStep}
+use Rattle.pesp_search_laws.specs.Turns.{IsWorked, AreStep}
 use Rattle.pesp_search.specs.Rooting.{IsRootBound}
 use Rattle.pesp_search.specs.declared.turning.Turn.{Turn}
 use Rattle.pesp_search.specs.declared.turning.Turn.TheVariants.{Split, Closed, Over}

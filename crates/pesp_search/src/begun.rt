@@ -4,7 +4,7 @@ ghost use Rattle.std.specs.Prelude.{◌≡◌, IfOk, IfErr};
 ghost use Rattle.pesp_nodes.specs.Problems.{IsNodeOf};
 ghost use Rattle.pesp_machine.specs.States.{opening, root_of};
 ghost use Rattle.pesp_branching.specs.Passing.{ArePassedRows};
-ghost use Rattle.pesp_lifting.specs.Lifted.{IsReduced};
+ghost use Rattle.pesp_search_laws.specs.Lifted.{IsReduced};
 ghost use Rattle.pesp_search.specs.Beginning.{IsBegun};
 ghost use Rattle.pesp_search.specs.Solving.{IsSearchRefusal};
 

@@ -1,7 +1,7 @@
 //! The forest of what is left: its fundamental walks are the table that is searched.
 
 ghost use Rattle.std.specs.Prelude.{◌≡◌, IfOk};
-ghost use Rattle.pesp_lifting.specs.Lifted.{IsReduced};
+ghost use Rattle.pesp_search_laws.specs.Lifted.{IsReduced};
 
 use pesp_problem::{Instance, Memory};
 use pesp_reduce::{Reduced, reduce};

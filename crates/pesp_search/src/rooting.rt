@@ -3,7 +3,7 @@
 ghost use Rattle.std.specs.Prelude.{◌≡◌, IfErr, OnOk};
 ghost use Rattle.pesp_nodes.specs.Problems.{IsNodeOf};
 ghost use Rattle.pesp_machine.specs.States.{opening, root_of};
-ghost use Rattle.pesp_turns.specs.Turns.{IsWorked};
+ghost use Rattle.pesp_search_laws.specs.Turns.{IsWorked};
 ghost use Rattle.pesp_search.specs.Rooting.{work_of, IsRootBound};
 ghost use Rattle.pesp_search.specs.Turning.{AreTurnsRefused};
 

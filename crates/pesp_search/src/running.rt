@@ -1,7 +1,7 @@
 //! Turns, until all splits are used up or no leaf is open.
 
 ghost use Rattle.std.specs.Prelude.{◌≡◌, ◌≤◌, IfOk, IfErr};
-ghost use Rattle.pesp_turns.specs.Turns.{IsWorked};
+ghost use Rattle.pesp_search_laws.specs.Turns.{IsWorked};
 ghost use Rattle.pesp_search.specs.Beginning.{IsKnown};
 ghost use Rattle.pesp_search.specs.Turning.{AreTurns, AreTurnsRefused};
 

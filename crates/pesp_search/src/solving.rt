@@ -3,7 +3,7 @@
 ghost use Rattle.std.specs.Prelude.{◌≡◌, ℕ, ◌≤◌, IfOk, IfErr, length};
 ghost use Rattle.pesp_machine.specs.States.{opening};
 ghost use Rattle.pesp_machine.specs.Certificates.{IsProblemOf};
-ghost use Rattle.pesp_lifting.specs.Lifted.{IsReduced, IsFrugal};
+ghost use Rattle.pesp_search_laws.specs.Lifted.{IsReduced, IsFrugal};
 ghost use Rattle.pesp_search.specs.declared.refusal.SolveRefusal.TheVariants.{Memory as Refused};
 ghost use Rattle.pesp_search.specs.Solving.{IsSolved, IsSearchRefusal};
 ghost use Rattle.pesp_search.specs.Beginning.{IsKnown, IsBegun};

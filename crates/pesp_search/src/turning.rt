@@ -8,9 +8,9 @@ ghost use Rattle.pesp_nodes.specs.Problems.{net_of, IsNodeOf};
 ghost use Rattle.pesp_machine.specs.States.{State, node_at};
 ghost use Rattle.pesp_machine.specs.Events.{Lends, Takes};
 ghost use Rattle.pesp_machine.specs.declared.work.Work.TheVariants.{Gap as GivesGap};
-ghost use Rattle.pesp_room.specs.Rooms.{IsCounted};
-ghost use Rattle.pesp_room.specs.Settled.{IsSettled, HaveOffsetsLeft};
-ghost use Rattle.pesp_turns.specs.Turns.{IsWorked};
+ghost use Rattle.pesp_search_laws.specs.Rooms.{IsCounted};
+ghost use Rattle.pesp_search_laws.specs.Settled.{IsSettled, HaveOffsetsLeft};
+ghost use Rattle.pesp_search_laws.specs.Turns.{IsWorked};
 ghost use Rattle.pesp_search.specs.declared.refusal.SolveRefusal.TheVariants.{Memory as Refused};
 ghost use Rattle.pesp_search.specs.Beginning.{IsKnown};
 ghost use Rattle.pesp_search.specs.Turning.{IsJustLent, IsSplitAt, TakesStep, IsTurn, IsTurnRefusal};
@@ -24,7 +24,7 @@ use pesp_board::{Board, Job, LendRefusal, Work};
 use pesp_branching::{Advised, Choice, ask, choose, expand, gap_at, offer_met};
 use pesp_nodes::Node;
 use pesp_strategy::Strategy;
-use pesp_turns::laws::turns_begin;
+use pesp_search_laws::turns::turns_begin;
 use std::alloc::Global;
 
 /// What a turn did: it split a leaf; it closed one, by a gap or by times that cost no more than it is worth; or no leaf is

@@ -4,7 +4,7 @@ use crate::moves::shift_side;
 use crate::planting::Planting;
 use crate::random::Random;
 use crate::stars::stars_of;
-use pesp_cuts::{Cuts, Entry, Numbers, Rooted, list};
+use pesp_shifts::{Cuts, Entry, Numbers, Rooted, list};
 use pesp_problem::{Arc, Memory};
 use std::alloc::Global;
 

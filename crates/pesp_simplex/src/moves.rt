@@ -1,7 +1,7 @@
 //! The choice of an amount by which a side is shifted.
 
 use crate::random::Random;
-use pesp_cuts::{Entry, Numbers, shift_costs};
+use pesp_shifts::{Entry, Numbers, shift_costs};
 use pesp_problem::Arc;
 
 /// The weight of an amount that is as cheap as the cheapest.

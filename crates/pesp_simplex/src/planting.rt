@@ -5,7 +5,7 @@ use crate::guarded::fill;
 use crate::low::{Low, count_rows, list_low};
 use crate::random::Random;
 use crate::stars::empty_lists;
-use pesp_cuts::{Cuts, Entry, MOST_ENTRIES, lay_out};
+use pesp_shifts::{Cuts, Entry, MOST_ENTRIES, lay_out};
 use pesp_problem::{Arc, Memory};
 use std::alloc::Global;
 

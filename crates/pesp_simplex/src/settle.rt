@@ -5,16 +5,16 @@ ghost use Rattle.pesp_problem.specs.Forests.{IsSpanningForest};
 ghost use Rattle.pesp_problem.specs.ArcLimits.{KeepArcLimits};
 ghost use Rattle.pesp_problem.specs.NetTimetables.{IsNetTimetable, net_cost};
 ghost use Rattle.pesp_problem.specs.Roots.{AreRoots, AreTreeRows};
-ghost use Rattle.pesp_cuts.specs.Rooted.{roots_of, IsFor};
-ghost use Rattle.pesp_cuts.specs.Lists.{AreListed};
-ghost use Rattle.pesp_cuts.specs.Local.{IsLocal};
+ghost use Rattle.pesp_shifts.specs.Rooted.{roots_of, IsFor};
+ghost use Rattle.pesp_shifts.specs.Lists.{AreListed};
+ghost use Rattle.pesp_shifts.specs.Local.{IsLocal};
 ghost use Rattle.pesp_simplex.specs.Improvements.{IsImproved};
 
 use crate::descent::{Descent, numbers_for};
 use crate::improved::{Improved, Stop};
 use crate::low::{Low, count_rows};
 use crate::stars::empty_lists;
-use pesp_cuts::{
+use pesp_shifts::{
     Cuts, MOST_ENTRIES, Rooted, are_cuts_best, is_rooted, lay_out, list_rows, slacks_of, tree_rows,
 };
 use pesp_problem::net_times::{cost_of, is_timetable};

@@ -4,7 +4,7 @@ use Rattle.std.proofs.lemmas.List.{drop_all}
 use Rattle.pesp_truth.specs.declared.tree.TreeLine.{TreeLine}
 use Rattle.pesp_truth.specs.declared.tree.TreeLine.TheVariants.{Slack, Offset, Bound, Nothing, Gap, Propagated}
 use Rattle.pesp_truth.specs.Certificates.{line_of}
-use Rattle.pesp_room.specs.Rooms.{branch_lines}
+use Rattle.pesp_search_laws.specs.Rooms.{branch_lines}
 
 -- so many branches are left of so many, once k lines are read
 abbrev pub AreLeft : ℕ → List TreeLine → ℕ → ℕ → Type 0

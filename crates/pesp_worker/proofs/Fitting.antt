@@ -24,7 +24,7 @@ use Rattle.pesp_machine.specs.Events.{Takes, IsGraft}
 use Rattle.pesp_machine.proofs.Sizes.{put_lines_add_up, put_pairs_add_up}
 use Rattle.pesp_machine.proofs.TreeLimits.{graft_lines}
 use Rattle.pesp_board.proofs.Certified.{lines_fit, same_pairs, all_two}
-use Rattle.pesp_turns.proofs.Sizes.{leaf_pairs}
+use Rattle.pesp_search_laws.proofs.Sizes.{leaf_pairs}
 use Rattle.pesp_works.specs.Works.{WorkValue, HasText}
 use Rattle.pesp_works.proofs.LimitLaws.{work_limits_iff}
 use Rattle.pesp_worker.specs.HandingIn.{AreTimesFor, AreShort, Fits, without_times}

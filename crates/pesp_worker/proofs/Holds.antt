@@ -14,8 +14,8 @@ use Rattle.pesp_machine.specs.Reached.{IsOrderly}
 use Rattle.pesp_machine.specs.Events.{LendsLeaf}
 use Rattle.pesp_board.specs.Giving.{AreCuts}
 use Rattle.pesp_board.proofs.Paths.{cut_at}
-use Rattle.pesp_turns.proofs.Replies.{lent_leaf}
-use Rattle.pesp_turns.proofs.Sizes.{path_cuts, leaf_pairs}
+use Rattle.pesp_search_laws.proofs.Replies.{lent_leaf}
+use Rattle.pesp_search_laws.proofs.Sizes.{path_cuts, leaf_pairs}
 use Rattle.pesp_worker.specs.declared.holding.Held.{Held}
 use Rattle.pesp_worker.specs.Holding.{IsHeld}
 

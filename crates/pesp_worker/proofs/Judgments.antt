@@ -19,7 +19,7 @@ use Rattle.pesp_machine.specs.Events.{Takes, Gives}
 use Rattle.pesp_worker.specs.declared.refusal.WorkRefusal.{WorkRefusal}
 use Rattle.pesp_worker.specs.declared.refusal.WorkRefusal.TheVariants.{Memory, NoSuchJob}
 use Rattle.pesp_outside.specs.Lent.{IsLentFrom}
-use Rattle.pesp_room.specs.Rooms.{branch_lines}
+use Rattle.pesp_search_laws.specs.Rooms.{branch_lines}
 use Rattle.pesp_works.specs.Works.{HasText}
 use Rattle.pesp_worker.specs.HandingIn.{Fits, IsTreeOn, IsWorkRefusal, without_times}
 use Rattle.pesp_worker.proofs.Fitting.{own_fits, taken_fits}

@@ -14,7 +14,7 @@ use Rattle.pesp_machine.specs.declared.job.Job.{Job}
 use Rattle.pesp_machine.specs.declared.work.Work.TheVariants.{Tree}
 use Rattle.pesp_machine.specs.States.{State, HasLeaf, node_at}
 use Rattle.pesp_machine.specs.Events.{IsValidAt}
-use Rattle.pesp_room.specs.Rooms.{branch_lines}
+use Rattle.pesp_search_laws.specs.Rooms.{branch_lines}
 use Rattle.pesp_works.specs.Works.{WorkValue, HasText}
 use Rattle.pesp_outside.specs.Lent.{IsLentFrom}
 use Rattle.pesp_worker.specs.declared.refusal.WorkRefusal.{WorkRefusal}

@@ -2,7 +2,7 @@
 
 ghost use Rattle.std.specs.Prelude.{◌≡◌, ◌∷◌, []};
 ghost use Rattle.pesp_truth.specs.Certificates.{line_of};
-ghost use Rattle.pesp_room.specs.Rooms.{branch_lines};
+ghost use Rattle.pesp_search_laws.specs.Rooms.{branch_lines};
 
 use crate::copying::copy_lines;
 use pesp_problem::{Cut, Memory, Side};

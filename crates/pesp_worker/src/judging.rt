@@ -6,7 +6,7 @@ ghost use Rattle.pesp_truth.specs.declared.tree.TreeLine.{TreeLine};
 ghost use Rattle.pesp_truth.specs.Certificates.{IsValid, line_of};
 ghost use Rattle.pesp_machine.specs.declared.work.Work.TheVariants.{Tree};
 ghost use Rattle.pesp_machine.specs.States.{IsLentNumber};
-ghost use Rattle.pesp_room.specs.Rooms.{branch_lines};
+ghost use Rattle.pesp_search_laws.specs.Rooms.{branch_lines};
 ghost use Rattle.pesp_works.specs.Works.{HasText};
 ghost use Rattle.pesp_worker.specs.declared.refusal.WorkRefusal.TheVariants.{NoSuchJob};
 ghost use Rattle.pesp_worker.specs.HandingIn.{Fits, IsTreeOn, IsWorkRefusal, without_times};

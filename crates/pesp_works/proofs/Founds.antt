@@ -9,16 +9,16 @@ use Rattle.std.proofs.lemmas.Slice.Eq.{bytes_eq-Decides}
 use Rattle.pesp_problem.specs.declared.row.SignedRow.{SignedRow}
 use Rattle.pesp_truth.specs.Certificates.{Content}
 use Rattle.pesp_text.specs.Words.{words_of, line_of}
-use Rattle.pesp_lines.specs.declared.fault.LineFault.{LineFault}
-use Rattle.pesp_lines.specs.declared.fault.LineFault.TheVariants as faults
-use Rattle.pesp_lines.specs.declared.item.Item.{Item}
-use Rattle.pesp_lines.specs.declared.item.Item.TheVariants.{Cycle, End}
-use Rattle.pesp_lines.specs.declared.progress.Progress.{Progress}
-use Rattle.pesp_lines.specs.Items.{item_words, item_line}
-use Rattle.pesp_lines.specs.Counts.{after, CanStand}
-use Rattle.pesp_lines.specs.Lines.{LONGEST, line_at}
-use Rattle.pesp_lines.proofs.Tests.{cases, and_left, and_right, and_both}
-use Rattle.pesp_lines.proofs.LineLaws.{line_found, words_of-item}
+use Rattle.pesp_cert_lines.specs.declared.fault.LineFault.{LineFault}
+use Rattle.pesp_cert_lines.specs.declared.fault.LineFault.TheVariants as faults
+use Rattle.pesp_cert_lines.specs.declared.item.Item.{Item}
+use Rattle.pesp_cert_lines.specs.declared.item.Item.TheVariants.{Cycle, End}
+use Rattle.pesp_cert_lines.specs.declared.progress.Progress.{Progress}
+use Rattle.pesp_cert_lines.specs.Items.{item_words, item_line}
+use Rattle.pesp_cert_lines.specs.Counts.{after, CanStand}
+use Rattle.pesp_cert_lines.specs.Lines.{LONGEST, line_at}
+use Rattle.pesp_cert_lines.proofs.Tests.{cases, and_left, and_right, and_both}
+use Rattle.pesp_cert_lines.proofs.LineLaws.{line_found, words_of-item}
 use Rattle.pesp_cert.specs.declared.refusal.CertRefusal.{CertRefusal}
 use Rattle.pesp_cert.specs.declared.refusal.CertRefusal.TheVariants as refusals
 use Rattle.pesp_cert.specs.Texts.{is_end, IsRun, time_item, tree_item}

@@ -9,11 +9,11 @@ use Rattle.pesp_truth.specs.declared.answer.Answer.TheVariants.{Optimal}
 use Rattle.pesp_text.specs.Number.{NATURALS, natural_of}
 use Rattle.pesp_text.specs.Words.{words_of, line_of, is_byte}
 use Rattle.pesp_text.proofs.Digits.{natural_spells, natural_read}
-use Rattle.pesp_lines.specs.declared.fault.LineFault.TheVariants as faults
-use Rattle.pesp_lines.specs.declared.item.Item.TheVariants.{Answer as Says}
-use Rattle.pesp_lines.specs.Lines.{LONGEST}
-use Rattle.pesp_lines.proofs.Tests.{cases, and_left, and_right, and_both}
-use Rattle.pesp_lines.proofs.LineLaws.{is_plain, all_plain, item_plain, words_joined, line_of-words_of}
+use Rattle.pesp_cert_lines.specs.declared.fault.LineFault.TheVariants as faults
+use Rattle.pesp_cert_lines.specs.declared.item.Item.TheVariants.{Answer as Says}
+use Rattle.pesp_cert_lines.specs.Lines.{LONGEST}
+use Rattle.pesp_cert_lines.proofs.Tests.{cases, and_left, and_right, and_both}
+use Rattle.pesp_cert_lines.proofs.LineLaws.{is_plain, all_plain, item_plain, words_joined, line_of-words_of}
 use Rattle.pesp_cert.proofs.ShortLaws.{nat_len}
 use Rattle.pesp_cert.proofs.TextLaws.{no_lf, line_lf}
 use Rattle.pesp_works.specs.Works.{job_line}

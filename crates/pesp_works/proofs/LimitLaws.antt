@@ -2,9 +2,9 @@
 use Rattle.std.proofs.Common.{◌≡◌, List, [], ◌∷◌, ◌++◌, refl, sym, ap, ◌∙◌, subst, append_assoc, append-nil}
 use Rattle.std.specs.Prelude.{◌↔◌, map}
 use Rattle.pesp_truth.specs.declared.answer.Answer.TheVariants.{Infeasible}
-use Rattle.pesp_lines.specs.declared.item.Item.{Item}
-use Rattle.pesp_lines.specs.declared.item.Item.TheVariants.{Version, Period, Answer as Says, Cycle, End}
-use Rattle.pesp_lines.specs.Counts.{start, after}
+use Rattle.pesp_cert_lines.specs.declared.item.Item.{Item}
+use Rattle.pesp_cert_lines.specs.declared.item.Item.TheVariants.{Version, Period, Answer as Says, Cycle, End}
+use Rattle.pesp_cert_lines.specs.Counts.{start, after}
 use Rattle.pesp_cert.specs.Texts as certificates
 use Rattle.pesp_cert.specs.Texts.{IsRun, time_item, tree_item}
 use Rattle.pesp_cert.proofs.Runs.{run_onto, run_rest, limits_iff}

@@ -3,8 +3,8 @@ use Rattle.std.proofs.Common.{◌≡◌, ℕ, List, [], ◌∷◌, ◌++◌, ref
 use Rattle.std.specs.Prelude.{map, codes, decimal}
 use Rattle.std.specs.List.{flat_map}
 use Rattle.std.proofs.lemmas.List.Concat.{flat_map-append}
-use Rattle.pesp_lines.specs.declared.item.Item.TheVariants.{End}
-use Rattle.pesp_lines.specs.Items.{item_line}
+use Rattle.pesp_cert_lines.specs.declared.item.Item.TheVariants.{End}
+use Rattle.pesp_cert_lines.specs.Items.{item_line}
 use Rattle.pesp_cert.specs.Print.{time_line, tree_line}
 use Rattle.pesp_cert.specs.Texts.{time_item, tree_item}
 use Rattle.pesp_cert.proofs.PrintLaws.{mapped, time_is, tree_is}

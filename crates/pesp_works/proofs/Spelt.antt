@@ -8,13 +8,13 @@ use Rattle.pesp_truth.specs.declared.tree.TreeLine.{TreeLine}
 use Rattle.pesp_truth.specs.declared.tree.TreeLine.TheVariants as lines
 use Rattle.pesp_truth.specs.Certificates.{Content}
 use Rattle.pesp_text.specs.Words.{pieces, words_of, line_of, is_byte}
-use Rattle.pesp_lines.specs.declared.item.Item.{Item}
-use Rattle.pesp_lines.specs.declared.item.Item.TheVariants.{End}
-use Rattle.pesp_lines.specs.declared.progress.Progress.{Progress}
-use Rattle.pesp_lines.specs.Items.{item_words, item_line}
-use Rattle.pesp_lines.specs.Counts.{after, CanStand}
-use Rattle.pesp_lines.proofs.Tests.{and_left, and_right, and_both}
-use Rattle.pesp_lines.proofs.LineLaws.{line_read, words_of-item}
+use Rattle.pesp_cert_lines.specs.declared.item.Item.{Item}
+use Rattle.pesp_cert_lines.specs.declared.item.Item.TheVariants.{End}
+use Rattle.pesp_cert_lines.specs.declared.progress.Progress.{Progress}
+use Rattle.pesp_cert_lines.specs.Items.{item_words, item_line}
+use Rattle.pesp_cert_lines.specs.Counts.{after, CanStand}
+use Rattle.pesp_cert_lines.proofs.Tests.{and_left, and_right, and_both}
+use Rattle.pesp_cert_lines.proofs.LineLaws.{line_read, words_of-item}
 use Rattle.pesp_cert.specs.declared.refusal.CertRefusal.{CertRefusal}
 use Rattle.pesp_cert.specs.Texts.{IsRun, time_item, tree_item}
 use Rattle.pesp_cert.specs.Drafts.{blank, added, all_added}

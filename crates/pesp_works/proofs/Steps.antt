@@ -10,11 +10,11 @@ use Rattle.std.proofs.lemmas.List.{append-nil}
 use Rattle.std.proofs.lemmas.List.Splits.{join_with_byte-slice_split}
 use Rattle.pesp_truth.specs.Certificates.{Content}
 use Rattle.pesp_text.specs.Words.{pieces}
-use Rattle.pesp_lines.specs.declared.fault.LineFault.{LineFault}
-use Rattle.pesp_lines.specs.declared.item.Item.{Item}
-use Rattle.pesp_lines.specs.declared.progress.Progress.{Progress}
-use Rattle.pesp_lines.specs.Counts.{after, IsKept}
-use Rattle.pesp_lines.specs.Lines.{LONGEST}
+use Rattle.pesp_cert_lines.specs.declared.fault.LineFault.{LineFault}
+use Rattle.pesp_cert_lines.specs.declared.item.Item.{Item}
+use Rattle.pesp_cert_lines.specs.declared.progress.Progress.{Progress}
+use Rattle.pesp_cert_lines.specs.Counts.{after, IsKept}
+use Rattle.pesp_cert_lines.specs.Lines.{LONGEST}
 use Rattle.pesp_cert.specs.declared.refusal.CertRefusal.{CertRefusal}
 use Rattle.pesp_cert.specs.declared.refusal.CertRefusal.TheVariants as refusals
 use Rattle.pesp_cert.specs.Texts.{is_end}

@@ -3,11 +3,11 @@ use Rattle.std.specs.Prelude.{ℕ, Bool, false, ◌&&◌, not, ◌==◌, nat_le,
 use Rattle.std.specs.Str.{bytes_eq}
 use Rattle.pesp_text.specs.Number.{natural_of}
 use Rattle.pesp_text.specs.Words.{words_of}
-use Rattle.pesp_lines.specs.declared.fault.LineFault.{LineFault}
-use Rattle.pesp_lines.specs.declared.fault.LineFault.TheVariants as faults
-use Rattle.pesp_lines.specs.declared.item.Item.{Item}
-use Rattle.pesp_lines.specs.declared.progress.Progress.{Progress}
-use Rattle.pesp_lines.specs.Lines.{line_at}
+use Rattle.pesp_cert_lines.specs.declared.fault.LineFault.{LineFault}
+use Rattle.pesp_cert_lines.specs.declared.fault.LineFault.TheVariants as faults
+use Rattle.pesp_cert_lines.specs.declared.item.Item.{Item}
+use Rattle.pesp_cert_lines.specs.declared.progress.Progress.{Progress}
+use Rattle.pesp_cert_lines.specs.Lines.{line_at}
 
 -- the spelling first, then the limit
 abbrev pub job_of : Option ℕ → Result ℕ LineFault

@@ -4,9 +4,9 @@ use Rattle.std.specs.Str.{bytes_eq}
 use Rattle.std.specs.Global.{Vec}
 use Rattle.pesp_truth.specs.Certificates.{Content}
 use Rattle.pesp_text.specs.Words.{pieces}
-use Rattle.pesp_lines.specs.declared.progress.Progress.{Progress}
-use Rattle.pesp_lines.specs.Counts.{after}
-use Rattle.pesp_lines.specs.Lines.{LONGEST}
+use Rattle.pesp_cert_lines.specs.declared.progress.Progress.{Progress}
+use Rattle.pesp_cert_lines.specs.Counts.{after}
+use Rattle.pesp_cert_lines.specs.Lines.{LONGEST}
 use Rattle.pesp_cert.specs.declared.refusal.CertRefusal.{CertRefusal}
 use Rattle.pesp_cert.specs.declared.refusal.CertRefusal.TheVariants as refusals
 use Rattle.pesp_cert.specs.Texts.{is_end}

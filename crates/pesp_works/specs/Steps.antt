@@ -1,7 +1,7 @@
 -- What is done with some lines that are left of a text, of which the first has a number.
 use Rattle.std.specs.Prelude.{◌≡◌, ◌⊎◌, ℕ, ◌+◌, ◌<◌, ◌≤◌, Result, Err, List, ◌∷◌, length}
 use Rattle.pesp_text.specs.Words.{pieces}
-use Rattle.pesp_lines.specs.Lines.{LONGEST}
+use Rattle.pesp_cert_lines.specs.Lines.{LONGEST}
 use Rattle.pesp_cert.specs.declared.refusal.CertRefusal.{CertRefusal}
 use Rattle.pesp_cert.specs.declared.refusal.CertRefusal.TheVariants as refusals
 use Rattle.pesp_works.specs.Works.{WorkValue}

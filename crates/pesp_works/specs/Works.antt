@@ -5,12 +5,12 @@ use Rattle.pesp_truth.specs.declared.answer.Answer.TheVariants.{Infeasible}
 use Rattle.pesp_truth.specs.declared.tree.TreeLine.{TreeLine}
 use Rattle.pesp_truth.specs.Certificates.{Content}
 use Rattle.pesp_text.specs.Words.{line_of}
-use Rattle.pesp_lines.specs.declared.item.Item.{Item}
-use Rattle.pesp_lines.specs.declared.item.Item.TheVariants.{End}
-use Rattle.pesp_lines.specs.declared.progress.Place.TheVariants as places
-use Rattle.pesp_lines.specs.declared.progress.Progress.{Progress}
-use Rattle.pesp_lines.specs.Items.{item_line}
-use Rattle.pesp_lines.specs.Counts.{start}
+use Rattle.pesp_cert_lines.specs.declared.item.Item.{Item}
+use Rattle.pesp_cert_lines.specs.declared.item.Item.TheVariants.{End}
+use Rattle.pesp_cert_lines.specs.declared.progress.Place.TheVariants as places
+use Rattle.pesp_cert_lines.specs.declared.progress.Progress.{Progress}
+use Rattle.pesp_cert_lines.specs.Items.{item_line}
+use Rattle.pesp_cert_lines.specs.Counts.{start}
 use Rattle.pesp_cert.specs.Limits.{KeepsLimits}
 use Rattle.pesp_cert.specs.Texts.{IsRun, time_item, tree_item}
 

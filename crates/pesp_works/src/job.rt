@@ -4,7 +4,7 @@ ghost use Rattle.std.specs.Prelude.{◌≡◌};
 ghost use Rattle.pesp_text.specs.Number.{natural_of};
 ghost use Rattle.pesp_works.specs.Lines as spec;
 
-use pesp_lines::LineFault;
+use pesp_cert_lines::LineFault;
 use pesp_text::{Words, is_word, natural};
 
 /// The number that a word spells, at most 999999.

@@ -12,7 +12,7 @@ use crate::job::job_at;
 use crate::work_line::{opening, take_work_line};
 use crate::work_text::WorkText;
 use pesp_cert::{CertRefusal, Draft, refusal_at};
-use pesp_lines::Item;
+use pesp_cert_lines::Item;
 use pesp_problem::Memory;
 use std::alloc::Global;
 

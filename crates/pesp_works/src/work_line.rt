@@ -2,12 +2,12 @@
 
 ghost use Rattle.std.specs.Prelude.{◌≡◌, ◌≤◌, IfOk, length};
 ghost use Rattle.pesp_text.specs.Words.{words_of};
-ghost use Rattle.pesp_lines.specs.Counts.{after, IsKept};
-ghost use Rattle.pesp_lines.specs.Lines.{LONGEST};
+ghost use Rattle.pesp_cert_lines.specs.Counts.{after, IsKept};
+ghost use Rattle.pesp_cert_lines.specs.Lines.{LONGEST};
 ghost use Rattle.pesp_works.specs.Works as works;
 ghost use Rattle.pesp_works.specs.Lines as spec;
 
-use pesp_lines::{Item, LineFault, Place, Progress, take_line};
+use pesp_cert_lines::{Item, LineFault, Place, Progress, take_line};
 use pesp_text::{Words, is_word};
 
 /// How far a text has come behind the line of a job.

@@ -4,7 +4,7 @@ use Rattle.pesp_problem.specs.Arcs.{net_of}
 use Rattle.pesp_problem.specs.Nodes.{root}
 use Rattle.pesp_truth.specs.Trees.{are_trees}
 use Rattle.pesp_truth.specs.Certificates.{line_of}
-use Rattle.pesp_walks.specs.Nets.{AreZeros, AreNets}
+use Rattle.pesp_nets.specs.Nets.{AreZeros, AreNets}
 use Rattle.pesp_check.specs.Lines.{AreJudged}
 use Rattle.pesp_check.proofs.judge_tree.judge_tree.Given as goal
 

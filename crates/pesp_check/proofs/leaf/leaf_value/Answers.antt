@@ -3,7 +3,7 @@ use Rattle.std.specs.Prelude.{◌+ℤ◌}
 use Rattle.std.specs.Int.{w128}
 use Rattle.std.proofs.lemmas.Int.{ints}
 use Rattle.pesp_problem.specs.Arcs.{arcs_of}
-use Rattle.pesp_walks.specs.Nets.{AreNets}
+use Rattle.pesp_nets.specs.Nets.{AreNets}
 use Rattle.pesp_check.specs.Flows.{flow_sum}
 use Rattle.pesp_check.specs.Ranges.{node_of}
 use Rattle.pesp_check.proofs.Leaves.{value_is}

@@ -5,7 +5,7 @@ use Rattle.std.proofs.lemmas.Int.{ints, to_z-of_z}
 use Rattle.pesp_problem.specs.Arcs.{net_of}
 use Rattle.pesp_problem.specs.Nodes.{offset_part}
 use Rattle.pesp_check.specs.Ranges.{node_of}
-use Rattle.pesp_walks.proofs.LeafValues.{offset_more, offset_none}
+use Rattle.pesp_nets.proofs.LeafValues.{offset_more, offset_none}
 use Rattle.pesp_check.proofs.Leaves.{left_read}
 use Rattle.pesp_check.proofs.Flowing.{pairs_apart}
 use Rattle.pesp_check.proofs.leaf.offset_sum.Goals as goal

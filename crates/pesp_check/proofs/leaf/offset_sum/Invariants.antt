@@ -3,10 +3,10 @@ use Rattle.std.specs.Prelude.{unsigned_abs}
 use Rattle.pesp_problem.specs.declared.row.SignedRow.{SignedRow}
 use Rattle.pesp_problem.specs.Arcs.{net_of}
 use Rattle.pesp_problem.specs.Nodes.{offset_part}
-use Rattle.pesp_walks.specs.Nets.{AreNets}
+use Rattle.pesp_nets.specs.Nets.{AreNets}
 use Rattle.pesp_check.specs.Flows.{ArePairs}
 use Rattle.pesp_check.specs.Ranges.{node_of}
-use Rattle.pesp_walks.proofs.LeafValues.{IsWhole}
+use Rattle.pesp_nets.proofs.LeafValues.{IsWhole}
 use Rattle.pesp_check.proofs.leaf.offset_sum.Given as goal
 
 abbrev pub invariant-loop-pair : goal.invariant-loop-pair

@@ -1,5 +1,5 @@
 use Rattle.pesp_check.specs.Ranges.{node_of}
-use Rattle.pesp_walks.proofs.Walking.{enter_parts}
+use Rattle.pesp_nets.proofs.Walking.{enter_parts}
 use Rattle.pesp_check.proofs.node_walk.enter.Goals as goal
 
 pub returns-clause-parts : goal.returns-clause-parts

@@ -1,7 +1,7 @@
 use Rattle.std.proofs.Common.{◌≡◌, List, length, reverse, vec_len}
 use Rattle.pesp_problem.specs.Nodes.{Node}
 use Rattle.pesp_check.specs.Ranges.{node_of, AreRanges}
-use Rattle.pesp_walks.specs.Pending.{pending}
+use Rattle.pesp_nets.specs.Pending.{pending}
 use Rattle.pesp_check.specs.Pending.{AreChanges}
 use Rattle.pesp_check.proofs.node_walk.next_part.Given as goal
 

@@ -1,9 +1,9 @@
 use Rattle.std.proofs.Common.{◌≡◌, ◌+◌, refl, sym, ap, ◌∙◌, subst, arith, length}
-use Rattle.pesp_items.specs.Lent.{listed}
-use Rattle.pesp_items.specs.Readings.{Reading}
-use Rattle.pesp_items.proofs.Running.{gives_of, on_ok}
-use Rattle.pesp_items.proofs.Telling.{at_first}
-use Rattle.pesp_walks.specs.Nets.{AreZeros}
+use Rattle.pesp_cert_items.specs.Lent.{listed}
+use Rattle.pesp_cert_items.specs.Readings.{Reading}
+use Rattle.pesp_cert_items.proofs.Running.{gives_of, on_ok}
+use Rattle.pesp_cert_items.proofs.Telling.{at_first}
+use Rattle.pesp_nets.specs.Nets.{AreZeros}
 use Rattle.pesp_check_text.specs.Views.{kept}
 use Rattle.pesp_check_text.proofs.Items.{item_limits}
 use Rattle.pesp_check_text.proofs.Texts.{IsCheckedTo, checked_none, checked_more, checked_all, checked_fault, writes_all}

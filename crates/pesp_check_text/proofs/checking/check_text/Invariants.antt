@@ -1,9 +1,9 @@
 -- What came was judged, the working numbers are 0, and the reader worked.
 use Rattle.std.proofs.Common.{◌≡◌, ◌-◌, ◌+◌, ◌≤◌, length}
 use Rattle.pesp_stream.specs.Counts.{Worked}
-use Rattle.pesp_items.specs.Views.{reading}
-use Rattle.pesp_items.proofs.Telling.{at_first}
-use Rattle.pesp_walks.specs.Nets.{AreZeros}
+use Rattle.pesp_cert_items.specs.Views.{reading}
+use Rattle.pesp_cert_items.proofs.Telling.{at_first}
+use Rattle.pesp_nets.specs.Nets.{AreZeros}
 use Rattle.pesp_check_text.specs.Views.{kept}
 use Rattle.pesp_check_text.proofs.Texts.{IsCheckedTo}
 use Rattle.pesp_check_text.proofs.checking.check_text.Given as goal

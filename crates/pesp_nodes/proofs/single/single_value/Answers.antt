@@ -7,7 +7,7 @@ use Rattle.pesp_problem.specs.Sums.{scaled}
 use Rattle.pesp_problem.specs.Arcs.{over_arcs}
 use Rattle.pesp_problem.specs.Walks.{net_count}
 use Rattle.pesp_problem.specs.Nodes.{cycle_at}
-use Rattle.pesp_walks.specs.Nets.{AreNetCounts, nets_at}
+use Rattle.pesp_nets.specs.Nets.{AreNetCounts, nets_at}
 use Rattle.pesp_nodes.specs.Problems.{net_of}
 use Rattle.pesp_nodes.specs.Values.{gain_at}
 use Rattle.pesp_nodes.proofs.Rising.{nothing_rises}

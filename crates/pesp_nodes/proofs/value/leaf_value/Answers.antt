@@ -5,7 +5,7 @@ use Rattle.std.proofs.lemmas.Int.{ints}
 use Rattle.pesp_problem.specs.Arcs.{over_arcs}
 use Rattle.pesp_problem.specs.Nodes.{flow}
 use Rattle.pesp_nodes.specs.Problems.{net_of}
-use Rattle.pesp_walks.specs.Ranges.{AreSlackEnds}
+use Rattle.pesp_nets.specs.Ranges.{AreSlackEnds}
 use Rattle.pesp_nodes.specs.Passages.{ArePassages}
 use Rattle.pesp_nodes.specs.Values.{row_term_at}
 use Rattle.pesp_nodes.proofs.LeafValues.{value_is}

@@ -1,6 +1,6 @@
 use Rattle.std.proofs.Common.{◌+◌, List, ℕ, sym, subst, arith}
 use Rattle.std.proofs.lemmas.Grind.{common_steps}
-use Rattle.pesp_room.specs.Settled.{low_slack}
+use Rattle.pesp_search_laws.specs.Settled.{low_slack}
 use Rattle.pesp_search.proofs.Closings.{AreSlacksTo, slacks_more}
 use Rattle.pesp_search.proofs.settling.least_slacks.Goals as goal
 

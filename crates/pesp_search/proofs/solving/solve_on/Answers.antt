@@ -1,7 +1,7 @@
 use Rattle.std.proofs.Common.{sym, subst, rules}
 use Rattle.pesp_nodes.specs.Problems.{ProblemValue}
 use Rattle.pesp_machine.specs.Certificates.{IsProblemOf}
-use Rattle.pesp_lifting.specs.Lifted.{IsFrugal}
+use Rattle.pesp_search_laws.specs.Lifted.{IsFrugal}
 use Rattle.pesp_search.specs.Solving.{IsSearchRefusal}
 use Rattle.pesp_search.specs.Turning.{IsSearchedThrough}
 use Rattle.pesp_search.proofs.Solutions.{refused_for_rows}

@@ -1,4 +1,4 @@
-use Rattle.pesp_turns.proofs.Replies.{lent_here}
+use Rattle.pesp_search_laws.proofs.Replies.{lent_here}
 use Rattle.pesp_search.proofs.Lent.{lent_pairs, split_cut, handed_step, step_taken, step_refused}
 use Rattle.pesp_search.proofs.turning.split_leaf.Goals as goal
 

@@ -2,7 +2,7 @@ use Rattle.std.proofs.Common.{◌+◌, sym, subst}
 use Rattle.pesp_problem.specs.Nodes.{Node, LeavesBoth}
 use Rattle.pesp_truth.specs.Trees.{CutExists}
 use Rattle.pesp_nodes.specs.Problems.{ProblemValue, net_of, IsNodeOf}
-use Rattle.pesp_room.specs.Settled.{IsSettled}
+use Rattle.pesp_search_laws.specs.Settled.{IsSettled}
 use Rattle.pesp_search.proofs.TurnEnds.{cuts_there, node_is, split_done, offered_after}
 use Rattle.pesp_search.proofs.turning.turn_on.Goals as goal
 

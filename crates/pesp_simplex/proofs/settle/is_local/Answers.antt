@@ -1,5 +1,5 @@
-use Rattle.pesp_cuts.specs.Rooted.{roots_of}
-use Rattle.pesp_cuts.proofs.Locals.{cuts_are_local}
+use Rattle.pesp_shifts.specs.Rooted.{roots_of}
+use Rattle.pesp_shifts.proofs.Locals.{cuts_are_local}
 use Rattle.pesp_simplex.proofs.settle.is_local.Goals as goal
 
 pub returns : goal.returns

@@ -1,5 +1,5 @@
 use Rattle.std.proofs.Common.{arith, refl, rules, sym}
-use Rattle.pesp_cuts.specs.Rooted.{roots_of}
+use Rattle.pesp_shifts.specs.Rooted.{roots_of}
 use Rattle.pesp_problem.proofs.Spanning.{roots_span}
 use Rattle.pesp_simplex.proofs.settle.settle.Goals as goal
 

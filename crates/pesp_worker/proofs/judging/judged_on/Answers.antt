@@ -2,7 +2,7 @@ use Rattle.std.proofs.Common.{List, map, ◌≤◌, sym, subst}
 use Rattle.std.specs.Global.{Vec}
 use Rattle.pesp_truth.specs.declared.tree.TreeLine.{TreeLine}
 use Rattle.pesp_truth.specs.Certificates.{line_of}
-use Rattle.pesp_room.specs.Rooms.{branch_lines}
+use Rattle.pesp_search_laws.specs.Rooms.{branch_lines}
 use Rattle.pesp_worker.proofs.judging.judged_on.Goals as goal
 
 pub returns-in-Some-clause-fits : goal.returns-in-Some-clause-fits

@@ -4,8 +4,8 @@ use Rattle.pesp_truth.specs.Trees.{Line}
 use Rattle.pesp_check.specs.Lines.{IsLineVerdict}
 use Rattle.pesp_check_text.specs.Said.{pairs_of, tree_line}
 use Rattle.pesp_check_text.specs.Views.{kept}
-use Rattle.pesp_walks.specs.declared.nets.NetCount.{NetCount}
-use Rattle.pesp_walks.specs.Nets.{AreNets}
+use Rattle.pesp_nets.specs.declared.nets.NetCount.{NetCount}
+use Rattle.pesp_nets.specs.Nets.{AreNets}
 use Rattle.pesp_check_text.proofs.Fronts.{of_none}
 use Rattle.pesp_check_text.proofs.Lists.{said_is}
 use Rattle.pesp_check_text.proofs.Lines.{nets_are, never_done, line_found, line_taken, line_refused}

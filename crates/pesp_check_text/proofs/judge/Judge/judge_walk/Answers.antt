@@ -4,8 +4,8 @@ use Rattle.pesp_check_text.specs.Views.{kept}
 use Rattle.std.specs.Option.{is_some}
 use Rattle.std.proofs.Common.{true≢false, ◌∙◌}
 use Rattle.pesp_check_text.specs.Judging.{is_before_tree}
-use Rattle.pesp_walks.specs.declared.nets.NetCount.{NetCount}
-use Rattle.pesp_items.specs.Lent.{rows_in}
+use Rattle.pesp_nets.specs.declared.nets.NetCount.{NetCount}
+use Rattle.pesp_cert_items.specs.Lent.{rows_in}
 use Rattle.pesp_check_text.proofs.Cycles.{walk_taken, walk_refused}
 use Rattle.pesp_check_text.proofs.judge.Judge.judge_walk.Goals as goal
 

@@ -1,5 +1,5 @@
 use Rattle.std.proofs.Common.{rules, ◌≡◌, refl}
-use Rattle.pesp_items.specs.Lent.{rows_in}
+use Rattle.pesp_cert_items.specs.Lent.{rows_in}
 use Rattle.pesp_check_text.specs.declared.stage.Stage.TheVariants as stages
 use Rattle.pesp_check_text.specs.Views.{kept}
 use Rattle.pesp_check_text.proofs.Cycles.{cycle_passed}

@@ -1,0 +1,108 @@
+-- How far a text was read, and what the rest of it says.
+use Rattle.std.specs.Prelude.{◌≡◌, ◌⊎◌, ℕ, ◌+◌, ◌<◌, ◌≤◌, Bool, true, false, List, [], ◌∷◌, ◌++◌, length, Option, Some, None, Result, Ok, Err}
+use Rattle.std.specs.Io.KnownBytes.{IsAtEnd}
+use Rattle.pesp_text.specs.Words.{pieces}
+use Rattle.pesp_cert_lines.specs.declared.item.Item.{Item}
+use Rattle.pesp_cert_lines.specs.declared.item.Item.TheVariants.{End}
+use Rattle.pesp_cert_lines.specs.declared.progress.Progress.{Progress}
+use Rattle.pesp_cert_lines.specs.Counts.{CanStand}
+use Rattle.pesp_cert_lines.specs.Lines.{LONGEST}
+use Rattle.pesp_cert.specs.declared.refusal.CertRefusal.{CertRefusal}
+use Rattle.pesp_cert.specs.declared.refusal.CertRefusal.TheVariants as refusals
+use Rattle.pesp_cert.specs.Texts.{is_end}
+use Rattle.pesp_cert.specs.Refusals.{items_from, onto}
+use Rattle.pesp_cert_items.specs.declared.fault.ItemFault.{ItemFault}
+use Rattle.pesp_cert_items.specs.declared.fault.ItemFault.TheVariants.{Text, Read}
+use Rattle.pesp_cert_items.specs.declared.stage.Stage.{Stage}
+use Rattle.pesp_cert_items.specs.declared.stage.Stage.TheVariants as stages
+use Rattle.pesp_cert_items.specs.Cuts.{Reads}
+
+-- the reader's bytes where it tells them, how many of them may be read, those that were read and not handed out, the number
+-- of the line that was read last, and how far its text has come with it
+pub record Reading : Type 0 where
+  pub told : Option (List ℕ)
+  pub left : ℕ
+  pub held : List ℕ
+  pub n : ℕ
+  pub progress : Progress
+  pub stage : Stage
+
+-- nothing was given up, and the end wasn't seen
+abbrev pub is_open : Stage → Bool
+is_open stages.Going = true
+is_open stages.Ended = false
+is_open (stages.Failed fault) = false
+
+abbrev pub items_in : Stage → ℕ → Progress → List ℕ → Result (List Item) CertRefusal
+items_in stages.Going n p text = items_from (n + 1) p (pieces 10 text)
+items_in stages.Ended n p text = Ok []
+items_in (stages.Failed fault) n p text = Ok []
+
+-- what a text says from there on
+abbrev pub items_at : Reading → List ℕ → Result (List Item) CertRefusal
+items_at r text = items_in r.stage r.n r.progress text
+
+-- the text has no more bytes than were read, or no more of it is judged
+abbrev pub IsOver : Reading → Type 0
+IsOver r = (r.left ≡ 0) ⊎ IsAtEnd r.told
+
+-- some bytes were read; whatever stands behind them, what was held and they and that say is made of what is left says
+pub record Goes (old new : Reading) (made : Result (List Item) CertRefusal → Result (List Item) CertRefusal) : Type 0 where
+  pub got : List ℕ
+  pub reads : Reads old.told new.told old.left new.left got
+  pub later : old.n < new.n
+  pub says : (more : List ℕ) → items_at old (old.held ++ (got ++ more)) ≡ made (items_at new (new.held ++ more))
+
+-- what the next line and what is left say
+abbrev pub items_behind : Stage → ℕ → Progress → List ℕ → List (List ℕ) → Result (List Item) CertRefusal
+items_behind stages.Going n p line rest = items_from n p (line ∷ rest)
+items_behind stages.Ended n p line rest = Ok []
+items_behind (stages.Failed fault) n p line rest = Ok []
+
+-- a line was read, and it is the next one
+pub record Lines (old new : Reading) (line : List ℕ) : Type 0 where
+  pub got : List ℕ
+  pub reads : Reads old.told new.told old.left new.left got
+  pub later : old.n < new.n
+  pub short : length line ≤ LONGEST
+  pub says : (more : List ℕ) → items_at old (old.held ++ (got ++ more)) ≡ items_behind new.stage new.n new.progress line (pieces 10 (new.held ++ more))
+
+-- the text ends behind its last line
+pub record Ends (old new : Reading) : Type 0 where
+  pub got : List ℕ
+  pub reads : Reads old.told new.told old.left new.left got
+  pub over : IsOver new
+  pub says : items_at old (old.held ++ got) ≡ Ok (End ∷ [])
+
+-- whatever stands behind what was read, the text's first fault is this one; nothing stands behind it where the text is over
+pub record Refuses (old new : Reading) (r : CertRefusal) : Type 0 where
+  pub got : List ℕ
+  pub reads : Reads old.told new.told old.left new.left got
+  pub says : (more : List ℕ) → (IsOver new → more ≡ []) → items_at old (old.held ++ (got ++ more)) ≡ Err r
+
+-- why it was given up, unless a growth was refused or the device failed
+abbrev pub Faults : Reading → Reading → ItemFault → Type 0
+Faults old new (Text r) = (r ≡ refusals.Memory) ⊎ Refuses old new r
+Faults old new Read = Unit {0}
+
+abbrev pub Blamed : ItemFault → Type 0 → Type 0
+Blamed (Text r) failed = Unit {0}
+Blamed Read failed = failed
+
+-- what is answered where a line was read, and it says this item
+abbrev pub stepped : Item → Result Bool ItemFault → Result (Option Item) ItemFault
+stepped item (Ok true) = Ok (Some item)
+stepped item (Ok false) = Ok None
+stepped item (Err fault) = Err fault
+
+-- what the next item is, which may stand somewhere in a text, or that none comes any more, and why
+abbrev pub Gives : Reading → Reading → Result (Option Item) ItemFault → Type 0
+Gives old new (Ok (Some item)) = (new.stage ≡ stages.Going) × (is_end item ≡ false) × Goes old new (onto item) × ((p : Progress) × CanStand p item)
+Gives old new (Ok None) = (new.stage ≡ stages.Ended) × Ends old new
+Gives old new (Err fault) = (new.stage ≡ stages.Failed fault) × Faults old new fault
+
+-- the same, also where none came before
+abbrev pub Answers : Stage → Reading → Reading → Result (Option Item) ItemFault → Type 0
+Answers stages.Going old new result = Gives old new result
+Answers stages.Ended old new result = (result ≡ Ok None) × (new ≡ old)
+Answers (stages.Failed fault) old new result = (result ≡ Err fault) × (new ≡ old)

@@ -1,0 +1,125 @@
+-- How far a text has come, line by line, and which lines may stand next.
+use Rattle.std.specs.Prelude.{◌≡◌, ℕ, ◌+◌, ◌-◌, ◌≤◌, Bool, true, false, ◌&&◌, ◌||◌, ◌==◌, nat_le, if◌then◌else◌, Option, Some, None, length}
+use Rattle.pesp_cert_lines.specs.declared.kind.Kind.{Kind}
+use Rattle.pesp_cert_lines.specs.declared.kind.Kind.TheVariants as kinds
+use Rattle.pesp_cert_lines.specs.declared.item.Item.{Item}
+use Rattle.pesp_cert_lines.specs.declared.item.Item.TheVariants.{Version, Period, Answer as Says, Time, Cycle, Slack, Offset, Bound, Nothing, Gap, Propagated, End}
+use Rattle.pesp_cert_lines.specs.declared.progress.Place.{Place}
+use Rattle.pesp_cert_lines.specs.declared.progress.Place.TheVariants as places
+use Rattle.pesp_cert_lines.specs.declared.progress.Progress.{Progress}
+use Rattle.pesp_cert_lines.specs.Items.{IsProper, is_item_within}
+
+-- ---- the place
+
+abbrev pub is_tree_kind : Kind → Bool
+is_tree_kind kinds.Slack = true
+is_tree_kind kinds.Offset = true
+is_tree_kind kinds.Bound = true
+is_tree_kind kinds.Nothing = true
+is_tree_kind kinds.Gap = true
+is_tree_kind kinds.Propagated = true
+is_tree_kind _ = false
+
+abbrev pub is_cycle_kind : Kind → Bool
+is_cycle_kind kinds.Cycle = true
+is_cycle_kind _ = false
+
+abbrev pub is_time_kind : Kind → Bool
+is_time_kind kinds.Time = true
+is_time_kind _ = false
+
+abbrev pub is_version_kind : Kind → Bool
+is_version_kind kinds.Version = true
+is_version_kind _ = false
+
+abbrev pub is_period_kind : Kind → Bool
+is_period_kind kinds.Period = true
+is_period_kind _ = false
+
+abbrev pub is_answer_kind : Kind → Bool
+is_answer_kind kinds.Answer = true
+is_answer_kind _ = false
+
+abbrev pub is_end_kind : Kind → Bool
+is_end_kind kinds.End = true
+is_end_kind _ = false
+
+-- whether a line of this kind may stand next, while the tree isn't whole
+abbrev pub may_follow : Place → Kind → Bool
+may_follow places.Front k = is_version_kind k
+may_follow places.Header k = is_period_kind k
+may_follow places.Period k = is_answer_kind k
+may_follow places.Times k = is_time_kind k || is_cycle_kind k || is_tree_kind k
+may_follow places.Cycles k = is_cycle_kind k || is_tree_kind k
+may_follow places.Tree k = is_tree_kind k
+
+-- whether texts of this version have lines of this kind
+abbrev pub has_kind : ℕ → Kind → Bool
+has_kind version kinds.Propagated = nat_le 2 version
+has_kind version _ = true
+
+-- where it is, only `end` may
+abbrev pub allows : Progress → Kind → Bool
+allows p k = if p.needs == 0 then is_end_kind k else may_follow p.place k && has_kind p.version k
+
+-- ---- the counts
+
+abbrev pub start : Progress
+start = record { place = places.Front; version = 0; needs = 1; times = 0; cycles = 0; rows = 0; lines = 0; pairs = 0 }
+
+-- behind a line of the tree that asks for so many trees in place of the one that it is, and has so many pairs
+abbrev pub after_tree : Progress → ℕ → ℕ → Progress
+after_tree p parts pairs = record p { place = places.Tree; needs = (p.needs + parts) - 1; lines = p.lines + 1; pairs = p.pairs + pairs }
+
+abbrev pub after : Progress → Item → Progress
+after p (Version n) = record p { place = places.Header; version = n }
+after p (Period n) = record p { place = places.Period }
+after p (Says a) = record p { place = places.Times }
+after p (Time label time) = record p { times = p.times + 1 }
+after p (Cycle rs) = record p { place = places.Cycles; cycles = p.cycles + 1; rows = p.rows + length rs }
+after p (Slack row k) = after_tree p 2 0
+after p (Offset cycle k) = after_tree p 2 0
+after p (Bound ps) = after_tree p 0 (length ps)
+after p (Nothing ps) = after_tree p 0 (length ps)
+after p (Gap cycle) = after_tree p 0 0
+after p Propagated = after_tree p 0 0
+after p End = p
+
+-- the limits of the counts
+abbrev pub keeps_counts : Progress → Bool
+keeps_counts p = nat_le p.times 100000 && nat_le p.cycles 100000 && nat_le p.rows 10000000 && nat_le p.lines 1000000 && nat_le p.pairs 20000000
+
+abbrev pub counted_after : Progress → Item → Option Progress
+counted_after p item = if keeps_counts (after p item) then Some (after p item) else None
+
+-- the counts are within their limits, and no more trees are asked for than the lines so far allow
+pub record IsKept (p : Progress) : Type 0 where
+  pub times : p.times ≤ 100000
+  pub cycles : p.cycles ≤ 100000
+  pub rows : p.rows ≤ 10000000
+  pub lines : p.lines ≤ 1000000
+  pub pairs : p.pairs ≤ 20000000
+  pub needs : p.needs ≤ p.lines + 1
+
+-- ---- what may stand next
+
+abbrev pub kind_in : Item → Kind
+kind_in (Version n) = kinds.Version
+kind_in (Period n) = kinds.Period
+kind_in (Says a) = kinds.Answer
+kind_in (Time label time) = kinds.Time
+kind_in (Cycle rs) = kinds.Cycle
+kind_in (Slack row k) = kinds.Slack
+kind_in (Offset cycle k) = kinds.Offset
+kind_in (Bound ps) = kinds.Bound
+kind_in (Nothing ps) = kinds.Nothing
+kind_in (Gap cycle) = kinds.Gap
+kind_in Propagated = kinds.Propagated
+kind_in End = kinds.End
+
+-- the item may stand behind what came so far
+pub record CanStand (p : Progress) (item : Item) : Type 0 where
+  pub allowed : allows p (kind_in item) ≡ true
+  pub proper : IsProper item
+  pub within : is_item_within item ≡ true
+  pub counts : keeps_counts (after p item) ≡ true

@@ -1,0 +1,43 @@
+-- One line at its place: what it says, or its first fault.
+use Rattle.std.specs.Prelude.{◌≡◌, ℕ, ◌&&◌, not, ◌==◌, if◌then◌else◌, Option, Some, None, Result, Ok, Err, List, [], ◌∷◌, codes}
+use Rattle.std.specs.Str.{bytes_eq}
+use Rattle.pesp_text.specs.Words.{words_of, line_of, has_empty}
+use Rattle.pesp_cert_lines.specs.declared.kind.Kind.{Kind}
+use Rattle.pesp_cert_lines.specs.declared.fault.LineFault.{LineFault}
+use Rattle.pesp_cert_lines.specs.declared.fault.LineFault.TheVariants as faults
+use Rattle.pesp_cert_lines.specs.declared.item.Item.{Item}
+use Rattle.pesp_cert_lines.specs.declared.progress.Progress.{Progress}
+use Rattle.pesp_cert_lines.specs.Items.{kind_of, is_form, item_of, item_words, checked}
+use Rattle.pesp_cert_lines.specs.Counts.{allows, after, keeps_counts, CanStand}
+
+-- the longest line, in bytes before its LF
+abbrev pub LONGEST : ℕ
+LONGEST = 100000000
+
+abbrev pub kind_judged : Progress → List (List ℕ) → Option Kind → Result Item LineFault
+kind_judged p ws None = Err faults.Line
+kind_judged p ws (Some k) = if allows p k && is_form k ws then checked (item_of k ws) else Err faults.Line
+
+-- the first fault of the form, then of the numbers
+abbrev pub words_judged : Progress → List (List ℕ) → Result Item LineFault
+words_judged p [] = Err faults.Line
+words_judged p (w ∷ ws) = if has_empty (w ∷ ws) then Err faults.Line else kind_judged p ws (kind_of w)
+
+-- then of the counts
+abbrev pub counted : Progress → Result Item LineFault → Result Item LineFault
+counted p (Err f) = Err f
+counted p (Ok item) = if keeps_counts (after p item) then Ok item else Err faults.Limit
+
+-- what a line says at its place, or its first fault
+unfoldable pub line_at : Progress → List ℕ → Result Item LineFault
+line_at p line = if bytes_eq line (codes "end") && not (p.needs == 0) then Err faults.Truncated else counted p (words_judged p (words_of line))
+
+-- ---- the same in words of the spelling
+
+-- the line is the item's spelling, and the item may stand there
+abbrev pub Spells : Progress → List ℕ → Item → Type 0
+Spells p line item = (line ≡ line_of (item_words item)) × CanStand p item
+
+-- what is read is spelt so, and what is spelt so is read
+abbrev pub ReadsLine : Progress → List ℕ → Result Item LineFault → Type 0
+ReadsLine p line r = (item : Item) → (r ≡ Ok item → Spells p line item) × (Spells p line item → r ≡ Ok item)

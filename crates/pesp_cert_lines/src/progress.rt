@@ -1,0 +1,191 @@
+//! How far a text has come.
+
+ghost use Rattle.std.specs.Prelude.{◌≡◌, ◌≤◌};
+ghost use Rattle.pesp_cert_lines.specs.Counts.{after, after_tree, counted_after, keeps_counts, IsKept, start, may_follow, has_kind, allows};
+
+use crate::item::Item;
+use crate::kind::Kind;
+
+/// Where in a text the last line stood.
+#[derive(Clone, Copy, Debug, PartialEq, Eq)]
+pub enum Place {
+    /// Before the first line.
+    Front,
+    /// Behind the first line.
+    Header,
+    /// Behind the period.
+    Period,
+    /// Behind the answer, or a time.
+    Times,
+    /// Behind a cycle.
+    Cycles,
+    /// Behind a line of the tree.
+    Tree,
+}
+
+/// How far a text has come: the version that its first line says, 0 before it, how many trees are still to come, and how many
+/// lines, signed rows and pairs came.
+#[derive(Clone, Copy, Debug)]
+pub struct Progress {
+    pub place: Place,
+    pub version: u32,
+    pub needs: u64,
+    pub times: u64,
+    pub cycles: u64,
+    pub rows: u64,
+    pub lines: u64,
+    pub pairs: u64,
+}
+
+impl Progress {
+    ghost use Rattle.std.specs.Prelude.{◌≡◌};
+    ghost use Rattle.pesp_cert_lines.specs.Counts.{IsKept, start};
+
+    /// Before the first line of a text: one tree is still to come.
+    pub fn new() -> Progress
+        ensures exact { result ≡ start }
+        ensures kept { IsKept result }
+    {
+        Progress {
+            place: Place::Front,
+            version: 0,
+            needs: 1,
+            times: 0,
+            cycles: 0,
+            rows: 0,
+            lines: 0,
+            pairs: 0,
+        }
+    }
+}
+
+/// Whether every count is within its limit.
+fn keeps_counts(progress: &Progress) -> bool
+    ensures { result ≡ keeps_counts progress.now }
+{
+    progress.times <= 100_000
+        && progress.cycles <= 100_000
+        && progress.rows <= 10_000_000
+        && progress.lines <= 1_000_000
+        && progress.pairs <= 20_000_000
+}
+
+/// How far the text has come with a line of the tree that asks for `parts` trees and has so many pairs.
+fn after_tree(progress: &Progress, parts: u64, pairs: u64) -> Progress
+    requires kept { IsKept progress.now }
+    requires few { (parts ≤ 2) × (pairs ≤ 100000001) }
+    ensures { result ≡ after_tree progress.now parts pairs }
+{
+    Progress {
+        place: Place::Tree,
+        needs: (progress.needs + parts).saturating_sub(1),
+        lines: progress.lines + 1,
+        pairs: progress.pairs + pairs,
+        ..*progress
+    }
+}
+
+/// How far the text has come with this item.
+fn after(progress: &Progress, item: &Item<'_>) -> Progress
+    requires { IsKept progress.now }
+    ensures { result ≡ after progress.now item.now }
+{
+    match item {
+        Item::Version(version) => Progress {
+            place: Place::Header,
+            version: *version,
+            ..*progress
+        },
+        Item::Period(_) => Progress {
+            place: Place::Period,
+            ..*progress
+        },
+        Item::Answer(_) => Progress {
+            place: Place::Times,
+            ..*progress
+        },
+        Item::Time(_, _) => Progress {
+            times: progress.times + 1,
+            ..*progress
+        },
+        Item::Cycle(rows) => Progress {
+            place: Place::Cycles,
+            cycles: progress.cycles + 1,
+            rows: progress.rows + rows.left(),
+            ..*progress
+        },
+        Item::Slack { .. } | Item::Offset { .. } => after_tree(progress, 2, 0),
+        Item::Bound(pairs) | Item::Nothing(pairs) => after_tree(progress, 0, pairs.left()),
+        Item::Gap(_) | Item::Propagated => after_tree(progress, 0, 0),
+        Item::End => *progress,
+    }
+}
+
+/// The same, if every count stays within its limit.
+pub(crate) fn counted(progress: &Progress, item: &Item<'_>) -> Option<Progress>
+    requires { IsKept progress.now }
+    ensures { result ≡ counted_after progress.now item.now }
+{
+    let next = after(progress, item);
+    if keeps_counts(&next) {
+        Some(next)
+    } else {
+        None
+    }
+}
+/// Whether a line of this kind may stand next, while the tree is not complete.
+fn may_follow(place: Place, kind: Kind) -> bool
+    ensures { result ≡ may_follow place kind }
+{
+    match place {
+        Place::Front => matches!(kind, Kind::Version),
+        Place::Header => matches!(kind, Kind::Period),
+        Place::Period => matches!(kind, Kind::Answer),
+        Place::Times => matches!(
+            kind,
+            Kind::Time
+                | Kind::Cycle
+                | Kind::Slack
+                | Kind::Offset
+                | Kind::Bound
+                | Kind::Nothing
+                | Kind::Gap
+                | Kind::Propagated
+        ),
+        Place::Cycles => matches!(
+            kind,
+            Kind::Cycle
+                | Kind::Slack
+                | Kind::Offset
+                | Kind::Bound
+                | Kind::Nothing
+                | Kind::Gap
+                | Kind::Propagated
+        ),
+        Place::Tree => matches!(
+            kind,
+            Kind::Slack | Kind::Offset | Kind::Bound | Kind::Nothing | Kind::Gap | Kind::Propagated
+        ),
+    }
+}
+
+/// Whether texts of this version have lines of this kind.
+fn has_kind(version: u32, kind: Kind) -> bool
+    ensures { result ≡ has_kind version kind }
+{
+    match kind {
+        Kind::Propagated => version >= 2,
+        _ => true,
+    }
+}
+
+/// Whether a line of this kind may stand next.
+pub(crate) fn allows(progress: &Progress, kind: Kind) -> bool
+    ensures { result ≡ allows progress.now kind }
+{
+    if progress.needs == 0 {
+        matches!(kind, Kind::End)
+    } else {
+        may_follow(progress.place, kind) && has_kind(progress.version, kind)
+    }
+}

@@ -1,6 +1,0 @@
-use Rattle.pesp_cuts.specs.Rooted.{roots_of}
-use Rattle.pesp_cuts.specs.Lists.{AreListed}
-use Rattle.pesp_cuts.proofs.cuts.list_rows.Given as goal
-
-abbrev pub invariant-loop-row : goal.invariant-loop-row
-invariant-loop-row l = AreListed l.events l.arcs (roots_of l.rooted) 0 l.initial.cuts → AreListed l.events l.arcs (roots_of l.rooted) l.row l.cuts

@@ -12,8 +12,8 @@ use pesp_network::Network;
 use pesp_problem::Memory;
 use pesp_propagate::dive;
 use pesp_reduce::Reduced;
-use pesp_simplex::{Improved, SimplexRefusal, improve};
 use pesp_search_laws::turns::times_are_offered;
+use pesp_simplex::{Improved, SimplexRefusal, improve};
 use std::alloc::Global;
 
 /// How many tries a dive has on a network of so many rows.

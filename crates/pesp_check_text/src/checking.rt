@@ -6,9 +6,9 @@ ghost use Rattle.pesp_check_text.specs.Texts.{ChecksText, Faults};
 
 use crate::fault::CheckFault;
 use crate::judge::Judge;
+use pesp_cert_items::ItemReader;
 use pesp_check::Verdict;
 use pesp_check::parts::zeros;
-use pesp_cert_items::ItemReader;
 use pesp_problem::Instance;
 use pesp_stream::{MOST_INTERRUPTED, Source};
 use pesp_truth::Answer;

@@ -2,8 +2,8 @@
 
 ghost use Rattle.pesp_cert_items.specs.Lent.{pairs_in, rows_in};
 
-use pesp_check::parts::Elements;
 use pesp_cert_items::{LinePairs, SignedRows};
+use pesp_check::parts::Elements;
 use pesp_problem::{Pair, SignedRow};
 
 /// The pairs of a leaf's line that are still to come.

@@ -18,12 +18,12 @@ ghost use Rattle.pesp_check_text.specs.Judging.{JudgedAt, behind, IsFrontFault, 
 
 use crate::elements::{PairsLeft, RowsLeft};
 use crate::stage::Stage;
+use pesp_cert_items::{Item, SignedRows};
 use pesp_check::parts::{
     Checker, LeafLine, Nets, NodeWalk, SaidLine, judge_answer, judge_cycle, least_of, root,
     take_line,
 };
 use pesp_check::{Refusal, Verdict};
-use pesp_cert_items::{Item, SignedRows};
 use pesp_problem::{Cut, Instance};
 use pesp_truth::Answer;
 use std::alloc::{AllocError, Global};

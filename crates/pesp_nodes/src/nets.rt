@@ -6,8 +6,8 @@ ghost use Rattle.pesp_nets.specs.Nets.{AreZeros};
 ghost use Rattle.pesp_nodes.specs.Nets.{IsRowAdded};
 
 use crate::passages::Passage;
-use pesp_problem::SignedRow;
 use pesp_nets::{NetCount, Nets};
+use pesp_problem::SignedRow;
 use std::alloc::AllocError;
 
 /// A count after one signed row more.

@@ -9,8 +9,8 @@ ghost use Rattle.pesp_nodes.specs.Problems.{ProblemValue, IsNodeOf, IsCutOf};
 ghost use Rattle.pesp_nets.specs.Pending.{change_of, restored};
 ghost use Rattle.pesp_nodes.specs.Pending.{IsChange};
 
-use pesp_problem::{Cut, Memory, Side};
 use pesp_nets::Change;
+use pesp_problem::{Cut, Memory, Side};
 use std::alloc::Global;
 use std::marker::Model;
 

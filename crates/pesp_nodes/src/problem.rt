@@ -17,9 +17,9 @@ use crate::offsets::bounds_of;
 use crate::passages::Passages;
 use crate::refusal::ProblemRefusal;
 use crate::table::{is_small, nets_of_passages, passages_of_table};
+use pesp_nets::Nets;
 use pesp_network::Network;
 use pesp_problem::{Arc, Memory, Walk};
-use pesp_nets::Nets;
 use std::alloc::{AllocError, Global};
 use std::marker::Model;
 

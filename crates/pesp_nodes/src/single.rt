@@ -14,9 +14,9 @@ ghost use Rattle.pesp_nodes.specs.Values.{row_term, gain_at};
 use crate::node::Node;
 use crate::problem::Problem;
 use crate::value::{left_at, offset_term, row_term};
+use pesp_nets::NetCount;
 use pesp_problem::exact::{minus, plus, times};
 use pesp_problem::{Arc, Pair};
-use pesp_nets::NetCount;
 
 /// The flow of one pair on a row of its cycle.
 fn flow_of(pair: &Pair, net: &NetCount) -> i128

@@ -9,8 +9,8 @@ ghost use Rattle.pesp_nodes.specs.Problems.{IsSmallTable};
 
 use crate::nets::add_row;
 use crate::passages::{Passages, add_walk};
-use pesp_problem::Walk;
 use pesp_nets::Nets;
+use pesp_problem::Walk;
 use std::alloc::{AllocError, Global};
 
 /// Whether a table has at most 100000 cycles and at most 10000000 signed rows.

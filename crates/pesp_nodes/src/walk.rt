@@ -7,8 +7,8 @@ ghost use Rattle.pesp_nets.specs.Pending.{pending, waiting, branched};
 ghost use Rattle.pesp_nodes.specs.Pending.{AreChanges, CutsFirst};
 
 use crate::node::Node;
-use pesp_problem::{Cut, Memory, Side};
 use pesp_nets::Branch;
+use pesp_problem::{Cut, Memory, Side};
 use std::alloc::Global;
 use std::marker::Model;
 

@@ -23,8 +23,8 @@ use crate::walking::node_from;
 use pesp_board::{Board, Job, LendRefusal, Work};
 use pesp_branching::{Advised, Choice, ask, choose, expand, gap_at, offer_met};
 use pesp_nodes::Node;
-use pesp_strategy::Strategy;
 use pesp_search_laws::turns::turns_begin;
+use pesp_strategy::Strategy;
 use std::alloc::Global;
 
 /// What a turn did: it split a leaf; it closed one, by a gap or by times that cost no more than it is worth; or no leaf is

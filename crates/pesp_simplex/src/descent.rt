@@ -4,8 +4,8 @@ use crate::moves::shift_side;
 use crate::planting::Planting;
 use crate::random::Random;
 use crate::stars::stars_of;
-use pesp_shifts::{Cuts, Entry, Numbers, Rooted, list};
 use pesp_problem::{Arc, Memory};
+use pesp_shifts::{Cuts, Entry, Numbers, Rooted, list};
 use std::alloc::Global;
 
 /// How many forests in turn may show no cheaper shift before the descent ends.

@@ -5,8 +5,8 @@ use crate::guarded::fill;
 use crate::low::{Low, count_rows, list_low};
 use crate::random::Random;
 use crate::stars::empty_lists;
-use pesp_shifts::{Cuts, Entry, MOST_ENTRIES, lay_out};
 use pesp_problem::{Arc, Memory};
+use pesp_shifts::{Cuts, Entry, MOST_ENTRIES, lay_out};
 use std::alloc::Global;
 
 /// The forest in use and the lists of its cuts; for each event how many rows are listed, and how many hang down below it.

@@ -14,11 +14,11 @@ use crate::descent::{Descent, numbers_for};
 use crate::improved::{Improved, Stop};
 use crate::low::{Low, count_rows};
 use crate::stars::empty_lists;
+use pesp_problem::net_times::{cost_of, is_timetable};
+use pesp_problem::{Arc, Memory};
 use pesp_shifts::{
     Cuts, MOST_ENTRIES, Rooted, are_cuts_best, is_rooted, lay_out, list_rows, slacks_of, tree_rows,
 };
-use pesp_problem::net_times::{cost_of, is_timetable};
-use pesp_problem::{Arc, Memory};
 use std::alloc::Global;
 
 /// Lists the rows of all cuts of a rooted forest, of which so many cross each; false where the lists have too little room.

@@ -12,7 +12,7 @@ use pesp_network::Network;
 use pesp_problem::Memory;
 use pesp_propagate::dive;
 use pesp_reduce::Reduced;
-use pesp_search_laws::turns::times_are_offered;
+use pesp_search_laws::turn::times_are_offered;
 use pesp_simplex::{Improved, SimplexRefusal, improve};
 use std::alloc::Global;
 

@@ -23,7 +23,7 @@ use crate::walking::node_from;
 use pesp_board::{Board, Job, LendRefusal, Work};
 use pesp_branching::{Advised, Choice, ask, choose, expand, gap_at, offer_met};
 use pesp_nodes::Node;
-use pesp_search_laws::turns::turns_begin;
+use pesp_search_laws::turn::turns_begin;
 use pesp_strategy::Strategy;
 use std::alloc::Global;
 

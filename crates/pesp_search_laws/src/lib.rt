@@ -3,5 +3,5 @@
 #![tactic(auto)]
 
 pub mod lifting;
-pub mod rooms;
-pub mod turns;
+pub mod room;
+pub mod turn;

@@ -1,5 +1,5 @@
 use Rattle.pesp_search_laws.proofs.Tables.{short_table, few_signed_rows, fewer_rows, too_many}
-use Rattle.pesp_search_laws.proofs.laws.tables_are_small.Goals as goal
+use Rattle.pesp_search_laws.proofs.lifting.tables_are_small.Goals as goal
 
 pub returns-clause-short : goal.returns-clause-short
 returns-clause-short c = short_table

@@ -1,5 +1,5 @@
 use Rattle.pesp_search_laws.proofs.Turns.{closes_by_nothing, closes_by_gap}
-use Rattle.pesp_search_laws.proofs.laws.leaf_is_closed.Goals as goal
+use Rattle.pesp_search_laws.proofs.turn.leaf_is_closed.Goals as goal
 
 pub returns-clause-nothing : goal.returns-clause-nothing
 returns-clause-nothing c = closes_by_nothing

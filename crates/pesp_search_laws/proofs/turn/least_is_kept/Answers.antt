@@ -1,5 +1,5 @@
 use Rattle.pesp_search_laws.proofs.Ends.{step_tightens, root_sets_least}
-use Rattle.pesp_search_laws.proofs.laws.least_is_kept.Goals as goal
+use Rattle.pesp_search_laws.proofs.turn.least_is_kept.Goals as goal
 
 pub returns-clause-step : goal.returns-clause-step
 returns-clause-step c = step_tightens

@@ -1,5 +1,5 @@
 use Rattle.pesp_search_laws.proofs.Sizes.{path_cuts, leaf_pairs}
-use Rattle.pesp_search_laws.proofs.laws.leaves_keep_limits.Goals as goal
+use Rattle.pesp_search_laws.proofs.turn.leaves_keep_limits.Goals as goal
 
 pub returns-clause-cuts : goal.returns-clause-cuts
 returns-clause-cuts c = path_cuts

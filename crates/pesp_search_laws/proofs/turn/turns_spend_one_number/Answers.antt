@@ -1,5 +1,5 @@
 use Rattle.pesp_search_laws.proofs.Spent.{given_one, recalled_one}
-use Rattle.pesp_search_laws.proofs.laws.turns_spend_one_number.Goals as goal
+use Rattle.pesp_search_laws.proofs.turn.turns_spend_one_number.Goals as goal
 
 pub returns-clause-given : goal.returns-clause-given
 returns-clause-given c = given_one

@@ -1,5 +1,5 @@
 use Rattle.pesp_search_laws.proofs.Replies.{refused_for_room, lent_leaf}
-use Rattle.pesp_search_laws.proofs.laws.valid_work_is_taken.Goals as goal
+use Rattle.pesp_search_laws.proofs.turn.valid_work_is_taken.Goals as goal
 
 pub returns-clause-taken : goal.returns-clause-taken
 returns-clause-taken c = refused_for_room

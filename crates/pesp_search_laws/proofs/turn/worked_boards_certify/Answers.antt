@@ -1,5 +1,5 @@
 use Rattle.pesp_search_laws.proofs.Ends.{has_branches, fewer_than_room, not_open}
-use Rattle.pesp_search_laws.proofs.laws.worked_boards_certify.Goals as goal
+use Rattle.pesp_search_laws.proofs.turn.worked_boards_certify.Goals as goal
 
 pub returns-clause-branches : goal.returns-clause-branches
 returns-clause-branches c = has_branches

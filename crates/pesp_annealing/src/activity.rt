@@ -1,0 +1,71 @@
+//! Rows with their slacks.
+
+use pesp_network::NetRow;
+
+/// A row with its slack.
+#[derive(Clone, Copy, Debug)]
+pub(crate) struct Activity {
+    pub(crate) tail: u32,
+    pub(crate) head: u32,
+    pub(crate) span: u32,
+    pub(crate) slack: u32,
+    pub(crate) weight: i64,
+}
+
+/// A row that crosses between a set of events and the rest: its slack grows or falls as the set is shifted.
+#[derive(Clone, Copy, Debug)]
+pub(crate) struct Crossing {
+    pub(crate) row: u32,
+    pub(crate) grows: bool,
+}
+
+/// A sum of two numbers below a period, less the period where it is not below it.
+pub(crate) fn sum_within(period: u32, one: u32, other: u32) -> u32 {
+    let sum = one.wrapping_add(other);
+    if sum >= period {
+        sum.wrapping_sub(period)
+    } else {
+        sum
+    }
+}
+
+/// A difference of two numbers below a period, with the period where it is below 0.
+pub(crate) fn difference_within(period: u32, one: u32, other: u32) -> u32 {
+    if one >= other {
+        one.wrapping_sub(other)
+    } else {
+        one.wrapping_add(period).wrapping_sub(other)
+    }
+}
+
+impl Activity {
+    /// A row of a network with its slack.
+    pub(crate) fn of(row: &NetRow, slack: u32) -> Activity {
+        Activity {
+            tail: row.tail,
+            head: row.head,
+            span: row.span,
+            slack,
+            weight: i64::try_from(row.weight).unwrap_or(i64::MAX),
+        }
+    }
+
+    /// What the slack costs.
+    pub(crate) fn cost(&self) -> i64 {
+        self.weight.wrapping_mul(i64::from(self.slack))
+    }
+
+    /// The slack after a shift.
+    pub(crate) fn shifted(&self, period: u32, amount: u32, grows: bool) -> u32 {
+        if grows {
+            sum_within(period, self.slack, amount)
+        } else {
+            difference_within(period, self.slack, amount)
+        }
+    }
+
+    /// The event at the other end, seen from one of a set that the row crosses.
+    pub(crate) fn beyond(&self, grows: bool) -> u32 {
+        if grows { self.tail } else { self.head }
+    }
+}

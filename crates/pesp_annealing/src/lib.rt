@@ -1,0 +1,25 @@
+//! Makes the slacks of a timetable cheaper by annealing: by shifts of one side of the cuts of random spanning forests, and by
+//! shifts that are drawn for all clusters of an induced forest at once. Nothing is promised of what it finds but that it is
+//! found safely.
+#![tactic(auto)]
+
+mod activity;
+mod annealer;
+mod choices;
+mod clusters;
+mod cuts;
+mod forest;
+mod heat;
+mod induced;
+mod lists;
+mod messages;
+mod node;
+mod places;
+mod rooted;
+mod rounds;
+mod series;
+mod slacks;
+mod steps;
+mod trees;
+
+pub use annealer::Annealer;

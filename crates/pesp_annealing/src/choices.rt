@@ -1,9 +1,9 @@
 //! The shifts that some rows allow, and by how much each is dearer.
 
-use crate::activity::{Activity, Crossing};
 use crate::heat::Heat;
 use crate::places::{Places, below};
 use crate::steps::{Line, Steps};
+use pesp_clusters::{Activity, Crossing};
 use pesp_search_tools::Random;
 
 /// Which shifts of a set of events are allowed, and by how much each of these is dearer than to leave it.

@@ -3,21 +3,13 @@
 //! found safely.
 #![tactic(auto)]
 
-mod activity;
 mod annealer;
 mod choices;
-mod clusters;
-mod cuts;
-mod forest;
 mod heat;
-mod induced;
-mod lists;
 mod messages;
 mod node;
 mod places;
-mod rooted;
 mod rounds;
-mod series;
 mod slacks;
 mod steps;
 mod trees;

@@ -1,11 +1,9 @@
 //! Rounds of shifts.
 
-use crate::clusters::Clusters;
-use crate::cuts::Cuts;
-use crate::forest::Forest;
 use crate::heat::Heat;
 use crate::slacks::Slacks;
 use crate::trees::Trees;
+use pesp_clusters::{Clusters, Cuts, Forest};
 use std::alloc::{AllocError, Global};
 
 /// The slacks that are being changed, and what rounds are made with.

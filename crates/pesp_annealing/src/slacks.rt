@@ -1,10 +1,9 @@
 //! The slacks that are being changed.
 
-use crate::activity::{Activity, Crossing, difference_within};
 use crate::choices::Choices;
-use crate::clusters::Ends;
 use crate::heat::Heat;
 use crate::steps::Steps;
+use pesp_clusters::{Activity, Crossing, Ends, difference_within};
 use pesp_network::Network;
 use pesp_search_tools::Random;
 use pesp_search_tools::guarded::number;

@@ -1,7 +1,7 @@
 //! The shifts that are looked at together.
 
-use crate::activity::{Activity, difference_within, sum_within};
 use crate::places::{below, turned};
+use pesp_clusters::{Activity, difference_within, sum_within};
 use pesp_search_tools::Random;
 
 /// At most 64 shifts: the first one, and each further one larger by two to the power of `doublings`, modulo the period. In

@@ -1,13 +1,11 @@
 //! Shifts that are drawn for all clusters of an induced forest at once.
 
 use crate::choices::Choices;
-use crate::clusters::Clusters;
 use crate::heat::Heat;
-use crate::induced::{Induced, Placed};
 use crate::node::Node;
-use crate::rooted::NONE;
 use crate::slacks::Slacks;
 use crate::steps::Steps;
+use pesp_clusters::{Clusters, Induced, NONE, Placed};
 use pesp_search_tools::guarded::{fill, number, set_number};
 use std::alloc::{AllocError, Global};
 

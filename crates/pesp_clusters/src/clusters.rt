@@ -8,15 +8,15 @@ use std::alloc::{AllocError, Global};
 
 /// The clusters of a row's tail and head.
 #[derive(Clone, Copy, Debug)]
-pub(crate) struct Ends {
-    pub(crate) tail: u32,
-    pub(crate) head: u32,
+pub struct Ends {
+    pub tail: u32,
+    pub head: u32,
 }
 
 /// Clusters, into which the first rows of a forest join events: how many of these rows, how many clusters, the cluster of
 /// each event, those of each row's ends, and the rows between two clusters at each of the two.
 #[derive(Debug, Drop)]
-pub(crate) struct Clusters {
+pub struct Clusters {
     groups: Groups,
     joined: usize,
     count: u32,
@@ -27,7 +27,7 @@ pub(crate) struct Clusters {
 
 impl Clusters {
     /// Room for clusters of so many events, and for so many rows.
-    pub(crate) fn new(alloc: Global, events: u32, rows: usize) -> Result<Clusters, AllocError> {
+    pub fn new(alloc: Global, events: u32, rows: usize) -> Result<Clusters, AllocError> {
         let nowhere = Ends { tail: 0, head: 0 };
         Ok(Clusters {
             groups: Groups::apart(alloc, events)?,
@@ -40,34 +40,34 @@ impl Clusters {
     }
 
     /// How many clusters there are.
-    pub(crate) fn count(&self) -> u32 {
+    pub fn count(&self) -> u32 {
         self.count
     }
 
     /// The clusters of the rows' ends.
-    pub(crate) fn ends(&self) -> &[Ends] {
+    pub fn ends(&self) -> &[Ends] {
         &self.ends
     }
 
     /// The rows between a cluster and others.
-    pub(crate) fn star(&self, cluster: u32) -> Option<&[Crossing]> {
+    pub fn star(&self, cluster: u32) -> Option<&[Crossing]> {
         self.star.of(cluster)
     }
 
     /// The cluster at the other end of a row, seen from one of the two.
-    pub(crate) fn beyond(&self, crossing: &Crossing) -> Option<u32> {
+    pub fn beyond(&self, crossing: &Crossing) -> Option<u32> {
         let ends = self.ends.get(crossing.row as usize)?;
         Some(if crossing.grows { ends.tail } else { ends.head })
     }
 
     /// Makes a cluster of each event.
-    pub(crate) fn part(&mut self) {
+    pub fn part(&mut self) {
         self.groups.part();
         self.joined = 0;
     }
 
     /// Joins by the first rows of a forest, so many of them.
-    pub(crate) fn join(&mut self, rows: &[Activity], forest: &[u32], most: usize) -> Option<()> {
+    pub fn join(&mut self, rows: &[Activity], forest: &[u32], most: usize) -> Option<()> {
         for place in forest.get(self.joined..most)? {
             let row = rows.get(*place as usize)?;
             self.groups.join(row.tail, row.head)?;
@@ -118,7 +118,7 @@ impl Clusters {
     }
 
     /// Numbers the clusters and lists the rows between them.
-    pub(crate) fn list(&mut self, rows: &[Activity]) -> Option<()> {
+    pub fn list(&mut self, rows: &[Activity]) -> Option<()> {
         self.number()?;
         self.count_rows(rows)?;
         let mut row = 0u32;

@@ -7,7 +7,7 @@ use pesp_search_tools::guarded::{fill, number, set_number};
 use std::alloc::{AllocError, Global};
 
 /// What stands for no event and no place.
-pub(crate) const NONE: u32 = u32::MAX;
+pub const NONE: u32 = u32::MAX;
 
 /// A forest with its events in order from the roots down: each event has a place, from 1, and each place the one above it,
 /// or 0 at a root. `height` is by how many rows the longest way down from a place goes.

@@ -4,23 +4,23 @@ use pesp_network::NetRow;
 
 /// A row with its slack.
 #[derive(Clone, Copy, Debug)]
-pub(crate) struct Activity {
-    pub(crate) tail: u32,
-    pub(crate) head: u32,
-    pub(crate) span: u32,
-    pub(crate) slack: u32,
-    pub(crate) weight: i64,
+pub struct Activity {
+    pub tail: u32,
+    pub head: u32,
+    pub span: u32,
+    pub slack: u32,
+    pub weight: i64,
 }
 
 /// A row that crosses between a set of events and the rest: its slack grows or falls as the set is shifted.
 #[derive(Clone, Copy, Debug)]
-pub(crate) struct Crossing {
-    pub(crate) row: u32,
-    pub(crate) grows: bool,
+pub struct Crossing {
+    pub row: u32,
+    pub grows: bool,
 }
 
 /// A sum of two numbers below a period, less the period where it is not below it.
-pub(crate) fn sum_within(period: u32, one: u32, other: u32) -> u32 {
+pub fn sum_within(period: u32, one: u32, other: u32) -> u32 {
     let sum = one.wrapping_add(other);
     if sum >= period {
         sum.wrapping_sub(period)
@@ -30,7 +30,7 @@ pub(crate) fn sum_within(period: u32, one: u32, other: u32) -> u32 {
 }
 
 /// A difference of two numbers below a period, with the period where it is below 0.
-pub(crate) fn difference_within(period: u32, one: u32, other: u32) -> u32 {
+pub fn difference_within(period: u32, one: u32, other: u32) -> u32 {
     if one >= other {
         one.wrapping_sub(other)
     } else {
@@ -40,7 +40,7 @@ pub(crate) fn difference_within(period: u32, one: u32, other: u32) -> u32 {
 
 impl Activity {
     /// A row of a network with its slack.
-    pub(crate) fn of(row: &NetRow, slack: u32) -> Activity {
+    pub fn of(row: &NetRow, slack: u32) -> Activity {
         Activity {
             tail: row.tail,
             head: row.head,
@@ -51,12 +51,12 @@ impl Activity {
     }
 
     /// What the slack costs.
-    pub(crate) fn cost(&self) -> i64 {
+    pub fn cost(&self) -> i64 {
         self.weight.wrapping_mul(i64::from(self.slack))
     }
 
     /// The slack after a shift.
-    pub(crate) fn shifted(&self, period: u32, amount: u32, grows: bool) -> u32 {
+    pub fn shifted(&self, period: u32, amount: u32, grows: bool) -> u32 {
         if grows {
             sum_within(period, self.slack, amount)
         } else {
@@ -65,7 +65,7 @@ impl Activity {
     }
 
     /// The event at the other end, seen from one of a set that the row crosses.
-    pub(crate) fn beyond(&self, grows: bool) -> u32 {
+    pub fn beyond(&self, grows: bool) -> u32 {
         if grows { self.tail } else { self.head }
     }
 }

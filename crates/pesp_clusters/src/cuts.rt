@@ -11,7 +11,7 @@ const MOST_CROSSINGS: u32 = 8_000_000;
 
 /// The rows that cross the cut at each place of a forest, and an order of these places.
 #[derive(Debug, Drop)]
-pub(crate) struct Cuts {
+pub struct Cuts {
     rooted: Rooted,
     lists: Lists,
     order: Vec<u32>,
@@ -57,7 +57,7 @@ fn put_row(rooted: &Rooted, lists: &mut Lists, row: &Activity, place: u32) -> Op
 
 impl Cuts {
     /// Room for the cuts of forests of so many events.
-    pub(crate) fn new(alloc: Global, events: u32) -> Result<Cuts, AllocError> {
+    pub fn new(alloc: Global, events: u32) -> Result<Cuts, AllocError> {
         let places = (events as usize).saturating_add(1);
         Ok(Cuts {
             rooted: Rooted::new(alloc, events as usize)?,
@@ -67,7 +67,7 @@ impl Cuts {
     }
 
     /// Roots a forest.
-    pub(crate) fn root(&mut self, rows: &[Activity], forest: &[u32]) -> Option<()> {
+    pub fn root(&mut self, rows: &[Activity], forest: &[u32]) -> Option<()> {
         self.rooted.root(rows, forest)
     }
 
@@ -95,7 +95,7 @@ impl Cuts {
     }
 
     /// Lists the rows that cross each cut, or the low ones where that is too much.
-    pub(crate) fn list(&mut self, rows: &[Activity]) -> Result<Option<()>, AllocError> {
+    pub fn list(&mut self, rows: &[Activity]) -> Result<Option<()>, AllocError> {
         for most in [u32::MAX, 256, 64, 16, 4, 1] {
             if let Some(room) = self.count(rows, most) {
                 self.lists.make_room(room)?;
@@ -106,17 +106,17 @@ impl Cuts {
     }
 
     /// Puts the cuts into a random order.
-    pub(crate) fn shuffle(&mut self, random: &mut Random) {
+    pub fn shuffle(&mut self, random: &mut Random) {
         shuffle(&mut self.order, random);
     }
 
     /// The cuts in order, each by the rows that cross it.
-    pub(crate) fn order(&self) -> &[u32] {
+    pub fn order(&self) -> &[u32] {
         &self.order
     }
 
     /// The rows that cross a cut.
-    pub(crate) fn of(&self, place: u32) -> Option<&[Crossing]> {
+    pub fn of(&self, place: u32) -> Option<&[Crossing]> {
         self.lists.of(place)
     }
 }

@@ -21,8 +21,8 @@ use Rattle.pesp_nodes.specs.Passages.{passages_at}
 use Rattle.pesp_nodes.specs.Offsets.{IsSmallOffset}
 use Rattle.pesp_nodes.specs.Problems.{IsPairOf, Rise}
 use Rattle.pesp_nets.proofs.Counts.{eq-true, eq-false, net_count_bound}
-use Rattle.pesp_levels.specs.declared.edge.Edge.{Edge}
-use Rattle.pesp_levels.specs.Settling.{edge_at, no_edge}
+use Rattle.pesp_bound.specs.declared.edge.Edge.{Edge}
+use Rattle.pesp_bound.specs.Settling.{edge_at, no_edge}
 use Rattle.pesp_bound.specs.Differences.{last_owner, IsShift, shift_at, AreShifts, IsDemand, AreDemands, signed_at, no_signed, ArePassed, over_pairs, AreMultipliers}
 
 at_end : {X : Type 0} (xs : List X) (x d : X) → get_or (xs ++ x ∷ []) (length xs) d ≡ x

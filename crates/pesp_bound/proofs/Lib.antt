@@ -1,3 +1,4 @@
+pub mod Lifting
 pub mod Owners
 pub mod Levels
 pub mod Circulations

@@ -18,8 +18,8 @@ use Rattle.pesp_nodes.specs.declared.passages.Passage.{Passage}
 use Rattle.pesp_nodes.specs.Passages.{ArePassages, ArePassagesOf, passages_at, sum_over}
 use Rattle.pesp_nodes.specs.Problems.{ProblemValue, net_of, ArePairs}
 use Rattle.pesp_nets.proofs.Counts.{eq-true, eq-false}
-use Rattle.pesp_levels.specs.declared.edge.Edge.{Edge}
-use Rattle.pesp_levels.specs.Settling.{edge_at, AreWithin, AreSettled, IsWay, GainsForEver, gains, losses}
+use Rattle.pesp_bound.specs.declared.edge.Edge.{Edge}
+use Rattle.pesp_bound.specs.Settling.{edge_at, AreWithin, AreSettled, IsWay, GainsForEver, gains, losses}
 use Rattle.pesp_bound.specs.Decided.{IsDecided}
 use Rattle.pesp_bound.specs.Differences.{IsShift, shift_at, rise_bound, bound_of, IsDemand, AreDemands, IsSystem, signed_at, no_signed, ArePassed, walk_along, own_flow, AreMultipliers}
 use Rattle.pesp_bound.proofs.Gathering.{own_row_names, small_counts}

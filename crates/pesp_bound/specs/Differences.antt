@@ -10,8 +10,8 @@ use Rattle.pesp_problem.specs.Forests.{own_row}
 use Rattle.pesp_problem.specs.Nodes.{Node, cycle_at, slack_range, offsets_left}
 use Rattle.pesp_nodes.specs.declared.passages.Passage.{Passage}
 use Rattle.pesp_nodes.specs.Passages.{ArePassages, passages_at}
-use Rattle.pesp_levels.specs.declared.edge.Edge.{Edge}
-use Rattle.pesp_levels.specs.Settling.{edge_at}
+use Rattle.pesp_bound.specs.declared.edge.Edge.{Edge}
+use Rattle.pesp_bound.specs.Settling.{edge_at}
 
 -- the number of the last of the first m cycles that begins with the row at place i, or 0
 abbrev pub last_owner : List (List SignedRow) → ℕ → ℕ → ℕ

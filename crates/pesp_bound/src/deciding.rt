@@ -3,15 +3,16 @@
 ghost use Rattle.std.specs.Prelude.{◌≡◌, ℕ, ◌<◌, ◌≤◌, ◌<ℤ◌, length, pos, false, IfOk, IfSome, IsSome, IsSomeAnd, MatchOption};
 ghost use Rattle.pesp_problem.specs.Nodes as spec;
 ghost use Rattle.pesp_nodes.specs.Problems.{net_of, IsNodeOf, ArePairs};
-ghost use Rattle.pesp_levels.specs.Settling.{AreWithin, AreSettled, GainsForEver};
+ghost use Rattle.pesp_bound.specs.Settling.{AreWithin, AreSettled, GainsForEver};
 ghost use Rattle.pesp_bound.specs.Leaves.{HasNoGap};
 ghost use Rattle.pesp_bound.specs.Decided.{IsDecided};
 ghost use Rattle.pesp_bound.specs.Differences.{IsSystem};
 
 use crate::differences::{MOST, edges_along, passed_rows};
+use crate::edge::{Edge, Outcome, are_settled};
+use crate::settling::settle;
 use crate::shifts::shifts_of;
 use crate::turning::{flows_along, pairs_of};
-use pesp_levels::{Edge, Outcome, are_settled, settle};
 use pesp_nodes::{Node, Problem};
 use pesp_problem::{Pair, SignedRow};
 use std::alloc::{AllocError, Global};

@@ -8,7 +8,7 @@ ghost use Rattle.pesp_nodes.specs.Offsets.{AreArcs, IsSmallOffset};
 ghost use Rattle.pesp_bound.specs.Differences as spec;
 ghost use Rattle.pesp_bound.specs.Differences.{IsDemand, AreDemands, ArePassed};
 
-use pesp_levels::Edge;
+use crate::edge::Edge;
 use pesp_nodes::Passages;
 use pesp_problem::{Arc, SignedRow};
 use std::alloc::{AllocError, Global};

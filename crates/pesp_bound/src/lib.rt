@@ -1,17 +1,21 @@
 //! Nodes of a problem, and what a leaf there proves: that each timetable in the node costs at least so much, or that there
-//! is none.
+//! is none. Levels of events that meet demands, or a closed way along which none do, decide nodes of single offsets.
 #![tactic(auto)]
 
 mod best;
 mod deciding;
 mod differences;
+mod edge;
 mod leaf;
 mod proposing;
+mod settling;
 mod shifts;
 mod turning;
 
 pub use best::{best_leaf, best_leaf_from};
+pub use edge::{Edge, Outcome, are_settled};
 pub use leaf::Leaf;
 pub use pesp_nodes::{
     Cut, Node, Pair, Pairs, Problem, ProblemRefusal, Side, leaf_value, offset_range,
 };
+pub use settling::settle;

@@ -1,17 +1,27 @@
 //! Multipliers for a leaf. Nothing is promised of them: a proposal is judged by the value that it has.
 
-ghost use Rattle.std.specs.Prelude.{◌≤◌, length};
 ghost use Rattle.pesp_nodes.specs.Problems.{IsNodeOf};
 
-use pesp_circulation::{Found, Line, improve};
+use pesp_forest::Frame;
 use pesp_nodes::{Node, Passage, Problem, offset_range};
-use pesp_problem::{Arc, Memory, Pair, SignedRow, Walk};
+use pesp_problem::{Memory, Pair, SignedRow, Walk};
+use pesp_relaxation::{Basis, Ended, Slopes, slopes_of};
 use std::alloc::{AllocError, Global};
 
-/// The row that a cycle alone passes, and whether it passes it under a plus sign.
+/// The greatest multiplier of a pair by amount.
+const MOST_MULTIPLIER: i64 = 1_000_000_000_000;
+
+/// What flow costs on a row that no cycle passes: more than prices can bring.
+const CLOSED: Slopes = Slopes {
+    below: -2_305_843_009_213_693_952,
+    between: 2_305_843_009_213_693_952,
+    above: 2_305_843_009_213_693_952,
+};
+
+/// The row that a cycle alone passes, by its place from 0, and whether it passes it under a plus sign.
 #[derive(Clone, Copy)]
 struct Own {
-    place: usize,
+    row: u32,
     plus: bool,
 }
 
@@ -29,67 +39,114 @@ fn owner(passages: &[Passage]) -> Option<(usize, bool)> {
     }
 }
 
+/// Sets the row of its own of the cycle that alone passes a row.
+fn set_own(owns: &mut [Option<Own>], passages: &[Passage], row: u32) -> Option<()> {
+    let (cycle, plus) = owner(passages)?;
+    *owns.get_mut(cycle)? = Some(Own { row, plus });
+    Some(())
+}
+
 /// A row of its own for each cycle that has one.
 fn own_rows(alloc: Global, problem: &Problem) -> Result<Vec<Option<Own>>, AllocError> {
     let mut owns: Vec<Option<Own>> = vec![in alloc; None; problem.table().len()]?;
-    let by_row = problem.passages();
-    for place in 0..by_row.len() {
-        if let Some((cycle, plus)) = owner(by_row[place].as_slice()) {
-            if let Some(own) = owns.get_mut(cycle) {
-                *own = Some(Own { place, plus });
-            }
-        }
+    for (place, passages) in problem.passages().iter().enumerate() {
+        let row = u32::try_from(place).unwrap_or(u32::MAX);
+        let _is_own = set_own(&mut owns, passages.as_slice(), row);
     }
     Ok(owns)
 }
 
-/// A line without events of its own and without a cost.
-fn idle_line() -> Line {
-    Line {
-        tail: 0,
-        head: 0,
-        weight: 0,
-        below: 0,
-        between: 0,
-        above: 0,
-        flow: 0,
-    }
+/// Marks a cycle's own row.
+fn mark_own(is_own: &mut [bool], own: Option<Own>) -> Option<()> {
+    *is_own.get_mut(own?.row as usize)? = true;
+    Some(())
 }
 
-/// A row with its costs at a slack range: a unit of flow up to the weight costs the least duration, one above it the
-/// greatest.
-fn line_of(arc: &Arc, range: (u32, u32), weighted: bool, flow: i64) -> Line {
-    let weight = if weighted {
-        i64::try_from(arc.weight).unwrap_or(i64::MAX)
-    } else {
-        0
-    };
-    let low = arc.lower.saturating_add(i64::from(range.0.min(range.1)));
-    let high = arc.lower.saturating_add(i64::from(range.0.max(range.1)));
-    Line {
-        tail: arc.tail as usize,
-        head: arc.head as usize,
-        weight,
-        below: low,
-        between: low,
-        above: high,
-        flow,
+/// Whether each row is a cycle's own.
+fn own_marks(alloc: Global, rows: usize, owns: &[Option<Own>]) -> Result<Vec<bool>, AllocError> {
+    let mut is_own = vec![in alloc; false; rows]?;
+    for own in owns {
+        mark_own(&mut is_own, *own);
     }
+    Ok(is_own)
 }
 
-/// Takes off what a unit of flow on a cycle's own row brings: the period times the least offset where the cycle's
-/// multiplier is above 0, times the greatest below 0.
-fn take_offsets(line: &mut Line, period: u32, left: (i64, i64), plus: bool) {
-    let low = left.0.saturating_mul(i64::from(period));
-    let high = left.1.saturating_mul(i64::from(period));
-    let (under, over) = if plus {
-        (high, low)
-    } else {
-        (low.saturating_neg(), high.saturating_neg())
-    };
-    line.below = line.below.saturating_sub(under);
-    line.between = line.between.saturating_sub(over);
-    line.above = line.above.saturating_sub(over);
+/// Adds the rows that cycles pass, those of cycles' own or the others.
+fn add_rows(
+    rows: &mut Vec<u32>,
+    problem: &Problem,
+    is_own: &[bool],
+    wanted: bool,
+) -> Result<(), AllocError> {
+    for (place, passages) in problem.passages().iter().enumerate() {
+        let is_passed = !passages.as_slice().is_empty();
+        if is_passed && is_own.get(place).copied() == Some(wanted) {
+            rows.push(u32::try_from(place).unwrap_or(u32::MAX))?;
+        }
+    }
+    Ok(())
+}
+
+/// The rows that cycles pass, those of cycles' own last.
+fn rows_in_order(
+    alloc: Global,
+    problem: &Problem,
+    owns: &[Option<Own>],
+) -> Result<Vec<u32>, AllocError> {
+    let is_own = own_marks(alloc, problem.arcs().len(), owns)?;
+    let mut rows = Vec::new(alloc);
+    add_rows(&mut rows, problem, &is_own, false)?;
+    add_rows(&mut rows, problem, &is_own, true)?;
+    Ok(rows)
+}
+
+/// What flow on a row costs by its slack range, and by the offsets of its cycle.
+fn cost_of(frame: &Frame, node: &Node, row: u32, offsets: (i64, i64)) -> Option<Slopes> {
+    let (one, other) = node.slacks().get(row as usize).copied()?;
+    let range = (one.min(other), one.max(other));
+    slopes_of(frame.period(), frame.row(row)?, range, offsets)
+}
+
+/// Gives rows that cycles pass what their flow costs by their slack ranges, and closes the others.
+fn set_slacks(basis: &mut Basis, frame: &Frame, problem: &Problem, node: &Node) -> Option<()> {
+    for (place, passages) in problem.passages().iter().enumerate() {
+        let row = u32::try_from(place).ok()?;
+        let slopes = if passages.as_slice().is_empty() {
+            CLOSED
+        } else {
+            cost_of(frame, node, row, (0, 0))?
+        };
+        basis.set_slopes(row, slopes)?;
+    }
+    Some(())
+}
+
+/// The offsets of a cycle as its own row counts them: a row that the cycle passes under a minus sign has flow below 0 where
+/// the multiplier is above.
+fn offsets_by_row(left: (i64, i64), plus: bool) -> Option<(i64, i64)> {
+    if plus {
+        return Some(left);
+    }
+    Some((left.1.checked_neg()?, left.0.checked_neg()?))
+}
+
+/// Gives the cycles' own rows what their flow costs; None where a cycle has no row of its own.
+fn set_offsets(
+    basis: &mut Basis,
+    frame: &Frame,
+    problem: &Problem,
+    node: &Node,
+    owns: &[Option<Own>],
+) -> Option<()>
+    requires { IsNodeOf problem.now node.now }
+{
+    for place in 0..problem.table().len() {
+        let own = owns.get(place).copied()??;
+        let left = offset_range(problem, node, place as u32 + 1)?;
+        let offsets = offsets_by_row(left, own.plus)?;
+        basis.set_slopes(own.row, cost_of(frame, node, own.row, offsets)?)?;
+    }
+    Some(())
 }
 
 /// Adds a multiplier to the flows along a walk.
@@ -112,85 +169,39 @@ fn add_pair(flows: &mut [i64], table: &[Walk], pair: &Pair) -> Option<()> {
     add_walk(flows, walk.rows(), pair.mult)
 }
 
-/// The flow of pairs on each row; None where one passes 64 bits.
-fn flows_of(
-    alloc: Global,
-    problem: &Problem,
-    pairs: &[Pair],
-) -> Result<Option<Vec<i64>>, AllocError> {
-    let mut flows = vec![in alloc; 0i64; problem.arcs().len()]?;
+/// Adds the flow of pairs.
+fn add_pairs(flows: &mut [i64], table: &[Walk], pairs: &[Pair]) -> Option<()> {
     for pair in pairs {
-        if add_pair(&mut flows, problem.table(), pair).is_none() {
-            return Ok(None);
-        }
-    }
-    Ok(Some(flows))
-}
-
-/// The rows with flows; a row that no cycle passes has no part in a circulation.
-fn lines_of(
-    alloc: Global,
-    problem: &Problem,
-    node: &Node,
-    flows: &[i64],
-    weighted: bool,
-) -> Result<Vec<Line>, AllocError>
-    requires { IsNodeOf problem.now node.now }
-{
-    let arcs = problem.arcs();
-    let slacks = node.slacks();
-    let by_row = problem.passages();
-    let mut lines = Vec::new(alloc);
-    for place in 0..arcs.len() {
-        if by_row[place].as_slice().is_empty() {
-            lines.push(idle_line())?;
-            continue;
-        }
-        let flow = flows.get(place).copied().unwrap_or(0);
-        lines.push(line_of(&arcs[place], slacks[place], weighted, flow))?;
-    }
-    Ok(lines)
-}
-
-/// Takes off what the cycles' own rows bring.
-fn with_offsets(
-    problem: &Problem,
-    node: &Node,
-    owns: &[Option<Own>],
-    lines: &mut [Line],
-) -> Option<()>
-    requires { IsNodeOf problem.now node.now }
-{
-    for place in 0..problem.table().len() {
-        let own = owns.get(place).copied()??;
-        let left = offset_range(problem, node, place as u32 + 1)?;
-        let line = lines.get_mut(own.place)?;
-        take_offsets(line, problem.network().period(), left, own.plus);
+        add_pair(flows, table, pair)?;
     }
     Some(())
 }
 
-/// The multiplier of a cycle: the flow on its own row.
-fn mult_of(flows: &[i64], own: Option<Own>) -> Option<i64> {
-    let own = own?;
-    let flow = flows.get(own.place).copied()?;
-    if own.plus {
-        Some(flow)
-    } else {
-        flow.checked_neg()
+/// Sets the flow on each row.
+fn set_flows(basis: &mut Basis, flows: &[i64]) -> Option<()> {
+    for (place, flow) in flows.iter().enumerate() {
+        basis.set_flow(u32::try_from(place).ok()?, *flow)?;
     }
+    Some(())
+}
+
+/// The multiplier of a cycle: the flow on its own row, as far as the limit of a multiplier.
+fn mult_of(basis: &Basis, own: Option<Own>) -> Option<i64> {
+    let own = own?;
+    let flow = basis.flow(own.row)?;
+    let mult = if own.plus { flow } else { flow.checked_neg()? };
+    Some(mult.clamp(-MOST_MULTIPLIER, MOST_MULTIPLIER))
 }
 
 /// The cycles whose own rows carry a flow.
-fn pairs_of(alloc: Global, owns: &[Option<Own>], flows: &[i64]) -> Result<Vec<Pair>, AllocError> {
+fn pairs_of(alloc: Global, owns: &[Option<Own>], basis: &Basis) -> Result<Vec<Pair>, AllocError> {
     let mut pairs = Vec::new(alloc);
-    for place in 0..owns.len().min(100_000) {
-        let mult = mult_of(flows, owns[place]).unwrap_or(0);
+    let mut cycle = 0u32;
+    for own in owns {
+        cycle = cycle.saturating_add(1);
+        let mult = mult_of(basis, *own).unwrap_or(0);
         if mult != 0 {
-            pairs.push(Pair {
-                cycle: place as u32 + 1,
-                mult,
-            })?;
+            pairs.push(Pair { cycle, mult })?;
         }
     }
     Ok(pairs)
@@ -214,80 +225,62 @@ fn nothing_proposed(alloc: Global) -> Proposal {
     }
 }
 
-/// The greatest of prices.
-fn greatest(prices: &[i64]) -> i64 {
-    let mut greatest = 0;
-    for price in prices {
-        greatest = greatest.max(*price);
-    }
-    greatest
-}
-
-/// Levels that rise where prices fall.
+/// Levels that rise as prices do, the least of them 0.
 fn levels_of(alloc: Global, prices: &[i64]) -> Result<Vec<usize>, AllocError> {
-    let top = greatest(prices);
-    let mut levels = Vec::new(alloc);
+    let least = prices.iter().copied().min().unwrap_or(0);
+    let mut levels = Vec::with_capacity(alloc, prices.len())?;
     for price in prices {
-        let level = usize::try_from(top.saturating_sub(*price)).unwrap_or(0);
+        let level = usize::try_from(price.saturating_sub(least)).unwrap_or(0);
         levels.push(level)?;
     }
     Ok(levels)
 }
 
-/// The rows with the flows of pairs, and what they cost and bring.
-fn network_of(
-    alloc: Global,
-    problem: &Problem,
-    node: &Node,
-    owns: &[Option<Own>],
-    start: &[Pair],
-    weighted: bool,
-) -> Result<Option<Vec<Line>>, AllocError>
-    requires { IsNodeOf problem.now node.now }
-{
-    let Some(flows) = flows_of(alloc, problem, start)? else {
-        return Ok(None);
-    };
-    let mut lines = lines_of(alloc, problem, node, &flows, weighted)?;
-    if with_offsets(problem, node, owns, &mut lines).is_none() {
-        return Ok(None);
-    }
-    Ok(Some(lines))
-}
-
-/// What so many pivots of the circulation of pairs end with.
+/// A circulation of pairs on a problem's rows, with what flow on them costs at a node; None where a cycle has no row of its
+/// own, or where numbers would pass 64 bits.
 fn circulation_of(
     alloc: Global,
+    frame: &Frame,
     problem: &Problem,
     node: &Node,
     owns: &[Option<Own>],
     start: &[Pair],
     weighted: bool,
-    rounds: u32,
-) -> Result<Option<Found>, AllocError>
+) -> Result<Option<Basis>, AllocError>
     requires { IsNodeOf problem.now node.now }
 {
-    let Some(lines) = network_of(alloc, problem, node, owns, start, weighted)? else {
+    let mut basis = Basis::idle(alloc, frame)?;
+    if !weighted {
+        basis.clear_weights();
+    }
+    let mut flows = vec![in alloc; 0i64; problem.arcs().len()]?;
+    let are_flows = add_pairs(&mut flows, problem.table(), start).is_some()
+        && set_flows(&mut basis, &flows).is_some();
+    let are_costs = set_slacks(&mut basis, frame, problem, node).is_some()
+        && set_offsets(&mut basis, frame, problem, node, owns).is_some();
+    let rows = rows_in_order(alloc, problem, owns)?;
+    if !are_flows || !are_costs || basis.start(alloc, frame, &rows)?.is_none() {
         return Ok(None);
-    };
-    improve(alloc, lines, problem.network().events() as usize, rounds)
+    }
+    Ok(Some(basis))
 }
 
-/// The pairs of what was found.
+/// The pairs of a circulation where its pivots ended.
 fn proposal_of(
     alloc: Global,
     owns: &[Option<Own>],
-    found: Option<Found>,
+    basis: &Basis,
+    ended: Ended,
 ) -> Result<Proposal, AllocError> {
-    let (flows, endless, levels) = match found {
-        Some(Found::Flows { flows, prices }) => (flows, false, levels_of(alloc, &prices)?),
-        Some(Found::Ray { flows }) => (flows, true, Vec::new(alloc)),
-        None => return Ok(nothing_proposed(alloc)),
-    };
+    let endless = ended == Ended::Endless;
     Ok(Proposal {
-        pairs: pairs_of(alloc, owns, &flows)?,
+        pairs: pairs_of(alloc, owns, basis)?,
         endless,
-        levels,
+        levels: if endless {
+            Vec::new(alloc)
+        } else {
+            levels_of(alloc, basis.prices())?
+        },
     })
 }
 
@@ -302,7 +295,12 @@ pub fn propose(
 ) -> Result<Proposal, Memory>
     requires { IsNodeOf problem.now node.now }
 {
+    let frame = Frame::new(alloc, problem.network())?;
     let owns = own_rows(alloc, problem)?;
-    let found = circulation_of(alloc, problem, node, &owns, start, weighted, rounds)?;
-    Ok(proposal_of(alloc, &owns, found)?)
+    let circulation = circulation_of(alloc, &frame, problem, node, &owns, start, weighted)?;
+    let Some(mut basis) = circulation else {
+        return Ok(nothing_proposed(alloc));
+    };
+    let ended = basis.solve(&frame, rounds);
+    Ok(proposal_of(alloc, &owns, &basis, ended)?)
 }

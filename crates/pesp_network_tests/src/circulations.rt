@@ -1,25 +1,46 @@
-//! Circulations on a few lines.
+//! Circulations on a few rows.
 
-use crate::given::size;
+use crate::given::network_of_rows;
 use pesp_cases::{small, spell_list, split_word, whole, words_of};
-use pesp_circulation::{Found, Line, improve};
+use pesp_forest::Frame;
+use pesp_network::NetRow;
+use pesp_relaxation::{Basis, Ended, Slopes};
 use std::alloc::Global;
 
+/// A row, what a unit of flow on it costs, and its flow.
+#[derive(Clone, Copy)]
+struct Line {
+    row: NetRow,
+    slopes: Slopes,
+    flow: i64,
+}
+
 /// The costs below, between and above.
-fn costs_of(words: &[&str]) -> Option<(i64, i64, i64)> {
-    Some((whole(words, 3)?, whole(words, 4)?, whole(words, 5)?))
+fn slopes_of(words: &[&str]) -> Option<Slopes> {
+    Some(Slopes {
+        below: whole(words, 3)?,
+        between: whole(words, 4)?,
+        above: whole(words, 5)?,
+    })
+}
+
+/// The row of the words tail, head and weight.
+fn row_of(words: &[&str]) -> Option<NetRow> {
+    Some(NetRow {
+        tail: small(words, 0)?,
+        head: small(words, 1)?,
+        lower: 0,
+        span: 0,
+        weight: u64::from(small(words, 2)?),
+        origin: 1,
+    })
 }
 
 /// The line of the words tail, head, weight, the costs below, between and above, and the flow.
 fn line_of(words: &[&str]) -> Option<Line> {
-    let (below, between, above) = costs_of(words)?;
     Some(Line {
-        tail: size(words, 0)?,
-        head: size(words, 1)?,
-        weight: whole(words, 2)?,
-        below,
-        between,
-        above,
+        row: row_of(words)?,
+        slopes: slopes_of(words)?,
         flow: whole(words, 6)?,
     })
 }
@@ -41,28 +62,51 @@ fn lines_of(alloc: Global, lines: &[&str]) -> Option<Vec<Line>> {
     Some(found)
 }
 
-/// What is found between three events in so many rounds.
-fn circulated(alloc: Global, lines: &[&str], rounds: u32) -> Option<Option<Found>> {
-    improve(alloc, lines_of(alloc, lines)?, 3, rounds).ok()
+/// The frame of lines between three events.
+fn frame_of(alloc: Global, lines: &[Line]) -> Option<Frame> {
+    let rows = lines.iter().map(|line| line.row).collect(alloc).ok()?;
+    Frame::new(alloc, &network_of_rows(alloc, rows, 3)?).ok()
+}
+
+/// The costs and the flows of lines.
+fn set_lines(basis: &mut Basis, lines: &[Line]) -> Option<()> {
+    for (place, line) in lines.iter().enumerate() {
+        let row = u32::try_from(place).ok()?;
+        basis.set_slopes(row, line.slopes)?;
+        basis.set_flow(row, line.flow)?;
+    }
+    Some(())
+}
+
+/// The circulation of lines, with a tree.
+fn started(alloc: Global, frame: &Frame, lines: &[Line]) -> Option<Basis> {
+    let mut basis = Basis::idle(alloc, frame).ok()?;
+    set_lines(&mut basis, lines)?;
+    let order: Vec<u32> = (0..u32::try_from(lines.len()).ok()?).collect(alloc).ok()?;
+    basis.start(alloc, frame, &order).ok()??;
+    Some(basis)
 }
 
 /// The flows, or a closed way along which more flow costs less without end.
-fn spell_found(alloc: Global, found: &Found) -> Option<String> {
-    match found {
-        Found::Flows { flows, prices: _ } => spell_flows(alloc, "flows", flows),
-        Found::Ray { flows } => spell_flows(alloc, "ray", flows),
+fn spell_flows(alloc: Global, basis: &Basis, count: usize, ended: Ended) -> Option<String> {
+    let mut flows = Vec::new(alloc);
+    for place in 0..count {
+        flows.push(basis.flow(u32::try_from(place).ok()?)?).ok()?;
     }
-}
-
-fn spell_flows(alloc: Global, name: &str, flows: &[i64]) -> Option<String> {
-    let flows = spell_list(alloc, flows)?;
+    let flows = spell_list(alloc, &flows)?;
+    let name = if ended == Ended::Endless {
+        "ray"
+    } else {
+        "flows"
+    };
     format!(in alloc; "{name} {flows}").ok()
 }
 
-/// What is found between three events in so many rounds, or `none`.
+/// What is found between three events in so many rounds.
 pub(crate) fn circulate(alloc: Global, lines: &[&str], words: &[&str]) -> Option<String> {
-    match circulated(alloc, lines, small(words, 1)?)? {
-        Some(found) => spell_found(alloc, &found),
-        None => String::from_str(alloc, "none").ok(),
-    }
+    let lines = lines_of(alloc, lines)?;
+    let frame = frame_of(alloc, &lines)?;
+    let mut basis = started(alloc, &frame, &lines)?;
+    let ended = basis.solve(&frame, small(words, 1)?);
+    spell_flows(alloc, &basis, lines.len(), ended)
 }

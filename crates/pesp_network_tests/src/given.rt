@@ -131,6 +131,11 @@ fn network_between(
     Some(Network::new(alloc, period, events, rows_of(alloc, lines)?))
 }
 
+/// The network of these rows between so many events, at a period of 10.
+pub(crate) fn network_of_rows(alloc: Global, rows: Vec<NetRow>, events: u32) -> Option<Network> {
+    Network::new(alloc, 10, events, rows).ok()
+}
+
 /// The network of the instance.
 fn network_of_instance(alloc: Global, lines: &[&str]) -> Option<Network> {
     Network::of(alloc, &instance_of(alloc, lines)?).ok()

@@ -3,8 +3,8 @@
 ghost use Rattle.std.specs.Prelude.{◌<◌, ◌≤◌, IsTrue};
 
 use crate::given::size;
+use pesp_bound::{Edge, Outcome, settle};
 use pesp_cases::{spell_list, split_word, words_of};
-use pesp_levels::{Edge, Outcome, settle};
 use std::alloc::Global;
 
 /// The edge of the words start, finish, gain and loss.

@@ -2,9 +2,9 @@
 //! cost less.
 
 use crate::listed::Listed;
-use crate::numbers::{amount, number, set_amount, set_number};
 use crate::row::{Bend, Part, Row, Slopes, Step};
 use pesp_forest::{Frame, NONE, Tree};
+use pesp_search_tools::guarded::{amount, number, set_amount, set_number};
 use std::alloc::{AllocError, Global};
 
 /// How many listed rows are all looked at for each step.
@@ -73,6 +73,13 @@ impl Basis {
             next: 0,
             is_stale: true,
         })
+    }
+
+    /// Takes the weight of each row for 0.
+    pub fn clear_weights(&mut self) {
+        for row in self.rows.iter_mut() {
+            row.weight = 0;
+        }
     }
 
     /// Takes over all of another basis on the same rows.

@@ -3,9 +3,7 @@
 #![tactic(auto)]
 
 mod basis;
-mod groups;
 mod listed;
-mod numbers;
 mod pivots;
 mod rebuilding;
 mod row;

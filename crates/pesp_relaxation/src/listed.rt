@@ -1,6 +1,6 @@
 //! Lists in which each row stands at most once.
 
-use crate::numbers::{number, set_number};
+use pesp_search_tools::guarded::{number, set_number};
 use std::alloc::{AllocError, Global};
 
 /// Some of so many rows.

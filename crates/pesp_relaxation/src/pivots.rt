@@ -1,7 +1,7 @@
 //! Pivots (Cunningham 1976: strongly feasible trees).
 
 use crate::basis::{Basis, Ended};
-use crate::row::{FREE, Part, Step};
+use crate::row::{FREE, Step};
 use pesp_forest::{Frame, NONE};
 
 /// A closed way: a step, from where it ends up to an event of the tree, and from there down to where it begins.
@@ -151,11 +151,7 @@ impl Basis {
         let round = self.round(step)?;
         let row = self.rows.get_mut(step.row as usize)?;
         row.part = row.part_of(step.forward);
-        let own = if row.part == Part::Between {
-            row.weight
-        } else {
-            FREE
-        };
+        let own = row.room(step.forward);
         let down = self.room_down(round)?;
         let up = self.room_up(round)?;
         let units = own.min(down.units).min(up.units);

@@ -1,10 +1,10 @@
 //! The basis of a leaf, from its ranges and its pairs.
 
 use crate::basis::Basis;
-use crate::numbers::{amount, set_amount};
 use crate::row::slopes_of;
 use pesp_forest::{Cycles, Frame};
 use pesp_problem::Pair;
+use pesp_search_tools::guarded::{amount, set_amount};
 use std::alloc::{AllocError, Global};
 
 /// Adds to the amount at a place.
@@ -54,8 +54,8 @@ impl Basis {
         Some(())
     }
 
-    /// Sets the flow on a row.
-    fn set_flow(&mut self, row: u32, flow: i64) -> Option<()> {
+    /// Sets the flow on a row; `start` then makes the basis of all flows.
+    pub fn set_flow(&mut self, row: u32, flow: i64) -> Option<()> {
         self.rows.get_mut(row as usize)?.flow = flow;
         Some(())
     }
@@ -108,8 +108,8 @@ impl Basis {
         self.fill_forest(cycles, arriving)
     }
 
-    /// The circulation of these pairs, with a tree and its prices; of no pairs where a flow would pass 64 bits, or where the
-    /// flow of these isn't that of any tree. Rows cost what they did.
+    /// The circulation of these pairs, with a tree and its prices; of no pairs where a flow would pass 64 bits. Rows cost what
+    /// they did.
     pub fn rebuild(
         &mut self,
         alloc: Global,

@@ -42,15 +42,16 @@ pub(crate) enum Part {
     Above,
 }
 
-/// A bend of a row's cost.
+/// The bend of a row's cost at which its flow is; neither where it lies between bends.
 #[derive(Clone, Copy, Debug)]
 pub(crate) enum Bend {
     Zero,
     Weight,
+    Neither,
 }
 
 /// A row with its flow from tail to head. A row of the basis has the part that its flow lies in, another one the bend at
-/// which its flow is.
+/// which its flow is, or, where that is neither, the part too.
 #[derive(Clone, Copy, Debug)]
 pub(crate) struct Row {
     pub(crate) slopes: Slopes,
@@ -84,19 +85,19 @@ impl Slopes {
 impl Row {
     /// The part into which more flow leads from the row's bend.
     pub(crate) fn part_ahead(&self) -> Part {
-        if self.bend == Bend::Zero && self.weight > 0 {
-            Part::Between
-        } else {
-            Part::Above
+        match self.bend {
+            Bend::Neither => self.part,
+            Bend::Zero if self.weight > 0 => Part::Between,
+            _ => Part::Above,
         }
     }
 
     /// The part into which less flow leads from the row's bend.
     pub(crate) fn part_behind(&self) -> Part {
-        if self.bend == Bend::Weight && self.weight > 0 {
-            Part::Between
-        } else {
-            Part::Below
+        match self.bend {
+            Bend::Neither => self.part,
+            Bend::Weight if self.weight > 0 => Part::Between,
+            _ => Part::Below,
         }
     }
 
@@ -145,9 +146,15 @@ impl Row {
         }
     }
 
-    /// Whether the flow lies between two bends.
-    pub(crate) fn is_between(&self) -> bool {
-        self.flow != 0 && self.flow != self.weight
+    /// The bend at which the flow is.
+    pub(crate) fn bend_of_flow(&self) -> Bend {
+        if self.flow == 0 {
+            Bend::Zero
+        } else if self.flow == self.weight {
+            Bend::Weight
+        } else {
+            Bend::Neither
+        }
     }
 
     /// The part of a row of the basis whose flow may also be at a bend; then the part in which the flow can grow upwards.

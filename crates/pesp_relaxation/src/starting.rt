@@ -1,9 +1,9 @@
 //! A basis of given flows.
 
 use crate::basis::Basis;
-use crate::groups::Groups;
 use crate::row::Bend;
 use pesp_forest::{Frame, grow_all};
+use pesp_search_tools::Groups;
 use std::alloc::{AllocError, Global};
 
 impl Basis {
@@ -17,7 +17,7 @@ impl Basis {
         Some(joins)
     }
 
-    /// Takes in each row whose flow lies between two bends; None where these rows close a cycle.
+    /// Takes in each row, in order, whose flow is at no bend, unless it closes a cycle.
     fn choose_between(
         &self,
         groups: &mut Groups,
@@ -25,9 +25,8 @@ impl Basis {
         order: &[u32],
     ) -> Option<()> {
         for place in order {
-            let is_between = self.rows.get(*place as usize)?.is_between();
-            if is_between && !self.take_in(groups, chosen, *place)? {
-                return None;
+            if self.rows.get(*place as usize)?.bend_of_flow() == Bend::Neither {
+                self.take_in(groups, chosen, *place)?;
             }
         }
         Some(())
@@ -41,15 +40,12 @@ impl Basis {
         Some(())
     }
 
-    /// Marks the rows of the tree, and gives the others the bend of their flow.
+    /// Marks the rows of the tree, and gives the others the bend of their flow, and its part.
     fn mark(&mut self, chosen: &[bool]) {
         for (row, is_chosen) in self.rows.iter_mut().zip(chosen.iter()) {
             row.is_basic = *is_chosen;
-            row.bend = if row.flow == 0 {
-                Bend::Zero
-            } else {
-                Bend::Weight
-            };
+            row.bend = row.bend_of_flow();
+            row.part = row.part_upwards(true);
         }
     }
 
@@ -72,7 +68,7 @@ impl Basis {
         Some(())
     }
 
-    /// A spanning tree of the rows, those between two bends first; None where these close a cycle.
+    /// A spanning tree of the rows, those whose flow is at no bend first.
     fn choose(&self, groups: &mut Groups, chosen: &mut [bool], order: &[u32]) -> Option<()> {
         self.choose_between(groups, chosen, order)?;
         self.choose_rest(groups, chosen, order)
@@ -88,9 +84,11 @@ impl Basis {
         self.reprice()
     }
 
-    /// A tree and prices for the flows as they are; rows earlier in the order are taken first. None where the rows whose flow
-    /// lies between two bends close a cycle.
-    pub(crate) fn start(
+    /// A tree of these rows and prices for the flows as they are: rows whose flow is at no bend are taken first, and of those
+    /// and of the others the earlier ones. A row whose flow is at no bend and would close a cycle stays outside the tree;
+    /// the first pivot of a step along it brings its flow to a bend, or it into the tree. Rows that aren't listed are in no
+    /// tree.
+    pub fn start(
         &mut self,
         alloc: Global,
         frame: &Frame,

@@ -4,8 +4,8 @@ use Rattle.std.specs.Prelude.{pos, slice_index_or}
 use Rattle.pesp_problem.specs.Walks.{net_count}
 use Rattle.pesp_network.specs.Networks.{NetworkValue}
 use Rattle.pesp_nodes.specs.Problems.{net_of, ArePairs}
-use Rattle.pesp_levels.specs.declared.edge.Edge.{Edge}
-use Rattle.pesp_levels.specs.Settling.{AreSettled, GainsForEver}
+use Rattle.pesp_bound.specs.declared.edge.Edge.{Edge}
+use Rattle.pesp_bound.specs.Settling.{AreSettled, GainsForEver}
 use Rattle.pesp_bound.specs.Differences.{IsSystem, walk_along, own_flow, AreMultipliers}
 use Rattle.pesp_bound.proofs.Systems.{within_of, not_settled, way_places, small_along, own_rows, gains_are_nothing, length_arcs, counted_as, mults_as}
 use Rattle.pesp_bound.proofs.deciding.closing_pairs.Goals as goal

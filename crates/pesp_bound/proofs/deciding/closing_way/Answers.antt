@@ -1,5 +1,5 @@
 use Rattle.std.proofs.Common.{rules}
-use Rattle.pesp_levels.specs.Settling.{at}
+use Rattle.pesp_bound.specs.Settling.{at}
 use Rattle.pesp_bound.proofs.deciding.closing_way.Goals as goal
 
 pub returns-in-Levels : goal.returns-in-Levels

@@ -1,0 +1,30 @@
+use Rattle.std.proofs.Common.{ℕ, ◌+◌, ◌≤◌, sym, ◌∙◌, subst, List}
+use Rattle.std.specs.Prelude.{Option}
+use Rattle.pesp_bound.specs.Settling.{edge_at, at}
+use Rattle.pesp_bound.proofs.Lifting.{when_true, when_false, SoFar, so_far_lifts, so_far_stays, low_but}
+use Rattle.pesp_bound.proofs.settling.pass.Goals as goal
+use Rattle.pesp_bound.proofs.settling.pass.Goals.{then-lift+else-level-start, else-lift}
+
+pub loop-k-preserved : goal.loop-k-preserved
+loop-k-preserved c =
+    let i = c.loop-k.invariant in
+    let edges = c.args.edges.now in
+    let k = c.loop-k.k in
+    let old = c.loop-k.level in
+    let new = c.lift.new.level in
+    let start = (edge_at edges k).start in
+    let e = c.lift.ensures in
+    let w = c.requires.within k c.loop-k-test.true in
+    record {
+      size = e.events ∙ i.size;
+      size_by = e.events_by ∙ i.size;
+      low = elim c.if-lift.branch [
+        | then-lift+else-level-start w ↦ λ x. low_but old new c.args.limit start x i.low e.others w.if-level-start.false
+        | else-lift w ↦ λ x. subst (λ (xs : List ℕ). at xs x ≤ c.args.limit) (sym (when_false _ _ c.lift.result w.if-lift.false e.cases).0) (i.low x)
+      ];
+      grown = e.grown;
+      so_far = elim c.if-lift.branch [
+        | then-lift+else-level-start b ↦ subst (λ (l : Option ℕ). SoFar edges c.args.level.now new l (k + 1)) (sym b.last-is) (so_far_lifts edges c.args.level.now old new c.loop-k.last k start i.so_far (when_true _ _ c.lift.result b.if-lift.true e.cases) w.0)
+        | else-lift b ↦ let f = when_false _ _ c.lift.result b.if-lift.false e.cases in subst (λ (l : Option ℕ). SoFar edges c.args.level.now new l (k + 1)) (sym b.last-is) (so_far_stays edges c.args.level.now old new c.loop-k.last k i.so_far f.0 f.1)
+      ];
+    }

@@ -1,9 +1,10 @@
 //! Which rows are exchanged.
 
-use crate::random::Random;
+use crate::settings::{BAD_TRIED, WIDE};
 use crate::table::Table;
 use pesp_forest::{Forest, Frame};
 use pesp_network::NetRow;
+use pesp_search_tools::Random;
 
 /// A row that goes into the forest, its place among those outside, and the row that goes out.
 #[derive(Clone, Copy)]
@@ -46,7 +47,7 @@ fn draw_between(random: &mut Random, forest: &Forest, row: &NetRow) -> Option<u3
     let top = forest.tree().meeting(row.head, row.tail)?;
     let from_head = steps_up(forest, row.head, top)?;
     let both = from_head.checked_add(steps_up(forest, row.tail, top)?)?;
-    let drawn = random.below(both);
+    let drawn = u32::try_from(random.below(u64::from(both))).ok()?;
     if drawn < from_head {
         return row_above(forest, row.head, drawn);
     }
@@ -57,7 +58,7 @@ fn draw_between(random: &mut Random, forest: &Forest, row: &NetRow) -> Option<u3
 fn looks_bad(enters: &NetRow, leaves: &NetRow) -> bool {
     let out = u128::from(leaves.span).saturating_mul(u128::from(enters.weight).saturating_add(1));
     let into = u128::from(enters.span).saturating_mul(u128::from(leaves.weight).saturating_add(1));
-    out.saturating_mul(8) < into
+    out.saturating_mul(WIDE) < into
 }
 
 /// Draws an exchange; None where what was drawn isn't to be tried.
@@ -67,15 +68,14 @@ pub(crate) fn draw(
     table: &Table,
     outside: &[u32],
 ) -> Option<Exchange> {
-    let count = u32::try_from(outside.len()).ok()?;
-    let place = random.below(count);
+    let place = u32::try_from(random.below(outside.len() as u64)).ok()?;
     let enters = outside.get(place as usize).copied()?;
-    if is_paid(frame, table, enters)? && random.below(4) != 0 {
+    if is_paid(frame, table, enters)? && random.below(BAD_TRIED) != 0 {
         return None;
     }
     let row = frame.row(enters)?;
     let leaves = draw_between(random, &table.forest, row)?;
-    if looks_bad(row, frame.row(leaves)?) && random.below(4) != 0 {
+    if looks_bad(row, frame.row(leaves)?) && random.below(BAD_TRIED) != 0 {
         return None;
     }
     Some(Exchange {

@@ -3,11 +3,12 @@
 use crate::drawing::{Exchange, draw};
 use crate::goal::Goal;
 use crate::heat::Heat;
-use crate::random::Random;
+use crate::settings::DRAWN_EACH;
 use crate::table::Table;
 use pesp_forest::Frame;
 use pesp_network::Network;
 use pesp_problem::Memory;
+use pesp_search_tools::Random;
 use std::alloc::{AllocError, Global};
 
 /// A search: where it stands, the rows outside its forest, what the forest is worth, and the best rows so far.
@@ -51,7 +52,7 @@ impl Search {
             table,
             outside,
             goal,
-            random: Random::new(seed),
+            random: Random::new(u64::from(seed)),
             worth,
             best: worth,
             count: 0,
@@ -104,9 +105,9 @@ impl Search {
         Ok(self.table.restore(frame, enters, leaves))
     }
 
-    /// Tries so many exchanges, of fifty times as many drawn at most.
+    /// Tries so many exchanges, or fewer where too many are drawn that aren't to be tried.
     fn run(&mut self, alloc: Global, frame: &Frame, most: u32) -> Result<(), AllocError> {
-        for _ in 0..most.saturating_mul(50) {
+        for _ in 0..most.saturating_mul(DRAWN_EACH) {
             if self.count >= most {
                 return Ok(());
             }

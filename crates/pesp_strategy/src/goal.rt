@@ -1,5 +1,6 @@
 //! What a forest is worth: the value of the root's leaf, less a penalty on offsets that are left open.
 
+use crate::settings::{MOST_OPEN_SHARE, OPEN_SHARE};
 use pesp_forest::Frame;
 use pesp_relaxation::{Basis, Slopes};
 
@@ -37,10 +38,11 @@ pub(crate) struct Goal {
 impl Goal {
     /// The goal with so many cycles.
     pub(crate) fn new(cycles: usize) -> Goal {
-        let most = 409u64;
-        let share = 32_768u64.checked_div(cycles as u64).unwrap_or(most);
+        let share = OPEN_SHARE
+            .checked_div(cycles as u64)
+            .unwrap_or(MOST_OPEN_SHARE);
         Goal {
-            share: share.min(most),
+            share: share.min(MOST_OPEN_SHARE),
         }
     }
 

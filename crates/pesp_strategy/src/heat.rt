@@ -1,10 +1,14 @@
 //! How much worse a forest may be than the one before it.
 
 use crate::goal::Goal;
-use crate::random::Random;
+use crate::settings::{COOLINGS, FEWEST_HEATED};
 use pesp_forest::Frame;
+use pesp_search_tools::Random;
 
-/// The greatest loss at the start; it falls by seven halvings until the last exchange.
+/// 1024 divided by the natural logarithm of 2: a loss as great as the heat is taken once in e times.
+const HALVINGS: u128 = 1477;
+
+/// The greatest loss at the start; it falls by some halvings until the last exchange.
 #[derive(Clone, Copy)]
 pub(crate) struct Heat {
     top: u64,
@@ -22,9 +26,9 @@ fn mean_weight(frame: &Frame) -> u64 {
 }
 
 impl Heat {
-    /// The heat of so many exchanges; none where they are fewer than 15 for each cycle.
+    /// The heat of so many exchanges; none where they are too few for each cycle.
     pub(crate) fn new(frame: &Frame, goal: Goal, cycles: usize, most: u32) -> Heat {
-        if (most as usize) < cycles.saturating_mul(15) {
+        if (most as usize) < cycles.saturating_mul(FEWEST_HEATED) {
             return Heat { top: 0, most };
         }
         let scaled = goal
@@ -39,7 +43,7 @@ impl Heat {
 
     /// The heat after so many exchanges, halved step by step along lines.
     fn after(self, count: u32) -> u64 {
-        let steps = u64::from(count).saturating_mul(112);
+        let steps = u64::from(count).saturating_mul(16 * COOLINGS);
         let step = steps.checked_div(u64::from(self.most)).unwrap_or(0);
         let halved = self
             .top
@@ -54,6 +58,6 @@ impl Heat {
             return true;
         };
         let room = u128::from(self.after(count)).saturating_mul(drawn);
-        loss.saturating_mul(185) <= room
+        loss.saturating_mul(HALVINGS) <= room
     }
 }

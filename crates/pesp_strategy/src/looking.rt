@@ -3,17 +3,12 @@
 use crate::candidates::Candidate;
 use crate::experience::Side;
 use crate::kept::Kept;
+use crate::settings::{MOST_CUTS, MOST_WORSE};
 use crate::weighing::{Leaf, Weight, score};
 use pesp_forest::Frame;
 use pesp_relaxation::Basis;
 use std::alloc::{AllocError, Global};
 use std::mem::swap;
-
-/// How many cuts are looked at.
-const MOST_CUTS: usize = 16;
-
-/// After how many cuts in a row that are no better no more are looked at.
-const MOST_WORSE: u32 = 4;
 
 /// The bases of both parts of a cut.
 #[derive(Drop)]

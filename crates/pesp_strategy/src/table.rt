@@ -1,7 +1,8 @@
 //! A forest with the relaxation of its root, and exchanges of rows.
 
 use crate::root::{Root, root_slacks};
-use crate::settling::{MOST_PIVOTS, settle};
+use crate::settings::MOST_PIVOTS;
+use crate::settling::settle;
 use crate::spans::Spans;
 use pesp_forest::{Forest, Frame, NONE};
 use pesp_relaxation::{Basis, Ended, Slopes, slopes_of};

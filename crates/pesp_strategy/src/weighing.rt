@@ -2,7 +2,7 @@
 
 use crate::candidates::Candidate;
 use crate::kept::Kept;
-use crate::settling::MOST_PIVOTS;
+use crate::settings::MOST_PIVOTS;
 use pesp_forest::Frame;
 use pesp_relaxation::{Basis, Ended, slopes_of};
 

@@ -2,14 +2,17 @@
 
 use crate::moves::shift_side;
 use crate::planting::Planting;
-use crate::random::Random;
 use crate::stars::stars_of;
 use pesp_problem::{Arc, Memory};
+use pesp_search_tools::Random;
 use pesp_shifts::{Cuts, Entry, Numbers, Rooted, list};
 use std::alloc::Global;
 
 /// How many forests in turn may show no cheaper shift before the descent ends.
 const QUIET: u32 = 4;
+
+/// The seed of the numbers that choose forests and shifts.
+const SEED: u64 = 1;
 
 /// A set of events that is shifted: all that hang below an event of the forest, or an event alone.
 #[derive(Clone, Copy)]
@@ -101,7 +104,7 @@ impl Descent {
             sides: sides_of(alloc, events)?,
             stars: stars_of(alloc, events as usize, arcs)?,
             planting: Planting::new(alloc, events, arcs)?,
-            random: Random::new(),
+            random: Random::new(SEED),
         })
     }
 

@@ -3,13 +3,11 @@
 
 mod descent;
 mod drawing;
-mod guarded;
 mod improved;
 mod improvement;
 mod low;
 mod moves;
 mod planting;
-mod random;
 mod settle;
 mod stars;
 

@@ -1,7 +1,7 @@
 //! Lists of the cuts that hang low, for forests whose cuts have too many rows in all.
 
-use crate::guarded::{count_one, number};
 use pesp_problem::Arc;
+use pesp_search_tools::guarded::{count_one, number};
 use pesp_shifts::{Cuts, Entry, Rooted, put};
 
 /// Which cuts are listed: those below which no event hangs more rows down than `most`.

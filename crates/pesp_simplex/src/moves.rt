@@ -1,7 +1,7 @@
 //! The choice of an amount by which a side is shifted.
 
-use crate::random::Random;
 use pesp_problem::Arc;
+use pesp_search_tools::Random;
 use pesp_shifts::{Entry, Numbers, shift_costs};
 
 /// The weight of an amount that is as cheap as the cheapest.

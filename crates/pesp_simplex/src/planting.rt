@@ -1,11 +1,11 @@
 //! Forests that are drawn at random, and the lists of their cuts.
 
 use crate::drawing::Drawing;
-use crate::guarded::fill;
 use crate::low::{Low, count_rows, list_low};
-use crate::random::Random;
 use crate::stars::empty_lists;
 use pesp_problem::{Arc, Memory};
+use pesp_search_tools::Random;
+use pesp_search_tools::guarded::fill;
 use pesp_shifts::{Cuts, Entry, MOST_ENTRIES, lay_out};
 use std::alloc::Global;
 

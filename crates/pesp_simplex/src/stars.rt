@@ -1,7 +1,7 @@
 //! The rows at each event, as lists of the cuts of events alone.
 
-use crate::guarded::count_one;
 use pesp_problem::{Arc, Memory};
+use pesp_search_tools::guarded::count_one;
 use pesp_shifts::{Cuts, Entry, lay_out, put};
 use std::alloc::Global;
 

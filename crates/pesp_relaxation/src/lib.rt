@@ -6,8 +6,12 @@ mod basis;
 mod listed;
 mod pivots;
 mod rebuilding;
+mod root;
 mod row;
+mod settling;
 mod starting;
 
 pub use basis::{Basis, Ended};
+pub use root::{Root, root_slacks};
 pub use row::{Slopes, slopes_of};
+pub use settling::{MOST_PIVOTS, settle};

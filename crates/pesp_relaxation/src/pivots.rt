@@ -20,11 +20,11 @@ struct Room {
     units: i64,
 }
 
-/// What became of a pivot.
+/// What became of a pivot: where its closed way has no end, nothing was done.
 #[derive(Clone, Copy)]
 enum Pivot {
     Done,
-    Endless,
+    Endless(Round),
 }
 
 impl Basis {
@@ -156,8 +156,7 @@ impl Basis {
         let up = self.room_up(round)?;
         let units = own.min(down.units).min(up.units);
         if units == FREE {
-            self.keep_only(round)?;
-            return Some(Pivot::Endless);
+            return Some(Pivot::Endless(round));
         }
         self.send(round, units)?;
         if up.units == units {
@@ -179,19 +178,37 @@ impl Basis {
         self.send(round, 1)
     }
 
-    /// Makes the circulation cheaper by so many pivots at most. Where it ends `Endless` the flow is one unit along a closed
-    /// way that costs less than nothing, and the basis is no longer one.
-    pub fn solve(&mut self, frame: &Frame, most: u32) -> Ended {
+    /// Makes the circulation cheaper by so many pivots at most; the closed way of the first step that has no end, where there
+    /// is one.
+    fn run(&mut self, frame: &Frame, most: u32) -> Result<Ended, Round> {
         for _ in 0..most {
             let Some(step) = self.entering() else {
-                return Ended::Best;
+                return Ok(Ended::Best);
             };
             match self.pivot(frame, step) {
                 Some(Pivot::Done) => {}
-                Some(Pivot::Endless) => return Ended::Endless,
-                None => return Ended::Open,
+                Some(Pivot::Endless(round)) => return Err(round),
+                None => return Ok(Ended::Open),
             }
         }
-        Ended::Open
+        Ok(Ended::Open)
+    }
+
+    /// Makes the circulation cheaper by so many pivots at most. Where it ends `Endless` the flow is one unit along a closed
+    /// way that costs less than nothing, and the basis is no longer one.
+    pub fn solve(&mut self, frame: &Frame, most: u32) -> Ended {
+        match self.run(frame, most) {
+            Ok(ended) => ended,
+            Err(round) => match self.keep_only(round) {
+                Some(()) => Ended::Endless,
+                None => Ended::Open,
+            },
+        }
+    }
+
+    /// Makes the circulation cheaper by so many pivots at most. Where it ends `Endless` the circulation and its basis are
+    /// those that the pivots led to.
+    pub fn approach(&mut self, frame: &Frame, most: u32) -> Ended {
+        self.run(frame, most).unwrap_or(Ended::Endless)
     }
 }

@@ -1,8 +1,5 @@
 //! Numbers that tune the search. None of them is promised; each was found by trying.
 
-/// How many pivots a basis may take.
-pub(crate) const MOST_PIVOTS: u32 = 1_000_000;
-
 /// How many cuts of a leaf are looked at.
 pub(crate) const MOST_CUTS: usize = 16;
 

@@ -3,13 +3,11 @@
 use crate::candidates::{Candidate, candidates, rank};
 use crate::kept::Kept;
 use crate::looking::{Bases, Experience, Looked, best_cut};
-use crate::root::Root;
-use crate::settling::settle;
 use crate::weighing::{Leaf, Weight};
 use pesp_forest::{Cycles, Frame};
 use pesp_network::Network;
 use pesp_problem::{Memory, Pair};
-use pesp_relaxation::{Basis, Ended};
+use pesp_relaxation::{Basis, Ended, Root, settle};
 use std::alloc::{AllocError, Global};
 
 /// Pairs for a leaf, with the value that they should have there; or, where it is endless, pairs whose value with all weights 0

@@ -1,11 +1,7 @@
 //! A forest with the relaxation of its root, and exchanges of rows.
 
-use crate::root::{Root, root_slacks};
-use crate::settings::MOST_PIVOTS;
-use crate::settling::settle;
-use crate::spans::Spans;
-use pesp_forest::{Forest, Frame, NONE};
-use pesp_relaxation::{Basis, Ended, Slopes, slopes_of};
+use pesp_forest::{Forest, Frame, NONE, Spans};
+use pesp_relaxation::{Basis, Ended, MOST_PIVOTS, Root, Slopes, slopes_of};
 use std::alloc::{AllocError, Global};
 
 /// The basis before the last exchange, and the events beyond the row that is exchanged.
@@ -22,32 +18,6 @@ pub(crate) struct Table {
     pub(crate) basis: Basis,
     spans: Spans,
     spare: Spare,
-}
-
-/// Makes a basis the best one of a root; whether there is one.
-fn settle_root(
-    alloc: Global,
-    frame: &Frame,
-    root: &Root,
-    basis: &mut Basis,
-) -> Result<bool, AllocError> {
-    let Root {
-        cycles,
-        offsets,
-        ..
-    } = root;
-    let slacks = root_slacks(alloc, frame)?;
-    let ended = settle(alloc, frame, cycles, basis, &slacks, offsets, &[])?;
-    Ok(ended == Some(Ended::Best))
-}
-
-/// The best basis of a root.
-fn best_basis(alloc: Global, frame: &Frame, root: &Root) -> Result<Option<Basis>, AllocError> {
-    let mut basis = Basis::idle(alloc, frame)?;
-    if !settle_root(alloc, frame, root, &mut basis)? {
-        return Ok(None);
-    }
-    Ok(Some(basis))
 }
 
 impl Spare {
@@ -69,7 +39,7 @@ impl Table {
         let Some(root) = Root::new(alloc, frame, numbers)? else {
             return Ok(None);
         };
-        let Some(basis) = best_basis(alloc, frame, &root)? else {
+        let Some(basis) = root.best_basis(alloc, frame)? else {
             return Ok(None);
         };
         let spare = Spare::new(alloc, frame)?;

@@ -2,9 +2,8 @@
 
 use crate::candidates::Candidate;
 use crate::kept::Kept;
-use crate::settings::MOST_PIVOTS;
 use pesp_forest::Frame;
-use pesp_relaxation::{Basis, Ended, slopes_of};
+use pesp_relaxation::{Basis, Ended, MOST_PIVOTS, slopes_of};
 
 /// A leaf: its ranges, what its rows cost by their least slacks, and its value.
 #[derive(Clone, Copy)]

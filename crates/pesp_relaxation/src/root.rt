@@ -1,19 +1,20 @@
 //! The ranges of a network's root.
 
-use crate::spans::Spans;
-use pesp_forest::{Cycles, Forest, Frame};
+use crate::basis::{Basis, Ended};
+use crate::settling::settle;
+use pesp_forest::{Cycles, Forest, Frame, Spans};
 use std::alloc::{AllocError, Global};
 
 /// A forest's cycles with sums of durations along it, and the offsets that the root leaves to each cycle.
-#[derive(Drop)]
-pub(crate) struct Root {
-    pub(crate) cycles: Cycles,
-    pub(crate) spans: Spans,
-    pub(crate) offsets: Vec<(i64, i64)>,
+#[derive(Debug, Drop)]
+pub struct Root {
+    pub cycles: Cycles,
+    pub spans: Spans,
+    pub offsets: Vec<(i64, i64)>,
 }
 
 /// Slacks from 0 to the span of each row.
-pub(crate) fn root_slacks(alloc: Global, frame: &Frame) -> Result<Vec<(u32, u32)>, AllocError> {
+pub fn root_slacks(alloc: Global, frame: &Frame) -> Result<Vec<(u32, u32)>, AllocError> {
     let mut slacks = Vec::with_capacity(alloc, frame.rows().len())?;
     for row in frame.rows() {
         slacks.push((0, row.span))?;
@@ -65,11 +66,7 @@ fn summed(
 
 impl Root {
     /// The root by a forest's rows, numbered from 1; None where a cycle has no offset.
-    pub(crate) fn new(
-        alloc: Global,
-        frame: &Frame,
-        numbers: &[u32],
-    ) -> Result<Option<Root>, AllocError> {
+    pub fn new(alloc: Global, frame: &Frame, numbers: &[u32]) -> Result<Option<Root>, AllocError> {
         let Some((cycles, spans)) = summed(alloc, frame, numbers)? else {
             return Ok(None);
         };
@@ -81,5 +78,21 @@ impl Root {
             spans,
             offsets,
         }))
+    }
+
+    /// The best basis of the root; None where the root has no timetable, or where it wasn't found.
+    pub fn best_basis(&self, alloc: Global, frame: &Frame) -> Result<Option<Basis>, AllocError> {
+        let slacks = root_slacks(alloc, frame)?;
+        let mut basis = Basis::idle(alloc, frame)?;
+        let Root {
+            cycles,
+            offsets,
+            ..
+        } = self;
+        let ended = settle(alloc, frame, cycles, &mut basis, &slacks, offsets, &[])?;
+        if ended != Some(Ended::Best) {
+            return Ok(None);
+        }
+        Ok(Some(basis))
     }
 }

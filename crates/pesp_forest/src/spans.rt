@@ -1,11 +1,13 @@
 //! The offsets that slacks leave to cycles, by sums of durations along a forest.
 
-use pesp_forest::{Forest, Frame, NONE};
+use crate::forest::Forest;
+use crate::frame::Frame;
+use crate::tree::NONE;
 use pesp_network::NetRow;
 use std::alloc::{AllocError, Global};
 
 /// The least and the greatest of some sums of durations.
-#[derive(Clone, Copy)]
+#[derive(Clone, Copy, Debug)]
 struct Span {
     least: i64,
     greatest: i64,
@@ -17,8 +19,8 @@ const NO_SPAN: Span = Span {
 };
 
 /// The least and the greatest sum of durations from the root of its tree down to each event.
-#[derive(Drop)]
-pub(crate) struct Spans {
+#[derive(Debug, Drop)]
+pub struct Spans {
     sums: Vec<Span>,
 }
 
@@ -76,12 +78,8 @@ impl Span {
 }
 
 impl Spans {
-    /// The sums along a forest.
-    pub(crate) fn new(
-        alloc: Global,
-        frame: &Frame,
-        forest: &Forest,
-    ) -> Result<Option<Spans>, AllocError> {
+    /// The sums along a forest; None where one is too great.
+    pub fn new(alloc: Global, frame: &Frame, forest: &Forest) -> Result<Option<Spans>, AllocError> {
         let downwards = forest.downwards(alloc)?;
         let mut spans = Spans {
             sums: vec![in alloc; NO_SPAN; frame.events()]?,
@@ -114,7 +112,7 @@ impl Spans {
     }
 
     /// The sums of an event from those of the event above it.
-    pub(crate) fn set(&mut self, frame: &Frame, forest: &Forest, event: u32) -> Option<()> {
+    pub fn set(&mut self, frame: &Frame, forest: &Forest, event: u32) -> Option<()> {
         let place = forest.tree().place(event)?;
         let row = frame.row(place.by)?;
         let above = self.at(place.up)?;
@@ -135,7 +133,7 @@ impl Spans {
 
     /// The offsets that slacks from 0 to the span of each row leave to the cycle that a row closes (Odijk 1996). The first is
     /// above the second where there are none.
-    pub(crate) fn offsets(&self, frame: &Frame, forest: &Forest, row: u32) -> Option<(i64, i64)> {
+    pub fn offsets(&self, frame: &Frame, forest: &Forest, row: u32) -> Option<(i64, i64)> {
         let row = frame.row(row)?;
         let top = forest.tree().meeting(row.tail, row.head)?;
         let span = self.around(row, top)?;
@@ -143,7 +141,7 @@ impl Spans {
     }
 
     /// Puts right the depths and the sums of an event that was hung anew and of what is below it.
-    pub(crate) fn settle(&mut self, frame: &Frame, forest: &mut Forest, top: u32) -> Option<()> {
+    pub fn settle(&mut self, frame: &Frame, forest: &mut Forest, top: u32) -> Option<()> {
         let mut event = top;
         for _ in 0..frame.events() {
             forest.set_depth(event)?;

@@ -1,13 +1,15 @@
 //! The best basis of a leaf.
 
-use crate::settings::MOST_PIVOTS;
+use crate::basis::{Basis, Ended};
 use pesp_forest::{Cycles, Frame};
 use pesp_problem::Pair;
-use pesp_relaxation::{Basis, Ended};
 use std::alloc::{AllocError, Global};
 
+/// How many pivots a basis may take.
+pub const MOST_PIVOTS: u32 = 1_000_000;
+
 /// Makes a basis the best one of a leaf; None where that has no ranges for some row or cycle.
-pub(crate) fn settle(
+pub fn settle(
     alloc: Global,
     frame: &Frame,
     cycles: &Cycles,

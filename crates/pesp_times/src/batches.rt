@@ -1,0 +1,78 @@
+//! Batches: individuals are merged by fours, and these with the best of before.
+
+use crate::effort::{Effort, MOST_REOPTIMISED};
+use crate::found::Found;
+use crate::search::TimesSearch;
+use pesp_network::Network;
+use pesp_problem::Memory;
+
+impl TimesSearch {
+    /// A merge of a pool, and balls behind it.
+    fn merged_with_balls(
+        &mut self,
+        network: &Network,
+        pool: Vec<Found>,
+        effort: Effort,
+    ) -> Result<Option<Found>, Memory> {
+        let Some(mut found) = self.merged(network, pool, effort.rounds)? else {
+            return Ok(None);
+        };
+        self.free_balls(network, &mut found, effort.balls, effort.rounds)?;
+        if network.rows().len() > MOST_REOPTIMISED {
+            return Ok(Some(found));
+        }
+        Ok(Some(self.reoptimised(network, found)?))
+    }
+
+    /// Four individuals, merged.
+    fn four(&mut self, network: &Network, effort: Effort) -> Result<Option<Found>, Memory> {
+        let mut pool = Vec::new(self.alloc);
+        for start in self.kinds.next_four() {
+            if let Some(found) = self.individual(network, start, effort.rounds)? {
+                pool.push(found)?;
+            }
+        }
+        self.merged_with_balls(network, pool, effort)
+    }
+
+    /// Those that were met elsewhere, annealed.
+    fn adopt_waiting(&mut self, network: &Network, effort: Effort) -> Result<Vec<Found>, Memory> {
+        let mut pool = Vec::new(self.alloc);
+        for _ in 0..self.waiting.len() {
+            let Some(met) = self.waiting.pop() else {
+                return Ok(pool);
+            };
+            if let Some(found) = self.adopted(network, met, effort.rounds)? {
+                pool.push(found)?;
+            }
+        }
+        Ok(pool)
+    }
+
+    /// The best of before, unless the pool has it.
+    fn add_best(&self, pool: &mut Vec<Found>) -> Result<(), Memory> {
+        let Some(best) = self.cheapest() else {
+            return Ok(());
+        };
+        if !pool
+            .iter()
+            .any(|found| found.slacks.as_slice() == best.slacks.as_slice())
+        {
+            pool.push(best.copy(self.alloc)?)?;
+        }
+        Ok(())
+    }
+
+    /// Fours of new individuals, merged with those that wait and with the best of before.
+    pub(crate) fn batch(&mut self, network: &Network, effort: Effort) -> Result<(), Memory> {
+        let mut pool = self.adopt_waiting(network, effort)?;
+        for _ in 0..effort.fours {
+            if let Some(found) = self.four(network, effort)? {
+                pool.push(found)?;
+            }
+        }
+        self.add_best(&mut pool)?;
+        self.merged_with_balls(network, pool, effort)?;
+        Ok(())
+    }
+}

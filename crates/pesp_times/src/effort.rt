@@ -1,0 +1,47 @@
+//! How much work a batch is.
+
+/// How many individuals, in fours; how many rounds an anneal has; and how many balls are freed behind each merge.
+#[derive(Clone, Copy)]
+pub(crate) struct Effort {
+    pub(crate) fours: u32,
+    pub(crate) rounds: u32,
+    pub(crate) balls: u32,
+}
+
+/// How many greedy rounds come before an anneal.
+pub(crate) const GREEDY: u32 = 4;
+
+/// Up to how many rows the relaxation is dived into.
+pub(crate) const MOST_DIVED: usize = 8_000;
+
+/// Up to how many rows timetables are made cheaper under their offsets.
+pub(crate) const MOST_REOPTIMISED: usize = 8_000;
+
+/// Up to how many rows there is more work for each row.
+pub(crate) const FEW: usize = 2_500;
+
+impl Effort {
+    /// The work before the first step.
+    pub(crate) fn first(rows: usize) -> Effort {
+        let (fours, rounds, balls) = match rows {
+            0..=2_500 => (2, 20, 3),
+            2_501..=8_000 => (1, 24, 6),
+            8_001..=30_000 => (1, 24, 20),
+            _ => (1, 6, 20),
+        };
+        Effort {
+            fours,
+            rounds,
+            balls,
+        }
+    }
+
+    /// The work after so many steps.
+    pub(crate) fn after(steps: u32) -> Effort {
+        Effort {
+            fours: if steps >= 2_048 { 4 } else { 1 },
+            rounds: (steps / 8).clamp(30, 250),
+            balls: (steps / 256).saturating_add(10),
+        }
+    }
+}

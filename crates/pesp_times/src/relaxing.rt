@@ -1,0 +1,46 @@
+//! The relaxation of a network's root.
+
+use crate::forests::{Keys, light_forest};
+use pesp_forest::Frame;
+use pesp_network::Network;
+use pesp_relaxation::{Basis, Root};
+use pesp_search_tools::Random;
+use std::alloc::{AllocError, Global};
+
+/// A network with a forest, the offsets that this leaves to each cycle, the best basis of the root, that of a dive, and
+/// whether there was one.
+#[derive(Drop)]
+pub(crate) struct Relaxation {
+    pub(crate) frame: Frame,
+    pub(crate) root: Root,
+    pub(crate) best: Basis,
+    pub(crate) dived: Basis,
+    pub(crate) has_dived: bool,
+}
+
+impl Relaxation {
+    /// The relaxation over a forest of rows of small span by weight; None where the root has no timetable.
+    pub(crate) fn new(
+        alloc: Global,
+        network: &Network,
+        keys: Keys,
+        random: &mut Random,
+    ) -> Result<Option<Relaxation>, AllocError> {
+        let frame = Frame::new(alloc, network)?;
+        let numbers = light_forest(alloc, &frame, keys, random)?;
+        let Some(root) = Root::new(alloc, &frame, &numbers)? else {
+            return Ok(None);
+        };
+        let Some(best) = root.best_basis(alloc, &frame)? else {
+            return Ok(None);
+        };
+        let dived = Basis::idle(alloc, &frame)?;
+        Ok(Some(Relaxation {
+            frame,
+            root,
+            best,
+            dived,
+            has_dived: false,
+        }))
+    }
+}

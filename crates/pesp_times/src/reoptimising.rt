@@ -1,0 +1,79 @@
+//! The cheapest times with the offsets of a timetable: the dual of a cheapest flow.
+
+use crate::clusters::Clusters;
+use crate::contraction::Contraction;
+use crate::forests::{Keyed, least_rows};
+use crate::found::{Found, slacks_of, times_at};
+use pesp_forest::{Cycles, Forest, Frame};
+use pesp_network::Network;
+use pesp_problem::Memory;
+use pesp_relaxation::{Basis, Ended, root_slacks, settle};
+use std::alloc::{AllocError, Global};
+
+/// The rows with keys that are the less, the smaller a row's slack and the greater its weight.
+fn keyed_by_slack(
+    alloc: Global,
+    network: &Network,
+    slacks: &[u32],
+) -> Result<Vec<Keyed>, AllocError> {
+    let mut list = Vec::with_capacity(alloc, slacks.len())?;
+    for (place, row) in network.rows().iter().enumerate() {
+        let slack = slacks.get(place).copied().unwrap_or(0);
+        let scaled = u64::from(slack).saturating_mul(1_000_000);
+        list.push(Keyed {
+            key: scaled / row.weight.saturating_add(1),
+            row: u32::try_from(place).unwrap_or(u32::MAX),
+        })?;
+    }
+    Ok(list)
+}
+
+/// A forest of rows of small slack by weight.
+fn forest_of(
+    alloc: Global,
+    network: &Network,
+    frame: &Frame,
+    slacks: &[u32],
+) -> Result<Option<Forest>, AllocError> {
+    let mut list = keyed_by_slack(alloc, network, slacks)?;
+    let numbers = least_rows(alloc, frame, &mut list)?;
+    Forest::new(alloc, frame, &numbers)
+}
+
+/// The best prices of a network in which each cycle has the offset 0.
+fn best_prices(alloc: Global, frame: &Frame, forest: Forest) -> Result<Option<Basis>, AllocError> {
+    let cycles = Cycles::new(alloc, forest)?;
+    let slacks = root_slacks(alloc, frame)?;
+    let offsets = vec![in alloc; (0i64, 0i64); cycles.count()]?;
+    let mut basis = Basis::idle(alloc, frame)?;
+    let ended = settle(alloc, frame, &cycles, &mut basis, &slacks, &offsets, &[])?;
+    if ended != Some(Ended::Best) {
+        return Ok(None);
+    }
+    Ok(Some(basis))
+}
+
+/// The cheapest timetable with the offsets of another; None where it isn't found.
+pub(crate) fn reoptimised(
+    alloc: Global,
+    network: &Network,
+    slacks: &[u32],
+) -> Result<Option<Found>, Memory> {
+    let clusters = Clusters::apart(alloc, network.events())?;
+    let Some(moved) = Contraction::new(alloc, network, slacks, &clusters)? else {
+        return Ok(None);
+    };
+    let frame = Frame::new(alloc, &moved.network)?;
+    let taken = moved.taken_from(alloc, slacks)?;
+    let Some(forest) = forest_of(alloc, &moved.network, &frame, &taken)? else {
+        return Ok(None);
+    };
+    let Some(basis) = best_prices(alloc, &frame, forest)? else {
+        return Ok(None);
+    };
+    let times = times_at(alloc, network.period(), basis.prices())?;
+    let better = slacks_of(alloc, &moved.network, &times)?;
+    let mut all = Vec::from_slice(alloc, slacks)?;
+    moved.put_into(&mut all, &better);
+    Ok(Some(Found::of_slacks(network, all)))
+}

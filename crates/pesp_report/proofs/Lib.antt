@@ -1,3 +1,4 @@
 pub mod TimeLines
 pub mod Told
 pub mod Order
+pub mod ViolatedRows

@@ -15,7 +15,7 @@ use Rattle.csv.specs.Writing.{default_writer, row_text}
 use Rattle.pesp_problem.specs.Limits.{IsLabel, KeepsLimits, RowKeepsLimits}
 use Rattle.pesp_problem.specs.Timetables.{Pesp, no_row, row_at, slack}
 use Rattle.pesp_problem.specs.declared.row.Row.{Row}
-use Rattle.pesp_report.specs.Report.{goes_before, label_at, line_fields, line_of, lines_of, records_text}
+use Rattle.pesp_report.specs.Report.{goes_before, label_at, line_of, lines_of, records_text}
 use Rattle.pesp_report.specs.declared.line.Line.{Line}
 
 -- the order of the keys by which the lines are sorted
@@ -23,7 +23,7 @@ pub before-is : (x y : Line) → is_lt (ordering_then (nat_cmp y.weighted x.weig
 before-is x y = grind (arith, nat_tests)
 
 -- a number that 64 bits hold
-kept : (z : ℤ) → unsigned_abs z ≤ 4611686018427387904 → to_z w64 (of_z w64 z) ≡ z
+pub kept : (z : ℤ) → unsigned_abs z ≤ 4611686018427387904 → to_z w64 (of_z w64 z) ≡ z
 kept z h = let fits : SFits w64 z = search (rules, ints) in to_z-of_z w64 z fits
 
 -- the line of a row within its limits
@@ -80,13 +80,13 @@ flat_map-last : {A : Type 0} (f : A → List ℕ) (xs : List A) (x : A) → flat
 flat_map-last f [] x = append-nil (f x)
 flat_map-last f (y ∷ ys) x = ap (λ (l : List ℕ). f y ++ l) (flat_map-last f ys x) ∙ sym (append_assoc (f y) (flat_map f ys) (f x))
 
--- the records of one more line
-pub records-more : (lines : List Line) (i : ℕ) (d : Line) → i < length lines
-    → records_text (map line_fields (take (i + 1) lines)) ≡ records_text (map line_fields (take i lines)) ++ row_text default_writer (line_fields (get_or lines i d))
-records-more lines i d there =
-    ap (λ (l : List Line). records_text (map line_fields l)) (take_more lines i d there)
-    ∙ ap records_text (map-append line_fields (take i lines) (get_or lines i d ∷ []))
-    ∙ flat_map-last (row_text default_writer) (map line_fields (take i lines)) (line_fields (get_or lines i d))
+-- the records of one more item
+pub records-more : {A : Type 0} (fields : A → List (List ℕ)) (items : List A) (i : ℕ) (d : A) → i < length items
+    → records_text (map fields (take (i + 1) items)) ≡ records_text (map fields (take i items)) ++ row_text default_writer (fields (get_or items i d))
+records-more {A} fields items i d there =
+    ap (λ (l : List A). records_text (map fields l)) (take_more items i d there)
+    ∙ ap records_text (map-append fields (take i items) (get_or items i d ∷ []))
+    ∙ flat_map-last (row_text default_writer) (map fields (take i items)) (fields (get_or items i d))
 
 -- the records of the header, the lines and the total
 pub records-whole : (head total : List (List ℕ)) (lines : List (List (List ℕ)))

@@ -2,3 +2,4 @@ pub mod TimesText
 pub mod Report
 pub mod Written
 pub mod Reporting
+pub mod Violations

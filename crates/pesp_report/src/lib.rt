@@ -1,4 +1,4 @@
-//! What a timetable costs where: the times are read from a text, and each activity is told with its slack.
+//! What a timetable costs where: the times are read from a text, and each activity is told with its slack; or what times violate is told.
 #![tactic(auto)]
 
 mod line;
@@ -6,8 +6,12 @@ mod records;
 mod refusal;
 mod reporting;
 mod times;
+mod violating;
+mod violation;
+mod violation_records;
 
 pub use line::{Line, lines_by_cost};
-pub use refusal::{ReportRefusal, TimesRefusal};
+pub use refusal::{ReportRefusal, TimesRefusal, ViolationsRefusal};
 pub use reporting::report;
 pub use times::read_times;
+pub use violating::violations;

@@ -12,7 +12,7 @@ use pesp_problem::Memory;
 use std::alloc::Global;
 
 /// Writes a record of these fields.
-fn write_fields(writer: &mut Writer<Vec<u8>>, fields: &[&[u8]]) -> Result<(), Memory>
+pub fn write_fields(writer: &mut Writer<Vec<u8>>, fields: &[&[u8]]) -> Result<(), Memory>
     ensures { (before : List ℕ) → HasWritten writer.old before
         → OnOk result (HasWritten writer.new
         (before ++ row_text default_writer (map (λ f. f.now) fields.now))) }

@@ -3,6 +3,7 @@
 ghost use Rattle.std.specs.Prelude.{◌≡◌};
 ghost use Rattle.pesp_report.specs.declared.refusal.TimesRefusal.TheVariants as times;
 ghost use Rattle.pesp_report.specs.declared.refusal.ReportRefusal.TheVariants as report;
+ghost use Rattle.pesp_report.specs.declared.refusal.ViolationsRefusal.TheVariants as violations;
 
 use pesp_problem::Memory;
 use std::alloc::AllocFailed;
@@ -53,5 +54,27 @@ impl From<Memory> for ReportRefusal {
 
     fn from(_refused: Memory) -> ReportRefusal {
         ReportRefusal::Memory
+    }
+}
+
+/// Why the violated activities aren't told.
+#[derive(Clone, Copy, Debug, PartialEq, Eq, Error)]
+pub enum ViolationsRefusal {
+    /// There isn't one time below the period for each event.
+    #[error("these are no times of the instance")]
+    NotTimes,
+    /// A growth was refused.
+    #[error("out of memory")]
+    Memory,
+    /// The writer failed.
+    #[error("the violated activities could not be written")]
+    Write,
+}
+
+impl From<Memory> for ViolationsRefusal {
+    ghost from_gives = { λ _ e. e ≡ violations.Memory };
+
+    fn from(_refused: Memory) -> ViolationsRefusal {
+        ViolationsRefusal::Memory
     }
 }

@@ -16,7 +16,7 @@ loop-line-preserved c = λ before h.
     let so_far : List ℕ = records_text (map line_fields (take i c.args.lines.now)) in
     let next : List ℕ = row_text default_writer (line_fields (get_or c.args.lines.now i no_line)) in
     let more = c.in_ok-write_line.ensures (before ++ so_far) (c.loop-line.invariant before h) in
-    rw (records-more c.args.lines.now i no_line there) (rw (append_assoc before so_far next) at more)
+    rw (records-more line_fields c.args.lines.now i no_line there) (rw (append_assoc before so_far next) at more)
 
 pub returns : goal.returns
 returns c = λ before h.

@@ -3,9 +3,86 @@
 ghost use Rattle.std.specs.Prelude.{◌≤◌};
 
 use crate::columns::{Columns, PLOT};
-use crate::stretch::Stretch;
+use crate::stretch::{Shade, Stretch, time_of};
+use pesp_problem::Instance;
 use pesp_report::Line;
 use std::alloc::AllocError;
+
+/// An activity as it is drawn: its line of the report, its greatest duration, whether every slack is allowed to it, and the
+/// time of its tail.
+#[derive(Clone, Copy)]
+pub struct Activity<'a> {
+    line: &'a Line,
+    greatest: i64,
+    free: bool,
+    tail_time: u32,
+}
+
+impl<'a> Activity<'a> {
+    /// The activity of a line.
+    pub fn of(instance: &Instance, times: &[u32], line: &'a Line) -> Activity<'a> {
+        let place = (line.row as usize).saturating_sub(1);
+        match instance.rows().get(place) {
+            Some(row) => {
+                let allowed = row.upper.saturating_sub(row.lower);
+                Activity {
+                    line,
+                    greatest: row.upper,
+                    free: allowed.saturating_add(1) >= i64::from(instance.period()),
+                    tail_time: times.get(row.tail as usize).copied().unwrap_or(0),
+                }
+            }
+            None => Activity {
+                line,
+                greatest: line.duration,
+                free: true,
+                tail_time: 0,
+            },
+        }
+    }
+
+    /// The least duration.
+    fn least(&self) -> i64 {
+        self.line
+            .duration
+            .saturating_sub(i64::from(self.line.slack))
+    }
+
+    /// The shade of its least duration.
+    fn least_shade(&self) -> Shade {
+        if self.least() < 0 {
+            Shade::Back
+        } else {
+            Shade::Least
+        }
+    }
+
+    /// The shade of its slack.
+    fn slack_shade(&self) -> Shade {
+        if self.line.weight == 0 {
+            Shade::Costless
+        } else {
+            Shade::Slack
+        }
+    }
+
+    /// What its slack may still grow by; 0 where every slack is allowed.
+    fn room(&self) -> i64 {
+        if self.free {
+            0
+        } else {
+            self.greatest.saturating_sub(self.line.duration)
+        }
+    }
+
+    /// Whether its bars go on from 0 behind the period's end.
+    fn goes_on(&self, period: u32) -> bool {
+        let tail = i64::from(self.tail_time);
+        let begin = tail.saturating_add(self.least().min(0));
+        let end = tail.saturating_add(self.line.duration.max(0));
+        (begin < 0 && end > 0) || end > i64::from(period)
+    }
+}
 
 /// Writes the cells of a row: where it comes from and goes to, and its duration, slack and cost.
 fn write_cells(text: &mut String, columns: &Columns, line: &Line) -> Result<(), AllocError> {
@@ -43,27 +120,52 @@ fn write_cells(text: &mut String, columns: &Columns, line: &Line) -> Result<(), 
     )
 }
 
-/// Writes the bars of a row: from its tail's time over its least duration, and from there over its slack.
+/// Writes the bars of a row: from its tail's time over its least duration, from there over its slack, and a thin one on to its
+/// greatest duration, where not every slack is allowed.
 fn write_bars(
     text: &mut String,
     columns: &Columns,
     period: u32,
-    line: &Line,
-    tail_time: u32,
+    activity: &Activity<'_>,
 ) -> Result<(), AllocError>
     requires { 1 ≤ period }
 {
     let left = columns.left;
-    let from = i64::from(tail_time);
-    let slack = i64::from(line.slack);
-    let least = line.duration.saturating_sub(slack);
-    let class = if least < 0 { "back" } else { "least" };
-    let first = Stretch::over(period, class, from, least);
-    let second = Stretch::over(period, "slack", from.saturating_add(least), slack);
+    let from = i64::from(activity.tail_time);
+    let least = activity.least();
+    let first = Stretch::over(period, activity.least_shade(), from, least);
+    let slack = i64::from(activity.line.slack);
+    let begin = from.saturating_add(least);
+    let second = Stretch::over(period, activity.slack_shade(), begin, slack);
+    let end = from.saturating_add(activity.line.duration);
+    let third = Stretch::over(period, Shade::Room, end, activity.room());
     write!(
         text,
-        "<svg x=\"{left}\" width=\"{PLOT}\" height=\"12\" viewBox=\"0 0 {period} 12\" preserveAspectRatio=\"none\">{first}{second}</svg>"
+        "<svg x=\"{left}\" width=\"{PLOT}\" height=\"12\" viewBox=\"0 0 {period} 12\" preserveAspectRatio=\"none\">{first}{second}{third}</svg>"
     )
+}
+
+/// Writes an arrow where the bars go on from 0, and a mark at the greatest duration, where not every slack is allowed. Where
+/// that ends with the period the mark stands there and not at 0.
+fn write_marks(
+    text: &mut String,
+    columns: &Columns,
+    period: u32,
+    activity: &Activity<'_>,
+) -> Result<(), AllocError>
+    requires { 1 ≤ period }
+{
+    if activity.goes_on(period) {
+        let x = columns.left.saturating_sub(10);
+        write!(text, "<path class=\"arrow\" d=\"M{x} 1l8 5l-8 5z\"/>")?;
+    }
+    if activity.free {
+        return Ok(());
+    }
+    let end = i64::from(activity.tail_time).saturating_add(activity.greatest);
+    let last = time_of(period, end.saturating_sub(1));
+    let x = columns.at(period, last.saturating_add(1));
+    write!(text, "<path class=\"mark\" d=\"M{x} 0v12\"/>")
 }
 
 /// Writes the row of an activity, with all that is known of it as a title.
@@ -71,8 +173,7 @@ pub fn write_activity(
     text: &mut String,
     columns: &Columns,
     period: u32,
-    line: &Line,
-    tail_time: u32,
+    activity: &Activity<'_>,
     y: u32,
 ) -> Result<(), AllocError>
     requires { 1 ≤ period }
@@ -86,12 +187,19 @@ pub fn write_activity(
         slack,
         weight,
         weighted,
-    } = *line;
+    } = *activity.line;
+    let least = activity.least();
+    let Activity {
+        greatest,
+        tail_time,
+        ..
+    } = *activity;
     write!(
         text,
-        "<g transform=\"translate(0 {y})\"><title>Activity {label} (row {row}) from {tail} to {head}: begins at {tail_time}, lasts {duration} with slack {slack}; weight {weight}, cost {weighted}</title>"
+        "<g transform=\"translate(0 {y})\"><title>Activity {label} (row {row}) from {tail} to {head}: begins at {tail_time}, lasts {duration} of {least} to {greatest} with slack {slack}; weight {weight}, cost {weighted}</title>"
     )?;
-    write_cells(text, columns, line)?;
-    write_bars(text, columns, period, line, tail_time)?;
+    write_cells(text, columns, activity.line)?;
+    write_bars(text, columns, period, activity)?;
+    write_marks(text, columns, period, activity)?;
     writeln!(text, "</g>")
 }

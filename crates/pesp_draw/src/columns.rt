@@ -1,5 +1,6 @@
 //! Where the columns of a picture stand.
 
+use crate::pixels::Pixels;
 use pesp_report::Line;
 
 /// How many pixels the period takes.
@@ -11,9 +12,12 @@ const CHARACTER: u32 = 8;
 /// How many pixels lie between two columns.
 const GAP: u32 = 14;
 
+/// How many pixels the time of an event takes: four digits.
+pub const TIME: u32 = 4 * CHARACTER + GAP;
+
 /// Where the columns of a picture stand, in pixels from the left: the ends of the activities' labels and of the tails, the
 /// beginnings of the heads and of the period, the period's end, the ends of the durations, the slacks and the costs, and
-/// the picture's edge.
+/// the picture's edge; and how wide an event's label is.
 #[derive(Clone, Copy)]
 pub struct Columns {
     pub label: u32,
@@ -25,6 +29,7 @@ pub struct Columns {
     pub slack: u32,
     pub cost: u32,
     pub edge: u32,
+    pub event: u32,
 }
 
 /// The most characters that stand in a column.
@@ -85,9 +90,10 @@ impl Columns {
     pub fn of(lines: &[Line], events: &[i64]) -> Columns {
         let most = longest_of(lines, events);
         let label = pixels(most.label);
-        let tail = label.saturating_add(pixels(most.event));
+        let event = pixels(most.event);
+        let tail = label.saturating_add(event);
         let head = tail.saturating_add(2 * GAP);
-        let left = head.saturating_add(pixels(most.event));
+        let left = head.saturating_add(event);
         let right = left.saturating_add(PLOT);
         let duration = right.saturating_add(pixels(most.duration));
         let slack = duration.saturating_add(pixels(5));
@@ -102,12 +108,16 @@ impl Columns {
             slack,
             cost,
             edge: cost.saturating_add(GAP),
+            event,
         }
     }
 
     /// Where a time of the period stands.
-    pub fn at(&self, period: u32, time: u32) -> u32 {
-        let pixels = time.saturating_mul(PLOT).checked_div(period).unwrap_or(0);
-        self.left.saturating_add(pixels)
+    pub fn at(&self, period: u32, time: u32) -> Pixels {
+        let tenths = time.saturating_mul(10 * PLOT).checked_div(period);
+        let left = self.left.saturating_mul(10);
+        Pixels {
+            tenths: left.saturating_add(tenths.unwrap_or(0)),
+        }
     }
 }

@@ -7,21 +7,23 @@ ghost use Rattle.pesp_stream.specs.Writing.{AppendsFront};
 ghost use Rattle.pesp_problem.specs.Timetables.{IsTimetable, AreTimes};
 ghost use Rattle.pesp_report.specs.Reporting.{IfBlamed, Refuses, UnlessBlamed};
 
+use crate::choice::Choice;
 use crate::columns::Columns;
+use crate::events::{Table, events_by_label, write_events};
 use crate::frame::{
-    write_activities_left, write_event_headings, write_events_left, write_front, write_headings,
+    write_activities_left, write_event_heading, write_events_left, write_front, write_headings,
 };
-use crate::rows::{Heights, first, write_activities, write_events};
+use crate::rows::{Heights, write_activities};
 use crate::scale::write_scale;
 use pesp_problem::{Instance, Score, score};
-use pesp_report::{ReportRefusal, lines_by_cost};
+use pesp_report::{Line, ReportRefusal, lines_by_cost};
 use pesp_stream::{Bytes, Sink, print_to};
 use std::alloc::{AllocError, Global};
 
 /// Writes a picture of a timetable in SVG: over one period, a row for each activity with a bar from its tail's time over
-/// its least duration and on over its slack, the dearest activity first, and a row for each event with a dot at its time.
-/// A bar that reaches the period's end goes on from 0. At most `most` activities and `most` events are drawn; how many are
-/// not is said in words.
+/// its least duration and on over its slack, and a thin line to its greatest duration, the dearest activity first; and a
+/// table of the events by label, with their times. A bar that reaches the period's end goes on from 0, behind an arrow. What
+/// is drawn is chosen; how many activities and events are not is said in words.
 ///
 /// `NotTimes` where there isn't one time below the period for each event, and `Violates` with the first row that isn't
 /// satisfied; `Memory` where a growth was refused. An interrupted write is repeated, at most 1000 times in all. After `Write`
@@ -30,7 +32,7 @@ pub fn draw<W: Sink>(
     alloc: Global,
     instance: &Instance,
     times: &[u32],
-    most: u32,
+    choice: Choice,
     sink: &mut W,
 ) -> Result<(), ReportRefusal>
     requires fits { FewerThan (2 ^ 63) (W.calls sink.old) }
@@ -51,7 +53,7 @@ pub fn draw<W: Sink>(
         Score::NotTimes => Err(ReportRefusal::NotTimes),
         Score::Violates { row, .. } => Err(ReportRefusal::Violates { row }),
         Score::Feasible { cost } => {
-            let Ok(text) = picture_of(alloc, instance, times, most, cost) else {
+            let Ok(text) = picture_of(alloc, instance, times, choice, cost) else {
                 return Err(ReportRefusal::Memory);
             };
             match print_to(sink, &Bytes(text.as_bytes())) {
@@ -67,51 +69,50 @@ fn picture_of(
     alloc: Global,
     instance: &Instance,
     times: &[u32],
-    most: u32,
+    choice: Choice,
     cost: u64,
 ) -> Result<String, AllocError>
     requires { AreTimes instance.now times.now }
 {
     let lines = lines_by_cost(alloc, instance, times)?;
-    let drawn = first(&lines, most);
-    let events = first(instance.events(), most);
+    let drawn = choice.of_lines(&lines);
+    let events = events_by_label(alloc, instance, times)?;
+    let shown = choice.of_first(&events, events.len());
     let columns = Columns::of(drawn, instance.events());
-    let heights = Heights::of(drawn.len(), events.len());
-    let period = instance.period();
+    let table = Table::of(&columns, shown.len());
+    let heights = Heights::of(drawn.len(), table.rows);
     let mut text = String::new(alloc);
-    write_front(&mut text, columns.edge, heights.bottom, period, cost)?;
-    write_headings(&mut text, &columns, heights.activities)?;
-    write_scale(
+    write_front(
         &mut text,
-        &columns,
-        period,
-        heights.activities,
-        heights.activities_end,
+        columns.edge,
+        heights.bottom,
+        instance.period(),
+        cost,
     )?;
-    write_activities(
-        &mut text,
-        &columns,
-        instance,
-        times,
-        drawn,
-        heights.activities,
-    )?;
+    write_drawn(&mut text, &columns, &heights, instance, times, drawn)?;
     write_activities_left(&mut text, &lines, drawn.len(), heights.activities_end)?;
-    write_event_headings(&mut text, &columns, heights.events)?;
-    write_scale(
-        &mut text,
-        &columns,
-        period,
-        heights.events,
-        heights.events_end,
-    )?;
-    write_events(&mut text, &columns, period, events, times, heights.events)?;
-    write_events_left(
-        &mut text,
-        instance.events().len(),
-        events.len(),
-        heights.events_end,
-    )?;
+    write_event_heading(&mut text, heights.events)?;
+    write_events(&mut text, &columns, &table, shown, heights.events)?;
+    write_events_left(&mut text, events.len(), shown.len(), heights.events_end)?;
     text.push_str("</svg>\n")?;
     Ok(text)
+}
+
+/// Writes the activities that are drawn, with their headings and the scale of the period.
+fn write_drawn(
+    text: &mut String,
+    columns: &Columns,
+    heights: &Heights,
+    instance: &Instance,
+    times: &[u32],
+    drawn: &[Line],
+) -> Result<(), AllocError> {
+    let Heights {
+        activities,
+        activities_end,
+        ..
+    } = *heights;
+    write_headings(text, columns, activities)?;
+    write_scale(text, columns, instance.period(), activities, activities_end)?;
+    write_activities(text, columns, instance, times, drawn, activities)
 }

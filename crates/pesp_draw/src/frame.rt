@@ -4,10 +4,20 @@ use crate::columns::Columns;
 use pesp_report::Line;
 use std::alloc::AllocError;
 
-/// The classes of rectangles, lines and texts.
+/// The classes of rectangles, lines and texts, and the hatching of slack that costs nothing.
 const STYLE: &str =
-    "<style>.least{fill:#4c78a8}.slack{fill:#f58518}.back{fill:#b8cbe0}.event{fill:#222}\
-.grid{stroke:#ddd}.end{text-anchor:end}.middle{text-anchor:middle;fill:#666}.heading{font-weight:bold}</style>";
+    "<style>.least{fill:#4c78a8}.slack{fill:#f58518}.costless{fill:url(#hatching)}.back{fill:#b8cbe0}.room,.arrow{fill:#333}.mark{stroke:#333;stroke-width:2}\
+.grid{stroke:#ddd}.end{text-anchor:end}.middle{text-anchor:middle}.time,.label{fill:#666}.heading{font-weight:bold}</style>\
+<defs><pattern id=\"hatching\" width=\"1\" height=\"0.25\" patternContentUnits=\"objectBoundingBox\">\
+<rect width=\"1\" height=\"0.25\" fill=\"#faf3ea\"/><rect width=\"1\" height=\"0.09\" fill=\"#d9b98f\"/></pattern></defs>";
+
+/// What the colours and marks mean.
+const LEGEND: &str =
+    "<g transform=\"translate(14 30)\"><rect class=\"least\" width=\"24\" height=\"12\"/><text x=\"30\" y=\"10\">least duration</text>\
+<rect class=\"slack\" width=\"24\" height=\"12\" x=\"130\"/><text x=\"160\" y=\"10\">slack</text>\
+<rect class=\"costless\" width=\"24\" height=\"12\" x=\"212\"/><text x=\"242\" y=\"10\">slack that costs nothing</text>\
+<rect class=\"room\" width=\"24\" height=\"2\" x=\"396\" y=\"5\"/><path class=\"mark\" d=\"M420 0v12\"/><text x=\"428\" y=\"10\">up to the greatest duration</text>\
+<path class=\"arrow\" d=\"M632 1l8 5l-8 5z\"/><text x=\"646\" y=\"10\">goes on from the end of the row</text></g>";
 
 /// Writes the picture's beginning: its size, its style, its title and what the colours mean.
 pub fn write_front(
@@ -29,10 +39,8 @@ pub fn write_front(
         text,
         "<text class=\"heading\" x=\"14\" y=\"20\">Timetable of period {period}, cost {cost}</text>"
     )?;
-    writeln!(
-        text,
-        "<g transform=\"translate(14 30)\"><rect class=\"least\" width=\"24\" height=\"12\"/><text x=\"30\" y=\"10\">least duration</text><rect class=\"slack\" width=\"24\" height=\"12\" x=\"130\"/><text x=\"160\" y=\"10\">slack</text><circle class=\"event\" cx=\"222\" cy=\"6\" r=\"4\"/><text x=\"234\" y=\"10\">event</text></g>"
-    )
+    text.push_str(LEGEND)?;
+    text.push('\n')
 }
 
 /// Writes the headings of the activities' columns.
@@ -60,56 +68,84 @@ pub fn write_headings(text: &mut String, columns: &Columns, y: u32) -> Result<()
     )
 }
 
-/// Writes the headings of the events' columns.
-pub fn write_event_headings(
-    text: &mut String,
-    columns: &Columns,
-    y: u32,
-) -> Result<(), AllocError> {
-    let Columns { tail, duration, .. } = *columns;
-    let y = y.saturating_sub(6);
+/// Writes the heading of the table of events.
+pub fn write_event_heading(text: &mut String, y: u32) -> Result<(), AllocError> {
+    let y = y.saturating_sub(8);
     writeln!(
         text,
-        "<g class=\"heading\" transform=\"translate(0 {y})\"><text class=\"end\" x=\"{tail}\">event</text><text class=\"end\" x=\"{duration}\">time</text></g>"
+        "<text class=\"heading\" x=\"14\" y=\"{y}\">Events by label, and their times</text>"
     )
 }
 
-/// Writes how many activities aren't drawn, and what they cost together.
+/// How many activities aren't drawn: those that cost something with what they cost together, and those that cost nothing.
+#[derive(Clone, Copy)]
+struct Left {
+    costly: u32,
+    cost: u64,
+    costless: u32,
+}
+
+/// Counts the activities behind the first ones.
+fn count_behind(lines: &[Line], first: usize) -> Left {
+    let mut left = Left {
+        costly: 0,
+        cost: 0,
+        costless: 0,
+    };
+    for line in lines.iter().skip(first) {
+        if line.weighted == 0 {
+            left.costless = left.costless.saturating_add(1);
+        } else {
+            left.costly = left.costly.saturating_add(1);
+            left.cost = left.cost.saturating_add(line.weighted);
+        }
+    }
+    left
+}
+
+/// Writes how many activities aren't drawn, and what they cost together, below a height.
 pub fn write_activities_left(
     text: &mut String,
     lines: &[Line],
     drawn: usize,
     end: u32,
 ) -> Result<(), AllocError> {
-    let count = lines.len().saturating_sub(drawn);
-    if count == 0 {
-        return Ok(());
+    let Left {
+        costly,
+        cost,
+        costless,
+    } = count_behind(lines, drawn);
+    let mut y = end.saturating_add(18);
+    if costly > 0 {
+        writeln!(
+            text,
+            "<text x=\"14\" y=\"{y}\">Activities not drawn: {costly}, with a cost of {cost} together</text>"
+        )?;
+        y = y.saturating_add(18);
     }
-    let mut cost: u64 = 0;
-    for line in lines.iter().skip(drawn) {
-        cost = cost.saturating_add(line.weighted);
+    if costless > 0 {
+        writeln!(
+            text,
+            "<text x=\"14\" y=\"{y}\">Activities of cost 0, not drawn: {costless}</text>"
+        )?;
     }
-    let y = end.saturating_add(18);
-    writeln!(
-        text,
-        "<text x=\"14\" y=\"{y}\">Activities not drawn: {count}, with a cost of {cost} together</text>"
-    )
+    Ok(())
 }
 
-/// Writes how many events aren't drawn.
+/// Writes how many events aren't in the table.
 pub fn write_events_left(
     text: &mut String,
     events: usize,
-    drawn: usize,
+    shown: usize,
     end: u32,
 ) -> Result<(), AllocError> {
-    let count = events.saturating_sub(drawn);
+    let count = events.saturating_sub(shown);
     if count == 0 {
         return Ok(());
     }
     let y = end.saturating_add(18);
     writeln!(
         text,
-        "<text x=\"14\" y=\"{y}\">Events not drawn: {count}</text>"
+        "<text x=\"14\" y=\"{y}\">Events not shown: {count}</text>"
     )
 }

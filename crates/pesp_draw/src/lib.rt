@@ -1,14 +1,17 @@
-//! A timetable as a picture in SVG: one row for each of the dearest activities, with its least duration and its slack over
-//! one period, and one row for each event.
+//! A timetable as a picture in SVG: one row for each of the dearest activities, with its least duration, its slack and
+//! its greatest duration over one period, and a table of events.
 #![tactic(auto)]
 
 mod activities;
+mod choice;
 mod columns;
 mod drawing;
 mod events;
 mod frame;
+mod pixels;
 mod rows;
 mod scale;
 mod stretch;
 
+pub use choice::Choice;
 pub use drawing::draw;

@@ -8,13 +8,13 @@ ghost use Rattle.pesp_runs.specs.Runs.{ReadsTimetable, TimetableCause, WritesPic
 
 use crate::fault::Fault;
 use crate::runs::{MOST_TIMES, read_whole_instance};
-use pesp_draw::draw;
+use pesp_draw::{Choice, draw};
 use pesp_report::read_times;
 use pesp_stream::{Sink, Source, read_all};
 use std::alloc::Global;
 
 /// Reads an instance and then times for its events, and writes a picture of them in SVG with at most `rows` activities, the
-/// dearest ones, and at most `rows` events; the instance is judged before the times are read, and nothing is written where
+/// dearest ones that cost something, and at most `rows` events; the instance is judged before the times are read, and nothing is written where
 /// they are no timetable. What the picture shows is not promised.
 pub fn run_draw<R: Source, T: Source, W: Sink>(
     alloc: Global,
@@ -51,6 +51,10 @@ pub fn run_draw<R: Source, T: Source, W: Sink>(
     let instance = read_whole_instance(alloc, instance_reader, period)?;
     let text = read_all(alloc, times_reader, MOST_TIMES)?;
     let times = read_times(alloc, &instance, &text)?;
-    draw(alloc, &instance, &times, rows, writer)?;
+    let choice = Choice {
+        most: rows,
+        costless: false,
+    };
+    draw(alloc, &instance, &times, choice, writer)?;
     Ok(())
 }

@@ -16,7 +16,7 @@ pub(crate) fn ask_draw(alloc: Global, lines: &[&str], rows: &str) -> Option<Stri
     }
 }
 
-/// The words and the dots of what `draw` writes with so many rows.
+/// The words of what `draw` writes with so many rows.
 pub(crate) fn ask_drawn(alloc: Global, lines: &[&str], rows: &str) -> Option<String> {
     let (answer, taken) = drawn(alloc, lines, rows)?;
     match answer {
@@ -47,18 +47,15 @@ fn draw(alloc: Global, given: &Given, rows: u32) -> (Result<(), Fault>, Vec<u8>)
     (answer, writer.into_inner().taken)
 }
 
-/// Adds the text of an element, or where its dot stands.
+/// Adds the text of an element.
 fn tell_element(told: &mut String, tag: &str, text: &str) -> Option<()> {
-    if tag.starts_with("circle ") {
-        let place = tag.split("\"").nth(3)?;
-        write!(told, " dot {place},").ok()?;
-    } else if tag != "style" && !text.trim().is_empty() {
+    if tag != "style" && !text.trim().is_empty() {
         write!(told, " {text},").ok()?;
     }
     Some(())
 }
 
-/// Each text of a picture, titles too, and where each dot stands from the left, in their order.
+/// Each text of a picture, titles too, in their order.
 fn tell_words(alloc: Global, picture: &str) -> Option<String> {
     let mut told = String::from_str(alloc, "0").ok()?;
     for element in picture.split("<") {
@@ -81,7 +78,7 @@ fn tell_bars(alloc: Global, picture: &str) -> Option<String> {
 /// The bars of a picture in their order, how many events it has, and whether each element is closed.
 fn tell_picture(alloc: Global, picture: &str) -> Option<String> {
     let mut told = tell_bars(alloc, picture)?;
-    let events = picture.split("<circle ").skip(2).count();
+    let events = picture.split("class=\"end label\"").skip(1).count();
     let closed = if is_closed(picture) { "closed" } else { "open" };
     write!(told, " {events} events, {closed}").ok()?;
     Some(told)

@@ -1,0 +1,40 @@
+//! What of a timetable is drawn.
+
+use pesp_report::Line;
+
+/// Which activities are drawn: at most `most`, the dearest first, and those that cost nothing only where `costless` says so.
+/// At most `most` events are drawn as well.
+#[derive(Clone, Copy, Debug)]
+pub struct Choice {
+    pub most: u32,
+    pub costless: bool,
+}
+
+impl Choice {
+    /// Those of these lines, the dearest first, that are drawn.
+    pub fn of_lines(self, lines: &[Line]) -> &[Line] {
+        let kept = if self.costless {
+            lines.len()
+        } else {
+            costly(lines)
+        };
+        self.of_first(lines, kept)
+    }
+
+    /// At most so many of the first of these, and not more than are drawn.
+    pub fn of_first<T>(self, items: &[T], kept: usize) -> &[T] {
+        let count = items.len().min(kept).min(self.most as usize);
+        &items[..count]
+    }
+}
+
+/// How many lines cost something.
+fn costly(lines: &[Line]) -> usize {
+    let mut count: usize = 0;
+    for line in lines {
+        if line.weighted > 0 {
+            count = count.saturating_add(1);
+        }
+    }
+    count
+}

@@ -1,0 +1,25 @@
+# Completions of pesp's command line for bash.
+_pesp() {
+    local word=${COMP_WORDS[COMP_CWORD]} before=${COMP_WORDS[COMP_CWORD - 1]} options=--period
+    if [ "$COMP_CWORD" -eq 1 ]; then
+        mapfile -t COMPREPLY < <(compgen -W "solve check report draw split work graft help --help --version" -- "$word")
+        return
+    fi
+    case ${COMP_WORDS[1]} in
+    help)
+        mapfile -t COMPREPLY < <(compgen -W "solve check report draw split work graft" -- "$word")
+        return
+        ;;
+    solve) options="--period --steps --progress" ;;
+    work) options="--period --steps" ;;
+    draw) options="--period --rows" ;;
+    esac
+    case $before in
+    --period | --steps | --rows) return ;;
+    esac
+    case $word in
+    -*) mapfile -t COMPREPLY < <(compgen -W "$options --help" -- "$word") ;;
+    *) mapfile -t COMPREPLY < <(compgen -f -- "$word") ;;
+    esac
+}
+complete -o filenames -F _pesp pesp

@@ -1,0 +1,139 @@
+# shellcheck shell=sh disable=SC2034,SC2154
+# What ./pesp and the tools share. It is sourced by a script that has set `top`, the top of the repository.
+
+# Messages go to standard error, as all does but the program's own bytes.
+say() {
+    echo "pesp: $*" >&2
+}
+
+# Says why nothing can be done, and ends.
+fail() {
+    say "$@"
+    exit 4
+}
+
+# Where a crate's program is built, once it is proved.
+proved() {
+    echo "$top/crates/$1/out/$1"
+}
+
+# Where the program lies that is compiled without its proofs.
+unproved=$top/out/unproved/pesp
+
+# The crates that a program is made of, itself among them.
+crates_of() {
+    awk -F: -v program="$1" '
+        function visit(crate, below, count, i) {
+            if (crate in seen || !(crate in uses)) return
+            seen[crate] = 1
+            count = split(uses[crate], below, " ")
+            for (i = 1; i <= count; i++) visit(below[i])
+        }
+        /^[a-z]/ { uses[$1] = $2 }
+        END { visit(program); for (crate in seen) print crate }
+    ' "$top/crates.txt"
+}
+
+# Whether the file of a crate's program isn't there, or is older than a source that the program is made of.
+is_stale() {
+    [ ! -x "$1" ] || (
+        cd "$top/crates" || exit
+        # shellcheck disable=SC2046 # a crate's name is one word
+        [ -n "$(find ../crates.txt $(crates_of "$2") -path '*/out' -prune -o -newer "$1" \( -name '*.rt' -o -name '*.antt' -o -name crates.txt \) -print | head -n 1)" ]
+    )
+}
+
+# How many crates are proved side by side: one for each processor and each 4 GB of free memory.
+side_by_side() {
+    awk -v processors="$(nproc)" '
+        /^MemAvailable:/ { room = int($2 / 4000000) }
+        END { most = room < processors ? room : processors; print most < 1 ? 1 : most }
+    ' /proc/meminfo
+}
+
+# About how many minutes the proofs of a program take here from nothing, where nothing else is running.
+minutes() {
+    case $1 in
+    pesp_checker) echo "$((6 + 20 / $(side_by_side)))" ;;
+    *) echo "$((20 + 75 / $(side_by_side)))" ;;
+    esac
+}
+
+# The program to be handed on: the proved one, or the one without proofs where that is asked for.
+chosen() {
+    case $1 in
+    proved) ! is_stale "$(proved pesp)" pesp || fail "no program of these sources is proved here: ./pesp --prove makes one; BUILD=unproved hands on one whose proofs were not checked" ;;
+    unproved) ! is_stale "$unproved" pesp || fail "no program of these sources is there: ./pesp --help makes one" ;;
+    *) fail "a build is proved or unproved, not $1" ;;
+    esac
+    [ "$1" = proved ] && proved pesp || echo "$unproved"
+}
+
+# One name for the sources as they stand: git's tree of crates/ and crates.txt; nothing where git doesn't know them.
+source_name() {
+    command -v git >/dev/null && git -C "$top" rev-parse --git-dir >/dev/null 2>&1 || return 0
+    objects=$(mktemp -d "${TMPDIR:-/tmp}/pesp.XXXXXX") || return 0
+    (
+        cd "$top" || exit
+        GIT_ALTERNATE_OBJECT_DIRECTORIES=$(cd "$(git rev-parse --git-common-dir)/objects" && pwd)
+        GIT_INDEX_FILE=$objects/index GIT_OBJECT_DIRECTORY=$objects
+        export GIT_INDEX_FILE GIT_OBJECT_DIRECTORY GIT_ALTERNATE_OBJECT_DIRECTORIES
+        git add crates crates.txt >/dev/null 2>&1 && git write-tree
+    )
+    rm -rf "$objects"
+}
+
+# The folder of the Rattle kit; nothing where there is none.
+kit_folder() {
+    command -v rt >/dev/null || return 0
+    page=$(rt doc 2>/dev/null </dev/null) && dirname "$page"
+}
+
+# Waits until no other run does this work in this checkout, and keeps others out until `let_others` or the end.
+alone() {
+    { mkdir -p "$top/out" && touch "$top/out/$1.lock"; } 2>/dev/null || fail "nothing can be written in $top/out: $2"
+    exec 9>>"$top/out/$1.lock"
+    command -v flock >/dev/null || return 0
+    flock -n 9 || {
+        say "another run is at work in this checkout; waiting for it"
+        flock 9
+    }
+}
+
+let_others() {
+    exec 9>&-
+}
+
+# Runs a command in a session of its own, so that it can be ended with all that it started; where this script is stopped, it is.
+child=
+in_session() {
+    setsid "$@" </dev/null &
+    child=$!
+    status=0
+    wait "$child" || status=$?
+    child=
+    return "$status"
+}
+
+# Ends what was started, and then this script with the status of a signal.
+stop() {
+    trap - EXIT
+    [ -z "$child" ] || kill -TERM -- "-$child" 2>/dev/null || true
+    wait || true
+    clear_away
+    say "stopped; what is done is kept, and the next run goes on from there" 2>&3
+    exit "$1"
+}
+
+# What a script does at its end; scripts with files to remove have their own.
+clear_away() {
+    :
+}
+
+at_end() {
+    exec 3>&2
+    trap clear_away EXIT
+    trap 'stop 129' HUP
+    trap 'stop 130' INT
+    trap 'stop 143' TERM
+}

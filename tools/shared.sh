@@ -118,12 +118,16 @@ in_session() {
 # Ends what was started, and then this script with the status of a signal.
 stop() {
     trap - EXIT
+    trap '' HUP INT TERM
     [ -z "$child" ] || kill -TERM -- "-$child" 2>/dev/null || true
     wait || true
     clear_away
-    say "stopped; what is done is kept, and the next run goes on from there" 2>&3
+    [ -z "$stopped" ] || say "$stopped" 2>&3
     exit "$1"
 }
+
+# What is said where this script is stopped.
+stopped=
 
 # What a script does at its end; scripts with files to remove have their own.
 clear_away() {

@@ -119,8 +119,10 @@ in_session() {
 stop() {
     trap - EXIT
     trap '' HUP INT TERM
-    [ -z "$child" ] || kill -TERM -- "-$child" 2>/dev/null || true
-    wait || true
+    [ -z "$child" ] || {
+        kill -s TERM -- "-$child" 2>/dev/null || true
+        wait "$child" || true
+    }
     clear_away
     [ -z "$stopped" ] || say "$stopped" 2>&3
     exit "$1"

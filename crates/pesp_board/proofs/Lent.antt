@@ -22,7 +22,9 @@ use Rattle.pesp_board.specs.declared.best.Best.{Best}
 use Rattle.pesp_board.specs.declared.slot.Slot.{Slot}
 use Rattle.pesp_board.specs.declared.slot.Slot.TheVariants.{Lent as LentSlot}
 use Rattle.pesp_board.specs.Insides.{ticket_of, times_of, state_of, IsBoard}
-use Rattle.pesp_board.specs.Lending.{IsFirstOpen, LendsNext, LendsEntry, LendsFirst, HasJob}
+use Rattle.pesp_board.specs.Lending.{IsFirstOpen, LendsNext, LendsEntry, LendsFirst, LendsCuts, HasJob}
+use Rattle.pesp_board.specs.Giving.{AreCuts}
+use Rattle.pesp_board.proofs.Paths.{path_cuts}
 use Rattle.pesp_board.proofs.Lending.{none_waits, none_cheaper, first_opens}
 use Rattle.pesp_board.proofs.Parking.{Parks, lent_queue, unparked_queue}
 
@@ -60,6 +62,13 @@ pub lends_first : (p : ProblemValue) (t : WorkTreeValue) (slots new : List Slot)
 lends_first p t slots new q best count e (Ok None) b differ first l = tt
 lends_first p t slots new q best count e (Ok (Some job)) b differ first l = subst (IsFirstOpen p (state_of t slots (times_of best))) (sym l.path) (first_opens p t slots q best count e b differ first l.cheaper)
 lends_first p t slots new q best count e (Err refusal) b differ first l = tt
+
+pub lends_cuts : (p : ProblemValue) (t : WorkTreeValue) (slots new : List Slot) (q : QueueValue) (best : Option Best) (count : ℕ) (e : Entry) (result : Result (Option Job) LendRefusal) → IsBoard p t slots q best count → IsFirst q.waiting e → LendsEntry t best slots e result new → LendsCuts p result
+lends_cuts p t slots new q best count e (Ok None) b first l = tt
+lends_cuts p t slots new q best count e (Ok (Some job)) b first l =
+    let worth = b.queue.each e (Contains-append_left q.waiting q.parked e first.0) in
+    subst (AreCuts p) (sym l.path) (path_cuts p t e.item (Bound worth.pairs) b.whole b.orderly.limits worth.leaf)
+lends_cuts p t slots new q best count e (Err refusal) b first l = tt
 
 -- ---- the board
 

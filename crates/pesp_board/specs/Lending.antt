@@ -17,6 +17,7 @@ use Rattle.pesp_board.specs.declared.best.Best.{Best}
 use Rattle.pesp_board.specs.declared.slot.Slot.{Slot}
 use Rattle.pesp_board.specs.declared.slot.Slot.TheVariants.{Lent as LentSlot}
 use Rattle.pesp_board.specs.Insides.{cost_of}
+use Rattle.pesp_board.specs.Giving.{AreCuts}
 
 -- the path leads to an open leaf, and no open leaf has a lesser value, as values are told
 pub record IsFirstOpen (p : ProblemValue) (state : State) (path : List (Cut × Side)) : Type 0 where
@@ -43,6 +44,12 @@ abbrev pub LendsFirst : ProblemValue → State → Result (Option Job) LendRefus
 LendsFirst p old (Ok None) = Unit {0}
 LendsFirst p old (Ok (Some job)) = IsFirstOpen p old job.path.items
 LendsFirst p old (Err refusal) = Unit {0}
+
+-- the cuts on the way to what is lent are cuts of the problem
+abbrev pub LendsCuts : ProblemValue → Result (Option Job) LendRefusal → Type 0
+LendsCuts p (Ok None) = Unit {0}
+LendsCuts p (Ok (Some job)) = AreCuts p job.path.items
+LendsCuts p (Err refusal) = Unit {0}
 
 -- the reply has a job
 abbrev pub HasJob : Result (Option Job) LendRefusal → Type 0

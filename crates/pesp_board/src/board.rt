@@ -10,7 +10,7 @@ ghost use Rattle.pesp_machine.specs.Events.{Lends, Gives, Recalls, Offers};
 ghost use Rattle.pesp_machine.specs.Adopting.{Adopts, LendsAll};
 ghost use Rattle.pesp_machine.specs.Certificates.{IsProblemOf, IsCertificateOf};
 ghost use Rattle.pesp_truth.specs.Certificates.{IsValid, least_of, cost_of};
-ghost use Rattle.pesp_board.specs.Lending.{LendsFirst};
+ghost use Rattle.pesp_board.specs.Lending.{LendsCuts, LendsFirst};
 
 use crate::adopting::{keep_limits, kept_of, problem_of};
 use crate::best;
@@ -168,10 +168,12 @@ impl Board {
 
     /// Lends an open leaf of least value, as `least` tells values: a bound leaf that isn't lent and whose value is below the
     /// best cost, where there is one. None where no leaf is open. Refused as `NumbersSpent` where a leaf is open, but 1000000
-    /// numbers are gone, and as `Memory` where a growth was refused; nothing has changed then.
+    /// numbers are gone, and as `Memory` where a growth was refused; nothing has changed then. The cuts on the way to the
+    /// leaf are cuts of the problem.
     pub fn lend(&mut self, alloc: Global) -> Result<Option<Job>, LendRefusal>
         ensures state { Lends self.old.problem self.old.state result self.new.state }
         ensures first { LendsFirst self.old.problem self.old.state result }
+        ensures cuts { LendsCuts self.old.problem result }
         ensures problem { self.new.problem ≡ self.old.problem }
     {
         items_differ(&self.queue);

@@ -1,6 +1,6 @@
 use Rattle.std.proofs.Common.{sym, ◌∙◌}
 use Rattle.std.proofs.lemmas.Bool.{false≢true}
-use Rattle.pesp_board.proofs.Lent.{none_waiting, lends, lends_first, board_with_job, same_slots, unlent_board, first_within, first_parked}
+use Rattle.pesp_board.proofs.Lent.{none_waiting, lends, lends_first, lends_cuts, board_with_job, same_slots, unlent_board, first_within, first_parked}
 use Rattle.pesp_board.proofs.board.Board.lend.Goals as goal
 
 pub returns-in_default-clause-state : goal.returns-in_default-clause-state
@@ -32,3 +32,9 @@ returns-clause-state c = rw (← c.self.view_is) (lends c.self.inside.problem c.
 
 pub returns-clause-first : goal.returns-clause-first
 returns-clause-first c = rw (← c.self.view_is) (lends_first c.self.inside.problem c.self.inside.tree c.self.inside.slots.items c.lend_entry-reply.new.slots.items c.self.inside.queue c.self.inside.best c.self.inside.pairs c.in-Some.first c.lend_entry-reply.result c.self.invariant c.items_differ.ensures c.in-Some.ensures.first c.lend_entry-reply.ensures)
+
+pub returns-then-is_lent-clause-cuts : goal.returns-then-is_lent-clause-cuts
+returns-then-is_lent-clause-cuts c = rw (← c.self.view_is) (lends_cuts c.self.inside.problem c.self.inside.tree c.self.inside.slots.items c.lend_entry-reply.new.slots.items c.self.inside.queue c.self.inside.best c.self.inside.pairs c.in-Some.first c.lend_entry-reply.result c.self.invariant c.in-Some.ensures.first c.lend_entry-reply.ensures)
+
+pub returns-clause-cuts : goal.returns-clause-cuts
+returns-clause-cuts c = rw (← c.self.view_is) (lends_cuts c.self.inside.problem c.self.inside.tree c.self.inside.slots.items c.lend_entry-reply.new.slots.items c.self.inside.queue c.self.inside.best c.self.inside.pairs c.in-Some.first c.lend_entry-reply.result c.self.invariant c.in-Some.ensures.first c.lend_entry-reply.ensures)

@@ -1,19 +1,14 @@
 //! What is proposed for a leaf.
 
-use crate::meeting::{Met, met_at};
 use crate::narrowing::{Narrowing, narrow};
+use crate::proposer::Proposer;
+use crate::settings::NARROWED_JOBS;
 use pesp_board::{Board, Job};
 use pesp_nodes::Node;
 use pesp_problem::Memory;
 use pesp_reduce::Reduced;
 use pesp_strategy::{Advice, Split, Strategy};
 use std::alloc::Global;
-
-/// How many rows may be left where the root's prices are asked for.
-const MOST_ROWS: usize = 20_000;
-
-/// How many jobs are lent before slacks aren't cut any more by choice.
-const NARROWED: u64 = 64;
 
 /// A cut that is proposed: of a cycle's offsets, with pairs for both parts, or of a row's slacks.
 #[derive(Debug, Drop)]
@@ -22,11 +17,11 @@ pub enum Proposal {
     Narrowing(Narrowing),
 }
 
-/// What is proposed for a leaf: a cut, and times of what is left of the instance that were met with.
+/// What is proposed for a leaf: a cut, and times of what is left of the instance that were met with on the way.
 #[derive(Debug, Drop)]
 pub struct Advised {
     pub cut: Option<Proposal>,
-    pub met: Option<Met>,
+    pub met: Option<Vec<u32>>,
 }
 
 impl Advised {
@@ -50,26 +45,7 @@ fn slacks_left(alloc: Global, reduced: &Reduced, node: &Node) -> Result<Vec<(u32
     Ok(left)
 }
 
-/// A price for each event of what is left, by the relaxation of the root; no prices where there is no strategy, or where so many
-/// rows are left that a look takes long.
-pub fn root_prices(
-    alloc: Global,
-    strategy: &mut Option<Strategy>,
-    reduced: &Reduced,
-    root: &Node,
-) -> Result<Vec<i64>, Memory> {
-    let Some(strategy) = strategy else {
-        return Ok(Vec::new(alloc));
-    };
-    if reduced.network().rows().len() > MOST_ROWS {
-        return Ok(Vec::new(alloc));
-    }
-    let slacks = slacks_left(alloc, reduced, root)?;
-    strategy.look(alloc, &slacks, root.offsets(), &[], None)?;
-    Ok(Vec::from_slice(alloc, strategy.prices())?)
-}
-
-/// What the strategy proposes for the leaf, at this node, after so many splits: nothing where there is no strategy.
+/// What the strategy proposes for the leaf, at this node: nothing where there is no strategy.
 fn ask_strategy(
     alloc: Global,
     strategy: &mut Option<Strategy>,
@@ -77,7 +53,6 @@ fn ask_strategy(
     reduced: &Reduced,
     job: &Job,
     node: &Node,
-    used: u32,
 ) -> Result<Advised, Memory> {
     let Some(strategy) = strategy else {
         return Ok(Advised::nothing());
@@ -91,25 +66,23 @@ fn ask_strategy(
     let Some(Advice { cut, times, .. }) = looked else {
         return Ok(Advised::nothing());
     };
-    let met = met_at(alloc, reduced.network(), strategy.prices(), times, used)?;
     Ok(Advised {
         cut: cut.map(Proposal::Split),
-        met,
+        met: times,
     })
 }
 
-/// What is proposed for the leaf that was just lent, at this node, after so many splits: a cut of slacks where propagation shuts
+/// What is proposed for the leaf that was just lent, at this node: a cut of slacks where propagation shuts
 /// one of its parts, as long as no timetable is known and few leaves were lent; else what the strategy proposes.
 pub fn ask(
     alloc: Global,
-    strategy: &mut Option<Strategy>,
+    proposer: &mut Proposer,
     board: &Board,
     reduced: &Reduced,
     job: &Job,
     node: &Node,
-    used: u32,
 ) -> Result<Advised, Memory> {
-    if board.best().is_none() && job.number < NARROWED {
+    if board.best().is_none() && job.number < NARROWED_JOBS {
         if let Some(cut) = narrow(alloc, board.problem().network(), reduced, node)? {
             return Ok(Advised {
                 cut: Some(Proposal::Narrowing(cut)),
@@ -117,5 +90,5 @@ pub fn ask(
             });
         }
     }
-    ask_strategy(alloc, strategy, board, reduced, job, node, used)
+    ask_strategy(alloc, &mut proposer.strategy, board, reduced, job, node)
 }

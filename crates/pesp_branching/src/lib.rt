@@ -3,20 +3,20 @@
 #![tactic(auto)]
 
 mod advising;
-mod chaining;
 mod choosing;
 mod expanding;
 mod judging;
-mod meeting;
 mod narrowing;
 mod offering;
 mod passing;
+mod proposer;
+mod settings;
 
-pub use advising::{Advised, Proposal, ask, root_prices};
+pub use advising::{Advised, Proposal, ask};
 pub use choosing::{Choice, choose};
 pub use expanding::{expand, leaf_line};
 pub use judging::gap_at;
-pub use meeting::Met;
 pub use narrowing::Narrowing;
 pub use offering::{offer_met, offer_times};
 pub use passing::passed_rows;
+pub use proposer::Proposer;

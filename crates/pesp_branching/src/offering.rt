@@ -1,24 +1,23 @@
-//! Times that are found before the tree grows.
+//! Times that are offered: before the first step, and after a step. What finds times is asked for nowhere else.
 
 ghost use Rattle.std.specs.Prelude.{◌≡◌, ℕ, length, IfOk, IfSome};
 ghost use Rattle.pesp_problem.specs.NetTimetables.{IsNetTimetable};
 ghost use Rattle.pesp_network.specs.Networks.{net_of_network};
 ghost use Rattle.pesp_search_laws.specs.Turns.{IsWorked};
 
-use crate::chaining::chained;
-use crate::meeting::Met;
+use crate::settings::{FIRST_BATCH_AFTER, MET_ROUNDS};
 use pesp_board::Board;
 use pesp_network::Network;
 use pesp_problem::Memory;
-use pesp_propagate::dive;
 use pesp_reduce::Reduced;
 use pesp_search_laws::turn::times_are_offered;
 use pesp_simplex::{Improved, SimplexRefusal, improve};
+use pesp_times::TimesSearch;
 use std::alloc::Global;
 
-/// How many tries a dive has on a network of so many rows.
-fn tries_for(rows: usize) -> u32 {
-    if rows > 20_000 { 1 } else { 100 }
+/// Whether times are looked for after so many splits.
+fn is_due(used: u32) -> bool {
+    used >= FIRST_BATCH_AFTER && used & (used - 1) == 0
 }
 
 /// Offers times.
@@ -51,26 +50,41 @@ fn improved(
     }
 }
 
-/// A timetable of a network that a dive finds and improvements make cheaper; None says nothing.
-fn found_times(alloc: Global, network: &Network, prices: &[i64]) -> Result<Option<Vec<u32>>, Memory>
-    ensures { IfOk result (λ found. IfSome found
-        (λ times. IsNetTimetable (net_of_network network.now) network.now.events times.items)) }
-{
-    let rows = network.rows().len();
-    let Some(times) = dive(alloc, network, tries_for(rows))? else {
+/// The cheapest times of a search for times, lifted to the instance; None where it has none that are a timetable.
+fn best_times(
+    alloc: Global,
+    reduced: &Reduced,
+    search: &TimesSearch,
+) -> Result<Option<Vec<u32>>, Memory> {
+    let Some((times, _)) = search.best() else {
         return Ok(None);
     };
-    let best = chained(alloc, network, times, prices)?;
-    improved(alloc, network, &best, 0)
+    if !reduced.network().is_timetable(times) {
+        return Ok(None);
+    }
+    Ok(Some(reduced.lift_times(alloc, times)?))
 }
 
-/// Offers the times that are 0 for every event, and then times that dives find for what is left of the instance, some near the
-/// prices, and the modulo network simplex makes cheaper, lifted to the instance.
+/// Times of the instance that a search for times begins with; None says nothing.
+fn first_times(
+    alloc: Global,
+    reduced: &Reduced,
+    times: &mut Option<TimesSearch>,
+) -> Result<Option<Vec<u32>>, Memory> {
+    let Some(search) = times else {
+        return Ok(None);
+    };
+    search.begin(reduced.network())?;
+    best_times(alloc, reduced, search)
+}
+
+/// Offers times before the first step: those that are 0 for every event, and then those that are found for what is left of the
+/// instance, lifted to the instance.
 pub fn offer_times(
     alloc: Global,
     board: &mut Board,
     reduced: &Reduced,
-    prices: &[i64],
+    times: &mut Option<TimesSearch>,
 ) -> Result<(), Memory>
     ensures problem { board.new.problem ≡ board.old.problem }
     ensures tree { board.new.state.tree ≡ board.old.state.tree }
@@ -80,19 +94,77 @@ pub fn offer_times(
     let events = board.problem().network().events() as usize;
     let zeros = vec![in alloc; 0u32; events]?;
     offer(board, zeros);
-    if let Some(times) = found_times(alloc, reduced.network(), prices)? {
-        let lifted = reduced.lift_times(alloc, &times)?;
-        offer(board, lifted);
-    }
+    let Some(first) = first_times(alloc, reduced, times)? else {
+        return Ok(());
+    };
+    offer(board, first);
     Ok(())
 }
 
-/// Offers times of what is left of the instance, made cheaper and lifted to the instance, where they are a timetable.
+/// Times that were met with, made cheaper, where they are a timetable of the network.
+fn met_times(
+    alloc: Global,
+    network: &Network,
+    met: Option<Vec<u32>>,
+) -> Result<Option<Vec<u32>>, Memory>
+    ensures { IfOk result (λ found. IfSome found
+        (λ better. IsNetTimetable (net_of_network network.now) network.now.events better.items)) }
+{
+    let Some(times) = met else {
+        return Ok(None);
+    };
+    improved(alloc, network, &times, MET_ROUNDS)
+}
+
+/// The cheapest times of a search for times that takes these up, and looks for more where they are due after so many splits;
+/// lifted to the instance. None where nothing is new.
+fn searched_times(
+    alloc: Global,
+    reduced: &Reduced,
+    search: &mut TimesSearch,
+    met: Option<Vec<u32>>,
+    used: u32,
+) -> Result<Option<Vec<u32>>, Memory> {
+    let is_new = met.is_some() || is_due(used);
+    if let Some(times) = met {
+        search.take(reduced.network(), times)?;
+    }
+    if is_due(used) {
+        search.go_on(reduced.network(), used)?;
+    }
+    if !is_new {
+        return Ok(None);
+    }
+    best_times(alloc, reduced, search)
+}
+
+/// Times of the instance after so many splits: of those that were met with, and of a search for times where there is one.
+fn later_times(
+    alloc: Global,
+    reduced: &Reduced,
+    times: &mut Option<TimesSearch>,
+    met: Option<Vec<u32>>,
+    used: u32,
+) -> Result<Option<Vec<u32>>, Memory> {
+    let better = met_times(alloc, reduced.network(), met)?;
+    if let Some(search) = times {
+        return searched_times(alloc, reduced, search, better, used);
+    }
+    let Some(better) = better else {
+        return Ok(None);
+    };
+    Ok(Some(reduced.lift_times(alloc, &better)?))
+}
+
+/// Offers times after so many splits: those that were met with, made cheaper and lifted to the instance, where they are a
+/// timetable of what is left of it; and those that a search for times finds with them, after 128, 256, 512 splits and so on.
 pub fn offer_met(
     alloc: Global,
     board: &mut Board,
     reduced: &Reduced,
-    met: Option<Met>,
+    times: &mut Option<TimesSearch>,
+    met: Option<Vec<u32>>,
+    used: u32,
 ) -> Result<(), Memory>
     ensures problem { board.new.problem ≡ board.old.problem }
     ensures tree { board.new.state.tree ≡ board.old.state.tree }
@@ -100,13 +172,9 @@ pub fn offer_met(
     ensures worked { (used : ℕ) → IsWorked board.old.problem used board.old.state
         → IsWorked board.old.problem used board.new.state }
 {
-    let Some(Met { times, rounds }) = met else {
+    let Some(later) = later_times(alloc, reduced, times, met, used)? else {
         return Ok(());
     };
-    let Some(better) = improved(alloc, reduced.network(), &times, rounds)? else {
-        return Ok(());
-    };
-    let lifted = reduced.lift_times(alloc, &better)?;
-    offer(board, lifted);
+    offer(board, later);
     Ok(())
 }

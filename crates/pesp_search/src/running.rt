@@ -10,7 +10,7 @@ use crate::refusal::SolveRefusal;
 use crate::turning::{Turn, take_turn};
 use crate::watching::Observer;
 use pesp_board::Board;
-use pesp_strategy::Strategy;
+use pesp_branching::Proposer;
 use std::alloc::Global;
 
 /// Takes turns until so many leaves were split or no leaf is open; says how many were split. An observer looks on.
@@ -18,7 +18,7 @@ pub(crate) fn run_turns<O: Observer>(
     alloc: Global,
     board: &mut Board,
     known: &Known,
-    strategy: &mut Option<Strategy>,
+    proposer: &mut Proposer,
     steps: u32,
     observer: &mut O,
 ) -> Result<u32, SolveRefusal>
@@ -36,7 +36,7 @@ pub(crate) fn run_turns<O: Observer>(
         if used == steps {
             return Ok(used);
         }
-        match take_turn(alloc, board, known, strategy, used)? {
+        match take_turn(alloc, board, known, proposer, used)? {
             Turn::Split => used += 1,
             Turn::Closed => {}
             Turn::Over => return Ok(used),

@@ -4,7 +4,6 @@ ghost use Rattle.std.specs.Prelude.{◌≡◌, ℕ, ◌≤◌, IfOk, IfErr, leng
 ghost use Rattle.pesp_machine.specs.States.{opening};
 ghost use Rattle.pesp_machine.specs.Certificates.{IsProblemOf};
 ghost use Rattle.pesp_search_laws.specs.Lifted.{IsReduced, IsFrugal};
-ghost use Rattle.pesp_search.specs.declared.refusal.SolveRefusal.TheVariants.{Memory as Refused};
 ghost use Rattle.pesp_search.specs.Solving.{IsSolved, IsSearchRefusal};
 ghost use Rattle.pesp_search.specs.Beginning.{IsKnown, IsBegun};
 ghost use Rattle.pesp_search.specs.Turning.{IsSearchedThrough, AreTurnsRefused};
@@ -16,11 +15,12 @@ use crate::rooting::look_at_root;
 use crate::running::run_turns;
 use crate::watching::{Nobody, Observer};
 use pesp_board::Board;
-use pesp_branching::{offer_times, root_prices};
+use pesp_branching::{Proposer, offer_times};
 use pesp_cert::Certificate;
 use pesp_problem::{Instance, Memory};
 use pesp_reduce::Reduced;
 use pesp_strategy::Strategy;
+use pesp_times::TimesSearch;
 use std::alloc::Global;
 
 /// What is known of an instance, and how many leaves were split to find it.
@@ -35,7 +35,7 @@ fn search<O: Observer>(
     alloc: Global,
     board: &mut Board,
     known: &Known,
-    strategy: &mut Option<Strategy>,
+    proposer: &mut Proposer,
     steps: u32,
     observer: &mut O,
 ) -> Result<u32, SolveRefusal>
@@ -48,9 +48,8 @@ fn search<O: Observer>(
     ensures refused { IfErr result (AreTurnsRefused board.old.problem steps) }
 {
     look_at_root(alloc, board, &known.root)?;
-    let prices = root_prices(alloc, strategy, known.reduced, &known.root)?;
-    offer_times(alloc, board, known.reduced, &prices)?;
-    run_turns(alloc, board, known, strategy, steps, observer)
+    offer_times(alloc, board, known.reduced, &mut proposer.times)?;
+    run_turns(alloc, board, known, proposer, steps, observer)
 }
 
 /// What the board certifies after a search.
@@ -79,7 +78,7 @@ fn solve_on<O: Observer>(
     instance: &Instance,
     board: &mut Board,
     known: &Known,
-    strategy: &mut Option<Strategy>,
+    proposer: &mut Proposer,
     steps: u32,
     observer: &mut O,
 ) -> Result<Solved, SolveRefusal>
@@ -92,18 +91,19 @@ fn solve_on<O: Observer>(
     ensures solved { IfOk result (λ s. IsSolved instance.now steps s.steps_used s.certificate) }
     ensures refused { IfErr result (IsSearchRefusal instance.now steps) }
 {
-    let steps_used = search(alloc, board, known, strategy, steps, observer)?;
+    let steps_used = search(alloc, board, known, proposer, steps, observer)?;
     Ok(certify(alloc, instance, board, steps_used)?)
 }
 
-/// A strategy for the network of what is left, where there is one.
-fn strategy_for(alloc: Global, known: &Known) -> Result<Option<Strategy>, SolveRefusal>
-    ensures { IfErr result (λ refusal. refusal ≡ Refused) }
-{
-    match Strategy::new(alloc, known.reduced.network(), known.root.offsets()) {
-        Ok(strategy) => Ok(strategy),
-        Err(Memory) => Err(SolveRefusal::Memory),
-    }
+/// What proposes cuts and times for the network of what is left.
+fn proposer_for(alloc: Global, known: &Known) -> Result<Proposer, Memory> {
+    let network = known.reduced.network();
+    let strategy = Strategy::new(alloc, network, known.root.offsets())?;
+    let times = TimesSearch::new(alloc, network)?;
+    Ok(Proposer {
+        strategy,
+        times: Some(times),
+    })
 }
 
 /// Searches on what was begun, and certifies what is known then.
@@ -119,13 +119,13 @@ fn solve_begun<O: Observer>(
     ensures solved { IfOk result (λ s. IsSolved instance.now steps s.steps_used s.certificate) }
     ensures refused { IfErr result (IsSearchRefusal instance.now steps) }
 {
-    let mut strategy = strategy_for(alloc, &begun.known)?;
+    let mut proposer = proposer_for(alloc, &begun.known)?;
     solve_on(
         alloc,
         instance,
         &mut begun.board,
         &begun.known,
-        &mut strategy,
+        &mut proposer,
         steps,
         observer,
     )
@@ -175,6 +175,6 @@ pub fn solve_watched<O: Observer>(
     ensures solved { IfOk result (λ s. IsSolved instance.now steps s.steps_used s.certificate) }
     ensures refused { IfErr result (IsSearchRefusal instance.now steps) }
 {
-    let reduced = planted(alloc, instance, steps)?;
+    let reduced = planted(alloc, instance)?;
     solve_reduced(alloc, instance, &reduced, steps, observer)
 }

@@ -21,10 +21,9 @@ use crate::refusal::SolveRefusal;
 use crate::settling::settle;
 use crate::walking::node_from;
 use pesp_board::{Board, Job, LendRefusal, Work};
-use pesp_branching::{Advised, Choice, ask, choose, expand, gap_at, offer_met};
+use pesp_branching::{Advised, Choice, Proposer, ask, choose, expand, gap_at, offer_met};
 use pesp_nodes::Node;
 use pesp_search_laws::turn::turns_begin;
-use pesp_strategy::Strategy;
 use std::alloc::Global;
 
 /// What a turn did: it split a leaf; it closed one, by a gap or by times that cost no more than it is worth; or no leaf is
@@ -132,7 +131,7 @@ fn turn_on(
     alloc: Global,
     board: &mut Board,
     known: &Known,
-    strategy: &mut Option<Strategy>,
+    proposer: &mut Proposer,
     job: &Job,
     used: u32,
 ) -> Result<Turn, SolveRefusal>
@@ -144,12 +143,20 @@ fn turn_on(
     ensures refused { IfErr result (IsTurnRefusal board.old.problem used) }
 {
     let node = node_from(alloc, &known.root, &job.path)?;
-    let Advised { cut, met } = ask(alloc, strategy, board, known.reduced, job, &node, used)?;
+    let Advised { cut, met } = ask(alloc, proposer, board, known.reduced, job, &node)?;
     let Some(choice) = choose(board.problem(), &node, &known.passed, cut) else {
         return close_at(alloc, board, known, job, &node, used);
     };
     split_leaf(alloc, board, job, node, choice, used)?;
-    offer_met(alloc, board, known.reduced, met)?;
+    let splits = used.saturating_add(1);
+    offer_met(
+        alloc,
+        board,
+        known.reduced,
+        &mut proposer.times,
+        met,
+        splits,
+    )?;
     Ok(Turn::Split)
 }
 
@@ -158,7 +165,7 @@ pub(crate) fn take_turn(
     alloc: Global,
     board: &mut Board,
     known: &Known,
-    strategy: &mut Option<Strategy>,
+    proposer: &mut Proposer,
     used: u32,
 ) -> Result<Turn, SolveRefusal>
     requires known { IsKnown board.old.problem known.now }
@@ -173,5 +180,5 @@ pub(crate) fn take_turn(
     let Some(job) = lend_next(alloc, board, used)? else {
         return Ok(Turn::Over);
     };
-    turn_on(alloc, board, known, strategy, &job, used)
+    turn_on(alloc, board, known, proposer, &job, used)
 }

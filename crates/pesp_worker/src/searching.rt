@@ -11,7 +11,7 @@ ghost use Rattle.pesp_worker.specs.HandingIn.{AreTimesFor, AreShort, IsWorkRefus
 use crate::cutting_out::cut_out;
 use crate::refusal::WorkRefusal;
 use crate::replanting::replanted;
-use crate::steering::strategy_for;
+use crate::steering::proposer_for;
 use crate::turning::{Known, improve_leaf, run_turns};
 use pesp_board::Board;
 use pesp_branching::passed_rows;
@@ -29,8 +29,8 @@ pub(crate) struct Found {
     pub(crate) tree: Vec<TreeLine>,
 }
 
-/// Takes turns on the leaves that are open, as a strategy proposes where there is one, by at most so many splits.
-fn split_by_strategy(
+/// Takes turns on the leaves that are open, as is proposed for them, by at most so many splits.
+fn split_as_proposed(
     alloc: Global,
     board: &mut Board,
     known: &Known,
@@ -40,8 +40,8 @@ fn split_by_strategy(
     requires few { steps ≤ 100000 }
     ensures { board.new.problem ≡ board.old.problem }
 {
-    let mut strategy = strategy_for(alloc, known.reduced, board.problem())?;
-    run_turns(alloc, board, known, &mut strategy, steps)
+    let mut proposer = proposer_for(alloc, known.reduced, board)?;
+    run_turns(alloc, board, known, &mut proposer, steps)
 }
 
 /// Takes turns on the leaves that are open, over what is left of the instance, by at most so many splits.
@@ -50,7 +50,7 @@ fn split_over(alloc: Global, board: &mut Board, reduced: &Reduced, steps: u32) -
     ensures { board.new.problem ≡ board.old.problem }
 {
     let passed = passed_rows(alloc, board.problem())?;
-    split_by_strategy(alloc, board, &Known { reduced, passed }, steps)
+    split_as_proposed(alloc, board, &Known { reduced, passed }, steps)
 }
 
 /// Takes turns on the leaves that are open, by at most so many splits.

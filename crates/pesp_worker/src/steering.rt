@@ -1,15 +1,19 @@
-//! A strategy for a board's problem, where its cycles are fundamental walks of what is left of the instance.
+//! What proposes cuts for a board's problem, where its cycles are fundamental walks of what is left of the instance, and
+//! times.
 
 ghost use Rattle.std.specs.Prelude.{All, IfOk, IfSome};
 ghost use Rattle.pesp_problem.specs.Walks.{IsWalk};
 ghost use Rattle.pesp_problem.specs.Forests.{AreFundamental};
 ghost use Rattle.pesp_network.specs.Networks.{arcs_of_network};
 
+use pesp_board::Board;
+use pesp_branching::Proposer;
 use pesp_network::NetRefusal;
 use pesp_nodes::Problem;
 use pesp_problem::{Memory, Walk};
 use pesp_reduce::Reduced;
 use pesp_strategy::Strategy;
+use pesp_times::TimesSearch;
 use std::alloc::Global;
 
 /// The fundamental walks of what is left; None where they have too many signed rows.
@@ -62,7 +66,7 @@ fn are_lifted(
 }
 
 /// A strategy; None where the cycles are another table than that of the forest of what is left.
-pub(crate) fn strategy_for(
+fn strategy_for(
     alloc: Global,
     reduced: &Reduced,
     problem: &Problem,
@@ -75,4 +79,20 @@ pub(crate) fn strategy_for(
     }
     let root = problem.root(alloc)?;
     Strategy::new(alloc, reduced.network(), root.offsets())
+}
+
+/// What proposes cuts and times; times are looked for where the board has none.
+pub(crate) fn proposer_for(
+    alloc: Global,
+    reduced: &Reduced,
+    board: &Board,
+) -> Result<Proposer, Memory> {
+    let times = match board.best() {
+        Some(_) => None,
+        None => Some(TimesSearch::new(alloc, reduced.network())?),
+    };
+    Ok(Proposer {
+        strategy: strategy_for(alloc, reduced, board.problem())?,
+        times,
+    })
 }

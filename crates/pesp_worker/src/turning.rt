@@ -9,11 +9,13 @@ use crate::holding::{Held, hand_in, hold};
 use crate::settling::offer_least;
 use pesp_board::{Board, is_shut_by_propagation};
 use pesp_bound::best_leaf_from;
-use pesp_branching::{Advised, Met, Proposal, ask, choose, expand, gap_at, leaf_line, offer_met};
+use pesp_branching::{
+    Advised, Proposal, Proposer, ask, choose, expand, gap_at, leaf_line, offer_met,
+};
 use pesp_nodes::{Node, Problem};
 use pesp_problem::Memory;
 use pesp_reduce::Reduced;
-use pesp_strategy::Strategy;
+use pesp_times::TimesSearch;
 use pesp_truth::TreeLine;
 use std::alloc::Global;
 
@@ -107,20 +109,24 @@ fn give_lines(
     Ok(if is_taken { done } else { Turn::Over })
 }
 
-/// Offers times after a turn: those that were met with where lines were taken, and those of the least slacks where there were
+/// Offers times after a turn behind so many splits: those that were met with where lines were taken, and those of the least slacks where there were
 /// none to give.
 fn offer_after(
     alloc: Global,
     board: &mut Board,
     reduced: &Reduced,
+    times: &mut Option<TimesSearch>,
     node: &Node,
-    met: Option<Met>,
+    met: Option<Vec<u32>>,
     done: Turn,
+    used: u32,
 ) -> Result<(), Memory>
     ensures { board.new.problem ≡ board.old.problem }
 {
     match done {
-        Turn::Split | Turn::Closed => offer_met(alloc, board, reduced, met),
+        Turn::Split | Turn::Closed => {
+            offer_met(alloc, board, reduced, times, met, used.saturating_add(1))
+        }
         Turn::GivenUp => offer_least(alloc, board, reduced, node),
         Turn::Over => Ok(()),
     }
@@ -131,7 +137,7 @@ fn turn_on(
     alloc: Global,
     board: &mut Board,
     known: &Known,
-    strategy: &mut Option<Strategy>,
+    proposer: &mut Proposer,
     held: &Held,
     used: u32,
 ) -> Result<Turn, Memory>
@@ -140,9 +146,10 @@ fn turn_on(
     ensures { board.new.problem ≡ board.old.problem }
 {
     let reduced = known.reduced;
-    let Advised { cut, met } = ask(alloc, strategy, board, reduced, &held.job, &held.node, used)?;
+    let Advised { cut, met } = ask(alloc, proposer, board, reduced, &held.job, &held.node)?;
     let done = give_lines(alloc, board, known, held, cut)?;
-    offer_after(alloc, board, reduced, &held.node, met, done)?;
+    let times = &mut proposer.times;
+    offer_after(alloc, board, reduced, times, &held.node, met, done, used)?;
     Ok(done)
 }
 
@@ -151,7 +158,7 @@ fn take_turn(
     alloc: Global,
     board: &mut Board,
     known: &Known,
-    strategy: &mut Option<Strategy>,
+    proposer: &mut Proposer,
     used: u32,
 ) -> Result<Turn, Memory>
     requires { ArePassedRows board.old.problem known.now.passed.items }
@@ -160,7 +167,7 @@ fn take_turn(
     let Some(held) = hold(alloc, board)? else {
         return Ok(Turn::Over);
     };
-    turn_on(alloc, board, known, strategy, &held, used)
+    turn_on(alloc, board, known, proposer, &held, used)
 }
 
 /// Takes turns until so many leaves were split, or there is nothing to do any more.
@@ -168,7 +175,7 @@ pub(crate) fn run_turns(
     alloc: Global,
     board: &mut Board,
     known: &Known,
-    strategy: &mut Option<Strategy>,
+    proposer: &mut Proposer,
     steps: u32,
 ) -> Result<(), Memory>
     requires passed { ArePassedRows board.old.problem known.now.passed.items }
@@ -180,7 +187,7 @@ pub(crate) fn run_turns(
         if used >= steps {
             return Ok(());
         }
-        match take_turn(alloc, board, known, strategy, used)? {
+        match take_turn(alloc, board, known, proposer, used)? {
             Turn::Split => used += 1,
             Turn::Closed | Turn::GivenUp => {}
             Turn::Over => return Ok(()),

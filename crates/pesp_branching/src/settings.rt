@@ -1,0 +1,10 @@
+//! The numbers that tune what is proposed for a leaf. No promise rests on any of them.
+
+/// How many jobs are lent before slacks aren't cut any more by choice.
+pub(crate) const NARROWED_JOBS: u64 = 64;
+
+/// After how many splits times are looked for again; then whenever the number has doubled.
+pub(crate) const FIRST_BATCH_AFTER: u32 = 128;
+
+/// How many rounds make times cheaper that were met with at a leaf, before a search for times takes them up.
+pub(crate) const MET_ROUNDS: u32 = 20;

@@ -3,7 +3,7 @@
 ghost use Rattle.std.specs.Prelude.{◌≡◌, ◌<◌, length, All, IfOk};
 
 use pesp_board::Board;
-use pesp_branching::{Met, offer_met};
+use pesp_branching::offer_met;
 use pesp_network::NetRow;
 use pesp_nodes::Node;
 use pesp_problem::Memory;
@@ -45,5 +45,5 @@ pub(crate) fn offer_least(
     let Some(times) = reduced.network().timetable_of(alloc, &left)? else {
         return Ok(());
     };
-    offer_met(alloc, board, reduced, Some(Met { times, rounds: 0 }))
+    offer_met(alloc, board, reduced, &mut None, Some(times), 0)
 }

@@ -1,6 +1,6 @@
 -- The violated rows, one after the other.
-use Rattle.std.proofs.Common.{Option, Some, None, ◌≡◌, ◌∙◌, refl, sym, ap, rules, Bool, true, false, ℕ, zero, suc, ◌+◌, ◌<◌, ◌≤◌, arith, ℤ, pos, List, [], ◌∷◌, ◌++◌, length, take}
-use Rattle.std.specs.Prelude.{All, ◌↔◌, ◌+ℤ◌, ◌-ℤ◌, ◌≤ℤ◌, int_lt, unsigned_abs}
+use Rattle.std.proofs.Common.{Some, None, ◌≡◌, ◌∙◌, refl, ap, Bool, true, false, ℕ, ◌+◌, ◌<◌, arith, ℤ, pos, List, [], ◌∷◌, ◌++◌, length, take}
+use Rattle.std.specs.Prelude.{All, ◌↔◌, ◌+ℤ◌, ◌-ℤ◌}
 use Rattle.std.specs.List.{cons_option, enumerate_from, filter_map}
 use Rattle.std.proofs.lemmas.Int.{ints}
 use Rattle.std.proofs.lemmas.List.{take_more}

@@ -1,5 +1,5 @@
 -- The activities that times violate, as they are told.
-use Rattle.std.specs.Prelude.{◌≡◌, ℕ, Bool, ℤ, pos, ◌+ℤ◌, ◌-ℤ◌, int_lt, List, [], ◌∷◌, Option, Some, None, map, codes, if◌then◌else◌}
+use Rattle.std.specs.Prelude.{ℕ, Bool, pos, ◌+ℤ◌, ◌-ℤ◌, int_lt, List, [], ◌∷◌, Option, Some, None, map, codes, if◌then◌else◌}
 use Rattle.std.specs.List.{enumerate_from, filter_map}
 use Rattle.std.specs.Fmt.{decimal, signed_decimal}
 use Rattle.pesp_problem.specs.Timetables.{Pesp, AreTimes, slack}

@@ -51,12 +51,9 @@ side_by_side() {
     ' /proc/meminfo
 }
 
-# About how many minutes the proofs of a program take here from nothing, where nothing else is running.
+# About how many minutes the proofs of the program take here from nothing, where nothing else is running.
 minutes() {
-    case $1 in
-    pesp_checker) echo "$((6 + 20 / $(side_by_side)))" ;;
-    *) echo "$((20 + 75 / $(side_by_side)))" ;;
-    esac
+    echo "$((20 + 75 / $(side_by_side)))"
 }
 
 # The program to be handed on: the proved one, or the one without proofs where that is asked for.

@@ -1,0 +1,4 @@
+pub mod Along
+pub mod Passes
+pub mod Small
+pub mod Values

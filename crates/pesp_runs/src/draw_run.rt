@@ -14,8 +14,8 @@ use pesp_stream::{Sink, Source, read_all};
 use std::alloc::Global;
 
 /// Reads an instance and then times for its events, and writes a picture of them in SVG with at most `rows` activities, the
-/// dearest ones that cost something, and at most `rows` events; the instance is judged before the times are read, and nothing is written where
-/// they are no timetable. What the picture shows is not promised.
+/// dearest ones that cost something, and at most `rows` events; the instance is judged before the times are read, and nothing
+/// is written where they are no timetable. What the picture shows is not promised.
 pub fn run_draw<R: Source, T: Source, W: Sink>(
     alloc: Global,
     instance_reader: &mut R,

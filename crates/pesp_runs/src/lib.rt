@@ -10,6 +10,8 @@ mod verdict;
 
 pub use draw_run::run_draw;
 pub use fault::{Fault, status_of};
-pub use outside_runs::{run_graft, run_split, run_work};
-pub use runs::{run_check, run_report, run_solve, run_solve_watched};
+pub use outside_runs::{read_base, run_graft, run_split, run_work};
+pub use runs::{
+    MOST_TIMES, read_whole_instance, run_check, run_report, run_solve, run_solve_watched,
+};
 pub use verdict::status_of_verdict;

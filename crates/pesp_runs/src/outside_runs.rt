@@ -20,8 +20,9 @@ use pesp_worker::work;
 use pesp_works::{WorkText, parse_works, print_work};
 use std::alloc::Global;
 
-/// Reads a certificate, which has to be valid for the instance.
-fn read_base<R: Source>(
+/// Reads a certificate, which has to be valid for the instance: a base to work on. At most 1,073,741,824 bytes are read and
+/// judged.
+pub fn read_base<R: Source>(
     alloc: Global,
     instance: &Instance,
     reader: &mut R,

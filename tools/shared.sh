@@ -53,7 +53,7 @@ side_by_side() {
 
 # About how many minutes the proofs of the program take here from nothing, where nothing else is running.
 minutes() {
-    echo "$((20 + 75 / $(side_by_side)))"
+    echo "$((5 + 66 / $(side_by_side)))"
 }
 
 # The program to be handed on: the proved one, or the one without proofs where that is asked for.

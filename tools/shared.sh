@@ -51,9 +51,10 @@ side_by_side() {
     ' /proc/meminfo
 }
 
-# About how many minutes the proofs of the program take here from nothing, where nothing else is running.
+# About how many minutes the proofs of a program take here from nothing, where nothing else is running: a minute and a half of
+# a processor for each of its crates, and three for what can't go side by side.
 minutes() {
-    echo "$((5 + 66 / $(side_by_side)))"
+    echo "$((3 + $(crates_of "$1" | wc -l) * 3 / 2 / $(side_by_side)))"
 }
 
 # The program to be handed on: the proved one, or the one without proofs where that is asked for.

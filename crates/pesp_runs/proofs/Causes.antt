@@ -14,9 +14,6 @@ use Rattle.pesp_truth.specs.Certificates.{Content, shown_times}
 use Rattle.pesp_cert.specs.declared.refusal.CertRefusal.{CertRefusal}
 use Rattle.pesp_cert.specs.declared.refusal.CertRefusal.TheVariants.{Header, Line, Number, Limit, Truncated, Trailing, Memory as CertMemory}
 use Rattle.pesp_cert.specs.Texts.{spelling, HasText}
-use Rattle.pesp_check_text.specs.Texts.{Faults}
-use Rattle.pesp_check_text.specs.declared.fault.CheckFault.{CheckFault}
-use Rattle.pesp_check_text.specs.declared.fault.CheckFault.TheVariants.{Text, Read as CheckRead, Memory as CheckMemory}
 use Rattle.pesp_search.specs.Solving.{IsSolved, IsSearchRefusal}
 use Rattle.pesp_search.specs.declared.refusal.SolveRefusal.{SolveRefusal}
 use Rattle.pesp_search.specs.declared.refusal.SolveRefusal.TheVariants.{Memory as SearchMemory, TableTooLarge, PairsTooMany}
@@ -34,11 +31,9 @@ use Rattle.pesp_outside.specs.Texts.{reply_line}
 use Rattle.pesp_worker.specs.declared.refusal.WorkRefusal.{WorkRefusal}
 use Rattle.pesp_worker.specs.declared.refusal.WorkRefusal.TheVariants.{Memory as WorkMemory, NoSuchJob}
 use Rattle.pesp_worker.specs.HandingIn.{IsWorkRefusal}
-use Rattle.pesp_runs.specs.declared.fault.Fault.{Fault}
-use Rattle.pesp_runs.specs.declared.fault.Fault.TheVariants.{Memory, Write}
-use Rattle.pesp_runs.specs.FaultLines.{search_fault, check_fault, times_fault, report_fault, works_fault, work_fault}
-use Rattle.pesp_runs.specs.Devices.{over}
-use Rattle.pesp_runs.specs.Runs.{WritesSolution, SearchCause, CertificateCause, TimesCause, RowCause, OutCause}
+use Rattle.pesp_runs.specs.FaultLines.{search_fault, times_fault, report_fault, works_fault, work_fault}
+use Rattle.pesp_check_run.specs.Devices.{over}
+use Rattle.pesp_runs.specs.Runs.{WritesSolution, SearchCause, TimesCause, RowCause, OutCause}
 use Rattle.pesp_runs.specs.Outside.{WorksCause, JobCause, WritesGraft}
 
 -- ---- solve
@@ -59,19 +54,6 @@ solution {certificate = certificate} solved is_true has_text gets = record {
   has_text = has_text;
   written = gets;
 }
-
--- ---- check
-
--- a fault of the certificate's text, of its reader, or of memory
-pub certificate_cause : (fault : CheckFault) (told left : Option (List ℕ)) (calls after : Calls) → Faults fault told left (DeviceFailed calls after) → CertificateCause (check_fault fault) (over told left calls after)
-certificate_cause (Text refusal) told left calls after cause = cause
-certificate_cause CheckRead told left calls after cause = cause
-certificate_cause CheckMemory told left calls after cause = tt
-
--- a line that didn't go out: for memory, or because the writer failed behind a front of it
-pub line_cause : (fault : Fault) (Same Failed Front Cut : Type 0) → ((fault ≡ Memory) × Same) ⊎ ((fault ≡ Write) × Failed × Front) → (Failed → Front → Cut) → OutCause fault Cut
-line_cause fault Same Failed Front Cut (inl (is, same)) made = subst (λ (f : Fault). OutCause f Cut) (sym is) tt
-line_cause fault Same Failed Front Cut (inr (is, failed, front)) made = subst (λ (f : Fault). OutCause f Cut) (sym is) (made failed front)
 
 -- ---- report, draw
 

@@ -1,13 +1,9 @@
 -- Each fault's line and exit status.
 use Rattle.std.specs.Prelude.{ℕ, List, ◌++◌, codes, decimal}
-use Rattle.pesp_instance.specs.declared.refusal.ReadRefusal.{ReadRefusal}
-use Rattle.pesp_instance.specs.declared.refusal.ReadRefusal.TheVariants.{Period, TextTooLong, FieldCount, NotANumber, OutOfRange, BoundsCrossed, TooManyRows, TooManyEvents, Memory as NoMemory}
 use Rattle.pesp_stream.specs.declared.reading.ReadFault.{ReadFault}
 use Rattle.pesp_stream.specs.declared.reading.ReadFault.TheVariants.{Memory as ReadMemory, Device}
 use Rattle.pesp_cert.specs.declared.refusal.CertRefusal.{CertRefusal}
-use Rattle.pesp_cert.specs.declared.refusal.CertRefusal.TheVariants.{Header, Line, Number, Limit, Truncated, Trailing, Memory as CertMemory}
-use Rattle.pesp_check_text.specs.declared.fault.CheckFault.{CheckFault}
-use Rattle.pesp_check_text.specs.declared.fault.CheckFault.TheVariants.{Text, Read as CheckRead, Memory as CheckMemory}
+use Rattle.pesp_cert.specs.declared.refusal.CertRefusal.TheVariants.{Memory as CertMemory}
 use Rattle.pesp_search.specs.declared.refusal.SolveRefusal.{SolveRefusal}
 use Rattle.pesp_search.specs.declared.refusal.SolveRefusal.TheVariants.{Memory as SearchMemory, TableTooLarge, PairsTooMany}
 use Rattle.pesp_worker.specs.declared.refusal.WorkRefusal.{WorkRefusal}
@@ -16,20 +12,23 @@ use Rattle.pesp_report.specs.declared.refusal.TimesRefusal.{TimesRefusal}
 use Rattle.pesp_report.specs.declared.refusal.TimesRefusal.TheVariants.{BadLine, WrongCount, Memory as TimesMemory}
 use Rattle.pesp_report.specs.declared.refusal.ReportRefusal.{ReportRefusal}
 use Rattle.pesp_report.specs.declared.refusal.ReportRefusal.TheVariants.{Violates, NotTimes, Memory as ReportMemory, Write as ReportWrite}
-use Rattle.pesp_runs.specs.Verdicts.{refusal_text}
+use Rattle.pesp_check_run.specs.Verdicts.{refusal_text}
+use Rattle.pesp_check_run.specs.FaultLines.{instance_line, certificate_line}
+use Rattle.pesp_check_run.specs.declared.fault.VerdictFault.{VerdictFault}
+use Rattle.pesp_check_run.specs.declared.fault.VerdictFault.TheVariants.{Instance as OfInstance, Certificate as OfCertificate, Memory as OfMemory, Read as OfRead, Write as OfWrite, NoFile as OfNoFile}
 use Rattle.pesp_runs.specs.declared.fault.Fault.{Fault}
 use Rattle.pesp_runs.specs.declared.fault.Fault.TheVariants.{Instance, Certificate, Times, Search, Report, Base, Works, NoJob, Memory, Read, Write, NoFile}
 
+-- a fault of the checker's run, as a fault of the runs
+abbrev pub verdict_fault : VerdictFault → Fault
+verdict_fault (OfInstance refusal) = Instance refusal
+verdict_fault (OfCertificate refusal) = Certificate refusal
+verdict_fault OfMemory = Memory
+verdict_fault OfRead = Read
+verdict_fault OfWrite = Write
+verdict_fault OfNoFile = NoFile
+
 -- a refusal of memory is told as such
-abbrev pub instance_fault : ReadRefusal → Fault
-instance_fault NoMemory = Memory
-instance_fault refusal = Instance refusal
-
-abbrev pub check_fault : CheckFault → Fault
-check_fault (Text refusal) = Certificate refusal
-check_fault CheckRead = Read
-check_fault CheckMemory = Memory
-
 abbrev pub certificate_fault : CertRefusal → Fault
 certificate_fault CertMemory = Memory
 certificate_fault refusal = Certificate refusal
@@ -59,36 +58,6 @@ report_fault refusal = Report refusal
 abbrev pub read_fault : ReadFault → Fault
 read_fault ReadMemory = Memory
 read_fault Device = Read
-
--- the record's number
-abbrev pub at_record : ℕ → List ℕ
-at_record at = codes " record " ++ decimal at
-
--- the record's number and the field's
-abbrev pub at_field : ℕ → ℕ → List ℕ
-at_field at field = codes " record " ++ decimal at ++ codes " field " ++ decimal field
-
--- number, name and place of a refusal of an instance's text
-abbrev pub instance_line : ReadRefusal → List ℕ
-instance_line Period = codes "1 Period"
-instance_line TextTooLong = codes "2 TextTooLong"
-instance_line (FieldCount at) = codes "3 FieldCount" ++ at_record at
-instance_line (NotANumber at field) = codes "4 NotANumber" ++ at_field at field
-instance_line (OutOfRange at field) = codes "5 OutOfRange" ++ at_field at field
-instance_line (BoundsCrossed at) = codes "6 BoundsCrossed" ++ at_record at
-instance_line (TooManyRows at) = codes "7 TooManyRows" ++ at_record at
-instance_line (TooManyEvents at) = codes "8 TooManyEvents" ++ at_record at
-instance_line NoMemory = codes "9 Memory"
-
--- number, name and line of a refusal of a certificate's text
-abbrev pub certificate_line : CertRefusal → List ℕ
-certificate_line Header = codes "1 Header"
-certificate_line (Line n) = codes "2 Line line " ++ decimal n
-certificate_line (Number n) = codes "3 Number line " ++ decimal n
-certificate_line (Limit n) = codes "4 Limit line " ++ decimal n
-certificate_line Truncated = codes "5 Truncated"
-certificate_line (Trailing n) = codes "6 Trailing line " ++ decimal n
-certificate_line CertMemory = codes "7 Memory"
 
 -- number, name and line of a refusal of a times text
 abbrev pub times_line : TimesRefusal → List ℕ

@@ -1,5 +1,5 @@
-pub mod Devices
+pub use Rattle.pesp_check_run.specs.Devices
+pub use Rattle.pesp_check_run.specs.Verdicts
 pub mod Runs
-pub mod Verdicts
 pub mod Outside
 pub mod FaultLines

@@ -19,7 +19,7 @@ use Rattle.pesp_outside.specs.Texts.{jobs_text, reply_line}
 use Rattle.pesp_worker.specs.HandingIn.{IsWorkOn, HasNoJob}
 use Rattle.pesp_runs.specs.declared.fault.Fault.{Fault}
 use Rattle.pesp_runs.specs.declared.fault.Fault.TheVariants.{Certificate, Base, Works, NoJob, Memory, Read}
-use Rattle.pesp_runs.specs.Devices.{Device, HasFailed, GetsFront}
+use Rattle.pesp_check_run.specs.Devices.{Device, HasFailed, GetsFront}
 use Rattle.pesp_runs.specs.Runs.{ReadsInstance, ReadsNext, InstanceCause, OutCause}
 
 -- ---- what is read

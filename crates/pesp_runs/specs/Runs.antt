@@ -1,48 +1,24 @@
 -- What runs read and write, and when they tell which fault.
-use Rattle.std.specs.Prelude.{◌≡◌, ◌⊎◌, ℕ, List, Option, Ok, Err, IfSome}
-use Rattle.std.specs.Io.KnownBytes.{Consumes, IsAtEnd}
+use Rattle.std.specs.Prelude.{◌≡◌, ◌⊎◌, ℕ, List, Option, Ok, Err}
 use Rattle.pesp_stream.specs.Reading.{ReadsText}
 use Rattle.pesp_problem.specs.Timetables.{Pesp, IsTimetable}
 use Rattle.pesp_problem.specs.Scores.{IsFirstViolated}
-use Rattle.pesp_instance.specs.Instance.{instance_of}
-use Rattle.pesp_instance.specs.declared.refusal.ReadRefusal.{ReadRefusal}
 use Rattle.pesp_truth.specs.Truth.{IsTrueAnswer}
 use Rattle.pesp_truth.specs.Certificates.{Content, shown_times}
-use Rattle.pesp_truth.specs.declared.answer.Answer.{Answer}
 use Rattle.pesp_cert.specs.Texts.{spelling, HasText}
 use Rattle.pesp_cert_items.specs.Texts.{RefusesText}
 use Rattle.pesp_check.specs.declared.refusal.Verdict.{Verdict}
-use Rattle.pesp_check_text.specs.Texts.{ChecksText}
 use Rattle.pesp_search.specs.Solving.{IsSolved, IsSearchRefusal}
 use Rattle.pesp_search.specs.declared.refusal.SolveRefusal.TheVariants.{Memory as SearchMemory}
 use Rattle.pesp_report.specs.TimesText.{times_of}
 use Rattle.pesp_report.specs.Report.{IsReport}
 use Rattle.pesp_report.specs.declared.refusal.ReportRefusal.TheVariants.{Violates}
-use Rattle.pesp_runs.specs.Verdicts.{verdict_line}
-use Rattle.pesp_runs.specs.Devices.{Device, HasFailed, GetsFront}
+pub use Rattle.pesp_check_run.specs.Checking.{ReadsAll, ReadsInstance, RefusesInstance, WritesVerdict, Checks}
+use Rattle.pesp_check_run.specs.Devices.{Device, HasFailed, GetsFront}
 use Rattle.pesp_runs.specs.declared.fault.Fault.{Fault}
 use Rattle.pesp_runs.specs.declared.fault.Fault.TheVariants.{Instance, Certificate, Times, Search, Report, Memory, Read, Write}
 
 -- ---- the instance, which each run reads first
-
--- the text is all that the reader had, and it has no more; where it tells its bytes, they are the text
-pub record ReadsAll (told left : Option (List ℕ)) (text : List ℕ) : Type 0 where
-  pub consumed : Consumes told left text
-  pub ended : IsAtEnd left
-  pub whole : IfSome told (λ bytes. bytes ≡ text)
-
--- the reader's text is this instance with the period
-pub record ReadsInstance (told left : Option (List ℕ)) (period : ℕ) (p : Pesp) : Type 0 where
-  pub text : List ℕ
-  pub read : ReadsAll told left text
-  pub is_instance : instance_of text period ≡ Ok p
-
--- the bytes that were read are no instance for this reason, and where the reader tells its bytes, all of them aren't either
-pub record RefusesInstance (told left : Option (List ℕ)) (period : ℕ) (refusal : ReadRefusal) : Type 0 where
-  pub bytes : List ℕ
-  pub read : ReadsText told left 16777217 bytes
-  pub refused : instance_of bytes period ≡ Err refusal
-  pub whole : IfSome told (λ text. instance_of text period ≡ Err refusal)
 
 -- why there is no instance: its text, or the reader's device; what memory is refused is the runtime's matter
 abbrev pub InstanceCause : Fault → Device → ℕ → Type 0
@@ -96,17 +72,6 @@ SolveCause fault reader writer period steps =
     ⊎ OutCause fault (HasFailed writer × WritesSolution p steps (GetsFront writer))))
 
 -- ---- check
-
--- the reader's text is a certificate's, which is judged so, and the writer got what the relation says of the verdict's line
-pub record WritesVerdict (told left : Option (List ℕ)) (p : Pesp) (verdict : Verdict) (Gets : List ℕ → Type 0) : Type 0 where
-  pub answer : Answer
-  pub judged : ChecksText told left p verdict answer
-  pub written : Gets (verdict_line answer verdict)
-
--- the first text has an instance, and the verdict on the second one is written
-abbrev pub Checks : Option (List ℕ) → Option (List ℕ) → Option (List ℕ) → Option (List ℕ) → ℕ → Verdict → (List ℕ → Type 0) → Type 0
-Checks told left told_certificate left_certificate period verdict Gets =
-    (p : Pesp) × ReadsInstance told left period p × WritesVerdict told_certificate left_certificate p verdict Gets
 
 -- why there is no verdict: the certificate's text, whatever stands behind what was read of it, or the reader's device
 abbrev pub CertificateCause : Fault → Device → Type 0

@@ -3,10 +3,9 @@
 ghost use Rattle.std.specs.Prelude.{◌≡◌};
 ghost use Rattle.pesp_runs.specs.FaultLines.{exit_status};
 
-use crate::verdict::RefusalText;
 use pesp_cert::CertRefusal;
 use pesp_check::Refusal;
-use pesp_check_text::CheckFault;
+use pesp_check_run::{CertificateLine, InstanceLine, RefusalText, VerdictFault};
 use pesp_instance::ReadRefusal;
 use pesp_problem::Memory as NoMemory;
 use pesp_report::{ReportRefusal, TimesRefusal};
@@ -46,31 +45,20 @@ pub enum Fault {
     NoFile,
 }
 
-impl From<ReadRefusal> for Fault {
+impl From<VerdictFault> for Fault {
     ghost use Rattle.std.specs.Prelude.{◌≡◌};
-    ghost use Rattle.pesp_runs.specs.FaultLines.{instance_fault};
+    ghost use Rattle.pesp_runs.specs.FaultLines.{verdict_fault};
 
-    ghost from_gives = { λ refusal fault. fault ≡ instance_fault refusal };
+    ghost from_gives = { λ found fault. fault ≡ verdict_fault found };
 
-    fn from(refusal: ReadRefusal) -> Fault {
-        match refusal {
-            ReadRefusal::Memory => Fault::Memory,
-            _ => Fault::Instance(refusal),
-        }
-    }
-}
-
-impl From<CheckFault> for Fault {
-    ghost use Rattle.std.specs.Prelude.{◌≡◌};
-    ghost use Rattle.pesp_runs.specs.FaultLines.{check_fault};
-
-    ghost from_gives = { λ found fault. fault ≡ check_fault found };
-
-    fn from(found: CheckFault) -> Fault {
+    fn from(found: VerdictFault) -> Fault {
         match found {
-            CheckFault::Text(refusal) => Fault::Certificate(refusal),
-            CheckFault::Read => Fault::Read,
-            CheckFault::Memory => Fault::Memory,
+            VerdictFault::Instance(refusal) => Fault::Instance(refusal),
+            VerdictFault::Certificate(refusal) => Fault::Certificate(refusal),
+            VerdictFault::Memory => Fault::Memory,
+            VerdictFault::Read => Fault::Read,
+            VerdictFault::Write => Fault::Write,
+            VerdictFault::NoFile => Fault::NoFile,
         }
     }
 }
@@ -190,58 +178,6 @@ impl From<NoMemory> for Fault {
 
     fn from(_refused: NoMemory) -> Fault {
         Fault::Memory
-    }
-}
-
-/// A refusal of an instance's text: its number, its name and its place.
-#[derive(Drop)]
-struct InstanceLine<'a>(&'a ReadRefusal);
-
-impl fmt::Display for InstanceLine<'_> {
-    ghost use Rattle.std.specs.Prelude.{Some};
-    ghost use Rattle.pesp_runs.specs.FaultLines.{instance_line};
-
-    ghost output = { λ line. Some (instance_line line.0.now) };
-
-    fn fmt<W: fmt::Write>(&self, f: &mut fmt::Formatter<W>) -> fmt::Result {
-        match self.0 {
-            ReadRefusal::Period => f.write_str("1 Period"),
-            ReadRefusal::TextTooLong => f.write_str("2 TextTooLong"),
-            ReadRefusal::FieldCount { at } => write!(f, "3 FieldCount record {at}"),
-            ReadRefusal::NotANumber { at, field } => {
-                write!(f, "4 NotANumber record {at} field {field}")
-            }
-            ReadRefusal::OutOfRange { at, field } => {
-                write!(f, "5 OutOfRange record {at} field {field}")
-            }
-            ReadRefusal::BoundsCrossed { at } => write!(f, "6 BoundsCrossed record {at}"),
-            ReadRefusal::TooManyRows { at } => write!(f, "7 TooManyRows record {at}"),
-            ReadRefusal::TooManyEvents { at } => write!(f, "8 TooManyEvents record {at}"),
-            ReadRefusal::Memory => f.write_str("9 Memory"),
-        }
-    }
-}
-
-/// A refusal of a certificate's text: its number, its name and its line.
-#[derive(Drop)]
-struct CertificateLine<'a>(&'a CertRefusal);
-
-impl fmt::Display for CertificateLine<'_> {
-    ghost use Rattle.std.specs.Prelude.{Some};
-    ghost use Rattle.pesp_runs.specs.FaultLines.{certificate_line};
-
-    ghost output = { λ line. Some (certificate_line line.0.now) };
-
-    fn fmt<W: fmt::Write>(&self, f: &mut fmt::Formatter<W>) -> fmt::Result {
-        match self.0 {
-            CertRefusal::Header => f.write_str("1 Header"),
-            CertRefusal::Line { n } => write!(f, "2 Line line {n}"),
-            CertRefusal::Number { n } => write!(f, "3 Number line {n}"),
-            CertRefusal::Limit { n } => write!(f, "4 Limit line {n}"),
-            CertRefusal::Truncated => f.write_str("5 Truncated"),
-            CertRefusal::Trailing { n } => write!(f, "6 Trailing line {n}"),
-            CertRefusal::Memory => f.write_str("7 Memory"),
-        }
     }
 }
 

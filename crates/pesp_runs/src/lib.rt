@@ -6,12 +6,11 @@ mod fault;
 pub mod laws;
 mod outside_runs;
 mod runs;
-mod verdict;
 
 pub use draw_run::run_draw;
 pub use fault::{Fault, status_of};
 pub use outside_runs::{read_base, run_graft, run_split, run_work};
+pub use pesp_check_run::status_of_verdict;
 pub use runs::{
     MOST_TIMES, read_whole_instance, run_check, run_report, run_solve, run_solve_watched,
 };
-pub use verdict::status_of_verdict;

@@ -5,7 +5,7 @@ ghost use Rattle.std.specs.Io.KnownBytes.{Appends};
 ghost use Rattle.pesp_stream.specs.Counts.{FewerThan, HasWorked};
 ghost use Rattle.pesp_runs.specs.FaultLines.{works_fault};
 ghost use Rattle.pesp_truth.specs.Certificates.{IsValid};
-ghost use Rattle.pesp_runs.specs.Devices.{over, HasFailed, GetsFront};
+ghost use Rattle.pesp_check_run.specs.Devices.{over, HasFailed, GetsFront};
 ghost use Rattle.pesp_runs.specs.Runs.{OutCause};
 ghost use Rattle.pesp_runs.specs.Outside.{ReadsBase, ReadsWorks, BaseCause, WorksCause, JobCause, HasBase, WritesJobs, SplitCause, WritesWork, WorkCause, WritesGraft, Grafts, GraftCause};
 

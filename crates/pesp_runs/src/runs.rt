@@ -6,24 +6,18 @@ ghost use Rattle.pesp_stream.specs.Counts.{FewerThan, HasWorked};
 ghost use Rattle.pesp_truth.specs.Truth.{IsTrueAnswer};
 ghost use Rattle.pesp_truth.specs.Certificates.{shown_times};
 ghost use Rattle.pesp_search.specs.Solving.{IsSolved, IsSearchRefusal};
-ghost use Rattle.pesp_runs.specs.Devices.{over};
+ghost use Rattle.pesp_check_run.specs.Devices.{over};
 ghost use Rattle.pesp_runs.specs.Runs.{ReadsInstance, InstanceCause, Solves, SolveCause, Checks, CheckCause, ReadsTimetable, TimetableCause, WritesReport};
 
 use crate::fault::Fault;
-use crate::verdict::write_verdict;
 use pesp_cert::{Certificate, print};
 use pesp_check::Verdict;
-use pesp_check_text::check_text;
-use pesp_instance::read_instance;
 use pesp_problem::Instance;
 use pesp_report::{read_times, report};
 use pesp_search::{Nobody, Observer, SolveRefusal, solve_watched};
 use pesp_stream::{Sink, Source, read_all};
 use pesp_truth::laws::valid_is_true;
 use std::alloc::Global;
-
-/// The longest text of an instance.
-const MOST_INSTANCE: usize = 16_777_216;
 
 /// How many bytes of a times text are read and judged.
 pub const MOST_TIMES: usize = 1_073_741_824;
@@ -44,8 +38,7 @@ pub fn read_whole_instance<R: Source>(
         (over (R.remaining reader.old) (R.remaining reader.new)
         (R.calls reader.old) (R.calls reader.new)) period) }
 {
-    let text = read_all(alloc, reader, MOST_INSTANCE + 1)?;
-    let instance = read_instance(alloc, &text, period)?;
+    let instance = pesp_check_run::read_whole_instance(alloc, reader, period)?;
     Ok(instance)
 }
 
@@ -166,10 +159,13 @@ pub fn run_check<R: Source, C: Source, W: Sink>(
         period (certificate_reader.new ≡ certificate_reader.old)) }
     ensures silent { IfErr result (λ fault. fault ≢ Fault.Write → writer.new ≡ writer.old) }
 {
-    // The instance is judged before the certificate is read.
-    let instance = read_whole_instance(alloc, instance_reader, period)?;
-    let (verdict, answer) = check_text(alloc, &instance, certificate_reader)?;
-    write_verdict(alloc, writer, answer, verdict)?;
+    let verdict = pesp_check_run::run_check(
+        alloc,
+        instance_reader,
+        certificate_reader,
+        writer,
+        period,
+    )?;
     Ok(verdict)
 }
 

@@ -4,9 +4,9 @@ ghost use Rattle.std.specs.Prelude.{◌≡◌, ◌⊎◌, ◌<◌, ◌^◌, OnOk
 ghost use Rattle.std.specs.Io.KnownBytes.{Appends};
 ghost use Rattle.pesp_stream.specs.Counts.{FewerThan, HasWorked, DeviceFailed};
 ghost use Rattle.pesp_stream.specs.Writing.{AppendsFront};
-ghost use Rattle.pesp_runs.specs.Verdicts.{verdict_line, verdict_status};
+ghost use Rattle.pesp_check_run.specs.Verdicts.{verdict_line, verdict_status};
 
-use crate::fault::Fault;
+use crate::fault::VerdictFault;
 use pesp_check::{Refusal, Verdict};
 use pesp_stream::{Bytes, Sink, print_to};
 use pesp_truth::Answer;
@@ -19,7 +19,7 @@ struct AnswerText(Answer);
 
 impl fmt::Display for AnswerText {
     ghost use Rattle.std.specs.Prelude.{Some};
-    ghost use Rattle.pesp_runs.specs.Verdicts.{answer_text};
+    ghost use Rattle.pesp_check_run.specs.Verdicts.{answer_text};
 
     ghost output = { λ text. Some (answer_text text.0) };
 
@@ -36,13 +36,13 @@ impl fmt::Display for AnswerText {
     }
 }
 
-/// A refusal's number, name and place.
+/// A refusal's number, name and place, as `7 LeafBelow line 9`.
 #[derive(Drop)]
-pub(crate) struct RefusalText(pub(crate) Refusal);
+pub struct RefusalText(pub Refusal);
 
 impl fmt::Display for RefusalText {
     ghost use Rattle.std.specs.Prelude.{Some};
-    ghost use Rattle.pesp_runs.specs.Verdicts.{refusal_text};
+    ghost use Rattle.pesp_check_run.specs.Verdicts.{refusal_text};
 
     ghost output = { λ text. Some (refusal_text text.0) };
 
@@ -73,7 +73,7 @@ struct VerdictText {
 
 impl fmt::Display for VerdictText {
     ghost use Rattle.std.specs.Prelude.{Some};
-    ghost use Rattle.pesp_runs.specs.Verdicts.{verdict_text};
+    ghost use Rattle.pesp_check_run.specs.Verdicts.{verdict_text};
 
     ghost output = { λ text. Some (verdict_text text.answer text.verdict) };
 
@@ -92,18 +92,18 @@ impl fmt::Display for VerdictText {
 }
 
 /// Writes the line of a verdict on a certificate with this answer.
-pub fn write_verdict<W: Sink>(
+pub(crate) fn write_verdict<W: Sink>(
     alloc: Global,
     writer: &mut W,
     answer: Answer,
     verdict: Verdict,
-) -> Result<(), Fault>
+) -> Result<(), VerdictFault>
     requires fits { FewerThan (2 ^ 63) (W.calls writer.old) }
     ensures line { OnOk result
         (Appends (W.contents writer.old) (W.contents writer.new) (verdict_line answer verdict)) }
     ensures counts { OnOk result (HasWorked (W.calls writer.old) (W.calls writer.new)) }
-    ensures fault { IfErr result (λ fault. ((fault ≡ Fault.Memory) × (writer.new ≡ writer.old))
-        ⊎ ((fault ≡ Fault.Write) × DeviceFailed (W.calls writer.old) (W.calls writer.new)
+    ensures fault { IfErr result (λ fault. ((fault ≡ VerdictFault.Memory) × (writer.new ≡ writer.old))
+        ⊎ ((fault ≡ VerdictFault.Write) × DeviceFailed (W.calls writer.old) (W.calls writer.new)
         × AppendsFront (W.contents writer.old) (W.contents writer.new)
         (verdict_line answer verdict))) }
 {

@@ -1,0 +1,4 @@
+pub mod Devices
+pub mod Verdicts
+pub mod Checking
+pub mod FaultLines

@@ -1,0 +1,46 @@
+//! What the words of the command line ask for.
+
+ghost use Rattle.std.specs.Prelude.{◌≤◌, IfSome};
+
+/// What is told where the words ask for nothing.
+pub(crate) const USAGE: &str = "\
+usage: pesp_checker [--period N] FILE < CERTIFICATE
+Says whether the certificate is valid for the instance in FILE, as `pesp check` does.
+N is the period, 1 to 10000, in the unit of the durations; 60 where none is given.
+Exit status: 0 accepted; 1 refused; 2 the command line; 3 a text is refused; 4 memory
+or a device";
+
+/// The period, in the unit of the instance's durations, and the file with the instance.
+#[derive(Drop)]
+pub(crate) struct Request<'a> {
+    pub(crate) period: u32,
+    pub(crate) file: &'a str,
+}
+
+/// The period that a word spells, where it is one.
+fn period_of(word: &str) -> Option<u32>
+    ensures { IfSome result (λ period. (1 ≤ period) × (period ≤ 10000)) }
+{
+    let period: u32 = word.parse().ok()?;
+    if period == 0 || period > 10000 {
+        return None;
+    }
+    Some(period)
+}
+
+/// What the words ask for, the program's name first: `FILE`, or `--period N FILE`.
+pub(crate) fn request_of(words: &[String]) -> Option<Request<'_>>
+    ensures { IfSome result (λ request. (1 ≤ request.period) × (request.period ≤ 10000)) }
+{
+    match words {
+        [_, file] if !file.as_str().starts_with("-") => Some(Request {
+            period: 60,
+            file: file.as_str(),
+        }),
+        [_, option, period, file] if option.as_str() == "--period" => Some(Request {
+            period: period_of(period.as_str())?,
+            file: file.as_str(),
+        }),
+        _ => None,
+    }
+}

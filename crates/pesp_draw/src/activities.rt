@@ -3,6 +3,7 @@
 ghost use Rattle.std.specs.Prelude.{◌≤◌};
 
 use crate::columns::{Columns, PLOT};
+use crate::labels::Labels;
 use crate::stretch::{Shade, Stretch, time_of};
 use pesp_problem::Instance;
 use pesp_report::Line;
@@ -85,13 +86,19 @@ impl<'a> Activity<'a> {
 }
 
 /// Writes the cells of a row: where it comes from and goes to, and its duration, slack and cost.
-fn write_cells(text: &mut String, columns: &Columns, line: &Line) -> Result<(), AllocError> {
+fn write_cells(
+    text: &mut String,
+    columns: &Columns,
+    labels: Labels<'_>,
+    line: &Line,
+) -> Result<(), AllocError> {
     let Line {
         label,
         tail,
         head,
         ..
     } = *line;
+    let (tail, head) = (labels.called(tail), labels.called(head));
     let Columns {
         label: first,
         tail: second,
@@ -172,6 +179,7 @@ fn write_marks(
 pub fn write_activity(
     text: &mut String,
     columns: &Columns,
+    labels: Labels<'_>,
     period: u32,
     activity: &Activity<'_>,
     y: u32,
@@ -188,6 +196,7 @@ pub fn write_activity(
         weight,
         weighted,
     } = *activity.line;
+    let (tail, head) = (labels.whole(tail), labels.whole(head));
     let least = activity.least();
     let Activity {
         greatest,
@@ -198,7 +207,7 @@ pub fn write_activity(
         text,
         "<g transform=\"translate(0 {y})\"><title>Activity {label} (row {row}) from {tail} to {head}: begins at {tail_time}, lasts {duration} of {least} to {greatest} with slack {slack}; weight {weight}, cost {weighted}</title>"
     )?;
-    write_cells(text, columns, activity.line)?;
+    write_cells(text, columns, labels, activity.line)?;
     write_bars(text, columns, period, activity)?;
     write_marks(text, columns, period, activity)?;
     writeln!(text, "</g>")

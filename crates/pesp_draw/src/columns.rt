@@ -1,5 +1,6 @@
 //! Where the columns of a picture stand.
 
+use crate::labels::Labels;
 use crate::pixels::Pixels;
 use pesp_report::Line;
 
@@ -62,7 +63,7 @@ fn characters(number: i64) -> u32 {
 }
 
 /// The most characters of each column, the headings' too.
-fn longest_of(lines: &[Line], events: &[i64]) -> Longest {
+fn longest_of(lines: &[Line], events: &[i64], labels: Labels<'_>) -> Longest {
     let mut most = Longest {
         label: 8,
         event: 5,
@@ -75,7 +76,8 @@ fn longest_of(lines: &[Line], events: &[i64]) -> Longest {
         most.cost = most.cost.max(digits(line.weighted));
     }
     for event in events {
-        most.event = most.event.max(characters(*event));
+        let called = labels.called(*event);
+        most.event = most.event.max(called.characters(characters(*event)));
     }
     most
 }
@@ -86,9 +88,9 @@ fn pixels(characters: u32) -> u32 {
 }
 
 impl Columns {
-    /// The columns for these lines and events, each as wide as its longest number.
-    pub fn of(lines: &[Line], events: &[i64]) -> Columns {
-        let most = longest_of(lines, events);
+    /// The columns for these lines and events, each as wide as its longest number or name.
+    pub fn of(lines: &[Line], events: &[i64], labels: Labels<'_>) -> Columns {
+        let most = longest_of(lines, events, labels);
         let label = pixels(most.label);
         let event = pixels(most.event);
         let tail = label.saturating_add(event);

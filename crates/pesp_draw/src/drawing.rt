@@ -13,8 +13,10 @@ use crate::events::{Table, events_by_label, write_events};
 use crate::frame::{
     write_activities_left, write_event_heading, write_events_left, write_front, write_headings,
 };
+use crate::labels::Labels;
 use crate::rows::{Heights, write_activities};
 use crate::scale::write_scale;
+use pesp_names::Names;
 use pesp_problem::{Instance, Score, score};
 use pesp_report::{Line, ReportRefusal, lines_by_cost};
 use pesp_stream::{Bytes, Sink, print_to};
@@ -23,7 +25,8 @@ use std::alloc::{AllocError, Global};
 /// Writes a picture of a timetable in SVG: over one period, a row for each activity with a bar from its tail's time over
 /// its least duration and on over its slack, and a thin line to its greatest duration, the dearest activity first; and a
 /// table of the events by label, with their times. A bar that reaches the period's end goes on from 0, behind an arrow. What
-/// is drawn is chosen; how many activities and events are not is said in words.
+/// is drawn is chosen; how many activities and events are not is said in words. Events are called by their names where
+/// these are given, and else by their labels.
 ///
 /// `NotTimes` where there isn't one time below the period for each event, and `Violates` with the first row that isn't
 /// satisfied; `Memory` where a growth was refused. An interrupted write is repeated, at most 1000 times in all. After `Write`
@@ -33,6 +36,7 @@ pub fn draw<W: Sink>(
     instance: &Instance,
     times: &[u32],
     choice: Choice,
+    names: Option<&Names>,
     sink: &mut W,
 ) -> Result<(), ReportRefusal>
     requires fits { FewerThan (2 ^ 63) (W.calls sink.old) }
@@ -53,7 +57,7 @@ pub fn draw<W: Sink>(
         Score::NotTimes => Err(ReportRefusal::NotTimes),
         Score::Violates { row, .. } => Err(ReportRefusal::Violates { row }),
         Score::Feasible { cost } => {
-            let Ok(text) = picture_of(alloc, instance, times, choice, cost) else {
+            let Ok(text) = picture_of(alloc, instance, times, choice, Labels::of(names), cost) else {
                 return Err(ReportRefusal::Memory);
             };
             match print_to(sink, &Bytes(text.as_bytes())) {
@@ -70,6 +74,7 @@ fn picture_of(
     instance: &Instance,
     times: &[u32],
     choice: Choice,
+    labels: Labels<'_>,
     cost: u64,
 ) -> Result<String, AllocError>
     requires { AreTimes instance.now times.now }
@@ -78,7 +83,7 @@ fn picture_of(
     let drawn = choice.of_lines(&lines);
     let events = events_by_label(alloc, instance, times)?;
     let shown = choice.of_first(&events, events.len());
-    let columns = Columns::of(drawn, instance.events());
+    let columns = Columns::of(drawn, instance.events(), labels);
     let table = Table::of(&columns, shown.len());
     let heights = Heights::of(drawn.len(), table.rows);
     let mut text = String::new(alloc);
@@ -89,10 +94,12 @@ fn picture_of(
         instance.period(),
         cost,
     )?;
-    write_drawn(&mut text, &columns, &heights, instance, times, drawn)?;
+    write_drawn(
+        &mut text, &columns, labels, &heights, instance, times, drawn,
+    )?;
     write_activities_left(&mut text, &lines, drawn.len(), heights.activities_end)?;
     write_event_heading(&mut text, heights.events)?;
-    write_events(&mut text, &columns, &table, shown, heights.events)?;
+    write_events(&mut text, &columns, labels, &table, shown, heights.events)?;
     write_events_left(&mut text, events.len(), shown.len(), heights.events_end)?;
     text.push_str("</svg>\n")?;
     Ok(text)
@@ -102,6 +109,7 @@ fn picture_of(
 fn write_drawn(
     text: &mut String,
     columns: &Columns,
+    labels: Labels<'_>,
     heights: &Heights,
     instance: &Instance,
     times: &[u32],
@@ -114,5 +122,5 @@ fn write_drawn(
     } = *heights;
     write_headings(text, columns, activities)?;
     write_scale(text, columns, instance.period(), activities, activities_end)?;
-    write_activities(text, columns, instance, times, drawn, activities)
+    write_activities(text, columns, labels, instance, times, drawn, activities)
 }

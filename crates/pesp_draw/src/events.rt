@@ -1,6 +1,7 @@
 //! The table of events.
 
 use crate::columns::{Columns, TIME};
+use crate::labels::Labels;
 use crate::rows::ROW;
 use pesp_problem::Instance;
 use std::alloc::{AllocError, Global};
@@ -54,16 +55,18 @@ impl Table {
 fn write_event(
     text: &mut String,
     columns: &Columns,
+    labels: Labels<'_>,
     event: &EventTime,
     x: u32,
     y: u32,
 ) -> Result<(), AllocError> {
     let EventTime { label, time } = *event;
+    let called = labels.called(label);
     let first = x.saturating_add(columns.event);
     let second = first.saturating_add(TIME);
     writeln!(
         text,
-        "<text class=\"end label\" x=\"{first}\" y=\"{y}\">{label}</text><text class=\"end\" x=\"{second}\" y=\"{y}\">{time}</text>"
+        "<text class=\"end label\" x=\"{first}\" y=\"{y}\">{called}</text><text class=\"end\" x=\"{second}\" y=\"{y}\">{time}</text>"
     )
 }
 
@@ -71,6 +74,7 @@ fn write_event(
 pub fn write_events(
     text: &mut String,
     columns: &Columns,
+    labels: Labels<'_>,
     table: &Table,
     events: &[EventTime],
     from: u32,
@@ -81,7 +85,7 @@ pub fn write_events(
         let y = from
             .saturating_add(row.saturating_mul(ROW))
             .saturating_add(10);
-        write_event(text, columns, event, x, y)?;
+        write_event(text, columns, labels, event, x, y)?;
         row = row.saturating_add(1);
         if row >= table.rows {
             row = 0;

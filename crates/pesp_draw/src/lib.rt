@@ -6,8 +6,10 @@ mod activities;
 mod choice;
 mod columns;
 mod drawing;
+mod escaped;
 mod events;
 mod frame;
+mod labels;
 mod pixels;
 mod rows;
 mod scale;
@@ -15,3 +17,5 @@ mod stretch;
 
 pub use choice::Choice;
 pub use drawing::draw;
+pub use escaped::Escaped;
+pub use scale::step_for;

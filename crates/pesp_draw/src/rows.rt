@@ -2,6 +2,7 @@
 
 use crate::activities::{Activity, write_activity};
 use crate::columns::Columns;
+use crate::labels::Labels;
 use pesp_problem::Instance;
 use pesp_report::Line;
 use std::alloc::AllocError;
@@ -45,6 +46,7 @@ fn below(from: u32, rows: u32) -> u32 {
 pub fn write_activities(
     text: &mut String,
     columns: &Columns,
+    labels: Labels<'_>,
     instance: &Instance,
     times: &[u32],
     lines: &[Line],
@@ -54,7 +56,7 @@ pub fn write_activities(
     let mut y = from;
     for line in lines {
         let activity = Activity::of(instance, times, line);
-        write_activity(text, columns, period, &activity, y)?;
+        write_activity(text, columns, labels, period, &activity, y)?;
         y = y.saturating_add(ROW);
     }
     Ok(())

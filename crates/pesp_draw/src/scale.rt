@@ -27,8 +27,9 @@ fn first_step(steps: &[u32], period: u32) -> u32 {
     last
 }
 
-/// The step between two lines of the scale.
-fn step_for(period: u32) -> u32 {
+/// The step between two lines of the scale of a period: 1, 2, 5 or 10 up to a period of 120, and 60, 300 or 600 above it, as for
+/// seconds.
+pub fn step_for(period: u32) -> u32 {
     if period <= MOST_MINUTES {
         first_step(&MINUTES, period)
     } else {

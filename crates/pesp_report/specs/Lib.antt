@@ -3,3 +3,4 @@ pub mod Report
 pub mod Written
 pub mod Reporting
 pub mod Violations
+pub mod Named

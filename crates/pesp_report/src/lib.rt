@@ -2,6 +2,8 @@
 #![tactic(auto)]
 
 mod line;
+mod named_records;
+mod named_reporting;
 mod records;
 mod refusal;
 mod reporting;
@@ -11,6 +13,7 @@ mod violation;
 mod violation_records;
 
 pub use line::{Line, lines_by_cost};
+pub use named_reporting::report_named;
 pub use refusal::{ReportRefusal, TimesRefusal, ViolationsRefusal};
 pub use reporting::report;
 pub use times::read_times;

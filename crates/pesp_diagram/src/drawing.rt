@@ -1,0 +1,117 @@
+//! The diagrams of a timetable.
+
+ghost use Rattle.std.specs.Prelude.{◌≡◌, ◌<◌, ◌^◌, ℕ, List, IfErr, OnOk};
+ghost use Rattle.std.specs.Io.KnownBytes.{Appends};
+ghost use Rattle.pesp_stream.specs.Counts.{FewerThan, HasWorked, DeviceFailed};
+ghost use Rattle.pesp_stream.specs.Writing.{AppendsFront};
+ghost use Rattle.pesp_problem.specs.Timetables.{IsTimetable};
+ghost use Rattle.pesp_report.specs.Reporting.{IfBlamed, Refuses, UnlessBlamed};
+
+use crate::frame::{
+    Frame, line_height, open_plot, write_front, write_left, write_scale, write_stations,
+};
+use crate::network::Network;
+use crate::pieces::{Piece, write_piece};
+use pesp_names::Names;
+use pesp_problem::{Instance, Score, score};
+use pesp_report::ReportRefusal;
+use pesp_stream::{Bytes, Sink, print_to};
+use std::alloc::{AllocError, Global};
+
+/// Writes time-distance diagrams of a timetable in SVG: for each line that the names tell, its stations below each other in the
+/// order in which the names first name them, the time across one period, its trains as lines between stations, what stands at
+/// a station as a line along it, and a mark at each change from or to another line. What lies behind the period's end goes
+/// on from 0. What weighs nothing at a station isn't drawn; how many events have no line or no station is said in words.
+///
+/// `NotTimes` where there isn't one time below the period for each event, and `Violates` with the first row that isn't
+/// satisfied; `Memory` where a growth was refused. An interrupted write is repeated, at most 1000 times in all. After `Write`
+/// a front of the picture is written, and after any other refusal nothing.
+pub fn diagram<W: Sink>(
+    alloc: Global,
+    instance: &Instance,
+    times: &[u32],
+    names: &Names,
+    sink: &mut W,
+) -> Result<(), ReportRefusal>
+    requires fits { FewerThan (2 ^ 63) (W.calls sink.old) }
+    ensures timetable { OnOk result (IsTimetable instance.now times.now) }
+    ensures refused { IfErr result (Refuses instance.now times.now) }
+
+    // Something is written at Ok, a front of it where the writer failed, and else nothing.
+    ensures text { OnOk result
+        ((text : List ℕ) × Appends (W.contents sink.old) (W.contents sink.new) text) }
+    ensures counts { OnOk result (HasWorked (W.calls sink.old) (W.calls sink.new)) }
+    ensures front { IfErr result (λ e. IfBlamed e
+        ((text : List ℕ) × AppendsFront (W.contents sink.old) (W.contents sink.new) text)) }
+    ensures fault { IfErr result (λ e. IfBlamed e
+        (DeviceFailed (W.calls sink.old) (W.calls sink.new))) }
+    ensures silent { IfErr result (λ e. UnlessBlamed e (sink.new ≡ sink.old)) }
+{
+    match score(instance, times) {
+        Score::NotTimes => Err(ReportRefusal::NotTimes),
+        Score::Violates { row, .. } => Err(ReportRefusal::Violates { row }),
+        Score::Feasible { cost } => {
+            let Ok(text) = picture_of(alloc, instance, times, names, cost) else {
+                return Err(ReportRefusal::Memory);
+            };
+            match print_to(sink, &Bytes(text.as_bytes())) {
+                Ok(()) => Ok(()),
+                Err(_) => Err(ReportRefusal::Write),
+            }
+        }
+    }
+}
+
+/// The picture of a timetable of this cost.
+fn picture_of(
+    alloc: Global,
+    instance: &Instance,
+    times: &[u32],
+    names: &Names,
+    cost: u64,
+) -> Result<String, AllocError> {
+    let network = Network::of(alloc, instance, names)?;
+    let frame = Frame::of(&network.lines);
+    let mut text = String::new(alloc);
+    write_front(&mut text, &frame, instance.period(), cost)?;
+    let end = write_lines(&mut text, &frame, &network, instance, times)?;
+    write_left(&mut text, &network, end)?;
+    text.push_str("</svg>\n")?;
+    Ok(text)
+}
+
+/// Writes the diagrams of all lines, and tells the height below them.
+fn write_lines(
+    text: &mut String,
+    frame: &Frame,
+    network: &Network<'_>,
+    instance: &Instance,
+    times: &[u32],
+) -> Result<u32, AllocError> {
+    let mut y = frame.first();
+    for (count, line) in network.lines.iter().enumerate() {
+        write_stations(text, frame, line, y)?;
+        write_scale(text, frame, line, instance.period(), y)?;
+        open_plot(text, frame, line, y)?;
+        write_pieces(text, network, count, instance, times)?;
+        text.push_str("</svg>\n")?;
+        y = y.saturating_add(line_height(line));
+    }
+    Ok(y)
+}
+
+/// Writes what is drawn of each activity in the diagram of a line.
+fn write_pieces(
+    text: &mut String,
+    network: &Network<'_>,
+    line: usize,
+    instance: &Instance,
+    times: &[u32],
+) -> Result<(), AllocError> {
+    for row in instance.rows() {
+        if let Some(piece) = Piece::of(network, line, instance, times, row) {
+            write_piece(text, network, instance, &piece)?;
+        }
+    }
+    Ok(())
+}

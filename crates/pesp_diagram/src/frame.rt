@@ -1,0 +1,213 @@
+//! What stands round the trains.
+
+use crate::network::{Line, Network};
+use crate::places::{Across, PLOT, STATION, height_of};
+use pesp_draw::{Escaped, step_for};
+use std::alloc::AllocError;
+
+/// How many pixels a character takes at most.
+const CHARACTER: u32 = 8;
+
+/// How many pixels stand round the picture.
+const MARGIN: u32 = 14;
+
+/// How many pixels the title and what the lines and marks mean take.
+const FRONT: u32 = 64;
+
+/// How many pixels the name of a line and the scale take above its plot.
+const HEADING: u32 = 44;
+
+/// How many pixels lie below a plot.
+const BELOW: u32 = 30;
+
+/// The classes of lines, marks and texts.
+const STYLE: &str =
+    "<style>.run{stroke:#1f5a94;stroke-width:2}.stand{stroke:#f58518;stroke-width:4}.wait{stroke:#a02c2c;stroke-dasharray:2 3}.run,.stand,.wait{fill:none}.leave{fill:#fff;stroke:#a02c2c;stroke-width:2}\
+.join{fill:#a02c2c}.grid{stroke:#ddd}.station{stroke:#bbb}.end{text-anchor:end}.middle{text-anchor:middle}.time{fill:#666}.heading{font-weight:bold}</style>";
+
+/// What the lines and marks mean.
+const LEGEND: &str =
+    "<g transform=\"translate(14 36)\"><path class=\"run\" d=\"M0 6h24\"/><text x=\"30\" y=\"10\">train</text>\
+<path class=\"stand\" d=\"M90 6h24\"/><text x=\"120\" y=\"10\">train at a station</text>\
+<path class=\"wait\" d=\"M240 6h24\"/><text x=\"270\" y=\"10\">change on the line</text>\
+<circle class=\"leave\" cx=\"402\" cy=\"6\" r=\"4\"/><text x=\"412\" y=\"10\">change to another line</text>\
+<circle class=\"join\" cx=\"570\" cy=\"6\" r=\"4\"/><text x=\"580\" y=\"10\">change from another line</text></g>";
+
+/// How large a picture is, in pixels: where the plots begin from the left, and how wide and high it is.
+#[derive(Clone, Copy)]
+pub struct Frame {
+    pub left: u32,
+    width: u32,
+    height: u32,
+}
+
+/// How many characters a text has.
+fn characters(text: &str) -> u32 {
+    u32::try_from(text.chars().count()).unwrap_or(u32::MAX)
+}
+
+/// The most characters of a line's stations.
+fn longest_of(line: &Line<'_>) -> u32 {
+    let mut most: u32 = 0;
+    for station in &line.stations {
+        most = most.max(characters(station));
+    }
+    most
+}
+
+/// How many pixels the plot of a line is high.
+pub fn plot_height(line: &Line<'_>) -> u32 {
+    let stations = u32::try_from(line.stations.len()).unwrap_or(u32::MAX);
+    stations.saturating_mul(STATION)
+}
+
+/// How many pixels a line takes with its heading.
+pub fn line_height(line: &Line<'_>) -> u32 {
+    plot_height(line).saturating_add(HEADING + BELOW)
+}
+
+impl Frame {
+    /// The frame of a picture of these lines.
+    pub fn of(lines: &[Line<'_>]) -> Frame {
+        let mut longest: u32 = 8;
+        let mut height = FRONT + BELOW;
+        for line in lines {
+            longest = longest.max(longest_of(line));
+            height = height.saturating_add(line_height(line));
+        }
+        let left = longest.min(60) * CHARACTER + 2 * MARGIN;
+        Frame {
+            left,
+            width: left + PLOT + 3 * MARGIN,
+            height,
+        }
+    }
+
+    /// Where the first line begins, from the top.
+    pub fn first(&self) -> u32 {
+        FRONT
+    }
+}
+
+/// Writes the picture's beginning: its size, its style, its title and what the lines and marks mean.
+pub fn write_front(
+    text: &mut String,
+    frame: &Frame,
+    period: u32,
+    cost: u64,
+) -> Result<(), AllocError> {
+    let Frame { width, height, .. } = *frame;
+    writeln!(
+        text,
+        "<svg xmlns=\"http://www.w3.org/2000/svg\" width=\"{width}\" height=\"{height}\" viewBox=\"0 0 {width} {height}\" font-family=\"sans-serif\" font-size=\"12\">"
+    )?;
+    writeln!(
+        text,
+        "<title>Trains of period {period}, cost {cost}</title>{STYLE}<rect width=\"{width}\" height=\"{height}\" fill=\"#fff\"/>"
+    )?;
+    writeln!(
+        text,
+        "<text class=\"heading\" x=\"14\" y=\"20\">Trains of period {period}, cost {cost}</text>"
+    )?;
+    text.push_str(LEGEND)?;
+    text.push('\n')
+}
+
+/// Writes how many events stand in no diagram, below a height.
+pub fn write_left(text: &mut String, network: &Network<'_>, y: u32) -> Result<(), AllocError> {
+    let left = network.left;
+    if left == 0 {
+        return Ok(());
+    }
+    writeln!(
+        text,
+        "<text x=\"14\" y=\"{y}\">Events without a line and a station, not drawn: {left}</text>"
+    )
+}
+
+/// Writes the name of a line and its stations, from a height on.
+pub fn write_stations(
+    text: &mut String,
+    frame: &Frame,
+    line: &Line<'_>,
+    y: u32,
+) -> Result<(), AllocError> {
+    let above = y.saturating_add(16);
+    let name = Escaped(line.name);
+    writeln!(
+        text,
+        "<text class=\"heading\" x=\"14\" y=\"{above}\">Line {name}</text>"
+    )?;
+    let left = frame.left;
+    let right = left.saturating_add(PLOT);
+    let before = left.saturating_sub(8);
+    let top = y.saturating_add(HEADING);
+    for (count, station) in line.stations.iter().enumerate() {
+        let at = top.saturating_add(height_of(count));
+        let below = at.saturating_add(4);
+        let name = Escaped(station);
+        writeln!(
+            text,
+            "<line class=\"station\" x1=\"{left}\" y1=\"{at}\" x2=\"{right}\" y2=\"{at}\"/><text class=\"end\" x=\"{before}\" y=\"{below}\">{name}</text>"
+        )?;
+    }
+    Ok(())
+}
+
+/// Opens the plot of a line: a part of the picture in which what lies before 0 or behind the period's end isn't seen.
+pub fn open_plot(
+    text: &mut String,
+    frame: &Frame,
+    line: &Line<'_>,
+    y: u32,
+) -> Result<(), AllocError> {
+    let left = frame.left;
+    let top = y.saturating_add(HEADING);
+    let height = plot_height(line);
+    writeln!(
+        text,
+        "<svg x=\"{left}\" y=\"{top}\" width=\"{PLOT}\" height=\"{height}\">"
+    )
+}
+
+/// Writes a line at a time of the period, with the time above.
+fn write_time(
+    text: &mut String,
+    period: u32,
+    time: u32,
+    height: u32,
+) -> Result<(), AllocError> {
+    let x = Across::of(period, i64::from(time));
+    write!(
+        text,
+        "<line class=\"grid\" x1=\"{x}\" y1=\"0\" x2=\"{x}\" y2=\"{height}\"/><text class=\"time middle\" x=\"{x}\" y=\"-6\">{time}</text>"
+    )
+}
+
+/// Whether a time stands far enough before the period's end that both can be labelled.
+fn has_room(period: u32, step: u32, time: u32) -> bool {
+    period.saturating_sub(time) >= step.min(period / 16 + 1)
+}
+
+/// Writes a line for each step of the period and for its end, with its time above.
+pub fn write_scale(
+    text: &mut String,
+    frame: &Frame,
+    line: &Line<'_>,
+    period: u32,
+    y: u32,
+) -> Result<(), AllocError> {
+    let left = frame.left;
+    let top = y.saturating_add(HEADING);
+    let height = plot_height(line);
+    let step = step_for(period);
+    write!(text, "<g transform=\"translate({left} {top})\">")?;
+    for place in 0..18_u32 {
+        let time = step.saturating_mul(place);
+        if time < period && has_room(period, step, time) {
+            write_time(text, period, time, height)?;
+        }
+    }
+    write_time(text, period, period, height)?;
+    writeln!(text, "</g>")
+}

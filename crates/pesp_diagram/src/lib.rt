@@ -1,0 +1,11 @@
+//! Time-distance diagrams in SVG: for each line its stations below each other, the time across one period, and the trains as
+//! lines.
+#![tactic(auto)]
+
+mod drawing;
+mod frame;
+mod network;
+mod pieces;
+mod places;
+
+pub use drawing::diagram;

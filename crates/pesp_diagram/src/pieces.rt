@@ -1,0 +1,196 @@
+//! What is drawn of an activity.
+
+use crate::network::{Network, Place};
+use crate::places::{Across, height_of};
+use pesp_draw::Escaped;
+use pesp_problem::{Instance, Row};
+use std::alloc::AllocError;
+
+/// How often a stretch of time is drawn at most: once for each period into which it reaches.
+const MOST_PERIODS: i64 = 20;
+
+/// What an activity is in the diagram of a line.
+#[derive(Clone, Copy, PartialEq, Eq)]
+enum Kind {
+    /// A train between two stations.
+    Run,
+    /// A train at a station.
+    Stand,
+    /// What waits at a station for as long as it may be: passengers who change to another train of the line.
+    Wait,
+    /// A change at a station from this line to another one.
+    Leave,
+    /// A change at a station from another line to this one.
+    Join,
+}
+
+/// An activity in the diagram of a line, from its time at its tail on.
+#[derive(Clone, Copy)]
+pub struct Piece<'a> {
+    kind: Kind,
+    row: &'a Row,
+    tail: Place,
+    head: Place,
+    time: i64,
+    duration: i64,
+}
+
+/// What an activity between two places is in the diagram of a line. What weighs nothing at a station keeps trains apart, and
+/// isn't drawn.
+fn kind_of(
+    network: &Network<'_>,
+    line: usize,
+    row: &Row,
+    free: bool,
+    tail: Place,
+    head: Place,
+) -> Option<Kind> {
+    if tail.line == line && head.line == line && tail.station != head.station {
+        return Some(Kind::Run);
+    }
+    if row.weight == 0 || network.station(tail) != network.station(head) {
+        return None;
+    }
+    match (tail.line == line, head.line == line) {
+        (true, true) if free => Some(Kind::Wait),
+        (true, true) => Some(Kind::Stand),
+        (true, false) => Some(Kind::Leave),
+        (false, true) => Some(Kind::Join),
+        (false, false) => None,
+    }
+}
+
+/// The least duration of an activity between two times that is no less than its lower bound.
+fn duration_of(period: u32, from: i64, to: i64, lower: i64) -> i64 {
+    let length = i64::from(period.max(1));
+    let above = to.saturating_sub(from).saturating_sub(lower);
+    lower.saturating_add(above.rem_euclid(length))
+}
+
+/// Whether every slack is allowed to an activity.
+fn is_free(period: u32, row: &Row) -> bool {
+    let allowed = row.upper.saturating_sub(row.lower);
+    allowed.saturating_add(1) >= i64::from(period)
+}
+
+impl<'a> Piece<'a> {
+    /// What is drawn of an activity in the diagram of a line.
+    pub fn of(
+        network: &Network<'_>,
+        line: usize,
+        instance: &Instance,
+        times: &[u32],
+        row: &'a Row,
+    ) -> Option<Piece<'a>> {
+        let tail = network.at(row.tail)?;
+        let head = network.at(row.head)?;
+        let free = is_free(instance.period(), row);
+        let kind = kind_of(network, line, row, free, tail, head)?;
+        let time = i64::from(times.get(row.tail as usize).copied()?);
+        let end = i64::from(times.get(row.head as usize).copied()?);
+        Some(Piece {
+            kind,
+            row,
+            tail,
+            head,
+            time,
+            duration: duration_of(instance.period(), time, end, row.lower),
+        })
+    }
+
+    /// Whether it is drawn as a mark.
+    fn is_mark(&self) -> bool {
+        self.kind == Kind::Leave || self.kind == Kind::Join
+    }
+}
+
+/// Writes all that is known of an activity.
+fn write_title(
+    text: &mut String,
+    network: &Network<'_>,
+    instance: &Instance,
+    piece: &Piece<'_>,
+) -> Result<(), AllocError> {
+    let Row {
+        label,
+        lower,
+        upper,
+        weight,
+        ..
+    } = *piece.row;
+    let (first, from) = (Escaped(network.line(piece.tail)), Escaped(network.station(piece.tail)));
+    let (second, to) = (Escaped(network.line(piece.head)), Escaped(network.station(piece.head)));
+    let Piece { time, duration, .. } = *piece;
+    let end = time.saturating_add(duration).rem_euclid(i64::from(instance.period().max(1)));
+    write!(
+        text,
+        "<title>Activity {label}: {first} {from} at {time}, {second} {to} at {end}; lasts {duration} of {lower} to {upper}, weight {weight}</title>"
+    )
+}
+
+/// Writes a stretch of time between two heights, once for each period into which it reaches.
+fn write_stretch(
+    text: &mut String,
+    period: u32,
+    from: i64,
+    to: i64,
+    first: u32,
+    second: u32,
+) -> Result<(), AllocError> {
+    let length = i64::from(period.max(1));
+    let begin = from.min(to).div_euclid(length);
+    let end = from.max(to).div_euclid(length).min(begin.saturating_add(MOST_PERIODS));
+    for count in begin..end.saturating_add(1) {
+        let back = count.saturating_mul(length);
+        let left = Across::of(period, from.saturating_sub(back));
+        let right = Across::of(period, to.saturating_sub(back));
+        write!(text, "M{left} {first}L{right} {second}")?;
+    }
+    Ok(())
+}
+
+/// Writes a train between two stations, or at one of them.
+fn write_train(text: &mut String, period: u32, piece: &Piece<'_>) -> Result<(), AllocError> {
+    let class = match piece.kind {
+        Kind::Run => "run",
+        Kind::Wait => "wait",
+        _ => "stand",
+    };
+    let to = piece.time.saturating_add(piece.duration);
+    let first = height_of(piece.tail.station);
+    let second = height_of(piece.head.station);
+    write!(text, "<path class=\"{class}\" d=\"")?;
+    write_stretch(text, period, piece.time, to, first, second)?;
+    text.push_str("\"/>")
+}
+
+/// Writes a mark where passengers leave the line or join it.
+fn write_mark(text: &mut String, period: u32, piece: &Piece<'_>) -> Result<(), AllocError> {
+    let length = i64::from(period.max(1));
+    let end = piece.time.saturating_add(piece.duration).rem_euclid(length);
+    let (class, time, place) = if piece.kind == Kind::Leave {
+        ("leave", piece.time, piece.tail)
+    } else {
+        ("join", end, piece.head)
+    };
+    let x = Across::of(period, time);
+    let y = height_of(place.station);
+    write!(text, "<circle class=\"{class}\" cx=\"{x}\" cy=\"{y}\" r=\"4\"/>")
+}
+
+/// Writes what is drawn of an activity.
+pub fn write_piece(
+    text: &mut String,
+    network: &Network<'_>,
+    instance: &Instance,
+    piece: &Piece<'_>,
+) -> Result<(), AllocError> {
+    text.push_str("<g>")?;
+    write_title(text, network, instance, piece)?;
+    if piece.is_mark() {
+        write_mark(text, instance.period(), piece)?;
+    } else {
+        write_train(text, instance.period(), piece)?;
+    }
+    text.push_str("</g>\n")
+}

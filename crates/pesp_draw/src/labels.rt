@@ -1,0 +1,93 @@
+//! How events are called in a picture.
+
+use crate::escaped::{Escaped, write_escaped};
+use pesp_names::Names;
+use std::fmt;
+
+/// The most characters of a name that stand in a column.
+const MOST: usize = 60;
+
+/// How events are called: by their names where these are known, and else by their labels.
+#[derive(Clone, Copy)]
+pub struct Labels<'a> {
+    names: Option<&'a Names>,
+}
+
+/// What an event is called in a column.
+#[derive(Clone, Copy, Drop)]
+pub struct Called<'a> {
+    label: i64,
+    name: &'a str,
+}
+
+/// An event's label, with its name behind it where that is known.
+#[derive(Clone, Copy, Drop)]
+pub struct Whole<'a> {
+    label: i64,
+    name: &'a str,
+}
+
+impl<'a> Labels<'a> {
+    /// The events are called by these names, where there are any.
+    pub fn of(names: Option<&'a Names>) -> Labels<'a> {
+        Labels { names }
+    }
+
+    /// The name of an event; empty where it has none.
+    fn name(&self, label: i64) -> &'a str {
+        let Some(names) = self.names else {
+            return "";
+        };
+        match names.find(label) {
+            Some(found) => found.name.as_str(),
+            None => "",
+        }
+    }
+
+    /// What an event is called in a column.
+    pub fn called(&self, label: i64) -> Called<'a> {
+        let name = self.name(label);
+        Called { label, name }
+    }
+
+    /// An event's label, with its name.
+    pub fn whole(&self, label: i64) -> Whole<'a> {
+        let name = self.name(label);
+        Whole { label, name }
+    }
+}
+
+impl Called<'_> {
+    /// How many characters it takes, where the label takes so many.
+    pub fn characters(&self, label: u32) -> u32 {
+        if self.name.is_empty() {
+            return label;
+        }
+        let count = self.name.chars().take(MOST).count();
+        u32::try_from(count).unwrap_or(u32::MAX)
+    }
+}
+
+impl fmt::Display for Called<'_> {
+    fn fmt<W: fmt::Write>(&self, f: &mut fmt::Formatter<W>) -> fmt::Result {
+        let Called { label, name } = *self;
+        if name.is_empty() {
+            return write!(f, "{label}");
+        }
+        for sign in name.chars().take(MOST) {
+            write_escaped(f, sign)?;
+        }
+        Ok(())
+    }
+}
+
+impl fmt::Display for Whole<'_> {
+    fn fmt<W: fmt::Write>(&self, f: &mut fmt::Formatter<W>) -> fmt::Result {
+        let Whole { label, name } = *self;
+        if name.is_empty() {
+            return write!(f, "{label}");
+        }
+        let name = Escaped(name);
+        write!(f, "{label} ({name})")
+    }
+}

@@ -1,0 +1,10 @@
+//! Names of events, read from a text that stands beside an instance.
+#![tactic(auto)]
+
+mod names;
+mod reading;
+mod refusal;
+
+pub use names::{Name, Names};
+pub use reading::read_names;
+pub use refusal::NamesRefusal;

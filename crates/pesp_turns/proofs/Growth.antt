@@ -1,13 +1,15 @@
--- How a turn grows the tree, and what holds between turns.
+-- How a turn grows the tree.
 use Rattle.std.proofs.Common.{◌≡◌, ◌≢◌, ℕ, ◌+◌, ◌<◌, ◌≤◌, ◌⊎◌, inl, inr, Bool, true, false, List, [], ◌∷◌, ◌++◌, refl, ap, arith, sym, ◌∙◌, subst}
 use Rattle.std.specs.Prelude.{Some, Ok, Err}
+use Rattle.pesp_problem.specs.Nodes.{Node}
 use Rattle.pesp_truth.specs.Trees.{Tree, Bound}
 use Rattle.pesp_nodes.specs.Problems.{ProblemValue}
 use Rattle.pesp_machine.specs.declared.job.Job.{Job}
 use Rattle.pesp_machine.specs.declared.work.Work.{Work}
 use Rattle.pesp_machine.specs.declared.work.Work.TheVariants as works
-use Rattle.pesp_machine.specs.States.{State}
+use Rattle.pesp_machine.specs.States.{State, node_at}
 use Rattle.pesp_machine.specs.Events.{Event, Lend, Give, Recall, Offer, Step, Run, LendsLeaf, Takes, Offers, Recalls}
+use Rattle.pesp_reduce.specs.Reductions.{ReducedValue}
 use Rattle.pesp_branching.specs.Offering.{MayOffer}
 use Rattle.pesp_search_laws.specs.Rooms.{branches, branch_lines}
 use Rattle.pesp_search_laws.proofs.Branches.{as_lines, put_branches}
@@ -17,7 +19,7 @@ use Rattle.pesp_turns.specs.declared.ending.Ending.TheVariants.{StepsUsed, NoneO
 use Rattle.pesp_turns.specs.declared.turning.Turn.{Turn}
 use Rattle.pesp_turns.specs.declared.turning.Turn.TheVariants.{Split, Closed, GivenUp, Over}
 use Rattle.pesp_turns.specs.Handing.{IsStepGiven}
-use Rattle.pesp_turns.specs.Turning.{IsSplit, IsClosed, IsSettled, OffersAndRecalls, IsOver, IsTurn}
+use Rattle.pesp_turns.specs.Turning.{IsSplit, IsClosed, IsSettledTurn, OffersAndRecalls, IsOver, IsTurn}
 use Rattle.pesp_turns.specs.Growing.{Grows}
 
 -- ---- runs
@@ -63,8 +65,8 @@ may_offer_grows : (p : ProblemValue) (old new : State) → MayOffer p old new �
 may_offer_grows p old new (inl same) = none_grows p old new same
 may_offer_grows p old new (inr (times, kept, offers)) = offer_grows p old new times kept offers
 
-settling_grows : (p : ProblemValue) (old new : State) (number : ℕ) → OffersAndRecalls p old number new → Grows p 0 old new
-settling_grows p old new number s = then_grows p 0 0 old s.offered new (offer_grows p old s.offered s.times s.kept s.offers) (recall_grows p s.offered new number s.back s.recalls)
+settling_grows : (p : ProblemValue) (r : ReducedValue) (node : Node) (old new : State) (number : ℕ) → OffersAndRecalls p r node old number new → Grows p 0 old new
+settling_grows p r node old new number s = then_grows p 0 0 old s.offered new (offer_grows p old s.offered s.times s.kept s.offers) (recall_grows p s.offered new number s.back s.recalls)
 
 -- ---- turns
 
@@ -89,47 +91,13 @@ over_grows p NumbersSpent old new o = none_grows p old new o.0
 over_grows p TreeTooLarge old new o = lent_grows p old new o.job o.lends
 over_grows p TurnsUsed old new o = absurd o
 
-pub turn_grows : (p : ProblemValue) (turn : Turn) (old new : State) → IsTurn p old turn new → Grows p (splits_in turn) old new
-turn_grows p Split old new t = split_grows p old new t
-turn_grows p Closed old new (inl c) = then_grows p 0 0 old c.lent new (lent_grows p old c.lent c.job c.lends) (taken_grows p 0 c.lent new c.job.number (works.Gap c.cycle) c.takes (ap branches c.takes.makes.1))
-turn_grows p Closed old new (inr s) = then_grows p 0 0 old s.lent new (lent_grows p old s.lent s.job s.lends) (settling_grows p s.lent new s.job.number s.settles)
-turn_grows p GivenUp old new t = lent_grows p old new t.0 t.1
-turn_grows p (Over ending) old new t = over_grows p ending old new t
+settled_grows : (p : ProblemValue) (r : ReducedValue) (found : Bool) (old new : State) → IsSettledTurn p r old found new → Grows p 0 old new
+settled_grows p r true old new s = then_grows p 0 0 old s.lent new (lent_grows p old s.lent s.job s.lends) (settling_grows p r (node_at p s.job.path.items) s.lent new s.job.number s.settles)
+settled_grows p r false old new s = then_grows p 0 0 old s.lent new (lent_grows p old s.lent s.job s.lends) (none_grows p s.lent new s.settles.0)
 
--- ---- between turns
-
--- so many leaves were split on the way from the old state to this one
-pub record IsSoFar (p q : ProblemValue) (steps used : ℕ) (old now : State) : Type 0 where
-  pub problem : q ≡ p
-  pub few : used ≤ steps
-  pub grows : Grows p used old now
-
-pub at_first : (p : ProblemValue) (steps : ℕ) (old : State) → IsSoFar p p steps 0 old old
-at_first p steps old = record { problem = refl; few = omega arith; grows = none_grows p old old refl }
-
-moved : (p q r : ProblemValue) (steps used used' : ℕ) (old now new : State) (turn : Turn) → IsSoFar p q steps used old now → used' ≤ steps → used + splits_in turn ≡ used' → r ≡ q → IsTurn q now turn new → IsSoFar p r steps used' old new
-moved p q r steps used used' old now new turn h few sum e t = record {
-  problem = e ∙ h.problem;
-  few = few;
-  grows = subst (λ (n : ℕ). Grows p n old new) sum (then_grows p used (splits_in turn) old now new h.grows (turn_grows p turn now new (subst (λ (x : ProblemValue). IsTurn x now turn new) h.problem t)));
-}
-
--- a leaf more was split
-pub after_split : (p q r : ProblemValue) (steps used : ℕ) (old now new : State) → IsSoFar p q steps used old now → used ≢ steps → r ≡ q → IsTurn q now Split new → IsSoFar p r steps (used + 1) old new
-after_split p q r steps used old now new h not e t = moved p q r steps used (used + 1) old now new Split h (below used steps h.few not) refl e t
-  where
-    below : (a b : ℕ) → a ≤ b → a ≢ b → a + 1 ≤ b
-    below a b l n = grind arith
-
-same : (n : ℕ) → n + 0 ≡ n
-same n = omega arith
-
--- none was
-pub after_close : (p q r : ProblemValue) (steps used : ℕ) (old now new : State) → IsSoFar p q steps used old now → r ≡ q → IsTurn q now Closed new → IsSoFar p r steps used old new
-after_close p q r steps used old now new h e t = moved p q r steps used used old now new Closed h h.few (same used) e t
-
-pub after_none : (p q r : ProblemValue) (steps used : ℕ) (old now new : State) → IsSoFar p q steps used old now → r ≡ q → IsTurn q now GivenUp new → IsSoFar p r steps used old new
-after_none p q r steps used old now new h e t = moved p q r steps used used old now new GivenUp h h.few (same used) e t
-
-pub at_end : (p q : ProblemValue) (steps used : ℕ) (old now new : State) (ending : Ending) → IsSoFar p q steps used old now → IsTurn q now (Over ending) new → Grows p used old new
-at_end p q steps used old now new ending h t = (moved p q q steps used used old now new (Over ending) h h.few (same used) refl t).grows
+pub turn_grows : (p : ProblemValue) (r : ReducedValue) (turn : Turn) (old new : State) → IsTurn p r old turn new → Grows p (splits_in turn) old new
+turn_grows p r Split old new t = split_grows p old new t
+turn_grows p r Closed old new (inl c) = then_grows p 0 0 old c.lent new (lent_grows p old c.lent c.job c.lends) (taken_grows p 0 c.lent new c.job.number (works.Gap c.cycle) c.takes (ap branches c.takes.makes.1))
+turn_grows p r Closed old new (inr s) = settled_grows p r true old new s
+turn_grows p r GivenUp old new s = settled_grows p r false old new s
+turn_grows p r (Over ending) old new t = over_grows p ending old new t

@@ -1,20 +1,23 @@
 -- What a turn does with the leaf that was lent.
 use Rattle.std.proofs.Common.{◌≡◌, ℕ, inl, inr, Bool, true, false, arith, sym, ap, subst}
 use Rattle.std.specs.Prelude.{Result, IfOk}
+use Rattle.pesp_problem.specs.Nodes.{Node}
 use Rattle.pesp_network.specs.Networks.{KeepsNetLimits}
-use Rattle.pesp_nodes.specs.Problems.{ProblemValue, IsSmallTable}
+use Rattle.pesp_nodes.specs.Problems.{ProblemValue, net_of, IsSmallTable}
 use Rattle.pesp_machine.specs.declared.job.Job.{Job}
 use Rattle.pesp_machine.specs.declared.work.Work.TheVariants as works
-use Rattle.pesp_machine.specs.States.{State}
+use Rattle.pesp_machine.specs.States.{State, node_at}
 use Rattle.pesp_machine.specs.Reached.{IsOrderly}
 use Rattle.pesp_machine.specs.Events.{LendsLeaf, MakesTooMuch}
+use Rattle.pesp_reduce.specs.Reductions.{ReducedValue}
 use Rattle.pesp_branching.specs.Offering.{MayOffer}
 use Rattle.pesp_search_laws.specs.Rooms.{branch_lines}
+use Rattle.pesp_search_laws.specs.Settled.{IsSettled, HaveOffsetsLeft}
 use Rattle.pesp_turns.specs.declared.ending.Ending.TheVariants.{TreeTooLarge}
 use Rattle.pesp_turns.specs.declared.turning.Turn.{Turn}
 use Rattle.pesp_turns.specs.declared.turning.Turn.TheVariants.{Split, Over}
 use Rattle.pesp_turns.specs.Handing.{IsJustLent, IsGiven, IsStepGiven}
-use Rattle.pesp_turns.specs.Turning.{IsSettling, IsTurn, turn_given, turn_found}
+use Rattle.pesp_turns.specs.Turning.{IsSettling, IsSettledTurn, IsTurn, turn_given, turn_found}
 
 -- a leaf was lent, on the way to a turn
 pub record IsLentFrom (p : ProblemValue) (old mid : State) (job : Job) : Type 0 where
@@ -41,12 +44,12 @@ lent_from p q old mid job e limits small orderly lends = record {
 }
 
 -- the turn on the leaf is a turn from there
-pub turned : {E : Type 0} (p q : ProblemValue) (old mid new : State) (job : Job) (turn : Result Turn E) → q ≡ p → IsLentFrom p old mid job → ((lent : IsJustLent q mid job) → IfOk turn (λ t. IsTurn q lent.before t new)) → IfOk turn (λ t. IsTurn p old t new)
-turned p q old mid new job turn e l goes = subst (λ (x : ProblemValue). IfOk turn (λ t. IsTurn x old t new)) e (goes (just p q old mid job e l))
+pub turned : {E : Type 0} (p q : ProblemValue) (r : ReducedValue) (old mid new : State) (job : Job) (turn : Result Turn E) → q ≡ p → IsLentFrom p old mid job → ((lent : IsJustLent q mid job) → IfOk turn (λ t. IsTurn q r lent.before t new)) → IfOk turn (λ t. IsTurn p r old t new)
+turned p q r old mid new job turn e l goes = subst (λ (x : ProblemValue). IfOk turn (λ t. IsTurn x r old t new)) e (goes (just p q old mid job e l))
 
-pub gap_turn : (p : ProblemValue) (mid new : State) (job : Job) (cycle : ℕ) (taken : Bool) (turn : Turn) (l : IsJustLent p mid job) → turn ≡ turn_given taken → IsGiven p mid job.number (works.Gap cycle) taken new → IsTurn p l.before turn new
-gap_turn p mid new job cycle true turn l e g = subst (λ (t : Turn). IsTurn p l.before t new) (sym e) (inl (record { job = job; lent = mid; lends = l.lends; cycle = cycle; takes = g }))
-gap_turn p mid new job cycle false turn l e g = subst (λ (t : Turn). IsTurn p l.before t new) (sym e) (record {
+pub gap_turn : (p : ProblemValue) (r : ReducedValue) (mid new : State) (job : Job) (cycle : ℕ) (taken : Bool) (turn : Turn) (l : IsJustLent p mid job) → turn ≡ turn_given taken → IsGiven p mid job.number (works.Gap cycle) taken new → IsTurn p r l.before turn new
+gap_turn p r mid new job cycle true turn l e g = subst (λ (t : Turn). IsTurn p r l.before t new) (sym e) (inl (record { job = job; lent = mid; lends = l.lends; cycle = cycle; takes = g }))
+gap_turn p r mid new job cycle false turn l e g = subst (λ (t : Turn). IsTurn p r l.before t new) (sym e) (record {
   job = job;
   lends = subst (LendsLeaf p l.before job) (sym g.0) l.lends;
   work = works.Gap cycle;
@@ -54,13 +57,24 @@ gap_turn p mid new job cycle false turn l e g = subst (λ (t : Turn). IsTurn p l
   large = subst (λ (s : State). MakesTooMuch p s job.number (works.Gap cycle)) (sym g.0) g.1;
 })
 
-pub settled_turn : (p : ProblemValue) (mid new : State) (job : Job) (found : Bool) (turn : Turn) (l : IsJustLent p mid job) → turn ≡ turn_found found → IsSettling p mid job.number found new → IsTurn p l.before turn new
-settled_turn p mid new job true turn l e s = subst (λ (t : Turn). IsTurn p l.before t new) (sym e) (inr (record { job = job; lent = mid; lends = l.lends; settles = s }))
-settled_turn p mid new job false turn l e s = subst (λ (t : Turn). IsTurn p l.before t new) (sym e) (job, subst (LendsLeaf p l.before job) (sym s) l.lends)
+-- nothing is left to cut at the leaf's node, and each cycle has an offset left
+pub settled_here : (p q : ProblemValue) (r : ReducedValue) (node : Node) (mid new : State) (job : Job) (found : Bool) (l : IsJustLent p mid job) → node ≡ node_at p job.path.items → q ≡ p → IsSettled (net_of p) p.table node → HaveOffsetsLeft (net_of q) q.table node → IsSettling p r node mid job.number found new → IsSettledTurn p r l.before found new
+settled_here p q r node mid new job found l at e settled left s = record {
+  job = job;
+  lent = mid;
+  lends = l.lends;
+  settled = subst (IsSettled (net_of p) p.table) at settled;
+  left = subst (HaveOffsetsLeft (net_of p) p.table) at (subst (λ (x : ProblemValue). HaveOffsetsLeft (net_of x) x.table node) e left);
+  settles = subst (λ (n : Node). IsSettling p r n mid job.number found new) at s;
+}
+
+pub settled_turn : (p : ProblemValue) (r : ReducedValue) (old new : State) (found : Bool) (turn : Turn) → turn ≡ turn_found found → IsSettledTurn p r old found new → IsTurn p r old turn new
+settled_turn p r old new true turn e s = subst (λ (t : Turn). IsTurn p r old t new) (sym e) (inr s)
+settled_turn p r old new false turn e s = subst (λ (t : Turn). IsTurn p r old t new) (sym e) s
 
 -- the step isn't taken, since the tree would pass a limit
-pub large_turn : (p : ProblemValue) (mid new : State) (job : Job) (l : IsJustLent p mid job) → IsStepGiven p mid job.number false new → IsTurn p l.before (Over TreeTooLarge) new
-large_turn p mid new job l g =
+pub large_turn : (p : ProblemValue) (r : ReducedValue) (mid new : State) (job : Job) (l : IsJustLent p mid job) → IsStepGiven p mid job.number false new → IsTurn p r l.before (Over TreeTooLarge) new
+large_turn p r mid new job l g =
     let one = ap branch_lines g.step in
     record {
       job = job;
@@ -70,5 +84,5 @@ large_turn p mid new job l g =
       large = subst (λ (s : State). MakesTooMuch p s job.number (works.Tree g.lines)) (sym g.given.0) g.given.1;
     }
 
-pub split_turn : (p q : ProblemValue) (mid split new : State) (job : Job) (l : IsJustLent p mid job) → IsStepGiven p mid job.number true split → q ≡ p → MayOffer q split new → IsTurn p l.before Split new
-split_turn p q mid split new job l g e o = record { job = job; lent = mid; lends = l.lends; split = split; gives = g; offers = subst (λ (x : ProblemValue). MayOffer x split new) e o }
+pub split_turn : (p q : ProblemValue) (r : ReducedValue) (mid split new : State) (job : Job) (l : IsJustLent p mid job) → IsStepGiven p mid job.number true split → q ≡ p → MayOffer q split new → IsTurn p r l.before Split new
+split_turn p q r mid split new job l g e o = record { job = job; lent = mid; lends = l.lends; split = split; gives = g; offers = subst (λ (x : ProblemValue). MayOffer x split new) e o }

@@ -1,20 +1,22 @@
 -- A turn: a leaf is lent, and split, closed, or left as it is.
-use Rattle.std.specs.Prelude.{◌≡◌, ◌⊎◌, ℕ, ◌≤◌, List, length, Bool, true, false, Err, Ok, None}
-use Rattle.pesp_problem.specs.declared.cut.Cut.{Cut}
-use Rattle.pesp_problem.specs.declared.cut.Side.{Side}
-use Rattle.pesp_nodes.specs.Problems.{ProblemValue}
+use Rattle.std.specs.Prelude.{◌≡◌, ◌⊎◌, ℕ, ◌≤◌, List, Bool, true, false, Err, Ok, None}
+use Rattle.pesp_problem.specs.Nodes.{Node}
+use Rattle.pesp_nodes.specs.Problems.{ProblemValue, net_of}
 use Rattle.pesp_machine.specs.declared.job.Job.{Job}
 use Rattle.pesp_machine.specs.declared.work.Work.{Work}
 use Rattle.pesp_machine.specs.declared.work.Work.TheVariants as works
 use Rattle.pesp_machine.specs.declared.refusal.LendRefusal.TheVariants as lending
-use Rattle.pesp_machine.specs.States.{State, IsOpen}
+use Rattle.pesp_machine.specs.States.{State, node_at}
 use Rattle.pesp_machine.specs.Events.{Lends, LendsLeaf, Takes, MakesTooMuch, Offers, Recalls}
+use Rattle.pesp_reduce.specs.Reductions.{ReducedValue}
 use Rattle.pesp_branching.specs.Offering.{MayOffer}
+use Rattle.pesp_search_laws.specs.Settled.{IsSettled, HaveOffsetsLeft}
 use Rattle.pesp_search_laws.specs.Turns.{splits_of}
 use Rattle.pesp_turns.specs.declared.ending.Ending.{Ending}
 use Rattle.pesp_turns.specs.declared.ending.Ending.TheVariants.{StepsUsed, NoneOpen, NumbersSpent, TreeTooLarge, TurnsUsed}
 use Rattle.pesp_turns.specs.declared.turning.Turn.{Turn}
 use Rattle.pesp_turns.specs.declared.turning.Turn.TheVariants.{Split, Closed, GivenUp, Over}
+use Rattle.pesp_turns.specs.Settling.{Settles, HaveLeastSlacks}
 use Rattle.pesp_turns.specs.Handing.{IsStepGiven}
 
 -- a leaf is lent and split, and times that were met with may be offered
@@ -34,9 +36,10 @@ pub record IsClosed (p : ProblemValue) (old new : State) : Type 0 where
   pub cycle : ℕ
   pub takes : Takes p lent job.number (works.Gap cycle) new
 
--- times are offered, and a number is given back
-pub record OffersAndRecalls (p : ProblemValue) (old : State) (number : ℕ) (new : State) : Type 0 where
+-- times are offered, and a number is given back; where the node settles, they are those of the least slacks
+pub record OffersAndRecalls (p : ProblemValue) (r : ReducedValue) (node : Node) (old : State) (number : ℕ) (new : State) : Type 0 where
   pub times : List ℕ
+  pub least : Settles p r node → HaveLeastSlacks r node times
   pub kept : Bool
   pub offered : State
   pub offers : Offers p old times kept offered
@@ -44,16 +47,18 @@ pub record OffersAndRecalls (p : ProblemValue) (old : State) (number : ℕ) (new
   pub recalls : Recalls offered number back new
 
 -- times are found, offered, and the number is given back; or none are, and nothing changes
-abbrev pub IsSettling : ProblemValue → State → ℕ → Bool → State → Type 0
-IsSettling p old number true new = OffersAndRecalls p old number new
-IsSettling p old number false new = new ≡ old
+abbrev pub IsSettling : ProblemValue → ReducedValue → Node → State → ℕ → Bool → State → Type 0
+IsSettling p r node old number true new = OffersAndRecalls p r node old number new
+IsSettling p r node old number false new = (new ≡ old) × (Settles p r node → ⊥)
 
--- a leaf is lent, and given back behind times that are offered
-pub record IsSettled (p : ProblemValue) (old new : State) : Type 0 where
+-- a leaf is lent at whose node nothing is left to cut, and times are found for it or not
+pub record IsSettledTurn (p : ProblemValue) (r : ReducedValue) (old : State) (found : Bool) (new : State) : Type 0 where
   pub job : Job
   pub lent : State
   pub lends : LendsLeaf p old job lent
-  pub settles : OffersAndRecalls p lent job.number new
+  pub settled : IsSettled (net_of p) p.table (node_at p job.path.items)
+  pub left : HaveOffsetsLeft (net_of p) p.table (node_at p job.path.items)
+  pub settles : IsSettling p r (node_at p job.path.items) lent job.number found new
 
 -- a leaf is lent, and the tree would pass a limit with what is found for it
 pub record IsTooLarge (p : ProblemValue) (old new : State) : Type 0 where
@@ -82,8 +87,8 @@ turn_found true = Closed
 turn_found false = GivenUp
 
 -- what a turn does
-abbrev pub IsTurn : ProblemValue → State → Turn → State → Type 0
-IsTurn p old Split new = IsSplit p old new
-IsTurn p old Closed new = IsClosed p old new ⊎ IsSettled p old new
-IsTurn p old GivenUp new = (job : Job) × LendsLeaf p old job new
-IsTurn p old (Over ending) new = IsOver p old ending new
+abbrev pub IsTurn : ProblemValue → ReducedValue → State → Turn → State → Type 0
+IsTurn p r old Split new = IsSplit p old new
+IsTurn p r old Closed new = IsClosed p old new ⊎ IsSettledTurn p r old true new
+IsTurn p r old GivenUp new = IsSettledTurn p r old false new
+IsTurn p r old (Over ending) new = IsOver p old ending new

@@ -5,6 +5,7 @@ ghost use Rattle.pesp_truth.specs.Trees.{Gap, IsSoundLeaf};
 ghost use Rattle.pesp_nodes.specs.Problems.{net_of, IsNodeOf};
 ghost use Rattle.pesp_machine.specs.States.{node_at};
 ghost use Rattle.pesp_machine.specs.declared.work.Work.TheVariants.{Gap as GivesGap};
+ghost use Rattle.pesp_search_laws.specs.Settled.{IsSettled};
 ghost use Rattle.pesp_turns.specs.Handing.{IsJustLent, IsGiven};
 ghost use Rattle.pesp_turns.specs.Turning.{turn_given, turn_found, IsTurn};
 
@@ -60,9 +61,10 @@ pub(crate) fn close_at(
     requires lent { IsJustLent board.old.problem board.old.state job.now }
     requires at { node.now ≡ node_at board.old.problem job.now.path.items }
     requires node { IsNodeOf board.old.problem node.now }
+    requires settled { IsSettled (net_of board.old.problem) board.old.problem.table node.now }
     ensures problem { board.new.problem ≡ board.old.problem }
-    ensures turn { (lent : IsJustLent board.old.problem board.old.state job.now)
-        → IfOk result (λ turn. IsTurn board.old.problem lent.before turn board.new.state) }
+    ensures turn { (lent : IsJustLent board.old.problem board.old.state job.now) → IfOk result
+        (λ turn. IsTurn board.old.problem reduced.now lent.before turn board.new.state) }
 {
     if let Some(cycle) = gap_at(board.problem(), node) {
         let taken = close_leaf(alloc, board, job, cycle)?;

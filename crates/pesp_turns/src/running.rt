@@ -2,7 +2,10 @@
 
 ghost use Rattle.std.specs.Prelude.{◌≡◌, ◌≤◌, IfOk};
 ghost use Rattle.pesp_turns.specs.Knowing.{IsKnown};
+ghost use Rattle.pesp_search_laws.specs.Turns.{IsWorked};
+ghost use Rattle.pesp_turns.specs.Settling.{IsSearched};
 ghost use Rattle.pesp_turns.specs.Growing.{Grows};
+ghost use Rattle.pesp_turns.specs.Counting.{AreTurns};
 
 use crate::ending::{Ended, Ending};
 use crate::known::Known;
@@ -29,7 +32,11 @@ pub(crate) fn run_turns<O: Observer>(
     ensures few { IfOk result (λ ended. ended.used ≤ steps) }
     ensures grows { IfOk result
         (λ ended. Grows board.old.problem ended.used board.old.state board.new.state) }
+    ensures counted { IsSearched board.old.problem known.now.reduced
+        → IsWorked board.old.problem 0 board.old.state → IfOk result (λ ended.
+        AreTurns board.old.problem steps board.old.state ended.used ended.ending board.new.state) }
 {
+    board.problem().keeps_limits();
     let mut used = 0;
     for _turn in 0..2 * steps + 3 {
         let splits = before.saturating_add(used);

@@ -2,7 +2,10 @@
 
 ghost use Rattle.std.specs.Prelude.{◌≡◌, ◌≤◌, IfOk};
 ghost use Rattle.pesp_turns.specs.Knowing.{IsKnown};
+ghost use Rattle.pesp_search_laws.specs.Turns.{IsWorked};
+ghost use Rattle.pesp_turns.specs.Settling.{IsSearched};
 ghost use Rattle.pesp_turns.specs.Growing.{Grows};
+ghost use Rattle.pesp_turns.specs.Counting.{AreTurns};
 
 use crate::ending::Ended;
 use crate::known::{Known, known_of};
@@ -73,6 +76,10 @@ impl Search {
         ensures few { IfOk result (λ ended. ended.used ≤ steps) }
         ensures grows { IfOk result (λ ended. Grows self.old.board.problem ended.used
             self.old.board.state self.new.board.state) }
+        ensures counted { IsSearched self.old.board.problem self.old.known.reduced
+            → IsWorked self.old.board.problem 0 self.old.board.state → IfOk result
+            (λ ended. AreTurns self.old.board.problem steps self.old.board.state ended.used
+            ended.ending self.new.board.state) }
     {
         let Search {
             board,

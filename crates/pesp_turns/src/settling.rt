@@ -1,10 +1,16 @@
 //! A leaf at whose node nothing is left to cut.
 
-ghost use Rattle.std.specs.Prelude.{◌≡◌, ◌<◌, length, All, IfOk};
+ghost use Rattle.std.specs.Prelude.{◌≡◌, ◌<◌, ◌≤◌, ◌-◌, length, All, IfOk, IsSomeAnd};
+ghost use Rattle.pesp_problem.specs.Nodes.{slack_range};
+ghost use Rattle.pesp_nodes.specs.Problems.{ProblemValue};
+ghost use Rattle.pesp_search_laws.specs.Settled.{low_slack};
+ghost use Rattle.pesp_search_laws.specs.Lifted.{AreSlacksOf};
+ghost use Rattle.pesp_turns.specs.Settling.{Settles, HaveLeastSlacks};
 ghost use Rattle.pesp_turns.specs.Turning.{IsSettling};
 
 use pesp_board::{Board, Job};
 use pesp_network::NetRow;
+use pesp_network::laws::whole_offsets_leave_no_row_open;
 use pesp_nodes::Node;
 use pesp_problem::Memory;
 use pesp_reduce::Reduced;
@@ -12,7 +18,10 @@ use std::alloc::Global;
 
 /// The least slack of a row that is left, below the period.
 fn least_slack(reduced: &Reduced, slacks: &[(u32, u32)], row: &NetRow) -> u32
-    ensures { result < reduced.now.network.period }
+    ensures below { result < reduced.now.network.period }
+    ensures same { 1 ≤ row.now.origin
+        → (slack_range slacks.now (row.now.origin - 1)).0 < reduced.now.network.period
+        → result ≡ (slack_range slacks.now (row.now.origin - 1)).0 }
 {
     let most = reduced.network().period() - 1;
     let place = (row.origin as usize).wrapping_sub(1);
@@ -24,7 +33,10 @@ fn least_slack(reduced: &Reduced, slacks: &[(u32, u32)], row: &NetRow) -> u32
 fn least_slacks(alloc: Global, reduced: &Reduced, node: &Node) -> Result<Vec<u32>, Memory>
     ensures count { IfOk result (λ left. length left.items ≡ length reduced.now.network.rows) }
     ensures below { IfOk result (λ left. All (λ y. y < reduced.now.network.period) left.items) }
+    ensures slacks { (p : ProblemValue) → Settles p reduced.now node.now
+        → IfOk result (λ left. AreSlacksOf reduced.now (low_slack node.now) left.items) }
 {
+    let _limits = reduced.network().period();
     let mut left = Vec::new(alloc);
     for row in reduced.network().rows() {
         left.push(least_slack(reduced, node.slacks(), row))?;
@@ -34,19 +46,21 @@ fn least_slacks(alloc: Global, reduced: &Reduced, node: &Node) -> Result<Vec<u32
 
 /// The times of the instance at which each row that is left has its least slack; None where there are no such times, or they
 /// are no timetable.
-fn settled_times(
-    alloc: Global,
-    reduced: &Reduced,
-    node: &Node,
-) -> Result<Option<Vec<u32>>, Memory> {
+fn settled_times(alloc: Global, reduced: &Reduced, node: &Node) -> Result<Option<Vec<u32>>, Memory>
+    ensures { (p : ProblemValue) → Settles p reduced.now node.now → IfOk result
+        (λ found. IsSomeAnd found (λ times. HaveLeastSlacks reduced.now node.now times.items)) }
+{
+    whole_offsets_leave_no_row_open();
+    let network = reduced.network();
     let left = least_slacks(alloc, reduced, node)?;
-    let Some(times) = reduced.network().timetable_of(alloc, &left)? else {
+    let Some(times) = network.timetable_of(alloc, &left)? else {
         return Ok(None);
     };
-    if !reduced.network().is_timetable(&times) {
+    if !network.is_timetable(&times) {
         return Ok(None);
     }
-    Ok(Some(reduced.lift_times(alloc, &times)?))
+    let lifted = reduced.lift_times(alloc, &times)?;
+    Ok(Some(lifted))
 }
 
 /// Offers the times at which each row has its least slack, and gives the leaf back; says whether there are such times.
@@ -58,10 +72,11 @@ pub(crate) fn settle(
     node: &Node,
 ) -> Result<bool, Memory>
     ensures problem { board.new.problem ≡ board.old.problem }
-    ensures settles { IfOk result (λ found. IsSettling board.old.problem board.old.state
-        job.now.number found board.new.state) }
+    ensures settles { IfOk result (λ found. IsSettling board.old.problem reduced.now node.now
+        board.old.state job.now.number found board.new.state) }
 {
-    let Some(times) = settled_times(alloc, reduced, node)? else {
+    let found = settled_times(alloc, reduced, node)?;
+    let Some(times) = found else {
         return Ok(false);
     };
     board.offer(times);

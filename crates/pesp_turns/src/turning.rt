@@ -38,7 +38,8 @@ fn turn_on(
     requires lent { IsJustLent board.old.problem board.old.state job.now }
     ensures problem { board.new.problem ≡ board.old.problem }
     ensures turn { (lent : IsJustLent board.old.problem board.old.state job.now)
-        → IfOk result (λ turn. IsTurn board.old.problem lent.before turn board.new.state) }
+        → IfOk result (λ turn. IsTurn board.old.problem known.now.reduced lent.before turn
+        board.new.state) }
 {
     let reduced = &known.reduced;
     let node = node_from(alloc, &known.root, &job.path)?;
@@ -64,8 +65,8 @@ pub(crate) fn take_turn(
 ) -> Result<Turn, Memory>
     requires { IsKnown board.old.problem known.now }
     ensures problem { board.new.problem ≡ board.old.problem }
-    ensures turn { IfOk result
-        (λ turn. IsTurn board.old.problem board.old.state turn board.new.state) }
+    ensures turn { IfOk result (λ turn. IsTurn board.old.problem known.now.reduced
+        board.old.state turn board.new.state) }
 {
     board.problem().keeps_limits();
     board.best();

@@ -1,5 +1,5 @@
-use Rattle.pesp_turns.proofs.Leasts.{AreBelowTo}
+use Rattle.pesp_turns.proofs.Closings.{AreLeastTo}
 use Rattle.pesp_turns.proofs.settling.least_slacks.Given as goal
 
 abbrev pub invariant-loop-row : goal.invariant-loop-row
-invariant-loop-row l = AreBelowTo l.reduced.network.period l.left.items l.row-index
+invariant-loop-row l = AreLeastTo l.reduced l.node l.left.items l.row-index

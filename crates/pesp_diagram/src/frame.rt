@@ -171,12 +171,7 @@ pub fn open_plot(
 }
 
 /// Writes a line at a time of the period, with the time above.
-fn write_time(
-    text: &mut String,
-    period: u32,
-    time: u32,
-    height: u32,
-) -> Result<(), AllocError> {
+fn write_time(text: &mut String, period: u32, time: u32, height: u32) -> Result<(), AllocError> {
     let x = Across::of(period, i64::from(time));
     write!(
         text,

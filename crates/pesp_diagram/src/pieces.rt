@@ -118,10 +118,18 @@ fn write_title(
         weight,
         ..
     } = *piece.row;
-    let (first, from) = (Escaped(network.line(piece.tail)), Escaped(network.station(piece.tail)));
-    let (second, to) = (Escaped(network.line(piece.head)), Escaped(network.station(piece.head)));
+    let (first, from) = (
+        Escaped(network.line(piece.tail)),
+        Escaped(network.station(piece.tail)),
+    );
+    let (second, to) = (
+        Escaped(network.line(piece.head)),
+        Escaped(network.station(piece.head)),
+    );
     let Piece { time, duration, .. } = *piece;
-    let end = time.saturating_add(duration).rem_euclid(i64::from(instance.period().max(1)));
+    let end = time
+        .saturating_add(duration)
+        .rem_euclid(i64::from(instance.period().max(1)));
     write!(
         text,
         "<title>Activity {label}: {first} {from} at {time}, {second} {to} at {end}; lasts {duration} of {lower} to {upper}, weight {weight}</title>"
@@ -139,7 +147,10 @@ fn write_stretch(
 ) -> Result<(), AllocError> {
     let length = i64::from(period.max(1));
     let begin = from.min(to).div_euclid(length);
-    let end = from.max(to).div_euclid(length).min(begin.saturating_add(MOST_PERIODS));
+    let end = from
+        .max(to)
+        .div_euclid(length)
+        .min(begin.saturating_add(MOST_PERIODS));
     for count in begin..end.saturating_add(1) {
         let back = count.saturating_mul(length);
         let left = Across::of(period, from.saturating_sub(back));
@@ -175,7 +186,10 @@ fn write_mark(text: &mut String, period: u32, piece: &Piece<'_>) -> Result<(), A
     };
     let x = Across::of(period, time);
     let y = height_of(place.station);
-    write!(text, "<circle class=\"{class}\" cx=\"{x}\" cy=\"{y}\" r=\"4\"/>")
+    write!(
+        text,
+        "<circle class=\"{class}\" cx=\"{x}\" cy=\"{y}\" r=\"4\"/>"
+    )
 }
 
 /// Writes what is drawn of an activity.

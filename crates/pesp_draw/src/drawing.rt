@@ -57,7 +57,8 @@ pub fn draw<W: Sink>(
         Score::NotTimes => Err(ReportRefusal::NotTimes),
         Score::Violates { row, .. } => Err(ReportRefusal::Violates { row }),
         Score::Feasible { cost } => {
-            let Ok(text) = picture_of(alloc, instance, times, choice, Labels::of(names), cost) else {
+            let Ok(text) = picture_of(alloc, instance, times, choice, Labels::of(names), cost)
+            else {
                 return Err(ReportRefusal::Memory);
             };
             match print_to(sink, &Bytes(text.as_bytes())) {

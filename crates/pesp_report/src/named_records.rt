@@ -38,11 +38,7 @@ fn write_named_header(writer: &mut Writer<Vec<u8>>) -> Result<(), Memory>
 }
 
 /// Writes a line.
-fn write_named_line(
-    writer: &mut Writer<Vec<u8>>,
-    names: &Names,
-    line: &Line,
-) -> Result<(), Memory>
+fn write_named_line(writer: &mut Writer<Vec<u8>>, names: &Names, line: &Line) -> Result<(), Memory>
     ensures { (before : List ℕ) → HasWritten writer.old before
         → OnOk result (HasWritten writer.new
         (before ++ row_text default_writer (named_fields (name_of names.now) line.now))) }

@@ -1,5 +1,5 @@
 -- Why a run has no answer, from what the call that failed says of it, and what it wrote.
-use Rattle.std.proofs.Common.{◌≡◌, ◌⊎◌, inl, inr, ℕ, List, [], refl, sym, subst, Err}
+use Rattle.std.proofs.Common.{◌≡◌, ◌⊎◌, inl, inr, ℕ, List, [], length, refl, sym, subst, Err}
 use Rattle.std.specs.Prelude.{Option}
 use Rattle.std.specs.List.{flat_map}
 use Rattle.std.specs.Io.KnownBytes.{Appends}
@@ -17,12 +17,17 @@ use Rattle.pesp_cert.specs.Texts.{spelling, HasText}
 use Rattle.pesp_search.specs.Solving.{IsSolved, IsSearchRefusal}
 use Rattle.pesp_search.specs.declared.refusal.SolveRefusal.{SolveRefusal}
 use Rattle.pesp_search.specs.declared.refusal.SolveRefusal.TheVariants.{Memory as SearchMemory, TableTooLarge, PairsTooMany}
+use Rattle.pesp_names.specs.declared.refusal.NamesRefusal.{NamesRefusal}
+use Rattle.pesp_names.specs.declared.refusal.NamesRefusal.TheVariants.{TextTooLong as NamesTooLong, FieldCount as NamesFieldCount, NotANumber as NamesNotANumber, NotText, Memory as NamesMemory}
 use Rattle.pesp_report.specs.TimesText.{times_of}
 use Rattle.pesp_report.specs.Reporting.{Refuses, IfBlamed}
 use Rattle.pesp_report.specs.declared.refusal.TimesRefusal.{TimesRefusal}
 use Rattle.pesp_report.specs.declared.refusal.TimesRefusal.TheVariants.{BadLine, WrongCount, Memory as TimesMemory}
 use Rattle.pesp_report.specs.declared.refusal.ReportRefusal.{ReportRefusal}
 use Rattle.pesp_report.specs.declared.refusal.ReportRefusal.TheVariants.{Violates, NotTimes, Memory as ReportMemory, Write as ReportWrite}
+use Rattle.pesp_report.specs.Violations.{RefusesViolations, IfWriteFailed, violations_of, violations_text}
+use Rattle.pesp_report.specs.declared.refusal.ViolationsRefusal.{ViolationsRefusal}
+use Rattle.pesp_report.specs.declared.refusal.ViolationsRefusal.TheVariants.{NotTimes as NoTimes, Memory as ViolationsMemory, Write as ViolationsWrite}
 use Rattle.pesp_works.specs.Works.{WorkValue}
 use Rattle.pesp_works.specs.Refusals.{RefusesFirst}
 use Rattle.pesp_outside.specs.declared.grafting.Reply.{Reply}
@@ -31,8 +36,10 @@ use Rattle.pesp_outside.specs.Texts.{reply_line}
 use Rattle.pesp_worker.specs.declared.refusal.WorkRefusal.{WorkRefusal}
 use Rattle.pesp_worker.specs.declared.refusal.WorkRefusal.TheVariants.{Memory as WorkMemory, NoSuchJob}
 use Rattle.pesp_worker.specs.HandingIn.{IsWorkRefusal}
-use Rattle.pesp_runs.specs.FaultLines.{search_fault, times_fault, report_fault, works_fault, work_fault}
+use Rattle.pesp_runs.specs.FaultLines.{search_fault, names_fault, times_fault, report_fault, violations_fault, works_fault, work_fault}
 use Rattle.pesp_check_run.specs.Devices.{over}
+use Rattle.pesp_runs.specs.Naming.{NamesCause}
+use Rattle.pesp_runs.specs.Violating.{WritesViolations}
 use Rattle.pesp_runs.specs.Runs.{WritesSolution, SearchCause, TimesCause, RowCause, OutCause}
 use Rattle.pesp_runs.specs.Outside.{WorksCause, JobCause, WritesGraft}
 
@@ -63,12 +70,37 @@ times_cause TimesMemory told left calls after bytes p read first = tt
 times_cause (BadLine n) told left calls after bytes p read first = elim first [ inl e ↦ cc | inr e ↦ record { text = bytes; read = read; holds = e } ]
 times_cause WrongCount told left calls after bytes p read first = elim first [ inl e ↦ cc | inr e ↦ record { text = bytes; read = read; holds = e } ]
 
+-- a refusal of the names' text, or of memory
+pub names_cause : (refusal : NamesRefusal) (told left : Option (List ℕ)) (calls after : Calls) → NamesCause (names_fault refusal) (over told left calls after)
+names_cause NamesTooLong told left calls after = tt
+names_cause (NamesFieldCount at) told left calls after = tt
+names_cause (NamesNotANumber at) told left calls after = tt
+names_cause (NotText at) told left calls after = tt
+names_cause NamesMemory told left calls after = tt
+
 -- times that are no timetable, or of which nothing went out whole, for memory or because the writer failed
 pub timetable_cause : (refusal : ReportRefusal) (p : Pesp) (times : List ℕ) (Failed Front : Type 0) → AreTimes p times → Refuses p times refusal → IfBlamed refusal Failed → IfBlamed refusal Front → RowCause (report_fault refusal) p times ⊎ OutCause (report_fault refusal) (IsTimetable p times × Failed × Front)
 timetable_cause (Violates row) p times Failed Front are refused failed front = inl refused.1
 timetable_cause NotTimes p times Failed Front are refused failed front = absurd (refused are)
 timetable_cause ReportMemory p times Failed Front are refused failed front = inr tt
 timetable_cause ReportWrite p times Failed Front are refused failed front = inr (refused, failed, front)
+
+-- violated activities of which nothing went out whole, for memory or because the writer failed
+violations_out : (refusal : ViolationsRefusal) (p : Pesp) (times : List ℕ) (Failed Front : Type 0) → AreTimes p times → RefusesViolations p times refusal → IfWriteFailed refusal Failed → IfWriteFailed refusal Front → OutCause (violations_fault refusal) (AreTimes p times × Failed × Front)
+violations_out NoTimes p times Failed Front are refused failed front = absurd (refused are)
+violations_out ViolationsMemory p times Failed Front are refused failed front = tt
+violations_out ViolationsWrite p times Failed Front are refused failed front = (are, failed, front)
+
+-- the same of times that are these ones
+pub violations_cause : (refusal : ViolationsRefusal) (p : Pesp) (told times : List ℕ) (old new : Option (List ℕ)) (Failed : Type 0) → told ≡ times → AreTimes p times → RefusesViolations p told refusal → IfWriteFailed refusal Failed → IfWriteFailed refusal (AppendsFront old new (violations_text (violations_of p told)))
+    → OutCause (violations_fault refusal) (AreTimes p times × Failed × AppendsFront old new (violations_text (violations_of p times)))
+violations_cause refusal p told times old new Failed same are refused failed front =
+    subst (λ (ts : List ℕ). OutCause (violations_fault refusal) (AreTimes p ts × Failed × AppendsFront old new (violations_text (violations_of p ts)))) same
+    (violations_out refusal p told Failed (AppendsFront old new (violations_text (violations_of p told))) (subst (λ (ts : List ℕ). AreTimes p ts) (sym same) are) refused failed front)
+
+-- violated activities of times that are these ones were counted and written
+pub violations_told : (p : Pesp) (told times : List ℕ) (count : ℕ) (old new : Option (List ℕ)) → told ≡ times → count ≡ length (violations_of p told) → Appends old new (violations_text (violations_of p told)) → WritesViolations p times count (Appends old new)
+violations_told p told times count old new same counted written = subst (λ (ts : List ℕ). WritesViolations p ts count (Appends old new)) same (counted, written)
 
 -- ---- work from outside
 

@@ -8,6 +8,8 @@ use Rattle.pesp_search.specs.declared.refusal.SolveRefusal.{SolveRefusal}
 use Rattle.pesp_search.specs.declared.refusal.SolveRefusal.TheVariants.{Memory as SearchMemory, TableTooLarge, PairsTooMany}
 use Rattle.pesp_worker.specs.declared.refusal.WorkRefusal.{WorkRefusal}
 use Rattle.pesp_worker.specs.declared.refusal.WorkRefusal.TheVariants.{Memory as WorkMemory, NoSuchJob}
+use Rattle.pesp_names.specs.declared.refusal.NamesRefusal.{NamesRefusal}
+use Rattle.pesp_names.specs.declared.refusal.NamesRefusal.TheVariants.{TextTooLong as NamesTooLong, FieldCount as NamesFieldCount, NotANumber as NamesNotANumber, NotText, Memory as NamesMemory}
 use Rattle.pesp_report.specs.declared.refusal.TimesRefusal.{TimesRefusal}
 use Rattle.pesp_report.specs.declared.refusal.TimesRefusal.TheVariants.{BadLine, WrongCount, Memory as TimesMemory}
 use Rattle.pesp_report.specs.declared.refusal.ReportRefusal.{ReportRefusal}
@@ -16,8 +18,10 @@ use Rattle.pesp_check_run.specs.Verdicts.{refusal_text}
 use Rattle.pesp_check_run.specs.FaultLines.{instance_line, certificate_line}
 use Rattle.pesp_check_run.specs.declared.fault.VerdictFault.{VerdictFault}
 use Rattle.pesp_check_run.specs.declared.fault.VerdictFault.TheVariants.{Instance as OfInstance, Certificate as OfCertificate, Memory as OfMemory, Read as OfRead, Write as OfWrite, NoFile as OfNoFile}
+use Rattle.pesp_report.specs.declared.refusal.ViolationsRefusal.{ViolationsRefusal}
+use Rattle.pesp_report.specs.declared.refusal.ViolationsRefusal.TheVariants.{NotTimes as NoTimes, Memory as ViolationsMemory, Write as ViolationsWrite}
 use Rattle.pesp_runs.specs.declared.fault.Fault.{Fault}
-use Rattle.pesp_runs.specs.declared.fault.Fault.TheVariants.{Instance, Certificate, Times, Search, Report, Base, Works, NoJob, Memory, Read, Write, NoFile}
+use Rattle.pesp_runs.specs.declared.fault.Fault.TheVariants.{Instance, Certificate, Times, Names, Search, Report, Base, Works, NoJob, Memory, Read, Write, NoFile}
 
 -- a fault of the checker's run, as a fault of the runs
 abbrev pub verdict_fault : VerdictFault → Fault
@@ -41,6 +45,10 @@ abbrev pub times_fault : TimesRefusal → Fault
 times_fault TimesMemory = Memory
 times_fault refusal = Times refusal
 
+abbrev pub names_fault : NamesRefusal → Fault
+names_fault NamesMemory = Memory
+names_fault refusal = Names refusal
+
 abbrev pub search_fault : SolveRefusal → Fault
 search_fault SearchMemory = Memory
 search_fault refusal = Search refusal
@@ -55,6 +63,11 @@ report_fault ReportMemory = Memory
 report_fault ReportWrite = Write
 report_fault refusal = Report refusal
 
+abbrev pub violations_fault : ViolationsRefusal → Fault
+violations_fault NoTimes = Report NotTimes
+violations_fault ViolationsMemory = Memory
+violations_fault ViolationsWrite = Write
+
 abbrev pub read_fault : ReadFault → Fault
 read_fault ReadMemory = Memory
 read_fault Device = Read
@@ -64,6 +77,14 @@ abbrev pub times_line : TimesRefusal → List ℕ
 times_line (BadLine n) = codes "1 BadLine line " ++ decimal n
 times_line WrongCount = codes "2 WrongCount"
 times_line TimesMemory = codes "3 Memory"
+
+-- number, name and record of a refusal of a text of names
+abbrev pub names_line : NamesRefusal → List ℕ
+names_line NamesTooLong = codes "1 TextTooLong"
+names_line (NamesFieldCount at) = codes "2 FieldCount" ++ at_record at
+names_line (NamesNotANumber at) = codes "3 NotANumber" ++ at_record at
+names_line (NotText at) = codes "4 NotText" ++ at_record at
+names_line NamesMemory = codes "5 Memory"
 
 -- number and name of a refusal of the search
 abbrev pub search_line : SolveRefusal → List ℕ
@@ -83,6 +104,7 @@ abbrev pub fault_line : Fault → List ℕ
 fault_line (Instance refusal) = codes "instance: " ++ instance_line refusal
 fault_line (Certificate refusal) = codes "certificate: " ++ certificate_line refusal
 fault_line (Times refusal) = codes "times: " ++ times_line refusal
+fault_line (Names refusal) = codes "names: " ++ names_line refusal
 fault_line (Search refusal) = codes "search: " ++ search_line refusal
 fault_line (Report refusal) = codes "report: " ++ report_line refusal
 fault_line (Base refusal) = codes "base: " ++ refusal_text refusal
@@ -98,6 +120,7 @@ abbrev pub exit_status : Fault → ℕ
 exit_status (Instance refusal) = 3
 exit_status (Certificate refusal) = 3
 exit_status (Times refusal) = 3
+exit_status (Names refusal) = 3
 exit_status (Search refusal) = 4
 exit_status (Report refusal) = 1
 exit_status (Base refusal) = 1

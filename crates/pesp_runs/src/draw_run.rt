@@ -9,15 +9,17 @@ ghost use Rattle.pesp_runs.specs.Runs.{ReadsTimetable, TimetableCause, WritesPic
 use crate::fault::Fault;
 use crate::runs::{MOST_TIMES, read_whole_instance};
 use pesp_draw::{Choice, draw};
+use pesp_names::Names;
 use pesp_report::read_times;
 use pesp_stream::{Sink, Source, read_all};
 use std::alloc::Global;
 
 /// Reads an instance and then times for its events, and writes a picture of them in SVG with at most `rows` activities, the
-/// dearest ones that cost something, and at most `rows` events; the instance is judged before the times are read, and nothing
-/// is written where they are no timetable. What the picture shows is not promised.
+/// dearest ones that cost something, and at most `rows` events, called by these names where there are any; the instance is judged
+/// before the times are read, and nothing is written where they are no timetable. What the picture shows is not promised.
 pub fn run_draw<R: Source, T: Source, W: Sink>(
     alloc: Global,
+    names: Option<&Names>,
     instance_reader: &mut R,
     times_reader: &mut T,
     writer: &mut W,
@@ -55,6 +57,6 @@ pub fn run_draw<R: Source, T: Source, W: Sink>(
         most: rows,
         costless: false,
     };
-    draw(alloc, &instance, &times, choice, writer)?;
+    draw(alloc, &instance, &times, choice, names, writer)?;
     Ok(())
 }

@@ -7,8 +7,9 @@ use pesp_cert::CertRefusal;
 use pesp_check::Refusal;
 use pesp_check_run::{CertificateLine, InstanceLine, RefusalText, VerdictFault};
 use pesp_instance::ReadRefusal;
+use pesp_names::NamesRefusal;
 use pesp_problem::Memory as NoMemory;
-use pesp_report::{ReportRefusal, TimesRefusal};
+use pesp_report::{ReportRefusal, TimesRefusal, ViolationsRefusal};
 use pesp_search::SolveRefusal;
 use pesp_stream::{ReadFault, WriteFault};
 use pesp_worker::WorkRefusal;
@@ -25,6 +26,8 @@ pub enum Fault {
     Certificate(CertRefusal),
     /// The text of the times is refused.
     Times(TimesRefusal),
+    /// The text of the names is refused.
+    Names(NamesRefusal),
     /// The search passes a limit: its table of cycles is too large, or its tree has too many pairs.
     Search(SolveRefusal),
     /// There is no report of the times.
@@ -91,6 +94,20 @@ impl From<TimesRefusal> for Fault {
     }
 }
 
+impl From<NamesRefusal> for Fault {
+    ghost use Rattle.std.specs.Prelude.{◌≡◌};
+    ghost use Rattle.pesp_runs.specs.FaultLines.{names_fault};
+
+    ghost from_gives = { λ refusal fault. fault ≡ names_fault refusal };
+
+    fn from(refusal: NamesRefusal) -> Fault {
+        match refusal {
+            NamesRefusal::Memory => Fault::Memory,
+            _ => Fault::Names(refusal),
+        }
+    }
+}
+
 impl From<SolveRefusal> for Fault {
     ghost use Rattle.std.specs.Prelude.{◌≡◌};
     ghost use Rattle.pesp_runs.specs.FaultLines.{search_fault};
@@ -130,6 +147,21 @@ impl From<ReportRefusal> for Fault {
             ReportRefusal::Memory => Fault::Memory,
             ReportRefusal::Write => Fault::Write,
             _ => Fault::Report(refusal),
+        }
+    }
+}
+
+impl From<ViolationsRefusal> for Fault {
+    ghost use Rattle.std.specs.Prelude.{◌≡◌};
+    ghost use Rattle.pesp_runs.specs.FaultLines.{violations_fault};
+
+    ghost from_gives = { λ refusal fault. fault ≡ violations_fault refusal };
+
+    fn from(refusal: ViolationsRefusal) -> Fault {
+        match refusal {
+            ViolationsRefusal::NotTimes => Fault::Report(ReportRefusal::NotTimes),
+            ViolationsRefusal::Memory => Fault::Memory,
+            ViolationsRefusal::Write => Fault::Write,
         }
     }
 }
@@ -200,6 +232,27 @@ impl fmt::Display for TimesLine<'_> {
     }
 }
 
+/// A refusal of a text of names: its number, its name and its record.
+#[derive(Drop)]
+struct NamesLine<'a>(&'a NamesRefusal);
+
+impl fmt::Display for NamesLine<'_> {
+    ghost use Rattle.std.specs.Prelude.{Some};
+    ghost use Rattle.pesp_runs.specs.FaultLines.{names_line};
+
+    ghost output = { λ line. Some (names_line line.0.now) };
+
+    fn fmt<W: fmt::Write>(&self, f: &mut fmt::Formatter<W>) -> fmt::Result {
+        match self.0 {
+            NamesRefusal::TextTooLong => f.write_str("1 TextTooLong"),
+            NamesRefusal::FieldCount { at } => write!(f, "2 FieldCount record {at}"),
+            NamesRefusal::NotANumber { at } => write!(f, "3 NotANumber record {at}"),
+            NamesRefusal::NotText { at } => write!(f, "4 NotText record {at}"),
+            NamesRefusal::Memory => f.write_str("5 Memory"),
+        }
+    }
+}
+
 /// A refusal of the search: its number and its name.
 #[derive(Drop)]
 struct SearchLine<'a>(&'a SolveRefusal);
@@ -260,6 +313,10 @@ impl fmt::Display for Fault {
                 let line = TimesLine(refusal);
                 write!(f, "times: {line}")
             }
+            Fault::Names(refusal) => {
+                let line = NamesLine(refusal);
+                write!(f, "names: {line}")
+            }
             Fault::Search(refusal) => {
                 let line = SearchLine(refusal);
                 write!(f, "search: {line}")
@@ -295,6 +352,7 @@ pub fn status_of(fault: &Fault) -> u8
         Fault::Instance(_)
         | Fault::Certificate(_)
         | Fault::Times(_)
+        | Fault::Names(_)
         | Fault::Works(_)
         | Fault::NoJob => 3,
         Fault::Search(_) | Fault::Memory | Fault::Read | Fault::Write | Fault::NoFile => 4,

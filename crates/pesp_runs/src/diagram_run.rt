@@ -1,0 +1,57 @@
+//! The run that draws diagrams.
+
+ghost use Rattle.std.specs.Prelude.{◌≡◌, ◌≢◌, ◌<◌, ◌≤◌, ◌^◌, OnOk, IfErr};
+ghost use Rattle.std.specs.Io.KnownBytes.{Appends};
+ghost use Rattle.pesp_stream.specs.Counts.{FewerThan, HasWorked};
+ghost use Rattle.pesp_check_run.specs.Devices.{over};
+ghost use Rattle.pesp_runs.specs.Runs.{ReadsTimetable, TimetableCause, WritesPicture};
+
+use crate::fault::Fault;
+use crate::runs::{MOST_TIMES, read_whole_instance};
+use pesp_diagram::diagram;
+use pesp_names::Names;
+use pesp_report::read_times;
+use pesp_stream::{Sink, Source, read_all};
+use std::alloc::Global;
+
+/// Reads an instance and then times for its events, and writes time-distance diagrams of them in SVG, one for each line that the
+/// names tell; the instance is judged before the times are read, and nothing is written where they are no timetable. What the
+/// diagrams show is not promised.
+pub fn run_diagram<R: Source, T: Source, W: Sink>(
+    alloc: Global,
+    names: &Names,
+    instance_reader: &mut R,
+    times_reader: &mut T,
+    writer: &mut W,
+    period: u32,
+) -> Result<(), Fault>
+    requires reads_fit { FewerThan (2 ^ 62) (R.calls instance_reader.old) }
+    requires times_reads_fit { FewerThan (2 ^ 62) (T.calls times_reader.old) }
+    requires writes_fit { FewerThan (2 ^ 62) (W.calls writer.old) }
+    ensures ok { OnOk result
+        (ReadsTimetable (R.remaining instance_reader.old) (R.remaining instance_reader.new)
+        (T.remaining times_reader.old) (T.remaining times_reader.new) period
+        (λ p times. WritesPicture p times
+        (Appends (W.contents writer.old) (W.contents writer.new)))) }
+    ensures reads { OnOk result
+        (HasWorked (R.calls instance_reader.old) (R.calls instance_reader.new)) }
+    ensures times_reads { OnOk result
+        (HasWorked (T.calls times_reader.old) (T.calls times_reader.new)) }
+    ensures writes { OnOk result (HasWorked (W.calls writer.old) (W.calls writer.new)) }
+    ensures cause { IfErr result (λ fault. TimetableCause fault
+        (over (R.remaining instance_reader.old) (R.remaining instance_reader.new)
+        (R.calls instance_reader.old) (R.calls instance_reader.new))
+        (over (T.remaining times_reader.old) (T.remaining times_reader.new)
+        (T.calls times_reader.old) (T.calls times_reader.new))
+        (over (W.contents writer.old) (W.contents writer.new)
+        (W.calls writer.old) (W.calls writer.new))
+        period (times_reader.new ≡ times_reader.old) WritesPicture) }
+    ensures silent { IfErr result (λ fault. fault ≢ Fault.Write → writer.new ≡ writer.old) }
+{
+    // The instance is judged before the times are read.
+    let instance = read_whole_instance(alloc, instance_reader, period)?;
+    let text = read_all(alloc, times_reader, MOST_TIMES)?;
+    let times = read_times(alloc, &instance, &text)?;
+    diagram(alloc, &instance, &times, names, writer)?;
+    Ok(())
+}

@@ -1,9 +1,10 @@
 //! Times that are offered: before the first step, and after a step. What finds times is asked for nowhere else.
 
-ghost use Rattle.std.specs.Prelude.{◌≡◌, ℕ, length, IfOk, IfSome};
+ghost use Rattle.std.specs.Prelude.{◌≡◌, ℕ, length, IfOk, IfSome, OnOk};
 ghost use Rattle.pesp_problem.specs.NetTimetables.{IsNetTimetable};
 ghost use Rattle.pesp_network.specs.Networks.{net_of_network};
 ghost use Rattle.pesp_search_laws.specs.Turns.{IsWorked};
+ghost use Rattle.pesp_branching.specs.Offering.{OffersSome, MayOffer, OffersFirst};
 
 use crate::settings::{FIRST_BATCH_AFTER, MET_ROUNDS};
 use pesp_board::Board;
@@ -23,6 +24,7 @@ fn is_due(used: u32) -> bool {
 /// Offers times.
 fn offer(board: &mut Board, times: Vec<u32>)
     ensures problem { board.new.problem ≡ board.old.problem }
+    ensures offers { OffersSome board.old.problem board.old.state board.new.state }
     ensures tree { board.new.state.tree ≡ board.old.state.tree }
     ensures numbers { length board.new.state.numbers ≡ length board.old.state.numbers }
     ensures worked { (used : ℕ) → IsWorked board.old.problem used board.old.state
@@ -87,6 +89,8 @@ pub fn offer_times(
     times: &mut Option<TimesSearch>,
 ) -> Result<(), Memory>
     ensures problem { board.new.problem ≡ board.old.problem }
+    ensures offers { OnOk result
+        (OffersFirst board.old.problem board.old.state board.new.state) }
     ensures tree { board.new.state.tree ≡ board.old.state.tree }
     ensures worked { (used : ℕ) → IsWorked board.old.problem used board.old.state
         → IsWorked board.old.problem used board.new.state }
@@ -167,6 +171,8 @@ pub fn offer_met(
     used: u32,
 ) -> Result<(), Memory>
     ensures problem { board.new.problem ≡ board.old.problem }
+    ensures offers { OnOk result
+        (MayOffer board.old.problem board.old.state board.new.state) }
     ensures tree { board.new.state.tree ≡ board.old.state.tree }
     ensures numbers { length board.new.state.numbers ≡ length board.old.state.numbers }
     ensures worked { (used : ℕ) → IsWorked board.old.problem used board.old.state

@@ -36,7 +36,3 @@ held_is p q r mid held value path pairs e f orderly at fits told same = record {
   };
   pairs = subst (λ (xs : List Pair). ArePairs (length p.table) xs) (sym same) (subst (λ (x : ProblemValue). ArePairs (length x.table) pairs) e (leaf_pairs q mid told.path pairs orderly told.leaf.1));
 }
-
--- a cut that leaves both sides a value may be made at its node
-pub held_cut : (p : ProblemValue) (held : Held) (node : Node) (cut : Cut) → KeepsNetLimits p.network → IsSmallTable p.table → IsHeld p held → CutExists (net_of p) p.table cut → LeavesBoth held.node cut → node ≡ held.node → IsCutOf node cut
-held_cut p held node cut limits table h exists both same = cut_at p h.node.path held.node node cut limits table h.node.at (exists, both) (subst (IsNodeOf p) (sym same) h.node.fits)

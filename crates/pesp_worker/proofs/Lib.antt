@@ -2,5 +2,4 @@ pub mod Numbers
 pub mod Fitting
 pub mod Holds
 pub mod Counting
-pub mod Leasts
 pub mod Judgments

@@ -4,13 +4,10 @@
 mod copying;
 mod cutting_out;
 mod holding;
+mod improving;
 mod judging;
 mod refusal;
-mod replanting;
 mod searching;
-mod settling;
-mod steering;
-mod turning;
 mod working;
 
 pub use refusal::WorkRefusal;

@@ -4,22 +4,18 @@ ghost use Rattle.std.specs.Prelude.{◌≡◌, ◌≤◌, length, IfOk, IfErr};
 ghost use Rattle.pesp_problem.specs.Timetables.{Pesp};
 ghost use Rattle.pesp_truth.specs.Certificates.{IsValid};
 ghost use Rattle.pesp_machine.specs.Certificates.{IsProblemOf};
-ghost use Rattle.pesp_branching.specs.Passing.{ArePassedRows};
 ghost use Rattle.pesp_worker.specs.declared.refusal.WorkRefusal.TheVariants.{NoSuchJob};
 ghost use Rattle.pesp_worker.specs.HandingIn.{AreTimesFor, AreShort, IsWorkRefusal};
 
 use crate::cutting_out::cut_out;
+use crate::improving::improve_leaf;
 use crate::refusal::WorkRefusal;
-use crate::replanting::replanted;
-use crate::steering::proposer_for;
-use crate::turning::{Known, improve_leaf, run_turns};
 use pesp_board::Board;
-use pesp_branching::passed_rows;
 use pesp_cert::Certificate;
 use pesp_outside::{Lent, lend_base};
 use pesp_problem::{Cut, Instance, Memory, Side};
-use pesp_reduce::Reduced;
 use pesp_truth::TreeLine;
+use pesp_turns::{Nobody, Search};
 use std::alloc::Global;
 
 /// What was found for a leaf: times, and a tree that is still to be judged.
@@ -29,46 +25,26 @@ pub(crate) struct Found {
     pub(crate) tree: Vec<TreeLine>,
 }
 
-/// Takes turns on the leaves that are open, as is proposed for them, by at most so many splits.
-fn split_as_proposed(
-    alloc: Global,
-    board: &mut Board,
-    known: &Known,
-    steps: u32,
-) -> Result<(), Memory>
-    requires passed { ArePassedRows board.old.problem known.now.passed.items }
-    requires few { steps ≤ 100000 }
-    ensures { board.new.problem ≡ board.old.problem }
-{
-    let mut proposer = proposer_for(alloc, known.reduced, board)?;
-    run_turns(alloc, board, known, &mut proposer, steps)
-}
-
-/// Takes turns on the leaves that are open, over what is left of the instance, by at most so many splits.
-fn split_over(alloc: Global, board: &mut Board, reduced: &Reduced, steps: u32) -> Result<(), Memory>
-    requires { steps ≤ 100000 }
-    ensures { board.new.problem ≡ board.old.problem }
-{
-    let passed = passed_rows(alloc, board.problem())?;
-    split_as_proposed(alloc, board, &Known { reduced, passed }, steps)
-}
-
 /// Takes turns on the leaves that are open, by at most so many splits.
-fn split_on(alloc: Global, instance: &Instance, board: &mut Board, steps: u32) -> Result<(), Memory>
+fn split_on(alloc: Global, instance: &Instance, board: Board, steps: u32) -> Result<Board, Memory>
     requires { steps ≤ 100000 }
-    ensures { board.new.problem ≡ board.old.problem }
+    ensures { IfOk result (λ worked. worked.problem ≡ board.problem) }
 {
-    let reduced = replanted(alloc, instance, board.problem().table())?;
-    split_over(alloc, board, &reduced, steps)
+    let mut search = Search::on(alloc, instance, board)?;
+    search.run(alloc, steps, &mut Nobody)?;
+    let Search { board, .. } = search;
+    Ok(board)
 }
 
 /// Works on the leaf that is open, by at most so many splits.
-fn work_on(alloc: Global, instance: &Instance, board: &mut Board, steps: u32) -> Result<(), Memory>
+fn work_on(alloc: Global, instance: &Instance, board: Board, steps: u32) -> Result<Board, Memory>
     requires { steps ≤ 100000 }
-    ensures { board.new.problem ≡ board.old.problem }
+    ensures { IfOk result (λ worked. worked.problem ≡ board.problem) }
 {
-    if !improve_leaf(alloc, board)? || steps == 0 {
-        return Ok(());
+    let mut board = board;
+    let is_taken = improve_leaf(alloc, &mut board)?;
+    if !is_taken || steps == 0 {
+        return Ok(board);
     }
     split_on(alloc, instance, board, steps)
 }
@@ -93,48 +69,65 @@ fn shown(alloc: Global, certificate: &Certificate, wanted: bool) -> Result<Vec<(
     Ok(copy)
 }
 
-/// What is found for the leaf that is open, to which this path leads: a tree, and times that are cheaper than those so far.
-fn found_below(
+/// What a board that was worked on has for the leaf to which this path leads: a tree, and times, where it has others than one
+/// of this cost before.
+fn found_on(
     alloc: Global,
     instance: &Instance,
-    board: &mut Board,
+    board: &Board,
     path: &[(Cut, Side)],
-    steps: u32,
+    before: Option<u64>,
 ) -> Result<Found, Memory>
-    requires of { IsProblemOf instance.now board.old.problem }
-    requires few { steps ≤ 100000 }
+    requires of { IsProblemOf instance.now board.now.problem }
     ensures times { IfOk result (λ found. AreTimesFor instance.now found.times.items) }
     ensures short { IfOk result (λ found. AreShort found.times.items) }
 {
-    let before = board.best();
-    work_on(alloc, instance, board, steps)?;
     let certificate = board.certificate(alloc, instance)?;
     let times = shown(alloc, &certificate, board.best() != before)?;
     let tree = cut_out(alloc, certificate.tree(), path)?;
     Ok(Found { times, tree })
 }
 
+/// What is found for the leaf that is open, to which this path leads: a tree, and times that are cheaper than those so far.
+fn found_below(
+    alloc: Global,
+    instance: &Instance,
+    board: Board,
+    path: &[(Cut, Side)],
+    steps: u32,
+) -> Result<Found, Memory>
+    requires of { IsProblemOf instance.now board.problem }
+    requires few { steps ≤ 100000 }
+    ensures times { IfOk result (λ found. AreTimesFor instance.now found.times.items) }
+    ensures short { IfOk result (λ found. AreShort found.times.items) }
+{
+    let before = board.best();
+    let worked = work_on(alloc, instance, board, steps)?;
+    found_on(alloc, instance, &worked, path, before)
+}
+
 /// What is found below the leaf of a job of a base that is lent.
 fn found_for(
     alloc: Global,
     instance: &Instance,
-    lent: &mut Lent,
+    lent: Lent,
     job: u64,
     steps: u32,
 ) -> Result<Found, WorkRefusal>
-    requires of { IsProblemOf instance.now lent.old.board.problem }
+    requires of { IsProblemOf instance.now lent.board.problem }
     requires few { steps ≤ 100000 }
     ensures times { IfOk result (λ found. AreTimesFor instance.now found.times.items) }
     ensures short { IfOk result (λ found. AreShort found.times.items) }
     ensures missing { IfErr result
-        (λ refusal. refusal ≡ NoSuchJob → length lent.old.jobs.items ≤ job) }
+        (λ refusal. refusal ≡ NoSuchJob → length lent.jobs.items ≤ job) }
 {
-    if job >= lent.jobs.len() as u64 {
+    let Lent { mut board, jobs } = lent;
+    if job >= jobs.len() as u64 {
         return Err(WorkRefusal::NoSuchJob);
     }
-    lent.board.recall(job);
-    let path = &lent.jobs[job as usize].path;
-    let found = found_below(alloc, instance, &mut lent.board, path, steps)?;
+    board.recall(job);
+    let path = &jobs[job as usize].path;
+    let found = found_below(alloc, instance, board, path, steps)?;
     Ok(found)
 }
 
@@ -153,6 +146,6 @@ pub(crate) fn search_below(
     ensures short { IfOk result (λ found. AreShort found.times.items) }
     ensures refused { IfErr result (IsWorkRefusal instance.now base.now job) }
 {
-    let mut lent = lend_base(alloc, instance, base)?;
-    found_for(alloc, instance, &mut lent, job, steps)
+    let lent = lend_base(alloc, instance, base)?;
+    found_for(alloc, instance, lent, job, steps)
 }

@@ -1,0 +1,74 @@
+-- What a turn does with the leaf that was lent.
+use Rattle.std.proofs.Common.{◌≡◌, ℕ, inl, inr, Bool, true, false, arith, sym, ap, subst}
+use Rattle.std.specs.Prelude.{Result, IfOk}
+use Rattle.pesp_network.specs.Networks.{KeepsNetLimits}
+use Rattle.pesp_nodes.specs.Problems.{ProblemValue, IsSmallTable}
+use Rattle.pesp_machine.specs.declared.job.Job.{Job}
+use Rattle.pesp_machine.specs.declared.work.Work.TheVariants as works
+use Rattle.pesp_machine.specs.States.{State}
+use Rattle.pesp_machine.specs.Reached.{IsOrderly}
+use Rattle.pesp_machine.specs.Events.{LendsLeaf, MakesTooMuch}
+use Rattle.pesp_branching.specs.Offering.{MayOffer}
+use Rattle.pesp_search_laws.specs.Rooms.{branch_lines}
+use Rattle.pesp_turns.specs.declared.ending.Ending.TheVariants.{TreeTooLarge}
+use Rattle.pesp_turns.specs.declared.turning.Turn.{Turn}
+use Rattle.pesp_turns.specs.declared.turning.Turn.TheVariants.{Split, Over}
+use Rattle.pesp_turns.specs.Handing.{IsJustLent, IsGiven, IsStepGiven}
+use Rattle.pesp_turns.specs.Turning.{IsSettling, IsTurn, turn_given, turn_found}
+
+-- a leaf was lent, on the way to a turn
+pub record IsLentFrom (p : ProblemValue) (old mid : State) (job : Job) : Type 0 where
+  pub limits : KeepsNetLimits p.network
+  pub small : IsSmallTable p.table
+  pub orderly : IsOrderly p old
+  pub lends : LendsLeaf p old job mid
+
+abbrev pub just : (p q : ProblemValue) (old mid : State) (job : Job) → q ≡ p → IsLentFrom p old mid job → IsJustLent q mid job
+just p q old mid job e l = record {
+  limits = subst (λ (x : ProblemValue). KeepsNetLimits x.network) (sym e) l.limits;
+  small = subst (λ (x : ProblemValue). IsSmallTable x.table) (sym e) l.small;
+  before = old;
+  orderly = subst (λ (x : ProblemValue). IsOrderly x old) (sym e) l.orderly;
+  lends = subst (λ (x : ProblemValue). LendsLeaf x old job mid) (sym e) l.lends;
+}
+
+pub lent_from : (p q : ProblemValue) (old mid : State) (job : Job) → q ≡ p → KeepsNetLimits q.network → IsSmallTable q.table → IsOrderly p old → LendsLeaf p old job mid → IsLentFrom p old mid job
+lent_from p q old mid job e limits small orderly lends = record {
+  limits = subst (λ (x : ProblemValue). KeepsNetLimits x.network) e limits;
+  small = subst (λ (x : ProblemValue). IsSmallTable x.table) e small;
+  orderly = orderly;
+  lends = lends;
+}
+
+-- the turn on the leaf is a turn from there
+pub turned : {E : Type 0} (p q : ProblemValue) (old mid new : State) (job : Job) (turn : Result Turn E) → q ≡ p → IsLentFrom p old mid job → ((lent : IsJustLent q mid job) → IfOk turn (λ t. IsTurn q lent.before t new)) → IfOk turn (λ t. IsTurn p old t new)
+turned p q old mid new job turn e l goes = subst (λ (x : ProblemValue). IfOk turn (λ t. IsTurn x old t new)) e (goes (just p q old mid job e l))
+
+pub gap_turn : (p : ProblemValue) (mid new : State) (job : Job) (cycle : ℕ) (taken : Bool) (turn : Turn) (l : IsJustLent p mid job) → turn ≡ turn_given taken → IsGiven p mid job.number (works.Gap cycle) taken new → IsTurn p l.before turn new
+gap_turn p mid new job cycle true turn l e g = subst (λ (t : Turn). IsTurn p l.before t new) (sym e) (inl (record { job = job; lent = mid; lends = l.lends; cycle = cycle; takes = g }))
+gap_turn p mid new job cycle false turn l e g = subst (λ (t : Turn). IsTurn p l.before t new) (sym e) (record {
+  job = job;
+  lends = subst (LendsLeaf p l.before job) (sym g.0) l.lends;
+  work = works.Gap cycle;
+  few = omega arith;
+  large = subst (λ (s : State). MakesTooMuch p s job.number (works.Gap cycle)) (sym g.0) g.1;
+})
+
+pub settled_turn : (p : ProblemValue) (mid new : State) (job : Job) (found : Bool) (turn : Turn) (l : IsJustLent p mid job) → turn ≡ turn_found found → IsSettling p mid job.number found new → IsTurn p l.before turn new
+settled_turn p mid new job true turn l e s = subst (λ (t : Turn). IsTurn p l.before t new) (sym e) (inr (record { job = job; lent = mid; lends = l.lends; settles = s }))
+settled_turn p mid new job false turn l e s = subst (λ (t : Turn). IsTurn p l.before t new) (sym e) (job, subst (LendsLeaf p l.before job) (sym s) l.lends)
+
+-- the step isn't taken, since the tree would pass a limit
+pub large_turn : (p : ProblemValue) (mid new : State) (job : Job) (l : IsJustLent p mid job) → IsStepGiven p mid job.number false new → IsTurn p l.before (Over TreeTooLarge) new
+large_turn p mid new job l g =
+    let one = ap branch_lines g.step in
+    record {
+      job = job;
+      lends = subst (LendsLeaf p l.before job) (sym g.given.0) l.lends;
+      work = works.Tree g.lines;
+      few = omega (arith, one);
+      large = subst (λ (s : State). MakesTooMuch p s job.number (works.Tree g.lines)) (sym g.given.0) g.given.1;
+    }
+
+pub split_turn : (p q : ProblemValue) (mid split new : State) (job : Job) (l : IsJustLent p mid job) → IsStepGiven p mid job.number true split → q ≡ p → MayOffer q split new → IsTurn p l.before Split new
+split_turn p q mid split new job l g e o = record { job = job; lent = mid; lends = l.lends; split = split; gives = g; offers = subst (λ (x : ProblemValue). MayOffer x split new) e o }

@@ -1,0 +1,8 @@
+use Rattle.pesp_turns.proofs.Turned.{gap_turn, settled_turn}
+use Rattle.pesp_turns.proofs.closing.close_at.Goals as goal
+
+pub returns-in-Some-clause-turn : goal.returns-in-Some-clause-turn
+returns-in-Some-clause-turn c lent = gap_turn c.args.board.now.problem c.args.board.now.state c.close_leaf.new.board.state c.args.job.now c.in-Some.cycle c.in_ok-taken.taken c.closed.result lent c.closed.ensures c.in_ok-taken.ensures.given
+
+pub returns-clause-turn : goal.returns-clause-turn
+returns-clause-turn c lent = settled_turn c.args.board.now.problem c.args.board.now.state c.settle.new.board.state c.args.job.now c.in_ok-found.found c.settled.result lent c.settled.ensures c.in_ok-found.ensures.settles

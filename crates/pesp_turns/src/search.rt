@@ -1,0 +1,87 @@
+//! Searches.
+
+ghost use Rattle.std.specs.Prelude.{◌≡◌, ◌≤◌, IfOk};
+ghost use Rattle.pesp_turns.specs.Knowing.{IsKnown};
+ghost use Rattle.pesp_turns.specs.Growing.{Grows};
+
+use crate::ending::Ended;
+use crate::known::{Known, known_of};
+use crate::observer::Observer;
+use crate::replanting::replanted;
+use crate::running::run_turns;
+use crate::steering::proposer_for;
+use pesp_board::Board;
+use pesp_branching::Proposer;
+use pesp_problem::{Instance, Memory};
+use std::alloc::Global;
+
+/// A board in any state, what is known of its problem, what proposes cuts and times, and how many leaves were split so far.
+#[derive(Drop)]
+pub struct Search {
+    pub board: Board,
+    pub known: Known,
+    pub proposer: Proposer,
+    pub used: u32,
+}
+
+/// What is known of the board's problem, and what proposes cuts and times for it.
+fn known_and_proposer(
+    alloc: Global,
+    instance: &Instance,
+    board: &Board,
+) -> Result<(Known, Proposer), Memory>
+    ensures { IfOk result (λ made. IsKnown board.now.problem made.0) }
+{
+    let reduced = replanted(alloc, instance, board.problem().table())?;
+    let known = known_of(alloc, board.problem(), reduced)?;
+    let proposer = proposer_for(alloc, &known, board)?;
+    Ok((known, proposer))
+}
+
+impl Search {
+    /// A search that goes on from a board in any state. Cuts are proposed where the cycles are lifted fundamental walks of a
+    /// forest of what is left of the instance, and times are looked for where the board has none.
+    ///
+    /// Refused where a growth is refused.
+    pub fn on(alloc: Global, instance: &Instance, board: Board) -> Result<Search, Memory>
+        ensures board { IfOk result (λ search. search.board ≡ board) }
+        ensures known { IfOk result (λ search. IsKnown board.problem search.known) }
+    {
+        let (known, proposer) = known_and_proposer(alloc, instance, &board)?;
+        Ok(Search {
+            board,
+            known,
+            proposer,
+            used: 0,
+        })
+    }
+
+    /// Takes turns on the open leaves, of least value first, until so many were split, or none can be lent any more. An
+    /// observer looks on.
+    ///
+    /// Refused where a growth is refused.
+    pub fn run<O: Observer>(
+        &mut self,
+        alloc: Global,
+        steps: u32,
+        observer: &mut O,
+    ) -> Result<Ended, Memory>
+        requires known { IsKnown self.old.board.problem self.old.known }
+        requires few { steps ≤ 100000 }
+        ensures problem { self.new.board.problem ≡ self.old.board.problem }
+        ensures known { self.new.known ≡ self.old.known }
+        ensures few { IfOk result (λ ended. ended.used ≤ steps) }
+        ensures grows { IfOk result (λ ended. Grows self.old.board.problem ended.used
+            self.old.board.state self.new.board.state) }
+    {
+        let Search {
+            board,
+            known,
+            proposer,
+            used,
+        } = self;
+        let ended = run_turns(alloc, board, known, proposer, *used, steps, observer)?;
+        *used = used.saturating_add(ended.used);
+        Ok(ended)
+    }
+}

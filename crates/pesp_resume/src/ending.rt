@@ -1,7 +1,5 @@
 //! Why a search ends.
 
-
-
 /// Why no more leaves are split.
 #[derive(Clone, Copy, Debug, PartialEq, Eq)]
 pub enum Ending {

@@ -41,7 +41,10 @@ fn better_work(leaf: Leaf, value: u64) -> Option<Work>
     match leaf {
         Leaf::Gap { cycle } => Some(Work::Gap(cycle)),
         Leaf::Nothing { pairs } => Some(Work::Nothing(pairs)),
-        Leaf::Bound { pairs, value: found } => {
+        Leaf::Bound {
+            pairs,
+            value: found,
+        } => {
             if found > i128::from(value) {
                 Some(Work::Leaf(pairs))
             } else {

@@ -81,12 +81,7 @@ fn go_on<W: Watcher>(
 }
 
 /// What the board certifies then.
-fn certify(
-    alloc: Global,
-    instance: &Instance,
-    board: &Board,
-    done: Done,
-) -> Result<Resumed, Memory>
+fn certify(alloc: Global, instance: &Instance, board: &Board, done: Done) -> Result<Resumed, Memory>
     requires { IsProblemOf instance.now board.now.problem }
     ensures certified { IfOk result
         (λ r. IsCertified instance.now board.now.problem board.now.state r.certificate) }
@@ -132,11 +127,7 @@ fn resume_search<W: Watcher>(
 }
 
 /// A search that goes on from a valid certificate.
-fn search_from(
-    alloc: Global,
-    instance: &Instance,
-    base: &Certificate,
-) -> Result<Search, Memory>
+fn search_from(alloc: Global, instance: &Instance, base: &Certificate) -> Result<Search, Memory>
     requires { IsValid instance.now base.now }
     ensures begun { IfOk result (λ search. IsBegun instance.now base.now search.board.problem
         search.board.state) }

@@ -3,55 +3,13 @@
 ghost use Rattle.std.specs.Prelude.{◌≤◌, IfOk};
 ghost use Rattle.pesp_cli.specs.Requests.{IsWithinLimits};
 
-use clap::{Arg, ArgAction, ArgMatches, Command, Error, value_parser};
+use crate::options::{
+    base_argument, file_argument, job_argument, names_argument, names_option, optional_file,
+    period_option, progress_option, rows_option, steps_option, violations_option,
+};
+use crate::request::Request;
+use clap::{ArgMatches, Command, Error};
 use std::alloc::{AllocError, Global};
-
-/// What the words of a command line ask for. Periods are in the unit of the instance's durations.
-#[derive(Debug, Drop)]
-pub enum Request<'a> {
-    /// A search of at most so many steps; the instance is on standard input where no file is named.
-    Solve {
-        period: u32,
-        steps: u32,
-        /// Whether it is told on standard error how far the search is.
-        progress: bool,
-        file: Option<&'a str>,
-    },
-    /// A verdict on the certificate on standard input.
-    Check {
-        period: u32,
-        file: &'a str,
-    },
-    /// A report of the times on standard input.
-    Report {
-        period: u32,
-        file: &'a str,
-    },
-    /// A picture of the times on standard input, with at most so many activities and so many events.
-    Draw {
-        period: u32,
-        rows: u32,
-        file: &'a str,
-    },
-    /// The open leaves of the certificate on standard input, as jobs.
-    Split {
-        period: u32,
-        file: &'a str,
-    },
-    /// Work of at most so many steps on an open leaf of the certificate on standard input.
-    Work {
-        period: u32,
-        steps: u32,
-        file: &'a str,
-        job: u64,
-    },
-    /// The works on standard input, grafted onto the certificate in a file.
-    Graft {
-        period: u32,
-        file: &'a str,
-        base: &'a str,
-    },
-}
 
 /// The program's version, and the versions of certificates that it writes and reads.
 const VERSION: &str = "0.1.0\ncertificates: versions 1 and 2";
@@ -71,6 +29,8 @@ A whole round, for an instance in trains.csv with the period 60:
   pesp check trains.csv < trains.certificate
   pesp report trains.csv < trains.certificate > trains.report.csv
   pesp draw trains.csv < trains.certificate > trains.svg
+and with names of events in trains.names, one a line as event,name,line,station
+  pesp diagram trains.csv trains.names < trains.certificate > trains.lines.svg
 or with a pipe
   pesp solve trains.csv | pesp check trains.csv
 
@@ -91,72 +51,6 @@ Nobody has to trust the solvers: what isn't valid is refused, and changes nothin
 Exit status: 0 the answer is written; 1 the certificate isn't valid; 2 the command
 line; 3 a text is refused, or there is no such job; 4 memory or a device";
 
-fn period_option<'a>(alloc: Global) -> Arg<'a> {
-    Arg::new(alloc, "period")
-        .long("period")
-        .value_name("N")
-        .value_parser(value_parser!(u32).range(1..=10000))
-        .default_value("60")
-        .help("The period, 1 to 10000, in the unit of the durations")
-}
-
-fn steps_option<'a>(alloc: Global) -> Arg<'a> {
-    Arg::new(alloc, "steps")
-        .long("steps")
-        .value_name("N")
-        .value_parser(value_parser!(u32).range(0..=100000))
-        .default_value("1000")
-        .help("How many leaves of the search are split at most, 0 to 100000")
-}
-
-fn progress_option<'a>(alloc: Global) -> Arg<'a> {
-    Arg::new(alloc, "progress")
-        .long("progress")
-        .action(ArgAction::SetTrue)
-        .help(
-            "Tells on standard error how far the search is: at its beginning, at each doubling of the steps and at each better timetable",
-        )
-}
-
-fn rows_option<'a>(alloc: Global) -> Arg<'a> {
-    Arg::new(alloc, "rows")
-        .long("rows")
-        .value_name("N")
-        .value_parser(value_parser!(u32).range(1..=1000))
-        .default_value("100")
-        .help(
-            "How many activities, the dearest ones, and how many events are drawn at most, 1 to 1000",
-        )
-}
-
-fn file_argument<'a>(alloc: Global) -> Arg<'a> {
-    Arg::new(alloc, "file")
-        .value_name("FILE")
-        .required(true)
-        .help("The file with the instance")
-}
-
-fn base_argument<'a>(alloc: Global) -> Arg<'a> {
-    Arg::new(alloc, "base")
-        .value_name("BASE")
-        .required(true)
-        .help("The file with the certificate onto which works are grafted")
-}
-
-fn job_argument<'a>(alloc: Global) -> Arg<'a> {
-    Arg::new(alloc, "job")
-        .value_name("JOB")
-        .required(true)
-        .value_parser(value_parser!(u64).range(0..=999999))
-        .help("The number of the open leaf, as split tells it, 0 to 999999")
-}
-
-fn optional_file<'a>(alloc: Global) -> Arg<'a> {
-    Arg::new(alloc, "file").value_name("FILE").help(
-        "The file with the instance; standard input where none is named",
-    )
-}
-
 fn solve_command<'a>(alloc: Global) -> Result<Command<'a>, AllocError> {
     Command::new(alloc, "solve")
         .about("Reads an instance and writes a best timetable with its certificate")
@@ -167,13 +61,15 @@ fn solve_command<'a>(alloc: Global) -> Result<Command<'a>, AllocError> {
         .arg(optional_file(alloc))
 }
 
-/// A command that reads an instance from a file, and something of it from standard input.
+/// A command that reads an instance from a file, and something of it from standard input, as its usage says.
 fn file_command<'a>(
     alloc: Global,
     name: &'a str,
+    usage: &'a str,
     about: &'a str,
 ) -> Result<Command<'a>, AllocError> {
     Command::new(alloc, name)
+        .override_usage(usage)
         .about(about)
         .after_help(ROUND_TRIP)
         .arg(period_option(alloc))?
@@ -184,9 +80,11 @@ fn file_command<'a>(
 fn outside_command<'a>(
     alloc: Global,
     name: &'a str,
+    usage: &'a str,
     about: &'a str,
 ) -> Result<Command<'a>, AllocError> {
     Command::new(alloc, name)
+        .override_usage(usage)
         .about(about)
         .after_help(OUTSIDE)
         .arg(period_option(alloc))?
@@ -197,6 +95,7 @@ fn split_command<'a>(alloc: Global) -> Result<Command<'a>, AllocError> {
     outside_command(
         alloc,
         "split",
+        "pesp split [OPTIONS] <FILE> < CERTIFICATE",
         "Reads a certificate from standard input and lists its open leaves as jobs",
     )
 }
@@ -205,6 +104,7 @@ fn work_command<'a>(alloc: Global) -> Result<Command<'a>, AllocError> {
     outside_command(
         alloc,
         "work",
+        "pesp work [OPTIONS] <FILE> <JOB> < CERTIFICATE",
         "Reads a certificate from standard input, works on its open leaf JOB and writes a work for it",
     )?
     .arg(steps_option(alloc))?
@@ -215,6 +115,7 @@ fn graft_command<'a>(alloc: Global) -> Result<Command<'a>, AllocError> {
     outside_command(
         alloc,
         "graft",
+        "pesp graft [OPTIONS] <FILE> <BASE> < WORKS",
         "Reads works from standard input and grafts them onto the certificate in BASE",
     )?
     .arg(base_argument(alloc))
@@ -224,6 +125,7 @@ fn check_command<'a>(alloc: Global) -> Result<Command<'a>, AllocError> {
     file_command(
         alloc,
         "check",
+        "pesp check [OPTIONS] <FILE> < CERTIFICATE",
         "Reads a certificate from standard input and says whether it is valid for the instance in FILE",
     )
 }
@@ -232,17 +134,32 @@ fn report_command<'a>(alloc: Global) -> Result<Command<'a>, AllocError> {
     file_command(
         alloc,
         "report",
+        "pesp report [OPTIONS] <FILE> < TIMES",
         "Reads time lines or a certificate from standard input and lists the slack of each activity in FILE",
-    )
+    )?
+    .arg(violations_option(alloc)?)?
+    .arg(names_option(alloc))
 }
 
 fn draw_command<'a>(alloc: Global) -> Result<Command<'a>, AllocError> {
     file_command(
         alloc,
         "draw",
+        "pesp draw [OPTIONS] <FILE> < TIMES",
         "Reads time lines or a certificate from standard input and draws the timetable of FILE in SVG",
     )?
-    .arg(rows_option(alloc))
+    .arg(rows_option(alloc))?
+    .arg(names_option(alloc))
+}
+
+fn diagram_command<'a>(alloc: Global) -> Result<Command<'a>, AllocError> {
+    file_command(
+        alloc,
+        "diagram",
+        "pesp diagram [OPTIONS] <FILE> <NAMES> < TIMES",
+        "Reads time lines or a certificate from standard input and draws a time-distance diagram in SVG for each line that NAMES tells",
+    )?
+    .arg(names_argument(alloc))
 }
 
 /// A command with one more subcommand.
@@ -263,7 +180,8 @@ fn with_round_trip<'a>(alloc: Global) -> Result<Command<'a>, AllocError> {
     let pesp = with(pesp, solve_command(alloc))?;
     let pesp = with(pesp, check_command(alloc))?;
     let pesp = with(pesp, report_command(alloc))?;
-    with(pesp, draw_command(alloc))
+    let pesp = with(pesp, draw_command(alloc))?;
+    with(pesp, diagram_command(alloc))
 }
 
 /// The program with all its commands.
@@ -343,12 +261,20 @@ fn request_in<'a>(matches: &ArgMatches<'a>) -> Request<'a>
         },
         Some(("report", found)) => Request::Report {
             period: period_of(found),
+            violations: found.get_flag("violations"),
+            names: found.get_str("names"),
             file: found.get_str("file").unwrap_or(""),
         },
         Some(("draw", found)) => Request::Draw {
             period: period_of(found),
             rows: rows_of(found),
+            names: found.get_str("names"),
             file: found.get_str("file").unwrap_or(""),
+        },
+        Some(("diagram", found)) => Request::Diagram {
+            period: period_of(found),
+            file: found.get_str("file").unwrap_or(""),
+            names: found.get_str("names").unwrap_or(""),
         },
         Some(("split", found)) => Request::Split {
             period: period_of(found),

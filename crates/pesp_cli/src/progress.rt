@@ -3,6 +3,8 @@
 use pesp_board::Board;
 use pesp_search::Observer;
 use std::fmt;
+use std::rt::Clock;
+use std::time::{Duration, Instant};
 
 /// How far a search is.
 #[derive(Clone, Copy, Debug, PartialEq, Eq, Drop)]
@@ -101,27 +103,114 @@ impl Milestones {
     }
 }
 
-/// Tells on standard error how far a search is. A line that can't be written is dropped.
-#[derive(Drop)]
-pub struct Teller<'a, R> {
-    rt: &'a R,
-    milestones: Milestones,
+/// How many seconds pass at most between two lines, where turns end meanwhile.
+const SECONDS: u64 = 5;
+
+/// How long a search has gone on, and how many leaves were split meanwhile.
+#[derive(Clone, Copy, Debug, Drop)]
+struct Pace {
+    steps: u32,
+    gone: Duration,
 }
 
-impl<'a, R: Eprint> Teller<'a, R> {
-    /// A teller that has told nothing.
-    pub fn new(rt: &'a R) -> Teller<'a, R> {
-        Teller {
-            rt,
-            milestones: Milestones::new(),
+impl Pace {
+    /// Steps a second, in tenths, rounded down; None before a millisecond has passed.
+    fn tenths(&self) -> Option<u128> {
+        let steps = u128::from(self.steps).saturating_mul(10_000);
+        steps.checked_div(self.gone.as_millis())
+    }
+}
+
+/// What stands behind a line of progress.
+impl fmt::Display for Pace {
+    fn fmt<W: fmt::Write>(&self, f: &mut fmt::Formatter<W>) -> fmt::Result {
+        let seconds = self.gone.as_secs();
+        write!(f, ", seconds {seconds}")?;
+        match self.tenths() {
+            None => Ok(()),
+            Some(tenths) => {
+                let (whole, tenth) = (tenths / 10, tenths % 10);
+                write!(f, ", steps a second {whole}.{tenth}")
+            }
         }
     }
 }
 
-impl<R: Eprint> Observer for Teller<'_, R> {
+/// A line of progress with its pace, where a clock could be read.
+#[derive(Drop)]
+struct Paced {
+    progress: Progress,
+    pace: Option<Pace>,
+}
+
+impl fmt::Display for Paced {
+    fn fmt<W: fmt::Write>(&self, f: &mut fmt::Formatter<W>) -> fmt::Result {
+        let Paced { progress, pace } = *self;
+        match pace {
+            Some(pace) => write!(f, "{progress}{pace}"),
+            None => write!(f, "{progress}"),
+        }
+    }
+}
+
+/// Tells on standard error how far a search is: at the milestones, and else when five seconds have passed since the last line.
+/// A line that can't be written is dropped, and where the clock can't be read there are the milestones alone.
+#[derive(Drop)]
+pub struct Teller<'a, R> {
+    rt: &'a R,
+    milestones: Milestones,
+    begun: Option<Instant>,
+    told: Option<Instant>,
+}
+
+impl<'a, R: Eprint + Clock> Teller<'a, R> {
+    /// A teller that has told nothing; seconds count from here on.
+    pub fn new(rt: &'a R) -> Teller<'a, R> {
+        let begun = Instant::now(rt).ok();
+        Teller {
+            rt,
+            milestones: Milestones::new(),
+            begun,
+            told: begun,
+        }
+    }
+
+    /// Tells that the run begins, and what comes before the first step.
+    pub fn begin(&self) {
+        let _ = self.rt.eprintln(
+            "progress: reads the instance, then looks for a forest, the root's bound and first times",
+        );
+    }
+
+    /// Whether so much time has passed since the last line that one is due.
+    fn is_due(&self, now: Option<Instant>) -> bool {
+        match (self.told, now) {
+            (Some(told), Some(now)) => now.duration_since(told).as_secs() >= SECONDS,
+            _ => false,
+        }
+    }
+
+    /// Tells how far the search is now.
+    fn tell(&mut self, progress: Progress, now: Option<Instant>) {
+        let pace = match (self.begun, now) {
+            (Some(begun), Some(now)) => Some(Pace {
+                steps: progress.steps,
+                gone: now.duration_since(begun),
+            }),
+            _ => None,
+        };
+        self.told = now;
+        let _ = self.rt.eprintln(Paced { progress, pace });
+    }
+}
+
+impl<R: Eprint + Clock> Observer for Teller<'_, R> {
     fn look(&mut self, steps_used: u32, board: &Board) {
-        if let Some(progress) = self.milestones.passed(steps_used, board) {
-            let _ = self.rt.eprintln(progress);
+        let now = Instant::now(self.rt).ok();
+        match self.milestones.passed(steps_used, board) {
+            Some(progress) => self.tell(progress, now),
+            None if self.is_due(now) => self.tell(Progress::of(steps_used, board), now),
+            None => {}
         }
     }
 }

@@ -45,8 +45,43 @@ fn tell_file(alloc: Global, verb: &str, period: u32, file: &str) -> Option<Strin
     format!(in alloc; "{verb} {file} at period {period}").ok()
 }
 
-fn tell_draw(alloc: Global, period: u32, rows: u32, file: &str) -> Option<String> {
-    format!(in alloc; "draw {file} at period {period} in {rows} rows").ok()
+/// A report that is asked for.
+fn tell_report(
+    alloc: Global,
+    period: u32,
+    violations: bool,
+    names: Option<&str>,
+    file: &str,
+) -> Option<String> {
+    let verb = if violations {
+        "report violations of"
+    } else {
+        "report"
+    };
+    match names {
+        None => tell_file(alloc, verb, period, file),
+        Some(names) => tell_named(alloc, verb, period, file, names),
+    }
+}
+
+/// What is asked for over a file and a file of names.
+fn tell_named(alloc: Global, verb: &str, period: u32, file: &str, names: &str) -> Option<String> {
+    format!(in alloc; "{verb} {file} at period {period} with {names}").ok()
+}
+
+fn tell_draw(
+    alloc: Global,
+    period: u32,
+    rows: u32,
+    names: Option<&str>,
+    file: &str,
+) -> Option<String> {
+    match names {
+        None => format!(in alloc; "draw {file} at period {period} in {rows} rows").ok(),
+        Some(names) => {
+            format!(in alloc; "draw {file} at period {period} in {rows} rows with {names}").ok()
+        }
+    }
 }
 
 fn tell_work(alloc: Global, period: u32, steps: u32, file: &str, job: u64) -> Option<String> {
@@ -67,8 +102,23 @@ fn tell_request(alloc: Global, request: Request<'_>) -> Option<String> {
             file,
         } => tell_solve(alloc, period, steps, progress, file),
         Request::Check { period, file } => tell_file(alloc, "check", period, file),
-        Request::Report { period, file } => tell_file(alloc, "report", period, file),
-        Request::Draw { period, rows, file } => tell_draw(alloc, period, rows, file),
+        Request::Report {
+            period,
+            violations,
+            names,
+            file,
+        } => tell_report(alloc, period, violations, names, file),
+        Request::Draw {
+            period,
+            rows,
+            names,
+            file,
+        } => tell_draw(alloc, period, rows, names, file),
+        Request::Diagram {
+            period,
+            file,
+            names,
+        } => tell_named(alloc, "diagram", period, file, names),
         Request::Split { period, file } => tell_file(alloc, "split", period, file),
         Request::Work {
             period,

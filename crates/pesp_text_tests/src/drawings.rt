@@ -38,6 +38,7 @@ fn draw(alloc: Global, given: &Given, rows: u32) -> (Result<(), Fault>, Vec<u8>)
     let mut writer = drain_of(alloc, given.output);
     let answer = run_draw(
         alloc,
+        None,
         &mut first,
         &mut second,
         &mut writer,
@@ -56,7 +57,7 @@ fn tell_element(told: &mut String, tag: &str, text: &str) -> Option<()> {
 }
 
 /// Each text of a picture, titles too, in their order.
-fn tell_words(alloc: Global, picture: &str) -> Option<String> {
+pub(crate) fn tell_words(alloc: Global, picture: &str) -> Option<String> {
     let mut told = String::from_str(alloc, "0").ok()?;
     for element in picture.split("<") {
         if let Some((tag, text)) = element.split_once(">") {

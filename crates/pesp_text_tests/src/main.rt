@@ -10,6 +10,7 @@ mod drawings;
 mod feed;
 mod given;
 mod instances;
+mod named;
 mod outside;
 mod pieces;
 mod playing;
@@ -25,7 +26,7 @@ use pesp_cases::cases_of;
 use playing::play;
 use std::io;
 use std::process::ExitCode;
-use std::rt::Files;
+use std::rt::{Clock, Files};
 
 fn main(rt: HostRuntime) -> ExitCode {
     match run(&rt) {
@@ -35,14 +36,14 @@ fn main(rt: HostRuntime) -> ExitCode {
 }
 
 /// Plays the cases on standard input.
-fn run<R: AllocGlobal + Input + Print + Eprint + Files>(rt: &R) -> Option<()> {
+fn run<R: AllocGlobal + Input + Print + Eprint + Files + Clock>(rt: &R) -> Option<()> {
     let text = io::read_to_string(rt.alloc(), rt.reader()).ok()?;
     let told = tell_cases(rt, text.as_str())?;
     rt.print(told).ok()
 }
 
 /// What is told of all cases.
-fn tell_cases<R: AllocGlobal + Input + Print + Eprint + Files>(
+fn tell_cases<R: AllocGlobal + Input + Print + Eprint + Files + Clock>(
     rt: &R,
     text: &str,
 ) -> Option<String> {

@@ -4,17 +4,18 @@ use crate::certificates::{ask_certificate, make_certificate};
 use crate::commands::ask_command;
 use crate::drawings::{ask_draw, ask_drawn};
 use crate::instances::{ask_instance, ask_score};
+use crate::named::{ask_diagram, ask_named_draw, ask_named_report};
 use crate::outside::{ask_graft, ask_split, ask_work, ask_worked};
 use crate::pieces::is_piece;
 use crate::reports::{ask_report, ask_times};
-use crate::runs::{ask_check, ask_progress, ask_run_report, ask_solve, ask_solved};
+use crate::runs::{ask_check, ask_progress, ask_run_report, ask_solve, ask_solved, ask_violations};
 use crate::spellings::{ask_lines, ask_number, ask_words};
 use crate::statuses::ask_status;
 use crate::streams::{ask_bytes, ask_pages};
 use crate::works::ask_works;
 use pesp_cases::{look_up, split_word};
 use std::alloc::Global;
-use std::rt::Files;
+use std::rt::{Clock, Files};
 
 /// What a line asks for.
 #[derive(Clone, Copy)]
@@ -24,6 +25,10 @@ enum Question {
     Progress,
     Check,
     Report,
+    Violations,
+    NamedReport,
+    NamedDraw,
+    Diagram,
     Draw,
     Drawn,
     Split,
@@ -46,12 +51,16 @@ enum Question {
 }
 
 /// The first word of each question.
-const QUESTIONS: [(&str, Question); 24] = [
+const QUESTIONS: [(&str, Question); 28] = [
     ("solve", Question::Solve),
     ("solved", Question::Solved),
     ("progress", Question::Progress),
     ("check", Question::Check),
     ("report", Question::Report),
+    ("violations", Question::Violations),
+    ("named", Question::NamedReport),
+    ("drawn_named", Question::NamedDraw),
+    ("diagram", Question::Diagram),
     ("draw", Question::Draw),
     ("drawn", Question::Drawn),
     ("split", Question::Split),
@@ -74,7 +83,7 @@ const QUESTIONS: [(&str, Question); 24] = [
 ];
 
 /// What is told of a case: its name, and each question with its answer.
-pub(crate) fn play<R: AllocGlobal + Input + Print + Eprint + Files>(
+pub(crate) fn play<R: AllocGlobal + Input + Print + Eprint + Files + Clock>(
     rt: &R,
     lines: &[&str],
 ) -> Option<String> {
@@ -94,9 +103,10 @@ enum Role {
 }
 
 /// The first word of each line that is no question.
-const ROLES: [(&str, Role); 7] = [
+const ROLES: [(&str, Role); 8] = [
     ("instance", Role::Given),
     ("base", Role::Given),
+    ("names", Role::Given),
     ("input", Role::Given),
     ("period", Role::Given),
     ("device", Role::Given),
@@ -105,7 +115,7 @@ const ROLES: [(&str, Role); 7] = [
 ];
 
 /// A line with its answer; nothing of what is given.
-fn tell<R: AllocGlobal + Input + Print + Eprint + Files>(
+fn tell<R: AllocGlobal + Input + Print + Eprint + Files + Clock>(
     rt: &R,
     lines: &[&str],
     line: &str,
@@ -141,6 +151,10 @@ fn answer_of(alloc: Global, lines: &[&str], word: &str, rest: &str) -> Option<St
         Question::Progress => ask_progress(alloc, lines, rest),
         Question::Check => ask_check(alloc, lines, rest),
         Question::Report => ask_run_report(alloc, lines),
+        Question::Violations => ask_violations(alloc, lines),
+        Question::NamedReport => ask_named_report(alloc, lines),
+        Question::NamedDraw => ask_named_draw(alloc, lines),
+        Question::Diagram => ask_diagram(alloc, lines),
         Question::Draw => ask_draw(alloc, lines, rest),
         Question::Drawn => ask_drawn(alloc, lines, rest),
         Question::Split => ask_split(alloc, lines),

@@ -4,10 +4,10 @@ use crate::devices::Device;
 use crate::drain::drain_of;
 use crate::feed::feed_of;
 use crate::given::{Given, given_by, period_of, text_of};
-use crate::telling::{tell_check, tell_run, tell_verdict};
+use crate::telling::{tell_check, tell_count, tell_run, tell_verdict};
 use pesp_board::Board;
 use pesp_cli::Milestones;
-use pesp_runs::{run_check, run_report, run_solve, run_solve_watched};
+use pesp_runs::{run_check, run_report, run_solve, run_solve_watched, run_violations};
 use pesp_search::Observer;
 use std::alloc::Global;
 
@@ -128,4 +128,17 @@ fn tell_report(alloc: Global, given: &Given) -> Option<String> {
 /// What `report` writes.
 pub(crate) fn ask_run_report(alloc: Global, lines: &[&str]) -> Option<String> {
     tell_report(alloc, &given_by(alloc, lines)?)
+}
+
+fn tell_violations(alloc: Global, given: &Given) -> Option<String> {
+    let mut first = feed_of(&given.instance, given.first);
+    let mut second = feed_of(&given.input, given.second);
+    let mut writer = drain_of(alloc, given.output);
+    let answer = run_violations(alloc, &mut first, &mut second, &mut writer, given.period);
+    tell_count(alloc, answer, writer)
+}
+
+/// What `report --violations` writes, behind how many activities are violated.
+pub(crate) fn ask_violations(alloc: Global, lines: &[&str]) -> Option<String> {
+    tell_violations(alloc, &given_by(alloc, lines)?)
 }

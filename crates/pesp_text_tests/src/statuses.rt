@@ -2,10 +2,10 @@
 
 use crate::commands::words_with_name;
 use pesp_cli::status_of_words;
-use std::rt::Files;
+use std::rt::{Clock, Files};
 
 /// The exit status of the program for these words. Standard input is at its end by then, and files lie where the test runs.
-pub(crate) fn ask_status<R: AllocGlobal + Input + Print + Eprint + Files>(
+pub(crate) fn ask_status<R: AllocGlobal + Input + Print + Eprint + Files + Clock>(
     rt: &R,
     line: &str,
 ) -> Option<u8> {

@@ -74,6 +74,22 @@ pub(crate) fn tell_check(
     tell_verdict(alloc, answer, writer)
 }
 
+/// How many things a run found, and what it has written.
+pub(crate) fn tell_count(
+    alloc: Global,
+    answer: Result<usize, Fault>,
+    writer: Counted<Drain>,
+) -> Option<String> {
+    let taken = writer.into_inner().taken;
+    match answer {
+        Ok(count) => {
+            let text = joined(alloc, &taken)?;
+            format!(in alloc; "{count} {text}").ok()
+        }
+        Err(fault) => tell_fault(alloc, &fault, &taken),
+    }
+}
+
 /// How a run ended, with which status where it has one of its own, and what it has written.
 fn tell_end(alloc: Global, answer: Result<u8, Fault>, writer: Counted<Drain>) -> Option<String> {
     let taken = writer.into_inner().taken;

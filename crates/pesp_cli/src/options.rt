@@ -1,0 +1,96 @@
+//! The options and the arguments of commands.
+
+use clap::{Arg, ArgAction, value_parser};
+use std::alloc::{AllocError, Global};
+
+pub(crate) fn period_option<'a>(alloc: Global) -> Arg<'a> {
+    Arg::new(alloc, "period")
+        .long("period")
+        .value_name("N")
+        .value_parser(value_parser!(u32).range(1..=10000))
+        .default_value("60")
+        .help("The period, 1 to 10000, in the unit of the durations")
+}
+
+pub(crate) fn steps_option<'a>(alloc: Global) -> Arg<'a> {
+    Arg::new(alloc, "steps")
+        .long("steps")
+        .value_name("N")
+        .value_parser(value_parser!(u32).range(0..=100000))
+        .default_value("1000")
+        .help("How many leaves of the search are split at most, 0 to 100000")
+}
+
+pub(crate) fn progress_option<'a>(alloc: Global) -> Arg<'a> {
+    Arg::new(alloc, "progress")
+        .long("progress")
+        .action(ArgAction::SetTrue)
+        .help(
+            "Tells on standard error how far the search is: at its beginning, at each doubling of the steps and at each better timetable",
+        )
+}
+
+pub(crate) fn violations_option<'a>(alloc: Global) -> Result<Arg<'a>, AllocError> {
+    Arg::new(alloc, "violations")
+        .long("violations")
+        .action(ArgAction::SetTrue)
+        .help(
+            "Lists the activities that the times violate instead, each with its bounds and the excess; the exit status is 1 where there are any",
+        )
+        .conflicts_with("names")
+}
+
+pub(crate) fn names_option<'a>(alloc: Global) -> Arg<'a> {
+    Arg::new(alloc, "names")
+        .long("names")
+        .value_name("NAMES")
+        .help(
+            "A file with the names of events, one a line as event,name or event,name,line,station",
+        )
+}
+
+pub(crate) fn names_argument<'a>(alloc: Global) -> Arg<'a> {
+    Arg::new(alloc, "names")
+        .value_name("NAMES")
+        .required(true)
+        .help("The file with the names of events, one a line as event,name,line,station")
+}
+
+pub(crate) fn rows_option<'a>(alloc: Global) -> Arg<'a> {
+    Arg::new(alloc, "rows")
+        .long("rows")
+        .value_name("N")
+        .value_parser(value_parser!(u32).range(1..=1000))
+        .default_value("100")
+        .help(
+            "How many activities, the dearest ones, and how many events are drawn at most, 1 to 1000",
+        )
+}
+
+pub(crate) fn file_argument<'a>(alloc: Global) -> Arg<'a> {
+    Arg::new(alloc, "file")
+        .value_name("FILE")
+        .required(true)
+        .help("The file with the instance")
+}
+
+pub(crate) fn base_argument<'a>(alloc: Global) -> Arg<'a> {
+    Arg::new(alloc, "base")
+        .value_name("BASE")
+        .required(true)
+        .help("The file with the certificate onto which works are grafted")
+}
+
+pub(crate) fn job_argument<'a>(alloc: Global) -> Arg<'a> {
+    Arg::new(alloc, "job")
+        .value_name("JOB")
+        .required(true)
+        .value_parser(value_parser!(u64).range(0..=999999))
+        .help("The number of the open leaf, as split tells it, 0 to 999999")
+}
+
+pub(crate) fn optional_file<'a>(alloc: Global) -> Arg<'a> {
+    Arg::new(alloc, "file").value_name("FILE").help(
+        "The file with the instance; standard input where none is named",
+    )
+}

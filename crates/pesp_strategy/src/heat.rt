@@ -1,7 +1,7 @@
 //! How much worse a forest may be than the one before it.
 
 use crate::goal::Goal;
-use crate::settings::{COOLINGS, FEWEST_HEATED};
+use crate::settings::{COOLINGS, FEWEST_CHOSEN, FEWEST_HEATED};
 use pesp_forest::Frame;
 use pesp_search_tools::Random;
 
@@ -35,10 +35,11 @@ impl Heat {
             .saturating_mul(u64::from(frame.period()))
             .saturating_mul(mean_weight(frame));
         let is_heated = most as usize >= cycles.saturating_mul(FEWEST_HEATED);
+        let is_short = (most as usize) < cycles.saturating_mul(FEWEST_CHOSEN);
         Heat {
             top: if is_heated { scaled / 4096 } else { 0 },
             most,
-            room: scaled / 1024,
+            room: if is_short { scaled / 64 } else { scaled / 1024 },
         }
     }
 

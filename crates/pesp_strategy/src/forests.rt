@@ -1,7 +1,7 @@
 //! The search for a forest whose cycles give a strong bound.
 
 use crate::drawing::{Exchange, draw};
-use crate::goal::Goal;
+use crate::goal::{Goal, open_in_all};
 use crate::heat::Heat;
 use crate::settings::DRAWN_EACH;
 use crate::table::Table;
@@ -11,7 +11,8 @@ use pesp_problem::Memory;
 use pesp_search_tools::Random;
 use std::alloc::{AllocError, Global};
 
-/// A search: where it stands, the rows outside its forest, what the forest is worth, and the best rows so far.
+/// A search: where it stands, the rows outside its forest, how open its cycles are, what the forest is worth, and the best rows
+/// so far.
 #[derive(Drop)]
 struct Search {
     table: Table,
@@ -19,6 +20,7 @@ struct Search {
     goal: Goal,
     heat: Heat,
     random: Random,
+    open: i64,
     worth: i128,
     best: i128,
     rows: Vec<u32>,
@@ -45,7 +47,8 @@ impl Search {
     ) -> Result<Search, AllocError> {
         let outside = table.forest.rows(alloc, false)?;
         let goal = Goal::new(outside.len());
-        let worth = goal.worth(frame, &table.basis);
+        let open = open_in_all(frame, &table.basis);
+        let worth = goal.worth(frame, &table.basis, open);
         Ok(Search {
             heat: Heat::new(frame, goal, outside.len(), most),
             rows: Vec::new(alloc),
@@ -53,6 +56,7 @@ impl Search {
             outside,
             goal,
             random: Random::new(u64::from(seed)),
+            open,
             worth,
             best: worth,
             count: 0,
@@ -84,7 +88,29 @@ impl Search {
         Ok(Some(()))
     }
 
-    /// Tries an exchange: keeps it, or takes it back; None where the search ends, with the forest as it stands then.
+    /// Judges an exchange that was made by the root of its forest: keeps it, or takes it back; None where the search ends.
+    fn judge(
+        &mut self,
+        alloc: Global,
+        frame: &Frame,
+        exchange: Exchange,
+        open: i64,
+    ) -> Result<Option<()>, AllocError> {
+        if self.table.solve(frame).is_none() {
+            self.keep_rows(alloc)?;
+            return Ok(None);
+        }
+        let worth = self.goal.worth(frame, &self.table.basis, open);
+        let loss = self.worth.saturating_sub(worth);
+        if self.heat.takes(&mut self.random, self.count, loss) {
+            self.open = open;
+            return self.keep(alloc, exchange, worth);
+        }
+        Ok(self.table.restore(frame, exchange.enters, exchange.leaves))
+    }
+
+    /// Tries an exchange, and takes it back at once where it leaves many more offsets open; None where the search ends, with
+    /// the forest as it stands then.
     fn attempt(
         &mut self,
         alloc: Global,
@@ -92,17 +118,18 @@ impl Search {
         exchange: Exchange,
     ) -> Result<Option<()>, AllocError> {
         let Exchange { enters, leaves, .. } = exchange;
-        if self.table.exchange(frame, enters, leaves).is_none() {
+        self.count = self.count.saturating_add(1);
+        if self.table.exchange(frame, enters, leaves)?.is_none() {
             self.keep_rows(alloc)?;
             return Ok(None);
         }
-        let worth = self.goal.worth(frame, &self.table.basis);
-        self.count = self.count.saturating_add(1);
-        let loss = self.worth.saturating_sub(worth);
-        if self.heat.takes(&mut self.random, self.count, loss) {
-            return self.keep(alloc, exchange, worth);
+        let open = self.open.wrapping_add(self.table.opened(frame));
+        let before = self.goal.penalty(frame, self.open);
+        let more = self.goal.penalty(frame, open).saturating_sub(before);
+        if !self.heat.looks_at(&mut self.random, more) {
+            return Ok(self.table.take_back(frame, enters, leaves));
         }
-        Ok(self.table.restore(frame, enters, leaves))
+        self.judge(alloc, frame, exchange, open)
     }
 
     /// Tries so many exchanges, or fewer where too many are drawn that aren't to be tried.

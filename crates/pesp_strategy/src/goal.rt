@@ -29,6 +29,24 @@ fn count_of(slopes: Slopes, period: u32) -> u64 {
     u64::try_from(periods.saturating_add(1)).unwrap_or(0)
 }
 
+/// How open a row's cycle is: the row's weight and 1, times the logarithm of how many offsets are left.
+pub(crate) fn openness(frame: &Frame, place: u32, slopes: Option<Slopes>) -> i64 {
+    let count = slopes.map_or(1, |slopes| count_of(slopes, frame.period()));
+    let weight = frame.row(place).map_or(0, |row| row.weight);
+    let heavy = weight.saturating_add(1);
+    i64::try_from(heavy.saturating_mul(logarithm(count))).unwrap_or(i64::MAX)
+}
+
+/// How open all cycles are together.
+pub(crate) fn open_in_all(frame: &Frame, basis: &Basis) -> i64 {
+    let mut sum = 0i64;
+    for place in 0..frame.rows().len() {
+        let place = u32::try_from(place).unwrap_or(u32::MAX);
+        sum = sum.wrapping_add(openness(frame, place, basis.slopes(place)));
+    }
+    sum
+}
+
 /// How much an open offset counts, in units of 1/4096: the less the more cycles there are.
 #[derive(Clone, Copy)]
 pub(crate) struct Goal {
@@ -46,26 +64,18 @@ impl Goal {
         }
     }
 
-    /// The sum over the rows of their weights and 1, times the logarithm of how many offsets are left.
-    fn open(frame: &Frame, basis: &Basis) -> u64 {
-        let mut sum = 0u64;
-        for (place, row) in frame.rows().iter().enumerate() {
-            let slopes = basis.slopes(u32::try_from(place).unwrap_or(0));
-            let count = slopes.map_or(1, |slopes| count_of(slopes, frame.period()));
-            let heavy = row.weight.saturating_add(1);
-            sum = sum.saturating_add(heavy.saturating_mul(logarithm(count)));
-        }
-        sum
+    /// What is taken off the value of a root's leaf for so open cycles.
+    pub(crate) fn penalty(self, frame: &Frame, open: i64) -> i128 {
+        let scaled = i128::from(open)
+            .saturating_mul(i128::from(self.share))
+            .saturating_mul(i128::from(frame.period()));
+        scaled / 524_288
     }
 
-    /// What a forest is worth by the basis of its root.
-    pub(crate) fn worth(self, frame: &Frame, basis: &Basis) -> i128 {
-        let open = u128::from(Goal::open(frame, basis));
-        let penalty = open
-            .saturating_mul(u128::from(self.share))
-            .saturating_mul(u128::from(frame.period()))
-            / 524_288;
-        let penalty = i128::try_from(penalty).unwrap_or(i128::MAX);
-        0i128.saturating_sub(basis.cost()).saturating_sub(penalty)
+    /// What a forest is worth by the basis of its root, where its cycles are so open.
+    pub(crate) fn worth(self, frame: &Frame, basis: &Basis, open: i64) -> i128 {
+        0i128
+            .saturating_sub(basis.cost())
+            .saturating_sub(self.penalty(frame, open))
     }
 }

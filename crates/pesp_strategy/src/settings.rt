@@ -18,6 +18,9 @@ pub(crate) const WIDE: u128 = 8;
 /// With fewer exchanges for each cycle only those are kept that lose nothing.
 pub(crate) const FEWEST_HEATED: usize = 15;
 
+/// With fewer exchanges for each cycle more of them are looked at that leave more offsets open.
+pub(crate) const FEWEST_CHOSEN: usize = 5;
+
 /// Over how many halvings the heat falls.
 pub(crate) const COOLINGS: u64 = 7;
 

@@ -1,14 +1,24 @@
 //! A forest with the relaxation of its root, and exchanges of rows.
 
+use crate::goal::openness;
 use pesp_forest::{Forest, Frame, NONE, Spans};
 use pesp_relaxation::{Basis, Ended, MOST_PIVOTS, Root, Slopes, slopes_of};
 use std::alloc::{AllocError, Global};
 
-/// The basis before the last exchange, and the events beyond the row that is exchanged.
+/// A row, and what flow on it costs.
+#[derive(Clone, Copy)]
+struct Priced {
+    row: u32,
+    slopes: Slopes,
+}
+
+/// The basis before the last exchange, the events beyond the row that is exchanged, and what flow costs after the exchange on
+/// the rows that lead there.
 #[derive(Drop)]
 struct Spare {
     before: Basis,
     is_beyond: Vec<bool>,
+    crossing: Vec<Priced>,
 }
 
 /// A forest with sums of durations along it and the best basis of its root, and what an exchange needs.
@@ -25,7 +35,11 @@ impl Spare {
     fn new(alloc: Global, frame: &Frame) -> Result<Spare, AllocError> {
         let is_beyond = vec![in alloc; false; frame.events()]?;
         let before = Basis::idle(alloc, frame)?;
-        Ok(Spare { before, is_beyond })
+        Ok(Spare {
+            before,
+            is_beyond,
+            crossing: Vec::new(alloc),
+        })
     }
 }
 
@@ -66,10 +80,9 @@ impl Table {
         }
     }
 
-    /// Whether one end of a row is beyond the row that is exchanged, and the other one not.
-    fn crosses(&self, tail: u32, head: u32) -> bool {
-        let is_beyond = &self.spare.is_beyond;
-        is_beyond.get(tail as usize) != is_beyond.get(head as usize)
+    /// Whether an event is beyond the row that is exchanged.
+    fn is_beyond(&self, event: u32) -> bool {
+        self.spare.is_beyond.get(event as usize).copied() == Some(true)
     }
 
     /// What flow on a row costs at the root; None where its cycle has no offset.
@@ -86,16 +99,34 @@ impl Table {
         slopes_of(frame.period(), row, range, (low, high))
     }
 
-    /// Puts right what flow on the rows that cross costs.
-    fn set_crossing(&mut self, frame: &Frame) -> Option<()> {
-        for (number, row) in frame.rows().iter().enumerate() {
-            if self.crosses(row.tail, row.head) {
-                let place = u32::try_from(number).ok()?;
-                let slopes = self.slopes(frame, place)?;
-                self.basis.set_slopes(place, slopes)?;
+    /// Lists what flow costs on the rows that lead from an event beyond to one that isn't; None where a cycle has no offset.
+    fn list_at(&mut self, frame: &Frame, event: u32) -> Result<Option<()>, AllocError> {
+        for link in frame.star(event) {
+            if !self.is_beyond(link.other) {
+                let Some(slopes) = self.slopes(frame, link.row) else {
+                    return Ok(None);
+                };
+                let row = link.row;
+                self.spare.crossing.push(Priced { row, slopes })?;
             }
         }
-        Some(())
+        Ok(Some(()))
+    }
+
+    /// Lists what flow costs on the rows that lead out of the part below an event; None where a cycle has no offset.
+    fn list_crossing(&mut self, frame: &Frame, top: u32) -> Result<Option<()>, AllocError> {
+        self.spare.crossing.clear();
+        let mut event = top;
+        for _ in 0..frame.events() {
+            if self.list_at(frame, event)?.is_none() {
+                return Ok(None);
+            }
+            event = self.forest.tree().following(event, top);
+            if event == NONE {
+                break;
+            }
+        }
+        Ok(Some(()))
     }
 
     /// Takes a row in and another one out.
@@ -105,16 +136,51 @@ impl Table {
         Some(inner)
     }
 
-    /// Takes a row in whose way along the forest passes another one, which goes out, and goes on to a best basis. None where
-    /// the root of that forest has no timetable.
-    pub(crate) fn exchange(&mut self, frame: &Frame, enters: u32, leaves: u32) -> Option<()> {
-        let top = self.forest.lower_end(frame, leaves)?;
-        self.spare.before.copy_from(&self.basis)?;
+    /// Takes a row in whose way along the forest passes another one, which goes out; the basis stays as it is. None where a
+    /// cycle of that forest has no offset.
+    pub(crate) fn exchange(
+        &mut self,
+        frame: &Frame,
+        enters: u32,
+        leaves: u32,
+    ) -> Result<Option<()>, AllocError> {
+        let Some(top) = self.forest.lower_end(frame, leaves) else {
+            return Ok(None);
+        };
         self.mark(top, true);
-        let inner = self.swap(frame, enters, leaves)?;
-        let found = self.set_crossing(frame);
+        let Some(inner) = self.swap(frame, enters, leaves) else {
+            return Ok(None);
+        };
+        let found = self.list_crossing(frame, inner);
         self.mark(inner, false);
-        found?;
+        found
+    }
+
+    /// By how much more offsets are open after an exchange.
+    pub(crate) fn opened(&self, frame: &Frame) -> i64 {
+        let mut more = 0i64;
+        for priced in &self.spare.crossing {
+            let before = self.basis.slopes(priced.row);
+            let change = openness(frame, priced.row, Some(priced.slopes)).wrapping_sub(openness(
+                frame, priced.row, before,
+            ));
+            more = more.wrapping_add(change);
+        }
+        more
+    }
+
+    /// Takes back an exchange behind which the basis was left as it was.
+    pub(crate) fn take_back(&mut self, frame: &Frame, entered: u32, left: u32) -> Option<()> {
+        self.swap(frame, left, entered)?;
+        Some(())
+    }
+
+    /// Goes on to a best basis after an exchange; None where the root of the forest has no timetable.
+    pub(crate) fn solve(&mut self, frame: &Frame) -> Option<()> {
+        self.spare.before.copy_from(&self.basis)?;
+        for priced in &self.spare.crossing {
+            self.basis.set_slopes(priced.row, priced.slopes)?;
+        }
         self.basis.reprice()?;
         match self.basis.solve(frame, MOST_PIVOTS) {
             Ended::Best => Some(()),
@@ -122,7 +188,7 @@ impl Table {
         }
     }
 
-    /// Takes back the last exchange.
+    /// Takes back an exchange behind which the basis was solved.
     pub(crate) fn restore(&mut self, frame: &Frame, entered: u32, left: u32) -> Option<()> {
         self.swap(frame, left, entered)?;
         self.basis.copy_from(&self.spare.before)

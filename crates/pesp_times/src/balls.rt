@@ -150,6 +150,7 @@ impl TimesSearch {
         let Some(mut relaxation) = relaxed else {
             return Ok(None);
         };
+        relaxation.is_drawn = true;
         let Some(mut annealer) = self.dived(network, &mut relaxation)? else {
             return Ok(None);
         };
@@ -182,7 +183,7 @@ impl TimesSearch {
         Ok(())
     }
 
-    /// Frees so many balls one after another.
+    /// Frees balls one after another until so many in turn found nothing cheaper: at most eight times as many.
     pub(crate) fn free_balls(
         &mut self,
         network: &Network,
@@ -190,8 +191,18 @@ impl TimesSearch {
         balls: u32,
         rounds: u32,
     ) -> Result<(), Memory> {
-        for _ in 0..balls {
+        let mut quiet = 0u32;
+        for _ in 0..balls.saturating_mul(8) {
+            let before = found.cost;
             self.try_ball(network, found, rounds.min(30))?;
+            quiet = if found.cost < before {
+                0
+            } else {
+                quiet.wrapping_add(1)
+            };
+            if quiet >= balls {
+                break;
+            }
         }
         self.note(network, found)
     }

@@ -25,6 +25,18 @@ fn thousandths_for(rows: usize) -> usize {
     if rows <= 2_500 { 0 } else { 3 }
 }
 
+/// The one with the least key, and of these the one with the first row.
+fn least_of(list: &[Keyed]) -> Option<Keyed> {
+    let mut least = None;
+    for keyed in list {
+        least = match least {
+            Some(best) if !keyed.is_before(&best) => Some(best),
+            _ => Some(*keyed),
+        };
+    }
+    least
+}
+
 impl Relaxation {
     /// The offset of a row outside the forest, where it is no whole number and not one that its slopes hold.
     fn broken(&self, row: u32) -> Option<Broken> {
@@ -55,19 +67,19 @@ impl Relaxation {
         key.checked_mul(64)?.checked_add(more)
     }
 
-    /// The offsets that are no whole numbers, the one that is to be fixed first in front; the order of a first dive isn't drawn.
+    /// The offsets that are no whole numbers, with keys that are the less, the sooner they are to be fixed; the order of a first
+    /// dive isn't drawn.
     fn candidates(&self, alloc: Global, random: &mut Random) -> Result<Vec<Keyed>, AllocError> {
         let mut list = Vec::new(alloc);
         for row in self.root.cycles.outside() {
             let Some(broken) = self.broken(*row) else {
                 continue;
             };
-            let drawn = if self.has_dived { random.below(256) } else { 0 };
+            let drawn = if self.is_drawn { random.below(256) } else { 0 };
             if let Some(key) = self.lateness(*row, broken, drawn) {
                 list.push(Keyed { key, row: *row })?;
             }
         }
-        list.sort_unstable_by_key(|keyed| (keyed.key, keyed.row));
         Ok(list)
     }
 
@@ -122,11 +134,15 @@ impl Relaxation {
         None
     }
 
-    /// Fixes the first of these offsets.
-    fn fix_first(&mut self, list: &[Keyed]) -> Option<()> {
+    /// Fixes those of these offsets that are to be fixed first.
+    fn fix_first(&mut self, list: &mut [Keyed]) -> Option<()> {
         let thousandths = thousandths_for(self.frame.rows().len());
         let count = list.len().saturating_mul(thousandths) / 1000;
-        for keyed in list.iter().take(count.max(1)) {
+        if count <= 1 {
+            return self.fix(least_of(list)?.row);
+        }
+        list.sort_unstable_by_key(|keyed| (keyed.key, keyed.row));
+        for keyed in list.iter().take(count) {
             self.fix(keyed.row)?;
         }
         Some(())
@@ -138,8 +154,8 @@ impl Relaxation {
             return Ok(());
         }
         for _ in 0..self.frame.rows().len().saturating_mul(4) {
-            let list = self.candidates(alloc, random)?;
-            if list.is_empty() || self.fix_first(&list).is_none() {
+            let mut list = self.candidates(alloc, random)?;
+            if list.is_empty() || self.fix_first(&mut list).is_none() {
                 return Ok(());
             }
         }
@@ -154,7 +170,7 @@ impl Relaxation {
         random: &mut Random,
     ) -> Result<Option<Vec<u32>>, Memory> {
         self.dive(alloc, random)?;
-        self.has_dived = true;
+        self.is_drawn = true;
         let times = times_at(alloc, network.period(), self.dived.prices())?;
         if network.is_timetable(&times) {
             return Ok(Some(times));

@@ -1,6 +1,6 @@
 //! How much work a batch is.
 
-/// How many individuals, in fours; how many rounds an anneal has; and how many balls are freed behind each merge.
+/// How many individuals, in fours; how many rounds an anneal has; and how many balls in turn may find nothing behind each merge.
 #[derive(Clone, Copy)]
 pub(crate) struct Effort {
     pub(crate) fours: u32,
@@ -20,11 +20,15 @@ pub(crate) const MOST_REOPTIMISED: usize = 8_000;
 /// Up to how many rows there is more work for each row.
 pub(crate) const FEW: usize = 2_500;
 
+/// Up to how many rows there are more individuals.
+const FEWEST: usize = 700;
+
 impl Effort {
     /// The work before the first step.
     pub(crate) fn first(rows: usize) -> Effort {
         let (fours, rounds, balls) = match rows {
-            0..=2_500 => (2, 20, 3),
+            0..=700 => (4, 20, 3),
+            701..=2_500 => (2, 20, 3),
             2_501..=8_000 => (1, 24, 6),
             8_001..=30_000 => (1, 24, 20),
             _ => (1, 6, 20),
@@ -37,9 +41,14 @@ impl Effort {
     }
 
     /// The work after so many steps.
-    pub(crate) fn after(steps: u32) -> Effort {
+    pub(crate) fn after(rows: usize, steps: u32) -> Effort {
+        let fours = match steps {
+            0..=2_047 if rows <= FEWEST => 2,
+            0..=2_047 => 1,
+            _ => 4,
+        };
         Effort {
-            fours: if steps >= 2_048 { 4 } else { 1 },
+            fours,
             rounds: (steps / 8).clamp(30, 250),
             balls: (steps / 256).saturating_add(10),
         }

@@ -12,6 +12,13 @@ pub(crate) struct Keyed {
     pub(crate) row: u32,
 }
 
+impl Keyed {
+    /// Whether it comes before another: by its key, or by its row where keys are the same.
+    pub(crate) fn is_before(&self, other: &Keyed) -> bool {
+        self.key < other.key || self.key == other.key && self.row < other.row
+    }
+}
+
 /// Whether keys are the plain ones, or each grows by a factor from 1 to 5 that is drawn.
 #[derive(Clone, Copy, PartialEq, Eq)]
 pub(crate) enum Keys {

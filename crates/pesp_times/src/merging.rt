@@ -93,6 +93,7 @@ impl TimesSearch {
         let Some(mut relaxation) = found else {
             return Ok(());
         };
+        relaxation.is_drawn = true;
         for _ in 0..TRIES {
             let network = &merge.contraction.network;
             if let Some(mut annealer) = self.dived(network, &mut relaxation)? {

@@ -8,14 +8,14 @@ use pesp_search_tools::Random;
 use std::alloc::{AllocError, Global};
 
 /// A network with a forest, the offsets that this leaves to each cycle, the best basis of the root, that of a dive, and
-/// whether there was one.
+/// whether the order of the next dive is drawn.
 #[derive(Drop)]
 pub(crate) struct Relaxation {
     pub(crate) frame: Frame,
     pub(crate) root: Root,
     pub(crate) best: Basis,
     pub(crate) dived: Basis,
-    pub(crate) has_dived: bool,
+    pub(crate) is_drawn: bool,
 }
 
 impl Relaxation {
@@ -40,7 +40,7 @@ impl Relaxation {
             root,
             best,
             dived,
-            has_dived: false,
+            is_drawn: false,
         }))
     }
 }

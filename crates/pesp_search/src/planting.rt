@@ -10,13 +10,13 @@ use std::alloc::Global;
 
 /// How many exchanges of a row the search for a forest tries at most. It doesn't depend on the steps: so a search of more steps
 /// is the same search, longer, and neither its bound nor its cost gets worse.
-const MOST_EXCHANGES: usize = 11_000;
+const MOST_EXCHANGES: usize = 20_000;
 
 /// How many exchanges each cycle allows.
-const EXCHANGES_A_CYCLE: usize = 20;
+const EXCHANGES_A_CYCLE: usize = 30;
 
 /// How many exchanges times rows there are at most.
-const EXCHANGED_ROWS: usize = 40_000_000;
+const EXCHANGED_ROWS: usize = 64_000_000;
 
 /// How many exchanges of a row the search for a forest tries: fewer where few cycles need them, or where many rows make each
 /// dear.

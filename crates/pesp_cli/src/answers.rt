@@ -6,7 +6,10 @@ ghost use Rattle.pesp_stream.specs.Counts.{FewerThan};
 use crate::output::{Stop, ended, writer_of};
 use crate::progress::Teller;
 use crate::telling::Telling;
+use crate::watch::Watch;
+use pesp_conflict_run::{run_conflict, status_of_told};
 use pesp_names::Names;
+use pesp_resume_run::{run_gap, run_resume};
 use pesp_runs::{
     Fault, read_whole_names, run_check, run_diagram, run_draw, run_graft, run_report,
     run_report_named, run_solve, run_solve_watched, run_split, run_violations, run_work,
@@ -59,6 +62,86 @@ pub(crate) fn solve_in<R: AllocGlobal + Print + Eprint + Files + Clock, S: Sourc
             solve(rt, &mut instance, period, steps, progress)
         }
     }
+}
+
+/// Goes on from the certificate that the reader gives, for about so many seconds at most.
+pub(crate) fn resume<R: AllocGlobal + Print + Eprint + Files + Clock, S: Source>(
+    rt: &R,
+    reader: &mut S,
+    period: u32,
+    steps: u32,
+    watch: &mut Watch<'_, R>,
+    file: &str,
+) -> Result<u8, Stop>
+    requires fits { FewerThan (2 ^ 62) (S.calls reader.old) }
+{
+    let mut instance = Counted::new(opened(rt, file)?);
+    let mut writer = writer_of(rt);
+    let done = run_resume(
+        rt.alloc(),
+        &mut instance,
+        reader,
+        &mut writer,
+        period,
+        steps,
+        watch,
+    );
+    ended(done, writer)?;
+    Ok(0)
+}
+
+/// Lists activities of the instance that the reader gives which have no timetable together, and tells on standard error what
+/// was found.
+fn conflict<R: AllocGlobal + Print + Eprint, S: Source>(
+    rt: &R,
+    reader: &mut S,
+    period: u32,
+    steps: u32,
+) -> Result<u8, Stop>
+    requires steps { steps ≤ 100000 }
+    requires fits { FewerThan (2 ^ 62) (S.calls reader.old) }
+{
+    let mut writer = writer_of(rt);
+    let done = run_conflict(rt.alloc(), reader, &mut writer, period, steps);
+    let told = ended(done, writer)?;
+    let _ = rt.eprintln(told);
+    Ok(status_of_told(told))
+}
+
+/// Lists conflicting activities of the instance in a file, or that of the reader where none is named.
+pub(crate) fn conflict_in<R: AllocGlobal + Print + Eprint + Files, S: Source>(
+    rt: &R,
+    reader: &mut S,
+    period: u32,
+    steps: u32,
+    file: Option<&str>,
+) -> Result<u8, Stop>
+    requires steps { steps ≤ 100000 }
+    requires fits { FewerThan (2 ^ 62) (S.calls reader.old) }
+{
+    match file {
+        None => conflict(rt, reader, period, steps),
+        Some(file) => {
+            let mut instance = Counted::new(opened(rt, file)?);
+            conflict(rt, &mut instance, period, steps)
+        }
+    }
+}
+
+/// Says how good the answer of the certificate is that the reader gives.
+pub(crate) fn gap<R: AllocGlobal + Print + Files, S: Source>(
+    rt: &R,
+    reader: &mut S,
+    period: u32,
+    file: &str,
+) -> Result<u8, Stop>
+    requires fits { FewerThan (2 ^ 62) (S.calls reader.old) }
+{
+    let mut instance = Counted::new(opened(rt, file)?);
+    let mut writer = writer_of(rt);
+    let done = run_gap(rt.alloc(), &mut instance, reader, &mut writer, period);
+    ended(done, writer)?;
+    Ok(0)
 }
 
 /// Judges the certificate that the reader gives.

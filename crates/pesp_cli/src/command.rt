@@ -5,7 +5,7 @@ ghost use Rattle.pesp_cli.specs.Requests.{IsWithinLimits};
 
 use crate::options::{
     base_argument, file_argument, job_argument, names_argument, names_option, optional_file,
-    period_option, progress_option, rows_option, steps_option, violations_option,
+    period_option, progress_option, rows_option, seconds_option, steps_option, violations_option,
 };
 use crate::request::Request;
 use clap::{ArgMatches, Command, Error};
@@ -22,6 +22,13 @@ Times are counted modulo the period, in the unit of the durations. For example
 
 Exit status: 0 the certificate is written; 2 the command line; 3 the instance is
 refused; 4 memory, a device, or a limit of the search";
+
+const CONFLICTS: &str = "\
+A list is written as CSV: row, label, tail, head, lower, upper. Standard error tells how
+many activities there are, and whether each of them is needed.
+
+Exit status: 0 a list is written; 1 no conflict was found; 2 the command line; 3 the
+instance is refused; 4 memory, a device, or a limit of the search";
 
 const ROUND_TRIP: &str = "\
 A whole round, for an instance in trains.csv with the period 60:
@@ -58,6 +65,17 @@ fn solve_command<'a>(alloc: Global) -> Result<Command<'a>, AllocError> {
         .arg(period_option(alloc))?
         .arg(steps_option(alloc))?
         .arg(progress_option(alloc))?
+        .arg(optional_file(alloc))
+}
+
+fn conflict_command<'a>(alloc: Global) -> Result<Command<'a>, AllocError> {
+    Command::new(alloc, "conflict")
+        .about(
+            "Reads an instance and lists activities that have no timetable together, as few as it can",
+        )
+        .after_help(CONFLICTS)
+        .arg(period_option(alloc))?
+        .arg(steps_option(alloc))?
         .arg(optional_file(alloc))
 }
 
@@ -130,6 +148,27 @@ fn check_command<'a>(alloc: Global) -> Result<Command<'a>, AllocError> {
     )
 }
 
+fn resume_command<'a>(alloc: Global) -> Result<Command<'a>, AllocError> {
+    file_command(
+        alloc,
+        "resume",
+        "pesp resume [OPTIONS] <FILE> < CERTIFICATE",
+        "Reads a certificate from standard input, goes on with its search and writes the certificate that comes of it",
+    )?
+    .arg(steps_option(alloc))?
+    .arg(seconds_option(alloc))?
+    .arg(progress_option(alloc))
+}
+
+fn gap_command<'a>(alloc: Global) -> Result<Command<'a>, AllocError> {
+    file_command(
+        alloc,
+        "gap",
+        "pesp gap [OPTIONS] <FILE> < CERTIFICATE",
+        "Reads a certificate from standard input and says how good its answer is",
+    )
+}
+
 fn report_command<'a>(alloc: Global) -> Result<Command<'a>, AllocError> {
     file_command(
         alloc,
@@ -178,7 +217,10 @@ fn with_round_trip<'a>(alloc: Global) -> Result<Command<'a>, AllocError> {
         .after_help(ROUND_TRIP)
         .subcommand_required(true);
     let pesp = with(pesp, solve_command(alloc))?;
+    let pesp = with(pesp, resume_command(alloc))?;
+    let pesp = with(pesp, conflict_command(alloc))?;
     let pesp = with(pesp, check_command(alloc))?;
+    let pesp = with(pesp, gap_command(alloc))?;
     let pesp = with(pesp, report_command(alloc))?;
     let pesp = with(pesp, draw_command(alloc))?;
     with(pesp, diagram_command(alloc))
@@ -250,6 +292,54 @@ fn solve_of<'a>(matches: &ArgMatches<'a>) -> Request<'a>
     }
 }
 
+/// What the words behind `resume` ask for.
+fn resume_of<'a>(matches: &ArgMatches<'a>) -> Request<'a>
+    ensures { IsWithinLimits result }
+{
+    Request::Resume {
+        period: period_of(matches),
+        steps: steps_of(matches),
+        seconds: matches.get_one::<u32>("seconds"),
+        progress: matches.get_flag("progress"),
+        file: matches.get_str("file").unwrap_or(""),
+    }
+}
+
+/// What the words behind `conflict` ask for.
+fn conflict_of<'a>(matches: &ArgMatches<'a>) -> Request<'a>
+    ensures { IsWithinLimits result }
+{
+    Request::Conflict {
+        period: period_of(matches),
+        steps: steps_of(matches),
+        file: matches.get_str("file"),
+    }
+}
+
+/// What the words behind `report` ask for.
+fn report_of<'a>(matches: &ArgMatches<'a>) -> Request<'a>
+    ensures { IsWithinLimits result }
+{
+    Request::Report {
+        period: period_of(matches),
+        violations: matches.get_flag("violations"),
+        names: matches.get_str("names"),
+        file: matches.get_str("file").unwrap_or(""),
+    }
+}
+
+/// What the words behind `draw` ask for.
+fn draw_of<'a>(matches: &ArgMatches<'a>) -> Request<'a>
+    ensures { IsWithinLimits result }
+{
+    Request::Draw {
+        period: period_of(matches),
+        rows: rows_of(matches),
+        names: matches.get_str("names"),
+        file: matches.get_str("file").unwrap_or(""),
+    }
+}
+
 /// What the words ask for, as clap found them.
 fn request_in<'a>(matches: &ArgMatches<'a>) -> Request<'a>
     ensures { IsWithinLimits result }
@@ -259,18 +349,12 @@ fn request_in<'a>(matches: &ArgMatches<'a>) -> Request<'a>
             period: period_of(found),
             file: found.get_str("file").unwrap_or(""),
         },
-        Some(("report", found)) => Request::Report {
+        Some(("gap", found)) => Request::Gap {
             period: period_of(found),
-            violations: found.get_flag("violations"),
-            names: found.get_str("names"),
             file: found.get_str("file").unwrap_or(""),
         },
-        Some(("draw", found)) => Request::Draw {
-            period: period_of(found),
-            rows: rows_of(found),
-            names: found.get_str("names"),
-            file: found.get_str("file").unwrap_or(""),
-        },
+        Some(("report", found)) => report_of(found),
+        Some(("draw", found)) => draw_of(found),
         Some(("diagram", found)) => Request::Diagram {
             period: period_of(found),
             file: found.get_str("file").unwrap_or(""),
@@ -283,6 +367,8 @@ fn request_in<'a>(matches: &ArgMatches<'a>) -> Request<'a>
         Some(("work", found)) => work_of(found),
         Some(("graft", found)) => graft_of(found),
         Some(("solve", found)) => solve_of(found),
+        Some(("resume", found)) => resume_of(found),
+        Some(("conflict", found)) => conflict_of(found),
         _ => Request::Solve {
             period: 60,
             steps: 1000,

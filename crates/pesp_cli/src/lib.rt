@@ -10,6 +10,7 @@ mod program;
 mod progress;
 mod request;
 mod telling;
+mod watch;
 
 pub use command::request_of;
 pub use program::{exit_of_program, status_of_words};

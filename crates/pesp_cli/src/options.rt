@@ -21,6 +21,14 @@ pub(crate) fn steps_option<'a>(alloc: Global) -> Arg<'a> {
         .help("How many leaves of the search are split at most, 0 to 100000")
 }
 
+pub(crate) fn seconds_option<'a>(alloc: Global) -> Arg<'a> {
+    Arg::new(alloc, "seconds")
+        .long("seconds")
+        .value_name("N")
+        .value_parser(value_parser!(u32).range(1..=10000000))
+        .help("For about how many seconds the search goes on at most, 1 to 10000000")
+}
+
 pub(crate) fn progress_option<'a>(alloc: Global) -> Arg<'a> {
     Arg::new(alloc, "progress")
         .long("progress")

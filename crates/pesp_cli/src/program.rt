@@ -5,12 +5,14 @@ ghost use Rattle.pesp_stream.specs.Counts.{FewerThan};
 ghost use Rattle.pesp_cli.specs.Requests.{IsWithinLimits};
 
 use crate::answers::{
-    check, diagram, draw, graft, report, report_named, report_violations, solve_in, split, work_on,
+    check, conflict_in, diagram, draw, gap, graft, report, report_named, report_violations, resume,
+    solve_in, split, work_on,
 };
 use crate::command::request_of;
 use crate::input::{Beginning, OtherPeriod};
 use crate::output::Stop;
 use crate::request::Request;
+use crate::watch::Watch;
 use clap::Error;
 use clap::error::ErrorKind;
 use pesp_runs::{Fault, status_of};
@@ -127,7 +129,23 @@ fn answer_from<R: AllocGlobal + Print + Eprint + Files + Clock, S: Source>(
             progress,
             file,
         } => solve_in(rt, reader, period, steps, progress, file),
+        Request::Resume {
+            period,
+            steps,
+            seconds,
+            progress,
+            file,
+        } => {
+            let mut watch = Watch::new(rt, progress, seconds);
+            resume(rt, reader, period, steps, &mut watch, file)
+        }
+        Request::Conflict {
+            period,
+            steps,
+            file,
+        } => conflict_in(rt, reader, period, steps, file),
         Request::Check { period, file } => check(rt, reader, period, file),
+        Request::Gap { period, file } => gap(rt, reader, period, file),
         Request::Report {
             period,
             violations: true,

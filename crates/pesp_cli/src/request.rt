@@ -11,8 +11,30 @@ pub enum Request<'a> {
         progress: bool,
         file: Option<&'a str>,
     },
+    /// A search of at most so many steps that goes on from the certificate on standard input, for about so many seconds at
+    /// most.
+    Resume {
+        period: u32,
+        steps: u32,
+        seconds: Option<u32>,
+        /// Whether it is told on standard error how far the search is.
+        progress: bool,
+        file: &'a str,
+    },
+    /// Activities that have no timetable together, within searches of at most so many steps; the instance is on standard
+    /// input where no file is named.
+    Conflict {
+        period: u32,
+        steps: u32,
+        file: Option<&'a str>,
+    },
     /// A verdict on the certificate on standard input.
     Check {
+        period: u32,
+        file: &'a str,
+    },
+    /// How good the answer of the certificate on standard input is.
+    Gap {
         period: u32,
         file: &'a str,
     },
@@ -61,7 +83,10 @@ pub enum Request<'a> {
 impl Request<'_> {
     /// Whether something is read from standard input.
     pub(crate) fn reads_input(&self) -> bool {
-        !matches!(self, Request::Solve { file: Some(_), .. })
+        !matches!(
+            self,
+            Request::Solve { file: Some(_), .. } | Request::Conflict { file: Some(_), .. }
+        )
     }
 
     /// The period for which times are taken, where times are read.

@@ -7,10 +7,10 @@ use Rattle.pesp_cert_lines.proofs.Tests.{and_left, and_right, and_both}
 use Rattle.pesp_sharp_truth.specs.Marks.{Marks}
 use Rattle.pesp_sharp_text.specs.Limits.{is_scale, is_walk, are_few, total_rows, keeps_limits, KeepsLimits}
 
-le_of : (m n : ℕ) → nat_le m n ≡ true → m ≤ n
+pub le_of : (m n : ℕ) → nat_le m n ≡ true → m ≤ n
 le_of m n h = grind (arith, nat_tests, h)
 
-of_le : (m n : ℕ) → m ≤ n → nat_le m n ≡ true
+pub of_le : (m n : ℕ) → m ≤ n → nat_le m n ≡ true
 of_le m n h = grind (arith, nat_tests, h)
 
 pub limits_of : (m : Marks) → keeps_limits m ≡ true → KeepsLimits m

@@ -1,7 +1,7 @@
 -- Fronts: what is read is spelt so, and what is spelt is read.
-use Rattle.std.proofs.Common.{◌≡◌, ℕ, zero, suc, ◌+◌, ◌-◌, ◌*◌, ◌<◌, ◌≤◌, Bool, true, false, not, ◌&&◌, ◌||◌, cond, List, [], ◌∷◌, ◌++◌, length, Option, Some, None, Result, Ok, Err, refl, sym, ap, ◌∙◌, arith, inl, inr, length-append, append-nil, append_assoc}
+use Rattle.std.proofs.Common.{◌≡◌, ℕ, ◌+◌, ◌*◌, ◌<◌, ◌≤◌, Bool, true, false, ◌&&◌, cond, List, [], ◌∷◌, ◌++◌, length, Option, Some, None, Result, Ok, Err, refl, sym, ap, ◌∙◌, arith, inl, inr, length-append, append_assoc}
 use Rattle.std.specs.Prelude.{◌==◌, nat_le, nat_lt, decimal, codes, IfSome}
-use Rattle.std.specs.List.{list_all, All, flat_map, join_with_byte, sum_by}
+use Rattle.std.specs.List.{list_all, All, flat_map, join_with_byte}
 use Rattle.std.specs.Str.{bytes_eq}
 use Rattle.std.proofs.lemmas.Bool.{le-ltb}
 use Rattle.std.proofs.lemmas.Bool.Decides.{nat_tests}
@@ -18,7 +18,7 @@ use Rattle.pesp_truth.specs.declared.answer.Answer.TheVariants.{Optimal}
 use Rattle.pesp_cert_lines.specs.declared.item.Item.TheVariants.{Answer as Says}
 use Rattle.pesp_cert.proofs.ShortLaws.{nat_len}
 use Rattle.pesp_cert_lines.proofs.Tests.{cases, and_left, and_right, and_both}
-use Rattle.pesp_cert_lines.proofs.LineLaws.{is_inner, is_plain, all_plain, item_plain, words_joined, line_of-words_of}
+use Rattle.pesp_cert_lines.proofs.LineLaws.{is_plain, all_plain, item_plain, words_joined, line_of-words_of}
 use Rattle.pesp_cert.specs.declared.refusal.CertRefusal.{CertRefusal}
 use Rattle.pesp_cert.specs.declared.refusal.CertRefusal.TheVariants as refusals
 use Rattle.pesp_cert.specs.Refusals.{refusal_at}
@@ -26,13 +26,13 @@ use Rattle.pesp_cert.proofs.TextLaws.{line_lf, no_lf}
 use Rattle.pesp_cert.proofs.TextSteps.{nonempty}
 use Rattle.pesp_sharp.specs.declared.marked.MarkedRow.{MarkedRow}
 use Rattle.pesp_sharp_truth.specs.Marks.{Marks}
-use Rattle.pesp_sharp_text.specs.Rows.{marked_words, are_named, walk_of}
+use Rattle.pesp_sharp_text.specs.Rows.{marked_words, are_named}
 use Rattle.pesp_sharp_text.specs.Limits.{is_scale, is_walk, total_rows, are_few, keeps_limits, KeepsLimits}
 use Rattle.pesp_sharp_text.specs.Lines.{is_header, scale_of, scale_in, scale_at, begins_walk, is_walk_line, rows_behind, walk_in, walk_at}
 use Rattle.pesp_sharp_text.specs.Fronts.{Read, Front, onto, judged, walks_from, with_scale, behind_header, front_in, front_of}
 use Rattle.pesp_sharp_text.specs.Texts.{walk_line, scale_line, front_text}
 use Rattle.pesp_sharp_text.proofs.Limits.{le_of, of_le, few_is, scale_is, limits_of, keeps}
-use Rattle.pesp_sharp_text.proofs.Walking.{at_last, at_other, at_walk}
+use Rattle.pesp_sharp_text.proofs.Walking.{at_walk}
 use Rattle.pesp_sharp_text.proofs.Words.{walk_spells, walk_read, words_plain, words_len, words_many}
 
 -- ---- a walk's line

@@ -1,7 +1,7 @@
 -- Texts with and without a front: what is read is spelt so, and what is spelt is read.
-use Rattle.std.proofs.Common.{◌≡◌, ℕ, suc, ◌+◌, ◌<◌, ◌≤◌, ◌^◌, Bool, true, false, cond, List, [], ◌∷◌, ◌++◌, length, Option, Some, None, Result, Ok, Err, refl, sym, ap, ◌∙◌, subst, arith, inl, inr, append_assoc, append-nil}
-use Rattle.std.specs.Prelude.{map, ◌⊎◌, nat_lt, nat_le, ◌==◌, IfSome, codes, decimal}
-use Rattle.std.specs.List.{list_all, join_with_byte, flat_map}
+use Rattle.std.proofs.Common.{◌≡◌, ℕ, ◌+◌, ◌≤◌, ◌^◌, Bool, true, false, cond, List, [], ◌∷◌, ◌++◌, length, Option, Some, None, Result, Ok, Err, refl, sym, ap, ◌∙◌, subst, arith, inl, inr, append_assoc, append-nil}
+use Rattle.std.specs.Prelude.{map, ◌⊎◌, nat_lt, ◌==◌, IfSome, codes, decimal}
+use Rattle.std.specs.List.{join_with_byte, flat_map}
 use Rattle.std.proofs.lemmas.Bool.Decides.{nat_tests}
 use Rattle.std.proofs.lemmas.List.Concat.{flat_map-cons}
 use Rattle.std.proofs.lemmas.List.Splits.{join_with_byte-slice_split, length-slice_split}
@@ -15,7 +15,6 @@ use Rattle.pesp_cert_lines.specs.declared.item.Item.TheVariants.{Version, Period
 use Rattle.pesp_text.specs.Number.{natural_of, is_natural}
 use Rattle.pesp_text.proofs.Digits.{natural_read}
 use Rattle.std.proofs.lemmas.Option.{same_Some}
-use Rattle.std.specs.Str.{bytes_eq}
 use Rattle.std.proofs.lemmas.Slice.Eq.{bytes_eq-Decides}
 use Rattle.pesp_cert.specs.Drafts.{blank, all_added}
 use Rattle.pesp_cert.proofs.DraftLaws.{all_added-items_of}
@@ -28,7 +27,7 @@ use Rattle.pesp_cert_lines.proofs.Tests.{cases}
 use Rattle.pesp_cert.specs.declared.refusal.CertRefusal.{CertRefusal}
 use Rattle.pesp_cert.specs.declared.refusal.CertRefusal.TheVariants as refusals
 use Rattle.pesp_cert.specs.Texts.{HasText, items_of, spelling, is_end, time_item, tree_item}
-use Rattle.pesp_cert.specs.Refusals.{items_from, items_of_text, onto, is_nothing, refusal_at, later_refusal, IsTextOf}
+use Rattle.pesp_cert.specs.Refusals.{items_from, items_of_text, onto, is_nothing, refusal_at, later_refusal}
 use Rattle.pesp_cert.proofs.TextLaws.{line_cut, text_found_of, text_read_of, none_begins_another}
 use Rattle.pesp_cert.proofs.TextSteps.{nonempty}
 use Rattle.pesp_sharp_truth.specs.Marks.{Marks}

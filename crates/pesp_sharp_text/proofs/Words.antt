@@ -1,18 +1,18 @@
 -- Marked words: what is read is spelt so, and what is spelt is read.
-use Rattle.std.proofs.Common.{◌≡◌, ℕ, zero, suc, ◌+◌, ◌-◌, ◌*◌, ◌<◌, ◌≤◌, ◌^◌, Bool, true, false, not, ◌&&◌, List, [], ◌∷◌, ◌++◌, length, get_or, take, drop, Option, Some, None, Ok, Err, refl, sym, ap, ◌∙◌, arith, inl, inr, length-append, append-nil, append_assoc}
-use Rattle.std.specs.Prelude.{◌==◌, decimal, slice_index, codes, if◌then◌else◌}
+use Rattle.std.proofs.Common.{◌≡◌, ℕ, zero, suc, ◌+◌, ◌-◌, ◌*◌, ◌<◌, ◌≤◌, Bool, true, false, not, List, [], ◌∷◌, ◌++◌, length, get_or, take, drop, Option, Some, None, Ok, Err, refl, sym, ap, ◌∙◌, arith, inl, inr, length-append, append-nil}
+use Rattle.std.specs.Prelude.{◌==◌, decimal, codes, if◌then◌else◌}
 use Rattle.std.specs.List.{list_all}
 use Rattle.std.specs.Str.{all_ascii_digits}
 use Rattle.std.specs.Char.{is_ascii_digit}
 use Rattle.std.proofs.lemmas.Option.{same_Some}
 use Rattle.std.proofs.lemmas.Bool.{eqb-true}
 use Rattle.std.proofs.lemmas.Bool.Decides.{nat_tests}
-use Rattle.std.proofs.lemmas.List.{take-append-drop, take_at, drop_at, drop_more, drop_all}
+use Rattle.std.proofs.lemmas.List.{take-append-drop, take_at, drop_more, drop_all}
 use Rattle.pesp_problem.specs.declared.row.SignedRow.{SignedRow}
 use Rattle.pesp_text.specs.Number.{NATURALS}
-use Rattle.pesp_text.specs.Words.{spaced, has_empty}
+use Rattle.pesp_text.specs.Words.{spaced}
 use Rattle.pesp_text.proofs.Digits.{decimal_digits, decimal_some, digit_range}
-use Rattle.pesp_cert_lines.specs.Rows.{is_name, row_word, row_words, row_at, row_made, both}
+use Rattle.pesp_cert_lines.specs.Rows.{is_name, row_word, row_words, row_at, row_made}
 use Rattle.pesp_cert_lines.specs.declared.item.Item.TheVariants.{Cycle}
 use Rattle.pesp_cert_lines.proofs.Tests.{cases, and_left, and_right, and_both}
 use Rattle.pesp_cert_lines.proofs.WordLaws.{row_spells, row_read, both_some, joined, named_below}

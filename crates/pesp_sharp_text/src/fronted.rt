@@ -28,4 +28,3 @@ pub(crate) fn lines_of(marks: &Marks) -> u64
 {
     2 + marks.walks().len() as u64
 }
-

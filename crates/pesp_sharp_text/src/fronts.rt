@@ -30,10 +30,7 @@ fn push_walk(walks: &mut Vec<MarkedWalk>, rows: Vec<MarkedRow>) -> Result<(), Me
 }
 
 /// Takes the walks that stand first in what is left of a text; its first line is line 3.
-fn take_walks<'a>(
-    alloc: Global,
-    text: &'a [u8],
-) -> Result<(Vec<MarkedWalk>, &'a [u8]), CertRefusal>
+fn take_walks<'a>(alloc: Global, text: &'a [u8]) -> Result<(Vec<MarkedWalk>, &'a [u8]), CertRefusal>
     ensures found { IfOk result (λ p. walks_from 3 0 0 (pieces 10 text.now) ≡ Ok (record {
       walks = p.0.items;
       rest = pieces 10 p.1.now;
@@ -64,7 +61,10 @@ fn take_walks<'a>(
 }
 
 /// Takes a front behind its header.
-pub(crate) fn take_front<'a>(alloc: Global, text: &'a [u8]) -> Result<(Marks, &'a [u8]), CertRefusal>
+pub(crate) fn take_front<'a>(
+    alloc: Global,
+    text: &'a [u8],
+) -> Result<(Marks, &'a [u8]), CertRefusal>
     ensures found { IfOk result (λ p. behind_header (pieces 10 text.now) ≡ Ok (record {
       marks = Some p.0;
       rest = pieces 10 p.1.now;

@@ -1,9 +1,9 @@
 //! The front of a certificate's text: the scale and the marked walks that leaves may name.
 #![tactic(auto)]
 
-pub mod laws;
 mod fronted;
 mod fronts;
+pub mod laws;
 mod lines;
 mod marks;
 mod parsing;

@@ -84,7 +84,9 @@ pub(crate) fn is_scale(scale: u64) -> bool
 fn keep_limits(scale: u32, walks: &[MarkedWalk]) -> bool
     ensures { result ≡ keeps_limits (record { scale = scale; walks = walks.now }) }
 {
-    is_scale(u64::from(scale)) && (walks.len() <= 100_000 && has_few_rows(walks)) && each_is_walk(walks)
+    is_scale(u64::from(scale))
+        && (walks.len() <= 100_000 && has_few_rows(walks))
+        && each_is_walk(walks)
 }
 
 impl Marks {

@@ -83,12 +83,7 @@ fn marked_at(word: &[u8]) -> Option<(u64, bool, bool)>
 }
 
 /// Adds a marked row, whose number is kept where a row may have it.
-fn push_row(
-    rows: &mut Vec<MarkedRow>,
-    row: u64,
-    plus: bool,
-    flipped: bool,
-) -> Result<(), Memory>
+fn push_row(rows: &mut Vec<MarkedRow>, row: u64, plus: bool, flipped: bool) -> Result<(), Memory>
     ensures { OnOk result (is_name row ≡ true
         → rows.new.items ≡ rows.old.items ++ marked_made (row, plus, flipped) ∷ []) }
 {

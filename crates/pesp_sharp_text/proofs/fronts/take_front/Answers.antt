@@ -1,6 +1,5 @@
-use Rattle.std.proofs.Common.{◌≡◌, sym, ◌∙◌, ap, inr, Ok, Err, length, ◌≤◌, ◌∷◌, List, ℕ, arith}
+use Rattle.std.proofs.Common.{sym, inr}
 use Rattle.pesp_text.specs.Words.{pieces}
-use Rattle.pesp_cert_lines.specs.Lines.{LONGEST}
 use Rattle.pesp_sharp_text.proofs.Walking.{err_is, refused_on}
 use Rattle.pesp_sharp_text.proofs.Founds.{walks_keep, header_bad, header_walks, header_fault}
 use Rattle.pesp_sharp_text.proofs.fronts.take_front.Goals as goal

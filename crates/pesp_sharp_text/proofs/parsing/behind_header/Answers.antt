@@ -1,4 +1,4 @@
-use Rattle.std.proofs.Common.{sym, ◌∙◌, arith}
+use Rattle.std.proofs.Common.{sym, ◌∙◌}
 use Rattle.pesp_sharp_text.proofs.Founds.{first_last, first_other, first_header}
 use Rattle.pesp_sharp_text.proofs.parsing.behind_header.Goals as goal
 

@@ -1,4 +1,4 @@
-use Rattle.std.proofs.Common.{Some, arith, ap, ◌≡◌, ◌+◌, length}
+use Rattle.std.proofs.Common.{Some, arith}
 use Rattle.pesp_sharp_text.proofs.Founds.{rest_short}
 use Rattle.pesp_sharp_text.proofs.Said.{said_items, said_refusal, front_refusal}
 use Rattle.pesp_sharp_text.proofs.Walking.{err_is}

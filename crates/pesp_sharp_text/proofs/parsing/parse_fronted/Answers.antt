@@ -1,6 +1,4 @@
-use Rattle.std.proofs.Common.{Ok, Err}
 use Rattle.std.proofs.lemmas.Result.{IfOk-weaker}
-use Rattle.pesp_cert.specs.declared.refusal.CertRefusal.{CertRefusal}
 use Rattle.pesp_sharp_text.specs.Texts.{Fronted}
 use Rattle.pesp_sharp_text.proofs.Said.{said_found, reads_only}
 use Rattle.pesp_sharp_text.proofs.parsing.parse_fronted.Goals as goal

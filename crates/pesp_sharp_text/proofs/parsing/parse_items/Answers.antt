@@ -1,4 +1,3 @@
-use Rattle.std.proofs.Common.{Err, Result}
 use Rattle.pesp_cert.specs.declared.refusal.CertRefusal.{CertRefusal}
 use Rattle.std.proofs.lemmas.Result.{IfErr-weaker}
 use Rattle.pesp_sharp_text.proofs.Said.{short_number}

@@ -1,5 +1,5 @@
 use Rattle.std.proofs.Common.{arith}
-use Rattle.pesp_stream.proofs.Printing.{sends_nothing, sends_all, sends_more}
+use Rattle.pesp_stream.proofs.Printing.{sends_nothing, sends_all}
 use Rattle.pesp_sharp_text.specs.Print.{walk_text}
 use Rattle.pesp_sharp_text.proofs.printing.print_walks.Goals as goal
 

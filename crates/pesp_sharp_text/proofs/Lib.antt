@@ -1,0 +1,7 @@
+pub mod Limits
+pub mod Taking
+pub mod Walking
+pub mod Words
+pub mod Founds
+pub mod Said
+pub mod Prints

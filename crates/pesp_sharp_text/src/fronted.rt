@@ -1,0 +1,20 @@
+//! A certificate with its front.
+
+use crate::marks::Marks;
+use pesp_cert::Certificate;
+use std::marker::Model;
+
+/// A certificate, and the front of its text where it has one.
+#[derive(Debug, Drop)]
+pub struct Fronted {
+    pub front: Option<Marks>,
+    pub certificate: Certificate,
+}
+
+impl Model for Fronted {
+    ghost use Rattle.pesp_sharp_text.specs.Texts.{Fronted as SpecFronted};
+
+    ghost Value = { SpecFronted };
+
+    ghost view = { λ f. record { front = f.front; content = f.certificate } };
+}

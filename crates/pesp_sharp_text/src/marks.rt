@@ -1,0 +1,130 @@
+//! The scale and the marked walks of a certificate.
+
+ghost use Rattle.std.specs.Prelude.{◌≡◌, true, ◌&&◌, nat_le, length, IfOk, OnErr};
+ghost use Rattle.std.specs.List.{list_all};
+ghost use Rattle.pesp_cert_lines.specs.Rows.{is_name};
+ghost use Rattle.pesp_sharp_text.specs.Rows.{are_named};
+ghost use Rattle.pesp_sharp_text.specs.Limits.{is_scale, is_walk, total_rows, keeps_limits, KeepsLimits};
+
+use pesp_sharp::{MarkedRow, MarkedWalk};
+use std::marker::Model;
+
+/// The scale of the leaves that name marked walks, and these walks. A leaf names them by numbers that go on from those of
+/// the cycles.
+#[derive(Debug, Drop)]
+pub struct Marks {
+    scale: u32,
+    walks: Vec<MarkedWalk>,
+}
+
+impl Model for Marks {
+    ghost use Rattle.std.specs.Prelude.{◌≡◌, true};
+    ghost use Rattle.pesp_sharp_truth.specs.Marks.{Marks as SpecMarks};
+    ghost use Rattle.pesp_sharp_text.specs.Limits.{keeps_limits};
+
+    ghost Value = { SpecMarks };
+
+    ghost view = { λ m. record { scale = m.scale; walks = m.walks.items } };
+
+    ghost invariant = { λ m. keeps_limits (record { scale = m.scale; walks = m.walks.items }) ≡ true };
+}
+
+/// The parts are no front's: the scale is not 1 to 1,000,000, there are more than 100,000 walks or 10,000,000 marked rows, a
+/// walk has none, or a row's number is not 1 to 100,000.
+#[derive(Clone, Copy, Debug, PartialEq, Eq)]
+pub struct NotMarks;
+
+/// Whether a row may have this number.
+pub(crate) fn is_name(number: u64) -> bool
+    ensures { result ≡ is_name number }
+{
+    1 <= number && number <= 100_000
+}
+
+fn are_named(walk: &[MarkedRow]) -> bool
+    ensures { result ≡ are_named walk.now }
+{
+    walk.iter().all(|s| is_name(u64::from(s.signed.row)))
+}
+
+fn is_walk(walk: &MarkedWalk) -> bool
+    ensures { result ≡ is_walk walk.now }
+{
+    1 <= walk.rows().len() && are_named(walk.rows())
+}
+
+fn each_is_walk(walks: &[MarkedWalk]) -> bool
+    ensures { result ≡ list_all is_walk walks.now }
+{
+    walks.iter().all(|walk| is_walk(walk))
+}
+
+/// Whether the walks have at most 10,000,000 marked rows.
+fn has_few_rows(walks: &[MarkedWalk]) -> bool
+    ensures { result ≡ nat_le (total_rows walks.now) 10000000 }
+{
+    let mut left = 10_000_000usize;
+    for walk in walks {
+        match left.checked_sub(walk.rows().len()) {
+            None => return false,
+            Some(others) => left = others,
+        }
+    }
+    true
+}
+
+/// Whether a front may have this scale.
+pub(crate) fn is_scale(scale: u64) -> bool
+    ensures { result ≡ is_scale scale }
+{
+    1 <= scale && scale <= 1_000_000
+}
+
+/// Whether these parts may be a front's.
+fn keep_limits(scale: u32, walks: &[MarkedWalk]) -> bool
+    ensures { result ≡ keeps_limits (record { scale = scale; walks = walks.now }) }
+{
+    is_scale(u64::from(scale))
+        && (walks.len() <= 100_000 && has_few_rows(walks))
+        && each_is_walk(walks)
+}
+
+impl Marks {
+    /// The front of these parts, where they keep its limits.
+    pub fn new(scale: u32, walks: Vec<MarkedWalk>) -> Result<Marks, NotMarks>
+        ensures parts { IfOk result (λ m. m ≡ record { scale = scale; walks = walks.items }) }
+        ensures refused { OnErr result (¬ KeepsLimits (record {
+          scale = scale;
+          walks = walks.items;
+        })) }
+    {
+        if !keep_limits(scale, &walks) {
+            return Err(NotMarks);
+        }
+        Ok(Marks { scale, walks })
+    }
+
+    /// The front of parts that keep its limits.
+    pub(crate) fn of(scale: u32, walks: Vec<MarkedWalk>) -> Marks
+        requires { keeps_limits (record { scale = scale; walks = walks.items }) ≡ true }
+        ensures { result ≡ record { scale = scale; walks = walks.items } }
+    {
+        Marks { scale, walks }
+    }
+
+    /// What the multipliers of leaves that name marked walks are divided by.
+    pub fn scale(&self) -> u32
+        ensures value { result ≡ self.now.scale }
+        ensures limits { KeepsLimits self.now }
+    {
+        self.scale
+    }
+
+    /// The marked walks in the order of their numbers.
+    pub fn walks(&self) -> &[MarkedWalk]
+        ensures value { result.now ≡ self.now.walks }
+        ensures limits { KeepsLimits self.now }
+    {
+        &self.walks
+    }
+}

@@ -1,0 +1,124 @@
+//! Printing a certificate with its front.
+
+ghost use Rattle.std.specs.Prelude.{◌≡◌, ◌^◌, OnOk, OnErr, codes, if◌then◌else◌};
+ghost use Rattle.std.specs.List.{flat_map};
+ghost use Rattle.pesp_stream.specs.Counts.{FewerThan, HasWorked, DeviceFailed};
+ghost use Rattle.pesp_stream.specs.Printing.{Sending, Sends};
+ghost use Rattle.pesp_stream.specs.Writing.{Writes};
+ghost use Rattle.pesp_sharp_text.specs.Print.{row_text, rows_text, walk_text};
+ghost use Rattle.pesp_sharp_text.specs.Texts.{fronted_text, front_text};
+ghost use Rattle.pesp_sharp_text.specs.Rows.{star};
+
+use crate::fronted::Fronted;
+use crate::marks::Marks;
+use itoa::{Buffer, Integer};
+use pesp_sharp::{MarkedRow, MarkedWalk};
+use pesp_stream::{Output, Printed, Sink, WriteFault, print_to};
+
+/// An unsigned number in plain digits.
+#[derive(Clone, Copy)]
+struct Number<I: Integer>(I);
+
+impl<I: Integer> Printed for Number<I> {
+    ghost text = { λ n. I.text n.0 };
+
+    fn print<O: Output>(&self, out: &mut O) {
+        let mut buffer = Buffer::new();
+        out.put(buffer.format(self.0).as_bytes());
+    }
+}
+
+/// A space and a sign.
+fn sign_text(plus: bool) -> &'static str
+    ensures { result.now ≡ (if plus then codes " +" else codes " -") }
+{
+    if plus { " +" } else { " -" }
+}
+
+/// The mark of a flipped row.
+fn star_text(flipped: bool) -> &'static str
+    ensures { result.now ≡ star flipped }
+{
+    if flipped { "*" } else { "" }
+}
+
+fn print_row<O: Output>(row: &MarkedRow, out: &mut O)
+    ensures { Sends (O.sending out.old) (O.sending out.new) (row_text row.now) }
+{
+    (
+        sign_text(row.signed.plus),
+        Number(row.signed.row),
+        star_text(row.flipped),
+    )
+        .print(out);
+}
+
+#[tactic(auto, using(pesp_stream::proofs::Printing::sends_nothing, pesp_stream::proofs::Printing::sends_next, pesp_stream::proofs::Printing::sends_all))]
+fn print_rows<O: Output>(rows: &[MarkedRow], out: &mut O)
+    ensures { Sends (O.sending out.old) (O.sending out.new) (rows_text rows.now) }
+{
+    for row in rows {
+        print_row(row, out);
+    }
+}
+
+fn print_walk<O: Output>(walk: &MarkedWalk, out: &mut O)
+    ensures { Sends (O.sending out.old) (O.sending out.new) (walk_text walk.now) }
+{
+    out.put(b"walk");
+    print_rows(walk.rows(), out);
+    out.put(b"\n");
+}
+
+#[tactic(auto, using(pesp_stream::proofs::Printing::sends_nothing, pesp_stream::proofs::Printing::sends_next, pesp_stream::proofs::Printing::sends_all))]
+fn print_walks<O: Output>(walks: &[MarkedWalk], out: &mut O)
+    ensures { Sends (O.sending out.old) (O.sending out.new) (flat_map walk_text walks.now) }
+{
+    for walk in walks {
+        print_walk(walk, out);
+    }
+}
+
+impl Printed for Marks {
+    ghost use Rattle.std.specs.Prelude.{Some};
+    ghost use Rattle.pesp_sharp_text.specs.Texts.{front_text};
+
+    ghost text = { λ m. front_text (Some m) };
+
+    fn print<O: Output>(&self, out: &mut O) {
+        ("pesp-certificate 3\nscale ", Number(self.scale()), "\n").print(out);
+        print_walks(self.walks(), out);
+    }
+}
+
+fn print_front<O: Output>(front: &Option<Marks>, out: &mut O)
+    ensures { Sends (O.sending out.old) (O.sending out.new) (front_text front.now) }
+{
+    if let Some(marks) = front {
+        marks.print(out);
+    }
+}
+
+impl Printed for Fronted {
+    ghost use Rattle.pesp_sharp_text.specs.Texts.{fronted_text};
+
+    ghost text = { fronted_text };
+
+    fn print<O: Output>(&self, out: &mut O) {
+        print_front(&self.front, out);
+        self.certificate.print(out);
+    }
+}
+
+/// Writes the one text of a certificate with its front, a page at a time. An interrupted write is repeated, at most 1000
+/// times in all, and a write that takes no byte is a fault. After a fault a front of the text went out. It takes no memory.
+pub fn print_fronted<W: Sink>(certificate: &Fronted, sink: &mut W) -> Result<(), WriteFault>
+    requires fits { FewerThan (2 ^ 63) (W.calls sink.old) }
+    ensures text { Writes (W.contents sink.old) (W.contents sink.new)
+        (fronted_text certificate.now) result }
+    ensures counts { OnOk result (HasWorked (W.calls sink.old) (W.calls sink.new)) }
+    // The device is blamed only where it failed.
+    ensures fault { OnErr result (DeviceFailed (W.calls sink.old) (W.calls sink.new)) }
+{
+    print_to(sink, certificate)
+}

@@ -1,5 +1,6 @@
 -- Activities that conflict: no times keep them all (irreducible infeasible sets: Chinneck 2008). Rows are named by their numbers, from 1.
 use Rattle.std.specs.Prelude.{◌≢◌, ℕ, ◌-◌, List, map, slice_index, All}
+use Rattle.pesp_problem.specs.declared.row.Row.{Row}
 use Rattle.pesp_problem.specs.Timetables.{Pesp, row_at, AreTimes, IsSatisfied}
 
 -- the times satisfy the row of this number
@@ -18,9 +19,13 @@ AreInConflict p listed = (times : List ℕ) → KeepsRows p listed times → ⊥
 abbrev pub IsNeeded : Pesp → List ℕ → ℕ → Type 0
 IsNeeded p listed row = (times : List ℕ) × AreTimes p times × All (λ other. other ≢ row → KeepsRow p times other) listed
 
--- the instance that has the listed rows alone; its events stay
+-- a row whose slack costs nothing
+abbrev pub unweighted : Row → Row
+unweighted row = record row { weight = 0 }
+
+-- the instance that has the listed rows alone, at no cost; its events stay
 abbrev pub only_rows : Pesp → List ℕ → Pesp
-only_rows p listed = record { period = p.period; events = p.events; rows = map (λ row. row_at p.rows (row - 1)) listed }
+only_rows p listed = record { period = p.period; events = p.events; rows = map (λ row. unweighted (row_at p.rows (row - 1))) listed }
 
 -- the listed numbers at these places, from 1
 abbrev pub chosen : List ℕ → List ℕ → List ℕ

@@ -23,9 +23,13 @@ IsNeeded p listed row = (times : List ℕ) × AreTimes p times × All (λ other.
 abbrev pub unweighted : Row → Row
 unweighted row = record row { weight = 0 }
 
+-- the listed rows at no cost
+abbrev pub unweighted_rows : List Row → List ℕ → List Row
+unweighted_rows rows listed = map (λ row. unweighted (row_at rows (row - 1))) listed
+
 -- the instance that has the listed rows alone, at no cost; its events stay
 abbrev pub only_rows : Pesp → List ℕ → Pesp
-only_rows p listed = record { period = p.period; events = p.events; rows = map (λ row. unweighted (row_at p.rows (row - 1))) listed }
+only_rows p listed = record { period = p.period; events = p.events; rows = unweighted_rows p.rows listed }
 
 -- the listed numbers at these places, from 1
 abbrev pub chosen : List ℕ → List ℕ → List ℕ

@@ -1,6 +1,6 @@
 -- What a certificate of the instance that has listed rows alone says of them.
-use Rattle.std.proofs.Common.{◌≡◌, ℕ, ◌-◌, ◌<◌, List, length, get_or, refl, sym, subst, ap, ◌∙◌, arith}
-use Rattle.std.specs.Prelude.{ℤ, All, Contains, map, slice_index, Option, Some, None}
+use Rattle.std.proofs.Common.{◌≡◌, ℕ, ◌-◌, ◌<◌, List, length, get_or, sym, subst, arith}
+use Rattle.std.specs.Prelude.{ℤ, All, Contains, slice_index, Some, None}
 use Rattle.std.specs.List.Sorted.{IsStrictlyIncreasing}
 use Rattle.std.proofs.lemmas.List.{length-map, get_or_default}
 use Rattle.std.proofs.lemmas.List.Elements.{All-map, All-contains}
@@ -9,9 +9,9 @@ use Rattle.pesp_problem.specs.Walks.{Names}
 use Rattle.pesp_truth.specs.declared.answer.Answer.{Answer}
 use Rattle.pesp_truth.specs.declared.answer.Answer.TheVariants.{Optimal, Infeasible, Bounded}
 use Rattle.pesp_truth.specs.Truth.{IsTrueAnswer, HasNoTimetable}
-use Rattle.pesp_truth.specs.Certificates.{Content, IsValid, ShowsAnswer, cost_of, shown_times, shown_labels}
+use Rattle.pesp_truth.specs.Certificates.{Content, ShowsAnswer, cost_of, shown_times, shown_labels}
 use Rattle.pesp_truth.proofs.Certificates.{valid_is_true}
-use Rattle.pesp_conflict_laws.specs.Conflicts.{KeepsRows, AreInConflict, only_rows, unweighted, chosen}
+use Rattle.pesp_conflict_laws.specs.Conflicts.{KeepsRows, only_rows, unweighted, chosen}
 use Rattle.pesp_conflict_laws.specs.Used.{UsesOnly}
 use Rattle.pesp_conflict_laws.proofs.Choosing.{only_rows_are_kept, conflict_is_none, chosen_conflict}
 use Rattle.pesp_conflict_laws.proofs.Using.{used_rows_conflict}
@@ -20,7 +20,7 @@ use Rattle.pesp_conflict.specs.Insides.{IsToldBy, IsPart, AreFit}
 
 -- ---- the listed rows that are used
 
-length-only_rows : (p : Pesp) (listed : List ℕ) → length (only_rows p listed).rows ≡ length listed
+pub length-only_rows : (p : Pesp) (listed : List ℕ) → length (only_rows p listed).rows ≡ length listed
 length-only_rows p listed = length-map listed (λ (row : ℕ). unweighted (row_at p.rows (row - 1)))
 
 chosen_among : (listed places : List ℕ) → All (Names (length listed)) places → All (Contains listed) (chosen listed places)

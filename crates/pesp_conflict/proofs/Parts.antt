@@ -1,6 +1,6 @@
 -- The instance that has listed rows alone keeps the limits.
-use Rattle.std.proofs.Common.{◌≡◌, ℕ, ◌-◌, ◌≤◌, List, length, get_or, sym, subst, arith}
-use Rattle.std.specs.Prelude.{All, map}
+use Rattle.std.proofs.Common.{ℕ, ◌-◌, ◌≤◌, List, length, get_or, arith}
+use Rattle.std.specs.Prelude.{All}
 use Rattle.std.proofs.lemmas.List.{length-map}
 use Rattle.std.proofs.lemmas.List.Elements.{All-map}
 use Rattle.pesp_problem.specs.declared.row.Row.{Row}

@@ -2,10 +2,17 @@
 //! 2008).
 #![tactic(auto)]
 
+mod deciding;
 mod decision;
 mod finding;
+mod known;
 mod lists;
 mod part;
+mod seeking;
+mod settings;
+mod sifting;
+mod trying;
 mod used;
 
 pub use finding::{Conflict, Finding};
+pub use seeking::conflict;

@@ -30,8 +30,7 @@ pub fn are_rising(rows: &[u32]) -> bool
 pub fn are_named(rows: &[u32], count: usize) -> bool
     ensures { IsTrue result → All (Names count) rows.now }
 {
-    rows.iter()
-        .all(|row| 1 <= *row && *row as usize <= count)
+    rows.iter().all(|row| 1 <= *row && *row as usize <= count)
 }
 
 /// Whether each number of some is in the list.
@@ -40,6 +39,30 @@ pub fn are_among(listed: &[u32], some: &[u32]) -> bool
 {
     for row in some {
         if !is_listed(listed, *row) {
+            return false;
+        }
+    }
+    true
+}
+
+/// Whether the number is found among numbers in any order.
+fn is_found(rows: &[u32], row: u32) -> bool
+    ensures { IsTrue result → Contains rows.now row }
+{
+    for other in rows {
+        if *other == row {
+            return true;
+        }
+    }
+    false
+}
+
+/// Whether each number of some is found among numbers in any order.
+pub fn are_found(rows: &[u32], some: &[u32]) -> bool
+    ensures { IsTrue result → All (Contains rows.now) some.now }
+{
+    for row in some {
+        if !is_found(rows, *row) {
             return false;
         }
     }

@@ -1,5 +1,3 @@
-use Rattle.std.proofs.Common.{sym, ◌∙◌, ap, subst}
-use Rattle.pesp_problem.specs.Limits.{KeepsLimits}
 use Rattle.pesp_conflict.proofs.Parts.{part_keeps_limits}
 use Rattle.pesp_conflict.proofs.part.part_of.Goals as goal
 

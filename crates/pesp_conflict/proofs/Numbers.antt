@@ -1,0 +1,68 @@
+-- Lists that have all numbers from 1 up to some number.
+use Rattle.std.proofs.Common.{◌≡◌, ℕ, ◌+◌, ◌≤◌, ◌<◌, ◌⊎◌, inl, inr, List, [], ◌∷◌, ◌++◌, length, get_or, refl, subst, sym, ap, ◌∙◌, arith}
+use Rattle.std.specs.Prelude.{Contains, All, slice_index}
+use Rattle.std.proofs.lemmas.List.{get_or_push, get_or_default, length_push}
+use Rattle.std.proofs.lemmas.List.Elements.{Contains-append_left, All-from_get_or}
+use Rattle.pesp_problem.specs.Walks.{Names}
+use Rattle.pesp_problem.proofs.Integers.{lt-or-same}
+
+-- all numbers from 1 to n
+abbrev pub HasFirst : List ℕ → ℕ → Type 0
+HasFirst xs n = (row : ℕ) → Names n row → Contains xs row
+
+pub has_none : (xs : List ℕ) → HasFirst xs 0
+has_none xs row names = absurd (omega (arith, names))
+
+before-or-last : (n row : ℕ) → Names (n + 1) row → (Names n row) ⊎ (row ≡ n + 1)
+before-or-last n row names = by (lt_or_same row n)
+  where
+    lt_or_same : (a b : ℕ) → (a ≤ b) ⊎ (b + 1 ≤ a)
+    lt_or_same a b = grind arith
+
+    by : ((row ≤ n) ⊎ (n + 1 ≤ row)) → (Names n row) ⊎ (row ≡ n + 1)
+    by (inl low) = inl (names.0, low)
+    by (inr high) = inr (omega (arith, names, high))
+
+-- one number more is in the list
+pub has_more : (xs : List ℕ) (n : ℕ) → HasFirst xs n → Contains xs (n + 1) → HasFirst xs (n + 1)
+has_more xs n h last row names =
+    elim (before-or-last n row names) [
+      | inl before ↦ h row before
+      | inr same ↦ subst (Contains xs) (sym same) last
+    ]
+
+-- and is put behind it
+pub has_pushed : (xs : List ℕ) (n : ℕ) → HasFirst xs n → HasFirst (xs ++ (n + 1) ∷ []) (n + 1)
+has_pushed xs n h = has_more (xs ++ (n + 1) ∷ []) n (λ row names. Contains-append_left xs ((n + 1) ∷ []) row (h row names)) (length xs, omega (arith, length_push xs (n + 1)), get_or_push xs (n + 1) (n + 1) (length xs) refl)
+
+-- the first numbers of some are in a list
+abbrev pub AreAmong : List ℕ → List ℕ → ℕ → Type 0
+AreAmong listed some n = (i : ℕ) → i < n → Contains listed (slice_index some i)
+
+pub more_among : (listed some : List ℕ) (n : ℕ) → AreAmong listed some n → Contains listed (slice_index some n) → AreAmong listed some (n + 1)
+more_among listed some n h last i l =
+    elim (lt-or-same i n l) [
+      | inl before ↦ h i before
+      | inr same ↦ subst (λ (k : ℕ). Contains listed (slice_index some k)) (sym same) last
+    ]
+
+pub all_among : (listed some : List ℕ) (n : ℕ) → AreAmong listed some n → length some ≤ n → All (Contains listed) some
+all_among listed some n h l = All-from_get_or (Contains listed) some 0 (λ i k. h i (omega (arith, k, l)))
+
+-- what holds of the first elements of a list, whatever stands for places past its end
+abbrev pub AllTo : {X : Type 0} → (X → Type 0) → List X → ℕ → Type 0
+AllTo {X} P xs n = (i : ℕ) (d : X) → i < n → P (get_or xs i d)
+
+pub more_to : {X : Type 0} (P : X → Type 0) (xs : List X) (n : ℕ) (x : X) → AllTo P xs n → n < length xs → x ≡ get_or xs n x → P x → AllTo P xs (n + 1)
+more_to P xs n x h inside is p i d l =
+    elim (lt-or-same i n l) [
+      | inl before ↦ h i d before
+      | inr same ↦ subst P (is ∙ get_or_default xs n x d inside ∙ ap (λ (k : ℕ). get_or xs k d) (sym same)) p
+    ]
+
+pub more_at : {X : Type 0} (P : X → Type 0) (xs : List X) (n : ℕ) (e : X) → AllTo P xs n → n < length xs → P (get_or xs n e) → AllTo P xs (n + 1)
+more_at P xs n e h inside p i d l =
+    elim (lt-or-same i n l) [
+      | inl before ↦ h i d before
+      | inr same ↦ subst P (get_or_default xs n e d inside ∙ ap (λ (k : ℕ). get_or xs k d) (sym same)) p
+    ]

@@ -1,0 +1,54 @@
+-- What is known while rows are left out.
+use Rattle.std.specs.Prelude.{◌≡◌, ⊤, ℕ, ◌<◌, List, length, All, Contains, true}
+use Rattle.std.specs.List.Sorted.{IsStrictlyIncreasing}
+use Rattle.pesp_problem.specs.Timetables.{Pesp, IsTimetable}
+use Rattle.pesp_problem.specs.Walks.{Names}
+use Rattle.pesp_truth.specs.Certificates.{Content, IsValid}
+use Rattle.pesp_conflict_laws.specs.Conflicts.{KeepsRows, AreInConflict, IsNeeded, only_rows}
+use Rattle.pesp_conflict.specs.Findings.{IsConflict}
+use Rattle.pesp_conflict.specs.declared.finding.Conflict.{Conflict}
+use Rattle.pesp_conflict.specs.declared.decision.Decision.{Decision}
+use Rattle.pesp_conflict.specs.declared.decision.Decision.TheVariants as decisions
+use Rattle.pesp_conflict.specs.declared.trying.Trial.{Trial}
+use Rattle.pesp_conflict.specs.declared.trying.Trial.TheVariants as trials
+use Rattle.pesp_conflict.specs.declared.known.Known.{Known}
+
+-- the numbers rise and name rows
+abbrev pub AreFit : Pesp → List ℕ → Type 0
+AreFit p listed = IsStrictlyIncreasing listed × All (Names (length p.rows)) listed
+
+-- the certificate is valid for the instance that has the listed rows alone
+pub record IsToldBy (p : Pesp) (listed : List ℕ) (content : Content) : Type 0 where
+  pub some_period : 0 < p.period
+  pub fit : AreFit p listed
+  pub valid : IsValid (only_rows p listed) content
+
+-- some of the listed rows, which are in conflict
+abbrev pub IsPart : Pesp → List ℕ → List ℕ → Type 0
+IsPart p listed rows = AreInConflict p rows × All (Contains listed) rows
+
+-- some of the listed rows that are in conflict, or times that keep the listed rows
+abbrev pub IsDecision : Pesp → List ℕ → Decision → Type 0
+IsDecision p listed (decisions.Conflict rows) = IsConflict p rows.items × All (Contains listed) rows.items
+IsDecision p listed decisions.Timetable = (times : List ℕ) × KeepsRows p listed times
+IsDecision p listed decisions.Undecided = ⊤
+
+-- a listed row that is needed, or some of the listed rows that are in conflict
+abbrev pub IsTrial : Pesp → List ℕ → Trial → Type 0
+IsTrial p listed (trials.Needed row) = IsNeeded p listed row
+IsTrial p listed (trials.Fewer rows) = IsConflict p rows.items × All (Contains listed) rows.items
+IsTrial p listed trials.Unknown = ⊤
+
+-- a conflict, and rows that are needed in it
+abbrev pub IsKnown : Pesp → Known → Type 0
+IsKnown p known = IsConflict p known.listed.items × All (IsNeeded p known.listed.items) known.needed.items
+
+-- a conflict that is said to be needed whole only where it is
+abbrev pub IsShown : Pesp → Conflict → Type 0
+IsShown p found = IsConflict p found.rows.items × (found.each_needed ≡ true → All (IsNeeded p found.rows.items) found.rows.items)
+
+-- rows that are in conflict, or a timetable of the instance
+abbrev pub IsFirst : Pesp → Decision → Type 0
+IsFirst p (decisions.Conflict rows) = IsConflict p rows.items
+IsFirst p decisions.Timetable = (times : List ℕ) × IsTimetable p times
+IsFirst p decisions.Undecided = ⊤

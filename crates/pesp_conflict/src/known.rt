@@ -1,0 +1,69 @@
+//! What is known of a conflict while rows are left out.
+
+ghost use Rattle.std.specs.Prelude.{◌≡◌, All, Contains, IsTrue, OnOk};
+ghost use Rattle.pesp_problem.specs.Timetables.{Pesp};
+ghost use Rattle.pesp_conflict.specs.Findings.{IsConflict};
+ghost use Rattle.pesp_conflict.specs.Insides.{IsKnown, IsShown, IsTrial};
+
+use crate::finding::Conflict;
+use crate::lists::are_found;
+use crate::settings::TRIED_ROWS;
+use crate::trying::Trial;
+use std::alloc::{AllocError, Global};
+
+/// Rows that are in conflict, and those of them that are known to be needed; rows that need no further trial; and how many
+/// rows may still be searched.
+#[derive(Drop)]
+pub struct Known {
+    pub listed: Vec<u32>,
+    pub needed: Vec<u32>,
+    pub tried: Vec<u32>,
+    pub left: usize,
+}
+
+/// What is known before any trial.
+pub fn known_of(alloc: Global, rows: Vec<u32>) -> Known
+    ensures { (p : Pesp) → IsConflict p rows.items → IsKnown p result }
+{
+    Known {
+        listed: rows,
+        needed: Vec::new(alloc),
+        tried: Vec::new(alloc),
+        left: TRIED_ROWS,
+    }
+}
+
+/// Takes up what a trial has shown.
+pub fn take(known: &mut Known, trial: Trial) -> Result<(), AllocError>
+    ensures { (p : Pesp) → IsKnown p known.old → IsTrial p known.old.listed.items trial
+        → OnOk result (IsKnown p known.new) }
+{
+    match trial {
+        Trial::Needed(row) => known.needed.push(row)?,
+        Trial::Fewer(rows) => known.listed = rows,
+        Trial::Unknown => {}
+    }
+    Ok(())
+}
+
+/// The group needs no further trial.
+pub fn mark(known: &mut Known, group: &[u32]) -> Result<(), AllocError>
+    ensures { (p : Pesp) → IsKnown p known.old → OnOk result (IsKnown p known.new) }
+{
+    for row in group {
+        known.tried.push(*row)?;
+    }
+    Ok(())
+}
+
+/// The conflict, once no further trial is made.
+pub fn conflict_of(known: Known) -> Conflict
+    ensures { (p : Pesp) → IsKnown p known → IsShown p result }
+{
+    let each_needed = are_found(&known.needed, &known.listed);
+    let Known { listed, .. } = known;
+    Conflict {
+        rows: listed,
+        each_needed,
+    }
+}

@@ -1,0 +1,8 @@
+use Rattle.pesp_resume.proofs.Looks.{lent_to, grows_after}
+use Rattle.pesp_resume.proofs.looking.look_at_next.Goals as goal
+
+pub look_at-requires : goal.look_at-requires
+look_at-requires c = lent_to c.args.board.now.problem c.lend_next.new.board.problem c.problem.result.now c.args.board.now.state c.lend_next.new.board.state c.in-Some.job c.in_ok-job.ensures.problem c.problem.ensures c.best.ensures.limits c.keeps_limits.ensures.table c.best.ensures.orderly (rw c.in-Some.is at c.in_ok-job.ensures.lends)
+
+pub returns-clause-grows : goal.returns-clause-grows
+returns-clause-grows c = grows_after c.args.board.now.problem c.lend_next.new.board.problem 0 0 c.args.board.now.state c.lend_next.new.board.state c.look_at.new.board.state c.in_ok-job.ensures.problem c.in_ok-job.ensures.grows c.in_ok-look_at.ensures.grows

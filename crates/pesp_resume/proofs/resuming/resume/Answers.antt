@@ -1,0 +1,7 @@
+use Rattle.pesp_resume.proofs.Resumptions.{is_resumed_of}
+use Rattle.pesp_resume.proofs.resuming.resume.Goals as goal
+
+pub returns : goal.returns
+returns g c =
+    let search = c.in_ok-search.search in
+    is_resumed_of c.args.instance.now c.args.base.now search.board.problem search.board.state c.resume_search.new.search.board.state c.args.steps c.resume_search.result c.events.ensures.limits c.answer.ensures.limits.answer c.requires c.in_ok-search.ensures.begun c.resume_search.ensures.grows c.resume_search.ensures.few c.resume_search.ensures.certified

@@ -1,0 +1,27 @@
+-- What the run that goes on from a certificate reads and writes, and when it tells which fault.
+use Rattle.std.specs.Prelude.{◌⊎◌, ℕ, List}
+use Rattle.pesp_problem.specs.Timetables.{Pesp}
+use Rattle.pesp_truth.specs.Certificates.{Content}
+use Rattle.pesp_cert.specs.Texts.{spelling, HasText}
+use Rattle.pesp_resume.specs.Resuming.{IsResumed}
+use Rattle.pesp_runs.specs.declared.fault.Fault.{Fault}
+use Rattle.pesp_runs.specs.Devices.{Device, HasFailed, GetsFront}
+use Rattle.pesp_runs.specs.Runs.{ReadsInstance, InstanceCause, OutCause}
+use Rattle.pesp_runs.specs.Outside.{ReadsBase, BaseCause}
+
+-- the writer got what the relation says of the text of a certificate to which a search leads from the base, within so many steps
+pub record WritesResumed (p : Pesp) (base : Content) (steps : ℕ) (Gets : List ℕ → Type 0) : Type 0 where
+  pub used : ℕ
+  pub certificate : Content
+  pub resumed : IsResumed p base steps used certificate
+  pub has_text : HasText certificate
+  pub written : Gets (spelling certificate)
+
+-- each fault of `resume` and its cause, in the order of what is read and written; the second reader is called only where the first text has an instance
+abbrev pub ResumeCause : Fault → Device → Device → Device → ℕ → ℕ → Type 0 → Type 0
+ResumeCause fault reader base_reader writer period steps uncalled =
+    (InstanceCause fault reader period × uncalled)
+    ⊎ ((p : Pesp) × ReadsInstance reader.old reader.new period p
+    × (BaseCause fault base_reader p
+    ⊎ ((base : Content) × ReadsBase base_reader.old base_reader.new p base
+    × OutCause fault (HasFailed writer × WritesResumed p base steps (GetsFront writer)))))

@@ -1,0 +1,63 @@
+//! What is told of a conflict.
+
+ghost use Rattle.std.specs.Prelude.{◌≡◌};
+ghost use Rattle.pesp_conflict_run.specs.Told.{told_of, told_status};
+
+use std::fmt;
+
+/// What was found: a list was written, of so many activities of so many, each of which is needed, or perhaps not; the instance
+/// has a timetable; or so many steps decided nothing.
+#[derive(Clone, Copy, Debug, PartialEq, Eq)]
+pub enum Told {
+    /// The listed activities have no timetable together, and without any one of them the others have one.
+    Irreducible { listed: u32, of: u32 },
+    /// The listed activities have no timetable together; perhaps fewer have none.
+    Conflict { listed: u32, of: u32 },
+    /// The instance has a timetable.
+    Timetable,
+    /// So many steps decided nothing.
+    Undecided { steps: u32 },
+}
+
+/// What is told of a list.
+pub(crate) fn told_of(listed: u32, of: u32, each_needed: bool) -> Told
+    ensures { result ≡ told_of listed of each_needed }
+{
+    if each_needed {
+        Told::Irreducible { listed, of }
+    } else {
+        Told::Conflict { listed, of }
+    }
+}
+
+/// What is told as a line, without the line feed at its end.
+impl fmt::Display for Told {
+    ghost use Rattle.std.specs.Prelude.{Some};
+    ghost use Rattle.pesp_conflict_run.specs.Told.{told_text};
+
+    ghost output = { λ told. Some (told_text told) };
+
+    fn fmt<W: fmt::Write>(&self, f: &mut fmt::Formatter<W>) -> fmt::Result {
+        match self {
+            Told::Irreducible { listed, of } => {
+                write!(f, "{listed} of {of} activities conflict; each is needed")
+            }
+            Told::Conflict { listed, of } => {
+                write!(f, "{listed} of {of} activities conflict; perhaps fewer do")
+            }
+            Told::Timetable => f.write_str("no conflict was found: the instance has a timetable"),
+            Told::Undecided { steps } => write!(f, "no conflict was found within {steps} steps"),
+        }
+    }
+}
+
+/// The exit status of the program: 0 for a list, 1 for none.
+pub fn status_of_told(told: Told) -> u8
+    ensures { result ≡ told_status told }
+{
+    match told {
+        Told::Irreducible { .. } | Told::Conflict { .. } => 0,
+        Told::Timetable => 1,
+        Told::Undecided { .. } => 1,
+    }
+}

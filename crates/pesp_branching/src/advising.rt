@@ -37,7 +37,7 @@ impl Advised {
 /// The slack ranges of the rows that are left.
 fn slacks_left(alloc: Global, reduced: &Reduced, node: &Node) -> Result<Vec<(u32, u32)>, Memory> {
     let slacks = node.slacks();
-    let mut left = Vec::new(alloc);
+    let mut left = Vec::with_capacity(alloc, reduced.network().rows().len())?;
     for row in reduced.network().rows() {
         let place = (row.origin as usize).wrapping_sub(1);
         left.push(slacks.get(place).copied().unwrap_or((0, 0)))?;
@@ -62,7 +62,7 @@ fn ask_strategy(
     };
     let best = board.best().map(i128::from);
     let slacks = slacks_left(alloc, reduced, node)?;
-    let looked = strategy.look(alloc, &slacks, node.offsets(), pairs, best)?;
+    let looked = strategy.look(alloc, &job.path, &slacks, node.offsets(), pairs, best)?;
     let Some(Advice { cut, times, .. }) = looked else {
         return Ok(Advised::nothing());
     };

@@ -109,7 +109,7 @@ fn look(
     slacks: &[(u32, u32)],
     offsets: &[(i64, i64)],
 ) -> Option<Advice> {
-    strategy.look(alloc, slacks, offsets, &[], None).ok()?
+    strategy.look(alloc, &[], slacks, offsets, &[], None).ok()?
 }
 
 /// What is asked of the advice for the root.

@@ -24,7 +24,8 @@ pub enum Ended {
 /// A circulation. The price of an event is the time at which it would be, were offsets no whole numbers: along a row of the
 /// tree prices rise by the cost of one more unit of flow. Moves of parts of the tree are numbered, and each event has the number
 /// of the last one that changed its price. Rows along which a step may pay are listed, with the place in the list that is
-/// looked at next.
+/// looked at next. Rows that have changed since it was the same as another basis are listed too, with by how much the
+/// circulation has become cheaper since then.
 #[derive(Debug, Drop)]
 pub struct Basis {
     pub(crate) rows: Vec<Row>,
@@ -35,6 +36,8 @@ pub struct Basis {
     violated: Listed,
     next: u32,
     is_stale: bool,
+    changed: Listed,
+    pub(crate) fall: i128,
 }
 
 /// A row without a flow and without costs.
@@ -72,6 +75,8 @@ impl Basis {
             moves: 0,
             next: 0,
             is_stale: true,
+            changed: Listed::none(alloc, frame.rows().len())?,
+            fall: 0,
         })
     }
 
@@ -93,7 +98,46 @@ impl Basis {
         self.violated.copy_from(&other.violated)?;
         self.next = other.next;
         self.is_stale = other.is_stale;
+        self.fall = 0;
+        self.changed.clear()
+    }
+
+    /// Becomes once more the basis that it was the same as after `copy_from`; only rows that have changed since are copied.
+    /// Both are best ones: no step along any row pays.
+    pub fn go_back(&mut self, other: &Basis) -> Option<()> {
+        if self.prices.len() != other.prices.len() {
+            return None;
+        }
+        self.prices.copy_from_slice(&other.prices);
+        self.tree.copy_from(&other.tree)?;
+        self.take_back_rows(&other.rows)?;
+        self.forget_violated()?;
+        self.is_stale = false;
+        self.fall = 0;
         Some(())
+    }
+
+    /// Sets the rows that have changed as they are in these.
+    fn take_back_rows(&mut self, rows: &[Row]) -> Option<()> {
+        for place in 0..self.changed.count() {
+            let row = self.changed.at(place)?;
+            *self.rows.get_mut(row as usize)? = rows.get(row as usize).copied()?;
+        }
+        self.changed.clear()
+    }
+
+    /// A row that is going to change.
+    pub(crate) fn row_mut(&mut self, place: u32) -> Option<&mut Row> {
+        if !self.changed.has(place) {
+            self.changed.put(place)?;
+        }
+        self.rows.get_mut(place as usize)
+    }
+
+    /// By how much the circulation has become cheaper by pivots and by changes of slopes, since the basis was the same as
+    /// another one.
+    pub fn fall(&self) -> i128 {
+        self.fall
     }
 
     /// The price of an event.
@@ -146,6 +190,7 @@ impl Basis {
             Step {
                 row: place,
                 forward,
+                cost,
             },
         ))
     }
@@ -314,16 +359,31 @@ impl Basis {
         self.violated.clear()
     }
 
+    /// Takes it that no step along any row pays but those that are listed.
+    pub(crate) fn set_fresh(&mut self) {
+        self.is_stale = false;
+    }
+
     /// Changes what flow on a row costs; prices stay as they are.
     pub fn set_slopes(&mut self, row: u32, slopes: Slopes) -> Option<()> {
-        self.rows.get_mut(row as usize)?.slopes = slopes;
+        self.row_mut(row)?.slopes = slopes;
         Some(())
+    }
+
+    /// Changes what flow on a row costs; by how much the flow that is there becomes cheaper.
+    fn exchange_slopes(&mut self, place: u32, slopes: Slopes) -> Option<Row> {
+        let before = self.rows.get(place as usize)?.cost();
+        let row = self.row_mut(place)?;
+        row.slopes = slopes;
+        let changed = *row;
+        let fall = before.saturating_sub(changed.cost());
+        self.fall = self.fall.saturating_add(fall);
+        Some(changed)
     }
 
     /// Changes what flow on a row costs, and the prices that depend on it.
     pub fn change_slopes(&mut self, frame: &Frame, place: u32, slopes: Slopes) -> Option<()> {
-        self.set_slopes(place, slopes)?;
-        let row = *self.rows.get(place as usize)?;
+        let row = self.exchange_slopes(place, slopes)?;
         if !row.is_basic {
             self.note(place);
             return Some(());

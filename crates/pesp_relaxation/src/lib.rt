@@ -8,6 +8,7 @@ mod pivots;
 mod rebuilding;
 mod root;
 mod row;
+mod saving;
 mod settling;
 mod starting;
 

@@ -91,7 +91,7 @@ impl Basis {
 
     /// More flow on a row, or less.
     fn add(&mut self, row: u32, more: bool, units: i64) -> Option<()> {
-        let row = self.rows.get_mut(row as usize)?;
+        let row = self.row_mut(row)?;
         row.flow = if more {
             row.flow.checked_add(units)?
         } else {
@@ -125,6 +125,12 @@ impl Basis {
         self.send_along(round.from, round.top, false, units)
     }
 
+    /// Notes by how much the circulation becomes cheaper where so many units more go along a step's closed way.
+    fn note_fall(&mut self, step: Step, units: i64) {
+        let cost = i128::from(step.cost).saturating_mul(i128::from(units));
+        self.fall = self.fall.saturating_sub(cost);
+    }
+
     /// Takes the row up from an event out of the tree, and a step's row in; `inner` is the step's end below the event.
     fn swap(
         &mut self,
@@ -136,11 +142,11 @@ impl Basis {
         outer: u32,
     ) -> Option<()> {
         let by = self.tree.place(event)?.by;
-        let leaving = self.rows.get_mut(by as usize)?;
+        let leaving = self.row_mut(by)?;
         let leads_up = leaving.tail == event;
         leaving.bend = leaving.bend_at(leads_up == upwards);
         leaving.is_basic = false;
-        self.rows.get_mut(enters as usize)?.is_basic = true;
+        self.row_mut(enters)?.is_basic = true;
         self.tree.rehang(inner, event, outer, enters)?;
         self.settle_below(frame, inner)
     }
@@ -149,7 +155,7 @@ impl Basis {
     /// that takes no more.
     fn pivot(&mut self, frame: &Frame, step: Step) -> Option<Pivot> {
         let round = self.round(step)?;
-        let row = self.rows.get_mut(step.row as usize)?;
+        let row = self.row_mut(step.row)?;
         row.part = row.part_of(step.forward);
         let own = row.room(step.forward);
         let down = self.room_down(round)?;
@@ -159,10 +165,11 @@ impl Basis {
             return Some(Pivot::Endless(round));
         }
         self.send(round, units)?;
+        self.note_fall(step, units);
         if up.units == units {
             self.swap(frame, up.event, true, step.row, round.to, round.from)?;
         } else if own == units {
-            let row = self.rows.get_mut(step.row as usize)?;
+            let row = self.row_mut(step.row)?;
             row.bend = row.bend_at(step.forward);
         } else {
             self.swap(frame, down.event, false, step.row, round.from, round.to)?;
@@ -172,16 +179,19 @@ impl Basis {
 
     /// No flow but one unit along a closed way.
     fn keep_only(&mut self, round: Round) -> Option<()> {
-        for row in self.rows.iter_mut() {
-            row.flow = 0;
+        for place in 0..self.rows.len() {
+            self.row_mut(u32::try_from(place).ok()?)?.flow = 0;
         }
         self.send(round, 1)
     }
 
-    /// Makes the circulation cheaper by so many pivots at most; the closed way of the first step that has no end, where there
-    /// is one.
-    fn run(&mut self, frame: &Frame, most: u32) -> Result<Ended, Round> {
+    /// Makes the circulation cheaper by so many pivots at most, and ends where it has become as much cheaper as is enough; the
+    /// closed way of the first step that has no end, where there is one.
+    fn run(&mut self, frame: &Frame, most: u32, enough: i128) -> Result<Ended, Round> {
         for _ in 0..most {
+            if self.fall >= enough {
+                return Ok(Ended::Open);
+            }
             let Some(step) = self.entering() else {
                 return Ok(Ended::Best);
             };
@@ -197,7 +207,13 @@ impl Basis {
     /// Makes the circulation cheaper by so many pivots at most. Where it ends `Endless` the flow is one unit along a closed
     /// way that costs less than nothing, and the basis is no longer one.
     pub fn solve(&mut self, frame: &Frame, most: u32) -> Ended {
-        match self.run(frame, most) {
+        self.solve_within(frame, most, i128::MAX)
+    }
+
+    /// The same, and it ends `Open` where the circulation has become as much cheaper as is enough since the basis was the same
+    /// as another one.
+    pub fn solve_within(&mut self, frame: &Frame, most: u32, enough: i128) -> Ended {
+        match self.run(frame, most, enough) {
             Ok(ended) => ended,
             Err(round) => match self.keep_only(round) {
                 Some(()) => Ended::Endless,
@@ -209,6 +225,6 @@ impl Basis {
     /// Makes the circulation cheaper by so many pivots at most. Where it ends `Endless` the circulation and its basis are
     /// those that the pivots led to.
     pub fn approach(&mut self, frame: &Frame, most: u32) -> Ended {
-        self.run(frame, most).unwrap_or(Ended::Endless)
+        self.run(frame, most, i128::MAX).unwrap_or(Ended::Endless)
     }
 }

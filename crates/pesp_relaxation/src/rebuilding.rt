@@ -131,6 +131,13 @@ impl Basis {
     /// The pairs whose flow this is: the flow on each cycle's row, where there is any.
     pub fn pairs(&self, alloc: Global, cycles: &Cycles) -> Result<Vec<Pair>, AllocError> {
         let mut pairs = Vec::new(alloc);
+        self.put_pairs(cycles, &mut pairs)?;
+        Ok(pairs)
+    }
+
+    /// The same pairs in place of those of a list.
+    pub fn put_pairs(&self, cycles: &Cycles, pairs: &mut Vec<Pair>) -> Result<(), AllocError> {
+        pairs.clear();
         for (place, row) in cycles.outside().iter().enumerate() {
             let mult = self.flow(*row).unwrap_or(0);
             let cycle = u32::try_from(place).unwrap_or(0).saturating_add(1);
@@ -138,6 +145,6 @@ impl Basis {
                 pairs.push(Pair { cycle, mult })?;
             }
         }
-        Ok(pairs)
+        Ok(())
     }
 }

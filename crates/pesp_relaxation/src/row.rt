@@ -64,11 +64,12 @@ pub(crate) struct Row {
     pub(crate) is_basic: bool,
 }
 
-/// More flow along a row that isn't in the basis, or less.
+/// More flow along a row that isn't in the basis, or less, and what a unit costs.
 #[derive(Clone, Copy)]
 pub(crate) struct Step {
     pub(crate) row: u32,
     pub(crate) forward: bool,
+    pub(crate) cost: i64,
 }
 
 impl Slopes {

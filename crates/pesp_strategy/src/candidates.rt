@@ -19,6 +19,23 @@ pub(crate) struct Candidate {
     score: u128,
 }
 
+/// What cuts are judged by before they are looked at: what was gained on either side so far, and the cap beyond which a gain
+/// doesn't count.
+#[derive(Clone, Copy)]
+pub(crate) struct Judges<'a> {
+    pub(crate) low: &'a Side,
+    pub(crate) high: &'a Side,
+    pub(crate) cap: u64,
+}
+
+/// The best so many cuts of those that were taken in, beside a few more; no cut with a score up to the bar is one of them.
+#[derive(Drop)]
+struct Likeliest {
+    found: Vec<Candidate>,
+    most: usize,
+    bar: u128,
+}
+
 impl Candidate {
     /// By falling score, then by rising cycle.
     fn order(&self, other: &Candidate) -> Ordering {
@@ -28,13 +45,37 @@ impl Candidate {
             .then(self.cycle.cmp(&other.cycle))
     }
 
-    /// How well a cut is thought of where a gain beyond the cap doesn't count.
-    fn rate(&mut self, low: &Side, high: &Side, cap: u128) {
-        let below = low.estimate(self.cycle, self.weight, self.low).min(cap);
-        let above = high.estimate(self.cycle, self.weight, self.high).min(cap);
-        self.score = below
-            .saturating_add(1)
-            .saturating_mul(above.saturating_add(1));
+    /// How well a cut is thought of.
+    fn rate(&mut self, judges: &Judges<'_>) {
+        let low = judges.low.estimate(self.cycle, self.weight, self.low);
+        let high = judges.high.estimate(self.cycle, self.weight, self.high);
+        let below = u128::from(low.min(judges.cap)).saturating_add(1);
+        let above = u128::from(high.min(judges.cap)).saturating_add(1);
+        self.score = below.saturating_mul(above);
+    }
+}
+
+impl Likeliest {
+    /// Takes a cut in; those that are taken in later are of later cycles.
+    fn take_in(&mut self, candidate: Candidate) -> Result<(), AllocError> {
+        if candidate.score <= self.bar {
+            return Ok(());
+        }
+        self.found.push(candidate)?;
+        if self.found.len() > self.most.saturating_mul(2) {
+            self.trim();
+        }
+        Ok(())
+    }
+
+    /// Keeps the best, the best first.
+    fn trim(&mut self) {
+        self.found.sort_unstable_by(|one, other| one.order(other));
+        self.found.truncate(self.most);
+        if self.found.len() >= self.most {
+            let last = self.found.get(self.most.saturating_sub(1));
+            self.bar = last.map_or(0, |last| last.score);
+        }
     }
 }
 
@@ -45,24 +86,25 @@ fn cut_at(
     basis: &Basis,
     cycle: u32,
     place: u32,
-    least: i64,
-    offsets: (i64, i64),
+    slacks: &[(u32, u32)],
 ) -> Option<Candidate> {
-    let period = i64::from(frame.period());
+    let slopes = basis.slopes(place)?;
+    let rise = basis.rise(place)?;
+    if rise <= slopes.below || rise >= slopes.between {
+        return None;
+    }
     let row = frame.row(place)?;
-    let shifted = row
-        .lower
-        .checked_add(least)?
-        .checked_sub(basis.rise(place)?)?;
+    let least = slacks.get(place as usize)?.0;
+    let shifted = row.lower.checked_add(i64::from(least))?.checked_sub(rise)?;
+    let period = i64::from(frame.period());
     let rest = shifted.checked_rem_euclid(period)?;
-    let k = shifted.checked_div_euclid(period)?;
-    if rest == 0 || k < offsets.0 || k >= offsets.1 {
+    if rest == 0 {
         return None;
     }
     Some(Candidate {
         cycle,
         row: place,
-        k,
+        k: shifted.checked_div_euclid(period)?,
         low: rest.unsigned_abs(),
         high: period.abs_diff(rest),
         weight: row.weight,
@@ -70,31 +112,29 @@ fn cut_at(
     })
 }
 
-/// All cuts where the prices give a cycle no whole offset, the best first.
+/// The best so many cuts where the prices give a cycle no whole offset, the best first.
 pub(crate) fn candidates(
     alloc: Global,
     frame: &Frame,
     cycles: &Cycles,
     basis: &Basis,
     slacks: &[(u32, u32)],
-    offsets: &[(i64, i64)],
+    judges: &Judges<'_>,
+    most: usize,
 ) -> Result<Vec<Candidate>, AllocError> {
-    let mut found = Vec::new(alloc);
-    for (number, (row, range)) in cycles.outside().iter().zip(offsets.iter()).enumerate() {
+    let mut likeliest = Likeliest {
+        found: Vec::new(alloc),
+        most,
+        bar: 0,
+    };
+    for (number, row) in cycles.outside().iter().enumerate() {
         let cycle = u32::try_from(number).unwrap_or(0).saturating_add(1);
-        let least = slacks.get(*row as usize).map_or(0, |range| range.0);
-        let cut = cut_at(frame, basis, cycle, *row, i64::from(least), *range);
-        if let Some(candidate) = cut {
-            found.push(candidate)?;
+        if let Some(mut candidate) = cut_at(frame, basis, cycle, *row, slacks) {
+            candidate.rate(judges);
+            likeliest.take_in(candidate)?;
         }
     }
+    likeliest.trim();
+    let Likeliest { found, .. } = likeliest;
     Ok(found)
-}
-
-/// Puts the best first, by what is to be gained on either side, up to a cap.
-pub(crate) fn rank(candidates: &mut [Candidate], low: &Side, high: &Side, cap: u128) {
-    for candidate in candidates.iter_mut() {
-        candidate.rate(low, high, cap);
-    }
-    candidates.sort_unstable_by(|one, other| one.order(other));
 }

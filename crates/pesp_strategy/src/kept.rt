@@ -53,6 +53,14 @@ impl Kept {
         self.is_known && value >= self.limit
     }
 
+    /// By how much a value has to rise until its leaf closes; more than it can where no timetable is known.
+    pub(crate) fn rise_to_close(&self, value: i128) -> i128 {
+        if !self.is_known {
+            return i128::MAX;
+        }
+        self.limit.saturating_sub(value)
+    }
+
     /// By how much a value may rise until its leaf closes, at least 1.
     pub(crate) fn cap(&self, value: i128) -> u128 {
         u128::try_from(self.limit.saturating_sub(value))

@@ -2,6 +2,7 @@
 //! its parts. All that is proposed is judged by others; here it is found safely and in so many steps, the same in each run.
 #![tactic(auto)]
 
+mod branchings;
 mod candidates;
 mod drawing;
 mod experience;

@@ -3,24 +3,34 @@
 use crate::candidates::Candidate;
 use crate::experience::Side;
 use crate::kept::Kept;
-use crate::settings::{MOST_CUTS, MOST_WORSE};
 use crate::weighing::{Leaf, Weight, score};
 use pesp_forest::Frame;
-use pesp_relaxation::Basis;
+use pesp_problem::Pair;
+use pesp_relaxation::{Basis, Ended};
 use std::alloc::{AllocError, Global};
 use std::mem::swap;
 
-/// The bases of both parts of a cut.
+/// What was found for a part of a cut: pairs; and the basis as it is written down, where it is a best one.
 #[derive(Drop)]
-pub(crate) struct Parts {
-    pub(crate) low: Basis,
-    pub(crate) high: Basis,
+pub(crate) struct Found {
+    pub(crate) pairs: Vec<Pair>,
+    codes: Vec<u8>,
+    is_written: bool,
 }
 
-/// The basis of a leaf, those of the cut that is looked at, and those of the best cut so far.
+/// What was found for both parts of a cut.
+#[derive(Drop)]
+pub(crate) struct Parts {
+    pub(crate) low: Found,
+    pub(crate) high: Found,
+}
+
+/// The basis of a leaf, and the same one, which goes on to parts and back; what was found for the cut that is looked at, and
+/// for the best cut so far.
 #[derive(Drop)]
 pub(crate) struct Bases {
     pub(crate) leaf: Basis,
+    tried: Basis,
     looked_at: Parts,
     pub(crate) best: Parts,
 }
@@ -40,13 +50,43 @@ pub(crate) struct Looked {
     pub(crate) high: Weight,
 }
 
+impl Found {
+    /// Nothing yet.
+    fn nothing(alloc: Global) -> Found {
+        Found {
+            pairs: Vec::new(alloc),
+            codes: Vec::new(alloc),
+            is_written: false,
+        }
+    }
+
+    /// The basis as it is written down, where there is one.
+    pub(crate) fn basis(&self) -> Option<&[u8]> {
+        if self.is_written {
+            Some(&self.codes)
+        } else {
+            None
+        }
+    }
+
+    /// Notes the pairs of a basis, and the basis where it is a best one.
+    fn note(&mut self, leaf: &Leaf<'_>, basis: &Basis, ended: Ended) -> Result<(), AllocError> {
+        basis.put_pairs(leaf.cycles, &mut self.pairs)?;
+        self.is_written = false;
+        if ended == Ended::Best {
+            self.is_written = basis.save(&mut self.codes)?;
+        }
+        Ok(())
+    }
+}
+
 impl Parts {
-    /// Without flows.
-    fn idle(alloc: Global, frame: &Frame) -> Result<Parts, AllocError> {
-        Ok(Parts {
-            low: Basis::idle(alloc, frame)?,
-            high: Basis::idle(alloc, frame)?,
-        })
+    /// Nothing yet.
+    fn nothing(alloc: Global) -> Parts {
+        Parts {
+            low: Found::nothing(alloc),
+            high: Found::nothing(alloc),
+        }
     }
 }
 
@@ -55,9 +95,69 @@ impl Bases {
     pub(crate) fn idle(alloc: Global, frame: &Frame) -> Result<Bases, AllocError> {
         Ok(Bases {
             leaf: Basis::idle(alloc, frame)?,
-            looked_at: Parts::idle(alloc, frame)?,
-            best: Parts::idle(alloc, frame)?,
+            tried: Basis::idle(alloc, frame)?,
+            looked_at: Parts::nothing(alloc),
+            best: Parts::nothing(alloc),
         })
+    }
+
+    /// Notes what was found for a part, and offers its prices as times where it doesn't close.
+    fn note(
+        &mut self,
+        alloc: Global,
+        leaf: &Leaf<'_>,
+        kept: &mut Kept,
+        weight: Weight,
+        is_high: bool,
+    ) -> Result<(), AllocError> {
+        if !weight.is_closed(kept) {
+            kept.offer(alloc, leaf.frame, &self.tried)?;
+        }
+        if is_high {
+            self.looked_at.high.note(leaf, &self.tried, weight.ended)
+        } else {
+            self.looked_at.low.note(leaf, &self.tried, weight.ended)
+        }
+    }
+
+    /// Looks at a part of a cut, and goes back to the leaf.
+    fn look_at_part(
+        &mut self,
+        alloc: Global,
+        leaf: &Leaf<'_>,
+        kept: &mut Kept,
+        cut: &Candidate,
+        is_high: bool,
+    ) -> Result<Option<Weight>, AllocError> {
+        let weighed = leaf.weigh(kept, &mut self.tried, cut, is_high);
+        if let Some(weight) = weighed {
+            self.note(alloc, leaf, kept, weight, is_high)?;
+        }
+        if self.tried.go_back(&self.leaf).is_none() {
+            return Ok(None);
+        }
+        Ok(weighed)
+    }
+
+    /// Looks at both parts of a cut.
+    fn look_at(
+        &mut self,
+        alloc: Global,
+        leaf: &Leaf<'_>,
+        kept: &mut Kept,
+        cut: &Candidate,
+    ) -> Result<Option<Looked>, AllocError> {
+        let Some(low) = self.look_at_part(alloc, leaf, kept, cut, false)? else {
+            return Ok(None);
+        };
+        let Some(high) = self.look_at_part(alloc, leaf, kept, cut, true)? else {
+            return Ok(None);
+        };
+        Ok(Some(Looked {
+            cut: *cut,
+            low,
+            high,
+        }))
     }
 }
 
@@ -72,48 +172,14 @@ impl Experience {
 
     /// Notes what the parts of a cut have gained.
     fn note(&mut self, looked: &Looked) {
-        let cut = looked.cut;
-        if !looked.low.is_endless {
-            self.low
-                .note(cut.cycle, cut.weight, cut.low, looked.low.gain);
-        }
-        if !looked.high.is_endless {
-            self.high
-                .note(cut.cycle, cut.weight, cut.high, looked.high.gain);
-        }
+        let Looked { cut, low, high } = looked;
+        self.low.note(cut.cycle, cut.weight, cut.low, low.gain);
+        self.high.note(cut.cycle, cut.weight, cut.high, high.gain);
     }
 }
 
-/// Looks at both parts of a cut.
-fn look_at(leaf: &Leaf<'_>, kept: &Kept, bases: &mut Bases, cut: &Candidate) -> Option<Looked> {
-    let low = leaf.weigh(kept, &bases.leaf, &mut bases.looked_at.low, cut, false)?;
-    let high = leaf.weigh(kept, &bases.leaf, &mut bases.looked_at.high, cut, true)?;
-    Some(Looked {
-        cut: *cut,
-        low,
-        high,
-    })
-}
-
-/// Offers the prices of the parts that was looked at as times.
-fn offer_parts(
-    alloc: Global,
-    frame: &Frame,
-    kept: &mut Kept,
-    parts: &Parts,
-    looked: &Looked,
-) -> Result<(), AllocError> {
-    if !looked.low.is_endless {
-        kept.offer(alloc, frame, &parts.low)?;
-    }
-    if !looked.high.is_endless {
-        kept.offer(alloc, frame, &parts.high)?;
-    }
-    Ok(())
-}
-
-/// The best of the first of these cuts. Its parts' bases are kept, and so is what was gained and a timetable that costs
-/// less, where one was met with.
+/// The best of these cuts, or the first that closes both parts. What was found for its parts is kept, and so is what was
+/// gained and a timetable that costs less, where one was met with.
 pub(crate) fn best_cut(
     alloc: Global,
     leaf: &Leaf<'_>,
@@ -124,23 +190,21 @@ pub(crate) fn best_cut(
 ) -> Result<Option<Looked>, AllocError> {
     let mut best = None;
     let mut greatest = 0;
-    let mut worse = 0u32;
-    for cut in cuts.iter().take(MOST_CUTS) {
-        let Some(looked) = look_at(leaf, kept, bases, cut) else {
+    if bases.tried.copy_from(&bases.leaf).is_none() {
+        return Ok(None);
+    }
+    for cut in cuts {
+        let Some(looked) = bases.look_at(alloc, leaf, kept, cut)? else {
             continue;
         };
-        offer_parts(alloc, leaf.frame, kept, &bases.looked_at, &looked)?;
         experience.note(&looked);
         let score = score(kept, leaf.value, looked.low, looked.high);
         if score > greatest {
             greatest = score;
             best = Some(looked);
-            worse = 0;
             swap(&mut bases.looked_at, &mut bases.best);
-            continue;
         }
-        worse = worse.saturating_add(1);
-        if worse >= MOST_WORSE {
+        if looked.low.is_closed(kept) && looked.high.is_closed(kept) {
             return Ok(best);
         }
     }

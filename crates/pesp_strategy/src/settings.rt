@@ -1,10 +1,22 @@
 //! Numbers that tune the search. None of them is promised; each was found by trying.
 
-/// How many cuts of a leaf are looked at.
-pub(crate) const MOST_CUTS: usize = 16;
+/// Below so many cuts a leaf is near the root.
+pub(crate) const SHALLOW: usize = 6;
 
-/// After how many cuts in a row that are no better no more are looked at.
-pub(crate) const MOST_WORSE: u32 = 4;
+/// How many cuts of a leaf near the root are looked at.
+pub(crate) const CUTS_NEAR_ROOT: usize = 32;
+
+/// How many cuts of another leaf are looked at.
+pub(crate) const CUTS: usize = 2;
+
+/// How many where there are many rows.
+pub(crate) const CUTS_OF_MANY_ROWS: usize = 3;
+
+/// How many rows aren't many.
+pub(crate) const FEW_ROWS: usize = 1_000;
+
+/// How many bytes of bases are kept at most for leaves that are still to be looked at.
+pub(crate) const KEPT_BYTES: usize = 268_435_456;
 
 /// How many exchanges are drawn for each one that is to be tried, at most.
 pub(crate) const DRAWN_EACH: u32 = 50;

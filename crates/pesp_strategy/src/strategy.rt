@@ -1,14 +1,17 @@
 //! What is tried next at a leaf.
 
-use crate::candidates::{Candidate, candidates, rank};
+use crate::branchings::Branchings;
+use crate::candidates::{Candidate, Judges, candidates};
 use crate::kept::Kept;
-use crate::looking::{Bases, Experience, Looked, best_cut};
+use crate::looking::{Bases, Experience, Found, Looked, best_cut};
+use crate::settings::{CUTS, CUTS_NEAR_ROOT, CUTS_OF_MANY_ROWS, FEW_ROWS, KEPT_BYTES, SHALLOW};
 use crate::weighing::{Leaf, Weight};
 use pesp_forest::{Cycles, Frame};
 use pesp_network::Network;
-use pesp_problem::{Memory, Pair};
-use pesp_relaxation::{Basis, Ended, Root, settle};
+use pesp_problem::{Cut, Memory, Pair, Side};
+use pesp_relaxation::{Basis, Ended, MOST_PIVOTS, Root};
 use std::alloc::{AllocError, Global};
+use std::mem::swap;
 
 /// Pairs for a leaf, with the value that they should have there; or, where it is endless, pairs whose value with all weights 0
 /// should be above 0, so that no timetable is there.
@@ -45,11 +48,22 @@ struct Setting {
     shifts: Vec<i64>,
 }
 
-/// The bases of the leaf that is looked at and of its parts, and what cuts have gained so far.
+/// The bases of the leaf that is looked at and of its parts, what cuts have gained so far, and the leaves so far.
 #[derive(Drop)]
 struct Work {
     bases: Bases,
     experience: Experience,
+    branchings: Branchings,
+}
+
+/// A leaf that is looked at: its ranges, its pairs, its place among those so far, and how many cuts lead there.
+#[derive(Clone, Copy)]
+struct Looking<'a> {
+    slacks: &'a [(u32, u32)],
+    offsets: &'a [(i64, i64)],
+    pairs: &'a [Pair],
+    place: u32,
+    depth: usize,
 }
 
 /// A network with its forest, and what was learned from the cuts so far.
@@ -98,104 +112,174 @@ fn base_cost(frame: &Frame, slacks: &[(u32, u32)]) -> i128 {
     sum
 }
 
-/// The pairs of a basis.
-fn part_of(
-    alloc: Global,
-    cycles: &Cycles,
-    basis: &Basis,
-    value: i128,
-    is_endless: bool,
-) -> Result<Part, AllocError> {
-    let pairs = basis.pairs(alloc, cycles)?;
-    Ok(Part {
-        pairs,
-        value,
-        is_endless,
-    })
+/// How many cuts of a leaf are looked at, of a network of so many rows, below so many cuts.
+fn cuts_for(rows: usize, depth: usize) -> usize {
+    if depth < SHALLOW {
+        CUTS_NEAR_ROOT
+    } else if rows <= FEW_ROWS {
+        CUTS
+    } else {
+        CUTS_OF_MANY_ROWS
+    }
 }
 
-/// The cuts that may be made at a leaf, the best first.
+/// The cuts of a leaf that are looked at, the likeliest first.
 fn cuts(
     alloc: Global,
     setting: &Setting,
     work: &Work,
-    leaf: &Leaf<'_>,
+    looking: &Looking<'_>,
     cap: u128,
 ) -> Result<Vec<Candidate>, AllocError> {
-    let mut found = candidates(
+    let Experience { low, high } = &work.experience;
+    let judges = Judges {
+        low,
+        high,
+        cap: u64::try_from(cap).unwrap_or(u64::MAX),
+    };
+    candidates(
         alloc,
         &setting.frame,
         &setting.cycles,
         &work.bases.leaf,
-        leaf.slacks,
-        leaf.offsets,
-    )?;
-    let Experience { low, high } = &work.experience;
-    rank(&mut found, low, high, cap);
-    Ok(found)
+        looking.slacks,
+        &judges,
+        cuts_for(setting.frame.rows().len(), looking.depth),
+    )
 }
 
-/// The pairs of a part that was looked at.
-fn weighed(
-    alloc: Global,
-    setting: &Setting,
-    basis: &Basis,
-    weight: Weight,
-) -> Result<Part, AllocError> {
-    let Weight {
-        value,
-        is_endless,
-        ..
-    } = weight;
-    part_of(alloc, &setting.cycles, basis, value, is_endless)
+/// What is proposed for a part that was looked at; its pairs are taken out of what was found.
+fn part_of(alloc: Global, found: &mut Found, weight: Weight) -> Part {
+    let mut pairs = Vec::new(alloc);
+    swap(&mut pairs, &mut found.pairs);
+    Part {
+        pairs,
+        value: weight.value,
+        is_endless: weight.is_endless(),
+    }
 }
 
 /// The split of a cut that was looked at.
-fn split_of(
-    alloc: Global,
-    setting: &Setting,
-    bases: &Bases,
-    looked: &Looked,
-) -> Result<Split, AllocError> {
+fn split_of(alloc: Global, setting: &Setting, bases: &mut Bases, looked: &Looked) -> Split {
     let cycle = looked.cut.cycle;
     let place = (cycle as usize).wrapping_sub(1);
     let shift = setting.shifts.get(place).copied().unwrap_or(0);
-    let best = &bases.best;
-    Ok(Split {
+    let best = &mut bases.best;
+    Split {
         cycle,
         k: looked.cut.k.saturating_add(shift),
-        low: weighed(alloc, setting, &best.low, looked.low)?,
-        high: weighed(alloc, setting, &best.high, looked.high)?,
-    })
+        low: part_of(alloc, &mut best.low, looked.low),
+        high: part_of(alloc, &mut best.high, looked.high),
+    }
 }
 
-/// The best cut of a leaf whose basis is settled.
-fn choose<'x>(
+/// Keeps the bases of both parts of a split, and proposes it.
+fn proposed(
     alloc: Global,
-    setting: &'x Setting,
+    setting: &Setting,
     work: &mut Work,
-    slacks: &'x [(u32, u32)],
-    offsets: &'x [(i64, i64)],
+    place: u32,
+    looked: &Looked,
+) -> Result<Split, AllocError> {
+    let Work {
+        bases,
+        branchings,
+        ..
+    } = work;
+    let split = split_of(alloc, setting, bases, looked);
+    let cut = Cut::Offset {
+        cycle: split.cycle,
+        k: split.k,
+    };
+    let (low, high) = (bases.best.low.basis(), bases.best.high.basis());
+    branchings.keep(alloc, place, cut, low, high)?;
+    Ok(split)
+}
+
+/// The best cut of a leaf whose basis is a best one, with the leaf's value.
+fn choose(
+    alloc: Global,
+    setting: &Setting,
+    work: &mut Work,
+    looking: &Looking<'_>,
     kept: &mut Kept,
 ) -> Result<(i128, Option<Split>), AllocError> {
-    let base = base_cost(&setting.frame, slacks);
+    let base = base_cost(&setting.frame, looking.slacks);
     let value = base.saturating_sub(work.bases.leaf.cost());
     if kept.closes(value) {
         return Ok((value, None));
     }
     let leaf = Leaf {
         frame: &setting.frame,
-        slacks,
-        offsets,
-        base,
+        cycles: &setting.cycles,
+        slacks: looking.slacks,
+        offsets: looking.offsets,
         value,
     };
-    let found = cuts(alloc, setting, work, &leaf, kept.cap(value))?;
-    let Work { bases, experience } = work;
+    let found = cuts(alloc, setting, work, looking, kept.cap(value))?;
+    let Work {
+        bases,
+        experience,
+        ..
+    } = work;
     match best_cut(alloc, &leaf, kept, bases, experience, &found)? {
-        Some(looked) => Ok((value, Some(split_of(alloc, setting, bases, &looked)?))),
+        Some(looked) => Ok((
+            value,
+            Some(proposed(alloc, setting, work, looking.place, &looked)?),
+        )),
         None => Ok((value, None)),
     }
+}
+
+/// Makes a basis the best one of a leaf, from the one that was written down for it where there is one, else from its pairs;
+/// None where that has no ranges for some row or cycle.
+fn settle(
+    alloc: Global,
+    setting: &Setting,
+    basis: &mut Basis,
+    looking: &Looking<'_>,
+    codes: &[u8],
+) -> Result<Option<Ended>, AllocError> {
+    let Setting { frame, cycles, .. } = setting;
+    let ranges = basis.set_ranges(frame, cycles, looking.slacks, looking.offsets);
+    if ranges.is_none() {
+        return Ok(None);
+    }
+    if !codes.is_empty() && basis.restore(alloc, frame, codes)?.is_some() {
+        return Ok(Some(Ended::Best));
+    }
+    if basis
+        .rebuild(alloc, frame, cycles, looking.pairs)?
+        .is_none()
+    {
+        return Ok(None);
+    }
+    Ok(Some(basis.solve(frame, MOST_PIVOTS)))
+}
+
+/// What is proposed for a leaf whose search for a best basis ended so.
+fn advise(
+    alloc: Global,
+    setting: &Setting,
+    work: &mut Work,
+    looking: &Looking<'_>,
+    ended: Ended,
+    best: Option<i128>,
+) -> Result<Advice, AllocError> {
+    let mut kept = Kept::new(&setting.frame, best);
+    let mut cut = None;
+    let mut value = 0;
+    if ended == Ended::Best {
+        kept.offer(alloc, &setting.frame, &work.bases.leaf)?;
+        (value, cut) = choose(alloc, setting, work, looking, &mut kept)?;
+    }
+    let leaf = Part {
+        pairs: work.bases.leaf.pairs(alloc, &setting.cycles)?,
+        value,
+        is_endless: ended == Ended::Endless,
+    };
+    let Kept { times, .. } = kept;
+    Ok(Advice { leaf, cut, times })
 }
 
 /// The root of a network by its own forest; None where it has a cycle without an offset.
@@ -231,7 +315,12 @@ impl Work {
     fn new(alloc: Global, setting: &Setting) -> Result<Work, AllocError> {
         let experience = Experience::new(alloc, setting.cycles.count())?;
         let bases = Bases::idle(alloc, &setting.frame)?;
-        Ok(Work { bases, experience })
+        let branchings = Branchings::new(alloc, KEPT_BYTES)?;
+        Ok(Work {
+            bases,
+            experience,
+            branchings,
+        })
     }
 }
 
@@ -256,12 +345,14 @@ impl Strategy {
         self.work.bases.leaf.prices()
     }
 
-    /// What is proposed for a leaf: of these slack ranges, one for each row of the network, these offset ranges, one for each
-    /// cycle as they are named, and these pairs, where the best timetable so far costs so much. None where nothing is to be
-    /// said, as of a leaf that has no ranges for some row or cycle, or numbers beyond 64 bits.
+    /// What is proposed for a leaf: of these parts of cuts, from the root on, by the names of the cycles; of these slack ranges,
+    /// one for each row of the network, these offset ranges, one for each cycle as they are named, and these pairs, where the
+    /// best timetable so far costs so much. None where nothing is to be said, as of a leaf that has no ranges for some row or
+    /// cycle, or numbers beyond 64 bits.
     pub fn look(
         &mut self,
         alloc: Global,
+        path: &[(Cut, Side)],
         slacks: &[(u32, u32)],
         offsets: &[(i64, i64)],
         pairs: &[Pair],
@@ -269,21 +360,18 @@ impl Strategy {
     ) -> Result<Option<Advice>, Memory> {
         let Strategy { setting, work } = self;
         let own = own_offsets(alloc, offsets, &setting.shifts)?;
-        let basis = &mut work.bases.leaf;
-        let Setting { frame, cycles, .. } = setting;
-        let Some(ended) = settle(alloc, frame, cycles, basis, slacks, &own, pairs)? else {
-            return Ok(None);
+        let looking = Looking {
+            slacks,
+            offsets: &own,
+            pairs,
+            place: work.branchings.reach(alloc, path)?,
+            depth: path.len(),
         };
-        let mut kept = Kept::new(&setting.frame, best);
-        let is_endless = ended == Ended::Endless;
-        let mut cut = None;
-        let mut value = 0;
-        if !is_endless {
-            kept.offer(alloc, &setting.frame, &work.bases.leaf)?;
-            (value, cut) = choose(alloc, setting, work, slacks, &own, &mut kept)?;
+        let codes = work.branchings.take(alloc, looking.place);
+        let basis = &mut work.bases.leaf;
+        match settle(alloc, setting, basis, &looking, &codes)? {
+            Some(ended) => Ok(Some(advise(alloc, setting, work, &looking, ended, best)?)),
+            None => Ok(None),
         }
-        let leaf = part_of(alloc, &setting.cycles, &work.bases.leaf, value, is_endless)?;
-        let Kept { times, .. } = kept;
-        Ok(Some(Advice { leaf, cut, times }))
     }
 }

@@ -2,25 +2,26 @@
 
 use crate::candidates::Candidate;
 use crate::kept::Kept;
-use pesp_forest::Frame;
+use pesp_forest::{Cycles, Frame};
 use pesp_relaxation::{Basis, Ended, MOST_PIVOTS, slopes_of};
 
-/// A leaf: its ranges, what its rows cost by their least slacks, and its value.
+/// A leaf: its ranges, and its value.
 #[derive(Clone, Copy)]
 pub(crate) struct Leaf<'a> {
     pub(crate) frame: &'a Frame,
+    pub(crate) cycles: &'a Cycles,
     pub(crate) slacks: &'a [(u32, u32)],
     pub(crate) offsets: &'a [(i64, i64)],
-    pub(crate) base: i128,
     pub(crate) value: i128,
 }
 
-/// What a part of a leaf is worth: its value, and by how much that is above the leaf's; or whether it has no timetable.
+/// What a part of a leaf is worth: its value, or what it is worth at least where it closes; by how much that is above the
+/// leaf's; and how the search for its best basis ended: where that is `Endless` it has no timetable.
 #[derive(Clone, Copy)]
 pub(crate) struct Weight {
     pub(crate) value: i128,
     pub(crate) gain: u128,
-    pub(crate) is_endless: bool,
+    pub(crate) ended: Ended,
 }
 
 impl Leaf<'_> {
@@ -35,10 +36,10 @@ impl Leaf<'_> {
         }
     }
 
-    /// Goes on from the leaf's basis to a best one of a part.
+    /// Goes on from the leaf's basis towards a best one of a part, until the part closes.
     fn solve_part(
         &self,
-        leaf: &Basis,
+        kept: &Kept,
         basis: &mut Basis,
         cut: &Candidate,
         is_high: bool,
@@ -47,43 +48,46 @@ impl Leaf<'_> {
         let row = self.frame.row(cut.row)?;
         let slacks = self.slacks.get(cut.row as usize).copied()?;
         let slopes = slopes_of(self.frame.period(), row, slacks, offsets)?;
-        basis.copy_from(leaf)?;
         basis.change_slopes(self.frame, cut.row, slopes)?;
-        Some(basis.solve(self.frame, MOST_PIVOTS))
+        let enough = kept.rise_to_close(self.value);
+        Some(basis.solve_within(self.frame, MOST_PIVOTS, enough))
     }
 
-    /// Goes on from the leaf's basis to a best one of a part, and says what the part is worth.
+    /// Goes on from the leaf's basis towards a best one of a part, and says what the part is worth.
     pub(crate) fn weigh(
         &self,
         kept: &Kept,
-        leaf: &Basis,
         basis: &mut Basis,
         cut: &Candidate,
         is_high: bool,
     ) -> Option<Weight> {
-        let ended = self.solve_part(leaf, basis, cut, is_high)?;
+        let ended = self.solve_part(kept, basis, cut, is_high)?;
         let cap = kept.cap(self.value);
         if ended == Ended::Endless {
             return Some(Weight {
                 value: 0,
                 gain: cap,
-                is_endless: true,
+                ended,
             });
         }
-        let value = self.base.checked_sub(basis.cost())?;
-        let gain = u128::try_from(value.checked_sub(self.value)?).unwrap_or(0);
+        let gain = u128::try_from(basis.fall()).unwrap_or(0);
         Some(Weight {
-            value,
+            value: self.value.saturating_add(basis.fall()),
             gain: gain.min(cap),
-            is_endless: false,
+            ended,
         })
     }
 }
 
 impl Weight {
+    /// Whether the part has no timetable.
+    pub(crate) fn is_endless(self) -> bool {
+        self.ended == Ended::Endless
+    }
+
     /// Whether the part has no timetable that costs less than the best one.
-    fn is_closed(self, kept: &Kept) -> bool {
-        self.is_endless || kept.closes(self.value)
+    pub(crate) fn is_closed(self, kept: &Kept) -> bool {
+        self.is_endless() || kept.closes(self.value)
     }
 
     /// The gain up to a cap, in 1/1048576 of it.

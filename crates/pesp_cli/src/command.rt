@@ -45,6 +45,15 @@ pub enum Request<'a> {
         file: &'a str,
         job: u64,
     },
+    /// A search of at most so many steps that goes on from the certificate on standard input, for at most about so many seconds.
+    Resume {
+        period: u32,
+        steps: u32,
+        seconds: Option<u32>,
+        /// Whether it is told on standard error how far the search is.
+        progress: bool,
+        file: &'a str,
+    },
     /// The works on standard input, grafted onto the certificate in a file.
     Graft {
         period: u32,
@@ -116,6 +125,14 @@ fn progress_option<'a>(alloc: Global) -> Arg<'a> {
         .help(
             "Tells on standard error how far the search is: at its beginning, at each doubling of the steps and at each better timetable",
         )
+}
+
+fn seconds_option<'a>(alloc: Global) -> Arg<'a> {
+    Arg::new(alloc, "seconds")
+        .long("seconds")
+        .value_name("N")
+        .value_parser(value_parser!(u32).range(1..=10000000))
+        .help("For how many seconds the search goes on at most, about, 1 to 10000000")
 }
 
 fn rows_option<'a>(alloc: Global) -> Arg<'a> {
@@ -220,6 +237,17 @@ fn graft_command<'a>(alloc: Global) -> Result<Command<'a>, AllocError> {
     .arg(base_argument(alloc))
 }
 
+fn resume_command<'a>(alloc: Global) -> Result<Command<'a>, AllocError> {
+    file_command(
+        alloc,
+        "resume",
+        "Reads a certificate from standard input, goes on with its search and writes the certificate that comes of it",
+    )?
+    .arg(steps_option(alloc))?
+    .arg(seconds_option(alloc))?
+    .arg(progress_option(alloc))
+}
+
 fn check_command<'a>(alloc: Global) -> Result<Command<'a>, AllocError> {
     file_command(
         alloc,
@@ -261,6 +289,7 @@ fn with_round_trip<'a>(alloc: Global) -> Result<Command<'a>, AllocError> {
         .after_help(ROUND_TRIP)
         .subcommand_required(true);
     let pesp = with(pesp, solve_command(alloc))?;
+    let pesp = with(pesp, resume_command(alloc))?;
     let pesp = with(pesp, check_command(alloc))?;
     let pesp = with(pesp, report_command(alloc))?;
     with(pesp, draw_command(alloc))
@@ -320,6 +349,19 @@ fn graft_of<'a>(matches: &ArgMatches<'a>) -> Request<'a>
     }
 }
 
+/// What the words behind `resume` ask for.
+fn resume_of<'a>(matches: &ArgMatches<'a>) -> Request<'a>
+    ensures { IsWithinLimits result }
+{
+    Request::Resume {
+        period: period_of(matches),
+        steps: steps_of(matches),
+        seconds: matches.get_one::<u32>("seconds"),
+        progress: matches.get_flag("progress"),
+        file: matches.get_str("file").unwrap_or(""),
+    }
+}
+
 /// What the words behind `solve` ask for.
 fn solve_of<'a>(matches: &ArgMatches<'a>) -> Request<'a>
     ensures { IsWithinLimits result }
@@ -356,6 +398,7 @@ fn request_in<'a>(matches: &ArgMatches<'a>) -> Request<'a>
         },
         Some(("work", found)) => work_of(found),
         Some(("graft", found)) => graft_of(found),
+        Some(("resume", found)) => resume_of(found),
         Some(("solve", found)) => solve_of(found),
         _ => Request::Solve {
             period: 60,

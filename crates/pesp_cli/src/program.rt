@@ -7,21 +7,24 @@ ghost use Rattle.pesp_cli.specs.Requests.{IsWithinLimits};
 use crate::command::{Request, request_of};
 use crate::progress::Teller;
 use crate::telling::Telling;
+use crate::watch::Watch;
 use clap::error::ErrorKind;
 use pesp_runs::{
     Fault, run_check, run_draw, run_graft, run_report, run_solve, run_solve_watched, run_split,
     run_work, status_of, status_of_verdict,
 };
+use pesp_resume_run::run_resume;
 use pesp_stream::{Counted, Source};
 use std::fs::File;
 use std::process::ExitCode;
 use std::rt::{Env, Files};
+use std::time::Clock;
 use std::{env, io};
 
 /// Does what the command line asks for, and gives the exit status: 0 where the answer, help or the version is written,
 /// 1 for a certificate that is refused or times that violate a row, 2 for a command line that isn't understood,
 /// 3 for a text that is refused, 4 for memory, devices and limits of the search.
-pub fn exit_of_program<R: AllocGlobal + Env + Input + Print + Eprint + Files>(rt: &R) -> ExitCode {
+pub fn exit_of_program<R: AllocGlobal + Env + Input + Print + Eprint + Files + Clock>(rt: &R) -> ExitCode {
     let words = match env::args(rt) {
         Ok(args) => args.collect::<Vec<String>>(rt.alloc()),
         Err(error) if error.kind() == io::ErrorKind::OutOfMemory => {
@@ -37,7 +40,7 @@ pub fn exit_of_program<R: AllocGlobal + Env + Input + Print + Eprint + Files>(rt
 }
 
 /// Does what the words ask for, the program's name first, and gives the exit status.
-pub fn status_of_words<R: AllocGlobal + Input + Print + Eprint + Files>(
+pub fn status_of_words<R: AllocGlobal + Input + Print + Eprint + Files + Clock>(
     rt: &R,
     words: &[String],
 ) -> u8 {
@@ -216,8 +219,33 @@ fn graft<R: AllocGlobal + Print + Eprint + Files, S: Source>(
     Ok(0)
 }
 
+/// Goes on from the certificate that the reader gives, for at most about so many seconds.
+fn resume<R: AllocGlobal + Print + Eprint + Files + Clock, S: Source>(
+    rt: &R,
+    reader: &mut S,
+    period: u32,
+    steps: u32,
+    file: &str,
+    watch: &mut Watch<'_, R>,
+) -> Result<u8, Fault>
+    requires fits { FewerThan (2 ^ 62) (S.calls reader.old) }
+{
+    let mut instance = Counted::new(opened(rt, file)?);
+    let mut writer = Counted::new(io::writer(rt));
+    run_resume(
+        rt.alloc(),
+        &mut instance,
+        reader,
+        &mut writer,
+        period,
+        steps,
+        watch,
+    )?;
+    Ok(0)
+}
+
 /// Does what a request within the limits asks for, and gives the exit status.
-fn answer<R: AllocGlobal + Input + Print + Eprint + Files>(
+fn answer<R: AllocGlobal + Input + Print + Eprint + Files + Clock>(
     rt: &R,
     request: Request<'_>,
 ) -> Result<u8, Fault>
@@ -241,6 +269,16 @@ fn answer<R: AllocGlobal + Input + Print + Eprint + Files>(
             file,
             job,
         } => work_on(rt, &mut reader, period, steps, file, job),
+        Request::Resume {
+            period,
+            steps,
+            seconds,
+            progress,
+            file,
+        } => {
+            let mut watch = Watch::new(rt, progress, seconds);
+            resume(rt, &mut reader, period, steps, file, &mut watch)
+        }
         Request::Graft { period, file, base } => graft(rt, &mut reader, period, file, base),
     }
 }

@@ -5,6 +5,7 @@ use crate::commands::ask_command;
 use crate::drawings::{ask_draw, ask_drawn};
 use crate::instances::{ask_instance, ask_score};
 use crate::outside::{ask_graft, ask_split, ask_work, ask_worked};
+use crate::resuming::{ask_gap, ask_resume, ask_resumed};
 use crate::pieces::is_piece;
 use crate::reports::{ask_report, ask_times};
 use crate::runs::{ask_check, ask_progress, ask_run_report, ask_solve, ask_solved};
@@ -30,6 +31,9 @@ enum Question {
     Work,
     Worked,
     Graft,
+    Resume,
+    Resumed,
+    Gap,
     Command,
     Read,
     Score,
@@ -46,7 +50,7 @@ enum Question {
 }
 
 /// The first word of each question.
-const QUESTIONS: [(&str, Question); 24] = [
+const QUESTIONS: [(&str, Question); 27] = [
     ("solve", Question::Solve),
     ("solved", Question::Solved),
     ("progress", Question::Progress),
@@ -58,6 +62,9 @@ const QUESTIONS: [(&str, Question); 24] = [
     ("work", Question::Work),
     ("worked", Question::Worked),
     ("graft", Question::Graft),
+    ("resume", Question::Resume),
+    ("resumed", Question::Resumed),
+    ("gap", Question::Gap),
     ("command", Question::Command),
     ("read", Question::Read),
     ("score", Question::Score),
@@ -147,6 +154,9 @@ fn answer_of(alloc: Global, lines: &[&str], word: &str, rest: &str) -> Option<St
         Question::Work => ask_work(alloc, lines, rest),
         Question::Worked => ask_worked(alloc, lines, rest),
         Question::Graft => ask_graft(alloc, lines),
+        Question::Resume => ask_resume(alloc, lines, rest),
+        Question::Resumed => ask_resumed(alloc, lines, rest),
+        Question::Gap => ask_gap(alloc, lines),
         Question::Command => ask_command(alloc, rest),
         Question::Read => ask_instance(alloc, lines),
         Question::Score => ask_score(alloc, lines, rest),

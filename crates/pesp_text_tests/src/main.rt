@@ -15,6 +15,7 @@ mod outside;
 mod pieces;
 mod playing;
 mod reports;
+mod resuming;
 mod runs;
 mod spellings;
 mod statuses;

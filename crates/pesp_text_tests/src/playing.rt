@@ -6,6 +6,7 @@ use crate::drawings::{ask_draw, ask_drawn};
 use crate::instances::{ask_instance, ask_score};
 use crate::named::{ask_diagram, ask_named_draw, ask_named_report};
 use crate::outside::{ask_graft, ask_split, ask_work, ask_worked};
+use crate::resuming::{ask_gap, ask_resume, ask_resumed};
 use crate::pieces::is_piece;
 use crate::reports::{ask_report, ask_times};
 use crate::runs::{ask_check, ask_progress, ask_run_report, ask_solve, ask_solved, ask_violations};
@@ -35,6 +36,9 @@ enum Question {
     Work,
     Worked,
     Graft,
+    Resume,
+    Resumed,
+    Gap,
     Command,
     Read,
     Score,
@@ -51,7 +55,7 @@ enum Question {
 }
 
 /// The first word of each question.
-const QUESTIONS: [(&str, Question); 28] = [
+const QUESTIONS: [(&str, Question); 32] = [
     ("solve", Question::Solve),
     ("solved", Question::Solved),
     ("progress", Question::Progress),
@@ -67,6 +71,9 @@ const QUESTIONS: [(&str, Question); 28] = [
     ("work", Question::Work),
     ("worked", Question::Worked),
     ("graft", Question::Graft),
+    ("resume", Question::Resume),
+    ("resumed", Question::Resumed),
+    ("gap", Question::Gap),
     ("command", Question::Command),
     ("read", Question::Read),
     ("score", Question::Score),
@@ -161,6 +168,9 @@ fn answer_of(alloc: Global, lines: &[&str], word: &str, rest: &str) -> Option<St
         Question::Work => ask_work(alloc, lines, rest),
         Question::Worked => ask_worked(alloc, lines, rest),
         Question::Graft => ask_graft(alloc, lines),
+        Question::Resume => ask_resume(alloc, lines, rest),
+        Question::Resumed => ask_resumed(alloc, lines, rest),
+        Question::Gap => ask_gap(alloc, lines),
         Question::Command => ask_command(alloc, rest),
         Question::Read => ask_instance(alloc, lines),
         Question::Score => ask_score(alloc, lines, rest),

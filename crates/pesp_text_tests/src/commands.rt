@@ -45,6 +45,32 @@ fn tell_file(alloc: Global, verb: &str, period: u32, file: &str) -> Option<Strin
     format!(in alloc; "{verb} {file} at period {period}").ok()
 }
 
+/// A search from a certificate that is asked for.
+fn tell_resume(
+    alloc: Global,
+    period: u32,
+    steps: u32,
+    seconds: Option<u32>,
+    progress: bool,
+    file: &str,
+) -> Option<String> {
+    let told = if progress { ", with its progress" } else { "" };
+    match seconds {
+        None => format!(in alloc; "resume {file} at period {period} in {steps} steps{told}").ok(),
+        Some(seconds) => {
+            format!(in alloc;
+                "resume {file} at period {period} in {steps} steps or {seconds} seconds{told}"
+            ).ok()
+        }
+    }
+}
+
+/// Conflicting activities that are asked for.
+fn tell_conflict(alloc: Global, period: u32, steps: u32, file: Option<&str>) -> Option<String> {
+    let file = file.unwrap_or("of standard input");
+    format!(in alloc; "conflict {file} at period {period} in {steps} steps").ok()
+}
+
 /// A report that is asked for.
 fn tell_report(
     alloc: Global,
@@ -101,7 +127,20 @@ fn tell_request(alloc: Global, request: Request<'_>) -> Option<String> {
             progress,
             file,
         } => tell_solve(alloc, period, steps, progress, file),
+        Request::Resume {
+            period,
+            steps,
+            seconds,
+            progress,
+            file,
+        } => tell_resume(alloc, period, steps, seconds, progress, file),
+        Request::Conflict {
+            period,
+            steps,
+            file,
+        } => tell_conflict(alloc, period, steps, file),
         Request::Check { period, file } => tell_file(alloc, "check", period, file),
+        Request::Gap { period, file } => tell_file(alloc, "gap", period, file),
         Request::Report {
             period,
             violations,

@@ -4,6 +4,7 @@
 
 mod certificates;
 mod commands;
+mod conflicting;
 mod devices;
 mod drain;
 mod drawings;

@@ -2,13 +2,14 @@
 
 use crate::certificates::{ask_certificate, make_certificate};
 use crate::commands::ask_command;
+use crate::conflicting::{ask_conflict, ask_told};
 use crate::drawings::{ask_draw, ask_drawn};
 use crate::instances::{ask_instance, ask_score};
 use crate::named::{ask_diagram, ask_named_draw, ask_named_report};
 use crate::outside::{ask_graft, ask_split, ask_work, ask_worked};
-use crate::resuming::{ask_gap, ask_resume, ask_resumed};
 use crate::pieces::is_piece;
 use crate::reports::{ask_report, ask_times};
+use crate::resuming::{ask_gap, ask_resume, ask_resumed};
 use crate::runs::{ask_check, ask_progress, ask_run_report, ask_solve, ask_solved, ask_violations};
 use crate::spellings::{ask_lines, ask_number, ask_words};
 use crate::statuses::ask_status;
@@ -39,6 +40,8 @@ enum Question {
     Resume,
     Resumed,
     Gap,
+    Conflict,
+    Told,
     Command,
     Read,
     Score,
@@ -55,7 +58,7 @@ enum Question {
 }
 
 /// The first word of each question.
-const QUESTIONS: [(&str, Question); 32] = [
+const QUESTIONS: [(&str, Question); 33] = [
     ("solve", Question::Solve),
     ("solved", Question::Solved),
     ("progress", Question::Progress),
@@ -74,6 +77,8 @@ const QUESTIONS: [(&str, Question); 32] = [
     ("resume", Question::Resume),
     ("resumed", Question::Resumed),
     ("gap", Question::Gap),
+    ("conflict", Question::Conflict),
+    ("told", Question::Told),
     ("command", Question::Command),
     ("read", Question::Read),
     ("score", Question::Score),
@@ -171,6 +176,8 @@ fn answer_of(alloc: Global, lines: &[&str], word: &str, rest: &str) -> Option<St
         Question::Resume => ask_resume(alloc, lines, rest),
         Question::Resumed => ask_resumed(alloc, lines, rest),
         Question::Gap => ask_gap(alloc, lines),
+        Question::Conflict => ask_conflict(alloc, lines, rest),
+        Question::Told => ask_told(alloc, lines, rest),
         Question::Command => ask_command(alloc, rest),
         Question::Read => ask_instance(alloc, lines),
         Question::Score => ask_score(alloc, lines, rest),

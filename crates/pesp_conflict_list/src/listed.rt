@@ -37,11 +37,7 @@ fn listed_at(instance: &Instance, number: u32) -> Listed
 }
 
 /// What is told of these rows.
-pub fn lines_of(
-    alloc: Global,
-    instance: &Instance,
-    rows: &[u32],
-) -> Result<Vec<Listed>, AllocError>
+pub fn lines_of(alloc: Global, instance: &Instance, rows: &[u32]) -> Result<Vec<Listed>, AllocError>
     requires { All (Names (length instance.now.rows)) rows.now }
     ensures { IfOk result (λ lines. lines.items ≡ spec.lines_of instance.now rows.now) }
 {

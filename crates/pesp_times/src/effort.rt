@@ -20,9 +20,6 @@ pub(crate) const MOST_REOPTIMISED: usize = 8_000;
 /// Up to how many rows there is more work for each row.
 pub(crate) const FEW: usize = 2_500;
 
-/// Up to how many rows there are more individuals.
-const FEWEST: usize = 700;
-
 impl Effort {
     /// The work before the first step.
     pub(crate) fn first(rows: usize) -> Effort {
@@ -40,17 +37,12 @@ impl Effort {
         }
     }
 
-    /// The work after so many steps.
-    pub(crate) fn after(rows: usize, steps: u32) -> Effort {
-        let fours = match steps {
-            0..=2_047 if rows <= FEWEST => 2,
-            0..=2_047 => 1,
-            _ => 4,
-        };
+    /// The work after so many steps: little beside what the steps took, from a few thousand steps on.
+    pub(crate) fn after(steps: u32) -> Effort {
         Effort {
-            fours,
-            rounds: (steps / 8).clamp(30, 250),
-            balls: (steps / 256).saturating_add(10),
+            fours: 1,
+            rounds: (steps / 8).clamp(20, 100),
+            balls: (steps / 512).saturating_add(3).min(40),
         }
     }
 }

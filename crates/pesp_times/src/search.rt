@@ -73,7 +73,7 @@ impl TimesSearch {
 
     /// A batch after so many steps (128, 256, 512 and so on).
     pub fn go_on(&mut self, network: &Network, steps: u32) -> Result<(), Memory> {
-        self.batch(network, Effort::after(network.rows().len(), steps))
+        self.batch(network, Effort::after(steps))
     }
 
     /// Takes times that were met elsewhere as an individual of the next batch; does nothing where they are no timetable.

@@ -15,7 +15,7 @@ use Rattle.pesp_report.specs.declared.refusal.TimesRefusal.TheVariants.{BadLine,
 use Rattle.pesp_report.specs.declared.refusal.ReportRefusal.{ReportRefusal}
 use Rattle.pesp_report.specs.declared.refusal.ReportRefusal.TheVariants.{Violates, NotTimes, Memory as ReportMemory, Write as ReportWrite}
 use Rattle.pesp_check_run.specs.Verdicts.{refusal_text}
-use Rattle.pesp_check_run.specs.FaultLines.{instance_line, certificate_line}
+use Rattle.pesp_check_run.specs.FaultLines.{at_record, instance_line, certificate_line}
 use Rattle.pesp_check_run.specs.declared.fault.VerdictFault.{VerdictFault}
 use Rattle.pesp_check_run.specs.declared.fault.VerdictFault.TheVariants.{Instance as OfInstance, Certificate as OfCertificate, Memory as OfMemory, Read as OfRead, Write as OfWrite, NoFile as OfNoFile}
 use Rattle.pesp_report.specs.declared.refusal.ViolationsRefusal.{ViolationsRefusal}

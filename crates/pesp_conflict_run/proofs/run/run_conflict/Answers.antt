@@ -4,8 +4,8 @@ use Rattle.pesp_conflict_run.proofs.Short.{conflict_is_short}
 use Rattle.pesp_conflict_run.proofs.Telling.{told_of_list}
 use Rattle.pesp_conflict_run.proofs.run.run_conflict.Goals as goal
 
-pub count_of-requires : goal.count_of-requires
-count_of-requires g c =
+pub count_of-listed-requires : goal.count_of-listed-requires
+count_of-listed-requires g c =
     let p = c.in_ok-instance.instance in
     let found = subst (IsFinding p) c.in-Conflict.is c.in_ok-found.ensures.found in
     rw (c.deref-in-Conflict.ensures.value) (conflict_is_short p c.in-Conflict.found.rows.items c.rows-limits.ensures.limits found.0)
@@ -15,5 +15,5 @@ returns-in-Conflict-clause-ok g c =
     let p = c.in_ok-instance.instance in
     let found = subst (IsFinding p) c.in-Conflict.is c.in_ok-found.ensures.found in
     let written = rw (c.deref.ensures.value) at c.in_ok-write_list-in-Conflict.ensures.ok in
-    let told = told_of_list p _ _ _ _ _ _ c.in-Conflict.found.rows.items written found.1 (c.count_of.ensures ∙ ap length c.deref-in-Conflict.ensures.value) (ap length c.rows.ensures.rows) in
+    let told = told_of_list p _ _ _ _ _ _ c.in-Conflict.found.rows.items written found.1 (c.count_of-listed.ensures ∙ ap length c.deref-in-Conflict.ensures.value) (ap length c.rows.ensures.rows) in
     (p, c.in_ok-instance.ensures.ok, rw (c.told_of.ensures) told)

@@ -2,21 +2,22 @@
 _pesp() {
     local word=${COMP_WORDS[COMP_CWORD]} before=${COMP_WORDS[COMP_CWORD - 1]} options=--period
     if [ "$COMP_CWORD" -eq 1 ]; then
-        mapfile -t COMPREPLY < <(compgen -W "solve check report draw diagram split work graft help --help --version" -- "$word")
+        mapfile -t COMPREPLY < <(compgen -W "solve resume conflict check gap report draw diagram split work graft help --help --version" -- "$word")
         return
     fi
     case ${COMP_WORDS[1]} in
     help)
-        mapfile -t COMPREPLY < <(compgen -W "solve check report draw diagram split work graft" -- "$word")
+        mapfile -t COMPREPLY < <(compgen -W "solve resume conflict check gap report draw diagram split work graft" -- "$word")
         return
         ;;
     solve) options="--period --steps --progress" ;;
-    work) options="--period --steps" ;;
+    resume) options="--period --steps --seconds --progress" ;;
+    work | conflict) options="--period --steps" ;;
     report) options="--period --violations --names" ;;
     draw) options="--period --rows --names" ;;
     esac
     case $before in
-    --period | --steps | --rows) return ;;
+    --period | --steps | --seconds | --rows) return ;;
     esac
     case $word in
     -*) mapfile -t COMPREPLY < <(compgen -W "$options --help" -- "$word") ;;

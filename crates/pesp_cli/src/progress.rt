@@ -1,7 +1,7 @@
 //! How far a search is, told while it works. No promise of an answer speaks of it.
 
 use pesp_board::Board;
-use pesp_search::Observer;
+use pesp_search::{Observer, Part};
 use std::fmt;
 use std::rt::Clock;
 use std::time::{Duration, Instant};
@@ -136,6 +136,32 @@ impl fmt::Display for Pace {
     }
 }
 
+/// A line that tells which part of the search begins, with the seconds since the run began, where a clock could be read.
+#[derive(Drop)]
+struct Beginning {
+    part: Part,
+    gone: Option<Duration>,
+}
+
+impl fmt::Display for Beginning {
+    fn fmt<W: fmt::Write>(&self, f: &mut fmt::Formatter<W>) -> fmt::Result {
+        let part = match self.part {
+            Part::Reduction => "drops activities that decide nothing",
+            Part::Forest => "looks for a spanning forest",
+            Part::Root => "looks for the root's bound",
+            Part::Times => "looks for first times",
+        };
+        write!(f, "progress: {part}")?;
+        match self.gone {
+            Some(gone) => {
+                let seconds = gone.as_secs();
+                write!(f, ", seconds {seconds}")
+            }
+            None => Ok(()),
+        }
+    }
+}
+
 /// A line of progress with its pace, where a clock could be read.
 #[derive(Drop)]
 struct Paced {
@@ -153,8 +179,8 @@ impl fmt::Display for Paced {
     }
 }
 
-/// Tells on standard error how far a search is: at the milestones, and else when five seconds have passed since the last line.
-/// A line that can't be written is dropped, and where the clock can't be read there are the milestones alone.
+/// Tells on standard error how far a search is: when a part of it begins, at the milestones, and else when five seconds have
+/// passed since the last line. A line that can't be written is dropped, and where the clock can't be read no line waits for it.
 #[derive(Drop)]
 pub struct Teller<'a, R> {
     rt: &'a R,
@@ -175,11 +201,14 @@ impl<'a, R: Eprint + Clock> Teller<'a, R> {
         }
     }
 
-    /// Tells that the run begins, and what comes before the first step.
+    /// Tells that the run begins.
     pub fn begin(&self) {
-        let _ = self.rt.eprintln(
-            "progress: reads the instance, then looks for a forest, the root's bound and first times",
-        );
+        let _ = self.rt.eprintln("progress: reads the instance");
+    }
+
+    /// How long it is since the run began.
+    fn gone(&self, now: Option<Instant>) -> Option<Duration> {
+        Some(now?.duration_since(self.begun?))
     }
 
     /// Whether so much time has passed since the last line that one is due.
@@ -192,12 +221,12 @@ impl<'a, R: Eprint + Clock> Teller<'a, R> {
 
     /// Tells how far the search is now.
     fn tell(&mut self, progress: Progress, now: Option<Instant>) {
-        let pace = match (self.begun, now) {
-            (Some(begun), Some(now)) => Some(Pace {
+        let pace = match self.gone(now) {
+            Some(gone) => Some(Pace {
                 steps: progress.steps,
-                gone: now.duration_since(begun),
+                gone,
             }),
-            _ => None,
+            None => None,
         };
         self.told = now;
         let _ = self.rt.eprintln(Paced { progress, pace });
@@ -205,6 +234,13 @@ impl<'a, R: Eprint + Clock> Teller<'a, R> {
 }
 
 impl<R: Eprint + Clock> Observer for Teller<'_, R> {
+    fn at(&mut self, part: Part) {
+        let now = Instant::now(self.rt).ok();
+        let gone = self.gone(now);
+        self.told = now;
+        let _ = self.rt.eprintln(Beginning { part, gone });
+    }
+
     fn look(&mut self, steps_used: u32, board: &Board) {
         let now = Instant::now(self.rt).ok();
         match self.milestones.passed(steps_used, board) {

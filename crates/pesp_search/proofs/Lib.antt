@@ -1,10 +1,8 @@
+pub mod Orders
 pub mod Lifting
-pub mod Closings
-pub mod PathNodes
-pub mod Lent
-pub mod TurnEnds
-pub mod TurnsSoFar
-pub mod Solutions
-pub mod SinglePairs
 pub mod Beginnings
+pub mod SinglePairs
 pub mod RootLooks
+pub mod Turns
+pub mod Costs
+pub mod Solutions

@@ -1,6 +1,6 @@
 -- The root of a new board: it is open, what is found there is valid work, and its value bounds every later answer.
-use Rattle.std.proofs.Common.{◌≡◌, ℕ, ◌+◌, ◌*◌, ◌<◌, ◌≤◌, List, [], ◌∷◌, length, true, refl, ap, arith, sym, ◌∙◌, subst, inl, inr}
-use Rattle.std.specs.Prelude.{ℤ, pos, negsuc, ◌+ℤ◌, ◌-ℤ◌, ◌*ℤ◌, ◌≤ℤ◌, Option, Some, None, IsNone, IsSome, IfSome, IsSomeAnd, Result, Ok, Err, OnOk, IfErr, option_map}
+use Rattle.std.proofs.Common.{◌≡◌, ℕ, ◌+◌, ◌*◌, ◌<◌, ◌≤◌, List, [], ◌∷◌, length, Bool, true, false, refl, ap, arith, sym, ◌∙◌, subst, inl, inr}
+use Rattle.std.specs.Prelude.{ℤ, pos, negsuc, ◌+ℤ◌, ◌-ℤ◌, ◌*ℤ◌, ◌≤ℤ◌, Option, Some, None, IsNone, IsSome, IfSome, IsSomeAnd, Ok, Err, option_map}
 use Rattle.std.specs.Int.{int_min}
 use Rattle.std.proofs.lemmas.Int.{ints, clamps}
 use Rattle.std.proofs.lemmas.List.{get_or-map}
@@ -22,26 +22,26 @@ use Rattle.pesp_bound.specs.Leaves.{IsLeafOf, IsNoLess}
 use Rattle.pesp_machine.specs.declared.job.Job.{Job}
 use Rattle.pesp_machine.specs.declared.work.Work.{Work}
 use Rattle.pesp_machine.specs.declared.work.Work.TheVariants as works
+use Rattle.pesp_machine.specs.declared.refusal.LendRefusal.TheVariants as lending
 use Rattle.pesp_machine.specs.Leaves.{told, least_value}
 use Rattle.pesp_machine.specs.States.{State, opening, IsLent, IsOpen, IsAtMost, root_of, node_at, least}
-use Rattle.pesp_machine.specs.Events.{Lends, LendsLeaf, Takes, IsValidAt}
+use Rattle.pesp_machine.specs.Events.{Lend, Lends, LendsLeaf, Takes, IsValidAt}
 use Rattle.pesp_machine.proofs.Works.{pairs_exist}
+use Rattle.pesp_machine.proofs.Runs.{opening_is_orderly, step_is_orderly}
+use Rattle.pesp_search_laws.specs.Rooms.{branches}
 use Rattle.pesp_search_laws.specs.Turns.{IsWorked, splits_of}
 use Rattle.pesp_search_laws.proofs.Turns.{opening_is_worked, looks, closes_by_nothing, closes_by_gap}
 use Rattle.pesp_search_laws.proofs.Ends.{root_sets_least}
+use Rattle.pesp_search_laws.proofs.Replies.{lent_leaf}
 use Rattle.pesp_search_laws.proofs.Singles.{single_small}
-use Rattle.pesp_search.specs.declared.refusal.SolveRefusal.{SolveRefusal}
-use Rattle.pesp_search.specs.declared.refusal.SolveRefusal.TheVariants.{Memory, TableTooLarge, PairsTooMany}
+use Rattle.pesp_search_laws.proofs.Sizes.{large_has_many}
+use Rattle.pesp_turns.specs.Handing.{IsHandedIn, IsGiven}
+use Rattle.pesp_search.specs.declared.refusal.SolveRefusal.TheVariants.{PairsTooMany}
 use Rattle.pesp_search.specs.Singles.{IsSingle, IsBestSingle}
 use Rattle.pesp_search.specs.Rooting.{work_of, IsRootBound}
-use Rattle.pesp_search.specs.Handing.{IsHandedIn, IsHandedBack}
-use Rattle.pesp_search.specs.Turning.{AreTurnsRefused}
-use Rattle.pesp_search.proofs.Lent.{handed, on_ok, at_most_trans}
-use Rattle.pesp_search.proofs.TurnEnds.{IsLentFrom, just}
+use Rattle.pesp_search.specs.Searching.{AreTurnsRefused}
 use Rattle.pesp_search.proofs.SinglePairs.{le_chain}
-
-pub begins : (p : ProblemValue) (old : State) → old ≡ opening → IsWorked p 0 old
-begins p old e = subst (IsWorked p 0) (sym e) (opening_is_worked p)
+use Rattle.pesp_search.proofs.Orders.{at_most_trans}
 
 opens : (p : ProblemValue) → IsOpen p opening []
 opens p = record { pairs = []; leaf = refl; unlent = never; cheaper = tt }
@@ -53,13 +53,33 @@ opens p = record { pairs = []; leaf = refl; unlent = never; cheaper = tt }
 pub not_over : (p : ProblemValue) (old new : State) → old ≡ opening → Lends p old (Ok None) new → ⊥
 not_over p old new e l = l.1 [] (subst (λ (s : State). IsOpen p s []) (sym e) (opens p))
 
+-- and no number is spent
+pub not_spent : (p : ProblemValue) (old new : State) → old ≡ opening → Lends p old (Err lending.NumbersSpent) new → ⊥
+not_spent p old new e l =
+    let none : length old.numbers ≡ 0 = ap (λ (s : State). length s.numbers) e in
+    let spent = l.2 in
+    absurd (omega (arith, none, spent))
+
+-- the root of a new board was lent
+pub record IsRootLent (p : ProblemValue) (mid : State) (job : Job) : Type 0 where
+  pub limits : KeepsNetLimits p.network
+  pub small : IsSmallTable p.table
+  pub lends : LendsLeaf p opening job mid
+
+pub root_lent : (p q : ProblemValue) (old mid : State) (job : Job) → q ≡ p → KeepsNetLimits q.network → IsSmallTable q.table → old ≡ opening → LendsLeaf p old job mid → IsRootLent p mid job
+root_lent p q old mid job e limits small opening_is lends = record {
+  limits = subst (λ (x : ProblemValue). KeepsNetLimits x.network) e limits;
+  small = subst (λ (x : ProblemValue). IsSmallTable x.table) e small;
+  lends = subst (λ (s : State). LendsLeaf p s job mid) opening_is lends;
+}
+
 root_path : (path : List (Cut × Side)) (pairs : List Pair) → IsLeafAt (Ends (BoundLeaf [])) path (BoundLeaf pairs) → path ≡ []
 root_path [] pairs h = refl
 root_path (step ∷ path) pairs h = absurd h
 
 -- the node of the leaf that was lent is the root
-at_root : (p : ProblemValue) (old mid : State) (job : Job) → old ≡ opening → LendsLeaf p old job mid → node_at p job.path.items ≡ root_of p
-at_root p old mid job e l = ap (node_at p) (root_path job.path.items l.opens.pairs (subst (λ (s : State). IsLeafAt s.tree job.path.items (BoundLeaf l.opens.pairs)) e l.opens.leaf))
+at_root : (p : ProblemValue) (mid : State) (job : Job) → IsRootLent p mid job → node_at p job.path.items ≡ root_of p
+at_root p mid job l = ap (node_at p) (root_path job.path.items l.lends.opens.pairs l.lends.opens.leaf)
 
 is_none : {A : Type 0} (o : Option A) → o ≡ None → IsNone o
 is_none None e = refl
@@ -79,33 +99,40 @@ no_split (Gap cycle) = refl
 no_split (Nothing pairs) = refl
 no_split (Bound pairs value) = refl
 
-pub handed_root : (p q r : ProblemValue) (old mid : State) (job : Job) (root : Node) (leaf : Found) (work : Work) → q ≡ p → r ≡ q → old ≡ opening → root ≡ root_of p → IsLentFrom p 0 old mid job → IsLeafOf r root leaf → work ≡ work_of leaf → IsHandedIn q mid job work 0
-handed_root p q r old mid job root leaf work e f opening_is root_is l found work_is =
-    let here : IsLeafOf p (node_at p job.path.items) leaf = subst (λ (n : Node). IsLeafOf p n leaf) (root_is ∙ sym (at_root p old mid job opening_is l.lends)) (subst (λ (x : ProblemValue). IsLeafOf x root leaf) (f ∙ e) found) in
+pub handed_root : (p q r : ProblemValue) (mid : State) (job : Job) (root : Node) (leaf : Found) (work : Work) → q ≡ p → r ≡ q → root ≡ root_of p → IsRootLent p mid job → IsLeafOf r root leaf → work ≡ work_of leaf → IsHandedIn q mid job work
+handed_root p q r mid job root leaf work e f root_is l found work_is =
+    let here : IsLeafOf p (node_at p job.path.items) leaf = subst (λ (n : Node). IsLeafOf p n leaf) (root_is ∙ sym (at_root p mid job l)) (subst (λ (x : ProblemValue). IsLeafOf x root leaf) (f ∙ e) found) in
+    let there : IsHandedIn p mid job (work_of leaf) = record {
+      pairs = l.lends.opens.pairs;
+      leaf = lent_leaf p opening mid job l.lends;
+      valid = valid_work p (node_at p job.path.items) l.lends.opens.pairs leaf here;
+    } in
+    subst (λ (x : ProblemValue). IsHandedIn x mid job work) (sym e) (subst (IsHandedIn p mid job) (sym work_is) there)
+
+-- ---- what is taken, or isn't
+
+pub root_given : (p q : ProblemValue) (mid new : State) (number : ℕ) (work : Work) (leaf : Found) (taken : Bool) → q ≡ p → work ≡ work_of leaf → IsGiven q mid number work taken new → IsGiven p mid number (work_of leaf) taken new
+root_given p q mid new number work leaf taken e f g = subst (λ (x : ProblemValue). IsGiven x mid number (work_of leaf) taken new) e (subst (λ (w : Work). IsGiven q mid number w taken new) f g)
+
+pub root_worked : (p : ProblemValue) (mid new : State) (job : Job) (leaf : Found) → IsRootLent p mid job → IsGiven p mid job.number (work_of leaf) true new → IsWorked p 0 new
+root_worked p mid new job (Gap cycle) l t = closes_by_gap p 0 opening mid new job cycle l.limits l.small (opening_is_worked p) l.lends t
+root_worked p mid new job (Nothing pairs) l t = closes_by_nothing p 0 opening mid new job pairs l.limits l.small (opening_is_worked p) l.lends t
+root_worked p mid new job (Bound pairs value) l t =
+    let none : length opening.numbers ≡ 0 = refl in
+    looks p 0 opening mid new job pairs l.limits l.small (opening_is_worked p) (omega (arith, none)) l.lends t
+
+pub root_refused : (p : ProblemValue) (mid new : State) (job : Job) (leaf : Found) → IsRootLent p mid job → IsGiven p mid job.number (work_of leaf) false new → AreTurnsRefused p 0 PairsTooMany
+root_refused p mid new job leaf l g =
     let none = no_split leaf in
-    subst (λ (x : ProblemValue). IsHandedIn x mid job work 0) (sym e)
-    (subst (λ (w : Work). IsHandedIn p mid job w 0) (sym work_is)
-    (handed p 0 mid job (work_of leaf) (just p 0 old mid job l) (omega (arith, none)) (valid_work p (node_at p job.path.items) l.lends.opens.pairs leaf here)))
-
--- ---- what is taken
-
-root_taken : (p q : ProblemValue) (mid new : State) (number : ℕ) (work : Work) (leaf : Found) → q ≡ p → work ≡ work_of leaf → Takes q mid number work new → Takes p mid number (work_of leaf) new
-root_taken p q mid new number work leaf e f t = subst (λ (x : ProblemValue). Takes x mid number (work_of leaf) new) e (subst (λ (w : Work). Takes q mid number w new) f t)
-
-worked_root : (p : ProblemValue) (old mid new : State) (job : Job) (leaf : Found) → old ≡ opening → IsLentFrom p 0 old mid job → Takes p mid job.number (work_of leaf) new → IsWorked p 0 new
-worked_root p old mid new job (Gap cycle) e l t = closes_by_gap p 0 old mid new job cycle l.limits l.small l.worked l.lends t
-worked_root p old mid new job (Nothing pairs) e l t = closes_by_nothing p 0 old mid new job pairs l.limits l.small l.worked l.lends t
-worked_root p old mid new job (Bound pairs value) e l t =
-    let none : length old.numbers ≡ 0 = ap (λ (s : State). length s.numbers) e in
-    looks p 0 old mid new job pairs l.limits l.small l.worked (omega (arith, none)) l.lends t
-
-pub root_worked : (p q : ProblemValue) (old mid new : State) (job : Job) (leaf : Found) (work : Work) (r : Result (Unit {0}) SolveRefusal) → q ≡ p → old ≡ opening → IsLentFrom p 0 old mid job → work ≡ work_of leaf → OnOk r (Takes q mid job.number work new) → OnOk r (IsWorked p 0 new)
-root_worked p q old mid new job leaf work r e opening_is l f h = on_ok r (λ t. worked_root p old mid new job leaf opening_is l (root_taken p q mid new job.number work leaf e f t)) h
+    let orderly = step_is_orderly p opening (Lend (Ok (Some job))) mid l.limits l.small (opening_is_orderly p) l.lends in
+    let count : branches mid.tree ≡ 0 = ap (λ (s : State). branches s.tree) l.lends.state in
+    let many = large_has_many p mid job.number 0 (work_of leaf) l.limits l.small orderly count (omega (arith, none)) g.1 in
+    subst (λ (n : ℕ). 20000000 < (0 + n + 1) * length p.table) none many
 
 -- a closed root leaves no value
-gone : (p : ProblemValue) (old mid new : State) (job : Job) (work : Work) (end : Leaf) → old ≡ opening → LendsLeaf p old job mid → (t : Takes p mid job.number work new) → t.part ≡ Ends end → new.tree ≡ Ends end
-gone p old mid new job work end e l t part =
-    let tree : mid.tree ≡ Ends (BoundLeaf []) = ap (λ (s : State). s.tree) l.state ∙ ap (λ (s : State). s.tree) e in
+gone : (p : ProblemValue) (mid new : State) (job : Job) (work : Work) (end : Leaf) → LendsLeaf p opening job mid → (t : Takes p mid job.number work new) → t.part ≡ Ends end → new.tree ≡ Ends end
+gone p mid new job work end l t part =
+    let tree : mid.tree ≡ Ends (BoundLeaf []) = ap (λ (s : State). s.tree) l.state in
     let here : t.path ≡ [] = root_path t.path t.pairs (subst (λ (x : Tree). IsLeafAt x t.path (BoundLeaf t.pairs)) tree t.leaf.1) in
     ap (λ (s : State). s.tree) t.state ∙ rw (tree, here, part) refl
 
@@ -171,24 +198,10 @@ found_at_root p q r s root start view leaf e f g at v best found no_less = recor
   no_less = subst (λ (xs : List Pair). IsNoLess p (root_of p) xs leaf) v (subst (λ (n : Node). IsNoLess p n view leaf) at (subst (λ (x : ProblemValue). IsNoLess x root view leaf) (g ∙ e) no_less));
 }
 
-bound_root : (p : ProblemValue) (old mid new : State) (job : Job) (leaf : Found) → old ≡ opening → IsLentFrom p 0 old mid job → IsFoundAtRoot p leaf → Takes p mid job.number (work_of leaf) new → IsRootBound p new
-bound_root p old mid new job (Gap cycle) e l f t = closed_bound p new (GapLeaf cycle) (gone p old mid new job (works.Gap cycle) (GapLeaf cycle) e l.lends t t.makes.1) refl
-bound_root p old mid new job (Nothing pairs) e l f t = closed_bound p new (NothingLeaf pairs) (gone p old mid new job (works.Nothing pairs) (NothingLeaf pairs) e l.lends t t.makes.1) refl
-bound_root p old mid new job (Bound pairs value) e l f t = λ bound h others single.
-    (let set = root_sets_least p old mid new job [] pairs value (let some = l.limits.some_period in omega (arith, some)) l.worked.orderly (ap (λ (s : State). s.tree) e) l.lends t f.found.2 in
+pub root_bound : (p : ProblemValue) (mid new : State) (job : Job) (leaf : Found) → IsRootLent p mid job → IsFoundAtRoot p leaf → IsGiven p mid job.number (work_of leaf) true new → IsRootBound p new
+root_bound p mid new job (Gap cycle) l f t = closed_bound p new (GapLeaf cycle) (gone p mid new job (works.Gap cycle) (GapLeaf cycle) l.lends t t.makes.1) refl
+root_bound p mid new job (Nothing pairs) l f t = closed_bound p new (NothingLeaf pairs) (gone p mid new job (works.Nothing pairs) (NothingLeaf pairs) l.lends t t.makes.1) refl
+root_bound p mid new job (Bound pairs value) l f t = λ bound h others single.
+    (let set = root_sets_least p opening mid new job [] pairs value (let some = l.limits.some_period in omega (arith, some)) (opening_is_orderly p) refl l.lends t f.found.2 in
     let at_least : told value ≤ bound = at_most_trans (Some (told value)) (least p new) (Some bound) set h in
     above (leaf_value (net_of p) p.table (root_of p) others true) (leaf_value (net_of p) p.table (root_of p) f.start true) value bound (f.best.others others single) f.no_less (λ v w. one_small p others v l.limits l.small single w) at_least)
-
-pub root_bound : (p q : ProblemValue) (old mid new : State) (job : Job) (leaf : Found) (work : Work) (r : Result (Unit {0}) SolveRefusal) → q ≡ p → old ≡ opening → IsLentFrom p 0 old mid job → IsFoundAtRoot p leaf → work ≡ work_of leaf → OnOk r (Takes q mid job.number work new) → OnOk r (IsRootBound p new)
-root_bound p q old mid new job leaf work r e opening_is l found f h = on_ok r (λ t. bound_root p old mid new job leaf opening_is l found (root_taken p q mid new job.number work leaf e f t)) h
-
--- ---- a refusal
-
-refused_root : (p : ProblemValue) (leaf : Found) (r : SolveRefusal) → IsHandedBack p 0 (work_of leaf) r → AreTurnsRefused p 0 r
-refused_root p leaf Memory h = tt
-refused_root p leaf TableTooLarge h = h
-refused_root p leaf PairsTooMany h = subst (λ (n : ℕ). 20000000 < (0 + n + 1) * length p.table) (no_split leaf) h
-
-pub root_refused : (p q : ProblemValue) (leaf : Found) (work : Work) (r : Result (Unit {0}) SolveRefusal) → q ≡ p → work ≡ work_of leaf → IfErr r (IsHandedBack q 0 work) → IfErr r (AreTurnsRefused p 0)
-root_refused p q leaf work (Ok x) e f h = tt
-root_refused p q leaf work (Err refusal) e f h = refused_root p leaf refusal (subst (λ (x : ProblemValue). IsHandedBack x 0 (work_of leaf) refusal) e (subst (λ (w : Work). IsHandedBack q 0 w refusal) f h))

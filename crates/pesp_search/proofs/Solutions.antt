@@ -1,30 +1,35 @@
 -- What is certified after the turns.
-use Rattle.std.proofs.Common.{◌≡◌, ℕ, ◌+◌, ◌*◌, ◌≤◌, ◌⊎◌, inl, inr, Bool, true, false, List, length, arith, sym, ◌∙◌, subst}
-use Rattle.std.specs.Prelude.{nat_le, Option, Some, None, option_map, Result, IfOk, if◌then◌else◌}
+use Rattle.std.proofs.Common.{◌≡◌, ℕ, ◌+◌, ◌*◌, ◌<◌, ◌≤◌, ◌⊎◌, inl, inr, Bool, true, false, List, length, refl, ap, arith, sym, ◌∙◌, subst}
+use Rattle.std.specs.Prelude.{nat_le, Option, Some, None, IsSomeAnd, if◌then◌else◌}
 use Rattle.std.proofs.Math.Nat.{mul-le-mul_left, mul-le-mul_right}
 use Rattle.pesp_problem.specs.declared.row.SignedRow.{SignedRow}
 use Rattle.pesp_problem.specs.declared.cut.Cut.{Cut}
 use Rattle.pesp_problem.specs.declared.cut.Side.{Side}
-use Rattle.pesp_problem.specs.Timetables.{Pesp}
+use Rattle.pesp_problem.specs.Limits.{KeepsLimits}
+use Rattle.pesp_problem.specs.Timetables.{Pesp, IsTimetable, cost}
 use Rattle.pesp_problem.specs.Arcs.{Net, net_of as instance_net}
+use Rattle.pesp_problem.specs.NetTimetables.{IsNetTimetable, net_cost}
+use Rattle.pesp_problem.proofs.NetTimetables.{limits_in_order, net_timetables, net_cost-is}
 use Rattle.pesp_network.specs.Networks.{KeepsNetLimits}
-use Rattle.pesp_truth.specs.Trees.{Tree}
-use Rattle.pesp_truth.specs.declared.answer.Answer.TheVariants.{Optimal, Bounded}
-use Rattle.pesp_truth.specs.Certificates.{Content, IsValid}
+use Rattle.pesp_truth.specs.declared.answer.Answer.{Answer}
+use Rattle.pesp_truth.specs.declared.answer.Answer.TheVariants.{Optimal, Infeasible, Bounded}
+use Rattle.pesp_truth.specs.Truth.{IsTrueAnswer}
+use Rattle.pesp_truth.specs.Certificates.{Content, IsValid, cost_of, shown_times}
+use Rattle.pesp_truth.proofs.Certificates.{valid_is_true}
 use Rattle.pesp_nodes.specs.Problems.{ProblemValue, net_of}
-use Rattle.pesp_machine.specs.Leaves.{told, least_value}
-use Rattle.pesp_machine.specs.States.{State, IsAtMost, IsOpen, root_of, least, best_cost}
+use Rattle.pesp_machine.specs.States.{State, IsAtMost, IsOpen, least, best_cost}
 use Rattle.pesp_machine.specs.Certificates.{IsProblemOf, IsCertificateOf, answer_of}
-use Rattle.pesp_search_laws.specs.Turns.{IsWorked, IsOpenAnswer}
+use Rattle.pesp_search_laws.specs.Turns.{IsOpenAnswer}
 use Rattle.pesp_search_laws.proofs.Ends.{same_net, has_branches, fewer_than_room, not_open}
 use Rattle.pesp_search_laws.specs.Lifted.{IsFrugal}
 use Rattle.pesp_search.specs.declared.refusal.SolveRefusal.{SolveRefusal}
 use Rattle.pesp_search.specs.declared.refusal.SolveRefusal.TheVariants.{Memory, TableTooLarge, PairsTooMany}
-use Rattle.pesp_search.specs.Solving.{IsSolved, IsSearchRefusal}
+use Rattle.pesp_search.specs.Solving.{IsSolved, CostsNoMore, IsSearchRefusal}
 use Rattle.pesp_search.specs.Singles.{IsAboveSingles}
 use Rattle.pesp_search.specs.Rooting.{IsRootBound}
-use Rattle.pesp_search.specs.Turning.{AreTurns, IsSearchedThrough, AreTurnsRefused}
-use Rattle.pesp_search.proofs.SinglePairs.{if_ok}
+use Rattle.pesp_search.specs.Searching.{IsAsCheapAs, AreAllTurns, AreTurnsRefused}
+
+-- ---- the bound
 
 bounded_least : (low best : Option ℕ) (l : ℕ) (cost : Option ℕ) → answer_of low best ≡ Bounded l cost → low ≡ Some l
 bounded_least None best l cost e = cc
@@ -35,7 +40,7 @@ bounded_least (Some a) (Some c) l cost e = by_test (nat_le c a) e
     by_test true e = cc
     by_test false e = cc
 
-pub is_solved : (instance : Pesp) (p : ProblemValue) (steps used : ℕ) (first now : State) (content : Content) → KeepsNetLimits p.network → IsProblemOf instance p → IsFrugal p.table → IsRootBound p first → AreTurns p steps first used now → IsCertificateOf p instance.events now content → IsValid instance content → IsSolved instance steps used content
+pub is_solved : (instance : Pesp) (p : ProblemValue) (steps used : ℕ) (first now : State) (content : Content) → KeepsNetLimits p.network → IsProblemOf instance p → IsFrugal p.table → IsRootBound p first → AreAllTurns p steps first used now → IsCertificateOf p instance.events now content → IsValid instance content → IsSolved instance steps used content
 is_solved instance p steps used first now content limits of frugal bound turns c valid = record {
   valid = valid;
   few = turns.few;
@@ -54,23 +59,31 @@ is_solved instance p steps used first now content limits of frugal bound turns c
     finish (inl all) opens = all
     finish (inr closed) opens = absurd (not_open p used now instance.events content limits turns.worked closed c opens)
 
--- ---- from the root to the certificate
+-- ---- the cost
 
--- times that are offered leave the root's bound
-offered_bound : (p : ProblemValue) (old new : State) → new.tree ≡ old.tree → IsRootBound p old → IsRootBound p new
-offered_bound p old new e bound l h = bound l (subst (λ (t : Tree). IsAtMost (option_map told (least_value (net_of p) p.table t (root_of p))) (Some l)) e h)
+-- an answer that isn't infeasible tells the best cost
+told_cost : (low best : Option ℕ) (most : ℕ) → IsAtMost best (Some most) → (answer_of low best ≡ Infeasible → ⊥) → IsSomeAnd (cost_of (answer_of low best)) (λ c. c ≤ most)
+told_cost None best most h not = absurd (not refl)
+told_cost (Some l) None most h not = absurd h
+told_cost (Some l) (Some c) most h not = by_test (nat_le c l)
+  where
+    by_test : (b : Bool) → IsSomeAnd (cost_of (if b then Optimal c else Bounded l (Some c))) (λ k. k ≤ most)
+    by_test true = h
+    by_test false = h
 
-pub worked_again : (p q r : ProblemValue) (first second : State) → q ≡ p → r ≡ q → IsWorked p 0 first → (IsWorked q 0 first → IsWorked q 0 second) → IsWorked r 0 second
-worked_again p q r first second e f w offers = subst (λ (x : ProblemValue). IsWorked x 0 second) (sym f) (offers (subst (λ (x : ProblemValue). IsWorked x 0 first) (sym e) w))
+feasible : (instance : Pesp) (answer : Answer) (shown times : List ℕ) → IsTrueAnswer instance answer shown → IsTimetable instance times → answer ≡ Infeasible → ⊥
+feasible instance answer shown times t is e = (subst (λ (a : Answer). IsTrueAnswer instance a shown) e t) times is
 
-pub searched_through : (p r : ProblemValue) (steps : ℕ) (first second now : State) (turns : Result ℕ SolveRefusal) → r ≡ p → second.tree ≡ first.tree → IsRootBound p first → IfOk turns (λ used. AreTurns r steps second used now) → IfOk turns (λ used. IsSearchedThrough p steps used now)
-searched_through p r steps first second now turns e f bound h =
-    if_ok turns (λ (used : ℕ). AreTurns r steps second used now) (λ (used : ℕ). IsSearchedThrough p steps used now)
-    (λ used t. record { first = second; bound = offered_bound p first second f bound; turns = subst (λ (x : ProblemValue). AreTurns x steps second used now) e t }) h
-
-pub certified : (instance : Pesp) (p q : ProblemValue) (steps used : ℕ) (now : State) (content : Content) → q ≡ p → KeepsNetLimits q.network → IsProblemOf instance p → IsFrugal p.table → IsCertificateOf p instance.events now content → IsValid instance content → IsSearchedThrough p steps used now → IsSolved instance steps used content
-certified instance p q steps used now content e limits of frugal c valid s =
-    is_solved instance p steps used s.first now content (subst (λ (x : ProblemValue). KeepsNetLimits x.network) e limits) of frugal s.bound s.turns c valid
+pub costs_no_more : (instance : Pesp) (p : ProblemValue) (times : List ℕ) (now : State) (content : Content) → KeepsLimits instance → IsProblemOf instance p → IsCertificateOf p instance.events now content → IsValid instance content → IsAsCheapAs p times now → CostsNoMore instance times content
+costs_no_more instance p times now content limits of c valid cheap is =
+    let some = limits.some_period in
+    let positive : 0 < instance.period = omega (arith, some) in
+    let net = (net_timetables instance times positive (limits_in_order instance limits)).0 is in
+    let there : IsNetTimetable (net_of p) p.network.events times = subst (λ (n : Net). IsNetTimetable n p.network.events times) (sym (same_net instance p of)) (subst (λ (k : ℕ). IsNetTimetable (instance_net instance) k times) (sym of.events) net) in
+    let same : net_cost (net_of p) times ≡ cost instance.period instance.rows times = ap (λ (n : Net). net_cost n times) (same_net instance p of) ∙ net_cost-is instance times in
+    let most : IsAtMost (best_cost p now) (Some (cost instance.period instance.rows times)) = subst (λ (n : ℕ). IsAtMost (best_cost p now) (Some n)) same (cheap there) in
+    let here = told_cost (least p now) (best_cost p now) (cost instance.period instance.rows times) most (λ e. feasible instance content.answer (shown_times content) times (valid_is_true instance content positive valid) is (c.answer ∙ e)) in
+    subst (λ (a : Answer). IsSomeAnd (cost_of a) (λ k. k ≤ cost instance.period instance.rows times)) (sym c.answer) here
 
 -- ---- refusals
 
@@ -81,11 +94,6 @@ refused_for_rows instance p steps PairsTooMany few h = let more = mul-le-mul_lef
 
 one_more : (n : ℕ) → 1 ≤ n + 1
 one_more n = omega arith
-
-pub refused_at_root : (p : ProblemValue) (steps : ℕ) (r : SolveRefusal) → AreTurnsRefused p 0 r → AreTurnsRefused p steps r
-refused_at_root p steps Memory h = tt
-refused_at_root p steps TableTooLarge h = h
-refused_at_root p steps PairsTooMany h = let more : 1 * length p.table ≤ (steps + 1) * length p.table = mul-le-mul_right (length p.table) (one_more steps) in omega (arith, h, more)
 
 pub refused_at_once : (instance : Pesp) (steps : ℕ) (r : SolveRefusal) → IsSearchRefusal instance 0 r → IsSearchRefusal instance steps r
 refused_at_once instance steps Memory h = tt

@@ -2,6 +2,4 @@ pub mod Singles
 pub mod Solving
 pub mod Beginning
 pub mod Rooting
-pub mod Closing
-pub mod Handing
-pub mod Turning
+pub mod Searching

@@ -1,10 +1,10 @@
 -- What the solver answers.
-use Rattle.std.specs.Prelude.{◌≡◌, ⊤, ℕ, ◌+◌, ◌*◌, ◌<◌, ◌≤◌, length, Option}
-use Rattle.pesp_problem.specs.Timetables.{Pesp}
+use Rattle.std.specs.Prelude.{◌≡◌, ⊤, ℕ, ◌+◌, ◌*◌, ◌<◌, ◌≤◌, List, length, Option, IsSomeAnd}
+use Rattle.pesp_problem.specs.Timetables.{Pesp, IsTimetable, cost}
 use Rattle.pesp_problem.specs.Arcs.{net_of}
 use Rattle.pesp_problem.specs.Nodes.{root}
 use Rattle.pesp_truth.specs.declared.answer.Answer.TheVariants.{Bounded}
-use Rattle.pesp_truth.specs.Certificates.{Content, IsValid}
+use Rattle.pesp_truth.specs.Certificates.{Content, IsValid, cost_of}
 use Rattle.pesp_search_laws.specs.Rooms.{room}
 use Rattle.pesp_search_laws.specs.Turns.{IsOpenAnswer, HasBranches}
 use Rattle.pesp_search_laws.specs.Lifted.{IsFrugal}
@@ -21,6 +21,10 @@ pub record IsSolved (p : Pesp) (steps used : ℕ) (content : Content) : Type 0 w
   pub branches : HasBranches (net_of p) content used
   pub frugal : IsFrugal content.cycles
   pub room : used < room (net_of p) content.cycles (root (net_of p) content.cycles)
+
+-- where the times are a timetable of the instance, the answer has a cost, at most theirs
+abbrev pub CostsNoMore : Pesp → List ℕ → Content → Type 0
+CostsNoMore p times content = IsTimetable p times → IsSomeAnd (cost_of content.answer) (λ c. c ≤ cost p.period p.rows times)
 
 -- when nothing is answered
 abbrev pub IsSearchRefusal : Pesp → ℕ → SolveRefusal → Type 0

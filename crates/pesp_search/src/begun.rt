@@ -1,82 +1,86 @@
 //! A search that begins.
 
 ghost use Rattle.std.specs.Prelude.{◌≡◌, IfOk, IfErr};
-ghost use Rattle.pesp_nodes.specs.Problems.{IsNodeOf};
-ghost use Rattle.pesp_machine.specs.States.{opening, root_of};
-ghost use Rattle.pesp_branching.specs.Passing.{ArePassedRows};
 ghost use Rattle.pesp_search_laws.specs.Lifted.{IsReduced};
-ghost use Rattle.pesp_search.specs.Beginning.{IsBegun};
+ghost use Rattle.pesp_turns.specs.Knowing.{IsKnown};
+ghost use Rattle.pesp_search.specs.Beginning.{IsNewBoard, IsBegun};
 ghost use Rattle.pesp_search.specs.Solving.{IsSearchRefusal};
 
-use crate::preparing::walks_and_problem;
+use crate::planting::planted;
+use crate::preparing::problem_for;
 use crate::refusal::SolveRefusal;
 use pesp_board::Board;
-use pesp_branching::passed_rows;
-use pesp_nodes::{Node, Problem};
-use pesp_problem::{Instance, Memory, Walk};
+use pesp_branching::Proposer;
+use pesp_nodes::Problem;
+use pesp_problem::{Instance, Memory};
 use pesp_reduce::Reduced;
+use pesp_times::TimesSearch;
+use pesp_turns::{Known, Observer, Search, known_of, strategy_of};
 use std::alloc::Global;
 
-/// What stays as it is through a search: what is left of the instance, with its fundamental walks; for each row of the
-/// instance whether some cycle passes it; and the root.
-#[derive(Drop)]
-pub(crate) struct Known<'a> {
-    pub(crate) reduced: &'a Reduced,
-    pub(crate) walks: Vec<Walk>,
-    pub(crate) passed: Vec<bool>,
-    pub(crate) root: Node,
-}
-
-/// A board on which nothing is done yet, and what is known of its problem.
-#[derive(Drop)]
-pub(crate) struct Begun<'a> {
-    pub(crate) known: Known<'a>,
-    pub(crate) board: Board,
-}
-
-/// For each row whether some cycle of the problem passes it, and its root.
-fn rows_and_root(alloc: Global, problem: &Problem) -> Result<(Vec<bool>, Node), Memory>
-    ensures passed { IfOk result (λ made. ArePassedRows problem.now made.0.items) }
-    ensures root { IfOk result (λ made. made.1 ≡ root_of problem.now) }
-    ensures node { IfOk result (λ made. IsNodeOf problem.now made.1) }
-{
-    let passed = passed_rows(alloc, problem)?;
-    let root = problem.root(alloc)?;
-    Ok((passed, root))
-}
-
-/// A board of the problem, for each row whether some cycle of the problem passes it, and the root.
-fn board_and_root(alloc: Global, problem: Problem) -> Result<(Board, Vec<bool>, Node), Memory>
-    ensures board { IfOk result
-        (λ made. made.0 ≡ record { problem = problem; state = opening }) }
-    ensures passed { IfOk result (λ made. ArePassedRows problem made.1.items) }
-    ensures root { IfOk result (λ made. made.2 ≡ root_of problem) }
-    ensures node { IfOk result (λ made. IsNodeOf problem made.2) }
-{
-    let (passed, root) = rows_and_root(alloc, &problem)?;
-    let board = Board::new(alloc, problem)?;
-    Ok((board, passed, root))
-}
-
-/// Begins the search for an instance: the board's problem is its network with the lifted walks of what is left of it.
-pub(crate) fn begin<'a>(
-    alloc: Global,
-    instance: &Instance,
-    reduced: &'a Reduced,
-) -> Result<Begun<'a>, SolveRefusal>
+/// A new board of the problem that is searched.
+fn board_of(alloc: Global, instance: &Instance, reduced: &Reduced) -> Result<Board, SolveRefusal>
     requires original { reduced.now.original ≡ instance.now }
     requires reduced { IsReduced reduced.now }
+    ensures board { IfOk result (IsNewBoard instance.now reduced.now) }
+    ensures refused { IfErr result (IsSearchRefusal instance.now 0) }
+{
+    let problem = problem_for(alloc, instance, reduced)?;
+    let board = Board::new(alloc, problem)?;
+    Ok(board)
+}
+
+/// What proposes cuts and times for the network of what is left.
+fn proposer_for(alloc: Global, known: &Known) -> Result<Proposer, Memory> {
+    let strategy = strategy_of(alloc, known)?;
+    let times = TimesSearch::new(alloc, known.reduced.network())?;
+    Ok(Proposer {
+        strategy,
+        times: Some(times),
+    })
+}
+
+/// What is known of a problem with what is left of its instance, and what proposes cuts and times for it.
+fn known_and_proposer(
+    alloc: Global,
+    problem: &Problem,
+    reduced: Reduced,
+) -> Result<(Known, Proposer), Memory>
+    ensures known { IfOk result (λ made. IsKnown problem.now made.0) }
+    ensures reduced { IfOk result (λ made. made.0.reduced ≡ reduced) }
+{
+    let known = known_of(alloc, problem, reduced)?;
+    let proposer = proposer_for(alloc, &known)?;
+    Ok((known, proposer))
+}
+
+/// Begins the search over what is left of an instance.
+fn begin_over(alloc: Global, instance: &Instance, reduced: Reduced) -> Result<Search, SolveRefusal>
+    requires original { reduced.original ≡ instance.now }
+    requires reduced { IsReduced reduced }
     ensures begun { IfOk result (IsBegun instance.now) }
     ensures refused { IfErr result (IsSearchRefusal instance.now 0) }
 {
-    let _limits = instance.rows();
-    let (walks, problem) = walks_and_problem(alloc, instance, reduced)?;
-    let (board, passed, root) = board_and_root(alloc, problem)?;
-    let known = Known {
-        reduced,
-        walks,
-        passed,
-        root,
-    };
-    Ok(Begun { known, board })
+    let board = board_of(alloc, instance, &reduced)?;
+    let (known, proposer) = known_and_proposer(alloc, board.problem(), reduced)?;
+    Ok(Search {
+        board,
+        known,
+        proposer,
+        used: 0,
+    })
+}
+
+/// Begins the search for an instance: the board's problem is its network with the lifted walks of what is left of it. An
+/// observer looks on.
+pub(crate) fn begin<O: Observer>(
+    alloc: Global,
+    instance: &Instance,
+    observer: &mut O,
+) -> Result<Search, SolveRefusal>
+    ensures begun { IfOk result (IsBegun instance.now) }
+    ensures refused { IfErr result (IsSearchRefusal instance.now 0) }
+{
+    let reduced = planted(alloc, instance, observer)?;
+    begin_over(alloc, instance, reduced)
 }

@@ -3,19 +3,14 @@
 #![tactic(auto)]
 
 mod begun;
-mod handing;
+mod offering;
 mod planting;
 mod preparing;
 mod refusal;
 mod rooting;
-mod running;
-mod settling;
 mod single;
 mod solving;
-mod turning;
-mod walking;
-mod watching;
 
+pub use pesp_turns::{Nobody, Observer, Part};
 pub use refusal::SolveRefusal;
-pub use solving::{Solved, solve, solve_watched};
-pub use watching::{Nobody, Observer};
+pub use solving::{Solved, solve, solve_from, solve_watched};

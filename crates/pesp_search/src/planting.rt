@@ -6,6 +6,7 @@ ghost use Rattle.pesp_search_laws.specs.Lifted.{IsReduced};
 use pesp_problem::{Instance, Memory};
 use pesp_reduce::{Reduced, reduce};
 use pesp_strategy::search_forest;
+use pesp_turns::{Observer, Part};
 use std::alloc::Global;
 
 /// How many exchanges of a row the search for a forest tries at most. It doesn't depend on the steps: so a search of more steps
@@ -37,12 +38,18 @@ fn forest_for(alloc: Global, reduced: &Reduced) -> Result<Vec<u32>, Memory> {
     search_forest(alloc, network, 1, exchanges_for(rows, cycles))
 }
 
-/// What is left of an instance, over a forest whose cycles promise a strong bound.
-pub(crate) fn planted(alloc: Global, instance: &Instance) -> Result<Reduced, Memory>
+/// What is left of an instance, over a forest whose cycles promise a strong bound. An observer looks on.
+pub(crate) fn planted<O: Observer>(
+    alloc: Global,
+    instance: &Instance,
+    observer: &mut O,
+) -> Result<Reduced, Memory>
     ensures original { IfOk result (λ r. r.original ≡ instance.now) }
     ensures reduced { IfOk result IsReduced }
 {
+    observer.at(Part::Reduction);
     let reduced = reduce(alloc, instance)?;
+    observer.at(Part::Forest);
     let forest = forest_for(alloc, &reduced)?;
     reduced.with_forest(alloc, &forest)
 }

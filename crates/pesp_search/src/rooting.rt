@@ -1,19 +1,20 @@
 //! The root of the tree.
 
-ghost use Rattle.std.specs.Prelude.{◌≡◌, IfErr, OnOk};
+ghost use Rattle.std.specs.Prelude.{◌≡◌, IfOk, IfErr, OnOk};
 ghost use Rattle.pesp_nodes.specs.Problems.{IsNodeOf};
 ghost use Rattle.pesp_machine.specs.States.{opening, root_of};
+ghost use Rattle.pesp_machine.specs.Events.{LendsLeaf};
 ghost use Rattle.pesp_search_laws.specs.Turns.{IsWorked};
 ghost use Rattle.pesp_search.specs.Rooting.{work_of, IsRootBound};
-ghost use Rattle.pesp_search.specs.Turning.{AreTurnsRefused};
+ghost use Rattle.pesp_search.specs.Searching.{AreTurnsRefused};
 
-use crate::handing::hand_in;
 use crate::refusal::SolveRefusal;
 use crate::single::best_single;
-use crate::turning::lend_next;
-use pesp_board::{Board, Work};
+use pesp_board::{Board, Job, LendRefusal, Work};
 use pesp_bound::{Leaf, best_leaf_from};
 use pesp_nodes::Node;
+use pesp_problem::Memory;
+use pesp_turns::hand_in;
 use std::alloc::Global;
 
 /// How many pivots look for the leaf of the root.
@@ -27,6 +28,21 @@ fn work_of(leaf: Leaf) -> Work
         Leaf::Gap { cycle } => Work::Gap(cycle),
         Leaf::Nothing { pairs } => Work::Nothing(pairs),
         Leaf::Bound { pairs, .. } => Work::Leaf(pairs),
+    }
+}
+
+/// Lends the root of a new board.
+fn lend_root(alloc: Global, board: &mut Board) -> Result<Job, Memory>
+    requires { board.old.state ≡ opening }
+    ensures problem { board.new.problem ≡ board.old.problem }
+    ensures lends { IfOk result
+        (λ job. LendsLeaf board.old.problem board.old.state job board.new.state) }
+{
+    match board.lend(alloc) {
+        Ok(Some(job)) => Ok(job),
+        Ok(None) => unreachable!(),
+        Err(LendRefusal::NumbersSpent) => unreachable!(),
+        Err(LendRefusal::Memory) => Err(Memory),
     }
 }
 
@@ -45,10 +61,12 @@ pub(crate) fn look_at_root(
     ensures refused { IfErr result (AreTurnsRefused board.old.problem 0) }
 {
     board.problem().keeps_limits();
-    let Some(job) = lend_next(alloc, board, 0)? else {
-        unreachable!();
-    };
+    let job = lend_root(alloc, board)?;
     let start = best_single(alloc, board.problem(), root)?;
     let leaf = best_leaf_from(alloc, board.problem(), root, &start, ROUNDS)?;
-    hand_in(alloc, board, &job, &work_of(leaf), 0)
+    let taken = hand_in(alloc, board, &job, &work_of(leaf))?;
+    if !taken {
+        return Err(SolveRefusal::PairsTooMany);
+    }
+    Ok(())
 }

@@ -1,26 +1,26 @@
 //! Solutions.
 
-ghost use Rattle.std.specs.Prelude.{◌≡◌, ℕ, ◌≤◌, IfOk, IfErr, length};
-ghost use Rattle.pesp_machine.specs.States.{opening};
+ghost use Rattle.std.specs.Prelude.{◌≡◌, ℕ, ◌≤◌, List, IfOk, IfErr, OnOk};
+ghost use Rattle.pesp_machine.specs.States.{State, opening};
 ghost use Rattle.pesp_machine.specs.Certificates.{IsProblemOf};
-ghost use Rattle.pesp_search_laws.specs.Lifted.{IsReduced, IsFrugal};
-ghost use Rattle.pesp_search.specs.Solving.{IsSolved, IsSearchRefusal};
-ghost use Rattle.pesp_search.specs.Beginning.{IsKnown, IsBegun};
-ghost use Rattle.pesp_search.specs.Turning.{IsSearchedThrough, AreTurnsRefused};
+ghost use Rattle.pesp_search_laws.specs.Lifted.{IsFrugal};
+ghost use Rattle.pesp_search_laws.specs.Turns.{IsWorked};
+ghost use Rattle.pesp_turns.specs.Knowing.{IsKnown};
+ghost use Rattle.pesp_turns.specs.Settling.{IsSearched};
+ghost use Rattle.pesp_search.specs.Beginning.{IsBegun};
+ghost use Rattle.pesp_search.specs.Rooting.{IsRootBound};
+ghost use Rattle.pesp_search.specs.Searching.{IsAsCheapAs, IsReady, AreAllTurns, AreTurnsRefused};
+ghost use Rattle.pesp_search.specs.Solving.{IsSolved, CostsNoMore, IsSearchRefusal};
 
-use crate::begun::{Begun, Known, begin};
-use crate::planting::planted;
+use crate::begun::begin;
+use crate::offering::{begin_with, offer_given};
 use crate::refusal::SolveRefusal;
 use crate::rooting::look_at_root;
-use crate::running::run_turns;
-use crate::watching::{Nobody, Observer};
 use pesp_board::Board;
-use pesp_branching::{Proposer, offer_times};
+use pesp_branching::offer_times;
 use pesp_cert::Certificate;
 use pesp_problem::{Instance, Memory};
-use pesp_reduce::Reduced;
-use pesp_strategy::Strategy;
-use pesp_times::TimesSearch;
+use pesp_turns::{Ending, Nobody, Observer, Part, Search};
 use std::alloc::Global;
 
 /// What is known of an instance, and how many leaves were split to find it.
@@ -30,26 +30,64 @@ pub struct Solved {
     pub steps_used: u32,
 }
 
-/// Searches on a new board; says how many leaves were split.
-fn search<O: Observer>(
+/// Looks at the root of a new board, and offers times, first those that are given.
+fn make_ready<O: Observer>(
     alloc: Global,
-    board: &mut Board,
-    known: &Known,
-    proposer: &mut Proposer,
+    instance: &Instance,
+    search: &mut Search,
+    times: &[u32],
+    observer: &mut O,
+) -> Result<(), SolveRefusal>
+    requires known { IsKnown search.old.board.problem search.old.known }
+    requires opening { search.old.board.state ≡ opening }
+    requires original { search.old.known.reduced.original ≡ instance.now }
+    ensures problem { search.new.board.problem ≡ search.old.board.problem }
+    ensures known { search.new.known ≡ search.old.known }
+    ensures ready { OnOk result
+        (IsReady search.old.board.problem times.now search.new.board.state) }
+    ensures refused { IfErr result (AreTurnsRefused search.old.board.problem 0) }
+{
+    let Search {
+        board,
+        known,
+        proposer,
+        ..
+    } = search;
+    board.problem().keeps_limits();
+    observer.at(Part::Root);
+    look_at_root(alloc, board, &known.root)?;
+    observer.at(Part::Times);
+    offer_given(alloc, board, times)?;
+    begin_with(alloc, instance, &known.reduced, &mut proposer.times, times)?;
+    offer_times(alloc, board, &known.reduced, &mut proposer.times)?;
+    Ok(())
+}
+
+/// Takes turns until so many leaves were split or no leaf is open; says how many were split. An observer looks on.
+fn take_turns<O: Observer>(
+    alloc: Global,
+    search: &mut Search,
     steps: u32,
     observer: &mut O,
 ) -> Result<u32, SolveRefusal>
-    requires known { IsKnown board.old.problem known.now }
-    requires opening { board.old.state ≡ opening }
-    requires few { steps ≤ 100000 }
-    ensures problem { board.new.problem ≡ board.old.problem }
-    ensures searched { IfOk result
-        (λ used. IsSearchedThrough board.old.problem steps used board.new.state) }
-    ensures refused { IfErr result (AreTurnsRefused board.old.problem steps) }
+    requires known { IsKnown search.old.board.problem search.old.known }
+    requires searched { IsSearched search.old.board.problem search.old.known.reduced }
+    requires worked { IsWorked search.old.board.problem 0 search.old.board.state }
+    requires most { steps ≤ 100000 }
+    ensures problem { search.new.board.problem ≡ search.old.board.problem }
+    ensures turns { IfOk result (λ used. AreAllTurns search.old.board.problem steps
+        search.old.board.state used search.new.board.state) }
+    ensures refused { IfErr result (AreTurnsRefused search.old.board.problem steps) }
 {
-    look_at_root(alloc, board, &known.root)?;
-    offer_times(alloc, board, known.reduced, &mut proposer.times)?;
-    run_turns(alloc, board, known, proposer, steps, observer)
+    search.board.problem().keeps_limits();
+    let ended = search.run(alloc, steps, observer)?;
+    match ended.ending {
+        Ending::StepsUsed => Ok(ended.used),
+        Ending::NoneOpen => Ok(ended.used),
+        Ending::TreeTooLarge => Err(SolveRefusal::PairsTooMany),
+        Ending::NumbersSpent => unreachable!(),
+        Ending::TurnsUsed => unreachable!(),
+    }
 }
 
 /// What the board certifies after a search.
@@ -61,9 +99,13 @@ fn certify(
 ) -> Result<Solved, Memory>
     requires of { IsProblemOf instance.now board.now.problem }
     requires frugal { IsFrugal board.now.problem.table }
-    ensures { (steps : ℕ) → IsSearchedThrough board.now.problem steps steps_used board.now.state
+    ensures solved { (steps : ℕ) (first : State) → IsRootBound board.now.problem first
+        → AreAllTurns board.now.problem steps first steps_used board.now.state
         → IfOk result (λ s. IsSolved instance.now steps s.steps_used s.certificate) }
+    ensures improved { (times : List ℕ) → IsAsCheapAs board.now.problem times board.now.state
+        → IfOk result (λ s. CostsNoMore instance.now times s.certificate) }
 {
+    instance.rows();
     board.problem().keeps_limits();
     let certificate = board.certificate(alloc, instance)?;
     Ok(Solved {
@@ -72,81 +114,25 @@ fn certify(
     })
 }
 
-/// Searches on the opening board of an instance, and certifies what is known then.
+/// Searches on what was begun, and certifies what is known then.
 fn solve_on<O: Observer>(
     alloc: Global,
     instance: &Instance,
-    board: &mut Board,
-    known: &Known,
-    proposer: &mut Proposer,
+    search: &mut Search,
+    times: &[u32],
     steps: u32,
     observer: &mut O,
 ) -> Result<Solved, SolveRefusal>
-    requires known { IsKnown board.old.problem known.now }
-    requires opening { board.old.state ≡ opening }
-    requires of { IsProblemOf instance.now board.old.problem }
-    requires frugal { IsFrugal board.old.problem.table }
-    requires few { length board.old.problem.table ≤ length instance.now.rows }
+    requires begun { IsBegun instance.now search.old }
     requires most { steps ≤ 100000 }
     ensures solved { IfOk result (λ s. IsSolved instance.now steps s.steps_used s.certificate) }
+    ensures improved { IfOk result (λ s. CostsNoMore instance.now times.now s.certificate) }
     ensures refused { IfErr result (IsSearchRefusal instance.now steps) }
 {
-    let steps_used = search(alloc, board, known, proposer, steps, observer)?;
-    Ok(certify(alloc, instance, board, steps_used)?)
-}
-
-/// What proposes cuts and times for the network of what is left.
-fn proposer_for(alloc: Global, known: &Known) -> Result<Proposer, Memory> {
-    let network = known.reduced.network();
-    let strategy = Strategy::new(alloc, network, known.root.offsets())?;
-    let times = TimesSearch::new(alloc, network)?;
-    Ok(Proposer {
-        strategy,
-        times: Some(times),
-    })
-}
-
-/// Searches on what was begun, and certifies what is known then.
-fn solve_begun<O: Observer>(
-    alloc: Global,
-    instance: &Instance,
-    begun: &mut Begun,
-    steps: u32,
-    observer: &mut O,
-) -> Result<Solved, SolveRefusal>
-    requires begun { IsBegun instance.now begun.old }
-    requires most { steps ≤ 100000 }
-    ensures solved { IfOk result (λ s. IsSolved instance.now steps s.steps_used s.certificate) }
-    ensures refused { IfErr result (IsSearchRefusal instance.now steps) }
-{
-    let mut proposer = proposer_for(alloc, &begun.known)?;
-    solve_on(
-        alloc,
-        instance,
-        &mut begun.board,
-        &begun.known,
-        &mut proposer,
-        steps,
-        observer,
-    )
-}
-
-/// Searches over what is left of an instance, and certifies what is known then.
-fn solve_reduced<O: Observer>(
-    alloc: Global,
-    instance: &Instance,
-    reduced: &Reduced,
-    steps: u32,
-    observer: &mut O,
-) -> Result<Solved, SolveRefusal>
-    requires original { reduced.now.original ≡ instance.now }
-    requires reduced { IsReduced reduced.now }
-    requires most { steps ≤ 100000 }
-    ensures solved { IfOk result (λ s. IsSolved instance.now steps s.steps_used s.certificate) }
-    ensures refused { IfErr result (IsSearchRefusal instance.now steps) }
-{
-    let mut begun = begin(alloc, instance, reduced)?;
-    solve_begun(alloc, instance, &mut begun, steps, observer)
+    make_ready(alloc, instance, search, times, observer)?;
+    let steps_used = take_turns(alloc, search, steps, observer)?;
+    let solved = certify(alloc, instance, &search.board, steps_used)?;
+    Ok(solved)
 }
 
 /// Searches for a best timetable, by at most so many splits of a leaf. The certificate is valid for the instance. An answer
@@ -175,6 +161,25 @@ pub fn solve_watched<O: Observer>(
     ensures solved { IfOk result (λ s. IsSolved instance.now steps s.steps_used s.certificate) }
     ensures refused { IfErr result (IsSearchRefusal instance.now steps) }
 {
-    let reduced = planted(alloc, instance)?;
-    solve_reduced(alloc, instance, &reduced, steps, observer)
+    solve_from(alloc, instance, &[], steps, observer)
+}
+
+/// Searches as `solve_watched` does, with the same promises, from times that are given: one for each event of the instance, in
+/// the instance's order, from 0 to one less than the period. They are offered before all others. Where they are a timetable
+/// of the instance, the answer has a cost, at most theirs, and times near them are looked for; where they aren't, they are passed
+/// over.
+pub fn solve_from<O: Observer>(
+    alloc: Global,
+    instance: &Instance,
+    times: &[u32],
+    steps: u32,
+    observer: &mut O,
+) -> Result<Solved, SolveRefusal>
+    requires { steps ≤ 100000 }
+    ensures solved { IfOk result (λ s. IsSolved instance.now steps s.steps_used s.certificate) }
+    ensures improved { IfOk result (λ s. CostsNoMore instance.now times.now s.certificate) }
+    ensures refused { IfErr result (IsSearchRefusal instance.now steps) }
+{
+    let mut search = begin(alloc, instance, observer)?;
+    solve_on(alloc, instance, &mut search, times, steps, observer)
 }

@@ -8,7 +8,7 @@ use crate::telling::{tell_check, tell_count, tell_run, tell_verdict};
 use pesp_board::Board;
 use pesp_cli::Milestones;
 use pesp_runs::{run_check, run_report, run_solve, run_solve_watched, run_violations};
-use pesp_search::Observer;
+use pesp_search::{Observer, Part};
 use std::alloc::Global;
 
 /// What `solve` writes in so many steps.
@@ -34,6 +34,8 @@ struct Notes {
 }
 
 impl Observer for Notes {
+    fn at(&mut self, _part: Part) {}
+
     fn look(&mut self, steps_used: u32, board: &Board) {
         if let Some(progress) = self.milestones.passed(steps_used, board) {
             let Ok(line) = format!(in self.alloc; "{progress}/") else {

@@ -8,13 +8,10 @@ use pesp_problem::Memory;
 use pesp_search_laws::turn::valid_work_is_taken;
 use std::alloc::Global;
 
-/// Gives the work, which is valid; says whether it is taken. It isn't where the tree would pass a limit.
-pub(crate) fn hand_in(
-    alloc: Global,
-    board: &mut Board,
-    job: &Job,
-    work: &Work,
-) -> Result<bool, Memory>
+/// Gives valid work for a leaf that is lent; says whether it is taken. It isn't where the tree would pass a limit.
+///
+/// Refused where a growth is refused.
+pub fn hand_in(alloc: Global, board: &mut Board, job: &Job, work: &Work) -> Result<bool, Memory>
     requires { IsHandedIn board.old.problem board.old.state job.now work.now }
     ensures problem { board.new.problem ≡ board.old.problem }
     ensures given { IfOk result (λ taken. IsGiven board.old.problem board.old.state job.now.number

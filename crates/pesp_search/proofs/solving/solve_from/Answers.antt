@@ -1,0 +1,21 @@
+use Rattle.std.proofs.Common.{rules}
+use Rattle.pesp_search.specs.Solving.{IsSearchRefusal}
+use Rattle.pesp_search.proofs.Solutions.{refused_at_once}
+use Rattle.pesp_search.proofs.solving.solve_from.Goals as goal
+
+pub solve_on-requires-clause-begun : goal.solve_on-requires-clause-begun
+solve_on-requires-clause-begun g c = c.in_ok-search.ensures.begun
+
+pub returns-clause-solved : goal.returns-clause-solved
+returns-clause-solved g c = c.solve_on.ensures.solved
+
+pub returns-clause-improved : goal.returns-clause-improved
+returns-clause-improved g c = c.solve_on.ensures.improved
+
+pub returns-clause-refused : goal.returns-clause-refused
+returns-clause-refused g c = c.solve_on.ensures.refused
+
+pub returns-in_err-search-clause-refused : goal.returns-in_err-search-clause-refused
+returns-in_err-search-clause-refused g c =
+    let refused : IsSearchRefusal c.args.instance.now c.args.steps c.in_err-search.field-0.0 = refused_at_once c.args.instance.now c.args.steps c.in_err-search.field-0.0 c.in_err-search.ensures.refused in
+    search rules

@@ -7,14 +7,16 @@ use crate::output::{Stop, ended, writer_of};
 use crate::progress::Teller;
 use crate::telling::Telling;
 use crate::watch::Watch;
+use pesp_check_run::{run_check, status_of_verdict};
 use pesp_conflict_run::{run_conflict, status_of_told};
+use pesp_faults::Fault;
 use pesp_names::Names;
-use pesp_resume_run::{run_gap, run_resume};
-use pesp_runs::{
-    Fault, read_whole_names, run_check, run_diagram, run_draw, run_graft, run_report,
-    run_report_named, run_solve, run_solve_watched, run_split, run_violations, run_work,
-    status_of_verdict,
+use pesp_outside_run::{run_graft, run_split, run_work};
+use pesp_report_run::{
+    Diagrams, NamedReport, Picture, read_whole_names, run_report, run_sheet, run_violations,
 };
+use pesp_resume_run::{run_gap, run_resume};
+use pesp_solve_run::{run_solve, run_solve_watched};
 use pesp_stream::{Counted, Source};
 use std::fs::File;
 use std::rt::{Clock, Files};
@@ -155,7 +157,10 @@ pub(crate) fn check<R: AllocGlobal + Print + Files, S: Source>(
 {
     let mut instance = Counted::new(opened(rt, file)?);
     let mut writer = writer_of(rt);
-    let done = run_check(rt.alloc(), &mut instance, reader, &mut writer, period);
+    let done = match run_check(rt.alloc(), &mut instance, reader, &mut writer, period) {
+        Ok(verdict) => Ok(verdict),
+        Err(fault) => Err(Fault::from(fault)),
+    };
     Ok(status_of_verdict(ended(done, writer)?))
 }
 
@@ -204,9 +209,9 @@ pub(crate) fn report_named<R: AllocGlobal + Print + Files, S: Source>(
     let names = names_in(rt, names)?;
     let mut instance = Counted::new(opened(rt, file)?);
     let mut writer = writer_of(rt);
-    let done = run_report_named(
+    let done = run_sheet(
         rt.alloc(),
-        &names,
+        &NamedReport(&names),
         &mut instance,
         reader,
         &mut writer,
@@ -249,14 +254,13 @@ fn drawn<R: AllocGlobal + Print + Files, S: Source>(
 {
     let mut instance = Counted::new(opened(rt, file)?);
     let mut writer = writer_of(rt);
-    let done = run_draw(
+    let done = run_sheet(
         rt.alloc(),
-        names,
+        &Picture { rows, names },
         &mut instance,
         reader,
         &mut writer,
         period,
-        rows,
     );
     ended(done, writer)?;
     Ok(0)
@@ -275,9 +279,9 @@ pub(crate) fn diagram<R: AllocGlobal + Print + Files, S: Source>(
     let names = names_in(rt, names)?;
     let mut instance = Counted::new(opened(rt, file)?);
     let mut writer = writer_of(rt);
-    let done = run_diagram(
+    let done = run_sheet(
         rt.alloc(),
-        &names,
+        &Diagrams(&names),
         &mut instance,
         reader,
         &mut writer,

@@ -1,6 +1,6 @@
 //! Standard input as the program reads it.
 
-use pesp_runs::Fault;
+use pesp_faults::Fault;
 use std::io::{ErrorKind, Read};
 use std::{fmt, io};
 

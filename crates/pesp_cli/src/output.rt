@@ -2,7 +2,7 @@
 
 ghost use Rattle.std.specs.Prelude.{◌≡◌, Ok, IfOk};
 
-use pesp_runs::Fault;
+use pesp_faults::Fault;
 use pesp_stream::Counted;
 use std::io;
 use std::io::{ErrorKind, Write};

@@ -15,7 +15,7 @@ use crate::request::Request;
 use crate::watch::Watch;
 use clap::Error;
 use clap::error::ErrorKind;
-use pesp_runs::{Fault, status_of};
+use pesp_faults::{Fault, status_of};
 use pesp_stream::{Counted, Source};
 use std::io::Read;
 use std::process::ExitCode;

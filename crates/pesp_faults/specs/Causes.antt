@@ -1,5 +1,5 @@
 -- When runs tell which fault. What memory is refused is the runtime's matter, so nothing is said of `Memory`.
-use Rattle.std.specs.Prelude.{◌≡◌, ℕ, List, Err}
+use Rattle.std.specs.Prelude.{◌≡◌, ◌⊎◌, ℕ, List, Err}
 use Rattle.pesp_problem.specs.Timetables.{Pesp}
 use Rattle.pesp_problem.specs.Scores.{IsFirstViolated}
 use Rattle.pesp_truth.specs.Certificates.{Content}
@@ -11,7 +11,7 @@ use Rattle.pesp_search.specs.declared.refusal.SolveRefusal.TheVariants.{Memory a
 use Rattle.pesp_report.specs.TimesText.{times_of}
 use Rattle.pesp_report.specs.declared.refusal.ReportRefusal.TheVariants.{Violates}
 use Rattle.pesp_check_run.specs.Devices.{Device, HasFailed}
-use Rattle.pesp_faults.specs.Reading.{ReadsNext, ReadsCertificate, RefusesInstance}
+use Rattle.pesp_faults.specs.Reading.{ReadsNext, ReadsTimes, ReadsCertificate, RefusesInstance}
 use Rattle.pesp_faults.specs.declared.fault.Fault.{Fault}
 use Rattle.pesp_faults.specs.declared.fault.Fault.TheVariants.{Instance, Certificate, Times, Search, Report, Base, Memory, Read, Write}
 
@@ -33,6 +33,11 @@ TimesCause fault reader p = ⊥
 abbrev pub RowCause : Fault → Pesp → List ℕ → Type 0
 RowCause (Report (Violates row)) p times = IsFirstViolated p times row
 RowCause fault p times = ⊥
+
+-- why there is no timetable: there are no times, or these are none
+abbrev pub TimetableCause : Fault → Device → Pesp → Type 0
+TimetableCause fault reader p =
+    TimesCause fault reader p ⊎ ((times : List ℕ) × ReadsTimes reader.old reader.new p times × RowCause fault p times)
 
 -- why there is no base: its text, its verdict, or the reader's device
 abbrev pub BaseCause : Fault → Device → Pesp → Type 0

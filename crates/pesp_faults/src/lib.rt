@@ -6,4 +6,4 @@ mod fault;
 mod reading;
 
 pub use fault::{Fault, status_of};
-pub use reading::{MOST_TEXT, read_base, read_whole_instance, read_whole_times};
+pub use reading::{MOST_TEXT, read_base, read_timetable, read_whole_instance, read_whole_times};

@@ -1,25 +1,10 @@
-use Rattle.std.proofs.Common.{inl, inr}
-use Rattle.pesp_check_run.proofs.ReadingLemmas.{told_as}
-use Rattle.pesp_faults.proofs.Telling.{search_cause}
-use Rattle.pesp_solve_run.proofs.Solutions.{solution}
+use Rattle.std.proofs.Common.{inr}
+use Rattle.std.proofs.lemmas.Result.{on_ok_weaker, IfErr-weaker}
 use Rattle.pesp_solve_run.proofs.solving.run_solve_watched.Goals as goal
 
-pub returns-in_err-certificate-clause-cause : goal.returns-in_err-certificate-clause-cause
-returns-in_err-certificate-clause-cause g c =
-    told_as _ _ _ c.from_residual-in_err-certificate.ensures.1 (inr (c.in_ok-instance.instance, c.in_ok-instance.ensures.ok, inl (search_cause _ _ _ c.in_err-certificate.ensures.refused)))
-
-pub returns-in_err-print-clause-cause : goal.returns-in_err-print-clause-cause
-returns-in_err-print-clause-cause g c =
-    let found = c.in_ok-certificate.ensures in
-    let out = c.in_err-print.ensures in
-    told_as _ _ _ c.from_residual-in_err-print.ensures.1 (inr (
-      c.in_ok-instance.instance,
-      c.in_ok-instance.ensures.ok,
-      inr (out.fault, solution found.solved found.is_true out.has_text out.text),
-    ))
-
 pub returns-clause-ok : goal.returns-clause-ok
-returns-clause-ok g c =
-    let found = c.in_ok-certificate.ensures in
-    let out = c.in_ok-print.ensures in
-    (c.in_ok-instance.instance, c.in_ok-instance.ensures.ok, solution found.solved found.is_true out.has_text out.text)
+returns-clause-ok g c = on_ok_weaker c.write_solution.result (λ written. (c.in_ok-instance.instance, c.in_ok-instance.ensures.ok, written)) c.write_solution.ensures.ok
+
+pub returns-clause-cause : goal.returns-clause-cause
+returns-clause-cause g c =
+    IfErr-weaker c.write_solution.result _ _ (λ fault out. inr (c.in_ok-instance.instance, c.in_ok-instance.ensures.ok, out)) c.write_solution.ensures.cause

@@ -12,7 +12,7 @@ use Rattle.pesp_faults.specs.Reading.{HasBase, ReadsTimetable}
 use Rattle.pesp_faults.specs.FaultLines.{fault_line, exit_status}
 use Rattle.pesp_faults.specs.declared.fault.Fault.{Fault}
 use Rattle.pesp_faults.specs.declared.fault.Fault.TheVariants.{Memory}
-use Rattle.pesp_solve_run.specs.Solving.{Solves}
+use Rattle.pesp_solve_run.specs.Solving.{Solves, SolvesFrom}
 use Rattle.pesp_report_run.specs.Reporting.{WritesSheet}
 use Rattle.pesp_report_run.specs.Violating.{ReadsForEvents, WritesViolations}
 use Rattle.pesp_outside_run.specs.Outside.{WritesJobs, WritesWork, Grafts}
@@ -47,10 +47,15 @@ TellsFault teller fault status =
 
 -- ---- requests
 
+-- what the program does for a search, from the times in a file where one is named, which are some text
+abbrev pub AnswersSolve : {A : Type 0} → Option A → ℕ → ℕ → Device → Device → ℕ → Type 0
+AnswersSolve None steps period reader writer status = Solves reader.old reader.new period steps (Gets writer) × (status ≡ 0)
+AnswersSolve (Some file) steps period reader writer status =
+    ((times : Device) × SolvesFrom reader.old reader.new times.old times.new period steps (Gets writer)) × (status ≡ 0)
+
 -- what the program does for what is asked of an instance, from the reader that has it; `silent` says that the writer was not called
 abbrev pub AnswersInstance : OfInstance → ℕ → Device → Device → Device → Type 0 → ℕ → Type 0
-AnswersInstance (Solve steps progress) period reader writer teller silent status =
-    Solves reader.old reader.new period steps (Gets writer) × (status ≡ 0)
+AnswersInstance (Solve steps from progress) period reader writer teller silent status = AnswersSolve from steps period reader writer status
 AnswersInstance (Conflict steps) period reader writer teller silent status =
     (told : Told) × TellsConflict reader.old reader.new period steps told (Gets writer) silent
     × GetsLine teller (told_text told) × (status ≡ told_status told)

@@ -14,7 +14,7 @@ IsPeriod period = (1 ≤ period) × (period ≤ 10000)
 
 -- the numbers are within the limits of the runs
 abbrev pub InstanceWithin : OfInstance → Type 0
-InstanceWithin (Solve steps progress) = steps ≤ 100000
+InstanceWithin (Solve steps from progress) = steps ≤ 100000
 InstanceWithin (Conflict steps) = steps ≤ 100000
 
 abbrev pub CertificateWithin : OfCertificate → Type 0

@@ -4,7 +4,7 @@ ghost use Rattle.std.specs.Prelude.{◌≡◌, ◌<◌, ◌≤◌, ◌^◌, Ok, 
 ghost use Rattle.pesp_stream.specs.Counts.{FewerThan};
 ghost use Rattle.pesp_check_run.specs.Devices.{over};
 ghost use Rattle.pesp_cli.specs.Requests.{InstanceWithin, CertificateWithin};
-ghost use Rattle.pesp_cli.specs.Answers.{AnswersInstance, AnswersCertificate, AnswersTimes, AnswersWorks, violations_status};
+ghost use Rattle.pesp_cli.specs.Answers.{AnswersSolve, AnswersInstance, AnswersCertificate, AnswersTimes, AnswersWorks, violations_status};
 
 use crate::progress::Teller;
 use crate::request::{OfCertificate, OfInstance, OfTimes};
@@ -19,7 +19,8 @@ use pesp_report_run::{
     Diagrams, NamedReport, Picture, Report, read_whole_names, run_sheet, run_violations,
 };
 use pesp_resume_run::{run_gap, run_resume};
-use pesp_solve_run::{run_solve, run_solve_watched};
+use pesp_search::{Nobody, Observer};
+use pesp_solve_run::{run_solve_from, run_solve_watched};
 use pesp_stream::{Counted, Sink, Source};
 use std::fs::File;
 use std::rt::{Clock, Files};
@@ -34,14 +35,43 @@ fn done(run: Result<(), Fault>) -> Result<u8, Fault>
     }
 }
 
+/// Solves the instance that the reader gives, from the times in a file where one is named, while an observer looks on.
+fn solve<R: AllocGlobal + Files, I: Source, W: Sink, O: Observer>(
+    rt: &R,
+    reader: &mut I,
+    writer: &mut W,
+    period: u32,
+    steps: u32,
+    from: Option<&str>,
+    observer: &mut O,
+) -> Result<u8, Fault>
+    requires steps { steps ≤ 100000 }
+    requires reads_fit { FewerThan (2 ^ 62) (I.calls reader.old) }
+    requires writes_fit { FewerThan (2 ^ 62) (W.calls writer.old) }
+    ensures { IfOk result (AnswersSolve from steps period
+        (over (I.remaining reader.old) (I.remaining reader.new)
+        (I.calls reader.old) (I.calls reader.new))
+        (over (W.contents writer.old) (W.contents writer.new)
+        (W.calls writer.old) (W.calls writer.new))) }
+{
+    let alloc = rt.alloc();
+    match from {
+        None => done(run_solve_watched(alloc, reader, writer, period, steps, observer)),
+        Some(file) => {
+            let mut times = opened(rt, file)?;
+            done(run_solve_from(alloc, reader, &mut times, writer, period, steps, observer))
+        }
+    }
+}
+
 /// Does what is asked of the instance that the reader gives.
-pub(crate) fn of_instance<R: AllocGlobal + Eprint + Clock, I: Source, W: Sink, E: Sink>(
+pub(crate) fn of_instance<R: AllocGlobal + Eprint + Files + Clock, I: Source, W: Sink, E: Sink>(
     rt: &R,
     reader: &mut I,
     writer: &mut W,
     teller: &mut E,
     period: u32,
-    asked: OfInstance,
+    asked: OfInstance<'_>,
 ) -> Result<u8, Fault>
     requires within { InstanceWithin asked }
     requires reads_fit { FewerThan (2 ^ 62) (I.calls reader.old) }
@@ -60,15 +90,17 @@ pub(crate) fn of_instance<R: AllocGlobal + Eprint + Clock, I: Source, W: Sink, E
     match asked {
         OfInstance::Solve {
             steps,
+            from,
             progress: false,
-        } => { done(run_solve(alloc, reader, writer, period, steps)) }
+        } => solve(rt, reader, writer, period, steps, from, &mut Nobody),
         OfInstance::Solve {
             steps,
+            from,
             progress: true,
         } => {
             let mut observer = Teller::new(rt);
             observer.begin();
-            done(run_solve_watched(alloc, reader, writer, period, steps, &mut observer))
+            solve(rt, reader, writer, period, steps, from, &mut observer)
         }
         OfInstance::Conflict { steps } => {
             let told = run_conflict(alloc, reader, writer, period, steps)?;

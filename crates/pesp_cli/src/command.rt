@@ -4,8 +4,9 @@ ghost use Rattle.std.specs.Prelude.{◌≤◌, IfOk};
 ghost use Rattle.pesp_cli.specs.Requests.{InstanceWithin, CertificateWithin, TimesWithin, IsWithinLimits};
 
 use crate::options::{
-    base_argument, file_argument, job_argument, names_argument, names_option, optional_file,
-    period_option, progress_option, rows_option, seconds_option, steps_option, violations_option,
+    base_argument, file_argument, from_option, job_argument, names_argument, names_option,
+    optional_file, period_option, progress_option, rows_option, seconds_option, steps_option,
+    violations_option,
 };
 use crate::request::{OfCertificate, OfInstance, OfTimes, Request};
 use clap::{ArgMatches, Command, Error};
@@ -20,8 +21,8 @@ An instance is one activity a line, with six fields between ';', tabs or ',':
 Times are counted modulo the period, in the unit of the durations. For example
   printf '1; 1; 2; 0; 9; 3\\n' | pesp solve --period 10
 
-Exit status: 0 the certificate is written; 2 the command line; 3 the instance is
-refused; 4 memory, a device, or a limit of the search";
+Exit status: 0 the certificate is written; 1 the times to begin with violate a row;
+2 the command line; 3 a text is refused; 4 memory, a device, or a limit of the search";
 
 const CONFLICTS: &str = "\
 A list is written as CSV: row, label, tail, head, lower, upper. Standard error tells how
@@ -64,6 +65,7 @@ fn solve_command<'a>(alloc: Global) -> Result<Command<'a>, AllocError> {
         .after_help(INSTANCES)
         .arg(period_option(alloc))?
         .arg(steps_option(alloc))?
+        .arg(from_option(alloc))?
         .arg(progress_option(alloc))?
         .arg(optional_file(alloc))
 }
@@ -263,7 +265,7 @@ fn file_of<'a>(matches: &ArgMatches<'a>) -> &'a str {
 }
 
 /// What is asked of an instance, as the words behind a command say.
-fn instance_of<'a>(matches: &ArgMatches<'a>, asked: OfInstance) -> Request<'a>
+fn instance_of<'a>(matches: &ArgMatches<'a>, asked: OfInstance<'a>) -> Request<'a>
     requires { InstanceWithin asked }
     ensures { IsWithinLimits result }
 {
@@ -299,17 +301,18 @@ fn times_of<'a>(matches: &ArgMatches<'a>, asked: OfTimes<'a>) -> Request<'a>
 }
 
 /// What the words behind `solve` ask for.
-fn solve_of(matches: &ArgMatches<'_>) -> OfInstance
+fn solve_of<'a>(matches: &ArgMatches<'a>) -> OfInstance<'a>
     ensures { InstanceWithin result }
 {
     OfInstance::Solve {
         steps: steps_of(matches),
+        from: matches.get_str("from"),
         progress: matches.get_flag("progress"),
     }
 }
 
 /// What the words behind `conflict` ask for.
-fn conflict_of(matches: &ArgMatches<'_>) -> OfInstance
+fn conflict_of<'a>(matches: &ArgMatches<'a>) -> OfInstance<'a>
     ensures { InstanceWithin result }
 {
     OfInstance::Conflict {
@@ -402,6 +405,7 @@ fn request_in<'a>(matches: &ArgMatches<'a>) -> Request<'a>
             file: None,
             asked: OfInstance::Solve {
                 steps: 1000,
+                from: None,
                 progress: false,
             },
         },

@@ -7,7 +7,7 @@ pub enum Request<'a> {
     Instance {
         period: u32,
         file: Option<&'a str>,
-        asked: OfInstance,
+        asked: OfInstance<'a>,
     },
     /// What is asked of the certificate on standard input, and the file with its instance.
     Certificate {
@@ -31,10 +31,12 @@ pub enum Request<'a> {
 
 /// What is asked of an instance.
 #[derive(Clone, Copy, Debug, Drop)]
-pub enum OfInstance {
+pub enum OfInstance<'a> {
     /// A search of at most so many steps.
     Solve {
         steps: u32,
+        /// The file with the times from which it begins, where there are some.
+        from: Option<&'a str>,
         /// Whether it is told on standard error how far the search is.
         progress: bool,
     },

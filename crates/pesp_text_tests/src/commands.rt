@@ -23,21 +23,26 @@ pub(crate) fn words_with_name(alloc: Global, line: &str) -> Option<Vec<String>> 
     with_name(alloc, &words_of(alloc, line)?)
 }
 
-/// A search that is asked for.
+/// A search that is asked for, and the file with the times from which it begins, where one is named.
 fn tell_solve(
     alloc: Global,
     period: u32,
     steps: u32,
+    from: Option<&str>,
     progress: bool,
     file: Option<&str>,
 ) -> Option<String> {
-    let told = if progress { ", with its progress" } else { "" };
-    match file {
-        None => format!(in alloc; "solve at period {period} in {steps} steps{told}").ok(),
-        Some(file) => {
-            format!(in alloc; "solve {file} at period {period} in {steps} steps{told}").ok()
-        }
+    let mut told = match file {
+        None => format!(in alloc; "solve at period {period} in {steps} steps").ok()?,
+        Some(file) => format!(in alloc; "solve {file} at period {period} in {steps} steps").ok()?,
+    };
+    if let Some(from) = from {
+        write!(told, ", from {from}").ok()?;
     }
+    if progress {
+        told.push_str(", with its progress").ok()?;
+    }
+    Some(told)
 }
 
 /// What is asked for over a file alone.
@@ -104,10 +109,14 @@ fn tell_of_instance(
     alloc: Global,
     period: u32,
     file: Option<&str>,
-    asked: OfInstance,
+    asked: OfInstance<'_>,
 ) -> Option<String> {
     match asked {
-        OfInstance::Solve { steps, progress } => tell_solve(alloc, period, steps, progress, file),
+        OfInstance::Solve {
+            steps,
+            from,
+            progress,
+        } => tell_solve(alloc, period, steps, from, progress, file),
         OfInstance::Conflict { steps } => tell_conflict(alloc, period, steps, file),
     }
 }

@@ -1,18 +1,37 @@
 -- What holds of what a command line asks for.
-use Rattle.std.specs.Prelude.{◌≤◌}
+use Rattle.std.specs.Prelude.{ℕ, ◌≤◌}
+use Rattle.pesp_cli.specs.declared.request.OfInstance.{OfInstance}
+use Rattle.pesp_cli.specs.declared.request.OfInstance.TheVariants.{Solve, Conflict}
+use Rattle.pesp_cli.specs.declared.request.OfCertificate.{OfCertificate}
+use Rattle.pesp_cli.specs.declared.request.OfCertificate.TheVariants.{Check, Gap, Resume, Split, Work}
+use Rattle.pesp_cli.specs.declared.request.OfTimes.{OfTimes}
+use Rattle.pesp_cli.specs.declared.request.OfTimes.TheVariants.{Report, Violations, Picture, Diagrams}
 use Rattle.pesp_cli.specs.declared.request.Request.{Request}
-use Rattle.pesp_cli.specs.declared.request.Request.TheVariants.{Solve, Resume, Conflict, Check, Gap, Report, Draw, Diagram, Split, Work, Graft}
+use Rattle.pesp_cli.specs.declared.request.Request.TheVariants.{Instance, Certificate, Times, Works}
+
+abbrev pub IsPeriod : ℕ → Type 0
+IsPeriod period = (1 ≤ period) × (period ≤ 10000)
 
 -- the numbers are within the limits of the runs
+abbrev pub InstanceWithin : OfInstance → Type 0
+InstanceWithin (Solve steps from progress) = steps ≤ 100000
+InstanceWithin (Conflict steps) = steps ≤ 100000
+
+abbrev pub CertificateWithin : OfCertificate → Type 0
+CertificateWithin Check = Unit {0}
+CertificateWithin Gap = Unit {0}
+CertificateWithin (Resume steps seconds progress) = steps ≤ 100000
+CertificateWithin Split = Unit {0}
+CertificateWithin (Work steps job) = steps ≤ 100000
+
+abbrev pub TimesWithin : OfTimes → Type 0
+TimesWithin (Report names) = Unit {0}
+TimesWithin Violations = Unit {0}
+TimesWithin (Picture rows names) = (1 ≤ rows) × (rows ≤ 1000)
+TimesWithin (Diagrams names) = Unit {0}
+
 abbrev pub IsWithinLimits : Request → Type 0
-IsWithinLimits (Solve period steps progress file) = (1 ≤ period) × (period ≤ 10000) × (steps ≤ 100000)
-IsWithinLimits (Resume period steps seconds progress file) = (1 ≤ period) × (period ≤ 10000) × (steps ≤ 100000)
-IsWithinLimits (Conflict period steps file) = (1 ≤ period) × (period ≤ 10000) × (steps ≤ 100000)
-IsWithinLimits (Check period file) = (1 ≤ period) × (period ≤ 10000)
-IsWithinLimits (Gap period file) = (1 ≤ period) × (period ≤ 10000)
-IsWithinLimits (Report period violations names file) = (1 ≤ period) × (period ≤ 10000)
-IsWithinLimits (Draw period rows names file) = (1 ≤ period) × (period ≤ 10000) × (1 ≤ rows) × (rows ≤ 1000)
-IsWithinLimits (Diagram period file names) = (1 ≤ period) × (period ≤ 10000)
-IsWithinLimits (Split period file) = (1 ≤ period) × (period ≤ 10000)
-IsWithinLimits (Work period steps file job) = (1 ≤ period) × (period ≤ 10000) × (steps ≤ 100000)
-IsWithinLimits (Graft period file base) = (1 ≤ period) × (period ≤ 10000)
+IsWithinLimits (Instance period file asked) = IsPeriod period × InstanceWithin asked
+IsWithinLimits (Certificate period file asked) = IsPeriod period × CertificateWithin asked
+IsWithinLimits (Times period file asked) = IsPeriod period × TimesWithin asked
+IsWithinLimits (Works period file base) = IsPeriod period

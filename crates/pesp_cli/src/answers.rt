@@ -1,372 +1,270 @@
-//! What the program does for each command.
+//! What the program does for each request, over any readers and writers.
 
-ghost use Rattle.std.specs.Prelude.{◌<◌, ◌≤◌, ◌^◌};
+ghost use Rattle.std.specs.Prelude.{◌≡◌, ◌<◌, ◌≤◌, ◌^◌, Ok, Err, IfOk, MatchResult};
 ghost use Rattle.pesp_stream.specs.Counts.{FewerThan};
+ghost use Rattle.pesp_check_run.specs.Devices.{over};
+ghost use Rattle.pesp_cli.specs.Requests.{InstanceWithin, CertificateWithin};
+ghost use Rattle.pesp_cli.specs.Answers.{AnswersSolve, AnswersInstance, AnswersCertificate, AnswersTimes, AnswersWorks, violations_status};
 
-use crate::output::{Stop, ended, writer_of};
 use crate::progress::Teller;
-use crate::telling::Telling;
+use crate::request::{OfCertificate, OfInstance, OfTimes};
+use crate::telling::told_conflict;
 use crate::watch::Watch;
+use pesp_check_run::{run_check, status_of_verdict};
 use pesp_conflict_run::{run_conflict, status_of_told};
+use pesp_faults::Fault;
 use pesp_names::Names;
-use pesp_resume_run::{run_gap, run_resume};
-use pesp_runs::{
-    Fault, read_whole_names, run_check, run_diagram, run_draw, run_graft, run_report,
-    run_report_named, run_solve, run_solve_watched, run_split, run_violations, run_work,
-    status_of_verdict,
+use pesp_outside_run::{run_graft, run_split, run_work};
+use pesp_report_run::{
+    Diagrams, NamedReport, Picture, Report, read_whole_names, run_sheet, run_violations,
 };
-use pesp_stream::{Counted, Source};
+use pesp_resume_run::{run_gap, run_resume};
+use pesp_search::{Nobody, Observer};
+use pesp_solve_run::{run_solve_from, run_solve_watched};
+use pesp_stream::{Counted, Sink, Source};
 use std::fs::File;
 use std::rt::{Clock, Files};
 
-/// Solves the instance that the reader gives, and tells on the way how far it is where that is asked for.
-fn solve<R: AllocGlobal + Print + Eprint + Clock, S: Source>(
-    rt: &R,
-    reader: &mut S,
-    period: u32,
-    steps: u32,
-    progress: bool,
-) -> Result<u8, Stop>
-    requires steps { steps ≤ 100000 }
-    requires fits { FewerThan (2 ^ 62) (S.calls reader.old) }
+/// The status of a run that has none of its own: 0.
+fn done(run: Result<(), Fault>) -> Result<u8, Fault>
+    ensures { MatchResult run (λ _. result ≡ Ok 0) (λ fault. result ≡ Err fault) }
 {
-    let mut writer = writer_of(rt);
-    if progress {
-        let mut teller = Teller::new(rt);
-        teller.begin();
-        let done = run_solve_watched(rt.alloc(), reader, &mut writer, period, steps, &mut teller);
-        ended(done, writer)?;
-    } else {
-        let done = run_solve(rt.alloc(), reader, &mut writer, period, steps);
-        ended(done, writer)?;
+    match run {
+        Ok(()) => Ok(0),
+        Err(fault) => Err(fault),
     }
-    Ok(0)
 }
 
-/// Solves the instance in a file, or that of the reader where none is named.
-pub(crate) fn solve_in<R: AllocGlobal + Print + Eprint + Files + Clock, S: Source>(
+/// Solves the instance that the reader gives, from the times in a file where one is named, while an observer looks on.
+fn solve<R: AllocGlobal + Files, I: Source, W: Sink, O: Observer>(
     rt: &R,
-    reader: &mut S,
+    reader: &mut I,
+    writer: &mut W,
     period: u32,
     steps: u32,
-    progress: bool,
-    file: Option<&str>,
-) -> Result<u8, Stop>
+    from: Option<&str>,
+    observer: &mut O,
+) -> Result<u8, Fault>
     requires steps { steps ≤ 100000 }
-    requires fits { FewerThan (2 ^ 62) (S.calls reader.old) }
+    requires reads_fit { FewerThan (2 ^ 62) (I.calls reader.old) }
+    requires writes_fit { FewerThan (2 ^ 62) (W.calls writer.old) }
+    ensures { IfOk result (AnswersSolve from steps period
+        (over (I.remaining reader.old) (I.remaining reader.new)
+        (I.calls reader.old) (I.calls reader.new))
+        (over (W.contents writer.old) (W.contents writer.new)
+        (W.calls writer.old) (W.calls writer.new))) }
 {
-    match file {
-        None => solve(rt, reader, period, steps, progress),
+    let alloc = rt.alloc();
+    match from {
+        None => done(run_solve_watched(alloc, reader, writer, period, steps, observer)),
         Some(file) => {
-            let mut instance = Counted::new(opened(rt, file)?);
-            solve(rt, &mut instance, period, steps, progress)
+            let mut times = opened(rt, file)?;
+            done(run_solve_from(alloc, reader, &mut times, writer, period, steps, observer))
         }
     }
 }
 
-/// Goes on from the certificate that the reader gives, for about so many seconds at most.
-pub(crate) fn resume<R: AllocGlobal + Print + Eprint + Files + Clock, S: Source>(
+/// Does what is asked of the instance that the reader gives.
+pub(crate) fn of_instance<R: AllocGlobal + Eprint + Files + Clock, I: Source, W: Sink, E: Sink>(
     rt: &R,
-    reader: &mut S,
+    reader: &mut I,
+    writer: &mut W,
+    teller: &mut E,
     period: u32,
-    steps: u32,
-    watch: &mut Watch<'_, R>,
-    file: &str,
-) -> Result<u8, Stop>
-    requires fits { FewerThan (2 ^ 62) (S.calls reader.old) }
+    asked: OfInstance<'_>,
+) -> Result<u8, Fault>
+    requires within { InstanceWithin asked }
+    requires reads_fit { FewerThan (2 ^ 62) (I.calls reader.old) }
+    requires writes_fit { FewerThan (2 ^ 62) (W.calls writer.old) }
+    requires tellings_fit { FewerThan (2 ^ 62) (E.calls teller.old) }
+    ensures { IfOk result (AnswersInstance asked period
+        (over (I.remaining reader.old) (I.remaining reader.new)
+        (I.calls reader.old) (I.calls reader.new))
+        (over (W.contents writer.old) (W.contents writer.new)
+        (W.calls writer.old) (W.calls writer.new))
+        (over (E.contents teller.old) (E.contents teller.new)
+        (E.calls teller.old) (E.calls teller.new))
+        (writer.new ≡ writer.old)) }
 {
-    let mut instance = Counted::new(opened(rt, file)?);
-    let mut writer = writer_of(rt);
-    let done = run_resume(
-        rt.alloc(),
-        &mut instance,
-        reader,
-        &mut writer,
-        period,
-        steps,
-        watch,
-    );
-    ended(done, writer)?;
-    Ok(0)
-}
-
-/// Lists activities of the instance that the reader gives which have no timetable together, and tells on standard error what
-/// was found.
-fn conflict<R: AllocGlobal + Print + Eprint, S: Source>(
-    rt: &R,
-    reader: &mut S,
-    period: u32,
-    steps: u32,
-) -> Result<u8, Stop>
-    requires steps { steps ≤ 100000 }
-    requires fits { FewerThan (2 ^ 62) (S.calls reader.old) }
-{
-    let mut writer = writer_of(rt);
-    let done = run_conflict(rt.alloc(), reader, &mut writer, period, steps);
-    let told = ended(done, writer)?;
-    let _ = rt.eprintln(told);
-    Ok(status_of_told(told))
-}
-
-/// Lists conflicting activities of the instance in a file, or that of the reader where none is named.
-pub(crate) fn conflict_in<R: AllocGlobal + Print + Eprint + Files, S: Source>(
-    rt: &R,
-    reader: &mut S,
-    period: u32,
-    steps: u32,
-    file: Option<&str>,
-) -> Result<u8, Stop>
-    requires steps { steps ≤ 100000 }
-    requires fits { FewerThan (2 ^ 62) (S.calls reader.old) }
-{
-    match file {
-        None => conflict(rt, reader, period, steps),
-        Some(file) => {
-            let mut instance = Counted::new(opened(rt, file)?);
-            conflict(rt, &mut instance, period, steps)
+    let alloc = rt.alloc();
+    match asked {
+        OfInstance::Solve {
+            steps,
+            from,
+            progress: false,
+        } => solve(rt, reader, writer, period, steps, from, &mut Nobody),
+        OfInstance::Solve {
+            steps,
+            from,
+            progress: true,
+        } => {
+            let mut observer = Teller::new(rt);
+            observer.begin();
+            solve(rt, reader, writer, period, steps, from, &mut observer)
+        }
+        OfInstance::Conflict { steps } => {
+            let told = run_conflict(alloc, reader, writer, period, steps)?;
+            told_conflict(alloc, teller, told)?;
+            Ok(status_of_told(told))
         }
     }
 }
 
-/// Says how good the answer of the certificate is that the reader gives.
-pub(crate) fn gap<R: AllocGlobal + Print + Files, S: Source>(
+/// Does what is asked of the certificate that the reader gives, for the instance of the other reader.
+pub(crate) fn of_certificate<R: AllocGlobal + Eprint + Clock, I: Source, S: Source, W: Sink>(
     rt: &R,
+    instance: &mut I,
     reader: &mut S,
+    writer: &mut W,
     period: u32,
-    file: &str,
-) -> Result<u8, Stop>
-    requires fits { FewerThan (2 ^ 62) (S.calls reader.old) }
+    asked: OfCertificate,
+) -> Result<u8, Fault>
+    requires within { CertificateWithin asked }
+    requires instance_fits { FewerThan (2 ^ 62) (I.calls instance.old) }
+    requires reads_fit { FewerThan (2 ^ 62) (S.calls reader.old) }
+    requires writes_fit { FewerThan (2 ^ 62) (W.calls writer.old) }
+    ensures { IfOk result (AnswersCertificate asked period
+        (over (I.remaining instance.old) (I.remaining instance.new)
+        (I.calls instance.old) (I.calls instance.new))
+        (over (S.remaining reader.old) (S.remaining reader.new)
+        (S.calls reader.old) (S.calls reader.new))
+        (over (W.contents writer.old) (W.contents writer.new)
+        (W.calls writer.old) (W.calls writer.new))) }
 {
-    let mut instance = Counted::new(opened(rt, file)?);
-    let mut writer = writer_of(rt);
-    let done = run_gap(rt.alloc(), &mut instance, reader, &mut writer, period);
-    ended(done, writer)?;
-    Ok(0)
-}
-
-/// Judges the certificate that the reader gives.
-pub(crate) fn check<R: AllocGlobal + Print + Files, S: Source>(
-    rt: &R,
-    reader: &mut S,
-    period: u32,
-    file: &str,
-) -> Result<u8, Stop>
-    requires fits { FewerThan (2 ^ 62) (S.calls reader.old) }
-{
-    let mut instance = Counted::new(opened(rt, file)?);
-    let mut writer = writer_of(rt);
-    let done = run_check(rt.alloc(), &mut instance, reader, &mut writer, period);
-    Ok(status_of_verdict(ended(done, writer)?))
-}
-
-/// Reports the times that the reader gives.
-pub(crate) fn report<R: AllocGlobal + Print + Files, S: Source>(
-    rt: &R,
-    reader: &mut S,
-    period: u32,
-    file: &str,
-) -> Result<u8, Stop>
-    requires fits { FewerThan (2 ^ 62) (S.calls reader.old) }
-{
-    let mut instance = Counted::new(opened(rt, file)?);
-    let mut writer = writer_of(rt);
-    let done = run_report(rt.alloc(), &mut instance, reader, &mut writer, period);
-    ended(done, writer)?;
-    Ok(0)
-}
-
-/// Tells the activities that the times violate that the reader gives; the status is 1 where there are any.
-pub(crate) fn report_violations<R: AllocGlobal + Print + Files, S: Source>(
-    rt: &R,
-    reader: &mut S,
-    period: u32,
-    file: &str,
-) -> Result<u8, Stop>
-    requires fits { FewerThan (2 ^ 62) (S.calls reader.old) }
-{
-    let mut instance = Counted::new(opened(rt, file)?);
-    let mut writer = writer_of(rt);
-    let done = run_violations(rt.alloc(), &mut instance, reader, &mut writer, period);
-    let count = ended(done, writer)?;
-    Ok(if count == 0 { 0 } else { 1 })
-}
-
-/// Reports the times that the reader gives, with the names in a file.
-pub(crate) fn report_named<R: AllocGlobal + Print + Files, S: Source>(
-    rt: &R,
-    reader: &mut S,
-    period: u32,
-    names: &str,
-    file: &str,
-) -> Result<u8, Stop>
-    requires fits { FewerThan (2 ^ 62) (S.calls reader.old) }
-{
-    let names = names_in(rt, names)?;
-    let mut instance = Counted::new(opened(rt, file)?);
-    let mut writer = writer_of(rt);
-    let done = run_report_named(
-        rt.alloc(),
-        &names,
-        &mut instance,
-        reader,
-        &mut writer,
-        period,
-    );
-    ended(done, writer)?;
-    Ok(0)
-}
-
-/// Draws the times that the reader gives, with the names in a file where one is named.
-pub(crate) fn draw<R: AllocGlobal + Print + Files, S: Source>(
-    rt: &R,
-    reader: &mut S,
-    period: u32,
-    rows: u32,
-    names: Option<&str>,
-    file: &str,
-) -> Result<u8, Stop>
-    requires fits { FewerThan (2 ^ 62) (S.calls reader.old) }
-{
-    match names {
-        None => drawn(rt, reader, period, rows, None, file),
-        Some(names) => {
-            let names = names_in(rt, names)?;
-            drawn(rt, reader, period, rows, Some(&names), file)
+    let alloc = rt.alloc();
+    match asked {
+        OfCertificate::Check => {
+            let verdict = run_check(alloc, instance, reader, writer, period)?;
+            Ok(status_of_verdict(verdict))
+        }
+        OfCertificate::Gap => done(run_gap(alloc, instance, reader, writer, period)),
+        OfCertificate::Resume {
+            steps,
+            seconds,
+            progress,
+        } => {
+            let mut watch = Watch::new(rt, progress, seconds);
+            done(run_resume(alloc, instance, reader, writer, period, steps, &mut watch))
+        }
+        OfCertificate::Split => done(run_split(alloc, instance, reader, writer, period)),
+        OfCertificate::Work { steps, job } => {
+            done(run_work(alloc, instance, reader, writer, period, steps, job))
         }
     }
 }
 
-/// Draws the times that the reader gives, with these names.
-fn drawn<R: AllocGlobal + Print + Files, S: Source>(
+/// Does what is asked of the times that the reader gives, for the instance of the other reader.
+pub(crate) fn of_times<R: AllocGlobal + Files, I: Source, S: Source, W: Sink>(
     rt: &R,
+    instance: &mut I,
     reader: &mut S,
+    writer: &mut W,
     period: u32,
-    rows: u32,
-    names: Option<&Names>,
-    file: &str,
-) -> Result<u8, Stop>
-    requires fits { FewerThan (2 ^ 62) (S.calls reader.old) }
+    asked: OfTimes<'_>,
+) -> Result<u8, Fault>
+    requires instance_fits { FewerThan (2 ^ 62) (I.calls instance.old) }
+    requires reads_fit { FewerThan (2 ^ 62) (S.calls reader.old) }
+    requires writes_fit { FewerThan (2 ^ 62) (W.calls writer.old) }
+    ensures { IfOk result (AnswersTimes asked period
+        (over (I.remaining instance.old) (I.remaining instance.new)
+        (I.calls instance.old) (I.calls instance.new))
+        (over (S.remaining reader.old) (S.remaining reader.new)
+        (S.calls reader.old) (S.calls reader.new))
+        (over (W.contents writer.old) (W.contents writer.new)
+        (W.calls writer.old) (W.calls writer.new))) }
 {
-    let mut instance = Counted::new(opened(rt, file)?);
-    let mut writer = writer_of(rt);
-    let done = run_draw(
-        rt.alloc(),
-        names,
-        &mut instance,
-        reader,
-        &mut writer,
-        period,
-        rows,
-    );
-    ended(done, writer)?;
-    Ok(0)
+    let alloc = rt.alloc();
+    match asked {
+        OfTimes::Violations => {
+            let count = run_violations(alloc, instance, reader, writer, period)?;
+            Ok(status_of_violations(count))
+        }
+        OfTimes::Report { names: None } => {
+            done(run_sheet(alloc, &Report, instance, reader, writer, period))
+        }
+        OfTimes::Report { names: Some(file) } => {
+            let names = names_in(rt, file)?;
+            done(run_sheet(
+                alloc,
+                &NamedReport(&names),
+                instance,
+                reader,
+                writer,
+                period,
+            ))
+        }
+        OfTimes::Picture { rows, names: None } => {
+            let picture = Picture { rows, names: None };
+            done(run_sheet(alloc, &picture, instance, reader, writer, period))
+        }
+        OfTimes::Picture {
+            rows,
+            names: Some(file),
+        } => {
+            let names = names_in(rt, file)?;
+            let picture = Picture {
+                rows,
+                names: Some(&names),
+            };
+            done(run_sheet(alloc, &picture, instance, reader, writer, period))
+        }
+        OfTimes::Diagrams { names: file } => {
+            let names = names_in(rt, file)?;
+            done(run_sheet(alloc, &Diagrams(&names), instance, reader, writer, period))
+        }
+    }
 }
 
-/// Draws a diagram of the times that the reader gives for each line that the names in a file tell.
-pub(crate) fn diagram<R: AllocGlobal + Print + Files, S: Source>(
-    rt: &R,
-    reader: &mut S,
-    period: u32,
-    names: &str,
-    file: &str,
-) -> Result<u8, Stop>
-    requires fits { FewerThan (2 ^ 62) (S.calls reader.old) }
+/// The exit status of the program for so many violated activities: 1 where there are any.
+fn status_of_violations(count: usize) -> u8
+    ensures { result ≡ violations_status count }
 {
-    let names = names_in(rt, names)?;
-    let mut instance = Counted::new(opened(rt, file)?);
-    let mut writer = writer_of(rt);
-    let done = run_diagram(
-        rt.alloc(),
-        &names,
-        &mut instance,
-        reader,
-        &mut writer,
-        period,
-    );
-    ended(done, writer)?;
-    Ok(0)
+    if count == 0 { 0 } else { 1 }
 }
 
-/// Lists the open leaves of the certificate that the reader gives.
-pub(crate) fn split<R: AllocGlobal + Print + Files, S: Source>(
+/// Grafts the works that the reader gives onto the certificate of the second reader, for the instance of the first one.
+pub(crate) fn of_works<R: AllocGlobal, I: Source, B: Source, S: Source, W: Sink, E: Sink>(
     rt: &R,
+    instance: &mut I,
+    base: &mut B,
     reader: &mut S,
+    writer: &mut W,
+    teller: &mut E,
     period: u32,
-    file: &str,
-) -> Result<u8, Stop>
-    requires fits { FewerThan (2 ^ 62) (S.calls reader.old) }
+) -> Result<u8, Fault>
+    requires instance_fits { FewerThan (2 ^ 62) (I.calls instance.old) }
+    requires base_fits { FewerThan (2 ^ 62) (B.calls base.old) }
+    requires reads_fit { FewerThan (2 ^ 62) (S.calls reader.old) }
+    requires writes_fit { FewerThan (2 ^ 62) (W.calls writer.old) }
+    requires tellings_fit { FewerThan (2 ^ 62) (E.calls teller.old) }
+    ensures { IfOk result (AnswersWorks period
+        (over (I.remaining instance.old) (I.remaining instance.new)
+        (I.calls instance.old) (I.calls instance.new))
+        (over (B.remaining base.old) (B.remaining base.new)
+        (B.calls base.old) (B.calls base.new))
+        (over (S.remaining reader.old) (S.remaining reader.new)
+        (S.calls reader.old) (S.calls reader.new))
+        (over (W.contents writer.old) (W.contents writer.new)
+        (W.calls writer.old) (W.calls writer.new))
+        (over (E.contents teller.old) (E.contents teller.new)
+        (E.calls teller.old) (E.calls teller.new))) }
 {
-    let mut instance = Counted::new(opened(rt, file)?);
-    let mut writer = writer_of(rt);
-    let done = run_split(rt.alloc(), &mut instance, reader, &mut writer, period);
-    ended(done, writer)?;
-    Ok(0)
-}
-
-/// Works on an open leaf of the certificate that the reader gives.
-pub(crate) fn work_on<R: AllocGlobal + Print + Files, S: Source>(
-    rt: &R,
-    reader: &mut S,
-    period: u32,
-    steps: u32,
-    file: &str,
-    job: u64,
-) -> Result<u8, Stop>
-    requires steps { steps ≤ 100000 }
-    requires fits { FewerThan (2 ^ 62) (S.calls reader.old) }
-{
-    let mut instance = Counted::new(opened(rt, file)?);
-    let mut writer = writer_of(rt);
-    let done = run_work(
-        rt.alloc(),
-        &mut instance,
-        reader,
-        &mut writer,
-        period,
-        steps,
-        job,
-    );
-    ended(done, writer)?;
-    Ok(0)
-}
-
-/// Grafts the works that the reader gives onto the certificate in a file, and tells on standard error what became of each.
-pub(crate) fn graft<R: AllocGlobal + Print + Eprint + Files, S: Source>(
-    rt: &R,
-    reader: &mut S,
-    period: u32,
-    file: &str,
-    base: &str,
-) -> Result<u8, Stop>
-    requires fits { FewerThan (2 ^ 62) (S.calls reader.old) }
-{
-    let mut instance = Counted::new(opened(rt, file)?);
-    let mut base = Counted::new(opened(rt, base)?);
-    let mut writer = writer_of(rt);
-    let mut teller = Counted::new(Telling { to: rt });
-    let done = run_graft(
-        rt.alloc(),
-        &mut instance,
-        &mut base,
-        reader,
-        &mut writer,
-        &mut teller,
-        period,
-    );
-    ended(done, writer)?;
-    Ok(0)
+    done(run_graft(rt.alloc(), instance, base, reader, writer, teller, period))
 }
 
 /// Opens a file; where it can't be opened for any cause, that is told.
-fn opened<R: Files>(rt: &R, file: &str) -> Result<R::File, Fault> {
+pub(crate) fn opened<R: Files>(rt: &R, file: &str) -> Result<Counted<R::File>, Fault>
+    ensures failed { IfOk result (λ file. file.calls.failed ≡ 0) }
+    ensures interrupted { IfOk result (λ file. file.calls.interrupted ≡ 0) }
+{
     match File::open(rt, file) {
-        Ok(opened) => Ok(opened),
+        Ok(opened) => Ok(Counted::new(opened)),
         Err(_) => Err(Fault::NoFile),
     }
 }
 
 /// The names that a file tells.
 fn names_in<R: AllocGlobal + Files>(rt: &R, file: &str) -> Result<Names, Fault> {
-    let mut reader = Counted::new(opened(rt, file)?);
+    let mut reader = opened(rt, file)?;
     read_whole_names(rt.alloc(), &mut reader)
 }

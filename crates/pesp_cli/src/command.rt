@@ -1,13 +1,14 @@
 //! The command line.
 
 ghost use Rattle.std.specs.Prelude.{◌≤◌, IfOk};
-ghost use Rattle.pesp_cli.specs.Requests.{IsWithinLimits};
+ghost use Rattle.pesp_cli.specs.Requests.{InstanceWithin, CertificateWithin, TimesWithin, IsWithinLimits};
 
 use crate::options::{
-    base_argument, file_argument, job_argument, names_argument, names_option, optional_file,
-    period_option, progress_option, rows_option, seconds_option, steps_option, violations_option,
+    base_argument, file_argument, from_option, job_argument, names_argument, names_option,
+    optional_file, period_option, progress_option, rows_option, seconds_option, steps_option,
+    violations_option,
 };
-use crate::request::Request;
+use crate::request::{OfCertificate, OfInstance, OfTimes, Request};
 use clap::{ArgMatches, Command, Error};
 use std::alloc::{AllocError, Global};
 
@@ -20,8 +21,8 @@ An instance is one activity a line, with six fields between ';', tabs or ',':
 Times are counted modulo the period, in the unit of the durations. For example
   printf '1; 1; 2; 0; 9; 3\\n' | pesp solve --period 10
 
-Exit status: 0 the certificate is written; 2 the command line; 3 the instance is
-refused; 4 memory, a device, or a limit of the search";
+Exit status: 0 the certificate is written; 1 the times to begin with violate a row;
+2 the command line; 3 a text is refused; 4 memory, a device, or a limit of the search";
 
 const CONFLICTS: &str = "\
 A list is written as CSV: row, label, tail, head, lower, upper. Standard error tells how
@@ -64,6 +65,7 @@ fn solve_command<'a>(alloc: Global) -> Result<Command<'a>, AllocError> {
         .after_help(INSTANCES)
         .arg(period_option(alloc))?
         .arg(steps_option(alloc))?
+        .arg(from_option(alloc))?
         .arg(progress_option(alloc))?
         .arg(optional_file(alloc))
 }
@@ -257,15 +259,117 @@ fn rows_of(matches: &ArgMatches<'_>) -> u32
     matches.get_one::<u32>("rows").unwrap_or(100).clamp(1, 1000)
 }
 
-/// What the words behind `work` ask for.
-fn work_of<'a>(matches: &ArgMatches<'a>) -> Request<'a>
+/// The file with the instance.
+fn file_of<'a>(matches: &ArgMatches<'a>) -> &'a str {
+    matches.get_str("file").unwrap_or("")
+}
+
+/// What is asked of an instance, as the words behind a command say.
+fn instance_of<'a>(matches: &ArgMatches<'a>, asked: OfInstance<'a>) -> Request<'a>
+    requires { InstanceWithin asked }
     ensures { IsWithinLimits result }
 {
-    Request::Work {
+    Request::Instance {
         period: period_of(matches),
+        file: matches.get_str("file"),
+        asked,
+    }
+}
+
+/// What is asked of a certificate, as the words behind a command say.
+fn certificate_of<'a>(matches: &ArgMatches<'a>, asked: OfCertificate) -> Request<'a>
+    requires { CertificateWithin asked }
+    ensures { IsWithinLimits result }
+{
+    Request::Certificate {
+        period: period_of(matches),
+        file: file_of(matches),
+        asked,
+    }
+}
+
+/// What is asked of times, as the words behind a command say.
+fn times_of<'a>(matches: &ArgMatches<'a>, asked: OfTimes<'a>) -> Request<'a>
+    requires { TimesWithin asked }
+    ensures { IsWithinLimits result }
+{
+    Request::Times {
+        period: period_of(matches),
+        file: file_of(matches),
+        asked,
+    }
+}
+
+/// What the words behind `solve` ask for.
+fn solve_of<'a>(matches: &ArgMatches<'a>) -> OfInstance<'a>
+    ensures { InstanceWithin result }
+{
+    OfInstance::Solve {
         steps: steps_of(matches),
-        file: matches.get_str("file").unwrap_or(""),
+        from: matches.get_str("from"),
+        progress: matches.get_flag("progress"),
+    }
+}
+
+/// What the words behind `conflict` ask for.
+fn conflict_of<'a>(matches: &ArgMatches<'a>) -> OfInstance<'a>
+    ensures { InstanceWithin result }
+{
+    OfInstance::Conflict {
+        steps: steps_of(matches),
+    }
+}
+
+/// What the words behind `resume` ask for.
+fn resume_of(matches: &ArgMatches<'_>) -> OfCertificate
+    ensures { CertificateWithin result }
+{
+    OfCertificate::Resume {
+        steps: steps_of(matches),
+        seconds: matches.get_one::<u32>("seconds"),
+        progress: matches.get_flag("progress"),
+    }
+}
+
+/// What the words behind `work` ask for.
+fn work_of(matches: &ArgMatches<'_>) -> OfCertificate
+    ensures { CertificateWithin result }
+{
+    OfCertificate::Work {
+        steps: steps_of(matches),
         job: matches.get_one::<u64>("job").unwrap_or(0),
+    }
+}
+
+/// What the words behind `report` ask for.
+fn report_of<'a>(matches: &ArgMatches<'a>) -> OfTimes<'a>
+    ensures { TimesWithin result }
+{
+    if matches.get_flag("violations") {
+        OfTimes::Violations
+    } else {
+        OfTimes::Report {
+            names: matches.get_str("names"),
+        }
+    }
+}
+
+/// What the words behind `draw` ask for.
+fn picture_of<'a>(matches: &ArgMatches<'a>) -> OfTimes<'a>
+    ensures { TimesWithin result }
+{
+    OfTimes::Picture {
+        rows: rows_of(matches),
+        names: matches.get_str("names"),
+    }
+}
+
+/// What the words behind `diagram` ask for.
+fn diagrams_of<'a>(matches: &ArgMatches<'a>) -> OfTimes<'a>
+    ensures { TimesWithin result }
+{
+    OfTimes::Diagrams {
+        names: matches.get_str("names").unwrap_or(""),
     }
 }
 
@@ -273,70 +377,10 @@ fn work_of<'a>(matches: &ArgMatches<'a>) -> Request<'a>
 fn graft_of<'a>(matches: &ArgMatches<'a>) -> Request<'a>
     ensures { IsWithinLimits result }
 {
-    Request::Graft {
+    Request::Works {
         period: period_of(matches),
-        file: matches.get_str("file").unwrap_or(""),
+        file: file_of(matches),
         base: matches.get_str("base").unwrap_or(""),
-    }
-}
-
-/// What the words behind `solve` ask for.
-fn solve_of<'a>(matches: &ArgMatches<'a>) -> Request<'a>
-    ensures { IsWithinLimits result }
-{
-    Request::Solve {
-        period: period_of(matches),
-        steps: steps_of(matches),
-        progress: matches.get_flag("progress"),
-        file: matches.get_str("file"),
-    }
-}
-
-/// What the words behind `resume` ask for.
-fn resume_of<'a>(matches: &ArgMatches<'a>) -> Request<'a>
-    ensures { IsWithinLimits result }
-{
-    Request::Resume {
-        period: period_of(matches),
-        steps: steps_of(matches),
-        seconds: matches.get_one::<u32>("seconds"),
-        progress: matches.get_flag("progress"),
-        file: matches.get_str("file").unwrap_or(""),
-    }
-}
-
-/// What the words behind `conflict` ask for.
-fn conflict_of<'a>(matches: &ArgMatches<'a>) -> Request<'a>
-    ensures { IsWithinLimits result }
-{
-    Request::Conflict {
-        period: period_of(matches),
-        steps: steps_of(matches),
-        file: matches.get_str("file"),
-    }
-}
-
-/// What the words behind `report` ask for.
-fn report_of<'a>(matches: &ArgMatches<'a>) -> Request<'a>
-    ensures { IsWithinLimits result }
-{
-    Request::Report {
-        period: period_of(matches),
-        violations: matches.get_flag("violations"),
-        names: matches.get_str("names"),
-        file: matches.get_str("file").unwrap_or(""),
-    }
-}
-
-/// What the words behind `draw` ask for.
-fn draw_of<'a>(matches: &ArgMatches<'a>) -> Request<'a>
-    ensures { IsWithinLimits result }
-{
-    Request::Draw {
-        period: period_of(matches),
-        rows: rows_of(matches),
-        names: matches.get_str("names"),
-        file: matches.get_str("file").unwrap_or(""),
     }
 }
 
@@ -345,35 +389,25 @@ fn request_in<'a>(matches: &ArgMatches<'a>) -> Request<'a>
     ensures { IsWithinLimits result }
 {
     match matches.subcommand() {
-        Some(("check", found)) => Request::Check {
-            period: period_of(found),
-            file: found.get_str("file").unwrap_or(""),
-        },
-        Some(("gap", found)) => Request::Gap {
-            period: period_of(found),
-            file: found.get_str("file").unwrap_or(""),
-        },
-        Some(("report", found)) => report_of(found),
-        Some(("draw", found)) => draw_of(found),
-        Some(("diagram", found)) => Request::Diagram {
-            period: period_of(found),
-            file: found.get_str("file").unwrap_or(""),
-            names: found.get_str("names").unwrap_or(""),
-        },
-        Some(("split", found)) => Request::Split {
-            period: period_of(found),
-            file: found.get_str("file").unwrap_or(""),
-        },
-        Some(("work", found)) => work_of(found),
+        Some(("solve", found)) => instance_of(found, solve_of(found)),
+        Some(("conflict", found)) => instance_of(found, conflict_of(found)),
+        Some(("check", found)) => certificate_of(found, OfCertificate::Check),
+        Some(("gap", found)) => certificate_of(found, OfCertificate::Gap),
+        Some(("resume", found)) => certificate_of(found, resume_of(found)),
+        Some(("split", found)) => certificate_of(found, OfCertificate::Split),
+        Some(("work", found)) => certificate_of(found, work_of(found)),
+        Some(("report", found)) => times_of(found, report_of(found)),
+        Some(("draw", found)) => times_of(found, picture_of(found)),
+        Some(("diagram", found)) => times_of(found, diagrams_of(found)),
         Some(("graft", found)) => graft_of(found),
-        Some(("solve", found)) => solve_of(found),
-        Some(("resume", found)) => resume_of(found),
-        Some(("conflict", found)) => conflict_of(found),
-        _ => Request::Solve {
+        _ => Request::Instance {
             period: 60,
-            steps: 1000,
-            progress: false,
             file: None,
+            asked: OfInstance::Solve {
+                steps: 1000,
+                from: None,
+                progress: false,
+            },
         },
     }
 }

@@ -1,6 +1,5 @@
 //! Standard input as the program reads it.
 
-use pesp_runs::Fault;
 use std::io::{ErrorKind, Read};
 use std::{fmt, io};
 
@@ -56,13 +55,13 @@ impl<S: Read> Beginning<S> {
         }
     }
 
-    /// Asks for no byte: `Read` where the reader is closed. So a closed standard input is told before its number is given to a
-    /// file that is opened.
-    pub(crate) fn ask(&mut self) -> Result<(), Fault> {
+    /// Whether the reader is closed, which is asked by reading no byte. So a closed standard input is told before its number is
+    /// given to a file that is opened.
+    pub(crate) fn is_closed(&mut self) -> bool {
         let mut nothing = [0_u8; 0];
         match self.inner.read(&mut nothing) {
-            Err(error) if error.kind() != ErrorKind::Interrupted => Err(Fault::Read),
-            _ => Ok(()),
+            Ok(_) => false,
+            Err(error) => error.kind() != ErrorKind::Interrupted,
         }
     }
 

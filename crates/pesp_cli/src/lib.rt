@@ -15,4 +15,4 @@ mod watch;
 pub use command::request_of;
 pub use program::{exit_of_program, status_of_words};
 pub use progress::{Milestones, Progress, Teller};
-pub use request::Request;
+pub use request::{OfCertificate, OfInstance, OfTimes, Request};

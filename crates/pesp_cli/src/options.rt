@@ -21,6 +21,15 @@ pub(crate) fn steps_option<'a>(alloc: Global) -> Arg<'a> {
         .help("How many leaves of the search are split at most, 0 to 100000")
 }
 
+pub(crate) fn from_option<'a>(alloc: Global) -> Arg<'a> {
+    Arg::new(alloc, "from")
+        .long("from")
+        .value_name("TIMES")
+        .help(
+            "A file with time lines or a certificate: a timetable from which the search begins, and than which its answer costs no more",
+        )
+}
+
 pub(crate) fn seconds_option<'a>(alloc: Global) -> Arg<'a> {
     Arg::new(alloc, "seconds")
         .long("seconds")

@@ -1,8 +1,7 @@
-//! Standard output as the program writes it, and why the program stops.
+//! Standard output as the program writes it.
 
-ghost use Rattle.std.specs.Prelude.{◌≡◌, Ok, IfOk};
+ghost use Rattle.std.specs.Prelude.{◌≡◌};
 
-use pesp_runs::Fault;
 use pesp_stream::Counted;
 use std::io;
 use std::io::{ErrorKind, Write};
@@ -11,7 +10,7 @@ use std::io::{ErrorKind, Write};
 #[derive(Drop)]
 pub(crate) struct Output<'a, R: Print> {
     to: &'a R,
-    unread: bool,
+    pub(crate) unread: bool,
 }
 
 impl<R: Print> Write for Output<'_, R> {
@@ -37,34 +36,4 @@ pub(crate) fn writer_of<R: Print>(rt: &R) -> Counted<Output<'_, R>>
         to: rt,
         unread: false,
     })
-}
-
-/// Why the program stops without its whole answer.
-#[derive(Debug, Drop)]
-pub(crate) enum Stop {
-    /// A fault, which is told.
-    Fault(Fault),
-    /// The program that read standard output has gone away, so nothing is told.
-    Unread,
-}
-
-impl From<Fault> for Stop {
-    fn from(fault: Fault) -> Stop {
-        Stop::Fault(fault)
-    }
-}
-
-/// What a run answers, or why the program stops.
-pub(crate) fn ended<T, R: Print>(
-    done: Result<T, Fault>,
-    writer: Counted<Output<'_, R>>,
-) -> Result<T, Stop>
-    ensures { IfOk result (λ answer. done ≡ Ok answer) }
-{
-    let unread = writer.into_inner().unread;
-    match done {
-        Ok(answer) => Ok(answer),
-        Err(Fault::Write) if unread => Err(Stop::Unread),
-        Err(fault) => Err(Stop::Fault(fault)),
-    }
 }

@@ -1,22 +1,21 @@
 //! The program, over any runtime.
 
-ghost use Rattle.std.specs.Prelude.{◌<◌, ◌≤◌, ◌^◌};
+ghost use Rattle.std.specs.Prelude.{◌≡◌, ◌<◌, ◌≤◌, ◌^◌, IfOk};
 ghost use Rattle.pesp_stream.specs.Counts.{FewerThan};
+ghost use Rattle.pesp_check_run.specs.Devices.{over};
 ghost use Rattle.pesp_cli.specs.Requests.{IsWithinLimits};
+ghost use Rattle.pesp_cli.specs.Answers.{Answers};
 
-use crate::answers::{
-    check, conflict_in, diagram, draw, gap, graft, report, report_named, report_violations, resume,
-    solve_in, split, work_on,
-};
+use crate::answers::{of_certificate, of_instance, of_times, of_works, opened};
 use crate::command::request_of;
 use crate::input::{Beginning, OtherPeriod};
-use crate::output::Stop;
+use crate::output::writer_of;
 use crate::request::Request;
-use crate::watch::Watch;
+use crate::telling::{teller_of, told};
 use clap::Error;
 use clap::error::ErrorKind;
-use pesp_runs::{Fault, status_of};
-use pesp_stream::{Counted, Source};
+use pesp_faults::{Fault, status_of};
+use pesp_stream::{Counted, Sink, Source};
 use std::io::Read;
 use std::process::ExitCode;
 use std::rt::{Clock, Env, Files};
@@ -31,14 +30,14 @@ pub fn exit_of_program<R: AllocGlobal + Env + Input + Print + Eprint + Files + C
     let words = match env::args(rt) {
         Ok(args) => args.collect::<Vec<String>>(rt.alloc()),
         Err(error) if error.kind() == io::ErrorKind::OutOfMemory => {
-            return ExitCode::from(told(rt, &Fault::Memory));
+            return ExitCode::from(stopped(rt, &Fault::Memory));
         }
         // A word that is no text.
         Err(_) => return ExitCode::from(2),
     };
     match words {
         Ok(words) => ExitCode::from(status_of_words(rt, words.as_slice())),
-        Err(_) => ExitCode::from(told(rt, &Fault::Memory)),
+        Err(_) => ExitCode::from(stopped(rt, &Fault::Memory)),
     }
 }
 
@@ -48,18 +47,15 @@ pub fn status_of_words<R: AllocGlobal + Input + Print + Eprint + Files + Clock>(
     words: &[String],
 ) -> u8 {
     match request_of(rt.alloc(), words) {
-        Ok(request) => match answer(rt, request) {
-            Ok(status) => status,
-            Err(stop) => told_stop(rt, &stop),
-        },
-        Err(error) if error.kind() == ErrorKind::OutOfMemory => told(rt, &Fault::Memory),
+        Ok(request) => status_of_request(rt, request),
+        Err(error) if error.kind() == ErrorKind::OutOfMemory => stopped(rt, &Fault::Memory),
         Err(error) => told_words(rt, &error),
     }
 }
 
 /// Prints what clap says of the words, and gives the exit status: 2 for words that aren't understood, and 0 for the help and
 /// the version, where they went out.
-fn told_words<R: Print + Eprint>(rt: &R, error: &Error) -> u8 {
+fn told_words<R: AllocGlobal + Print + Eprint>(rt: &R, error: &Error) -> u8 {
     let printed = error.print(rt);
     if error.use_stderr() {
         return 2;
@@ -67,41 +63,38 @@ fn told_words<R: Print + Eprint>(rt: &R, error: &Error) -> u8 {
     match printed {
         Ok(()) => 0,
         Err(failed) if failed.kind() == io::ErrorKind::BrokenPipe => status_of(&Fault::Write),
-        Err(_) => told(rt, &Fault::Write),
+        Err(_) => stopped(rt, &Fault::Write),
     }
 }
 
-/// Tells why the program stops, and gives its exit status.
-fn told_stop<R: Eprint>(rt: &R, stop: &Stop) -> u8 {
-    match stop {
-        Stop::Fault(fault) => told(rt, fault),
-        Stop::Unread => status_of(&Fault::Write),
-    }
+/// Tells a fault on standard error, and gives its exit status.
+fn stopped<R: AllocGlobal + Eprint>(rt: &R, fault: &Fault) -> u8 {
+    told(rt.alloc(), &mut teller_of(rt), fault)
 }
 
-/// Prints the fault's line, and gives its exit status whether or not the line went out.
-fn told<R: Eprint>(rt: &R, fault: &Fault) -> u8 {
-    let _ = rt.eprintln(fault);
-    status_of(fault)
-}
-
-/// Does what a request within the limits asks for, and gives the exit status.
-fn answer<R: AllocGlobal + Input + Print + Eprint + Files + Clock>(
+/// Does what a request within the limits asks for, tells the fault that stops it, and gives the exit status. Where the program
+/// that read standard output has gone away, nothing is told.
+fn status_of_request<R: AllocGlobal + Input + Print + Eprint + Files + Clock>(
     rt: &R,
     request: Request<'_>,
-) -> Result<u8, Stop>
+) -> u8
     requires { IsWithinLimits request }
 {
     let mut input = Beginning::of(rt.reader());
-    if request.reads_input() {
-        input.ask()?;
+    if request.reads_input() && input.is_closed() {
+        return stopped(rt, &Fault::Read);
     }
     let mut reader = Counted::new(input);
-    let done = answer_from(rt, &mut reader, request);
+    let mut writer = writer_of(rt);
+    let done = answer(rt, &mut reader, &mut writer, &mut teller_of(rt), request);
     if let Some(period) = request.period_of_times() {
         warn_of_period(rt, &reader.into_inner(), period);
     }
-    done
+    match done {
+        Ok(status) => status,
+        Err(Fault::Write) if writer.into_inner().unread => status_of(&Fault::Write),
+        Err(fault) => stopped(rt, &fault),
+    }
 }
 
 /// Warns where the times stand in a certificate of another period.
@@ -114,69 +107,60 @@ fn warn_of_period<R: Eprint, S: Read>(rt: &R, input: &Beginning<S>, asked: u32) 
 }
 
 /// Does what a request within the limits asks for, with what it reads from standard input, and gives the exit status.
-fn answer_from<R: AllocGlobal + Print + Eprint + Files + Clock, S: Source>(
+fn answer<R: AllocGlobal + Eprint + Files + Clock, S: Source, W: Sink, E: Sink>(
     rt: &R,
     reader: &mut S,
+    writer: &mut W,
+    teller: &mut E,
     request: Request<'_>,
-) -> Result<u8, Stop>
+) -> Result<u8, Fault>
     requires limits { IsWithinLimits request }
-    requires fits { FewerThan (2 ^ 62) (S.calls reader.old) }
+    requires reads_fit { FewerThan (2 ^ 62) (S.calls reader.old) }
+    requires writes_fit { FewerThan (2 ^ 62) (W.calls writer.old) }
+    requires tellings_fit { FewerThan (2 ^ 62) (E.calls teller.old) }
+    ensures { IfOk result (Answers request
+        (over (S.remaining reader.old) (S.remaining reader.new)
+        (S.calls reader.old) (S.calls reader.new))
+        (over (W.contents writer.old) (W.contents writer.new)
+        (W.calls writer.old) (W.calls writer.new))
+        (over (E.contents teller.old) (E.contents teller.new)
+        (E.calls teller.old) (E.calls teller.new))
+        (writer.new ≡ writer.old)) }
 {
     match request {
-        Request::Solve {
+        Request::Instance {
             period,
-            steps,
-            progress,
-            file,
-        } => solve_in(rt, reader, period, steps, progress, file),
-        Request::Resume {
+            file: None,
+            asked,
+        } => { of_instance(rt, reader, writer, teller, period, asked) }
+        Request::Instance {
             period,
-            steps,
-            seconds,
-            progress,
-            file,
+            file: Some(file),
+            asked,
         } => {
-            let mut watch = Watch::new(rt, progress, seconds);
-            resume(rt, reader, period, steps, &mut watch, file)
+            let mut instance = opened(rt, file)?;
+            of_instance(rt, &mut instance, writer, teller, period, asked)
         }
-        Request::Conflict {
-            period,
-            steps,
-            file,
-        } => conflict_in(rt, reader, period, steps, file),
-        Request::Check { period, file } => check(rt, reader, period, file),
-        Request::Gap { period, file } => gap(rt, reader, period, file),
-        Request::Report {
-            period,
-            violations: true,
-            file,
-            ..
-        } => report_violations(rt, reader, period, file),
-        Request::Report {
-            period,
-            names: Some(names),
-            file,
-            ..
-        } => report_named(rt, reader, period, names, file),
-        Request::Report { period, file, .. } => report(rt, reader, period, file),
-        Request::Draw {
-            period,
-            rows,
-            names,
-            file,
-        } => draw(rt, reader, period, rows, names, file),
-        Request::Diagram {
+        Request::Certificate {
             period,
             file,
-            names,
-        } => diagram(rt, reader, period, names, file),
-        Request::Split { period, file } => split(rt, reader, period, file),
-        Request::Work {
+            asked,
+        } => {
+            let mut instance = opened(rt, file)?;
+            of_certificate(rt, &mut instance, reader, writer, period, asked)
+        }
+        Request::Times {
             period,
-            steps,
             file,
-            job,
-        } => work_on(rt, reader, period, steps, file, job),
-        Request::Graft { period, file, base } => graft(rt, reader, period, file, base),
+            asked,
+        } => {
+            let mut instance = opened(rt, file)?;
+            of_times(rt, &mut instance, reader, writer, period, asked)
+        }
+        Request::Works { period, file, base } => {
+            let mut instance = opened(rt, file)?;
+            let mut base = opened(rt, base)?;
+            of_works(rt, &mut instance, &mut base, reader, writer, teller, period)
+        }
     }
 }

@@ -3,98 +3,95 @@
 /// What the words of a command line ask for. Periods are in the unit of the instance's durations.
 #[derive(Clone, Copy, Debug, Drop)]
 pub enum Request<'a> {
-    /// A search of at most so many steps; the instance is on standard input where no file is named.
-    Solve {
+    /// What is asked of an instance alone; it is on standard input where no file is named.
+    Instance {
         period: u32,
-        steps: u32,
-        /// Whether it is told on standard error how far the search is.
-        progress: bool,
         file: Option<&'a str>,
+        asked: OfInstance<'a>,
     },
-    /// A search of at most so many steps that goes on from the certificate on standard input, for about so many seconds at
-    /// most.
-    Resume {
-        period: u32,
-        steps: u32,
-        seconds: Option<u32>,
-        /// Whether it is told on standard error how far the search is.
-        progress: bool,
-        file: &'a str,
-    },
-    /// Activities that have no timetable together, within searches of at most so many steps; the instance is on standard
-    /// input where no file is named.
-    Conflict {
-        period: u32,
-        steps: u32,
-        file: Option<&'a str>,
-    },
-    /// A verdict on the certificate on standard input.
-    Check {
+    /// What is asked of the certificate on standard input, and the file with its instance.
+    Certificate {
         period: u32,
         file: &'a str,
+        asked: OfCertificate,
     },
-    /// How good the answer of the certificate on standard input is.
-    Gap {
+    /// What is asked of the times on standard input, and the file with their instance.
+    Times {
         period: u32,
         file: &'a str,
-    },
-    /// A report of the times on standard input, or of the activities that they violate.
-    Report {
-        period: u32,
-        violations: bool,
-        /// The file with the names of events.
-        names: Option<&'a str>,
-        file: &'a str,
-    },
-    /// A picture of the times on standard input, with at most so many activities and so many events.
-    Draw {
-        period: u32,
-        rows: u32,
-        /// The file with the names of events.
-        names: Option<&'a str>,
-        file: &'a str,
-    },
-    /// Time-distance diagrams of the times on standard input, for the lines that a file with names tells.
-    Diagram {
-        period: u32,
-        file: &'a str,
-        names: &'a str,
-    },
-    /// The open leaves of the certificate on standard input, as jobs.
-    Split {
-        period: u32,
-        file: &'a str,
-    },
-    /// Work of at most so many steps on an open leaf of the certificate on standard input.
-    Work {
-        period: u32,
-        steps: u32,
-        file: &'a str,
-        job: u64,
+        asked: OfTimes<'a>,
     },
     /// The works on standard input, grafted onto the certificate in a file.
-    Graft {
+    Works {
         period: u32,
         file: &'a str,
         base: &'a str,
     },
 }
 
+/// What is asked of an instance.
+#[derive(Clone, Copy, Debug, Drop)]
+pub enum OfInstance<'a> {
+    /// A search of at most so many steps.
+    Solve {
+        steps: u32,
+        /// The file with the times from which it begins, where there are some.
+        from: Option<&'a str>,
+        /// Whether it is told on standard error how far the search is.
+        progress: bool,
+    },
+    /// Activities that have no timetable together, within searches of at most so many steps.
+    Conflict {
+        steps: u32,
+    },
+}
+
+/// What is asked of a certificate.
+#[derive(Clone, Copy, Debug, Drop)]
+pub enum OfCertificate {
+    /// A verdict on it.
+    Check,
+    /// How good its answer is.
+    Gap,
+    /// A search of at most so many steps that goes on from it, for about so many seconds at most.
+    Resume {
+        steps: u32,
+        seconds: Option<u32>,
+        /// Whether it is told on standard error how far the search is.
+        progress: bool,
+    },
+    /// Its open leaves, as jobs.
+    Split,
+    /// Work of at most so many steps on the open leaf of this number.
+    Work {
+        steps: u32,
+        job: u64,
+    },
+}
+
+/// What is asked of times. Names are those of a file.
+#[derive(Clone, Copy, Debug, Drop)]
+pub enum OfTimes<'a> {
+    /// Their report, with names where a file is named.
+    Report { names: Option<&'a str> },
+    /// The activities that they violate.
+    Violations,
+    /// A picture of them, with at most so many activities and so many events, and with names where a file is named.
+    Picture { rows: u32, names: Option<&'a str> },
+    /// Time-distance diagrams of them, for the lines that a file with names tells.
+    Diagrams { names: &'a str },
+}
+
 impl Request<'_> {
     /// Whether something is read from standard input.
     pub(crate) fn reads_input(&self) -> bool {
-        !matches!(
-            self,
-            Request::Solve { file: Some(_), .. } | Request::Conflict { file: Some(_), .. }
-        )
+        !matches!(self, Request::Instance { file: Some(_), .. })
     }
 
     /// The period for which times are taken, where times are read.
     pub(crate) fn period_of_times(&self) -> Option<u32> {
         match self {
-            Request::Report { period, .. }
-            | Request::Draw { period, .. }
-            | Request::Diagram { period, .. } => Some(*period),
+            Request::Times { period, .. } => Some(*period),
             _ => None,
         }
     }

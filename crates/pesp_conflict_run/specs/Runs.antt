@@ -4,9 +4,10 @@ use Rattle.pesp_problem.specs.Timetables.{Pesp, IsTimetable}
 use Rattle.pesp_conflict_laws.specs.Conflicts.{IsNeeded}
 use Rattle.pesp_conflict.specs.Findings.{IsConflict}
 use Rattle.pesp_conflict_list.specs.Lists.{lines_of, list_text}
-use Rattle.pesp_runs.specs.Devices.{Device, HasFailed, GetsFront}
-use Rattle.pesp_runs.specs.Runs.{ReadsInstance, InstanceCause, SearchCause, OutCause}
-use Rattle.pesp_runs.specs.declared.fault.Fault.{Fault}
+use Rattle.pesp_check_run.specs.Devices.{Device, HasFailed, GetsFront}
+use Rattle.pesp_faults.specs.Reading.{ReadsInstance}
+use Rattle.pesp_faults.specs.Causes.{InstanceCause, SearchCause, OutCause}
+use Rattle.pesp_faults.specs.declared.fault.Fault.{Fault}
 use Rattle.pesp_conflict_run.specs.declared.told.Told.{Told}
 use Rattle.pesp_conflict_run.specs.declared.told.Told.TheVariants.{Irreducible, Conflict, Timetable, Undecided}
 

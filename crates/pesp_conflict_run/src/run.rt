@@ -4,15 +4,15 @@ ghost use Rattle.std.specs.Prelude.{◌≡◌, ◌≢◌, ℕ, ◌<◌, ◌≤�
 ghost use Rattle.std.specs.Io.KnownBytes.{Appends};
 ghost use Rattle.pesp_stream.specs.Counts.{FewerThan, HasWorked};
 ghost use Rattle.pesp_conflict.specs.Findings.{IsConflict};
-ghost use Rattle.pesp_runs.specs.Devices.{over, HasFailed, GetsFront};
-ghost use Rattle.pesp_runs.specs.Runs.{OutCause};
+ghost use Rattle.pesp_check_run.specs.Devices.{over, HasFailed, GetsFront};
+ghost use Rattle.pesp_faults.specs.Causes.{OutCause};
 ghost use Rattle.pesp_conflict_run.specs.Runs.{ConflictCause, TellsConflict, WritesList};
 
 use crate::told::{Told, told_of};
 use pesp_conflict::{Finding, conflict};
 use pesp_conflict_list::text_of_listed;
+use pesp_faults::{Fault, read_whole_instance};
 use pesp_problem::Instance;
-use pesp_runs::{Fault, read_whole_instance};
 use pesp_stream::{Bytes, Sink, Source, print_to};
 use std::alloc::Global;
 

@@ -4,10 +4,10 @@ use Rattle.pesp_problem.specs.Timetables.{Pesp}
 use Rattle.pesp_truth.specs.Certificates.{Content}
 use Rattle.pesp_cert.specs.Texts.{spelling, HasText}
 use Rattle.pesp_resume.specs.Resuming.{IsResumed}
-use Rattle.pesp_runs.specs.declared.fault.Fault.{Fault}
-use Rattle.pesp_runs.specs.Devices.{Device, HasFailed, GetsFront}
-use Rattle.pesp_runs.specs.Runs.{ReadsInstance, InstanceCause, OutCause}
-use Rattle.pesp_runs.specs.Outside.{ReadsBase, BaseCause}
+use Rattle.pesp_check_run.specs.Devices.{Device, HasFailed, GetsFront}
+use Rattle.pesp_faults.specs.Reading.{ReadsInstance, ReadsBase}
+use Rattle.pesp_faults.specs.Causes.{InstanceCause, BaseCause, OutCause}
+use Rattle.pesp_faults.specs.declared.fault.Fault.{Fault}
 
 -- the writer got what the relation says of the text of a certificate to which a search leads from the base, within so many steps
 pub record WritesResumed (p : Pesp) (base : Content) (steps : ℕ) (Gets : List ℕ → Type 0) : Type 0 where

@@ -4,14 +4,14 @@ ghost use Rattle.std.specs.Prelude.{◌≡◌, ◌≢◌, ◌<◌, ◌^◌, OnOk
 ghost use Rattle.std.specs.Io.KnownBytes.{Appends};
 ghost use Rattle.pesp_stream.specs.Counts.{FewerThan, HasWorked};
 ghost use Rattle.pesp_gap.specs.Gaps.{gap_line};
-ghost use Rattle.pesp_runs.specs.Devices.{over, HasFailed, GetsFront};
-ghost use Rattle.pesp_runs.specs.Runs.{OutCause};
-ghost use Rattle.pesp_runs.specs.Outside.{HasBase};
+ghost use Rattle.pesp_check_run.specs.Devices.{over, HasFailed, GetsFront};
+ghost use Rattle.pesp_faults.specs.Reading.{HasBase};
+ghost use Rattle.pesp_faults.specs.Causes.{OutCause};
 ghost use Rattle.pesp_resume_run.specs.Gaps.{GapCause};
 
 use pesp_cert::Certificate;
+use pesp_faults::{Fault, read_base, read_whole_instance};
 use pesp_gap::GapText;
-use pesp_runs::{Fault, read_base, read_whole_instance};
 use pesp_stream::{Sink, Source, print_to};
 use std::alloc::Global;
 

@@ -4,15 +4,15 @@ ghost use Rattle.std.specs.Prelude.{◌≡◌, ◌≢◌, ◌<◌, ◌≤◌, �
 ghost use Rattle.std.specs.Io.KnownBytes.{Appends};
 ghost use Rattle.pesp_stream.specs.Counts.{FewerThan, HasWorked};
 ghost use Rattle.pesp_truth.specs.Certificates.{IsValid};
-ghost use Rattle.pesp_runs.specs.Devices.{over, HasFailed, GetsFront};
-ghost use Rattle.pesp_runs.specs.Runs.{OutCause};
-ghost use Rattle.pesp_runs.specs.Outside.{HasBase};
+ghost use Rattle.pesp_check_run.specs.Devices.{over, HasFailed, GetsFront};
+ghost use Rattle.pesp_faults.specs.Reading.{HasBase};
+ghost use Rattle.pesp_faults.specs.Causes.{OutCause};
 ghost use Rattle.pesp_resume_run.specs.Resuming.{WritesResumed, ResumeCause};
 
 use pesp_cert::{Certificate, print};
+use pesp_faults::{Fault, read_base, read_whole_instance};
 use pesp_problem::Instance;
 use pesp_resume::{Watcher, resume};
-use pesp_runs::{Fault, read_base, read_whole_instance};
 use pesp_stream::{Sink, Source};
 use std::alloc::Global;
 

@@ -2,7 +2,7 @@
 
 use clap::Error;
 use pesp_cases::words_of;
-use pesp_cli::{Request, request_of};
+use pesp_cli::{OfCertificate, OfInstance, OfTimes, Request, request_of};
 use std::alloc::Global;
 
 fn add_word(alloc: Global, words: &mut Vec<String>, word: &str) -> Option<()> {
@@ -23,21 +23,26 @@ pub(crate) fn words_with_name(alloc: Global, line: &str) -> Option<Vec<String>> 
     with_name(alloc, &words_of(alloc, line)?)
 }
 
-/// A search that is asked for.
+/// A search that is asked for, and the file with the times from which it begins, where one is named.
 fn tell_solve(
     alloc: Global,
     period: u32,
     steps: u32,
+    from: Option<&str>,
     progress: bool,
     file: Option<&str>,
 ) -> Option<String> {
-    let told = if progress { ", with its progress" } else { "" };
-    match file {
-        None => format!(in alloc; "solve at period {period} in {steps} steps{told}").ok(),
-        Some(file) => {
-            format!(in alloc; "solve {file} at period {period} in {steps} steps{told}").ok()
-        }
+    let mut told = match file {
+        None => format!(in alloc; "solve at period {period} in {steps} steps").ok()?,
+        Some(file) => format!(in alloc; "solve {file} at period {period} in {steps} steps").ok()?,
+    };
+    if let Some(from) = from {
+        write!(told, ", from {from}").ok()?;
     }
+    if progress {
+        told.push_str(", with its progress").ok()?;
+    }
+    Some(told)
 }
 
 /// What is asked for over a file alone.
@@ -71,31 +76,12 @@ fn tell_conflict(alloc: Global, period: u32, steps: u32, file: Option<&str>) -> 
     format!(in alloc; "conflict {file} at period {period} in {steps} steps").ok()
 }
 
-/// A report that is asked for.
-fn tell_report(
-    alloc: Global,
-    period: u32,
-    violations: bool,
-    names: Option<&str>,
-    file: &str,
-) -> Option<String> {
-    let verb = if violations {
-        "report violations of"
-    } else {
-        "report"
-    };
-    match names {
-        None => tell_file(alloc, verb, period, file),
-        Some(names) => tell_named(alloc, verb, period, file, names),
-    }
-}
-
 /// What is asked for over a file and a file of names.
 fn tell_named(alloc: Global, verb: &str, period: u32, file: &str, names: &str) -> Option<String> {
     format!(in alloc; "{verb} {file} at period {period} with {names}").ok()
 }
 
-fn tell_draw(
+fn tell_picture(
     alloc: Global,
     period: u32,
     rows: u32,
@@ -118,54 +104,73 @@ fn tell_graft(alloc: Global, period: u32, file: &str, base: &str) -> Option<Stri
     format!(in alloc; "graft {file} onto {base} at period {period}").ok()
 }
 
-/// What is asked for.
-fn tell_request(alloc: Global, request: Request<'_>) -> Option<String> {
-    match request {
-        Request::Solve {
-            period,
+/// What is asked of an instance.
+fn tell_of_instance(
+    alloc: Global,
+    period: u32,
+    file: Option<&str>,
+    asked: OfInstance<'_>,
+) -> Option<String> {
+    match asked {
+        OfInstance::Solve {
             steps,
+            from,
             progress,
-            file,
-        } => tell_solve(alloc, period, steps, progress, file),
-        Request::Resume {
-            period,
+        } => tell_solve(alloc, period, steps, from, progress, file),
+        OfInstance::Conflict { steps } => tell_conflict(alloc, period, steps, file),
+    }
+}
+
+/// What is asked of a certificate.
+fn tell_of_certificate(
+    alloc: Global,
+    period: u32,
+    file: &str,
+    asked: OfCertificate,
+) -> Option<String> {
+    match asked {
+        OfCertificate::Check => tell_file(alloc, "check", period, file),
+        OfCertificate::Gap => tell_file(alloc, "gap", period, file),
+        OfCertificate::Resume {
             steps,
             seconds,
             progress,
-            file,
         } => tell_resume(alloc, period, steps, seconds, progress, file),
-        Request::Conflict {
+        OfCertificate::Split => tell_file(alloc, "split", period, file),
+        OfCertificate::Work { steps, job } => tell_work(alloc, period, steps, file, job),
+    }
+}
+
+/// What is asked of times.
+fn tell_of_times(alloc: Global, period: u32, file: &str, asked: OfTimes<'_>) -> Option<String> {
+    match asked {
+        OfTimes::Report { names: None } => tell_file(alloc, "report", period, file),
+        OfTimes::Report { names: Some(names) } => tell_named(alloc, "report", period, file, names),
+        OfTimes::Violations => tell_file(alloc, "report violations of", period, file),
+        OfTimes::Picture { rows, names } => tell_picture(alloc, period, rows, names, file),
+        OfTimes::Diagrams { names } => tell_named(alloc, "diagram", period, file, names),
+    }
+}
+
+/// What is asked for.
+fn tell_request(alloc: Global, request: Request<'_>) -> Option<String> {
+    match request {
+        Request::Instance {
             period,
-            steps,
             file,
-        } => tell_conflict(alloc, period, steps, file),
-        Request::Check { period, file } => tell_file(alloc, "check", period, file),
-        Request::Gap { period, file } => tell_file(alloc, "gap", period, file),
-        Request::Report {
-            period,
-            violations,
-            names,
-            file,
-        } => tell_report(alloc, period, violations, names, file),
-        Request::Draw {
-            period,
-            rows,
-            names,
-            file,
-        } => tell_draw(alloc, period, rows, names, file),
-        Request::Diagram {
+            asked,
+        } => tell_of_instance(alloc, period, file, asked),
+        Request::Certificate {
             period,
             file,
-            names,
-        } => tell_named(alloc, "diagram", period, file, names),
-        Request::Split { period, file } => tell_file(alloc, "split", period, file),
-        Request::Work {
+            asked,
+        } => tell_of_certificate(alloc, period, file, asked),
+        Request::Times {
             period,
-            steps,
             file,
-            job,
-        } => tell_work(alloc, period, steps, file, job),
-        Request::Graft { period, file, base } => tell_graft(alloc, period, file, base),
+            asked,
+        } => tell_of_times(alloc, period, file, asked),
+        Request::Works { period, file, base } => tell_graft(alloc, period, file, base),
     }
 }
 

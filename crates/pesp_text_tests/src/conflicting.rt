@@ -5,7 +5,7 @@ use crate::feed::feed_of;
 use crate::given::{Given, given_by};
 use crate::telling::{tell_fault, tell_written};
 use pesp_conflict_run::{Told, run_conflict, status_of_told};
-use pesp_runs::Fault;
+use pesp_faults::Fault;
 use std::alloc::Global;
 
 /// What the run tells, and what it has written.

@@ -4,7 +4,8 @@ use crate::drain::drain_of;
 use crate::feed::feed_of;
 use crate::given::{Given, given_by};
 use crate::telling::tell_fault;
-use pesp_runs::{Fault, run_draw};
+use pesp_faults::Fault;
+use pesp_report_run::{Picture, run_sheet};
 use std::alloc::Global;
 
 /// The bars of what `draw` writes with so many rows.
@@ -36,14 +37,13 @@ fn draw(alloc: Global, given: &Given, rows: u32) -> (Result<(), Fault>, Vec<u8>)
     let mut first = feed_of(&given.instance, given.first);
     let mut second = feed_of(&given.input, given.second);
     let mut writer = drain_of(alloc, given.output);
-    let answer = run_draw(
+    let answer = run_sheet(
         alloc,
-        None,
+        &Picture { rows, names: None },
         &mut first,
         &mut second,
         &mut writer,
         given.period,
-        rows,
     );
     (answer, writer.into_inner().taken)
 }

@@ -1,13 +1,15 @@
 //! Runs with names.
 
 use crate::devices::Device;
-use crate::drain::drain_of;
+use crate::drain::{Drain, drain_of};
 use crate::drawings::tell_words;
 use crate::feed::feed_of;
 use crate::given::{Given, given_by, text_of};
 use crate::telling::{tell_fault, tell_run};
+use pesp_faults::Fault;
 use pesp_names::Names;
-use pesp_runs::{Fault, read_whole_names, run_diagram, run_draw, run_report_named};
+use pesp_report_run::{Diagrams, NamedReport, Picture, Sheet, read_whole_names, run_sheet};
+use pesp_stream::Counted;
 use std::alloc::Global;
 
 /// The names of the text behind the line `names`.
@@ -17,18 +19,28 @@ fn names_of(alloc: Global, lines: &[&str]) -> Option<Result<Names, Fault>> {
     Some(read_whole_names(alloc, &mut reader))
 }
 
-fn report(alloc: Global, given: &Given, names: &Names) -> Option<String> {
+/// How a run that writes a sheet ends, and what it has written.
+fn written<P: Sheet>(
+    alloc: Global,
+    given: &Given,
+    sheet: &P,
+) -> (Result<(), Fault>, Counted<Drain>) {
     let mut first = feed_of(&given.instance, given.first);
     let mut second = feed_of(&given.input, given.second);
     let mut writer = drain_of(alloc, given.output);
-    let answer = run_report_named(
+    let answer = run_sheet(
         alloc,
-        names,
+        sheet,
         &mut first,
         &mut second,
         &mut writer,
         given.period,
     );
+    (answer, writer)
+}
+
+fn report(alloc: Global, given: &Given, names: &Names) -> Option<String> {
+    let (answer, writer) = written(alloc, given, &NamedReport(names));
     tell_run(alloc, answer, writer)
 }
 
@@ -49,18 +61,11 @@ fn tell_drawn(alloc: Global, answer: Result<(), Fault>, taken: &[u8]) -> Option<
 }
 
 fn draw(alloc: Global, given: &Given, names: &Names) -> Option<String> {
-    let mut first = feed_of(&given.instance, given.first);
-    let mut second = feed_of(&given.input, given.second);
-    let mut writer = drain_of(alloc, given.output);
-    let answer = run_draw(
-        alloc,
-        Some(names),
-        &mut first,
-        &mut second,
-        &mut writer,
-        given.period,
-        100,
-    );
+    let picture = Picture {
+        rows: 100,
+        names: Some(names),
+    };
+    let (answer, writer) = written(alloc, given, &picture);
     tell_drawn(alloc, answer, &writer.into_inner().taken)
 }
 
@@ -73,17 +78,7 @@ pub(crate) fn ask_named_draw(alloc: Global, lines: &[&str]) -> Option<String> {
 }
 
 fn diagram(alloc: Global, given: &Given, names: &Names) -> Option<String> {
-    let mut first = feed_of(&given.instance, given.first);
-    let mut second = feed_of(&given.input, given.second);
-    let mut writer = drain_of(alloc, given.output);
-    let answer = run_diagram(
-        alloc,
-        names,
-        &mut first,
-        &mut second,
-        &mut writer,
-        given.period,
-    );
+    let (answer, writer) = written(alloc, given, &Diagrams(names));
     match answer {
         Ok(()) => tell_shapes(alloc, str::from_utf8(&writer.into_inner().taken).ok()?),
         Err(fault) => tell_fault(alloc, &fault, &writer.into_inner().taken),

@@ -6,7 +6,8 @@ use crate::feed::feed_of;
 use crate::given::{Given, device_of, given_by, period_of, text_of};
 use crate::telling::{joined, tell_check, tell_fault, tell_run, tell_written};
 use pesp_cases::words_of;
-use pesp_runs::{Fault, run_graft, run_split, run_work};
+use pesp_faults::Fault;
+use pesp_outside_run::{run_graft, run_split, run_work};
 use std::alloc::Global;
 
 /// What `split` writes.

@@ -5,9 +5,9 @@ use crate::drain::drain_of;
 use crate::feed::feed_of;
 use crate::given::{Given, given_by, period_of, text_of};
 use crate::telling::{tell_check, tell_fault, tell_run};
+use pesp_faults::Fault;
 use pesp_resume::Nobody;
 use pesp_resume_run::{run_gap, run_resume};
-use pesp_runs::Fault;
 use std::alloc::Global;
 
 fn resume(alloc: Global, given: &Given, steps: u32) -> Option<String> {

@@ -4,7 +4,8 @@ use crate::devices::Device;
 use crate::drain::{Drain, drain_of};
 use crate::feed::feed_of;
 use pesp_check::Verdict;
-use pesp_runs::{Fault, run_check, status_of, status_of_verdict};
+use pesp_check_run::{VerdictFault, run_check, status_of_verdict};
+use pesp_faults::{Fault, status_of};
 use pesp_stream::Counted;
 use std::alloc::Global;
 
@@ -50,14 +51,14 @@ pub(crate) fn tell_run(
 /// What `check` says of a certificate, and what it has written.
 pub(crate) fn tell_verdict(
     alloc: Global,
-    answer: Result<Verdict, Fault>,
+    answer: Result<Verdict, VerdictFault>,
     writer: Counted<Drain>,
 ) -> Option<String> {
-    tell_end(
-        alloc,
-        answer.map(|verdict| status_of_verdict(verdict)),
-        writer,
-    )
+    let answer = match answer {
+        Ok(verdict) => Ok(status_of_verdict(verdict)),
+        Err(fault) => Err(Fault::from(fault)),
+    };
+    tell_end(alloc, answer, writer)
 }
 
 /// What `check` says of the text of a certificate for that of an instance.

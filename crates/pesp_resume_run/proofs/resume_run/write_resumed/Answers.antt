@@ -1,4 +1,4 @@
-use Rattle.pesp_runs.proofs.RunLemmas.{told_as}
+use Rattle.pesp_check_run.proofs.ReadingLemmas.{told_as}
 use Rattle.pesp_resume_run.proofs.Writing.{writes}
 use Rattle.pesp_resume_run.proofs.resume_run.write_resumed.Goals as goal
 

@@ -1,0 +1,113 @@
+-- What the program reads and writes for a request, and its exit status.
+use Rattle.std.specs.Prelude.{◌≡◌, ◌⊎◌, ℕ, ℤ, List, ◌++◌, codes, Option, Some, None, ⊤}
+use Rattle.std.specs.Io.KnownBytes.{Appends}
+use Rattle.pesp_gap.specs.Gaps.{gap_line}
+use Rattle.pesp_report.specs.Report.{IsReport}
+use Rattle.pesp_report.specs.Named.{IsNamedReport}
+use Rattle.pesp_check.specs.declared.refusal.Verdict.{Verdict}
+use Rattle.pesp_check_run.specs.Checking.{Checks}
+use Rattle.pesp_check_run.specs.Devices.{Device, HasFailed, GetsFront}
+use Rattle.pesp_check_run.specs.Verdicts.{verdict_status}
+use Rattle.pesp_faults.specs.Reading.{HasBase, ReadsTimetable}
+use Rattle.pesp_faults.specs.FaultLines.{fault_line, exit_status}
+use Rattle.pesp_faults.specs.declared.fault.Fault.{Fault}
+use Rattle.pesp_faults.specs.declared.fault.Fault.TheVariants.{Memory}
+use Rattle.pesp_solve_run.specs.Solving.{Solves, SolvesFrom}
+use Rattle.pesp_report_run.specs.Reporting.{WritesSheet}
+use Rattle.pesp_report_run.specs.Violating.{ReadsForEvents, WritesViolations}
+use Rattle.pesp_outside_run.specs.Outside.{WritesJobs, WritesWork, Grafts}
+use Rattle.pesp_resume_run.specs.Resuming.{WritesResumed}
+use Rattle.pesp_conflict_run.specs.Runs.{TellsConflict}
+use Rattle.pesp_conflict_run.specs.Told.{told_text, told_status}
+use Rattle.pesp_conflict_run.specs.declared.told.Told.{Told}
+use Rattle.pesp_cli.specs.declared.request.OfInstance.{OfInstance}
+use Rattle.pesp_cli.specs.declared.request.OfInstance.TheVariants.{Solve, Conflict}
+use Rattle.pesp_cli.specs.declared.request.OfCertificate.{OfCertificate}
+use Rattle.pesp_cli.specs.declared.request.OfCertificate.TheVariants.{Check, Gap, Resume, Split, Work}
+use Rattle.pesp_cli.specs.declared.request.OfTimes.{OfTimes}
+use Rattle.pesp_cli.specs.declared.request.OfTimes.TheVariants.{Report, Violations, Picture, Diagrams}
+use Rattle.pesp_cli.specs.declared.request.Request.{Request}
+use Rattle.pesp_cli.specs.declared.request.Request.TheVariants.{Instance, Certificate, Times, Works}
+
+-- ---- writers
+
+-- the writer got this text
+abbrev pub Gets : Device → List ℕ → Type 0
+Gets writer text = Appends writer.old writer.new text
+
+-- the writer got this line, or the front of it behind which it failed
+abbrev pub GetsLine : Device → List ℕ → Type 0
+GetsLine writer line = Gets writer (line ++ codes "\n") ⊎ (HasFailed writer × GetsFront writer (line ++ codes "\n"))
+
+-- a fault is told, or that its line found no memory; the status is that of what is told
+abbrev pub TellsFault : Device → Fault → ℕ → Type 0
+TellsFault teller fault status =
+    (GetsLine teller (fault_line fault) × (status ≡ exit_status fault))
+    ⊎ (GetsLine teller (fault_line Memory) × (status ≡ exit_status Memory))
+
+-- ---- requests
+
+-- what the program does for a search, from the times in a file where one is named, which are some text
+abbrev pub AnswersSolve : {A : Type 0} → Option A → ℕ → ℕ → Device → Device → ℕ → Type 0
+AnswersSolve None steps period reader writer status = Solves reader.old reader.new period steps (Gets writer) × (status ≡ 0)
+AnswersSolve (Some file) steps period reader writer status =
+    ((times : Device) × SolvesFrom reader.old reader.new times.old times.new period steps (Gets writer)) × (status ≡ 0)
+
+-- what the program does for what is asked of an instance, from the reader that has it; `silent` says that the writer was not called
+abbrev pub AnswersInstance : OfInstance → ℕ → Device → Device → Device → Type 0 → ℕ → Type 0
+AnswersInstance (Solve steps from progress) period reader writer teller silent status = AnswersSolve from steps period reader writer status
+AnswersInstance (Conflict steps) period reader writer teller silent status =
+    (told : Told) × TellsConflict reader.old reader.new period steps told (Gets writer) silent
+    × GetsLine teller (told_text told) × (status ≡ told_status told)
+
+-- the same of a certificate, from the readers that have its instance and its text
+abbrev pub AnswersCertificate : OfCertificate → ℕ → Device → Device → Device → ℕ → Type 0
+AnswersCertificate Check period instance reader writer status =
+    (verdict : Verdict) × Checks instance.old instance.new reader.old reader.new period verdict (Gets writer)
+    × (status ≡ verdict_status verdict)
+AnswersCertificate Gap period instance reader writer status =
+    HasBase instance.old instance.new reader.old reader.new period (λ p base. Gets writer (gap_line base.answer)) × (status ≡ 0)
+AnswersCertificate (Resume steps seconds progress) period instance reader writer status =
+    HasBase instance.old instance.new reader.old reader.new period (λ p base. WritesResumed p base steps (Gets writer)) × (status ≡ 0)
+AnswersCertificate Split period instance reader writer status =
+    HasBase instance.old instance.new reader.old reader.new period (λ p base. WritesJobs p base (Gets writer)) × (status ≡ 0)
+AnswersCertificate (Work steps job) period instance reader writer status =
+    HasBase instance.old instance.new reader.old reader.new period (λ p base. WritesWork p base job steps (Gets writer)) × (status ≡ 0)
+
+-- 1 where any activity is violated
+abbrev pub violations_status : ℕ → ℕ
+violations_status zero = 0
+violations_status (suc n) = 1
+
+-- the same of times; nothing is said of what a picture shows, or of what names a file tells
+abbrev pub AnswersTimes : OfTimes → ℕ → Device → Device → Device → ℕ → Type 0
+AnswersTimes (Report None) period instance reader writer status =
+    ReadsTimetable instance.old instance.new reader.old reader.new period (λ p times. WritesSheet (IsReport p times) (Gets writer)) × (status ≡ 0)
+AnswersTimes (Report (Some names)) period instance reader writer status =
+    ((name : ℤ → List ℕ)
+    × ReadsTimetable instance.old instance.new reader.old reader.new period (λ p times. WritesSheet (IsNamedReport p times name) (Gets writer)))
+    × (status ≡ 0)
+AnswersTimes Violations period instance reader writer status =
+    (count : ℕ) × ReadsForEvents instance.old instance.new reader.old reader.new period (λ p times. WritesViolations p times count (Gets writer))
+    × (status ≡ violations_status count)
+AnswersTimes (Picture rows names) period instance reader writer status =
+    ReadsTimetable instance.old instance.new reader.old reader.new period (λ p times. WritesSheet (λ text. ⊤) (Gets writer)) × (status ≡ 0)
+AnswersTimes (Diagrams names) period instance reader writer status =
+    ReadsTimetable instance.old instance.new reader.old reader.new period (λ p times. WritesSheet (λ text. ⊤) (Gets writer)) × (status ≡ 0)
+
+-- the same of works, from the readers that have the instance, the base and the works
+abbrev pub AnswersWorks : ℕ → Device → Device → Device → Device → Device → ℕ → Type 0
+AnswersWorks period instance base reader writer teller status =
+    HasBase instance.old instance.new base.old base.new period (λ p base. Grafts reader.old reader.new p base (Gets writer) (Gets teller)) × (status ≡ 0)
+
+-- what the program does for a request, from the reader of standard input to the writers of standard output and standard error; what stands in a file that is named is some text
+abbrev pub Answers : Request → Device → Device → Device → Type 0 → ℕ → Type 0
+Answers (Instance period None asked) reader writer teller silent status = AnswersInstance asked period reader writer teller silent status
+Answers (Instance period (Some file) asked) reader writer teller silent status =
+    (instance : Device) × AnswersInstance asked period instance writer teller silent status
+Answers (Certificate period file asked) reader writer teller silent status =
+    (instance : Device) × AnswersCertificate asked period instance reader writer status
+Answers (Times period file asked) reader writer teller silent status =
+    (instance : Device) × AnswersTimes asked period instance reader writer status
+Answers (Works period file base) reader writer teller silent status =
+    (instance base : Device) × AnswersWorks period instance base reader writer teller status

@@ -1,0 +1,7 @@
+//! The runs for work from outside, over any readers and writers: the open leaves of a certificate as jobs, a work for one of
+//! them, and works grafted onto the certificate.
+#![tactic(auto)]
+
+mod runs;
+
+pub use runs::{run_graft, run_split, run_work};

@@ -1,0 +1,299 @@
+//! The runs for work from outside.
+
+ghost use Rattle.std.specs.Prelude.{◌≡◌, ◌≢◌, ◌⊎◌, ◌<◌, ◌≤◌, ◌^◌, OnOk, IfOk, IfErr};
+ghost use Rattle.std.specs.Io.KnownBytes.{Appends};
+ghost use Rattle.pesp_stream.specs.Counts.{FewerThan, HasWorked};
+ghost use Rattle.pesp_truth.specs.Certificates.{IsValid};
+ghost use Rattle.pesp_worker.specs.HandingIn.{IsWorkOn};
+ghost use Rattle.pesp_check_run.specs.Devices.{over, HasFailed, GetsFront};
+ghost use Rattle.pesp_faults.specs.Reading.{HasBase};
+ghost use Rattle.pesp_faults.specs.Causes.{OutCause};
+ghost use Rattle.pesp_outside_run.specs.Outside.{works_fault, work_fault, ReadsWorks, WorksCause, JobCause, WritesJobs, SplitCause, WritesWork, WorkCause, WritesGraft, Grafts, GraftCause};
+
+use pesp_cert::{CertRefusal, Certificate, print};
+use pesp_faults::{Fault, MOST_TEXT, read_base, read_whole_instance};
+use pesp_outside::{JobsText, RepliesText, graft, open_jobs};
+use pesp_problem::Instance;
+use pesp_stream::{Sink, Source, print_to, read_all};
+use pesp_worker::{WorkRefusal, work};
+use pesp_works::{WorkText, parse_works, print_work};
+use std::alloc::Global;
+
+/// Why there are no works.
+fn works_fault(refusal: CertRefusal) -> Fault
+    ensures { result ≡ works_fault refusal }
+{
+    match refusal {
+        CertRefusal::Memory => Fault::Memory,
+        _ => Fault::Works(refusal),
+    }
+}
+
+/// Reads works.
+#[tactic(auto, using(crate::proofs::Causes::works_cause))]
+fn read_works<R: Source>(alloc: Global, reader: &mut R) -> Result<Vec<WorkText>, Fault>
+    requires fits { FewerThan (2 ^ 63) (R.calls reader.old) }
+    ensures ok { IfOk result
+        (λ works. ReadsWorks (R.remaining reader.old) (R.remaining reader.new) works.items) }
+    ensures counts { OnOk result (HasWorked (R.calls reader.old) (R.calls reader.new)) }
+    ensures cause { IfErr result
+        (λ fault. WorksCause fault
+        (over (R.remaining reader.old) (R.remaining reader.new)
+        (R.calls reader.old) (R.calls reader.new))) }
+{
+    let text = read_all(alloc, reader, MOST_TEXT)?;
+    match parse_works(alloc, &text) {
+        Ok(works) => Ok(works),
+        Err(refusal) => Err(works_fault(refusal)),
+    }
+}
+
+/// Writes the open leaves of a valid certificate as jobs.
+fn write_jobs<W: Sink>(
+    alloc: Global,
+    instance: &Instance,
+    base: &Certificate,
+    writer: &mut W,
+) -> Result<(), Fault>
+    requires valid { IsValid instance.now base.now }
+    requires fits { FewerThan (2 ^ 63) (W.calls writer.old) }
+    ensures ok { OnOk result (WritesJobs instance.now base.now
+        (Appends (W.contents writer.old) (W.contents writer.new))) }
+    ensures counts { OnOk result (HasWorked (W.calls writer.old) (W.calls writer.new)) }
+    ensures cause { IfErr result (λ fault. OutCause fault
+        (HasFailed (over (W.contents writer.old) (W.contents writer.new)
+        (W.calls writer.old) (W.calls writer.new))
+        × WritesJobs instance.now base.now (GetsFront
+        (over (W.contents writer.old) (W.contents writer.new)
+        (W.calls writer.old) (W.calls writer.new))))) }
+    ensures silent { IfErr result (λ fault. fault ≢ Fault.Write → writer.new ≡ writer.old) }
+{
+    let jobs = open_jobs(alloc, instance, base)?;
+    print_to(writer, &JobsText(&jobs))?;
+    Ok(())
+}
+
+/// Reads an instance and then a certificate that is valid for it, and writes its open leaves as jobs, numbered from 0 in the
+/// order of the tree's lines, each with its value and the path to it.
+pub fn run_split<R: Source, B: Source, W: Sink>(
+    alloc: Global,
+    instance_reader: &mut R,
+    base_reader: &mut B,
+    writer: &mut W,
+    period: u32,
+) -> Result<(), Fault>
+    requires reads_fit { FewerThan (2 ^ 62) (R.calls instance_reader.old) }
+    requires base_reads_fit { FewerThan (2 ^ 62) (B.calls base_reader.old) }
+    requires writes_fit { FewerThan (2 ^ 62) (W.calls writer.old) }
+    ensures ok { OnOk result
+        (HasBase (R.remaining instance_reader.old) (R.remaining instance_reader.new)
+        (B.remaining base_reader.old) (B.remaining base_reader.new) period
+        (λ p base. WritesJobs p base (Appends (W.contents writer.old) (W.contents writer.new)))) }
+    ensures reads { OnOk result
+        (HasWorked (R.calls instance_reader.old) (R.calls instance_reader.new)) }
+    ensures base_reads { OnOk result
+        (HasWorked (B.calls base_reader.old) (B.calls base_reader.new)) }
+    ensures writes { OnOk result (HasWorked (W.calls writer.old) (W.calls writer.new)) }
+    ensures cause { IfErr result (λ fault. SplitCause fault
+        (over (R.remaining instance_reader.old) (R.remaining instance_reader.new)
+        (R.calls instance_reader.old) (R.calls instance_reader.new))
+        (over (B.remaining base_reader.old) (B.remaining base_reader.new)
+        (B.calls base_reader.old) (B.calls base_reader.new))
+        (over (W.contents writer.old) (W.contents writer.new)
+        (W.calls writer.old) (W.calls writer.new))
+        period (base_reader.new ≡ base_reader.old)) }
+    ensures silent { IfErr result (λ fault. fault ≢ Fault.Write → writer.new ≡ writer.old) }
+{
+    let instance = read_whole_instance(alloc, instance_reader, period)?;
+    let base = read_base(alloc, &instance, base_reader)?;
+    write_jobs(alloc, &instance, &base, writer)
+}
+
+/// Why there is no work.
+fn work_fault(refusal: WorkRefusal) -> Fault
+    ensures { result ≡ work_fault refusal }
+{
+    match refusal {
+        WorkRefusal::Memory => Fault::Memory,
+        WorkRefusal::NoSuchJob => Fault::NoJob,
+    }
+}
+
+/// A work on an open leaf of a valid certificate, by at most so many splits.
+#[tactic(auto, using(crate::proofs::Causes::job_cause))]
+fn found_work(
+    alloc: Global,
+    instance: &Instance,
+    base: &Certificate,
+    steps: u32,
+    job: u64,
+) -> Result<WorkText, Fault>
+    requires steps { steps ≤ 100000 }
+    requires valid { IsValid instance.now base.now }
+    ensures work { IfOk result (λ work. IsWorkOn instance.now base.now job steps work) }
+    ensures cause { IfErr result (λ fault. JobCause fault instance.now base.now job) }
+{
+    match work(alloc, instance, base, job, steps) {
+        Ok(found) => Ok(found),
+        Err(refusal) => Err(work_fault(refusal)),
+    }
+}
+
+/// Writes a work on an open leaf of a valid certificate, by at most so many splits.
+fn write_work<W: Sink>(
+    alloc: Global,
+    instance: &Instance,
+    base: &Certificate,
+    writer: &mut W,
+    steps: u32,
+    job: u64,
+) -> Result<(), Fault>
+    requires steps { steps ≤ 100000 }
+    requires valid { IsValid instance.now base.now }
+    requires fits { FewerThan (2 ^ 63) (W.calls writer.old) }
+    ensures ok { OnOk result (WritesWork instance.now base.now job steps
+        (Appends (W.contents writer.old) (W.contents writer.new))) }
+    ensures counts { OnOk result (HasWorked (W.calls writer.old) (W.calls writer.new)) }
+    ensures cause { IfErr result (λ fault. JobCause fault instance.now base.now job
+        ⊎ OutCause fault
+        (HasFailed (over (W.contents writer.old) (W.contents writer.new)
+        (W.calls writer.old) (W.calls writer.new))
+        × WritesWork instance.now base.now job steps (GetsFront
+        (over (W.contents writer.old) (W.contents writer.new)
+        (W.calls writer.old) (W.calls writer.new))))) }
+    ensures silent { IfErr result (λ fault. fault ≢ Fault.Write → writer.new ≡ writer.old) }
+{
+    let found = found_work(alloc, instance, base, steps, job)?;
+    print_work(&found, writer)?;
+    Ok(())
+}
+
+/// Reads an instance and then a certificate that is valid for it, works on its open leaf of this number, by at most so many
+/// splits, and writes the work; nothing is written before the whole work stands. `NoJob` where no more leaves than the number
+/// are open.
+pub fn run_work<R: Source, B: Source, W: Sink>(
+    alloc: Global,
+    instance_reader: &mut R,
+    base_reader: &mut B,
+    writer: &mut W,
+    period: u32,
+    steps: u32,
+    job: u64,
+) -> Result<(), Fault>
+    requires steps { steps ≤ 100000 }
+    requires reads_fit { FewerThan (2 ^ 62) (R.calls instance_reader.old) }
+    requires base_reads_fit { FewerThan (2 ^ 62) (B.calls base_reader.old) }
+    requires writes_fit { FewerThan (2 ^ 62) (W.calls writer.old) }
+    ensures ok { OnOk result
+        (HasBase (R.remaining instance_reader.old) (R.remaining instance_reader.new)
+        (B.remaining base_reader.old) (B.remaining base_reader.new) period
+        (λ p base. WritesWork p base job steps
+        (Appends (W.contents writer.old) (W.contents writer.new)))) }
+    ensures reads { OnOk result
+        (HasWorked (R.calls instance_reader.old) (R.calls instance_reader.new)) }
+    ensures base_reads { OnOk result
+        (HasWorked (B.calls base_reader.old) (B.calls base_reader.new)) }
+    ensures writes { OnOk result (HasWorked (W.calls writer.old) (W.calls writer.new)) }
+    ensures cause { IfErr result (λ fault. WorkCause fault
+        (over (R.remaining instance_reader.old) (R.remaining instance_reader.new)
+        (R.calls instance_reader.old) (R.calls instance_reader.new))
+        (over (B.remaining base_reader.old) (B.remaining base_reader.new)
+        (B.calls base_reader.old) (B.calls base_reader.new))
+        (over (W.contents writer.old) (W.contents writer.new)
+        (W.calls writer.old) (W.calls writer.new))
+        period job steps (base_reader.new ≡ base_reader.old)) }
+    ensures silent { IfErr result (λ fault. fault ≢ Fault.Write → writer.new ≡ writer.old) }
+{
+    let instance = read_whole_instance(alloc, instance_reader, period)?;
+    let base = read_base(alloc, &instance, base_reader)?;
+    write_work(alloc, &instance, &base, writer, steps, job)
+}
+
+/// Grafts works onto a valid certificate, writes the certificate that comes of it, and then tells what became of each work.
+fn write_graft<W: Sink, E: Sink>(
+    alloc: Global,
+    instance: &Instance,
+    base: &Certificate,
+    works: Vec<WorkText>,
+    writer: &mut W,
+    teller: &mut E,
+) -> Result<(), Fault>
+    requires valid { IsValid instance.now base.now }
+    requires writes_fit { FewerThan (2 ^ 63) (W.calls writer.old) }
+    requires tellings_fit { FewerThan (2 ^ 63) (E.calls teller.old) }
+    ensures ok { OnOk result (WritesGraft instance.now base.now works.items
+        (Appends (W.contents writer.old) (W.contents writer.new))
+        (Appends (E.contents teller.old) (E.contents teller.new))) }
+    ensures writes { OnOk result (HasWorked (W.calls writer.old) (W.calls writer.new)) }
+    ensures tellings { OnOk result (HasWorked (E.calls teller.old) (E.calls teller.new)) }
+    ensures cause { IfErr result (λ fault. OutCause fault
+        ((HasFailed (over (E.contents teller.old) (E.contents teller.new)
+        (E.calls teller.old) (E.calls teller.new))
+        ⊎ HasFailed (over (W.contents writer.old) (W.contents writer.new)
+        (W.calls writer.old) (W.calls writer.new)))
+        × WritesGraft instance.now base.now works.items
+        (GetsFront (over (W.contents writer.old) (W.contents writer.new)
+        (W.calls writer.old) (W.calls writer.new)))
+        (GetsFront (over (E.contents teller.old) (E.contents teller.new)
+        (E.calls teller.old) (E.calls teller.new))))) }
+    ensures silent { IfErr result (λ fault. fault ≢ Fault.Write → writer.new ≡ writer.old) }
+    ensures untold { IfErr result (λ fault. fault ≢ Fault.Write → teller.new ≡ teller.old) }
+{
+    let grafted = graft(alloc, instance, base, works)?;
+    print(&grafted.certificate, writer)?;
+    print_to(teller, &RepliesText(&grafted.replies))?;
+    Ok(())
+}
+
+/// Reads an instance, then a certificate that is valid for it, and then works, whoever made them; grafts the works onto the
+/// certificate, writes the certificate that comes of it, and then tells on the second writer what became of each work. At
+/// most 1,073,741,824 bytes of works are read and judged. Nothing is written and nothing told before the whole certificate
+/// stands.
+pub fn run_graft<R: Source, B: Source, T: Source, W: Sink, E: Sink>(
+    alloc: Global,
+    instance_reader: &mut R,
+    base_reader: &mut B,
+    works_reader: &mut T,
+    writer: &mut W,
+    teller: &mut E,
+    period: u32,
+) -> Result<(), Fault>
+    requires reads_fit { FewerThan (2 ^ 62) (R.calls instance_reader.old) }
+    requires base_reads_fit { FewerThan (2 ^ 62) (B.calls base_reader.old) }
+    requires works_reads_fit { FewerThan (2 ^ 62) (T.calls works_reader.old) }
+    requires writes_fit { FewerThan (2 ^ 62) (W.calls writer.old) }
+    requires tellings_fit { FewerThan (2 ^ 62) (E.calls teller.old) }
+    ensures ok { OnOk result
+        (HasBase (R.remaining instance_reader.old) (R.remaining instance_reader.new)
+        (B.remaining base_reader.old) (B.remaining base_reader.new) period
+        (λ p base. Grafts (T.remaining works_reader.old) (T.remaining works_reader.new) p base
+        (Appends (W.contents writer.old) (W.contents writer.new))
+        (Appends (E.contents teller.old) (E.contents teller.new)))) }
+    ensures reads { OnOk result
+        (HasWorked (R.calls instance_reader.old) (R.calls instance_reader.new)) }
+    ensures base_reads { OnOk result
+        (HasWorked (B.calls base_reader.old) (B.calls base_reader.new)) }
+    ensures works_reads { OnOk result
+        (HasWorked (T.calls works_reader.old) (T.calls works_reader.new)) }
+    ensures writes { OnOk result (HasWorked (W.calls writer.old) (W.calls writer.new)) }
+    ensures tellings { OnOk result (HasWorked (E.calls teller.old) (E.calls teller.new)) }
+    ensures cause { IfErr result (λ fault. GraftCause fault
+        (over (R.remaining instance_reader.old) (R.remaining instance_reader.new)
+        (R.calls instance_reader.old) (R.calls instance_reader.new))
+        (over (B.remaining base_reader.old) (B.remaining base_reader.new)
+        (B.calls base_reader.old) (B.calls base_reader.new))
+        (over (T.remaining works_reader.old) (T.remaining works_reader.new)
+        (T.calls works_reader.old) (T.calls works_reader.new))
+        (over (W.contents writer.old) (W.contents writer.new)
+        (W.calls writer.old) (W.calls writer.new))
+        (over (E.contents teller.old) (E.contents teller.new)
+        (E.calls teller.old) (E.calls teller.new))
+        period (base_reader.new ≡ base_reader.old) (works_reader.new ≡ works_reader.old)) }
+    ensures silent { IfErr result (λ fault. fault ≢ Fault.Write → writer.new ≡ writer.old) }
+    ensures untold { IfErr result (λ fault. fault ≢ Fault.Write → teller.new ≡ teller.old) }
+{
+    let instance = read_whole_instance(alloc, instance_reader, period)?;
+    let base = read_base(alloc, &instance, base_reader)?;
+    let works = read_works(alloc, works_reader)?;
+    write_graft(alloc, &instance, &base, works, writer, teller)
+}

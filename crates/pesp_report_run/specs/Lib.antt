@@ -1,0 +1,3 @@
+pub mod Reporting
+pub mod Violating
+pub mod Naming

@@ -1,0 +1,166 @@
+//! The run that solves.
+
+ghost use Rattle.std.specs.Prelude.{◌≡◌, ◌≢◌, ℕ, ◌<◌, ◌≤◌, ◌^◌, OnOk, IfOk, IfErr};
+ghost use Rattle.std.specs.Io.KnownBytes.{Appends};
+ghost use Rattle.pesp_stream.specs.Counts.{FewerThan, HasWorked};
+ghost use Rattle.pesp_truth.specs.Truth.{IsTrueAnswer};
+ghost use Rattle.pesp_truth.specs.Certificates.{shown_times};
+ghost use Rattle.pesp_search.specs.Solving.{IsSolved, CostsNoMore, IsSearchRefusal};
+ghost use Rattle.pesp_check_run.specs.Devices.{over};
+ghost use Rattle.pesp_solve_run.specs.Solving.{WritesSolution, SolutionCause, Solves, SolveCause, SolvesFrom, SolveFromCause};
+
+use pesp_cert::{Certificate, print};
+use pesp_faults::{Fault, read_timetable, read_whole_instance};
+use pesp_problem::Instance;
+use pesp_search::{Nobody, Observer, SolveRefusal, solve_from};
+use pesp_stream::{Sink, Source};
+use pesp_truth::laws::valid_is_true;
+use std::alloc::Global;
+
+/// A certificate of what the search finds from these times within so many steps, while an observer looks on.
+fn solved<O: Observer>(
+    alloc: Global,
+    instance: &Instance,
+    times: &[u32],
+    steps: u32,
+    observer: &mut O,
+) -> Result<Certificate, SolveRefusal>
+    requires { steps ≤ 100000 }
+    ensures solved { IfOk result
+        (λ certificate. (used : ℕ) × IsSolved instance.now steps used certificate) }
+    ensures improved { IfOk result (CostsNoMore instance.now times.now) }
+    ensures is_true { IfOk result
+        (λ certificate. IsTrueAnswer instance.now certificate.answer (shown_times certificate)) }
+    ensures refused { IfErr result (IsSearchRefusal instance.now steps) }
+{
+    valid_is_true();
+    instance.period();
+    let found = solve_from(alloc, instance, times, steps, observer)?;
+    Ok(found.certificate)
+}
+
+/// Writes a certificate of what the search finds from these times.
+fn write_solution<W: Sink, O: Observer>(
+    alloc: Global,
+    instance: &Instance,
+    times: &[u32],
+    writer: &mut W,
+    steps: u32,
+    observer: &mut O,
+) -> Result<(), Fault>
+    requires steps { steps ≤ 100000 }
+    requires fits { FewerThan (2 ^ 63) (W.calls writer.old) }
+    ensures ok { OnOk result (WritesSolution instance.now times.now steps
+        (Appends (W.contents writer.old) (W.contents writer.new))) }
+    ensures counts { OnOk result (HasWorked (W.calls writer.old) (W.calls writer.new)) }
+    ensures cause { IfErr result (λ fault. SolutionCause fault instance.now times.now steps
+        (over (W.contents writer.old) (W.contents writer.new)
+        (W.calls writer.old) (W.calls writer.new))) }
+    ensures silent { IfErr result (λ fault. fault ≢ Fault.Write → writer.new ≡ writer.old) }
+{
+    let certificate = solved(alloc, instance, times, steps, observer)?;
+    print(&certificate, writer)?;
+    Ok(())
+}
+
+/// Reads an instance, searches for a best timetable by at most so many splits of a leaf, and writes a certificate of what was
+/// found; nothing is written before the whole certificate stands.
+///
+/// Where it answers Ok, the bytes written are the text of a certificate that is valid for the instance of the bytes read, so
+/// its answer is true. An answer that is open has used all steps. `Search` where the instance's cycles or the search's tree
+/// pass their limits, which they can only where the square of the number of rows is above 10000000, or the number of rows
+/// times one more than the steps above 20000000.
+pub fn run_solve<R: Source, W: Sink>(
+    alloc: Global,
+    reader: &mut R,
+    writer: &mut W,
+    period: u32,
+    steps: u32,
+) -> Result<(), Fault>
+    requires steps { steps ≤ 100000 }
+    requires reads_fit { FewerThan (2 ^ 62) (R.calls reader.old) }
+    requires writes_fit { FewerThan (2 ^ 62) (W.calls writer.old) }
+    ensures ok { OnOk result (Solves (R.remaining reader.old) (R.remaining reader.new) period steps
+        (Appends (W.contents writer.old) (W.contents writer.new))) }
+    ensures reads { OnOk result (HasWorked (R.calls reader.old) (R.calls reader.new)) }
+    ensures writes { OnOk result (HasWorked (W.calls writer.old) (W.calls writer.new)) }
+    ensures cause { IfErr result
+        (λ fault. SolveCause fault
+        (over (R.remaining reader.old) (R.remaining reader.new)
+        (R.calls reader.old) (R.calls reader.new))
+        (over (W.contents writer.old) (W.contents writer.new)
+        (W.calls writer.old) (W.calls writer.new)) period steps) }
+
+    // Before the certificate stands the writer isn't called.
+    ensures silent { IfErr result (λ fault. fault ≢ Fault.Write → writer.new ≡ writer.old) }
+{
+    run_solve_watched(alloc, reader, writer, period, steps, &mut Nobody)
+}
+
+/// Runs as `run_solve` does, with the same promises, while an observer looks on.
+pub fn run_solve_watched<R: Source, W: Sink, O: Observer>(
+    alloc: Global,
+    reader: &mut R,
+    writer: &mut W,
+    period: u32,
+    steps: u32,
+    observer: &mut O,
+) -> Result<(), Fault>
+    requires steps { steps ≤ 100000 }
+    requires reads_fit { FewerThan (2 ^ 62) (R.calls reader.old) }
+    requires writes_fit { FewerThan (2 ^ 62) (W.calls writer.old) }
+    ensures ok { OnOk result (Solves (R.remaining reader.old) (R.remaining reader.new) period steps
+        (Appends (W.contents writer.old) (W.contents writer.new))) }
+    ensures reads { OnOk result (HasWorked (R.calls reader.old) (R.calls reader.new)) }
+    ensures writes { OnOk result (HasWorked (W.calls writer.old) (W.calls writer.new)) }
+    ensures cause { IfErr result
+        (λ fault. SolveCause fault
+        (over (R.remaining reader.old) (R.remaining reader.new)
+        (R.calls reader.old) (R.calls reader.new))
+        (over (W.contents writer.old) (W.contents writer.new)
+        (W.calls writer.old) (W.calls writer.new)) period steps) }
+    ensures silent { IfErr result (λ fault. fault ≢ Fault.Write → writer.new ≡ writer.old) }
+{
+    let instance = read_whole_instance(alloc, reader, period)?;
+    write_solution(alloc, &instance, &[], writer, steps, observer)
+}
+
+/// Runs as `run_solve_watched` does, from the times that the second reader gives, which have to be a timetable: the certificate has
+/// a cost, at most theirs. The instance is judged before the times are read. `Times` where their text is refused, and `Report`
+/// with the first row that they violate; nothing is written then.
+pub fn run_solve_from<R: Source, T: Source, W: Sink, O: Observer>(
+    alloc: Global,
+    instance_reader: &mut R,
+    times_reader: &mut T,
+    writer: &mut W,
+    period: u32,
+    steps: u32,
+    observer: &mut O,
+) -> Result<(), Fault>
+    requires steps { steps ≤ 100000 }
+    requires reads_fit { FewerThan (2 ^ 62) (R.calls instance_reader.old) }
+    requires times_reads_fit { FewerThan (2 ^ 62) (T.calls times_reader.old) }
+    requires writes_fit { FewerThan (2 ^ 62) (W.calls writer.old) }
+    ensures ok { OnOk result
+        (SolvesFrom (R.remaining instance_reader.old) (R.remaining instance_reader.new)
+        (T.remaining times_reader.old) (T.remaining times_reader.new) period steps
+        (Appends (W.contents writer.old) (W.contents writer.new))) }
+    ensures reads { OnOk result
+        (HasWorked (R.calls instance_reader.old) (R.calls instance_reader.new)) }
+    ensures times_reads { OnOk result
+        (HasWorked (T.calls times_reader.old) (T.calls times_reader.new)) }
+    ensures writes { OnOk result (HasWorked (W.calls writer.old) (W.calls writer.new)) }
+    ensures cause { IfErr result (λ fault. SolveFromCause fault
+        (over (R.remaining instance_reader.old) (R.remaining instance_reader.new)
+        (R.calls instance_reader.old) (R.calls instance_reader.new))
+        (over (T.remaining times_reader.old) (T.remaining times_reader.new)
+        (T.calls times_reader.old) (T.calls times_reader.new))
+        (over (W.contents writer.old) (W.contents writer.new)
+        (W.calls writer.old) (W.calls writer.new))
+        period steps (times_reader.new ≡ times_reader.old)) }
+    ensures silent { IfErr result (λ fault. fault ≢ Fault.Write → writer.new ≡ writer.old) }
+{
+    let instance = read_whole_instance(alloc, instance_reader, period)?;
+    let times = read_timetable(alloc, &instance, times_reader)?;
+    write_solution(alloc, &instance, &times, writer, steps, observer)
+}

@@ -50,6 +50,11 @@ impl Side {
         })
     }
 
+    /// How many gains there were.
+    pub(crate) fn count(&self) -> u64 {
+        self.all.count
+    }
+
     /// The gain for each unit that is to be expected at a cycle, numbered from 1, whose row has this weight.
     fn unit(&self, cycle: u32, weight: u64) -> u64 {
         let place = (cycle as usize).wrapping_sub(1);

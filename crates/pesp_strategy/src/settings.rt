@@ -6,6 +6,10 @@ pub(crate) const SHALLOW: usize = 6;
 /// How many cuts of a leaf near the root are looked at.
 pub(crate) const CUTS_NEAR_ROOT: usize = 32;
 
+/// Before so many cuts were looked at, a leaf is taken as one near the root: a search that goes on from a certificate has to
+/// learn anew what cuts gain.
+pub(crate) const FIRST_CUTS: u64 = 1_024;
+
 /// How many cuts of another leaf are looked at.
 pub(crate) const CUTS: usize = 2;
 

@@ -4,7 +4,9 @@ use crate::branchings::Branchings;
 use crate::candidates::{Candidate, Judges, candidates};
 use crate::kept::Kept;
 use crate::looking::{Bases, Experience, Found, Looked, best_cut};
-use crate::settings::{CUTS, CUTS_NEAR_ROOT, CUTS_OF_MANY_ROWS, FEW_ROWS, KEPT_BYTES, SHALLOW};
+use crate::settings::{
+    CUTS, CUTS_NEAR_ROOT, CUTS_OF_MANY_ROWS, FEW_ROWS, FIRST_CUTS, KEPT_BYTES, SHALLOW,
+};
 use crate::weighing::{Leaf, Weight};
 use pesp_forest::{Cycles, Frame};
 use pesp_network::Network;
@@ -112,9 +114,10 @@ fn base_cost(frame: &Frame, slacks: &[(u32, u32)]) -> i128 {
     sum
 }
 
-/// How many cuts of a leaf are looked at, of a network of so many rows, below so many cuts.
-fn cuts_for(rows: usize, depth: usize) -> usize {
-    if depth < SHALLOW {
+/// How many cuts of a leaf are looked at, of a network of so many rows, below so many cuts, where so many were looked at so
+/// far.
+fn cuts_for(rows: usize, depth: usize, so_far: u64) -> usize {
+    if depth < SHALLOW || so_far < FIRST_CUTS {
         CUTS_NEAR_ROOT
     } else if rows <= FEW_ROWS {
         CUTS
@@ -144,7 +147,7 @@ fn cuts(
         &work.bases.leaf,
         looking.slacks,
         &judges,
-        cuts_for(setting.frame.rows().len(), looking.depth),
+        cuts_for(setting.frame.rows().len(), looking.depth, low.count()),
     )
 }
 

@@ -25,7 +25,7 @@ module _ (arcs : List Arc) (cycles : List (List SignedRow)) (line k : ℕ) (cycl
   here : cycle_at cycles k ≡ cycle_at cycles (k + 1 - 1)
   here = ap (cycle_at cycles) (omega arith)
 
-  first_open : (IsWalk arcs cycle → ⊥) → IsFirstOpen arcs cycles (k + 1)
+  pub first_open : (IsWalk arcs cycle → ⊥) → IsFirstOpen arcs cycles (k + 1)
   first_open never = record {
     exists = (omega arith, omega arith);
     before = λ c l. before c (omega arith);

@@ -82,11 +82,11 @@ times_fault p c labels times refusal h (inl f) = f.1 (h.0, h.1.0.0)
 times_fault p c labels times refusal h (inr (inl f)) = f.3.violated (h.1.0.1 (f.0 - 1) no_row (omega (arith, f.3.exists)))
 times_fault p c labels times refusal h (inr (inr f)) = f.3 h.1.1
 
-answer_fault : (p : Pesp) (answer : Answer) (labels : List ℤ) (times : List ℕ) (refusal : Refusal) → ShowsAnswer p answer labels times → IsAnswerFault p answer labels times refusal → ⊥
+pub answer_fault : (p : Pesp) (answer : Answer) (labels : List ℤ) (times : List ℕ) (refusal : Refusal) → ShowsAnswer p answer labels times → IsAnswerFault p answer labels times refusal → ⊥
 answer_fault p answer labels times refusal h (inl f) = f.1 (shape_of p answer labels times h)
 answer_fault p answer labels times refusal h (inr f) = times_fault p f.1.0 labels times refusal (timetable_of p answer labels times f.1.0 h f.1.1) f.1.2
 
-cycle_fault : (arcs : List Arc) (cycles : List (List SignedRow)) (line : ℕ) (refusal : Refusal) → All (IsWalk arcs) cycles → IsCycleFault arcs cycles line refusal → ⊥
+pub cycle_fault : (arcs : List Arc) (cycles : List (List SignedRow)) (line : ℕ) (refusal : Refusal) → All (IsWalk arcs) cycles → IsCycleFault arcs cycles line refusal → ⊥
 cycle_fault arcs cycles line refusal h f = let first = f.1 in first.open_ends (h (f.0 - 1) [] (omega (arith, first.exists)))
 
 reason_fault : (n : Net) (table : List (List SignedRow)) (reason : Reason) (node : Node) (at : ℕ) (refusal : Refusal) → IsShut n table reason node → IsReasonFault n table reason node at refusal → ⊥

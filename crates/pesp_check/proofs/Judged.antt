@@ -39,7 +39,7 @@ judged_none n table least lines node first = record {
 }
 
 module _ (lines : List TreeLine) (k : ℕ) (line : TreeLine) (within : k < length lines) (is : line ≡ get_or lines k line) where
-  next_line : map line_of (drop k lines) ≡ line_of line ∷ map line_of (drop (k + 1) lines)
+  pub next_line : map line_of (drop k lines) ≡ line_of line ∷ map line_of (drop (k + 1) lines)
   next_line = ap (map line_of) (drop_more lines k line within) ∙ ap (λ (l : TreeLine). line_of l ∷ map line_of (drop (k + 1) lines)) (sym is)
 
   pub open_there : (nodes : List Node) → are_trees (length nodes) (map line_of (drop k lines)) ≡ true → nodes ≢ []

@@ -21,7 +21,7 @@ use pesp_truth::TreeLine;
 use std::alloc::{AllocError, Global};
 
 /// A line of the tree as the list of its lines says it.
-fn said_by(tree_line: &TreeLine) -> SaidLine<&[Pair]>
+pub fn said_by(tree_line: &TreeLine) -> SaidLine<&[Pair]>
     ensures line { line_said (λ pairs. pairs.now) result ≡ line_of tree_line.now }
     ensures limits { KeepsLineLimits tree_line.now → KeepsSaidLimits (λ pairs. pairs.now) result }
 {

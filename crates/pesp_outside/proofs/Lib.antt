@@ -2,3 +2,4 @@ pub mod Lending
 pub mod Taking
 pub mod Opening
 pub mod Running
+pub mod OneLending

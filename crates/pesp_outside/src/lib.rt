@@ -4,6 +4,7 @@
 
 mod grafting;
 mod jobs;
+pub mod laws;
 mod lent;
 mod printing;
 

@@ -69,7 +69,11 @@ fn scaled_offset(period: u32, mult: i64, left: (i64, i64)) -> i128
 
 /// The period times the sum over the pairs of the multiplier times the offset that it takes; none where a cycle has no
 /// offset left.
-pub fn offset_sum<P: Elements<Pair>>(checker: &Checker<'_>, ranges: &Ranges, pairs: P) -> Option<i128>
+pub fn offset_sum<P: Elements<Pair>>(
+    checker: &Checker<'_>,
+    ranges: &Ranges,
+    pairs: P,
+) -> Option<i128>
     requires ranges { AreRanges checker.now.instance.now ranges.now }
     requires cycles { length ranges.now.offsets.items ≡ length checker.now.table.now }
     requires pairs { ArePairs (length checker.now.table.now) (P.elements pairs) }

@@ -1,7 +1,7 @@
 -- Times that are offered, and what the best ones cost from then on.
 use Rattle.std.proofs.Common.{◌≡◌, ℕ, ◌<◌, ◌≤◌, ◌⊎◌, inl, inr, true, false, List, [], ◌∷◌, refl, arith, sym, ◌∙◌, subst}
 use Rattle.std.specs.Prelude.{Option, Some, None, option_map}
-use Rattle.pesp_problem.specs.NetTimetables.{IsNetTimetable, net_cost}
+use Rattle.pesp_problem.specs.NetTimetables.{net_cost}
 use Rattle.pesp_network.specs.Networks.{KeepsNetLimits}
 use Rattle.pesp_truth.specs.Trees.{Tree}
 use Rattle.pesp_nodes.specs.Problems.{ProblemValue, net_of, IsSmallTable}

@@ -1,5 +1,5 @@
 -- Orders of numbers that may be missing; none stands above every number.
-use Rattle.std.proofs.Common.{ℕ, ◌≤◌, arith}
+use Rattle.std.proofs.Common.{ℕ, arith}
 use Rattle.std.specs.Prelude.{Option, Some, None}
 use Rattle.pesp_machine.specs.States.{IsAtMost}
 

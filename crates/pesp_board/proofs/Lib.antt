@@ -26,3 +26,4 @@ pub mod Certified
 pub mod Taken
 pub mod Adopted
 pub mod LentAll
+pub mod OpenLeaves

@@ -7,3 +7,4 @@ pub mod Growing
 pub mod Grafting
 pub mod Adopting
 pub mod LendingAll
+pub mod OpenLeaves

@@ -11,6 +11,7 @@ ghost use Rattle.pesp_machine.specs.Adopting.{Adopts, LendsAll};
 ghost use Rattle.pesp_machine.specs.Certificates.{IsProblemOf, IsCertificateOf};
 ghost use Rattle.pesp_truth.specs.Certificates.{IsValid, least_of, cost_of};
 ghost use Rattle.pesp_board.specs.Lending.{LendsCuts, LendsFirst};
+ghost use Rattle.pesp_board.specs.OpenLeaves.{AreOpen};
 
 use crate::adopting::{keep_limits, kept_of, problem_of};
 use crate::best;
@@ -142,12 +143,12 @@ impl Board {
         self.queue.least()
     }
 
-    /// How many leaves are open, where values compare as `least` tells them. A number to be told, which no promise rests on.
-    pub fn open_leaves(&self) -> usize {
-        match best::cost_of(&self.best) {
-            None => self.queue.waiting_below(u64::MAX),
-            Some(cost) => self.queue.waiting_below(cost),
-        }
+    /// How many leaves are open: bound leaves that aren't lent and whose value is below the best cost, where there is one.
+    pub fn open_leaves(&self) -> usize
+        ensures { AreOpen self.now.problem self.now.state result }
+    {
+        items_differ(&self.queue);
+        self.queue.waiting_below(best::most_of(&self.best))
     }
 
     /// Whether the number is lent now; then it is spent, and its leaf isn't lent any more. Takes no memory.

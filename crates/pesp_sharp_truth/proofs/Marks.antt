@@ -13,7 +13,7 @@ use Rattle.pesp_sharp.specs.Sharp.{Multiple, AreMultipliers, plain}
 use Rattle.pesp_sharp_truth.specs.Marks.{Marks, AreMarks, IsNamed, AreNamed, walk_at, uses_walks, of_cycles, of_walks, scale_of, multipliers}
 
 -- a number is at most another, or it isn't
-at_most : (a b : ℕ) → ((nat_le a b ≡ true) × (a ≤ b)) ⊎ ((nat_le a b ≡ false) × (b < a))
+pub at_most : (a b : ℕ) → ((nat_le a b ≡ true) × (a ≤ b)) ⊎ ((nat_le a b ≡ false) × (b < a))
 at_most a b = by_test (nat_le a b) refl
   where
     by_test : (t : Bool) → nat_le a b ≡ t → ((nat_le a b ≡ true) × (a ≤ b)) ⊎ ((nat_le a b ≡ false) × (b < a))

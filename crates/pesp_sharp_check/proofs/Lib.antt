@@ -1,0 +1,9 @@
+pub mod Naming
+pub mod Plain
+pub mod Summing
+pub mod Worth
+pub mod Leaves
+pub mod Judged
+pub mod Closing
+pub mod Faults
+pub mod Fronts

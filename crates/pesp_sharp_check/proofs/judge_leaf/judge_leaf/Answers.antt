@@ -1,0 +1,14 @@
+use Rattle.std.proofs.Common.{◌≡◌, ℕ, sym, subst, false}
+use Rattle.pesp_problem.specs.Arcs.{net_of}
+use Rattle.pesp_truth.specs.Trees.{pairs_of_leaf}
+use Rattle.pesp_check.specs.Ranges.{node_of}
+use Rattle.pesp_check.specs.LeafLines.{leaf_said}
+use Rattle.pesp_sharp_truth.specs.Marks.{uses_walks}
+use Rattle.pesp_sharp_check.proofs.Plain.{leaf_verdict}
+use Rattle.pesp_sharp_check.proofs.judge_leaf.judge_leaf.Goals as goal
+
+pub returns-then-not-names_walk-clause-verdict : goal.returns-then-not-names_walk-clause-verdict
+returns-then-not-names_walk-clause-verdict g c walks nets =
+    let leaf = leaf_said g.P.Elements.elements c.args.leaf in
+    let P : ℕ → Type 0 = λ k. uses_walks k (pairs_of_leaf leaf) ≡ false in
+    leaf_verdict (net_of c.args.checker.now.plain.instance.now) walks c.args.checker.now.marks.now c.args.checker.now.plain.least leaf (node_of c.args.ranges.now) c.args.line c.judge_leaf.result (subst P nets.long (sym c.if-not-names_walk.ensures)) (c.judge_leaf.ensures.verdict walks nets)

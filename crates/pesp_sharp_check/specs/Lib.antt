@@ -1,0 +1,4 @@
+pub mod Gains
+pub mod Faults
+pub mod Lines
+pub mod Verdicts

@@ -1,0 +1,89 @@
+//! What a leaf that names marked walks is worth at a node.
+
+ghost use Rattle.std.specs.Prelude.{◌≡◌, ◌↔◌, ◌*◌, ◌^◌, ◌<◌, ◌≤◌, ◌*ℤ◌, ◌≤ℤ◌, ◌<ℤ◌, IsTrue, List, length, pos, unsigned_abs, true, IfSome, IsSomeAnd};
+ghost use Rattle.pesp_problem.specs.declared.row.SignedRow.{SignedRow};
+ghost use Rattle.pesp_problem.specs.Sums.{ceil_div};
+ghost use Rattle.pesp_problem.specs.Arcs.{net_of};
+ghost use Rattle.pesp_nets.specs.Nets.{AreZeros, AreNets};
+ghost use Rattle.pesp_check.specs.Ranges.{node_of, AreRanges};
+ghost use Rattle.pesp_check.specs.Lines.{ArePairLimits};
+ghost use Rattle.pesp_sharp.specs.Sharp as sharp;
+ghost use Rattle.pesp_sharp_truth.specs.Marks.{AreNamed, uses_walks, multipliers};
+
+use crate::checker::MarksChecker;
+use crate::elements::CyclePairs;
+use crate::gains::add_walks;
+use pesp_check::parts::{Elements, Ranges, add_flows, offset_sum};
+use pesp_problem::Pair;
+use pesp_problem::exact::{plus, times};
+use pesp_sharp_leaf::{Rates, clear, rows_sum};
+
+/// The value of a leaf with these pairs, some of which name marked walks; none where a cycle of a pair has no offset left.
+/// The flows, one a row, are 0 before and after; the rates, one a row, are those of the leaf afterwards.
+pub fn sharp_value<P: Elements<Pair>>(
+    checker: &MarksChecker<'_>,
+    ranges: &Ranges,
+    pairs: P,
+    weighted: bool,
+    flows: &mut [i128],
+    rates: &mut [Rates],
+) -> Option<i128>
+    requires ranges { AreRanges checker.now.plain.instance.now ranges.now }
+    requires cycles { length ranges.now.offsets.items ≡ length checker.now.plain.table.now }
+    requires named { AreNamed (length checker.now.plain.table.now)
+        (length checker.now.marks.now.walks) (P.elements pairs) }
+    requires limits { ArePairLimits (P.elements pairs) }
+    requires uses { uses_walks (length checker.now.plain.table.now) (P.elements pairs) ≡ true }
+    requires long { length flows.old ≡ length checker.now.plain.instance.now.rows }
+    requires wide { length rates.old ≡ length checker.now.plain.instance.now.rows }
+    requires zeros { AreZeros flows.old }
+    ensures value { (walks : List (List SignedRow))
+        → AreNets (length checker.now.plain.instance.now.rows) walks checker.now.plain.table.now
+        → result ≡ sharp.sharp_value (net_of checker.now.plain.instance.now) walks
+        (node_of ranges.now)
+        (multipliers (length walks) checker.now.marks.now (P.elements pairs)) weighted }
+    ensures size { IfSome result (λ v. unsigned_abs v ≤ 10 ^ 38) }
+    ensures zeros { AreZeros flows.new }
+{
+    let of_cycles = CyclePairs {
+        cycles: checker.plain.table.len(),
+        pairs,
+    };
+    let offsets = offset_sum(&checker.plain, ranges, of_cycles)?;
+    clear(rates);
+    let gains = add_walks(checker, &ranges.slacks, pairs, rates);
+    add_flows(flows, checker.plain.table, of_cycles);
+    let scale = checker.marks.scale();
+    let rows = rows_sum(checker.arcs, &ranges.slacks, weighted, scale, flows, rates);
+    flows.fill(0);
+    Some(plus(plus(offsets, gains), rows))
+}
+
+/// The scale times the least cost.
+fn scaled(scale: u32, least: u64) -> i128
+    requires { scale ≤ 1000000 }
+    ensures value { result ≡ pos scale *ℤ pos least }
+    ensures size { unsigned_abs result ≤ 2 ^ 84 }
+{
+    times(i128::from(scale), i128::from(least))
+}
+
+/// Whether one number is below another.
+fn is_less(a: i128, b: i128) -> bool
+    ensures { IsTrue result ↔ (a <ℤ b) }
+{
+    a < b
+}
+
+/// Whether there is a value and, by the scale and rounded up, it is at least the least cost.
+pub fn is_enough(value: Option<i128>, scale: u32, least: u64) -> bool
+    requires some { 0 < scale }
+    requires scale { scale ≤ 1000000 }
+    requires size { IfSome value (λ v. unsigned_abs v ≤ 10 ^ 38) }
+    ensures { IsTrue result ↔ IsSomeAnd value (λ v. pos least ≤ℤ ceil_div v scale) }
+{
+    match value {
+        Some(v) => is_less(scaled(scale, least), plus(v, i128::from(scale))),
+        None => false,
+    }
+}

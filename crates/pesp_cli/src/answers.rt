@@ -35,6 +35,7 @@ fn done(run: Result<(), Fault>) -> Result<u8, Fault>
 }
 
 /// Does what is asked of the instance that the reader gives.
+#[tactic(auto, using(crate::proofs::Ends::finished))]
 pub(crate) fn of_instance<R: AllocGlobal + Eprint + Clock, I: Source, W: Sink, E: Sink>(
     rt: &R,
     reader: &mut I,
@@ -79,6 +80,7 @@ pub(crate) fn of_instance<R: AllocGlobal + Eprint + Clock, I: Source, W: Sink, E
 }
 
 /// Does what is asked of the certificate that the reader gives, for the instance of the other reader.
+#[tactic(auto, using(crate::proofs::Ends::finished))]
 pub(crate) fn of_certificate<R: AllocGlobal + Eprint + Clock, I: Source, S: Source, W: Sink>(
     rt: &R,
     instance: &mut I,
@@ -122,6 +124,7 @@ pub(crate) fn of_certificate<R: AllocGlobal + Eprint + Clock, I: Source, S: Sour
 }
 
 /// Does what is asked of the times that the reader gives, for the instance of the other reader.
+#[tactic(auto, using(crate::proofs::Ends::finished))]
 pub(crate) fn of_times<R: AllocGlobal + Files, I: Source, S: Source, W: Sink>(
     rt: &R,
     instance: &mut I,
@@ -191,6 +194,7 @@ fn status_of_violations(count: usize) -> u8
 }
 
 /// Grafts the works that the reader gives onto the certificate of the second reader, for the instance of the first one.
+#[tactic(auto, using(crate::proofs::Ends::finished))]
 pub(crate) fn of_works<R: AllocGlobal, I: Source, B: Source, S: Source, W: Sink, E: Sink>(
     rt: &R,
     instance: &mut I,

@@ -65,6 +65,7 @@ fn solve<R: AllocGlobal + Files, I: Source, W: Sink, O: Observer>(
 }
 
 /// Does what is asked of the instance that the reader gives.
+#[tactic(auto, using(crate::proofs::Ends::finished))]
 pub(crate) fn of_instance<R: AllocGlobal + Eprint + Files + Clock, I: Source, W: Sink, E: Sink>(
     rt: &R,
     reader: &mut I,
@@ -111,6 +112,7 @@ pub(crate) fn of_instance<R: AllocGlobal + Eprint + Files + Clock, I: Source, W:
 }
 
 /// Does what is asked of the certificate that the reader gives, for the instance of the other reader.
+#[tactic(auto, using(crate::proofs::Ends::finished))]
 pub(crate) fn of_certificate<R: AllocGlobal + Eprint + Clock, I: Source, S: Source, W: Sink>(
     rt: &R,
     instance: &mut I,
@@ -154,6 +156,7 @@ pub(crate) fn of_certificate<R: AllocGlobal + Eprint + Clock, I: Source, S: Sour
 }
 
 /// Does what is asked of the times that the reader gives, for the instance of the other reader.
+#[tactic(auto, using(crate::proofs::Ends::finished))]
 pub(crate) fn of_times<R: AllocGlobal + Files, I: Source, S: Source, W: Sink>(
     rt: &R,
     instance: &mut I,
@@ -223,6 +226,7 @@ fn status_of_violations(count: usize) -> u8
 }
 
 /// Grafts the works that the reader gives onto the certificate of the second reader, for the instance of the first one.
+#[tactic(auto, using(crate::proofs::Ends::finished))]
 pub(crate) fn of_works<R: AllocGlobal, I: Source, B: Source, S: Source, W: Sink, E: Sink>(
     rt: &R,
     instance: &mut I,

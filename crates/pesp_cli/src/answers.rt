@@ -36,6 +36,7 @@ fn done(run: Result<(), Fault>) -> Result<u8, Fault>
 }
 
 /// Solves the instance that the reader gives, from the times in a file where one is named, while an observer looks on.
+#[tactic(auto, using(crate::proofs::Ends::finished))]
 fn solve<R: AllocGlobal + Files, I: Source, W: Sink, O: Observer>(
     rt: &R,
     reader: &mut I,

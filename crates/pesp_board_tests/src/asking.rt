@@ -19,11 +19,12 @@ fn told(alloc: Global, value: Option<u64>) -> Option<String> {
     }
 }
 
-/// A question and its answer: `best`, `least`, `problem`, `leaf JOB` or `path JOB`.
+/// A question and its answer: `best`, `least`, `open`, `problem`, `leaf JOB` or `path JOB`.
 pub(crate) fn ask(alloc: Global, board: &Board, lent: &[Lent], words: &[&str]) -> Option<String> {
     match *words.get(0)? {
         "best" => told(alloc, board.best()),
         "least" => told(alloc, board.least()),
+        "open" => format!(in alloc; "{} leaves", board.open_leaves()).ok(),
         "leaf" => leaf(alloc, board, number_of(lent, words)?),
         "path" => path(alloc, lent, words),
         "problem" => size(alloc, board),

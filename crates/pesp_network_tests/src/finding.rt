@@ -1,24 +1,49 @@
 //! What is found over a network.
 
 use crate::given::{given_network, list_of, ranges_of};
+use crate::plain::is_as_plain;
 use pesp_cases::{small, spell_list};
 use pesp_network::Network;
 use pesp_propagate::{Domains, Outcome, dive, propagate};
 use pesp_simplex::{Improved, improve};
 use std::alloc::Global;
 
-/// A question to the sets that propagation leaves: the outcome, the empty event, or what is left of an event.
+/// A question to the sets that propagation leaves: the outcome, the empty event, what is left of an event, or whether the plain
+/// way leaves the same.
 pub(crate) fn ask_domains(alloc: Global, lines: &[&str], words: &[&str]) -> Option<String> {
     ask_left(alloc, &given_network(alloc, lines)?, words)
 }
 
 fn ask_left(alloc: Global, network: &Network, words: &[&str]) -> Option<String> {
     let (outcome, domains) = propagated(alloc, network)?;
-    answer(alloc, outcome, &domains, words)
+    answer(alloc, network, outcome, &domains, words)
 }
 
-fn answer(alloc: Global, outcome: Outcome, domains: &Domains, words: &[&str]) -> Option<String> {
+/// Whether the plain way leaves the same sets.
+fn compare(
+    alloc: Global,
+    network: &Network,
+    outcome: Outcome,
+    domains: &Domains,
+) -> Option<String> {
+    let found_empty = matches!(outcome, Outcome::Empty { .. });
+    let word = if is_as_plain(alloc, network, domains, found_empty)? {
+        "the same"
+    } else {
+        "others"
+    };
+    String::from_str(alloc, word).ok()
+}
+
+fn answer(
+    alloc: Global,
+    network: &Network,
+    outcome: Outcome,
+    domains: &Domains,
+    words: &[&str],
+) -> Option<String> {
     match *words.get(1)? {
+        "plain" => compare(alloc, network, outcome, domains),
         "outcome" => spell_outcome(alloc, outcome),
         "empty" => spell_empty(alloc, outcome),
         "left" => left(alloc, domains, small(words, 2)?),

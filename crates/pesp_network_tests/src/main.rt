@@ -9,6 +9,7 @@ mod leaves;
 mod levels;
 mod networks;
 mod nodes;
+mod plain;
 mod playing;
 mod proposals;
 mod reducing;

@@ -5,6 +5,7 @@
 mod certificates;
 mod commands;
 mod conflicting;
+mod desk;
 mod devices;
 mod drain;
 mod drawings;

@@ -12,7 +12,7 @@ use crate::reports::{ask_report, ask_times};
 use crate::resuming::{ask_gap, ask_resume, ask_resumed};
 use crate::runs::{ask_check, ask_progress, ask_run_report, ask_solve, ask_solved, ask_violations};
 use crate::spellings::{ask_lines, ask_number, ask_words};
-use crate::statuses::ask_status;
+use crate::statuses::{ask_program, ask_status};
 use crate::streams::{ask_bytes, ask_pages};
 use crate::works::ask_works;
 use pesp_cases::{look_up, split_word};
@@ -112,10 +112,11 @@ enum Role {
     Given,
     Name,
     Status,
+    Program,
 }
 
 /// The first word of each line that is no question.
-const ROLES: [(&str, Role); 8] = [
+const ROLES: [(&str, Role); 9] = [
     ("instance", Role::Given),
     ("base", Role::Given),
     ("names", Role::Given),
@@ -124,6 +125,7 @@ const ROLES: [(&str, Role); 8] = [
     ("device", Role::Given),
     ("case", Role::Name),
     ("status", Role::Status),
+    ("program", Role::Program),
 ];
 
 /// A line with its answer; nothing of what is given.
@@ -143,6 +145,10 @@ fn tell<R: AllocGlobal + Input + Print + Eprint + Files + Clock>(
         Some(Role::Status) => {
             let status = ask_status(rt, rest)?;
             format!(in alloc; "{line}: {status}\n").ok()
+        }
+        Some(Role::Program) => {
+            let end = ask_program(rt, lines, rest)?;
+            format!(in alloc; "{line}: {end}\n").ok()
         }
         None => tell_answer(alloc, lines, line),
     }

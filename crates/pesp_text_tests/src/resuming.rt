@@ -5,6 +5,7 @@ use crate::drain::drain_of;
 use crate::feed::feed_of;
 use crate::given::{Given, given_by, period_of, text_of};
 use crate::telling::{tell_check, tell_fault, tell_run};
+use pesp_cases::words_of;
 use pesp_faults::Fault;
 use pesp_resume::Nobody;
 use pesp_resume_run::{run_gap, run_resume};
@@ -54,12 +55,30 @@ fn resumed(
     Ok(writer.into_inner().taken)
 }
 
-/// What `check` says of the certificate that `resume` writes.
+/// The certificate that comes of going on from a base, and from what comes of it, in so many steps each time.
+fn resumed_often(
+    alloc: Global,
+    instance: &[u8],
+    base: Vec<u8>,
+    period: u32,
+    words: &[&str],
+) -> Option<Result<Vec<u8>, Fault>> {
+    let mut certificate = base;
+    for word in words {
+        match resumed(alloc, instance, &certificate, period, word.parse().ok()?) {
+            Ok(next) => certificate = next,
+            Err(fault) => return Some(Err(fault)),
+        }
+    }
+    Some(Ok(certificate))
+}
+
+/// What `check` says of the certificate that `resume` writes, where it goes on once for each number of steps.
 pub(crate) fn ask_resumed(alloc: Global, lines: &[&str], rest: &str) -> Option<String> {
     let period = period_of(lines)?;
     let instance = text_of(alloc, lines, "instance")?;
     let base = text_of(alloc, lines, "input")?;
-    match resumed(alloc, &instance, &base, period, rest.parse().ok()?) {
+    match resumed_often(alloc, &instance, base, period, &words_of(alloc, rest)?)? {
         Ok(certificate) => tell_check(alloc, &instance, &certificate, period),
         Err(fault) => tell_fault(alloc, &fault, &[]),
     }

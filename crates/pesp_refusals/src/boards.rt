@@ -1,0 +1,122 @@
+//! A board before and after a refusal.
+
+ghost use Rattle.std.specs.Prelude.{◌≡◌, IfSome};
+ghost use Rattle.pesp_machine.specs.Certificates.{IsProblemOf};
+
+use crate::answers::{Answer, right_if};
+use crate::texts::instance_of;
+use pesp_board::{Board, GiveRefusal, LendRefusal, Work};
+use pesp_cases::signed_rows;
+use pesp_cert::{Certificate, print};
+use pesp_network::Network;
+use pesp_nodes::Problem;
+use pesp_problem::{Cut, Instance, Memory, Walk};
+use pesp_stream::Counted;
+use std::alloc::Global;
+
+/// What is seen of a board from outside.
+#[derive(Drop)]
+struct View {
+    least: Option<u64>,
+    best: Option<u64>,
+    text: Vec<u8>,
+}
+
+/// The text of a certificate, where memory lasts.
+fn text_of(alloc: Global, certificate: &Certificate) -> Option<Vec<u8>> {
+    let mut writer = Counted::new(Vec::new(alloc));
+    print(certificate, &mut writer).ok()?;
+    Some(writer.into_inner())
+}
+
+/// What is seen of the board, where memory lasts.
+fn view_of(alloc: Global, instance: &Instance, board: &Board) -> Option<View>
+    requires { IsProblemOf instance.now board.now.problem }
+{
+    let certificate = board.certificate(alloc, instance).ok()?;
+    Some(View {
+        least: board.least(),
+        best: board.best(),
+        text: text_of(alloc, &certificate)?,
+    })
+}
+
+/// Whether the board looks as before.
+fn looks_as(alloc: Global, instance: &Instance, board: &Board, before: &View) -> bool
+    requires { IsProblemOf instance.now board.now.problem }
+{
+    match view_of(alloc, instance, board) {
+        Some(now) => {
+            now.least == before.least && now.best == before.best && now.text == before.text
+        }
+        None => false,
+    }
+}
+
+/// Lends the root and splits it; whether both are done.
+fn lend_and_split(alloc: Global, board: &mut Board) -> Result<bool, Memory>
+    ensures { board.new.problem ≡ board.old.problem }
+{
+    let job = match board.lend(alloc) {
+        Ok(Some(job)) => job,
+        Err(LendRefusal::Memory) => return Err(Memory),
+        Ok(None) | Err(LendRefusal::NumbersSpent) => return Ok(false),
+    };
+    let work = Work::Split(Cut::Offset { cycle: 1, k: -1 });
+    match board.give(alloc, job.number, &work) {
+        Ok(()) => Ok(true),
+        Err(GiveRefusal::Memory) => Err(Memory),
+        Err(_) => Ok(false),
+    }
+}
+
+/// Right where the root is split; `Memory` where that is refused and the board looks as before.
+fn try_split(alloc: Global, instance: &Instance, board: &mut Board) -> Answer
+    requires { IsProblemOf instance.now board.old.problem }
+{
+    let Some(before) = view_of(alloc, instance, board) else {
+        return Answer::Memory;
+    };
+    match lend_and_split(alloc, board) {
+        Ok(done) => right_if(done && board.least() == Some(0)),
+        Err(Memory) if looks_as(alloc, instance, board, &before) => Answer::Memory,
+        Err(Memory) => Answer::Wrong,
+    }
+}
+
+/// The problem of the instance with its one cycle.
+fn problem_of(alloc: Global, instance: &Instance) -> Option<Problem>
+    ensures { IfSome result (IsProblemOf instance.now) }
+{
+    let mut table = Vec::new(alloc);
+    table
+        .push(Walk::new(signed_rows(alloc, &["+1", "-2"])?))
+        .ok()?;
+    match Network::of(alloc, instance) {
+        Ok(network) => Problem::new(alloc, network, table).ok(),
+        Err(_) => None,
+    }
+}
+
+fn board_of(alloc: Global, instance: &Instance) -> Option<Board>
+    ensures { IfSome result (λ board. IsProblemOf instance.now board.problem) }
+{
+    match problem_of(alloc, instance) {
+        Some(problem) => Board::new(alloc, problem).ok(),
+        None => None,
+    }
+}
+
+fn split_new(alloc: Global, instance: &Instance) -> Answer {
+    match board_of(alloc, instance) {
+        Some(mut board) => try_split(alloc, instance, &mut board),
+        None => Answer::Memory,
+    }
+}
+
+pub(crate) fn try_board(alloc: Global) -> Answer {
+    match instance_of(alloc) {
+        Some(instance) => split_new(alloc, &instance),
+        None => Answer::Memory,
+    }
+}

@@ -1,0 +1,134 @@
+//! Calls over texts, instances and certificates.
+
+use crate::answers::{Answer, right_if};
+use crate::texts::{CERTIFICATE, INSTANCE, PERIOD, REPORT, certificate_of, instance_of};
+use pesp_cert::{CertRefusal, Certificate, parse};
+use pesp_check::{Verdict, check};
+use pesp_check_text::{CheckFault, check_text};
+use pesp_instance::{ReadRefusal, read_instance};
+use pesp_problem::Instance;
+use pesp_report::{ReportRefusal, report};
+use pesp_search::{SolveRefusal, solve};
+use pesp_stream::Counted;
+use pesp_truth::Answer as Claim;
+use std::alloc::Global;
+use std::io;
+use std::io::Write;
+
+pub(crate) fn try_read_instance(alloc: Global) -> Answer {
+    match read_instance(alloc, INSTANCE, PERIOD) {
+        Ok(instance) => right_if(instance.rows().len() == 2 && instance.events().len() == 2),
+        Err(ReadRefusal::Memory) => Answer::Memory,
+        Err(_) => Answer::Wrong,
+    }
+}
+
+pub(crate) fn try_parse(alloc: Global) -> Answer {
+    match parse(alloc, CERTIFICATE) {
+        Ok(certificate) => {
+            right_if(certificate.answer() == Claim::Optimal(5) && certificate.tree().len() == 3)
+        }
+        Err(CertRefusal::Memory) => Answer::Memory,
+        Err(_) => Answer::Wrong,
+    }
+}
+
+fn check_on(alloc: Global, instance: &Instance, certificate: &Certificate) -> Answer {
+    match check(alloc, instance, certificate) {
+        Ok(verdict) => right_if(verdict == Verdict::Accepted),
+        Err(_) => Answer::Memory,
+    }
+}
+
+fn check_parsed(alloc: Global, instance: &Instance) -> Answer {
+    match certificate_of(alloc) {
+        Some(certificate) => check_on(alloc, instance, &certificate),
+        None => Answer::Memory,
+    }
+}
+
+pub(crate) fn try_check(alloc: Global) -> Answer {
+    match instance_of(alloc) {
+        Some(instance) => check_parsed(alloc, &instance),
+        None => Answer::Memory,
+    }
+}
+
+fn check_text_on(alloc: Global, instance: &Instance) -> Answer {
+    let mut reader = Counted::new(CERTIFICATE);
+    match check_text(alloc, instance, &mut reader) {
+        Ok((verdict, claim)) => {
+            right_if(verdict == Verdict::Accepted && claim == Claim::Optimal(5))
+        }
+        Err(CheckFault::Memory) => Answer::Memory,
+        Err(_) => Answer::Wrong,
+    }
+}
+
+pub(crate) fn try_check_text(alloc: Global) -> Answer {
+    match instance_of(alloc) {
+        Some(instance) => check_text_on(alloc, &instance),
+        None => Answer::Memory,
+    }
+}
+
+/// A writer that compares what it takes with a text.
+#[derive(Drop)]
+struct Comparing<'a> {
+    rest: &'a [u8],
+    same: bool,
+}
+
+impl Write for Comparing<'_> {
+    fn write(&mut self, buf: &[u8]) -> io::Result<usize> {
+        match self.rest.split_at_checked(buf.len()) {
+            Some((front, rest)) => {
+                self.same &= front == buf;
+                self.rest = rest;
+            }
+            None => self.same = false,
+        }
+        Ok(buf.len())
+    }
+
+    fn flush(&mut self) -> io::Result<()> {
+        Ok(())
+    }
+}
+
+fn report_on(alloc: Global, instance: &Instance) -> Answer {
+    let mut writer = Counted::new(Comparing {
+        rest: REPORT,
+        same: true,
+    });
+    match report(alloc, instance, &[0, 0], &mut writer) {
+        Ok(()) => {
+            let written = writer.into_inner();
+            right_if(written.same && written.rest.is_empty())
+        }
+        Err(ReportRefusal::Memory) => Answer::Memory,
+        Err(_) => Answer::Wrong,
+    }
+}
+
+pub(crate) fn try_report(alloc: Global) -> Answer {
+    match instance_of(alloc) {
+        Some(instance) => report_on(alloc, &instance),
+        None => Answer::Memory,
+    }
+}
+
+fn solve_on(alloc: Global, instance: &Instance) -> Answer {
+    match solve(alloc, instance, 3) {
+        Ok(solved) => right_if(solved.certificate.answer() == Claim::Optimal(5)),
+        Err(SolveRefusal::Memory) => Answer::Memory,
+        Err(_) => Answer::Wrong,
+    }
+}
+
+pub(crate) fn try_solve(alloc: Global) -> Answer {
+    match instance_of(alloc) {
+        Some(instance) => solve_on(alloc, &instance),
+        None => Answer::Memory,
+    }
+}

@@ -1,0 +1,36 @@
+//! Calls that may be refused for want of memory, a line for each: `right` where it answers what it should, `memory` where it is
+//! refused for that, and `wrong` else. `bench/refusals` runs it with each growth refused in turn.
+#![tactic(auto)]
+
+mod answers;
+mod boards;
+mod calls;
+mod texts;
+
+use crate::answers::{Answer, status_of, word_of};
+use crate::boards::try_board;
+use crate::calls::{
+    try_check, try_check_text, try_parse, try_read_instance, try_report, try_solve,
+};
+use std::process::ExitCode;
+
+fn main(rt: HostRuntime) -> ExitCode {
+    let alloc = rt.alloc();
+    let answers = [
+        tell(&rt, "read_instance: ", try_read_instance(alloc)),
+        tell(&rt, "parse: ", try_parse(alloc)),
+        tell(&rt, "check: ", try_check(alloc)),
+        tell(&rt, "check_text: ", try_check_text(alloc)),
+        tell(&rt, "report: ", try_report(alloc)),
+        tell(&rt, "solve: ", try_solve(alloc)),
+        tell(&rt, "board: ", try_board(alloc)),
+    ];
+    ExitCode::from(status_of(&answers))
+}
+
+/// Tells what became of a call.
+fn tell<R: Print>(rt: &R, name: &str, answer: Answer) -> Answer {
+    let _ = rt.print(name);
+    let _ = rt.println(word_of(answer));
+    answer
+}

@@ -12,7 +12,7 @@ use Rattle.pesp_truth.specs.declared.answer.Answer.TheVariants.{Optimal, Infeasi
 use Rattle.pesp_truth.specs.declared.tree.TreeLine.{TreeLine}
 use Rattle.pesp_truth.specs.Trees.{Tree, Leaf, Ends, Branch, Bound, Shut, ByPropagation, EndLine, preorder}
 use Rattle.pesp_truth.specs.Leaves.{IsLeafAt}
-use Rattle.pesp_truth.specs.Certificates.{Content, line_of, IsValid, ShowsAnswer}
+use Rattle.pesp_truth.specs.Certificates.{Content, line_of, cost_of, IsValid, ShowsTimetable, ShowsAnswer}
 use Rattle.pesp_truth.proofs.Lines.{whole_tree}
 use Rattle.pesp_nodes.specs.Problems.{ProblemValue, IsSmallTable}
 use Rattle.pesp_machine.specs.declared.work.Work.TheVariants as works
@@ -20,14 +20,14 @@ use Rattle.pesp_machine.specs.Leaves.{told}
 use Rattle.pesp_machine.specs.Limits.{pairs_in, IsLineOf}
 use Rattle.pesp_machine.specs.States.{State, IsJobLeaf, node_at, value_at}
 use Rattle.pesp_machine.specs.Reached.{IsOrderly}
-use Rattle.pesp_machine.specs.Events.{Takes, IsGraft}
+use Rattle.pesp_machine.specs.Events.{Takes, IsGraft, IsCheaper}
 use Rattle.pesp_machine.proofs.Sizes.{put_lines_add_up, put_pairs_add_up}
 use Rattle.pesp_machine.proofs.TreeLimits.{graft_lines}
 use Rattle.pesp_board.proofs.Certified.{lines_fit, same_pairs, all_two}
 use Rattle.pesp_search_laws.proofs.Sizes.{leaf_pairs}
 use Rattle.pesp_works.specs.Works.{WorkValue, HasText}
 use Rattle.pesp_works.proofs.LimitLaws.{work_limits_iff}
-use Rattle.pesp_worker.specs.HandingIn.{AreTimesFor, AreShort, Fits, without_times}
+use Rattle.pesp_worker.specs.HandingIn.{AreCheaperTimes, AreTimesFor, AreShort, Fits, without_times}
 
 -- ---- texts
 
@@ -123,12 +123,19 @@ no_times : (ts : List (ℤ × ℕ)) → map (λ t. t.1) ts ≡ [] → ts ≡ []
 no_times [] e = refl
 no_times (t ∷ ts) e = cc
 
-shown_are : (i : Pesp) (answer : Answer) (ts : List (ℤ × ℕ)) → ShowsAnswer i answer (map (λ t. t.0) ts) (map (λ t. t.1) ts) → AreTimesFor i ts
-shown_are i (Optimal c) ts h = inr (h.0, h.1.0)
-shown_are i Infeasible ts h = inl (no_times ts h)
-shown_are i (Bounded least (Some c)) ts h = inr (h.1.0, h.1.1.0)
-shown_are i (Bounded least None) ts h = inl (no_times ts h)
+cheaper_are : (i : Pesp) (known : Option ℕ) (ts : List (ℤ × ℕ)) (c : ℕ) → ShowsTimetable i (map (λ t. t.0) ts) (map (λ t. t.1) ts) c → IsCheaper c known → AreCheaperTimes i known ts
+cheaper_are i known ts c h less = record {
+  labels = h.0;
+  timetable = h.1.0;
+  cheaper = subst (λ (n : ℕ). IsCheaper n known) (sym h.1.1) less;
+}
 
--- what a valid certificate shows
-pub times_for : (i : Pesp) (c : Content) → IsValid i c → AreTimesFor i c.times
-times_for i c valid = shown_are i c.answer c.times valid.answer
+shown_are : (i : Pesp) (known : Option ℕ) (answer : Answer) (ts : List (ℤ × ℕ)) → IfSome (cost_of answer) (λ c. IsCheaper c known) → ShowsAnswer i answer (map (λ t. t.0) ts) (map (λ t. t.1) ts) → AreTimesFor i known ts
+shown_are i known (Optimal c) ts less h = inr (cheaper_are i known ts c h less)
+shown_are i known Infeasible ts less h = inl (no_times ts h)
+shown_are i known (Bounded least (Some c)) ts less h = inr (cheaper_are i known ts c h.1 less)
+shown_are i known (Bounded least None) ts less h = inl (no_times ts h)
+
+-- what a valid certificate shows that costs less than so much
+pub times_for : (i : Pesp) (known : Option ℕ) (c : Content) → IfSome (cost_of c.answer) (λ n. IsCheaper n known) → IsValid i c → AreTimesFor i known c.times
+times_for i known c less valid = shown_are i known c.answer c.times less valid.answer

@@ -3,3 +3,4 @@ pub mod Fitting
 pub mod Holds
 pub mod Counting
 pub mod Judgments
+pub mod Taken

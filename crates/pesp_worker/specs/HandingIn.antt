@@ -1,28 +1,34 @@
 -- Work on an open leaf of a certificate, as it is handed in.
-use Rattle.std.specs.Prelude.{◌≡◌, ◌⊎◌, ⊤, ℕ, ℤ, ◌≤◌, List, [], length, map, true}
+use Rattle.std.specs.Prelude.{◌≡◌, ◌⊎◌, ⊤, ℕ, ℤ, ◌≤◌, List, [], length, map, Option, true}
 use Rattle.std.specs.List.{list_all}
 use Rattle.std.specs.Global.{Vec}
 use Rattle.pesp_problem.specs.declared.pair.Pair.{Pair}
 use Rattle.pesp_problem.specs.declared.cut.Cut.{Cut}
 use Rattle.pesp_problem.specs.declared.cut.Side.{Side}
-use Rattle.pesp_problem.specs.Timetables.{Pesp, IsTimetable}
+use Rattle.pesp_problem.specs.Timetables.{Pesp, IsTimetable, cost}
 use Rattle.pesp_truth.specs.declared.tree.TreeLine.{TreeLine}
-use Rattle.pesp_truth.specs.Certificates.{Content, line_of}
+use Rattle.pesp_truth.specs.Certificates.{Content, line_of, cost_of}
 use Rattle.pesp_nodes.specs.Problems.{ProblemValue}
 use Rattle.pesp_cert.specs.Limits.{is_time}
 use Rattle.pesp_machine.specs.declared.job.Job.{Job}
 use Rattle.pesp_machine.specs.declared.work.Work.TheVariants.{Tree}
 use Rattle.pesp_machine.specs.States.{State, HasLeaf, node_at}
-use Rattle.pesp_machine.specs.Events.{IsValidAt}
+use Rattle.pesp_machine.specs.Events.{IsValidAt, IsCheaper}
 use Rattle.pesp_search_laws.specs.Rooms.{branch_lines}
 use Rattle.pesp_works.specs.Works.{WorkValue, HasText}
 use Rattle.pesp_outside.specs.Lent.{IsLentFrom}
 use Rattle.pesp_worker.specs.declared.refusal.WorkRefusal.{WorkRefusal}
 use Rattle.pesp_worker.specs.declared.refusal.WorkRefusal.TheVariants.{Memory, NoSuchJob}
 
--- no times; or the labels are those of the events in order, and the times are a timetable
-abbrev pub AreTimesFor : Pesp → List (ℤ × ℕ) → Type 0
-AreTimesFor instance times = (times ≡ []) ⊎ ((map (λ t. t.0) times ≡ instance.events) × IsTimetable instance (map (λ t. t.1) times))
+-- the labels are those of the events in order, and the times are a timetable that costs less than so much, where so much is known
+pub record AreCheaperTimes (instance : Pesp) (known : Option ℕ) (times : List (ℤ × ℕ)) : Type 0 where
+  pub labels : map (λ t. t.0) times ≡ instance.events
+  pub timetable : IsTimetable instance (map (λ t. t.1) times)
+  pub cheaper : IsCheaper (cost instance.period instance.rows (map (λ t. t.1) times)) known
+
+-- no times, or such times
+abbrev pub AreTimesFor : Pesp → Option ℕ → List (ℤ × ℕ) → Type 0
+AreTimesFor instance known times = (times ≡ []) ⊎ AreCheaperTimes instance known times
 
 -- the lines are a tree that may stand in the place of the leaf with which the number is lent
 pub record StandsFor (p : ProblemValue) (state : State) (number : ℕ) (tree : List TreeLine) : Type 0 where
@@ -42,11 +48,11 @@ pub record IsTreeOn (instance : Pesp) (base : Content) (job steps : ℕ) (tree :
   pub stands : StandsFor problem lent job tree
   pub few : branch_lines (map line_of tree) ≤ steps
 
--- a work for an open leaf of a base: of this job, with such a tree, with no times or a timetable, and with a text
+-- a work for an open leaf of a base: of this job, with such a tree, with no times or a timetable that costs less than the base's, and with a text
 pub record IsWorkOn (instance : Pesp) (base : Content) (job steps : ℕ) (work : WorkValue) : Type 0 where
   pub number : work.job ≡ job
   pub tree : IsTreeOn instance base job steps work.tree
-  pub times : AreTimesFor instance work.times
+  pub times : AreTimesFor instance (cost_of base.answer) work.times
   pub text : HasText work
 
 -- the base has no more open leaves than so many

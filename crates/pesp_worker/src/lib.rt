@@ -6,6 +6,7 @@ mod cutting_out;
 mod holding;
 mod improving;
 mod judging;
+pub mod laws;
 mod refusal;
 mod searching;
 mod working;

@@ -1,8 +1,9 @@
 //! The search for a tree and for times on a board where one leaf is open.
 
-ghost use Rattle.std.specs.Prelude.{◌≡◌, ◌≤◌, length, IfOk, IfErr};
+ghost use Rattle.std.specs.Prelude.{◌≡◌, ◌≤◌, length, IfOk, IfErr, IfSome, IsTrue};
 ghost use Rattle.pesp_problem.specs.Timetables.{Pesp};
-ghost use Rattle.pesp_truth.specs.Certificates.{IsValid};
+ghost use Rattle.pesp_truth.specs.Certificates.{IsValid, cost_of};
+ghost use Rattle.pesp_machine.specs.Events.{IsCheaper};
 ghost use Rattle.pesp_machine.specs.Certificates.{IsProblemOf};
 ghost use Rattle.pesp_worker.specs.declared.refusal.WorkRefusal.TheVariants.{NoSuchJob};
 ghost use Rattle.pesp_worker.specs.HandingIn.{AreTimesFor, AreShort, IsWorkRefusal};
@@ -14,7 +15,7 @@ use pesp_board::Board;
 use pesp_cert::Certificate;
 use pesp_outside::{Lent, lend_base};
 use pesp_problem::{Cut, Instance, Memory, Side};
-use pesp_truth::TreeLine;
+use pesp_truth::{Answer, TreeLine};
 use pesp_turns::{Nobody, Search};
 use std::alloc::Global;
 
@@ -49,6 +50,37 @@ fn work_on(alloc: Global, instance: &Instance, board: Board, steps: u32) -> Resu
     split_on(alloc, instance, board, steps)
 }
 
+/// The cost of an answer, where it has one.
+fn cost_in(answer: Answer) -> Option<u64>
+    ensures { result ≡ cost_of answer }
+{
+    match answer {
+        Answer::Optimal(cost) => Some(cost),
+        Answer::Infeasible => None,
+        Answer::Bounded { cost, .. } => cost,
+    }
+}
+
+/// Whether a cost is below another one, where that is known.
+fn is_cheaper(cost: u64, known: Option<u64>) -> bool
+    ensures { IsTrue result → IsCheaper cost known }
+{
+    match known {
+        None => true,
+        Some(known) => cost < known,
+    }
+}
+
+/// Whether there is a cost and it is below another one, where that is known.
+fn costs_less(cost: Option<u64>, known: Option<u64>) -> bool
+    ensures { IsTrue result → IfSome cost (λ c. IsCheaper c known) }
+{
+    match cost {
+        None => false,
+        Some(cost) => is_cheaper(cost, known),
+    }
+}
+
 /// The same times once more.
 fn copy_times(alloc: Global, times: &[(i64, u32)]) -> Result<Vec<(i64, u32)>, Memory>
     ensures { IfOk result (λ copy. copy.items ≡ times.now) }
@@ -56,67 +88,73 @@ fn copy_times(alloc: Global, times: &[(i64, u32)]) -> Result<Vec<(i64, u32)>, Me
     Ok(times.to_vec(alloc)?)
 }
 
-/// The times that a certificate shows, where they are wanted.
-fn shown(alloc: Global, certificate: &Certificate, wanted: bool) -> Result<Vec<(i64, u32)>, Memory>
+/// The times that a certificate shows, where they cost less than so much, or where no cost is known.
+fn shown(
+    alloc: Global,
+    certificate: &Certificate,
+    known: Option<u64>,
+) -> Result<Vec<(i64, u32)>, Memory>
     ensures times { (instance : Pesp) → IsValid instance certificate.now
-        → IfOk result (λ times. AreTimesFor instance times.items) }
+        → IfOk result (λ times. AreTimesFor instance known times.items) }
     ensures short { IfOk result (λ times. AreShort times.items) }
 {
-    if !wanted {
+    let cost = cost_in(certificate.answer());
+    if !costs_less(cost, known) {
         return Ok(Vec::new(alloc));
     }
     let copy = copy_times(alloc, certificate.times())?;
     Ok(copy)
 }
 
-/// What a board that was worked on has for the leaf to which this path leads: a tree, and times, where it has others than one
-/// of this cost before.
+/// What a board that was worked on has for the leaf to which this path leads: a tree, and times, where they cost less than so
+/// much.
 fn found_on(
     alloc: Global,
     instance: &Instance,
     board: &Board,
     path: &[(Cut, Side)],
-    before: Option<u64>,
+    known: Option<u64>,
 ) -> Result<Found, Memory>
     requires of { IsProblemOf instance.now board.now.problem }
-    ensures times { IfOk result (λ found. AreTimesFor instance.now found.times.items) }
+    ensures times { IfOk result (λ found. AreTimesFor instance.now known found.times.items) }
     ensures short { IfOk result (λ found. AreShort found.times.items) }
 {
     let certificate = board.certificate(alloc, instance)?;
-    let times = shown(alloc, &certificate, board.best() != before)?;
+    let times = shown(alloc, &certificate, known)?;
     let tree = cut_out(alloc, certificate.tree(), path)?;
     Ok(Found { times, tree })
 }
 
-/// What is found for the leaf that is open, to which this path leads: a tree, and times that are cheaper than those so far.
+/// What is found for the leaf that is open, to which this path leads: a tree, and times that cost less than so much.
 fn found_below(
     alloc: Global,
     instance: &Instance,
     board: Board,
     path: &[(Cut, Side)],
+    known: Option<u64>,
     steps: u32,
 ) -> Result<Found, Memory>
     requires of { IsProblemOf instance.now board.problem }
     requires few { steps ≤ 100000 }
-    ensures times { IfOk result (λ found. AreTimesFor instance.now found.times.items) }
+    ensures times { IfOk result (λ found. AreTimesFor instance.now known found.times.items) }
     ensures short { IfOk result (λ found. AreShort found.times.items) }
 {
-    let before = board.best();
     let worked = work_on(alloc, instance, board, steps)?;
-    found_on(alloc, instance, &worked, path, before)
+    found_on(alloc, instance, &worked, path, known)
 }
 
-/// What is found below the leaf of a job of a base that is lent.
+/// What is found below the leaf of a job of a base that is lent, with times that cost less than so much.
 fn found_for(
     alloc: Global,
     instance: &Instance,
     lent: Lent,
     job: u64,
+    known: Option<u64>,
     steps: u32,
 ) -> Result<Found, WorkRefusal>
     requires of { IsProblemOf instance.now lent.board.problem }
     requires few { steps ≤ 100000 }
-    ensures times { IfOk result (λ found. AreTimesFor instance.now found.times.items) }
+    ensures times { IfOk result (λ found. AreTimesFor instance.now known found.times.items) }
     ensures short { IfOk result (λ found. AreShort found.times.items) }
     ensures missing { IfErr result
         (λ refusal. refusal ≡ NoSuchJob → length lent.jobs.items ≤ job) }
@@ -127,7 +165,7 @@ fn found_for(
     }
     board.recall(job);
     let path = &jobs[job as usize].path;
-    let found = found_below(alloc, instance, board, path, steps)?;
+    let found = found_below(alloc, instance, board, path, known, steps)?;
     Ok(found)
 }
 
@@ -142,10 +180,10 @@ pub(crate) fn search_below(
 ) -> Result<Found, WorkRefusal>
     requires valid { IsValid instance.now base.now }
     requires few { steps ≤ 100000 }
-    ensures times { IfOk result (λ found. AreTimesFor instance.now found.times.items) }
+    ensures times { IfOk result (λ found. AreTimesFor instance.now (cost_of base.now.answer) found.times.items) }
     ensures short { IfOk result (λ found. AreShort found.times.items) }
     ensures refused { IfErr result (IsWorkRefusal instance.now base.now job) }
 {
     let lent = lend_base(alloc, instance, base)?;
-    found_for(alloc, instance, lent, job, steps)
+    found_for(alloc, instance, lent, job, cost_in(base.answer()), steps)
 }

@@ -14,7 +14,7 @@ use std::alloc::Global;
 
 /// Works on an open leaf of a valid certificate, by at most so many splits. Open leaves are numbered from 0 in the order of the
 /// tree's lines. The work that is handed in is of this job, and has a text. Its tree has at most so many branches and may stand
-/// in the leaf's place; its times are a timetable, or there are none.
+/// in the leaf's place; its times are a timetable that costs less than the certificate's, or there are none.
 ///
 /// Refused as `NoSuchJob` where the certificate has no more open leaves than the number, and else as `Memory`, where a growth was
 /// refused.

@@ -91,8 +91,9 @@ impl fmt::Display for VerdictText {
     }
 }
 
-/// Writes the line of a verdict on a certificate with this answer.
-pub(crate) fn write_verdict<W: Sink>(
+/// Writes the line of a verdict on a certificate with this answer. `Memory` where the line found no room, and nothing is
+/// written then; `Write` where the writer failed, behind a front of the line.
+pub fn write_verdict<W: Sink>(
     alloc: Global,
     writer: &mut W,
     answer: Answer,

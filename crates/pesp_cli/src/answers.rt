@@ -169,7 +169,7 @@ pub(crate) fn of_times<R: AllocGlobal + Files, I: Source, S: Source, W: Sink>(
     requires instance_fits { FewerThan (2 ^ 62) (I.calls instance.old) }
     requires reads_fit { FewerThan (2 ^ 62) (S.calls reader.old) }
     requires writes_fit { FewerThan (2 ^ 62) (W.calls writer.old) }
-    ensures { IfOk result (AnswersTimes asked period
+    ensures { IfOk result (AnswersTimes asked.entry period
         (over (I.remaining instance.old) (I.remaining instance.new)
         (I.calls instance.old) (I.calls instance.new))
         (over (S.remaining reader.old) (S.remaining reader.new)

@@ -3,7 +3,8 @@ use Rattle.std.proofs.Common.{◌≡◌, ◌⊎◌, inl, inr, ℕ, List, ◌++�
 use Rattle.std.specs.Prelude.{Result, Option, MatchResult, OnOk, OnErr, IfOk, codes}
 use Rattle.pesp_stream.specs.Counts.{Calls, DeviceFailed}
 use Rattle.pesp_stream.specs.Writing.{Writes}
-use Rattle.pesp_check_run.specs.Devices.{over}
+use Rattle.pesp_check_run.specs.Devices.{Device, over}
+use Rattle.pesp_faults.specs.declared.fault.Fault.{Fault}
 use Rattle.pesp_cli.specs.Answers.{GetsLine}
 
 -- the run's clause, and the status 0
@@ -16,3 +17,8 @@ pub got_line : {A E : Type 0} (r : Result A E) (old new : Option (List ℕ)) (ca
     → Writes old new (line ++ codes "\n") r → OnErr r (DeviceFailed calls after) → GetsLine (over old new calls after) line
 got_line (Ok a) old new calls after line written fault = inl written
 got_line (Err e) old new calls after line written fault = inr (fault, written)
+
+-- what holds of the texts of two files holds of some texts
+pub of_some_files : (r : Result ℕ Fault) (P : Device → Device → ℕ → Type 0) (instance base : Device) → IfOk r (P instance base) → IfOk r (λ status. (instance base : Device) × P instance base status)
+of_some_files (Ok status) P instance base holds = (instance, base, holds)
+of_some_files (Err fault) P instance base holds = tt

@@ -1,5 +1,5 @@
 -- What the program reads and writes for a request, and its exit status.
-use Rattle.std.specs.Prelude.{◌≡◌, ◌⊎◌, ℕ, ℤ, List, ◌++◌, codes, Option, Some, None, ⊤}
+use Rattle.std.specs.Prelude.{◌≡◌, ◌⊎◌, ℕ, ℤ, List, ◌++◌, codes, zero, suc, Option, Some, None, ⊤}
 use Rattle.std.specs.Io.KnownBytes.{Appends}
 use Rattle.pesp_gap.specs.Gaps.{gap_line}
 use Rattle.pesp_report.specs.Report.{IsReport}

@@ -36,6 +36,7 @@ fn done(run: Result<(), Fault>) -> Result<u8, Fault>
 }
 
 /// Solves the instance that the reader gives, from the times in a file where one is named, while an observer looks on.
+#[tactic(auto, using(crate::proofs::Ends::finished))]
 fn solve<R: AllocGlobal + Files, I: Source, W: Sink, O: Observer>(
     rt: &R,
     reader: &mut I,
@@ -48,7 +49,7 @@ fn solve<R: AllocGlobal + Files, I: Source, W: Sink, O: Observer>(
     requires steps { steps ≤ 100000 }
     requires reads_fit { FewerThan (2 ^ 62) (I.calls reader.old) }
     requires writes_fit { FewerThan (2 ^ 62) (W.calls writer.old) }
-    ensures { IfOk result (AnswersSolve from steps period
+    ensures { IfOk result (AnswersSolve from.entry steps period
         (over (I.remaining reader.old) (I.remaining reader.new)
         (I.calls reader.old) (I.calls reader.new))
         (over (W.contents writer.old) (W.contents writer.new)
@@ -73,11 +74,11 @@ pub(crate) fn of_instance<R: AllocGlobal + Eprint + Files + Clock, I: Source, W:
     period: u32,
     asked: OfInstance<'_>,
 ) -> Result<u8, Fault>
-    requires within { InstanceWithin asked }
+    requires within { InstanceWithin asked.entry }
     requires reads_fit { FewerThan (2 ^ 62) (I.calls reader.old) }
     requires writes_fit { FewerThan (2 ^ 62) (W.calls writer.old) }
     requires tellings_fit { FewerThan (2 ^ 62) (E.calls teller.old) }
-    ensures { IfOk result (AnswersInstance asked period
+    ensures { IfOk result (AnswersInstance asked.entry period
         (over (I.remaining reader.old) (I.remaining reader.new)
         (I.calls reader.old) (I.calls reader.new))
         (over (W.contents writer.old) (W.contents writer.new)
@@ -111,6 +112,7 @@ pub(crate) fn of_instance<R: AllocGlobal + Eprint + Files + Clock, I: Source, W:
 }
 
 /// Does what is asked of the certificate that the reader gives, for the instance of the other reader.
+#[tactic(auto, using(crate::proofs::Ends::finished))]
 pub(crate) fn of_certificate<R: AllocGlobal + Eprint + Clock, I: Source, S: Source, W: Sink>(
     rt: &R,
     instance: &mut I,
@@ -154,6 +156,7 @@ pub(crate) fn of_certificate<R: AllocGlobal + Eprint + Clock, I: Source, S: Sour
 }
 
 /// Does what is asked of the times that the reader gives, for the instance of the other reader.
+#[tactic(auto, using(crate::proofs::Ends::finished))]
 pub(crate) fn of_times<R: AllocGlobal + Files, I: Source, S: Source, W: Sink>(
     rt: &R,
     instance: &mut I,
@@ -165,7 +168,7 @@ pub(crate) fn of_times<R: AllocGlobal + Files, I: Source, S: Source, W: Sink>(
     requires instance_fits { FewerThan (2 ^ 62) (I.calls instance.old) }
     requires reads_fit { FewerThan (2 ^ 62) (S.calls reader.old) }
     requires writes_fit { FewerThan (2 ^ 62) (W.calls writer.old) }
-    ensures { IfOk result (AnswersTimes asked period
+    ensures { IfOk result (AnswersTimes asked.entry period
         (over (I.remaining instance.old) (I.remaining instance.new)
         (I.calls instance.old) (I.calls instance.new))
         (over (S.remaining reader.old) (S.remaining reader.new)
@@ -223,6 +226,7 @@ fn status_of_violations(count: usize) -> u8
 }
 
 /// Grafts the works that the reader gives onto the certificate of the second reader, for the instance of the first one.
+#[tactic(auto, using(crate::proofs::Ends::finished))]
 pub(crate) fn of_works<R: AllocGlobal, I: Source, B: Source, S: Source, W: Sink, E: Sink>(
     rt: &R,
     instance: &mut I,

@@ -118,7 +118,7 @@ fn answer<R: AllocGlobal + Eprint + Files + Clock, S: Source, W: Sink, E: Sink>(
     requires reads_fit { FewerThan (2 ^ 62) (S.calls reader.old) }
     requires writes_fit { FewerThan (2 ^ 62) (W.calls writer.old) }
     requires tellings_fit { FewerThan (2 ^ 62) (E.calls teller.old) }
-    ensures { IfOk result (Answers request
+    ensures { IfOk result (Answers request.entry
         (over (S.remaining reader.old) (S.remaining reader.new)
         (S.calls reader.old) (S.calls reader.new))
         (over (W.contents writer.old) (W.contents writer.new)

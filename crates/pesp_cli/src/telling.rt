@@ -45,6 +45,7 @@ pub(crate) fn teller_of<R: Eprint>(rt: &R) -> Counted<Telling<'_, R>>
 
 /// Tells a fault on a line, and gives its exit status, whether or not the line went out. Where the line finds no memory, that is
 /// the fault.
+#[tactic(auto, using(crate::proofs::Ends::got_line))]
 pub(crate) fn told<E: Sink>(alloc: Global, teller: &mut E, fault: &Fault) -> u8
     requires fits { FewerThan (2 ^ 63) (E.calls teller.old) }
     ensures { TellsFault
@@ -65,6 +66,7 @@ pub(crate) fn told<E: Sink>(alloc: Global, teller: &mut E, fault: &Fault) -> u8
 }
 
 /// Tells what was found of a conflict on a line, whether or not it went out.
+#[tactic(auto, using(crate::proofs::Ends::got_line))]
 pub(crate) fn told_conflict<E: Sink>(alloc: Global, teller: &mut E, told: Told) -> Result<(), Fault>
     requires fits { FewerThan (2 ^ 63) (E.calls teller.old) }
     ensures { OnOk result (GetsLine

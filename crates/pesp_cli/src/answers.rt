@@ -74,7 +74,7 @@ pub(crate) fn of_instance<R: AllocGlobal + Eprint + Files + Clock, I: Source, W:
     period: u32,
     asked: OfInstance<'_>,
 ) -> Result<u8, Fault>
-    requires within { InstanceWithin asked.entry }
+    requires within { InstanceWithin asked }
     requires reads_fit { FewerThan (2 ^ 62) (I.calls reader.old) }
     requires writes_fit { FewerThan (2 ^ 62) (W.calls writer.old) }
     requires tellings_fit { FewerThan (2 ^ 62) (E.calls teller.old) }

@@ -49,7 +49,7 @@ fn solve<R: AllocGlobal + Files, I: Source, W: Sink, O: Observer>(
     requires steps { steps ≤ 100000 }
     requires reads_fit { FewerThan (2 ^ 62) (I.calls reader.old) }
     requires writes_fit { FewerThan (2 ^ 62) (W.calls writer.old) }
-    ensures { IfOk result (AnswersSolve from steps period
+    ensures { IfOk result (AnswersSolve from.entry steps period
         (over (I.remaining reader.old) (I.remaining reader.new)
         (I.calls reader.old) (I.calls reader.new))
         (over (W.contents writer.old) (W.contents writer.new)
@@ -66,7 +66,6 @@ fn solve<R: AllocGlobal + Files, I: Source, W: Sink, O: Observer>(
 }
 
 /// Does what is asked of the instance that the reader gives.
-#[tactic(auto, using(crate::proofs::Ends::finished))]
 pub(crate) fn of_instance<R: AllocGlobal + Eprint + Files + Clock, I: Source, W: Sink, E: Sink>(
     rt: &R,
     reader: &mut I,
@@ -79,7 +78,7 @@ pub(crate) fn of_instance<R: AllocGlobal + Eprint + Files + Clock, I: Source, W:
     requires reads_fit { FewerThan (2 ^ 62) (I.calls reader.old) }
     requires writes_fit { FewerThan (2 ^ 62) (W.calls writer.old) }
     requires tellings_fit { FewerThan (2 ^ 62) (E.calls teller.old) }
-    ensures { IfOk result (AnswersInstance asked period
+    ensures { IfOk result (AnswersInstance asked.entry period
         (over (I.remaining reader.old) (I.remaining reader.new)
         (I.calls reader.old) (I.calls reader.new))
         (over (W.contents writer.old) (W.contents writer.new)

@@ -6,7 +6,7 @@ use Rattle.pesp_solve_run.proofs.solving.write_solution.Goals as goal
 
 pub returns-in_err-certificate-clause-cause : goal.returns-in_err-certificate-clause-cause
 returns-in_err-certificate-clause-cause g c =
-    told_as _ _ _ c.from_residual-in_err-certificate.ensures.1 (inl (search_cause _ _ _ c.in_err-certificate.ensures.refused))
+    told_as _ _ _ c.from_residual.ensures.1 (inl (search_cause _ _ _ c.in_err-certificate.ensures.refused))
 
 pub returns-in_err-print-clause-cause : goal.returns-in_err-print-clause-cause
 returns-in_err-print-clause-cause g c =

@@ -1,0 +1,8 @@
+//! The run of the checker for certificates whose leaves may name marked walks, over any readers and writers: an instance and
+//! the text of a certificate, with a front or without, in, the line of a verdict out.
+#![tactic(auto)]
+
+mod checking;
+mod judging;
+
+pub use checking::run_check_sharp;

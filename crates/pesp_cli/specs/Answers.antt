@@ -6,6 +6,7 @@ use Rattle.pesp_report.specs.Report.{IsReport}
 use Rattle.pesp_report.specs.Named.{IsNamedReport}
 use Rattle.pesp_check.specs.declared.refusal.Verdict.{Verdict}
 use Rattle.pesp_check_run.specs.Checking.{Checks}
+use Rattle.pesp_sharp_run.specs.Checking.{ChecksWith}
 use Rattle.pesp_check_run.specs.Devices.{Device, HasFailed, GetsFront}
 use Rattle.pesp_check_run.specs.Verdicts.{verdict_status}
 use Rattle.pesp_faults.specs.Reading.{HasBase, ReadsTimetable}
@@ -23,7 +24,7 @@ use Rattle.pesp_conflict_run.specs.declared.told.Told.{Told}
 use Rattle.pesp_cli.specs.declared.request.OfInstance.{OfInstance}
 use Rattle.pesp_cli.specs.declared.request.OfInstance.TheVariants.{Solve, Conflict}
 use Rattle.pesp_cli.specs.declared.request.OfCertificate.{OfCertificate}
-use Rattle.pesp_cli.specs.declared.request.OfCertificate.TheVariants.{Check, Gap, Resume, Split, Work}
+use Rattle.pesp_cli.specs.declared.request.OfCertificate.TheVariants.{Check, CheckSharp, Gap, Resume, Split, Work}
 use Rattle.pesp_cli.specs.declared.request.OfTimes.{OfTimes}
 use Rattle.pesp_cli.specs.declared.request.OfTimes.TheVariants.{Report, Violations, Picture, Diagrams}
 use Rattle.pesp_cli.specs.declared.request.Request.{Request}
@@ -64,6 +65,9 @@ AnswersInstance (Conflict steps) period reader writer teller silent status =
 abbrev pub AnswersCertificate : OfCertificate → ℕ → Device → Device → Device → ℕ → Type 0
 AnswersCertificate Check period instance reader writer status =
     (verdict : Verdict) × Checks instance.old instance.new reader.old reader.new period verdict (Gets writer)
+    × (status ≡ verdict_status verdict)
+AnswersCertificate CheckSharp period instance reader writer status =
+    (verdict : Verdict) × ChecksWith instance.old instance.new reader.old reader.new period verdict (Gets writer)
     × (status ≡ verdict_status verdict)
 AnswersCertificate Gap period instance reader writer status =
     HasBase instance.old instance.new reader.old reader.new period (λ p base. Gets writer (gap_line base.answer)) × (status ≡ 0)

@@ -3,7 +3,7 @@ use Rattle.std.specs.Prelude.{ℕ, ◌≤◌}
 use Rattle.pesp_cli.specs.declared.request.OfInstance.{OfInstance}
 use Rattle.pesp_cli.specs.declared.request.OfInstance.TheVariants.{Solve, Conflict}
 use Rattle.pesp_cli.specs.declared.request.OfCertificate.{OfCertificate}
-use Rattle.pesp_cli.specs.declared.request.OfCertificate.TheVariants.{Check, Gap, Resume, Split, Work}
+use Rattle.pesp_cli.specs.declared.request.OfCertificate.TheVariants.{Check, CheckSharp, Gap, Resume, Split, Work}
 use Rattle.pesp_cli.specs.declared.request.OfTimes.{OfTimes}
 use Rattle.pesp_cli.specs.declared.request.OfTimes.TheVariants.{Report, Violations, Picture, Diagrams}
 use Rattle.pesp_cli.specs.declared.request.Request.{Request}
@@ -19,6 +19,7 @@ InstanceWithin (Conflict steps) = steps ≤ 100000
 
 abbrev pub CertificateWithin : OfCertificate → Type 0
 CertificateWithin Check = Unit {0}
+CertificateWithin CheckSharp = Unit {0}
 CertificateWithin Gap = Unit {0}
 CertificateWithin (Resume steps seconds progress) = steps ≤ 100000
 CertificateWithin Split = Unit {0}

@@ -20,6 +20,7 @@ use pesp_report_run::{
 };
 use pesp_resume_run::{run_gap, run_resume};
 use pesp_search::{Nobody, Observer};
+use pesp_sharp_run::run_check_sharp;
 use pesp_solve_run::{run_solve_from, run_solve_watched};
 use pesp_stream::{Counted, Sink, Source};
 use std::fs::File;
@@ -138,6 +139,10 @@ pub(crate) fn of_certificate<R: AllocGlobal + Eprint + Clock, I: Source, S: Sour
         OfCertificate::Check => {
             let verdict = run_check(alloc, instance, reader, writer, period)?;
             Ok(status_of_verdict(verdict))
+        }
+        OfCertificate::CheckSharp => {
+            let judged = run_check_sharp(alloc, instance, reader, writer, period)?;
+            Ok(status_of_verdict(judged))
         }
         OfCertificate::Gap => done(run_gap(alloc, instance, reader, writer, period)),
         OfCertificate::Resume {

@@ -5,15 +5,15 @@ ghost use Rattle.pesp_cli.specs.Requests.{InstanceWithin, CertificateWithin, Tim
 
 use crate::options::{
     base_argument, file_argument, from_option, job_argument, names_argument, names_option,
-    optional_file, period_option, progress_option, rows_option, seconds_option, steps_option,
-    violations_option,
+    optional_file, period_option, progress_option, rows_option, seconds_option, sharp_option,
+    steps_option, violations_option,
 };
 use crate::request::{OfCertificate, OfInstance, OfTimes, Request};
 use clap::{ArgMatches, Command, Error};
 use std::alloc::{AllocError, Global};
 
 /// The program's version, and the versions of certificates that it writes and reads.
-const VERSION: &str = "0.1.0\ncertificates: versions 1 and 2";
+const VERSION: &str = "0.1.0\ncertificates: versions 1 and 2; check --sharp reads version 3 too";
 
 const INSTANCES: &str = "\
 An instance is one activity a line, with six fields between ';', tabs or ',':
@@ -147,7 +147,8 @@ fn check_command<'a>(alloc: Global) -> Result<Command<'a>, AllocError> {
         "check",
         "pesp check [OPTIONS] <FILE> < CERTIFICATE",
         "Reads a certificate from standard input and says whether it is valid for the instance in FILE",
-    )
+    )?
+    .arg(sharp_option(alloc))
 }
 
 fn resume_command<'a>(alloc: Global) -> Result<Command<'a>, AllocError> {
@@ -373,6 +374,17 @@ fn diagrams_of<'a>(matches: &ArgMatches<'a>) -> OfTimes<'a>
     }
 }
 
+/// What the words behind `check` ask for.
+fn check_of(matches: &ArgMatches<'_>) -> OfCertificate
+    ensures { CertificateWithin result }
+{
+    if matches.get_flag("sharp") {
+        OfCertificate::CheckSharp
+    } else {
+        OfCertificate::Check
+    }
+}
+
 /// What the words behind `graft` ask for.
 fn graft_of<'a>(matches: &ArgMatches<'a>) -> Request<'a>
     ensures { IsWithinLimits result }
@@ -391,7 +403,7 @@ fn request_in<'a>(matches: &ArgMatches<'a>) -> Request<'a>
     match matches.subcommand() {
         Some(("solve", found)) => instance_of(found, solve_of(found)),
         Some(("conflict", found)) => instance_of(found, conflict_of(found)),
-        Some(("check", found)) => certificate_of(found, OfCertificate::Check),
+        Some(("check", found)) => certificate_of(found, check_of(found)),
         Some(("gap", found)) => certificate_of(found, OfCertificate::Gap),
         Some(("resume", found)) => certificate_of(found, resume_of(found)),
         Some(("split", found)) => certificate_of(found, OfCertificate::Split),

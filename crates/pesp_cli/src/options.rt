@@ -47,6 +47,15 @@ pub(crate) fn progress_option<'a>(alloc: Global) -> Arg<'a> {
         )
 }
 
+pub(crate) fn sharp_option<'a>(alloc: Global) -> Arg<'a> {
+    Arg::new(alloc, "sharp")
+        .long("sharp")
+        .action(ArgAction::SetTrue)
+        .help(
+            "Takes a certificate of version 3 too, whose leaves may name marked walks; it is read whole before it is judged",
+        )
+}
+
 pub(crate) fn violations_option<'a>(alloc: Global) -> Result<Arg<'a>, AllocError> {
     Arg::new(alloc, "violations")
         .long("violations")

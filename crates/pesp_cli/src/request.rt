@@ -51,6 +51,8 @@ pub enum OfInstance<'a> {
 pub enum OfCertificate {
     /// A verdict on it.
     Check,
+    /// A verdict on it, where it may have a front of marked walks.
+    CheckSharp,
     /// How good its answer is.
     Gap,
     /// A search of at most so many steps that goes on from it, for about so many seconds at most.

@@ -130,6 +130,7 @@ fn tell_of_certificate(
 ) -> Option<String> {
     match asked {
         OfCertificate::Check => tell_file(alloc, "check", period, file),
+        OfCertificate::CheckSharp => tell_file(alloc, "check with a front", period, file),
         OfCertificate::Gap => tell_file(alloc, "gap", period, file),
         OfCertificate::Resume {
             steps,

@@ -7,7 +7,7 @@ use std::alloc::Global;
 /// Whether each difference of each event is possible, one event behind the other.
 #[derive(Drop)]
 struct Sets {
-    period: usize,
+    period: u32,
     possible: Vec<bool>,
 }
 
@@ -19,18 +19,18 @@ struct End {
 }
 
 impl Sets {
-    fn place(&self, event: u32, difference: usize) -> usize {
+    fn place(&self, event: u32, difference: u32) -> usize {
         (event as usize)
-            .wrapping_mul(self.period)
-            .wrapping_add(difference)
+            .wrapping_mul(self.period as usize)
+            .wrapping_add(difference as usize)
     }
 
-    fn has(&self, event: u32, difference: usize) -> bool {
+    fn has(&self, event: u32, difference: u32) -> bool {
         let place = self.place(event, difference);
         self.possible.get(place).copied().unwrap_or(false)
     }
 
-    fn remove(&mut self, event: u32, difference: usize) {
+    fn remove(&mut self, event: u32, difference: u32) {
         let place = self.place(event, difference);
         if let Some(is) = self.possible.get_mut(place) {
             *is = false;
@@ -38,7 +38,7 @@ impl Sets {
     }
 
     /// Whether a slack of the row leads from a difference of this end to a possible one of the other end.
-    fn is_supported(&self, row: &NetRow, end: End, difference: usize) -> bool {
+    fn is_supported(&self, row: &NetRow, end: End, difference: u32) -> bool {
         let other = if end.is_head { row.tail } else { row.head };
         for slack in 0..=row.span {
             let duration = row.lower.wrapping_add(i64::from(slack));
@@ -47,9 +47,11 @@ impl Sets {
             } else {
                 duration
             };
-            let reached = (difference as i64).wrapping_add(by);
-            let there = reached.checked_rem_euclid(self.period as i64).unwrap_or(0);
-            if self.has(other, there as usize) {
+            let reached = i64::from(difference).wrapping_add(by);
+            let there = reached
+                .checked_rem_euclid(i64::from(self.period))
+                .unwrap_or(0);
+            if self.has(other, u32::try_from(there).unwrap_or(u32::MAX)) {
                 return true;
             }
         }
@@ -89,7 +91,7 @@ impl Sets {
 
 /// The differences before anything is known.
 fn full(alloc: Global, network: &Network) -> Option<Sets> {
-    let period = network.period() as usize;
+    let period = network.period();
     let mut possible = Vec::new(alloc);
     for event in 0..network.events() {
         let is_first = network.first_of(event) == event;
@@ -114,7 +116,7 @@ fn settled(alloc: Global, network: &Network) -> Option<Sets> {
 /// Whether the sets have the same differences of an event.
 fn agree_at(sets: &Sets, domains: &Domains, event: u32) -> bool {
     for difference in 0..sets.period {
-        if sets.has(event, difference) != domains.has(event, difference as u32) {
+        if sets.has(event, difference) != domains.has(event, difference) {
             return false;
         }
     }

@@ -22,3 +22,8 @@ got_line (Err e) old new calls after line written fault = inr (fault, written)
 pub of_some_files : (r : Result ℕ Fault) (P : Device → Device → ℕ → Type 0) (instance base : Device) → IfOk r (P instance base) → IfOk r (λ status. (instance base : Device) × P instance base status)
 of_some_files (Ok status) P instance base holds = (instance, base, holds)
 of_some_files (Err fault) P instance base holds = tt
+
+-- the same of a run over the times of a file
+pub from_some_times : {A : Type 0} (run : Result A Fault) (r : Result ℕ Fault) (P : Device → Type 0) (times : Device) → OnOk run (P times) → MatchResult run (λ _. r ≡ Ok 0) (λ fault. r ≡ Err fault) → IfOk r (λ status. ((times : Device) × P times) × (status ≡ 0))
+from_some_times (Ok a) r P times holds is = rw is ((times, holds), refl)
+from_some_times (Err e) r P times holds is = rw is tt

@@ -21,14 +21,14 @@ use Rattle.pesp_resume_run.specs.Resuming.{WritesResumed}
 use Rattle.pesp_conflict_run.specs.Runs.{TellsConflict}
 use Rattle.pesp_conflict_run.specs.Told.{told_text, told_status}
 use Rattle.pesp_conflict_run.specs.declared.told.Told.{Told}
-use Rattle.pesp_cli.specs.declared.request.OfInstance.{OfInstance}
-use Rattle.pesp_cli.specs.declared.request.OfInstance.TheVariants.{Solve, Conflict}
-use Rattle.pesp_cli.specs.declared.request.OfCertificate.{OfCertificate}
-use Rattle.pesp_cli.specs.declared.request.OfCertificate.TheVariants.{Check, CheckSharp, Gap, Resume, Split, Work}
-use Rattle.pesp_cli.specs.declared.request.OfTimes.{OfTimes}
-use Rattle.pesp_cli.specs.declared.request.OfTimes.TheVariants.{Report, Violations, Picture, Diagrams}
-use Rattle.pesp_cli.specs.declared.request.Request.{Request}
-use Rattle.pesp_cli.specs.declared.request.Request.TheVariants.{Instance, Certificate, Times, Works}
+use Rattle.pesp_request.specs.declared.request.OfInstance.{OfInstance}
+use Rattle.pesp_request.specs.declared.request.OfInstance.TheVariants.{Solve, Conflict}
+use Rattle.pesp_request.specs.declared.request.OfCertificate.{OfCertificate}
+use Rattle.pesp_request.specs.declared.request.OfCertificate.TheVariants.{Check, CheckSharp, Gap, Resume, Split, Work}
+use Rattle.pesp_request.specs.declared.request.OfTimes.{OfTimes}
+use Rattle.pesp_request.specs.declared.request.OfTimes.TheVariants.{Report, Violations, Picture, Diagrams}
+use Rattle.pesp_request.specs.declared.request.Request.{Request}
+use Rattle.pesp_request.specs.declared.request.Request.TheVariants.{Instance, Certificate, Times, Works}
 
 -- ---- writers
 

@@ -3,21 +3,20 @@
 ghost use Rattle.std.specs.Prelude.{◌≡◌, ◌<◌, ◌≤◌, ◌^◌, Ok, Err, IfOk, MatchResult};
 ghost use Rattle.pesp_stream.specs.Counts.{FewerThan};
 ghost use Rattle.pesp_check_run.specs.Devices.{over};
-ghost use Rattle.pesp_cli.specs.Requests.{InstanceWithin, CertificateWithin};
+ghost use Rattle.pesp_request.specs.Requests.{InstanceWithin, CertificateWithin};
 ghost use Rattle.pesp_cli.specs.Answers.{AnswersSolve, AnswersInstance, AnswersCertificate, AnswersTimes, AnswersWorks, violations_status};
 
-use crate::progress::Teller;
-use crate::request::{OfCertificate, OfInstance, OfTimes};
 use crate::telling::told_conflict;
-use crate::watch::Watch;
 use pesp_check_run::{run_check, status_of_verdict};
 use pesp_conflict_run::{run_conflict, status_of_told};
 use pesp_faults::Fault;
 use pesp_names::Names;
 use pesp_outside_run::{run_graft, run_split, run_work};
+use pesp_progress::{Teller, Watch};
 use pesp_report_run::{
     Diagrams, NamedReport, Picture, Report, read_whole_names, run_sheet, run_violations,
 };
+use pesp_request::{OfCertificate, OfInstance, OfTimes};
 use pesp_resume_run::{run_gap, run_resume};
 use pesp_search::{Nobody, Observer};
 use pesp_sharp_run::run_check_sharp;

@@ -1,18 +1,10 @@
-//! The command line, and the program over any runtime.
+//! The program over any runtime: a command line's request is answered by its run.
 #![tactic(auto)]
 
 mod answers;
-mod command;
 mod input;
-mod options;
 mod output;
 mod program;
-mod progress;
-mod request;
 mod telling;
-mod watch;
 
-pub use command::request_of;
 pub use program::{exit_of_program, status_of_words};
-pub use progress::{Milestones, Progress, Teller};
-pub use request::{OfCertificate, OfInstance, OfTimes, Request};

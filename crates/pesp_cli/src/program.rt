@@ -3,18 +3,17 @@
 ghost use Rattle.std.specs.Prelude.{◌≡◌, ◌<◌, ◌≤◌, ◌^◌, IfOk};
 ghost use Rattle.pesp_stream.specs.Counts.{FewerThan};
 ghost use Rattle.pesp_check_run.specs.Devices.{over};
-ghost use Rattle.pesp_cli.specs.Requests.{IsWithinLimits};
+ghost use Rattle.pesp_request.specs.Requests.{IsWithinLimits};
 ghost use Rattle.pesp_cli.specs.Answers.{Answers};
 
 use crate::answers::{of_certificate, of_instance, of_times, of_works, opened};
-use crate::command::request_of;
 use crate::input::{Beginning, OtherPeriod};
 use crate::output::writer_of;
-use crate::request::Request;
 use crate::telling::{teller_of, told};
 use clap::Error;
 use clap::error::ErrorKind;
 use pesp_faults::{Fault, status_of};
+use pesp_request::{Request, request_of};
 use pesp_stream::{Counted, Sink, Source};
 use std::io::Read;
 use std::process::ExitCode;

@@ -2,7 +2,7 @@
 
 use clap::Error;
 use pesp_cases::words_of;
-use pesp_cli::{OfCertificate, OfInstance, OfTimes, Request, request_of};
+use pesp_request::{OfCertificate, OfInstance, OfTimes, Request, request_of};
 use std::alloc::Global;
 
 fn add_word(alloc: Global, words: &mut Vec<String>, word: &str) -> Option<()> {

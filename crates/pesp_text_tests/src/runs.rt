@@ -7,7 +7,7 @@ use crate::given::{Given, given_by, period_of, text_of};
 use crate::telling::{tell_check, tell_count, tell_run, tell_verdict};
 use pesp_board::Board;
 use pesp_check_run::run_check;
-use pesp_cli::Milestones;
+use pesp_progress::Milestones;
 use pesp_report_run::{run_report, run_violations};
 use pesp_search::{Observer, Part};
 use pesp_solve_run::{run_solve, run_solve_watched};

@@ -86,12 +86,12 @@ pub enum OfTimes<'a> {
 
 impl Request<'_> {
     /// Whether something is read from standard input.
-    pub(crate) fn reads_input(&self) -> bool {
+    pub fn reads_input(&self) -> bool {
         !matches!(self, Request::Instance { file: Some(_), .. })
     }
 
     /// The period for which times are taken, where times are read.
-    pub(crate) fn period_of_times(&self) -> Option<u32> {
+    pub fn period_of_times(&self) -> Option<u32> {
         match self {
             Request::Times { period, .. } => Some(*period),
             _ => None,

@@ -1,7 +1,7 @@
 //! The command line.
 
 ghost use Rattle.std.specs.Prelude.{◌≤◌, IfOk};
-ghost use Rattle.pesp_cli.specs.Requests.{InstanceWithin, CertificateWithin, TimesWithin, IsWithinLimits};
+ghost use Rattle.pesp_request.specs.Requests.{InstanceWithin, CertificateWithin, TimesWithin, IsWithinLimits};
 
 use crate::options::{
     base_argument, file_argument, from_option, job_argument, names_argument, names_option,

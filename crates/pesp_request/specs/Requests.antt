@@ -1,13 +1,13 @@
 -- What holds of what a command line asks for.
 use Rattle.std.specs.Prelude.{ℕ, ◌≤◌}
-use Rattle.pesp_cli.specs.declared.request.OfInstance.{OfInstance}
-use Rattle.pesp_cli.specs.declared.request.OfInstance.TheVariants.{Solve, Conflict}
-use Rattle.pesp_cli.specs.declared.request.OfCertificate.{OfCertificate}
-use Rattle.pesp_cli.specs.declared.request.OfCertificate.TheVariants.{Check, CheckSharp, Gap, Resume, Split, Work}
-use Rattle.pesp_cli.specs.declared.request.OfTimes.{OfTimes}
-use Rattle.pesp_cli.specs.declared.request.OfTimes.TheVariants.{Report, Violations, Picture, Diagrams}
-use Rattle.pesp_cli.specs.declared.request.Request.{Request}
-use Rattle.pesp_cli.specs.declared.request.Request.TheVariants.{Instance, Certificate, Times, Works}
+use Rattle.pesp_request.specs.declared.request.OfInstance.{OfInstance}
+use Rattle.pesp_request.specs.declared.request.OfInstance.TheVariants.{Solve, Conflict}
+use Rattle.pesp_request.specs.declared.request.OfCertificate.{OfCertificate}
+use Rattle.pesp_request.specs.declared.request.OfCertificate.TheVariants.{Check, CheckSharp, Gap, Resume, Split, Work}
+use Rattle.pesp_request.specs.declared.request.OfTimes.{OfTimes}
+use Rattle.pesp_request.specs.declared.request.OfTimes.TheVariants.{Report, Violations, Picture, Diagrams}
+use Rattle.pesp_request.specs.declared.request.Request.{Request}
+use Rattle.pesp_request.specs.declared.request.Request.TheVariants.{Instance, Certificate, Times, Works}
 
 abbrev pub IsPeriod : ℕ → Type 0
 IsPeriod period = (1 ≤ period) × (period ≤ 10000)

@@ -1,0 +1,9 @@
+//! How far a search is, told on standard error, and when its time is over. Nothing is promised of it but safety: what is found
+//! doesn't depend on it.
+#![tactic(auto)]
+
+mod progress;
+mod watch;
+
+pub use progress::{Milestones, Progress, Teller};
+pub use watch::Watch;

@@ -1,0 +1,9 @@
+//! What a command line asks for: its words, as a request with its numbers.
+#![tactic(auto)]
+
+mod command;
+mod options;
+mod request;
+
+pub use command::request_of;
+pub use request::{OfCertificate, OfInstance, OfTimes, Request};

@@ -1,0 +1,128 @@
+//! What multipliers and slacks are worth.
+
+use crate::inequality::{Inequality, Term};
+use crate::moved::Moved;
+use crate::passes::sum_of;
+use crate::program::Program;
+use crate::rows::Row;
+
+/// Whose value is asked for: the multipliers of the last step proper, the best ones, or these rounded to 1/65536.
+#[derive(Clone, Copy)]
+enum Asked {
+    Next,
+    Best,
+    Rounded,
+}
+
+impl Asked {
+    /// How many binary digits behind the point the multipliers have.
+    fn digits(self) -> u32 {
+        match self {
+            Asked::Rounded => 16,
+            _ => 20,
+        }
+    }
+
+    /// An inequality's multiplier.
+    fn multiplier(self, inequality: &Inequality, moved: &Moved) -> i64 {
+        match self {
+            Asked::Next => moved.next,
+            Asked::Best => inequality.best,
+            Asked::Rounded => inequality.rounded(),
+        }
+    }
+}
+
+/// The weights of rows.
+fn weigh(rows: &[Row], weights: &mut [i128], digits: u32) {
+    for (weight, row) in weights.iter_mut().zip(rows.iter()) {
+        *weight = i128::from(row.weight).wrapping_shl(digits);
+    }
+}
+
+/// Takes coefficients times a multiplier away from weights.
+fn take(terms: &[Term], weights: &mut [i128], multiplier: i64) {
+    for term in terms {
+        if let Some(weight) = weights.get_mut(term.row as usize) {
+            let part = i128::from(term.coefficient).wrapping_mul(i128::from(multiplier));
+            *weight = weight.wrapping_sub(part);
+        }
+    }
+}
+
+/// What reduced weights below 0 take from the value: their rows' slacks may be as great as their spans.
+fn loss(rows: &[Row], weights: &[i128]) -> i128 {
+    let mut sum = 0i128;
+    for (weight, row) in weights.iter().zip(rows.iter()) {
+        if *weight < 0 {
+            sum = sum.wrapping_add(weight.wrapping_mul(i128::from(row.span)));
+        }
+    }
+    sum
+}
+
+impl Program {
+    /// The value of multipliers.
+    fn value(&mut self, asked: Asked) -> i128 {
+        weigh(&self.rows, &mut self.exact, asked.digits());
+        let mut value = 0i128;
+        for (inequality, moved) in self.inequalities.iter().zip(self.multipliers.iter()) {
+            let multiplier = asked.multiplier(inequality, moved);
+            if multiplier != 0 {
+                take(inequality.terms(&self.terms), &mut self.exact, multiplier);
+                let part = i128::from(inequality.least).wrapping_mul(i128::from(multiplier));
+                value = value.wrapping_add(part);
+            }
+        }
+        value.wrapping_add(loss(&self.rows, &self.exact))
+    }
+
+    /// The value of the best multipliers, in 1/2^20: no slacks that satisfy the inequalities cost less.
+    pub fn best_value(&mut self) -> i128 {
+        self.value(Asked::Best)
+    }
+
+    /// The value of the best multipliers rounded to 1/65536, in 1/65536.
+    pub fn rounded_value(&mut self) -> i128 {
+        self.value(Asked::Rounded)
+    }
+
+    /// An inequality's multiplier among the best ones, rounded to 1/65536, in 1/65536.
+    pub fn rounded(&self, place: usize) -> i64 {
+        self.inequalities.get(place).map_or(0, |it| it.rounded())
+    }
+
+    /// Keeps the multipliers of the last step proper where they are the best so far.
+    pub(crate) fn look(&mut self) {
+        let value = self.value(Asked::Next);
+        if value > self.best {
+            self.best = value;
+            for (inequality, moved) in self.inequalities.iter_mut().zip(self.multipliers.iter()) {
+                inequality.best = moved.next;
+            }
+        }
+    }
+
+    /// What the slacks cost, in 1/65536.
+    pub fn cost(&self) -> i128 {
+        let mut cost = 0i128;
+        for (slack, row) in self.slacks().iter().zip(self.rows.iter()) {
+            let part = i128::from(*slack).wrapping_mul(i128::from(row.weight));
+            cost = cost.wrapping_add(part);
+        }
+        cost
+    }
+
+    /// What the slacks cost, and multipliers times what the slacks miss, in 1/2^20: near the least cost where both are near
+    /// the best ones, since its error is of second order. It bounds nothing.
+    pub fn saddle(&self) -> i128 {
+        let mut missing = 0i128;
+        for (inequality, moved) in self.inequalities.iter().zip(self.multipliers.iter()) {
+            let sum = sum_of(inequality.terms(&self.terms), self.slacks());
+            let missed = (inequality.least << 16).wrapping_sub(sum);
+            let part = i128::from(missed).wrapping_mul(i128::from(moved.at)) >> 16;
+            missing = missing.wrapping_add(part);
+        }
+        self.cost().wrapping_shl(4).wrapping_add(missing)
+    }
+}

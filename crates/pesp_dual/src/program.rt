@@ -12,6 +12,7 @@ const SETTLED: u64 = 4_000;
 
 /// The weight of the two sides, in 1/65536: the least and the greatest.
 const LEAST_BALANCE: i64 = 16;
+
 const MOST_BALANCE: i64 = 1 << 30;
 
 /// The linear program that minimises weight times slack, with each slack from 0 to its row's span, under inequalities; and
@@ -70,8 +71,7 @@ impl Program {
     ) -> Result<(), AllocError> {
         let start = self.terms.len();
         self.terms.extend_from_slice(terms)?;
-        self.multipliers
-            .push(Moved::new(multiplier.current, MOST))?;
+        self.multipliers.push(Moved::new(multiplier.current, MOST))?;
         self.inequalities.push(Inequality {
             start,
             end: self.terms.len(),

@@ -10,6 +10,7 @@ const LOOK: u32 = 25;
 
 /// Between two restarts there are at most so many steps and a quarter of all steps so far, of which so many count.
 const FEW: u64 = 100;
+
 const COUNTED: u64 = 4_000;
 
 impl Program {

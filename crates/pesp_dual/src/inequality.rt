@@ -1,7 +1,7 @@
 //! Inequalities and their multipliers.
 
-/// The greatest multiplier that is sought, in 1/2^20.
-pub(crate) const MOST: i64 = 1 << 40;
+/// The greatest multiplier that is sought, in 1/2^20: a certificate has room for 10^12 times 1/65536.
+pub(crate) const MOST: i64 = 16_000_000_000_000;
 
 /// The coefficient of a row's slack in an inequality; the row is named by its place from 0.
 #[derive(Clone, Copy, Debug, PartialEq, Eq)]

@@ -1,10 +1,10 @@
 //! Numbers that steps move: the slacks, and the multipliers.
 
 /// The longest step of a unit.
-const MOST_STEP: u128 = 1 << 55;
+const MOST_STEP: u128 = 1 << 62;
 
-/// The greatest distance whose square is told apart.
-const FAR: u64 = 1 << 31;
+/// The greatest distance that is told apart.
+const FAR: u64 = 1 << 40;
 
 /// A number from 0 to `most` that steps move: where it is, where the last step proper led, and where it was at the last
 /// restart. A step proper goes by `step` times what it is drawn by, and the square of a distance counts `norm` times.
@@ -19,8 +19,8 @@ pub(crate) struct Moved {
 }
 
 /// The square of a distance, of which so many binary digits are left out.
-fn square(one: i64, other: i64, digits: u32) -> u64 {
-    let distance = one.abs_diff(other).wrapping_shr(digits).min(FAR);
+fn square(one: i64, other: i64, digits: u32) -> u128 {
+    let distance = u128::from(one.abs_diff(other).wrapping_shr(digits).min(FAR));
     distance.wrapping_mul(distance)
 }
 
@@ -54,8 +54,9 @@ impl Moved {
     /// Goes as far again, and from there a part of the way back to the last restart, in 1/2^20.
     fn reflect(&mut self, part: i64) {
         let beyond = self.beyond();
-        let back = self.anchor.wrapping_sub(beyond).wrapping_mul(part) >> 20;
-        self.at = beyond.wrapping_add(back);
+        let way = i128::from(self.anchor.wrapping_sub(beyond));
+        let back = way.wrapping_mul(i128::from(part)) >> 20;
+        self.at = beyond.wrapping_add(i64::try_from(back).unwrap_or(0));
     }
 
     /// Sets the step to a factor of the norm's inverse, of which so many binary digits are left out.
@@ -102,7 +103,7 @@ pub(crate) fn set_steps(all: &mut [Moved], factor: u64, digits: u32) {
 pub(crate) fn length_of_step(all: &[Moved], digits: u32) -> u128 {
     let mut sum = 0u128;
     for moved in all {
-        let square = u128::from(square(moved.next, moved.at, digits));
+        let square = square(moved.next, moved.at, digits);
         sum = sum.wrapping_add(square.wrapping_mul(u128::from(moved.norm)));
     }
     sum
@@ -112,7 +113,7 @@ pub(crate) fn length_of_step(all: &[Moved], digits: u32) -> u128 {
 pub(crate) fn length_of_way(all: &[Moved], digits: u32) -> u128 {
     let mut sum = 0u128;
     for moved in all {
-        let square = u128::from(square(moved.next, moved.anchor, digits));
+        let square = square(moved.next, moved.anchor, digits);
         sum = sum.wrapping_add(square.wrapping_mul(u128::from(moved.norm)));
     }
     sum

@@ -8,8 +8,10 @@ use crate::rows::Row;
 pub(crate) fn sum_of(terms: &[Term], values: &[i64]) -> i64 {
     let mut sum = 0i64;
     for term in terms {
-        let value = values.get(term.row as usize).copied().unwrap_or(0);
-        sum = sum.wrapping_add(i64::from(term.coefficient).wrapping_mul(value));
+        let Term { row, coefficient } = *term;
+        if let Some(value) = values.get(row as usize) {
+            sum = sum.wrapping_add(i64::from(coefficient).wrapping_mul(*value));
+        }
     }
     sum
 }
@@ -17,8 +19,9 @@ pub(crate) fn sum_of(terms: &[Term], values: &[i64]) -> i64 {
 /// Takes coefficients times a multiplier away from values.
 fn take(terms: &[Term], values: &mut [i64], multiplier: i64) {
     for term in terms {
-        if let Some(value) = values.get_mut(term.row as usize) {
-            let part = i64::from(term.coefficient).wrapping_mul(multiplier);
+        let Term { row, coefficient } = *term;
+        if let Some(value) = values.get_mut(row as usize) {
+            let part = i64::from(coefficient).wrapping_mul(multiplier);
             *value = value.wrapping_sub(part);
         }
     }
@@ -50,7 +53,7 @@ pub(crate) fn reduce(
 /// A step proper of all slacks against the reduced weights, in whose place comes as far again as it leads.
 pub(crate) fn move_slacks(slacks: &mut [Moved], weights: &mut [i64]) {
     for (moved, weight) in slacks.iter_mut().zip(weights.iter_mut()) {
-        let rise = i128::from(*weight).wrapping_mul(i128::from(moved.step)) >> 24;
+        let rise = i128::from(*weight).wrapping_mul(i128::from(moved.step)) >> 44;
         moved.go(rise.wrapping_neg());
         *weight = moved.beyond();
     }
@@ -66,6 +69,6 @@ pub(crate) fn move_multipliers(
     for (inequality, moved) in inequalities.iter().zip(multipliers.iter_mut()) {
         let sum = sum_of(inequality.terms(terms), slacks);
         let missing = (inequality.least << 16).wrapping_sub(sum);
-        moved.go(i128::from(missing).wrapping_mul(i128::from(moved.step)) >> 32);
+        moved.go(i128::from(missing).wrapping_mul(i128::from(moved.step)) >> 42);
     }
 }

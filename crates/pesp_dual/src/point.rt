@@ -4,7 +4,8 @@ use crate::inequality::{MOST, Multiplier};
 use crate::program::Program;
 use std::alloc::{AllocError, Global};
 
-/// Slacks, in 1/65536, and the weight of the multipliers' side against theirs, in 1/65536: where steps go on.
+/// Slacks, in 1/65536, and the weight of the multipliers' side against theirs, in 1/65536 (the primal weight: Applegate and
+/// others 2021): where steps go on.
 #[derive(Debug, Drop)]
 pub struct Point {
     pub slacks: Vec<i64>,

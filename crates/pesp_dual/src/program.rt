@@ -3,17 +3,17 @@
 use crate::inequality::{Inequality, MOST, Multiplier, Term};
 use crate::moved::{Moved, stay};
 use crate::passes::sum_of;
-use crate::rows::Row;
+use crate::rows::{Row, first_balance};
 use pesp_network::NetRow;
 use std::alloc::{AllocError, Global};
 
 /// How many steps a program counts at most where it goes on from one that has come far.
 const SETTLED: u64 = 4_000;
 
-/// The weight of the two sides, in 1/65536: the least and the greatest.
+/// The least and the greatest balance of the two sides.
 const LEAST_BALANCE: i64 = 16;
 
-const MOST_BALANCE: i64 = 1 << 30;
+const MOST_BALANCE: i64 = 1 << 40;
 
 /// The linear program that minimises weight times slack, with each slack from 0 to its row's span, under inequalities; and
 /// where the search for the best multipliers of these stands. Slacks are in 1/65536, multipliers in 1/2^20.
@@ -41,8 +41,10 @@ impl Program {
         for row in rows {
             points.push(Moved::new(0, i64::from(row.span) << 16))?;
         }
+        let rows: Vec<Row> = rows.iter().map(Row::of).collect(alloc)?;
+        let balance = first_balance(&rows);
         Ok(Program {
-            rows: rows.iter().map(Row::of).collect(alloc)?,
+            rows,
             inequalities: Vec::new(alloc),
             terms: Vec::new(alloc),
             points,
@@ -50,7 +52,7 @@ impl Program {
             slacks: vec![in alloc; 0i64; count]?,
             weights: vec![in alloc; 0i64; count]?,
             exact: vec![in alloc; 0i128; count]?,
-            balance: 1 << 16,
+            balance: balance.max(LEAST_BALANCE).min(MOST_BALANCE),
             best: 0,
             steps: 0,
             work: 0,
@@ -69,6 +71,8 @@ impl Program {
         least: i64,
         multiplier: Multiplier,
     ) -> Result<(), AllocError> {
+        // An earlier call may have found no memory half way.
+        self.multipliers.truncate(self.inequalities.len());
         let start = self.terms.len();
         self.terms.extend_from_slice(terms)?;
         self.multipliers.push(Moved::new(multiplier.current, MOST))?;
@@ -156,12 +160,12 @@ impl Program {
         stay(&mut self.multipliers);
     }
 
-    /// The weight of the multipliers' side, in 1/65536.
+    /// The balance: the weight of the multipliers' side against that of the slacks, in 1/65536.
     pub(crate) fn balance(&self) -> i64 {
         self.balance
     }
 
-    /// Sets the weight of the multipliers' side.
+    /// Sets the balance, within its limits.
     pub(crate) fn set_balance(&mut self, balance: i64) {
         self.balance = balance.max(LEAST_BALANCE).min(MOST_BALANCE);
     }

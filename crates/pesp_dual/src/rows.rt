@@ -20,3 +20,16 @@ impl Row {
         }
     }
 }
+
+/// The balance of the two sides that steps begin with, in 1/65536: half of all weights against the roots of all spans, which
+/// is near the one at which steps end up.
+pub(crate) fn first_balance(rows: &[Row]) -> i64 {
+    let mut weights = 0u128;
+    let mut roots = 0u128;
+    for row in rows {
+        weights = weights.wrapping_add(u128::from(row.weight.unsigned_abs()));
+        roots = roots.wrapping_add(u128::from(row.root));
+    }
+    let balance = weights.wrapping_shl(19) / roots.max(1);
+    i64::try_from(balance).unwrap_or(i64::MAX)
+}

@@ -14,13 +14,13 @@ const FEW: u64 = 100;
 const COUNTED: u64 = 4_000;
 
 impl Program {
-    /// Begins a course, with steps by the weight of the two sides.
+    /// Begins a course, with steps by the balance of the two sides.
     fn begin(&mut self) {
         restart(&mut self.points);
         restart(&mut self.multipliers);
         let balance = self.balance().unsigned_abs().max(1);
-        set_steps(&mut self.points, (1 << 46) / balance, 42);
-        set_steps(&mut self.multipliers, balance, 26);
+        set_steps(&mut self.points, (1 << 62) / balance, 38);
+        set_steps(&mut self.multipliers, balance, 16);
     }
 
     /// A step proper.
@@ -51,8 +51,8 @@ impl Program {
         one.saturating_add(other)
     }
 
-    /// Weighs the two sides by how far each has moved since the last restart.
-    fn weigh(&mut self) {
+    /// Sets the balance by how far each side has moved since the last restart.
+    fn rebalance(&mut self) {
         let slacks = length_of_way(&self.points, 0) >> 14;
         let multipliers = length_of_way(&self.multipliers, 4);
         if slacks == 0 || multipliers == 0 {
@@ -86,7 +86,7 @@ impl Program {
     /// Goes on after a step proper, with a restart where the course is over.
     fn turn(&mut self, course: &mut Course) {
         if self.is_over(course) {
-            self.weigh();
+            self.rebalance();
             self.begin();
             *course = BEGUN;
         } else {
@@ -123,7 +123,7 @@ impl Program {
             }
             self.turn(&mut course);
         }
-        self.weigh();
+        self.rebalance();
         restart(&mut self.points);
         restart(&mut self.multipliers);
         self.read_slacks();

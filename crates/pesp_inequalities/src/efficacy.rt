@@ -1,0 +1,117 @@
+//! How much a cycle inequality is violated.
+
+/// One, in the unit of slacks, which is 1/65536.
+pub(crate) const WHOLE: i64 = 65_536;
+
+/// Inequalities that are violated by no more than this part of their right side count as not violated.
+const LEAST_PART: i64 = 512;
+
+/// Passes of one direction: their distances added up, in 1/65536, and how many there are.
+#[derive(Clone, Copy, Debug)]
+pub(crate) struct Side {
+    pub(crate) distance: i64,
+    pub(crate) count: i64,
+}
+
+/// What decides how much the inequality of a walk is violated: its rest, and the passes whose direction is plus or minus.
+#[derive(Clone, Copy, Debug)]
+pub(crate) struct Sums {
+    pub(crate) rest: i64,
+    pub(crate) rising: Side,
+    pub(crate) falling: Side,
+}
+
+/// No passes.
+pub(crate) const NO_SUMS: Sums = Sums {
+    rest: 0,
+    rising: NO_SIDE,
+    falling: NO_SIDE,
+};
+
+const NO_SIDE: Side = Side {
+    distance: 0,
+    count: 0,
+};
+
+/// Judges violations at a period: `shift` is how many bits are cut off so that squares fit 64 bits.
+#[derive(Clone, Copy, Debug)]
+pub(crate) struct Judge {
+    period: i64,
+    shift: u32,
+}
+
+impl Side {
+    /// One pass more.
+    pub(crate) fn with(self, distance: i64) -> Side {
+        Side {
+            distance: self.distance.wrapping_add(distance),
+            count: self.count.wrapping_add(1),
+        }
+    }
+
+    /// One pass less.
+    pub(crate) fn without(self, distance: i64) -> Side {
+        Side {
+            distance: self.distance.wrapping_sub(distance),
+            count: self.count.wrapping_sub(1),
+        }
+    }
+
+    /// The part of these passes in the square of the coefficients' norm.
+    fn norm(self, rate: i64) -> i64 {
+        rate.wrapping_mul(rate).wrapping_mul(self.count)
+    }
+}
+
+impl Judge {
+    /// The judge of a period.
+    pub(crate) fn new(period: u32) -> Judge {
+        let most = u64::from(period).wrapping_mul(u64::from(period)) << 14;
+        let bits = 64u32.saturating_sub(most.leading_zeros());
+        Judge {
+            period: i64::from(period),
+            shift: bits.saturating_sub(32),
+        }
+    }
+
+    /// The period.
+    pub(crate) fn period(self) -> i64 {
+        self.period
+    }
+
+    /// The sum of all distances of a walk from which on no inequality of it is violated.
+    pub(crate) fn bound(self) -> i64 {
+        self.period.wrapping_mul(WHOLE)
+    }
+
+    /// By how much the left side of an inequality is too small, in 1/65536; 0 where that is next to nothing.
+    fn violation(self, sums: &Sums) -> i64 {
+        let distance = sums.rising.distance.wrapping_add(sums.falling.distance);
+        if distance >= self.bound() || sums.rest == 0 {
+            return 0;
+        }
+        let rate = self.period.wrapping_sub(sums.rest);
+        let least = rate.wrapping_mul(sums.rest).wrapping_mul(WHOLE);
+        let rising = rate.wrapping_mul(sums.rising.distance);
+        let falling = sums.rest.wrapping_mul(sums.falling.distance);
+        let violation = least.wrapping_sub(rising).wrapping_sub(falling);
+        if violation <= least / LEAST_PART {
+            return 0;
+        }
+        violation
+    }
+
+    /// The square of violation by norm of the coefficients, in a unit that depends on the period alone; 0 where an inequality
+    /// isn't violated.
+    pub(crate) fn efficacy(self, sums: &Sums) -> u64 {
+        let violation = self.violation(sums).unsigned_abs();
+        if violation == 0 {
+            return 0;
+        }
+        let short = violation.wrapping_shr(self.shift);
+        let rate = self.period.wrapping_sub(sums.rest);
+        let rising = sums.rising.norm(rate);
+        let norm = rising.wrapping_add(sums.falling.norm(sums.rest));
+        short.wrapping_mul(short) / norm.unsigned_abs().max(1)
+    }
+}

@@ -1,0 +1,156 @@
+//! The search for violated inequalities.
+
+use crate::efficacy::Judge;
+use crate::finds::Finds;
+use crate::inequality::Inequality;
+use crate::keys::{BY_SPAN, KeyRule, RULES};
+use crate::marking::{Ends, Marking};
+use crate::seen::Seen;
+use crate::spanning::Spanning;
+use crate::ways::Way;
+use pesp_forest::Frame;
+use pesp_search_tools::Random;
+use std::alloc::{AllocError, Global};
+
+/// How many passes of a walk are flipped at most, one after another, from the nearer ends on.
+const MOST_FLIPS: u32 = 6;
+
+/// Looks for violated cycle inequalities along the fundamental cycles of forests whose rows have slacks near an end of their
+/// range. It keeps what it works with: the forest and a walk along it, the inequalities of the walk, and all that were found.
+#[derive(Drop)]
+pub struct Separator {
+    alloc: Global,
+    frame: Frame,
+    judge: Judge,
+    random: Random,
+    keys: Vec<i64>,
+    spanning: Spanning,
+    way: Way,
+    marking: Marking,
+    offers: Finds,
+    finds: Finds,
+}
+
+impl Separator {
+    /// A separator for a network; the seed is that of the numbers by which forests are drawn.
+    pub fn new(alloc: Global, frame: Frame, seed: u64) -> Result<Separator, AllocError> {
+        Ok(Separator {
+            alloc,
+            judge: Judge::new(frame.period()),
+            random: Random::new(seed),
+            keys: vec![in alloc; 0i64; frame.rows().len()]?,
+            spanning: Spanning::new(alloc, &frame)?,
+            way: Way::new(alloc),
+            marking: Marking::new(alloc),
+            offers: Finds::new(alloc),
+            finds: Finds::new(alloc),
+            frame,
+        })
+    }
+
+    /// The network's rows.
+    pub fn frame(&self) -> &Frame {
+        &self.frame
+    }
+
+    /// Notes the walk's inequality as it is flipped now, where it is violated.
+    fn offer(&mut self) -> Result<(), AllocError> {
+        let efficacy = self.marking.efficacy(self.judge);
+        self.offers.put(efficacy, self.marking.passes())
+    }
+
+    /// Notes the inequality of the walk with its slacks measured from these ends.
+    fn offer_from(&mut self, ends: Ends) -> Result<(), AllocError> {
+        self.marking.turn_to(self.judge, ends);
+        self.offer()
+    }
+
+    /// Notes the inequalities that come of flips, each of which makes the one before more violated.
+    fn offer_flips(&mut self) -> Result<(), AllocError> {
+        self.offer_from(Ends::Nearer)?;
+        for _ in 0..MOST_FLIPS {
+            if self.marking.improve(self.judge).is_none() {
+                break;
+            }
+            self.offer()?;
+        }
+        Ok(())
+    }
+
+    /// Looks at the walk: the best so many of its inequalities are found.
+    fn look_at_walk(&mut self, slacks: &[i64], each: usize) -> Result<(), AllocError> {
+        let walk = self.way.passes();
+        if !self.marking.load(&self.frame, self.judge, slacks, walk)? {
+            return Ok(());
+        }
+        self.offers.clear();
+        self.offer_flips()?;
+        self.offer_from(Ends::Rising)?;
+        self.offer_from(Ends::Falling)?;
+        self.finds.put_best(&mut self.offers, each)
+    }
+
+    /// Looks at the walk that a row closes, unless it is in the forest.
+    fn look_at_row(&mut self, slacks: &[i64], row: u32, each: usize) -> Result<(), AllocError> {
+        let tree = self.spanning.tree();
+        if !self.spanning.has(row) && self.way.close(&self.frame, tree, row)? {
+            self.look_at_walk(slacks, each)?;
+        }
+        Ok(())
+    }
+
+    /// Looks along the forest of a rule.
+    fn look_along(
+        &mut self,
+        slacks: &[i64],
+        rule: &KeyRule,
+        each: usize,
+    ) -> Result<(), AllocError> {
+        rule.give(&mut self.keys, &self.frame, slacks, &mut self.random);
+        self.spanning.draw(&self.frame, &self.keys);
+        for place in 0..self.keys.len() {
+            let row = u32::try_from(place).unwrap_or(u32::MAX);
+            self.look_at_row(slacks, row, each)?;
+        }
+        Ok(())
+    }
+
+    /// The first so many new ones of the inequalities that were found.
+    fn choose(&self, most: usize, seen: &mut Seen) -> Result<Vec<Inequality>, AllocError> {
+        let mut chosen = Vec::new(self.alloc);
+        for find in self.finds.list() {
+            if chosen.len() >= most {
+                break;
+            }
+            let passes = Vec::from_slice(self.alloc, self.finds.passes(find))?;
+            if let Some(inequality) = Inequality::of(self.alloc, &self.frame, passes)? {
+                if seen.insert(inequality.key())? {
+                    chosen.push(inequality)?;
+                }
+            }
+        }
+        Ok(chosen)
+    }
+
+    /// The most violated new inequalities at slacks in 1/65536, the most violated first: along the fundamental cycles of six
+    /// forests, and of the forest of small spans where `wide`; at most `each` a cycle, and at most `most` in all. New is one
+    /// whose key isn't in `seen`, into which it is put.
+    pub fn look(
+        &mut self,
+        slacks: &[i64],
+        wide: bool,
+        each: usize,
+        most: usize,
+        seen: &mut Seen,
+    ) -> Result<Vec<Inequality>, AllocError> {
+        self.finds.clear();
+        for rule in &RULES {
+            self.look_along(slacks, rule, each)?;
+        }
+        if wide {
+            self.look_along(slacks, &BY_SPAN, each)?;
+        }
+        self.finds.sort();
+        self.choose(most, seen)
+    }
+}

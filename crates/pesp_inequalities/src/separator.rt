@@ -15,6 +15,9 @@ use std::alloc::{AllocError, Global};
 /// How many passes of a walk are flipped at most, one after another, from the nearer ends on.
 const MOST_FLIPS: u32 = 6;
 
+/// How many passes the walks along a forest may have in all; those of further rows are left out.
+const MOST_PASSES: usize = 4_000_000;
+
 /// Looks for violated cycle inequalities along the fundamental cycles of forests whose rows have slacks near an end of their
 /// range. It keeps what it works with: the forest and a walk along it, the inequalities of the walk, and all that were found.
 #[derive(Drop)]
@@ -90,13 +93,15 @@ impl Separator {
         self.finds.put_best(&mut self.offers, each)
     }
 
-    /// Looks at the walk that a row closes, unless it is in the forest.
-    fn look_at_row(&mut self, slacks: &[i64], row: u32, each: usize) -> Result<(), AllocError> {
-        let tree = self.spanning.tree();
-        if !self.spanning.has(row) && self.way.close(&self.frame, tree, row)? {
+    /// Looks at the walk that a row closes, unless it is in the forest; how many passes it has.
+    fn look_at_row(&mut self, slacks: &[i64], row: u32, each: usize) -> Result<usize, AllocError> {
+        if self.spanning.has(row) {
+            return Ok(0);
+        }
+        if self.way.close(&self.frame, self.spanning.tree(), row)? {
             self.look_at_walk(slacks, each)?;
         }
-        Ok(())
+        Ok(self.way.passes().len())
     }
 
     /// Looks along the forest of a rule.
@@ -108,9 +113,13 @@ impl Separator {
     ) -> Result<(), AllocError> {
         rule.give(&mut self.keys, &self.frame, slacks, &mut self.random);
         self.spanning.draw(&self.frame, &self.keys);
+        let mut left = MOST_PASSES;
         for place in 0..self.keys.len() {
             let row = u32::try_from(place).unwrap_or(u32::MAX);
-            self.look_at_row(slacks, row, each)?;
+            left = left.saturating_sub(self.look_at_row(slacks, row, each)?);
+            if left == 0 {
+                break;
+            }
         }
         Ok(())
     }

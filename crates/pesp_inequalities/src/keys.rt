@@ -92,7 +92,9 @@ impl KeyRule {
         let most = span.wrapping_mul(self.by_span).wrapping_add(self.drawn);
         let part = fraction(random).wrapping_mul(most) >> 16;
         let fixed = span.wrapping_mul(self.fixed);
-        self.start(span, slack).wrapping_add(fixed).wrapping_add(part)
+        self.start(span, slack)
+            .wrapping_add(fixed)
+            .wrapping_add(part)
     }
 
     /// Gives the rows their keys.

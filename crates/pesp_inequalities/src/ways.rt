@@ -22,7 +22,7 @@ struct Climb {
 }
 
 /// The row up from the lower of two events.
-fn climb(frame: &Frame, tree: &Tree, first: u32, second: u32) -> Option<Climb> {
+fn row_up(frame: &Frame, tree: &Tree, first: u32, second: u32) -> Option<Climb> {
     let here = tree.place(first)?;
     let there = tree.place(second)?;
     if here.depth >= there.depth {
@@ -66,20 +66,14 @@ impl Way {
     }
 
     /// Goes along the trees from one event to another; false where they are in two trees.
-    fn lead(
-        &mut self,
-        frame: &Frame,
-        tree: &Tree,
-        from: u32,
-        to: u32,
-    ) -> Result<bool, AllocError> {
+    fn lead(&mut self, frame: &Frame, tree: &Tree, from: u32, to: u32) -> Result<bool, AllocError> {
         let mut first = from;
         let mut second = to;
         for _ in 0..tree.events().saturating_mul(2) {
             if first == second {
                 break;
             }
-            let Some(climb) = climb(frame, tree, first, second) else {
+            let Some(climb) = row_up(frame, tree, first, second) else {
                 return Ok(false);
             };
             self.put(climb)?;
@@ -114,11 +108,7 @@ impl Way {
 
 /// The fundamental walks of the forest that takes rows by rising key, one key a row. Each begins with its row outside the
 /// forest, forwards, and these rows rise. No pass is flipped.
-pub fn walks_by(
-    alloc: Global,
-    frame: &Frame,
-    keys: &[i64],
-) -> Result<Vec<Vec<Pass>>, AllocError> {
+pub fn walks_by(alloc: Global, frame: &Frame, keys: &[i64]) -> Result<Vec<Vec<Pass>>, AllocError> {
     let mut spanning = Spanning::new(alloc, frame)?;
     spanning.draw(frame, keys);
     let mut way = Way::new(alloc);

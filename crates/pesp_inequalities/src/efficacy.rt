@@ -7,14 +7,14 @@ pub(crate) const WHOLE: i64 = 65_536;
 const LEAST_PART: i64 = 512;
 
 /// Passes of one direction: their distances added up, in 1/65536, and how many there are.
-#[derive(Clone, Copy, Debug)]
+#[derive(Clone, Copy)]
 pub(crate) struct Side {
     pub(crate) distance: i64,
     pub(crate) count: i64,
 }
 
 /// What decides how much the inequality of a walk is violated: its rest, and the passes whose direction is plus or minus.
-#[derive(Clone, Copy, Debug)]
+#[derive(Clone, Copy)]
 pub(crate) struct Sums {
     pub(crate) rest: i64,
     pub(crate) rising: Side,
@@ -34,7 +34,7 @@ const NO_SIDE: Side = Side {
 };
 
 /// Judges violations at a period: `shift` is how many bits are cut off so that squares fit 64 bits.
-#[derive(Clone, Copy, Debug)]
+#[derive(Clone, Copy)]
 pub(crate) struct Judge {
     period: i64,
     shift: u32,

@@ -5,8 +5,9 @@ use pesp_dual::Term;
 use pesp_forest::Frame;
 use std::alloc::{AllocError, Global};
 
-/// A cycle inequality: along a walk, the sum of rate times distance is at least `rest * (period - rest)`. The terms say the
-/// same of slacks: the sum of coefficient times slack is at least `least`.
+/// A cycle inequality (Nachtigall 1998; with flipped rows Lindner and others 2020): along a closed walk the sum of rate times
+/// distance is at least `rest * (period - rest)`. The terms say the same of slacks, which are 0 to the span of each row: the
+/// sum of coefficient times slack is at least `least`.
 #[derive(Debug, Drop)]
 pub struct Inequality {
     pub passes: Vec<Pass>,

@@ -6,7 +6,7 @@ use pesp_network::NetRow;
 use pesp_search_tools::Random;
 
 /// What a key begins with: nothing, the slack, or its distance from the nearer end of its range.
-#[derive(Clone, Copy, Debug)]
+#[derive(Clone, Copy)]
 enum Start {
     Nothing,
     Slack,
@@ -15,7 +15,7 @@ enum Start {
 
 /// How the key of a row is made, in 1/65536. To what it begins with is added `fixed` times the span; and, times a fraction
 /// that is drawn for each row, `by_span` times the span and `drawn` units.
-#[derive(Clone, Copy, Debug)]
+#[derive(Clone, Copy)]
 pub(crate) struct KeyRule {
     start: Start,
     fixed: i64,

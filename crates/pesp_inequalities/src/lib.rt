@@ -1,5 +1,5 @@
-//! Cycle inequalities on the slacks of a network's rows (Nachtigall 1998; with flipped rows Lindner and others 2020), and a
-//! search for those that are violated. Nothing is promised but that all is found safely.
+//! Cycle inequalities on the slacks of a network's rows, and a search for those that are violated. Nothing is promised but
+//! that all is found safely.
 #![tactic(auto)]
 
 mod efficacy;

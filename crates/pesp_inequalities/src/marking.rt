@@ -8,7 +8,7 @@ use std::alloc::{AllocError, Global};
 
 /// What a pass adds to a walk's sums: whether its direction is plus, how far its slack is from the end from which it is measured
 /// and from the other one, in 1/65536, and what flipping it adds to the rest.
-#[derive(Clone, Copy, Debug)]
+#[derive(Clone, Copy)]
 struct Step {
     rises: bool,
     distance: i64,
@@ -17,7 +17,7 @@ struct Step {
 }
 
 /// Which ends slacks are measured from: the nearer ones, or such that all directions are plus, or minus (Odijk 1996).
-#[derive(Clone, Copy, Debug)]
+#[derive(Clone, Copy)]
 pub(crate) enum Ends {
     Nearer,
     Rising,
@@ -25,7 +25,7 @@ pub(crate) enum Ends {
 }
 
 /// A walk with what its passes add, and the sums.
-#[derive(Debug, Drop)]
+#[derive(Drop)]
 pub(crate) struct Marking {
     passes: Vec<Pass>,
     steps: Vec<Step>,

@@ -5,7 +5,7 @@ use pesp_search_tools::Groups;
 use std::alloc::{AllocError, Global};
 
 /// A row with the key by which it is taken.
-#[derive(Clone, Copy, Debug)]
+#[derive(Clone, Copy)]
 struct Keyed {
     key: i64,
     row: u32,
@@ -13,7 +13,7 @@ struct Keyed {
 
 /// A spanning forest, and what the next one is drawn with: the rows with their keys, the trees as they are joined, which rows
 /// are in the forest, and its trees.
-#[derive(Debug, Drop)]
+#[derive(Drop)]
 pub(crate) struct Spanning {
     keyed: Vec<Keyed>,
     groups: Groups,

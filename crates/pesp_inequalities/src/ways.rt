@@ -6,7 +6,7 @@ use pesp_forest::{Frame, Tree};
 use std::alloc::{AllocError, Global};
 
 /// A walk, and the part of it that leads down, from below.
-#[derive(Debug, Drop)]
+#[derive(Drop)]
 pub(crate) struct Way {
     passes: Vec<Pass>,
     down: Vec<Pass>,

@@ -7,9 +7,6 @@ use crate::rows::{Row, first_balance};
 use pesp_network::NetRow;
 use std::alloc::{AllocError, Global};
 
-/// How many steps a program counts at most where it goes on from one that has come far.
-const SETTLED: u64 = 4_000;
-
 /// The least and the greatest balance of the two sides.
 const LEAST_BALANCE: i64 = 16;
 
@@ -185,11 +182,6 @@ impl Program {
         };
         let sum = sum_of(inequality.terms(&self.terms), &self.slacks);
         sum.wrapping_sub(inequality.least << 16)
-    }
-
-    /// Counts as though 4,000 steps were made, as for a program that goes on from one that has come far.
-    pub fn settle_counts(&mut self) {
-        self.steps = self.steps.max(SETTLED);
     }
 
     /// How many coefficients were looked at so far: a measure of work that needs no clock.

@@ -8,12 +8,18 @@ use crate::program::Program;
 /// After how many steps the value is looked at.
 const LOOK: u32 = 25;
 
-/// Between two restarts there are at most so many steps and a quarter of all steps so far, of which so many count.
-const FEW: u64 = 100;
+/// Between two restarts there are at most so many steps and a quarter of all steps so far, as long as these are few.
+const BETWEEN: u64 = 100;
 
-const COUNTED: u64 = 4_000;
+/// How many steps are no longer few.
+const MANY: u64 = 4_000;
 
 impl Program {
+    /// Counts as though 4,000 steps were made, as for a program that goes on from one that has come far.
+    pub fn settle_counts(&mut self) {
+        self.steps = self.steps.max(MANY);
+    }
+
     /// Begins a course, with steps by the balance of the two sides.
     fn begin(&mut self) {
         restart(&mut self.points);
@@ -71,8 +77,8 @@ impl Program {
         if !course.is_measured() {
             return false;
         }
-        let most = self.steps.min(COUNTED) / 4;
-        course.measure(self.length()) || u64::from(course.steps) > most.saturating_add(FEW)
+        let most = self.steps.min(MANY) / 4;
+        course.measure(self.length()) || u64::from(course.steps) > most.saturating_add(BETWEEN)
     }
 
     /// Goes on from the last step proper, drawn back to the last restart.

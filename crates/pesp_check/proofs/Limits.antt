@@ -11,13 +11,13 @@ use Rattle.pesp_cert_lines.specs.Pairs.{is_pair_within, all_within, follows, ris
 use Rattle.pesp_cert_lines.specs.Rows.{is_name}
 use Rattle.pesp_cert.specs.Limits.{are_pairs, is_line}
 use Rattle.pesp_cert.proofs.ShortLaws.{pairs_few}
-use Rattle.pesp_check.specs.Lines.{ArePairLimits, KeepsLineLimits}
+use Rattle.pesp_judges.specs.Lines.{ArePairLimits, KeepsLineLimits}
 
 both : (a b : Bool) → (a && b) ≡ true → (a ≡ true) × (b ≡ true)
 both true b e = (refl, e)
 both false b e = cc
 
-le_of : (a b : ℕ) → nat_le a b ≡ true → a ≤ b
+pub le_of : (a b : ℕ) → nat_le a b ≡ true → a ≤ b
 le_of a b e = grind (arith, nat_tests)
 
 mults_of : (pairs : List Pair) → list_all is_pair_within pairs ≡ true → All (λ pair. unsigned_abs pair.mult ≤ 1000000000000) pairs

@@ -1,11 +1,6 @@
-pub mod Nets
-pub mod Offsets
-pub mod Ranges
-pub mod Propagations
-pub mod Pending
-pub mod Flows
-pub mod Faults
-pub mod Lines
-pub mod LeafLines
-pub mod SaidLines
-pub mod Ways
+pub mod Items
+pub mod CheckFaults
+pub mod Texts
+pub mod Judging
+pub mod Views
+pub mod Said

@@ -1,26 +1,33 @@
-//! Lists that are read one element after another, as often as is asked.
+//! The list of a line, read from the line as often as is asked.
 
-ghost use Rattle.std.specs.Prelude.{◌≡◌, List, [], ◌∷◌, MatchOption};
+ghost use Rattle.pesp_cert_items.specs.Lent.{pairs_in, rows_in};
 
-/// The elements of a list that are still to come, such as the pairs in a leaf's line. A copy has the same elements still to
-/// come, so a list is read again by a copy that was made before.
-pub trait Elements<T>: Copy {
-    // The elements that are still to come.
-    ghost elements: { Self → List T };
+use pesp_cert_items::{LinePairs, SignedRows};
+use pesp_judges::Elements;
+use pesp_problem::{Pair, SignedRow};
 
-    /// The next element; None behind the last one.
-    fn take_next(&mut self) -> Option<T>
-        ensures { MatchOption result (elements self.old ≡ [])
-            (λ x. elements self.old ≡ x ∷ elements self.new) };
-}
+/// The pairs of a leaf's line that are still to come.
+#[derive(Clone, Copy)]
+pub struct PairsLeft<'a>(pub LinePairs<'a>);
 
-impl<T: Copy> Elements<T> for &[T] {
-    ghost elements = { λ s. s.now };
+impl<'a> Elements<Pair> for PairsLeft<'a> {
+    ghost elements = { λ pairs. pairs_in pairs.0 };
 
     #[inline]
-    fn take_next(&mut self) -> Option<T> {
-        let (first, rest) = self.split_first()?;
-        *self = rest;
-        Some(*first)
+    fn take_next(&mut self) -> Option<Pair> {
+        self.0.next()
+    }
+}
+
+/// The signed rows of a cycle's line that are still to come.
+#[derive(Clone, Copy)]
+pub struct RowsLeft<'a>(pub SignedRows<'a>);
+
+impl<'a> Elements<SignedRow> for RowsLeft<'a> {
+    ghost elements = { λ rows. rows_in rows.0 };
+
+    #[inline]
+    fn take_next(&mut self) -> Option<SignedRow> {
+        self.0.next()
     }
 }

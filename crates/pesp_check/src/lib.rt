@@ -1,26 +1,15 @@
-//! The checker: whoever made a certificate, it says yes only to what is true of the planner's own activities.
+//! The checker: whoever made a certificate, it says yes only to what is true of the planner's own activities. It judges a
+//! certificate as a whole, or its text while it is read.
 #![tactic(auto)]
 
-mod branch;
-mod checker;
-mod checking;
 mod elements;
-mod flows;
-mod judge_answer;
-mod judge_leaf;
-mod judge_tree;
-mod leaf;
-mod nets;
-mod node_walk;
-mod offsets;
-pub mod parts;
-mod propagation;
-mod ranges;
-mod refusal;
-mod rows;
-mod table;
-mod tree;
-mod walks;
+mod fault;
+mod judge;
+mod stage;
+mod text_check;
+mod whole_check;
 
-pub use checking::check;
-pub use refusal::{Refusal, Verdict};
+pub use fault::CheckFault;
+pub use pesp_judges::{Refusal, Verdict};
+pub use text_check::check_text;
+pub use whole_check::check;

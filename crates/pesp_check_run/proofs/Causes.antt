@@ -2,9 +2,9 @@
 use Rattle.std.proofs.Common.{◌≡◌, ◌⊎◌, inl, inr, ℕ, List, sym, subst}
 use Rattle.std.specs.Prelude.{Option}
 use Rattle.pesp_stream.specs.Counts.{Calls, DeviceFailed}
-use Rattle.pesp_check_text.specs.Texts.{Faults}
-use Rattle.pesp_check_text.specs.declared.fault.CheckFault.{CheckFault}
-use Rattle.pesp_check_text.specs.declared.fault.CheckFault.TheVariants.{Text, Read as CheckRead, Memory as CheckMemory}
+use Rattle.pesp_check.specs.Texts.{Faults}
+use Rattle.pesp_check.specs.declared.fault.CheckFault.{CheckFault}
+use Rattle.pesp_check.specs.declared.fault.CheckFault.TheVariants.{Text, Read as CheckRead, Memory as CheckMemory}
 use Rattle.pesp_check_run.specs.declared.fault.VerdictFault.{VerdictFault}
 use Rattle.pesp_check_run.specs.declared.fault.VerdictFault.TheVariants.{Memory, Write}
 use Rattle.pesp_check_run.specs.FaultLines.{check_fault}

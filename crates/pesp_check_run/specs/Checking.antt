@@ -7,8 +7,8 @@ use Rattle.pesp_instance.specs.Instance.{instance_of}
 use Rattle.pesp_instance.specs.declared.refusal.ReadRefusal.{ReadRefusal}
 use Rattle.pesp_truth.specs.declared.answer.Answer.{Answer}
 use Rattle.pesp_cert_items.specs.Texts.{RefusesText}
-use Rattle.pesp_check.specs.declared.refusal.Verdict.{Verdict}
-use Rattle.pesp_check_text.specs.Texts.{ChecksText}
+use Rattle.pesp_judges.specs.declared.refusal.Verdict.{Verdict}
+use Rattle.pesp_check.specs.Texts.{ChecksText}
 use Rattle.pesp_check_run.specs.Verdicts.{verdict_line}
 use Rattle.pesp_check_run.specs.Devices.{Device, HasFailed, GetsFront}
 use Rattle.pesp_check_run.specs.declared.fault.VerdictFault.{VerdictFault}

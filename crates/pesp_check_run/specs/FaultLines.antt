@@ -4,8 +4,8 @@ use Rattle.pesp_instance.specs.declared.refusal.ReadRefusal.{ReadRefusal}
 use Rattle.pesp_instance.specs.declared.refusal.ReadRefusal.TheVariants.{Period, TextTooLong, FieldCount, NotANumber, OutOfRange, BoundsCrossed, TooManyRows, TooManyEvents, Memory as NoMemory}
 use Rattle.pesp_cert.specs.declared.refusal.CertRefusal.{CertRefusal}
 use Rattle.pesp_cert.specs.declared.refusal.CertRefusal.TheVariants.{Header, Line, Number, Limit, Truncated, Trailing, Memory as CertMemory}
-use Rattle.pesp_check_text.specs.declared.fault.CheckFault.{CheckFault}
-use Rattle.pesp_check_text.specs.declared.fault.CheckFault.TheVariants.{Text, Read as CheckRead, Memory as CheckMemory}
+use Rattle.pesp_check.specs.declared.fault.CheckFault.{CheckFault}
+use Rattle.pesp_check.specs.declared.fault.CheckFault.TheVariants.{Text, Read as CheckRead, Memory as CheckMemory}
 use Rattle.pesp_stream.specs.declared.reading.ReadFault.{ReadFault}
 use Rattle.pesp_stream.specs.declared.reading.ReadFault.TheVariants.{Memory as ReadMemory, Device}
 use Rattle.pesp_check_run.specs.declared.fault.VerdictFault.{VerdictFault}

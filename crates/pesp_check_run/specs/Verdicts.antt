@@ -2,10 +2,10 @@
 use Rattle.std.specs.Prelude.{ℕ, List, ◌++◌, codes, decimal, Some, None}
 use Rattle.pesp_truth.specs.declared.answer.Answer.{Answer}
 use Rattle.pesp_truth.specs.declared.answer.Answer.TheVariants.{Optimal, Infeasible, Bounded}
-use Rattle.pesp_check.specs.declared.refusal.Refusal.{Refusal}
-use Rattle.pesp_check.specs.declared.refusal.Refusal.TheVariants.{OtherPeriod, Times, Violates, WrongCost, OpenWalk, NoSuch, LeafBelow, NotEmpty, NotAGap, BoundInInfeasible, AnswerShape, NotPropagated}
-use Rattle.pesp_check.specs.declared.refusal.Verdict.{Verdict}
-use Rattle.pesp_check.specs.declared.refusal.Verdict.TheVariants.{Accepted, Refused}
+use Rattle.pesp_judges.specs.declared.refusal.Refusal.{Refusal}
+use Rattle.pesp_judges.specs.declared.refusal.Refusal.TheVariants.{OtherPeriod, Times, Violates, WrongCost, OpenWalk, NoSuch, LeafBelow, NotEmpty, NotAGap, BoundInInfeasible, AnswerShape, NotPropagated}
+use Rattle.pesp_judges.specs.declared.refusal.Verdict.{Verdict}
+use Rattle.pesp_judges.specs.declared.refusal.Verdict.TheVariants.{Accepted, Refused}
 
 -- the words of an answer's line after `answer`
 abbrev pub answer_text : Answer → List ℕ

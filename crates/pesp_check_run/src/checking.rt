@@ -9,8 +9,7 @@ ghost use Rattle.pesp_check_run.specs.Checking.{Checks, CheckCause};
 use crate::fault::VerdictFault;
 use crate::reading::read_whole_instance;
 use crate::verdict::write_verdict;
-use pesp_check::Verdict;
-use pesp_check_text::check_text;
+use pesp_check::{Verdict, check_text};
 use pesp_stream::{Sink, Source};
 use std::alloc::Global;
 

@@ -4,7 +4,7 @@ ghost use Rattle.std.specs.Prelude.{◌≡◌};
 ghost use Rattle.pesp_check_run.specs.FaultLines.{exit_status};
 
 use pesp_cert::CertRefusal;
-use pesp_check_text::CheckFault;
+use pesp_check::CheckFault;
 use pesp_instance::ReadRefusal;
 use pesp_stream::{ReadFault, WriteFault};
 use std::alloc::AllocError;

@@ -4,7 +4,7 @@ use Rattle.std.specs.Io.KnownBytes.{Appends}
 use Rattle.pesp_gap.specs.Gaps.{gap_line}
 use Rattle.pesp_report.specs.Report.{IsReport}
 use Rattle.pesp_report.specs.Named.{IsNamedReport}
-use Rattle.pesp_check.specs.declared.refusal.Verdict.{Verdict}
+use Rattle.pesp_judges.specs.declared.refusal.Verdict.{Verdict}
 use Rattle.pesp_check_run.specs.Checking.{Checks}
 use Rattle.pesp_sharp_run.specs.Checking.{ChecksWith}
 use Rattle.pesp_check_run.specs.Devices.{Device, HasFailed, GetsFront}

@@ -4,8 +4,8 @@ use Rattle.pesp_problem.specs.Timetables.{Pesp}
 use Rattle.pesp_problem.specs.Scores.{IsFirstViolated}
 use Rattle.pesp_truth.specs.Certificates.{Content}
 use Rattle.pesp_cert.specs.Refusals.{items_of_text}
-use Rattle.pesp_check.specs.Faults.{IsVerdict}
-use Rattle.pesp_check.specs.declared.refusal.Verdict.TheVariants.{Refused}
+use Rattle.pesp_judges.specs.Faults.{IsVerdict}
+use Rattle.pesp_judges.specs.declared.refusal.Verdict.TheVariants.{Refused}
 use Rattle.pesp_search.specs.Solving.{IsSearchRefusal}
 use Rattle.pesp_search.specs.declared.refusal.SolveRefusal.TheVariants.{Memory as SearchMemory}
 use Rattle.pesp_report.specs.TimesText.{times_of}

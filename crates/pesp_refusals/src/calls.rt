@@ -3,8 +3,7 @@
 use crate::answers::{Answer, right_if};
 use crate::texts::{CERTIFICATE, INSTANCE, PERIOD, REPORT, certificate_of, instance_of};
 use pesp_cert::{CertRefusal, Certificate, parse};
-use pesp_check::{Verdict, check};
-use pesp_check_text::{CheckFault, check_text};
+use pesp_check::{CheckFault, Verdict, check, check_text};
 use pesp_instance::{ReadRefusal, read_instance};
 use pesp_problem::Instance;
 use pesp_report::{ReportRefusal, report};

@@ -6,10 +6,10 @@ use Rattle.pesp_problem.specs.declared.arc.Arc.{Arc}
 use Rattle.pesp_problem.specs.declared.row.SignedRow.{SignedRow}
 use Rattle.pesp_problem.specs.Walks.{AreRows, IsWalk}
 use Rattle.pesp_problem.specs.Nodes.{cycle_at}
-use Rattle.pesp_check.specs.declared.refusal.Refusal.{Refusal}
-use Rattle.pesp_check.specs.declared.refusal.Refusal.TheVariants.{OpenWalk, NoSuch}
-use Rattle.pesp_check.specs.Faults.{IsWalkFault, IsFirstOpen}
-use Rattle.pesp_check.proofs.Closing.{first_open, walks_more}
+use Rattle.pesp_judges.specs.declared.refusal.Refusal.{Refusal}
+use Rattle.pesp_judges.specs.declared.refusal.Refusal.TheVariants.{OpenWalk, NoSuch}
+use Rattle.pesp_judges.specs.Faults.{IsWalkFault, IsFirstOpen}
+use Rattle.pesp_judges.proofs.Closing.{first_open, walks_more}
 use Rattle.pesp_sharp.specs.declared.marked.MarkedRow.{MarkedRow}
 use Rattle.pesp_sharp.specs.Marked.{signed_rows, IsMarkedWalk}
 use Rattle.pesp_sharp_check.specs.Verdicts.{IsMarkFault}

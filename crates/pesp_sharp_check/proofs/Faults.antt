@@ -12,11 +12,11 @@ use Rattle.pesp_problem.specs.Nodes.{Node, root, low_part, high_part}
 use Rattle.pesp_truth.specs.Trees.{Tree, Ends, Branch, Leaf, Bound, Shut, Reason, ByPairs, ByGap, ByPropagation, Line, preorder, are_trees}
 use Rattle.pesp_truth.specs.Certificates.{Content, ShowsAnswer, shown_labels, shown_times, least_of, lines_of}
 use Rattle.pesp_truth.proofs.Lines.{whole_tree, one_tree}
-use Rattle.pesp_check.specs.declared.refusal.Refusal.{Refusal}
-use Rattle.pesp_check.specs.declared.refusal.Verdict.{Verdict}
-use Rattle.pesp_check.specs.declared.refusal.Verdict.TheVariants.{Accepted, Refused}
-use Rattle.pesp_check.specs.Faults.{first_tree_line}
-use Rattle.pesp_check.proofs.Faults.{answer_fault, cycle_fault}
+use Rattle.pesp_judges.specs.declared.refusal.Refusal.{Refusal}
+use Rattle.pesp_judges.specs.declared.refusal.Verdict.{Verdict}
+use Rattle.pesp_judges.specs.declared.refusal.Verdict.TheVariants.{Accepted, Refused}
+use Rattle.pesp_judges.specs.Faults.{first_tree_line}
+use Rattle.pesp_judges.proofs.Faults.{answer_fault, cycle_fault}
 use Rattle.pesp_sharp.specs.declared.marked.MarkedRow.{MarkedRow}
 use Rattle.pesp_sharp.specs.Marked.{signed_rows, IsMarkedWalk}
 use Rattle.pesp_sharp.specs.Sharp.{sharp_cost}

@@ -16,8 +16,8 @@ use Rattle.pesp_sharp_truth.specs.Trees.{IsSoundLeafWith, IsSoundWith}
 use Rattle.pesp_sharp_truth.specs.Certificates.{IsValidWith}
 use Rattle.pesp_sharp_truth.proofs.Certificates.{plain_leaf}
 use Rattle.pesp_sharp_truth.proofs.Marks.{at_most}
-use Rattle.pesp_check.specs.declared.refusal.Verdict.{Verdict}
-use Rattle.pesp_check.specs.declared.refusal.Verdict.TheVariants.{Accepted}
+use Rattle.pesp_judges.specs.declared.refusal.Verdict.{Verdict}
+use Rattle.pesp_judges.specs.declared.refusal.Verdict.TheVariants.{Accepted}
 use Rattle.pesp_sharp_text.specs.Texts.{no_marks, marks_of}
 use Rattle.pesp_sharp_check.specs.Verdicts.{IsMarksVerdict}
 use Rattle.pesp_sharp_check.proofs.Faults.{accepts_valid}

@@ -7,9 +7,9 @@ use Rattle.pesp_problem.specs.Nodes.{Node}
 use Rattle.pesp_truth.specs.declared.tree.TreeLine.{TreeLine}
 use Rattle.pesp_truth.specs.Trees.{Line, EndLine, CutLine, are_trees}
 use Rattle.pesp_truth.specs.Certificates.{line_of}
-use Rattle.pesp_check.specs.declared.refusal.Refusal.{Refusal}
-use Rattle.pesp_check.specs.Lines.{after}
-use Rattle.pesp_check.proofs.Judged.{next_line}
+use Rattle.pesp_judges.specs.declared.refusal.Refusal.{Refusal}
+use Rattle.pesp_judges.specs.Lines.{after}
+use Rattle.pesp_judges.proofs.Judged.{next_line}
 use Rattle.pesp_sharp_truth.specs.Marks.{Marks}
 use Rattle.pesp_sharp_truth.specs.Trees.{AreSoundWith}
 use Rattle.pesp_sharp_check.specs.Lines.{IsSoundLineWith, IsLineFaultWith, IsLinesFaultWith, AreJudgedWith}

@@ -7,7 +7,7 @@ use Rattle.pesp_problem.specs.Sums.{ceil_div}
 use Rattle.pesp_problem.specs.Arcs.{Net}
 use Rattle.pesp_problem.specs.Nodes.{Node}
 use Rattle.pesp_truth.specs.Trees.{Bound, Nothing}
-use Rattle.pesp_check.specs.declared.refusal.Refusal.TheVariants.{NoSuch, BoundInInfeasible, LeafBelow, NotEmpty}
+use Rattle.pesp_judges.specs.declared.refusal.Refusal.TheVariants.{NoSuch, BoundInInfeasible, LeafBelow, NotEmpty}
 use Rattle.pesp_sharp.specs.Sharp.{sharp_value, sharp_cost}
 use Rattle.pesp_sharp_truth.specs.Marks.{Marks, AreNamed, uses_walks, multipliers}
 use Rattle.pesp_sharp_truth.specs.Trees.{IsSoundLeafWith}

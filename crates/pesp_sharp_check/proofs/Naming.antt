@@ -4,8 +4,8 @@ use Rattle.std.specs.Prelude.{All, unsigned_abs, ◌↔◌}
 use Rattle.std.proofs.lemmas.List.Elements.{All-nil, All-cons, All-head, All-tail}
 use Rattle.pesp_problem.specs.declared.pair.Pair.{Pair}
 use Rattle.pesp_problem.specs.Walks.{Names}
-use Rattle.pesp_check.specs.Lines.{ArePairLimits}
-use Rattle.pesp_check.specs.Flows.{ArePairs}
+use Rattle.pesp_judges.specs.Lines.{ArePairLimits}
+use Rattle.pesp_judges.specs.Flows.{ArePairs}
 use Rattle.pesp_sharp_truth.specs.Marks.{IsNamed, AreNamed, of_cycles, uses_walks}
 use Rattle.pesp_sharp_truth.proofs.Marks.{at_most}
 

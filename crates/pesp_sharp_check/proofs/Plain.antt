@@ -6,9 +6,9 @@ use Rattle.pesp_problem.specs.declared.pair.Pair.{Pair}
 use Rattle.pesp_problem.specs.Arcs.{Net}
 use Rattle.pesp_problem.specs.Nodes.{Node}
 use Rattle.pesp_truth.specs.Trees.{Leaf, Bound, Shut, ByPairs, ByGap, ByPropagation, Line, EndLine, CutLine, pairs_of_leaf, PairsExist}
-use Rattle.pesp_check.specs.declared.refusal.Refusal.{Refusal}
-use Rattle.pesp_check.specs.Faults.{IsLeafFault}
-use Rattle.pesp_check.specs.Lines.{IsLeafVerdict, IsLineVerdict}
+use Rattle.pesp_judges.specs.declared.refusal.Refusal.{Refusal}
+use Rattle.pesp_judges.specs.Faults.{IsLeafFault}
+use Rattle.pesp_judges.specs.Lines.{IsLeafVerdict, IsLineVerdict}
 use Rattle.pesp_sharp.specs.Sharp.{Multipliers, sharp_value, sharp_cost}
 use Rattle.pesp_sharp.proofs.Values.{value_without_walks, cost_without_walks}
 use Rattle.pesp_sharp_truth.specs.Marks.{Marks, AreNamed, uses_walks}

@@ -11,7 +11,7 @@ use Rattle.pesp_problem.specs.Timetables.{Pesp}
 use Rattle.pesp_problem.specs.Limits.{KeepsLimits}
 use Rattle.pesp_problem.specs.Arcs.{Net, arc_of, arcs_of, net_of}
 use Rattle.pesp_problem.specs.Walks.{AreRows, IsWalk, RowExists}
-use Rattle.pesp_check.specs.Lines.{ArePairLimits}
+use Rattle.pesp_judges.specs.Lines.{ArePairLimits}
 use Rattle.pesp_sharp.specs.declared.marked.MarkedRow.{MarkedRow}
 use Rattle.pesp_sharp.specs.Marked.{signed_rows, IsMarkedWalk, rates_at as walk_rates}
 use Rattle.pesp_sharp.specs.Sharp.{over_multiples}

@@ -5,9 +5,9 @@ use Rattle.pesp_problem.specs.declared.pair.Pair.{Pair}
 use Rattle.pesp_problem.specs.Arcs.{Net}
 use Rattle.pesp_problem.specs.Nodes.{Node}
 use Rattle.pesp_truth.specs.Trees.{Leaf, Bound, Shut, Reason, ByPairs, ByGap, ByPropagation}
-use Rattle.pesp_check.specs.declared.refusal.Refusal.{Refusal}
-use Rattle.pesp_check.specs.declared.refusal.Refusal.TheVariants.{NoSuch, BoundInInfeasible, LeafBelow, NotEmpty}
-use Rattle.pesp_check.specs.Faults.{IsReasonFault}
+use Rattle.pesp_judges.specs.declared.refusal.Refusal.{Refusal}
+use Rattle.pesp_judges.specs.declared.refusal.Refusal.TheVariants.{NoSuch, BoundInInfeasible, LeafBelow, NotEmpty}
+use Rattle.pesp_judges.specs.Faults.{IsReasonFault}
 use Rattle.pesp_sharp.specs.Sharp.{sharp_value, sharp_cost}
 use Rattle.pesp_sharp_truth.specs.Marks.{Marks, AreNamed, multipliers}
 

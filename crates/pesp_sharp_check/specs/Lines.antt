@@ -6,9 +6,9 @@ use Rattle.pesp_problem.specs.Nodes.{Node}
 use Rattle.pesp_truth.specs.declared.tree.TreeLine.{TreeLine}
 use Rattle.pesp_truth.specs.Trees.{Leaf, Line, EndLine, CutLine, CutExists}
 use Rattle.pesp_truth.specs.Certificates.{line_of}
-use Rattle.pesp_check.specs.declared.refusal.Refusal.{Refusal}
-use Rattle.pesp_check.specs.declared.refusal.Refusal.TheVariants.{NoSuch}
-use Rattle.pesp_check.specs.Lines.{after}
+use Rattle.pesp_judges.specs.declared.refusal.Refusal.{Refusal}
+use Rattle.pesp_judges.specs.declared.refusal.Refusal.TheVariants.{NoSuch}
+use Rattle.pesp_judges.specs.Lines.{after}
 use Rattle.pesp_sharp_truth.specs.Marks.{Marks}
 use Rattle.pesp_sharp_truth.specs.Trees.{IsSoundLeafWith, AreSoundWith}
 use Rattle.pesp_sharp_check.specs.Faults.{IsLeafFaultWith}

@@ -8,11 +8,11 @@ use Rattle.pesp_problem.specs.Walks.{AreRows, IsWalk}
 use Rattle.pesp_problem.specs.Nodes.{Node, cycle_at, root, low_part, high_part}
 use Rattle.pesp_truth.specs.Trees.{Tree, Ends, Branch, preorder, CutExists}
 use Rattle.pesp_truth.specs.Certificates.{Content, ShowsAnswer, shown_labels, shown_times, least_of, lines_of}
-use Rattle.pesp_check.specs.declared.refusal.Refusal.{Refusal}
-use Rattle.pesp_check.specs.declared.refusal.Refusal.TheVariants.{OtherPeriod, OpenWalk, NoSuch}
-use Rattle.pesp_check.specs.declared.refusal.Verdict.{Verdict}
-use Rattle.pesp_check.specs.declared.refusal.Verdict.TheVariants.{Accepted, Refused}
-use Rattle.pesp_check.specs.Faults.{IsAnswerFault, IsCycleFault, IsFirstOpen, IsVerdict, line_before_cycles, first_tree_line}
+use Rattle.pesp_judges.specs.declared.refusal.Refusal.{Refusal}
+use Rattle.pesp_judges.specs.declared.refusal.Refusal.TheVariants.{OtherPeriod, OpenWalk, NoSuch}
+use Rattle.pesp_judges.specs.declared.refusal.Verdict.{Verdict}
+use Rattle.pesp_judges.specs.declared.refusal.Verdict.TheVariants.{Accepted, Refused}
+use Rattle.pesp_judges.specs.Faults.{IsAnswerFault, IsCycleFault, IsFirstOpen, IsVerdict, line_before_cycles, first_tree_line}
 use Rattle.pesp_sharp.specs.declared.marked.MarkedRow.{MarkedRow}
 use Rattle.pesp_sharp.specs.Marked.{signed_rows, IsMarkedWalk}
 use Rattle.pesp_sharp_truth.specs.Marks.{Marks}

@@ -4,7 +4,7 @@ ghost use Rattle.std.specs.Prelude.{◌≡◌, All};
 ghost use Rattle.pesp_problem.specs.Arcs.{arcs_of};
 ghost use Rattle.pesp_problem.specs.Walks.{RowExists};
 
-use pesp_check::parts::Checker;
+use pesp_judges::Checker;
 use pesp_problem::Arc;
 use pesp_sharp_text::Marks;
 

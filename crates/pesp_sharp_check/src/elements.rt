@@ -4,7 +4,7 @@ ghost use Rattle.std.specs.Prelude.{◌≡◌, [], ◌∷◌};
 ghost use Rattle.pesp_sharp.specs.Marked.{signed_rows};
 ghost use Rattle.pesp_sharp_truth.specs.Marks.{of_cycles};
 
-use pesp_check::parts::Elements;
+use pesp_judges::Elements;
 use pesp_problem::{Pair, SignedRow};
 use pesp_sharp::MarkedRow;
 

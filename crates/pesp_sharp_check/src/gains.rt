@@ -2,14 +2,14 @@
 
 ghost use Rattle.std.specs.Prelude.{◌≡◌, ℕ, ◌+◌, ◌*◌, ◌^◌, ◌<◌, ◌≤◌, [], ◌∷◌, length, ◌+ℤ◌, unsigned_abs, Bool};
 ghost use Rattle.pesp_problem.specs.Arcs.{net_of};
-ghost use Rattle.pesp_check.specs.Offsets.{AreSlackRanges};
-ghost use Rattle.pesp_check.specs.Lines.{ArePairLimits};
+ghost use Rattle.pesp_judges.specs.Offsets.{AreSlackRanges};
+ghost use Rattle.pesp_judges.specs.Lines.{ArePairLimits};
 ghost use Rattle.pesp_sharp_truth.specs.Marks.{IsNamed, AreNamed};
 ghost use Rattle.pesp_sharp_leaf.specs.Rates.{rates_at, entry, AreSmallRates, AreNoRates};
 ghost use Rattle.pesp_sharp_check.specs.Gains.{gains_of, rates_of};
 
 use crate::checker::MarksChecker;
-use pesp_check::parts::Elements;
+use pesp_judges::Elements;
 use pesp_problem::Pair;
 use pesp_problem::exact::plus;
 use pesp_sharp_leaf::{Rates, add_walk};

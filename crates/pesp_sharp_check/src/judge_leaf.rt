@@ -5,17 +5,16 @@ ghost use Rattle.pesp_problem.specs.declared.row.SignedRow.{SignedRow};
 ghost use Rattle.pesp_problem.specs.Arcs.{net_of};
 ghost use Rattle.pesp_truth.specs.Trees as trees;
 ghost use Rattle.pesp_nets.specs.Nets.{AreZeros, AreNets};
-ghost use Rattle.pesp_check.specs.Ranges.{node_of, AreRanges};
-ghost use Rattle.pesp_check.specs.Lines.{ArePairLimits};
-ghost use Rattle.pesp_check.specs.LeafLines.{leaf_said, KeepsLeafLimits};
+ghost use Rattle.pesp_judges.specs.Ranges.{node_of, AreRanges};
+ghost use Rattle.pesp_judges.specs.Lines.{ArePairLimits};
+ghost use Rattle.pesp_judges.specs.LeafLines.{leaf_said, KeepsLeafLimits};
 ghost use Rattle.pesp_sharp_truth.specs.Marks as marks;
 ghost use Rattle.pesp_sharp_check.specs.Lines.{IsLeafVerdictWith};
 
 use crate::checker::MarksChecker;
 use crate::pairs::{are_named, uses_walks};
 use crate::values::{is_enough, sharp_value};
-use pesp_check::parts::{Elements, LeafLine, Ranges};
-use pesp_check::{Refusal, parts as plain};
+use pesp_judges::{Elements, LeafLine, Ranges, Refusal};
 use pesp_problem::Pair;
 use pesp_sharp_leaf::Rates;
 
@@ -137,11 +136,11 @@ pub fn judge_leaf<P: Elements<Pair>>(
     ensures zeros { AreZeros flows.new }
 {
     if !names_walk(checker.plain.table.len(), leaf) {
-        return plain::judge_leaf(&checker.plain, ranges, leaf, line, flows);
+        return pesp_judges::judge_leaf(&checker.plain, ranges, leaf, line, flows);
     }
     match leaf {
         LeafLine::Bound(pairs) => judge_bound(checker, ranges, pairs, line, flows, rates),
         LeafLine::Nothing(pairs) => judge_nothing(checker, ranges, pairs, line, flows, rates),
-        LeafLine::Gap(_) => plain::judge_leaf(&checker.plain, ranges, leaf, line, flows),
+        LeafLine::Gap(_) => pesp_judges::judge_leaf(&checker.plain, ranges, leaf, line, flows),
     }
 }

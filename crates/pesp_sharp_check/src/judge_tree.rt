@@ -7,14 +7,13 @@ ghost use Rattle.pesp_problem.specs.Nodes as nodes;
 ghost use Rattle.pesp_truth.specs.Trees.{are_trees};
 ghost use Rattle.pesp_truth.specs.Certificates.{line_of};
 ghost use Rattle.pesp_nets.specs.Nets.{AreZeros, AreNets};
-ghost use Rattle.pesp_check.specs.Lines.{KeepsLineLimits};
+ghost use Rattle.pesp_judges.specs.Lines.{KeepsLineLimits};
 ghost use Rattle.pesp_sharp_truth.specs.Trees.{AreSoundWith};
 ghost use Rattle.pesp_sharp_check.specs.Lines.{IsLinesFaultWith};
 
 use crate::checker::MarksChecker;
 use crate::tree::take_line;
-use pesp_check::Refusal;
-use pesp_check::parts::{NodeWalk, root, said_by};
+use pesp_judges::{NodeWalk, Refusal, root, said_by};
 use pesp_sharp_leaf::Rates;
 use pesp_truth::TreeLine;
 use std::alloc::{AllocError, Global};

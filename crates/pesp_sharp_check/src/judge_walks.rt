@@ -7,8 +7,7 @@ ghost use Rattle.pesp_sharp.specs.Marked.{IsMarkedWalk};
 ghost use Rattle.pesp_sharp_check.specs.Verdicts.{IsMarkFault};
 
 use crate::elements::UnmarkedRows;
-use pesp_check::Refusal;
-use pesp_check::parts::judge_cycle;
+use pesp_judges::{Refusal, judge_cycle};
 use pesp_problem::Instance;
 use pesp_sharp_text::Marks;
 use std::alloc::{AllocError, Global};

@@ -4,7 +4,7 @@ ghost use Rattle.std.specs.Prelude.{◌≡◌, ◌↔◌, IsTrue, length, true};
 ghost use Rattle.pesp_sharp_truth.specs.Marks as marks;
 ghost use Rattle.pesp_sharp_truth.specs.Marks.{IsNamed, AreNamed};
 
-use pesp_check::parts::Elements;
+use pesp_judges::Elements;
 use pesp_problem::Pair;
 
 /// Whether some pair names a marked walk.

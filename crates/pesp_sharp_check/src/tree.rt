@@ -5,15 +5,14 @@ ghost use Rattle.pesp_problem.specs.declared.row.SignedRow.{SignedRow};
 ghost use Rattle.pesp_problem.specs.Arcs.{net_of};
 ghost use Rattle.pesp_truth.specs.Trees.{EndLine};
 ghost use Rattle.pesp_nets.specs.Nets.{AreZeros, AreNets};
-ghost use Rattle.pesp_check.specs.Lines.{after};
-ghost use Rattle.pesp_check.specs.LeafLines.{leaf_said, KeepsLeafLimits};
-ghost use Rattle.pesp_check.specs.SaidLines.{line_said, KeepsSaidLimits};
+ghost use Rattle.pesp_judges.specs.Lines.{after};
+ghost use Rattle.pesp_judges.specs.LeafLines.{leaf_said, KeepsLeafLimits};
+ghost use Rattle.pesp_judges.specs.SaidLines.{line_said, KeepsSaidLimits};
 ghost use Rattle.pesp_sharp_check.specs.Lines.{IsLineVerdictWith};
 
 use crate::checker::MarksChecker;
 use crate::judge_leaf::judge_leaf;
-use pesp_check::parts::{Elements, LeafLine, NodeWalk, SaidLine};
-use pesp_check::{Refusal, parts as plain};
+use pesp_judges::{Elements, LeafLine, NodeWalk, Refusal, SaidLine, take_line as take_plain_line};
 use pesp_problem::Pair;
 use pesp_sharp_leaf::Rates;
 use std::alloc::{AllocError, Global};
@@ -81,7 +80,7 @@ pub fn take_line<P: Elements<Pair>>(
 {
     match said {
         SaidLine::Leaf(leaf) => Ok(take_leaf(checker, walk, leaf, line, flows, rates)),
-        SaidLine::Branch(_) => plain::take_line(alloc, &checker.plain, walk, said, line, flows),
-        SaidLine::Propagated => plain::take_line(alloc, &checker.plain, walk, said, line, flows),
+        SaidLine::Branch(_) => take_plain_line(alloc, &checker.plain, walk, said, line, flows),
+        SaidLine::Propagated => take_plain_line(alloc, &checker.plain, walk, said, line, flows),
     }
 }

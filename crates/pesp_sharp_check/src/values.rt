@@ -5,15 +5,15 @@ ghost use Rattle.pesp_problem.specs.declared.row.SignedRow.{SignedRow};
 ghost use Rattle.pesp_problem.specs.Sums.{ceil_div};
 ghost use Rattle.pesp_problem.specs.Arcs.{net_of};
 ghost use Rattle.pesp_nets.specs.Nets.{AreZeros, AreNets};
-ghost use Rattle.pesp_check.specs.Ranges.{node_of, AreRanges};
-ghost use Rattle.pesp_check.specs.Lines.{ArePairLimits};
+ghost use Rattle.pesp_judges.specs.Ranges.{node_of, AreRanges};
+ghost use Rattle.pesp_judges.specs.Lines.{ArePairLimits};
 ghost use Rattle.pesp_sharp.specs.Sharp as sharp;
 ghost use Rattle.pesp_sharp_truth.specs.Marks.{AreNamed, uses_walks, multipliers};
 
 use crate::checker::MarksChecker;
 use crate::elements::CyclePairs;
 use crate::gains::add_walks;
-use pesp_check::parts::{Elements, Ranges, add_flows, offset_sum};
+use pesp_judges::{Elements, Ranges, add_flows, offset_sum};
 use pesp_problem::Pair;
 use pesp_problem::exact::{plus, times};
 use pesp_sharp_leaf::{Rates, clear, rows_sum};

@@ -2,7 +2,7 @@
 use Rattle.std.specs.Prelude.{◌⊎◌, ℕ, List, Option}
 use Rattle.pesp_problem.specs.Timetables.{Pesp}
 use Rattle.pesp_truth.specs.declared.answer.Answer.{Answer}
-use Rattle.pesp_check.specs.declared.refusal.Verdict.{Verdict}
+use Rattle.pesp_judges.specs.declared.refusal.Verdict.{Verdict}
 use Rattle.pesp_check_run.specs.Verdicts.{verdict_line}
 use Rattle.pesp_check_run.specs.Devices.{Device, HasFailed, GetsFront}
 use Rattle.pesp_check_run.specs.Checking.{ReadsInstance, InstanceCause, OutCause}

@@ -7,8 +7,8 @@ use Rattle.pesp_truth.specs.Truth.{IsTrueAnswer}
 use Rattle.pesp_truth.specs.Certificates.{shown_times}
 use Rattle.pesp_cert.specs.declared.refusal.CertRefusal.{CertRefusal}
 use Rattle.pesp_cert.specs.declared.refusal.CertRefusal.TheVariants.{Memory as NoMemory}
-use Rattle.pesp_check.specs.declared.refusal.Verdict.{Verdict}
-use Rattle.pesp_check.specs.declared.refusal.Verdict.TheVariants.{Accepted}
+use Rattle.pesp_judges.specs.declared.refusal.Verdict.{Verdict}
+use Rattle.pesp_judges.specs.declared.refusal.Verdict.TheVariants.{Accepted}
 use Rattle.pesp_check_run.specs.declared.fault.VerdictFault.{VerdictFault}
 use Rattle.pesp_check_run.specs.declared.fault.VerdictFault.TheVariants.{Certificate, Memory, Read}
 use Rattle.pesp_sharp_truth.specs.Certificates.{IsValidWith}

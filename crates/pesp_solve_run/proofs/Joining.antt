@@ -13,8 +13,8 @@ use Rattle.pesp_cert.specs.Refusals.{IsTextOf, items_of_text}
 use Rattle.pesp_cert.proofs.TextLaws.{none_begins_another, text_read_of}
 use Rattle.pesp_cert.proofs.TextLengths.{texts_short}
 use Rattle.pesp_cert_items.specs.Texts.{RefusesText}
-use Rattle.pesp_check.specs.declared.refusal.Verdict.{Verdict}
-use Rattle.pesp_check.specs.declared.refusal.Verdict.TheVariants.{Accepted}
+use Rattle.pesp_judges.specs.declared.refusal.Verdict.{Verdict}
+use Rattle.pesp_judges.specs.declared.refusal.Verdict.TheVariants.{Accepted}
 use Rattle.pesp_check_run.specs.Checking.{Checks, RefusesInstance}
 use Rattle.pesp_solve_run.specs.Solving.{Solves}
 

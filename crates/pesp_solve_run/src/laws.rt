@@ -4,8 +4,8 @@ ghost use Rattle.std.specs.Prelude.{◌≡◌, ℕ, List, ◌++◌, Option, Some
 ghost use Rattle.std.specs.Io.KnownBytes.{Appends};
 ghost use Rattle.pesp_instance.specs.declared.refusal.ReadRefusal.{ReadRefusal};
 ghost use Rattle.pesp_cert.specs.declared.refusal.CertRefusal.{CertRefusal};
-ghost use Rattle.pesp_check.specs.declared.refusal.Verdict.{Verdict};
-ghost use Rattle.pesp_check.specs.declared.refusal.Verdict.TheVariants.{Accepted};
+ghost use Rattle.pesp_judges.specs.declared.refusal.Verdict.{Verdict};
+ghost use Rattle.pesp_judges.specs.declared.refusal.Verdict.TheVariants.{Accepted};
 ghost use Rattle.pesp_cert_items.specs.Texts.{RefusesText};
 ghost use Rattle.pesp_check_run.specs.Checking.{Checks, RefusesInstance};
 ghost use Rattle.pesp_solve_run.specs.Solving.{Solves};

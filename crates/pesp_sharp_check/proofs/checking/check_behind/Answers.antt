@@ -1,6 +1,6 @@
 use Rattle.std.proofs.Common.{arith}
 use Rattle.std.proofs.lemmas.Result.{IfOk-weaker}
-use Rattle.pesp_check.specs.declared.refusal.Verdict.{Verdict}
+use Rattle.pesp_judges.specs.declared.refusal.Verdict.{Verdict}
 use Rattle.pesp_sharp_check.proofs.Fronts.{exactly_with, exactly_without}
 use Rattle.pesp_sharp_check.proofs.checking.check_behind.Goals as goal
 

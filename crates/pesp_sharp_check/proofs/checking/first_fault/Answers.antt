@@ -1,8 +1,8 @@
 use Rattle.std.proofs.Common.{◌∙◌, inl, inr, sym, Option}
 use Rattle.std.proofs.lemmas.Result.{IfOk-weaker}
 use Rattle.pesp_sharp_truth.specs.Certificates.{IsValidWith}
-use Rattle.pesp_check.specs.declared.refusal.Refusal.{Refusal}
-use Rattle.pesp_check.proofs.Options.{match_map, match_some, match_none}
+use Rattle.pesp_judges.specs.declared.refusal.Refusal.{Refusal}
+use Rattle.pesp_judges.proofs.Options.{match_map, match_some, match_none}
 use Rattle.pesp_sharp_check.specs.Verdicts.{IsFirstFaultWith}
 use Rattle.pesp_sharp_check.proofs.Faults.{inner_fault, valid_is}
 use Rattle.pesp_sharp_check.proofs.checking.first_fault.Goals as goal

@@ -5,7 +5,7 @@ use Rattle.pesp_problem.specs.Arcs.{arcs_of}
 use Rattle.pesp_problem.specs.Walks.{RowExists}
 use Rattle.pesp_truth.specs.declared.tree.TreeLine.{TreeLine}
 use Rattle.pesp_truth.specs.Certificates.{least_of}
-use Rattle.pesp_check.specs.Lines.{KeepsLineLimits}
+use Rattle.pesp_judges.specs.Lines.{KeepsLineLimits}
 use Rattle.pesp_check.proofs.Limits.{line_limits}
 use Rattle.pesp_sharp_check.proofs.Summing.{rows_exist}
 use Rattle.pesp_sharp_check.proofs.checking.tree_fault.Goals as goal

@@ -3,10 +3,10 @@ use Rattle.std.specs.Prelude.{is_some, IfNone}
 use Rattle.pesp_problem.specs.Arcs.{net_of}
 use Rattle.pesp_problem.specs.Nodes.{root}
 use Rattle.pesp_truth.specs.Trees.{Line}
-use Rattle.pesp_check.specs.Lines.{after}
-use Rattle.pesp_check.specs.declared.refusal.Refusal.{Refusal}
-use Rattle.pesp_check.proofs.Judged.{whole_more}
-use Rattle.pesp_check.proofs.Options.{match_none, match_some}
+use Rattle.pesp_judges.specs.Lines.{after}
+use Rattle.pesp_judges.specs.declared.refusal.Refusal.{Refusal}
+use Rattle.pesp_judges.proofs.Judged.{whole_more}
+use Rattle.pesp_judges.proofs.Options.{match_none, match_some}
 use Rattle.pesp_sharp_check.specs.Lines.{IsLineVerdictWith}
 use Rattle.pesp_sharp_check.proofs.Judged.{judged_more, fault_here}
 use Rattle.pesp_sharp_check.proofs.judge_tree.judge_tree.Goals as goal

@@ -1,0 +1,91 @@
+-- The cycles as they come.
+use Rattle.std.proofs.Common.{◌≡◌, inl, inr, ℕ, ◌+◌, arith, false, List, [], ◌∷◌, ◌++◌, length, get_or, refl, sym, ap, subst, ◌∙◌}
+use Rattle.std.specs.List.{list_all}
+use Rattle.std.proofs.lemmas.List.{get_or_default, length-take}
+use Rattle.pesp_problem.specs.declared.row.SignedRow.{SignedRow}
+use Rattle.pesp_problem.specs.Timetables.{Pesp}
+use Rattle.pesp_problem.specs.Arcs.{arcs_of}
+use Rattle.pesp_problem.specs.Walks.{IsWalk}
+use Rattle.pesp_problem.specs.Nodes.{cycle_at}
+use Rattle.pesp_truth.specs.Certificates.{Content}
+use Rattle.pesp_cert_lines.specs.declared.item.Item.{Item}
+use Rattle.pesp_cert_lines.specs.declared.item.Item.TheVariants.{Cycle}
+use Rattle.pesp_cert_lines.proofs.Tests.{and_right}
+use Rattle.pesp_nets.specs.declared.nets.NetCount.{NetCount}
+use Rattle.pesp_judges.specs.declared.refusal.Refusal.{Refusal}
+use Rattle.pesp_nets.specs.Nets.{AreNetCounts}
+use Rattle.pesp_judges.specs.Faults.{IsWalkFault, line_before_cycles}
+use Rattle.pesp_check.specs.Items.{is_later}
+use Rattle.pesp_check.specs.declared.stage.Stage.{Stage}
+use Rattle.pesp_check.specs.declared.stage.Stage.TheVariants as stages
+use Rattle.pesp_check.specs.Judging.{Kept, is_front, tree_from, IsShown, CyclesTo, JudgedAt}
+use Rattle.pesp_judges.proofs.Closing.{walk_fault, walks_more}
+use Rattle.pesp_judges.proofs.Tables.{nets_more}
+use Rattle.pesp_check.proofs.Lists.{IsNext, next_of, cycle_in_tree, all_cycles}
+
+-- the same is shown while the answer stays
+pub shown_still : (p : Pesp) (c : Content) (old new : Kept) → new.answer ≡ old.answer → IsShown p c old → IsShown p c new
+shown_still p c old new e s = record { period = s.period; answer = e ∙ s.answer; shows = s.shows }
+
+module _ (p : Pesp) (c : Content) (rows : List SignedRow) (rest : List Item) (kept : Kept) (stage : Stage) (is : stage ≡ stages.Cycles) (before : JudgedAt stage p c (Cycle rows ∷ rest) kept) where
+  abbrev so_far : JudgedAt stages.Cycles p c (Cycle rows ∷ rest) kept
+  so_far = subst (λ (s : Stage). JudgedAt s p c (Cycle rows ∷ rest) kept) is before
+
+  abbrev k : ℕ
+  k = so_far.0
+
+  abbrev cycles : CyclesTo p c (Cycle rows ∷ rest) kept k
+  cycles = so_far.1
+
+  next : (x : List SignedRow) × IsNext Cycle c.cycles k (tree_from c 0) (Cycle rows) rest x
+  next = elim (next_of Cycle c.cycles k (tree_from c 0) (Cycle rows) rest cycles.left) [
+    | inl n ↦ n
+    | inr n ↦ absurd (cycle_in_tree c 0 rows rest n.1)
+  ]
+
+  same : rows ≡ next.0
+  same = let e : Cycle rows ≡ Cycle next.0 = next.1.item_is in let r : rows ≡ next.0 = cc in r
+
+  read : rows ≡ get_or c.cycles k rows
+  read = let P : List SignedRow → Type 0 = λ w. w ≡ get_or c.cycles k w in subst P (sym same) next.1.read
+
+  at : rows ≡ cycle_at c.cycles k
+  at = read ∙ get_or_default c.cycles k rows [] next.1.within
+
+  pub walk_taken : (counts : List NetCount) (kept' : Kept) → kept' ≡ record kept { line = kept.line + 1; table = kept.table ++ counts ∷ [] } → IsWalk (arcs_of p) rows → AreNetCounts (length p.rows) rows counts → JudgedAt stage p c rest kept'
+  walk_taken counts kept' e walk nets =
+      let P : Kept → Type 0 = JudgedAt stages.Cycles p c rest in
+      let Q : Stage → Type 0 = λ s. JudgedAt s p c rest kept' in
+      let new : Kept = record kept { line = kept.line + 1; table = kept.table ++ counts ∷ [] } in
+      subst Q (sym is) (subst P (sym e) (
+        k + 1,
+        record {
+          shown = shown_still p c kept new refl cycles.shown;
+          within = omega (arith, next.1.within);
+          nets = nets_more (length p.rows) c.cycles kept.table k rows counts next.1.within read cycles.nets nets;
+          walks = walks_more (arcs_of p) c.cycles k rows at cycles.walks walk;
+          line = omega (arith, cycles.line);
+          left = next.1.left;
+        },
+      ))
+
+  pub walk_refused : (refusal : Refusal) (number line : ℕ) (kept' : Kept) → number ≡ length kept.table + 1 → line ≡ kept.line + 1 → kept'.answer ≡ kept.answer → IsWalkFault (arcs_of p) rows number line refusal → JudgedAt (stages.Refused refusal) p c rest kept'
+  walk_refused refusal number line kept' e f a fault =
+      let n : number ≡ k + 1 = omega (arith, e, cycles.nets.long, length-take k c.cycles, next.1.within) in
+      let l : line ≡ line_before_cycles c + (k + 1) = omega (arith, f, cycles.line) in
+      record {
+        answer = a ∙ cycles.shown.answer;
+        later = ap (list_all is_later) next.1.left ∙ all_cycles c (k + 1);
+        first = inr (cycles.shown.period, inr (inl (cycles.shown.shows, walk_fault (arcs_of p) c.cycles (line_before_cycles c) k rows rows next.1.within read refl cycles.walks refusal number line n l fault)));
+      }
+
+-- an item behind a refusal
+pub passed : (p : Pesp) (c : Content) (refusal : Refusal) (item : Item) (rest : List Item) (kept kept' : Kept) → kept'.answer ≡ kept.answer → JudgedAt (stages.Refused refusal) p c (item ∷ rest) kept → JudgedAt (stages.Refused refusal) p c rest kept'
+passed p c refusal item rest kept kept' e h = record { answer = e ∙ h.answer; later = and_right (is_later item) (list_all is_later rest) h.later; first = h.first }
+
+-- a cycle where none may come any more
+pub cycle_passed : (stage : Stage) (p : Pesp) (c : Content) (rows : List SignedRow) (rest : List Item) (kept kept' : Kept) → is_front stage ≡ false → (stage ≡ stages.Cycles → ⊥) → kept'.answer ≡ kept.answer → JudgedAt stage p c (Cycle rows ∷ rest) kept → JudgedAt stage p c rest kept'
+cycle_passed stages.Front p c rows rest kept kept' f n e h = absurd cc
+cycle_passed stages.Cycles p c rows rest kept kept' f n e h = absurd (n refl)
+cycle_passed stages.Tree p c rows rest kept kept' f n e h = absurd (cycle_in_tree c h.0 rows rest h.2.left)
+cycle_passed (stages.Refused r) p c rows rest kept kept' f n e h = passed p c r (Cycle rows) rest kept kept' e h

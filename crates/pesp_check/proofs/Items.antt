@@ -1,0 +1,32 @@
+-- The limits of an item that may stand in a text.
+use Rattle.std.proofs.Common.{◌≡◌, ℕ, ◌≤◌, arith, true}
+use Rattle.std.specs.Prelude.{nat_abs, nat_le, ◌&&◌}
+use Rattle.pesp_cert_lines.specs.declared.item.Item.{Item}
+use Rattle.pesp_cert_lines.specs.declared.item.Item.TheVariants.{Version, Period, Answer as Says, Time, Cycle, Slack, Offset, Bound, Nothing, Gap, Propagated, End}
+use Rattle.pesp_cert_lines.specs.declared.progress.Progress.{Progress}
+use Rattle.pesp_cert_lines.specs.Counts.{CanStand, after, keeps_counts}
+use Rattle.pesp_cert_lines.specs.Rows.{is_name}
+use Rattle.pesp_cert_lines.specs.Pairs.{rise_from, all_within}
+use Rattle.pesp_cert_lines.proofs.Tests.{and_left, and_right, and_both}
+use Rattle.pesp_check.proofs.Limits.{le_of, pair_limits}
+use Rattle.pesp_check.specs.Items.{KeepsItemLimits}
+
+few_rows : (p : Progress) → keeps_counts p ≡ true → p.rows ≤ 10000000
+few_rows p h =
+    let most = and_left (nat_le p.times 100000 && nat_le p.cycles 100000 && nat_le p.rows 10000000 && nat_le p.lines 1000000) (nat_le p.pairs 20000000) h in
+    let lines = and_left (nat_le p.times 100000 && nat_le p.cycles 100000 && nat_le p.rows 10000000) (nat_le p.lines 1000000) most in
+    le_of p.rows 10000000 (and_right (nat_le p.times 100000 && nat_le p.cycles 100000) (nat_le p.rows 10000000) lines)
+
+pub item_limits : (p : Progress) (item : Item) → CanStand p item → KeepsItemLimits item
+item_limits p (Version n) h = tt
+item_limits p (Period n) h = tt
+item_limits p (Says a) h = tt
+item_limits p (Time label time) h = tt
+item_limits p (Cycle rows) h = let few = few_rows (after p (Cycle rows)) h.counts in omega (arith, few)
+item_limits p (Slack row k) h = le_of k 9999 (and_right (is_name row) (nat_le k 9999) h.within)
+item_limits p (Offset cycle k) h = le_of (nat_abs k) 100000000000000 (and_right (is_name cycle) (nat_le (nat_abs k) 100000000000000) h.within)
+item_limits p (Bound ps) h = pair_limits ps (and_both (rise_from 0 ps) (all_within ps) h.proper h.within)
+item_limits p (Nothing ps) h = pair_limits ps (and_both (rise_from 0 ps) (all_within ps) h.proper h.within)
+item_limits p (Gap cycle) h = tt
+item_limits p Propagated h = tt
+item_limits p End h = tt

@@ -1,0 +1,120 @@
+-- A text that is judged while its items come.
+use Rattle.std.proofs.Common.{◌≡◌, ◌⊎◌, inl, inr, ℕ, arith, true, List, [], ◌∷◌, ◌++◌, length, map, take, drop, refl, sym, ap, subst, ◌∙◌, append_assoc, append-nil, Option, Some, None, Ok, Err}
+use Rattle.std.specs.Prelude.{◌↔◌, ℤ}
+use Rattle.std.proofs.lemmas.List.{drop_all, take_all}
+use Rattle.pesp_problem.specs.Timetables.{Pesp}
+use Rattle.pesp_truth.specs.declared.answer.Answer.{Answer}
+use Rattle.pesp_truth.specs.Truth.{IsTrueAnswer}
+use Rattle.pesp_truth.specs.Trees.{are_trees}
+use Rattle.pesp_truth.specs.Certificates.{Content, IsValid, lines_of, shown_times}
+use Rattle.pesp_cert_lines.specs.declared.item.Item.{Item}
+use Rattle.pesp_cert_lines.specs.declared.item.Item.TheVariants.{Version, Period, Answer as Says, Cycle, End}
+use Rattle.pesp_cert.specs.declared.refusal.CertRefusal.{CertRefusal}
+use Rattle.pesp_cert.specs.declared.refusal.CertRefusal.TheVariants as refusals
+use Rattle.pesp_cert.specs.Texts.{items_of, time_item, tree_item}
+use Rattle.pesp_cert.proofs.Runs.{items_shape, text_keeps_limits}
+use Rattle.pesp_cert.proofs.LimitFacts.{limits_of}
+use Rattle.pesp_cert.proofs.TextLaws.{text_found_of}
+use Rattle.pesp_cert_items.specs.declared.fault.ItemFault.{ItemFault}
+use Rattle.pesp_cert_items.specs.declared.fault.ItemFault.TheVariants as items
+use Rattle.pesp_cert_items.specs.Readings.{Reading, is_open, Gives, Blamed, Refuses}
+use Rattle.pesp_cert_items.specs.Texts.{RefusesText}
+use Rattle.pesp_cert_items.proofs.Running.{Runs, runs_none, runs_more, runs_all, runs_refused}
+use Rattle.pesp_cert_items.proofs.Telling.{at_first, ran_text, refused_text}
+use Rattle.pesp_judges.specs.declared.refusal.Verdict.{Verdict}
+use Rattle.pesp_judges.specs.declared.refusal.Verdict.TheVariants.{Accepted, Refused}
+use Rattle.pesp_judges.specs.Faults.{IsVerdict}
+use Rattle.pesp_judges.proofs.Faults.{fault_is_not_valid}
+use Rattle.pesp_check.specs.declared.stage.Stage.{Stage}
+use Rattle.pesp_check.specs.CheckFaults.{fault_of}
+use Rattle.pesp_check.specs.Texts.{ChecksText, Faults}
+use Rattle.pesp_check.specs.Judging.{Kept, JudgedAt, behind}
+
+-- these items came, and whatever content they and others are the items of, the others are left of it
+pub record IsCheckedTo (p : Pesp) (old now : Reading) (stage : Stage) (kept : Kept) : Type 0 where
+  pub so_far : List Item
+  pub runs : Runs old now so_far
+  pub judged : (c : Content) (rest : List Item) → are_trees 1 (lines_of c) ≡ true → behind c ≡ so_far ++ rest → JudgedAt stage p c rest kept
+  pub going : is_open now.stage ≡ true
+
+pub checked_none : (p : Pesp) (r : Reading) (stage : Stage) (kept : Kept) → is_open r.stage ≡ true → ((c : Content) → JudgedAt stage p c (behind c) kept) → IsCheckedTo p r r stage kept
+checked_none p r stage kept o h = record {
+  so_far = [];
+  runs = runs_none r;
+  judged = λ c rest whole e. subst (λ (is : List Item). JudgedAt stage p c is kept) e (h c);
+  going = o;
+}
+
+pub checked_more : (p : Pesp) (a b c : Reading) (stage stage' : Stage) (kept kept' : Kept) (item : Item) → IsCheckedTo p a b stage kept → Gives b c (Ok (Some item))
+    → ((c : Content) (rest : List Item) → are_trees 1 (lines_of c) ≡ true → JudgedAt stage p c (item ∷ rest) kept → JudgedAt stage' p c rest kept') → IsCheckedTo p a c stage' kept'
+checked_more p a b c stage stage' kept kept' item h g step = record {
+  so_far = h.so_far ++ item ∷ [];
+  runs = runs_more a b c h.so_far item h.runs g.2;
+  judged = λ c rest whole e. step c rest whole (h.judged c (item ∷ rest) whole (e ∙ append_assoc h.so_far (item ∷ []) rest));
+  going = ap is_open g.0;
+}
+
+-- ---- the end
+
+behind_is : (c : Content) → items_of c ≡ behind c
+behind_is c = ap (λ is. Version c.version ∷ Period c.period ∷ Says c.answer ∷ is) (items_shape (map time_item c.times) (map Cycle c.cycles) (map tree_item c.tree) (End ∷ []))
+
+verdict_is : (p : Pesp) (content : Content) (verdict : Verdict) → IsVerdict p content verdict → (verdict ≡ Accepted) ↔ IsValid p content
+verdict_is p content Accepted h = (λ e. h, λ v. refl)
+verdict_is p content (Refused refusal) h = (λ e. cc, λ valid. absurd (fault_is_not_valid p content refusal h valid))
+
+pub checked_all : (p : Pesp) (told : Option (List ℕ)) (b c : Reading) (stage : Stage) (kept : Kept) (verdict : Verdict) (answer : Answer) → IsCheckedTo p (at_first told 1073741824) b stage kept → Gives b c (Ok None)
+    → ((c : Content) → are_trees 1 (lines_of c) ≡ true → JudgedAt stage p c (End ∷ []) kept → IsVerdict p c verdict)
+    → ((c : Content) → are_trees 1 (lines_of c) ≡ true → JudgedAt stage p c (End ∷ []) kept → answer ≡ c.answer)
+    → ((c : Content) → IsValid p c → IsTrueAnswer p c.answer (shown_times c))
+    → ChecksText told c.told p verdict answer
+checked_all p told b c stage kept verdict answer h g says is true_then =
+    let ran = runs_all (at_first told 1073741824) b c h.so_far h.runs g.1 in
+    let text = ran_text told 1073741824 c h.so_far ran in
+    let found = text_found_of ran.got (h.so_far ++ End ∷ []) text.1 in
+    let content = found.0 in
+    let whole = (limits_of content (text_keeps_limits content found.2.has_text)).whole in
+    let judged = h.judged content (End ∷ []) whole (sym (found.1 ∙ behind_is content)) in
+    let said = says content whole judged in
+    let same = is content whole judged in
+    record {
+      text = ran.got;
+      content = content;
+      read = text.0;
+      spelt = found.2;
+      answer_is = same;
+      said = said;
+      exactly = verdict_is p content verdict said;
+      truth = λ e. subst (λ (a : Answer). IsTrueAnswer p a (shown_times content)) (sym same) (true_then content ((verdict_is p content verdict said).0 e));
+    }
+
+-- ---- a fault
+
+text_faults : (told told' : Option (List ℕ)) (failed : Type 0) (r : CertRefusal) → (r ≡ refusals.Memory) ⊎ RefusesText told told' 1073741824 r → Faults (fault_of (items.Text r)) told told' failed
+text_faults told told' failed refusals.Memory h = tt
+text_faults told told' failed refusals.Header (inl e) = absurd cc
+text_faults told told' failed refusals.Header (inr f) = f
+text_faults told told' failed (refusals.Line n) (inl e) = absurd cc
+text_faults told told' failed (refusals.Line n) (inr f) = f
+text_faults told told' failed (refusals.Number n) (inl e) = absurd cc
+text_faults told told' failed (refusals.Number n) (inr f) = f
+text_faults told told' failed (refusals.Limit n) (inl e) = absurd cc
+text_faults told told' failed (refusals.Limit n) (inr f) = f
+text_faults told told' failed refusals.Truncated (inl e) = absurd cc
+text_faults told told' failed refusals.Truncated (inr f) = f
+text_faults told told' failed (refusals.Trailing n) (inl e) = absurd cc
+text_faults told told' failed (refusals.Trailing n) (inr f) = f
+
+pub checked_fault : (p : Pesp) (told : Option (List ℕ)) (b c : Reading) (stage : Stage) (kept : Kept) (f : ItemFault) (failed : Type 0) → IsCheckedTo p (at_first told 1073741824) b stage kept → Gives b c (Err f) → Blamed f failed
+    → Faults (fault_of f) told c.told failed
+checked_fault p told b c stage kept items.Read failed h g blamed = blamed
+checked_fault p told b c stage kept (items.Text r) failed h g blamed = text_faults told c.told failed r (refused g.1)
+  where
+    refused : (r ≡ refusals.Memory) ⊎ Refuses b c r → (r ≡ refusals.Memory) ⊎ RefusesText told c.told 1073741824 r
+    refused (inl e) = inl e
+    refused (inr q) = inr (refused_text told 1073741824 c r (runs_refused (at_first told 1073741824) b c h.so_far r h.runs q))
+
+-- a list that is written over one of its length
+pub writes_all : (len : ℕ) (xs ys : List ℤ) → length xs ≡ length ys → len ≡ length ys → take len (xs ++ drop (length xs) ys) ≡ xs
+writes_all len xs ys same is =
+    ap (λ zs. take len (xs ++ zs)) (drop_all (length xs) ys (omega (arith, same))) ∙ ap (take len) (append-nil xs) ∙ take_all len xs (omega (arith, same, is))

@@ -1,0 +1,40 @@
+-- Items by their place in a text, and their limits.
+use Rattle.std.specs.Prelude.{◌≤◌, List, [], ◌∷◌, length, Bool, true, false, unsigned_abs}
+use Rattle.pesp_cert_lines.specs.declared.item.Item.{Item}
+use Rattle.pesp_cert_lines.specs.declared.item.Item.TheVariants.{Version, Period, Answer as Says, Time, Cycle, Slack, Offset, Bound, Nothing, Gap, Propagated}
+use Rattle.pesp_judges.specs.Lines.{ArePairLimits}
+
+-- it comes behind the times
+abbrev pub is_later : Item → Bool
+is_later (Version n) = false
+is_later (Period n) = false
+is_later (Says a) = false
+is_later (Time label time) = false
+is_later _ = true
+
+-- it is a line of the tree
+abbrev pub is_line : Item → Bool
+is_line (Slack row k) = true
+is_line (Offset cycle k) = true
+is_line (Bound ps) = true
+is_line (Nothing ps) = true
+is_line (Gap cycle) = true
+is_line Propagated = true
+is_line _ = false
+
+abbrev pub begins_later : List Item → Bool
+begins_later [] = false
+begins_later (item ∷ items) = is_later item
+
+abbrev pub begins_tree : List Item → Bool
+begins_tree [] = false
+begins_tree (item ∷ items) = is_line item
+
+-- what the limits of a text say of one item
+abbrev pub KeepsItemLimits : Item → Type 0
+KeepsItemLimits (Cycle rows) = length rows ≤ 10000000
+KeepsItemLimits (Slack row k) = k ≤ 9999
+KeepsItemLimits (Offset cycle k) = unsigned_abs k ≤ 100000000000000
+KeepsItemLimits (Bound ps) = ArePairLimits ps
+KeepsItemLimits (Nothing ps) = ArePairLimits ps
+KeepsItemLimits _ = Unit {0}

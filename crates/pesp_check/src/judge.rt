@@ -1,0 +1,359 @@
+//! The judge of a text's items, one after another.
+
+ghost use Rattle.std.specs.Prelude.{◌≡◌, ℕ, ◌+◌, ◌<◌, ◌≤◌, ◌^◌, List, ◌∷◌, ◌++◌, [], true, false, length, map, All, Option, IfOk, OnOk, MatchOption};
+ghost use Rattle.std.specs.Option.{ForSome, is_some};
+ghost use Rattle.pesp_truth.specs.Trees.{are_trees};
+ghost use Rattle.pesp_truth.specs.Certificates.{Content, lines_of, ShowsAnswer};
+ghost use Rattle.pesp_cert_lines.specs.declared.item.Item.{Item as LineItem};
+ghost use Rattle.pesp_cert_lines.specs.declared.item.Item.TheVariants as items;
+ghost use Rattle.pesp_cert.specs.Texts.{tree_item};
+ghost use Rattle.pesp_cert_items.specs.Lent.{listed, rows_in};
+ghost use Rattle.pesp_nets.specs.Nets.{AreZeros, AreSmallCounts};
+ghost use Rattle.pesp_judges.specs.SaidLines.{KeepsSaidLimits};
+ghost use Rattle.pesp_judges.specs.Faults.{IsVerdict};
+ghost use Rattle.pesp_check.specs.Said.{pairs_of, tree_line};
+ghost use Rattle.pesp_check.specs.Items.{KeepsItemLimits, begins_later, begins_tree, is_line};
+ghost use Rattle.pesp_check.specs.declared.stage.Stage.TheVariants as stages;
+ghost use Rattle.pesp_check.specs.Judging.{JudgedAt, behind, IsFrontFault, is_front, is_before_tree};
+
+use crate::elements::{PairsLeft, RowsLeft};
+use crate::stage::Stage;
+use pesp_cert_items::{Item, SignedRows};
+use pesp_judges::{
+    Checker, LeafLine, Nets, NodeWalk, Refusal, SaidLine, Verdict, judge_answer, judge_cycle,
+    least_of, root, take_line,
+};
+use pesp_problem::{Cut, Instance};
+use pesp_truth::Answer;
+use std::alloc::{AllocError, Global};
+
+/// What is kept of a text while its items come: the number of the last line, the period, the answer, the times, the net
+/// counts of the cycles, and the present node of the tree with the way to it. The list of places is kept for all cycles.
+#[derive(Drop)]
+pub struct Judge<'a> {
+    instance: &'a Instance,
+    line: u64,
+    period: u32,
+    answer: Answer,
+    times: Vec<(i64, u32)>,
+    table: Vec<Nets>,
+    places: Vec<u32>,
+    walk: Option<NodeWalk<'a>>,
+    stage: Stage,
+    ghost small: { All (AreSmallCounts (length instance.now.rows)) table.items },
+    ghost few: { length table.items ≤ line },
+    ghost begun: { is_before_tree stage ≡ true → is_some walk ≡ false },
+    ghost standing: { ForSome walk (λ w. (w.problem ≡ instance.now)
+        × (w.cycles ≡ length table.items)) },
+}
+
+/// What is wrong with a period, or with an answer and the times that are shown with it.
+fn front_fault(
+    alloc: Global,
+    instance: &Instance,
+    period: u32,
+    answer: Answer,
+    times: &[(i64, u32)],
+) -> Result<Option<Refusal>, AllocError>
+    ensures { IfOk result (λ found. MatchOption found
+        ((period ≡ instance.now.period)
+        × ShowsAnswer instance.now answer (map (λ t. t.0) times.now) (map (λ t. t.1) times.now))
+        (λ refusal. IsFrontFault instance.now period answer (map (λ t. t.0) times.now)
+        (map (λ t. t.1) times.now) refusal)) }
+{
+    if period != instance.period() {
+        return Ok(Some(Refusal::OtherPeriod));
+    }
+    judge_answer(alloc, instance, answer, times)
+}
+
+/// Adds the net counts of one more cycle.
+fn add_nets(table: &mut Vec<Nets>, nets: Nets) -> Result<(), AllocError>
+    ensures small { (rows : ℕ) → All (AreSmallCounts rows) table.old.items
+        → AreSmallCounts rows nets → All (AreSmallCounts rows) table.new.items }
+    ensures long { length table.new.items ≤ length table.old.items + 1 }
+    ensures items { OnOk result (table.new.items ≡ table.old.items ++ nets ∷ []) }
+{
+    table.push(nets)?;
+    Ok(())
+}
+
+/// A line of the tree, as the checker takes it.
+fn said_line(item: Item<'_>) -> SaidLine<PairsLeft<'_>>
+    requires line { is_line (listed item) ≡ true }
+    ensures same { listed item.entry ≡ tree_item (tree_line pairs_of result) }
+    ensures limits { KeepsItemLimits (listed item.entry) → KeepsSaidLimits pairs_of result }
+{
+    match item {
+        Item::Slack { row, k } => SaidLine::Branch(Cut::Slack { row, k }),
+        Item::Offset { cycle, k } => SaidLine::Branch(Cut::Offset { cycle, k }),
+        Item::Bound(pairs) => SaidLine::Leaf(LeafLine::Bound(PairsLeft(pairs))),
+        Item::Nothing(pairs) => SaidLine::Leaf(LeafLine::Nothing(PairsLeft(pairs))),
+        Item::Gap(cycle) => SaidLine::Leaf(LeafLine::Gap(cycle)),
+        Item::Propagated => SaidLine::Propagated,
+        Item::Version(_) | Item::Period(_) | Item::Answer(_) | Item::Time(_, _) | Item::Cycle(_) =>
+            unreachable!(),
+    }
+}
+
+impl<'a> Judge<'a> {
+    ghost use Rattle.pesp_check.specs.Views.{kept};
+
+    /// Nothing came so far.
+    pub fn new(alloc: Global, instance: &'a Instance) -> Judge<'a>
+        ensures instance { result.instance.now ≡ instance.now }
+        ensures line { result.line ≡ 0 }
+        ensures judged { (c : Content)
+            → JudgedAt result.stage instance.now c (behind c) (kept result) }
+    {
+        Judge {
+            instance,
+            line: 0,
+            period: 0,
+            answer: Answer::Infeasible,
+            times: Vec::new(alloc),
+            table: Vec::new(alloc),
+            places: Vec::new(alloc),
+            walk: None,
+            stage: Stage::Front,
+        }
+    }
+
+    /// All times came: judges the period, the answer and the times, where they are not judged yet.
+    fn end_front(&mut self, alloc: Global) -> Result<(), AllocError>
+        ensures instance { self.new.instance.now ≡ self.old.instance.now }
+        ensures line { self.new.line ≡ self.old.line }
+        ensures past { OnOk result (is_front self.new.stage ≡ false) }
+        ensures judged { OnOk result
+            ((c : Content) (rest : List LineItem) → begins_later rest ≡ true
+            → JudgedAt self.old.stage self.old.instance.now c rest (kept self.old)
+            → JudgedAt self.new.stage self.old.instance.now c rest (kept self.new)) }
+    {
+        if self.stage != Stage::Front {
+            return Ok(());
+        }
+        let found = front_fault(alloc, self.instance, self.period, self.answer, &self.times)?;
+        if let Some(refusal) = found {
+            self.stage = Stage::Refused(refusal);
+            return Ok(());
+        }
+        self.stage = Stage::Cycles;
+        Ok(())
+    }
+
+    /// All cycles came: goes to the root of the tree, where it has not gone there yet.
+    fn end_cycles(&mut self, alloc: Global) -> Result<(), AllocError>
+        requires past { is_front self.old.stage ≡ false }
+        ensures instance { self.new.instance.now ≡ self.old.instance.now }
+        ensures line { self.new.line ≡ self.old.line }
+        ensures past { OnOk result (is_before_tree self.new.stage ≡ false) }
+        ensures judged { OnOk result ((c : Content) (rest : List LineItem)
+            → are_trees 1 (lines_of c) ≡ true → begins_tree rest ≡ true
+            → JudgedAt self.old.stage self.old.instance.now c rest (kept self.old)
+            → JudgedAt self.new.stage self.old.instance.now c rest (kept self.new)) }
+    {
+        if self.stage != Stage::Cycles {
+            return Ok(());
+        }
+        let ranges = root(alloc, self.instance, &self.table)?;
+        self.walk = Some(NodeWalk::new(alloc, self.instance, ranges));
+        self.stage = Stage::Tree;
+        Ok(())
+    }
+
+    /// Judges a cycle, and keeps its net counts.
+    fn judge_walk(
+        &mut self,
+        alloc: Global,
+        rows: SignedRows<'_>,
+        working: &mut [i128],
+    ) -> Result<(), AllocError>
+        requires stage { self.old.stage ≡ stages.Cycles }
+        requires short { length (rows_in rows) ≤ 10000000 }
+        requires few { self.old.line < 2 ^ 31 }
+        requires long { length working.old ≡ length self.old.instance.now.rows }
+        requires zeros { AreZeros working.old }
+        ensures instance { self.new.instance.now ≡ self.old.instance.now }
+        ensures line { OnOk result (self.new.line ≡ self.old.line + 1) }
+        ensures zeros { OnOk result (AreZeros working.new) }
+        ensures judged { OnOk result ((c : Content) (rest : List LineItem)
+            → JudgedAt self.old.stage self.old.instance.now c
+            (items.Cycle (rows_in rows.entry) ∷ rest) (kept self.old)
+            → JudgedAt self.new.stage self.old.instance.now c rest (kept self.new)) }
+    {
+        let number = self.table.len() as u32 + 1;
+        let line = self.line + 1;
+        self.line = line;
+        let rows = RowsLeft(rows);
+        let places = &mut self.places;
+        let nets = match judge_cycle(alloc, self.instance, rows, number, line, places, working)? {
+            Ok(nets) => nets,
+            Err(refusal) => {
+                self.stage = Stage::Refused(refusal);
+                return Ok(());
+            }
+        };
+        add_nets(&mut self.table, nets)?;
+        Ok(())
+    }
+
+    /// Takes a cycle.
+    fn take_cycle(
+        &mut self,
+        alloc: Global,
+        rows: SignedRows<'_>,
+        working: &mut [i128],
+    ) -> Result<(), AllocError>
+        requires short { length (rows_in rows) ≤ 10000000 }
+        requires few { self.old.line < 2 ^ 31 }
+        requires long { length working.old ≡ length self.old.instance.now.rows }
+        requires zeros { AreZeros working.old }
+        ensures instance { self.new.instance.now ≡ self.old.instance.now }
+        ensures line { OnOk result (self.new.line ≡ self.old.line + 1) }
+        ensures zeros { OnOk result (AreZeros working.new) }
+        ensures judged { OnOk result ((c : Content) (rest : List LineItem)
+            → JudgedAt self.old.stage self.old.instance.now c
+            (items.Cycle (rows_in rows.entry) ∷ rest) (kept self.old)
+            → JudgedAt self.new.stage self.old.instance.now c rest (kept self.new)) }
+    {
+        self.end_front(alloc)?;
+        if self.stage == Stage::Cycles {
+            return self.judge_walk(alloc, rows, working);
+        }
+        self.line += 1;
+        Ok(())
+    }
+
+    /// Judges a line of the tree at the first of the nodes that wait.
+    fn judge_line(
+        &mut self,
+        alloc: Global,
+        said: SaidLine<PairsLeft<'_>>,
+        working: &mut [i128],
+    ) -> Result<(), AllocError>
+        requires stage { self.old.stage ≡ stages.Tree }
+        requires limits { KeepsSaidLimits pairs_of said }
+        requires few { self.old.line < 2 ^ 31 }
+        requires long { length working.old ≡ length self.old.instance.now.rows }
+        requires zeros { AreZeros working.old }
+        ensures instance { self.new.instance.now ≡ self.old.instance.now }
+        ensures line { OnOk result (self.new.line ≡ self.old.line + 1) }
+        ensures zeros { OnOk result (AreZeros working.new) }
+        ensures judged { OnOk result
+            ((c : Content) (rest : List LineItem) → are_trees 1 (lines_of c) ≡ true
+            → JudgedAt self.old.stage self.old.instance.now c
+            (tree_item (tree_line pairs_of said.entry) ∷ rest) (kept self.old)
+            → JudgedAt self.new.stage self.old.instance.now c rest (kept self.new)) }
+    {
+        let least = least_of(self.answer);
+        self.line += 1;
+        let Some(walk) = &mut self.walk else {
+            return Ok(());
+        };
+        if walk.is_done() {
+            return Ok(());
+        }
+        let checker = Checker::new(self.instance, &self.table, least);
+        let found = take_line(alloc, &checker, walk, said, self.line, working)?;
+        if let Some(refusal) = found {
+            self.stage = Stage::Refused(refusal);
+            return Ok(());
+        }
+        Ok(())
+    }
+
+    /// Takes a line of the tree.
+    fn take_line(
+        &mut self,
+        alloc: Global,
+        said: SaidLine<PairsLeft<'_>>,
+        working: &mut [i128],
+    ) -> Result<(), AllocError>
+        requires limits { KeepsSaidLimits pairs_of said }
+        requires few { self.old.line < 2 ^ 31 }
+        requires long { length working.old ≡ length self.old.instance.now.rows }
+        requires zeros { AreZeros working.old }
+        ensures instance { self.new.instance.now ≡ self.old.instance.now }
+        ensures line { OnOk result (self.new.line ≡ self.old.line + 1) }
+        ensures zeros { OnOk result (AreZeros working.new) }
+        ensures judged { OnOk result
+            ((c : Content) (rest : List LineItem) → are_trees 1 (lines_of c) ≡ true
+            → JudgedAt self.old.stage self.old.instance.now c
+            (tree_item (tree_line pairs_of said.entry) ∷ rest) (kept self.old)
+            → JudgedAt self.new.stage self.old.instance.now c rest (kept self.new)) }
+    {
+        self.end_front(alloc)?;
+        self.end_cycles(alloc)?;
+        if self.stage == Stage::Tree {
+            return self.judge_line(alloc, said, working);
+        }
+        self.line += 1;
+        Ok(())
+    }
+
+    /// Takes the next item. The working numbers, one a row, are 0 before and after.
+    pub fn take(
+        &mut self,
+        alloc: Global,
+        item: Item<'_>,
+        working: &mut [i128],
+    ) -> Result<(), AllocError>
+        requires limits { KeepsItemLimits (listed item) }
+        requires few { self.old.line < 2 ^ 31 }
+        requires long { length working.old ≡ length self.old.instance.now.rows }
+        requires zeros { AreZeros working.old }
+        ensures instance { self.new.instance.now ≡ self.old.instance.now }
+        ensures line { OnOk result (self.new.line ≡ self.old.line + 1) }
+        ensures zeros { OnOk result (AreZeros working.new) }
+        ensures judged { OnOk result
+            ((c : Content) (rest : List LineItem) → are_trees 1 (lines_of c) ≡ true
+            → JudgedAt self.old.stage self.old.instance.now c (listed item.entry ∷ rest)
+            (kept self.old)
+            → JudgedAt self.new.stage self.old.instance.now c rest (kept self.new)) }
+    {
+        match item {
+            Item::Version(_) => {
+                self.line += 1;
+                Ok(())
+            }
+            Item::Period(period) => {
+                self.period = period;
+                self.line += 1;
+                Ok(())
+            }
+            Item::Answer(answer) => {
+                self.answer = answer;
+                self.line += 1;
+                Ok(())
+            }
+            Item::Time(label, time) => {
+                self.times.push((label, time))?;
+                self.line += 1;
+                Ok(())
+            }
+            Item::Cycle(rows) => self.take_cycle(alloc, rows, working),
+            line => self.take_line(alloc, said_line(line), working),
+        }
+    }
+
+    /// The answer of the text.
+    pub fn answer(&self) -> Answer
+        ensures { (c : Content) → are_trees 1 (lines_of c) ≡ true
+            → JudgedAt self.now.stage self.now.instance.now c (items.End ∷ []) (kept self.now)
+            → result ≡ c.answer }
+    {
+        self.answer
+    }
+
+    /// What the checker says of the text, where all its items came.
+    pub fn verdict(&self) -> Verdict
+        ensures { (c : Content) → are_trees 1 (lines_of c) ≡ true
+            → JudgedAt self.now.stage self.now.instance.now c (items.End ∷ []) (kept self.now)
+            → IsVerdict self.now.instance.now c result }
+    {
+        match self.stage {
+            Stage::Refused(refusal) => Verdict::Refused(refusal),
+            Stage::Front | Stage::Cycles | Stage::Tree => Verdict::Accepted,
+        }
+    }
+}

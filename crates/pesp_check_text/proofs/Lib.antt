@@ -1,6 +1,0 @@
-pub mod Lists
-pub mod Fronts
-pub mod Cycles
-pub mod Lines
-pub mod Items
-pub mod Texts

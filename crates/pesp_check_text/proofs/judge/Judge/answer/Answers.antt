@@ -1,6 +1,0 @@
-use Rattle.pesp_check_text.specs.Views.{kept}
-use Rattle.pesp_check_text.proofs.Lines.{end_answer}
-use Rattle.pesp_check_text.proofs.judge.Judge.answer.Goals as goal
-
-pub returns : goal.returns
-returns c c' whole before = end_answer c.args.self.now.stage c.args.self.now.instance.now c' (kept c.args.self.now) whole before

@@ -1,6 +1,0 @@
-pub mod Items
-pub mod CheckFaults
-pub mod Texts
-pub mod Judging
-pub mod Views
-pub mod Said

@@ -1,6 +1,0 @@
--- A judge as what it keeps.
-use Rattle.pesp_check_text.specs.declared.judge.Judge.{Judge}
-use Rattle.pesp_check_text.specs.Judging.{Kept}
-
-abbrev pub kept : Judge → Kept
-kept j = record { line = j.line; period = j.period; answer = j.answer; times = j.times.items; table = j.table.items; walk = j.walk }

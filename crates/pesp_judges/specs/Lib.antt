@@ -1,0 +1,11 @@
+pub mod Nets
+pub mod Offsets
+pub mod Ranges
+pub mod Propagations
+pub mod Pending
+pub mod Flows
+pub mod Faults
+pub mod Lines
+pub mod LeafLines
+pub mod SaidLines
+pub mod Ways

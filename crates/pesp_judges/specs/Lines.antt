@@ -1,0 +1,80 @@
+-- A tree by its lines: each is judged at the first of the nodes that wait.
+use Rattle.std.specs.Prelude.{◌≡◌, ◌⊎◌, ℕ, ◌+◌, ◌≤◌, List, [], ◌∷◌, length, map, drop, unsigned_abs, All, Option, MatchOption}
+use Rattle.pesp_problem.specs.declared.row.SignedRow.{SignedRow}
+use Rattle.pesp_problem.specs.declared.pair.Pair.{Pair}
+use Rattle.pesp_problem.specs.declared.cut.Cut.{Cut}
+use Rattle.pesp_problem.specs.declared.cut.Cut.TheVariants.{Slack as SlackCut, Offset as OffsetCut}
+use Rattle.pesp_problem.specs.Arcs.{Net}
+use Rattle.pesp_problem.specs.Walks.{Names}
+use Rattle.pesp_problem.specs.Nodes.{Node, low_part, high_part}
+use Rattle.pesp_truth.specs.declared.tree.TreeLine.{TreeLine}
+use Rattle.pesp_truth.specs.declared.tree.TreeLine.TheVariants.{Slack, Offset, Bound, Nothing, Gap, Propagated}
+use Rattle.pesp_truth.specs.Trees.{Leaf, Reason, Line, EndLine, CutLine, CutExists, IsShut, IsSoundLeaf, AreSound}
+use Rattle.pesp_truth.specs.Certificates.{line_of}
+use Rattle.pesp_judges.specs.declared.refusal.Refusal.{Refusal}
+use Rattle.pesp_judges.specs.declared.refusal.Refusal.TheVariants.{NoSuch}
+use Rattle.pesp_judges.specs.Faults.{IsLeafFault, IsReasonFault}
+
+-- what the code says of a leaf: none where it is sound, else what is wrong with it
+abbrev pub IsLeafVerdict : Net → List (List SignedRow) → Option ℕ → Leaf → Node → ℕ → Option Refusal → Type 0
+IsLeafVerdict n table least leaf node at found = MatchOption found (IsSoundLeaf n table least leaf node) (λ refusal. IsLeafFault n table least leaf node at refusal)
+
+-- what the code says of a reason: none where it holds, else what is wrong with it
+abbrev pub IsReasonVerdict : Net → List (List SignedRow) → Reason → Node → ℕ → Option Refusal → Type 0
+IsReasonVerdict n table reason node at found = MatchOption found (IsShut n table reason node) (λ refusal. IsReasonFault n table reason node at refusal)
+
+-- the nodes that wait after a line
+abbrev pub after : Line → List Node → List Node
+after line [] = []
+after (EndLine leaf) (node ∷ nodes) = nodes
+after (CutLine cut) (node ∷ nodes) = low_part node cut ∷ high_part node cut ∷ nodes
+
+-- the line is sound at the first of the nodes that wait
+abbrev pub IsSoundLine : Net → List (List SignedRow) → Option ℕ → Line → List Node → Type 0
+IsSoundLine n table least line [] = ⊥
+IsSoundLine n table least (EndLine leaf) (node ∷ nodes) = IsSoundLeaf n table least leaf node
+IsSoundLine n table least (CutLine cut) (node ∷ nodes) = CutExists n table cut
+
+-- what is wrong with the line there
+abbrev pub IsLineFault : Net → List (List SignedRow) → Option ℕ → Line → List Node → ℕ → Refusal → Type 0
+IsLineFault n table least line [] at refusal = ⊥
+IsLineFault n table least (EndLine leaf) (node ∷ nodes) at refusal = IsLeafFault n table least leaf node at refusal
+IsLineFault n table least (CutLine cut) (node ∷ nodes) at refusal = (refusal ≡ NoSuch at) × (CutExists n table cut → ⊥)
+
+abbrev pub IsLineVerdict : Net → List (List SignedRow) → Option ℕ → Line → List Node → List Node → ℕ → Option Refusal → Type 0
+IsLineVerdict n table least line nodes nodes' at found =
+    MatchOption found (IsSoundLine n table least line nodes × (nodes' ≡ after line nodes)) (λ refusal. IsLineFault n table least line nodes at refusal)
+
+-- the first fault of lines
+abbrev pub IsLinesFault : Net → List (List SignedRow) → Option ℕ → List Line → List Node → ℕ → Refusal → Type 0
+IsLinesFault n table least [] nodes at refusal = ⊥
+IsLinesFault n table least (line ∷ lines) nodes at refusal =
+    IsLineFault n table least line nodes at refusal ⊎ (IsSoundLine n table least line nodes × IsLinesFault n table least lines (after line nodes) (at + 1) refusal)
+
+-- k lines were judged, and these nodes wait: what the lines that are left say there decides of all lines at the first node
+pub record AreJudged (n : Net) (table : List (List SignedRow)) (least : Option ℕ) (lines : List TreeLine) (node : Node) (first : ℕ) (nodes : List Node) (k : ℕ) : Type 0 where
+  pub sound : AreSound n table least (map line_of (drop k lines)) nodes → AreSound n table least (map line_of lines) (node ∷ [])
+  pub fault : (refusal : Refusal) → IsLinesFault n table least (map line_of (drop k lines)) nodes (first + k) refusal → IsLinesFault n table least (map line_of lines) (node ∷ []) first refusal
+
+-- few enough pairs, with multipliers within their limit
+abbrev pub ArePairLimits : List Pair → Type 0
+ArePairLimits pairs = All (λ pair. unsigned_abs pair.mult ≤ 1000000000000) pairs × (length pairs ≤ 100000)
+
+-- the numbers of a line are within their limits
+abbrev pub KeepsLineLimits : TreeLine → Type 0
+KeepsLineLimits (Slack row k) = k ≤ 9999
+KeepsLineLimits (Offset cycle k) = unsigned_abs k ≤ 100000000000000
+KeepsLineLimits (Bound pairs) = ArePairLimits pairs
+KeepsLineLimits (Nothing pairs) = ArePairLimits pairs
+KeepsLineLimits (Gap cycle) = Unit {0}
+KeepsLineLimits Propagated = Unit {0}
+
+-- the row or the cycle of a cut is one of so many
+abbrev pub CutIsNamed : ℕ → ℕ → Cut → Type 0
+CutIsNamed rows cycles (SlackCut row k) = Names rows row
+CutIsNamed rows cycles (OffsetCut cycle k) = Names cycles cycle
+
+-- the number of a cut is within its limit
+abbrev pub IsSmallCut : Cut → Type 0
+IsSmallCut (SlackCut row k) = k ≤ 9999
+IsSmallCut (OffsetCut cycle k) = unsigned_abs k ≤ 100000000000000

@@ -1,0 +1,74 @@
+//! Whether the lines of a certificate are a tree that is sound at the root.
+
+ghost use Rattle.std.specs.Prelude.{◌≡◌, ◌+◌, ◌≤◌, ◌<◌, ◌^◌, List, [], ◌∷◌, length, true, map, All, IfOk, MatchOption};
+ghost use Rattle.pesp_problem.specs.declared.row.SignedRow.{SignedRow};
+ghost use Rattle.pesp_problem.specs.Arcs.{net_of};
+ghost use Rattle.pesp_problem.specs.Nodes as nodes;
+ghost use Rattle.pesp_truth.specs.Trees.{AreSound, are_trees};
+ghost use Rattle.pesp_truth.specs.Certificates.{line_of};
+ghost use Rattle.pesp_nets.specs.Nets.{AreZeros, AreNets};
+ghost use Rattle.pesp_judges.specs.Lines.{IsLinesFault, KeepsLineLimits};
+ghost use Rattle.pesp_judges.specs.SaidLines.{line_said, KeepsSaidLimits};
+
+use crate::checker::Checker;
+use crate::leaf_line::LeafLine;
+use crate::node_walk::NodeWalk;
+use crate::refusal::Refusal;
+use crate::table::root;
+use crate::tree::{SaidLine, take_line};
+use pesp_problem::{Cut, Pair};
+use pesp_truth::TreeLine;
+use std::alloc::{AllocError, Global};
+
+/// A line of the tree as the list of its lines says it.
+pub fn said_by(tree_line: &TreeLine) -> SaidLine<&[Pair]>
+    ensures line { line_said (λ pairs. pairs.now) result ≡ line_of tree_line.now }
+    ensures limits { KeepsLineLimits tree_line.now → KeepsSaidLimits (λ pairs. pairs.now) result }
+{
+    match tree_line {
+        TreeLine::Slack { row, k } => SaidLine::Branch(Cut::Slack { row: *row, k: *k }),
+        TreeLine::Offset { cycle, k } => SaidLine::Branch(Cut::Offset {
+            cycle: *cycle,
+            k: *k,
+        }),
+        TreeLine::Bound(pairs) => SaidLine::Leaf(LeafLine::Bound(pairs.as_slice())),
+        TreeLine::Nothing(pairs) => SaidLine::Leaf(LeafLine::Nothing(pairs.as_slice())),
+        TreeLine::Gap(cycle) => SaidLine::Leaf(LeafLine::Gap(*cycle)),
+        TreeLine::Propagated => SaidLine::Propagated,
+    }
+}
+
+/// The first fault of a tree at the root; its lines begin with the line `first`.
+pub fn judge_tree(
+    alloc: Global,
+    checker: &Checker<'_>,
+    lines: &[TreeLine],
+    first: u64,
+    working: &mut [i128],
+) -> Result<Option<Refusal>, AllocError>
+    requires lines { All KeepsLineLimits lines.now }
+    requires whole { are_trees 1 (map line_of lines.now) ≡ true }
+    requires first { first < 2 ^ 62 }
+    requires few { length lines.now ≤ 1000000 }
+    requires long { length working.old ≡ length checker.now.instance.now.rows }
+    requires zeros { AreZeros working.old }
+    ensures { IfOk result (λ found. (walks : List (List SignedRow))
+        → AreNets (length checker.now.instance.now.rows) walks checker.now.table.now
+        → MatchOption found
+        (AreSound (net_of checker.now.instance.now) walks checker.now.least
+        (map line_of lines.now) (nodes.root (net_of checker.now.instance.now) walks ∷ []))
+        (λ refusal. IsLinesFault (net_of checker.now.instance.now) walks checker.now.least
+        (map line_of lines.now) (nodes.root (net_of checker.now.instance.now) walks ∷ []) first
+        refusal)) }
+{
+    let ranges = root(alloc, checker.instance, checker.table)?;
+    let mut walk = NodeWalk::new(alloc, checker.instance, ranges);
+    for (place, tree_line) in lines.iter().enumerate() {
+        let line = first + place as u64;
+        let found = take_line(alloc, checker, &mut walk, said_by(tree_line), line, working)?;
+        if found.is_some() {
+            return Ok(found);
+        }
+    }
+    Ok(None)
+}

@@ -1,0 +1,27 @@
+//! What leaves are worth, and what closes them.
+
+/// How many units of a slack, of a multiplier that is told and of a fraction make up one.
+pub const UNIT: i64 = 1 << 16;
+
+/// What closes a leaf: a cost, and the same in 1/2^20.
+#[derive(Clone, Copy)]
+pub struct Limit {
+    pub cost: u64,
+    pub value: i128,
+}
+
+impl Limit {
+    /// The limit of a cost.
+    pub(crate) fn at(cost: u64) -> Limit {
+        Limit {
+            cost,
+            value: i128::from(cost).wrapping_mul(1 << 20),
+        }
+    }
+}
+
+/// The whole cost that a value, in 1/65536, shows.
+pub(crate) fn cost_shown(value: i128) -> u64 {
+    let raised = value.saturating_add(i128::from(UNIT - 1)).max(0);
+    u64::try_from(raised >> 16).unwrap_or(u64::MAX)
+}

@@ -1,0 +1,188 @@
+//! Open leaves, as they are kept until they are split.
+
+use crate::branch::{Branch, Side};
+use crate::cycles::Range;
+use crate::pool::Pool;
+use crate::relaxation::{NO_MULTIPLIER, Origin, Relaxation};
+use crate::setting::Setting;
+use pesp_dual::{Multiplier, Point};
+use std::alloc::{AllocError, Global};
+
+/// By how much an inequality may be passed and still count as tight, in 1/65536.
+const TIGHT: i64 = 1 << 12;
+
+/// An inequality of a node, and its multiplier.
+#[derive(Clone, Copy)]
+struct Held {
+    origin: Origin,
+    multiplier: Multiplier,
+}
+
+/// What a node goes on from: its inequalities, its slacks, in 1/65536, and the weight of the two sides; and whether it was
+/// solved out.
+#[derive(Drop)]
+pub struct Node {
+    held: Vec<Held>,
+    slacks: Vec<u32>,
+    balance: i64,
+    pub is_solved_out: bool,
+}
+
+/// Slacks as they are kept.
+fn packed(alloc: Global, slacks: &[i64]) -> Result<Vec<u32>, AllocError> {
+    let mut packed = Vec::with_capacity(alloc, slacks.len())?;
+    for slack in slacks {
+        packed.push(u32::try_from(*slack).unwrap_or(0))?;
+    }
+    Ok(packed)
+}
+
+/// Slacks as a program takes them.
+fn unpacked(alloc: Global, slacks: &[u32]) -> Result<Vec<i64>, AllocError> {
+    let mut unpacked = Vec::with_capacity(alloc, slacks.len())?;
+    for slack in slacks {
+        unpacked.push(i64::from(*slack))?;
+    }
+    Ok(unpacked)
+}
+
+/// The sum of multipliers.
+fn sum_of(one: Multiplier, other: Multiplier) -> Multiplier {
+    Multiplier {
+        current: one.current.saturating_add(other.current),
+        best: one.best.saturating_add(other.best),
+    }
+}
+
+impl Held {
+    /// Whether it bounds the same offset on the same side.
+    fn is_weaker(&self, branch: Branch) -> bool {
+        match self.origin {
+            Origin::Pooled(_) => false,
+            Origin::Offset(own) => own.is_of(branch.cycle, branch.side),
+        }
+    }
+}
+
+/// The inequality of a program at a place, where it is worth keeping: it has a multiplier, is tight, or bounds an offset.
+fn held_at(relaxation: &Relaxation, place: usize, origin: Origin) -> Option<Held> {
+    let multiplier = relaxation.program.multiplier(place);
+    let is_used = multiplier.best > 0 || multiplier.current > 0;
+    let is_kept = match origin {
+        Origin::Offset(_) => true,
+        Origin::Pooled(_) => is_used || relaxation.program.excess(place) < TIGHT,
+    };
+    if is_kept {
+        Some(Held { origin, multiplier })
+    } else {
+        None
+    }
+}
+
+impl Node {
+    /// What is kept of a program.
+    pub fn of(alloc: Global, relaxation: &Relaxation) -> Result<Node, AllocError> {
+        let mut held = Vec::new(alloc);
+        for (place, member) in relaxation.members.iter().enumerate() {
+            if let Some(found) = held_at(relaxation, place, member.origin) {
+                held.push(found)?;
+            }
+        }
+        let point = relaxation.program.point(alloc)?;
+        Ok(Node {
+            held,
+            slacks: packed(alloc, &point.slacks)?,
+            balance: point.balance,
+            is_solved_out: false,
+        })
+    }
+
+    /// How many inequalities it has.
+    pub fn count(&self) -> usize {
+        self.held.len()
+    }
+
+    /// The slacks and the weight of the two sides.
+    fn point(&self, alloc: Global) -> Result<Point, AllocError> {
+        Ok(Point {
+            slacks: unpacked(alloc, &self.slacks)?,
+            balance: self.balance,
+        })
+    }
+
+    /// The program of the node.
+    pub(crate) fn loaded(
+        &self,
+        alloc: Global,
+        setting: &Setting,
+        pool: &Pool,
+    ) -> Result<Relaxation, AllocError> {
+        let mut relaxation = Relaxation::new(alloc, setting)?;
+        for held in &self.held {
+            relaxation.add(alloc, setting, pool, held.origin, held.multiplier)?;
+        }
+        relaxation.program.set_point(&self.point(alloc)?);
+        relaxation.program.settle_counts();
+        Ok(relaxation)
+    }
+
+    /// The program of a part of the node. A weaker bound of the same side goes, and leaves its multiplier.
+    pub(crate) fn part(
+        &self,
+        alloc: Global,
+        setting: &Setting,
+        pool: &Pool,
+        branch: Branch,
+    ) -> Result<Relaxation, AllocError> {
+        let mut relaxation = Relaxation::new(alloc, setting)?;
+        let mut left = NO_MULTIPLIER;
+        for held in &self.held {
+            if held.is_weaker(branch) {
+                left = sum_of(left, held.multiplier);
+            } else {
+                relaxation.add(alloc, setting, pool, held.origin, held.multiplier)?;
+            }
+        }
+        relaxation.add_offset(alloc, setting, branch, left)?;
+        relaxation.program.set_point(&self.point(alloc)?);
+        relaxation.program.settle_counts();
+        Ok(relaxation)
+    }
+
+    /// The offsets that are left to each cycle.
+    pub fn ranges(
+        &self,
+        alloc: Global,
+        setting: &Setting,
+    ) -> Result<Vec<Range>, AllocError> {
+        let mut ranges = setting.ranges(alloc)?;
+        for held in &self.held {
+            if let Origin::Offset(branch) = held.origin
+                && let Some(range) = ranges.get_mut(branch.cycle as usize)
+            {
+                *range = range.narrowed(branch);
+            }
+        }
+        Ok(ranges)
+    }
+
+    /// The node keeps its inequalities in the pool.
+    pub fn keep_in(&self, pool: &mut Pool) {
+        for held in &self.held {
+            if let Origin::Pooled(number) = held.origin {
+                pool.keep(number);
+            }
+        }
+    }
+
+    /// The node keeps them no longer.
+    pub fn leave(&self, alloc: Global, pool: &mut Pool) -> Result<(), AllocError> {
+        for held in &self.held {
+            if let Origin::Pooled(number) = held.origin {
+                pool.leave(number);
+                pool.sweep(alloc, number)?;
+            }
+        }
+        Ok(())
+    }
+}

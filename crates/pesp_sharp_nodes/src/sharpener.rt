@@ -1,0 +1,116 @@
+//! The programs of nodes, and the inequalities that are found for them.
+
+use crate::branch::Branch;
+use crate::limit::Limit;
+use crate::node::Node;
+use crate::pool::Pool;
+use crate::relaxation::{NO_MULTIPLIER, Origin, Relaxation};
+use crate::setting::Setting;
+use pesp_forest::Frame;
+use pesp_inequalities::{Seen, Separator};
+use pesp_network::Network;
+use std::alloc::{AllocError, Global};
+
+/// How many rounds of separation a part has at most, how many inequalities of a walk each round takes in at most, and how
+/// many in all.
+const ROUNDS: u32 = 2;
+const EACH: usize = 1;
+const MOST: usize = 100;
+
+/// What programs of nodes are made from: a network with its cycles, the inequalities that were found, and the search for
+/// more of them.
+#[derive(Drop)]
+pub struct Sharpener {
+    pub alloc: Global,
+    pub setting: Setting,
+    pub pool: Pool,
+    separator: Separator,
+}
+
+impl Sharpener {
+    /// No inequality is found yet; the seed decides which forests are drawn.
+    pub fn new(alloc: Global, network: &Network, seed: u64) -> Result<Sharpener, AllocError> {
+        let frame = Frame::new(alloc, network)?;
+        Ok(Sharpener {
+            alloc,
+            setting: Setting::new(alloc, network)?,
+            pool: Pool::new(alloc),
+            separator: Separator::new(alloc, frame, seed)?,
+        })
+    }
+
+    /// Takes in inequalities that the slacks violate; whether there are any.
+    pub(crate) fn separate(
+        &mut self,
+        relaxation: &mut Relaxation,
+        seen: &mut Seen,
+        is_wide: bool,
+        each: usize,
+        most: usize,
+    ) -> Result<bool, AllocError> {
+        let slacks = relaxation.program.slacks();
+        let found = self.separator.look(slacks, is_wide, each, most, seen)?;
+        let is_new = !found.is_empty();
+        for inequality in found {
+            let number = self.pool.put(self.alloc, inequality)?;
+            relaxation.add_pooled(&self.pool, number, NO_MULTIPLIER)?;
+        }
+        Ok(is_new)
+    }
+
+    /// The keys of a program's inequalities.
+    fn seen_in(&self, relaxation: &Relaxation) -> Result<Seen, AllocError> {
+        let mut seen = Seen::new(self.alloc);
+        for member in &relaxation.members {
+            if let Origin::Pooled(number) = member.origin
+                && let Some(key) = self.pool.key(number)
+            {
+                seen.insert(key)?;
+            }
+        }
+        Ok(seen)
+    }
+
+    /// A few rounds of separation, until the limit is reached.
+    fn sharpen(&mut self, relaxation: &mut Relaxation, limit: Limit) -> Result<(), AllocError> {
+        let mut seen = self.seen_in(relaxation)?;
+        for _ in 0..ROUNDS {
+            if relaxation.bound() >= limit.cost {
+                return Ok(());
+            }
+            if !self.separate(relaxation, &mut seen, false, EACH, MOST)? {
+                return Ok(());
+            }
+            relaxation.settle(limit);
+        }
+        Ok(())
+    }
+
+    /// The program of a node.
+    pub fn loaded(&self, node: &Node) -> Result<Relaxation, AllocError> {
+        node.loaded(self.alloc, &self.setting, &self.pool)
+    }
+
+    /// The program of a part of a node, after some steps and rounds.
+    pub fn part(
+        &mut self,
+        node: &Node,
+        branch: Branch,
+        limit: Limit,
+    ) -> Result<Relaxation, AllocError> {
+        let mut relaxation = node.part(self.alloc, &self.setting, &self.pool, branch)?;
+        relaxation.settle(limit);
+        self.sharpen(&mut relaxation, limit)?;
+        Ok(relaxation)
+    }
+
+    /// The inequalities of a program that nothing keeps go.
+    pub fn sweep(&mut self, relaxation: &Relaxation) -> Result<(), AllocError> {
+        for member in &relaxation.members {
+            if let Origin::Pooled(number) = member.origin {
+                self.pool.sweep(self.alloc, number)?;
+            }
+        }
+        Ok(())
+    }
+}

@@ -1,0 +1,114 @@
+//! Which cuts are tried.
+
+use crate::experience::Experience;
+use pesp_sharp_nodes::{Cut, Cycle, Range, Setting, UNIT};
+use std::alloc::{AllocError, Global};
+use std::cmp::Reverse;
+
+/// How far from whole numbers offsets are, in 1/65536, that are tried; and how far where none is as far as that.
+const FAR: i64 = UNIT / 50;
+const NEAR: i64 = UNIT / 1000;
+
+/// How many cuts are tried.
+const MOST_TRIED: usize = 8;
+
+/// A cut of the offsets that are left to a cycle: by what fraction, in 1/65536, the offset at the point is above the lower part,
+/// how many offsets there are beyond the least one, and how well it is thought of.
+#[derive(Clone, Copy)]
+pub(crate) struct Candidate {
+    pub(crate) cut: Cut,
+    pub(crate) fraction: i64,
+    width: i64,
+    score: u128,
+}
+
+impl Candidate {
+    /// How far the offset is from both parts, in 1/65536.
+    fn distance(&self) -> i64 {
+        self.fraction.min(UNIT.saturating_sub(self.fraction))
+    }
+}
+
+/// The cut at a point of the offsets that are left to a cycle, which are two at least; None where it can't be said.
+fn cut_at(
+    period: i64,
+    number: u32,
+    cycle: &Cycle,
+    range: Range,
+    slacks: &[i64],
+) -> Option<Candidate> {
+    let duration = cycle.duration(slacks);
+    let turn = period.checked_mul(UNIT)?;
+    let below = range.most.checked_sub(1)?;
+    let most = duration
+        .checked_div_euclid(turn)?
+        .max(range.least)
+        .min(below);
+    let above = duration.checked_sub(most.checked_mul(turn)?)?;
+    let fraction = above.checked_div_euclid(period)?.max(0).min(UNIT);
+    Some(Candidate {
+        cut: Cut {
+            cycle: number,
+            most,
+        },
+        fraction,
+        width: range.width(),
+        score: 0,
+    })
+}
+
+/// For each cycle to which two offsets are left at least its cut at a point.
+pub(crate) fn candidates(
+    alloc: Global,
+    setting: &Setting,
+    experience: &Experience,
+    ranges: &[Range],
+    slacks: &[i64],
+) -> Result<Vec<Candidate>, AllocError> {
+    let period = setting.period();
+    let mut list = Vec::new(alloc);
+    for (place, (cycle, range)) in setting.cycles.iter().zip(ranges.iter()).enumerate() {
+        let number = u32::try_from(place).unwrap_or(u32::MAX);
+        if range.width() < 1 {
+            continue;
+        }
+        if let Some(mut found) = cut_at(period, number, cycle, *range, slacks) {
+            found.score = experience.score(number, cycle.weight, found.fraction);
+            list.push(found)?;
+        }
+    }
+    Ok(list)
+}
+
+/// Those whose offsets are further than this from both parts.
+fn further(
+    alloc: Global,
+    list: &[Candidate],
+    distance: i64,
+) -> Result<Vec<Candidate>, AllocError> {
+    let mut found = Vec::new(alloc);
+    for candidate in list {
+        if candidate.distance() > distance {
+            found.push(*candidate)?;
+        }
+    }
+    Ok(found)
+}
+
+/// The cuts that are tried, the best of them first; none where all offsets look whole.
+pub(crate) fn tried(alloc: Global, list: &[Candidate]) -> Result<Vec<Candidate>, AllocError> {
+    let mut found = further(alloc, list, FAR)?;
+    if found.is_empty() {
+        found = further(alloc, list, NEAR)?;
+    }
+    found.sort_unstable_by_key(|candidate| (Reverse(candidate.score), candidate.cut.cycle));
+    found.truncate(MOST_TRIED);
+    Ok(found)
+}
+
+/// The cut where the offset is furthest from whole, and of these the one of most offsets: what is cut where all look whole.
+pub(crate) fn widest(list: &[Candidate]) -> Option<Candidate> {
+    list.iter()
+        .copied()
+        .max_by_key(|candidate| (candidate.distance(), candidate.width))
+}

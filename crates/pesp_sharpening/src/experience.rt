@@ -1,0 +1,107 @@
+//! What cuts have gained so far.
+
+use pesp_sharp_nodes::{Side, UNIT};
+use std::alloc::{AllocError, Global};
+
+/// A fraction below which a gain counts as over this fraction.
+const LEAST_FRACTION: i64 = UNIT / 64;
+
+/// Gains over a fraction of 1, in 1/65536, summed up, and how many there were.
+#[derive(Clone, Copy)]
+struct Gains {
+    sum: u128,
+    count: u64,
+}
+
+/// The gains of both sides of the cuts of a cycle.
+#[derive(Clone, Copy)]
+struct Record {
+    low: Gains,
+    high: Gains,
+}
+
+const NO_GAINS: Gains = Gains { sum: 0, count: 0 };
+
+const NO_RECORD: Record = Record {
+    low: NO_GAINS,
+    high: NO_GAINS,
+};
+
+/// What the cuts of each cycle have gained so far.
+#[derive(Drop)]
+pub(crate) struct Experience {
+    records: Vec<Record>,
+}
+
+/// A number of 16 bits and a sign, as one without a sign.
+fn natural(number: i64) -> u128 {
+    u128::try_from(number).unwrap_or(0)
+}
+
+impl Gains {
+    /// The mean; None where there were none.
+    fn mean(&self) -> Option<u128> {
+        self.sum.checked_div(u128::from(self.count))
+    }
+
+    /// The gain to be expected, where it is taken from the other side if there was none on this one.
+    fn expected(&self, other: &Gains) -> u128 {
+        match (self.mean(), other.mean()) {
+            (Some(mean), _) => mean,
+            (None, Some(mean)) => (mean >> 1).saturating_add(1),
+            (None, None) => 0,
+        }
+    }
+
+    /// One gain more, in 1/2^20, over a fraction in 1/65536.
+    fn note(&mut self, gain: i128, fraction: i64) {
+        let long = natural(fraction.max(LEAST_FRACTION));
+        let scaled = u128::try_from(gain).unwrap_or(0).saturating_mul(1 << 12);
+        let unit = scaled.checked_div(long).unwrap_or(0);
+        self.sum = self.sum.saturating_add(unit);
+        self.count = self.count.saturating_add(1);
+    }
+}
+
+/// What a cycle without any gain is thought of: the more, the further its offset is from a whole number and the heavier its
+/// row outside the forest.
+fn first_score(weight: u64, fraction: i64) -> u128 {
+    let near = natural(fraction.min(UNIT.saturating_sub(fraction)));
+    let scaled = near.saturating_mul(u128::from(weight).saturating_add(1));
+    let score = (scaled >> 16).saturating_mul(8);
+    score.saturating_mul(score)
+}
+
+impl Experience {
+    /// No gains for so many cycles.
+    pub(crate) fn new(alloc: Global, cycles: usize) -> Result<Experience, AllocError> {
+        Ok(Experience {
+            records: vec![in alloc; NO_RECORD; cycles]?,
+        })
+    }
+
+    /// How well a cut is thought of, of a cycle of such a weight, whose offset is by a fraction, in 1/65536, above the lower
+    /// part: the product of the gains to be expected.
+    pub(crate) fn score(&self, cycle: u32, weight: u64, fraction: i64) -> u128 {
+        let record = self.records.get(cycle as usize).copied();
+        let Record { low, high } = record.unwrap_or(NO_RECORD);
+        if low.sum == 0 && high.sum == 0 && low.count == 0 && high.count == 0 {
+            return first_score(weight, fraction);
+        }
+        let below = low.expected(&high).saturating_mul(natural(fraction)) >> 16;
+        let rest = UNIT.saturating_sub(fraction);
+        let above = high.expected(&low).saturating_mul(natural(rest)) >> 16;
+        below.max(1).saturating_mul(above.max(1))
+    }
+
+    /// Notes what a part of a cut gained, in 1/2^20, where the offset was by a fraction, in 1/65536, outside it.
+    pub(crate) fn note(&mut self, cycle: u32, side: Side, gain: i128, fraction: i64) {
+        let Some(record) = self.records.get_mut(cycle as usize) else {
+            return;
+        };
+        match side {
+            Side::AtMost => record.low.note(gain, fraction),
+            Side::AtLeast => record.high.note(gain, fraction),
+        }
+    }
+}

@@ -1,0 +1,16 @@
+//! A tree over the offsets of a network's cycles, whose leaves bound what timetables cost by multipliers of cycle inequalities
+//! and of bounds on offsets. Nothing is promised of it but that all is found safely, and the same in each run: what is told is
+//! judged by others.
+#![tactic(auto)]
+
+mod candidates;
+mod experience;
+mod proposals;
+mod sharpened;
+mod sharpening;
+mod telling;
+mod tree;
+mod trials;
+
+pub use sharpened::{Leaf, Line, Sharpened};
+pub use sharpening::Sharpening;

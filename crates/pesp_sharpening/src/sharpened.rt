@@ -1,0 +1,33 @@
+//! What is told of a tree.
+
+use pesp_inequalities::Pass;
+
+/// Multipliers of a leaf, in 1/65536: of cycles, above 0 for offsets that are at least so great, below 0 for offsets that are
+/// at most so great; and of walks, each 1 at least. Cycles and walks are numbered from 0, and their numbers rise.
+#[derive(Debug, Drop)]
+pub struct Leaf {
+    pub pairs: Vec<(u32, i64)>,
+    pub walks: Vec<(u32, i64)>,
+}
+
+/// A line of a tree. A branch cuts the offsets of a cycle, numbered from 0, into those up to `most` and those above; a bound leaf
+/// shows a cost; a nothing leaf shows, with the weights taken as 0, that no timetable is there; and at a gap a cycle has no
+/// offset.
+#[derive(Debug, Drop)]
+pub enum Line {
+    Branch { cycle: u32, most: i64 },
+    Bound(Leaf),
+    Nothing(Leaf),
+    Gap { cycle: u32 },
+}
+
+/// What was found: what each bound leaf shows at least, `u64::MAX` where there is none; the cycles that are branched on, as
+/// plain walks of the network's rows, and the walks of inequalities; the tree in preorder; and how many steps were made.
+#[derive(Debug, Drop)]
+pub struct Sharpened {
+    pub bound: u64,
+    pub cycles: Vec<Vec<Pass>>,
+    pub walks: Vec<Vec<Pass>>,
+    pub lines: Vec<Line>,
+    pub steps_used: u32,
+}

@@ -1,0 +1,129 @@
+//! The tree, as it is told.
+
+use crate::sharpened::Leaf;
+use pesp_sharp_nodes::{Cut, Pool};
+use std::alloc::{AllocError, Global};
+use std::mem::swap;
+
+/// What a certificate has at most: lines of the tree, pairs in all, walks, and passes of these. Walks may grow where rows that
+/// were contracted are put back.
+const MOST_LINES: usize = 1_000_000;
+const MOST_PAIRS: usize = 20_000_000;
+const MOST_WALKS: usize = 100_000;
+const MOST_PASSES: usize = 5_000_000;
+
+/// How many inequalities are found for both parts of a leaf at most.
+const MOST_NEW: usize = 400;
+
+/// A place of the tree: a cut, with the places of its parts; a leaf, with the cost that it shows; or a cycle without an offset.
+#[derive(Drop)]
+pub(crate) enum Knot {
+    Split { cut: Cut, low: u32, high: u32 },
+    Leaf { leaf: Leaf, bound: u64 },
+    Gap { cycle: u32 },
+}
+
+/// The places of a tree, the root first, and how many pairs its leaves have.
+#[derive(Drop)]
+pub(crate) struct Tree {
+    pub(crate) knots: Vec<Knot>,
+    pairs: usize,
+}
+
+/// How many pairs a leaf has.
+fn pairs_of(leaf: &Leaf) -> usize {
+    leaf.pairs.len().saturating_add(leaf.walks.len())
+}
+
+/// A leaf without multipliers.
+pub(crate) fn empty_leaf(alloc: Global) -> Leaf {
+    Leaf {
+        pairs: Vec::new(alloc),
+        walks: Vec::new(alloc),
+    }
+}
+
+impl Tree {
+    /// A tree without a place.
+    pub(crate) fn new(alloc: Global) -> Tree {
+        Tree {
+            knots: Vec::new(alloc),
+            pairs: 0,
+        }
+    }
+
+    /// A place more; its number.
+    pub(crate) fn add(&mut self, knot: Knot) -> Result<u32, AllocError> {
+        let place = u32::try_from(self.knots.len()).unwrap_or(u32::MAX);
+        self.knots.push(knot)?;
+        Ok(place)
+    }
+
+    /// A leaf more, of multipliers of inequalities of the pool; its place.
+    pub(crate) fn add_leaf(
+        &mut self,
+        pool: &mut Pool,
+        leaf: Leaf,
+        bound: u64,
+    ) -> Result<u32, AllocError> {
+        for (number, _) in &leaf.walks {
+            pool.tell(*number);
+        }
+        self.pairs = self.pairs.saturating_add(pairs_of(&leaf));
+        self.add(Knot::Leaf { leaf, bound })
+    }
+
+    /// Puts something in the place of a leaf.
+    pub(crate) fn replace(
+        &mut self,
+        alloc: Global,
+        pool: &mut Pool,
+        place: u32,
+        knot: Knot,
+    ) -> Result<(), AllocError> {
+        let mut other = knot;
+        if let Some(slot) = self.knots.get_mut(place as usize) {
+            swap(slot, &mut other);
+        }
+        if let Knot::Leaf { leaf, .. } = &other {
+            self.pairs = self.pairs.saturating_sub(pairs_of(leaf));
+            untell(alloc, pool, leaf)?;
+        }
+        Ok(())
+    }
+
+    /// Puts another leaf in the place of one.
+    pub(crate) fn replace_leaf(
+        &mut self,
+        alloc: Global,
+        pool: &mut Pool,
+        place: u32,
+        leaf: Leaf,
+        bound: u64,
+    ) -> Result<(), AllocError> {
+        for (number, _) in &leaf.walks {
+            pool.tell(*number);
+        }
+        self.pairs = self.pairs.saturating_add(pairs_of(&leaf));
+        self.replace(alloc, pool, place, Knot::Leaf { leaf, bound })
+    }
+
+    /// Whether a leaf of so many inequalities may be split without passing what a certificate has at most.
+    pub(crate) fn has_room(&self, pool: &Pool, count: usize) -> bool {
+        let more = count.saturating_mul(2).saturating_add(MOST_NEW);
+        let walks = pool.told().saturating_add(more);
+        self.knots.len().saturating_add(2) <= MOST_LINES
+            && self.pairs.saturating_add(more) <= MOST_PAIRS
+            && walks <= MOST_WALKS
+            && pool.told_passes() <= MOST_PASSES
+    }
+}
+
+/// A leaf is no longer there.
+fn untell(alloc: Global, pool: &mut Pool, leaf: &Leaf) -> Result<(), AllocError> {
+    for (number, _) in &leaf.walks {
+        pool.untell(*number);
+        pool.sweep(alloc, *number)?;
+    }
+    Ok(())
+}

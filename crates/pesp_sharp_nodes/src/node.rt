@@ -150,11 +150,7 @@ impl Node {
     }
 
     /// The offsets that are left to each cycle.
-    pub fn ranges(
-        &self,
-        alloc: Global,
-        setting: &Setting,
-    ) -> Result<Vec<Range>, AllocError> {
+    pub fn ranges(&self, alloc: Global, setting: &Setting) -> Result<Vec<Range>, AllocError> {
         let mut ranges = setting.ranges(alloc)?;
         for held in &self.held {
             if let Origin::Offset(branch) = held.origin

@@ -9,11 +9,14 @@ use std::alloc::{AllocError, Global};
 
 /// How many steps a call of the program has at a node, and how many calls there are at most.
 const STEPS: u32 = 150;
+
 const CALLS: u32 = 10;
 
 /// The same where all offsets look whole, and how near cost and value come there, in 1/2^20.
 const MORE_STEPS: u32 = 200;
+
 const MORE_CALLS: u32 = 20;
+
 const SOLVED: i128 = 1 << 14;
 
 /// What an inequality is: one of the pool, by its number, or a bound on an offset.

@@ -8,6 +8,7 @@ use std::alloc::{AllocError, Global};
 
 /// How many rounds there are at most, and how many in a row that bring little end them.
 const ROUNDS: u32 = 100;
+
 const QUIET_ROUNDS: u32 = 8;
 
 /// How many coefficients are looked at before the last round, at most.
@@ -15,6 +16,7 @@ const MOST_WORK: u64 = 20_000_000_000;
 
 /// How many steps end a round, and how many end the root.
 const STEPS: u32 = 50;
+
 const LAST_STEPS: u32 = 1000;
 
 /// For how many rounds in a row nothing may come of an inequality.
@@ -79,7 +81,11 @@ impl Sharpener {
     }
 
     /// Drops inequalities of which nothing came for some rounds.
-    fn drop_idle(&mut self, relaxation: &mut Relaxation, seen: &mut Seen) -> Result<(), AllocError> {
+    fn drop_idle(
+        &mut self,
+        relaxation: &mut Relaxation,
+        seen: &mut Seen,
+    ) -> Result<(), AllocError> {
         let marks = count_idle(self.alloc, relaxation)?;
         if marks.iter().all(|is_marked| *is_marked) {
             return Ok(());

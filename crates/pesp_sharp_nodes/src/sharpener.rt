@@ -14,7 +14,9 @@ use std::alloc::{AllocError, Global};
 /// How many rounds of separation a part has at most, how many inequalities of a walk each round takes in at most, and how
 /// many in all.
 const ROUNDS: u32 = 2;
+
 const EACH: usize = 1;
+
 const MOST: usize = 100;
 
 /// What programs of nodes are made from: a network with its cycles, the inequalities that were found, and the search for

@@ -7,6 +7,7 @@ use std::cmp::Reverse;
 
 /// How far from whole numbers offsets are, in 1/65536, that are tried; and how far where none is as far as that.
 const FAR: i64 = UNIT / 50;
+
 const NEAR: i64 = UNIT / 1000;
 
 /// How many cuts are tried.
@@ -81,11 +82,7 @@ pub(crate) fn candidates(
 }
 
 /// Those whose offsets are further than this from both parts.
-fn further(
-    alloc: Global,
-    list: &[Candidate],
-    distance: i64,
-) -> Result<Vec<Candidate>, AllocError> {
+fn further(alloc: Global, list: &[Candidate], distance: i64) -> Result<Vec<Candidate>, AllocError> {
     let mut found = Vec::new(alloc);
     for candidate in list {
         if candidate.distance() > distance {

@@ -33,7 +33,7 @@ pub(crate) struct Experience {
     records: Vec<Record>,
 }
 
-/// A number of 16 bits and a sign, as one without a sign.
+/// A number without its sign; 0 where it is below 0.
 fn natural(number: i64) -> u128 {
     u128::try_from(number).unwrap_or(0)
 }
@@ -85,7 +85,7 @@ impl Experience {
     pub(crate) fn score(&self, cycle: u32, weight: u64, fraction: i64) -> u128 {
         let record = self.records.get(cycle as usize).copied();
         let Record { low, high } = record.unwrap_or(NO_RECORD);
-        if low.sum == 0 && high.sum == 0 && low.count == 0 && high.count == 0 {
+        if low.count == 0 && high.count == 0 {
             return first_score(weight, fraction);
         }
         let below = low.expected(&high).saturating_mul(natural(fraction)) >> 16;

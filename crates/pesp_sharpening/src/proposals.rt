@@ -23,7 +23,13 @@ fn keys_of(alloc: Global, frame: &Frame, slacks: &[i64]) -> Result<Vec<i64>, All
 }
 
 /// The time of an event that hangs by a row, from that of the event above it.
-fn time_of(frame: &Frame, forest: &Forest, slacks: &[i64], times: &[u32], event: u32) -> Option<u32> {
+fn time_of(
+    frame: &Frame,
+    forest: &Forest,
+    slacks: &[i64],
+    times: &[u32],
+    event: u32,
+) -> Option<u32> {
     let place = forest.tree().place(event)?;
     let row = frame.row(place.by)?;
     let slack = slacks.get(place.by as usize)?.wrapping_add(UNIT / 2) >> 16;

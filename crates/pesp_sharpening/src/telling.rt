@@ -125,10 +125,7 @@ fn renumbered(
 impl Numbers {
     /// The number of a cycle.
     fn cycle(&self, cycle: u32) -> u32 {
-        self.cycles
-            .get(cycle as usize)
-            .copied()
-            .unwrap_or(u32::MAX)
+        self.cycles.get(cycle as usize).copied().unwrap_or(u32::MAX)
     }
 
     /// A leaf by these numbers.

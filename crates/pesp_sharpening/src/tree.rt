@@ -8,8 +8,11 @@ use std::mem::swap;
 /// What a certificate has at most: lines of the tree, pairs in all, walks, and passes of these. Walks may grow where rows that
 /// were contracted are put back.
 const MOST_LINES: usize = 1_000_000;
+
 const MOST_PAIRS: usize = 20_000_000;
+
 const MOST_WALKS: usize = 100_000;
+
 const MOST_PASSES: usize = 5_000_000;
 
 /// How many inequalities are found for both parts of a leaf at most.

@@ -7,16 +7,19 @@ use crate::setting::Setting;
 use pesp_dual::{Multiplier, Program};
 use std::alloc::{AllocError, Global};
 
-/// How many steps a call of the program has at a node, and how many calls there are at most.
+/// How many steps a call of the program has at a node.
 const STEPS: u32 = 150;
 
+/// How many such calls there are at most.
 const CALLS: u32 = 10;
 
-/// The same where all offsets look whole, and how near cost and value come there, in 1/2^20.
+/// How many steps a call has where all offsets look whole.
 const MORE_STEPS: u32 = 200;
 
+/// How many such calls there are at most.
 const MORE_CALLS: u32 = 20;
 
+/// How near the cost of the slacks comes to the value there, in 1/2^20.
 const SOLVED: i128 = 1 << 14;
 
 /// What an inequality is: one of the pool, by its number, or a bound on an offset.

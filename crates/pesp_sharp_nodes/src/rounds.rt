@@ -6,17 +6,25 @@ use crate::sharpener::Sharpener;
 use pesp_inequalities::Seen;
 use std::alloc::{AllocError, Global};
 
-/// How many rounds there are at most, and how many in a row that bring little end them.
-const ROUNDS: u32 = 100;
+/// How many rounds there are at most.
+const ROUNDS: usize = 100;
 
+/// How many there are at most for networks of many rows.
+const LEAST_ROUNDS: usize = 20;
+
+/// How many rounds there are in between, times the number of rows.
+const ROUNDS_TIMES_ROWS: usize = 1_000_000;
+
+/// How many rounds in a row that bring little are the last ones.
 const QUIET_ROUNDS: u32 = 8;
 
 /// How many coefficients are looked at before the last round, at most.
 const MOST_WORK: u64 = 20_000_000_000;
 
-/// How many steps end a round, and how many end the root.
+/// How many steps end a round.
 const STEPS: u32 = 50;
 
+/// How many steps end the root.
 const LAST_STEPS: u32 = 1000;
 
 /// For how many rounds in a row nothing may come of an inequality.
@@ -24,6 +32,12 @@ const MOST_IDLE: u32 = 3;
 
 /// A slack above what an inequality asks for, in 1/65536, from which on it is loose.
 const LOOSE: i64 = 1 << 16;
+
+/// How many rounds there are at most for so many rows.
+fn rounds_for(rows: usize) -> usize {
+    let rounds = ROUNDS_TIMES_ROWS / rows.max(1);
+    rounds.min(ROUNDS).max(LEAST_ROUNDS)
+}
 
 /// Whether nothing comes of the inequality at a place.
 fn is_idle(relaxation: &Relaxation, place: usize) -> bool {
@@ -96,18 +110,14 @@ impl Sharpener {
         Ok(())
     }
 
-    /// How many inequalities a round takes in at most.
-    fn most_of_round(&self) -> usize {
-        (self.setting.frame.rows().len() / 2).max(50)
-    }
-
     /// The rounds, until little comes of them or the limit is reached.
     fn rounds(&mut self, relaxation: &mut Relaxation, limit: Limit) -> Result<(), AllocError> {
         let mut seen = Seen::new(self.alloc);
-        let most = self.most_of_round();
+        let rows = self.setting.frame.rows().len();
+        let most = (rows / 2).max(50);
         let mut last = 0i128;
         let mut quiet = 0u32;
-        for round in 0..ROUNDS {
+        for round in 0..rounds_for(rows) {
             let is_new = self.separate(relaxation, &mut seen, round % 5 == 0, 2, most)?;
             let value = relaxation.program.run(STEPS, limit.value);
             self.drop_idle(relaxation, &mut seen)?;

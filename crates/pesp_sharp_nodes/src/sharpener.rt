@@ -11,12 +11,13 @@ use pesp_inequalities::{Seen, Separator};
 use pesp_network::Network;
 use std::alloc::{AllocError, Global};
 
-/// How many rounds of separation a part has at most, how many inequalities of a walk each round takes in at most, and how
-/// many in all.
+/// How many rounds of separation a part of a leaf has at most.
 const ROUNDS: u32 = 2;
 
+/// How many inequalities of a walk each round takes in at most.
 const EACH: usize = 1;
 
+/// How many inequalities each round takes in at most.
 const MOST: usize = 100;
 
 /// What programs of nodes are made from: a network with its cycles, the inequalities that were found, and the search for

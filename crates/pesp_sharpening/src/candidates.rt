@@ -5,9 +5,10 @@ use pesp_sharp_nodes::{Cut, Cycle, Range, Setting, UNIT};
 use std::alloc::{AllocError, Global};
 use std::cmp::Reverse;
 
-/// How far from whole numbers offsets are, in 1/65536, that are tried; and how far where none is as far as that.
+/// How far from whole numbers offsets are, in 1/65536, that are tried.
 const FAR: i64 = UNIT / 50;
 
+/// How far they are where none is as far as that.
 const NEAR: i64 = UNIT / 1000;
 
 /// How many cuts are tried.

@@ -20,8 +20,10 @@ struct Record {
     high: Gains,
 }
 
+/// No gain yet.
 const NO_GAINS: Gains = Gains { sum: 0, count: 0 };
 
+/// No gain on either side.
 const NO_RECORD: Record = Record {
     low: NO_GAINS,
     high: NO_GAINS,

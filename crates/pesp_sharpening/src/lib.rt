@@ -5,10 +5,11 @@
 
 mod candidates;
 mod experience;
+mod leaves;
+mod lines;
 mod proposals;
 mod sharpened;
 mod sharpening;
-mod telling;
 mod tree;
 mod trials;
 

@@ -1,18 +1,20 @@
 //! The tree, as it is told.
 
 use crate::sharpened::Leaf;
-use pesp_sharp_nodes::{Cut, Pool};
+use pesp_sharp_nodes::{Cut, Pool, Setting};
 use std::alloc::{AllocError, Global};
 use std::mem::swap;
 
-/// What a certificate has at most: lines of the tree, pairs in all, walks, and passes of these. Walks may grow where rows that
-/// were contracted are put back.
+/// How many lines a certificate's tree has at most.
 const MOST_LINES: usize = 1_000_000;
 
+/// How many pairs it has in all at most.
 const MOST_PAIRS: usize = 20_000_000;
 
+/// How many walks it has at most.
 const MOST_WALKS: usize = 100_000;
 
+/// How many passes these have at most: half of what a certificate may have, since rows that were contracted are put back.
 const MOST_PASSES: usize = 5_000_000;
 
 /// How many inequalities are found for both parts of a leaf at most.
@@ -38,21 +40,25 @@ fn pairs_of(leaf: &Leaf) -> usize {
     leaf.pairs.len().saturating_add(leaf.walks.len())
 }
 
-/// A leaf without multipliers.
-pub(crate) fn empty_leaf(alloc: Global) -> Leaf {
-    Leaf {
-        pairs: Vec::new(alloc),
-        walks: Vec::new(alloc),
-    }
-}
-
 impl Tree {
-    /// A tree without a place.
-    pub(crate) fn new(alloc: Global) -> Tree {
-        Tree {
+    /// A tree that is one leaf without multipliers, or a gap where a cycle has no offset.
+    pub(crate) fn new(alloc: Global, setting: &Setting) -> Result<Tree, AllocError> {
+        let knot = match setting.first_gap() {
+            Some(cycle) => Knot::Gap { cycle },
+            None => Knot::Leaf {
+                leaf: Leaf {
+                    pairs: Vec::new(alloc),
+                    walks: Vec::new(alloc),
+                },
+                bound: 0,
+            },
+        };
+        let mut tree = Tree {
             knots: Vec::new(alloc),
             pairs: 0,
-        }
+        };
+        tree.add(knot)?;
+        Ok(tree)
     }
 
     /// A place more; its number.
@@ -111,13 +117,23 @@ impl Tree {
         self.replace(alloc, pool, place, Knot::Leaf { leaf, bound })
     }
 
-    /// Whether a leaf of so many inequalities may be split without passing what a certificate has at most.
-    pub(crate) fn has_room(&self, pool: &Pool, count: usize) -> bool {
-        let more = count.saturating_mul(2).saturating_add(MOST_NEW);
-        let walks = pool.told().saturating_add(more);
+    /// How many walks the leaf at a place has multipliers of.
+    fn walks_at(&self, place: u32) -> usize {
+        match self.knots.get(place as usize) {
+            Some(Knot::Leaf { leaf, .. }) => leaf.walks.len(),
+            _ => 0,
+        }
+    }
+
+    /// Whether the leaf at a place, whose node has so many inequalities, may be split without passing what a certificate has at
+    /// most.
+    pub(crate) fn has_room(&self, pool: &Pool, place: u32, count: usize) -> bool {
+        let more_pairs = count.saturating_mul(2).saturating_add(MOST_NEW);
+        let untold = count.saturating_sub(self.walks_at(place));
+        let more_walks = untold.saturating_add(MOST_NEW);
         self.knots.len().saturating_add(2) <= MOST_LINES
-            && self.pairs.saturating_add(more) <= MOST_PAIRS
-            && walks <= MOST_WALKS
+            && self.pairs.saturating_add(more_pairs) <= MOST_PAIRS
+            && pool.told().saturating_add(more_walks) <= MOST_WALKS
             && pool.told_passes() <= MOST_PASSES
     }
 }

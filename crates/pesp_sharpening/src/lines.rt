@@ -1,9 +1,9 @@
-//! How a tree is told: leaves by rounded multipliers, lines in preorder, and numbers of what they name.
+//! The lines by which a tree is told, in preorder, and the numbers of what they name.
 
 use crate::sharpened::{Leaf, Line, Sharpened};
-use crate::tree::{Knot, Tree, empty_leaf};
+use crate::tree::{Knot, Tree};
 use pesp_inequalities::Pass;
-use pesp_sharp_nodes::{Branch, Origin, Pool, Relaxation, Setting};
+use pesp_sharp_nodes::{Pool, Setting};
 use std::alloc::{AllocError, Global};
 
 /// The numbers that cycles and walks are told by, for each cycle and each inequality of the pool.
@@ -11,57 +11,6 @@ use std::alloc::{AllocError, Global};
 struct Numbers {
     cycles: Vec<u32>,
     walks: Vec<u32>,
-}
-
-/// Adds a multiplier to the last pair where it is of the same cycle, else puts a pair behind it.
-fn add_pair(pairs: &mut Vec<(u32, i64)>, cycle: u32, multiplier: i64) -> Result<(), AllocError> {
-    if let Some(last) = pairs.last_mut()
-        && last.0 == cycle
-    {
-        last.1 = last.1.saturating_add(multiplier);
-        return Ok(());
-    }
-    pairs.push((cycle, multiplier))?;
-    Ok(())
-}
-
-/// Pairs with one multiplier for each cycle, the sum of its multipliers, and none that is 0.
-fn joined(alloc: Global, mut list: Vec<(u32, i64)>) -> Result<Vec<(u32, i64)>, AllocError> {
-    list.sort_unstable_by_key(|pair| pair.0);
-    let mut sums = Vec::new(alloc);
-    for (cycle, multiplier) in &list {
-        add_pair(&mut sums, *cycle, *multiplier)?;
-    }
-    let mut pairs = Vec::with_capacity(alloc, sums.len())?;
-    for pair in &sums {
-        if pair.1 != 0 {
-            pairs.push(*pair)?;
-        }
-    }
-    Ok(pairs)
-}
-
-/// The leaf of a program: its best multipliers, rounded. Walks have the numbers of the pool.
-pub(crate) fn leaf_of(alloc: Global, relaxation: &Relaxation) -> Result<Leaf, AllocError> {
-    let mut pairs = Vec::new(alloc);
-    let mut walks = Vec::new(alloc);
-    for (place, member) in relaxation.members.iter().enumerate() {
-        let multiplier = relaxation.program.rounded(place);
-        if multiplier < 1 {
-            continue;
-        }
-        match member.origin {
-            Origin::Pooled(number) => walks.push((number, multiplier))?,
-            Origin::Offset(Branch { cycle, side, .. }) => {
-                pairs.push((cycle, side.signed(multiplier)))?
-            }
-        }
-    }
-    walks.sort_unstable_by_key(|walk| walk.0);
-    Ok(Leaf {
-        pairs: joined(alloc, pairs)?,
-        walks,
-    })
 }
 
 /// Whether each cycle is named by the tree.
@@ -213,18 +162,4 @@ pub(crate) fn told(
         lines: lines_of(alloc, setting, tree, &numbers)?,
         steps_used: steps,
     })
-}
-
-/// A tree that is one leaf without multipliers, or a gap where a cycle has no offset.
-pub(crate) fn first_tree(alloc: Global, setting: &Setting) -> Result<Tree, AllocError> {
-    let mut tree = Tree::new(alloc);
-    let knot = match setting.first_gap() {
-        Some(cycle) => Knot::Gap { cycle },
-        None => Knot::Leaf {
-            leaf: empty_leaf(alloc),
-            bound: 0,
-        },
-    };
-    tree.add(knot)?;
-    Ok(tree)
 }

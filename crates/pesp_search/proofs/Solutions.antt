@@ -1,6 +1,6 @@
 -- What is certified after the turns.
 use Rattle.std.proofs.Common.{◌≡◌, ℕ, ◌+◌, ◌*◌, ◌<◌, ◌≤◌, ◌⊎◌, inl, inr, Bool, true, false, List, length, refl, ap, arith, sym, ◌∙◌, subst}
-use Rattle.std.specs.Prelude.{nat_le, Option, Some, None, IsSomeAnd, if◌then◌else◌}
+use Rattle.std.specs.Prelude.{nat_le, Option, Some, None, IsSomeAnd, if◌then◌else◌, Result, Ok, Err, IsErrAnd, IfErr}
 use Rattle.std.proofs.Math.Nat.{mul-le-mul_left, mul-le-mul_right}
 use Rattle.pesp_problem.specs.declared.row.SignedRow.{SignedRow}
 use Rattle.pesp_problem.specs.declared.cut.Cut.{Cut}
@@ -99,3 +99,8 @@ pub refused_at_once : (instance : Pesp) (steps : ℕ) (r : SolveRefusal) → IsS
 refused_at_once instance steps Memory h = tt
 refused_at_once instance steps TableTooLarge h = h
 refused_at_once instance steps PairsTooMany h = let more : 1 * length instance.rows ≤ (steps + 1) * length instance.rows = mul-le-mul_right (length instance.rows) (one_more steps) in omega (arith, h, more)
+
+-- what was told as a refusal is so
+pub told_as : {A E : Type 0} (r : Result A E) (e : E) (P : E → Type 0) → IsErrAnd r (λ f. f ≡ e) → P e → IfErr r P
+told_as (Ok a) e P is holds = tt
+told_as (Err f) e P is holds = rw is holds

@@ -6,7 +6,7 @@ ghost use Rattle.pesp_turns.specs.Knowing.{IsKnown};
 ghost use Rattle.pesp_search.specs.Beginning.{IsNewBoard, IsBegun};
 ghost use Rattle.pesp_search.specs.Solving.{IsSearchRefusal};
 
-use crate::planting::planted;
+use crate::planting::{Planting, planted};
 use crate::preparing::problem_for;
 use crate::refusal::SolveRefusal;
 use pesp_board::Board;
@@ -76,11 +76,12 @@ fn begin_over(alloc: Global, instance: &Instance, reduced: Reduced) -> Result<Se
 pub(crate) fn begin<O: Observer>(
     alloc: Global,
     instance: &Instance,
+    planting: Planting,
     observer: &mut O,
 ) -> Result<Search, SolveRefusal>
     ensures begun { IfOk result (IsBegun instance.now) }
     ensures refused { IfErr result (IsSearchRefusal instance.now 0) }
 {
-    let reduced = planted(alloc, instance, observer)?;
+    let reduced = planted(alloc, instance, planting, observer)?;
     begin_over(alloc, instance, reduced)
 }

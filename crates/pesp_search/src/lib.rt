@@ -3,6 +3,7 @@
 #![tactic(auto)]
 
 mod begun;
+mod look;
 mod offering;
 mod planting;
 mod preparing;
@@ -11,6 +12,7 @@ mod rooting;
 mod single;
 mod solving;
 
+pub use look::{FirstLook, look_first};
 pub use pesp_turns::{Nobody, Observer, Part};
 pub use refusal::SolveRefusal;
 pub use solving::{Solved, solve, solve_from, solve_watched};

@@ -14,6 +14,7 @@ ghost use Rattle.pesp_search.specs.Solving.{IsSolved, CostsNoMore, IsSearchRefus
 
 use crate::begun::begin;
 use crate::offering::{begin_with, offer_given};
+use crate::planting::Planting;
 use crate::refusal::SolveRefusal;
 use crate::rooting::look_at_root;
 use pesp_board::Board;
@@ -115,7 +116,7 @@ fn certify(
 }
 
 /// Searches on what was begun, and certifies what is known then.
-fn solve_on<O: Observer>(
+pub(crate) fn solve_on<O: Observer>(
     alloc: Global,
     instance: &Instance,
     search: &mut Search,
@@ -180,6 +181,6 @@ pub fn solve_from<O: Observer>(
     ensures improved { IfOk result (λ s. CostsNoMore instance.now times.now s.certificate) }
     ensures refused { IfErr result (IsSearchRefusal instance.now steps) }
 {
-    let mut search = begin(alloc, instance, observer)?;
+    let mut search = begin(alloc, instance, Planting::Whole, observer)?;
     solve_on(alloc, instance, &mut search, times, steps, observer)
 }

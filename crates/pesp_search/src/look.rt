@@ -1,0 +1,50 @@
+//! A first look, for a search that goes on from it in a way of its own.
+
+ghost use Rattle.std.specs.Prelude.{IfOk, IfErr};
+ghost use Rattle.pesp_search.specs.Solving.{IsSolved, CostsNoMore, IsSearchRefusal};
+
+use crate::begun::begin;
+use crate::planting::Planting;
+use crate::refusal::SolveRefusal;
+use crate::solving::{Solved, solve_on};
+use pesp_problem::Instance;
+use pesp_reduce::Reduced;
+use pesp_times::TimesSearch;
+use pesp_turns::{Observer, Search};
+use std::alloc::Global;
+
+/// What is known of an instance after a first look, what is left of the instance, and what has looked for times of that.
+#[derive(Drop)]
+pub struct FirstLook {
+    pub solved: Solved,
+    pub reduced: Reduced,
+    pub times: Option<TimesSearch>,
+}
+
+/// Answers within 0 steps as `solve_from` does, with the same promises, for a search that goes on from the answer in a way of
+/// its own. No later bound rests on the cycles of the answer, so a forest is looked for a twentieth as long.
+pub fn look_first<O: Observer>(
+    alloc: Global,
+    instance: &Instance,
+    times: &[u32],
+    observer: &mut O,
+) -> Result<FirstLook, SolveRefusal>
+    ensures solved { IfOk result
+        (λ look. IsSolved instance.now 0 look.solved.steps_used look.solved.certificate) }
+    ensures improved { IfOk result
+        (λ look. CostsNoMore instance.now times.now look.solved.certificate) }
+    ensures refused { IfErr result (IsSearchRefusal instance.now 0) }
+{
+    let mut search = begin(alloc, instance, Planting::Short, observer)?;
+    let solved = solve_on(alloc, instance, &mut search, times, 0, observer)?;
+    let Search {
+        known,
+        proposer,
+        ..
+    } = search;
+    Ok(FirstLook {
+        solved,
+        reduced: known.reduced,
+        times: proposer.times,
+    })
+}

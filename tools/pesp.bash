@@ -10,7 +10,8 @@ _pesp() {
         mapfile -t COMPREPLY < <(compgen -W "solve resume conflict check gap report draw diagram split work graft" -- "$word")
         return
         ;;
-    solve) options="--period --steps --progress" ;;
+    solve) options="--period --steps --sharp --from --progress" ;;
+    check) options="--period --sharp" ;;
     resume) options="--period --steps --seconds --progress" ;;
     work | conflict) options="--period --steps" ;;
     report) options="--period --violations --names" ;;

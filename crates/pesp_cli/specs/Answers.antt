@@ -14,6 +14,7 @@ use Rattle.pesp_faults.specs.FaultLines.{fault_line, exit_status}
 use Rattle.pesp_faults.specs.declared.fault.Fault.{Fault}
 use Rattle.pesp_faults.specs.declared.fault.Fault.TheVariants.{Memory}
 use Rattle.pesp_solve_run.specs.Solving.{Solves, SolvesFrom}
+use Rattle.pesp_sharp_solve_run.specs.Solving.{SolvesSharp, SolvesSharpFrom}
 use Rattle.pesp_report_run.specs.Reporting.{WritesSheet}
 use Rattle.pesp_report_run.specs.Violating.{ReadsForEvents, WritesViolations}
 use Rattle.pesp_outside_run.specs.Outside.{WritesJobs, WritesWork, Grafts}
@@ -22,7 +23,7 @@ use Rattle.pesp_conflict_run.specs.Runs.{TellsConflict}
 use Rattle.pesp_conflict_run.specs.Told.{told_text, told_status}
 use Rattle.pesp_conflict_run.specs.declared.told.Told.{Told}
 use Rattle.pesp_request.specs.declared.request.OfInstance.{OfInstance}
-use Rattle.pesp_request.specs.declared.request.OfInstance.TheVariants.{Solve, Conflict}
+use Rattle.pesp_request.specs.declared.request.OfInstance.TheVariants.{Solve, SolveSharp, Conflict}
 use Rattle.pesp_request.specs.declared.request.OfCertificate.{OfCertificate}
 use Rattle.pesp_request.specs.declared.request.OfCertificate.TheVariants.{Check, CheckSharp, Gap, Resume, Split, Work}
 use Rattle.pesp_request.specs.declared.request.OfTimes.{OfTimes}
@@ -54,9 +55,16 @@ AnswersSolve None steps period reader writer status = Solves reader.old reader.n
 AnswersSolve (Some file) steps period reader writer status =
     ((times : Device) × SolvesFrom reader.old reader.new times.old times.new period steps (Gets writer)) × (status ≡ 0)
 
+-- the same with leaves that marked walks sharpen
+abbrev pub AnswersSolveSharp : {A : Type 0} → Option A → ℕ → ℕ → Device → Device → ℕ → Type 0
+AnswersSolveSharp None steps period reader writer status = SolvesSharp reader.old reader.new period steps (Gets writer) × (status ≡ 0)
+AnswersSolveSharp (Some file) steps period reader writer status =
+    ((times : Device) × SolvesSharpFrom reader.old reader.new times.old times.new period steps (Gets writer)) × (status ≡ 0)
+
 -- what the program does for what is asked of an instance, from the reader that has it; `silent` says that the writer was not called
 abbrev pub AnswersInstance : OfInstance → ℕ → Device → Device → Device → Type 0 → ℕ → Type 0
 AnswersInstance (Solve steps from progress) period reader writer teller silent status = AnswersSolve from steps period reader writer status
+AnswersInstance (SolveSharp steps from progress) period reader writer teller silent status = AnswersSolveSharp from steps period reader writer status
 AnswersInstance (Conflict steps) period reader writer teller silent status =
     (told : Told) × TellsConflict reader.old reader.new period steps told (Gets writer) silent
     × GetsLine teller (told_text told) × (status ≡ told_status told)

@@ -4,7 +4,7 @@ ghost use Rattle.std.specs.Prelude.{◌≡◌, ◌<◌, ◌≤◌, ◌^◌, Ok, 
 ghost use Rattle.pesp_stream.specs.Counts.{FewerThan};
 ghost use Rattle.pesp_check_run.specs.Devices.{over};
 ghost use Rattle.pesp_request.specs.Requests.{InstanceWithin, CertificateWithin};
-ghost use Rattle.pesp_cli.specs.Answers.{AnswersSolve, AnswersInstance, AnswersCertificate, AnswersTimes, AnswersWorks, violations_status};
+ghost use Rattle.pesp_cli.specs.Answers.{AnswersSolve, AnswersSolveSharp, AnswersInstance, AnswersCertificate, AnswersTimes, AnswersWorks, violations_status};
 
 use crate::telling::told_conflict;
 use pesp_check_run::{run_check, status_of_verdict};
@@ -20,6 +20,8 @@ use pesp_request::{OfCertificate, OfInstance, OfTimes};
 use pesp_resume_run::{run_gap, run_resume};
 use pesp_search::{Nobody, Observer};
 use pesp_sharp_run::run_check_sharp;
+use pesp_sharp_search::SharpObserver;
+use pesp_sharp_solve_run::{run_solve_sharp, run_solve_sharp_from};
 use pesp_solve_run::{run_solve_from, run_solve_watched};
 use pesp_stream::{Counted, Sink, Source};
 use std::fs::File;
@@ -65,6 +67,36 @@ fn solve<R: AllocGlobal + Files, I: Source, W: Sink, O: Observer>(
     }
 }
 
+/// The same with leaves that marked walks sharpen.
+#[tactic(auto, using(crate::proofs::Ends::finished))]
+fn solve_with_marks<R: AllocGlobal + Files, I: Source, W: Sink, O: SharpObserver>(
+    rt: &R,
+    reader: &mut I,
+    writer: &mut W,
+    period: u32,
+    steps: u32,
+    from: Option<&str>,
+    observer: &mut O,
+) -> Result<u8, Fault>
+    requires steps { steps ≤ 100000 }
+    requires reads_fit { FewerThan (2 ^ 62) (I.calls reader.old) }
+    requires writes_fit { FewerThan (2 ^ 62) (W.calls writer.old) }
+    ensures { IfOk result (AnswersSolveSharp from.entry steps period
+        (over (I.remaining reader.old) (I.remaining reader.new)
+        (I.calls reader.old) (I.calls reader.new))
+        (over (W.contents writer.old) (W.contents writer.new)
+        (W.calls writer.old) (W.calls writer.new))) }
+{
+    let alloc = rt.alloc();
+    match from {
+        None => done(run_solve_sharp(alloc, reader, writer, period, steps, observer)),
+        Some(file) => {
+            let mut times = opened(rt, file)?;
+            done(run_solve_sharp_from(alloc, reader, &mut times, writer, period, steps, observer))
+        }
+    }
+}
+
 /// Does what is asked of the instance that the reader gives.
 pub(crate) fn of_instance<R: AllocGlobal + Eprint + Files + Clock, I: Source, W: Sink, E: Sink>(
     rt: &R,
@@ -102,6 +134,20 @@ pub(crate) fn of_instance<R: AllocGlobal + Eprint + Files + Clock, I: Source, W:
             let mut observer = Teller::new(rt);
             observer.begin();
             solve(rt, reader, writer, period, steps, from, &mut observer)
+        }
+        OfInstance::SolveSharp {
+            steps,
+            from,
+            progress: false,
+        } => solve_with_marks(rt, reader, writer, period, steps, from, &mut Nobody),
+        OfInstance::SolveSharp {
+            steps,
+            from,
+            progress: true,
+        } => {
+            let mut observer = Teller::new(rt);
+            observer.begin();
+            solve_with_marks(rt, reader, writer, period, steps, from, &mut observer)
         }
         OfInstance::Conflict { steps } => {
             let told = run_conflict(alloc, reader, writer, period, steps)?;

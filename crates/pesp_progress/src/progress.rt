@@ -2,6 +2,7 @@
 
 use pesp_board::Board;
 use pesp_search::{Observer, Part};
+use pesp_sharp_search::{SharpObserver, Standing};
 use std::fmt;
 use std::rt::Clock;
 use std::time::{Duration, Instant};
@@ -11,8 +12,8 @@ use std::time::{Duration, Instant};
 pub struct Progress {
     /// How many leaves were split.
     pub steps: u32,
-    /// How many leaves are open.
-    pub open: usize,
+    /// How many leaves are open, where that is known.
+    pub open: Option<usize>,
     /// No timetable costs less; None where there is none at all.
     pub bound: Option<u64>,
     /// The cost of the best timetable so far.
@@ -29,8 +30,23 @@ impl Progress {
         };
         Progress {
             steps,
-            open: board.open_leaves(),
+            open: Some(board.open_leaves()),
             bound,
+            cost,
+        }
+    }
+
+    /// How far a search is that sharpens.
+    fn of_standing(standing: Standing) -> Progress {
+        let Standing {
+            steps_used,
+            bound,
+            cost,
+        } = standing;
+        Progress {
+            steps: steps_used,
+            open: None,
+            bound: Some(bound.min(cost.unwrap_or(bound))),
             cost,
         }
     }
@@ -61,11 +77,12 @@ impl fmt::Display for Known {
 impl fmt::Display for Progress {
     fn fmt<W: fmt::Write>(&self, f: &mut fmt::Formatter<W>) -> fmt::Result {
         let Progress { steps, open, .. } = *self;
+        write!(f, "progress: steps {steps}")?;
+        if let Some(open) = open {
+            write!(f, ", open leaves {open}")?;
+        }
         let (bound, cost) = (Known(self.bound), Known(self.cost));
-        write!(
-            f,
-            "progress: steps {steps}, open leaves {open}, bound {bound}, cost {cost}"
-        )?;
+        write!(f, ", bound {bound}, cost {cost}")?;
         match self.gap() {
             None => Ok(()),
             Some(gap) => {
@@ -89,17 +106,25 @@ impl Milestones {
         Milestones { due: 0, cost: None }
     }
 
-    /// How far the search is, where this look is told.
-    pub fn passed(&mut self, steps: u32, board: &Board) -> Option<Progress> {
-        let cost = board.best();
+    /// Whether a look is told after so many steps, at which the best timetable costs so much.
+    fn is_told(&mut self, steps: u32, cost: Option<u64>) -> bool {
         if steps < self.due && cost == self.cost {
-            return None;
+            return false;
         }
         if steps >= self.due {
             self.due = steps.saturating_mul(2).max(1);
         }
         self.cost = cost;
-        Some(Progress::of(steps, board))
+        true
+    }
+
+    /// How far the search is, where this look is told.
+    pub fn passed(&mut self, steps: u32, board: &Board) -> Option<Progress> {
+        if self.is_told(steps, board.best()) {
+            Some(Progress::of(steps, board))
+        } else {
+            None
+        }
     }
 }
 
@@ -247,6 +272,16 @@ impl<R: Eprint + Clock> Observer for Teller<'_, R> {
             Some(progress) => self.tell(progress, now),
             None if self.is_due(now) => self.tell(Progress::of(steps_used, board), now),
             None => {}
+        }
+    }
+}
+
+impl<R: Eprint + Clock> SharpObserver for Teller<'_, R> {
+    fn stands(&mut self, standing: Standing) {
+        let now = Instant::now(self.rt).ok();
+        let told = self.milestones.is_told(standing.steps_used, standing.cost);
+        if told || self.is_due(now) {
+            self.tell(Progress::of_standing(standing), now);
         }
     }
 }

@@ -1,7 +1,7 @@
 -- What holds of what a command line asks for.
 use Rattle.std.specs.Prelude.{ℕ, ◌≤◌}
 use Rattle.pesp_request.specs.declared.request.OfInstance.{OfInstance}
-use Rattle.pesp_request.specs.declared.request.OfInstance.TheVariants.{Solve, Conflict}
+use Rattle.pesp_request.specs.declared.request.OfInstance.TheVariants.{Solve, SolveSharp, Conflict}
 use Rattle.pesp_request.specs.declared.request.OfCertificate.{OfCertificate}
 use Rattle.pesp_request.specs.declared.request.OfCertificate.TheVariants.{Check, CheckSharp, Gap, Resume, Split, Work}
 use Rattle.pesp_request.specs.declared.request.OfTimes.{OfTimes}
@@ -15,6 +15,7 @@ IsPeriod period = (1 ≤ period) × (period ≤ 10000)
 -- the numbers are within the limits of the runs
 abbrev pub InstanceWithin : OfInstance → Type 0
 InstanceWithin (Solve steps from progress) = steps ≤ 100000
+InstanceWithin (SolveSharp steps from progress) = steps ≤ 100000
 InstanceWithin (Conflict steps) = steps ≤ 100000
 
 abbrev pub CertificateWithin : OfCertificate → Type 0

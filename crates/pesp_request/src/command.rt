@@ -6,14 +6,14 @@ ghost use Rattle.pesp_request.specs.Requests.{InstanceWithin, CertificateWithin,
 use crate::options::{
     base_argument, file_argument, from_option, job_argument, names_argument, names_option,
     optional_file, period_option, progress_option, rows_option, seconds_option, sharp_option,
-    steps_option, violations_option,
+    sharpen_option, solve_steps_option, steps_option, violations_option,
 };
 use crate::request::{OfCertificate, OfInstance, OfTimes, Request};
 use clap::{ArgMatches, Command, Error};
 use std::alloc::{AllocError, Global};
 
 /// The program's version, and the versions of certificates that it writes and reads.
-const VERSION: &str = "0.1.0\ncertificates: versions 1 and 2; check --sharp reads version 3 too";
+const VERSION: &str = "0.1.0\ncertificates: versions 1 and 2; solve --sharp writes and check --sharp reads version 3 too";
 
 const INSTANCES: &str = "\
 An instance is one activity a line, with six fields between ';', tabs or ',':
@@ -64,7 +64,8 @@ fn solve_command<'a>(alloc: Global) -> Result<Command<'a>, AllocError> {
         .about("Reads an instance and writes a best timetable with its certificate")
         .after_help(INSTANCES)
         .arg(period_option(alloc))?
-        .arg(steps_option(alloc))?
+        .arg(solve_steps_option(alloc))?
+        .arg(sharpen_option(alloc))?
         .arg(from_option(alloc))?
         .arg(progress_option(alloc))?
         .arg(optional_file(alloc))
@@ -253,6 +254,13 @@ fn steps_of(matches: &ArgMatches<'_>) -> u32
     matches.get_one::<u32>("steps").unwrap_or(1000).min(100000)
 }
 
+/// The steps of a search that sharpens, each of which takes longer.
+fn sharp_steps_of(matches: &ArgMatches<'_>) -> u32
+    ensures { result ≤ 100000 }
+{
+    matches.get_one::<u32>("steps").unwrap_or(100).min(100000)
+}
+
 fn rows_of(matches: &ArgMatches<'_>) -> u32
     ensures least { 1 ≤ result }
     ensures most { result ≤ 1000 }
@@ -305,10 +313,20 @@ fn times_of<'a>(matches: &ArgMatches<'a>, asked: OfTimes<'a>) -> Request<'a>
 fn solve_of<'a>(matches: &ArgMatches<'a>) -> OfInstance<'a>
     ensures { InstanceWithin result }
 {
-    OfInstance::Solve {
-        steps: steps_of(matches),
-        from: matches.get_str("from"),
-        progress: matches.get_flag("progress"),
+    let from = matches.get_str("from");
+    let progress = matches.get_flag("progress");
+    if matches.get_flag("sharp") {
+        OfInstance::SolveSharp {
+            steps: sharp_steps_of(matches),
+            from,
+            progress,
+        }
+    } else {
+        OfInstance::Solve {
+            steps: steps_of(matches),
+            from,
+            progress,
+        }
     }
 }
 

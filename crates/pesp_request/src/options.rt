@@ -21,6 +21,25 @@ pub(crate) fn steps_option<'a>(alloc: Global) -> Arg<'a> {
         .help("How many leaves of the search are split at most, 0 to 100000")
 }
 
+pub(crate) fn solve_steps_option<'a>(alloc: Global) -> Arg<'a> {
+    Arg::new(alloc, "steps")
+        .long("steps")
+        .value_name("N")
+        .value_parser(value_parser!(u32).range(0..=100000))
+        .help(
+            "How many leaves of the search are split at most, 0 to 100000 [default: 1000, with --sharp 100]",
+        )
+}
+
+pub(crate) fn sharpen_option<'a>(alloc: Global) -> Arg<'a> {
+    Arg::new(alloc, "sharp")
+        .long("sharp")
+        .action(ArgAction::SetTrue)
+        .help(
+            "Sharpens the leaves by marked walks: better bounds within fewer steps, each of which takes longer; the certificate has version 3, which check --sharp takes",
+        )
+}
+
 pub(crate) fn from_option<'a>(alloc: Global) -> Arg<'a> {
     Arg::new(alloc, "from")
         .long("from")

@@ -40,6 +40,14 @@ pub enum OfInstance<'a> {
         /// Whether it is told on standard error how far the search is.
         progress: bool,
     },
+    /// The same with leaves that marked walks sharpen.
+    SolveSharp {
+        steps: u32,
+        /// The file with the times from which it begins, where there are some.
+        from: Option<&'a str>,
+        /// Whether it is told on standard error how far the search is.
+        progress: bool,
+    },
     /// Activities that have no timetable together, within searches of at most so many steps.
     Conflict {
         steps: u32,

@@ -117,6 +117,15 @@ fn tell_of_instance(
             from,
             progress,
         } => tell_solve(alloc, period, steps, from, progress, file),
+        OfInstance::SolveSharp {
+            steps,
+            from,
+            progress,
+        } => {
+            let mut told = tell_solve(alloc, period, steps, from, progress, file)?;
+            told.push_str(", with marked walks").ok()?;
+            Some(told)
+        }
         OfInstance::Conflict { steps } => tell_conflict(alloc, period, steps, file),
     }
 }

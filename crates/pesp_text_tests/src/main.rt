@@ -20,6 +20,7 @@ mod reports;
 mod resuming;
 mod runs;
 mod spellings;
+mod sharpened;
 mod statuses;
 mod streams;
 mod telling;

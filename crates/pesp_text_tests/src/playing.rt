@@ -12,6 +12,7 @@ use crate::reports::{ask_report, ask_times};
 use crate::resuming::{ask_gap, ask_resume, ask_resumed};
 use crate::runs::{ask_check, ask_progress, ask_run_report, ask_solve, ask_solved, ask_violations};
 use crate::spellings::{ask_lines, ask_number, ask_words};
+use crate::sharpened::ask_sharpened;
 use crate::statuses::{ask_program, ask_status};
 use crate::streams::{ask_bytes, ask_pages};
 use crate::works::ask_works;
@@ -24,6 +25,7 @@ use std::rt::{Clock, Files};
 enum Question {
     Solve,
     Solved,
+    Sharpened,
     Progress,
     Check,
     Report,
@@ -58,9 +60,10 @@ enum Question {
 }
 
 /// The first word of each question.
-const QUESTIONS: [(&str, Question); 33] = [
+const QUESTIONS: [(&str, Question); 34] = [
     ("solve", Question::Solve),
     ("solved", Question::Solved),
+    ("sharpened", Question::Sharpened),
     ("progress", Question::Progress),
     ("check", Question::Check),
     ("report", Question::Report),
@@ -166,6 +169,7 @@ fn answer_of(alloc: Global, lines: &[&str], word: &str, rest: &str) -> Option<St
     match look_up(&QUESTIONS, word)? {
         Question::Solve => ask_solve(alloc, lines, rest),
         Question::Solved => ask_solved(alloc, lines, rest),
+        Question::Sharpened => ask_sharpened(alloc, lines, rest),
         Question::Progress => ask_progress(alloc, lines, rest),
         Question::Check => ask_check(alloc, lines, rest),
         Question::Report => ask_run_report(alloc, lines),

@@ -1,0 +1,53 @@
+-- What is chosen between a plain answer and a proposal.
+use Rattle.std.proofs.Common.{◌≡◌, ℕ, ◌+◌, ◌≤◌, List, refl, arith, sym, subst}
+use Rattle.std.specs.Prelude.{Option, Some, None, IsSomeAnd, ◌↔◌}
+use Rattle.pesp_problem.specs.Timetables.{Pesp, IsTimetable, cost}
+use Rattle.pesp_truth.specs.declared.answer.Answer.{Answer}
+use Rattle.pesp_truth.specs.Certificates.{Content, lines_of, least_of, cost_of}
+use Rattle.pesp_machine.specs.States.{IsAtMost}
+use Rattle.pesp_sharp_text.specs.Texts.{Fronted}
+use Rattle.pesp_sharp_check.proofs.Fronts.{without_front}
+use Rattle.pesp_search_laws.specs.Rooms.{branch_lines}
+use Rattle.pesp_search.specs.Solving.{IsSolved, CostsNoMore}
+use Rattle.pesp_sharp_search.specs.Solving.{IsNoWorse, MayStand, IsSharpSolved}
+
+at_most_itself : (a : Option ℕ) → IsAtMost a a
+at_most_itself None = tt
+at_most_itself (Some a) = omega arith
+
+-- a plain answer may stand in its own place
+pub plain_stands : (p : Pesp) (content : Content) (steps : ℕ) (c : Fronted) → c ≡ record { front = None; content = content } → IsSolved p 0 0 content → MayStand p content.answer steps c
+plain_stands p content steps c is solved =
+    let count = solved.branches.lines in
+    let there : MayStand p content.answer steps (record { front = None; content = content }) = record {
+      valid = (without_front p content).0 solved.valid;
+      few = omega (arith, count);
+      no_worse = (at_most_itself (least_of content.answer), at_most_itself (cost_of content.answer));
+    } in
+    subst (MayStand p content.answer steps) (sym is) there
+
+pub sharp_solved : (p : Pesp) (content : Content) (steps used : ℕ) (c : Fronted) → IsSolved p 0 0 content → MayStand p content.answer steps c → used ≡ branch_lines (lines_of c.content) → IsSharpSolved p steps used c
+sharp_solved p content steps used c solved stands is =
+    let few = stands.few in
+    record {
+      valid = stands.valid;
+      branches = sym is;
+      few = omega (arith, few, is);
+      plain = (content, solved, stands.no_worse);
+    }
+
+below : (new old : Option ℕ) (most : ℕ) → IsAtMost new old → IsSomeAnd old (λ c. c ≤ most) → IsSomeAnd new (λ c. c ≤ most)
+below new None most h some = absurd some
+below None (Some b) most h some = absurd h
+below (Some a) (Some b) most h some = omega (arith, h, some)
+
+-- what costs no more than a plain answer costs no more than times that are no cheaper than that
+pub costs_no_more : (p : Pesp) (times : List ℕ) (plain content : Content) → IsNoWorse plain.answer content.answer → CostsNoMore p times plain → CostsNoMore p times content
+costs_no_more p times plain content h cheap is = below (cost_of content.answer) (cost_of plain.answer) (cost p.period p.rows times) h.1 (cheap is)
+
+-- a search within 0 steps has used none
+pub within_none : (p : Pesp) (used : ℕ) (content : Content) → IsSolved p 0 used content → IsSolved p 0 0 content
+within_none p used content solved =
+    let few = solved.few in
+    let none : used ≡ 0 = omega (arith, few) in
+    subst (λ (n : ℕ). IsSolved p 0 n content) none solved

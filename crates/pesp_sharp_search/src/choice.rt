@@ -1,0 +1,114 @@
+//! The choice between a plain answer and what is proposed in its place.
+
+ghost use Rattle.std.specs.Prelude.{◌≡◌, ◌≤◌, ◌↔◌, ℕ, List, IsTrue, IfOk, None};
+ghost use Rattle.pesp_truth.specs.Certificates.{lines_of};
+ghost use Rattle.pesp_sharp_truth.specs.Certificates.{IsValidWith};
+ghost use Rattle.pesp_sharp_text.specs.Texts.{content_of};
+ghost use Rattle.pesp_search_laws.specs.Rooms.{branch_lines};
+ghost use Rattle.pesp_search.specs.Solving.{IsSolved, CostsNoMore};
+ghost use Rattle.pesp_sharp_search.specs.Solving.{MayStand, IsSharpSolved};
+
+use crate::branches::count_branches;
+use crate::ranks::is_no_worse;
+use pesp_cert::Certificate;
+use pesp_check::Verdict;
+use pesp_problem::{Instance, Memory};
+use pesp_sharp_check::check_sharp;
+use pesp_sharp_text::Fronted;
+use std::alloc::Global;
+
+/// What is known of an instance, and how many branches the tree has that shows it.
+#[derive(Debug, Drop)]
+pub struct SharpSolved {
+    pub fronted: Fronted,
+    pub steps_used: u32,
+}
+
+/// How many branches the tree of a certificate has.
+fn branches_of(certificate: &Certificate) -> u32
+    ensures { result ≡ branch_lines (lines_of certificate.now) }
+{
+    count_branches(certificate.tree())
+}
+
+/// Whether the checker accepts a certificate.
+fn is_accepted(alloc: Global, instance: &Instance, fronted: &Fronted) -> Result<bool, Memory>
+    ensures { IfOk result (λ accepted. IsTrue accepted ↔ IsValidWith instance.now (content_of fronted.now)) }
+{
+    match check_sharp(alloc, instance, fronted)? {
+        Verdict::Accepted => Ok(true),
+        Verdict::Refused(_) => Ok(false),
+    }
+}
+
+/// Whether a proposal may stand in the place of a plain answer: it is no worse, its tree has at most so many branches, and the
+/// checker accepts it.
+fn may_stand(
+    alloc: Global,
+    instance: &Instance,
+    plain: &Certificate,
+    proposal: &Fronted,
+    steps: u32,
+) -> Result<bool, Memory>
+    ensures { IfOk result
+        (λ may. IsTrue may ↔ MayStand instance.now plain.now.answer steps proposal.now) }
+{
+    let certificate = &proposal.certificate;
+    if !is_no_worse(plain.answer(), certificate.answer()) || branches_of(certificate) > steps {
+        return Ok(false);
+    }
+    is_accepted(alloc, instance, proposal)
+}
+
+/// An answer without a front.
+fn without_front(plain: Certificate) -> Fronted
+    ensures { result ≡ record { front = None; content = plain } }
+{
+    Fronted {
+        front: None,
+        certificate: plain,
+    }
+}
+
+/// The proposal, where there is one and it may stand in the place of a plain answer, else that.
+fn chosen(
+    alloc: Global,
+    instance: &Instance,
+    plain: Certificate,
+    proposal: Option<Fronted>,
+    steps: u32,
+) -> Result<Fronted, Memory>
+    requires { IsSolved instance.now 0 0 plain }
+    ensures { IfOk result (MayStand instance.now plain.answer steps) }
+{
+    let Some(proposal) = proposal else {
+        return Ok(without_front(plain));
+    };
+    if may_stand(alloc, instance, &plain, &proposal, steps)? {
+        Ok(proposal)
+    } else {
+        Ok(without_front(plain))
+    }
+}
+
+/// What is answered where a plain answer stands and this is proposed in its place.
+pub(crate) fn settled(
+    alloc: Global,
+    instance: &Instance,
+    plain: Certificate,
+    proposal: Option<Fronted>,
+    steps: u32,
+) -> Result<SharpSolved, Memory>
+    requires { IsSolved instance.now 0 0 plain }
+    ensures solved { IfOk result
+        (λ sharp. IsSharpSolved instance.now steps sharp.steps_used sharp.fronted) }
+    ensures improved { (times : List ℕ) → CostsNoMore instance.now times plain
+        → IfOk result (λ sharp. CostsNoMore instance.now times sharp.fronted.content) }
+{
+    let fronted = chosen(alloc, instance, plain, proposal, steps)?;
+    let steps_used = branches_of(&fronted.certificate);
+    Ok(SharpSolved {
+        fronted,
+        steps_used,
+    })
+}

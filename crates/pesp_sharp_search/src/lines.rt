@@ -1,0 +1,113 @@
+//! The lines of a tree with a certificate's numbers: cycles from 1, and marked walks on from them.
+
+use pesp_problem::{Memory, Pair, Pairs};
+use pesp_sharpening::{Leaf, Line};
+use pesp_truth::TreeLine;
+use std::alloc::Global;
+
+/// How a certificate numbers what a tree names.
+#[derive(Clone, Copy)]
+pub(crate) struct Numbers<'a> {
+    /// How many cycles there are.
+    pub(crate) cycles: u32,
+    /// How many marked walks the tree names; the walk that only gives leaves the scale comes behind them.
+    pub(crate) walks: u32,
+    /// By how much the offset of each cycle is above the one that the tree speaks of.
+    pub(crate) shifts: &'a [i64],
+}
+
+/// Whether a leaf names a marked walk under a multiplier.
+fn names_walk(leaf: &Leaf) -> bool {
+    leaf.walks.iter().any(|walk| walk.1 > 0)
+}
+
+/// Whether a line is a leaf that has to have the scale, though it names no marked walk.
+fn wants_scale(line: &Line) -> bool {
+    match line {
+        Line::Bound(leaf) => !leaf.pairs.is_empty() && !names_walk(leaf),
+        _ => false,
+    }
+}
+
+/// Whether some leaf has to have the scale, though it names no marked walk.
+pub(crate) fn some_wants_scale(lines: &[Line]) -> bool {
+    lines.iter().any(|line| wants_scale(line))
+}
+
+/// Adds pairs under the numbers behind this one.
+fn add_pairs(pairs: &mut Vec<Pair>, behind: u32, named: &[(u32, i64)]) -> Result<(), Memory> {
+    for pair in named {
+        pairs.push(Pair {
+            cycle: behind.saturating_add(pair.0).saturating_add(1),
+            mult: pair.1,
+        })?;
+    }
+    Ok(())
+}
+
+/// Pairs in rising order, each number once and under no multiplier 0.
+fn joined(alloc: Global, mut pairs: Vec<Pair>) -> Result<Pairs, Memory> {
+    pairs.sort_unstable_by_key(|pair| pair.cycle);
+    let mut rising: Vec<Pair> = Vec::new(alloc);
+    for pair in &pairs {
+        let is_there = rising.last().is_some_and(|last| last.cycle == pair.cycle);
+        if pair.mult != 0 && !is_there {
+            rising.push(*pair)?;
+        }
+    }
+    Ok(Pairs::new(rising))
+}
+
+/// The pairs of a leaf.
+fn pairs_of(alloc: Global, numbers: Numbers<'_>, leaf: &Leaf) -> Result<Vec<Pair>, Memory> {
+    let mut pairs = Vec::new(alloc);
+    add_pairs(&mut pairs, 0, &leaf.pairs)?;
+    add_pairs(&mut pairs, numbers.cycles, &leaf.walks)?;
+    Ok(pairs)
+}
+
+/// The pairs of a bound leaf.
+fn bound_pairs(alloc: Global, numbers: Numbers<'_>, line: &Line, leaf: &Leaf) -> Result<Pairs, Memory> {
+    let mut pairs = pairs_of(alloc, numbers, leaf)?;
+    if wants_scale(line) {
+        add_pairs(&mut pairs, numbers.cycles, &[(numbers.walks, 1)])?;
+    }
+    joined(alloc, pairs)
+}
+
+/// The offset of a cycle that is as far as this one of the tree.
+fn shifted(numbers: Numbers<'_>, cycle: u32, most: i64) -> i64 {
+    match numbers.shifts.get(cycle as usize) {
+        Some(shift) => most.wrapping_add(*shift),
+        None => most,
+    }
+}
+
+/// A line of the tree.
+fn line_of(alloc: Global, numbers: Numbers<'_>, line: &Line) -> Result<TreeLine, Memory> {
+    match line {
+        Line::Branch { cycle, most } => Ok(TreeLine::Offset {
+            cycle: cycle.saturating_add(1),
+            k: shifted(numbers, *cycle, *most),
+        }),
+        Line::Bound(leaf) => Ok(TreeLine::Bound(bound_pairs(alloc, numbers, line, leaf)?)),
+        Line::Nothing(leaf) => {
+            let pairs = pairs_of(alloc, numbers, leaf)?;
+            Ok(TreeLine::Nothing(joined(alloc, pairs)?))
+        }
+        Line::Gap { cycle } => Ok(TreeLine::Gap(cycle.saturating_add(1))),
+    }
+}
+
+/// The lines of the tree.
+pub(crate) fn lines_of(
+    alloc: Global,
+    numbers: Numbers<'_>,
+    lines: &[Line],
+) -> Result<Vec<TreeLine>, Memory> {
+    let mut tree = Vec::new(alloc);
+    for line in lines {
+        tree.push(line_of(alloc, numbers, line)?)?;
+    }
+    Ok(tree)
+}

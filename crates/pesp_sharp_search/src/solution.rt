@@ -1,0 +1,71 @@
+//! Solutions with marked walks.
+
+ghost use Rattle.std.specs.Prelude.{◌≤◌, IfOk, IfErr};
+ghost use Rattle.pesp_search.specs.Solving.{CostsNoMore, IsSearchRefusal};
+ghost use Rattle.pesp_sharp_search.specs.Solving.{IsSharpSolved};
+
+use crate::best::{is_open, shown_by};
+use crate::choice::{SharpSolved, settled};
+use crate::observer::SharpObserver;
+use crate::proposal::proposal_of;
+use crate::search::SharpSearch;
+use pesp_cert::Certificate;
+use pesp_problem::{Instance, Memory};
+use pesp_reduce::Reduced;
+use pesp_search::{FirstLook, SolveRefusal, look_first};
+use pesp_sharp_text::Fronted;
+use pesp_times::TimesSearch;
+use std::alloc::Global;
+
+/// What a search that sharpens proposes in the place of an answer, where that is open.
+fn proposed<O: SharpObserver>(
+    alloc: Global,
+    instance: &Instance,
+    plain: &Certificate,
+    reduced: Reduced,
+    times: Option<TimesSearch>,
+    steps: u32,
+    observer: &mut O,
+) -> Result<Option<Fronted>, Memory> {
+    if !is_open(plain.answer()) {
+        return Ok(None);
+    }
+    let best = shown_by(alloc, instance, plain)?;
+    let mut search = SharpSearch::new(alloc, reduced, times, best)?;
+    search.run(alloc, instance, steps, observer)?;
+    proposal_of(alloc, instance, &search)
+}
+
+/// Searches for a best timetable by at most so many splits of a leaf, with leaves that marked walks sharpen, from times that are
+/// given: one for each event of the instance, in the instance's order, from 0 to one less than the period. An observer looks
+/// on.
+///
+/// The certificate is valid for the instance with its marked walks. Its tree has as many branches as splits are told, at most
+/// so many. Its bound isn't below, and its cost isn't above, what `solve_from` has for some forest within 0 steps. Where the
+/// times are a timetable of the instance, the answer has a cost, at most theirs.
+///
+/// Refused as `TableTooLarge` or `PairsTooMany` only where the square of the number of activities is above 10000000, or that
+/// number above 20000000, and else as `Memory`, where a growth was refused.
+pub fn solve_sharp<O: SharpObserver>(
+    alloc: Global,
+    instance: &Instance,
+    times: &[u32],
+    steps: u32,
+    observer: &mut O,
+) -> Result<SharpSolved, SolveRefusal>
+    requires { steps ≤ 100000 }
+    ensures solved { IfOk result
+        (λ sharp. IsSharpSolved instance.now steps sharp.steps_used sharp.fronted) }
+    ensures improved { IfOk result (λ sharp. CostsNoMore instance.now times.now sharp.fronted.content) }
+    ensures refused { IfErr result (IsSearchRefusal instance.now 0) }
+{
+    let FirstLook {
+        solved,
+        reduced,
+        times: search,
+    } = look_first(alloc, instance, times, observer)?;
+    let plain = solved.certificate;
+    let proposal = proposed(alloc, instance, &plain, reduced, search, steps, observer)?;
+    let sharp = settled(alloc, instance, plain, proposal, steps)?;
+    Ok(sharp)
+}

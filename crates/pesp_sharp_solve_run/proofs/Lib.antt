@@ -1,0 +1,2 @@
+mod Solutions
+pub mod Joining

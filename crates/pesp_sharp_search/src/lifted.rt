@@ -70,11 +70,7 @@ pub(crate) fn lifted_of(
 
 /// A number, or less it.
 fn signed(plus: bool, number: i64) -> i64 {
-    if plus {
-        number
-    } else {
-        number.wrapping_neg()
-    }
+    if plus { number } else { number.wrapping_neg() }
 }
 
 /// The sum of the lower bounds along passes of what is left.

@@ -67,7 +67,12 @@ fn pairs_of(alloc: Global, numbers: Numbers<'_>, leaf: &Leaf) -> Result<Vec<Pair
 }
 
 /// The pairs of a bound leaf.
-fn bound_pairs(alloc: Global, numbers: Numbers<'_>, line: &Line, leaf: &Leaf) -> Result<Pairs, Memory> {
+fn bound_pairs(
+    alloc: Global,
+    numbers: Numbers<'_>,
+    line: &Line,
+    leaf: &Leaf,
+) -> Result<Pairs, Memory> {
     let mut pairs = pairs_of(alloc, numbers, leaf)?;
     if wants_scale(line) {
         add_pairs(&mut pairs, numbers.cycles, &[(numbers.walks, 1)])?;

@@ -63,8 +63,8 @@ fn tree_of(
 ) -> Result<Vec<TreeLine>, Memory> {
     let shifts = offset_shifts(alloc, instance, reduced, &sharpened.cycles, cycles)?;
     let numbers = Numbers {
-        cycles: cycles.len() as u32,
-        walks: sharpened.walks.len() as u32,
+        cycles: u32::try_from(cycles.len()).unwrap_or(u32::MAX),
+        walks: u32::try_from(sharpened.walks.len()).unwrap_or(u32::MAX),
         shifts: &shifts,
     };
     lines_of(alloc, numbers, &sharpened.lines)

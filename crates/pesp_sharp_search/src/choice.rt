@@ -11,7 +11,7 @@ ghost use Rattle.pesp_sharp_search.specs.Solving.{MayStand, IsSharpSolved};
 use crate::branches::count_branches;
 use crate::ranks::is_no_worse;
 use pesp_cert::Certificate;
-use pesp_check::Verdict;
+use pesp_judges::Verdict;
 use pesp_problem::{Instance, Memory};
 use pesp_sharp_check::check_sharp;
 use pesp_sharp_text::Fronted;

@@ -1,6 +1,6 @@
 //! Open leaves, as they are kept until they are split.
 
-use crate::branch::{Branch, Side};
+use crate::branch::Branch;
 use crate::cycles::Range;
 use crate::pool::Pool;
 use crate::relaxation::{NO_MULTIPLIER, Origin, Relaxation};

@@ -14,8 +14,8 @@ const NEAR: i64 = UNIT / 1000;
 /// How many cuts are tried.
 const MOST_TRIED: usize = 8;
 
-/// A cut of the offsets that are left to a cycle: by what fraction, in 1/65536, the offset at the point is above the lower part,
-/// how many offsets there are beyond the least one, and how well it is thought of.
+/// A cut of the offsets that are left to a cycle: by what fraction, in 1/65536, the offset at the point is above the lower
+/// part, how many offsets there are beyond the least one, and how well it is thought of.
 #[derive(Clone, Copy)]
 pub(crate) struct Candidate {
     pub(crate) cut: Cut,

@@ -10,9 +10,9 @@ pub struct Leaf {
     pub walks: Vec<(u32, i64)>,
 }
 
-/// A line of a tree. A branch cuts the offsets of a cycle, numbered from 0, into those up to `most` and those above; a bound leaf
-/// shows a cost; a nothing leaf shows, with the weights taken as 0, that no timetable is there; and at a gap a cycle has no
-/// offset.
+/// A line of a tree. A branch cuts the offsets of a cycle, numbered from 0, into those up to `most` and those above; a
+/// bound leaf shows a cost; a nothing leaf shows, with the weights taken as 0, that no timetable is there; and at a gap a
+/// cycle has no offset.
 #[derive(Debug, Drop)]
 pub enum Line {
     Branch { cycle: u32, most: i64 },

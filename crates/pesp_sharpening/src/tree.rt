@@ -20,7 +20,8 @@ const MOST_PASSES: usize = 5_000_000;
 /// How many inequalities are found for both parts of a leaf at most.
 const MOST_NEW: usize = 400;
 
-/// A place of the tree: a cut, with the places of its parts; a leaf, with the cost that it shows; or a cycle without an offset.
+/// A place of the tree: a cut, with the places of its parts; a leaf, with the cost that it shows; or a cycle without an
+/// offset.
 #[derive(Drop)]
 pub(crate) enum Knot {
     Split { cut: Cut, low: u32, high: u32 },
@@ -125,8 +126,8 @@ impl Tree {
         }
     }
 
-    /// Whether the leaf at a place, whose node has so many inequalities, may be split without passing what a certificate has at
-    /// most.
+    /// Whether the leaf at a place, whose node has so many inequalities, may be split without passing what a certificate
+    /// has at most.
     pub(crate) fn has_room(&self, pool: &Pool, place: u32, count: usize) -> bool {
         let more_pairs = count.saturating_mul(2).saturating_add(MOST_NEW);
         let untold = count.saturating_sub(self.walks_at(place));

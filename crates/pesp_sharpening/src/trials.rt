@@ -23,8 +23,8 @@ struct Trial<'a> {
 }
 
 impl Trial<'_> {
-    /// What a part gains in a few steps, in 1/2^20: by an estimate whose error is of second order, since the value itself grows
-    /// too late.
+    /// What a part gains in a few steps, in 1/2^20: by an estimate whose error is of second order, since the value itself
+    /// grows too late.
     fn gain(
         &self,
         alloc: Global,

@@ -13,7 +13,8 @@ use clap::{ArgMatches, Command, Error};
 use std::alloc::{AllocError, Global};
 
 /// The program's version, and the versions of certificates that it writes and reads.
-const VERSION: &str = "0.1.0\ncertificates: versions 1 and 2; solve --sharp writes and check --sharp reads version 3 too";
+const VERSION: &str =
+    "0.1.0\ncertificates: versions 1 and 2; solve --sharp writes and check --sharp reads version 3 too";
 
 const INSTANCES: &str = "\
 An instance is one activity a line, with six fields between ';', tabs or ',':

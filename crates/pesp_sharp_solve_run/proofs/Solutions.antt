@@ -1,8 +1,12 @@
 -- What is written of a search.
-use Rattle.std.proofs.Common.{ℕ, List}
+use Rattle.std.proofs.Common.{◌≡◌, ℕ, List, refl, sym, subst}
+use Rattle.std.specs.Prelude.{Option, IfSome}
 use Rattle.pesp_problem.specs.Timetables.{Pesp}
 use Rattle.pesp_truth.specs.Truth.{IsTrueAnswer}
-use Rattle.pesp_truth.specs.Certificates.{shown_times}
+use Rattle.pesp_truth.specs.Certificates.{Content, shown_times}
+use Rattle.pesp_cert.specs.Texts.{HasText}
+use Rattle.pesp_sharp_truth.specs.Marks.{Marks}
+use Rattle.pesp_sharp_text.specs.Limits.{KeepsLimits}
 use Rattle.pesp_sharp_text.specs.Texts.{Fronted, IsFrontedText, fronted_text}
 use Rattle.pesp_search.specs.Solving.{CostsNoMore}
 use Rattle.pesp_sharp_search.specs.Solving.{IsSharpSolved}
@@ -20,3 +24,9 @@ solution {certificate = certificate} solved improved is_true has_text gets = rec
   has_text = has_text;
   written = gets;
 }
+
+-- a certificate whose parts have texts has one
+pub has_text_of : (c : Fronted) (front : Option Marks) (content : Content) → c ≡ record { front = front; content = content } → IfSome front KeepsLimits → HasText content → IsFrontedText (fronted_text c) c
+has_text_of c front content is keeps has =
+    let there : IsFrontedText (fronted_text (record { front = front; content = content })) (record { front = front; content = content }) = record { front = keeps; content = has; spelt = refl } in
+    subst (λ (x : Fronted). IsFrontedText (fronted_text x) x) (sym is) there

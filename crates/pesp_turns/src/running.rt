@@ -6,6 +6,7 @@ ghost use Rattle.pesp_search_laws.specs.Turns.{IsWorked};
 ghost use Rattle.pesp_turns.specs.Settling.{IsSearched};
 ghost use Rattle.pesp_turns.specs.Growing.{Grows};
 ghost use Rattle.pesp_turns.specs.Counting.{AreTurns};
+ghost use Rattle.pesp_turns.specs.Endings.{AreLentSettled, EndsAs};
 
 use crate::ending::{Ended, Ending};
 use crate::known::Known;
@@ -35,6 +36,8 @@ pub(crate) fn run_turns<O: Observer>(
     ensures counted { IsSearched board.old.problem known.now.reduced
         → IsWorked board.old.problem 0 board.old.state → IfOk result (λ ended.
         AreTurns board.old.problem steps board.old.state ended.used ended.ending board.new.state) }
+    ensures ends { AreLentSettled board.old.problem board.old.state → IfOk result (λ ended.
+        EndsAs board.old.problem steps board.old.state ended.used ended.ending board.new.state) }
 {
     board.problem().keeps_limits();
     let mut used = 0;

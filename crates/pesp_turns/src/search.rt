@@ -6,6 +6,7 @@ ghost use Rattle.pesp_search_laws.specs.Turns.{IsWorked};
 ghost use Rattle.pesp_turns.specs.Settling.{IsSearched};
 ghost use Rattle.pesp_turns.specs.Growing.{Grows};
 ghost use Rattle.pesp_turns.specs.Counting.{AreTurns};
+ghost use Rattle.pesp_turns.specs.Endings.{AreLentSettled, EndsAs};
 
 use crate::ending::Ended;
 use crate::known::{Known, known_of};
@@ -79,6 +80,9 @@ impl Search {
         ensures counted { IsSearched self.old.board.problem self.old.known.reduced
             → IsWorked self.old.board.problem 0 self.old.board.state → IfOk result
             (λ ended. AreTurns self.old.board.problem steps self.old.board.state ended.used
+            ended.ending self.new.board.state) }
+        ensures ends { AreLentSettled self.old.board.problem self.old.board.state → IfOk result
+            (λ ended. EndsAs self.old.board.problem steps self.old.board.state ended.used
             ended.ending self.new.board.state) }
     {
         let Search {

@@ -1,11 +1,13 @@
 -- A lent leaf at whose node nothing is left to cut: the least slacks come from times, which cost no more than the leaf is worth.
-use Rattle.std.proofs.Common.{◌≡◌, ℕ, ◌+◌, ◌-◌, ◌<◌, ◌≤◌, refl, Bool, true, ◌⊎◌, inl, inr, List, [], ◌∷◌, ◌++◌, length, length-append, get_or, ap, arith, sym, ◌∙◌, subst}
-use Rattle.std.specs.Prelude.{ℤ, pos, ◌≤ℤ◌, All, slice_index, Option, Some, IsSomeAnd}
+use Rattle.std.proofs.Common.{◌≡◌, ℕ, ◌+◌, ◌-◌, ◌<◌, ◌≤◌, refl, Bool, true, false, ◌⊎◌, inl, inr, List, [], ◌∷◌, ◌++◌, length, length-append, ap, arith, sym, ◌∙◌, subst}
+use Rattle.std.specs.Prelude.{ℤ, pos, ◌≤ℤ◌, All, slice_index, Option, Some, None, option_map, nat_le, IsSomeAnd}
+use Rattle.std.proofs.lemmas.Int.{ints}
+use Rattle.std.proofs.lemmas.Bool.{leb-false}
 use Rattle.std.proofs.lemmas.List.{get_or_append_left}
 use Rattle.std.proofs.Math.Seq.{get_or-append_seam}
 use Rattle.pesp_problem.specs.declared.row.SignedRow.{SignedRow}
 use Rattle.pesp_problem.specs.declared.pair.Pair.{Pair}
-use Rattle.pesp_problem.specs.Timetables.{IsTimetable, cost}
+use Rattle.pesp_problem.specs.Timetables.{cost}
 use Rattle.pesp_problem.specs.Arcs.{Net, arc_at, arcs_of, net_of as instance_net, slacks_at}
 use Rattle.pesp_problem.specs.NetTimetables.{IsNetTimetable, net_cost}
 use Rattle.pesp_problem.specs.Walks.{HasWholeOffset}
@@ -16,7 +18,12 @@ use Rattle.pesp_network.specs.declared.row.NetRow.{NetRow}
 use Rattle.pesp_network.specs.Networks.{NetworkValue, HasOpenRow, KeepsNetLimits, net_of_network, net_row_at, no_net_row}
 use Rattle.pesp_nodes.specs.Problems.{ProblemValue, net_of, IsSmallTable}
 use Rattle.pesp_machine.specs.declared.job.Job.{Job}
-use Rattle.pesp_machine.specs.States.{State, node_at, value_at}
+use Rattle.pesp_problem.specs.declared.cut.Cut.{Cut}
+use Rattle.pesp_problem.specs.declared.cut.Side.{Side}
+use Rattle.pesp_machine.specs.Leaves.{told}
+use Rattle.pesp_machine.specs.States.{State, HasLeaf, IsJobLeaf, node_at, value_at, best_cost}
+use Rattle.pesp_machine.specs.Reached.{IsOrderly}
+use Rattle.pesp_machine.proofs.Costs.{costs_are_small, told_alike}
 use Rattle.pesp_machine.specs.Events.{LendsLeaf, Offers, Recalls}
 use Rattle.pesp_reduce.specs.Reductions.{ReducedValue, origin_place}
 use Rattle.pesp_search_laws.specs.Settled.{low_slack}
@@ -26,7 +33,10 @@ use Rattle.pesp_search_laws.proofs.Ends.{same_net}
 use Rattle.pesp_search_laws.proofs.Sizes.{leaf_pairs}
 use Rattle.pesp_search_laws.proofs.Turns.{settles}
 use Rattle.pesp_search_laws.specs.Lifted.{AreSlacksOf, AreWithin, weighted}
+use Rattle.pesp_search_laws.proofs.Replies.{lent_leaf}
 use Rattle.pesp_turns.specs.Settling.{Settles, HaveLeastSlacks}
+use Rattle.pesp_turns.specs.Turning.{IsReached, OffersInVain}
+use Rattle.pesp_machine.proofs.OneSize.{same_path, same_pairs}
 use Rattle.pesp_turns.proofs.Leasts.{AreBelowTo, none_below, more_below}
 use Rattle.pesp_search_laws.proofs.Slacks.{origin_inside, offsets_come_back, timetable_again, costs_no_more}
 use Rattle.pesp_search_laws.proofs.Tables.{any_default}
@@ -75,6 +85,69 @@ settled_turn p r node lifted used before mid after new job kept back limits smal
     let worth = worth_it p r node lifted pairs s t (λ i d m. (keep.each i d m).names) in
     let there : IsSomeAnd (value_at p job.path.items pairs) (λ v. pos (net_cost (net_of p) lifted) ≤ℤ v) = subst (λ (x : Node). IsSomeAnd (leaf_value (net_of p) p.table x pairs true) (λ v. pos (net_cost (net_of p) lifted) ≤ℤ v)) at worth in
     settles p used before mid after new job lifted kept back limits small w l (lifted_timetable p r node lifted s t) there o c
+
+-- a number is lent with one leaf, which has one value
+same_worth : (p : ProblemValue) (state : State) (number value other : ℕ) (pairs others : List Pair) → IsJobLeaf p state number value pairs → IsJobLeaf p state number other others → value ≡ other
+same_worth p state number value other pairs others a b =
+    let at = same_path state number a.path b.path pairs others a.leaf b.leaf in
+    let of = same_pairs state number a.path b.path pairs others a.leaf b.leaf in
+    let same : Some value ≡ Some other = sym a.worth ∙ ap (λ (q : List (Cut × Side)). option_map told (value_at p q pairs)) at ∙ ap (λ (x : List Pair). option_map told (value_at p b.path x)) of ∙ b.worth in
+    cc
+
+-- a leaf that is worth less than the best times cost isn't reached
+pub not_reached : (p : ProblemValue) (state : State) (number cost value : ℕ) (pairs : List Pair) → best_cost p state ≡ Some cost → IsJobLeaf p state number value pairs → (cost ≤ value → ⊥) → IsReached p state number → ⊥
+not_reached p state number cost value pairs best leaf more r =
+    let same : cost ≡ r.cost = some_same (sym best ∙ r.best) in
+    let worth = same_worth p state number value r.value pairs r.pairs leaf r.leaf in
+    let reached = r.reached in
+    more (omega (arith, same, worth, reached))
+  where
+    some_same : {a b : ℕ} → Some a ≡ Some b → a ≡ b
+    some_same e = cc
+
+pub not_at_most : (a b : ℕ) → nat_le a b ≡ false → a ≤ b → ⊥
+not_at_most a b more l = (let less = leb-false a b more in absurd (omega (arith, less, l)))
+
+-- the best cost once times were offered
+best_after : (p : ProblemValue) (mid new : State) (times : List ℕ) (kept : Bool) → IsNetTimetable (net_of p) p.network.events times → Offers p mid times kept new → (cost : ℕ) × (best_cost p new ≡ Some cost) × (cost ≤ net_cost (net_of p) times)
+best_after p mid new times true timetable o = (net_cost (net_of p) times, ap (best_cost p) o.1, omega arith)
+best_after p mid new times false timetable o =
+    by_cost (best_cost p mid) refl
+  where
+    not_less : (a b : ℕ) → (b < a → ⊥) → a ≤ b
+    not_less a b not = grind arith
+
+    by_cost : (best : Option ℕ) → best_cost p mid ≡ best → (cost : ℕ) × (best_cost p new ≡ Some cost) × (cost ≤ net_cost (net_of p) times)
+    by_cost None e = absurd (o.0 (timetable, rw e tt))
+    by_cost (Some b) e = (b, ap (best_cost p) o.1 ∙ e, not_less b (net_cost (net_of p) times) (λ less. o.0 (timetable, rw e less)))
+
+offered_tree_numbers : (p : ProblemValue) (mid new : State) (times : List ℕ) (kept : Bool) (number : ℕ) (path : List (Cut × Side)) (pairs : List Pair) → Offers p mid times kept new → HasLeaf mid number path pairs → HasLeaf new number path pairs
+offered_tree_numbers p mid new times true number path pairs o l = subst (λ (s : State). HasLeaf s number path pairs) (sym o.1) l
+offered_tree_numbers p mid new times false number path pairs o l = subst (λ (s : State). HasLeaf s number path pairs) (sym o.1) l
+
+-- and the times of a node that settles always close its leaf
+pub never_in_vain : (p : ProblemValue) (r : ReducedValue) (before mid new : State) (job : Job) → KeepsNetLimits p.network → IsOrderly p before → Settles p r (node_at p job.path.items) → LendsLeaf p before job mid → OffersInVain p r (node_at p job.path.items) mid job.number new → ⊥
+never_in_vain p r before mid new job limits orderly s l vain =
+    let path = job.path.items in
+    let pairs = l.opens.pairs in
+    let x = vain.offers in
+    let t = x.least s in
+    let keep = leaf_pairs p before path pairs orderly l.opens.leaf in
+    let worth = worth_it p r (node_at p path) x.times pairs s t (λ i d m. (keep.each i d m).names) in
+    let after = best_after p mid new x.times x.kept (lifted_timetable p r (node_at p path) x.times s t) x.offers in
+    let small = costs_are_small p.network x.times limits in
+    let leaf = offered_tree_numbers p mid new x.times x.kept job.number path pairs x.offers (lent_leaf p before mid job l) in
+    by_value after small leaf (value_at p path pairs) refl worth
+  where
+    by_value : (after : (cost : ℕ) × (best_cost p new ≡ Some cost) × (cost ≤ net_cost (net_of p) vain.offers.times)) → net_cost (net_of p) vain.offers.times ≤ 999900000000000000 → HasLeaf new job.number job.path.items l.opens.pairs → (value : Option ℤ) → value_at p job.path.items l.opens.pairs ≡ value → IsSomeAnd value (λ v. pos (net_cost (net_of p) vain.offers.times) ≤ℤ v) → ⊥
+    by_value after small leaf None e worth = absurd worth
+    by_value after small leaf (Some v) e worth =
+        let most = after.2 in
+        let under : pos (net_cost (net_of p) vain.offers.times) ≤ℤ v = worth in
+        let some : pos 0 ≤ℤ v = omega (arith, ints, under) in
+        let here : pos after.0 ≤ℤ v = omega (arith, ints, under, most) in
+        let told_so : after.0 ≤ told v = (told_alike v after.0 some (omega (arith, most, small))).0 here in
+        vain.unreached (record { cost = after.0; best = after.1; value = told v; pairs = l.opens.pairs; leaf = record { path = job.path.items; leaf = leaf; worth = ap (option_map told) e }; reached = told_so })
 
 -- the slacks of the first n rows that are left
 pub record AreSlacksTo (r : ReducedValue) (slacks : ℕ → ℕ) (left : List ℕ) (n : ℕ) : Type 0 where

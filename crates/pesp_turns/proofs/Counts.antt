@@ -1,5 +1,5 @@
 -- Turns on a board that was worked on by turns alone: how far its tree has come, and how many numbers are spent.
-use Rattle.std.proofs.Common.{◌≡◌, ◌≢◌, ℕ, ◌+◌, ◌*◌, ◌<◌, ◌≤◌, ◌⊎◌, inl, inr, Bool, true, false, List, length, refl, ap, arith, sym, ◌∙◌, subst}
+use Rattle.std.proofs.Common.{◌≡◌, ◌≢◌, ℕ, ◌+◌, ◌*◌, ◌<◌, ◌≤◌, inl, inr, Bool, true, false, List, length, refl, ap, arith, sym, ◌∙◌, subst}
 use Rattle.std.specs.Prelude.{Some, Ok}
 use Rattle.std.proofs.Math.Nat.{mul-le-mul_right}
 use Rattle.pesp_problem.specs.declared.cut.Cut.{Cut}
@@ -7,7 +7,6 @@ use Rattle.pesp_problem.specs.declared.cut.Side.{Side}
 use Rattle.pesp_network.specs.Networks.{KeepsNetLimits}
 use Rattle.pesp_truth.specs.Trees.{Bound}
 use Rattle.pesp_nodes.specs.Problems.{ProblemValue, net_of, IsSmallTable}
-use Rattle.pesp_machine.specs.declared.job.Job.{Job}
 use Rattle.pesp_machine.specs.declared.work.Work.TheVariants as works
 use Rattle.pesp_machine.specs.States.{State, IsOpen, root_of, node_at}
 use Rattle.pesp_machine.specs.Events.{Lend}
@@ -25,10 +24,10 @@ use Rattle.pesp_turns.specs.declared.ending.Ending.TheVariants.{StepsUsed, NoneO
 use Rattle.pesp_turns.specs.declared.turning.Turn.{Turn}
 use Rattle.pesp_turns.specs.declared.turning.Turn.TheVariants.{Split, Closed, GivenUp, Over}
 use Rattle.pesp_turns.specs.Settling.{IsSearched, Settles}
-use Rattle.pesp_turns.specs.Turning.{IsSplit, IsClosed, IsSettledTurn, IsTooLarge, IsOver, IsTurn}
+use Rattle.pesp_turns.specs.Turning.{IsSplit, IsClosed, IsSettling, IsSettledTurn, IsTooLarge, IsTurn}
 use Rattle.pesp_turns.specs.Growing.{Grows}
 use Rattle.pesp_turns.specs.Counting.{IsWorkedFrom, AreTurns}
-use Rattle.pesp_turns.proofs.Closings.{settled_turn}
+use Rattle.pesp_turns.proofs.Closings.{settled_turn, never_in_vain}
 use Rattle.pesp_turns.proofs.Growth.{splits_in, none_grows, then_grows, turn_grows}
 
 some_period : (p : ProblemValue) → KeepsNetLimits p.network → 0 < p.network.period
@@ -80,12 +79,20 @@ settled_counts p r used old new limits small searched w s =
     let there = node_settles p r used old new true s searched w in
     let x = s.settles in
     record {
-      worked = settled_turn p r (node_at p s.job.path.items) x.times used old s.lent x.offered new s.job x.kept x.back limits small there refl (x.least there) w s.lends x.offers x.recalls;
-      spent = recalled_one p old s.lent x.offered new s.job x.times x.kept x.back s.lends x.offers x.recalls;
+      worked = settled_turn p r (node_at p s.job.path.items) x.offers.times used old s.lent x.offered new s.job x.offers.kept x.back limits small there refl (x.offers.least there) w s.lends x.offers.offers x.recalls;
+      spent = recalled_one p old s.lent x.offered new s.job x.offers.times x.offers.kept x.back s.lends x.offers.offers x.recalls;
     }
 
-none_given_up : (p : ProblemValue) (r : ReducedValue) (used : ℕ) (old new : State) → IsSearched p r → IsWorked p used old → IsSettledTurn p r old false new → ⊥
-none_given_up p r used old new searched w s = s.settles.1 (node_settles p r used old new false s searched w)
+none_given_up : (p : ProblemValue) (r : ReducedValue) (used : ℕ) (old new : State) → KeepsNetLimits p.network → IsSearched p r → IsWorked p used old → IsSettledTurn p r old false new → ⊥
+none_given_up p r used old new limits searched w s =
+    by_times s.settles
+  where
+    there : Settles p r (node_at p s.job.path.items)
+    there = node_settles p r used old new false s searched w
+
+    by_times : IsSettling p r (node_at p s.job.path.items) s.lent s.job.number false new → ⊥
+    by_times (inl none) = none.1 there
+    by_times (inr vain) = never_in_vain p r old s.lent new s.job limits w.orderly there s.lends vain
 
 has_many : (p : ProblemValue) (used : ℕ) (old new : State) → KeepsNetLimits p.network → IsSmallTable p.table → IsWorked p used old → used ≤ 100000 → IsTooLarge p old new → 20000000 < (used + 2) * length p.table
 has_many p used old new limits small w few t =
@@ -115,7 +122,7 @@ turn_counts : (p : ProblemValue) (r : ReducedValue) (used : ℕ) (turn : Turn) (
 turn_counts p r used Split old new limits small searched w few t = split_counts p used old new limits small w t
 turn_counts p r used Closed old new limits small searched w few (inl c) = gap_counts p used old new limits small w c
 turn_counts p r used Closed old new limits small searched w few (inr s) = settled_counts p r used old new limits small searched w s
-turn_counts p r used GivenUp old new limits small searched w few t = none_given_up p r used old new searched w t
+turn_counts p r used GivenUp old new limits small searched w few t = none_given_up p r used old new limits searched w t
 turn_counts p r used (Over StepsUsed) old new limits small searched w few t = t
 turn_counts p r used (Over NoneOpen) old new limits small searched w few t = t
 turn_counts p r used (Over NumbersSpent) old new limits small searched w few t = none_spent p used old w few t.2

@@ -1,11 +1,10 @@
 -- How turns end on a board in any state: which leaves are lent then, and how many numbers are spent.
-use Rattle.std.proofs.Common.{◌≡◌, ◌⊎◌, ℕ, zero, suc, ◌+◌, ◌*◌, ◌<◌, ◌≤◌, Bool, true, false, List, [], ◌∷◌, ◌++◌, length, length-append, set, refl, inl, inr, ap, arith, sym, ◌∙◌, subst}
+use Rattle.std.proofs.Common.{◌≡◌, ℕ, zero, suc, ◌+◌, ◌*◌, ◌<◌, ◌≤◌, Bool, true, false, List, [], ◌∷◌, ◌++◌, length, length-append, set, refl, inl, inr, ap, arith, sym, ◌∙◌, subst}
 use Rattle.std.specs.Prelude.{ℤ, ◌≤ℤ◌, ◌<ℤ◌}
 use Rattle.std.proofs.lemmas.Int.{ints}
-use Rattle.pesp_problem.specs.declared.pair.Pair.{Pair}
 use Rattle.pesp_problem.specs.declared.cut.Cut.{Cut}
 use Rattle.pesp_problem.specs.declared.cut.Side.{Side}
-use Rattle.pesp_problem.specs.Nodes.{slack_range, offset_range}
+use Rattle.pesp_problem.specs.Nodes.{Node, slack_range, offset_range}
 use Rattle.pesp_nodes.specs.Problems.{ProblemValue}
 use Rattle.pesp_machine.specs.declared.job.Job.{Job}
 use Rattle.pesp_machine.specs.declared.work.Work.{Work}
@@ -18,10 +17,9 @@ use Rattle.pesp_branching.specs.Offering.{MayOffer}
 use Rattle.pesp_search_laws.proofs.Spent.{given_one, recalled_one}
 use Rattle.pesp_turns.specs.declared.ending.Ending.{Ending}
 use Rattle.pesp_turns.specs.declared.ending.Ending.TheVariants.{StepsUsed, NoneOpen, NumbersSpent, TreeTooLarge, TurnsUsed}
-use Rattle.pesp_turns.specs.declared.turning.Turn.{Turn}
 use Rattle.pesp_turns.specs.declared.turning.Turn.TheVariants.{Split, Closed, GivenUp, Over}
-use Rattle.pesp_turns.specs.Turning.{IsSplit, IsClosed, IsSettledTurn, IsTurn}
-use Rattle.pesp_turns.specs.Endings.{IsSettledAt, AreLentSettled, IsNoneLeft, IsTreeFull, SpendsMore, EndsAs}
+use Rattle.pesp_turns.specs.Turning.{OffersTimes, IsSettling, IsSettledTurn, IsOver, IsTurn}
+use Rattle.pesp_turns.specs.Endings.{IsSettledAt, AreLentSettled, IsNoneLeft, IsTurnOn, TurnsLead, EndsAs}
 
 -- ---- numbers
 
@@ -83,39 +81,34 @@ recalled_settled p old new number false r h = subst (AreSettledIn p) (sym (ap (�
 
 -- ---- turns
 
-given_spends : (p : ProblemValue) (old mid given new : State) (job : Job) (work : Work) → LendsLeaf p old job mid → Takes p mid job.number work given → new.numbers ≡ given.numbers → AreLentSettled p old → SpendsMore p 1 old new
-given_spends p old mid given new job work l t same h =
-    let one = given_one p old mid given job work l t in
-    let none = ap length same in
-    record {
-      settled = subst (AreSettledIn p) (sym (same ∙ given_numbers p old mid given job work l t)) (settled_given p old.numbers job.path.items h);
-      numbers = omega (arith, one, none);
-    }
+given_leaves : (p : ProblemValue) (old mid given new : State) (job : Job) (work : Work) → LendsLeaf p old job mid → Takes p mid job.number work given → new.numbers ≡ given.numbers → AreLentSettled p old → AreLentSettled p new
+given_leaves p old mid given new job work l t same h = subst (AreSettledIn p) (sym (same ∙ given_numbers p old mid given job work l t)) (settled_given p old.numbers job.path.items h)
 
 -- the leaf of a settled turn was lent
-settled_mid : (p : ProblemValue) (r : ReducedValue) (found : Bool) (old new : State) (s : IsSettledTurn p r old found new) → AreLentSettled p old → AreSettledIn p s.lent.numbers
-settled_mid p r found old new s h =
+settled_mid : (p : ProblemValue) (r : ReducedValue) (closed : Bool) (old new : State) (s : IsSettledTurn p r old closed new) → AreLentSettled p old → AreSettledIn p s.lent.numbers
+settled_mid p r closed old new s h =
     let path = s.job.path.items in
     let numbers : s.lent.numbers ≡ old.numbers ++ Lent path ∷ [] = ap (λ (x : State). x.numbers) s.lends.state in
     subst (AreSettledIn p) (sym numbers) (settled_more p old.numbers path (record { settled = s.settled; left = s.left }) h)
 
-settled_spends : (p : ProblemValue) (r : ReducedValue) (found : Bool) (old new : State) → IsSettledTurn p r old found new → AreLentSettled p old → SpendsMore p 1 old new
-settled_spends p r true old new s h =
+offered_settled : (p : ProblemValue) (r : ReducedValue) (node : Node) (old new : State) → OffersTimes p r node old new → AreSettledIn p old.numbers → AreSettledIn p new.numbers
+offered_settled p r node old new o h = subst (AreSettledIn p) (sym (offer_numbers p old new o.times o.kept o.offers)) h
+
+settled_leaves : (p : ProblemValue) (r : ReducedValue) (closed : Bool) (old new : State) → IsSettledTurn p r old closed new → AreLentSettled p old → AreLentSettled p new
+settled_leaves p r true old new s h =
     let x = s.settles in
-    let one = recalled_one p old s.lent x.offered new s.job x.times x.kept x.back s.lends x.offers x.recalls in
-    record {
-      settled = recalled_settled p x.offered new s.job.number x.back x.recalls (subst (AreSettledIn p) (sym (offer_numbers p s.lent x.offered x.times x.kept x.offers)) (settled_mid p r true old new s h));
-      numbers = omega (arith, one);
-    }
-settled_spends p r false old new s h =
-    let same : new.numbers ≡ s.lent.numbers = ap (λ (x : State). x.numbers) s.settles.0 in
-    let numbers : s.lent.numbers ≡ old.numbers ++ Lent s.job.path.items ∷ [] = ap (λ (x : State). x.numbers) s.lends.state in
-    let long = length-append old.numbers (Lent s.job.path.items ∷ []) in
-    let count = ap length (same ∙ numbers) in
-    record {
-      settled = subst (AreSettledIn p) (sym same) (settled_mid p r false old new s h);
-      numbers = omega (arith, long, count);
-    }
+    recalled_settled p x.offered new s.job.number x.back x.recalls (offered_settled p r (node_at p s.job.path.items) s.lent x.offered x.offers (settled_mid p r true old new s h))
+settled_leaves p r false old new s h =
+    by_times s.settles
+  where
+    by_times : IsSettling p r (node_at p s.job.path.items) s.lent s.job.number false new → AreLentSettled p new
+    by_times (inl none) = subst (AreLentSettled p) (sym none.0) (settled_mid p r false old new s h)
+    by_times (inr vain) = offered_settled p r (node_at p s.job.path.items) s.lent new vain.offers (settled_mid p r false old new s h)
+
+turn_leaves : (p : ProblemValue) (r : ReducedValue) (old new : State) → IsTurnOn p r old new → AreLentSettled p old → AreLentSettled p new
+turn_leaves p r old new (inl s) h = given_leaves p old s.lent s.split new s.job (works.Tree s.gives.lines) s.lends s.gives.given (may_offer_numbers p s.split new s.offers) h
+turn_leaves p r old new (inr (inl c)) h = given_leaves p old c.lent new new c.job (works.Gap c.cycle) c.lends c.takes refl h
+turn_leaves p r old new (inr (inr s)) h = settled_leaves p r s.0 old new s.1 h
 
 -- ---- nothing is left
 
@@ -125,18 +118,18 @@ not_more a b not = grind arith
 not_above : (a b : ℤ) → (b <ℤ a → ⊥) → a ≤ℤ b
 not_above a b not = grind (arith, ints)
 
-over : (a b : ℕ) → b < a → a ≤ b → ⊥
-over a b h k = absurd (omega (arith, h, k))
+not_both : (a b : ℕ) → b < a → a ≤ b → ⊥
+not_both a b h k = absurd (omega (arith, h, k))
 
-above : (a b : ℤ) → b <ℤ a → a ≤ℤ b → ⊥
-above a b h k = absurd (omega (arith, ints, h, k))
+not_both_int : (a b : ℤ) → b <ℤ a → a ≤ℤ b → ⊥
+not_both_int a b h k = absurd (omega (arith, ints, h, k))
 
 -- a node that isn't unsettled is settled
 settled_unless : (p : ProblemValue) (path : List (Cut × Side)) → ((IsSettledAt p path → ⊥) → ⊥) → IsSettledAt p path
 settled_unless p path h = record {
   settled = record {
-    slacks = λ i l passed. not_more (slack_range (node_at p path).slacks i).1 (slack_range (node_at p path).slacks i).0 (λ more. h (λ s. over (slack_range (node_at p path).slacks i).1 (slack_range (node_at p path).slacks i).0 more (s.settled.slacks i l passed)));
-    offsets = λ c l. not_above (offset_range (node_at p path).offsets c).1 (offset_range (node_at p path).offsets c).0 (λ more. h (λ s. above (offset_range (node_at p path).offsets c).1 (offset_range (node_at p path).offsets c).0 more (s.settled.offsets c l)));
+    slacks = λ i l passed. not_more (slack_range (node_at p path).slacks i).1 (slack_range (node_at p path).slacks i).0 (λ more. h (λ s. not_both (slack_range (node_at p path).slacks i).1 (slack_range (node_at p path).slacks i).0 more (s.settled.slacks i l passed)));
+    offsets = λ c l. not_above (offset_range (node_at p path).offsets c).1 (offset_range (node_at p path).offsets c).0 (λ more. h (λ s. not_both_int (offset_range (node_at p path).offsets c).1 (offset_range (node_at p path).offsets c).0 more (s.settled.offsets c l)));
   };
   left = λ c l none. h (λ s. s.left c l none);
 }
@@ -144,89 +137,97 @@ settled_unless p path h = record {
 none_left : (p : ProblemValue) (state : State) → AreLentSettled p state → ((path : List (Cut × Side)) → IsOpen p state path → ⊥) → IsNoneLeft p state
 none_left p state h closed path pairs leaf cheaper = settled_unless p path (λ not. closed path (record { pairs = pairs; leaf = leaf; unlent = λ lent. not (h lent.0 path lent.1); cheaper = cheaper }))
 
--- ---- what a turn leaves
-
-abbrev LeavesSettled : ProblemValue → State → Turn → State → Type 0
-LeavesSettled p old Split new = SpendsMore p 1 old new
-LeavesSettled p old Closed new = SpendsMore p 1 old new
-LeavesSettled p old GivenUp new = SpendsMore p 1 old new
-LeavesSettled p old (Over StepsUsed) new = ⊥
-LeavesSettled p old (Over NoneOpen) new = IsNoneLeft p new
-LeavesSettled p old (Over NumbersSpent) new = 1000000 ≤ length new.numbers
-LeavesSettled p old (Over TreeTooLarge) new = IsTreeFull p new
-LeavesSettled p old (Over TurnsUsed) new = ⊥
-
-turn_leaves : (p : ProblemValue) (r : ReducedValue) (turn : Turn) (old new : State) → IsTurn p r old turn new → AreLentSettled p old → LeavesSettled p old turn new
-turn_leaves p r Split old new t h = given_spends p old t.lent t.split new t.job (works.Tree t.gives.lines) t.lends t.gives.given (may_offer_numbers p t.split new t.offers) h
-turn_leaves p r Closed old new (inl c) h = given_spends p old c.lent new new c.job (works.Gap c.cycle) c.lends c.takes refl h
-turn_leaves p r Closed old new (inr s) h = settled_spends p r true old new s h
-turn_leaves p r GivenUp old new t h = settled_spends p r false old new t h
-turn_leaves p r (Over StepsUsed) old new t h = t
-turn_leaves p r (Over NoneOpen) old new t h = subst (IsNoneLeft p) (sym t.0) (none_left p old h t.1)
-turn_leaves p r (Over NumbersSpent) old new t h = subst (λ (s : State). 1000000 ≤ length s.numbers) (sym t.0) t.2
-turn_leaves p r (Over TreeTooLarge) old new t h = record { number = t.job.number; work = t.work; few = t.few; large = t.large }
-turn_leaves p r (Over TurnsUsed) old new t h = t
-
 -- ---- one turn after the other
 
 -- so many turns were taken, of which so many split a leaf
-pub record AreTakenTo (p q : ProblemValue) (used turn : ℕ) (old now : State) : Type 0 where
+pub record AreTakenTo (p q : ProblemValue) (r : ReducedValue) (used turn : ℕ) (old now : State) : Type 0 where
   pub problem : q ≡ p
   pub few : used ≤ turn
-  pub spends : AreLentSettled p old → SpendsMore p turn old now
+  pub settled : AreLentSettled p old → AreLentSettled p now
+  pub lead : TurnsLead p r turn old now
 
-pub taken_none : (p : ProblemValue) (old : State) → AreTakenTo p p 0 0 old old
-taken_none p old = record { problem = refl; few = omega arith; spends = λ h. record { settled = h; numbers = omega arith } }
+pub taken_none : (p : ProblemValue) (r : ReducedValue) (old : State) → AreTakenTo p p r 0 0 old old
+taken_none p r old = record { problem = refl; few = omega arith; settled = λ h. h; lead = refl }
 
-after : (p : ProblemValue) (turn : ℕ) (old now new : State) → SpendsMore p turn old now → (AreLentSettled p now → SpendsMore p 1 now new) → SpendsMore p (turn + 1) old new
-after p turn old now new h goes =
-    let one = goes h.settled in
-    let was = h.numbers in
-    let more = one.numbers in
-    record { settled = one.settled; numbers = omega (arith, was, more) }
+-- n and one more
+one_later : (p : ProblemValue) (r : ReducedValue) (n : ℕ) (old mid new : State) → TurnsLead p r n old mid → IsTurnOn p r mid new → TurnsLead p r (n + 1) old new
+one_later p r n old mid new h t = subst (λ (k : ℕ). TurnsLead p r k old new) (one_more n) (mid, h, t)
+  where
+    one_more : (k : ℕ) → suc k ≡ k + 1
+    one_more k = omega arith
 
-there : (p q : ProblemValue) (r : ReducedValue) (turn : Turn) (old new : State) → q ≡ p → IsTurn q r old turn new → AreLentSettled p old → LeavesSettled p old turn new
-there p q r turn old new e t = turn_leaves p r turn old new (subst (λ (x : ProblemValue). IsTurn x r old turn new) e t)
+taken_on : (p q x : ProblemValue) (r : ReducedValue) (used used' turn : ℕ) (old now new : State) → x ≡ q → used' ≤ used + 1 → AreTakenTo p q r used turn old now → IsTurnOn q r now new → AreTakenTo p x r used' (turn + 1) old new
+taken_on p q x r used used' turn old now new e l h t =
+    let here : IsTurnOn p r now new = subst (λ (y : ProblemValue). IsTurnOn y r now new) h.problem t in
+    record {
+      problem = e ∙ h.problem;
+      few = (let few = h.few in omega (arith, few, l));
+      settled = λ s. turn_leaves p r now new here (h.settled s);
+      lead = one_later p r turn old now new h.lead here;
+    }
 
-pub taken_split : (p q x : ProblemValue) (r : ReducedValue) (used turn : ℕ) (old now new : State) → x ≡ q → AreTakenTo p q used turn old now → IsTurn q r now Split new → AreTakenTo p x (used + 1) (turn + 1) old new
-taken_split p q x r used turn old now new e h t = record {
-  problem = e ∙ h.problem;
-  few = (let few = h.few in omega (arith, few));
-  spends = λ s. after p turn old now new (h.spends s) (there p q r Split now new h.problem t);
-}
+pub taken_split : (p q x : ProblemValue) (r : ReducedValue) (used turn : ℕ) (old now new : State) → x ≡ q → AreTakenTo p q r used turn old now → IsTurn q r now Split new → AreTakenTo p x r (used + 1) (turn + 1) old new
+taken_split p q x r used turn old now new e h t = taken_on p q x r used (used + 1) turn old now new e (omega arith) h (inl t)
 
-pub taken_closed : (p q x : ProblemValue) (r : ReducedValue) (used turn : ℕ) (old now new : State) → x ≡ q → AreTakenTo p q used turn old now → IsTurn q r now Closed new → AreTakenTo p x used (turn + 1) old new
-taken_closed p q x r used turn old now new e h t = record {
-  problem = e ∙ h.problem;
-  few = (let few = h.few in omega (arith, few));
-  spends = λ s. after p turn old now new (h.spends s) (there p q r Closed now new h.problem t);
-}
+closed_on : (q : ProblemValue) (r : ReducedValue) (now new : State) → IsTurn q r now Closed new → IsTurnOn q r now new
+closed_on q r now new (inl c) = inr (inl c)
+closed_on q r now new (inr s) = inr (inr (true, s))
 
-pub taken_given_up : (p q x : ProblemValue) (r : ReducedValue) (used turn : ℕ) (old now new : State) → x ≡ q → AreTakenTo p q used turn old now → IsTurn q r now GivenUp new → AreTakenTo p x used (turn + 1) old new
-taken_given_up p q x r used turn old now new e h t = record {
-  problem = e ∙ h.problem;
-  few = (let few = h.few in omega (arith, few));
-  spends = λ s. after p turn old now new (h.spends s) (there p q r GivenUp now new h.problem t);
-}
+pub taken_closed : (p q x : ProblemValue) (r : ReducedValue) (used turn : ℕ) (old now new : State) → x ≡ q → AreTakenTo p q r used turn old now → IsTurn q r now Closed new → AreTakenTo p x r used (turn + 1) old new
+taken_closed p q x r used turn old now new e h t = taken_on p q x r used used turn old now new e (omega arith) h (closed_on q r now new t)
+
+pub taken_given_up : (p q x : ProblemValue) (r : ReducedValue) (used turn : ℕ) (old now new : State) → x ≡ q → AreTakenTo p q r used turn old now → IsTurn q r now GivenUp new → AreTakenTo p x r used (turn + 1) old new
+taken_given_up p q x r used turn old now new e h t = taken_on p q x r used used turn old now new e (omega arith) h (inr (inr (false, t)))
 
 -- ---- the end
 
-fewer : (p : ProblemValue) (a b : ℕ) (old new : State) → a ≤ b → SpendsMore p b old new → SpendsMore p a old new
-fewer p a b old new l h = record { settled = h.settled; numbers = (let numbers = h.numbers in omega (arith, l, numbers)) }
+pub ends_used : (p q : ProblemValue) (r : ReducedValue) (steps used turn : ℕ) (old now : State) → used ≡ steps → AreTakenTo p q r used turn old now → AreLentSettled p old → EndsAs p r steps old used StepsUsed now
+ends_used p q r steps used turn old now e h s = (e, record { settled = h.settled s; count = turn; many = h.few; lead = h.lead })
 
-pub ends_used : (p q : ProblemValue) (steps used turn : ℕ) (old now : State) → used ≡ steps → AreTakenTo p q used turn old now → AreLentSettled p old → EndsAs p steps old used StepsUsed now
-ends_used p q steps used turn old now e h s = (e, fewer p used turn old now h.few (h.spends s))
+pub ends_taken : (p q : ProblemValue) (r : ReducedValue) (steps used turn : ℕ) (old now : State) → 2 * steps + 3 ≤ turn → AreTakenTo p q r used turn old now → AreLentSettled p old → EndsAs p r steps old used TurnsUsed now
+ends_taken p q r steps used turn old now e h s = record { settled = h.settled s; count = turn; many = e; lead = h.lead }
 
-pub ends_taken : (p q : ProblemValue) (steps used turn : ℕ) (old now : State) → 2 * steps + 3 ≤ turn → AreTakenTo p q used turn old now → AreLentSettled p old → EndsAs p steps old used TurnsUsed now
-ends_taken p q steps used turn old now e h s = fewer p (2 * steps + 3) turn old now e (h.spends s)
-
-pub ends_over : (p q : ProblemValue) (r : ReducedValue) (steps used turn : ℕ) (old now new : State) (ending : Ending) → AreTakenTo p q used turn old now → IsTurn q r now (Over ending) new → AreLentSettled p old → EndsAs p steps old used ending new
+pub ends_over : (p q : ProblemValue) (r : ReducedValue) (steps used turn : ℕ) (old now new : State) (ending : Ending) → AreTakenTo p q r used turn old now → IsTurn q r now (Over ending) new → AreLentSettled p old → EndsAs p r steps old used ending new
 ends_over p q r steps used turn old now new ending h t s =
-    by_ending ending (there p q r (Over ending) now new h.problem t (h.spends s).settled)
+    by_ending ending (subst (λ (y : ProblemValue). IsOver y now ending new) h.problem t)
   where
-    by_ending : (ending : Ending) → LeavesSettled p now (Over ending) new → EndsAs p steps old used ending new
-    by_ending StepsUsed l = absurd l
-    by_ending NoneOpen l = l
-    by_ending NumbersSpent l = l
-    by_ending TreeTooLarge l = l
-    by_ending TurnsUsed l = absurd l
+    by_ending : (ending : Ending) → IsOver p now ending new → EndsAs p r steps old used ending new
+    by_ending StepsUsed o = absurd o
+    by_ending NoneOpen o = subst (IsNoneLeft p) (sym o.0) (none_left p now (h.settled s) o.1)
+    by_ending NumbersSpent o = record { count = turn; lead = subst (TurnsLead p r turn old) (sym o.0) h.lead; spent = subst (λ (x : State). 1000000 ≤ length x.numbers) (sym o.0) o.2 }
+    by_ending TreeTooLarge o = record { number = o.job.number; work = o.work; few = o.few; large = o.large }
+    by_ending TurnsUsed o = absurd o
+
+-- ---- runs of turns
+
+pub turns_join : (p : ProblemValue) (r : ReducedValue) (m n : ℕ) (old mid new : State) → TurnsLead p r m old mid → TurnsLead p r n mid new → TurnsLead p r (m + n) old new
+turns_join p r m zero old mid new h k = subst (λ (j : ℕ). TurnsLead p r j old new) (none_more m) (subst (TurnsLead p r m old) (sym k) h)
+  where
+    none_more : (j : ℕ) → j ≡ j + 0
+    none_more j = omega arith
+turns_join p r m (suc n) old mid new h k = subst (λ (j : ℕ). TurnsLead p r j old new) (one_more m n) (k.0, turns_join p r m n old mid k.0 h k.1, k.2)
+  where
+    one_more : (i j : ℕ) → suc (i + j) ≡ i + suc j
+    one_more i j = omega arith
+
+-- a turn spends one number
+turn_spends : (p : ProblemValue) (r : ReducedValue) (old new : State) → IsTurnOn p r old new → length new.numbers ≡ length old.numbers + 1
+turn_spends p r old new (inl s) = ap length (may_offer_numbers p s.split new s.offers) ∙ given_one p old s.lent s.split s.job (works.Tree s.gives.lines) s.lends s.gives.given
+turn_spends p r old new (inr (inl c)) = given_one p old c.lent new c.job (works.Gap c.cycle) c.lends c.takes
+turn_spends p r old new (inr (inr (true, s))) = (let x = s.settles in recalled_one p old s.lent x.offered new s.job x.offers.times x.offers.kept x.back s.lends x.offers.offers x.recalls)
+turn_spends p r old new (inr (inr (false, s))) =
+    by_times s.settles ∙ ap (λ (x : State). length x.numbers) s.lends.state ∙ length-append old.numbers (Lent s.job.path.items ∷ [])
+  where
+    by_times : IsSettling p r (node_at p s.job.path.items) s.lent s.job.number false new → length new.numbers ≡ length s.lent.numbers
+    by_times (inl none) = ap (λ (x : State). length x.numbers) none.0
+    by_times (inr vain) = ap length (offer_numbers p s.lent new vain.offers.times vain.offers.kept vain.offers.offers)
+
+pub turns_spend : (p : ProblemValue) (r : ReducedValue) (n : ℕ) (old new : State) → TurnsLead p r n old new → length new.numbers ≡ length old.numbers + n
+turns_spend p r zero old new h = ap (λ (x : State). length x.numbers) h ∙ none_more (length old.numbers)
+  where
+    none_more : (j : ℕ) → j ≡ j + 0
+    none_more j = omega arith
+turns_spend p r (suc n) old new h =
+    let one = turn_spends p r h.0 new h.2 in
+    let before = turns_spend p r n old h.0 h.1 in
+    omega (arith, one, before)

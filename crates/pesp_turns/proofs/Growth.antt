@@ -1,6 +1,6 @@
 -- How a turn grows the tree.
-use Rattle.std.proofs.Common.{◌≡◌, ◌≢◌, ℕ, ◌+◌, ◌<◌, ◌≤◌, ◌⊎◌, inl, inr, Bool, true, false, List, [], ◌∷◌, ◌++◌, refl, ap, arith, sym, ◌∙◌, subst}
-use Rattle.std.specs.Prelude.{Some, Ok, Err}
+use Rattle.std.proofs.Common.{◌≡◌, ℕ, ◌+◌, inl, inr, Bool, true, false, List, [], ◌∷◌, ◌++◌, refl, ap, arith, sym, ◌∙◌, subst}
+use Rattle.std.specs.Prelude.{Some, Ok}
 use Rattle.pesp_problem.specs.Nodes.{Node}
 use Rattle.pesp_truth.specs.Trees.{Tree, Bound}
 use Rattle.pesp_nodes.specs.Problems.{ProblemValue}
@@ -18,8 +18,7 @@ use Rattle.pesp_turns.specs.declared.ending.Ending.{Ending}
 use Rattle.pesp_turns.specs.declared.ending.Ending.TheVariants.{StepsUsed, NoneOpen, NumbersSpent, TreeTooLarge, TurnsUsed}
 use Rattle.pesp_turns.specs.declared.turning.Turn.{Turn}
 use Rattle.pesp_turns.specs.declared.turning.Turn.TheVariants.{Split, Closed, GivenUp, Over}
-use Rattle.pesp_turns.specs.Handing.{IsStepGiven}
-use Rattle.pesp_turns.specs.Turning.{IsSplit, IsClosed, IsSettledTurn, OffersAndRecalls, IsOver, IsTurn}
+use Rattle.pesp_turns.specs.Turning.{IsSplit, IsSettling, IsSettledTurn, OffersAndRecalls, IsOver, IsTurn}
 use Rattle.pesp_turns.specs.Growing.{Grows}
 
 -- ---- runs
@@ -66,7 +65,7 @@ may_offer_grows p old new (inl same) = none_grows p old new same
 may_offer_grows p old new (inr (times, kept, offers)) = offer_grows p old new times kept offers
 
 settling_grows : (p : ProblemValue) (r : ReducedValue) (node : Node) (old new : State) (number : ℕ) → OffersAndRecalls p r node old number new → Grows p 0 old new
-settling_grows p r node old new number s = then_grows p 0 0 old s.offered new (offer_grows p old s.offered s.times s.kept s.offers) (recall_grows p s.offered new number s.back s.recalls)
+settling_grows p r node old new number s = then_grows p 0 0 old s.offered new (offer_grows p old s.offered s.offers.times s.offers.kept s.offers.offers) (recall_grows p s.offered new number s.back s.recalls)
 
 -- ---- turns
 
@@ -93,7 +92,12 @@ over_grows p TurnsUsed old new o = absurd o
 
 settled_grows : (p : ProblemValue) (r : ReducedValue) (found : Bool) (old new : State) → IsSettledTurn p r old found new → Grows p 0 old new
 settled_grows p r true old new s = then_grows p 0 0 old s.lent new (lent_grows p old s.lent s.job s.lends) (settling_grows p r (node_at p s.job.path.items) s.lent new s.job.number s.settles)
-settled_grows p r false old new s = then_grows p 0 0 old s.lent new (lent_grows p old s.lent s.job s.lends) (none_grows p s.lent new s.settles.0)
+settled_grows p r false old new s =
+    then_grows p 0 0 old s.lent new (lent_grows p old s.lent s.job s.lends) (by_times s.settles)
+  where
+    by_times : IsSettling p r (node_at p s.job.path.items) s.lent s.job.number false new → Grows p 0 s.lent new
+    by_times (inl none) = none_grows p s.lent new none.0
+    by_times (inr vain) = offer_grows p s.lent new vain.offers.times vain.offers.kept vain.offers.offers
 
 pub turn_grows : (p : ProblemValue) (r : ReducedValue) (turn : Turn) (old new : State) → IsTurn p r old turn new → Grows p (splits_in turn) old new
 turn_grows p r Split old new t = split_grows p old new t

@@ -1,12 +1,13 @@
 -- A turn: a leaf is lent, and split, closed, or left as it is.
-use Rattle.std.specs.Prelude.{◌≡◌, ◌⊎◌, ℕ, ◌≤◌, List, Bool, true, false, Err, Ok, None}
+use Rattle.std.specs.Prelude.{◌≡◌, ◌⊎◌, ℕ, ◌≤◌, List, Bool, true, false, Err, Ok, Some, None}
 use Rattle.pesp_problem.specs.Nodes.{Node}
 use Rattle.pesp_nodes.specs.Problems.{ProblemValue, net_of}
 use Rattle.pesp_machine.specs.declared.job.Job.{Job}
 use Rattle.pesp_machine.specs.declared.work.Work.{Work}
 use Rattle.pesp_machine.specs.declared.work.Work.TheVariants as works
 use Rattle.pesp_machine.specs.declared.refusal.LendRefusal.TheVariants as lending
-use Rattle.pesp_machine.specs.States.{State, node_at}
+use Rattle.pesp_problem.specs.declared.pair.Pair.{Pair}
+use Rattle.pesp_machine.specs.States.{State, IsJobLeaf, node_at, best_cost}
 use Rattle.pesp_machine.specs.Events.{Lends, LendsLeaf, Takes, MakesTooMuch, Offers, Recalls}
 use Rattle.pesp_reduce.specs.Reductions.{ReducedValue}
 use Rattle.pesp_branching.specs.Offering.{MayOffer}
@@ -36,22 +37,41 @@ pub record IsClosed (p : ProblemValue) (old new : State) : Type 0 where
   pub cycle : ℕ
   pub takes : Takes p lent job.number (works.Gap cycle) new
 
--- times are offered, and a number is given back; where the node settles, they are those of the least slacks
-pub record OffersAndRecalls (p : ProblemValue) (r : ReducedValue) (node : Node) (old : State) (number : ℕ) (new : State) : Type 0 where
+-- the number is lent with a leaf that is worth no less than the best times cost
+pub record IsReached (p : ProblemValue) (state : State) (number : ℕ) : Type 0 where
+  pub cost : ℕ
+  pub best : best_cost p state ≡ Some cost
+  pub value : ℕ
+  pub pairs : List Pair
+  pub leaf : IsJobLeaf p state number value pairs
+  pub reached : cost ≤ value
+
+-- times are offered; where the node settles, they are those of the least slacks
+pub record OffersTimes (p : ProblemValue) (r : ReducedValue) (node : Node) (old : State) (offered : State) : Type 0 where
   pub times : List ℕ
   pub least : Settles p r node → HaveLeastSlacks r node times
   pub kept : Bool
-  pub offered : State
   pub offers : Offers p old times kept offered
+
+-- times are offered that cost no more than the leaf of a number is worth, or the best ones do, and the number is given back
+pub record OffersAndRecalls (p : ProblemValue) (r : ReducedValue) (node : Node) (old : State) (number : ℕ) (new : State) : Type 0 where
+  pub offered : State
+  pub offers : OffersTimes p r node old offered
+  pub reached : IsReached p offered number
   pub back : Bool
   pub recalls : Recalls offered number back new
 
--- times are found, offered, and the number is given back; or none are, and nothing changes
+-- times are offered that don't close the leaf of the number
+pub record OffersInVain (p : ProblemValue) (r : ReducedValue) (node : Node) (old : State) (number : ℕ) (new : State) : Type 0 where
+  pub offers : OffersTimes p r node old new
+  pub unreached : IsReached p new number → ⊥
+
+-- times are found and close the leaf of a number, which is given back; or none do, and it stays lent
 abbrev pub IsSettling : ProblemValue → ReducedValue → Node → State → ℕ → Bool → State → Type 0
 IsSettling p r node old number true new = OffersAndRecalls p r node old number new
-IsSettling p r node old number false new = (new ≡ old) × (Settles p r node → ⊥)
+IsSettling p r node old number false new = ((new ≡ old) × (Settles p r node → ⊥)) ⊎ OffersInVain p r node old number new
 
--- a leaf is lent at whose node nothing is left to cut, and times are found for it or not
+-- a leaf is lent at whose node nothing is left to cut, and times close it or not
 pub record IsSettledTurn (p : ProblemValue) (r : ReducedValue) (old : State) (found : Bool) (new : State) : Type 0 where
   pub job : Job
   pub lent : State
@@ -81,7 +101,7 @@ abbrev pub turn_given : Bool → Turn
 turn_given true = Closed
 turn_given false = Over TreeTooLarge
 
--- and where times are found for a leaf or not
+-- and where times close a leaf or not
 abbrev pub turn_found : Bool → Turn
 turn_found true = Closed
 turn_found false = GivenUp

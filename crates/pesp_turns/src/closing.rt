@@ -43,7 +43,7 @@ fn closed(taken: bool) -> Turn
     }
 }
 
-/// What a turn did that settled a leaf, where there were times for it.
+/// What a turn did that settled a leaf, where times closed it.
 fn settled(found: bool) -> Turn
     ensures { result ≡ turn_found found }
 {

@@ -37,7 +37,7 @@ pub(crate) fn run_turns<O: Observer>(
         → IsWorked board.old.problem 0 board.old.state → IfOk result (λ ended.
         AreTurns board.old.problem steps board.old.state ended.used ended.ending board.new.state) }
     ensures ends { AreLentSettled board.old.problem board.old.state → IfOk result (λ ended.
-        EndsAs board.old.problem steps board.old.state ended.used ended.ending board.new.state) }
+        EndsAs board.old.problem known.now.reduced steps board.old.state ended.used ended.ending board.new.state) }
 {
     board.problem().keeps_limits();
     let mut used = 0;

@@ -82,7 +82,7 @@ impl Search {
             (λ ended. AreTurns self.old.board.problem steps self.old.board.state ended.used
             ended.ending self.new.board.state) }
         ensures ends { AreLentSettled self.old.board.problem self.old.board.state → IfOk result
-            (λ ended. EndsAs self.old.board.problem steps self.old.board.state ended.used
+            (λ ended. EndsAs self.old.board.problem self.old.known.reduced steps self.old.board.state ended.used
             ended.ending self.new.board.state) }
     {
         let Search {

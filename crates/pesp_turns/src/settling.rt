@@ -1,12 +1,12 @@
 //! A leaf at whose node nothing is left to cut.
 
-ghost use Rattle.std.specs.Prelude.{◌≡◌, ◌<◌, ◌≤◌, ◌-◌, length, All, IfOk, IsSomeAnd};
+ghost use Rattle.std.specs.Prelude.{◌≡◌, ◌<◌, ◌≤◌, ◌-◌, length, true, false, All, IfOk, IsSomeAnd};
 ghost use Rattle.pesp_problem.specs.Nodes.{slack_range};
 ghost use Rattle.pesp_nodes.specs.Problems.{ProblemValue};
 ghost use Rattle.pesp_search_laws.specs.Settled.{low_slack};
 ghost use Rattle.pesp_search_laws.specs.Lifted.{AreSlacksOf};
 ghost use Rattle.pesp_turns.specs.Settling.{Settles, HaveLeastSlacks};
-ghost use Rattle.pesp_turns.specs.Turning.{IsSettling};
+ghost use Rattle.pesp_turns.specs.Turning.{IsReached, IsSettling};
 
 use pesp_board::{Board, Job};
 use pesp_network::NetRow;
@@ -63,7 +63,22 @@ fn settled_times(alloc: Global, reduced: &Reduced, node: &Node) -> Result<Option
     Ok(Some(lifted))
 }
 
-/// Offers the times at which each row has its least slack, and gives the leaf back; says whether there are such times.
+/// Whether the number is lent with a leaf that is worth no less than the best times cost.
+fn is_reached(board: &Board, number: u64) -> bool
+    ensures reached { result ≡ true → IsReached board.now.problem board.now.state number }
+    ensures unreached { result ≡ false → IsReached board.now.problem board.now.state number → ⊥ }
+{
+    let Some(cost) = board.best() else {
+        return false;
+    };
+    let Some((value, _)) = board.job_leaf(number) else {
+        return false;
+    };
+    cost <= value
+}
+
+/// Offers the times at which each row has its least slack, and gives the leaf back where it is closed so; says whether it is.
+/// Else it stays lent, and isn't lent again.
 pub(crate) fn settle(
     alloc: Global,
     board: &mut Board,
@@ -80,6 +95,9 @@ pub(crate) fn settle(
         return Ok(false);
     };
     board.offer(times);
+    if !is_reached(board, job.number) {
+        return Ok(false);
+    }
     board.recall(job.number);
     Ok(true)
 }

@@ -1,7 +1,7 @@
 use Rattle.std.proofs.Common.{ℕ, ◌+◌, sym, subst}
 use Rattle.std.proofs.lemmas.Grind.{common_steps}
 use Rattle.std.proofs.Common.{arith}
-use Rattle.pesp_turns.proofs.Counts.{IsSoFar, at_first, after_split, after_close, after_none, grown_over, all_used, none_left, is_over}
+use Rattle.pesp_turns.proofs.Counts.{IsSoFar, at_first, after_split, after_close, after_none, grown_over, all_used, is_over}
 use Rattle.pesp_turns.proofs.Endings.{AreTakenTo, taken_none, taken_split, taken_closed, taken_given_up, ends_used, ends_taken, ends_over}
 use Rattle.pesp_turns.proofs.running.run_turns.Goals as goal
 use Rattle.pesp_turns.proofs.running.run_turns.Goals.{in-Split, in-Closed, in-GivenUp}
@@ -9,7 +9,7 @@ use Rattle.pesp_turns.proofs.running.run_turns.Goals.{in-Split, in-Closed, in-Gi
 pub loop-turn-init : goal.loop-turn-init
 loop-turn-init g c = record {
   counts = at_first c.args.board.now.problem c.problem.result.now c.args.known.now.reduced c.args.steps c.args.board.now.state c.problem.ensures c.keeps_limits.ensures.network c.keeps_limits.ensures.table;
-  taken = taken_none c.args.board.now.problem c.args.board.now.state;
+  taken = taken_none c.args.board.now.problem c.args.known.now.reduced c.args.board.now.state;
 }
 
 pub loop-turn-preserved : goal.loop-turn-preserved
@@ -27,7 +27,7 @@ loop-turn-preserved g c =
     let was = c.loop-turn.invariant in
     let same = c.in_ok-take_turn.ensures.problem in
     let counted : ℕ → Type 0 = λ n. IsSoFar p x r steps n (turn + 1) old new in
-    let taken : ℕ → Type 0 = λ n. AreTakenTo p x n (turn + 1) old new in
+    let taken : ℕ → Type 0 = λ n. AreTakenTo p x r n (turn + 1) old new in
     elim c.match-branch-2.branch [
       | in-Split w ↦ record {
         counts = subst counted (sym w.used-is) (after_split p q x r steps used turn old now new c.requires.few c.if-used-steps.false same was.counts (rw w.in-Split.is at c.in_ok-take_turn.ensures.turn));
@@ -56,4 +56,7 @@ pub returns-then-used-steps-clause-counted : goal.returns-then-used-steps-clause
 returns-then-used-steps-clause-counted g c searched worked = all_used c.args.board.now.problem c.loop-turn.board.problem c.args.known.now.reduced c.args.steps c.loop-turn.used c.loop-turn._turn c.args.board.now.state c.loop-turn.board.state c.if-used-steps.true c.loop-turn.invariant.counts searched worked
 
 pub returns-then-used-steps-clause-ends : goal.returns-then-used-steps-clause-ends
-returns-then-used-steps-clause-ends g c settled = ends_used c.args.board.now.problem c.loop-turn.board.problem c.args.steps c.loop-turn.used c.loop-turn._turn c.args.board.now.state c.loop-turn.board.state c.if-used-steps.true c.loop-turn.invariant.taken settled
+returns-then-used-steps-clause-ends g c settled = ends_used c.args.board.now.problem c.loop-turn.board.problem c.args.known.now.reduced c.args.steps c.loop-turn.used c.loop-turn._turn c.args.board.now.state c.loop-turn.board.state c.if-used-steps.true c.loop-turn.invariant.taken settled
+
+pub returns-clause-ends : goal.returns-clause-ends
+returns-clause-ends g c settled = ends_taken c.args.board.now.problem c.loop-turn.board.problem c.args.known.now.reduced c.args.steps c.loop-turn.used c.loop-turn._turn c.args.board.now.state c.loop-turn.board.state (grind (arith, common_steps)) c.loop-turn.invariant.taken settled

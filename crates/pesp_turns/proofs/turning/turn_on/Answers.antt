@@ -2,7 +2,6 @@ use Rattle.std.proofs.Common.{sym, subst}
 use Rattle.pesp_problem.specs.Nodes.{Node, LeavesBoth}
 use Rattle.pesp_truth.specs.Trees.{CutExists}
 use Rattle.pesp_nodes.specs.Problems.{ProblemValue, net_of, IsNodeOf}
-use Rattle.pesp_branching.specs.Passing.{ArePassedRows}
 use Rattle.pesp_search_laws.specs.Rooms.{IsCounted}
 use Rattle.pesp_search_laws.specs.Settled.{IsSettled}
 use Rattle.pesp_turns.proofs.Lent.{cuts_there, node_is}

@@ -1,5 +1,5 @@
 -- A leaf that is looked at anew: no event adds a branch.
-use Rattle.std.proofs.Common.{◌≡◌, ℕ, ◌+◌, ◌<◌, ◌≤◌, List, [], ◌∷◌, length, inl, inr, refl, ap, sym, ◌∙◌, subst, arith, Bool}
+use Rattle.std.proofs.Common.{◌≡◌, ℕ, ◌+◌, ◌<◌, ◌≤◌, List, [], ◌∷◌, length, inl, inr, refl, ap, sym, ◌∙◌, subst, arith}
 use Rattle.std.specs.Prelude.{Option, Some, None, Result, Ok, Err, IfOk, OnOk}
 use Rattle.pesp_problem.specs.declared.cut.Cut.{Cut}
 use Rattle.pesp_problem.specs.declared.cut.Side.{Side}
@@ -14,9 +14,9 @@ use Rattle.pesp_machine.specs.declared.work.Work.TheVariants as works
 use Rattle.pesp_machine.specs.declared.refusal.LendRefusal.{LendRefusal}
 use Rattle.pesp_machine.specs.declared.refusal.LendRefusal.TheVariants as lending
 use Rattle.pesp_machine.specs.declared.refusal.GiveRefusal.{GiveRefusal}
-use Rattle.pesp_machine.specs.States.{State, HasLeaf, IsJobLeaf}
+use Rattle.pesp_machine.specs.States.{State, IsJobLeaf}
 use Rattle.pesp_machine.specs.Reached.{IsOrderly}
-use Rattle.pesp_machine.specs.Events.{Event, Lend, Give, Offer, Step, Lends, LendsLeaf, Gives, Takes, Makes, Offers}
+use Rattle.pesp_machine.specs.Events.{Event, Lend, Give, Offer, Step, Lends, LendsLeaf, Gives, Makes}
 use Rattle.pesp_machine.proofs.OneSize.{same_pairs}
 use Rattle.pesp_board.specs.Giving.{AreCuts}
 use Rattle.pesp_branching.specs.Offering.{OffersSome, MayOffer, OffersFirst}

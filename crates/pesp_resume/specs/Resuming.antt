@@ -8,6 +8,8 @@ use Rattle.pesp_machine.specs.Adopting.{Adopts}
 use Rattle.pesp_machine.specs.Certificates.{IsProblemOf, IsCertificateOf}
 use Rattle.pesp_search_laws.specs.Rooms.{branch_lines}
 use Rattle.pesp_turns.specs.Growing.{Grows}
+use Rattle.pesp_resume.specs.declared.ending.Ending.{Ending}
+use Rattle.pesp_resume.specs.Endings.{IsEndedAs}
 
 -- the problem is the instance's with the base's cycles, and the state has the base's tree and times
 pub record IsBegun (instance : Pesp) (base : Content) (p : ProblemValue) (state : State) : Type 0 where
@@ -20,13 +22,14 @@ pub record IsCertified (instance : Pesp) (p : ProblemValue) (state : State) (con
   pub is_certificate : IsCertificateOf p instance.events state content
   pub valid : IsValid instance content
 
--- the certificate of a state to which the events of a board lead from the base, with so many splits of at most so many; it is valid, its bound isn't below the base's, no bound standing above every number, its cost isn't above the base's, and its tree has as many branches more
-pub record IsResumed (instance : Pesp) (base : Content) (steps used : ℕ) (content : Content) : Type 0 where
+-- the certificate of a state to which the events of a board lead from the base, with so many splits of at most so many; it is valid, its bound isn't below the base's, no bound standing above every number, its cost isn't above the base's, and its tree has as many branches more; and either all splits are used up, or nothing is left to split, or a limit is met, or the watcher ended it
+pub record IsResumed (instance : Pesp) (base : Content) (steps : ℕ) (stopped : Type 0) (used : ℕ) (ending : Ending) (content : Content) : Type 0 where
   pub problem : ProblemValue
   pub opening : State
   pub begins : IsBegun instance base problem opening
   pub state : State
   pub grows : Grows problem used opening state
+  pub ended : IsEndedAs problem steps stopped opening state used ending
   pub certified : IsCertified instance problem state content
   pub few : used ≤ steps
   pub valid : IsValid instance content

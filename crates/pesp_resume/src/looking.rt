@@ -1,11 +1,12 @@
 //! Open leaves are looked at anew: each gets the best pairs that are found from its own.
 
-ghost use Rattle.std.specs.Prelude.{◌≡◌, IfOk, IfSome};
-ghost use Rattle.pesp_machine.specs.Events.{LendsLeaf};
+ghost use Rattle.std.specs.Prelude.{◌≡◌, length, IfOk, IfSome};
 ghost use Rattle.pesp_turns.specs.Growing.{Grows};
 ghost use Rattle.pesp_search_laws.specs.Turns.{splits_of};
-ghost use Rattle.pesp_resume.specs.Looking.{IsLentTo};
+ghost use Rattle.pesp_resume.specs.Endings.{IsEndedAs};
+ghost use Rattle.pesp_resume.specs.Looking.{IsLentTo, IsNext, IsLook};
 
+use crate::ending::Ending;
 use crate::watching::Watcher;
 use pesp_board::{Board, GiveRefusal, Job, LendRefusal, Work, is_shut_by_propagation, node_along};
 use pesp_bound::{Leaf, best_leaf_from};
@@ -18,19 +19,26 @@ const MOST_LOOKS: u32 = 1_000_000;
 /// How many pivots look for the leaf of a node.
 const ROUNDS: u32 = 1_000;
 
+/// The leaf that is looked at next, or why none is.
+#[derive(Drop)]
+pub(crate) enum Next {
+    Lent(Job),
+    Over(Ending),
+}
+
 /// Lends an open leaf, where one is open and a number is left.
 #[tactic(auto, using(crate::proofs::Looks::lend_grows))]
-fn lend_next(alloc: Global, board: &mut Board) -> Result<Option<Job>, Memory>
+fn lend_next(alloc: Global, board: &mut Board) -> Result<Next, Memory>
     ensures problem { board.new.problem ≡ board.old.problem }
-    ensures lends { IfOk result (λ next. IfSome next
-        (λ job. LendsLeaf board.old.problem board.old.state job board.new.state)) }
+    ensures next { IfOk result (λ next. IsNext board.old.problem board.old.state next board.new.state) }
     ensures grows { IfOk result
         (λ next. Grows board.old.problem 0 board.old.state board.new.state) }
 {
     match board.lend(alloc) {
-        Ok(next) => Ok(next),
+        Ok(Some(job)) => Ok(Next::Lent(job)),
+        Ok(None) => Ok(Next::Over(Ending::StepsUsed)),
+        Err(LendRefusal::NumbersSpent) => Ok(Next::Over(Ending::Full)),
         Err(LendRefusal::Memory) => Err(Memory),
-        Err(LendRefusal::NumbersSpent) => Ok(None),
     }
 }
 
@@ -78,6 +86,7 @@ fn give(alloc: Global, board: &mut Board, number: u64, work: &Work) -> Result<()
     ensures problem { board.new.problem ≡ board.old.problem }
     ensures grows { IfOk result
         (λ given. Grows board.old.problem 0 board.old.state board.new.state) }
+    ensures numbers { length board.new.state.numbers ≡ length board.old.state.numbers }
 {
     match board.give(alloc, number, work) {
         Err(GiveRefusal::Memory) => Err(Memory),
@@ -92,6 +101,7 @@ fn look_at(alloc: Global, board: &mut Board, job: &Job) -> Result<(), Memory>
     ensures problem { board.new.problem ≡ board.old.problem }
     ensures grows { IfOk result
         (λ given. Grows board.old.problem 0 board.old.state board.new.state) }
+    ensures numbers { length board.new.state.numbers ≡ length board.old.state.numbers }
 {
     match work_for(alloc, board, job)? {
         Some(work) => give(alloc, board, job.number, &work),
@@ -99,35 +109,42 @@ fn look_at(alloc: Global, board: &mut Board, job: &Job) -> Result<(), Memory>
     }
 }
 
-/// Looks at an open leaf of least value; says whether there was one.
-fn look_at_next(alloc: Global, board: &mut Board) -> Result<bool, Memory>
+/// Looks at an open leaf of least value; where none is looked at, says why.
+fn look_at_next(alloc: Global, board: &mut Board) -> Result<Option<Ending>, Memory>
     ensures problem { board.new.problem ≡ board.old.problem }
     ensures grows { IfOk result
         (λ found. Grows board.old.problem 0 board.old.state board.new.state) }
+    ensures look { IfOk result (λ found. IsLook board.old.problem board.old.state found board.new.state) }
 {
-    let Some(job) = lend_next(alloc, board)? else {
-        return Ok(false);
+    let job = match lend_next(alloc, board)? {
+        Next::Lent(job) => job,
+        Next::Over(ending) => return Ok(Some(ending)),
     };
     board.best();
     board.problem().keeps_limits();
     look_at(alloc, board, &job)?;
-    Ok(true)
+    Ok(None)
 }
 
-/// Looks at open leaves, that of least value first, until none gets better or the watcher ends it.
+/// Looks at open leaves, that of least value first, until none gets better or the watcher ends it; says why it ends.
 pub(crate) fn look_again<W: Watcher>(
     alloc: Global,
     board: &mut Board,
     watcher: &mut W,
-) -> Result<(), Memory>
+) -> Result<Ending, Memory>
     ensures problem { board.new.problem ≡ board.old.problem }
     ensures grows { IfOk result
-        (λ found. Grows board.old.problem 0 board.old.state board.new.state) }
+        (λ ending. Grows board.old.problem 0 board.old.state board.new.state) }
+    ensures ended { IfOk result (IsEndedAs board.old.problem 0
+        (W.may_end watcher.old × W.has_ended watcher.new) board.old.state board.new.state 0) }
 {
     for _look in 0..MOST_LOOKS {
-        if !look_at_next(alloc, board)? || !watcher.goes_on(0, board) {
-            return Ok(());
+        if let Some(ending) = look_at_next(alloc, board)? {
+            return Ok(ending);
+        }
+        if !watcher.goes_on(0, board) {
+            return Ok(Ending::Stopped);
         }
     }
-    Ok(())
+    Ok(Ending::Full)
 }

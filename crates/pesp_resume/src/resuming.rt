@@ -5,6 +5,8 @@ ghost use Rattle.pesp_truth.specs.Certificates.{IsValid};
 ghost use Rattle.pesp_machine.specs.Certificates.{IsProblemOf};
 ghost use Rattle.pesp_turns.specs.Knowing.{IsKnown};
 ghost use Rattle.pesp_turns.specs.Growing.{Grows};
+ghost use Rattle.pesp_turns.specs.Endings.{AreLentSettled};
+ghost use Rattle.pesp_resume.specs.Endings.{IsEndedAs};
 ghost use Rattle.pesp_resume.specs.Resuming.{IsBegun, IsCertified, IsResumed};
 
 use crate::ending::Ending;
@@ -50,15 +52,15 @@ fn look_anew<W: Watcher>(
 ) -> Result<Done, Memory>
     ensures problem { search.new.board.problem ≡ search.old.board.problem }
     ensures none { IfOk result (λ done. done.used ≡ 0) }
+    ensures ended { IfOk result (λ done. IsEndedAs search.old.board.problem 0
+        (W.may_end watcher.old × W.has_ended watcher.new) search.old.board.state
+        search.new.board.state 0 done.ending) }
     ensures grows { IfOk result (λ done. Grows search.old.board.problem 0
         search.old.board.state search.new.board.state) }
 {
     offer_anew(alloc, search)?;
-    look_again(alloc, &mut search.board, watcher)?;
-    Ok(Done {
-        used: 0,
-        ending: Ending::StepsUsed,
-    })
+    let ending = look_again(alloc, &mut search.board, watcher)?;
+    Ok(Done { used: 0, ending })
 }
 
 /// Goes on, by at most so many splits.
@@ -73,6 +75,10 @@ fn go_on<W: Watcher>(
     ensures few { IfOk result (λ done. done.used ≤ steps) }
     ensures grows { IfOk result (λ done. Grows search.old.board.problem done.used
         search.old.board.state search.new.board.state) }
+    ensures ends { AreLentSettled search.old.board.problem search.old.board.state → IfOk result
+        (λ done. IsEndedAs search.old.board.problem steps
+        (W.may_end watcher.old × W.has_ended watcher.new) search.old.board.state
+        search.new.board.state done.used done.ending) }
 {
     if steps == 0 {
         return look_anew(alloc, search, watcher);
@@ -86,6 +92,7 @@ fn certify(alloc: Global, instance: &Instance, board: &Board, done: Done) -> Res
     ensures certified { IfOk result
         (λ r. IsCertified instance.now board.now.problem board.now.state r.certificate) }
     ensures used { IfOk result (λ r. r.steps_used ≡ done.used) }
+    ensures ending { IfOk result (λ r. r.ending ≡ done.ending) }
 {
     let certificate = board.certificate(alloc, instance)?;
     Ok(Resumed {
@@ -120,6 +127,10 @@ fn resume_search<W: Watcher>(
     ensures few { IfOk result (λ r. r.steps_used ≤ steps) }
     ensures certified { IfOk result (λ r. IsCertified instance.now search.old.board.problem
         search.new.board.state r.certificate) }
+    ensures ends { AreLentSettled search.old.board.problem search.old.board.state → IfOk result
+        (λ r. IsEndedAs search.old.board.problem steps
+        (W.may_end watcher.old × W.has_ended watcher.new) search.old.board.state
+        search.new.board.state r.steps_used r.ending) }
 {
     look_for_times(alloc, search)?;
     let done = go_on(alloc, search, steps, watcher)?;
@@ -142,7 +153,9 @@ fn search_from(alloc: Global, instance: &Instance, base: &Certificate) -> Result
 /// anew, and times are offered. The watcher is asked after each leaf.
 ///
 /// What comes of it is a valid certificate. Its bound isn't below the base's, and its cost isn't above the base's; none counts as
-/// above every number. Its tree has as many branches more as leaves were split. The one refusal is of memory.
+/// above every number. Its tree has as many branches more as leaves were split. It ends before all splits are used only where
+/// nothing is left to split at a leaf that is worth less than the best times, where a limit is met, or where the watcher ended
+/// it. The one refusal is of memory.
 pub fn resume<W: Watcher>(
     alloc: Global,
     instance: &Instance,
@@ -152,7 +165,8 @@ pub fn resume<W: Watcher>(
 ) -> Result<Resumed, Memory>
     requires { IsValid instance.now base.now }
     ensures { IfOk result
-        (λ r. IsResumed instance.now base.now steps r.steps_used r.certificate) }
+        (λ r. IsResumed instance.now base.now steps
+        (W.may_end watcher.old × W.has_ended watcher.new) r.steps_used r.ending r.certificate) }
 {
     // Both keep their limits.
     instance.events();

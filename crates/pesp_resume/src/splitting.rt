@@ -1,8 +1,10 @@
 //! Open leaves are split, one after the other.
 
-ghost use Rattle.std.specs.Prelude.{◌≡◌, ◌≤◌, IfOk};
+ghost use Rattle.std.specs.Prelude.{◌≡◌, ◌<◌, ◌≤◌, IfOk};
 ghost use Rattle.pesp_turns.specs.Knowing.{IsKnown};
 ghost use Rattle.pesp_turns.specs.Growing.{Grows};
+ghost use Rattle.pesp_turns.specs.Endings.{AreLentSettled, EndsAs};
+ghost use Rattle.pesp_resume.specs.Endings.{IsEndedAs, ending_of};
 
 use crate::ending::Ending;
 use crate::watching::Watcher;
@@ -21,7 +23,9 @@ pub(crate) struct Done {
 }
 
 /// Why the search ends; None where it goes on.
-fn end_of(ending: TurnsEnding) -> Option<Ending> {
+fn end_of(ending: TurnsEnding) -> Option<Ending>
+    ensures { result ≡ ending_of ending }
+{
     match ending {
         TurnsEnding::StepsUsed | TurnsEnding::TurnsUsed => None,
         TurnsEnding::NoneOpen => Some(Ending::NoneOpen),
@@ -37,6 +41,9 @@ fn split_one(alloc: Global, search: &mut Search) -> Result<Ended, Memory>
     ensures few { IfOk result (λ ended. ended.used ≤ 1) }
     ensures grows { IfOk result (λ ended. Grows search.old.board.problem ended.used
         search.old.board.state search.new.board.state) }
+    ensures ends { AreLentSettled search.old.board.problem search.old.board.state → IfOk result
+        (λ ended. EndsAs search.old.board.problem search.old.known.reduced 1 search.old.board.state ended.used ended.ending
+        search.new.board.state) }
 {
     search.run(alloc, 1, &mut Nobody)
 }
@@ -54,6 +61,10 @@ pub(crate) fn split_leaves<W: Watcher>(
     ensures few { IfOk result (λ done. done.used ≤ steps) }
     ensures grows { IfOk result (λ done. Grows search.old.board.problem done.used
         search.old.board.state search.new.board.state) }
+    ensures ends { 0 < steps → AreLentSettled search.old.board.problem search.old.board.state
+        → IfOk result (λ done. IsEndedAs search.old.board.problem steps
+        (W.may_end watcher.old × W.has_ended watcher.new) search.old.board.state
+        search.new.board.state done.used done.ending) }
 {
     let mut used = 0;
     for _look in 0..MOST_LOOKS {

@@ -28,12 +28,14 @@ fn write_resumed<W: Sink, T: Watcher>(
     requires valid { IsValid instance.now base.now }
     requires fits { FewerThan (2 ^ 63) (W.calls writer.old) }
     ensures ok { OnOk result (WritesResumed instance.now base.now steps
+        (T.may_end watcher.old × T.has_ended watcher.new)
         (Appends (W.contents writer.old) (W.contents writer.new))) }
     ensures counts { OnOk result (HasWorked (W.calls writer.old) (W.calls writer.new)) }
     ensures cause { IfErr result (λ fault. OutCause fault
         (HasFailed (over (W.contents writer.old) (W.contents writer.new)
         (W.calls writer.old) (W.calls writer.new))
-        × WritesResumed instance.now base.now steps (GetsFront
+        × WritesResumed instance.now base.now steps
+        (T.may_end watcher.old × T.has_ended watcher.new) (GetsFront
         (over (W.contents writer.old) (W.contents writer.new)
         (W.calls writer.old) (W.calls writer.new))))) }
     ensures silent { IfErr result (λ fault. fault ≢ Fault.Write → writer.new ≡ writer.old) }
@@ -48,8 +50,9 @@ fn write_resumed<W: Sink, T: Watcher>(
 /// stands.
 ///
 /// What is written is the text of a valid certificate, whose bound isn't below that of the certificate read, and whose cost isn't
-/// above it; none counts as above every number. Its tree has at most so many branches more. No limit of a search refuses the
-/// run: where the tree would pass one, what stands by then is written.
+/// above it; none counts as above every number. Its tree has at most so many branches more, and fewer only where nothing is left
+/// to split at a leaf that is worth less than the best times, where a limit is met, or where the watcher ended it. No limit of
+/// a search refuses the run: where the tree would pass one, what stands by then is written.
 pub fn run_resume<R: Source, B: Source, W: Sink, T: Watcher>(
     alloc: Global,
     instance_reader: &mut R,
@@ -65,7 +68,7 @@ pub fn run_resume<R: Source, B: Source, W: Sink, T: Watcher>(
     ensures ok { OnOk result
         (HasBase (R.remaining instance_reader.old) (R.remaining instance_reader.new)
         (B.remaining base_reader.old) (B.remaining base_reader.new) period
-        (λ p base. WritesResumed p base steps
+        (λ p base. WritesResumed p base steps (T.may_end watcher.old × T.has_ended watcher.new)
         (Appends (W.contents writer.old) (W.contents writer.new)))) }
     ensures reads { OnOk result
         (HasWorked (R.calls instance_reader.old) (R.calls instance_reader.new)) }
@@ -79,7 +82,8 @@ pub fn run_resume<R: Source, B: Source, W: Sink, T: Watcher>(
         (B.calls base_reader.old) (B.calls base_reader.new))
         (over (W.contents writer.old) (W.contents writer.new)
         (W.calls writer.old) (W.calls writer.new))
-        period steps (base_reader.new ≡ base_reader.old)) }
+        period steps (T.may_end watcher.old × T.has_ended watcher.new)
+        (base_reader.new ≡ base_reader.old)) }
     ensures silent { IfErr result (λ fault. fault ≢ Fault.Write → writer.new ≡ writer.old) }
 {
     let instance = read_whole_instance(alloc, instance_reader, period)?;

@@ -1,5 +1,5 @@
 -- What the program reads and writes for a request, and its exit status.
-use Rattle.std.specs.Prelude.{◌≡◌, ◌⊎◌, ℕ, ℤ, List, ◌++◌, codes, zero, suc, Option, Some, None, ⊤}
+use Rattle.std.specs.Prelude.{◌≡◌, ◌⊎◌, ℕ, ℤ, List, ◌++◌, codes, zero, suc, Option, Some, None, IsSome, ⊤}
 use Rattle.std.specs.Io.KnownBytes.{Appends}
 use Rattle.pesp_gap.specs.Gaps.{gap_line}
 use Rattle.pesp_report.specs.Report.{IsReport}
@@ -69,7 +69,7 @@ AnswersInstance (Conflict steps) period reader writer teller silent status =
     (told : Told) × TellsConflict reader.old reader.new period steps told (Gets writer) silent
     × GetsLine teller (told_text told) × (status ≡ told_status told)
 
--- the same of a certificate, from the readers that have its instance and its text
+-- the same of a certificate, from the readers that have its instance and its text; a search that goes on is stopped only where seconds are counted
 abbrev pub AnswersCertificate : OfCertificate → ℕ → Device → Device → Device → ℕ → Type 0
 AnswersCertificate Check period instance reader writer status =
     (verdict : Verdict) × Checks instance.old instance.new reader.old reader.new period verdict (Gets writer)
@@ -80,7 +80,7 @@ AnswersCertificate CheckSharp period instance reader writer status =
 AnswersCertificate Gap period instance reader writer status =
     HasBase instance.old instance.new reader.old reader.new period (λ p base. Gets writer (gap_line base.answer)) × (status ≡ 0)
 AnswersCertificate (Resume steps seconds progress) period instance reader writer status =
-    HasBase instance.old instance.new reader.old reader.new period (λ p base. WritesResumed p base steps (Gets writer)) × (status ≡ 0)
+    HasBase instance.old instance.new reader.old reader.new period (λ p base. WritesResumed p base steps (IsSome seconds) (Gets writer)) × (status ≡ 0)
 AnswersCertificate Split period instance reader writer status =
     HasBase instance.old instance.new reader.old reader.new period (λ p base. WritesJobs p base (Gets writer)) × (status ≡ 0)
 AnswersCertificate (Work steps job) period instance reader writer status =

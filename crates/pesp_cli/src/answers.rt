@@ -1,11 +1,15 @@
 //! What the program does for each request, over any readers and writers.
 
-ghost use Rattle.std.specs.Prelude.{◌≡◌, ◌<◌, ◌≤◌, ◌^◌, Ok, Err, IfOk, MatchResult};
+ghost use Rattle.std.specs.Prelude.{◌≡◌, ◌<◌, ◌≤◌, ◌^◌, Ok, Err, IfOk, OnOk, IsSome, MatchResult};
+ghost use Rattle.std.specs.Io.KnownBytes.{Appends};
 ghost use Rattle.pesp_stream.specs.Counts.{FewerThan};
 ghost use Rattle.pesp_check_run.specs.Devices.{over};
+ghost use Rattle.pesp_faults.specs.Reading.{HasBase};
+ghost use Rattle.pesp_resume_run.specs.Resuming.{WritesResumed};
 ghost use Rattle.pesp_request.specs.Requests.{InstanceWithin, CertificateWithin};
 ghost use Rattle.pesp_cli.specs.Answers.{AnswersSolve, AnswersSolveSharp, AnswersInstance, AnswersCertificate, AnswersTimes, AnswersWorks, violations_status};
 
+use crate::input::{Beginning, warn_of_period};
 use crate::telling::told_conflict;
 use pesp_check_run::{run_check, status_of_verdict};
 use pesp_conflict_run::{run_conflict, status_of_told};
@@ -24,6 +28,7 @@ use pesp_sharp_search::SharpObserver;
 use pesp_sharp_solve_run::{run_solve_sharp, run_solve_sharp_from};
 use pesp_solve_run::{run_solve_from, run_solve_watched};
 use pesp_stream::{Counted, Sink, Source};
+use std::alloc::Global;
 use std::fs::File;
 use std::rt::{Clock, Files};
 
@@ -39,7 +44,7 @@ fn done(run: Result<(), Fault>) -> Result<u8, Fault>
 
 /// Solves the instance that the reader gives, from the times in a file where one is named, while an observer looks on.
 #[tactic(auto, using(crate::proofs::Ends::finished))]
-fn solve<R: AllocGlobal + Files, I: Source, W: Sink, O: Observer>(
+fn solve<R: AllocGlobal + Eprint + Files, I: Source, W: Sink, O: Observer>(
     rt: &R,
     reader: &mut I,
     writer: &mut W,
@@ -61,8 +66,10 @@ fn solve<R: AllocGlobal + Files, I: Source, W: Sink, O: Observer>(
     match from {
         None => done(run_solve_watched(alloc, reader, writer, period, steps, observer)),
         Some(file) => {
-            let mut times = opened(rt, file)?;
-            done(run_solve_from(alloc, reader, &mut times, writer, period, steps, observer))
+            let mut times = opened_times(rt, file)?;
+            let run = run_solve_from(alloc, reader, &mut times, writer, period, steps, observer);
+            warn_of_period(rt, &times.into_inner(), period);
+            done(run)
         }
     }
 }
@@ -157,6 +164,30 @@ pub(crate) fn of_instance<R: AllocGlobal + Eprint + Files + Clock, I: Source, W:
     }
 }
 
+/// Goes on from the certificate that the reader gives, for the instance of the other reader, with a watch, which ends it only where
+/// seconds are counted.
+fn resume<R: Eprint + Clock, I: Source, S: Source, W: Sink>(
+    alloc: Global,
+    instance: &mut I,
+    reader: &mut S,
+    writer: &mut W,
+    period: u32,
+    steps: u32,
+    watch: Watch<'_, R>,
+) -> Result<(), Fault>
+    requires instance_fits { FewerThan (2 ^ 62) (I.calls instance.old) }
+    requires reads_fit { FewerThan (2 ^ 62) (S.calls reader.old) }
+    requires writes_fit { FewerThan (2 ^ 62) (W.calls writer.old) }
+    ensures { OnOk result
+        (HasBase (I.remaining instance.old) (I.remaining instance.new)
+        (S.remaining reader.old) (S.remaining reader.new) period
+        (λ p base. WritesResumed p base steps (IsSome watch.entry.seconds)
+        (Appends (W.contents writer.old) (W.contents writer.new)))) }
+{
+    let mut watch = watch;
+    run_resume(alloc, instance, reader, writer, period, steps, &mut watch)
+}
+
 /// Does what is asked of the certificate that the reader gives, for the instance of the other reader.
 #[tactic(auto, using(crate::proofs::Ends::finished))]
 pub(crate) fn of_certificate<R: AllocGlobal + Eprint + Clock, I: Source, S: Source, W: Sink>(
@@ -195,8 +226,8 @@ pub(crate) fn of_certificate<R: AllocGlobal + Eprint + Clock, I: Source, S: Sour
             seconds,
             progress,
         } => {
-            let mut watch = Watch::new(rt, progress, seconds);
-            done(run_resume(alloc, instance, reader, writer, period, steps, &mut watch))
+            let watch = Watch::new(rt, progress, seconds);
+            done(resume(alloc, instance, reader, writer, period, steps, watch))
         }
         OfCertificate::Split => done(run_split(alloc, instance, reader, writer, period)),
         OfCertificate::Work { steps, job } => {
@@ -315,6 +346,15 @@ pub(crate) fn opened<R: Files>(rt: &R, file: &str) -> Result<Counted<R::File>, F
         Ok(opened) => Ok(Counted::new(opened)),
         Err(_) => Err(Fault::NoFile),
     }
+}
+
+/// Opens a file with times, of which the beginning is kept.
+fn opened_times<R: Files>(rt: &R, file: &str) -> Result<Counted<Beginning<R::File>>, Fault>
+    ensures failed { IfOk result (λ file. file.calls.failed ≡ 0) }
+    ensures interrupted { IfOk result (λ file. file.calls.interrupted ≡ 0) }
+{
+    let times = opened(rt, file)?;
+    Ok(Counted::new(Beginning::of(times.into_inner())))
 }
 
 /// The names that a file tells.

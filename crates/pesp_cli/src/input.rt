@@ -1,4 +1,4 @@
-//! Standard input as the program reads it.
+//! Standard input, and files with times, as the program reads them.
 
 use std::io::{ErrorKind, Read};
 use std::{fmt, io};
@@ -85,9 +85,9 @@ impl<S: Read> Read for Beginning<S> {
 
 /// That times were taken for another period than that of their certificate.
 #[derive(Drop)]
-pub(crate) struct OtherPeriod {
-    pub(crate) found: u32,
-    pub(crate) asked: u32,
+struct OtherPeriod {
+    found: u32,
+    asked: u32,
 }
 
 impl fmt::Display for OtherPeriod {
@@ -97,5 +97,14 @@ impl fmt::Display for OtherPeriod {
             f,
             "warning: the certificate has period {found}, and its times are taken for period {asked}"
         )
+    }
+}
+
+/// Warns where the times that were read stand in a certificate of another period.
+pub(crate) fn warn_of_period<R: Eprint, S: Read>(rt: &R, input: &Beginning<S>, asked: u32) {
+    if let Some(found) = input.period() {
+        if found != asked {
+            let _ = rt.eprintln(OtherPeriod { found, asked });
+        }
     }
 }

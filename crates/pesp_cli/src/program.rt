@@ -7,7 +7,7 @@ ghost use Rattle.pesp_request.specs.Requests.{IsWithinLimits};
 ghost use Rattle.pesp_cli.specs.Answers.{Answers};
 
 use crate::answers::{of_certificate, of_instance, of_times, of_works, opened};
-use crate::input::{Beginning, OtherPeriod};
+use crate::input::{Beginning, warn_of_period};
 use crate::output::writer_of;
 use crate::telling::{teller_of, told};
 use clap::Error;
@@ -15,7 +15,6 @@ use clap::error::ErrorKind;
 use pesp_faults::{Fault, status_of};
 use pesp_request::{Request, request_of};
 use pesp_stream::{Counted, Sink, Source};
-use std::io::Read;
 use std::process::ExitCode;
 use std::rt::{Clock, Env, Files};
 use std::{env, io};
@@ -93,15 +92,6 @@ fn status_of_request<R: AllocGlobal + Input + Print + Eprint + Files + Clock>(
         Ok(status) => status,
         Err(Fault::Write) if writer.into_inner().unread => status_of(&Fault::Write),
         Err(fault) => stopped(rt, &fault),
-    }
-}
-
-/// Warns where the times stand in a certificate of another period.
-fn warn_of_period<R: Eprint, S: Read>(rt: &R, input: &Beginning<S>, asked: u32) {
-    if let Some(found) = input.period() {
-        if found != asked {
-            let _ = rt.eprintln(OtherPeriod { found, asked });
-        }
     }
 }
 

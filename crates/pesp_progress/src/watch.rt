@@ -1,5 +1,7 @@
 //! Who looks on while a search goes on from a certificate: it is told how far it is, and the search ends when its time is over.
 
+ghost use Rattle.std.specs.Prelude.{◌≡◌, true, IsSome};
+
 use crate::progress::Milestones;
 use pesp_board::Board;
 use pesp_resume::Watcher;
@@ -11,13 +13,18 @@ use std::time::{Clock, Instant};
 pub struct Watch<'a, R> {
     rt: &'a R,
     milestones: Option<Milestones>,
-    seconds: Option<u32>,
+    /// For how many seconds the search may go on, where they are counted.
+    pub seconds: Option<u32>,
     start: Option<Instant>,
+    /// Whether the search was ended.
+    ended: bool,
 }
 
 impl<'a, R: Eprint + Clock> Watch<'a, R> {
     /// A watch that begins now.
-    pub fn new(rt: &'a R, progress: bool, seconds: Option<u32>) -> Watch<'a, R> {
+    pub fn new(rt: &'a R, progress: bool, seconds: Option<u32>) -> Watch<'a, R>
+        ensures { result.seconds ≡ seconds }
+    {
         Watch {
             rt,
             milestones: if progress {
@@ -27,11 +34,14 @@ impl<'a, R: Eprint + Clock> Watch<'a, R> {
             },
             seconds,
             start: Instant::now(rt).ok(),
+            ended: false,
         }
     }
 
     /// Whether the time is over.
-    fn is_over(&self) -> bool {
+    fn is_over(&self) -> bool
+        ensures { result ≡ true → IsSome self.now.seconds }
+    {
         let (Some(most), Some(start)) = (self.seconds, self.start) else {
             return false;
         };
@@ -43,12 +53,17 @@ impl<'a, R: Eprint + Clock> Watch<'a, R> {
 }
 
 impl<R: Eprint + Clock> Watcher for Watch<'_, R> {
+    ghost may_end = { λ w. IsSome w.seconds };
+
+    ghost has_ended = { λ w. w.ended ≡ true };
+
     fn goes_on(&mut self, steps_used: u32, board: &Board) -> bool {
         if let Some(milestones) = &mut self.milestones {
             if let Some(progress) = milestones.passed(steps_used, board) {
                 let _ = self.rt.eprintln(progress);
             }
         }
-        !self.is_over()
+        self.ended = self.is_over();
+        !self.ended
     }
 }

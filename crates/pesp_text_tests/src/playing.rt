@@ -10,7 +10,9 @@ use crate::outside::{ask_graft, ask_split, ask_work, ask_worked};
 use crate::pieces::is_piece;
 use crate::reports::{ask_report, ask_times};
 use crate::resuming::{ask_gap, ask_resume, ask_resumed};
-use crate::runs::{ask_check, ask_progress, ask_run_report, ask_solve, ask_solved, ask_violations};
+use crate::runs::{
+    ask_check, ask_progress, ask_run_report, ask_solve, ask_solved, ask_solved_from, ask_violations,
+};
 use crate::sharpened::ask_sharpened;
 use crate::spellings::{ask_lines, ask_number, ask_words};
 use crate::statuses::{ask_program, ask_status};
@@ -26,6 +28,7 @@ enum Question {
     Solve,
     Solved,
     Sharpened,
+    SolvedFrom,
     Progress,
     Check,
     Report,
@@ -60,10 +63,11 @@ enum Question {
 }
 
 /// The first word of each question.
-const QUESTIONS: [(&str, Question); 34] = [
+const QUESTIONS: [(&str, Question); 35] = [
     ("solve", Question::Solve),
     ("solved", Question::Solved),
     ("sharpened", Question::Sharpened),
+    ("solved_from", Question::SolvedFrom),
     ("progress", Question::Progress),
     ("check", Question::Check),
     ("report", Question::Report),
@@ -170,6 +174,7 @@ fn answer_of(alloc: Global, lines: &[&str], word: &str, rest: &str) -> Option<St
         Question::Solve => ask_solve(alloc, lines, rest),
         Question::Solved => ask_solved(alloc, lines, rest),
         Question::Sharpened => ask_sharpened(alloc, lines, rest),
+        Question::SolvedFrom => ask_solved_from(alloc, lines, rest),
         Question::Progress => ask_progress(alloc, lines, rest),
         Question::Check => ask_check(alloc, lines, rest),
         Question::Report => ask_run_report(alloc, lines),

@@ -9,8 +9,8 @@ use pesp_board::Board;
 use pesp_check_run::run_check;
 use pesp_progress::Milestones;
 use pesp_report_run::{run_report, run_violations};
-use pesp_search::{Observer, Part};
-use pesp_solve_run::{run_solve, run_solve_watched};
+use pesp_search::{Nobody, Observer, Part};
+use pesp_solve_run::{run_solve, run_solve_from, run_solve_watched};
 use std::alloc::Global;
 
 /// What `solve` writes in so many steps.
@@ -93,6 +93,39 @@ pub(crate) fn ask_solved(alloc: Global, lines: &[&str], steps: &str) -> Option<S
     let period = period_of(lines)?;
     let steps = steps.parse().ok()?;
     check_solved(alloc, &text_of(alloc, lines, "instance")?, period, steps)
+}
+
+/// The certificate that `solve` writes in so many steps from the times of a text.
+fn solved_from(
+    alloc: Global,
+    instance: &[u8],
+    times: &[u8],
+    period: u32,
+    steps: u32,
+) -> Option<Vec<u8>> {
+    let mut first = feed_of(instance, Device::whole());
+    let mut second = feed_of(times, Device::whole());
+    let mut writer = drain_of(alloc, Device::whole());
+    run_solve_from(
+        alloc,
+        &mut first,
+        &mut second,
+        &mut writer,
+        period,
+        steps.min(100_000),
+        &mut Nobody,
+    )
+    .ok()?;
+    Some(writer.into_inner().taken)
+}
+
+/// What `check` says of the certificate that `solve` writes in so many steps from the times of the input.
+pub(crate) fn ask_solved_from(alloc: Global, lines: &[&str], steps: &str) -> Option<String> {
+    let period = period_of(lines)?;
+    let instance = text_of(alloc, lines, "instance")?;
+    let times = text_of(alloc, lines, "input")?;
+    let certificate = solved_from(alloc, &instance, &times, period, steps.parse().ok()?)?;
+    tell_check(alloc, &instance, &certificate, period)
 }
 
 /// A device that gives at most `piece` bytes at a call, where a piece is named.

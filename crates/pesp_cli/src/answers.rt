@@ -76,7 +76,7 @@ fn solve<R: AllocGlobal + Eprint + Files, I: Source, W: Sink, O: Observer>(
 
 /// The same with leaves that marked walks sharpen.
 #[tactic(auto, using(crate::proofs::Ends::finished))]
-fn solve_with_marks<R: AllocGlobal + Files, I: Source, W: Sink, O: SharpObserver>(
+fn solve_with_marks<R: AllocGlobal + Eprint + Files, I: Source, W: Sink, O: SharpObserver>(
     rt: &R,
     reader: &mut I,
     writer: &mut W,
@@ -98,8 +98,12 @@ fn solve_with_marks<R: AllocGlobal + Files, I: Source, W: Sink, O: SharpObserver
     match from {
         None => done(run_solve_sharp(alloc, reader, writer, period, steps, observer)),
         Some(file) => {
-            let mut times = opened(rt, file)?;
-            done(run_solve_sharp_from(alloc, reader, &mut times, writer, period, steps, observer))
+            let mut times = opened_times(rt, file)?;
+            let run = run_solve_sharp_from(
+                alloc, reader, &mut times, writer, period, steps, observer,
+            );
+            warn_of_period(rt, &times.into_inner(), period);
+            done(run)
         }
     }
 }

@@ -23,6 +23,17 @@ pub(crate) fn words_with_name(alloc: Global, line: &str) -> Option<Vec<String>> 
     with_name(alloc, &words_of(alloc, line)?)
 }
 
+/// What is asked for in so many steps.
+fn tell_steps(alloc: Global, asked: &str, file: &str, period: u32, steps: u32) -> Option<String> {
+    format!(in alloc; "{asked}{file} at period {period} in {steps} steps").ok()
+}
+
+/// Adds that the progress is asked for, where it is.
+fn add_progress(told: &mut String, progress: bool) -> Option<()> {
+    let words = if progress { ", with its progress" } else { "" };
+    told.push_str(words).ok()
+}
+
 /// A search that is asked for, and the file with the times from which it begins, where one is named.
 fn tell_solve(
     alloc: Global,
@@ -33,15 +44,13 @@ fn tell_solve(
     file: Option<&str>,
 ) -> Option<String> {
     let mut told = match file {
-        None => format!(in alloc; "solve at period {period} in {steps} steps").ok()?,
-        Some(file) => format!(in alloc; "solve {file} at period {period} in {steps} steps").ok()?,
+        None => tell_steps(alloc, "solve", "", period, steps)?,
+        Some(file) => tell_steps(alloc, "solve ", file, period, steps)?,
     };
     if let Some(from) = from {
         write!(told, ", from {from}").ok()?;
     }
-    if progress {
-        told.push_str(", with its progress").ok()?;
-    }
+    add_progress(&mut told, progress)?;
     Some(told)
 }
 
@@ -59,21 +68,18 @@ fn tell_resume(
     progress: bool,
     file: &str,
 ) -> Option<String> {
-    let told = if progress { ", with its progress" } else { "" };
-    match seconds {
-        None => format!(in alloc; "resume {file} at period {period} in {steps} steps{told}").ok(),
-        Some(seconds) => {
-            format!(in alloc;
-                "resume {file} at period {period} in {steps} steps or {seconds} seconds{told}"
-            ).ok()
-        }
+    let mut told = tell_steps(alloc, "resume ", file, period, steps)?;
+    if let Some(seconds) = seconds {
+        write!(told, " or {seconds} seconds").ok()?;
     }
+    add_progress(&mut told, progress)?;
+    Some(told)
 }
 
 /// Conflicting activities that are asked for.
 fn tell_conflict(alloc: Global, period: u32, steps: u32, file: Option<&str>) -> Option<String> {
     let file = file.unwrap_or("of standard input");
-    format!(in alloc; "conflict {file} at period {period} in {steps} steps").ok()
+    tell_steps(alloc, "conflict ", file, period, steps)
 }
 
 /// What is asked for over a file and a file of names.
@@ -88,12 +94,11 @@ fn tell_picture(
     names: Option<&str>,
     file: &str,
 ) -> Option<String> {
-    match names {
-        None => format!(in alloc; "draw {file} at period {period} in {rows} rows").ok(),
-        Some(names) => {
-            format!(in alloc; "draw {file} at period {period} in {rows} rows with {names}").ok()
-        }
+    let mut told = format!(in alloc; "draw {file} at period {period} in {rows} rows").ok()?;
+    if let Some(names) = names {
+        write!(told, " with {names}").ok()?;
     }
+    Some(told)
 }
 
 fn tell_work(alloc: Global, period: u32, steps: u32, file: &str, job: u64) -> Option<String> {

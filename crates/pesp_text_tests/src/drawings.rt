@@ -1,11 +1,10 @@
 //! Drawings.
 
-use crate::drain::drain_of;
-use crate::feed::feed_of;
-use crate::given::{Given, given_by};
+use crate::given::given_by;
+use crate::named::written;
 use crate::telling::tell_fault;
 use pesp_faults::Fault;
-use pesp_report_run::{Picture, run_sheet};
+use pesp_report_run::Picture;
 use std::alloc::Global;
 
 /// The bars of what `draw` writes with so many rows.
@@ -29,23 +28,8 @@ pub(crate) fn ask_drawn(alloc: Global, lines: &[&str], rows: &str) -> Option<Str
 /// How `draw` ends with so many rows, and what it has written.
 fn drawn(alloc: Global, lines: &[&str], rows: &str) -> Option<(Result<(), Fault>, Vec<u8>)> {
     let rows = rows.parse().ok()?;
-    let given = given_by(alloc, lines)?;
-    Some(draw(alloc, &given, rows))
-}
-
-fn draw(alloc: Global, given: &Given, rows: u32) -> (Result<(), Fault>, Vec<u8>) {
-    let mut first = feed_of(&given.instance, given.first);
-    let mut second = feed_of(&given.input, given.second);
-    let mut writer = drain_of(alloc, given.output);
-    let answer = run_sheet(
-        alloc,
-        &Picture { rows, names: None },
-        &mut first,
-        &mut second,
-        &mut writer,
-        given.period,
-    );
-    (answer, writer.into_inner().taken)
+    let picture = Picture { rows, names: None };
+    Some(written(alloc, &given_by(alloc, lines)?, &picture))
 }
 
 /// Adds the text of an element.
@@ -56,22 +40,41 @@ fn tell_element(told: &mut String, tag: &str, text: &str) -> Option<()> {
     Some(())
 }
 
+/// Adds the text behind a tag, where there is one.
+fn add_element(told: &mut String, element: &str) -> Option<()> {
+    match element.split_once(">") {
+        Some((tag, text)) => tell_element(told, tag, text),
+        None => Some(()),
+    }
+}
+
 /// Each text of a picture, titles too, in their order.
 pub(crate) fn tell_words(alloc: Global, picture: &str) -> Option<String> {
     let mut told = String::from_str(alloc, "0").ok()?;
     for element in picture.split("<") {
-        if let Some((tag, text)) = element.split_once(">") {
-            tell_element(&mut told, tag, text)?;
-        }
+        add_element(&mut told, element)?;
     }
     Some(told)
+}
+
+/// Adds the bar of a rectangle.
+fn add_bar(alloc: Global, told: &mut String, rectangle: &str) -> Option<()> {
+    told.push_str(tell_bar(alloc, rectangle)?.as_str()).ok()
+}
+
+/// Adds the bars of rectangles.
+fn add_bars(alloc: Global, told: &mut String, rectangles: &str) -> Option<()> {
+    for rectangle in rectangles.split("<rect ") {
+        add_bar(alloc, told, rectangle)?;
+    }
+    Some(())
 }
 
 /// The bars of a picture in their order.
 fn tell_bars(alloc: Global, picture: &str) -> Option<String> {
     let mut told = String::from_str(alloc, "0").ok()?;
-    for rectangle in picture.split("<rect ").skip(1) {
-        told.push_str(tell_bar(alloc, rectangle)?.as_str()).ok()?;
+    if let Some((_, rectangles)) = picture.split_once("<rect ") {
+        add_bars(alloc, &mut told, rectangles)?;
     }
     Some(told)
 }
@@ -85,11 +88,15 @@ fn tell_picture(alloc: Global, picture: &str) -> Option<String> {
     Some(told)
 }
 
+/// The word at a place, or none.
+fn word_at<'a>(words: &[&'a str], place: usize) -> &'a str {
+    words.get(place).copied().unwrap_or("")
+}
+
 /// The class, the beginning and the length of a bar; nothing for a rectangle that is none. The words stand between its
 /// quotation marks.
 fn spell_bar(alloc: Global, words: &[&str]) -> Option<String> {
-    let is_bar = words.get(0).copied() == Some("class=") && words.get(2).copied() == Some(" x=");
-    if !is_bar {
+    if word_at(words, 0) != "class=" || word_at(words, 2) != " x=" {
         return Some(String::new(alloc));
     }
     let class = words.get(1)?;
@@ -101,24 +108,36 @@ fn spell_bar(alloc: Global, words: &[&str]) -> Option<String> {
 /// The bar of a rectangle.
 fn tell_bar(alloc: Global, rectangle: &str) -> Option<String> {
     let mut words = Vec::new(alloc);
-    for word in rectangle.split("\"").take(6) {
+    for word in rectangle.split("\"") {
         words.push(word).ok()?;
     }
     spell_bar(alloc, &words)
 }
 
+/// How many elements are open behind a tag, none where one ends that never began.
+fn depth_behind(depth: u64, tag: &str) -> Option<u64> {
+    if tag.starts_with("/") {
+        return depth.checked_sub(1);
+    }
+    if tag.contains("/>") {
+        return Some(depth);
+    }
+    depth.checked_add(1)
+}
+
+/// How many elements are open behind tags, none where one ends that never began.
+fn depth_of(tags: &str) -> Option<u64> {
+    let mut depth = 0;
+    for tag in tags.split("<") {
+        depth = depth_behind(depth, tag)?;
+    }
+    Some(depth)
+}
+
 /// Whether as many elements end as begin, and none before it begins.
 fn is_closed(picture: &str) -> bool {
-    let mut depth: u64 = 0;
-    for tag in picture.split("<").skip(1) {
-        if tag.starts_with("/") {
-            if depth == 0 {
-                return false;
-            }
-            depth -= 1;
-        } else if !tag.contains("/>") {
-            depth = depth.saturating_add(1);
-        }
+    match picture.split_once("<") {
+        Some((_, tags)) => depth_of(tags) == Some(0),
+        None => true,
     }
-    depth == 0
 }

@@ -48,7 +48,7 @@ fn read_device(words: &[&str]) -> Option<Device> {
         piece: usize::try_from(small(words, 0)?).ok()?,
         interrupted: small(words, 1)?,
         calls: small(words, 2)?,
-        takes_none: words.get(3).copied() == Some("none"),
+        takes_none: words.get(3).copied().unwrap_or("") == "none",
     })
 }
 

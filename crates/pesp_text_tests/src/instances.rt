@@ -1,7 +1,7 @@
 //! Instances as they are read, and what times are worth.
 
 use crate::given::{period_of, text_of};
-use pesp_cases::{numbers, spell_list, words_of};
+use pesp_cases::{spell_list, words_of};
 use pesp_instance::{Instance, read_instance};
 use pesp_problem::{Row, Score, score};
 use std::alloc::Global;
@@ -25,13 +25,18 @@ fn tell_read(alloc: Global, text: &[u8], period: u32) -> Option<String> {
     }
 }
 
+/// The labels of events.
+fn spell_events(alloc: Global, events: &[i64]) -> Option<String> {
+    if events.is_empty() {
+        return String::from_str(alloc, "none").ok();
+    }
+    spell_list(alloc, events)
+}
+
 /// The period, and the labels of the events.
 fn spell_head(alloc: Global, instance: &Instance) -> Option<String> {
     let period = instance.period();
-    if instance.events().is_empty() {
-        return format!(in alloc; "period {period}, events none").ok();
-    }
-    let events = spell_list(alloc, instance.events())?;
+    let events = spell_events(alloc, instance.events())?;
     format!(in alloc; "period {period}, events {events}").ok()
 }
 
@@ -78,6 +83,9 @@ pub(crate) fn ask_score(alloc: Global, lines: &[&str], rest: &str) -> Option<Str
 
 /// A list of times.
 pub(crate) fn times_of(alloc: Global, rest: &str) -> Option<Vec<u32>> {
-    let once = format!(in alloc; "1 {rest}").ok()?;
-    numbers(alloc, &words_of(alloc, once.as_str())?)
+    let mut times = Vec::new(alloc);
+    for word in &words_of(alloc, rest)? {
+        times.push(word.parse().ok()?).ok()?;
+    }
+    Some(times)
 }

@@ -1,7 +1,7 @@
 //! Runs with names.
 
 use crate::devices::Device;
-use crate::drain::{Drain, drain_of};
+use crate::drain::drain_of;
 use crate::drawings::tell_words;
 use crate::feed::feed_of;
 use crate::given::{Given, given_by, text_of};
@@ -9,7 +9,6 @@ use crate::telling::{tell_fault, tell_run};
 use pesp_faults::Fault;
 use pesp_names::Names;
 use pesp_report_run::{Diagrams, NamedReport, Picture, Sheet, read_whole_names, run_sheet};
-use pesp_stream::Counted;
 use std::alloc::Global;
 
 /// The names of the text behind the line `names`.
@@ -20,11 +19,11 @@ fn names_of(alloc: Global, lines: &[&str]) -> Option<Result<Names, Fault>> {
 }
 
 /// How a run that writes a sheet ends, and what it has written.
-fn written<P: Sheet>(
+pub(crate) fn written<P: Sheet>(
     alloc: Global,
     given: &Given,
     sheet: &P,
-) -> (Result<(), Fault>, Counted<Drain>) {
+) -> (Result<(), Fault>, Vec<u8>) {
     let mut first = feed_of(&given.instance, given.first);
     let mut second = feed_of(&given.input, given.second);
     let mut writer = drain_of(alloc, given.output);
@@ -36,12 +35,12 @@ fn written<P: Sheet>(
         &mut writer,
         given.period,
     );
-    (answer, writer)
+    (answer, writer.into_inner().taken)
 }
 
 fn report(alloc: Global, given: &Given, names: &Names) -> Option<String> {
-    let (answer, writer) = written(alloc, given, &NamedReport(names));
-    tell_run(alloc, answer, writer)
+    let (answer, taken) = written(alloc, given, &NamedReport(names));
+    tell_run(alloc, answer, &taken)
 }
 
 /// What `report` writes with names.
@@ -65,8 +64,8 @@ fn draw(alloc: Global, given: &Given, names: &Names) -> Option<String> {
         rows: 100,
         names: Some(names),
     };
-    let (answer, writer) = written(alloc, given, &picture);
-    tell_drawn(alloc, answer, &writer.into_inner().taken)
+    let (answer, taken) = written(alloc, given, &picture);
+    tell_drawn(alloc, answer, &taken)
 }
 
 /// The words of what `draw` writes with names.
@@ -78,20 +77,33 @@ pub(crate) fn ask_named_draw(alloc: Global, lines: &[&str]) -> Option<String> {
 }
 
 fn diagram(alloc: Global, given: &Given, names: &Names) -> Option<String> {
-    let (answer, writer) = written(alloc, given, &Diagrams(names));
+    let (answer, taken) = written(alloc, given, &Diagrams(names));
     match answer {
-        Ok(()) => tell_shapes(alloc, str::from_utf8(&writer.into_inner().taken).ok()?),
-        Err(fault) => tell_fault(alloc, &fault, &writer.into_inner().taken),
+        Ok(()) => tell_shapes(alloc, str::from_utf8(&taken).ok()?),
+        Err(fault) => tell_fault(alloc, &fault, &taken),
     }
+}
+
+/// Adds a titled shape, with its title.
+fn add_shape(told: &mut String, group: &str) -> Option<()> {
+    let (title, rest) = group.split_once("</title><")?;
+    let (shape, _) = rest.split_once("/></g>")?;
+    write!(told, " {title}: {shape};").ok()
+}
+
+/// Adds the titled shapes of groups.
+fn add_shapes(told: &mut String, groups: &str) -> Option<()> {
+    for group in groups.split("<g><title>") {
+        add_shape(told, group)?;
+    }
+    Some(())
 }
 
 /// The shapes that are titled in a picture, each with its title.
 fn tell_shapes(alloc: Global, picture: &str) -> Option<String> {
     let mut told = String::from_str(alloc, "0").ok()?;
-    for group in picture.split("<g><title>").skip(1) {
-        let (title, rest) = group.split_once("</title><")?;
-        let (shape, _) = rest.split_once("/></g>")?;
-        write!(told, " {title}: {shape};").ok()?;
+    if let Some((_, groups)) = picture.split_once("<g><title>") {
+        add_shapes(&mut told, groups)?;
     }
     Some(told)
 }

@@ -3,9 +3,9 @@
 use crate::devices::Device;
 use crate::drain::drain_of;
 use crate::feed::feed_of;
-use crate::given::{Given, device_of, given_by, period_of, text_of};
+use crate::given::{Given, given_by, text_of};
 use crate::telling::{joined, tell_check, tell_fault, tell_run, tell_written};
-use pesp_cases::words_of;
+use pesp_cases::{small, split_word, words_of};
 use pesp_faults::Fault;
 use pesp_outside_run::{run_graft, run_split, run_work};
 use std::alloc::Global;
@@ -20,7 +20,7 @@ fn split(alloc: Global, given: &Given) -> Option<String> {
     let mut second = feed_of(&given.input, given.second);
     let mut writer = drain_of(alloc, given.output);
     let answer = run_split(alloc, &mut first, &mut second, &mut writer, given.period);
-    tell_run(alloc, answer, writer)
+    tell_run(alloc, answer, &writer.into_inner().taken)
 }
 
 /// A certificate with works grafted onto it, and what is told of them.
@@ -59,170 +59,87 @@ fn grafted(
     (answer, graft)
 }
 
-/// Grafts works onto a base for the instance of the lines.
-fn graft_onto(
-    alloc: Global,
-    lines: &[&str],
-    base: &[u8],
-    works: &[u8],
-) -> Option<(Result<(), Fault>, Graft)> {
-    let period = period_of(lines)?;
-    let instance = text_of(alloc, lines, "instance")?;
-    Some(grafted(alloc, &instance, base, works, period))
-}
-
 fn tell_graft(alloc: Global, graft: &Graft) -> Option<String> {
     let told = joined(alloc, &graft.told)?;
     let written = tell_written(alloc, 0, &graft.certificate)?;
     format!(in alloc; "{told} {written}").ok()
 }
 
-fn ask_grafted(alloc: Global, lines: &[&str], base: &[u8], works: &[u8]) -> Option<String> {
-    let (answer, graft) = graft_onto(alloc, lines, base, works)?;
-    match answer {
-        Ok(()) => tell_graft(alloc, &graft),
-        Err(fault) => tell_fault(alloc, &fault, &[]),
+/// What `graft` tells and writes, with the works of the input.
+fn tell_grafted(alloc: Global, given: &Given, base: &[u8]) -> Option<String> {
+    match grafted(alloc, &given.instance, base, &given.input, given.period) {
+        (Ok(()), graft) => tell_graft(alloc, &graft),
+        (Err(fault), _) => tell_fault(alloc, &fault, &[]),
     }
 }
 
 /// What `graft` tells and writes, with the works of the input.
 pub(crate) fn ask_graft(alloc: Global, lines: &[&str]) -> Option<String> {
     let base = text_of(alloc, lines, "base")?;
-    let works = text_of(alloc, lines, "input")?;
-    ask_grafted(alloc, lines, &base, &works)
+    tell_grafted(alloc, &given_by(alloc, lines)?, &base)
 }
 
-/// How many steps a work takes, for which job, and what the output is.
-#[derive(Clone, Copy)]
-struct Order {
-    steps: u32,
-    job: u64,
-    period: u32,
-    output: Device,
-}
-
-fn order_of(alloc: Global, lines: &[&str], steps: &str, job: &str) -> Option<Order> {
-    Some(Order {
-        steps: steps.parse().ok()?,
-        job: job.parse().ok()?,
-        period: period_of(lines)?,
-        output: device_of(alloc, lines, "output")?,
-    })
-}
-
-/// How `work` ends over a base, and what it writes.
-fn work_on(
-    alloc: Global,
-    instance: &[u8],
-    base: &[u8],
-    order: Order,
-) -> (Result<(), Fault>, Vec<u8>) {
-    let mut first = feed_of(instance, Device::whole());
-    let mut second = feed_of(base, Device::whole());
-    let mut writer = drain_of(alloc, order.output);
+/// How `work` ends for a job of the input in so many steps, and what it writes.
+fn worked(alloc: Global, given: &Given, steps: u32, job: u64) -> (Result<(), Fault>, Vec<u8>) {
+    let mut first = feed_of(&given.instance, given.first);
+    let mut second = feed_of(&given.input, given.second);
+    let mut writer = drain_of(alloc, given.output);
     let answer = run_work(
         alloc,
         &mut first,
         &mut second,
         &mut writer,
-        order.period,
-        order.steps.min(100_000),
-        order.job,
+        given.period,
+        steps.min(100_000),
+        job,
     );
     (answer, writer.into_inner().taken)
 }
 
-/// How `work` ends for a job of a base, and what it writes.
-fn work_for(
-    alloc: Global,
-    lines: &[&str],
-    base: &[u8],
-    steps: &str,
-    job: &str,
-) -> Option<(Result<(), Fault>, Vec<u8>)> {
-    let order = order_of(alloc, lines, steps, job)?;
-    let instance = text_of(alloc, lines, "instance")?;
-    Some(work_on(alloc, &instance, base, order))
-}
-
-fn ask_job(alloc: Global, lines: &[&str], steps: &str, job: &str) -> Option<String> {
-    let input = text_of(alloc, lines, "input")?;
-    let (answer, taken) = work_for(alloc, lines, &input, steps, job)?;
-    match answer {
-        Ok(()) => tell_written(alloc, 0, &taken),
-        Err(fault) => tell_fault(alloc, &fault, &[]),
+fn work(alloc: Global, given: &Given, steps: &str, job: &str) -> Option<String> {
+    match worked(alloc, given, steps.parse().ok()?, job.parse().ok()?) {
+        (Ok(()), taken) => tell_written(alloc, 0, &taken),
+        (Err(fault), _) => tell_fault(alloc, &fault, &[]),
     }
 }
 
 /// What `work STEPS JOB` writes for a job of the input.
 pub(crate) fn ask_work(alloc: Global, lines: &[&str], rest: &str) -> Option<String> {
-    let words = words_of(alloc, rest)?;
-    ask_job(alloc, lines, words.get(0)?, words.get(1)?)
+    let (steps, job) = split_word(rest);
+    work(alloc, &given_by(alloc, lines)?, steps, job)
 }
 
-/// The work that `work` writes for a job of a base.
-fn work_text(
-    alloc: Global,
-    lines: &[&str],
-    base: &[u8],
-    steps: &str,
-    job: &str,
-) -> Option<Vec<u8>> {
-    let (answer, taken) = work_for(alloc, lines, base, steps, job)?;
-    answer.ok()?;
-    Some(taken)
-}
-
-/// Adds the work that `work` writes for a job of a base.
-fn add_work(
-    alloc: Global,
-    works: &mut Vec<u8>,
-    lines: &[&str],
-    base: &[u8],
-    steps: &str,
-    job: &str,
-) -> Option<()> {
-    works
-        .extend_from_slice(&work_text(alloc, lines, base, steps, job)?)
-        .ok()
+/// Adds the work that `work` writes for a job of the input in so many steps.
+fn add_work(alloc: Global, works: &mut Vec<u8>, given: &Given, steps: u32, job: u64) -> Option<()> {
+    match worked(alloc, given, steps, job) {
+        (Ok(()), taken) => works.extend_from_slice(&taken).ok(),
+        _ => None,
+    }
 }
 
 /// The works that `work STEPS JOB ..` writes, one behind the other.
-fn works_for(alloc: Global, lines: &[&str], base: &[u8], words: &[&str]) -> Option<Vec<u8>> {
-    let (steps, jobs) = words.split_first()?;
+fn works_for(alloc: Global, given: &Given, words: &[&str]) -> Option<Vec<u8>> {
+    let steps = small(words, 0)?;
     let mut works = Vec::new(alloc);
-    for job in jobs {
-        add_work(alloc, &mut works, lines, base, steps, job)?;
+    for job in words.get(1..)? {
+        add_work(alloc, &mut works, given, steps, job.parse().ok()?)?;
     }
     Some(works)
 }
 
-/// The certificate of a base, once works are grafted onto it.
-fn certificate_with(alloc: Global, lines: &[&str], base: &[u8], works: &[u8]) -> Option<Vec<u8>> {
-    let (answer, graft) = graft_onto(alloc, lines, base, works)?;
-    answer.ok()?;
-    Some(graft.certificate)
+/// What `check` says of the certificate of the input, once works are grafted onto it.
+fn check_grafted(alloc: Global, given: &Given, works: &[u8]) -> Option<String> {
+    match grafted(alloc, &given.instance, &given.input, works, given.period) {
+        (Ok(()), graft) => tell_check(alloc, &given.instance, &graft.certificate, given.period),
+        _ => None,
+    }
 }
 
-/// The certificate of a base, once the works that `work STEPS JOB ..` writes are grafted onto it.
-fn worked_on(alloc: Global, lines: &[&str], base: &[u8], rest: &str) -> Option<Vec<u8>> {
-    let works = works_for(alloc, lines, base, &words_of(alloc, rest)?)?;
-    certificate_with(alloc, lines, base, &works)
-}
-
-/// The certificate of the input, once the works that `work STEPS JOB ..` writes are grafted onto it.
-fn worked(alloc: Global, lines: &[&str], rest: &str) -> Option<Vec<u8>> {
-    worked_on(alloc, lines, &text_of(alloc, lines, "input")?, rest)
+fn check_worked(alloc: Global, given: &Given, words: &[&str]) -> Option<String> {
+    check_grafted(alloc, given, &works_for(alloc, given, words)?)
 }
 
 /// What `check` says of the certificate of the input, once the works that `work` writes for these jobs are grafted onto it.
 pub(crate) fn ask_worked(alloc: Global, lines: &[&str], rest: &str) -> Option<String> {
-    let period = period_of(lines)?;
-    let certificate = worked(alloc, lines, rest)?;
-    tell_check(
-        alloc,
-        &text_of(alloc, lines, "instance")?,
-        &certificate,
-        period,
-    )
+    check_worked(alloc, &given_by(alloc, lines)?, &words_of(alloc, rest)?)
 }

@@ -7,24 +7,31 @@ use crate::given::{Given, given_by, period_of, text_of};
 use crate::telling::{tell_check, tell_count, tell_run, tell_verdict};
 use pesp_board::Board;
 use pesp_check_run::run_check;
+use pesp_faults::Fault;
 use pesp_progress::Milestones;
 use pesp_report_run::{run_report, run_violations};
 use pesp_search::{Nobody, Observer, Part};
 use pesp_solve_run::{run_solve, run_solve_from, run_solve_watched};
 use std::alloc::Global;
 
-/// What `solve` writes in so many steps.
-pub(crate) fn ask_solve(alloc: Global, lines: &[&str], steps: &str) -> Option<String> {
-    let steps = steps.parse().ok()?;
-    solve(alloc, &given_by(alloc, lines)?, steps)
-}
-
-fn solve(alloc: Global, given: &Given, steps: u32) -> Option<String> {
+/// How `solve` ends in so many steps, and what it has written.
+fn solved(alloc: Global, given: &Given, steps: u32) -> (Result<(), Fault>, Vec<u8>) {
     let mut reader = feed_of(&given.instance, given.first);
     let mut writer = drain_of(alloc, given.output);
     let steps = steps.min(100_000);
     let answer = run_solve(alloc, &mut reader, &mut writer, given.period, steps);
-    tell_run(alloc, answer, writer)
+    (answer, writer.into_inner().taken)
+}
+
+fn solve(alloc: Global, given: &Given, steps: u32) -> Option<String> {
+    let (answer, taken) = solved(alloc, given, steps);
+    tell_run(alloc, answer, &taken)
+}
+
+/// What `solve` writes in so many steps.
+pub(crate) fn ask_solve(alloc: Global, lines: &[&str], steps: &str) -> Option<String> {
+    let steps = steps.parse().ok()?;
+    solve(alloc, &given_by(alloc, lines)?, steps)
 }
 
 /// What is told of a search, each line with a `/` for its end.
@@ -69,30 +76,17 @@ pub(crate) fn ask_progress(alloc: Global, lines: &[&str], steps: &str) -> Option
     watched(alloc, &text_of(alloc, lines, "instance")?, period, steps)
 }
 
-/// The certificate that `solve` writes in so many steps.
-fn solved(alloc: Global, instance: &[u8], period: u32, steps: u32) -> Option<Vec<u8>> {
-    let mut reader = feed_of(instance, Device::whole());
-    let mut writer = drain_of(alloc, Device::whole());
-    let steps = steps.min(100_000);
-    run_solve(alloc, &mut reader, &mut writer, period, steps).ok()?;
-    Some(writer.into_inner().taken)
-}
-
-/// What `check` says of the certificate that `solve` writes in so many steps for the text of an instance.
-fn check_solved(alloc: Global, instance: &[u8], period: u32, steps: u32) -> Option<String> {
-    tell_check(
-        alloc,
-        instance,
-        &solved(alloc, instance, period, steps)?,
-        period,
-    )
+fn check_solved(alloc: Global, given: &Given, steps: u32) -> Option<String> {
+    match solved(alloc, given, steps) {
+        (Ok(()), taken) => tell_check(alloc, &given.instance, &taken, given.period),
+        _ => None,
+    }
 }
 
 /// What `check` says of the certificate that `solve` writes in so many steps.
 pub(crate) fn ask_solved(alloc: Global, lines: &[&str], steps: &str) -> Option<String> {
-    let period = period_of(lines)?;
     let steps = steps.parse().ok()?;
-    check_solved(alloc, &text_of(alloc, lines, "instance")?, period, steps)
+    check_solved(alloc, &given_by(alloc, lines)?, steps)
 }
 
 /// The certificate that `solve` writes in so many steps from the times of a text.
@@ -142,7 +136,7 @@ fn check_on(alloc: Global, given: &Given, input: Device) -> Option<String> {
     let mut second = feed_of(&given.input, input);
     let mut writer = drain_of(alloc, given.output);
     let answer = run_check(alloc, &mut first, &mut second, &mut writer, given.period);
-    tell_verdict(alloc, answer, writer)
+    tell_verdict(alloc, answer, &writer.into_inner().taken)
 }
 
 fn check_in_pieces(alloc: Global, given: &Given, piece: &str) -> Option<String> {
@@ -159,7 +153,7 @@ fn tell_report(alloc: Global, given: &Given) -> Option<String> {
     let mut second = feed_of(&given.input, given.second);
     let mut writer = drain_of(alloc, given.output);
     let answer = run_report(alloc, &mut first, &mut second, &mut writer, given.period);
-    tell_run(alloc, answer, writer)
+    tell_run(alloc, answer, &writer.into_inner().taken)
 }
 
 /// What `report` writes.
@@ -172,7 +166,7 @@ fn tell_violations(alloc: Global, given: &Given) -> Option<String> {
     let mut second = feed_of(&given.input, given.second);
     let mut writer = drain_of(alloc, given.output);
     let answer = run_violations(alloc, &mut first, &mut second, &mut writer, given.period);
-    tell_count(alloc, answer, writer)
+    tell_count(alloc, answer, &writer.into_inner().taken)
 }
 
 /// What `report --violations` writes, behind how many activities are violated.

@@ -3,7 +3,7 @@
 use crate::commands::words_with_name;
 use crate::desk::{Desk, Pages};
 use crate::given::text_of;
-use crate::telling::joined;
+use crate::telling::{joined, tell_written};
 use pesp_cli::status_of_words;
 use std::alloc::Global;
 use std::rt::{Clock, Files};
@@ -19,15 +19,13 @@ pub(crate) fn ask_status<R: AllocGlobal + Input + Print + Eprint + Files + Clock
 
 /// The status, and behind it what was written and, behind `told`, what went to standard error.
 fn tell_pages(alloc: Global, status: u8, pages: &Pages) -> Option<String> {
+    if pages.told.is_empty() {
+        return tell_written(alloc, status, &pages.written);
+    }
+    let space = if pages.written.is_empty() { "" } else { " " };
     let written = joined(alloc, &pages.written)?;
     let told = joined(alloc, &pages.told)?;
-    if told.is_empty() {
-        return format!(in alloc; "{status} {written}").ok();
-    }
-    if written.is_empty() {
-        return format!(in alloc; "{status} told {told}").ok();
-    }
-    format!(in alloc; "{status} {written} told {told}").ok()
+    format!(in alloc; "{status}{space}{written} told {told}").ok()
 }
 
 /// How the program ends for these words, whose standard input is this text.

@@ -1,12 +1,11 @@
 //! Answers of runs.
 
 use crate::devices::Device;
-use crate::drain::{Drain, drain_of};
+use crate::drain::drain_of;
 use crate::feed::feed_of;
 use pesp_check::Verdict;
 use pesp_check_run::{VerdictFault, run_check, status_of_verdict};
 use pesp_faults::{Fault, status_of};
-use pesp_stream::Counted;
 use std::alloc::Global;
 
 /// The lines of a text, each with a `/` for its end.
@@ -40,25 +39,23 @@ pub(crate) fn tell_fault(alloc: Global, fault: &Fault, taken: &[u8]) -> Option<S
 }
 
 /// How a run without a status of its own ended, and what it has written.
-pub(crate) fn tell_run(
-    alloc: Global,
-    answer: Result<(), Fault>,
-    writer: Counted<Drain>,
-) -> Option<String> {
-    tell_end(alloc, answer.map(|()| 0), writer)
+pub(crate) fn tell_run(alloc: Global, answer: Result<(), Fault>, taken: &[u8]) -> Option<String> {
+    match answer {
+        Ok(()) => tell_written(alloc, 0, taken),
+        Err(fault) => tell_fault(alloc, &fault, taken),
+    }
 }
 
 /// What `check` says of a certificate, and what it has written.
 pub(crate) fn tell_verdict(
     alloc: Global,
     answer: Result<Verdict, VerdictFault>,
-    writer: Counted<Drain>,
+    taken: &[u8],
 ) -> Option<String> {
-    let answer = match answer {
-        Ok(verdict) => Ok(status_of_verdict(verdict)),
-        Err(fault) => Err(Fault::from(fault)),
-    };
-    tell_end(alloc, answer, writer)
+    match answer {
+        Ok(verdict) => tell_written(alloc, status_of_verdict(verdict), taken),
+        Err(fault) => tell_fault(alloc, &Fault::from(fault), taken),
+    }
 }
 
 /// What `check` says of the text of a certificate for that of an instance.
@@ -72,30 +69,20 @@ pub(crate) fn tell_check(
     let mut second = feed_of(certificate, Device::whole());
     let mut writer = drain_of(alloc, Device::whole());
     let answer = run_check(alloc, &mut first, &mut second, &mut writer, period);
-    tell_verdict(alloc, answer, writer)
+    tell_verdict(alloc, answer, &writer.into_inner().taken)
 }
 
 /// How many things a run found, and what it has written.
 pub(crate) fn tell_count(
     alloc: Global,
     answer: Result<usize, Fault>,
-    writer: Counted<Drain>,
+    taken: &[u8],
 ) -> Option<String> {
-    let taken = writer.into_inner().taken;
     match answer {
         Ok(count) => {
-            let text = joined(alloc, &taken)?;
+            let text = joined(alloc, taken)?;
             format!(in alloc; "{count} {text}").ok()
         }
-        Err(fault) => tell_fault(alloc, &fault, &taken),
-    }
-}
-
-/// How a run ended, with which status where it has one of its own, and what it has written.
-fn tell_end(alloc: Global, answer: Result<u8, Fault>, writer: Counted<Drain>) -> Option<String> {
-    let taken = writer.into_inner().taken;
-    match answer {
-        Ok(status) => tell_written(alloc, status, &taken),
-        Err(fault) => tell_fault(alloc, &fault, &taken),
+        Err(fault) => tell_fault(alloc, &fault, taken),
     }
 }

@@ -25,7 +25,7 @@ fn tell_check(alloc: Global, instance: &[u8], certificate: &[u8], period: u32) -
     let mut second = feed_of(certificate, Device::whole());
     let mut writer = drain_of(alloc, Device::whole());
     let answer = run_check_sharp(alloc, &mut first, &mut second, &mut writer, period);
-    tell_verdict(alloc, answer, writer)
+    tell_verdict(alloc, answer, &writer.into_inner().taken)
 }
 
 /// What `check --sharp` says of the certificate that `solve --sharp` writes in so many steps for the text of an instance.

@@ -43,10 +43,11 @@ is_stale() {
     )
 }
 
-# How many crates are proved side by side: one for each processor and each 4 GB of free memory.
+# How many crates are proved side by side: one for each processor and each 4 GB of memory, of that which is available or, with
+# the word MemTotal, of all.
 side_by_side() {
-    awk -v processors="$(nproc)" '
-        /^MemAvailable:/ { room = int($2 / 4000000) }
+    awk -v processors="$(nproc)" -v memory="${1-MemAvailable}:" '
+        $1 == memory { room = int($2 / 4000000) }
         END { most = room < processors ? room : processors; print most < 1 ? 1 : most }
     ' /proc/meminfo
 }
@@ -73,7 +74,7 @@ why_none_is_kept() {
 minutes() {
     halves=3
     [ -z "$(why_none_is_kept)" ] || halves=6
-    echo "$((halves + $(crates_of "$1" | wc -l) * halves / 2 / $(side_by_side)))"
+    echo "$((halves + $(crates_of "$1" | wc -l) * halves / 2 / $(side_by_side MemTotal)))"
 }
 
 # The program to be handed on: the proved one, or the one without proofs where that is asked for.

@@ -1,6 +1,6 @@
 //! The search for a forest whose cycles give a strong bound.
 
-use crate::drawing::{Exchange, draw};
+use crate::exchange::{Exchange, draw};
 use crate::goal::{Goal, open_in_all};
 use crate::heat::Heat;
 use crate::settings::DRAWN_EACH;

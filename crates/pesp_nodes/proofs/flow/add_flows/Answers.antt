@@ -1,5 +1,5 @@
-use Rattle.std.proofs.Common.{arith, FitsSigned, ◌≡◌, ◌≤◌, ◌-◌, ◌<◌, ◌*◌, ◌^◌, ◌∙◌, ap, pos, length, get_or}
-use Rattle.std.specs.Prelude.{◌+ℤ◌, ◌*ℤ◌, List, unsigned_abs}
+use Rattle.std.proofs.Common.{arith, FitsSigned, ◌-◌, ◌<◌, ◌∙◌, ap, pos, length, get_or}
+use Rattle.std.specs.Prelude.{◌+ℤ◌, ◌*ℤ◌, List}
 use Rattle.std.specs.Int.{w64}
 use Rattle.std.proofs.lemmas.Int.{ints, to_z-of_z}
 use Rattle.pesp_problem.specs.declared.pair.Pair.{Pair}

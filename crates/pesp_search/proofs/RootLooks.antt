@@ -127,7 +127,16 @@ root_refused p mid new job leaf l g =
     let orderly = step_is_orderly p opening (Lend (Ok (Some job))) mid l.limits l.small (opening_is_orderly p) l.lends in
     let count : branches mid.tree ≡ 0 = ap (λ (s : State). branches s.tree) l.lends.state in
     let many = large_has_many p mid job.number 0 (work_of leaf) l.limits l.small orderly count (omega (arith, none)) g.1 in
-    subst (λ (n : ℕ). 20000000 < (0 + n + 1) * length p.table) none many
+    record {
+      many = subst (λ (n : ℕ). 20000000 < (0 + n + 1) * length p.table) none many;
+      first = opening;
+      worked = opening_is_worked p;
+      used = 0;
+      few = omega arith;
+      last = mid;
+      grows = record { events = Lend (Ok (Some job)) ∷ []; run = (mid, l.lends, refl); branches = count };
+      full = record { number = job.number; work = work_of leaf; few = omega (arith, none); large = g.1 };
+    }
 
 -- a closed root leaves no value
 gone : (p : ProblemValue) (mid new : State) (job : Job) (work : Work) (end : Leaf) → LendsLeaf p opening job mid → (t : Takes p mid job.number work new) → t.part ≡ Ends end → new.tree ≡ Ends end

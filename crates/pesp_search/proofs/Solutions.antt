@@ -24,6 +24,7 @@ use Rattle.pesp_search_laws.proofs.Ends.{same_net, has_branches, fewer_than_room
 use Rattle.pesp_search_laws.specs.Lifted.{IsFrugal}
 use Rattle.pesp_search.specs.declared.refusal.SolveRefusal.{SolveRefusal}
 use Rattle.pesp_search.specs.declared.refusal.SolveRefusal.TheVariants.{Memory, TableTooLarge, PairsTooMany}
+use Rattle.pesp_search.specs.Refusals.{MeetsLimit}
 use Rattle.pesp_search.specs.Solving.{IsSolved, CostsNoMore, IsSearchRefusal}
 use Rattle.pesp_search.specs.Singles.{IsAboveSingles}
 use Rattle.pesp_search.specs.Rooting.{IsRootBound}
@@ -90,7 +91,7 @@ costs_no_more instance p times now content limits of c valid cheap is =
 pub refused_for_rows : (instance : Pesp) (p : ProblemValue) (steps : ℕ) (r : SolveRefusal) → length p.table ≤ length instance.rows → AreTurnsRefused p steps r → IsSearchRefusal instance steps r
 refused_for_rows instance p steps Memory few h = tt
 refused_for_rows instance p steps TableTooLarge few h = absurd h
-refused_for_rows instance p steps PairsTooMany few h = let more = mul-le-mul_left (steps + 1) few in omega (arith, h, more)
+refused_for_rows instance p steps PairsTooMany few h = let many = h.many in let more = mul-le-mul_left (steps + 1) few in omega (arith, many, more)
 
 one_more : (n : ℕ) → 1 ≤ n + 1
 one_more n = omega arith
@@ -99,6 +100,38 @@ pub refused_at_once : (instance : Pesp) (steps : ℕ) (r : SolveRefusal) → IsS
 refused_at_once instance steps Memory h = tt
 refused_at_once instance steps TableTooLarge h = h
 refused_at_once instance steps PairsTooMany h = let more : 1 * length instance.rows ≤ (steps + 1) * length instance.rows = mul-le-mul_right (length instance.rows) (one_more steps) in omega (arith, h, more)
+
+-- the limit that the turns on a problem of the instance met
+pub meets_limit : (instance : Pesp) (p : ProblemValue) (steps : ℕ) (r : SolveRefusal) → IsProblemOf instance p → IsFrugal p.table → AreTurnsRefused p steps r → MeetsLimit instance steps r
+meets_limit instance p steps Memory of frugal h = tt
+meets_limit instance p steps TableTooLarge of frugal h = absurd h
+meets_limit instance p steps PairsTooMany of frugal h = record { problem = p; of = of; frugal = frugal; fills = h }
+
+-- and by more steps too
+pub meets_at_once : (instance : Pesp) (steps : ℕ) (r : SolveRefusal) → MeetsLimit instance 0 r → MeetsLimit instance steps r
+meets_at_once instance steps Memory h = tt
+meets_at_once instance steps TableTooLarge h = h
+meets_at_once instance steps PairsTooMany h =
+    let p = h.problem in
+    let fills = h.fills in
+    let many = fills.many in
+    let few = fills.few in
+    let more : 1 * length p.table ≤ (steps + 1) * length p.table = mul-le-mul_right (length p.table) (one_more steps) in
+    record {
+      problem = p;
+      of = h.of;
+      frugal = h.frugal;
+      fills = record {
+        many = omega (arith, many, more);
+        first = fills.first;
+        worked = fills.worked;
+        used = fills.used;
+        few = omega (arith, few);
+        last = fills.last;
+        grows = fills.grows;
+        full = fills.full;
+      };
+    }
 
 -- what was told as a refusal is so
 pub told_as : {A E : Type 0} (r : Result A E) (e : E) (P : E → Type 0) → IsErrAnd r (λ f. f ≡ e) → P e → IfErr r P

@@ -27,7 +27,7 @@ use Rattle.pesp_search.specs.declared.refusal.SolveRefusal.TheVariants.{Memory, 
 use Rattle.pesp_search.specs.Refusals.{MeetsLimit}
 use Rattle.pesp_search.specs.Solving.{IsSolved, CostsNoMore, IsSearchRefusal}
 use Rattle.pesp_search.specs.Singles.{IsAboveSingles}
-use Rattle.pesp_search.specs.Rooting.{IsRootBound}
+use Rattle.pesp_search.specs.Rooting.{IsRootSupported, IsRootBound}
 use Rattle.pesp_search.specs.Searching.{IsAsCheapAs, AreAllTurns, AreTurnsRefused}
 
 -- ---- the bound
@@ -41,21 +41,32 @@ bounded_least (Some a) (Some c) l cost e = by_test (nat_le c a) e
     by_test true e = cc
     by_test false e = cc
 
+-- an open answer has a bound
+open_is : (answer : Answer) → IsOpenAnswer answer → (l : ℕ) × (cost : Option ℕ) × (answer ≡ Bounded l cost)
+open_is (Optimal c) opens = absurd opens
+open_is Infeasible opens = absurd opens
+open_is (Bounded l cost) opens = (l, cost, refl)
+
 pub is_solved : (instance : Pesp) (p : ProblemValue) (steps used : ℕ) (first now : State) (content : Content) → KeepsNetLimits p.network → IsProblemOf instance p → IsFrugal p.table → IsRootBound p first → AreAllTurns p steps first used now → IsCertificateOf p instance.events now content → IsValid instance content → IsSolved instance steps used content
 is_solved instance p steps used first now content limits of frugal bound turns c valid = record {
   valid = valid;
   few = turns.few;
   finished = λ opens. finish turns.finished opens;
+  supported = λ opens.
+      let says = open_is content.answer opens in
+      let there : IsRootSupported (instance_net instance) p.table = subst (λ (n : Net). IsRootSupported n p.table) (same_net instance p of) (bound says.0 (reached says.0 says.1 says.2)).0 in
+      subst (λ (table : List (List SignedRow)). IsRootSupported (instance_net instance) table) (sym c.cycles) there;
   least = λ l cost e.
-      let here : least p now ≡ Some l = bounded_least (least p now) (best_cost p now) l cost (sym c.answer ∙ e) in
-      let reached : IsAtMost (least p first) (Some l) = subst (IsAtMost (least p first)) here turns.least in
-      let there : IsAboveSingles (instance_net instance) p.table l = subst (λ (n : Net). IsAboveSingles n p.table l) (same_net instance p of) (bound l reached) in
+      let there : IsAboveSingles (instance_net instance) p.table l = subst (λ (n : Net). IsAboveSingles n p.table l) (same_net instance p of) (bound l (reached l cost e)).1 in
       subst (λ (table : List (List SignedRow)). IsAboveSingles (instance_net instance) table l) (sym c.cycles) there;
   branches = has_branches instance p used now content of turns.worked c;
   frugal = subst IsFrugal (sym c.cycles) frugal;
   room = fewer_than_room instance p used now content of turns.worked c;
 }
   where
+    reached : (l : ℕ) (cost : Option ℕ) → content.answer ≡ Bounded l cost → IsAtMost (least p first) (Some l)
+    reached l cost e = let here : least p now ≡ Some l = bounded_least (least p now) (best_cost p now) l cost (sym c.answer ∙ e) in subst (IsAtMost (least p first)) here turns.least
+
     finish : (used ≡ steps) ⊎ ((path : List (Cut × Side)) → IsOpen p now path → ⊥) → IsOpenAnswer content.answer → used ≡ steps
     finish (inl all) opens = all
     finish (inr closed) opens = absurd (not_open p used now instance.events content limits turns.worked closed c opens)

@@ -139,8 +139,8 @@ pub(crate) fn solve_on<O: Observer>(
 }
 
 /// Searches for a best timetable, by at most so many splits of a leaf. The certificate is valid for the instance. An answer
-/// that is open has used all splits; its bound is at least the value at the root of no pairs and of each single pair whose
-/// multiplier is 1 or -1. The tree has as many branches as splits were used, fewer than the room of its root, and each of them
+/// that is open has used all splits, and propagation doesn't shut the root of its tree; its bound is at least the value at the
+/// root of no pairs and of each single pair whose multiplier is 1 or -1. The tree has as many branches as splits were used, fewer than the room of its root, and each of them
 /// leaves both its parts a value. Each cycle passes no row twice, and some row that no other cycle passes.
 ///
 /// Refused as `TableTooLarge` only where the square of the number of activities is above 10000000 and the fundamental walks of

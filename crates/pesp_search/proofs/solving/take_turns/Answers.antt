@@ -22,8 +22,7 @@ pub returns-in-TreeTooLarge-clause-refused : goal.returns-in-TreeTooLarge-clause
 returns-in-TreeTooLarge-clause-refused g c =
     let done = c.in_ok-ended.ensures in
     let many = rw c.in-TreeTooLarge.is at (done.counted c.requires.searched c.requires.worked) in
-    let ends = rw c.in-TreeTooLarge.is at done.ends in
-    fills_tree c.args.search.now.board.problem c.args.search.now.known.reduced c.args.steps c.in_ok-ended.ended.used c.args.search.now.board.state c.run.new.self.board.state done.few done.grows c.requires.worked many ends
+    fills_tree c.args.search.now.board.problem c.args.search.now.known.reduced c.args.steps c.in_ok-ended.ended.used c.args.search.now.board.state c.run.new.self.board.state done.few done.grows c.requires.worked many (λ settled. rw c.in-TreeTooLarge.is at (done.ends settled))
 
 pub unreachable-requires : goal.unreachable-requires
 unreachable-requires g c = rw c.in-NumbersSpent.is at (c.in_ok-ended.ensures.counted c.requires.searched c.requires.worked)

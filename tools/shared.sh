@@ -43,18 +43,38 @@ is_stale() {
     )
 }
 
-# How many crates are proved side by side: one for each processor and each 4 GB of free memory.
+# How many crates are proved side by side: one for each processor and each 4 GB of memory, of that which is available or, with
+# the word MemTotal, of all.
 side_by_side() {
-    awk -v processors="$(nproc)" '
-        /^MemAvailable:/ { room = int($2 / 4000000) }
+    awk -v processors="$(nproc)" -v memory="${1-MemAvailable}:" '
+        $1 == memory { room = int($2 / 4000000) }
         END { most = room < processors ? room : processors; print most < 1 ? 1 : most }
     ' /proc/meminfo
 }
 
+# The folder beside the kit in which its gate keeps what it passes; nothing where the kit's scripts name none.
+kept_folder() {
+    command -v rt >/dev/null || return 0
+    kit_scripts=$(dirname "$(readlink -f "$(command -v rt)")")
+    ! grep -qs -e -kept "$kit_scripts/rt" "$kit_scripts/rtlib.py" || echo "$(dirname "${kit_scripts%/*}")/rattle-kept"
+}
+
+# Why the gate can keep nothing of what it passes; nothing where it can.
+why_none_is_kept() {
+    kept=$(kept_folder)
+    if [ -z "$kept" ]; then
+        echo "this kit's gate keeps nothing"
+    elif [ ! -w "$kept" ] && { [ -e "$kept" ] || [ ! -w "${kept%/*}" ]; }; then
+        echo "nothing can be kept in $kept"
+    fi
+}
+
 # About how many minutes the proofs of a program take here from nothing, where nothing else is running: a minute and a half of
-# a processor for each of its crates, and three for what can't go side by side.
+# a processor for each of its crates, and three for what can't go side by side; in the checkout twice that.
 minutes() {
-    echo "$((3 + $(crates_of "$1" | wc -l) * 3 / 2 / $(side_by_side)))"
+    halves=3
+    [ -z "$(why_none_is_kept)" ] || halves=6
+    echo "$((halves + $(crates_of "$1" | wc -l) * halves / 2 / $(side_by_side MemTotal)))"
 }
 
 # The program to be handed on: the proved one, or the one without proofs where that is asked for.
@@ -67,18 +87,24 @@ chosen() {
     [ "$1" = proved ] && proved pesp || echo "$unproved"
 }
 
-# One name for the sources as they stand: git's tree of crates/ and crates.txt; nothing where git doesn't know them.
+# One name for the sources as they stand: git's tree of crates/ and crates.txt; nothing where git can't tell.
 source_name() {
     command -v git >/dev/null && git -C "$top" rev-parse --git-dir >/dev/null 2>&1 || return 0
     objects=$(mktemp -d "${TMPDIR:-/tmp}/pesp.XXXXXX") || return 0
-    (
+    name=$(
         cd "$top" || exit
         GIT_ALTERNATE_OBJECT_DIRECTORIES=$(cd "$(git rev-parse --git-common-dir)/objects" && pwd)
         GIT_INDEX_FILE=$objects/index GIT_OBJECT_DIRECTORY=$objects
         export GIT_INDEX_FILE GIT_OBJECT_DIRECTORY GIT_ALTERNATE_OBJECT_DIRECTORIES
-        git add crates crates.txt >/dev/null 2>&1 && git write-tree
-    )
+        { git add crates crates.txt && git write-tree; } 2>/dev/null
+    ) || name=
     rm -rf "$objects"
+    echo "$name"
+}
+
+# How many megabytes are free in a folder.
+free_room() {
+    df -Pm "$1" | awk 'NR == 2 { print $4 }'
 }
 
 # The folder of the Rattle kit; nothing where there is none.

@@ -8,7 +8,7 @@ ghost use Rattle.pesp_bound.specs.Leaves.{IsLeafOf, IsNoLess};
 ghost use Rattle.pesp_search_laws.specs.Settled.{HaveOffsetsLeft};
 
 use pesp_bound::Leaf;
-use pesp_nodes::{Node, Pairs, Problem, are_pairs, leaf_value, offset_range};
+use pesp_nodes::{Node, Pairs, Problem, are_pairs, first_gap, leaf_value};
 use pesp_problem::Pair;
 use pesp_strategy::Part;
 
@@ -18,14 +18,7 @@ pub fn gap_at(problem: &Problem, node: &Node) -> Option<u32>
     ensures { MatchOption result (HaveOffsetsLeft (net_of problem.now) problem.now.table node.now)
         (λ cycle. IsSoundLeaf (net_of problem.now) problem.now.table None (Gap cycle) node.now) }
 {
-    let _few = problem.arcs();
-    for place in 0..problem.table().len() {
-        let cycle = place as u32 + 1;
-        if offset_range(problem, node, cycle).is_none() {
-            return Some(cycle);
-        }
-    }
-    None
+    first_gap(problem, node)
 }
 
 /// Whether pairs show that no timetable lies in the node.

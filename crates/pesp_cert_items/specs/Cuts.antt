@@ -1,6 +1,7 @@
 -- Where the next line of a text ends, and what is read for it.
 use Rattle.std.specs.Prelude.{◌≡◌, ◌⊎◌, ℕ, ◌+◌, ◌<◌, ◌≤◌, Bool, true, false, List, [], ◌∷◌, ◌++◌, length, All, Option}
 use Rattle.std.specs.Io.KnownBytes.{Consumes, IsAtEnd}
+use Rattle.pesp_stream.specs.Counts.{Calls, Worked, Failed}
 use Rattle.pesp_text.specs.Words.{is_byte}
 use Rattle.pesp_cert_lines.specs.Lines.{LONGEST}
 use Rattle.pesp_cert_items.specs.declared.chunk.Front.{Front}
@@ -37,10 +38,10 @@ pub record Advances (told told' : Option (List ℕ)) (left left' : ℕ) (held he
   pub reads : Reads told told' left left' got
   pub reaches : Reaches next told' left' (held ++ got) held' line'
 
--- a device is blamed only where it failed
-abbrev pub Blames : LinesFault → Type 0 → Type 0
-Blames faults.Memory failed = Unit {0}
-Blames faults.Device failed = failed
+-- a device is blamed where it failed, and memory where it worked
+abbrev pub Blames : LinesFault → Calls → ℕ → Calls → Type 0
+Blames faults.Memory old most new = Worked old most new
+Blames faults.Device old most new = Failed old most new
 
 -- whether the text ends behind what is held
 abbrev pub IsThere : Bool → Option (List ℕ) → ℕ → List ℕ → Type 0

@@ -1,6 +1,7 @@
 -- How far a text was read, and what the rest of it says.
 use Rattle.std.specs.Prelude.{◌≡◌, ◌⊎◌, ℕ, ◌+◌, ◌<◌, ◌≤◌, Bool, true, false, List, [], ◌∷◌, ◌++◌, length, Option, Some, None, Result, Ok, Err}
 use Rattle.std.specs.Io.KnownBytes.{IsAtEnd}
+use Rattle.pesp_stream.specs.Counts.{Calls, Worked, Failed}
 use Rattle.pesp_text.specs.Words.{pieces}
 use Rattle.pesp_cert_lines.specs.declared.item.Item.{Item}
 use Rattle.pesp_cert_lines.specs.declared.item.Item.TheVariants.{End}
@@ -85,9 +86,10 @@ abbrev pub Faults : Reading → Reading → ItemFault → Type 0
 Faults old new (Text r) = (r ≡ refusals.Memory) ⊎ Refuses old new r
 Faults old new Read = Unit {0}
 
-abbrev pub Blamed : ItemFault → Type 0 → Type 0
-Blamed (Text r) failed = Unit {0}
-Blamed Read failed = failed
+-- a device is blamed where it failed, and a text where it worked
+abbrev pub Blamed : ItemFault → Calls → ℕ → Calls → Type 0
+Blamed (Text r) old most new = Worked old most new
+Blamed Read old most new = Failed old most new
 
 -- what is answered where a line was read, and it says this item
 abbrev pub stepped : Item → Result Bool ItemFault → Result (Option Item) ItemFault

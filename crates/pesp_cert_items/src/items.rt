@@ -1,10 +1,10 @@
 //! The items of a certificate's text, one after another.
 
-ghost use Rattle.std.specs.Prelude.{◌≡◌, ◌+◌, ◌<◌, ◌≤◌, ◌^◌, [], true, OnOk, IfErr};
+ghost use Rattle.std.specs.Prelude.{◌≡◌, ◌+◌, ◌<◌, ◌≤◌, ◌^◌, [], true, false, OnOk, IfErr};
 ghost use Rattle.std.below.core.specs.declared.int.u64.TheConstants.{MAX};
 ghost use Rattle.std.specs.Borrow.{sem};
 ghost use Rattle.std.specs.Io.BufRead.{Rests};
-ghost use Rattle.pesp_stream.specs.Counts.{FewerThan, Failed};
+ghost use Rattle.pesp_stream.specs.Counts.{FewerThan};
 ghost use Rattle.pesp_cert_lines.specs.Counts.{start};
 ghost use Rattle.pesp_cert_items.specs.declared.stage.Stage.TheVariants as stages;
 ghost use Rattle.pesp_cert_items.specs.Readings.{is_open};
@@ -60,12 +60,15 @@ impl<S: Source> Items<S> {
     pub fn next(&mut self) -> Result<Option<Item<'_>>, ItemFault>
         ensures* after_borrow { sem 𝓛 (Rests (the_row S.row S.Source) self.entry
             (λ new. (new.reader.most ≡ self.old.reader.most)
-            × OnOk result ((S.calls new.source).failed ≡ (S.calls self.old.source).failed)
+            × OnOk result (((S.calls new.source).failed ≡ (S.calls self.old.source).failed)
+            × (is_open self.old.reader.stage ≡ true
+            → (S.calls new.source).interrupted ≤ self.old.reader.most))
             × Answers self.old.reader.stage (reading (S.remaining self.old.source) self.old.reader)
             (reading (S.remaining new.source) new.reader) (said_by result)
             × (is_open self.old.reader.stage ≡ true
-            → IfErr result (λ fault. Blamed fault
-            (Failed (S.calls self.old.source) self.old.reader.most (S.calls new.source)))))) }
+            → IfErr result (λ fault. Blamed fault (S.calls self.old.source) self.old.reader.most
+            (S.calls new.source)))
+            × (is_open self.old.reader.stage ≡ false → new.source ≡ self.old.source))) }
     {
         if !self.reader.step(&mut self.source)? {
             return Ok(None);

@@ -66,8 +66,8 @@ fn advance<S: Source>(
     ensures ok { IfOk result (Advances (S.remaining source.old) (S.remaining source.new) left.old
         left.new chunk.old chunk.new line.new.items) }
     ensures counts { OnOk result (Worked (S.calls source.old) most (S.calls source.new)) }
-    ensures fault { IfErr result (λ e. Blames e
-        (Failed (S.calls source.old) most (S.calls source.new))) }
+    ensures fault { IfErr result
+        (λ e. Blames e (S.calls source.old) most (S.calls source.new)) }
 {
     line.clear();
     loop {
@@ -120,8 +120,8 @@ impl LineBuffer {
         ensures ok { IfOk result (Advances (S.remaining source.old) (S.remaining source.new)
             self.old.left self.new.left self.old.chunk self.new.chunk self.new.line.items) }
         ensures counts { OnOk result (Worked (S.calls source.old) most (S.calls source.new)) }
-        ensures fault { IfErr result (λ e. Blames e
-            (Failed (S.calls source.old) most (S.calls source.new))) }
+        ensures fault { IfErr result
+            (λ e. Blames e (S.calls source.old) most (S.calls source.new)) }
     {
         advance(
             &mut self.chunk,

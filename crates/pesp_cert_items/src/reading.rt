@@ -4,7 +4,7 @@ ghost use Rattle.std.specs.Str.{bytes_eq};
 ghost use Rattle.std.below.core.specs.declared.int.u64.TheConstants.{MAX};
 ghost use Rattle.std.specs.Borrow.{sem};
 ghost use Rattle.std.specs.Io.BufRead.{Rests};
-ghost use Rattle.pesp_stream.specs.Counts.{Worked, Failed};
+ghost use Rattle.pesp_stream.specs.Counts.{Worked};
 ghost use Rattle.pesp_cert_lines.specs.Counts.{IsKept, start};
 ghost use Rattle.pesp_cert_items.specs.declared.stage.Stage.TheVariants as stages;
 ghost use Rattle.pesp_cert_items.specs.Readings.{is_open};
@@ -81,8 +81,8 @@ impl ItemReader {
         ensures stage { IfErr result (λ fault. self.new.stage ≡ stages.Failed fault) }
         ensures fault { IfErr result (λ fault. Faults (reading (S.remaining source.old) self.old)
             (reading (S.remaining source.new) self.new) fault) }
-        ensures blamed { IfErr result (λ fault. Blamed fault
-            (Failed (S.calls source.old) self.old.most (S.calls source.new))) }
+        ensures blamed { IfErr result (λ fault. Blamed fault (S.calls source.old)
+            self.old.most (S.calls source.new)) }
     {
         let n = self.n + 1;
         match self.lines.advance(source, self.most) {
@@ -122,8 +122,8 @@ impl ItemReader {
             (stepped (read_back self.new.said self.new.lines.line.items) result) }
         ensures spelt { IfOk result
             (λ more. more ≡ true → IsSpelt self.new.said self.new.lines.line.items) }
-        ensures blamed { IfErr result (λ fault. Blamed fault
-            (Failed (S.calls source.old) self.old.most (S.calls source.new))) }
+        ensures blamed { IfErr result (λ fault. Blamed fault (S.calls source.old)
+            self.old.most (S.calls source.new)) }
     {
         self.read_line(source)?;
         self.n += 1;
@@ -178,8 +178,9 @@ impl ItemReader {
         ensures spelt { IfOk result
             (λ more. more ≡ true → IsSpelt self.new.said self.new.lines.line.items) }
         ensures blamed { is_open self.old.stage ≡ true
-            → IfErr result (λ fault. Blamed fault
-            (Failed (S.calls source.old) self.old.most (S.calls source.new))) }
+            → IfErr result (λ fault. Blamed fault (S.calls source.old)
+            self.old.most (S.calls source.new)) }
+        ensures idle { is_open self.old.stage ≡ false → source.new ≡ source.old }
     {
         match self.stage {
             Stage::Going => self.go(source),
@@ -209,8 +210,9 @@ impl ItemReader {
             × Answers self.old.stage (reading (S.remaining source.old) self.old)
             (reading (S.remaining source.new) new) (said_by result)
             × (is_open self.old.stage ≡ true → IfErr result
-            (λ fault. Blamed fault
-            (Failed (S.calls source.old) self.old.most (S.calls source.new)))))) }
+            (λ fault. Blamed fault (S.calls source.old)
+            self.old.most (S.calls source.new)))
+            × (is_open self.old.stage ≡ false → source.new ≡ source.old))) }
     {
         if !self.step(source)? {
             return Ok(None);

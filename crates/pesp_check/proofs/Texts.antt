@@ -1,7 +1,8 @@
 -- A text that is judged while its items come.
-use Rattle.std.proofs.Common.{◌≡◌, ◌⊎◌, inl, inr, ℕ, arith, true, List, [], ◌∷◌, ◌++◌, length, map, take, drop, refl, sym, ap, subst, ◌∙◌, append_assoc, append-nil, Option, Some, None, Ok, Err}
+use Rattle.std.proofs.Common.{◌≡◌, ◌⊎◌, inl, inr, ℕ, ◌+◌, ◌≤◌, arith, true, List, [], ◌∷◌, ◌++◌, length, map, take, drop, refl, sym, ap, subst, ◌∙◌, append_assoc, append-nil, Option, Some, None, Ok, Err}
 use Rattle.std.specs.Prelude.{◌↔◌, ℤ}
 use Rattle.std.proofs.lemmas.List.{drop_all, take_all}
+use Rattle.pesp_stream.specs.Counts.{Calls, Worked, Failed}
 use Rattle.pesp_problem.specs.Timetables.{Pesp}
 use Rattle.pesp_truth.specs.declared.answer.Answer.{Answer}
 use Rattle.pesp_truth.specs.Truth.{IsTrueAnswer}
@@ -26,6 +27,7 @@ use Rattle.pesp_judges.specs.declared.refusal.Verdict.TheVariants.{Accepted, Ref
 use Rattle.pesp_judges.specs.Faults.{IsVerdict}
 use Rattle.pesp_judges.proofs.Faults.{fault_is_not_valid}
 use Rattle.pesp_check.specs.declared.stage.Stage.{Stage}
+use Rattle.pesp_check.specs.declared.fault.CheckFault.TheVariants.{Read}
 use Rattle.pesp_check.specs.CheckFaults.{fault_of}
 use Rattle.pesp_check.specs.Texts.{ChecksText, Faults}
 use Rattle.pesp_check.specs.Judging.{Kept, JudgedAt, behind}
@@ -105,14 +107,25 @@ text_faults told told' failed refusals.Truncated (inr f) = f
 text_faults told told' failed (refusals.Trailing n) (inl e) = absurd cc
 text_faults told told' failed (refusals.Trailing n) (inr f) = f
 
-pub checked_fault : (p : Pesp) (told : Option (List ℕ)) (b c : Reading) (stage : Stage) (kept : Kept) (f : ItemFault) (failed : Type 0) → IsCheckedTo p (at_first told 1073741824) b stage kept → Gives b c (Err f) → Blamed f failed
-    → Faults (fault_of f) told c.told failed
-checked_fault p told b c stage kept items.Read failed h g blamed = blamed
-checked_fault p told b c stage kept (items.Text r) failed h g blamed = text_faults told c.told failed r (refused g.1)
+pub checked_fault : (p : Pesp) (told : Option (List ℕ)) (b c : Reading) (stage : Stage) (kept : Kept) (f : ItemFault) (old : Calls) (most : ℕ) (new : Calls) → IsCheckedTo p (at_first told 1073741824) b stage kept → Gives b c (Err f) → Blamed f old most new
+    → Faults (fault_of f) told c.told (Failed old most new)
+checked_fault p told b c stage kept items.Read old most new h g blamed = blamed
+checked_fault p told b c stage kept (items.Text r) old most new h g blamed = text_faults told c.told (Failed old most new) r (refused g.1)
   where
     refused : (r ≡ refusals.Memory) ⊎ Refuses b c r → (r ≡ refusals.Memory) ⊎ RefusesText told c.told 1073741824 r
     refused (inl e) = inl e
     refused (inr q) = inr (refused_text told 1073741824 c r (runs_refused (at_first told 1073741824) b c h.so_far r h.runs q))
+
+-- what is blamed after calls that worked is to be blamed for all of them
+pub blamed_since : (f : ItemFault) (first old new : Calls) (most limit : ℕ) → old.failed ≡ first.failed → most ≡ limit → Blamed f old most new → Blamed f first limit new
+blamed_since (items.Text r) first old new most limit same is (failed, few) = (failed ∙ same, subst (λ (n : ℕ). new.interrupted ≤ n) is few)
+blamed_since items.Read first old new most limit same is (inl (failed, few)) = inl (failed ∙ ap (λ (n : ℕ). n + 1) same, subst (λ (n : ℕ). new.interrupted ≤ n) is few)
+blamed_since items.Read first old new most limit same is (inr (failed, many)) = inr (failed ∙ same, many ∙ ap (λ (n : ℕ). n + 1) is)
+
+-- where the reader isn't blamed it worked
+pub not_blamed : (f : ItemFault) (old new : Calls) (most : ℕ) → Blamed f old most new → (fault_of f ≡ Read → ⊥) → Worked old most new
+not_blamed (items.Text r) old new most worked other = worked
+not_blamed items.Read old new most failed other = absurd (other refl)
 
 -- a list that is written over one of its length
 pub writes_all : (len : ℕ) (xs ys : List ℤ) → length xs ≡ length ys → len ≡ length ys → take len (xs ++ drop (length xs) ys) ≡ xs

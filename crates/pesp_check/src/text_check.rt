@@ -1,6 +1,6 @@
 //! The check of a certificate's text while it is read.
 
-ghost use Rattle.std.specs.Prelude.{◌+◌, ◌<◌, ◌^◌, IfOk, IfErr, OnOk};
+ghost use Rattle.std.specs.Prelude.{◌≢◌, ◌+◌, ◌<◌, ◌^◌, IfOk, IfErr, OnOk};
 ghost use Rattle.pesp_stream.specs.Counts.{FewerThan, HasWorked, DeviceFailed};
 ghost use Rattle.pesp_check.specs.Texts.{ChecksText, Faults};
 
@@ -30,6 +30,7 @@ pub fn check_text<S: Source>(
     ensures ok { IfOk result (λ found. ChecksText (S.remaining source.old) (S.remaining source.new)
         instance.now found.0 found.1) }
     ensures counts { OnOk result (HasWorked (S.calls source.old) (S.calls source.new)) }
+    ensures counts_else { IfErr result (λ fault. fault ≢ CheckFault.Read → HasWorked (S.calls source.old) (S.calls source.new)) }
     ensures fault { IfErr result
         (λ fault. Faults fault (S.remaining source.old) (S.remaining source.new)
         (DeviceFailed (S.calls source.old) (S.calls source.new))) }

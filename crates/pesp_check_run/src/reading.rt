@@ -1,6 +1,6 @@
 //! The instance that a run reads first.
 
-ghost use Rattle.std.specs.Prelude.{◌<◌, ◌^◌, OnOk, IfOk, IfErr};
+ghost use Rattle.std.specs.Prelude.{◌≢◌, ◌<◌, ◌^◌, OnOk, IfOk, IfErr};
 ghost use Rattle.pesp_stream.specs.Counts.{FewerThan, HasWorked};
 ghost use Rattle.pesp_check_run.specs.Devices.{over};
 ghost use Rattle.pesp_check_run.specs.Checking.{ReadsInstance, InstanceCause};
@@ -25,6 +25,7 @@ pub fn read_whole_instance<R: Source>(
     ensures ok { IfOk result
         (ReadsInstance (R.remaining reader.old) (R.remaining reader.new) period) }
     ensures counts { OnOk result (HasWorked (R.calls reader.old) (R.calls reader.new)) }
+    ensures counts_else { IfErr result (λ fault. fault ≢ VerdictFault.Read → HasWorked (R.calls reader.old) (R.calls reader.new)) }
     ensures cause { IfErr result
         (λ fault. InstanceCause fault
         (over (R.remaining reader.old) (R.remaining reader.new)

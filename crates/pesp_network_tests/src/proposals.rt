@@ -3,9 +3,10 @@
 use crate::given::{given_network, list_of, ranges_of};
 use crate::networks::{kept, spell_count};
 use pesp_cases::{look_up, small, spell_list};
+use pesp_forest_search::search_forest;
 use pesp_network::Network;
 use pesp_propagate::dive_to;
-use pesp_strategy::{Advice, Split, Strategy, search_forest};
+use pesp_strategy::{Advice, Split, Strategy};
 use std::alloc::Global;
 
 /// What is asked of proposals.

@@ -1,10 +1,11 @@
 -- What problems keep.
-use Rattle.std.proofs.Common.{◌≡◌, ℕ, ◌+◌, ◌<◌, ◌≤◌, List, length, get_or, map, take, ap, sym, ◌∙◌, arith, All}
+use Rattle.std.proofs.Common.{◌≡◌, ℕ, suc, ◌+◌, ◌<◌, ◌≤◌, List, length, get_or, map, take, refl, ap, sym, ◌∙◌, arith, All}
 use Rattle.std.specs.Prelude.{ℤ, unsigned_abs, sum_by, ◌++◌, ◌∷◌, []}
 use Rattle.std.proofs.lemmas.List.{get_or-map, length-map, get_or_default, map_more}
 use Rattle.pesp_problem.specs.declared.arc.Arc.{Arc}
 use Rattle.pesp_problem.specs.declared.row.SignedRow.{SignedRow}
-use Rattle.pesp_problem.specs.Arcs.{no_arc}
+use Rattle.pesp_problem.specs.Arcs.{no_arc, arc_at}
+use Rattle.pesp_problem.specs.Nodes.{slack_range}
 use Rattle.pesp_problem.specs.Walks.{IsWalk, AreRows}
 use Rattle.pesp_network.specs.Networks.{NetworkValue, KeepsNetLimits, arcs_of_network, arc_of_net, no_net_row}
 use Rattle.pesp_nodes.specs.declared.passages.Passage.{Passage}
@@ -48,3 +49,12 @@ spans_small arcs h k d l =
 
 pub pair_is : (p : ℤ × ℤ) (a b : ℤ) → p.0 ≡ a → p.1 ≡ b → p ≡ (a, b)
 pair_is p a b e f = ap (λ (x : ℤ). (x, p.1)) e ∙ ap (λ (y : ℤ). (a, y)) f
+
+-- slack ranges that are each the whole one of their row
+pub whole_is : (arcs : List Arc) (slacks : List (ℕ × ℕ)) → length slacks ≡ length arcs → ((i : ℕ) → i < length arcs → slack_range slacks i ≡ (0, (arc_at arcs i).span)) → slacks ≡ map (λ arc. (0, arc.span)) arcs
+whole_is [] [] e h = refl
+whole_is [] (s ∷ slacks) e h = absurd (omega (arith, e))
+whole_is (a ∷ arcs) [] e h = absurd (omega (arith, e))
+whole_is (a ∷ arcs) (s ∷ slacks) e h =
+    let rest = whole_is arcs slacks (omega (arith, e)) (λ i l. h (suc i) (omega arith)) in
+    ap (λ (x : ℕ × ℕ). x ∷ slacks) (h 0 (omega arith)) ∙ ap (λ (xs : List (ℕ × ℕ)). (0, a.span) ∷ xs) rest

@@ -37,7 +37,8 @@ pub record IsOffsetSum (n : Net) (table : List (List SignedRow)) (node : Node) (
 pub offset_sum_none : (n : Net) (table : List (List SignedRow)) (node : Node) (pairs : List Pair) → IsOffsetSum n table node pairs 0 (pos 0)
 offset_sum_none n table node pairs = record { is = offset_first n.period (offset_part n table node pairs); size = omega arith }
 
-left : (pairs : List Pair) (k : ℕ) (d : Pair) → k < length pairs → drop k pairs ≡ get_or pairs k d ∷ drop (k + 1) pairs
+-- the k-th pair and those after it
+pub left : (pairs : List Pair) (k : ℕ) (d : Pair) → k < length pairs → drop k pairs ≡ get_or pairs k d ∷ drop (k + 1) pairs
 left pairs k d l = rw (add-one, drop-cons pairs k d) refl
 
 pub offset_sum_more : (n : Net) (table : List (List SignedRow)) (node : Node) (pairs : List Pair) (k : ℕ) (d : Pair) (ends : ℤ × ℤ) (sum here sum' : ℤ) → k < length pairs → Some ends ≡ offsets_left n table node ((get_or pairs k d).cycle - 1) → here ≡ pos n.period *ℤ scaled (get_or pairs k d).mult ends.0 ends.1 → unsigned_abs here ≤ 1000000000000 * 10300000000000 → sum' ≡ sum +ℤ here

@@ -3,6 +3,7 @@ pub mod Transposing
 pub mod Durations
 pub mod Searching
 pub mod Flows
+pub mod Flowing
 pub mod Following
 pub mod Tables
 pub mod Keeping

@@ -1,5 +1,6 @@
 pub mod Nets
 pub mod Passages
+pub mod Flows
 pub mod Offsets
 pub mod Problems
 pub mod Prepared

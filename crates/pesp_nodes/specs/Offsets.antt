@@ -41,3 +41,7 @@ end_sum High arcs slacks walk = greatest_sum arcs slacks walk
 -- the period times an offset is no more than a sum along a walk
 abbrev pub IsSmallOffset : ℕ → ℤ → Type 0
 IsSmallOffset period z = unsigned_abs (pos period *ℤ z) ≤ 10300000000000
+
+-- each offset of a range is small
+abbrev pub IsSmallRange : ℕ → ℤ × ℤ → Type 0
+IsSmallRange period range = (z : ℤ) → range.0 ≤ℤ z → z ≤ℤ range.1 → IsSmallOffset period z

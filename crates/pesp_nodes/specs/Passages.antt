@@ -35,7 +35,3 @@ pub record ArePassages (n m : ℕ) (walks : List (List SignedRow)) (by_row : Lis
 abbrev pub mult_of : List Pair → ℕ → ℤ
 mult_of [] c = pos 0
 mult_of (pair ∷ pairs) c = (if pair.cycle == c then pair.mult else pos 0) +ℤ mult_of pairs c
-
--- each number of the list is the multiplier that the pairs give to the cycle of its place, and within its limit
-abbrev pub AreMults : List Pair → List ℤ → Type 0
-AreMults pairs mults = (c : ℕ) → c < length mults → (slice_index_or mults c (pos 0) ≡ mult_of pairs c) × (unsigned_abs (slice_index_or mults c (pos 0)) ≤ 1000000000000)

@@ -1,13 +1,19 @@
 //! Flows: for a row, the sum over a leaf's pairs of the multiplier times the net count.
 
-ghost use Rattle.std.specs.Prelude.{◌≡◌, ℕ, ◌+◌, ◌*◌, ◌^◌, ◌<◌, ◌≤◌, List, length, ◌*ℤ◌, unsigned_abs, All, sum_by};
-ghost use Rattle.pesp_nodes.specs.Passages.{mult_of, sum_over, AreMults};
-ghost use Rattle.pesp_nodes.specs.Problems.{Rise};
+ghost use Rattle.std.specs.Prelude.{◌≡◌, ℕ, ◌+◌, ◌*◌, ◌^◌, ◌<◌, ◌≤◌, List, length, ◌+ℤ◌, ◌*ℤ◌, unsigned_abs, All, sum_by, IfOk};
+ghost use Rattle.pesp_problem.specs.declared.row.SignedRow.{SignedRow};
+ghost use Rattle.pesp_problem.specs.Walks.{Names};
+ghost use Rattle.pesp_problem.specs.Nodes.{flow};
+ghost use Rattle.pesp_nets.specs.Nets.{AreSmallCounts, AreZeros, AreNets};
+ghost use Rattle.pesp_nodes.specs.Flows.{count_of, number_at, AreSmallFlows, AreFlows};
+ghost use Rattle.pesp_nodes.specs.Passages.{mult_of, sum_over, ArePassagesOf};
+ghost use Rattle.pesp_nodes.specs.Problems.{Rise, ArePairs};
 
 use crate::passages::Passage;
+use pesp_nets::{NetCount, Nets};
 use pesp_problem::Pair;
 use pesp_problem::exact::{plus, times};
-use std::alloc::Global;
+use std::alloc::{AllocError, Global};
 
 /// The multiplier of a cycle, 0 where no pair has it.
 fn mult_of(pairs: &[Pair], cycle: u32) -> i64
@@ -33,52 +39,103 @@ fn mult_of(pairs: &[Pair], cycle: u32) -> i64
     }
 }
 
-/// The multipliers of the first cycles by their numbers, of all of so many cycles where memory lasts; that of no cycle stands
-/// first.
-pub(crate) fn mults_of(alloc: Global, pairs: &[Pair], cycles: usize) -> Vec<i64>
-    requires rise { Rise pairs.now }
-    requires mults { All (λ p. unsigned_abs p.mult ≤ 1000000000000) pairs.now }
-    requires few { cycles ≤ 100000 }
-    ensures { AreMults pairs.now result.items }
+/// No flow on each of so many rows.
+fn no_flows(alloc: Global, rows: usize) -> Result<Vec<i128>, AllocError>
+    ensures long { IfOk result (λ flows. length flows.items ≡ rows) }
+    ensures zeros { IfOk result (λ flows. AreZeros flows.items) }
 {
-    let mut mults = Vec::new(alloc);
-    for cycle in 0..cycles + 1 {
-        if mults.push(mult_of(pairs, cycle as u32)).is_err() {
-            return mults;
-        }
-    }
-    mults
+    vec![in alloc; 0; rows]
 }
 
-/// The multiplier of a cycle: at its place, where the list is long enough, else found among the pairs.
-fn mult_at(pairs: &[Pair], mults: &[i64], cycle: u32) -> i64
-    requires rise { Rise pairs.now }
-    requires small { All (λ p. unsigned_abs p.mult ≤ 1000000000000) pairs.now }
-    requires mults { AreMults pairs.now mults.now }
-    ensures value { result ≡ mult_of pairs.now cycle }
-    ensures size { unsigned_abs result ≤ 1000000000000 }
+/// A multiplier times a net count.
+fn product(mult: i64, count: i64) -> i128
+    requires mult { unsigned_abs mult ≤ 1000000000000 }
+    requires count { unsigned_abs count ≤ 10000000 }
+    ensures value { result ≡ mult *ℤ count }
+    ensures size { unsigned_abs result ≤ 10 ^ 19 }
 {
-    let place = cycle as usize;
-    if place < mults.len() {
-        mults[place]
-    } else {
-        mult_of(pairs, cycle)
+    times(i128::from(mult), i128::from(count))
+}
+
+/// Adds a multiplier times each net count to the flow of its row.
+fn add_flow(flows: &mut [i128], counts: &[NetCount], mult: i64)
+    requires counts { AreSmallCounts (length flows.old) counts.now }
+    requires mult { unsigned_abs mult ≤ 1000000000000 }
+    requires small { AreSmallFlows flows.old }
+    ensures sum { (i : ℕ) → i < length flows.old
+        → number_at flows.new i ≡ number_at flows.old i +ℤ mult *ℤ count_of counts.now i }
+    ensures size { (i : ℕ) → i < length flows.old
+        → unsigned_abs (number_at flows.new i) ≤ unsigned_abs (number_at flows.old i) + 10 ^ 19 }
+{
+    for net in counts {
+        let at = net.place as usize;
+        let flow = plus(flows[at], product(mult, net.count));
+        flows[at] = flow;
     }
+}
+
+/// Makes the flows of the pairs out of flows that are 0.
+fn add_flows(flows: &mut [i128], nets: &[Nets], pairs: &[Pair])
+    requires nets { All (AreSmallCounts (length flows.old)) nets.now }
+    requires pairs { ArePairs (length nets.now) pairs.now }
+    requires few { length nets.now ≤ 100000 }
+    requires zeros { AreZeros flows.old }
+    ensures flows { (walks : List (List SignedRow)) → AreNets (length flows.old) walks nets.now
+        → AreFlows walks pairs.now flows.new }
+    ensures small { AreSmallFlows flows.new }
+{
+    for pair in pairs {
+        add_flow(flows, nets[pair.cycle as usize - 1].counts(), pair.mult);
+    }
+}
+
+/// The flows of pairs on all of so many rows where memory lasts, else on none.
+pub(crate) fn flows_of(alloc: Global, nets: &[Nets], rows: usize, pairs: &[Pair]) -> Vec<i128>
+    requires nets { All (AreSmallCounts rows) nets.now }
+    requires pairs { ArePairs (length nets.now) pairs.now }
+    requires few { length nets.now ≤ 100000 }
+    ensures flows { (walks : List (List SignedRow)) → AreNets rows walks nets.now
+        → AreFlows walks pairs.now result.items }
+    ensures small { AreSmallFlows result.items }
+{
+    let Ok(zeros) = no_flows(alloc, rows) else {
+        return Vec::new(alloc);
+    };
+    let mut flows = zeros;
+    add_flows(&mut flows, nets, pairs);
+    flows
 }
 
 /// The flow on a row by its passages.
-pub(crate) fn flow_on(passages: &[Passage], pairs: &[Pair], mults: &[i64]) -> i128
+fn flow_on(passages: &[Passage], pairs: &[Pair]) -> i128
     requires rise { Rise pairs.now }
     requires most { All (λ p. unsigned_abs p.mult ≤ 1000000000000) pairs.now }
-    requires mults { AreMults pairs.now mults.now }
     requires small { sum_by (λ e. unsigned_abs e.count) passages.now ≤ 10000000 }
     ensures value { result ≡ sum_over (λ c n. mult_of pairs.now c *ℤ n) passages.now }
     ensures size { unsigned_abs result ≤ 10 ^ 19 }
 {
     let mut flow = 0;
     for passage in passages {
-        let mult = mult_at(pairs, mults, passage.cycle);
+        let mult = mult_of(pairs, passage.cycle);
         flow = plus(flow, times(i128::from(mult), i128::from(passage.count)));
     }
     flow
+}
+
+/// The flow on the row at a place: as it is listed where the list is long enough, else by the row's passages.
+pub(crate) fn flow_at(flows: &[i128], place: usize, passages: &[Passage], pairs: &[Pair]) -> i128
+    requires rise { Rise pairs.now }
+    requires most { All (λ p. unsigned_abs p.mult ≤ 1000000000000) pairs.now }
+    requires small { sum_by (λ e. unsigned_abs e.count) passages.now ≤ 10000000 }
+    requires flows { AreSmallFlows flows.now }
+    ensures value { (walks : List (List SignedRow)) → All (λ p. Names (length walks) p.cycle) pairs.now
+        → ArePassagesOf (length walks) walks place passages.now → AreFlows walks pairs.now flows.now
+        → result ≡ flow walks pairs.now place }
+    ensures size { unsigned_abs result ≤ 10 ^ 24 }
+{
+    if place < flows.len() {
+        flows[place]
+    } else {
+        flow_on(passages, pairs)
+    }
 }

@@ -5,6 +5,7 @@ mod closing;
 mod ends;
 mod flow;
 pub mod laws;
+mod left;
 mod nets;
 mod node;
 mod offsets;
@@ -17,6 +18,7 @@ mod table;
 mod value;
 mod walk;
 
+pub use left::first_gap;
 pub use nets::count_rows;
 pub use node::Node;
 pub use pairs::are_pairs;

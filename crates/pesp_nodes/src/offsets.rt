@@ -112,7 +112,7 @@ pub fn bounds_of(
 }
 
 /// What two ranges share.
-fn shared(range: (i64, i64), bounds: (i64, i64)) -> Option<(i64, i64)>
+pub(crate) fn shared(range: (i64, i64), bounds: (i64, i64)) -> Option<(i64, i64)>
     ensures value { result ≡ range_or_none (int_max range.0 bounds.0) (int_min range.1 bounds.1) }
     ensures within { IfSome result
         (λ left. (bounds.0 ≤ℤ left.0) × (left.0 ≤ℤ left.1) × (left.1 ≤ℤ bounds.1)) }

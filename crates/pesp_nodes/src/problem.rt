@@ -8,7 +8,7 @@ ghost use Rattle.pesp_problem.specs.declared.row.SignedRow.{SignedRow};
 ghost use Rattle.pesp_nets.specs.Nets.{AreNets, AreSmallCounts};
 ghost use Rattle.pesp_nodes.specs.Passages.{ArePassages};
 ghost use Rattle.pesp_nets.specs.Ranges.{AreSlackEnds};
-ghost use Rattle.pesp_nodes.specs.Offsets.{AreArcs, AreOffsetEnds};
+ghost use Rattle.pesp_nodes.specs.Offsets.{AreArcs, AreOffsetEnds, IsSmallRange};
 ghost use Rattle.pesp_nodes.specs.Problems.{net_of, IsNodeOf, IsProblemRefusal, IsSmallTable};
 
 use crate::closing::first_open;
@@ -31,6 +31,7 @@ pub struct Problem {
     table: Vec<Walk>,
     nets: Vec<Nets>,
     by_row: Vec<Passages>,
+    bounds: Vec<(i64, i64)>,
 }
 
 impl Model for Problem {
@@ -42,7 +43,7 @@ impl Model for Problem {
     ghost view = { λ p. record { network = p.network; table = p.table.items } };
 
     ghost invariant = { λ p. IsPrepared (record { network = p.network; table = p.table.items })
-        p.nets.items p.by_row.items };
+        p.nets.items p.by_row.items p.bounds.items };
 }
 
 /// Whether the walks of a table close, and are few enough.
@@ -84,6 +85,7 @@ fn root_offsets(
     requires long { length slacks.now ≡ length arcs.now }
     requires counts { All (AreSmallCounts (length arcs.now)) nets.now }
     ensures ends { IfOk result (λ v. AreOffsetEnds v.items) }
+    ensures small { IfOk result (λ v. All (IsSmallRange period) v.items) }
     ensures offsets { (walks : List (List SignedRow)) → AreNets (length arcs.now) walks nets.now
         → IfOk result (λ v. v.items
         ≡ map (spec.odijk_range (record { period = period; arcs = arcs.now }) slacks.now) walks) }
@@ -93,6 +95,24 @@ fn root_offsets(
         offsets.push(bounds_of(period, arcs, slacks, counts.counts()))?;
     }
     Ok(offsets)
+}
+
+/// The offset ranges of the root of a network, whose cycles have these net counts.
+fn root_bounds(
+    alloc: Global,
+    network: &Network,
+    nets: &[Nets],
+) -> Result<Vec<(i64, i64)>, AllocError>
+    requires { All (AreSmallCounts (length network.now.rows)) nets.now }
+    ensures ends { IfOk result (λ v. AreOffsetEnds v.items) }
+    ensures small { IfOk result (λ v. All (IsSmallRange network.now.period) v.items) }
+    ensures offsets { (walks : List (List SignedRow)) → AreNets (length network.now.rows) walks nets.now
+        → IfOk result (λ v. v.items ≡ map (spec.odijk_range (net_of_network network.now)
+        (spec.root_slacks (net_of_network network.now))) walks) }
+{
+    let arcs = network.arcs();
+    let slacks = root_slacks(alloc, arcs)?;
+    root_offsets(alloc, network.period(), arcs, &slacks, nets)
 }
 
 impl Problem {
@@ -111,12 +131,14 @@ impl Problem {
         judge(arcs, &table)?;
         let by_row = passages_of_table(alloc, arcs.len(), &table)?;
         let nets = nets_of_passages(alloc, table.len(), &by_row)?;
+        let bounds = root_bounds(alloc, &network, &nets)?;
         Ok(Problem {
             alloc,
             network,
             table,
             nets,
             by_row,
+            bounds,
         })
     }
 
@@ -142,9 +164,8 @@ impl Problem {
         ensures root { IfOk result (λ node. node ≡ spec.root (net_of self.now) self.now.table) }
         ensures node { IfOk result (IsNodeOf self.now) }
     {
-        let arcs = self.arcs();
-        let slacks = root_slacks(alloc, arcs)?;
-        let offsets = root_offsets(alloc, self.period(), arcs, &slacks, self.nets())?;
+        let slacks = root_slacks(alloc, self.arcs())?;
+        let offsets = self.bounds().to_vec(alloc)?;
         Ok(Node::new(slacks, offsets))
     }
 
@@ -187,6 +208,16 @@ impl Problem {
         ensures each { All (AreSmallCounts (length self.now.network.rows)) result.now }
     {
         &self.nets
+    }
+
+    /// The offset range of each cycle at the root.
+    pub(crate) fn bounds(&self) -> &[(i64, i64)]
+        ensures bounds { result.now ≡ map (spec.odijk_range (net_of self.now)
+            (spec.root_slacks (net_of self.now))) self.now.table }
+        ensures ends { AreOffsetEnds result.now }
+        ensures small { All (IsSmallRange self.now.network.period) result.now }
+    {
+        &self.bounds
     }
 
     /// For each row the cycles that pass it, with how often they do.

@@ -9,12 +9,14 @@ ghost use Rattle.pesp_problem.specs.Nodes.{offsets_left, offset_part, weight_of,
 ghost use Rattle.pesp_problem.specs.Nodes as spec;
 ghost use Rattle.pesp_nets.specs.Ranges.{AreSlackEnds, lesser};
 ghost use Rattle.pesp_nodes.specs.Offsets.{AreArcs, IsSmallOffset};
-ghost use Rattle.pesp_nodes.specs.Passages.{ArePassages, AreMults};
+ghost use Rattle.pesp_nodes.specs.Flows.{AreSmallFlows, AreFlows};
+ghost use Rattle.pesp_nodes.specs.Passages.{ArePassages};
 ghost use Rattle.pesp_nodes.specs.Problems.{net_of, IsNodeOf, Rise, ArePairs};
 ghost use Rattle.pesp_nodes.specs.Values.{row_term, row_term_at};
 
 use crate::ends::{End, end_for};
-use crate::flow::{flow_on, mults_of};
+use crate::flow::{flow_at, flows_of};
+use crate::left::{has_root_slacks, left_with};
 use crate::node::Node;
 use crate::offsets::left_of;
 use crate::passages::Passages;
@@ -84,9 +86,10 @@ fn offset_sum(problem: &Problem, node: &Node, pairs: &[Pair]) -> Option<i128>
         (offset_part (net_of problem.now) problem.now.table node.now pairs.now) }
     ensures size { IfSome result (λ z. unsigned_abs z ≤ 100000 * (1000000000000 * 10300000000000)) }
 {
+    let is_whole = has_root_slacks(problem, node);
     let mut sum = 0;
     for pair in pairs {
-        let left = left_at(problem, node, pair.cycle as usize - 1)?;
+        let left = left_with(problem, node, pair.cycle as usize - 1, is_whole)?;
         sum = plus(sum, offset_term(problem.period(), pair.mult, left));
     }
     Some(sum)
@@ -103,11 +106,11 @@ fn weight_of(arc: &Arc, weighted: bool) -> i128
 
 /// The lesser of a factor times each end of a range.
 fn lesser(factor: i128, range: (u32, u32)) -> i128
-    requires factor { unsigned_abs factor ≤ 2 * 10 ^ 19 }
+    requires factor { unsigned_abs factor ≤ 2 * 10 ^ 24 }
     requires low { range.0 ≤ 10000 }
     requires high { range.1 ≤ 10000 }
     ensures value { result ≡ lesser factor range }
-    ensures size { unsigned_abs result ≤ 2 * 10 ^ 23 }
+    ensures size { unsigned_abs result ≤ 2 * 10 ^ 28 }
 {
     let low = times(factor, i128::from(range.0));
     let high = times(factor, i128::from(range.1));
@@ -116,10 +119,10 @@ fn lesser(factor: i128, range: (u32, u32)) -> i128
 
 /// A flow times a lower bound.
 fn lower_part(flow: i128, lower: i64) -> i128
-    requires flow { unsigned_abs flow ≤ 10 ^ 19 }
+    requires flow { unsigned_abs flow ≤ 10 ^ 24 }
     requires lower { unsigned_abs lower ≤ 1020000 }
     ensures value { result ≡ flow *ℤ lower }
-    ensures size { unsigned_abs result ≤ 2 * 10 ^ 25 }
+    ensures size { unsigned_abs result ≤ 2 * 10 ^ 30 }
 {
     times(flow, i128::from(lower))
 }
@@ -130,9 +133,9 @@ pub(crate) fn row_term(arc: &Arc, range: (u32, u32), weighted: bool, flow: i128)
     requires lower { unsigned_abs arc.now.lower ≤ 1020000 }
     requires low { range.0 ≤ 10000 }
     requires high { range.1 ≤ 10000 }
-    requires flow { unsigned_abs flow ≤ 10 ^ 19 }
+    requires flow { unsigned_abs flow ≤ 10 ^ 24 }
     ensures value { result ≡ row_term arc.now range weighted flow }
-    ensures size { unsigned_abs result ≤ 10 ^ 26 }
+    ensures size { unsigned_abs result ≤ 10 ^ 31 }
 {
     let rest = minus(weight_of(arc, weighted), flow);
     minus(lesser(rest, range), lower_part(flow, arc.lower))
@@ -144,7 +147,7 @@ fn row_sum(
     slacks: &[(u32, u32)],
     by_row: &[Passages],
     pairs: &[Pair],
-    dense: &[i64],
+    flows: &[i128],
     weighted: bool,
 ) -> i128
     requires arcs { AreArcs arcs.now }
@@ -155,16 +158,16 @@ fn row_sum(
     requires short { All (λ ps. sum_by (λ e. unsigned_abs e.count) ps ≤ 10000000) by_row.now }
     requires rise { Rise pairs.now }
     requires mults { All (λ p. unsigned_abs p.mult ≤ 1000000000000) pairs.now }
-    requires dense { AreMults pairs.now dense.now }
+    requires flows { AreSmallFlows flows.now }
     ensures value { (walks : List (List SignedRow)) → ArePassages (length arcs.now) (length walks)
         walks by_row.now → All (λ p. Names (length walks) p.cycle) pairs.now
-        → result ≡ over_arcs arcs.now
+        → AreFlows walks pairs.now flows.now → result ≡ over_arcs arcs.now
         (λ i. row_term_at arcs.now slacks.now weighted i (flow walks pairs.now i)) }
-    ensures size { unsigned_abs result ≤ 100000 * 10 ^ 26 }
+    ensures size { unsigned_abs result ≤ 100000 * 10 ^ 31 }
 {
     let mut sum = 0;
     for place in 0..arcs.len() {
-        let flow = flow_on(by_row[place].as_slice(), pairs, dense);
+        let flow = flow_at(flows, place, by_row[place].as_slice(), pairs);
         sum = plus(sum, row_term(&arcs[place], slacks[place], weighted, flow));
     }
     sum
@@ -185,13 +188,13 @@ pub fn leaf_value(problem: &Problem, node: &Node, pairs: &[Pair], weighted: bool
     problem.keeps_limits();
     let arcs = problem.arcs();
     let offsets = offset_sum(problem, node, pairs)?;
-    let mults = mults_of(problem.alloc(), pairs, problem.table().len());
+    let flows = flows_of(problem.alloc(), problem.nets(), arcs.len(), pairs);
     let rows = row_sum(
         arcs,
         node.slacks(),
         problem.passages(),
         pairs,
-        &mults,
+        &flows,
         weighted,
     );
     Some(plus(offsets, rows))

@@ -10,7 +10,7 @@ use Rattle.pesp_problem.specs.Families.{Family, IsSupported, IsWithin, remainder
 use Rattle.pesp_problem.proofs.Joined.{first_event, first_is, one_first, row_first}
 use Rattle.pesp_problem.proofs.Remainders.{remainder_of_both}
 use Rattle.pesp_problem.specs.ArcLimits.{HaveEnds}
-use Rattle.pesp_propagate.specs.Full.{HasDifferences}
+use Rattle.pesp_propagate.specs.Answers.{HasDifferences}
 
 -- ---- differences
 

@@ -1,15 +1,2 @@
-pub mod Words
-pub mod Eights
-pub mod Narrowing
-pub mod Revising
-pub mod Ends
-pub mod Places
-pub mod Queueing
-pub mod Changing
-pub mod Holding
-pub mod Visiting
-pub mod Filling
-pub mod Propagating
-pub mod Masking
 pub mod Joining
-pub mod Partnering
+pub mod Propagating

@@ -10,28 +10,23 @@ use Rattle.pesp_problem.specs.Forests.{IsFirstOf}
 use Rattle.pesp_problem.specs.Families.{Family, IsFamily, IsSupported, IsWithin, HasNoEmpty, NoFamilyIsSupported}
 use Rattle.pesp_network.specs.Networks.{NetworkValue, arcs_of_network, net_of_network, KeepsNetLimits}
 use Rattle.pesp_network.proofs.Holding.{arcs_keep_limits}
-use Rattle.pesp_propagate.specs.declared.outcome.Outcome.{Outcome}
-use Rattle.pesp_propagate.specs.declared.outcome.Outcome.TheVariants.{Stable, Empty}
-use Rattle.pesp_propagate.specs.declared.waiting.Waiting.{Waiting}
-use Rattle.pesp_propagate.specs.Domains.{SetRows, family_of}
+use Rattle.pesp_domains.specs.declared.outcome.Outcome.{Outcome}
+use Rattle.pesp_domains.specs.declared.outcome.Outcome.TheVariants.{Stable, Empty}
+use Rattle.pesp_domains.specs.declared.waiting.Waiting.{Waiting}
+use Rattle.pesp_domains.specs.Domains.{SetRows, family_of}
 use Rattle.pesp_problem.specs.ArcLimits.{HaveEnds}
-use Rattle.pesp_propagate.specs.Waiting.{waits_at}
-use Rattle.pesp_propagate.specs.Outcomes.{Shrinks, IsOutcome, HasNone, TellsEmpty, LeavesSupported}
-use Rattle.pesp_propagate.specs.Visits.{net_at, sets_at, RestIsSupported}
-use Rattle.pesp_propagate.specs.Rows.{RowsValue, rows_of}
-use Rattle.pesp_propagate.specs.Full.{IsFull}
-
-pub have_ends : (n : NetworkValue) → KeepsNetLimits n → HaveEnds n.events (arcs_of_network n.rows)
-have_ends n h k l = let r = (arcs_keep_limits n h).each k no_arc l in (r.tail, r.head)
+use Rattle.pesp_domains.specs.Waiting.{waits_at}
+use Rattle.pesp_domains.specs.Outcomes.{Shrinks, IsOutcome, LeavesSupported}
+use Rattle.pesp_propagate.specs.Answers.{HasNone, TellsEmpty}
+use Rattle.pesp_domains.specs.Visits.{net_at, sets_at, RestIsSupported}
+use Rattle.pesp_domains.specs.Rows.{RowsValue, rows_of}
+use Rattle.pesp_domains.specs.Full.{IsFull}
 
 -- what became of the sets
 pub record Ended (n : Net) (ranges : List (ℕ × ℕ)) (events : ℕ) (old new : Family) (result : Result Outcome Memory) : Type 0 where
   pub shrinks : Shrinks n ranges old new
   pub outcome : IfOk result (IsOutcome events new)
   pub supported : IfOk result (LeavesSupported n ranges new)
-
-pub all_wait : (t : ℕ) (arcs : List Arc) (ranges : List (ℕ × ℕ)) (w : Waiting) (xs : List ℕ) → ((row : ℕ) → row < length arcs → waits_at w row ≡ true) → RestIsSupported t arcs ranges w xs
-all_wait t arcs ranges w xs h row l f = let z : true ≡ false = sym (h row l) ∙ f in absurd (cc)
 
 -- the period and the arcs of the work are those of the network
 pub at_network : (n : NetworkValue) (rows : RowsValue) (ranges : List (ℕ × ℕ)) (old new : SetRows) (result : Result Outcome Memory) → rows ≡ rows_of n → old.period ≡ n.period → new.period ≡ n.period

@@ -1,24 +1,11 @@
-//! Which time differences to the first event of a component are still possible, and a first timetable.
+//! Propagation over a network. What it takes differences from stands in `pesp_domains`, and the dive for a first timetable in
+//! `pesp_dive`; their names are given on.
 #![tactic(auto)]
 
-mod chance;
-mod choice;
-mod counts;
-mod diving;
-mod domains;
-mod lanes;
-pub mod laws;
-mod outcome;
 mod propagation;
-mod revise;
-mod rows;
-mod settle;
-pub mod step;
-mod supporting;
-mod waiting;
+mod support;
 
-pub use diving::{dive, dive_to};
-pub use domains::Domains;
-pub use outcome::Outcome;
+pub use pesp_dive::{dive, dive_to};
+pub use pesp_domains::{Domains, Outcome};
 pub use propagation::propagate;
-pub use supporting::supports_none;
+pub use support::supports_none;

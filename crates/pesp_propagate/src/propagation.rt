@@ -5,13 +5,11 @@ ghost use Rattle.pesp_problem.specs.Arcs.{slacks_at};
 ghost use Rattle.pesp_problem.specs.Nodes.{SlacksIn};
 ghost use Rattle.pesp_problem.specs.Families.{Family, IsSupported, IsWithin, HasNoEmpty, NoFamilyIsSupported};
 ghost use Rattle.pesp_network.specs.Networks.{net_of_network};
-ghost use Rattle.pesp_propagate.specs.Domains.{family_of, HaveSizes};
-ghost use Rattle.pesp_propagate.specs.Outcomes.{HasNone, TellsEmpty};
-ghost use Rattle.pesp_propagate.specs.Full.{IsFull, HasDifferences};
+ghost use Rattle.pesp_domains.specs.Domains.{family_of, HaveSizes};
+ghost use Rattle.pesp_domains.specs.Full.{IsFull};
+ghost use Rattle.pesp_propagate.specs.Answers.{HasNone, TellsEmpty, HasDifferences};
 
-use crate::domains::Domains;
-use crate::outcome::Outcome;
-use crate::rows::Rows;
+use pesp_domains::{Domains, Outcome, Rows};
 use pesp_network::Network;
 use pesp_problem::Memory;
 use std::alloc::Global;

@@ -24,9 +24,10 @@ use Rattle.pesp_search_laws.proofs.Ends.{same_net, has_branches, fewer_than_room
 use Rattle.pesp_search_laws.specs.Lifted.{IsFrugal}
 use Rattle.pesp_search.specs.declared.refusal.SolveRefusal.{SolveRefusal}
 use Rattle.pesp_search.specs.declared.refusal.SolveRefusal.TheVariants.{Memory, TableTooLarge, PairsTooMany}
+use Rattle.pesp_search.specs.Refusals.{MeetsLimit}
 use Rattle.pesp_search.specs.Solving.{IsSolved, CostsNoMore, IsSearchRefusal}
 use Rattle.pesp_search.specs.Singles.{IsAboveSingles}
-use Rattle.pesp_search.specs.Rooting.{IsRootBound}
+use Rattle.pesp_search.specs.Rooting.{IsRootSupported, IsRootBound}
 use Rattle.pesp_search.specs.Searching.{IsAsCheapAs, AreAllTurns, AreTurnsRefused}
 
 -- ---- the bound
@@ -40,21 +41,32 @@ bounded_least (Some a) (Some c) l cost e = by_test (nat_le c a) e
     by_test true e = cc
     by_test false e = cc
 
+-- an open answer has a bound
+open_is : (answer : Answer) → IsOpenAnswer answer → (l : ℕ) × (cost : Option ℕ) × (answer ≡ Bounded l cost)
+open_is (Optimal c) opens = absurd opens
+open_is Infeasible opens = absurd opens
+open_is (Bounded l cost) opens = (l, cost, refl)
+
 pub is_solved : (instance : Pesp) (p : ProblemValue) (steps used : ℕ) (first now : State) (content : Content) → KeepsNetLimits p.network → IsProblemOf instance p → IsFrugal p.table → IsRootBound p first → AreAllTurns p steps first used now → IsCertificateOf p instance.events now content → IsValid instance content → IsSolved instance steps used content
 is_solved instance p steps used first now content limits of frugal bound turns c valid = record {
   valid = valid;
   few = turns.few;
   finished = λ opens. finish turns.finished opens;
+  supported = λ opens.
+      let says = open_is content.answer opens in
+      let there : IsRootSupported (instance_net instance) p.table = subst (λ (n : Net). IsRootSupported n p.table) (same_net instance p of) (bound says.0 (reached says.0 says.1 says.2)).0 in
+      subst (λ (table : List (List SignedRow)). IsRootSupported (instance_net instance) table) (sym c.cycles) there;
   least = λ l cost e.
-      let here : least p now ≡ Some l = bounded_least (least p now) (best_cost p now) l cost (sym c.answer ∙ e) in
-      let reached : IsAtMost (least p first) (Some l) = subst (IsAtMost (least p first)) here turns.least in
-      let there : IsAboveSingles (instance_net instance) p.table l = subst (λ (n : Net). IsAboveSingles n p.table l) (same_net instance p of) (bound l reached) in
+      let there : IsAboveSingles (instance_net instance) p.table l = subst (λ (n : Net). IsAboveSingles n p.table l) (same_net instance p of) (bound l (reached l cost e)).1 in
       subst (λ (table : List (List SignedRow)). IsAboveSingles (instance_net instance) table l) (sym c.cycles) there;
   branches = has_branches instance p used now content of turns.worked c;
   frugal = subst IsFrugal (sym c.cycles) frugal;
   room = fewer_than_room instance p used now content of turns.worked c;
 }
   where
+    reached : (l : ℕ) (cost : Option ℕ) → content.answer ≡ Bounded l cost → IsAtMost (least p first) (Some l)
+    reached l cost e = let here : least p now ≡ Some l = bounded_least (least p now) (best_cost p now) l cost (sym c.answer ∙ e) in subst (IsAtMost (least p first)) here turns.least
+
     finish : (used ≡ steps) ⊎ ((path : List (Cut × Side)) → IsOpen p now path → ⊥) → IsOpenAnswer content.answer → used ≡ steps
     finish (inl all) opens = all
     finish (inr closed) opens = absurd (not_open p used now instance.events content limits turns.worked closed c opens)
@@ -90,7 +102,7 @@ costs_no_more instance p times now content limits of c valid cheap is =
 pub refused_for_rows : (instance : Pesp) (p : ProblemValue) (steps : ℕ) (r : SolveRefusal) → length p.table ≤ length instance.rows → AreTurnsRefused p steps r → IsSearchRefusal instance steps r
 refused_for_rows instance p steps Memory few h = tt
 refused_for_rows instance p steps TableTooLarge few h = absurd h
-refused_for_rows instance p steps PairsTooMany few h = let more = mul-le-mul_left (steps + 1) few in omega (arith, h, more)
+refused_for_rows instance p steps PairsTooMany few h = let many = h.many in let more = mul-le-mul_left (steps + 1) few in omega (arith, many, more)
 
 one_more : (n : ℕ) → 1 ≤ n + 1
 one_more n = omega arith
@@ -99,6 +111,38 @@ pub refused_at_once : (instance : Pesp) (steps : ℕ) (r : SolveRefusal) → IsS
 refused_at_once instance steps Memory h = tt
 refused_at_once instance steps TableTooLarge h = h
 refused_at_once instance steps PairsTooMany h = let more : 1 * length instance.rows ≤ (steps + 1) * length instance.rows = mul-le-mul_right (length instance.rows) (one_more steps) in omega (arith, h, more)
+
+-- the limit that the turns on a problem of the instance met
+pub meets_limit : (instance : Pesp) (p : ProblemValue) (steps : ℕ) (r : SolveRefusal) → IsProblemOf instance p → IsFrugal p.table → AreTurnsRefused p steps r → MeetsLimit instance steps r
+meets_limit instance p steps Memory of frugal h = tt
+meets_limit instance p steps TableTooLarge of frugal h = absurd h
+meets_limit instance p steps PairsTooMany of frugal h = record { problem = p; of = of; frugal = frugal; fills = h }
+
+-- and by more steps too
+pub meets_at_once : (instance : Pesp) (steps : ℕ) (r : SolveRefusal) → MeetsLimit instance 0 r → MeetsLimit instance steps r
+meets_at_once instance steps Memory h = tt
+meets_at_once instance steps TableTooLarge h = h
+meets_at_once instance steps PairsTooMany h =
+    let p = h.problem in
+    let fills = h.fills in
+    let many = fills.many in
+    let few = fills.few in
+    let more : 1 * length p.table ≤ (steps + 1) * length p.table = mul-le-mul_right (length p.table) (one_more steps) in
+    record {
+      problem = p;
+      of = h.of;
+      frugal = h.frugal;
+      fills = record {
+        many = omega (arith, many, more);
+        first = fills.first;
+        worked = fills.worked;
+        used = fills.used;
+        few = omega (arith, few);
+        last = fills.last;
+        grows = fills.grows;
+        full = fills.full;
+      };
+    }
 
 -- what was told as a refusal is so
 pub told_as : {A E : Type 0} (r : Result A E) (e : E) (P : E → Type 0) → IsErrAnd r (λ f. f ≡ e) → P e → IfErr r P

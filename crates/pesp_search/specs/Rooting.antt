@@ -1,5 +1,9 @@
 -- The root of the tree: the leaf that is given for it, and what its value says from then on.
-use Rattle.std.specs.Prelude.{ℕ, Some}
+use Rattle.std.specs.Prelude.{ℕ, List, Bool, true, false, Some}
+use Rattle.pesp_problem.specs.declared.row.SignedRow.{SignedRow}
+use Rattle.pesp_problem.specs.Arcs.{Net}
+use Rattle.pesp_problem.specs.Nodes.{root}
+use Rattle.pesp_truth.specs.Trees.{ByPropagation, IsShut}
 use Rattle.pesp_nodes.specs.Problems.{ProblemValue, net_of}
 use Rattle.pesp_bound.specs.declared.leaf.Leaf.{Leaf as Found}
 use Rattle.pesp_bound.specs.declared.leaf.Leaf.TheVariants.{Gap, Nothing, Bound}
@@ -8,12 +12,17 @@ use Rattle.pesp_machine.specs.declared.work.Work.TheVariants as works
 use Rattle.pesp_machine.specs.States.{State, IsAtMost, least}
 use Rattle.pesp_search.specs.Singles.{IsAboveSingles}
 
--- the work that a leaf is
-abbrev pub work_of : Found → Work
-work_of (Gap cycle) = works.Gap cycle
-work_of (Nothing pairs) = works.Nothing pairs
-work_of (Bound pairs value) = works.Leaf pairs
+-- the work that a leaf is; a bound that propagation shuts is shut
+abbrev pub work_of : Bool → Found → Work
+work_of shut (Gap cycle) = works.Gap cycle
+work_of shut (Nothing pairs) = works.Nothing pairs
+work_of true (Bound pairs value) = works.Propagated
+work_of false (Bound pairs value) = works.Leaf pairs
 
--- each bound that the least value reaches is above the value at the root of no pairs, and of each single pair that has one
+-- under the slack ranges of the root the rows support some family of sets without an empty one
+abbrev pub IsRootSupported : Net → List (List SignedRow) → Type 0
+IsRootSupported n table = IsShut n table ByPropagation (root n table) → ⊥
+
+-- where there is a least value the root is supported, and each bound that the value reaches is above the value at the root of no pairs, and of each single pair that has one
 abbrev pub IsRootBound : ProblemValue → State → Type 0
-IsRootBound p state = (l : ℕ) → IsAtMost (least p state) (Some l) → IsAboveSingles (net_of p) p.table l
+IsRootBound p state = (l : ℕ) → IsAtMost (least p state) (Some l) → IsRootSupported (net_of p) p.table × IsAboveSingles (net_of p) p.table l

@@ -1,5 +1,5 @@
 -- A search from the root's first look to its last turn.
-use Rattle.std.specs.Prelude.{◌≡◌, ◌⊎◌, ⊤, ℕ, ◌+◌, ◌*◌, ◌<◌, ◌≤◌, List, Bool, length, Some}
+use Rattle.std.specs.Prelude.{◌≡◌, ◌⊎◌, ⊤, ℕ, ◌≤◌, List, Bool, Some}
 use Rattle.pesp_problem.specs.declared.cut.Cut.{Cut}
 use Rattle.pesp_problem.specs.declared.cut.Side.{Side}
 use Rattle.pesp_problem.specs.NetTimetables.{IsNetTimetable, net_cost}
@@ -7,6 +7,7 @@ use Rattle.pesp_nodes.specs.Problems.{ProblemValue, net_of}
 use Rattle.pesp_machine.specs.States.{State, IsOpen, IsAtMost, least, best_cost}
 use Rattle.pesp_machine.specs.Events.{Offers}
 use Rattle.pesp_search_laws.specs.Turns.{IsWorked}
+use Rattle.pesp_search.specs.Refusals.{FillsTree}
 use Rattle.pesp_search.specs.Rooting.{IsRootBound}
 use Rattle.pesp_search.specs.declared.refusal.SolveRefusal.{SolveRefusal}
 use Rattle.pesp_search.specs.declared.refusal.SolveRefusal.TheVariants.{Memory, TableTooLarge, PairsTooMany}
@@ -37,4 +38,4 @@ pub record AreAllTurns (p : ProblemValue) (steps : ℕ) (old : State) (used : �
 abbrev pub AreTurnsRefused : ProblemValue → ℕ → SolveRefusal → Type 0
 AreTurnsRefused p steps Memory = ⊤
 AreTurnsRefused p steps TableTooLarge = ⊥
-AreTurnsRefused p steps PairsTooMany = 20000000 < (steps + 1) * length p.table
+AreTurnsRefused p steps PairsTooMany = FillsTree p steps

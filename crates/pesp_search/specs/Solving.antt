@@ -8,6 +8,7 @@ use Rattle.pesp_truth.specs.Certificates.{Content, IsValid, cost_of}
 use Rattle.pesp_search_laws.specs.Rooms.{room}
 use Rattle.pesp_search_laws.specs.Turns.{IsOpenAnswer, HasBranches}
 use Rattle.pesp_search_laws.specs.Lifted.{IsFrugal}
+use Rattle.pesp_search.specs.Rooting.{IsRootSupported}
 use Rattle.pesp_search.specs.Singles.{IsAboveSingles}
 use Rattle.pesp_search.specs.declared.refusal.SolveRefusal.{SolveRefusal}
 use Rattle.pesp_search.specs.declared.refusal.SolveRefusal.TheVariants.{Memory, TableTooLarge, PairsTooMany}
@@ -17,6 +18,7 @@ pub record IsSolved (p : Pesp) (steps used : ℕ) (content : Content) : Type 0 w
   pub valid : IsValid p content
   pub few : used ≤ steps
   pub finished : IsOpenAnswer content.answer → used ≡ steps
+  pub supported : IsOpenAnswer content.answer → IsRootSupported (net_of p) content.cycles
   pub least : (l : ℕ) (cost : Option ℕ) → content.answer ≡ Bounded l cost → IsAboveSingles (net_of p) content.cycles l
   pub branches : HasBranches (net_of p) content used
   pub frugal : IsFrugal content.cycles

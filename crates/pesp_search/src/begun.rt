@@ -4,6 +4,7 @@ ghost use Rattle.std.specs.Prelude.{◌≡◌, IfOk, IfErr};
 ghost use Rattle.pesp_search_laws.specs.Lifted.{IsReduced};
 ghost use Rattle.pesp_turns.specs.Knowing.{IsKnown};
 ghost use Rattle.pesp_search.specs.Beginning.{IsNewBoard, IsBegun};
+ghost use Rattle.pesp_search.specs.Refusals.{MeetsLimit};
 ghost use Rattle.pesp_search.specs.Solving.{IsSearchRefusal};
 
 use crate::planting::{Planting, planted};
@@ -24,6 +25,7 @@ fn board_of(alloc: Global, instance: &Instance, reduced: &Reduced) -> Result<Boa
     requires reduced { IsReduced reduced.now }
     ensures board { IfOk result (IsNewBoard instance.now reduced.now) }
     ensures refused { IfErr result (IsSearchRefusal instance.now 0) }
+    ensures passed { IfErr result (MeetsLimit instance.now 0) }
 {
     let problem = problem_for(alloc, instance, reduced)?;
     let board = Board::new(alloc, problem)?;
@@ -60,6 +62,7 @@ fn begin_over(alloc: Global, instance: &Instance, reduced: Reduced) -> Result<Se
     requires reduced { IsReduced reduced }
     ensures begun { IfOk result (IsBegun instance.now) }
     ensures refused { IfErr result (IsSearchRefusal instance.now 0) }
+    ensures passed { IfErr result (MeetsLimit instance.now 0) }
 {
     let board = board_of(alloc, instance, &reduced)?;
     let (known, proposer) = known_and_proposer(alloc, board.problem(), reduced)?;
@@ -81,6 +84,7 @@ pub(crate) fn begin<O: Observer>(
 ) -> Result<Search, SolveRefusal>
     ensures begun { IfOk result (IsBegun instance.now) }
     ensures refused { IfErr result (IsSearchRefusal instance.now 0) }
+    ensures passed { IfErr result (MeetsLimit instance.now 0) }
 {
     let reduced = planted(alloc, instance, planting, observer)?;
     begin_over(alloc, instance, reduced)

@@ -1,6 +1,7 @@
 //! A first look, for a search that goes on from it in a way of its own.
 
 ghost use Rattle.std.specs.Prelude.{IfOk, IfErr};
+ghost use Rattle.pesp_search.specs.Refusals.{MeetsLimit};
 ghost use Rattle.pesp_search.specs.Solving.{IsSolved, CostsNoMore, IsSearchRefusal};
 
 use crate::begun::begin;
@@ -34,6 +35,7 @@ pub fn look_first<O: Observer>(
     ensures improved { IfOk result
         (λ look. CostsNoMore instance.now times.now look.solved.certificate) }
     ensures refused { IfErr result (IsSearchRefusal instance.now 0) }
+    ensures passed { IfErr result (MeetsLimit instance.now 0) }
 {
     let mut search = begin(alloc, instance, Planting::Short, observer)?;
     let solved = solve_on(alloc, instance, &mut search, times, 0, observer)?;

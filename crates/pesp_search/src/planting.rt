@@ -3,9 +3,9 @@
 ghost use Rattle.std.specs.Prelude.{◌≡◌, IfOk};
 ghost use Rattle.pesp_search_laws.specs.Lifted.{IsReduced};
 
+use pesp_forest_search::search_forest;
 use pesp_problem::{Instance, Memory};
 use pesp_reduce::{Reduced, reduce};
-use pesp_strategy::search_forest;
 use pesp_turns::{Observer, Part};
 use std::alloc::Global;
 

@@ -10,7 +10,7 @@ ghost use Rattle.pesp_search.specs.Searching.{AreTurnsRefused};
 
 use crate::refusal::SolveRefusal;
 use crate::single::best_single;
-use pesp_board::{Board, Job, LendRefusal, Work};
+use pesp_board::{Board, Job, LendRefusal, Work, is_shut_by_propagation};
 use pesp_bound::{Leaf, best_leaf_from};
 use pesp_nodes::Node;
 use pesp_problem::Memory;
@@ -20,13 +20,14 @@ use std::alloc::Global;
 /// How many pivots look for the leaf of the root.
 const ROUNDS: u32 = 1_000;
 
-/// The work that a leaf is.
-fn work_of(leaf: Leaf) -> Work
-    ensures { result ≡ work_of leaf }
+/// The work that a leaf is; where propagation shuts a bound, that it does.
+fn work_of(leaf: Leaf, shut: bool) -> Work
+    ensures { result ≡ work_of shut leaf }
 {
     match leaf {
         Leaf::Gap { cycle } => Work::Gap(cycle),
         Leaf::Nothing { pairs } => Work::Nothing(pairs),
+        Leaf::Bound { .. } if shut => Work::Propagated,
         Leaf::Bound { pairs, .. } => Work::Leaf(pairs),
     }
 }
@@ -46,7 +47,8 @@ fn lend_root(alloc: Global, board: &mut Board) -> Result<Job, Memory>
     }
 }
 
-/// Lends the root of a new board, and gives the best leaf that is found there from the best single pair.
+/// Lends the root of a new board, and gives the best leaf that is found there from the best single pair. A bound isn't given
+/// where propagation shuts the root.
 pub(crate) fn look_at_root(
     alloc: Global,
     board: &mut Board,
@@ -64,7 +66,8 @@ pub(crate) fn look_at_root(
     let job = lend_root(alloc, board)?;
     let start = best_single(alloc, board.problem(), root)?;
     let leaf = best_leaf_from(alloc, board.problem(), root, &start, ROUNDS)?;
-    let taken = hand_in(alloc, board, &job, &work_of(leaf))?;
+    let shut = is_shut_by_propagation(alloc, board.problem(), root)?;
+    let taken = hand_in(alloc, board, &job, &work_of(leaf, shut))?;
     if !taken {
         return Err(SolveRefusal::PairsTooMany);
     }

@@ -10,6 +10,7 @@ ghost use Rattle.pesp_turns.specs.Settling.{IsSearched};
 ghost use Rattle.pesp_search.specs.Beginning.{IsBegun};
 ghost use Rattle.pesp_search.specs.Rooting.{IsRootBound};
 ghost use Rattle.pesp_search.specs.Searching.{IsAsCheapAs, IsReady, AreAllTurns, AreTurnsRefused};
+ghost use Rattle.pesp_search.specs.Refusals.{MeetsLimit};
 ghost use Rattle.pesp_search.specs.Solving.{IsSolved, CostsNoMore, IsSearchRefusal};
 
 use crate::begun::begin;
@@ -129,6 +130,7 @@ pub(crate) fn solve_on<O: Observer>(
     ensures solved { IfOk result (λ s. IsSolved instance.now steps s.steps_used s.certificate) }
     ensures improved { IfOk result (λ s. CostsNoMore instance.now times.now s.certificate) }
     ensures refused { IfErr result (IsSearchRefusal instance.now steps) }
+    ensures passed { IfErr result (MeetsLimit instance.now steps) }
 {
     make_ready(alloc, instance, search, times, observer)?;
     let steps_used = take_turns(alloc, search, steps, observer)?;
@@ -137,16 +139,19 @@ pub(crate) fn solve_on<O: Observer>(
 }
 
 /// Searches for a best timetable, by at most so many splits of a leaf. The certificate is valid for the instance. An answer
-/// that is open has used all splits; its bound is at least the value at the root of no pairs and of each single pair whose
-/// multiplier is 1 or -1. The tree has as many branches as splits were used, fewer than the room of its root, and each of them
+/// that is open has used all splits, and propagation doesn't shut the root of its tree; its bound is at least the value at the
+/// root of no pairs and of each single pair whose multiplier is 1 or -1. The tree has as many branches as splits were used, fewer than the room of its root, and each of them
 /// leaves both its parts a value. Each cycle passes no row twice, and some row that no other cycle passes.
 ///
-/// Refused as `TableTooLarge` only where the square of the number of activities is above 10000000, as `PairsTooMany` only
-/// where that number times one more than the steps is above 20000000, and else as `Memory`, where a growth was refused.
+/// Refused as `TableTooLarge` only where the square of the number of activities is above 10000000 and the fundamental walks of
+/// some spanning forest of what is left of them pass a limit, or do so lifted; as `PairsTooMany` only where the number of
+/// cycles, at most that of activities, times one more than the steps is above 20000000 and a tree that so many steps may lead
+/// to would pass a limit; and else as `Memory`, where a growth was refused.
 pub fn solve(alloc: Global, instance: &Instance, steps: u32) -> Result<Solved, SolveRefusal>
     requires { steps ≤ 100000 }
     ensures solved { IfOk result (λ s. IsSolved instance.now steps s.steps_used s.certificate) }
     ensures refused { IfErr result (IsSearchRefusal instance.now steps) }
+    ensures passed { IfErr result (MeetsLimit instance.now steps) }
 {
     solve_watched(alloc, instance, steps, &mut Nobody)
 }
@@ -161,6 +166,7 @@ pub fn solve_watched<O: Observer>(
     requires { steps ≤ 100000 }
     ensures solved { IfOk result (λ s. IsSolved instance.now steps s.steps_used s.certificate) }
     ensures refused { IfErr result (IsSearchRefusal instance.now steps) }
+    ensures passed { IfErr result (MeetsLimit instance.now steps) }
 {
     solve_from(alloc, instance, &[], steps, observer)
 }
@@ -180,6 +186,7 @@ pub fn solve_from<O: Observer>(
     ensures solved { IfOk result (λ s. IsSolved instance.now steps s.steps_used s.certificate) }
     ensures improved { IfOk result (λ s. CostsNoMore instance.now times.now s.certificate) }
     ensures refused { IfErr result (IsSearchRefusal instance.now steps) }
+    ensures passed { IfErr result (MeetsLimit instance.now steps) }
 {
     let mut search = begin(alloc, instance, Planting::Whole, observer)?;
     solve_on(alloc, instance, &mut search, times, steps, observer)

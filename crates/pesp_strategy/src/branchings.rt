@@ -4,11 +4,19 @@ use pesp_problem::{Cut, Side};
 use std::alloc::{AllocError, Global};
 
 /// A leaf: the cut that it was split by, by the places of its parts; and its basis as it is written down, empty where it
-/// isn't known.
+/// isn't known, with the leaf's value by it.
 #[derive(Drop)]
 struct Place {
     split: Option<Split>,
     codes: Vec<u8>,
+    value: i128,
+}
+
+/// A best basis as it is written down, and the leaf's value by it.
+#[derive(Clone, Copy)]
+pub(crate) struct Written<'a> {
+    pub(crate) codes: &'a [u8],
+    pub(crate) value: i128,
 }
 
 /// A cut, and the places of its parts.
@@ -53,6 +61,7 @@ impl Branchings {
         self.places.push(Place {
             split: None,
             codes: Vec::new(alloc),
+            value: 0,
         })?;
         Ok(place)
     }
@@ -87,6 +96,11 @@ impl Branchings {
         Ok(place)
     }
 
+    /// The value of a leaf whose basis is or was kept.
+    pub(crate) fn value(&self, place: u32) -> i128 {
+        self.places.get(place as usize).map_or(0, |leaf| leaf.value)
+    }
+
     /// Takes out the basis of a leaf; nothing where none is kept.
     pub(crate) fn take(&mut self, alloc: Global, place: u32) -> Vec<u8> {
         let mut codes = Vec::new(alloc);
@@ -98,8 +112,13 @@ impl Branchings {
     }
 
     /// Keeps the basis of a leaf where there is room.
-    fn put(&mut self, alloc: Global, place: u32, codes: Option<&[u8]>) -> Result<(), AllocError> {
-        let Some(codes) = codes else {
+    fn put(
+        &mut self,
+        alloc: Global,
+        place: u32,
+        written: Option<Written<'_>>,
+    ) -> Result<(), AllocError> {
+        let Some(Written { codes, value }) = written else {
             return Ok(());
         };
         if self.room < codes.len() {
@@ -108,6 +127,7 @@ impl Branchings {
         let kept = Vec::from_slice(alloc, codes)?;
         if let Some(leaf) = self.places.get_mut(place as usize) {
             leaf.codes = kept;
+            leaf.value = value;
             self.room = self.room.saturating_sub(codes.len());
         }
         Ok(())
@@ -119,8 +139,8 @@ impl Branchings {
         alloc: Global,
         place: u32,
         cut: Cut,
-        low: Option<&[u8]>,
-        high: Option<&[u8]>,
+        low: Option<Written<'_>>,
+        high: Option<Written<'_>>,
     ) -> Result<(), AllocError> {
         let split = self.split(alloc, place, cut)?;
         self.put(alloc, split.low, low)?;

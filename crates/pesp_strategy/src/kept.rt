@@ -5,12 +5,13 @@ use pesp_forest::Frame;
 use pesp_relaxation::Basis;
 use std::alloc::{AllocError, Global};
 
-/// What a timetable must cost less than, and times that do, where some were met with.
+/// What a timetable must cost less than, times that do, where some were met with, and a row at which prices were no times.
 #[derive(Drop)]
 pub(crate) struct Kept {
     pub(crate) limit: i128,
     pub(crate) is_known: bool,
     pub(crate) times: Option<Vec<u32>>,
+    broken: u32,
 }
 
 /// What no timetable costs: all weights times spans, and 1.
@@ -26,10 +27,15 @@ fn no_cost(frame: &Frame) -> i128 {
 impl Kept {
     /// No times below what the best timetable costs, where one is known.
     pub(crate) fn new(frame: &Frame, best: Option<i128>) -> Kept {
+        let limit = match best {
+            Some(cost) => cost,
+            None => no_cost(frame),
+        };
         Kept {
-            limit: best.unwrap_or(no_cost(frame)),
+            limit,
             is_known: best.is_some(),
             times: None,
+            broken: 0,
         }
     }
 
@@ -40,7 +46,7 @@ impl Kept {
         frame: &Frame,
         basis: &Basis,
     ) -> Result<(), AllocError> {
-        if let Some(cost) = rounded_cost(frame, basis, self.limit) {
+        if let Some(cost) = rounded_cost(frame, basis, self.limit, &mut self.broken) {
             self.limit = cost;
             self.is_known = true;
             self.times = Some(rounded_times(alloc, frame, basis)?);

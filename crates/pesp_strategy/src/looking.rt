@@ -1,5 +1,6 @@
 //! The choice of a cut by looking at both its parts (strong branching: Applegate et al. 1995).
 
+use crate::branchings::Written;
 use crate::candidates::Candidate;
 use crate::experience::Side;
 use crate::kept::Kept;
@@ -60,10 +61,13 @@ impl Found {
         }
     }
 
-    /// The basis as it is written down, where there is one.
-    pub(crate) fn basis(&self) -> Option<&[u8]> {
+    /// The basis as it is written down, where there is one, for a part of this value.
+    pub(crate) fn basis(&self, value: i128) -> Option<Written<'_>> {
         if self.is_written {
-            Some(&self.codes)
+            Some(Written {
+                codes: &self.codes,
+                value,
+            })
         } else {
             None
         }

@@ -17,12 +17,25 @@ fn row_cost(frame: &Frame, basis: &Basis, place: u32) -> Option<i128> {
     i128::from(slack).checked_mul(i128::from(row.weight))
 }
 
-/// What the prices cost as times; None where a row's slack is beyond its span, or where they cost as much as a limit.
-pub(crate) fn rounded_cost(frame: &Frame, basis: &Basis, limit: i128) -> Option<i128> {
+/// What the prices cost as times; None where a row's slack is beyond its span, which is then noted as the broken row, or where
+/// they cost as much as a limit. The row that was broken last is tried first.
+pub(crate) fn rounded_cost(
+    frame: &Frame,
+    basis: &Basis,
+    limit: i128,
+    broken: &mut u32,
+) -> Option<i128> {
+    if !frame.rows().is_empty() {
+        row_cost(frame, basis, *broken)?;
+    }
     let mut cost = 0i128;
     for place in 0..frame.rows().len() {
         let row = u32::try_from(place).ok()?;
-        cost = cost.checked_add(row_cost(frame, basis, row)?)?;
+        let Some(here) = row_cost(frame, basis, row) else {
+            *broken = row;
+            return None;
+        };
+        cost = cost.checked_add(here)?;
         if cost >= limit {
             return None;
         }

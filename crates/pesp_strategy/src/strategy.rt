@@ -1,6 +1,6 @@
 //! What is tried next at a leaf.
 
-use crate::branchings::Branchings;
+use crate::branchings::{Branchings, Written};
 use crate::candidates::{Candidate, Judges, candidates};
 use crate::kept::Kept;
 use crate::looking::{Bases, Experience, Found, Looked, best_cut};
@@ -126,6 +126,18 @@ fn cuts_for(rows: usize, depth: usize, so_far: u64) -> usize {
     }
 }
 
+/// How the search for a leaf's best basis ended, and the leaf's value where it was written down with the basis.
+#[derive(Clone, Copy)]
+struct Settled {
+    ended: Ended,
+    value: Option<i128>,
+}
+
+/// What the leaf of a best basis is worth.
+fn value_of(setting: &Setting, work: &Work, looking: &Looking<'_>) -> i128 {
+    base_cost(&setting.frame, looking.slacks).saturating_sub(work.bases.leaf.cost())
+}
+
 /// The cuts of a leaf that are looked at, the likeliest first.
 fn cuts(
     alloc: Global,
@@ -194,23 +206,23 @@ fn proposed(
         cycle: split.cycle,
         k: split.k,
     };
-    let (low, high) = (bases.best.low.basis(), bases.best.high.basis());
+    let low = bases.best.low.basis(looked.low.value);
+    let high = bases.best.high.basis(looked.high.value);
     branchings.keep(alloc, place, cut, low, high)?;
     Ok(split)
 }
 
-/// The best cut of a leaf whose basis is a best one, with the leaf's value.
+/// The best cut of a leaf of this value, whose basis is a best one.
 fn choose(
     alloc: Global,
     setting: &Setting,
     work: &mut Work,
     looking: &Looking<'_>,
     kept: &mut Kept,
-) -> Result<(i128, Option<Split>), AllocError> {
-    let base = base_cost(&setting.frame, looking.slacks);
-    let value = base.saturating_sub(work.bases.leaf.cost());
+    value: i128,
+) -> Result<Option<Split>, AllocError> {
     if kept.closes(value) {
-        return Ok((value, None));
+        return Ok(None);
     }
     let leaf = Leaf {
         frame: &setting.frame,
@@ -226,11 +238,8 @@ fn choose(
         ..
     } = work;
     match best_cut(alloc, &leaf, kept, bases, experience, &found)? {
-        Some(looked) => Ok((
-            value,
-            Some(proposed(alloc, setting, work, looking.place, &looked)?),
-        )),
-        None => Ok((value, None)),
+        Some(looked) => Ok(Some(proposed(alloc, setting, work, looking.place, &looked)?)),
+        None => Ok(None),
     }
 }
 
@@ -241,15 +250,19 @@ fn settle(
     setting: &Setting,
     basis: &mut Basis,
     looking: &Looking<'_>,
-    codes: &[u8],
-) -> Result<Option<Ended>, AllocError> {
+    written: Written<'_>,
+) -> Result<Option<Settled>, AllocError> {
     let Setting { frame, cycles, .. } = setting;
     let ranges = basis.set_ranges(frame, cycles, looking.slacks, looking.offsets);
     if ranges.is_none() {
         return Ok(None);
     }
+    let Written { codes, value } = written;
     if !codes.is_empty() && basis.restore(alloc, frame, codes)?.is_some() {
-        return Ok(Some(Ended::Best));
+        return Ok(Some(Settled {
+            ended: Ended::Best,
+            value: Some(value),
+        }));
     }
     if basis
         .rebuild(alloc, frame, cycles, looking.pairs)?
@@ -257,7 +270,10 @@ fn settle(
     {
         return Ok(None);
     }
-    Ok(Some(basis.solve(frame, MOST_PIVOTS)))
+    Ok(Some(Settled {
+        ended: basis.solve(frame, MOST_PIVOTS),
+        value: None,
+    }))
 }
 
 /// What is proposed for a leaf whose search for a best basis ended so.
@@ -266,15 +282,23 @@ fn advise(
     setting: &Setting,
     work: &mut Work,
     looking: &Looking<'_>,
-    ended: Ended,
+    settled: Settled,
     best: Option<i128>,
 ) -> Result<Advice, AllocError> {
+    let Settled {
+        ended,
+        value: known,
+    } = settled;
     let mut kept = Kept::new(&setting.frame, best);
     let mut cut = None;
     let mut value = 0;
     if ended == Ended::Best {
         kept.offer(alloc, &setting.frame, &work.bases.leaf)?;
-        (value, cut) = choose(alloc, setting, work, looking, &mut kept)?;
+        value = match known {
+            Some(value) => value,
+            None => value_of(setting, work, looking),
+        };
+        cut = choose(alloc, setting, work, looking, &mut kept, value)?;
     }
     let leaf = Part {
         pairs: work.bases.leaf.pairs(alloc, &setting.cycles)?,
@@ -371,9 +395,13 @@ impl Strategy {
             depth: path.len(),
         };
         let codes = work.branchings.take(alloc, looking.place);
+        let written = Written {
+            codes: &codes,
+            value: work.branchings.value(looking.place),
+        };
         let basis = &mut work.bases.leaf;
-        match settle(alloc, setting, basis, &looking, &codes)? {
-            Some(ended) => Ok(Some(advise(alloc, setting, work, &looking, ended, best)?)),
+        match settle(alloc, setting, basis, &looking, written)? {
+            Some(settled) => Ok(Some(advise(alloc, setting, work, &looking, settled, best)?)),
             None => Ok(None),
         }
     }

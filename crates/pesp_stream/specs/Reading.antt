@@ -1,6 +1,7 @@
 -- What reading a whole text gives and what it takes from a reader.
 use Rattle.std.specs.Prelude.{◌≡◌, ℕ, ◌<◌, ◌≤◌, List, Option, length, take, IfSome}
 use Rattle.std.specs.Io.KnownBytes.{Consumes, IsAtEnd}
+use Rattle.pesp_stream.specs.Counts.{Calls, HasWorked, DeviceFailed}
 use Rattle.pesp_stream.specs.declared.reading.ReadFault.{ReadFault}
 use Rattle.pesp_stream.specs.declared.reading.ReadFault.TheVariants.{Memory, Device}
 
@@ -11,7 +12,7 @@ pub record ReadsText (old new : Option (List ℕ)) (limit : ℕ) (bytes : List �
   pub consumed : Consumes old new bytes
   pub ended : length bytes < limit → IsAtEnd new
 
--- a device is blamed only where it failed
-abbrev pub ReadFaults : ReadFault → Type 0 → Type 0
-ReadFaults Memory failed = Unit {0}
-ReadFaults Device failed = failed
+-- a device is blamed where it failed, and memory where it worked
+abbrev pub ReadFaults : ReadFault → Calls → Calls → Type 0
+ReadFaults Memory old new = HasWorked old new
+ReadFaults Device old new = DeviceFailed old new

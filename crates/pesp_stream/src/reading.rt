@@ -2,7 +2,7 @@
 ghost use Rattle.std.specs.Prelude.{◌≡◌, ◌+◌, ◌<◌, ◌≤◌, ◌^◌, ◌⊎◌, length, take, IfOk, IfErr, OnOk, OnErr, IfSome};
 ghost use Rattle.std.specs.Io.{ReadsAtMost};
 ghost use Rattle.std.specs.Io.KnownBytes.{Consumes, Keeps, IsAtEnd, ReadConsumes};
-ghost use Rattle.pesp_stream.specs.Counts.{FewerThan, Worked, Failed, HasWorked, DeviceFailed};
+ghost use Rattle.pesp_stream.specs.Counts.{FewerThan, Worked, Failed, HasWorked};
 ghost use Rattle.pesp_stream.specs.Reading.{ReadsText, ReadFaults};
 
 use crate::source::Source;
@@ -61,8 +61,8 @@ pub fn read_all<S: Source>(
     ensures ok { IfOk result
         (λ bytes. ReadsText (S.remaining source.old) (S.remaining source.new) limit bytes.items) }
     ensures counts { OnOk result (HasWorked (S.calls source.old) (S.calls source.new)) }
-    ensures fault { IfErr result (λ e. ReadFaults e
-        (DeviceFailed (S.calls source.old) (S.calls source.new))) }
+    ensures fault { IfErr result
+        (λ e. ReadFaults e (S.calls source.old) (S.calls source.new)) }
 {
     let most = source.interrupted_reads() + MOST_INTERRUPTED;
     let mut bytes = Vec::new(alloc);

@@ -1,6 +1,6 @@
 //! Batches: individuals are merged by fours, and these with the best of before.
 
-use crate::effort::{Effort, MOST_REOPTIMISED};
+use crate::effort::{Effort, MOST_REOPTIMISED, is_near};
 use crate::found::Found;
 use crate::search::TimesSearch;
 use pesp_network::Network;
@@ -35,13 +35,24 @@ impl TimesSearch {
         self.merged_with_balls(network, pool, effort)
     }
 
-    /// Those that were met elsewhere, annealed.
+    /// Whether a timetable is near the cheapest one, or there is none.
+    fn is_near_best(&self, network: &Network, found: &Found) -> bool {
+        match self.cheapest() {
+            Some(best) => is_near(network.rows().len(), found.cost, best.cost),
+            None => true,
+        }
+    }
+
+    /// Those that were met elsewhere and are near the cheapest one, annealed.
     fn adopt_waiting(&mut self, network: &Network, effort: Effort) -> Result<Vec<Found>, Memory> {
         let mut pool = Vec::new(self.alloc);
         for _ in 0..self.waiting.len() {
             let Some(met) = self.waiting.pop() else {
                 return Ok(pool);
             };
+            if !self.is_near_best(network, &met) {
+                continue;
+            }
             if let Some(found) = self.adopted(network, met, effort.rounds)? {
                 pool.push(found)?;
             }

@@ -20,6 +20,11 @@ pub(crate) const MOST_REOPTIMISED: usize = 8_000;
 /// Up to how many rows there is more work for each row.
 pub(crate) const FEW: usize = 2_500;
 
+/// Whether a timetable is worth a merge beside the cheapest of a pool: where there are many rows, or it costs at most a 32nd more.
+pub(crate) fn is_near(rows: usize, cost: u64, least: u64) -> bool {
+    rows > FEW || cost <= least.saturating_add(least / 32)
+}
+
 impl Effort {
     /// The work before the first step.
     pub(crate) fn first(rows: usize) -> Effort {

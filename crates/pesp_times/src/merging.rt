@@ -2,7 +2,7 @@
 
 use crate::clusters::{Clusters, common_clusters};
 use crate::contraction::Contraction;
-use crate::effort::MOST_DIVED;
+use crate::effort::{MOST_DIVED, is_near};
 use crate::forests::Keys;
 use crate::found::{Found, cost_of};
 use crate::relaxing::Relaxation;
@@ -31,6 +31,14 @@ impl Merge {
             self.slacks.copy_from_slice(slacks);
         }
     }
+}
+
+/// How many timetables of a pool, the cheapest in front, are near the first.
+fn count_near(rows: usize, pool: &[Found]) -> usize {
+    let least = pool.first().map_or(0, |found| found.cost);
+    pool.iter()
+        .filter(|found| is_near(rows, found.cost, least))
+        .count()
 }
 
 impl TimesSearch {
@@ -112,6 +120,7 @@ impl TimesSearch {
         rounds: u32,
     ) -> Result<Option<Found>, Memory> {
         pool.sort_unstable_by_key(|found| found.cost);
+        pool.truncate(count_near(network.rows().len(), &pool));
         let opened = self.opened(network, &pool)?;
         if let Some(mut merge) = opened {
             self.anneal_pool(&mut merge, &pool, rounds)?;

@@ -39,7 +39,39 @@ pub struct TimesSearch {
     pub(crate) mean: u64,
     pub(crate) kinds: Kinds,
     pub(crate) waiting: Vec<Found>,
+    rest: Rest,
     best: Option<Best>,
+}
+
+/// How many batches in turn found nothing cheaper, and how many are left out for it.
+#[derive(Clone, Copy)]
+struct Rest {
+    misses: u32,
+    left: u32,
+}
+
+impl Rest {
+    /// No batch so far.
+    fn none() -> Rest {
+        Rest { misses: 0, left: 0 }
+    }
+
+    /// Whether the next batch is left out.
+    fn takes_next(&mut self) -> bool {
+        let takes = self.left > 0;
+        self.left = self.left.saturating_sub(1);
+        takes
+    }
+
+    /// After a batch: each that finds nothing has one more of the following ones left out.
+    fn note(&mut self, found: bool) {
+        self.misses = if found {
+            0
+        } else {
+            self.misses.saturating_add(1)
+        };
+        self.left = self.misses;
+    }
 }
 
 /// The cheaper of two timetables.
@@ -62,6 +94,7 @@ impl TimesSearch {
             mean: 0,
             kinds: Kinds::new(alloc)?,
             waiting: Vec::new(alloc),
+            rest: Rest::none(),
             best: None,
         })
     }
@@ -71,9 +104,21 @@ impl TimesSearch {
         self.batch(network, Effort::first(network.rows().len()))
     }
 
-    /// A batch after so many steps (128, 256, 512 and so on).
+    /// What the cheapest timetable costs.
+    fn least(&self) -> Option<u64> {
+        Some(self.cheapest()?.cost)
+    }
+
+    /// A batch after so many steps (128, 256, 512 and so on), unless batches before it found nothing.
     pub fn go_on(&mut self, network: &Network, steps: u32) -> Result<(), Memory> {
-        self.batch(network, Effort::after(steps))
+        if self.rest.takes_next() {
+            return Ok(());
+        }
+        let before = self.least();
+        self.batch(network, Effort::after(steps))?;
+        let is_cheaper = self.least() != before;
+        self.rest.note(is_cheaper);
+        Ok(())
     }
 
     /// Takes times that were met elsewhere as an individual of the next batch; does nothing where they are no timetable.

@@ -6,7 +6,7 @@ use Rattle.pesp_cert_items.proofs.Telling.{at_first}
 use Rattle.pesp_nets.specs.Nets.{AreZeros}
 use Rattle.pesp_check.specs.Views.{kept}
 use Rattle.pesp_check.proofs.Items.{item_limits}
-use Rattle.pesp_check.proofs.Texts.{IsCheckedTo, checked_none, checked_more, checked_all, checked_fault, writes_all}
+use Rattle.pesp_check.proofs.Texts.{IsCheckedTo, checked_none, checked_more, checked_all, checked_fault, blamed_since, not_blamed, writes_all}
 use Rattle.pesp_check.proofs.text_check.check_text.Goals as goal
 
 pub loop-judge-init : goal.loop-judge-init
@@ -74,5 +74,13 @@ returns-in-Err-clause-fault g c =
     let answers = rw c.in-Err.is at holds.2 in
     let gives = gives_of _ _ _ _ inv.checked.going answers in
     let most = inv.most ∙ c.new-items.ensures.most ∙ ap (λ n. n + 1000) c.interrupted_reads-most.ensures in
-    let blamed = rw (c.in-Err.is, inv.worked.0, most) at (holds.3 inv.checked.going) in
-    rw c.from.ensures (checked_fault c.args.instance.now _ _ _ c.loop-judge.judge.stage (kept c.loop-judge.judge) c.in-Err.fault _ inv.checked gives blamed)
+    let blamed = blamed_since c.in-Err.fault (g.S.Source.calls c.args.source.now) _ _ _ _ inv.worked.0 most (rw c.in-Err.is at (holds.3 inv.checked.going)) in
+    rw c.from.ensures (checked_fault c.args.instance.now _ _ _ c.loop-judge.judge.stage (kept c.loop-judge.judge) c.in-Err.fault _ _ _ inv.checked gives blamed)
+
+pub returns-in-Err-clause-counts_else : goal.returns-in-Err-clause-counts_else
+returns-in-Err-clause-counts_else g c =
+    let inv = c.loop-judge.invariant in
+    let holds = c.next_from.follows.holds-at-none in
+    let most = inv.most ∙ c.new-items.ensures.most ∙ ap (λ n. n + 1000) c.interrupted_reads-most.ensures in
+    let blamed = blamed_since c.in-Err.fault (g.S.Source.calls c.args.source.now) _ _ _ _ inv.worked.0 most (rw c.in-Err.is at (holds.3 inv.checked.going)) in
+    rw c.from.ensures (not_blamed c.in-Err.fault _ _ _ blamed)

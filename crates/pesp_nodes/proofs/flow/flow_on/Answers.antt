@@ -15,14 +15,14 @@ unfolding none
 here c =
     let count = count_small c.args.passages.now c.loop-passage.passage-index none c.loop-passage-test.true c.requires.small in
     let fits : FitsSigned w64 (get_or c.args.passages.now c.loop-passage.passage-index none).count = omega (arith, ints) in
-    let mult_fits : FitsSigned w64 c.mult_at-mult.result = search rules in
-    let mult : to_z w128 (of_z w128 c.from.result) ≡ c.mult_at-mult.result = omega (arith, ints) in
+    let mult_fits : FitsSigned w64 c.mult_of-mult.result = search rules in
+    let mult : to_z w128 (of_z w128 c.from.result) ≡ c.mult_of-mult.result = omega (arith, ints) in
     let wide : to_z w128 (of_z w128 c.from-in-loop-passage.result) ≡ (get_or c.args.passages.now c.loop-passage.passage-index none).count = omega (arith, ints) in
-    rw (← c.mult_at-mult.ensures.value) (rw (mult, wide) at c.times.ensures.value)
+    rw (← c.mult_of-mult.ensures.value) (rw (mult, wide) at c.times.ensures.value)
 
 small : (c : goal.After-times) → unsigned_abs (mult_of c.args.pairs.now (get_or c.args.passages.now c.loop-passage.passage-index none).cycle) ≤ 1000000000000
 unfolding none
-small c = rw (← c.mult_at-mult.ensures.value) c.mult_at-mult.ensures.size
+small c = rw (← c.mult_of-mult.ensures.value) c.mult_of-mult.ensures.size
 
 pub plus-flow-requires : goal.plus-flow-requires
 plus-flow-requires c =

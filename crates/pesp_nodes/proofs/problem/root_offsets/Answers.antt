@@ -1,4 +1,4 @@
-use Rattle.std.proofs.Common.{◌≡◌, ◌∙◌, [], List, length, subst, sym, arith}
+use Rattle.std.proofs.Common.{◌≡◌, ◌∙◌, [], List, length, subst, sym, arith, All}
 use Rattle.std.proofs.lemmas.Grind.{common_steps}
 use Rattle.std.specs.Prelude.{ℤ}
 use Rattle.std.proofs.lemmas.List.{get_or_default}
@@ -6,13 +6,14 @@ use Rattle.std.proofs.lemmas.List.Elements.{All-push}
 use Rattle.pesp_problem.specs.Nodes as spec
 use Rattle.pesp_problem.specs.Nodes.{cycle_at}
 use Rattle.pesp_nets.specs.Nets.{AreNetCounts, nets_at}
-use Rattle.pesp_nodes.specs.Offsets.{IsOffsetEnds, AreOffsetEnds}
+use Rattle.pesp_nodes.specs.Offsets.{IsOffsetEnds, AreOffsetEnds, IsSmallRange}
 use Rattle.pesp_nodes.proofs.Keeping.{ranges_more, pair_is}
 use Rattle.pesp_nodes.proofs.problem.root_offsets.Goals as goal
 
 pub loop-counts-preserved : goal.loop-counts-preserved
 loop-counts-preserved c = record {
   ends = subst (λ (xs : List (ℤ × ℤ)). AreOffsetEnds xs) (sym c.in_ok-push.ensures.items) (All-push IsOffsetEnds c.loop-counts.offsets.items _ c.loop-counts.invariant.ends c.bounds_of.ensures.ends);
+  small = subst (λ (xs : List (ℤ × ℤ)). All (IsSmallRange c.args.period) xs) (sym c.in_ok-push.ensures.items) (All-push (IsSmallRange c.args.period) c.loop-counts.offsets.items _ c.loop-counts.invariant.small c.bounds_of.ensures.small);
   offsets = λ walks nets.
       let k = c.loop-counts.counts-index in
       let at : c.counts.result.now ≡ nets_at c.args.nets.now k = c.counts.ensures ∙ c.counts-item.is ∙ get_or_default c.args.nets.now k c.counts-item.result [] c.loop-counts-test.true in

@@ -5,7 +5,9 @@ use Rattle.std.proofs.lemmas.Int.{ints}
 use Rattle.pesp_problem.specs.Arcs.{over_arcs}
 use Rattle.pesp_problem.specs.Nodes.{flow}
 use Rattle.pesp_nodes.specs.Problems.{net_of}
+use Rattle.pesp_nets.specs.Nets.{AreNets}
 use Rattle.pesp_nets.specs.Ranges.{AreSlackEnds}
+use Rattle.pesp_nodes.specs.Flows.{AreFlows}
 use Rattle.pesp_nodes.specs.Passages.{ArePassages}
 use Rattle.pesp_nodes.specs.Values.{row_term_at}
 use Rattle.pesp_nodes.proofs.LeafValues.{value_is}
@@ -15,7 +17,10 @@ use Rattle.pesp_nodes.proofs.value.leaf_value.Goals as goal
 pub returns : goal.returns
 returns c =
     let are : ArePassages (length c.arcs-arcs.result.now) (length c.args.problem.now.table) c.args.problem.now.table c.passages.result.now = rw c.arcs-arcs.ensures.rows c.passages.ensures.passages in
-    let rows = c.row_sum-rows.ensures.value c.args.problem.now.table are (λ k d l. (c.requires.pairs.each k d l).names) in
+    let table = c.args.problem.now.table in
+    let nets : AreNets (length c.arcs-arcs.result.now) table c.nets.result.now = rw c.arcs-arcs.ensures.rows c.nets.ensures.nets in
+    let flows : AreFlows table c.args.pairs.now c.flows_of-flows.result.items = c.flows_of-flows.ensures.flows table nets in
+    let rows = c.row_sum-rows.ensures.value table are (λ k d l. (c.requires.pairs.each k d l).names) (rw c.deref.ensures.value flows) in
     let rows_are : c.row_sum-rows.result ≡ over_arcs (net_of c.args.problem.now).arcs (λ i. row_term_at (net_of c.args.problem.now).arcs c.args.node.now.slacks c.args.weighted i (flow c.args.problem.now.table c.args.pairs.now i)) = rw (c.arcs-arcs.ensures.arcs, c.slacks.ensures.slacks) at rows in
     let offsets_size = c.in_ok-offsets.ensures.size in
     let rows_size = c.row_sum-rows.ensures.size in

@@ -1,9 +1,10 @@
 use Rattle.std.proofs.Common.{◌∙◌, ap}
 use Rattle.pesp_network.specs.Networks.{net_of_network}
-use Rattle.pesp_propagate.specs.Rows.{RowsValue}
-use Rattle.pesp_propagate.specs.Domains.{family_of}
+use Rattle.pesp_domains.specs.Rows.{RowsValue}
+use Rattle.pesp_domains.specs.Domains.{family_of}
 use Rattle.pesp_propagate.proofs.Joining.{times_kept}
-use Rattle.pesp_propagate.proofs.Propagating.{have_ends, at_network, Ended, stable_of, exact_of, full_of}
+use Rattle.pesp_domains.proofs.Networks.{have_ends}
+use Rattle.pesp_propagate.proofs.Propagating.{at_network, Ended, stable_of, exact_of, full_of}
 use Rattle.pesp_propagate.proofs.propagation.propagate.Goals as goal
 
 -- what the work ends with, in the words of the network

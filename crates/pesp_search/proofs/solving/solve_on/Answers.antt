@@ -10,7 +10,8 @@ use Rattle.pesp_search.specs.Rooting.{IsRootBound}
 use Rattle.pesp_search.specs.Searching.{AreAllTurns, IsAsCheapAs}
 use Rattle.pesp_search.specs.Solving.{IsSearchRefusal}
 use Rattle.pesp_search.proofs.Costs.{still_cheap}
-use Rattle.pesp_search.proofs.Solutions.{refused_for_rows, refused_at_once}
+use Rattle.pesp_search.specs.Refusals.{MeetsLimit}
+use Rattle.pesp_search.proofs.Solutions.{refused_for_rows, refused_at_once, meets_limit, meets_at_once}
 use Rattle.pesp_search.proofs.solving.solve_on.Goals as goal
 
 pub take_turns-requires-clause-known : goal.take_turns-requires-clause-known
@@ -62,4 +63,20 @@ pub returns-in_err-steps_used-clause-refused : goal.returns-in_err-steps_used-cl
 returns-in_err-steps_used-clause-refused g c =
     let few = subst (λ (x : ProblemValue). length x.table ≤ length c.args.instance.now.rows) (sym c.in_ok-make_ready.ensures.problem) c.requires.begun.board.few in
     let refused : IsSearchRefusal c.args.instance.now c.args.steps c.in_err-steps_used.field-0.0 = refused_for_rows c.args.instance.now c.make_ready.new.search.board.problem c.args.steps c.in_err-steps_used.field-0.0 few c.in_err-steps_used.ensures.refused in
+    search rules
+
+pub returns-in_err-make_ready-clause-passed : goal.returns-in_err-make_ready-clause-passed
+returns-in_err-make_ready-clause-passed g c =
+    let board = c.requires.begun.board in
+    let at_root = meets_limit c.args.instance.now c.args.search.now.board.problem 0 c.in_err-make_ready.field-0.0 board.of board.frugal c.in_err-make_ready.ensures.refused in
+    let passed : MeetsLimit c.args.instance.now c.args.steps c.in_err-make_ready.field-0.0 = meets_at_once c.args.instance.now c.args.steps c.in_err-make_ready.field-0.0 at_root in
+    search rules
+
+pub returns-in_err-steps_used-clause-passed : goal.returns-in_err-steps_used-clause-passed
+returns-in_err-steps_used-clause-passed g c =
+    let board = c.requires.begun.board in
+    let same = sym c.in_ok-make_ready.ensures.problem in
+    let of = subst (IsProblemOf c.args.instance.now) same board.of in
+    let frugal = subst (λ (x : ProblemValue). IsFrugal x.table) same board.frugal in
+    let passed : MeetsLimit c.args.instance.now c.args.steps c.in_err-steps_used.field-0.0 = meets_limit c.args.instance.now c.make_ready.new.search.board.problem c.args.steps c.in_err-steps_used.field-0.0 of frugal c.in_err-steps_used.ensures.refused in
     search rules

@@ -1,7 +1,7 @@
 use Rattle.std.proofs.Common.{subst}
 use Rattle.pesp_network.specs.Networks.{KeepsNetLimits}
 use Rattle.pesp_nodes.specs.Problems.{ProblemValue}
-use Rattle.pesp_search.proofs.Turns.{all_used, none_open}
+use Rattle.pesp_search.proofs.Turns.{all_used, none_open, fills_tree}
 use Rattle.pesp_search.proofs.solving.take_turns.Goals as goal
 
 pub returns-in-StepsUsed-clause-turns : goal.returns-in-StepsUsed-clause-turns
@@ -19,7 +19,10 @@ returns-in-NoneOpen-clause-turns g c =
     none_open p c.args.steps c.in_ok-ended.ended.used c.args.search.now.board.state c.run.new.self.board.state (subst (λ (x : ProblemValue). KeepsNetLimits x.network) c.problem.ensures c.keeps_limits.ensures.network) done.few done.grows c.requires.worked turns
 
 pub returns-in-TreeTooLarge-clause-refused : goal.returns-in-TreeTooLarge-clause-refused
-returns-in-TreeTooLarge-clause-refused g c = rw c.in-TreeTooLarge.is at (c.in_ok-ended.ensures.counted c.requires.searched c.requires.worked)
+returns-in-TreeTooLarge-clause-refused g c =
+    let done = c.in_ok-ended.ensures in
+    let many = rw c.in-TreeTooLarge.is at (done.counted c.requires.searched c.requires.worked) in
+    fills_tree c.args.search.now.board.problem c.args.search.now.known.reduced c.args.steps c.in_ok-ended.ended.used c.args.search.now.board.state c.run.new.self.board.state done.few done.grows c.requires.worked many (λ settled. rw c.in-TreeTooLarge.is at (done.ends settled))
 
 pub unreachable-requires : goal.unreachable-requires
 unreachable-requires g c = rw c.in-NumbersSpent.is at (c.in_ok-ended.ensures.counted c.requires.searched c.requires.worked)

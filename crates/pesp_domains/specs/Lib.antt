@@ -1,0 +1,10 @@
+pub mod Bits
+pub mod Sets
+pub mod Domains
+pub mod Waiting
+pub mod Outcomes
+pub mod Visits
+pub mod Rows
+pub mod Full
+pub mod Filling
+pub mod Partners

@@ -1,8 +1,0 @@
-use Rattle.pesp_propagate.specs.Domains.{HaveSizes}
-use Rattle.pesp_propagate.proofs.diving.fix_all.Given as goal
-
-abbrev pub invariant-turns : goal.invariant-turns
-invariant-turns l = record {
-  sizes : HaveSizes l.rows.period l.rows.events l.domains;
-  saved : HaveSizes l.rows.period l.rows.events l.saved;
-}

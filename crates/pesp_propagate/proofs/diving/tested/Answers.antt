@@ -1,5 +1,0 @@
-use Rattle.std.proofs.Common.{rules}
-use Rattle.pesp_propagate.proofs.diving.tested.Goals as goal
-
-pub returns-then-is_timetable : goal.returns-then-is_timetable
-returns-then-is_timetable c = search rules

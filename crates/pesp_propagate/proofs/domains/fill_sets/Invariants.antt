@@ -1,6 +1,0 @@
-use Rattle.pesp_network.specs.Networks.{net_of_network}
-use Rattle.pesp_propagate.specs.Filling.{AreFull}
-use Rattle.pesp_propagate.proofs.domains.fill_sets.Given as goal
-
-abbrev pub invariant-loop-event : goal.invariant-loop-event
-invariant-loop-event l = AreFull (net_of_network l.network) l.event l.words

@@ -1,5 +1,7 @@
 //! The search: what sharpens, what looks for times, and the best timetable so far.
 
+ghost use Rattle.std.specs.Prelude.{◌≡◌};
+
 use crate::base::given_of;
 use crate::best::{Best, offer, shown_by};
 use crate::scales::{scale_for, scale_over};

@@ -47,14 +47,7 @@ one_value p state number value other pairs others a b =
     let same = same_pairs state number a.path b.path pairs others a.leaf b.leaf in
     some_same value other (sym a.worth ∙ ap (λ (x : List (Cut × Side)). option_map told (value_at p x pairs)) path ∙ ap (λ (x : List Pair). option_map told (value_at p b.path x)) same ∙ b.worth)
 
--- where no bound is named nothing is said
-pub whole_unbounded : (p : ProblemValue) (state : State) (number branches : ℕ) (until : Option ℕ) → until ≡ None → IsWholeFrom p state until number branches
-whole_unbounded p state number branches until none bound value pairs named leaf least = absurd (some_is_some bound (sym named ∙ none))
-  where
-    some_is_some : (bound : ℕ) → Some bound ≡ None → ⊥
-    some_is_some bound e = cc
-
--- nor where the leaf is worth less than the bound
+-- where the leaf is worth less than the bound nothing is said
 pub whole_below : (p : ProblemValue) (state : State) (number branches least found : ℕ) (until : Option ℕ) (others : List Pair) → until ≡ Some least → IsJobLeaf p state number found others → found < least → IsWholeFrom p state until number branches
 whole_below p state number branches least found until others named there below bound value pairs named_so leaf above =
     let one = some_same least bound (sym named ∙ named_so) in

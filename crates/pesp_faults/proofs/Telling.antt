@@ -4,6 +4,7 @@ use Rattle.std.specs.Prelude.{Option}
 use Rattle.pesp_stream.specs.Counts.{Calls}
 use Rattle.pesp_stream.specs.Reading.{ReadsText}
 use Rattle.pesp_problem.specs.Timetables.{Pesp}
+use Rattle.pesp_search.specs.Refusals.{MeetsLimit}
 use Rattle.pesp_search.specs.Solving.{IsSearchRefusal}
 use Rattle.pesp_search.specs.declared.refusal.SolveRefusal.{SolveRefusal}
 use Rattle.pesp_search.specs.declared.refusal.SolveRefusal.TheVariants.{Memory as SearchMemory, TableTooLarge, PairsTooMany}
@@ -15,7 +16,7 @@ use Rattle.pesp_check_run.specs.declared.fault.VerdictFault.TheVariants.{Instanc
 use Rattle.pesp_check_run.specs.Devices.{Device, over}
 use Rattle.pesp_check_run.specs.Checking as checking
 use Rattle.pesp_faults.specs.FaultLines.{verdict_fault, search_fault, times_fault}
-use Rattle.pesp_faults.specs.Causes.{InstanceCause, TimesCause, SearchCause}
+use Rattle.pesp_faults.specs.Causes.{InstanceCause, TimesCause, SearchCause, LimitCause}
 
 -- why there is no instance, told as a fault of the runs
 pub instance_cause : (fault : VerdictFault) (reader : Device) (period : ℕ) → checking.InstanceCause fault reader period → InstanceCause (verdict_fault fault) reader period
@@ -31,6 +32,11 @@ pub search_cause : (refusal : SolveRefusal) (p : Pesp) (steps : ℕ) → IsSearc
 search_cause SearchMemory p steps refused = tt
 search_cause TableTooLarge p steps refused = refused
 search_cause PairsTooMany p steps refused = refused
+
+pub limit_cause : (refusal : SolveRefusal) (p : Pesp) (steps : ℕ) → MeetsLimit p steps refusal → LimitCause (search_fault refusal) p steps
+limit_cause SearchMemory p steps met = tt
+limit_cause TableTooLarge p steps met = met
+limit_cause PairsTooMany p steps met = met
 
 -- a refusal of the times' text, or of memory
 pub times_cause : (refusal : TimesRefusal) (told left : Option (List ℕ)) (calls after : Calls) (bytes : List ℕ) (p : Pesp) → ReadsText told left 1073741824 bytes → (refusal ≡ TimesMemory) ⊎ (times_of p bytes ≡ Err refusal) → TimesCause (times_fault refusal) (over told left calls after) p

@@ -6,6 +6,7 @@ use Rattle.pesp_truth.specs.Certificates.{Content}
 use Rattle.pesp_cert.specs.Refusals.{items_of_text}
 use Rattle.pesp_judges.specs.Faults.{IsVerdict}
 use Rattle.pesp_judges.specs.declared.refusal.Verdict.TheVariants.{Refused}
+use Rattle.pesp_search.specs.Refusals.{MeetsLimit}
 use Rattle.pesp_search.specs.Solving.{IsSearchRefusal}
 use Rattle.pesp_search.specs.declared.refusal.SolveRefusal.TheVariants.{Memory as SearchMemory}
 use Rattle.pesp_report.specs.TimesText.{times_of}
@@ -54,6 +55,11 @@ SearchCause (Search SearchMemory) p steps = ⊥
 SearchCause (Search refusal) p steps = IsSearchRefusal p steps refusal
 SearchCause Memory p steps = Unit {0}
 SearchCause fault p steps = ⊥
+
+-- the limit that the search met
+abbrev pub LimitCause : Fault → Pesp → ℕ → Type 0
+LimitCause (Search refusal) p steps = MeetsLimit p steps refusal
+LimitCause fault p steps = Unit {0}
 
 -- why nothing went out whole, once all was read: memory, or a writer of which this is said
 abbrev pub OutCause : Fault → Type 0 → Type 0

@@ -1,6 +1,7 @@
 //! Solutions with marked walks.
 
 ghost use Rattle.std.specs.Prelude.{◌≤◌, IfOk, IfErr};
+ghost use Rattle.pesp_search.specs.Refusals.{MeetsLimit};
 ghost use Rattle.pesp_search.specs.Solving.{CostsNoMore, IsSearchRefusal};
 ghost use Rattle.pesp_sharp_search.specs.Solving.{IsSharpSolved};
 
@@ -45,7 +46,7 @@ fn proposed<O: SharpObserver>(
 /// times are a timetable of the instance, the answer has a cost, at most theirs.
 ///
 /// Refused as `TableTooLarge` or `PairsTooMany` only where the square of the number of activities is above 10000000, or that
-/// number above 20000000, and else as `Memory`, where a growth was refused.
+/// number above 20000000, and as `solve` says within 0 steps; and else as `Memory`, where a growth was refused.
 pub fn solve_sharp<O: SharpObserver>(
     alloc: Global,
     instance: &Instance,
@@ -58,6 +59,7 @@ pub fn solve_sharp<O: SharpObserver>(
         (λ sharp. IsSharpSolved instance.now steps sharp.steps_used sharp.fronted) }
     ensures improved { IfOk result (λ sharp. CostsNoMore instance.now times.now sharp.fronted.content) }
     ensures refused { IfErr result (IsSearchRefusal instance.now 0) }
+    ensures passed { IfErr result (MeetsLimit instance.now 0) }
 {
     let FirstLook {
         solved,

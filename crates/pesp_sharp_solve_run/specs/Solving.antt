@@ -8,7 +8,7 @@ use Rattle.pesp_search.specs.Solving.{CostsNoMore}
 use Rattle.pesp_sharp_search.specs.Solving.{IsSharpSolved}
 use Rattle.pesp_check_run.specs.Devices.{Device, HasFailed, GetsFront}
 use Rattle.pesp_faults.specs.Reading.{ReadsInstance, ReadsTimes, ReadsTimetable}
-use Rattle.pesp_faults.specs.Causes.{InstanceCause, TimetableCause, SearchCause, OutCause}
+use Rattle.pesp_faults.specs.Causes.{InstanceCause, TimetableCause, SearchCause, LimitCause, OutCause}
 use Rattle.pesp_faults.specs.declared.fault.Fault.{Fault}
 
 -- the writer got what the relation says of the text of a certificate with its front that solves the instance within so many steps, from these times where there are some; its answer is true, and it costs no more than they do where they are a timetable
@@ -24,7 +24,7 @@ pub record WritesSharpSolution (p : Pesp) (times : List ℕ) (steps : ℕ) (Gets
 -- why no solution went out: what the search passes within 0 steps, or the writer
 abbrev pub SharpSolutionCause : Fault → Pesp → List ℕ → ℕ → Device → Type 0
 SharpSolutionCause fault p times steps writer =
-    SearchCause fault p 0 ⊎ OutCause fault (HasFailed writer × WritesSharpSolution p times steps (GetsFront writer))
+    (SearchCause fault p 0 × LimitCause fault p 0) ⊎ OutCause fault (HasFailed writer × WritesSharpSolution p times steps (GetsFront writer))
 
 -- the reader's text has an instance, and a solution of it is written
 abbrev pub SolvesSharp : Option (List ℕ) → Option (List ℕ) → ℕ → ℕ → (List ℕ → Type 0) → Type 0

@@ -7,6 +7,7 @@ ghost use Rattle.pesp_truth.specs.Truth.{IsTrueAnswer};
 ghost use Rattle.pesp_truth.specs.Certificates.{shown_times};
 ghost use Rattle.pesp_sharp_text.specs.Limits.{KeepsLimits};
 ghost use Rattle.pesp_sharp_text.specs.Texts.{IsFrontedText, fronted_text};
+ghost use Rattle.pesp_search.specs.Refusals.{MeetsLimit};
 ghost use Rattle.pesp_search.specs.Solving.{CostsNoMore, IsSearchRefusal};
 ghost use Rattle.pesp_sharp_search.specs.Solving.{IsSharpSolved};
 ghost use Rattle.pesp_check_run.specs.Devices.{over};
@@ -54,6 +55,7 @@ fn solved<O: SharpObserver>(
     ensures is_true { IfOk result (λ fronted.
         IsTrueAnswer instance.now fronted.content.answer (shown_times fronted.content)) }
     ensures refused { IfErr result (IsSearchRefusal instance.now 0) }
+    ensures passed { IfErr result (MeetsLimit instance.now 0) }
 {
     valid_with_is_true();
     instance.period();

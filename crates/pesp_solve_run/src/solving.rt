@@ -5,6 +5,7 @@ ghost use Rattle.std.specs.Io.KnownBytes.{Appends};
 ghost use Rattle.pesp_stream.specs.Counts.{FewerThan, HasWorked};
 ghost use Rattle.pesp_truth.specs.Truth.{IsTrueAnswer};
 ghost use Rattle.pesp_truth.specs.Certificates.{shown_times};
+ghost use Rattle.pesp_search.specs.Refusals.{MeetsLimit};
 ghost use Rattle.pesp_search.specs.Solving.{IsSolved, CostsNoMore, IsSearchRefusal};
 ghost use Rattle.pesp_check_run.specs.Devices.{over};
 ghost use Rattle.pesp_solve_run.specs.Solving.{WritesSolution, SolutionCause, Solves, SolveCause, SolvesFrom, SolveFromCause};
@@ -32,6 +33,7 @@ fn solved<O: Observer>(
     ensures is_true { IfOk result
         (λ certificate. IsTrueAnswer instance.now certificate.answer (shown_times certificate)) }
     ensures refused { IfErr result (IsSearchRefusal instance.now steps) }
+    ensures passed { IfErr result (MeetsLimit instance.now steps) }
 {
     valid_is_true();
     instance.period();
@@ -68,8 +70,8 @@ fn write_solution<W: Sink, O: Observer>(
 ///
 /// Where it answers Ok, the bytes written are the text of a certificate that is valid for the instance of the bytes read, so
 /// its answer is true. An answer that is open has used all steps. `Search` where the instance's cycles or the search's tree
-/// pass their limits, which they can only where the square of the number of rows is above 10000000, or the number of rows
-/// times one more than the steps above 20000000.
+/// pass their limits, as `solve` says, which they can only where the square of the number of rows is above 10000000, or the
+/// number of rows times one more than the steps above 20000000.
 pub fn run_solve<R: Source, W: Sink>(
     alloc: Global,
     reader: &mut R,

@@ -15,6 +15,7 @@ use Rattle.pesp_faults.specs.declared.fault.Fault.{Fault}
 use Rattle.pesp_faults.specs.declared.fault.Fault.TheVariants.{Memory}
 use Rattle.pesp_solve_run.specs.Solving.{Solves, SolvesFrom}
 use Rattle.pesp_sharp_solve_run.specs.Solving.{SolvesSharp, SolvesSharpFrom}
+use Rattle.pesp_sharp_solve_run.specs.Resuming.{ResumesSharp}
 use Rattle.pesp_report_run.specs.Reporting.{WritesSheet}
 use Rattle.pesp_report_run.specs.Violating.{ReadsForEvents, WritesViolations}
 use Rattle.pesp_outside_run.specs.Outside.{WritesJobs, WritesWork, Grafts}
@@ -25,7 +26,7 @@ use Rattle.pesp_conflict_run.specs.declared.told.Told.{Told}
 use Rattle.pesp_request.specs.declared.request.OfInstance.{OfInstance}
 use Rattle.pesp_request.specs.declared.request.OfInstance.TheVariants.{Solve, SolveSharp, Conflict}
 use Rattle.pesp_request.specs.declared.request.OfCertificate.{OfCertificate}
-use Rattle.pesp_request.specs.declared.request.OfCertificate.TheVariants.{Check, CheckSharp, Gap, Resume, Split, Work}
+use Rattle.pesp_request.specs.declared.request.OfCertificate.TheVariants.{Check, CheckSharp, Gap, Resume, ResumeSharp, Split, Work}
 use Rattle.pesp_request.specs.declared.request.OfTimes.{OfTimes}
 use Rattle.pesp_request.specs.declared.request.OfTimes.TheVariants.{Report, Violations, Picture, Diagrams}
 use Rattle.pesp_request.specs.declared.request.Request.{Request}
@@ -81,6 +82,8 @@ AnswersCertificate Gap period instance reader writer status =
     HasBase instance.old instance.new reader.old reader.new period (λ p base. Gets writer (gap_line base.answer)) × (status ≡ 0)
 AnswersCertificate (Resume steps seconds progress) period instance reader writer status =
     HasBase instance.old instance.new reader.old reader.new period (λ p base. WritesResumed p base steps (IsSome seconds) (Gets writer)) × (status ≡ 0)
+AnswersCertificate (ResumeSharp steps seconds progress) period instance reader writer status =
+    ResumesSharp instance.old instance.new reader.old reader.new period steps (Gets writer) × (status ≡ 0)
 AnswersCertificate Split period instance reader writer status =
     HasBase instance.old instance.new reader.old reader.new period (λ p base. WritesJobs p base (Gets writer)) × (status ≡ 0)
 AnswersCertificate (Work steps job) period instance reader writer status =

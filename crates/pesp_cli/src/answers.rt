@@ -6,6 +6,7 @@ ghost use Rattle.pesp_stream.specs.Counts.{FewerThan};
 ghost use Rattle.pesp_check_run.specs.Devices.{over};
 ghost use Rattle.pesp_faults.specs.Reading.{HasBase};
 ghost use Rattle.pesp_resume_run.specs.Resuming.{WritesResumed};
+ghost use Rattle.pesp_sharp_solve_run.specs.Resuming.{ResumesSharp};
 ghost use Rattle.pesp_request.specs.Requests.{InstanceWithin, CertificateWithin};
 ghost use Rattle.pesp_cli.specs.Answers.{AnswersSolve, AnswersSolveSharp, AnswersInstance, AnswersCertificate, AnswersTimes, AnswersWorks, violations_status};
 
@@ -25,7 +26,7 @@ use pesp_resume_run::{run_gap, run_resume};
 use pesp_search::{Nobody, Observer};
 use pesp_sharp_run::run_check_sharp;
 use pesp_sharp_search::SharpObserver;
-use pesp_sharp_solve_run::{run_solve_sharp, run_solve_sharp_from};
+use pesp_sharp_solve_run::{run_resume_sharp, run_solve_sharp, run_solve_sharp_from};
 use pesp_solve_run::{run_solve_from, run_solve_watched};
 use pesp_stream::{Counted, Sink, Source};
 use std::alloc::Global;
@@ -192,6 +193,28 @@ fn resume<R: Eprint + Clock, I: Source, S: Source, W: Sink>(
     run_resume(alloc, instance, reader, writer, period, steps, &mut watch)
 }
 
+/// The same with leaves that marked walks sharpen.
+fn resume_with_marks<R: Eprint + Clock, I: Source, S: Source, W: Sink>(
+    alloc: Global,
+    instance: &mut I,
+    reader: &mut S,
+    writer: &mut W,
+    period: u32,
+    steps: u32,
+    watch: Watch<'_, R>,
+) -> Result<(), Fault>
+    requires instance_fits { FewerThan (2 ^ 62) (I.calls instance.old) }
+    requires reads_fit { FewerThan (2 ^ 62) (S.calls reader.old) }
+    requires writes_fit { FewerThan (2 ^ 62) (W.calls writer.old) }
+    ensures { OnOk result
+        (ResumesSharp (I.remaining instance.old) (I.remaining instance.new)
+        (S.remaining reader.old) (S.remaining reader.new) period steps
+        (Appends (W.contents writer.old) (W.contents writer.new))) }
+{
+    let mut watch = watch;
+    run_resume_sharp(alloc, instance, reader, writer, period, steps, &mut watch)
+}
+
 /// Does what is asked of the certificate that the reader gives, for the instance of the other reader.
 #[tactic(auto, using(crate::proofs::Ends::finished))]
 pub(crate) fn of_certificate<R: AllocGlobal + Eprint + Clock, I: Source, S: Source, W: Sink>(
@@ -232,6 +255,14 @@ pub(crate) fn of_certificate<R: AllocGlobal + Eprint + Clock, I: Source, S: Sour
         } => {
             let watch = Watch::new(rt, progress, seconds);
             done(resume(alloc, instance, reader, writer, period, steps, watch))
+        }
+        OfCertificate::ResumeSharp {
+            steps,
+            seconds,
+            progress,
+        } => {
+            let watch = Watch::new(rt, progress, seconds);
+            done(resume_with_marks(alloc, instance, reader, writer, period, steps, watch))
         }
         OfCertificate::Split => done(run_split(alloc, instance, reader, writer, period)),
         OfCertificate::Work { steps, job } => {

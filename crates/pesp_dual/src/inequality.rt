@@ -1,7 +1,10 @@
 //! Inequalities and their multipliers.
 
-/// The greatest multiplier that is sought, in 1/2^20: a certificate has room for 10^12 times 1/65536.
-pub(crate) const MOST: i64 = 16_000_000_000_000;
+/// The greatest multiplier that is told, in units of the scale.
+const MOST_TOLD: i64 = 1_000_000_000_000;
+
+/// The greatest product of a multiplier, in 1/2^20, and a coefficient.
+const MOST_PRODUCT: i64 = 1 << 62;
 
 /// The coefficient of a row's slack in an inequality; the row is named by its place from 0.
 #[derive(Clone, Copy, Debug, PartialEq, Eq)]
@@ -15,6 +18,14 @@ pub struct Term {
 pub struct Multiplier {
     pub current: i64,
     pub best: i64,
+}
+
+/// The greatest multiplier that is sought, in 1/2^20, of an inequality whose greatest coefficient has this amount.
+pub(crate) fn most_multiplier(scale: u32, greatest: u32) -> i64 {
+    let told = i128::from(MOST_TOLD) << 20;
+    let by_scale = told / i128::from(scale).max(1);
+    let by_terms = i128::from(MOST_PRODUCT) / i128::from(greatest).max(1);
+    i64::try_from(by_scale.min(by_terms)).unwrap_or(0)
 }
 
 /// Where the terms of an inequality stand, the least that their sum may be, in whole units, and the inequality's multiplier
@@ -33,8 +44,9 @@ impl Inequality {
         all.get(self.start..self.end).unwrap_or(&[])
     }
 
-    /// The best multiplier, rounded to 1/65536.
-    pub(crate) fn rounded(&self) -> i64 {
-        self.best.wrapping_add(8) >> 4
+    /// The best multiplier in units of a scale, rounded.
+    pub(crate) fn rounded(&self, scale: u32) -> i64 {
+        let scaled = i128::from(self.best).wrapping_mul(i128::from(scale));
+        i64::try_from(scaled.wrapping_add(1 << 19) >> 20).unwrap_or(0)
     }
 }

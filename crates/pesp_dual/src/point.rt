@@ -1,6 +1,6 @@
 //! Points from which steps go on.
 
-use crate::inequality::{MOST, Multiplier};
+use crate::inequality::Multiplier;
 use crate::program::Program;
 use std::alloc::{AllocError, Global};
 
@@ -57,14 +57,15 @@ impl Program {
     /// Sets the multipliers in use.
     fn set_current(&mut self, multipliers: &[Multiplier]) {
         for (moved, multiplier) in self.multipliers.iter_mut().zip(multipliers.iter()) {
-            moved.at = multiplier.current.max(0).min(MOST);
+            moved.at = multiplier.current.max(0).min(moved.most);
         }
     }
 
     /// Sets the best multipliers.
     fn set_best(&mut self, multipliers: &[Multiplier]) {
-        for (inequality, multiplier) in self.inequalities.iter_mut().zip(multipliers.iter()) {
-            inequality.best = multiplier.best.max(0).min(MOST);
+        let numbers = self.multipliers.iter().zip(multipliers.iter());
+        for (inequality, (moved, multiplier)) in self.inequalities.iter_mut().zip(numbers) {
+            inequality.best = multiplier.best.max(0).min(moved.most);
         }
     }
 

@@ -1,9 +1,10 @@
 //! Linear programs over the slacks of rows.
 
-use crate::inequality::{Inequality, MOST, Multiplier, Term};
+use crate::inequality::{Inequality, Multiplier, Term, most_multiplier};
 use crate::moved::{Moved, stay};
 use crate::passes::sum_of;
 use crate::rows::{Row, first_balance};
+use crate::scales::greatest;
 use pesp_network::NetRow;
 use std::alloc::{AllocError, Global};
 
@@ -13,9 +14,11 @@ const LEAST_BALANCE: i64 = 16;
 const MOST_BALANCE: i64 = 1 << 40;
 
 /// The linear program that minimises weight times slack, with each slack from 0 to its row's span, under inequalities; and
-/// where the search for the best multipliers of these stands. Slacks are in 1/65536, multipliers in 1/2^20.
+/// where the search for the best multipliers of these stands. Slacks are in 1/65536, multipliers in 1/2^20; these are told in
+/// units of which the scale makes up one.
 #[derive(Debug, Drop)]
 pub struct Program {
+    pub(crate) scale: u32,
     pub(crate) rows: Vec<Row>,
     pub(crate) inequalities: Vec<Inequality>,
     pub(crate) terms: Vec<Term>,
@@ -31,8 +34,8 @@ pub struct Program {
 }
 
 impl Program {
-    /// The program of these rows without an inequality, with all slacks 0.
-    pub fn new(alloc: Global, rows: &[NetRow]) -> Result<Program, AllocError> {
+    /// The program of these rows without an inequality, with all slacks 0; multipliers are told by a scale.
+    pub fn new(alloc: Global, rows: &[NetRow], scale: u32) -> Result<Program, AllocError> {
         let count = rows.len();
         let mut points = Vec::with_capacity(alloc, count)?;
         for row in rows {
@@ -41,6 +44,7 @@ impl Program {
         let rows: Vec<Row> = rows.iter().map(Row::of).collect(alloc)?;
         let balance = first_balance(&rows);
         Ok(Program {
+            scale,
             rows,
             inequalities: Vec::new(alloc),
             terms: Vec::new(alloc),
@@ -54,6 +58,11 @@ impl Program {
             steps: 0,
             work: 0,
         })
+    }
+
+    /// How many units of a multiplier that is told make up one.
+    pub fn scale(&self) -> u32 {
+        self.scale
     }
 
     /// How many inequalities there are.
@@ -71,13 +80,14 @@ impl Program {
         // An earlier call may have found no memory half way.
         self.multipliers.truncate(self.inequalities.len());
         let start = self.terms.len();
+        let most = most_multiplier(self.scale, greatest(terms));
         self.terms.extend_from_slice(terms)?;
-        self.multipliers.push(Moved::new(multiplier.current, MOST))?;
+        self.multipliers.push(Moved::new(multiplier.current, most))?;
         self.inequalities.push(Inequality {
             start,
             end: self.terms.len(),
             least,
-            best: multiplier.best.max(0).min(MOST),
+            best: multiplier.best.max(0).min(most),
         })?;
         Ok(())
     }

@@ -9,7 +9,7 @@ use crate::rows::Row;
 const MOST_NORM: u64 = 1 << 62;
 
 /// The greatest amount of a coefficient, at least 1.
-fn greatest(terms: &[Term]) -> u32 {
+pub(crate) fn greatest(terms: &[Term]) -> u32 {
     let mut greatest = 1;
     for term in terms {
         greatest = greatest.max(term.coefficient.unsigned_abs());
@@ -54,7 +54,7 @@ fn set_norms(points: &mut [Moved], rows: &[Row], sums: &[i64]) {
 
 impl Program {
     /// Scales the two sides by the coefficients.
-    pub(crate) fn scale(&mut self) {
+    pub(crate) fn set_norms_of_all(&mut self) {
         self.weights.fill(0);
         for (inequality, moved) in self.inequalities.iter().zip(self.multipliers.iter_mut()) {
             let terms = inequality.terms(&self.terms);

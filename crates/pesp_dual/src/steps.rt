@@ -113,7 +113,7 @@ impl Program {
     pub fn run(&mut self, steps: u32, stop: i128) -> i128 {
         self.best = self.best_value();
         self.write_numbers();
-        self.scale();
+        self.set_norms_of_all();
         self.begin();
         let mut course = BEGUN;
         for step in 1..=steps {

@@ -6,20 +6,21 @@ use crate::passes::sum_of;
 use crate::program::Program;
 use crate::rows::Row;
 
-/// Whose value is asked for: the multipliers of the last step proper, the best ones, or these rounded to 1/65536.
+/// Whose value is asked for: the multipliers of the last step proper, the best ones, or these in units of
+/// a scale, rounded.
 #[derive(Clone, Copy)]
 enum Asked {
     Next,
     Best,
-    Rounded,
+    Rounded(u32),
 }
 
 impl Asked {
-    /// How many binary digits behind the point the multipliers have.
-    fn digits(self) -> u32 {
+    /// How many units of the multipliers make up one.
+    fn unit(self) -> i128 {
         match self {
-            Asked::Rounded => 16,
-            _ => 20,
+            Asked::Rounded(scale) => i128::from(scale),
+            _ => 1 << 20,
         }
     }
 
@@ -28,15 +29,15 @@ impl Asked {
         match self {
             Asked::Next => moved.next,
             Asked::Best => inequality.best,
-            Asked::Rounded => inequality.rounded(),
+            Asked::Rounded(scale) => inequality.rounded(scale),
         }
     }
 }
 
-/// The weights of rows.
-fn weigh(rows: &[Row], weights: &mut [i128], digits: u32) {
+/// The weights of rows in a unit.
+fn weigh(rows: &[Row], weights: &mut [i128], unit: i128) {
     for (weight, row) in weights.iter_mut().zip(rows.iter()) {
-        *weight = i128::from(row.weight).wrapping_shl(digits);
+        *weight = i128::from(row.weight).wrapping_mul(unit);
     }
 }
 
@@ -64,7 +65,7 @@ fn loss(rows: &[Row], weights: &[i128]) -> i128 {
 impl Program {
     /// The value of multipliers.
     fn value(&mut self, asked: Asked) -> i128 {
-        weigh(&self.rows, &mut self.exact, asked.digits());
+        weigh(&self.rows, &mut self.exact, asked.unit());
         let mut value = 0i128;
         for (inequality, moved) in self.inequalities.iter().zip(self.multipliers.iter()) {
             let multiplier = asked.multiplier(inequality, moved);
@@ -82,14 +83,17 @@ impl Program {
         self.value(Asked::Best)
     }
 
-    /// The value of the best multipliers rounded to 1/65536, in 1/65536.
+    /// The value of the best multipliers as they are told, in units of the scale.
     pub fn rounded_value(&mut self) -> i128 {
-        self.value(Asked::Rounded)
+        self.value(Asked::Rounded(self.scale))
     }
 
-    /// An inequality's multiplier among the best ones, rounded to 1/65536, in 1/65536.
+    /// An inequality's multiplier among the best ones as it is told: in units of the scale, rounded.
     pub fn rounded(&self, place: usize) -> i64 {
-        self.inequalities.get(place).map_or(0, |it| it.rounded())
+        match self.inequalities.get(place) {
+            Some(inequality) => inequality.rounded(self.scale),
+            None => 0,
+        }
     }
 
     /// Keeps the multipliers of the last step proper where they are the best so far.

@@ -128,6 +128,17 @@ impl Milestones {
     }
 }
 
+impl Milestones {
+    /// How far a search is that sharpens, where this look is told.
+    pub(crate) fn passed_standing(&mut self, standing: Standing) -> Option<Progress> {
+        if self.is_told(standing.steps_used, standing.cost) {
+            Some(Progress::of_standing(standing))
+        } else {
+            None
+        }
+    }
+}
+
 /// How many seconds pass at most between two lines, where turns end meanwhile.
 const SECONDS: u64 = 5;
 

@@ -5,6 +5,7 @@ ghost use Rattle.std.specs.Prelude.{◌≡◌, true, IsSome};
 use crate::progress::Milestones;
 use pesp_board::Board;
 use pesp_resume::Watcher;
+use pesp_sharp_search::{SharpWatcher, Standing};
 use std::time::{Clock, Instant};
 
 /// Tells on standard error how far a search is, where that is asked for, and ends it after so many seconds, where they are
@@ -49,6 +50,17 @@ impl<'a, R: Eprint + Clock> Watch<'a, R> {
             Ok(gone) => gone.as_secs() >= u64::from(most),
             Err(_) => false,
         }
+    }
+}
+
+impl<R: Eprint + Clock> SharpWatcher for Watch<'_, R> {
+    fn goes_on(&mut self, standing: Standing) -> bool {
+        if let Some(milestones) = &mut self.milestones {
+            if let Some(progress) = milestones.passed_standing(standing) {
+                let _ = self.rt.eprintln(progress);
+            }
+        }
+        !self.is_over()
     }
 }
 

@@ -3,7 +3,7 @@ use Rattle.std.specs.Prelude.{ℕ, ◌≤◌}
 use Rattle.pesp_request.specs.declared.request.OfInstance.{OfInstance}
 use Rattle.pesp_request.specs.declared.request.OfInstance.TheVariants.{Solve, SolveSharp, Conflict}
 use Rattle.pesp_request.specs.declared.request.OfCertificate.{OfCertificate}
-use Rattle.pesp_request.specs.declared.request.OfCertificate.TheVariants.{Check, CheckSharp, Gap, Resume, Split, Work}
+use Rattle.pesp_request.specs.declared.request.OfCertificate.TheVariants.{Check, CheckSharp, Gap, Resume, ResumeSharp, Split, Work}
 use Rattle.pesp_request.specs.declared.request.OfTimes.{OfTimes}
 use Rattle.pesp_request.specs.declared.request.OfTimes.TheVariants.{Report, Violations, Picture, Diagrams}
 use Rattle.pesp_request.specs.declared.request.Request.{Request}
@@ -23,6 +23,7 @@ CertificateWithin Check = Unit {0}
 CertificateWithin CheckSharp = Unit {0}
 CertificateWithin Gap = Unit {0}
 CertificateWithin (Resume steps seconds progress) = steps ≤ 100000
+CertificateWithin (ResumeSharp steps seconds progress) = steps ≤ 100000
 CertificateWithin Split = Unit {0}
 CertificateWithin (Work steps job) = steps ≤ 100000
 

@@ -14,7 +14,7 @@ use std::alloc::{AllocError, Global};
 
 /// The program's version, and the versions of certificates that it writes and reads.
 const VERSION: &str =
-    "0.1.0\ncertificates: versions 1 and 2; solve --sharp writes and check --sharp reads version 3 too";
+    "0.1.0\ncertificates: versions 1 and 2; solve --sharp and resume --sharp write version 3 too, which check --sharp and resume --sharp read";
 
 const INSTANCES: &str = "\
 An instance is one activity a line, with six fields between ';', tabs or ',':
@@ -160,7 +160,8 @@ fn resume_command<'a>(alloc: Global) -> Result<Command<'a>, AllocError> {
         "pesp resume [OPTIONS] <FILE> < CERTIFICATE",
         "Reads a certificate from standard input, goes on with its search and writes the certificate that comes of it",
     )?
-    .arg(steps_option(alloc))?
+    .arg(sharpen_option(alloc))?
+    .arg(solve_steps_option(alloc))?
     .arg(seconds_option(alloc))?
     .arg(progress_option(alloc))
 }
@@ -344,10 +345,20 @@ fn conflict_of<'a>(matches: &ArgMatches<'a>) -> OfInstance<'a>
 fn resume_of(matches: &ArgMatches<'_>) -> OfCertificate
     ensures { CertificateWithin result }
 {
-    OfCertificate::Resume {
-        steps: steps_of(matches),
-        seconds: matches.get_one::<u32>("seconds"),
-        progress: matches.get_flag("progress"),
+    let seconds = matches.get_one::<u32>("seconds");
+    let progress = matches.get_flag("progress");
+    if matches.get_flag("sharp") {
+        OfCertificate::ResumeSharp {
+            steps: sharp_steps_of(matches),
+            seconds,
+            progress,
+        }
+    } else {
+        OfCertificate::Resume {
+            steps: steps_of(matches),
+            seconds,
+            progress,
+        }
     }
 }
 

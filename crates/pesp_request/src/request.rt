@@ -70,6 +70,13 @@ pub enum OfCertificate {
         /// Whether it is told on standard error how far the search is.
         progress: bool,
     },
+    /// The same with leaves that marked walks sharpen.
+    ResumeSharp {
+        steps: u32,
+        seconds: Option<u32>,
+        /// Whether it is told on standard error how far the search is.
+        progress: bool,
+    },
     /// Its open leaves, as jobs.
     Split,
     /// Work of at most so many steps on the open leaf of this number.

@@ -41,7 +41,7 @@ fn key_of(row: &NetRow) -> i64 {
 
 impl Range {
     /// The range that a bound on the offset leaves.
-    pub(crate) fn narrowed(self, branch: Branch) -> Range {
+    pub fn narrowed(self, branch: Branch) -> Range {
         let Range { least, most } = self;
         match branch.side {
             Side::AtMost => Range {
@@ -115,6 +115,16 @@ impl Cycle {
             range,
             weight,
             lower: sums.lower,
+        })
+    }
+
+    /// A cycle that is given by the rows that it passes; one of one offset that passes none, where one isn't there.
+    pub(crate) fn given(alloc: Global, frame: &Frame, passes: Vec<Pass>) -> Cycle {
+        Cycle::of(frame, passes).unwrap_or(Cycle {
+            passes: Vec::new(alloc),
+            range: Range { least: 0, most: 0 },
+            weight: 0,
+            lower: 0,
         })
     }
 

@@ -1,6 +1,6 @@
 //! What leaves are worth, and what closes them.
 
-/// How many units of a slack, of a multiplier that is told and of a fraction make up one.
+/// How many units of a slack and of a fraction make up one.
 pub const UNIT: i64 = 1 << 16;
 
 /// What closes a leaf: a cost, and the same in 1/2^20.
@@ -20,8 +20,9 @@ impl Limit {
     }
 }
 
-/// The whole cost that a value, in 1/65536, shows.
-pub(crate) fn cost_shown(value: i128) -> u64 {
-    let raised = value.saturating_add(i128::from(UNIT - 1)).max(0);
-    u64::try_from(raised >> 16).unwrap_or(u64::MAX)
+/// The whole cost that a value in units of a scale shows.
+pub(crate) fn cost_shown(value: i128, scale: u32) -> u64 {
+    let unit = i128::from(scale).max(1);
+    let raised = value.saturating_add(unit.wrapping_sub(1)).max(0);
+    u64::try_from(raised / unit).unwrap_or(u64::MAX)
 }

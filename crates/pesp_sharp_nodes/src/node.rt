@@ -18,14 +18,15 @@ struct Held {
     multiplier: Multiplier,
 }
 
-/// What a node goes on from: its inequalities, its slacks, in 1/65536, and the weight of the two sides; and whether it was
-/// solved out.
+/// What a node goes on from: its inequalities, its slacks, in 1/65536, and the weight of the two sides; whether it was solved
+/// out; and whether its slacks are still to be found.
 #[derive(Drop)]
 pub struct Node {
     held: Vec<Held>,
     slacks: Vec<u32>,
     balance: i64,
     pub is_solved_out: bool,
+    pub is_cold: bool,
 }
 
 /// Slacks as they are kept.
@@ -79,6 +80,29 @@ fn held_at(relaxation: &Relaxation, place: usize, origin: Origin) -> Option<Held
     }
 }
 
+/// All inequalities of a program.
+fn all_held(alloc: Global, relaxation: &Relaxation) -> Result<Vec<Held>, AllocError> {
+    let mut held = Vec::with_capacity(alloc, relaxation.members.len())?;
+    for (place, member) in relaxation.members.iter().enumerate() {
+        held.push(Held {
+            origin: member.origin,
+            multiplier: relaxation.program.multiplier(place),
+        })?;
+    }
+    Ok(held)
+}
+
+/// Takes in inequalities of the pool whose multipliers aren't sought yet.
+fn add_common(held: &mut Vec<Held>, common: &[u32]) -> Result<(), AllocError> {
+    for number in common {
+        held.push(Held {
+            origin: Origin::Pooled(*number),
+            multiplier: NO_MULTIPLIER,
+        })?;
+    }
+    Ok(())
+}
+
 impl Node {
     /// What is kept of a program.
     pub fn of(alloc: Global, relaxation: &Relaxation) -> Result<Node, AllocError> {
@@ -94,7 +118,38 @@ impl Node {
             slacks: packed(alloc, &point.slacks)?,
             balance: point.balance,
             is_solved_out: false,
+            is_cold: false,
         })
+    }
+
+    /// What is kept of a program that has no slacks yet. Where no inequality of the pool is in it, these are taken in.
+    pub fn cold(
+        alloc: Global,
+        relaxation: &Relaxation,
+        common: &[u32],
+    ) -> Result<Node, AllocError> {
+        let mut held = all_held(alloc, relaxation)?;
+        if !relaxation.has_pooled() {
+            add_common(&mut held, common)?;
+        }
+        Ok(Node {
+            held,
+            slacks: Vec::new(alloc),
+            balance: relaxation.program.point(alloc)?.balance,
+            is_solved_out: false,
+            is_cold: true,
+        })
+    }
+
+    /// The inequalities of the pool that it has.
+    pub fn pooled(&self, alloc: Global) -> Result<Vec<u32>, AllocError> {
+        let mut numbers = Vec::new(alloc);
+        for held in &self.held {
+            if let Origin::Pooled(number) = held.origin {
+                numbers.push(number)?;
+            }
+        }
+        Ok(numbers)
     }
 
     /// How many inequalities it has.

@@ -22,6 +22,9 @@ const MORE_CALLS: u32 = 20;
 /// How near the cost of the slacks comes to the value there, in 1/2^20.
 const SOLVED: i128 = 1 << 14;
 
+/// By how much slacks may miss what an inequality asks for and still count as satisfying it, in 1/65536.
+const MISSED: i64 = 1 << 8;
+
 /// What an inequality is: one of the pool, by its number, or a bound on an offset.
 #[derive(Clone, Copy)]
 pub enum Origin {
@@ -53,9 +56,23 @@ impl Relaxation {
     /// The program without an inequality.
     pub fn new(alloc: Global, setting: &Setting) -> Result<Relaxation, AllocError> {
         Ok(Relaxation {
-            program: Program::new(alloc, setting.frame.rows())?,
+            program: Program::new(alloc, setting.frame.rows(), setting.scale)?,
             members: Vec::new(alloc),
         })
+    }
+
+    /// Whether an inequality of the pool is in it.
+    pub(crate) fn has_pooled(&self) -> bool {
+        self.members
+            .iter()
+            .any(|member| matches!(member.origin, Origin::Pooled(_)))
+    }
+
+    /// Whether a bound on an offset is in it.
+    pub(crate) fn has_offset(&self) -> bool {
+        self.members
+            .iter()
+            .any(|member| matches!(member.origin, Origin::Offset(_)))
     }
 
     /// Takes in an inequality of the pool.
@@ -118,7 +135,7 @@ impl Relaxation {
 
     /// The whole cost that the best multipliers show, rounded as they are told.
     pub fn bound(&mut self) -> u64 {
-        cost_shown(self.program.rounded_value())
+        cost_shown(self.program.rounded_value(), self.program.scale())
     }
 
     /// What the slacks cost above a value, or below it, in 1/2^20.
@@ -127,8 +144,17 @@ impl Relaxation {
         cost.wrapping_sub(value).wrapping_abs()
     }
 
-    /// Whether little is to be gained by more steps, measured by what is left to the limit.
+    /// Whether the slacks satisfy all inequalities, but for little.
+    fn is_satisfied(&self) -> bool {
+        (0..self.members.len()).all(|place| self.program.excess(place) >= -MISSED)
+    }
+
+    /// Whether little is to be gained by more steps, measured by what is left to the limit. A value of 0 grows only where the
+    /// slacks miss something.
     fn is_near(&self, value: i128, limit: Limit) -> bool {
+        if value <= 0 && self.program.cost() == 0 {
+            return self.is_satisfied();
+        }
         let left = limit.value.wrapping_sub(value).min(value >> 4);
         self.gap(value).wrapping_mul(40) < left
     }

@@ -39,8 +39,11 @@ fn rounds_for(rows: usize) -> usize {
     rounds.min(ROUNDS).max(LEAST_ROUNDS)
 }
 
-/// Whether nothing comes of the inequality at a place.
-fn is_idle(relaxation: &Relaxation, place: usize) -> bool {
+/// Whether nothing comes of the inequality of the pool at a place.
+fn is_idle(relaxation: &Relaxation, place: usize, origin: Origin) -> bool {
+    if let Origin::Offset(_) = origin {
+        return false;
+    }
     let multiplier = relaxation.program.multiplier(place);
     multiplier.current == 0 && multiplier.best == 0 && relaxation.program.excess(place) > LOOSE
 }
@@ -49,7 +52,10 @@ fn is_idle(relaxation: &Relaxation, place: usize) -> bool {
 fn count_idle(alloc: Global, relaxation: &mut Relaxation) -> Result<Vec<bool>, AllocError> {
     let mut kept = Vec::with_capacity(alloc, relaxation.members.len())?;
     for place in 0..relaxation.members.len() {
-        let is_idle = is_idle(relaxation, place);
+        let Some(origin) = relaxation.members.get(place).map(|member| member.origin) else {
+            return Ok(kept);
+        };
+        let is_idle = is_idle(relaxation, place, origin);
         if let Some(member) = relaxation.members.get_mut(place) {
             member.idle = if is_idle {
                 member.idle.saturating_add(1)
@@ -112,7 +118,7 @@ impl Sharpener {
 
     /// The rounds, until little comes of them or the limit is reached.
     fn rounds(&mut self, relaxation: &mut Relaxation, limit: Limit) -> Result<(), AllocError> {
-        let mut seen = Seen::new(self.alloc);
+        let mut seen = self.seen_in(relaxation)?;
         let rows = self.setting.frame.rows().len();
         let most = (rows / 2).max(50);
         let mut last = 0i128;
@@ -132,11 +138,21 @@ impl Sharpener {
         Ok(())
     }
 
+    /// All rounds, and then some steps.
+    pub(crate) fn look_long(
+        &mut self,
+        relaxation: &mut Relaxation,
+        limit: Limit,
+    ) -> Result<(), AllocError> {
+        self.rounds(relaxation, limit)?;
+        relaxation.program.run(LAST_STEPS, limit.value);
+        Ok(())
+    }
+
     /// The program of the root after all rounds.
     pub fn root(&mut self, limit: Limit) -> Result<Relaxation, AllocError> {
         let mut relaxation = Relaxation::new(self.alloc, &self.setting)?;
-        self.rounds(&mut relaxation, limit)?;
-        relaxation.program.run(LAST_STEPS, limit.value);
+        self.look_long(&mut relaxation, limit)?;
         Ok(relaxation)
     }
 }

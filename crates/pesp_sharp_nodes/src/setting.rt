@@ -3,15 +3,19 @@
 use crate::cycles::{Cycle, Range, cycles_of};
 use crate::limit::Limit;
 use pesp_forest::Frame;
+use pesp_inequalities::Pass;
 use pesp_network::{NetRow, Network};
 use std::alloc::{AllocError, Global};
+use std::mem::swap;
 
-/// A network, the cycles whose offsets are branched on, and what the greatest slacks of all rows cost.
+/// A network, the cycles whose offsets are branched on, what the greatest slacks of all rows cost, and how many units of a
+/// multiplier that is told make up one.
 #[derive(Drop)]
 pub struct Setting {
     pub frame: Frame,
     pub cycles: Vec<Cycle>,
     pub dearest: u64,
+    pub scale: u32,
 }
 
 /// What the greatest slacks of all rows cost.
@@ -24,8 +28,8 @@ fn dearest_of(rows: &[NetRow]) -> u64 {
 }
 
 impl Setting {
-    /// The setting of a network.
-    pub fn new(alloc: Global, network: &Network) -> Result<Setting, AllocError> {
+    /// The setting of a network, with multipliers that are told by a scale.
+    pub fn new(alloc: Global, network: &Network, scale: u32) -> Result<Setting, AllocError> {
         let frame = Frame::new(alloc, network)?;
         let cycles = cycles_of(alloc, &frame)?;
         let dearest = dearest_of(frame.rows());
@@ -33,7 +37,27 @@ impl Setting {
             frame,
             cycles,
             dearest,
+            scale,
         })
+    }
+
+    /// Puts cycles in front of the others, by the rows that they pass; those that were there already go from behind. One that
+    /// passes no row, or one that isn't there, has one offset.
+    pub fn put_first(&mut self, alloc: Global, lists: &[Vec<Pass>]) -> Result<(), AllocError> {
+        let mut cycles = Vec::with_capacity(alloc, lists.len())?;
+        for passes in lists {
+            let passes = Vec::from_slice(alloc, passes)?;
+            cycles.push(Cycle::given(alloc, &self.frame, passes))?;
+        }
+        let mut own = Vec::new(alloc);
+        swap(&mut own, &mut self.cycles);
+        for cycle in own {
+            if !lists.iter().any(|passes| *passes == cycle.passes) {
+                cycles.push(cycle)?;
+            }
+        }
+        self.cycles = cycles;
+        Ok(())
     }
 
     /// The period.

@@ -6,8 +6,9 @@ use crate::node::Node;
 use crate::pool::Pool;
 use crate::relaxation::{NO_MULTIPLIER, Origin, Relaxation};
 use crate::setting::Setting;
+use pesp_dual::Multiplier;
 use pesp_forest::Frame;
-use pesp_inequalities::{Seen, Separator};
+use pesp_inequalities::{Inequality, Pass, Seen, Separator};
 use pesp_network::Network;
 use std::alloc::{AllocError, Global};
 
@@ -20,6 +21,17 @@ const EACH: usize = 1;
 /// How many inequalities each round takes in at most.
 const MOST: usize = 100;
 
+/// A multiplier that is told by a scale.
+fn multiplier_of(told: i64, scale: u32) -> Multiplier {
+    let unit = i128::from(scale).max(1);
+    let scaled = (i128::from(told) << 20).saturating_add(unit >> 1);
+    let best = i64::try_from(scaled / unit).unwrap_or(0);
+    Multiplier {
+        current: best,
+        best,
+    }
+}
+
 /// What programs of nodes are made from: a network with its cycles, the inequalities that were found, and the search for
 /// more of them.
 #[derive(Drop)]
@@ -31,12 +43,17 @@ pub struct Sharpener {
 }
 
 impl Sharpener {
-    /// No inequality is found yet; the seed decides which forests are drawn.
-    pub fn new(alloc: Global, network: &Network, seed: u64) -> Result<Sharpener, AllocError> {
+    /// No inequality is found yet; the seed decides which forests are drawn, and multipliers are told by the scale.
+    pub fn new(
+        alloc: Global,
+        network: &Network,
+        seed: u64,
+        scale: u32,
+    ) -> Result<Sharpener, AllocError> {
         let frame = Frame::new(alloc, network)?;
         Ok(Sharpener {
             alloc,
-            setting: Setting::new(alloc, network)?,
+            setting: Setting::new(alloc, network, scale)?,
             pool: Pool::new(alloc),
             separator: Separator::new(alloc, frame, seed)?,
         })
@@ -62,7 +79,7 @@ impl Sharpener {
     }
 
     /// The keys of a program's inequalities.
-    fn seen_in(&self, relaxation: &Relaxation) -> Result<Seen, AllocError> {
+    pub(crate) fn seen_in(&self, relaxation: &Relaxation) -> Result<Seen, AllocError> {
         let mut seen = Seen::new(self.alloc);
         for member in &relaxation.members {
             if let Origin::Pooled(number) = member.origin
@@ -92,6 +109,60 @@ impl Sharpener {
     /// The program of a node.
     pub fn loaded(&self, node: &Node) -> Result<Relaxation, AllocError> {
         node.loaded(self.alloc, &self.setting, &self.pool)
+    }
+
+    /// Takes in the inequality of a closed walk, which is kept until it is let go; its number in the pool, None where it says
+    /// nothing.
+    pub fn take_walk(&mut self, passes: Vec<Pass>) -> Result<Option<u32>, AllocError> {
+        match Inequality::of(self.alloc, &self.setting.frame, passes)? {
+            Some(inequality) => {
+                let number = self.pool.put(self.alloc, inequality)?;
+                self.pool.keep(number);
+                Ok(Some(number))
+            }
+            None => Ok(None),
+        }
+    }
+
+    /// Lets inequalities go that were taken in.
+    pub fn let_go(&mut self, numbers: &[Option<u32>]) -> Result<(), AllocError> {
+        for number in numbers {
+            if let Some(number) = *number {
+                self.pool.leave(number);
+                self.pool.sweep(self.alloc, number)?;
+            }
+        }
+        Ok(())
+    }
+
+    /// The program of a leaf that is told: of bounds on offsets, and of inequalities of the pool, with their multipliers.
+    pub fn told(
+        &self,
+        offsets: &[(Branch, i64)],
+        walks: &[(u32, i64)],
+    ) -> Result<Relaxation, AllocError> {
+        let scale = self.setting.scale;
+        let mut relaxation = Relaxation::new(self.alloc, &self.setting)?;
+        for (branch, told) in offsets {
+            let multiplier = multiplier_of(*told, scale);
+            relaxation.add_offset(self.alloc, &self.setting, *branch, multiplier)?;
+        }
+        for (number, told) in walks {
+            relaxation.add_pooled(&self.pool, *number, multiplier_of(*told, scale))?;
+        }
+        Ok(relaxation)
+    }
+
+    /// The program of a node whose slacks are still to be found, after some steps and rounds: all rounds at the root.
+    pub fn warmed(&mut self, node: &Node, limit: Limit) -> Result<Relaxation, AllocError> {
+        let mut relaxation = self.loaded(node)?;
+        if relaxation.has_offset() {
+            relaxation.settle(limit);
+            self.sharpen(&mut relaxation, limit)?;
+        } else {
+            self.look_long(&mut relaxation, limit)?;
+        }
+        Ok(relaxation)
     }
 
     /// The program of a part of a node, after some steps and rounds.

@@ -9,7 +9,9 @@ use Rattle.pesp_sharp_text.specs.Texts.{Fronted}
 use Rattle.pesp_sharp_check.proofs.Fronts.{without_front}
 use Rattle.pesp_search_laws.specs.Rooms.{branch_lines}
 use Rattle.pesp_search.specs.Solving.{IsSolved, CostsNoMore}
-use Rattle.pesp_sharp_search.specs.Solving.{IsNoWorse, MayStand, IsSharpSolved}
+use Rattle.pesp_sharp_truth.specs.Certificates.{IsValidWith}
+use Rattle.pesp_sharp_text.specs.Texts.{content_of}
+use Rattle.pesp_sharp_search.specs.Solving.{IsNoWorse, MayStand, IsSharpSolved, IsSharpResumed}
 
 at_most_itself : (a : Option ℕ) → IsAtMost a a
 at_most_itself None = tt
@@ -25,6 +27,20 @@ plain_stands p content steps c is solved =
       no_worse = (at_most_itself (least_of content.answer), at_most_itself (cost_of content.answer));
     } in
     subst (MayStand p content.answer steps) (sym is) there
+
+-- where more branches are allowed
+pub stands_longer : (p : Pesp) (answer : Answer) (most more : ℕ) (c : Fronted) → most ≤ more → MayStand p answer most c → MayStand p answer more c
+stands_longer p answer most more c longer stands =
+    let few = stands.few in
+    record { valid = stands.valid; few = omega (arith, few, longer); no_worse = stands.no_worse }
+
+-- a base stands in its own place
+pub base_stands : (p : Pesp) (base : Fronted) (steps : ℕ) → IsValidWith p (content_of base) → IsSharpResumed p base steps base
+base_stands p base steps valid = record {
+  valid = valid;
+  few = omega arith;
+  no_worse = (at_most_itself (least_of base.content.answer), at_most_itself (cost_of base.content.answer));
+}
 
 pub sharp_solved : (p : Pesp) (content : Content) (steps used : ℕ) (c : Fronted) → IsSolved p 0 0 content → MayStand p content.answer steps c → used ≡ branch_lines (lines_of c.content) → IsSharpSolved p steps used c
 sharp_solved p content steps used c solved stands is =

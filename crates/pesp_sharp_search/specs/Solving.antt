@@ -1,5 +1,5 @@
 -- What a search that sharpens answers.
-use Rattle.std.specs.Prelude.{◌≡◌, ℕ, ◌≤◌}
+use Rattle.std.specs.Prelude.{◌≡◌, ℕ, ◌+◌, ◌≤◌}
 use Rattle.pesp_problem.specs.Timetables.{Pesp}
 use Rattle.pesp_truth.specs.declared.answer.Answer.{Answer}
 use Rattle.pesp_truth.specs.Certificates.{Content, lines_of, least_of, cost_of}
@@ -25,3 +25,7 @@ pub record IsSharpSolved (p : Pesp) (steps used : ℕ) (c : Fronted) : Type 0 wh
   pub branches : branch_lines (lines_of c.content) ≡ used
   pub few : used ≤ steps
   pub plain : (content : Content) × IsSolved p 0 0 content × IsNoWorse content.answer c.content.answer
+
+-- a certificate to which a search leads from the base: it is valid with its marked walks, its tree has at most so many branches more than the base's, and it is no worse
+abbrev pub IsSharpResumed : Pesp → Fronted → ℕ → Fronted → Type 0
+IsSharpResumed p base steps c = MayStand p base.content.answer (branch_lines (lines_of base.content) + steps) c

@@ -1,6 +1,6 @@
 //! The choice between a plain answer and what is proposed in its place.
 
-ghost use Rattle.std.specs.Prelude.{◌≡◌, ◌≤◌, ◌↔◌, ℕ, List, IsTrue, IfOk, None};
+ghost use Rattle.std.specs.Prelude.{◌≡◌, ◌≤◌, ◌↔◌, ℕ, List, IsTrue, IfOk, IfSome, None};
 ghost use Rattle.pesp_truth.specs.Certificates.{lines_of};
 ghost use Rattle.pesp_sharp_truth.specs.Certificates.{IsValidWith};
 ghost use Rattle.pesp_sharp_text.specs.Texts.{content_of};
@@ -14,7 +14,9 @@ use pesp_cert::Certificate;
 use pesp_judges::Verdict;
 use pesp_problem::{Instance, Memory};
 use pesp_sharp_check::check_sharp;
+use pesp_sharp_proposals::Proposals;
 use pesp_sharp_text::Fronted;
+use pesp_truth::Answer;
 use std::alloc::Global;
 
 /// What is known of an instance, and how many branches the tree has that shows it.
@@ -25,7 +27,7 @@ pub struct SharpSolved {
 }
 
 /// How many branches the tree of a certificate has.
-fn branches_of(certificate: &Certificate) -> u32
+pub(crate) fn branches_of(certificate: &Certificate) -> u32
     ensures { result ≡ branch_lines (lines_of certificate.now) }
 {
     count_branches(certificate.tree())
@@ -41,23 +43,67 @@ fn is_accepted(alloc: Global, instance: &Instance, fronted: &Fronted) -> Result<
     }
 }
 
-/// Whether a proposal may stand in the place of a plain answer: it is no worse, its tree has at most so many branches, and the
-/// checker accepts it.
+/// Whether a proposal may stand in the place of an answer: it is no worse, its tree has at most so many branches, and the checker
+/// accepts it.
 fn may_stand(
     alloc: Global,
     instance: &Instance,
-    plain: &Certificate,
+    answer: Answer,
     proposal: &Fronted,
     steps: u32,
 ) -> Result<bool, Memory>
-    ensures { IfOk result
-        (λ may. IsTrue may ↔ MayStand instance.now plain.now.answer steps proposal.now) }
+    ensures { IfOk result (λ may. IsTrue may ↔ MayStand instance.now answer steps proposal.now) }
 {
     let certificate = &proposal.certificate;
-    if !is_no_worse(plain.answer(), certificate.answer()) || branches_of(certificate) > steps {
+    if !is_no_worse(answer, certificate.answer()) || branches_of(certificate) > steps {
         return Ok(false);
     }
     is_accepted(alloc, instance, proposal)
+}
+
+/// A proposal, where there is one and it may stand in the place of an answer.
+fn standing(
+    alloc: Global,
+    instance: &Instance,
+    answer: Answer,
+    proposal: Option<Fronted>,
+    steps: u32,
+) -> Result<Option<Fronted>, Memory>
+    ensures { IfOk result (λ found. IfSome found (MayStand instance.now answer steps)) }
+{
+    let Some(proposal) = proposal else {
+        return Ok(None);
+    };
+    if may_stand(alloc, instance, answer, &proposal, steps)? {
+        Ok(Some(proposal))
+    } else {
+        Ok(None)
+    }
+}
+
+/// The first of the proposals that may stand in the place of an answer; None where none may.
+pub(crate) fn first_standing(
+    alloc: Global,
+    instance: &Instance,
+    answer: Answer,
+    proposals: Proposals,
+    steps: u32,
+) -> Result<Option<Fronted>, Memory>
+    ensures { IfOk result (λ found. IfSome found (MayStand instance.now answer steps)) }
+{
+    let Proposals { sharp, timed } = proposals;
+    if let Some(found) = standing(alloc, instance, answer, sharp, steps)? {
+        return Ok(Some(found));
+    }
+    standing(alloc, instance, answer, timed, steps)
+}
+
+/// No proposals.
+pub(crate) fn no_proposals() -> Proposals {
+    Proposals {
+        sharp: None,
+        timed: None,
+    }
 }
 
 /// An answer without a front.
@@ -70,33 +116,29 @@ fn without_front(plain: Certificate) -> Fronted
     }
 }
 
-/// The proposal, where there is one and it may stand in the place of a plain answer, else that.
+/// The first proposal that may stand in the place of a plain answer, else that.
 fn chosen(
     alloc: Global,
     instance: &Instance,
     plain: Certificate,
-    proposal: Option<Fronted>,
+    proposals: Proposals,
     steps: u32,
 ) -> Result<Fronted, Memory>
     requires { IsSolved instance.now 0 0 plain }
     ensures { IfOk result (MayStand instance.now plain.answer steps) }
 {
-    let Some(proposal) = proposal else {
-        return Ok(without_front(plain));
-    };
-    if may_stand(alloc, instance, &plain, &proposal, steps)? {
-        Ok(proposal)
-    } else {
-        Ok(without_front(plain))
+    match first_standing(alloc, instance, plain.answer(), proposals, steps)? {
+        Some(found) => Ok(found),
+        None => Ok(without_front(plain)),
     }
 }
 
-/// What is answered where a plain answer stands and this is proposed in its place.
+/// What is answered where a plain answer stands and these are proposed in its place.
 pub(crate) fn settled(
     alloc: Global,
     instance: &Instance,
     plain: Certificate,
-    proposal: Option<Fronted>,
+    proposals: Proposals,
     steps: u32,
 ) -> Result<SharpSolved, Memory>
     requires { IsSolved instance.now 0 0 plain }
@@ -105,7 +147,7 @@ pub(crate) fn settled(
     ensures improved { (times : List ℕ) → CostsNoMore instance.now times plain
         → IfOk result (λ sharp. CostsNoMore instance.now times sharp.fronted.content) }
 {
-    let fronted = chosen(alloc, instance, plain, proposal, steps)?;
+    let fronted = chosen(alloc, instance, plain, proposals, steps)?;
     let steps_used = branches_of(&fronted.certificate);
     Ok(SharpSolved {
         fronted,

@@ -2,19 +2,16 @@
 //! What it proposes is judged by the checker before it is handed out.
 #![tactic(auto)]
 
-mod best;
 mod branches;
 mod choice;
-mod lifted;
-mod lines;
-mod marked;
 mod observer;
-mod proposal;
 mod ranks;
-mod search;
+mod resumption;
 mod solution;
 
 pub use choice::SharpSolved;
-pub use observer::{SharpObserver, Standing};
+pub use observer::SharpObserver;
 pub use pesp_search::{Nobody, Observer, Part, SolveRefusal};
+pub use pesp_sharp_proposals::{SharpWatcher, Standing, Unwatched};
+pub use resumption::resume_sharp;
 pub use solution::solve_sharp;

@@ -1,17 +1,7 @@
 //! Observers of a search that sharpens.
 
 use pesp_search::{Nobody, Observer};
-
-/// How far a search that sharpens is.
-#[derive(Clone, Copy, Debug, PartialEq, Eq)]
-pub struct Standing {
-    /// How many leaves were split.
-    pub steps_used: u32,
-    /// What each leaf that is open is worth at least.
-    pub bound: u64,
-    /// The cost of the best timetable so far.
-    pub cost: Option<u64>,
-}
+use pesp_sharp_proposals::{SharpWatcher, Standing};
 
 /// Somebody who looks on while a search goes on and sharpens. No promise of the search speaks of observers.
 pub trait SharpObserver: Observer {
@@ -21,4 +11,17 @@ pub trait SharpObserver: Observer {
 
 impl SharpObserver for Nobody {
     fn stands(&mut self, _standing: Standing) {}
+}
+
+/// A watcher that tells an observer, and ends nothing.
+#[derive(Drop)]
+pub(crate) struct Observing<'a, O> {
+    pub(crate) observer: &'a mut O,
+}
+
+impl<O: SharpObserver> SharpWatcher for Observing<'_, O> {
+    fn goes_on(&mut self, standing: Standing) -> bool {
+        self.observer.stands(standing);
+        true
+    }
 }

@@ -5,20 +5,17 @@ ghost use Rattle.pesp_search.specs.Refusals.{MeetsLimit};
 ghost use Rattle.pesp_search.specs.Solving.{CostsNoMore, IsSearchRefusal};
 ghost use Rattle.pesp_sharp_search.specs.Solving.{IsSharpSolved};
 
-use crate::best::{is_open, shown_by};
-use crate::choice::{SharpSolved, settled};
-use crate::observer::SharpObserver;
-use crate::proposal::proposal_of;
-use crate::search::SharpSearch;
+use crate::choice::{SharpSolved, no_proposals, settled};
+use crate::observer::{Observing, SharpObserver};
 use pesp_cert::Certificate;
 use pesp_problem::{Instance, Memory};
 use pesp_reduce::Reduced;
 use pesp_search::{FirstLook, SolveRefusal, look_first};
-use pesp_sharp_text::Fronted;
+use pesp_sharp_proposals::{Proposals, SharpSearch, is_open, proposals_of, shown_by};
 use pesp_times::TimesSearch;
 use std::alloc::Global;
 
-/// What a search that sharpens proposes in the place of an answer, where that is open.
+/// What a search that sharpens proposes in the place of a plain answer, where that is open.
 fn proposed<O: SharpObserver>(
     alloc: Global,
     instance: &Instance,
@@ -27,14 +24,14 @@ fn proposed<O: SharpObserver>(
     times: Option<TimesSearch>,
     steps: u32,
     observer: &mut O,
-) -> Result<Option<Fronted>, Memory> {
+) -> Result<Proposals, Memory> {
     if !is_open(plain.answer()) {
-        return Ok(None);
+        return Ok(no_proposals());
     }
     let best = shown_by(alloc, instance, plain)?;
     let mut search = SharpSearch::new(alloc, reduced, times, best)?;
-    search.run(alloc, instance, steps, observer)?;
-    proposal_of(alloc, instance, &search)
+    search.run(alloc, instance, steps, &mut Observing { observer })?;
+    proposals_of(alloc, instance, &None, plain, &search, None)
 }
 
 /// Searches for a best timetable by at most so many splits of a leaf, with leaves that marked walks sharpen, from times that are
@@ -67,7 +64,7 @@ pub fn solve_sharp<O: SharpObserver>(
         times: search,
     } = look_first(alloc, instance, times, observer)?;
     let plain = solved.certificate;
-    let proposal = proposed(alloc, instance, &plain, reduced, search, steps, observer)?;
-    let sharp = settled(alloc, instance, plain, proposal, steps)?;
+    let proposals = proposed(alloc, instance, &plain, reduced, search, steps, observer)?;
+    let sharp = settled(alloc, instance, plain, proposals, steps)?;
     Ok(sharp)
 }

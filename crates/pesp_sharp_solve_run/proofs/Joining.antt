@@ -13,6 +13,7 @@ use Rattle.pesp_sharp_text.specs.Texts.{Fronted, IsFrontedText, fronted_text, co
 use Rattle.pesp_sharp_text.proofs.Said.{none_begins}
 use Rattle.pesp_sharp_run.specs.Checking.{ChecksWith}
 use Rattle.pesp_sharp_solve_run.specs.Solving.{SolvesSharp}
+use Rattle.pesp_sharp_solve_run.specs.Resuming.{ResumesSharp}
 
 -- what a writer got behind what it held before
 appended_is : (before bytes text : List ℕ) → Appends (Some before) (Some (before ++ bytes)) text → text ≡ bytes
@@ -47,4 +48,23 @@ accepts_what_is_sharpened text before bytes left left_instance left_certificate 
     (same_instance text period p q one other)
     (same_certificate bytes text_judged.text 1073741824 solved.certificate judged.certificate solved.has_text written text_judged.read.front judged.spelt)
     solved.solved.valid
+    judged.exactly
+
+pub accepts_what_is_resumed : (text before bytes : List ℕ) (left base left_base left_instance left_certificate old new : Option (List ℕ)) (period steps : ℕ) (verdict : Verdict)
+    → ResumesSharp (Some text) left base left_base period steps (Appends (Some before) (Some (before ++ bytes))) → ChecksWith (Some text) left_instance (Some bytes) left_certificate period verdict (Appends old new) → verdict ≡ Accepted
+accepts_what_is_resumed text before bytes left base left_base left_instance left_certificate old new period steps verdict (p, read, (begun, read_base, resumed)) (q, read_again, checked) =
+    let one = ap (λ t. instance_of t period) (read.read.whole) ∙ read.is_instance in
+    let other = ap (λ t. instance_of t period) (read_again.read.whole) ∙ read_again.is_instance in
+    let written = appended_is before bytes (fronted_text resumed.certificate) resumed.written in
+    let text_judged = checked.judged in
+    let judged = text_judged.judged in
+    accepted
+    p
+    q
+    resumed.certificate
+    judged.certificate
+    verdict
+    (same_instance text period p q one other)
+    (same_certificate bytes text_judged.text 1073741824 resumed.certificate judged.certificate resumed.has_text written text_judged.read.front judged.spelt)
+    resumed.resumed.valid
     judged.exactly

@@ -9,8 +9,9 @@ use Rattle.pesp_sharp_truth.specs.Marks.{Marks}
 use Rattle.pesp_sharp_text.specs.Limits.{KeepsLimits}
 use Rattle.pesp_sharp_text.specs.Texts.{Fronted, IsFrontedText, fronted_text}
 use Rattle.pesp_search.specs.Solving.{CostsNoMore}
-use Rattle.pesp_sharp_search.specs.Solving.{IsSharpSolved}
+use Rattle.pesp_sharp_search.specs.Solving.{IsSharpSolved, IsSharpResumed}
 use Rattle.pesp_sharp_solve_run.specs.Solving.{WritesSharpSolution}
+use Rattle.pesp_sharp_solve_run.specs.Resuming.{WritesSharpResumed}
 
 -- a solution was found, and the writer got what is said of its text
 pub solution : {p : Pesp} {times : List ℕ} {steps : ℕ} {certificate : Fronted} {Gets : List ℕ → Type 0} → ((used : ℕ) × IsSharpSolved p steps used certificate) → CostsNoMore p times certificate.content → IsTrueAnswer p certificate.content.answer (shown_times certificate.content)
@@ -20,6 +21,17 @@ solution {certificate = certificate} solved improved is_true has_text gets = rec
   certificate = certificate;
   solved = solved.1;
   improved = improved;
+  is_true = is_true;
+  has_text = has_text;
+  written = gets;
+}
+
+-- a search went on, and the writer got what is said of its text
+pub resumption : {p : Pesp} {base : Fronted} {steps : ℕ} {certificate : Fronted} {Gets : List ℕ → Type 0} → IsSharpResumed p base steps certificate → IsTrueAnswer p certificate.content.answer (shown_times certificate.content)
+    → IsFrontedText (fronted_text certificate) certificate → Gets (fronted_text certificate) → WritesSharpResumed p base steps Gets
+resumption {certificate = certificate} resumed is_true has_text gets = record {
+  certificate = certificate;
+  resumed = resumed;
   is_true = is_true;
   has_text = has_text;
   written = gets;

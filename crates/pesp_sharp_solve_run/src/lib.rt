@@ -1,8 +1,12 @@
-//! The runs that solve with leaves that marked walks sharpen, over any readers and writers: an instance in, and times to begin with
-//! where there are some; the text of a certificate with its front out.
+//! The runs that solve with leaves that marked walks sharpen, or go on from a certificate so, over any readers and writers: an
+//! instance in, and times to begin with or a certificate; the text of a certificate with its front out.
 #![tactic(auto)]
 
+mod base;
 pub mod laws;
+mod resumption;
 mod solving;
+mod texts;
 
+pub use resumption::run_resume_sharp;
 pub use solving::{run_solve_sharp, run_solve_sharp_from};

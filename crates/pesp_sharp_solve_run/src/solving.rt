@@ -1,44 +1,24 @@
 //! The runs that solve.
 
-ghost use Rattle.std.specs.Prelude.{◌≡◌, ◌≢◌, ℕ, ◌<◌, ◌≤◌, ◌^◌, OnOk, IfOk, IfErr, IfSome};
+ghost use Rattle.std.specs.Prelude.{◌≡◌, ◌≢◌, ℕ, ◌<◌, ◌≤◌, ◌^◌, OnOk, IfOk, IfErr};
 ghost use Rattle.std.specs.Io.KnownBytes.{Appends};
 ghost use Rattle.pesp_stream.specs.Counts.{FewerThan, HasWorked};
 ghost use Rattle.pesp_truth.specs.Truth.{IsTrueAnswer};
 ghost use Rattle.pesp_truth.specs.Certificates.{shown_times};
-ghost use Rattle.pesp_sharp_text.specs.Limits.{KeepsLimits};
-ghost use Rattle.pesp_sharp_text.specs.Texts.{IsFrontedText, fronted_text};
 ghost use Rattle.pesp_search.specs.Refusals.{MeetsLimit};
 ghost use Rattle.pesp_search.specs.Solving.{CostsNoMore, IsSearchRefusal};
 ghost use Rattle.pesp_sharp_search.specs.Solving.{IsSharpSolved};
 ghost use Rattle.pesp_check_run.specs.Devices.{over};
 ghost use Rattle.pesp_sharp_solve_run.specs.Solving.{WritesSharpSolution, SharpSolutionCause, SolvesSharp, SolveSharpCause, SolvesSharpFrom, SolveSharpFromCause};
 
-use pesp_cert::laws::limits_are_those_of_texts;
+use crate::texts::has_text;
 use pesp_faults::{Fault, read_timetable, read_whole_instance};
 use pesp_problem::Instance;
 use pesp_sharp_search::{SharpObserver, SolveRefusal, solve_sharp};
-use pesp_sharp_text::{Fronted, Marks, print_fronted};
+use pesp_sharp_text::{Fronted, print_fronted};
 use pesp_sharp_truth::laws::valid_with_is_true;
 use pesp_stream::{Sink, Source};
 use std::alloc::Global;
-
-/// A front keeps its limits.
-fn keeps_limits(front: &Option<Marks>)
-    ensures { IfSome front.now KeepsLimits }
-{
-    if let Some(marks) = front {
-        marks.scale();
-    }
-}
-
-/// Every certificate has a text with its front.
-fn has_text(fronted: &Fronted)
-    ensures { IsFrontedText (fronted_text fronted.now) fronted.now }
-{
-    limits_are_those_of_texts();
-    fronted.certificate.period();
-    keeps_limits(&fronted.front);
-}
 
 /// A certificate of what the search finds from these times within so many steps, while an observer looks on.
 fn solved<O: SharpObserver>(

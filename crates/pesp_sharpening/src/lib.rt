@@ -5,13 +5,15 @@
 
 mod candidates;
 mod experience;
+mod given;
 mod leaves;
 mod lines;
 mod proposals;
+mod shape;
 mod sharpened;
 mod sharpening;
 mod tree;
 mod trials;
 
 pub use sharpened::{Leaf, Line, Sharpened};
-pub use sharpening::Sharpening;
+pub use sharpening::{Sharpening, Step};

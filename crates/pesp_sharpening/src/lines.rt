@@ -13,14 +13,22 @@ struct Numbers {
     walks: Vec<u32>,
 }
 
-/// Whether each cycle is named by the tree.
-fn named_cycles(alloc: Global, setting: &Setting, tree: &Tree) -> Result<Vec<bool>, AllocError> {
-    let mut is_named = vec![in alloc; false; setting.cycles.len()]?;
+/// Whether each cycle was given, or is named by the tree.
+fn named_cycles(
+    alloc: Global,
+    setting: &Setting,
+    tree: &Tree,
+    given: usize,
+) -> Result<Vec<bool>, AllocError> {
+    let mut is_named = Vec::with_capacity(alloc, setting.cycles.len())?;
+    for place in 0..setting.cycles.len() {
+        is_named.push(place < given)?;
+    }
     for knot in &tree.knots {
         let cycle = match knot {
             Knot::Split { cut, .. } => cut.cycle,
             Knot::Gap { cycle } => *cycle,
-            Knot::Leaf { .. } => continue,
+            _ => continue,
         };
         if let Some(slot) = is_named.get_mut(cycle as usize) {
             *slot = true;
@@ -99,6 +107,16 @@ impl Numbers {
                 Ok(Line::Nothing(self.leaf(alloc, leaf)?))
             }
             Knot::Leaf { leaf, .. } => Ok(Line::Bound(self.leaf(alloc, leaf)?)),
+            Knot::Shut { leaf } => Ok(Line::Nothing(self.leaf(alloc, leaf)?)),
+            Knot::Kept {
+                first,
+                count,
+                bound,
+            } => Ok(Line::Kept {
+                first: *first,
+                count: *count,
+                bound: *bound,
+            }),
         }
     }
 }
@@ -133,24 +151,25 @@ fn lines_of(
 pub(crate) fn bound_of(setting: &Setting, tree: &Tree) -> u64 {
     let mut least = u64::MAX;
     for knot in &tree.knots {
-        if let Knot::Leaf { bound, .. } = knot
-            && !setting.is_shut_by(*bound)
-        {
-            least = least.min(*bound);
+        match knot {
+            Knot::Leaf { bound, .. } if !setting.is_shut_by(*bound) => least = least.min(*bound),
+            Knot::Kept { bound, .. } => least = least.min(*bound),
+            _ => {}
         }
     }
     least
 }
 
-/// What is told of a tree after so many steps.
+/// What is told of a tree, with so many cycles that were given, after so many steps.
 pub(crate) fn told(
     alloc: Global,
     setting: &Setting,
     pool: &Pool,
     tree: &Tree,
+    given: usize,
     steps: u32,
 ) -> Result<Sharpened, AllocError> {
-    let marks = named_cycles(alloc, setting, tree)?;
+    let marks = named_cycles(alloc, setting, tree, given)?;
     let numbers = Numbers {
         cycles: ranks(alloc, &marks)?,
         walks: pool.numbers(alloc)?,

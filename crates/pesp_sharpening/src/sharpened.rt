@@ -2,7 +2,7 @@
 
 use pesp_inequalities::Pass;
 
-/// Multipliers of a leaf, in 1/65536: of cycles, above 0 for offsets that are at least so great, below 0 for offsets that are
+/// Multipliers of a leaf, in units of the scale: of cycles, above 0 for offsets that are at least so great, below 0 for offsets that are
 /// at most so great; and of walks, each 1 at least. Cycles and walks are numbered from 0, and their numbers rise.
 #[derive(Debug, Drop)]
 pub struct Leaf {
@@ -12,17 +12,20 @@ pub struct Leaf {
 
 /// A line of a tree. A branch cuts the offsets of a cycle, numbered from 0, into those up to `most` and those above; a
 /// bound leaf shows a cost; a nothing leaf shows, with the weights taken as 0, that no timetable is there; and at a gap a
-/// cycle has no offset.
+/// cycle has no offset. Lines that were given and aren't looked into are kept: so many from this one on, whose leaves show this
+/// cost at least, `u64::MAX` where they show that no timetable is there.
 #[derive(Debug, Drop)]
 pub enum Line {
     Branch { cycle: u32, most: i64 },
     Bound(Leaf),
     Nothing(Leaf),
     Gap { cycle: u32 },
+    Kept { first: u32, count: u32, bound: u64 },
 }
 
 /// What was found: what each bound leaf shows at least, `u64::MAX` where there is none; the cycles that are branched on, as
-/// plain walks of the network's rows, and the walks of inequalities; the tree in preorder; and how many steps were made.
+/// plain walks of the network's rows, and the walks of inequalities; the tree in preorder; and how many steps were made. Cycles
+/// that were given stand first, each of them, and one that isn't a walk of these rows passes none.
 #[derive(Debug, Drop)]
 pub struct Sharpened {
     pub bound: u64,

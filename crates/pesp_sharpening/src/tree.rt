@@ -20,13 +20,15 @@ const MOST_PASSES: usize = 5_000_000;
 /// How many inequalities are found for both parts of a leaf at most.
 const MOST_NEW: usize = 400;
 
-/// A place of the tree: a cut, with the places of its parts; a leaf, with the cost that it shows; or a cycle without an
-/// offset.
+/// A place of the tree: a cut, with the places of its parts; a leaf, with the cost that it shows; a leaf that was given and shows
+/// that no timetable is there; a cycle without an offset; or lines that were given, with the cost that they show.
 #[derive(Drop)]
 pub(crate) enum Knot {
     Split { cut: Cut, low: u32, high: u32 },
     Leaf { leaf: Leaf, bound: u64 },
+    Shut { leaf: Leaf },
     Gap { cycle: u32 },
+    Kept { first: u32, count: u32, bound: u64 },
 }
 
 /// The places of a tree, the root first, and how many pairs its leaves have.
@@ -76,11 +78,35 @@ impl Tree {
         leaf: Leaf,
         bound: u64,
     ) -> Result<u32, AllocError> {
+        self.told_leaf(pool, &leaf);
+        self.add(Knot::Leaf { leaf, bound })
+    }
+
+    /// Counts a leaf of multipliers of inequalities of the pool.
+    fn told_leaf(&mut self, pool: &mut Pool, leaf: &Leaf) {
         for (number, _) in &leaf.walks {
             pool.tell(*number);
         }
-        self.pairs = self.pairs.saturating_add(pairs_of(&leaf));
-        self.add(Knot::Leaf { leaf, bound })
+        self.pairs = self.pairs.saturating_add(pairs_of(leaf));
+    }
+
+    /// Puts a place in behind the others, or the first one in the place of the root.
+    pub(crate) fn put(
+        &mut self,
+        alloc: Global,
+        pool: &mut Pool,
+        place: u32,
+        knot: Knot,
+    ) -> Result<(), AllocError> {
+        if let Knot::Leaf { leaf, .. } | Knot::Shut { leaf } = &knot {
+            self.told_leaf(pool, leaf);
+        }
+        if place == 0 {
+            self.replace(alloc, pool, place, knot)
+        } else {
+            self.add(knot)?;
+            Ok(())
+        }
     }
 
     /// Puts something in the place of a leaf.
@@ -111,10 +137,7 @@ impl Tree {
         leaf: Leaf,
         bound: u64,
     ) -> Result<(), AllocError> {
-        for (number, _) in &leaf.walks {
-            pool.tell(*number);
-        }
-        self.pairs = self.pairs.saturating_add(pairs_of(&leaf));
+        self.told_leaf(pool, &leaf);
         self.replace(alloc, pool, place, Knot::Leaf { leaf, bound })
     }
 

@@ -151,6 +151,15 @@ fn tell_of_certificate(
             seconds,
             progress,
         } => tell_resume(alloc, period, steps, seconds, progress, file),
+        OfCertificate::ResumeSharp {
+            steps,
+            seconds,
+            progress,
+        } => {
+            let mut told = tell_resume(alloc, period, steps, seconds, progress, file)?;
+            told.push_str(", with marked walks").ok()?;
+            Some(told)
+        }
         OfCertificate::Split => tell_file(alloc, "split", period, file),
         OfCertificate::Work { steps, job } => tell_work(alloc, period, steps, file, job),
     }

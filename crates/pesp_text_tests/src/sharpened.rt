@@ -3,11 +3,14 @@
 use crate::devices::Device;
 use crate::drain::drain_of;
 use crate::feed::feed_of;
-use crate::given::{period_of, text_of};
-use crate::telling::tell_verdict;
+use crate::given::{Given, given_by, period_of, text_of};
+use crate::telling::{tell_fault, tell_verdict};
+use pesp_cases::words_of;
+use pesp_faults::Fault;
 use pesp_search::Nobody;
 use pesp_sharp_run::run_check_sharp;
-use pesp_sharp_solve_run::run_solve_sharp;
+use pesp_sharp_search::Unwatched;
+use pesp_sharp_solve_run::{run_resume_sharp, run_solve_sharp};
 use std::alloc::Global;
 
 /// The certificate that `solve --sharp` writes in so many steps.
@@ -39,4 +42,53 @@ pub(crate) fn ask_sharpened(alloc: Global, lines: &[&str], steps: &str) -> Optio
     let period = period_of(lines)?;
     let steps = steps.parse().ok()?;
     check_sharpened(alloc, &text_of(alloc, lines, "instance")?, period, steps)
+}
+
+/// How `resume --sharp` ends over a certificate in so many steps, and what it has written.
+fn resharpened(
+    alloc: Global,
+    given: &Given,
+    base: &[u8],
+    steps: u32,
+) -> (Result<(), Fault>, Vec<u8>) {
+    let mut first = feed_of(&given.instance, given.first);
+    let mut second = feed_of(base, given.second);
+    let mut writer = drain_of(alloc, given.output);
+    let answer = run_resume_sharp(
+        alloc,
+        &mut first,
+        &mut second,
+        &mut writer,
+        given.period,
+        steps,
+        &mut Unwatched,
+    );
+    (answer, writer.into_inner().taken)
+}
+
+/// The certificate that comes of going on from a base, and from what comes of it, in so many steps each time.
+fn resharpened_often(
+    alloc: Global,
+    given: &Given,
+    base: Vec<u8>,
+    words: &[&str],
+) -> Option<Result<Vec<u8>, Fault>> {
+    let mut certificate = base;
+    for word in words {
+        match resharpened(alloc, given, &certificate, word.parse().ok()?) {
+            (Ok(()), next) => certificate = next,
+            (Err(fault), _) => return Some(Err(fault)),
+        }
+    }
+    Some(Ok(certificate))
+}
+
+/// What `check --sharp` says of the certificate that `resume --sharp` writes, where it goes on once for each number of steps.
+pub(crate) fn ask_resharpened(alloc: Global, lines: &[&str], rest: &str) -> Option<String> {
+    let given = given_by(alloc, lines)?;
+    let base = text_of(alloc, lines, "input")?;
+    match resharpened_often(alloc, &given, base, &words_of(alloc, rest)?)? {
+        Ok(certificate) => tell_check(alloc, &given.instance, &certificate, given.period),
+        Err(fault) => tell_fault(alloc, &fault, &[]),
+    }
 }

@@ -1,5 +1,6 @@
 //! The lines of a tree with a certificate's numbers: cycles from 1, and marked walks on from them.
 
+use crate::kept::Kept;
 use pesp_problem::{Memory, Pair, Pairs};
 use pesp_sharpening::{Leaf, Line};
 use pesp_truth::TreeLine;
@@ -101,18 +102,49 @@ fn line_of(alloc: Global, numbers: Numbers<'_>, line: &Line) -> Result<TreeLine,
             Ok(TreeLine::Nothing(joined(alloc, pairs)?))
         }
         Line::Gap { cycle } => Ok(TreeLine::Gap(cycle.saturating_add(1))),
+        // Lines that are kept are told by their base.
+        Line::Kept { .. } => Ok(TreeLine::Propagated),
     }
 }
 
-/// The lines of the tree.
+impl Numbers<'_> {
+    /// How many cycles and marked walks stand in front of those that kept lines name.
+    fn behind(&self, lines: &[Line]) -> u32 {
+        let scale = if some_wants_scale(lines) { 1 } else { 0 };
+        let own = self.walks.saturating_add(scale);
+        self.cycles.saturating_add(own)
+    }
+}
+
+/// Puts a line behind others, or the lines of a base that it keeps.
+fn add_line(
+    alloc: Global,
+    numbers: Numbers<'_>,
+    tree: &mut Vec<TreeLine>,
+    line: &Line,
+    kept: &Option<Kept<'_>>,
+    behind: u32,
+) -> Result<(), Memory> {
+    if let Some(kept) = kept
+        && let Line::Kept { .. } = line
+    {
+        return kept.add_lines(alloc, tree, line, behind);
+    }
+    tree.push(line_of(alloc, numbers, line)?)?;
+    Ok(())
+}
+
+/// The lines of the tree, with those of a base that are kept.
 pub(crate) fn lines_of(
     alloc: Global,
     numbers: Numbers<'_>,
     lines: &[Line],
+    kept: &Option<Kept<'_>>,
 ) -> Result<Vec<TreeLine>, Memory> {
+    let behind = numbers.behind(lines);
     let mut tree = Vec::new(alloc);
     for line in lines {
-        tree.push(line_of(alloc, numbers, line)?)?;
+        add_line(alloc, numbers, &mut tree, line, kept, behind)?;
     }
     Ok(tree)
 }

@@ -1,0 +1,221 @@
+//! The tree of a certificate as one over what is left of the instance.
+
+use crate::lifted::offset_shifts;
+use crate::lowered::Lowering;
+use crate::scales::{growth_of, scale_over};
+use pesp_inequalities::Pass;
+use pesp_judges::least_of;
+use pesp_problem::{Instance, Memory, Pair};
+use pesp_reduce::Reduced;
+use pesp_sharp_text::Fronted;
+use pesp_sharpening::{Leaf, Line, Sharpened};
+use pesp_truth::TreeLine;
+use std::alloc::Global;
+
+/// The greatest multiplier that is taken up.
+const MOST_MULTIPLIER: i64 = 1_000_000_000_000;
+
+/// A certificate whose tree is taken up: which of its cycles and marked walks are walks of what is left, by how much the
+/// offsets of these cycles are above those of what is left, and by what the multipliers grow of leaves that name marked walks
+/// and of leaves that name none.
+#[derive(Drop)]
+struct Base {
+    cycles: Vec<bool>,
+    walks: Vec<bool>,
+    shifts: Vec<i64>,
+    sharp_factor: i64,
+    plain_factor: i64,
+    least: u64,
+}
+
+/// Which walks are there.
+fn are_there(alloc: Global, walks: &[Option<Vec<Pass>>]) -> Result<Vec<bool>, Memory> {
+    let mut marks = Vec::with_capacity(alloc, walks.len())?;
+    for walk in walks {
+        marks.push(walk.is_some())?;
+    }
+    Ok(marks)
+}
+
+/// The walks that are there, and no rows for the others.
+fn or_empty(alloc: Global, walks: Vec<Option<Vec<Pass>>>) -> Result<Vec<Vec<Pass>>, Memory> {
+    let mut passes = Vec::with_capacity(alloc, walks.len())?;
+    for walk in walks {
+        passes.push(walk.unwrap_or(Vec::new(alloc)))?;
+    }
+    Ok(passes)
+}
+
+/// How many lines the subtree of each line has.
+fn sizes_of(alloc: Global, lines: &[TreeLine]) -> Result<Vec<usize>, Memory> {
+    let mut sizes = vec![in alloc; 1usize; lines.len()]?;
+    for (place, line) in lines.iter().enumerate().rev() {
+        if let TreeLine::Slack { .. } | TreeLine::Offset { .. } = line {
+            let first = place.wrapping_add(1);
+            let low = sizes.get(first).copied().unwrap_or(0);
+            let high = sizes.get(first.wrapping_add(low)).copied().unwrap_or(0);
+            if let Some(slot) = sizes.get_mut(place) {
+                *slot = low.wrapping_add(high).wrapping_add(1);
+            }
+        }
+    }
+    Ok(sizes)
+}
+
+impl Base {
+    /// Whether a place is marked.
+    fn has(marks: &[bool], place: u32) -> bool {
+        marks.get(place as usize).copied().unwrap_or(false)
+    }
+
+    /// How many cycles there are.
+    fn count(&self) -> u32 {
+        u32::try_from(self.cycles.len()).unwrap_or(u32::MAX)
+    }
+
+    /// Whether pairs name a marked walk.
+    fn names_walk(&self, pairs: &[Pair]) -> bool {
+        pairs.iter().any(|pair| pair.cycle > self.count())
+    }
+
+    /// Takes a pair up; None where its walk isn't one of what is left, or its multiplier grows too great.
+    fn take_pair(&self, leaf: &mut Leaf, pair: &Pair, factor: i64) -> Result<Option<()>, Memory> {
+        let Some(multiplier) = pair.mult.checked_mul(factor) else {
+            return Ok(None);
+        };
+        if multiplier > MOST_MULTIPLIER || multiplier < -MOST_MULTIPLIER {
+            return Ok(None);
+        }
+        let cycle = pair.cycle.wrapping_sub(1);
+        let walk = cycle.wrapping_sub(self.count());
+        if cycle < self.count() {
+            leaf.pairs.push((cycle, multiplier))?;
+            Ok(Base::has(&self.cycles, cycle).then_some(()))
+        } else {
+            leaf.walks.push((walk, multiplier))?;
+            Ok(Base::has(&self.walks, walk).then_some(()))
+        }
+    }
+
+    /// The leaf of pairs; None where one can't be taken up.
+    fn leaf(&self, alloc: Global, pairs: &[Pair]) -> Result<Option<Leaf>, Memory> {
+        let factor = if self.names_walk(pairs) {
+            self.sharp_factor
+        } else {
+            self.plain_factor
+        };
+        let mut leaf = Leaf {
+            pairs: Vec::new(alloc),
+            walks: Vec::new(alloc),
+        };
+        for pair in pairs {
+            if self.take_pair(&mut leaf, pair, factor)?.is_none() {
+                return Ok(None);
+            }
+        }
+        Ok(Some(leaf))
+    }
+
+    /// A branch on a cycle's offset; None where the cycle isn't a walk of what is left.
+    fn branch(&self, number: u32, k: i64) -> Option<Line> {
+        let cycle = number.wrapping_sub(1);
+        let shift = self.shifts.get(cycle as usize).copied()?;
+        let most = k.checked_sub(shift)?;
+        Base::has(&self.cycles, cycle).then_some(Line::Branch { cycle, most })
+    }
+
+    /// A line; None where it can't be taken up.
+    fn line(&self, alloc: Global, line: &TreeLine) -> Result<Option<Line>, Memory> {
+        match line {
+            TreeLine::Offset { cycle, k } => Ok(self.branch(*cycle, *k)),
+            TreeLine::Gap(cycle) => Ok(Some(Line::Gap {
+                cycle: cycle.wrapping_sub(1),
+            })),
+            TreeLine::Bound(pairs) => {
+                let leaf = self.leaf(alloc, pairs.as_slice())?;
+                Ok(leaf.map(|leaf| Line::Bound(leaf)))
+            }
+            TreeLine::Nothing(pairs) => {
+                let leaf = self.leaf(alloc, pairs.as_slice())?;
+                Ok(leaf.map(|leaf| Line::Nothing(leaf)))
+            }
+            TreeLine::Slack { .. } | TreeLine::Propagated => Ok(None),
+        }
+    }
+
+    /// Lines that are kept as they are.
+    fn kept(&self, lines: &[TreeLine], place: usize, count: usize) -> Line {
+        let end = place.saturating_add(count);
+        let kept = lines.get(place..end).unwrap_or(&[]);
+        let has_bound = kept.iter().any(|line| matches!(line, TreeLine::Bound(_)));
+        Line::Kept {
+            first: u32::try_from(place).unwrap_or(u32::MAX),
+            count: u32::try_from(count).unwrap_or(u32::MAX),
+            bound: if has_bound { self.least } else { u64::MAX },
+        }
+    }
+
+    /// The lines of the tree; below a branch that can't be taken up all are kept.
+    fn lines(&self, alloc: Global, tree: &[TreeLine]) -> Result<Vec<Line>, Memory> {
+        let sizes = sizes_of(alloc, tree)?;
+        let mut lines = Vec::new(alloc);
+        let mut next = 0usize;
+        for (place, line) in tree.iter().enumerate() {
+            if place < next {
+                continue;
+            }
+            let (taken, count) = match self.line(alloc, line)? {
+                Some(taken) => (taken, 1),
+                None => {
+                    let count = sizes.get(place).copied().unwrap_or(1);
+                    (self.kept(tree, place, count), count)
+                }
+            };
+            lines.push(taken)?;
+            next = place.saturating_add(count);
+        }
+        Ok(lines)
+    }
+}
+
+/// The marked walks of a base along the rows that are left.
+fn walks_of(
+    alloc: Global,
+    lowering: &Lowering,
+    base: &Fronted,
+) -> Result<Vec<Option<Vec<Pass>>>, Memory> {
+    match &base.front {
+        Some(marks) => lowering.walks(alloc, marks.walks()),
+        None => Ok(Vec::new(alloc)),
+    }
+}
+
+/// The tree of a base as one over what is left of the instance, to be taken up. What isn't one is kept as it is.
+pub(crate) fn given_of(
+    alloc: Global,
+    instance: &Instance,
+    reduced: &Reduced,
+    base: &Fronted,
+) -> Result<Sharpened, Memory> {
+    let lowering = Lowering::of(alloc, instance, reduced)?;
+    let certificate = &base.certificate;
+    let lowered = lowering.cycles(alloc, certificate.cycles())?;
+    let are_cycles = are_there(alloc, &lowered)?;
+    let cycles = or_empty(alloc, lowered)?;
+    let lowered = walks_of(alloc, &lowering, base)?;
+    let base_tree = Base {
+        cycles: are_cycles,
+        walks: are_there(alloc, &lowered)?,
+        shifts: offset_shifts(alloc, instance, reduced, &cycles, certificate.cycles())?,
+        sharp_factor: growth_of(base, reduced.network()),
+        plain_factor: i64::from(scale_over(base, reduced.network())),
+        least: least_of(certificate.answer()).unwrap_or(u64::MAX),
+    };
+    Ok(Sharpened {
+        bound: 0,
+        lines: base_tree.lines(alloc, certificate.tree())?,
+        cycles,
+        walks: or_empty(alloc, lowered)?,
+        steps_used: 0,
+    })
+}

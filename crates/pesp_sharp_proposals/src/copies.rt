@@ -1,0 +1,49 @@
+//! Copies of a certificate's parts.
+
+use pesp_problem::{Memory, Pairs, Walk};
+use pesp_sharp::MarkedWalk;
+use pesp_truth::TreeLine;
+use std::alloc::Global;
+
+/// A copy of pairs.
+fn copied_pairs(alloc: Global, pairs: &Pairs) -> Result<Pairs, Memory> {
+    Ok(Pairs::new(Vec::from_slice(alloc, pairs.as_slice())?))
+}
+
+/// A copy of a line.
+fn copied_line(alloc: Global, line: &TreeLine) -> Result<TreeLine, Memory> {
+    match line {
+        TreeLine::Slack { row, k } => Ok(TreeLine::Slack { row: *row, k: *k }),
+        TreeLine::Offset { cycle, k } => Ok(TreeLine::Offset {
+            cycle: *cycle,
+            k: *k,
+        }),
+        TreeLine::Bound(pairs) => Ok(TreeLine::Bound(copied_pairs(alloc, pairs)?)),
+        TreeLine::Nothing(pairs) => Ok(TreeLine::Nothing(copied_pairs(alloc, pairs)?)),
+        TreeLine::Gap(cycle) => Ok(TreeLine::Gap(*cycle)),
+        TreeLine::Propagated => Ok(TreeLine::Propagated),
+    }
+}
+
+/// Copies of lines.
+pub(crate) fn copied_lines(alloc: Global, lines: &[TreeLine]) -> Result<Vec<TreeLine>, Memory> {
+    let mut copies = Vec::with_capacity(alloc, lines.len())?;
+    for line in lines {
+        copies.push(copied_line(alloc, line)?)?;
+    }
+    Ok(copies)
+}
+
+/// Copies of walks.
+pub(crate) fn copied_walks(alloc: Global, walks: &[Walk]) -> Result<Vec<Walk>, Memory> {
+    let mut copies = Vec::with_capacity(alloc, walks.len())?;
+    for walk in walks {
+        copies.push(Walk::new(Vec::from_slice(alloc, walk.rows())?))?;
+    }
+    Ok(copies)
+}
+
+/// A copy of a marked walk.
+pub(crate) fn copied_marked(alloc: Global, walk: &MarkedWalk) -> Result<MarkedWalk, Memory> {
+    Ok(MarkedWalk::new(Vec::from_slice(alloc, walk.rows())?))
+}

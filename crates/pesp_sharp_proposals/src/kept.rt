@@ -1,0 +1,197 @@
+//! Lines of a base that are kept as they are, by the numbers of the new certificate.
+
+use crate::copies::copied_marked;
+use crate::scales::growth_of;
+use pesp_network::Network;
+use pesp_problem::{Memory, Pair, Pairs};
+use pesp_sharp::MarkedWalk;
+use pesp_sharp_text::Fronted;
+use pesp_sharpening::Line;
+use pesp_truth::TreeLine;
+use std::alloc::Global;
+
+/// The lines of a base of which some are kept: how many cycles the base has, for each of its marked walks its place among those
+/// that kept lines name, how many these are, and by what the multipliers grow of leaves that name one.
+#[derive(Drop)]
+pub(crate) struct Kept<'a> {
+    tree: &'a [TreeLine],
+    marked: &'a [MarkedWalk],
+    cycles: u32,
+    ranks: Vec<Option<u32>>,
+    factor: i64,
+}
+
+/// The marked walks of a front.
+fn marked_of(base: &Fronted) -> &[MarkedWalk] {
+    match &base.front {
+        Some(marks) => marks.walks(),
+        None => &[],
+    }
+}
+
+/// The pairs of a line.
+fn pairs_of(line: &TreeLine) -> &[Pair] {
+    match line {
+        TreeLine::Bound(pairs) | TreeLine::Nothing(pairs) => pairs.as_slice(),
+        _ => &[],
+    }
+}
+
+/// The place of a marked walk that a pair names.
+fn marked_place(cycles: u32, pair: &Pair) -> Option<usize> {
+    let behind = pair.cycle.checked_sub(cycles)?;
+    Some(behind.checked_sub(1)? as usize)
+}
+
+/// Marks the walks that a line names.
+fn mark(cycles: u32, line: &TreeLine, named: &mut [bool]) {
+    for pair in pairs_of(line) {
+        if let Some(place) = marked_place(cycles, pair)
+            && let Some(slot) = named.get_mut(place)
+        {
+            *slot = true;
+        }
+    }
+}
+
+/// The places among those that are marked.
+fn ranks_of(alloc: Global, named: &[bool]) -> Result<Vec<Option<u32>>, Memory> {
+    let mut ranks = Vec::with_capacity(alloc, named.len())?;
+    let mut next = 0u32;
+    for is_named in named {
+        if *is_named {
+            ranks.push(Some(next))?;
+            next = next.wrapping_add(1);
+        } else {
+            ranks.push(None)?;
+        }
+    }
+    Ok(ranks)
+}
+
+impl<'a> Kept<'a> {
+    /// The lines of a base of which these lines keep some.
+    pub(crate) fn of(
+        alloc: Global,
+        network: &Network,
+        base: &'a Fronted,
+        lines: &[Line],
+    ) -> Result<Kept<'a>, Memory> {
+        let marked = marked_of(base);
+        let cycles = u32::try_from(base.certificate.cycles().len()).unwrap_or(u32::MAX);
+        let mut kept = Kept {
+            tree: base.certificate.tree(),
+            marked,
+            cycles,
+            ranks: Vec::new(alloc),
+            factor: growth_of(base, network),
+        };
+        let mut named = vec![in alloc; false; marked.len()]?;
+        for line in lines {
+            kept.mark_run(line, &mut named);
+        }
+        kept.ranks = ranks_of(alloc, &named)?;
+        Ok(kept)
+    }
+
+    /// The lines of the base that a line keeps.
+    fn run(&self, line: &Line) -> &'a [TreeLine] {
+        match line {
+            Line::Kept { first, count, .. } => {
+                let first = *first as usize;
+                let end = first.saturating_add(*count as usize);
+                self.tree.get(first..end).unwrap_or(&[])
+            }
+            _ => &[],
+        }
+    }
+
+    /// Marks the walks that the lines name that a line keeps.
+    fn mark_run(&self, line: &Line, named: &mut [bool]) {
+        for kept in self.run(line) {
+            mark(self.cycles, kept, named);
+        }
+    }
+
+    /// The marked walks that kept lines name, behind these.
+    pub(crate) fn add_walks(
+        &self,
+        alloc: Global,
+        walks: &mut Vec<MarkedWalk>,
+    ) -> Result<(), Memory> {
+        for (walk, rank) in self.marked.iter().zip(self.ranks.iter()) {
+            if rank.is_some() {
+                walks.push(copied_marked(alloc, walk)?)?;
+            }
+        }
+        Ok(())
+    }
+
+    /// The number of what a pair names, where the marked walks that are kept stand behind so many cycles and walks.
+    fn number(&self, pair: &Pair, behind: u32) -> u32 {
+        let Some(place) = marked_place(self.cycles, pair) else {
+            return pair.cycle;
+        };
+        match self.ranks.get(place).copied() {
+            Some(Some(rank)) => behind.saturating_add(rank).saturating_add(1),
+            _ => u32::MAX,
+        }
+    }
+
+    /// Whether pairs name a marked walk.
+    fn names_walk(&self, pairs: &[Pair]) -> bool {
+        pairs.iter().any(|pair| pair.cycle > self.cycles)
+    }
+
+    /// Pairs by these numbers.
+    fn renumbered(&self, alloc: Global, pairs: &[Pair], behind: u32) -> Result<Pairs, Memory> {
+        let factor = if self.names_walk(pairs) {
+            self.factor
+        } else {
+            1
+        };
+        let mut renumbered = Vec::with_capacity(alloc, pairs.len())?;
+        for pair in pairs {
+            renumbered.push(Pair {
+                cycle: self.number(pair, behind),
+                mult: pair.mult.wrapping_mul(factor),
+            })?;
+        }
+        Ok(Pairs::new(renumbered))
+    }
+
+    /// A line by these numbers.
+    fn line(&self, alloc: Global, line: &TreeLine, behind: u32) -> Result<TreeLine, Memory> {
+        match line {
+            TreeLine::Bound(pairs) => {
+                let pairs = self.renumbered(alloc, pairs.as_slice(), behind)?;
+                Ok(TreeLine::Bound(pairs))
+            }
+            TreeLine::Nothing(pairs) => {
+                let pairs = self.renumbered(alloc, pairs.as_slice(), behind)?;
+                Ok(TreeLine::Nothing(pairs))
+            }
+            TreeLine::Slack { row, k } => Ok(TreeLine::Slack { row: *row, k: *k }),
+            TreeLine::Offset { cycle, k } => Ok(TreeLine::Offset {
+                cycle: *cycle,
+                k: *k,
+            }),
+            TreeLine::Gap(cycle) => Ok(TreeLine::Gap(*cycle)),
+            TreeLine::Propagated => Ok(TreeLine::Propagated),
+        }
+    }
+
+    /// The lines that a line keeps, behind others; the marked walks that are kept stand behind so many cycles and walks.
+    pub(crate) fn add_lines(
+        &self,
+        alloc: Global,
+        tree: &mut Vec<TreeLine>,
+        line: &Line,
+        behind: u32,
+    ) -> Result<(), Memory> {
+        for kept in self.run(line) {
+            tree.push(self.line(alloc, kept, behind)?)?;
+        }
+        Ok(())
+    }
+}

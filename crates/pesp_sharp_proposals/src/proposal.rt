@@ -1,0 +1,283 @@
+//! The certificates that a search proposes. They are judged by others.
+
+use crate::best::Best;
+use crate::copies::{copied_lines, copied_marked, copied_walks};
+use crate::kept::Kept;
+use crate::lifted::{lifted_of, offset_shifts};
+use crate::lines::{Numbers, lines_of, some_wants_scale};
+use crate::marked::{marked_of, scale_walk};
+use crate::search::SharpSearch;
+use pesp_cert::Certificate;
+use pesp_judges::least_of;
+use pesp_problem::{Instance, Memory, Walk};
+use pesp_reduce::Reduced;
+use pesp_sharp_text::{Fronted, Marks};
+use pesp_sharpening::{Line, Sharpened};
+use pesp_truth::{Answer, TreeLine};
+use std::alloc::Global;
+
+/// The greatest bound that a certificate tells.
+const MOST_BOUND: u64 = 999_999_999_999_999_999;
+
+/// What is proposed in the place of an answer: what was found, and that answer with the best timetable; none where a part would
+/// pass a limit, or nothing is new.
+#[derive(Drop)]
+pub struct Proposals {
+    pub sharp: Option<Fronted>,
+    pub timed: Option<Fronted>,
+}
+
+/// What proposals are made of: an instance and what is left of it, what was found, its scale, the best timetable, and the
+/// certificate whose tree was taken up, where one was.
+#[derive(Clone, Copy)]
+struct Parts<'a> {
+    instance: &'a Instance,
+    reduced: &'a Reduced,
+    sharpened: &'a Sharpened,
+    scale: u32,
+    best: &'a Option<Best>,
+    base: Option<&'a Fronted>,
+}
+
+/// Whether a line shows a bound.
+fn shows_bound(line: &Line) -> bool {
+    match line {
+        Line::Bound(_) => true,
+        Line::Kept { bound, .. } => *bound < u64::MAX,
+        _ => false,
+    }
+}
+
+/// The answer of a bound, where there is one, beside the best timetable.
+fn answer_beside(least: Option<u64>, best: &Option<Best>) -> Answer {
+    match (least, best) {
+        (Some(least), None) => Answer::Bounded { least, cost: None },
+        (None, None) => Answer::Infeasible,
+        (Some(least), Some(best)) if least < best.cost => Answer::Bounded {
+            least,
+            cost: Some(best.cost),
+        },
+        (_, Some(best)) => Answer::Optimal(best.cost),
+    }
+}
+
+/// The answer that a tree shows beside the best timetable.
+fn answer_of(sharpened: &Sharpened, best: &Option<Best>) -> Answer {
+    let has_bound = sharpened.lines.iter().any(|line| shows_bound(line));
+    let least = sharpened.bound.min(MOST_BOUND);
+    answer_beside(has_bound.then_some(least), best)
+}
+
+/// The labels of the events with the times of the best timetable; none where there is none.
+fn labelled(
+    alloc: Global,
+    instance: &Instance,
+    best: &Option<Best>,
+) -> Result<Vec<(i64, u32)>, Memory> {
+    let mut labelled = Vec::new(alloc);
+    let Some(best) = best else {
+        return Ok(labelled);
+    };
+    for (label, time) in instance.events().iter().zip(best.times.iter()) {
+        labelled.push((*label, *time))?;
+    }
+    Ok(labelled)
+}
+
+/// Puts walks behind others.
+fn add_walks(walks: &mut Vec<Walk>, more: Vec<Walk>) -> Result<(), Memory> {
+    for walk in more {
+        walks.push(walk)?;
+    }
+    Ok(())
+}
+
+impl<'a> Parts<'a> {
+    /// The cycles of the instance: those of the base, and behind them the others that the tree names, lifted; None where these
+    /// would pass a limit.
+    fn cycles(&self, alloc: Global) -> Result<Option<Vec<Walk>>, Memory> {
+        let Some(base) = self.base else {
+            return lifted_of(alloc, self.reduced, &self.sharpened.cycles);
+        };
+        let given = base.certificate.cycles();
+        let own = self.sharpened.cycles.get(given.len()..).unwrap_or(&[]);
+        let Some(lifted) = lifted_of(alloc, self.reduced, own)? else {
+            return Ok(None);
+        };
+        let mut cycles = copied_walks(alloc, given)?;
+        add_walks(&mut cycles, lifted)?;
+        Ok(Some(cycles))
+    }
+
+    /// The lines of a base that are kept.
+    fn kept(&self, alloc: Global) -> Result<Option<Kept<'a>>, Memory> {
+        match self.base {
+            Some(base) => {
+                let lines = &self.sharpened.lines;
+                Ok(Some(Kept::of(alloc, self.reduced.network(), base, lines)?))
+            }
+            None => Ok(None),
+        }
+    }
+
+    /// The lines of the tree, for these cycles.
+    fn tree(
+        &self,
+        alloc: Global,
+        cycles: &[Walk],
+        kept: &Option<Kept<'a>>,
+    ) -> Result<Vec<TreeLine>, Memory> {
+        let own = &self.sharpened.cycles;
+        let shifts = offset_shifts(alloc, self.instance, self.reduced, own, cycles)?;
+        let numbers = Numbers {
+            cycles: u32::try_from(cycles.len()).unwrap_or(u32::MAX),
+            walks: u32::try_from(self.sharpened.walks.len()).unwrap_or(u32::MAX),
+            shifts: &shifts,
+        };
+        lines_of(alloc, numbers, &self.sharpened.lines, kept)
+    }
+
+    /// The version of the certificate: that of the base, whose lines may be kept.
+    fn version(&self) -> u32 {
+        match self.base {
+            Some(base) => base.certificate.version(),
+            None => 1,
+        }
+    }
+
+    /// The certificate behind the front; None where it would pass a limit.
+    fn certificate(
+        &self,
+        alloc: Global,
+        kept: &Option<Kept<'a>>,
+    ) -> Result<Option<Certificate>, Memory> {
+        let Some(cycles) = self.cycles(alloc)? else {
+            return Ok(None);
+        };
+        let tree = self.tree(alloc, &cycles, kept)?;
+        let times = labelled(alloc, self.instance, self.best)?;
+        let answer = answer_of(self.sharpened, self.best);
+        let period = self.instance.period();
+        Ok(Certificate::new(self.version(), period, answer, times, cycles, tree).ok())
+    }
+
+    /// The front; None where it would pass a limit.
+    fn front(&self, alloc: Global, kept: &Option<Kept<'a>>) -> Result<Option<Marks>, Memory> {
+        let Some(mut walks) = marked_of(alloc, self.reduced, &self.sharpened.walks)? else {
+            return Ok(None);
+        };
+        if some_wants_scale(&self.sharpened.lines) {
+            walks.push(scale_walk(alloc)?)?;
+        }
+        if let Some(kept) = kept {
+            kept.add_walks(alloc, &mut walks)?;
+        }
+        Ok(Marks::new(self.scale, walks).ok())
+    }
+
+    /// What was found beside the best timetable, as a certificate with a front; None where a part would pass a limit.
+    fn fronted(&self, alloc: Global) -> Result<Option<Fronted>, Memory> {
+        let kept = self.kept(alloc)?;
+        let Some(certificate) = self.certificate(alloc, &kept)? else {
+            return Ok(None);
+        };
+        let Some(marks) = self.front(alloc, &kept)? else {
+            return Ok(None);
+        };
+        Ok(Some(Fronted {
+            front: with_walks(marks),
+            certificate,
+        }))
+    }
+}
+
+/// A front, where it has a walk.
+fn with_walks(marks: Marks) -> Option<Marks> {
+    if marks.walks().is_empty() {
+        None
+    } else {
+        Some(marks)
+    }
+}
+
+/// A certificate with the best timetable in the place of its own.
+fn with_times(
+    alloc: Global,
+    instance: &Instance,
+    old: &Certificate,
+    best: &Option<Best>,
+) -> Result<Option<Certificate>, Memory> {
+    let times = labelled(alloc, instance, best)?;
+    let cycles = copied_walks(alloc, old.cycles())?;
+    let tree = copied_lines(alloc, old.tree())?;
+    let answer = answer_beside(least_of(old.answer()), best);
+    Ok(Certificate::new(old.version(), old.period(), answer, times, cycles, tree).ok())
+}
+
+/// A copy of a front; None where there is none.
+fn copied_front(alloc: Global, front: &Option<Marks>) -> Result<Option<Marks>, Memory> {
+    let Some(marks) = front else {
+        return Ok(None);
+    };
+    let mut walks = Vec::with_capacity(alloc, marks.walks().len())?;
+    for walk in marks.walks() {
+        walks.push(copied_marked(alloc, walk)?)?;
+    }
+    Ok(Marks::new(marks.scale(), walks).ok())
+}
+
+/// The cost of the times that an answer shows; `u64::MAX` where it shows none.
+fn cost_of(answer: Answer) -> u64 {
+    match answer {
+        Answer::Optimal(cost) => cost,
+        Answer::Infeasible => u64::MAX,
+        Answer::Bounded { cost, .. } => cost.unwrap_or(u64::MAX),
+    }
+}
+
+/// An answer with the best timetable in the place of its own; None where that isn't cheaper.
+fn timed_of(
+    alloc: Global,
+    instance: &Instance,
+    front: &Option<Marks>,
+    old: &Certificate,
+    best: &Option<Best>,
+) -> Result<Option<Fronted>, Memory> {
+    if !best
+        .as_ref()
+        .is_some_and(|best| best.cost < cost_of(old.answer()))
+    {
+        return Ok(None);
+    }
+    let Some(certificate) = with_times(alloc, instance, old, best)? else {
+        return Ok(None);
+    };
+    Ok(Some(Fronted {
+        front: copied_front(alloc, front)?,
+        certificate,
+    }))
+}
+
+/// What a search proposes in the place of an answer; where it has taken up the tree of a certificate, that is named.
+pub fn proposals_of(
+    alloc: Global,
+    instance: &Instance,
+    front: &Option<Marks>,
+    old: &Certificate,
+    search: &SharpSearch,
+    base: Option<&Fronted>,
+) -> Result<Proposals, Memory> {
+    let sharpened = search.sharpening.sharpened()?;
+    let parts = Parts {
+        instance,
+        reduced: &search.reduced,
+        sharpened: &sharpened,
+        scale: search.scale,
+        best: &search.best,
+        base: if search.has_taken_up { base } else { None },
+    };
+    Ok(Proposals {
+        sharp: parts.fronted(alloc)?,
+        timed: timed_of(alloc, instance, front, old, &search.best)?,
+    })
+}

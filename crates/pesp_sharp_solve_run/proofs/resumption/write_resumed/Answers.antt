@@ -1,0 +1,15 @@
+use Rattle.pesp_check_run.proofs.ReadingLemmas.{told_as}
+use Rattle.pesp_sharp_solve_run.proofs.Solutions.{resumption}
+use Rattle.pesp_sharp_solve_run.proofs.resumption.write_resumed.Goals as goal
+
+pub returns-in_err-print_fronted-clause-cause : goal.returns-in_err-print_fronted-clause-cause
+returns-in_err-print_fronted-clause-cause g c =
+    let found = c.in_ok-fronted.ensures in
+    let out = c.in_err-print_fronted.ensures in
+    told_as _ _ _ c.from_residual-in_err-print_fronted.ensures.1 (out.fault, resumption found.resumed found.is_true c.has_text.ensures out.text)
+
+pub returns-clause-ok : goal.returns-clause-ok
+returns-clause-ok g c =
+    let found = c.in_ok-fronted.ensures in
+    let out = c.in_ok-print_fronted.ensures in
+    resumption found.resumed found.is_true c.has_text.ensures out.text

@@ -1,0 +1,225 @@
+//! Trees that are given, and taken up.
+
+use crate::experience::Experience;
+use crate::shape::Shape;
+use crate::sharpened::{Leaf, Line, Sharpened};
+use crate::sharpening::{Open, Sharpening};
+use crate::tree::Knot;
+use pesp_inequalities::Pass;
+use pesp_problem::Memory;
+use pesp_sharp_nodes::{Branch, Cut, Limit, Node, Range, Side};
+use std::alloc::{AllocError, Global};
+use std::mem::swap;
+
+/// What the lines of a given tree share: the lines with their shape, the number in the pool of each walk, none where it says
+/// nothing, the inequalities that leaves without any get, and what closes leaves.
+#[derive(Clone, Copy)]
+struct Given<'a> {
+    lines: &'a [Line],
+    shape: &'a Shape,
+    walks: &'a [Option<u32>],
+    common: &'a [u32],
+    limit: Limit,
+}
+
+/// The bound on an offset of which a cycle has a multiplier, where offsets have this range.
+fn end_of(ranges: &[Range], cycle: u32, multiplier: i64) -> Branch {
+    let range = ranges.get(cycle as usize).copied();
+    let Range { least, most } = range.unwrap_or(Range { least: 0, most: 0 });
+    if multiplier < 0 {
+        Branch {
+            cycle,
+            side: Side::AtMost,
+            offset: most,
+        }
+    } else {
+        Branch {
+            cycle,
+            side: Side::AtLeast,
+            offset: least,
+        }
+    }
+}
+
+/// Whether no bound of the other ones on the same offset is stronger.
+fn is_end(ranges: &[Range], branch: Branch) -> bool {
+    match ranges.get(branch.cycle as usize) {
+        Some(range) => match branch.side {
+            Side::AtMost => branch.offset == range.most,
+            Side::AtLeast => branch.offset == range.least,
+        },
+        None => false,
+    }
+}
+
+/// The bounds on offsets with their multipliers: those that pairs multiply, and the others that lead to a leaf.
+fn offsets_of(
+    alloc: Global,
+    ranges: &[Range],
+    path: &[Branch],
+    pairs: &[(u32, i64)],
+) -> Result<Vec<(Branch, i64)>, AllocError> {
+    let mut offsets: Vec<(Branch, i64)> = Vec::new(alloc);
+    for (cycle, multiplier) in pairs {
+        let size = multiplier.wrapping_abs();
+        offsets.push((end_of(ranges, *cycle, *multiplier), size))?;
+    }
+    for branch in path {
+        let is_there = offsets.iter().any(|offset| offset.0 == *branch);
+        if is_end(ranges, *branch) && !is_there {
+            offsets.push((*branch, 0))?;
+        }
+    }
+    Ok(offsets)
+}
+
+/// Multipliers of walks by their numbers in the pool, in rising order.
+fn walks_of(
+    alloc: Global,
+    numbers: &[Option<u32>],
+    walks: &[(u32, i64)],
+) -> Result<Vec<(u32, i64)>, AllocError> {
+    let mut pooled = Vec::new(alloc);
+    for (walk, multiplier) in walks {
+        if let Some(Some(number)) = numbers.get(*walk as usize).copied() {
+            pooled.push((number, *multiplier))?;
+        }
+    }
+    pooled.sort_unstable_by_key(|walk| walk.0);
+    Ok(pooled)
+}
+
+impl Sharpening {
+    /// The ranges of offsets below bounds on them.
+    fn ranges_below(&self, path: &[Branch]) -> Result<Vec<Range>, AllocError> {
+        let mut ranges = self.sharpener.setting.ranges(self.alloc)?;
+        for branch in path {
+            if let Some(range) = ranges.get_mut(branch.cycle as usize) {
+                *range = range.narrowed(*branch);
+            }
+        }
+        Ok(ranges)
+    }
+
+    /// A bound leaf that is given; it is open where what it shows doesn't reach the limit.
+    fn take_leaf(&mut self, given: Given<'_>, place: u32, leaf: &Leaf) -> Result<Knot, AllocError> {
+        let path = given.shape.path(self.alloc, given.lines, place)?;
+        let ranges = self.ranges_below(&path)?;
+        let offsets = offsets_of(self.alloc, &ranges, &path, &leaf.pairs)?;
+        let walks = walks_of(self.alloc, given.walks, &leaf.walks)?;
+        let mut relaxation = self.sharpener.told(&offsets, &walks)?;
+        let bound = relaxation.bound();
+        if bound < given.limit.cost {
+            let node = Node::cold(self.alloc, &relaxation, given.common)?;
+            node.keep_in(&mut self.sharpener.pool);
+            self.leaves.push(Open { place, bound, node })?;
+        }
+        let pairs = Vec::from_slice(self.alloc, &leaf.pairs)?;
+        Ok(Knot::Leaf {
+            leaf: Leaf { pairs, walks },
+            bound,
+        })
+    }
+
+    /// What a line that is given becomes.
+    fn knot_of(&mut self, given: Given<'_>, place: u32, line: &Line) -> Result<Knot, AllocError> {
+        match line {
+            Line::Branch { cycle, most } => Ok(Knot::Split {
+                cut: Cut {
+                    cycle: *cycle,
+                    most: *most,
+                },
+                low: place.saturating_add(1),
+                high: given.shape.second(place),
+            }),
+            Line::Bound(leaf) => self.take_leaf(given, place, leaf),
+            Line::Nothing(leaf) => Ok(Knot::Shut {
+                leaf: Leaf {
+                    pairs: Vec::from_slice(self.alloc, &leaf.pairs)?,
+                    walks: walks_of(self.alloc, given.walks, &leaf.walks)?,
+                },
+            }),
+            Line::Gap { cycle } => Ok(Knot::Gap { cycle: *cycle }),
+            Line::Kept {
+                first,
+                count,
+                bound,
+            } => Ok(Knot::Kept {
+                first: *first,
+                count: *count,
+                bound: *bound,
+            }),
+        }
+    }
+
+    /// Takes in the walks that are given; their numbers in the pool.
+    fn take_walks(&mut self, walks: &[Vec<Pass>]) -> Result<Vec<Option<u32>>, AllocError> {
+        let mut numbers = Vec::with_capacity(self.alloc, walks.len())?;
+        for passes in walks {
+            let passes = Vec::from_slice(self.alloc, passes)?;
+            numbers.push(self.sharpener.take_walk(passes)?)?;
+        }
+        Ok(numbers)
+    }
+
+    /// Puts the lines that are given in the place of the tree.
+    fn take_lines(&mut self, given: Given<'_>) -> Result<(), AllocError> {
+        for (place, line) in given.lines.iter().enumerate() {
+            let number = u32::try_from(place).unwrap_or(u32::MAX);
+            let knot = self.knot_of(given, number, line)?;
+            let pool = &mut self.sharpener.pool;
+            self.tree.put(self.alloc, pool, number, knot)?;
+        }
+        Ok(())
+    }
+
+    /// Takes up a tree that is given in the place of its own, which is one leaf: its bound leaves that don't reach the best cost
+    /// that is known are open. Leaves without walks get the inequalities that were found so far. False, and nothing is done,
+    /// where a step was made, or the lines aren't those of one tree.
+    pub fn take_up(&mut self, given: &Sharpened, best: Option<u64>) -> Result<bool, Memory> {
+        let Some(shape) = Shape::of(self.alloc, &given.lines)? else {
+            return Ok(false);
+        };
+        if self.tree.knots.len() > 1 {
+            return Ok(false);
+        }
+        let mut old = Vec::new(self.alloc);
+        swap(&mut old, &mut self.leaves);
+        let common = match old.first() {
+            Some(open) => open.node.pooled(self.alloc)?,
+            None => Vec::new(self.alloc),
+        };
+        self.begin_with(given)?;
+        let walks = self.take_walks(&given.walks)?;
+        let limit = self.sharpener.setting.limit(best);
+        self.take_lines(Given {
+            lines: &given.lines,
+            shape: &shape,
+            walks: &walks,
+            common: &common,
+            limit,
+        })?;
+        self.sort_leaves();
+        self.leave(&old)?;
+        self.sharpener.let_go(&walks)?;
+        Ok(true)
+    }
+
+    /// Cycles that are given stand before the others, and no cut has gained anything.
+    fn begin_with(&mut self, given: &Sharpened) -> Result<(), AllocError> {
+        let setting = &mut self.sharpener.setting;
+        setting.put_first(self.alloc, &given.cycles)?;
+        self.experience = Experience::new(self.alloc, setting.cycles.len())?;
+        self.given = given.cycles.len();
+        self.is_begun = true;
+        Ok(())
+    }
+
+    /// Leaves are open no longer.
+    fn leave(&mut self, leaves: &[Open]) -> Result<(), AllocError> {
+        for open in leaves {
+            open.node.leave(self.alloc, &mut self.sharpener.pool)?;
+        }
+        Ok(())
+    }
+}

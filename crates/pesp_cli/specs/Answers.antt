@@ -18,7 +18,7 @@ use Rattle.pesp_sharp_solve_run.specs.Solving.{SolvesSharp, SolvesSharpFrom}
 use Rattle.pesp_sharp_solve_run.specs.Resuming.{ResumesSharp}
 use Rattle.pesp_report_run.specs.Reporting.{WritesSheet}
 use Rattle.pesp_report_run.specs.Violating.{ReadsForEvents, WritesViolations}
-use Rattle.pesp_outside_run.specs.Outside.{WritesJobs, WritesWork, Grafts}
+use Rattle.pesp_outside_run.specs.Outside.{WritesJobs, WritesWorks, Grafts}
 use Rattle.pesp_resume_run.specs.Resuming.{WritesResumed}
 use Rattle.pesp_conflict_run.specs.Runs.{TellsConflict}
 use Rattle.pesp_conflict_run.specs.Told.{told_text, told_status}
@@ -26,11 +26,11 @@ use Rattle.pesp_conflict_run.specs.declared.told.Told.{Told}
 use Rattle.pesp_request.specs.declared.request.OfInstance.{OfInstance}
 use Rattle.pesp_request.specs.declared.request.OfInstance.TheVariants.{Solve, SolveSharp, Conflict}
 use Rattle.pesp_request.specs.declared.request.OfCertificate.{OfCertificate}
-use Rattle.pesp_request.specs.declared.request.OfCertificate.TheVariants.{Check, CheckSharp, Gap, Resume, ResumeSharp, Split, Work}
+use Rattle.pesp_request.specs.declared.request.OfCertificate.TheVariants.{Check, CheckSharp, Gap, Resume, ResumeSharp, Split}
 use Rattle.pesp_request.specs.declared.request.OfTimes.{OfTimes}
 use Rattle.pesp_request.specs.declared.request.OfTimes.TheVariants.{Report, Violations, Picture, Diagrams}
 use Rattle.pesp_request.specs.declared.request.Request.{Request}
-use Rattle.pesp_request.specs.declared.request.Request.TheVariants.{Instance, Certificate, Times, Works}
+use Rattle.pesp_request.specs.declared.request.Request.TheVariants.{Instance, Certificate, Work, Times, Works}
 
 -- ---- writers
 
@@ -86,8 +86,11 @@ AnswersCertificate (ResumeSharp steps seconds progress) period instance reader w
     ResumesSharp instance.old instance.new reader.old reader.new period steps (Gets writer) × (status ≡ 0)
 AnswersCertificate Split period instance reader writer status =
     HasBase instance.old instance.new reader.old reader.new period (λ p base. WritesJobs p base (Gets writer)) × (status ≡ 0)
-AnswersCertificate (Work steps job) period instance reader writer status =
-    HasBase instance.old instance.new reader.old reader.new period (λ p base. WritesWork p base job steps (Gets writer)) × (status ≡ 0)
+
+-- the same of work on open leaves of a certificate
+abbrev pub AnswersWork : ℕ → ℕ → Option ℕ → List ℕ → Device → Device → Device → ℕ → Type 0
+AnswersWork period steps until jobs instance reader writer status =
+    HasBase instance.old instance.new reader.old reader.new period (λ p base. WritesWorks p base jobs steps until (Gets writer)) × (status ≡ 0)
 
 -- 1 where any activity is violated
 abbrev pub violations_status : ℕ → ℕ
@@ -122,6 +125,8 @@ Answers (Instance period (Some file) asked) reader writer teller silent status =
     (instance : Device) × AnswersInstance asked period instance writer teller silent status
 Answers (Certificate period file asked) reader writer teller silent status =
     (instance : Device) × AnswersCertificate asked period instance reader writer status
+Answers (Work period file steps until jobs) reader writer teller silent status =
+    (instance : Device) × AnswersWork period steps until jobs.items instance reader writer status
 Answers (Times period file asked) reader writer teller silent status =
     (instance : Device) × AnswersTimes asked period instance reader writer status
 Answers (Works period file base) reader writer teller silent status =

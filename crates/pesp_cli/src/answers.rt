@@ -2,13 +2,14 @@
 
 ghost use Rattle.std.specs.Prelude.{◌≡◌, ◌<◌, ◌≤◌, ◌^◌, Ok, Err, IfOk, OnOk, IsSome, MatchResult};
 ghost use Rattle.std.specs.Io.KnownBytes.{Appends};
+ghost use Rattle.std.specs.List.Sorted.{IsStrictlyIncreasing};
 ghost use Rattle.pesp_stream.specs.Counts.{FewerThan};
 ghost use Rattle.pesp_check_run.specs.Devices.{over};
 ghost use Rattle.pesp_faults.specs.Reading.{HasBase};
 ghost use Rattle.pesp_resume_run.specs.Resuming.{WritesResumed};
 ghost use Rattle.pesp_sharp_solve_run.specs.Resuming.{ResumesSharp};
 ghost use Rattle.pesp_request.specs.Requests.{InstanceWithin, CertificateWithin};
-ghost use Rattle.pesp_cli.specs.Answers.{AnswersSolve, AnswersSolveSharp, AnswersInstance, AnswersCertificate, AnswersTimes, AnswersWorks, violations_status};
+ghost use Rattle.pesp_cli.specs.Answers.{AnswersSolve, AnswersSolveSharp, AnswersInstance, AnswersCertificate, AnswersWork, AnswersTimes, AnswersWorks, violations_status};
 
 use crate::input::{Beginning, warn_of_period};
 use crate::telling::told_conflict;
@@ -265,10 +266,44 @@ pub(crate) fn of_certificate<R: AllocGlobal + Eprint + Clock, I: Source, S: Sour
             done(resume_with_marks(alloc, instance, reader, writer, period, steps, watch))
         }
         OfCertificate::Split => done(run_split(alloc, instance, reader, writer, period)),
-        OfCertificate::Work { steps, job } => {
-            done(run_work(alloc, instance, reader, writer, period, steps, job))
-        }
     }
+}
+
+/// Works on open leaves of the certificate that the reader gives, for the instance of the other reader.
+#[tactic(auto, using(crate::proofs::Ends::finished))]
+pub(crate) fn of_leaves<R: AllocGlobal, I: Source, S: Source, W: Sink>(
+    rt: &R,
+    instance: &mut I,
+    reader: &mut S,
+    writer: &mut W,
+    period: u32,
+    steps: u32,
+    until: Option<u64>,
+    jobs: &[u64],
+) -> Result<u8, Fault>
+    requires steps { steps ≤ 100000 }
+    requires rise { IsStrictlyIncreasing jobs.now }
+    requires instance_fits { FewerThan (2 ^ 62) (I.calls instance.old) }
+    requires reads_fit { FewerThan (2 ^ 62) (S.calls reader.old) }
+    requires writes_fit { FewerThan (2 ^ 62) (W.calls writer.old) }
+    ensures { IfOk result (AnswersWork period steps until jobs.now
+        (over (I.remaining instance.old) (I.remaining instance.new)
+        (I.calls instance.old) (I.calls instance.new))
+        (over (S.remaining reader.old) (S.remaining reader.new)
+        (S.calls reader.old) (S.calls reader.new))
+        (over (W.contents writer.old) (W.contents writer.new)
+        (W.calls writer.old) (W.calls writer.new))) }
+{
+    done(run_work(
+        rt.alloc(),
+        instance,
+        reader,
+        writer,
+        period,
+        steps,
+        until,
+        jobs,
+    ))
 }
 
 /// Does what is asked of the times that the reader gives, for the instance of the other reader.

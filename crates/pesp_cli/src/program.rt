@@ -6,7 +6,7 @@ ghost use Rattle.pesp_check_run.specs.Devices.{over};
 ghost use Rattle.pesp_request.specs.Requests.{IsWithinLimits};
 ghost use Rattle.pesp_cli.specs.Answers.{Answers};
 
-use crate::answers::{of_certificate, of_instance, of_times, of_works, opened};
+use crate::answers::{of_certificate, of_instance, of_leaves, of_times, of_works, opened};
 use crate::input::{Beginning, warn_of_period};
 use crate::output::writer_of;
 use crate::telling::{teller_of, told};
@@ -84,8 +84,9 @@ fn status_of_request<R: AllocGlobal + Input + Print + Eprint + Files + Clock>(
     }
     let mut reader = Counted::new(input);
     let mut writer = writer_of(rt);
+    let period_of_times = request.period_of_times();
     let done = answer(rt, &mut reader, &mut writer, &mut teller_of(rt), request);
-    if let Some(period) = request.period_of_times() {
+    if let Some(period) = period_of_times {
         warn_of_period(rt, &reader.into_inner(), period);
     }
     match done {
@@ -137,6 +138,25 @@ fn answer<R: AllocGlobal + Eprint + Files + Clock, S: Source, W: Sink, E: Sink>(
         } => {
             let mut instance = opened(rt, file)?;
             of_certificate(rt, &mut instance, reader, writer, period, asked)
+        }
+        Request::Work {
+            period,
+            file,
+            steps,
+            until,
+            jobs,
+        } => {
+            let mut instance = opened(rt, file)?;
+            of_leaves(
+                rt,
+                &mut instance,
+                reader,
+                writer,
+                period,
+                steps,
+                until,
+                &jobs,
+            )
         }
         Request::Times {
             period,

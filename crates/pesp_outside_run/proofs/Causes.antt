@@ -20,7 +20,7 @@ use Rattle.pesp_outside.specs.Grafts.{IsGrafted}
 use Rattle.pesp_outside.specs.Texts.{reply_line}
 use Rattle.pesp_worker.specs.declared.refusal.WorkRefusal.{WorkRefusal}
 use Rattle.pesp_worker.specs.declared.refusal.WorkRefusal.TheVariants.{Memory as WorkMemory, NoSuchJob}
-use Rattle.pesp_worker.specs.HandingIn.{IsWorkRefusal}
+use Rattle.pesp_worker.specs.HandingIn.{AreWorkRefusal}
 use Rattle.pesp_check_run.specs.Devices.{over}
 use Rattle.pesp_outside_run.specs.Outside.{works_fault, work_fault, WorksCause, JobCause, WritesGraft}
 
@@ -35,9 +35,9 @@ works_cause Truncated told left calls after bytes read first = elim first [ inl 
 works_cause (Trailing n) told left calls after bytes read first = elim first [ inl e ↦ cc | inr e ↦ record { text = bytes; read = read; holds = e } ]
 
 -- a job that isn't there, or a refusal of memory
-pub job_cause : (refusal : WorkRefusal) (p : Pesp) (base : Content) (job : ℕ) → IsWorkRefusal p base job refusal → JobCause (work_fault refusal) p base job
-job_cause WorkMemory p base job refused = tt
-job_cause NoSuchJob p base job refused = refused
+pub job_cause : (refusal : WorkRefusal) (p : Pesp) (base : Content) (jobs : List ℕ) → AreWorkRefusal p base jobs refusal → JobCause (work_fault refusal) p base jobs
+job_cause WorkMemory p base jobs refused = tt
+job_cause NoSuchJob p base jobs refused = refused
 
 -- nothing is a front of every text
 pub no_front : (a : Option (List ℕ)) (text : List ℕ) → AppendsFront a a text

@@ -6,8 +6,7 @@ use Rattle.pesp_truth.specs.Certificates.{Content}
 use Rattle.pesp_cert.specs.Texts.{spelling, HasText}
 use Rattle.pesp_cert.specs.declared.refusal.CertRefusal.{CertRefusal}
 use Rattle.pesp_cert.specs.declared.refusal.CertRefusal.TheVariants.{Memory as CertMemory}
-use Rattle.pesp_works.specs.Works.{WorkValue}
-use Rattle.pesp_works.specs.Works as works_values
+use Rattle.pesp_works.specs.Works.{WorkValue, spellings}
 use Rattle.pesp_works.specs.Refusals.{works_of_text}
 use Rattle.pesp_works.specs.Refusals as works_texts
 use Rattle.pesp_outside.specs.declared.jobs.OpenJob.{OpenJob}
@@ -15,7 +14,7 @@ use Rattle.pesp_outside.specs.declared.grafting.Reply.{Reply}
 use Rattle.pesp_outside.specs.Jobs.{AreOpenJobs}
 use Rattle.pesp_outside.specs.Grafts.{IsGrafted}
 use Rattle.pesp_outside.specs.Texts.{jobs_text, reply_line}
-use Rattle.pesp_worker.specs.HandingIn.{IsWorkOn, HasNoJob}
+use Rattle.pesp_worker.specs.HandingIn.{AreWorksOn, AreWorkRefusal}
 use Rattle.pesp_worker.specs.declared.refusal.WorkRefusal.{WorkRefusal}
 use Rattle.pesp_worker.specs.declared.refusal.WorkRefusal.TheVariants.{Memory as WorkMemory, NoSuchJob}
 use Rattle.pesp_check_run.specs.Devices.{Device, HasFailed, GetsFront}
@@ -67,27 +66,27 @@ SplitCause fault reader base_reader writer period uncalled =
 
 -- ---- work
 
--- the writer got what the relation says of the text of a work for an open leaf of the base
-pub record WritesWork (p : Pesp) (base : Content) (job steps : ℕ) (Gets : List ℕ → Type 0) : Type 0 where
-  pub work : WorkValue
-  pub is_work : IsWorkOn p base job steps work
-  pub written : Gets (works_values.spelling work)
+-- the writer got what the relation says of the texts of works for these open leaves of the base, one behind the other
+pub record WritesWorks (p : Pesp) (base : Content) (jobs : List ℕ) (steps : ℕ) (until : Option ℕ) (Gets : List ℕ → Type 0) : Type 0 where
+  pub works : List WorkValue
+  pub are_works : AreWorksOn p base jobs steps until works
+  pub written : Gets (spellings works)
 
--- why there is no work for a job
-abbrev pub JobCause : Fault → Pesp → Content → ℕ → Type 0
-JobCause NoJob p base job = HasNoJob p base job
-JobCause Memory p base job = Unit {0}
-JobCause fault p base job = ⊥
+-- why there is no work for one of the jobs
+abbrev pub JobCause : Fault → Pesp → Content → List ℕ → Type 0
+JobCause NoJob p base jobs = AreWorkRefusal p base jobs NoSuchJob
+JobCause Memory p base jobs = Unit {0}
+JobCause fault p base jobs = ⊥
 
 -- each fault of `work` and its cause
-abbrev pub WorkCause : Fault → Device → Device → Device → ℕ → ℕ → ℕ → Type 0 → Type 0
-WorkCause fault reader base_reader writer period job steps uncalled =
+abbrev pub WorkCause : Fault → Device → Device → Device → ℕ → List ℕ → ℕ → Option ℕ → Type 0 → Type 0
+WorkCause fault reader base_reader writer period jobs steps until uncalled =
     (InstanceCause fault reader period × uncalled)
     ⊎ ((p : Pesp) × ReadsInstance reader.old reader.new period p
     × (BaseCause fault base_reader p
     ⊎ ((base : Content) × ReadsBase base_reader.old base_reader.new p base
-    × (JobCause fault p base job
-    ⊎ OutCause fault (HasFailed writer × WritesWork p base job steps (GetsFront writer))))))
+    × (JobCause fault p base jobs
+    ⊎ OutCause fault (HasFailed writer × WritesWorks p base jobs steps until (GetsFront writer))))))
 
 -- ---- graft
 

@@ -1,5 +1,5 @@
-//! The runs for work from outside, over any readers and writers: the open leaves of a certificate as jobs, a work for one of
-//! them, and works grafted onto the certificate.
+//! The runs for work from outside, over any readers and writers: the open leaves of a certificate as jobs, works for some
+//! of them, and works grafted onto the certificate.
 #![tactic(auto)]
 
 mod runs;

@@ -2,21 +2,22 @@
 
 ghost use Rattle.std.specs.Prelude.{◌≡◌, ◌≢◌, ◌⊎◌, ◌<◌, ◌≤◌, ◌^◌, OnOk, IfOk, IfErr};
 ghost use Rattle.std.specs.Io.KnownBytes.{Appends};
+ghost use Rattle.std.specs.List.Sorted.{IsStrictlyIncreasing};
 ghost use Rattle.pesp_stream.specs.Counts.{FewerThan, HasWorked};
 ghost use Rattle.pesp_truth.specs.Certificates.{IsValid};
-ghost use Rattle.pesp_worker.specs.HandingIn.{IsWorkOn};
+ghost use Rattle.pesp_worker.specs.HandingIn.{AreWorksOn};
 ghost use Rattle.pesp_check_run.specs.Devices.{over, HasFailed, GetsFront};
 ghost use Rattle.pesp_faults.specs.Reading.{HasBase};
 ghost use Rattle.pesp_faults.specs.Causes.{OutCause};
-ghost use Rattle.pesp_outside_run.specs.Outside.{works_fault, work_fault, ReadsWorks, WorksCause, JobCause, WritesJobs, SplitCause, WritesWork, WorkCause, WritesGraft, Grafts, GraftCause};
+ghost use Rattle.pesp_outside_run.specs.Outside.{works_fault, work_fault, ReadsWorks, WorksCause, JobCause, WritesJobs, SplitCause, WritesWorks, WorkCause, WritesGraft, Grafts, GraftCause};
 
 use pesp_cert::{CertRefusal, Certificate, print};
 use pesp_faults::{Fault, MOST_TEXT, read_base, read_whole_instance};
 use pesp_outside::{JobsText, RepliesText, graft, open_jobs};
 use pesp_problem::Instance;
 use pesp_stream::{Sink, Source, print_to, read_all};
-use pesp_worker::{WorkRefusal, work};
-use pesp_works::{WorkText, parse_works, print_work};
+use pesp_worker::{WorkRefusal, work_on_all};
+use pesp_works::{WorkText, parse_works};
 use std::alloc::Global;
 
 /// Why there are no works.
@@ -119,58 +120,63 @@ fn work_fault(refusal: WorkRefusal) -> Fault
     }
 }
 
-/// A work on an open leaf of a valid certificate, by at most so many splits.
+/// Works on open leaves of a valid certificate, by at most so many splits of leaves below the bound, where one is named.
 #[tactic(auto, using(crate::proofs::Causes::job_cause))]
-fn found_work(
+fn found_works(
     alloc: Global,
     instance: &Instance,
     base: &Certificate,
     steps: u32,
-    job: u64,
-) -> Result<WorkText, Fault>
+    until: Option<u64>,
+    jobs: &[u64],
+) -> Result<Vec<WorkText>, Fault>
     requires steps { steps ≤ 100000 }
+    requires rise { IsStrictlyIncreasing jobs.now }
     requires valid { IsValid instance.now base.now }
-    ensures work { IfOk result (λ work. IsWorkOn instance.now base.now job steps work) }
-    ensures cause { IfErr result (λ fault. JobCause fault instance.now base.now job) }
+    ensures works { IfOk result
+        (λ works. AreWorksOn instance.now base.now jobs.now steps until works.items) }
+    ensures cause { IfErr result (λ fault. JobCause fault instance.now base.now jobs.now) }
 {
-    match work(alloc, instance, base, job, steps) {
+    match work_on_all(alloc, instance, base, jobs, steps, until) {
         Ok(found) => Ok(found),
         Err(refusal) => Err(work_fault(refusal)),
     }
 }
 
-/// Writes a work on an open leaf of a valid certificate, by at most so many splits.
-fn write_work<W: Sink>(
+/// Writes works on open leaves of a valid certificate, one behind the other.
+fn write_works<W: Sink>(
     alloc: Global,
     instance: &Instance,
     base: &Certificate,
     writer: &mut W,
     steps: u32,
-    job: u64,
+    until: Option<u64>,
+    jobs: &[u64],
 ) -> Result<(), Fault>
     requires steps { steps ≤ 100000 }
+    requires rise { IsStrictlyIncreasing jobs.now }
     requires valid { IsValid instance.now base.now }
     requires fits { FewerThan (2 ^ 63) (W.calls writer.old) }
-    ensures ok { OnOk result (WritesWork instance.now base.now job steps
+    ensures ok { OnOk result (WritesWorks instance.now base.now jobs.now steps until
         (Appends (W.contents writer.old) (W.contents writer.new))) }
     ensures counts { OnOk result (HasWorked (W.calls writer.old) (W.calls writer.new)) }
-    ensures cause { IfErr result (λ fault. JobCause fault instance.now base.now job
+    ensures cause { IfErr result (λ fault. JobCause fault instance.now base.now jobs.now
         ⊎ OutCause fault
         (HasFailed (over (W.contents writer.old) (W.contents writer.new)
         (W.calls writer.old) (W.calls writer.new))
-        × WritesWork instance.now base.now job steps (GetsFront
+        × WritesWorks instance.now base.now jobs.now steps until (GetsFront
         (over (W.contents writer.old) (W.contents writer.new)
         (W.calls writer.old) (W.calls writer.new))))) }
     ensures silent { IfErr result (λ fault. fault ≢ Fault.Write → writer.new ≡ writer.old) }
 {
-    let found = found_work(alloc, instance, base, steps, job)?;
-    print_work(&found, writer)?;
+    let found = found_works(alloc, instance, base, steps, until, jobs)?;
+    print_to(writer, &found.as_slice())?;
     Ok(())
 }
 
-/// Reads an instance and then a certificate that is valid for it, works on its open leaf of this number, by at most so many
-/// splits, and writes the work; nothing is written before the whole work stands. `NoJob` where no more leaves than the number
-/// are open.
+/// Reads an instance and then a certificate that is valid for it, works on its open leaves of these numbers, by at most so many
+/// splits in all of leaves below the bound, where one is named, and writes a work for each, one behind the other; nothing is
+/// written before all stand. `NoJob` where no more leaves than one of the numbers are open.
 pub fn run_work<R: Source, B: Source, W: Sink>(
     alloc: Global,
     instance_reader: &mut R,
@@ -178,16 +184,18 @@ pub fn run_work<R: Source, B: Source, W: Sink>(
     writer: &mut W,
     period: u32,
     steps: u32,
-    job: u64,
+    until: Option<u64>,
+    jobs: &[u64],
 ) -> Result<(), Fault>
     requires steps { steps ≤ 100000 }
+    requires rise { IsStrictlyIncreasing jobs.now }
     requires reads_fit { FewerThan (2 ^ 62) (R.calls instance_reader.old) }
     requires base_reads_fit { FewerThan (2 ^ 62) (B.calls base_reader.old) }
     requires writes_fit { FewerThan (2 ^ 62) (W.calls writer.old) }
     ensures ok { OnOk result
         (HasBase (R.remaining instance_reader.old) (R.remaining instance_reader.new)
         (B.remaining base_reader.old) (B.remaining base_reader.new) period
-        (λ p base. WritesWork p base job steps
+        (λ p base. WritesWorks p base jobs.now steps until
         (Appends (W.contents writer.old) (W.contents writer.new)))) }
     ensures reads { OnOk result
         (HasWorked (R.calls instance_reader.old) (R.calls instance_reader.new)) }
@@ -201,12 +209,12 @@ pub fn run_work<R: Source, B: Source, W: Sink>(
         (B.calls base_reader.old) (B.calls base_reader.new))
         (over (W.contents writer.old) (W.contents writer.new)
         (W.calls writer.old) (W.calls writer.new))
-        period job steps (base_reader.new ≡ base_reader.old)) }
+        period jobs.now steps until (base_reader.new ≡ base_reader.old)) }
     ensures silent { IfErr result (λ fault. fault ≢ Fault.Write → writer.new ≡ writer.old) }
 {
     let instance = read_whole_instance(alloc, instance_reader, period)?;
     let base = read_base(alloc, &instance, base_reader)?;
-    write_work(alloc, &instance, &base, writer, steps, job)
+    write_works(alloc, &instance, &base, writer, steps, until, jobs)
 }
 
 /// Grafts works onto a valid certificate, writes the certificate that comes of it, and then tells what became of each work.

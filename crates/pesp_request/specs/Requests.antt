@@ -1,13 +1,14 @@
 -- What holds of what a command line asks for.
 use Rattle.std.specs.Prelude.{ℕ, ◌≤◌}
+use Rattle.std.specs.List.Sorted.{IsStrictlyIncreasing}
 use Rattle.pesp_request.specs.declared.request.OfInstance.{OfInstance}
 use Rattle.pesp_request.specs.declared.request.OfInstance.TheVariants.{Solve, SolveSharp, Conflict}
 use Rattle.pesp_request.specs.declared.request.OfCertificate.{OfCertificate}
-use Rattle.pesp_request.specs.declared.request.OfCertificate.TheVariants.{Check, CheckSharp, Gap, Resume, ResumeSharp, Split, Work}
+use Rattle.pesp_request.specs.declared.request.OfCertificate.TheVariants.{Check, CheckSharp, Gap, Resume, ResumeSharp, Split}
 use Rattle.pesp_request.specs.declared.request.OfTimes.{OfTimes}
 use Rattle.pesp_request.specs.declared.request.OfTimes.TheVariants.{Report, Violations, Picture, Diagrams}
 use Rattle.pesp_request.specs.declared.request.Request.{Request}
-use Rattle.pesp_request.specs.declared.request.Request.TheVariants.{Instance, Certificate, Times, Works}
+use Rattle.pesp_request.specs.declared.request.Request.TheVariants.{Instance, Certificate, Work, Times, Works}
 
 abbrev pub IsPeriod : ℕ → Type 0
 IsPeriod period = (1 ≤ period) × (period ≤ 10000)
@@ -25,7 +26,6 @@ CertificateWithin Gap = Unit {0}
 CertificateWithin (Resume steps seconds progress) = steps ≤ 100000
 CertificateWithin (ResumeSharp steps seconds progress) = steps ≤ 100000
 CertificateWithin Split = Unit {0}
-CertificateWithin (Work steps job) = steps ≤ 100000
 
 abbrev pub TimesWithin : OfTimes → Type 0
 TimesWithin (Report names) = Unit {0}
@@ -36,5 +36,6 @@ TimesWithin (Diagrams names) = Unit {0}
 abbrev pub IsWithinLimits : Request → Type 0
 IsWithinLimits (Instance period file asked) = IsPeriod period × InstanceWithin asked
 IsWithinLimits (Certificate period file asked) = IsPeriod period × CertificateWithin asked
+IsWithinLimits (Work period file steps until jobs) = IsPeriod period × (steps ≤ 100000) × IsStrictlyIncreasing jobs.items
 IsWithinLimits (Times period file asked) = IsPeriod period × TimesWithin asked
 IsWithinLimits (Works period file base) = IsPeriod period

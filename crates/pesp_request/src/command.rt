@@ -1,20 +1,26 @@
 //! The command line.
 
-ghost use Rattle.std.specs.Prelude.{◌≤◌, IfOk};
+ghost use Rattle.std.specs.Prelude.{◌≤◌, IfOk, IfSome};
 ghost use Rattle.pesp_request.specs.Requests.{InstanceWithin, CertificateWithin, TimesWithin, IsWithinLimits};
 
+use crate::jobs::jobs_of;
 use crate::options::{
-    base_argument, file_argument, from_option, job_argument, names_argument, names_option,
+    base_argument, file_argument, from_option, jobs_argument, names_argument, names_option,
     optional_file, period_option, progress_option, rows_option, seconds_option, sharp_option,
-    sharpen_option, solve_steps_option, steps_option, violations_option,
+    sharpen_option, solve_steps_option, steps_option, until_option, violations_option,
 };
 use crate::request::{OfCertificate, OfInstance, OfTimes, Request};
+use clap::error::ErrorKind;
 use clap::{ArgMatches, Command, Error};
 use std::alloc::{AllocError, Global};
 
 /// The program's version, and the versions of certificates that it writes and reads.
 const VERSION: &str =
     "0.1.0\ncertificates: versions 1 and 2; solve --sharp and resume --sharp write version 3 too, which check --sharp and resume --sharp read";
+
+/// What is said of a word that names no open leaf.
+const NO_JOB: &str =
+    "invalid value for '<JOB>...': neither a number from 0 to 999999 nor a range of them, as 3-17";
 
 const INSTANCES: &str = "\
 An instance is one activity a line, with six fields between ';', tabs or ',':
@@ -51,8 +57,8 @@ const OUTSIDE: &str = "\
 A whole round, for an instance in trains.csv with the period 60:
   pesp solve --steps 100 trains.csv > base
   pesp split trains.csv < base > jobs
-  pesp work trains.csv 0 < base > work.0
-  (and so on for each job, each on a machine of its own, and by any solver)
+  pesp work trains.csv 0-9 < base > work.0
+  (and so on for the other jobs, each on a machine of its own, and by any solver)
   cat work.* | pesp graft trains.csv base > better
   pesp check trains.csv < better
 Nobody has to trust the solvers: what isn't valid is refused, and changes nothing.
@@ -126,11 +132,12 @@ fn work_command<'a>(alloc: Global) -> Result<Command<'a>, AllocError> {
     outside_command(
         alloc,
         "work",
-        "pesp work [OPTIONS] <FILE> <JOB> < CERTIFICATE",
-        "Reads a certificate from standard input, works on its open leaf JOB and writes a work for it",
+        "pesp work [OPTIONS] <FILE> <JOB>... < CERTIFICATE",
+        "Reads a certificate from standard input, works on its open leaves JOB.. and writes a work for each",
     )?
     .arg(steps_option(alloc))?
-    .arg(job_argument(alloc))
+    .arg(until_option(alloc))?
+    .arg(jobs_argument(alloc))
 }
 
 fn graft_command<'a>(alloc: Global) -> Result<Command<'a>, AllocError> {
@@ -362,16 +369,6 @@ fn resume_of(matches: &ArgMatches<'_>) -> OfCertificate
     }
 }
 
-/// What the words behind `work` ask for.
-fn work_of(matches: &ArgMatches<'_>) -> OfCertificate
-    ensures { CertificateWithin result }
-{
-    OfCertificate::Work {
-        steps: steps_of(matches),
-        job: matches.get_one::<u64>("job").unwrap_or(0),
-    }
-}
-
 /// What the words behind `report` ask for.
 fn report_of<'a>(matches: &ArgMatches<'a>) -> OfTimes<'a>
     ensures { TimesWithin result }
@@ -437,7 +434,6 @@ fn request_in<'a>(matches: &ArgMatches<'a>) -> Request<'a>
         Some(("gap", found)) => certificate_of(found, OfCertificate::Gap),
         Some(("resume", found)) => certificate_of(found, resume_of(found)),
         Some(("split", found)) => certificate_of(found, OfCertificate::Split),
-        Some(("work", found)) => certificate_of(found, work_of(found)),
         Some(("report", found)) => times_of(found, report_of(found)),
         Some(("draw", found)) => times_of(found, picture_of(found)),
         Some(("diagram", found)) => times_of(found, diagrams_of(found)),
@@ -454,10 +450,36 @@ fn request_in<'a>(matches: &ArgMatches<'a>) -> Request<'a>
     }
 }
 
+/// What the words behind `work` ask for; None where one of them names no job.
+fn work_of<'a>(alloc: Global, matches: &ArgMatches<'a>) -> Result<Option<Request<'a>>, AllocError>
+    ensures { IfOk result (λ asked. IfSome asked IsWithinLimits) }
+{
+    let Some(words) = matches.get_strs("job") else {
+        return Ok(None);
+    };
+    let Some(jobs) = jobs_of(alloc, words)? else {
+        return Ok(None);
+    };
+    Ok(Some(Request::Work {
+        period: period_of(matches),
+        file: file_of(matches),
+        steps: steps_of(matches),
+        until: matches.get_one::<u64>("until"),
+        jobs,
+    }))
+}
+
 /// What the words ask for, the program's name first; or clap's error, with the text that it prints.
 pub fn request_of<'a>(alloc: Global, words: &'a [String]) -> Result<Request<'a>, Error>
     ensures { IfOk result IsWithinLimits }
 {
-    let matches = pesp(alloc)?.try_get_matches_from(words)?;
-    Ok(request_in(&matches))
+    let mut command = pesp(alloc)?;
+    let matches = command.try_get_matches_from_mut(words)?;
+    let Some(("work", found)) = matches.subcommand() else {
+        return Ok(request_in(&matches));
+    };
+    match work_of(alloc, found)? {
+        Some(request) => Ok(request),
+        None => Err(command.error(ErrorKind::ValueValidation, NO_JOB)?),
+    }
 }

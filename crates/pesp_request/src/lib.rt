@@ -2,6 +2,7 @@
 #![tactic(auto)]
 
 mod command;
+mod jobs;
 mod options;
 mod request;
 

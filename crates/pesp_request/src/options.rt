@@ -126,12 +126,22 @@ pub(crate) fn base_argument<'a>(alloc: Global) -> Arg<'a> {
         .help("The file with the certificate onto which works are grafted")
 }
 
-pub(crate) fn job_argument<'a>(alloc: Global) -> Arg<'a> {
+pub(crate) fn until_option<'a>(alloc: Global) -> Arg<'a> {
+    Arg::new(alloc, "until")
+        .long("until")
+        .value_name("BOUND")
+        .value_parser(value_parser!(u64).range(0..=999999999999999999))
+        .help("Splits no leaf that is worth as much, 0 to 999999999999999999")
+}
+
+pub(crate) fn jobs_argument<'a>(alloc: Global) -> Arg<'a> {
     Arg::new(alloc, "job")
         .value_name("JOB")
         .required(true)
-        .value_parser(value_parser!(u64).range(0..=999999))
-        .help("The number of the open leaf, as split tells it, 0 to 999999")
+        .num_args(1..)
+        .help(
+            "The number of an open leaf, as split tells it, 0 to 999999, or a range of them, as 3-17",
+        )
 }
 
 pub(crate) fn optional_file<'a>(alloc: Global) -> Arg<'a> {

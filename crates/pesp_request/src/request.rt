@@ -1,7 +1,7 @@
 //! What a command line asks for.
 
 /// What the words of a command line ask for. Periods are in the unit of the instance's durations.
-#[derive(Clone, Copy, Debug, Drop)]
+#[derive(Debug, Drop)]
 pub enum Request<'a> {
     /// What is asked of an instance alone; it is on standard input where no file is named.
     Instance {
@@ -14,6 +14,16 @@ pub enum Request<'a> {
         period: u32,
         file: &'a str,
         asked: OfCertificate,
+    },
+    /// Work of at most so many steps on open leaves of the certificate on standard input, and the file with its instance.
+    Work {
+        period: u32,
+        file: &'a str,
+        steps: u32,
+        /// From which value on no leaf is split, where one is named.
+        until: Option<u64>,
+        /// The numbers of the leaves, which rise.
+        jobs: Vec<u64>,
     },
     /// What is asked of the times on standard input, and the file with their instance.
     Times {
@@ -79,11 +89,6 @@ pub enum OfCertificate {
     },
     /// Its open leaves, as jobs.
     Split,
-    /// Work of at most so many steps on the open leaf of this number.
-    Work {
-        steps: u32,
-        job: u64,
-    },
 }
 
 /// What is asked of times. Names are those of a file.

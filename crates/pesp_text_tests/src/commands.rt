@@ -101,8 +101,32 @@ fn tell_picture(
     Some(told)
 }
 
-fn tell_work(alloc: Global, period: u32, steps: u32, file: &str, job: u64) -> Option<String> {
-    format!(in alloc; "work on job {job} of {file} at period {period} in {steps} steps").ok()
+/// The numbers of jobs, each behind a space.
+fn tell_jobs(alloc: Global, jobs: &[u64]) -> Option<String> {
+    let mut told = String::new(alloc);
+    for job in jobs {
+        write!(told, " {job}").ok()?;
+    }
+    Some(told)
+}
+
+/// Work that is asked for.
+fn tell_work(
+    alloc: Global,
+    period: u32,
+    steps: u32,
+    until: Option<u64>,
+    file: &str,
+    jobs: &[u64],
+) -> Option<String> {
+    let jobs = tell_jobs(alloc, jobs)?;
+    let mut told = format!(in alloc;
+        "work on job{jobs} of {file} at period {period} in {steps} steps"
+    ).ok()?;
+    if let Some(bound) = until {
+        write!(told, " below {bound}").ok()?;
+    }
+    Some(told)
 }
 
 fn tell_graft(alloc: Global, period: u32, file: &str, base: &str) -> Option<String> {
@@ -161,7 +185,6 @@ fn tell_of_certificate(
             Some(told)
         }
         OfCertificate::Split => tell_file(alloc, "split", period, file),
-        OfCertificate::Work { steps, job } => tell_work(alloc, period, steps, file, job),
     }
 }
 
@@ -189,6 +212,13 @@ fn tell_request(alloc: Global, request: Request<'_>) -> Option<String> {
             file,
             asked,
         } => tell_of_certificate(alloc, period, file, asked),
+        Request::Work {
+            period,
+            file,
+            steps,
+            until,
+            jobs,
+        } => tell_work(alloc, period, steps, until, file, &jobs),
         Request::Times {
             period,
             file,

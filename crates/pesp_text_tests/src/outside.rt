@@ -84,6 +84,7 @@ fn worked(alloc: Global, given: &Given, steps: u32, job: u64) -> (Result<(), Fau
     let mut first = feed_of(&given.instance, given.first);
     let mut second = feed_of(&given.input, given.second);
     let mut writer = drain_of(alloc, given.output);
+    let jobs = [job];
     let answer = run_work(
         alloc,
         &mut first,
@@ -91,7 +92,8 @@ fn worked(alloc: Global, given: &Given, steps: u32, job: u64) -> (Result<(), Fau
         &mut writer,
         given.period,
         steps.min(100_000),
-        job,
+        None,
+        &jobs,
     );
     (answer, writer.into_inner().taken)
 }

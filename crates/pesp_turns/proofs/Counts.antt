@@ -24,11 +24,11 @@ use Rattle.pesp_turns.specs.declared.ending.Ending.TheVariants.{StepsUsed, NoneO
 use Rattle.pesp_turns.specs.declared.turning.Turn.{Turn}
 use Rattle.pesp_turns.specs.declared.turning.Turn.TheVariants.{Split, Closed, GivenUp, Over}
 use Rattle.pesp_turns.specs.Settling.{IsSearched, Settles}
-use Rattle.pesp_turns.specs.Turning.{IsSplit, IsClosed, IsSettling, IsSettledTurn, IsTooLarge, IsTurn}
+use Rattle.pesp_turns.specs.Turning.{IsSplit, IsClosed, IsSettling, IsSettledTurn, IsTooLarge, IsTurn, splits_in}
 use Rattle.pesp_turns.specs.Growing.{Grows}
 use Rattle.pesp_turns.specs.Counting.{IsWorkedFrom, AreTurns}
 use Rattle.pesp_turns.proofs.Closings.{settled_turn, never_in_vain}
-use Rattle.pesp_turns.proofs.Growth.{splits_in, none_grows, then_grows, turn_grows}
+use Rattle.pesp_turns.proofs.Growth.{none_grows, then_grows, turn_grows}
 
 some_period : (p : ProblemValue) → KeepsNetLimits p.network → 0 < p.network.period
 some_period p limits = let some = limits.some_period in omega (arith, some)

@@ -18,7 +18,7 @@ use Rattle.pesp_turns.specs.declared.ending.Ending.{Ending}
 use Rattle.pesp_turns.specs.declared.ending.Ending.TheVariants.{StepsUsed, NoneOpen, NumbersSpent, TreeTooLarge, TurnsUsed}
 use Rattle.pesp_turns.specs.declared.turning.Turn.{Turn}
 use Rattle.pesp_turns.specs.declared.turning.Turn.TheVariants.{Split, Closed, GivenUp, Over}
-use Rattle.pesp_turns.specs.Turning.{IsSplit, IsSettling, IsSettledTurn, OffersAndRecalls, IsOver, IsTurn}
+use Rattle.pesp_turns.specs.Turning.{IsSplit, IsSettling, IsSettledTurn, OffersAndRecalls, IsOver, IsTurn, splits_in}
 use Rattle.pesp_turns.specs.Growing.{Grows}
 
 -- ---- runs
@@ -68,13 +68,6 @@ settling_grows : (p : ProblemValue) (r : ReducedValue) (node : Node) (old new : 
 settling_grows p r node old new number s = then_grows p 0 0 old s.offered new (offer_grows p old s.offered s.offers.times s.offers.kept s.offers.offers) (recall_grows p s.offered new number s.back s.recalls)
 
 -- ---- turns
-
--- how many leaves a turn splits
-abbrev pub splits_in : Turn → ℕ
-splits_in Split = 1
-splits_in Closed = 0
-splits_in GivenUp = 0
-splits_in (Over ending) = 0
 
 split_grows : (p : ProblemValue) (old new : State) → IsSplit p old new → Grows p 1 old new
 split_grows p old new s =

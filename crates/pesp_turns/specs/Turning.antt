@@ -112,3 +112,10 @@ IsTurn p r old Split new = IsSplit p old new
 IsTurn p r old Closed new = IsClosed p old new ⊎ IsSettledTurn p r old true new
 IsTurn p r old GivenUp new = IsSettledTurn p r old false new
 IsTurn p r old (Over ending) new = IsOver p old ending new
+
+-- how many leaves a turn splits
+abbrev pub splits_in : Turn → ℕ
+splits_in Split = 1
+splits_in Closed = 0
+splits_in GivenUp = 0
+splits_in (Over ending) = 0

@@ -5,15 +5,17 @@ ghost use Rattle.pesp_turns.specs.Knowing.{IsKnown};
 ghost use Rattle.pesp_search_laws.specs.Turns.{IsWorked};
 ghost use Rattle.pesp_turns.specs.Settling.{IsSearched};
 ghost use Rattle.pesp_turns.specs.Growing.{Grows};
+ghost use Rattle.pesp_turns.specs.Turning.{splits_in};
 ghost use Rattle.pesp_turns.specs.Counting.{AreTurns};
 ghost use Rattle.pesp_turns.specs.Endings.{AreLentSettled, EndsAs};
 
-use crate::ending::Ended;
+use crate::ending::{Ended, Ending};
 use crate::known::{Known, known_of};
 use crate::observer::Observer;
 use crate::replanting::replanted;
 use crate::running::run_turns;
 use crate::steering::proposer_for;
+use crate::turning::{Turn, take_turn};
 use pesp_board::Board;
 use pesp_branching::Proposer;
 use pesp_problem::{Instance, Memory};
@@ -40,6 +42,23 @@ fn known_and_proposer(
     let known = known_of(alloc, board.problem(), reduced)?;
     let proposer = proposer_for(alloc, &known, board)?;
     Ok((known, proposer))
+}
+
+/// How many leaves a turn split, and why no other is taken with it.
+fn ended_by(turn: Turn) -> Ended
+    ensures { result.used ≡ splits_in turn }
+{
+    match turn {
+        Turn::Split => Ended {
+            used: 1,
+            ending: Ending::StepsUsed,
+        },
+        Turn::Closed | Turn::GivenUp => Ended {
+            used: 0,
+            ending: Ending::TurnsUsed,
+        },
+        Turn::Over(ending) => Ended { used: 0, ending },
+    }
 }
 
 impl Search {
@@ -92,6 +111,28 @@ impl Search {
             used,
         } = self;
         let ended = run_turns(alloc, board, known, proposer, *used, steps, observer)?;
+        *used = used.saturating_add(ended.used);
+        Ok(ended)
+    }
+
+    /// Takes one turn on an open leaf of least value: `StepsUsed` where it was split, `TurnsUsed` where it was closed or laid aside.
+    ///
+    /// Refused where a growth is refused.
+    pub fn take_turn(&mut self, alloc: Global) -> Result<Ended, Memory>
+        requires { IsKnown self.old.board.problem self.old.known }
+        ensures problem { self.new.board.problem ≡ self.old.board.problem }
+        ensures known { self.new.known ≡ self.old.known }
+        ensures grows { IfOk result (λ ended. Grows self.old.board.problem ended.used
+            self.old.board.state self.new.board.state) }
+    {
+        let Search {
+            board,
+            known,
+            proposer,
+            used,
+        } = self;
+        let turn = take_turn(alloc, board, known, proposer, used.saturating_add(1))?;
+        let ended = ended_by(turn);
         *used = used.saturating_add(ended.used);
         Ok(ended)
     }

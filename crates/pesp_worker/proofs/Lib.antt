@@ -2,5 +2,9 @@ pub mod Numbers
 pub mod Fitting
 pub mod Holds
 pub mod Counting
+pub mod Zips
+pub mod Rising
+pub mod Staying
+pub mod Works
 pub mod Judgments
 pub mod Taken

@@ -1,6 +1,6 @@
 -- Work on an open leaf of a certificate, as it is handed in.
-use Rattle.std.specs.Prelude.{◌≡◌, ◌⊎◌, ⊤, ℕ, ℤ, ◌≤◌, List, [], length, map, Option, true}
-use Rattle.std.specs.List.{list_all}
+use Rattle.std.specs.Prelude.{◌≡◌, ◌⊎◌, ⊤, ℕ, ℤ, ◌≤◌, List, [], length, map, sum_by, Contains, Option, Some, true}
+use Rattle.std.specs.List.{list_all, AllZip}
 use Rattle.std.specs.Global.{Vec}
 use Rattle.pesp_problem.specs.declared.pair.Pair.{Pair}
 use Rattle.pesp_problem.specs.declared.cut.Cut.{Cut}
@@ -12,7 +12,7 @@ use Rattle.pesp_nodes.specs.Problems.{ProblemValue}
 use Rattle.pesp_cert.specs.Limits.{is_time}
 use Rattle.pesp_machine.specs.declared.job.Job.{Job}
 use Rattle.pesp_machine.specs.declared.work.Work.TheVariants.{Tree}
-use Rattle.pesp_machine.specs.States.{State, HasLeaf, node_at}
+use Rattle.pesp_machine.specs.States.{State, HasLeaf, IsJobLeaf, node_at}
 use Rattle.pesp_machine.specs.Events.{IsValidAt, IsCheaper}
 use Rattle.pesp_search_laws.specs.Rooms.{branch_lines}
 use Rattle.pesp_works.specs.Works.{WorkValue, HasText}
@@ -55,6 +55,27 @@ pub record IsWorkOn (instance : Pesp) (base : Content) (job steps : ℕ) (work :
   pub times : AreTimesFor instance (cost_of base.answer) work.times
   pub text : HasText work
 
+-- how many branches the tree of a work has
+abbrev pub branches_of : WorkValue → ℕ
+branches_of work = branch_lines (map line_of work.tree)
+
+-- where a bound is named and the leaf of a number is worth at least so much, the tree for it has no branch
+abbrev pub IsWholeFrom : ProblemValue → State → Option ℕ → ℕ → ℕ → Type 0
+IsWholeFrom p state until number branches = (bound value : ℕ) (pairs : List Pair) → until ≡ Some bound → IsJobLeaf p state number value pairs → bound ≤ value → branches ≡ 0
+
+-- where a bound is named, a work splits no open leaf of a base that is worth at least so much
+pub record IsSplitBelow (instance : Pesp) (base : Content) (job : ℕ) (until : Option ℕ) (work : WorkValue) : Type 0 where
+  pub problem : ProblemValue
+  pub jobs : List Job
+  pub lent : State
+  pub begins : IsLentFrom instance base problem jobs lent
+  pub whole : IsWholeFrom problem lent until job (branches_of work)
+
+-- works for open leaves of a base: one for each of these jobs, in their order, that splits no leaf worth as much as the bound, where one is named; and at most so many branches in all
+pub record AreWorksOn (instance : Pesp) (base : Content) (jobs : List ℕ) (steps : ℕ) (until : Option ℕ) (works : List WorkValue) : Type 0 where
+  pub each : AllZip (λ job work. IsWorkOn instance base job steps work × IsSplitBelow instance base job until work) jobs works
+  pub few : sum_by branches_of works ≤ steps
+
 -- the base has no more open leaves than so many
 pub record HasNoJob (instance : Pesp) (base : Content) (job : ℕ) : Type 0 where
   pub problem : ProblemValue
@@ -67,6 +88,11 @@ pub record HasNoJob (instance : Pesp) (base : Content) (job : ℕ) : Type 0 wher
 abbrev pub IsWorkRefusal : Pesp → Content → ℕ → WorkRefusal → Type 0
 IsWorkRefusal instance base job Memory = ⊤
 IsWorkRefusal instance base job NoSuchJob = HasNoJob instance base job
+
+-- the same of several jobs: one of them isn't there
+abbrev pub AreWorkRefusal : Pesp → Content → List ℕ → WorkRefusal → Type 0
+AreWorkRefusal instance base jobs Memory = ⊤
+AreWorkRefusal instance base jobs NoSuchJob = (job : ℕ) × Contains jobs job × HasNoJob instance base job
 
 -- ---- how it is made
 
@@ -82,3 +108,21 @@ without_times job tree = record { job = job; times = []; tree = tree }
 pub record Fits (p : ProblemValue) (state : State) (number : ℕ) (tree : List TreeLine) : Type 0 where
   pub stands : StandsFor p state number tree
   pub text : number ≤ 999999 → HasText (without_times number tree)
+
+-- what was found for a job: of this number, with no times or a timetable that costs less than so much, and as many as a text may have
+pub record IsFound (instance : Pesp) (known : Option ℕ) (job : ℕ) (work : WorkValue) : Type 0 where
+  pub number : work.job ≡ job
+  pub times : AreTimesFor instance known work.times
+  pub short : AreShort work.times
+
+-- what was found, with a tree that may stand in the place of its leaf
+pub record IsJudged (p : ProblemValue) (state : State) (until : Option ℕ) (found work : WorkValue) : Type 0 where
+  pub number : work.job ≡ found.job
+  pub times : work.times ≡ found.times
+  pub fits : Fits p state found.job work.tree
+  pub whole : IsWholeFrom p state until found.job (branches_of work)
+
+-- all that was found, with such trees that have at most so many branches in all
+pub record AreJudged (p : ProblemValue) (state : State) (steps : ℕ) (until : Option ℕ) (found works : List WorkValue) : Type 0 where
+  pub each : AllZip (IsJudged p state until) found works
+  pub few : sum_by branches_of works ≤ steps

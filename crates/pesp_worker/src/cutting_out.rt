@@ -1,4 +1,4 @@
-//! The part of a tree at the end of a path. What is cut out is judged by its caller.
+//! The parts of a tree at the ends of paths. What is cut out is judged by its caller.
 
 ghost use Rattle.std.specs.Prelude.{◌≡◌, ◌∷◌, []};
 ghost use Rattle.pesp_truth.specs.Certificates.{line_of};
@@ -19,49 +19,58 @@ pub(crate) fn branches_in(line: &TreeLine) -> u32
     }
 }
 
-/// The place behind the tree that begins at a place.
-fn end_of(lines: &[TreeLine], start: usize) -> usize {
-    let mut open = 1usize;
-    for place in start..lines.len() {
-        if branches_in(&lines[place]) > 0 {
-            open = open.saturating_add(1);
-        } else {
-            open = open.saturating_sub(1);
-        }
-        if open == 0 {
-            return place + 1;
-        }
+/// How many branches a tree has.
+pub(crate) fn count_branches(lines: &[TreeLine]) -> u32 {
+    let mut count = 0u32;
+    for line in lines {
+        count = count.saturating_add(branches_in(line));
     }
-    lines.len()
+    count
 }
 
-/// The place at which a side of the branch at a place begins.
-fn side_of(lines: &[TreeLine], place: usize, side: Side) -> usize {
-    let low = place.saturating_add(1);
-    match side {
-        Side::Low => low,
-        Side::High => end_of(lines, low),
+/// The place behind the tree that begins at a place.
+fn end_at(ends: &[usize], place: usize) -> usize {
+    ends.get(place).copied().unwrap_or(ends.len())
+}
+
+/// For each line of a tree the place behind the tree that begins there.
+pub(crate) fn ends_of(alloc: Global, lines: &[TreeLine]) -> Result<Vec<usize>, Memory> {
+    let mut ends = vec![in alloc; lines.len(); lines.len()]?;
+    for back in 1..=lines.len() {
+        let place = lines.len() - back;
+        let mut end = place + 1;
+        if branches_in(&lines[place]) > 0 {
+            end = end_at(&ends, end_at(&ends, end));
+        }
+        if let Some(slot) = ends.get_mut(place) {
+            *slot = end;
+        }
     }
+    Ok(ends)
 }
 
 /// The place of the line at the end of a path.
-fn place_of(lines: &[TreeLine], path: &[(Cut, Side)]) -> usize {
-    let mut place = 0;
+fn place_of(ends: &[usize], path: &[(Cut, Side)]) -> usize {
+    let mut place = 0usize;
     for step in path {
-        place = side_of(lines, place, step.1);
+        let low = place.saturating_add(1);
+        place = match step.1 {
+            Side::Low => low,
+            Side::High => end_at(ends, low),
+        };
     }
     place
 }
 
-/// The lines of the tree at the end of a path.
+/// The lines of the tree at the end of a path, where `ends` are those of all lines.
 pub(crate) fn cut_out(
     alloc: Global,
     lines: &[TreeLine],
+    ends: &[usize],
     path: &[(Cut, Side)],
 ) -> Result<Vec<TreeLine>, Memory> {
-    let start = place_of(lines, path);
-    let end = end_of(lines, start);
-    match lines.get(start..end) {
+    let start = place_of(ends, path);
+    match lines.get(start..end_at(ends, start)) {
         Some(part) => copy_lines(alloc, part),
         None => Ok(Vec::new(alloc)),
     }

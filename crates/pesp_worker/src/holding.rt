@@ -20,7 +20,7 @@ pub(crate) struct Held {
 }
 
 /// Lends a leaf, where one is open and a number is left.
-fn lend_next(alloc: Global, board: &mut Board) -> Result<Option<Job>, Memory>
+pub(crate) fn lend_next(alloc: Global, board: &mut Board) -> Result<Option<Job>, Memory>
     ensures problem { board.new.problem ≡ board.old.problem }
     ensures lends { IfOk result (λ next. IfSome next
         (λ job. LendsLeaf board.old.problem board.old.state job board.new.state)) }

@@ -1,40 +1,59 @@
-//! What was found for a job, judged by a board on which its leaf is lent.
+//! What was found for jobs, judged by a board on which their leaves are lent.
 
-ghost use Rattle.std.specs.Prelude.{◌≡◌, ◌≤◌, ◌<◌, ℕ, length, map, Some, IfOk, IfErr, IfSome, IsOk, IsTrue};
+ghost use Rattle.std.specs.Prelude.{◌≡◌, ◌≤◌, ◌+◌, ℕ, List, map, All, Some, IfOk, IfErr, IfSome, OnOk};
+ghost use Rattle.std.specs.List.{AllZip};
 ghost use Rattle.std.specs.Global.{Vec};
 ghost use Rattle.pesp_truth.specs.declared.tree.TreeLine.{TreeLine};
-ghost use Rattle.pesp_truth.specs.Certificates.{IsValid, line_of};
+ghost use Rattle.std.specs.List.Sorted.{IsStrictlyIncreasing};
+ghost use Rattle.pesp_truth.specs.Certificates.{IsValid, line_of, cost_of};
 ghost use Rattle.pesp_machine.specs.declared.work.Work.TheVariants.{Tree};
 ghost use Rattle.pesp_machine.specs.States.{IsLentNumber};
 ghost use Rattle.pesp_search_laws.specs.Rooms.{branch_lines};
-ghost use Rattle.pesp_works.specs.Works.{HasText};
-ghost use Rattle.pesp_worker.specs.declared.refusal.WorkRefusal.TheVariants.{NoSuchJob};
-ghost use Rattle.pesp_worker.specs.HandingIn.{Fits, IsTreeOn, IsWorkRefusal, without_times};
+ghost use Rattle.pesp_worker.specs.Holding.{KeepsOthers};
+ghost use Rattle.pesp_worker.specs.HandingIn.{Fits, IsFound, IsWholeFrom, IsJudged, AreJudged, branches_of, AreWorksOn, AreWorkRefusal};
 
 use crate::copying::{copy_pairs, one_line};
 use crate::cutting_out::branches_in;
 use crate::holding::is_taken;
 use crate::refusal::WorkRefusal;
+use crate::searching::{Range, add, are_there};
 use pesp_board::{Board, Work};
 use pesp_cert::Certificate;
-use pesp_outside::{Lent, lend_base};
+use pesp_outside::lend_base;
 use pesp_problem::{Instance, Memory};
 use pesp_truth::TreeLine;
+use pesp_works::WorkText;
 use std::alloc::Global;
 
-/// Whether lines have at most so many branches.
-fn has_few_branches(lines: &[TreeLine], most: u32) -> bool
-    ensures { IsTrue result → branch_lines (map line_of lines.now) ≤ most }
+/// A tree that may be handed in, and how many branches it has.
+#[derive(Drop)]
+struct JudgedTree {
+    tree: Vec<TreeLine>,
+    branches: u32,
+}
+
+/// A leaf alone, as a tree that may be handed in.
+fn alone(tree: Vec<TreeLine>) -> JudgedTree
+    ensures tree { result.tree ≡ tree }
+    ensures branches { result.branches ≡ 0 }
 {
-    let mut left = most;
+    JudgedTree { tree, branches: 0 }
+}
+
+/// How many branches lines have; None where they have more than so many.
+fn branches_among(lines: &[TreeLine], most: u32) -> Option<u32>
+    ensures { IfSome result
+        (λ count. (branch_lines (map line_of lines.now) ≡ count) × (count ≤ most)) }
+{
+    let mut count = 0;
     for line in lines {
         let own = branches_in(line);
-        if own > left {
-            return false;
+        if own > most - count {
+            return None;
         }
-        left -= own;
+        count += own;
     }
-    true
+    Some(count)
 }
 
 /// The leaf with which the number is lent, as a tree.
@@ -73,8 +92,10 @@ fn taken(
     number: u64,
     lines: Vec<TreeLine>,
 ) -> Result<Option<Vec<TreeLine>>, Memory>
-    ensures { IfOk result (λ found. IfSome found
+    ensures problem { board.new.problem ≡ board.old.problem }
+    ensures fits { IfOk result (λ found. IfSome found
         (λ tree. (tree ≡ lines) × Fits board.old.problem board.old.state number tree.items)) }
+    ensures others { OnOk result (KeepsOthers board.old.state number board.new.state) }
 {
     let _best = board.best();
     let _table = board.problem().table();
@@ -86,68 +107,114 @@ fn taken(
     Ok(lines_in(work))
 }
 
-/// The lines, where they have at most so many branches and may stand in the place of the leaf with which the number is
-/// lent; else that leaf alone.
+/// How many branches the tree for a number may have, where it may have at most so many: none where the leaf with which it is
+/// lent is worth as much as is named.
+fn room_for(board: &Board, number: u64, most: u32, until: Option<u64>) -> u32
+    ensures few { result ≤ most }
+    ensures whole { IsWholeFrom board.now.problem board.now.state until number result }
+{
+    let Some(bound) = until else {
+        return most;
+    };
+    let Some((value, _)) = board.job_leaf(number) else {
+        return 0;
+    };
+    if value < bound { most } else { 0 }
+}
+
+/// The lines, where they have at most so many branches and may stand in the place of the leaf with which the number is lent;
+/// else that leaf alone.
 fn judged_on(
     alloc: Global,
     board: &mut Board,
     number: u64,
-    steps: u32,
+    most: u32,
     found: Vec<TreeLine>,
-) -> Result<Vec<TreeLine>, Memory>
+) -> Result<JudgedTree, Memory>
     requires { IsLentNumber board.old.state number }
+    ensures problem { board.new.problem ≡ board.old.problem }
     ensures fits { IfOk result
-        (λ tree. Fits board.old.problem board.old.state number tree.items) }
-    ensures few { IfOk result (λ tree. branch_lines (map line_of tree.items) ≤ steps) }
+        (λ judged. Fits board.old.problem board.old.state number judged.tree.items) }
+    ensures branches { IfOk result
+        (λ judged. branch_lines (map line_of judged.tree.items) ≡ judged.branches) }
+    ensures few { IfOk result (λ judged. judged.branches ≤ most) }
+    ensures others { OnOk result (KeepsOthers board.old.state number board.new.state) }
 {
     let own = own_tree(alloc, board, number)?;
-    if !has_few_branches(&found, steps) {
-        return Ok(own);
-    }
+    let Some(branches) = branches_among(&found, most) else {
+        return Ok(alone(own));
+    };
     match taken(alloc, board, number, found)? {
-        Some(tree) => Ok(tree),
-        None => Ok(own),
+        Some(tree) => Ok(JudgedTree { tree, branches }),
+        None => Ok(alone(own)),
     }
 }
 
-/// The tree that was found, or the leaf alone, for a job of a base that is lent.
-fn judged_for(
+/// Judges the tree of a work that was found, where it may have at most so many branches; and how many may follow.
+fn judge_next(
     alloc: Global,
-    lent: &mut Lent,
-    job: u64,
-    steps: u32,
-    found: Vec<TreeLine>,
-) -> Result<Vec<TreeLine>, WorkRefusal>
-    requires { (n : ℕ) → n < length lent.old.jobs.items → IsLentNumber lent.old.board.state n }
-    ensures there { IsOk result → job < length lent.old.jobs.items }
-    ensures fits { IfOk result
-        (λ tree. Fits lent.old.board.problem lent.old.board.state job tree.items) }
-    ensures few { IfOk result (λ tree. branch_lines (map line_of tree.items) ≤ steps) }
-    ensures missing { IfErr result
-        (λ refusal. refusal ≡ NoSuchJob → length lent.old.jobs.items ≤ job) }
+    board: &mut Board,
+    found: WorkText,
+    left: u32,
+    until: Option<u64>,
+) -> Result<(WorkText, u32), Memory>
+    requires { IsLentNumber board.old.state found.job }
+    ensures problem { board.new.problem ≡ board.old.problem }
+    ensures judged { IfOk result
+        (λ made. IsJudged board.old.problem board.old.state until found made.0) }
+    ensures left { IfOk result (λ made. branches_of made.0 + made.1 ≡ left) }
+    ensures others { OnOk result (KeepsOthers board.old.state found.job board.new.state) }
 {
-    if job >= lent.jobs.len() as u64 {
-        return Err(WorkRefusal::NoSuchJob);
-    }
-    let tree = judged_on(alloc, &mut lent.board, job, steps, found)?;
-    Ok(tree)
+    let WorkText { job, times, tree } = found;
+    let most = room_for(board, job, left, until);
+    let JudgedTree { tree, branches } = judged_on(alloc, board, job, most, tree)?;
+    Ok((WorkText { job, times, tree }, left - branches))
 }
 
-/// The tree that was found for a job, where it has at most so many branches and may stand in the place of the job's leaf; else
-/// that leaf alone.
+/// Judges the trees of works that were found, whose jobs rise, where they may have at most so many branches in all.
+fn judge_each(
+    alloc: Global,
+    board: &mut Board,
+    found: Vec<WorkText>,
+    steps: u32,
+    until: Option<u64>,
+) -> Result<Vec<WorkText>, Memory>
+    requires rise { IsStrictlyIncreasing (map (λ work. work.job) found.items) }
+    requires lent { All (λ work. IsLentNumber board.old.state work.job) found.items }
+    ensures { IfOk result
+        (λ works. AreJudged board.old.problem board.old.state steps until found.items works.items) }
+{
+    let _best = board.best();
+    let mut works = Vec::new(alloc);
+    let mut left = steps;
+    for work in found {
+        let (judged, rest) = judge_next(alloc, board, work, left, until)?;
+        left = rest;
+        add(&mut works, judged)?;
+    }
+    Ok(works)
+}
+
+/// The works that were found for jobs, each with a tree that may stand in the place of the job's leaf: the one that was found,
+/// where the trees so far have at most so many branches, else the leaf alone.
 pub(crate) fn judged(
     alloc: Global,
     instance: &Instance,
     base: &Certificate,
-    job: u64,
-    steps: u32,
-    found: Vec<TreeLine>,
-) -> Result<Vec<TreeLine>, WorkRefusal>
-    requires { IsValid instance.now base.now }
-    ensures tree { IfOk result (λ tree. IsTreeOn instance.now base.now job steps tree.items) }
-    ensures text { IfOk result (λ tree. HasText (without_times job tree.items)) }
-    ensures refused { IfErr result (IsWorkRefusal instance.now base.now job) }
+    jobs: &[u64],
+    range: Range,
+    found: Vec<WorkText>,
+) -> Result<Vec<WorkText>, WorkRefusal>
+    requires valid { IsValid instance.now base.now }
+    requires rise { IsStrictlyIncreasing jobs.now }
+    requires found { AllZip (IsFound instance.now (cost_of base.now.answer)) jobs.now found.items }
+    ensures works { IfOk result (λ works. AreWorksOn instance.now base.now jobs.now range.steps range.until works.items) }
+    ensures refused { IfErr result (AreWorkRefusal instance.now base.now jobs.now) }
 {
     let mut lent = lend_base(alloc, instance, base)?;
-    judged_for(alloc, &mut lent, job, steps, found)
+    if !are_there(jobs, &lent) {
+        return Err(WorkRefusal::NoSuchJob);
+    }
+    let works = judge_each(alloc, &mut lent.board, found, range.steps, range.until)?;
+    Ok(works)
 }

@@ -1,4 +1,4 @@
-//! Work on one open leaf of a certificate, handed in as a text that nobody has to trust.
+//! Work on open leaves of a certificate, handed in as a text that nobody has to trust.
 #![tactic(auto)]
 
 mod copying;
@@ -9,7 +9,8 @@ mod judging;
 pub mod laws;
 mod refusal;
 mod searching;
+mod splitting;
 mod working;
 
 pub use refusal::WorkRefusal;
-pub use working::work;
+pub use working::{work, work_on_all};

@@ -1,53 +1,31 @@
-//! The search for a tree and for times on a board where one leaf is open.
+//! The search for trees and for times on a board where the leaves of jobs are open.
 
-ghost use Rattle.std.specs.Prelude.{◌≡◌, ◌≤◌, length, IfOk, IfErr, IfSome, IsTrue};
+ghost use Rattle.std.specs.Prelude.{◌≡◌, ◌⊎◌, ◌≤◌, ◌<◌, ◌++◌, ◌∷◌, [], ℕ, length, All, Contains, IfOk, IfErr, IfSome, OnOk, IsTrue, false};
+ghost use Rattle.std.specs.List.{AllZip};
 ghost use Rattle.pesp_problem.specs.Timetables.{Pesp};
 ghost use Rattle.pesp_truth.specs.Certificates.{IsValid, cost_of};
 ghost use Rattle.pesp_machine.specs.Events.{IsCheaper};
 ghost use Rattle.pesp_machine.specs.Certificates.{IsProblemOf};
-ghost use Rattle.pesp_worker.specs.declared.refusal.WorkRefusal.TheVariants.{NoSuchJob};
-ghost use Rattle.pesp_worker.specs.HandingIn.{AreTimesFor, AreShort, IsWorkRefusal};
+ghost use Rattle.pesp_worker.specs.HandingIn.{AreTimesFor, AreShort, IsFound, AreWorkRefusal};
 
-use crate::cutting_out::cut_out;
+use crate::cutting_out::{count_branches, cut_out, ends_of};
 use crate::improving::improve_leaf;
 use crate::refusal::WorkRefusal;
-use pesp_board::Board;
+use crate::splitting::split_on;
+use pesp_board::{Board, Job};
 use pesp_cert::Certificate;
 use pesp_outside::{Lent, lend_base};
-use pesp_problem::{Cut, Instance, Memory, Side};
+use pesp_problem::{Instance, Memory};
 use pesp_truth::{Answer, TreeLine};
-use pesp_turns::{Nobody, Search};
+use pesp_works::WorkText;
 use std::alloc::Global;
+use std::mem;
 
-/// What was found for a leaf: times, and a tree that is still to be judged.
-#[derive(Drop)]
-pub(crate) struct Found {
-    pub(crate) times: Vec<(i64, u32)>,
-    pub(crate) tree: Vec<TreeLine>,
-}
-
-/// Takes turns on the leaves that are open, by at most so many splits.
-fn split_on(alloc: Global, instance: &Instance, board: Board, steps: u32) -> Result<Board, Memory>
-    requires { steps ≤ 100000 }
-    ensures { IfOk result (λ worked. worked.problem ≡ board.problem) }
-{
-    let mut search = Search::on(alloc, instance, board)?;
-    search.run(alloc, steps, &mut Nobody)?;
-    let Search { board, .. } = search;
-    Ok(board)
-}
-
-/// Works on the leaf that is open, by at most so many splits.
-fn work_on(alloc: Global, instance: &Instance, board: Board, steps: u32) -> Result<Board, Memory>
-    requires { steps ≤ 100000 }
-    ensures { IfOk result (λ worked. worked.problem ≡ board.problem) }
-{
-    let mut board = board;
-    let is_taken = improve_leaf(alloc, &mut board)?;
-    if !is_taken || steps == 0 {
-        return Ok(board);
-    }
-    split_on(alloc, instance, board, steps)
+/// How many leaves may be split, and from which value on none is.
+#[derive(Clone, Copy)]
+pub(crate) struct Range {
+    pub(crate) steps: u32,
+    pub(crate) until: Option<u64>,
 }
 
 /// The cost of an answer, where it has one.
@@ -106,84 +84,155 @@ fn shown(
     Ok(copy)
 }
 
-/// What a board that was worked on has for the leaf to which this path leads: a tree, and times, where they cost less than so
-/// much.
-fn found_on(
-    alloc: Global,
-    instance: &Instance,
-    board: &Board,
-    path: &[(Cut, Side)],
-    known: Option<u64>,
-) -> Result<Found, Memory>
-    requires of { IsProblemOf instance.now board.now.problem }
-    ensures times { IfOk result (λ found. AreTimesFor instance.now known found.times.items) }
-    ensures short { IfOk result (λ found. AreShort found.times.items) }
+/// Whether there are jobs of all these numbers.
+pub(crate) fn are_there(jobs: &[u64], lent: &Lent) -> bool
+    ensures there { IsTrue result → All (λ job. job < length lent.now.jobs.items) jobs.now }
+    ensures missing { result ≡ false
+        → (job : ℕ) × Contains jobs.now job × (length lent.now.jobs.items ≤ job) }
 {
-    let certificate = board.certificate(alloc, instance)?;
-    let times = shown(alloc, &certificate, known)?;
-    let tree = cut_out(alloc, certificate.tree(), path)?;
-    Ok(Found { times, tree })
+    for job in jobs {
+        if *job >= lent.jobs.len() as u64 {
+            return false;
+        }
+    }
+    true
 }
 
-/// What is found for the leaf that is open, to which this path leads: a tree, and times that cost less than so much.
-fn found_below(
+/// Gives the leaves of jobs back, so that they are open.
+fn recall_all(board: &mut Board, jobs: &[u64])
+    ensures { board.new.problem ≡ board.old.problem }
+{
+    for job in jobs {
+        board.recall(*job);
+    }
+}
+
+/// Works on the leaves of jobs; a leaf that is worked on alone is looked at anew first.
+fn work_on(
     alloc: Global,
     instance: &Instance,
     board: Board,
-    path: &[(Cut, Side)],
-    known: Option<u64>,
-    steps: u32,
-) -> Result<Found, Memory>
-    requires of { IsProblemOf instance.now board.problem }
-    requires few { steps ≤ 100000 }
-    ensures times { IfOk result (λ found. AreTimesFor instance.now known found.times.items) }
-    ensures short { IfOk result (λ found. AreShort found.times.items) }
+    base: &Certificate,
+    jobs: &[u64],
+    range: Range,
+) -> Result<Board, Memory>
+    requires { range.steps ≤ 100000 }
+    ensures { IfOk result (λ worked. worked.problem ≡ board.problem) }
 {
-    let worked = work_on(alloc, instance, board, steps)?;
-    found_on(alloc, instance, &worked, path, known)
+    let mut board = board;
+    recall_all(&mut board, jobs);
+    if jobs.len() == 1 && !improve_leaf(alloc, &mut board)? {
+        return Ok(board);
+    }
+    if range.steps == 0 {
+        return Ok(board);
+    }
+    let before = count_branches(base.tree());
+    split_on(alloc, instance, board, before, range.steps, range.until)
 }
 
-/// What is found below the leaf of a job of a base that is lent, with times that cost less than so much.
+/// The tree in the place of the leaf of a job.
+fn tree_for(
+    alloc: Global,
+    lines: &[TreeLine],
+    ends: &[usize],
+    leaves: &[Job],
+    job: u64,
+) -> Result<Vec<TreeLine>, Memory> {
+    match leaves.get(job as usize) {
+        Some(leaf) => cut_out(alloc, lines, ends, &leaf.path),
+        None => Ok(Vec::new(alloc)),
+    }
+}
+
+/// Adds a work.
+pub(crate) fn add(works: &mut Vec<WorkText>, work: WorkText) -> Result<(), Memory>
+    ensures { OnOk result (works.new.items ≡ works.old.items ++ work ∷ []) }
+{
+    works.push(work)?;
+    Ok(())
+}
+
+/// A work for each job with the tree in the place of its leaf, which are these; the first has the times.
+fn works_of(
+    alloc: Global,
+    lines: &[TreeLine],
+    leaves: &[Job],
+    jobs: &[u64],
+    times: Vec<(i64, u32)>,
+) -> Result<Vec<WorkText>, Memory>
+    ensures { IfOk result (λ works. AllZip (λ job work. (work.job ≡ job)
+        × ((work.times ≡ []) ⊎ (work.times ≡ times.items))) jobs.now works.items) }
+{
+    let ends = ends_of(alloc, lines)?;
+    let mut left = times;
+    let mut works = Vec::new(alloc);
+    for job in jobs {
+        let times = mem::replace(&mut left, Vec::new(alloc));
+        let tree = tree_for(alloc, lines, &ends, leaves, *job)?;
+        let job = *job;
+        add(&mut works, WorkText { job, times, tree })?;
+    }
+    Ok(works)
+}
+
+/// What a board that was worked on has for each job: the tree in the place of its leaf, which are these; and times that cost less
+/// than those of the base.
+fn works_on(
+    alloc: Global,
+    instance: &Instance,
+    board: &Board,
+    base: &Certificate,
+    leaves: &[Job],
+    jobs: &[u64],
+) -> Result<Vec<WorkText>, Memory>
+    requires of { IsProblemOf instance.now board.now.problem }
+    ensures found { IfOk result (λ works. AllZip (IsFound instance.now (cost_of base.now.answer)) jobs.now works.items) }
+{
+    let certificate = board.certificate(alloc, instance)?;
+    let times = shown(alloc, &certificate, cost_in(base.answer()))?;
+    works_of(alloc, certificate.tree(), leaves, jobs, times)
+}
+
+/// What is found for jobs of a base that is lent.
 fn found_for(
     alloc: Global,
     instance: &Instance,
     lent: Lent,
-    job: u64,
-    known: Option<u64>,
-    steps: u32,
-) -> Result<Found, WorkRefusal>
+    base: &Certificate,
+    jobs: &[u64],
+    range: Range,
+) -> Result<Vec<WorkText>, Memory>
     requires of { IsProblemOf instance.now lent.board.problem }
-    requires few { steps ≤ 100000 }
-    ensures times { IfOk result (λ found. AreTimesFor instance.now known found.times.items) }
-    ensures short { IfOk result (λ found. AreShort found.times.items) }
-    ensures missing { IfErr result
-        (λ refusal. refusal ≡ NoSuchJob → length lent.jobs.items ≤ job) }
+    requires few { range.steps ≤ 100000 }
+    ensures found { IfOk result (λ works. AllZip (IsFound instance.now (cost_of base.now.answer)) jobs.now works.items) }
 {
-    let Lent { mut board, jobs } = lent;
-    if job >= jobs.len() as u64 {
-        return Err(WorkRefusal::NoSuchJob);
-    }
-    board.recall(job);
-    let path = &jobs[job as usize].path;
-    let found = found_below(alloc, instance, board, path, known, steps)?;
-    Ok(found)
+    let Lent {
+        board,
+        jobs: leaves,
+    } = lent;
+    let worked = work_on(alloc, instance, board, base, jobs, range)?;
+    works_on(alloc, instance, &worked, base, &leaves, jobs)
 }
 
-/// Searches below the leaf of a job, by at most so many splits, for a tree in its place, and for times that are cheaper than
-/// those of the base.
+/// Searches below the leaves of jobs for a tree in the place of each, and for times that are cheaper than those of the base. The
+/// trees are still to be judged.
 pub(crate) fn search_below(
     alloc: Global,
     instance: &Instance,
     base: &Certificate,
-    job: u64,
-    steps: u32,
-) -> Result<Found, WorkRefusal>
+    jobs: &[u64],
+    range: Range,
+) -> Result<Vec<WorkText>, WorkRefusal>
     requires valid { IsValid instance.now base.now }
-    requires few { steps ≤ 100000 }
-    ensures times { IfOk result (λ found. AreTimesFor instance.now (cost_of base.now.answer) found.times.items) }
-    ensures short { IfOk result (λ found. AreShort found.times.items) }
-    ensures refused { IfErr result (IsWorkRefusal instance.now base.now job) }
+    requires few { range.steps ≤ 100000 }
+    ensures found { IfOk result (λ works. AllZip (IsFound instance.now (cost_of base.now.answer)) jobs.now works.items) }
+    ensures refused { IfErr result (AreWorkRefusal instance.now base.now jobs.now) }
 {
     let lent = lend_base(alloc, instance, base)?;
-    found_for(alloc, instance, lent, job, cost_in(base.answer()), steps)
+    if !are_there(jobs, &lent) {
+        return Err(WorkRefusal::NoSuchJob);
+    }
+    let works = found_for(alloc, instance, lent, base, jobs, range)?;
+    Ok(works)
 }

@@ -1,6 +1,7 @@
 //! Boards.
 
-ghost use Rattle.std.specs.Prelude.{◌≡◌, IfOk, option_map};
+ghost use Rattle.std.specs.Prelude.{◌≡◌, length, IfOk, IfSome, option_map};
+ghost use Rattle.pesp_nodes.specs.Problems.{ArePairs};
 ghost use Rattle.pesp_queue.specs.Entries.{ItemsDiffer};
 ghost use Rattle.pesp_queue.specs.Queues.{all_of};
 ghost use Rattle.pesp_network.specs.Networks.{KeepsNetLimits};
@@ -245,11 +246,13 @@ impl Board {
         true
     }
 
-    /// The value of the leaf with which the number is lent now, as `least` tells values, and its pairs; None for any other
-    /// number.
+    /// The value of the leaf with which the number is lent now, as `least` tells values, and its pairs, which are pairs of the
+    /// problem; None for any other number.
     pub fn job_leaf(&self, number: u64) -> Option<(u64, &[Pair])>
-        ensures { TellsLeaf self.now.problem self.now.state number
+        ensures told { TellsLeaf self.now.problem self.now.state number
             (option_map (λ leaf. (leaf.0, leaf.1.now)) result) }
+        ensures pairs { IfSome result
+            (λ leaf. ArePairs (length self.now.problem.table) leaf.1.now) }
     {
         let Some(node) = lent_node(&self.slots, number) else {
             return None;

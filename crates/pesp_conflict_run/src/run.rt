@@ -72,6 +72,7 @@ pub fn run_conflict<R: Source, W: Sink>(
         (Appends (W.contents writer.old) (W.contents writer.new))
         (writer.new ≡ writer.old)) }
     ensures reads { OnOk result (HasWorked (R.calls reader.old) (R.calls reader.new)) }
+    ensures reads_else { IfErr result (λ fault. fault ≢ Fault.Read → HasWorked (R.calls reader.old) (R.calls reader.new)) }
     ensures writes { OnOk result (HasWorked (W.calls writer.old) (W.calls writer.new)) }
     ensures cause { IfErr result
         (λ fault. ConflictCause fault

@@ -1,6 +1,6 @@
 //! The texts that several runs read.
 
-ghost use Rattle.std.specs.Prelude.{◌<◌, ◌^◌, OnOk, IfOk, IfErr};
+ghost use Rattle.std.specs.Prelude.{◌≢◌, ◌<◌, ◌^◌, OnOk, IfOk, IfErr};
 ghost use Rattle.pesp_stream.specs.Counts.{FewerThan, HasWorked};
 ghost use Rattle.pesp_problem.specs.Timetables.{AreTimes, IsTimetable};
 ghost use Rattle.pesp_check_run.specs.Devices.{over};
@@ -29,6 +29,7 @@ pub fn read_whole_instance<R: Source>(
     ensures ok { IfOk result
         (ReadsInstance (R.remaining reader.old) (R.remaining reader.new) period) }
     ensures counts { OnOk result (HasWorked (R.calls reader.old) (R.calls reader.new)) }
+    ensures counts_else { IfErr result (λ fault. fault ≢ Fault.Read → HasWorked (R.calls reader.old) (R.calls reader.new)) }
     ensures cause { IfErr result
         (λ fault. InstanceCause fault
         (over (R.remaining reader.old) (R.remaining reader.new)
@@ -51,6 +52,7 @@ pub fn read_whole_times<R: Source>(
         times.items) }
     ensures times { IfOk result (λ times. AreTimes instance.now times.items) }
     ensures counts { OnOk result (HasWorked (R.calls reader.old) (R.calls reader.new)) }
+    ensures counts_else { IfErr result (λ fault. fault ≢ Fault.Read → HasWorked (R.calls reader.old) (R.calls reader.new)) }
     ensures cause { IfErr result
         (λ fault. TimesCause fault
         (over (R.remaining reader.old) (R.remaining reader.new)
@@ -74,6 +76,7 @@ pub fn read_timetable<R: Source>(
         times.items) }
     ensures timetable { IfOk result (λ times. IsTimetable instance.now times.items) }
     ensures counts { OnOk result (HasWorked (R.calls reader.old) (R.calls reader.new)) }
+    ensures counts_else { IfErr result (λ fault. fault ≢ Fault.Read → HasWorked (R.calls reader.old) (R.calls reader.new)) }
     ensures cause { IfErr result
         (λ fault. TimetableCause fault
         (over (R.remaining reader.old) (R.remaining reader.new)
@@ -108,6 +111,7 @@ pub fn read_base<R: Source>(
     ensures ok { IfOk result
         (ReadsBase (R.remaining reader.old) (R.remaining reader.new) instance.now) }
     ensures counts { OnOk result (HasWorked (R.calls reader.old) (R.calls reader.new)) }
+    ensures counts_else { IfErr result (λ fault. fault ≢ Fault.Read → HasWorked (R.calls reader.old) (R.calls reader.new)) }
     ensures cause { IfErr result
         (λ fault. BaseCause fault
         (over (R.remaining reader.old) (R.remaining reader.new)

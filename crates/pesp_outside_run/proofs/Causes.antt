@@ -1,13 +1,9 @@
 -- Why a run has no answer, from what the call that failed says of it, and what it wrote.
-use Rattle.std.proofs.Common.{◌≡◌, ◌⊎◌, inl, inr, ℕ, List, [], refl, sym, Err}
+use Rattle.std.proofs.Common.{◌≡◌, ◌⊎◌, inl, inr, ℕ, List, Err}
 use Rattle.std.specs.Prelude.{Option}
 use Rattle.std.specs.List.{flat_map}
-use Rattle.std.specs.Io.KnownBytes.{Appends}
-use Rattle.std.proofs.KnownBytes.{Appends-nil}
-use Rattle.std.proofs.lemmas.List.{append-nil}
 use Rattle.pesp_stream.specs.Counts.{Calls}
 use Rattle.pesp_stream.specs.Reading.{ReadsText}
-use Rattle.pesp_stream.specs.Writing.{AppendsFront}
 use Rattle.pesp_problem.specs.Timetables.{Pesp}
 use Rattle.pesp_truth.specs.Certificates.{Content}
 use Rattle.pesp_cert.specs.declared.refusal.CertRefusal.{CertRefusal}
@@ -38,14 +34,6 @@ works_cause (Trailing n) told left calls after bytes read first = elim first [ i
 pub job_cause : (refusal : WorkRefusal) (p : Pesp) (base : Content) (jobs : List ℕ) → AreWorkRefusal p base jobs refusal → JobCause (work_fault refusal) p base jobs
 job_cause WorkMemory p base jobs refused = tt
 job_cause NoSuchJob p base jobs refused = refused
-
--- nothing is a front of every text
-pub no_front : (a : Option (List ℕ)) (text : List ℕ) → AppendsFront a a text
-no_front a text = record { front = []; rest = text; whole = refl; appended = Appends-nil a }
-
--- a text is a front of itself
-pub whole_front : (old new : Option (List ℕ)) (text : List ℕ) → Appends old new text → AppendsFront old new text
-whole_front old new text all = record { front = text; rest = []; whole = sym (append-nil text); appended = all }
 
 -- works were grafted, and the writers got what is said of the certificate's text and of the replies' lines
 pub graft : {p : Pesp} {base certificate : Content} {works : List WorkValue} {Gets Tells : List ℕ → Type 0} (replies : List Reply)

@@ -1,6 +1,7 @@
 -- What the runs for work from outside read and write, and when they tell which fault.
 use Rattle.std.specs.Prelude.{◌≡◌, ◌⊎◌, ℕ, List, Option, Err}
 use Rattle.std.specs.List.{flat_map}
+use Rattle.std.specs.Io.KnownBytes.{Appends}
 use Rattle.pesp_problem.specs.Timetables.{Pesp}
 use Rattle.pesp_truth.specs.Certificates.{Content}
 use Rattle.pesp_cert.specs.Texts.{spelling, HasText}
@@ -103,6 +104,20 @@ pub record WritesGraft (p : Pesp) (base : Content) (works : List WorkValue) (Get
 abbrev pub Grafts : Option (List ℕ) → Option (List ℕ) → Pesp → Content → (List ℕ → Type 0) → (List ℕ → Type 0) → Type 0
 Grafts told left p base Gets Tells = (works : List WorkValue) × ReadsWorks told left works × WritesGraft p base works Gets Tells
 
+-- the writer or the reader wasn't called
+abbrev pub IsUncalled : Device → Type 0
+IsUncalled device = (device.new ≡ device.old) × (device.calls_new ≡ device.calls_old)
+
+-- the writer got the whole text
+abbrev pub GetsWhole : Device → List ℕ → Type 0
+GetsWhole writer text = Appends writer.old writer.new text
+
+-- the writer failed behind a front of the certificate, and nothing was told; or it has the whole certificate, and the teller failed
+abbrev pub CutsGraft : Pesp → Content → List WorkValue → Device → Device → Type 0
+CutsGraft p base works writer teller =
+    (HasFailed writer × IsUncalled teller × WritesGraft p base works (GetsFront writer) (λ replies. Unit {0}))
+    ⊎ (HasFailed teller × WritesGraft p base works (GetsWhole writer) (GetsFront teller))
+
 -- each fault of `graft` and its cause; the second reader is called only where the first text has an instance, and the third only where the second has a base of it
 abbrev pub GraftCause : Fault → Device → Device → Device → Device → Device → ℕ → Type 0 → Type 0 → Type 0
 GraftCause fault reader base_reader works_reader writer teller period uncalled works_uncalled =
@@ -112,5 +127,4 @@ GraftCause fault reader base_reader works_reader writer teller period uncalled w
     ⊎ ((base : Content) × ReadsBase base_reader.old base_reader.new p base
     × (WorksCause fault works_reader
     ⊎ ((works : List WorkValue) × ReadsWorks works_reader.old works_reader.new works
-    × OutCause fault ((HasFailed teller ⊎ HasFailed writer)
-    × WritesGraft p base works (GetsFront writer) (GetsFront teller)))))))
+    × OutCause fault (CutsGraft p base works writer teller))))))

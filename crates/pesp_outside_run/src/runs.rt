@@ -9,7 +9,7 @@ ghost use Rattle.pesp_worker.specs.HandingIn.{AreWorksOn};
 ghost use Rattle.pesp_check_run.specs.Devices.{over, HasFailed, GetsFront};
 ghost use Rattle.pesp_faults.specs.Reading.{HasBase};
 ghost use Rattle.pesp_faults.specs.Causes.{OutCause};
-ghost use Rattle.pesp_outside_run.specs.Outside.{works_fault, work_fault, ReadsWorks, WorksCause, JobCause, WritesJobs, SplitCause, WritesWorks, WorkCause, WritesGraft, Grafts, GraftCause};
+ghost use Rattle.pesp_outside_run.specs.Outside.{works_fault, work_fault, ReadsWorks, WorksCause, JobCause, WritesJobs, SplitCause, WritesWorks, WorkCause, WritesGraft, Grafts, GraftCause, CutsGraft};
 
 use pesp_cert::{CertRefusal, Certificate, print};
 use pesp_faults::{Fault, MOST_TEXT, read_base, read_whole_instance};
@@ -37,6 +37,7 @@ fn read_works<R: Source>(alloc: Global, reader: &mut R) -> Result<Vec<WorkText>,
     ensures ok { IfOk result
         (λ works. ReadsWorks (R.remaining reader.old) (R.remaining reader.new) works.items) }
     ensures counts { OnOk result (HasWorked (R.calls reader.old) (R.calls reader.new)) }
+    ensures counts_else { IfErr result (λ fault. fault ≢ Fault.Read → HasWorked (R.calls reader.old) (R.calls reader.new)) }
     ensures cause { IfErr result
         (λ fault. WorksCause fault
         (over (R.remaining reader.old) (R.remaining reader.new)
@@ -92,8 +93,10 @@ pub fn run_split<R: Source, B: Source, W: Sink>(
         (λ p base. WritesJobs p base (Appends (W.contents writer.old) (W.contents writer.new)))) }
     ensures reads { OnOk result
         (HasWorked (R.calls instance_reader.old) (R.calls instance_reader.new)) }
+    ensures reads_else { IfErr result (λ fault. fault ≢ Fault.Read → HasWorked (R.calls instance_reader.old) (R.calls instance_reader.new)) }
     ensures base_reads { OnOk result
         (HasWorked (B.calls base_reader.old) (B.calls base_reader.new)) }
+    ensures base_reads_else { IfErr result (λ fault. fault ≢ Fault.Read → HasWorked (B.calls base_reader.old) (B.calls base_reader.new)) }
     ensures writes { OnOk result (HasWorked (W.calls writer.old) (W.calls writer.new)) }
     ensures cause { IfErr result (λ fault. SplitCause fault
         (over (R.remaining instance_reader.old) (R.remaining instance_reader.new)
@@ -199,8 +202,10 @@ pub fn run_work<R: Source, B: Source, W: Sink>(
         (Appends (W.contents writer.old) (W.contents writer.new)))) }
     ensures reads { OnOk result
         (HasWorked (R.calls instance_reader.old) (R.calls instance_reader.new)) }
+    ensures reads_else { IfErr result (λ fault. fault ≢ Fault.Read → HasWorked (R.calls instance_reader.old) (R.calls instance_reader.new)) }
     ensures base_reads { OnOk result
         (HasWorked (B.calls base_reader.old) (B.calls base_reader.new)) }
+    ensures base_reads_else { IfErr result (λ fault. fault ≢ Fault.Read → HasWorked (B.calls base_reader.old) (B.calls base_reader.new)) }
     ensures writes { OnOk result (HasWorked (W.calls writer.old) (W.calls writer.new)) }
     ensures cause { IfErr result (λ fault. WorkCause fault
         (over (R.remaining instance_reader.old) (R.remaining instance_reader.new)
@@ -235,15 +240,11 @@ fn write_graft<W: Sink, E: Sink>(
     ensures writes { OnOk result (HasWorked (W.calls writer.old) (W.calls writer.new)) }
     ensures tellings { OnOk result (HasWorked (E.calls teller.old) (E.calls teller.new)) }
     ensures cause { IfErr result (λ fault. OutCause fault
-        ((HasFailed (over (E.contents teller.old) (E.contents teller.new)
-        (E.calls teller.old) (E.calls teller.new))
-        ⊎ HasFailed (over (W.contents writer.old) (W.contents writer.new)
-        (W.calls writer.old) (W.calls writer.new)))
-        × WritesGraft instance.now base.now works.items
-        (GetsFront (over (W.contents writer.old) (W.contents writer.new)
-        (W.calls writer.old) (W.calls writer.new)))
-        (GetsFront (over (E.contents teller.old) (E.contents teller.new)
-        (E.calls teller.old) (E.calls teller.new))))) }
+        (CutsGraft instance.now base.now works.items
+        (over (W.contents writer.old) (W.contents writer.new)
+        (W.calls writer.old) (W.calls writer.new))
+        (over (E.contents teller.old) (E.contents teller.new)
+        (E.calls teller.old) (E.calls teller.new)))) }
     ensures silent { IfErr result (λ fault. fault ≢ Fault.Write → writer.new ≡ writer.old) }
     ensures untold { IfErr result (λ fault. fault ≢ Fault.Write → teller.new ≡ teller.old) }
 {
@@ -279,10 +280,13 @@ pub fn run_graft<R: Source, B: Source, T: Source, W: Sink, E: Sink>(
         (Appends (E.contents teller.old) (E.contents teller.new)))) }
     ensures reads { OnOk result
         (HasWorked (R.calls instance_reader.old) (R.calls instance_reader.new)) }
+    ensures reads_else { IfErr result (λ fault. fault ≢ Fault.Read → HasWorked (R.calls instance_reader.old) (R.calls instance_reader.new)) }
     ensures base_reads { OnOk result
         (HasWorked (B.calls base_reader.old) (B.calls base_reader.new)) }
+    ensures base_reads_else { IfErr result (λ fault. fault ≢ Fault.Read → HasWorked (B.calls base_reader.old) (B.calls base_reader.new)) }
     ensures works_reads { OnOk result
         (HasWorked (T.calls works_reader.old) (T.calls works_reader.new)) }
+    ensures works_reads_else { IfErr result (λ fault. fault ≢ Fault.Read → HasWorked (T.calls works_reader.old) (T.calls works_reader.new)) }
     ensures writes { OnOk result (HasWorked (W.calls writer.old) (W.calls writer.new)) }
     ensures tellings { OnOk result (HasWorked (E.calls teller.old) (E.calls teller.new)) }
     ensures cause { IfErr result (λ fault. GraftCause fault

@@ -1,6 +1,6 @@
 //! Names of events, from a reader.
 
-ghost use Rattle.std.specs.Prelude.{◌<◌, ◌^◌, OnOk, IfErr};
+ghost use Rattle.std.specs.Prelude.{◌≢◌, ◌<◌, ◌^◌, OnOk, IfErr};
 ghost use Rattle.pesp_stream.specs.Counts.{FewerThan, HasWorked};
 ghost use Rattle.pesp_check_run.specs.Devices.{over};
 ghost use Rattle.pesp_report_run.specs.Naming.{NamesCause};
@@ -17,6 +17,7 @@ const MOST_NAMES: usize = 16_777_216;
 pub fn read_whole_names<R: Source>(alloc: Global, reader: &mut R) -> Result<Names, Fault>
     requires fits { FewerThan (2 ^ 63) (R.calls reader.old) }
     ensures counts { OnOk result (HasWorked (R.calls reader.old) (R.calls reader.new)) }
+    ensures counts_else { IfErr result (λ fault. fault ≢ Fault.Read → HasWorked (R.calls reader.old) (R.calls reader.new)) }
     ensures cause { IfErr result
         (λ fault. NamesCause fault
         (over (R.remaining reader.old) (R.remaining reader.new)

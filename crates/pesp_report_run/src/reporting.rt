@@ -33,8 +33,10 @@ pub fn run_sheet<P: Sheet, R: Source, T: Source, W: Sink>(
         (Appends (W.contents writer.old) (W.contents writer.new)))) }
     ensures reads { OnOk result
         (HasWorked (R.calls instance_reader.old) (R.calls instance_reader.new)) }
+    ensures reads_else { IfErr result (λ fault. fault ≢ Fault.Read → HasWorked (R.calls instance_reader.old) (R.calls instance_reader.new)) }
     ensures times_reads { OnOk result
         (HasWorked (T.calls times_reader.old) (T.calls times_reader.new)) }
+    ensures times_reads_else { IfErr result (λ fault. fault ≢ Fault.Read → HasWorked (T.calls times_reader.old) (T.calls times_reader.new)) }
     ensures writes { OnOk result (HasWorked (W.calls writer.old) (W.calls writer.new)) }
     ensures cause { IfErr result (λ fault. SheetCause fault
         (over (R.remaining instance_reader.old) (R.remaining instance_reader.new)
@@ -71,8 +73,10 @@ pub fn run_report<R: Source, T: Source, W: Sink>(
         (Appends (W.contents writer.old) (W.contents writer.new)))) }
     ensures reads { OnOk result
         (HasWorked (R.calls instance_reader.old) (R.calls instance_reader.new)) }
+    ensures reads_else { IfErr result (λ fault. fault ≢ Fault.Read → HasWorked (R.calls instance_reader.old) (R.calls instance_reader.new)) }
     ensures times_reads { OnOk result
         (HasWorked (T.calls times_reader.old) (T.calls times_reader.new)) }
+    ensures times_reads_else { IfErr result (λ fault. fault ≢ Fault.Read → HasWorked (T.calls times_reader.old) (T.calls times_reader.new)) }
     ensures writes { OnOk result (HasWorked (W.calls writer.old) (W.calls writer.new)) }
     ensures cause { IfErr result (λ fault. SheetCause fault
         (over (R.remaining instance_reader.old) (R.remaining instance_reader.new)

@@ -32,8 +32,10 @@ pub fn run_check_sharp<R: Source, C: Source, W: Sink>(
         (Appends (W.contents writer.old) (W.contents writer.new))) }
     ensures reads { OnOk result
         (HasWorked (R.calls instance_reader.old) (R.calls instance_reader.new)) }
+    ensures reads_else { IfErr result (λ fault. fault ≢ VerdictFault.Read → HasWorked (R.calls instance_reader.old) (R.calls instance_reader.new)) }
     ensures certificate_reads { OnOk result
         (HasWorked (C.calls certificate_reader.old) (C.calls certificate_reader.new)) }
+    ensures certificate_reads_else { IfErr result (λ fault. fault ≢ VerdictFault.Read → HasWorked (C.calls certificate_reader.old) (C.calls certificate_reader.new)) }
     ensures writes { OnOk result (HasWorked (W.calls writer.old) (W.calls writer.new)) }
     ensures cause { IfErr result (λ fault. CheckCauseWith fault
         (over (R.remaining instance_reader.old) (R.remaining instance_reader.new)

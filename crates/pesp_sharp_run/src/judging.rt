@@ -1,6 +1,6 @@
 //! The verdict on the text of a certificate, with a front or without.
 
-ghost use Rattle.std.specs.Prelude.{◌≡◌, ◌<◌, ◌≤◌, ◌^◌, length, IfOk, IfErr, OnOk};
+ghost use Rattle.std.specs.Prelude.{◌≢◌, ◌≡◌, ◌<◌, ◌≤◌, ◌^◌, length, IfOk, IfErr, OnOk};
 ghost use Rattle.pesp_stream.specs.Counts.{FewerThan, HasWorked, DeviceFailed};
 ghost use Rattle.pesp_sharp_run.specs.Judging.{refusal_fault, Judges, TextCause, ChecksFronted, SourceCause};
 
@@ -59,6 +59,7 @@ pub fn judge_source<S: Source>(
     ensures ok { IfOk result (λ found. ChecksFronted (S.remaining source.old)
         (S.remaining source.new) instance.now found.0 found.1) }
     ensures counts { OnOk result (HasWorked (S.calls source.old) (S.calls source.new)) }
+    ensures counts_else { IfErr result (λ fault. fault ≢ VerdictFault.Read → HasWorked (S.calls source.old) (S.calls source.new)) }
     ensures cause { IfErr result (λ fault. SourceCause fault (S.remaining source.old)
         (S.remaining source.new) (DeviceFailed (S.calls source.old) (S.calls source.new))) }
 {

@@ -91,6 +91,7 @@ pub fn run_solve_sharp<R: Source, W: Sink, O: SharpObserver>(
         (SolvesSharp (R.remaining reader.old) (R.remaining reader.new) period steps
         (Appends (W.contents writer.old) (W.contents writer.new))) }
     ensures reads { OnOk result (HasWorked (R.calls reader.old) (R.calls reader.new)) }
+    ensures reads_else { IfErr result (λ fault. fault ≢ Fault.Read → HasWorked (R.calls reader.old) (R.calls reader.new)) }
     ensures writes { OnOk result (HasWorked (W.calls writer.old) (W.calls writer.new)) }
     ensures cause { IfErr result
         (λ fault. SolveSharpCause fault
@@ -127,8 +128,10 @@ pub fn run_solve_sharp_from<R: Source, T: Source, W: Sink, O: SharpObserver>(
         (Appends (W.contents writer.old) (W.contents writer.new))) }
     ensures reads { OnOk result
         (HasWorked (R.calls instance_reader.old) (R.calls instance_reader.new)) }
+    ensures reads_else { IfErr result (λ fault. fault ≢ Fault.Read → HasWorked (R.calls instance_reader.old) (R.calls instance_reader.new)) }
     ensures times_reads { OnOk result
         (HasWorked (T.calls times_reader.old) (T.calls times_reader.new)) }
+    ensures times_reads_else { IfErr result (λ fault. fault ≢ Fault.Read → HasWorked (T.calls times_reader.old) (T.calls times_reader.new)) }
     ensures writes { OnOk result (HasWorked (W.calls writer.old) (W.calls writer.new)) }
     ensures cause { IfErr result (λ fault. SolveSharpFromCause fault
         (over (R.remaining instance_reader.old) (R.remaining instance_reader.new)

@@ -11,7 +11,7 @@ use Rattle.pesp_cert_lines.specs.declared.progress.Progress.{Progress}
 use Rattle.pesp_truth.specs.Certificates.{Content}
 use Rattle.pesp_cert_lines.specs.declared.item.Item.{Item}
 use Rattle.pesp_cert_lines.specs.declared.item.Item.TheVariants.{Version, Period, Answer as Says, Time, Cycle, Slack, Offset, Bound, Nothing, Gap, Propagated, End}
-use Rattle.pesp_cert_lines.specs.Counts.{start, after, may_follow, has_kind, is_end_kind, kind_in, CanStand}
+use Rattle.pesp_cert_lines.specs.Counts.{beginning, after, may_follow, has_kind, is_end_kind, kind_in, CanStand}
 use Rattle.pesp_cert_lines.proofs.Tests.{and_left}
 use Rattle.pesp_cert.specs.Texts.{IsRun, time_item, tree_item, items_of}
 
@@ -189,18 +189,18 @@ period_run p v (Propagated ∷ more) at needs run = let h = follows p places.Hea
 period_run p v (End ∷ more) at needs run = let h = follows p places.Header End at needs (first p End more run) in absurd cc
 
 -- each run is that of a content
-pub run_content : (items : List Item) → IsRun start items → (c : Content) × (items ≡ items_of c)
+pub run_content : (items : List Item) → IsRun beginning items → (c : Content) × (items ≡ items_of c)
 run_content [] run = absurd run
 run_content (Version v ∷ []) run = absurd cc
-run_content (Version v ∷ next ∷ more) run = period_run (after start (Version v)) v (next ∷ more) refl refl run.2
-run_content (Period n ∷ more) run = let h = follows start places.Front (Period n) refl refl (first start (Period n) more run) in absurd cc
-run_content (Says a ∷ more) run = let h = follows start places.Front (Says a) refl refl (first start (Says a) more run) in absurd cc
-run_content (Time l t ∷ more) run = let h = follows start places.Front (Time l t) refl refl (first start (Time l t) more run) in absurd cc
-run_content (Cycle rs ∷ more) run = let h = follows start places.Front (Cycle rs) refl refl (first start (Cycle rs) more run) in absurd cc
-run_content (Slack row k ∷ more) run = let h = follows start places.Front (Slack row k) refl refl (first start (Slack row k) more run) in absurd cc
-run_content (Offset cycle k ∷ more) run = let h = follows start places.Front (Offset cycle k) refl refl (first start (Offset cycle k) more run) in absurd cc
-run_content (Bound ps ∷ more) run = let h = follows start places.Front (Bound ps) refl refl (first start (Bound ps) more run) in absurd cc
-run_content (Nothing ps ∷ more) run = let h = follows start places.Front (Nothing ps) refl refl (first start (Nothing ps) more run) in absurd cc
-run_content (Gap cycle ∷ more) run = let h = follows start places.Front (Gap cycle) refl refl (first start (Gap cycle) more run) in absurd cc
-run_content (Propagated ∷ more) run = let h = follows start places.Front Propagated refl refl (first start Propagated more run) in absurd cc
-run_content (End ∷ more) run = let h = follows start places.Front End refl refl (first start End more run) in absurd cc
+run_content (Version v ∷ next ∷ more) run = period_run (after beginning (Version v)) v (next ∷ more) refl refl run.2
+run_content (Period n ∷ more) run = let h = follows beginning places.Front (Period n) refl refl (first beginning (Period n) more run) in absurd cc
+run_content (Says a ∷ more) run = let h = follows beginning places.Front (Says a) refl refl (first beginning (Says a) more run) in absurd cc
+run_content (Time l t ∷ more) run = let h = follows beginning places.Front (Time l t) refl refl (first beginning (Time l t) more run) in absurd cc
+run_content (Cycle rs ∷ more) run = let h = follows beginning places.Front (Cycle rs) refl refl (first beginning (Cycle rs) more run) in absurd cc
+run_content (Slack row k ∷ more) run = let h = follows beginning places.Front (Slack row k) refl refl (first beginning (Slack row k) more run) in absurd cc
+run_content (Offset cycle k ∷ more) run = let h = follows beginning places.Front (Offset cycle k) refl refl (first beginning (Offset cycle k) more run) in absurd cc
+run_content (Bound ps ∷ more) run = let h = follows beginning places.Front (Bound ps) refl refl (first beginning (Bound ps) more run) in absurd cc
+run_content (Nothing ps ∷ more) run = let h = follows beginning places.Front (Nothing ps) refl refl (first beginning (Nothing ps) more run) in absurd cc
+run_content (Gap cycle ∷ more) run = let h = follows beginning places.Front (Gap cycle) refl refl (first beginning (Gap cycle) more run) in absurd cc
+run_content (Propagated ∷ more) run = let h = follows beginning places.Front Propagated refl refl (first beginning Propagated more run) in absurd cc
+run_content (End ∷ more) run = let h = follows beginning places.Front End refl refl (first beginning End more run) in absurd cc

@@ -22,7 +22,7 @@ use Rattle.pesp_cert_lines.specs.declared.progress.Progress.{Progress}
 use Rattle.pesp_cert_lines.specs.Rows.{rows_are_named}
 use Rattle.pesp_cert_lines.specs.Pairs.{rise_from, all_within}
 use Rattle.pesp_cert_lines.specs.Items.{IsProper, HasProperCosts, is_item_within}
-use Rattle.pesp_cert_lines.specs.Counts.{start, after, after_tree, allows, may_follow, has_kind, is_end_kind, keeps_counts, kind_in, CanStand}
+use Rattle.pesp_cert_lines.specs.Counts.{beginning, after, after_tree, allows, may_follow, has_kind, is_end_kind, keeps_counts, kind_in, CanStand}
 use Rattle.pesp_cert_lines.proofs.Tests.{and_left, and_right, and_both}
 use Rattle.pesp_cert.specs.Limits.{has_costs, is_period, is_time, are_times, is_cycle, total_rows, are_cycles, is_line, is_branch, pairs_in, total_pairs, are_lines, has_line, has_lines, keeps_limits, KeepsLimits}
 use Rattle.pesp_cert.specs.Texts.{is_end, IsRun, HasText, time_item, tree_item}
@@ -356,7 +356,7 @@ limits_give c k =
     let within : (nat_le 1 c.period && nat_le c.period 10000) ≡ true = grind (arith, nat_tests, k.period) in
     let version : (nat_le 1 c.version && nat_le c.version 2) ≡ true = grind (arith, nat_tests, k.version) in
     let period = run_onto (in_tree c.version places.Header 1 0 0 0 0 0) (Period c.period) (Says c.answer ∷ others) (record { allowed = refl; proper = tt; within = within; counts = refl }) refl answer in
-    record { run = run_onto start (Version c.version) (Period c.period ∷ Says c.answer ∷ others) (record { allowed = refl; proper = tt; within = version; counts = refl }) refl period }
+    record { run = run_onto beginning (Version c.version) (Period c.period ∷ Says c.answer ∷ others) (record { allowed = refl; proper = tt; within = version; counts = refl }) refl period }
 
 le_test : (m n : ℕ) → m ≤ n → nat_le m n ≡ true
 le_test m n h = grind (arith, nat_tests, h)
@@ -366,8 +366,8 @@ unfolding keeps_limits
 text_keeps_limits c h =
     let tree : List Item = map tree_item c.tree ++ End ∷ [] in
     let others : List Item = ((map time_item c.times ++ map Cycle c.cycles) ++ map tree_item c.tree) ++ End ∷ [] in
-    let version = run_first start (Version c.version) (Period c.period ∷ Says c.answer ∷ others) h.run in
-    let behind_version = run_rest start (Version c.version) (Period c.period ∷ Says c.answer ∷ others) refl h.run in
+    let version = run_first beginning (Version c.version) (Period c.period ∷ Says c.answer ∷ others) h.run in
+    let behind_version = run_rest beginning (Version c.version) (Period c.period ∷ Says c.answer ∷ others) refl h.run in
     let period = run_first (in_tree c.version places.Header 1 0 0 0 0 0) (Period c.period) (Says c.answer ∷ others) behind_version in
     let behind_period = run_rest (in_tree c.version places.Header 1 0 0 0 0 0) (Period c.period) (Says c.answer ∷ others) refl behind_version in
     let answer = run_first (in_tree c.version places.Period 1 0 0 0 0 0) (Says c.answer) others behind_period in

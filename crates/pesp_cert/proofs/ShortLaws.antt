@@ -10,7 +10,7 @@ use Rattle.pesp_problem.specs.declared.pair.Pair.{Pair}
 use Rattle.pesp_truth.specs.declared.answer.Answer.TheVariants as answers
 use Rattle.pesp_cert_lines.specs.declared.progress.Progress.{Progress}
 use Rattle.pesp_text.specs.Number.{NATURALS}
-use Rattle.pesp_text.specs.Words.{spaced, line_of}
+use Rattle.pesp_text.specs.Words.{spaced, line_of_words}
 use Rattle.pesp_cert_lines.specs.Pairs.{pair_words, is_pair_within, all_within, follows, rise_from}
 use Rattle.pesp_cert_lines.specs.declared.item.Item.{Item}
 use Rattle.pesp_cert_lines.specs.declared.item.Item.TheVariants.{Version, Period, Answer as Says, Time, Cycle, Slack, Offset, Bound, Nothing, Gap, Propagated, End}
@@ -24,7 +24,7 @@ use Rattle.pesp_cert_lines.proofs.WordLaws.{cycle_below, mult_below}
 
 -- a line that is not too long
 abbrev pub IsShort : Item → Type 0
-IsShort item = length (line_of (item_words item)) ≤ LONGEST
+IsShort item = length (line_of_words (item_words item)) ≤ LONGEST
 
 pub nat_len : (n : ℕ) → n < NATURALS → length (decimal n) ≤ 18
 nat_len n lt = length-decimal-le 18 n (omega arith) (omega (arith, lt)) (omega (arith, lt))

@@ -10,10 +10,10 @@ use Rattle.pesp_cert_lines.specs.declared.fault.LineFault.{LineFault}
 use Rattle.pesp_cert.specs.declared.refusal.CertRefusal.{CertRefusal}
 use Rattle.pesp_cert.specs.declared.refusal.CertRefusal.TheVariants as refusals
 use Rattle.pesp_cert_lines.specs.declared.progress.Progress.{Progress}
-use Rattle.pesp_text.specs.Words.{is_byte, pieces, spaced, line_of}
+use Rattle.pesp_text.specs.Words.{is_byte, pieces, spaced, line_of_words}
 use Rattle.pesp_cert_lines.specs.declared.item.Item.{Item}
 use Rattle.pesp_cert_lines.specs.Items.{item_words, item_line}
-use Rattle.pesp_cert_lines.specs.Counts.{start, after, CanStand}
+use Rattle.pesp_cert_lines.specs.Counts.{beginning, after, CanStand}
 use Rattle.pesp_cert_lines.specs.Lines.{LONGEST, line_at}
 use Rattle.pesp_cert.specs.Texts.{is_end, IsRun, text_of, items_of, spelling, NoneBeginsAnother}
 use Rattle.pesp_cert.specs.Refusals.{items_from, items_of_text, onto, is_nothing, refusal_at, IsTextOf, ReadsTexts}
@@ -45,7 +45,7 @@ nothing_is [] [] h = (refl, refl)
 nothing_is [] (m ∷ ms) h = absurd (grind (arith, nat_tests, h))
 nothing_is (c ∷ cs) more h = absurd (grind (arith, nat_tests, h))
 
-ends : (p : Progress) (line next : List ℕ) (more : List (List ℕ)) (item : Item) (n : ℕ) (items : List Item) → (line ≡ line_of (item_words item)) × CanStand p item → is_end item ≡ true
+ends : (p : Progress) (line next : List ℕ) (more : List (List ℕ)) (item : Item) (n : ℕ) (items : List Item) → (line ≡ line_of_words (item_words item)) × CanStand p item → is_end item ≡ true
     → cond (is_nothing (next ∷ more)) (Ok (item ∷ [])) (Err (refusals.Trailing n)) ≡ Ok items → AreFound p (line ∷ next ∷ more) items
 ends p line next more item n items found e h = go (is_nothing (next ∷ more)) refl h
   where
@@ -60,10 +60,10 @@ run_onto : (p : Progress) (item : Item) (rest : List Item) → CanStand p item �
 run_onto p item [] can e h = absurd h
 run_onto p item (next ∷ more) can e h = (can, e, h)
 
-goes_on : (p : Progress) (line next : List ℕ) (more : List (List ℕ)) (item : Item) (rest items : List Item) → (line ≡ line_of (item_words item)) × CanStand p item → is_end item ≡ false
+goes_on : (p : Progress) (line next : List ℕ) (more : List (List ℕ)) (item : Item) (rest items : List Item) → (line ≡ line_of_words (item_words item)) × CanStand p item → is_end item ≡ false
     → AreFound (after p item) (next ∷ more) rest → items ≡ item ∷ rest → AreFound p (line ∷ next ∷ more) items
 goes_on p line next more item rest items found e others same =
-    rw same (record { text = rw (flat_map-cons item_line item rest) (rw (found.0, others.text) (sym (append_assoc (line_of (item_words item)) (10 ∷ []) (flat_map item_line rest)))); run = run_onto p item rest found.1 e others.run })
+    rw same (record { text = rw (flat_map-cons item_line item rest) (rw (found.0, others.text) (sym (append_assoc (line_of_words (item_words item)) (10 ∷ []) (flat_map item_line rest)))); run = run_onto p item rest found.1 e others.run })
 
 pub items_found : (n : ℕ) (p : Progress) (pcs : List (List ℕ)) (items : List Item) → items_from n p pcs ≡ Ok items → AreFound p pcs items
 unfolding items_from
@@ -108,7 +108,7 @@ spaced_lf : (ws : List (List ℕ)) → all_plain ws ≡ true → list_all not_lf
 spaced_lf [] h = refl
 spaced_lf (w ∷ ws) h = all_append not_lf (32 ∷ w) (spaced ws) (plain_lf w (and_left (is_plain w) (all_plain ws) h)) (spaced_lf ws (and_right (is_plain w) (all_plain ws) h))
 
-pub line_lf : (ws : List (List ℕ)) → all_plain ws ≡ true → list_all not_lf (line_of ws) ≡ true
+pub line_lf : (ws : List (List ℕ)) → all_plain ws ≡ true → list_all not_lf (line_of_words ws) ≡ true
 line_lf [] h = refl
 line_lf (w ∷ ws) h = all_append not_lf w (spaced ws) (plain_lf w (and_left (is_plain w) (all_plain ws) h)) (spaced_lf ws (and_right (is_plain w) (all_plain ws) h))
 
@@ -117,25 +117,25 @@ no_lf [] h k d lt = absurd (omega arith)
 no_lf (b ∷ bs) h zero d lt = grind (arith, nat_tests, and_left (not_lf b) (list_all not_lf bs) h)
 no_lf (b ∷ bs) h (suc k) d lt = no_lf bs (and_right (not_lf b) (list_all not_lf bs) h) k d (omega arith)
 
-pub line_cut : (p : Progress) (item : Item) (rest : List ℕ) → CanStand p item → pieces 10 (item_line item ++ rest) ≡ line_of (item_words item) ∷ pieces 10 rest
+pub line_cut : (p : Progress) (item : Item) (rest : List ℕ) → CanStand p item → pieces 10 (item_line item ++ rest) ≡ line_of_words (item_words item) ∷ pieces 10 rest
 line_cut p item rest can =
-    rw append_assoc (slice_split_at (is_byte 10) (line_of (item_words item)) 10 rest (no_lf (line_of (item_words item)) (line_lf (item_words item) (item_plain item can.proper can.within))) refl)
+    rw append_assoc (slice_split_at (is_byte 10) (line_of_words (item_words item)) 10 rest (no_lf (line_of_words (item_words item)) (line_lf (item_words item) (item_plain item can.proper can.within))) refl)
 
 pub items_read : (items : List Item) (n m : ℕ) (p : Progress) (more : List ℕ) → IsRun p items → AllByRecursion IsShort items → m ≡ n + length items
     → items_from n p (pieces 10 (flat_map item_line items ++ more)) ≡ cond (length more == 0) (Ok items) (Err (refusals.Trailing m))
 items_read [] n m p more run short last = absurd run
 items_read (item ∷ []) n m p more run short last =
     let some = nonempty more in
-    let cut : pieces 10 (flat_map item_line (item ∷ []) ++ more) ≡ line_of (item_words item) ∷ some.0 ∷ some.1 = ap (λ (t : List ℕ). pieces 10 (t ++ more)) (flat_map-cons item_line item [] ∙ append-nil (item_line item)) ∙ line_cut p item more run.0 ∙ ap (λ (ps : List (List ℕ)). line_of (item_words item) ∷ ps) some.2 in
+    let cut : pieces 10 (flat_map item_line (item ∷ []) ++ more) ≡ line_of_words (item_words item) ∷ some.0 ∷ some.1 = ap (λ (t : List ℕ). pieces 10 (t ++ more)) (flat_map-cons item_line item [] ∙ append-nil (item_line item)) ∙ line_cut p item more run.0 ∙ ap (λ (ps : List (List ℕ)). line_of_words (item_words item) ∷ ps) some.2 in
     let test : is_nothing (some.0 ∷ some.1) ≡ (length more == 0) = ap is_nothing (sym some.2) ∙ nothing_more more in
     let number : n + 1 ≡ m = omega (arith, last) in
-    rw cut (at_end n p (line_of (item_words item)) some.0 some.1 item short.0 (line_read p item run.0) run.1 ∙ rw (test, number) refl)
+    rw cut (at_end n p (line_of_words (item_words item)) some.0 some.1 item short.0 (line_read p item run.0) run.1 ∙ rw (test, number) refl)
 items_read (item ∷ next ∷ others) n m p more run short last =
     let rest : List ℕ = flat_map item_line (next ∷ others) ++ more in
     let some = nonempty rest in
-    let cut : pieces 10 (flat_map item_line (item ∷ next ∷ others) ++ more) ≡ line_of (item_words item) ∷ some.0 ∷ some.1 = ap (λ (t : List ℕ). pieces 10 (t ++ more)) (flat_map-cons item_line item (next ∷ others)) ∙ ap (pieces 10) (append_assoc (item_line item) (flat_map item_line (next ∷ others)) more) ∙ line_cut p item rest run.0 ∙ ap (λ (ps : List (List ℕ)). line_of (item_words item) ∷ ps) some.2 in
+    let cut : pieces 10 (flat_map item_line (item ∷ next ∷ others) ++ more) ≡ line_of_words (item_words item) ∷ some.0 ∷ some.1 = ap (λ (t : List ℕ). pieces 10 (t ++ more)) (flat_map-cons item_line item (next ∷ others)) ∙ ap (pieces 10) (append_assoc (item_line item) (flat_map item_line (next ∷ others)) more) ∙ line_cut p item rest run.0 ∙ ap (λ (ps : List (List ℕ)). line_of_words (item_words item) ∷ ps) some.2 in
     let later = items_read (next ∷ others) (n + 1) m (after p item) more run.2 short.1 (omega (arith, last)) in
-    let step = at_item n p (line_of (item_words item)) some.0 some.1 item short.0 (line_read p item run.0) run.1 in
+    let step = at_item n p (line_of_words (item_words item)) some.0 some.1 item short.0 (line_read p item run.0) run.1 in
     rw cut (step ∙ ap (onto item) (ap (items_from (n + 1) (after p item)) (sym some.2) ∙ later) ∙ through item (length more == 0) (next ∷ others) m)
   where
     through : (item : Item) (b : Bool) (rest : List Item) (m : ℕ) → onto item (cond b (Ok rest) (Err (refusals.Trailing m))) ≡ cond b (Ok (item ∷ rest)) (Err (refusals.Trailing m))
@@ -144,14 +144,14 @@ items_read (item ∷ next ∷ others) n m p more run short last =
 
 -- ---- whole texts
 
-pub text_read : (items : List Item) (more : List ℕ) → IsRun start items → items_of_text (text_of items ++ more) ≡ cond (length more == 0) (Ok items) (Err (refusals.Trailing (1 + length items)))
+pub text_read : (items : List Item) (more : List ℕ) → IsRun beginning items → items_of_text (text_of items ++ more) ≡ cond (length more == 0) (Ok items) (Err (refusals.Trailing (1 + length items)))
 unfolding items_of_text
-text_read items more run = items_read items 1 (1 + length items) start more run (run_short start items run) refl
+text_read items more run = items_read items 1 (1 + length items) beginning more run (run_short beginning items run) refl
 
-pub text_found : (text : List ℕ) (items : List Item) → items_of_text text ≡ Ok items → (text ≡ text_of items) × IsRun start items
+pub text_found : (text : List ℕ) (items : List Item) → items_of_text text ≡ Ok items → (text ≡ text_of items) × IsRun beginning items
 unfolding items_of_text
 text_found text items h =
-    let found = items_found 1 start (pieces 10 text) items h in
+    let found = items_found 1 beginning (pieces 10 text) items h in
     (sym (join_with_byte-slice_split 10 text) ∙ found.text, found.run)
 
 -- ---- no text begins another
@@ -164,7 +164,7 @@ nil_is : (more : List ℕ) → (length more == 0) ≡ true → more ≡ []
 nil_is [] h = refl
 nil_is (c ∷ cs) h = absurd (grind (arith, nat_tests, h))
 
-pub none_begins : (a b : List Item) (more : List ℕ) → IsRun start a → IsRun start b → text_of a ++ more ≡ text_of b → (a ≡ b) × (more ≡ [])
+pub none_begins : (a b : List Item) (more : List ℕ) → IsRun beginning a → IsRun beginning b → text_of a ++ more ≡ text_of b → (a ≡ b) × (more ≡ [])
 none_begins a b more run_a run_b same =
     let whole : items_of_text (text_of b) ≡ Ok b = ap items_of_text (sym (append-nil (text_of b))) ∙ text_read b [] run_b in
     let both : cond (length more == 0) (Ok a) (Err (refusals.Trailing (1 + length a))) ≡ Ok b = sym (text_read a more run_a) ∙ ap items_of_text same ∙ whole in
@@ -178,7 +178,7 @@ pub text_found_of : (text : List ℕ) (items : List Item) → items_of_text text
 text_found_of text items h =
     let t = text_found text items h in
     let c = run_content items t.1 in
-    let run : IsRun start (items_of c.0) = let P : List Item → Type 0 = λ is. IsRun start is in subst P c.1 t.1 in
+    let run : IsRun beginning (items_of c.0) = let P : List Item → Type 0 = λ is. IsRun beginning is in subst P c.1 t.1 in
     (c.0, c.1, record { has_text = record { run = run }; spelt = t.0 ∙ ap text_of c.1 })
 
 pub text_read_of : (text : List ℕ) (c : Content) → IsTextOf text c → items_of_text text ≡ Ok (items_of c)

@@ -7,7 +7,7 @@ use Rattle.pesp_cert_lines.specs.declared.fault.LineFault.{LineFault}
 use Rattle.pesp_cert_lines.specs.declared.item.Item.{Item}
 use Rattle.pesp_cert_lines.specs.declared.item.Item.TheVariants.{Version, Period, Answer as Says, Time, Cycle, Slack, Offset, Bound, Nothing, Gap, Propagated, End}
 use Rattle.pesp_cert_lines.specs.declared.progress.Progress.{Progress}
-use Rattle.pesp_cert_lines.specs.Counts.{start, after, IsKept}
+use Rattle.pesp_cert_lines.specs.Counts.{beginning, after, IsKept}
 use Rattle.pesp_cert_lines.specs.Lines.{line_at, LONGEST}
 use Rattle.pesp_cert.specs.declared.refusal.CertRefusal.{CertRefusal}
 use Rattle.pesp_cert.specs.declared.refusal.CertRefusal.TheVariants as refusals
@@ -35,9 +35,9 @@ behind_nothing : (r : Result (List Item) CertRefusal) → behind [] r ≡ r
 behind_nothing (Ok items) = refl
 behind_nothing (Err e) = refl
 
-pub read_start : (all : List ℕ) (p : Progress) (draft : Content) → p ≡ start → IsKept p → draft ≡ blank → IsReadTo all all 1 p draft
+pub read_start : (all : List ℕ) (p : Progress) (draft : Content) → p ≡ beginning → IsKept p → draft ≡ blank → IsReadTo all all 1 p draft
 unfolding items_of_text
-read_start all p draft e kept none = record { items = []; same = rw e (behind_nothing (items_from 1 start (pieces 10 all))); made = none; kept = kept; long = omega arith; more = omega arith }
+read_start all p draft e kept none = record { items = []; same = rw e (behind_nothing (items_from 1 beginning (pieces 10 all))); made = none; kept = kept; long = omega arith; more = omega arith }
 
 read_as : (all rest : List ℕ) (n : ℕ) (p : Progress) (draft : Content) (r : Result (List Item) CertRefusal) (so_far : IsReadTo all rest n p draft) → items_from n p (pieces 10 rest) ≡ r → behind so_far.items r ≡ items_of_text all
 read_as all rest n p draft r so_far h = rw (← h) so_far.same

@@ -3,3 +3,4 @@ pub mod Texts
 pub mod Print
 pub mod Drafts
 pub mod Refusals
+pub mod RefusalLines

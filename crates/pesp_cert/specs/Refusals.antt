@@ -6,7 +6,7 @@ use Rattle.pesp_cert_lines.specs.declared.fault.LineFault.{LineFault}
 use Rattle.pesp_cert_lines.specs.declared.fault.LineFault.TheVariants as faults
 use Rattle.pesp_cert_lines.specs.declared.item.Item.{Item}
 use Rattle.pesp_cert_lines.specs.declared.progress.Progress.{Progress}
-use Rattle.pesp_cert_lines.specs.Counts.{after, start}
+use Rattle.pesp_cert_lines.specs.Counts.{after, beginning}
 use Rattle.pesp_cert_lines.specs.Lines.{line_at, LONGEST}
 use Rattle.pesp_cert.specs.declared.refusal.CertRefusal.{CertRefusal}
 use Rattle.pesp_cert.specs.declared.refusal.CertRefusal.TheVariants as refusals
@@ -44,7 +44,7 @@ items_from n p (line ∷ next ∷ more) = if nat_lt LONGEST (length line) then E
 
 -- the items of a whole text, or its first fault
 unfoldable pub items_of_text : List ℕ → Result (List Item) CertRefusal
-items_of_text text = items_from 1 start (pieces 10 text)
+items_of_text text = items_from 1 beginning (pieces 10 text)
 
 -- ---- what a reader of a text answers
 

@@ -8,7 +8,7 @@ use Rattle.pesp_cert_lines.specs.declared.item.Item.{Item}
 use Rattle.pesp_cert_lines.specs.declared.item.Item.TheVariants.{Version, Period, Answer as Says, Time, Cycle, Slack, Offset, Bound, Nothing, Gap, Propagated, End}
 use Rattle.pesp_cert_lines.specs.declared.progress.Progress.{Progress}
 use Rattle.pesp_cert_lines.specs.Items.{item_line}
-use Rattle.pesp_cert_lines.specs.Counts.{after, start, CanStand}
+use Rattle.pesp_cert_lines.specs.Counts.{after, beginning, CanStand}
 
 -- a line for each item
 abbrev pub text_of : List Item → List ℕ
@@ -45,7 +45,7 @@ spelling c = text_of (items_of c)
 
 -- what has a text
 pub record HasText (c : Content) : Type 0 where
-  pub run : IsRun start (items_of c)
+  pub run : IsRun beginning (items_of c)
 
 -- no text begins another, and each has one meaning
 abbrev pub NoneBeginsAnother : Type 0

@@ -5,12 +5,14 @@ mod certificate;
 mod draft;
 pub mod laws;
 mod limits;
+mod number;
 mod parsing;
 mod printing;
 mod refusal;
 
 pub use certificate::{Certificate, NotACertificate};
 pub use draft::Draft;
+pub use number::{Number, Whole};
 pub use parsing::parse;
 pub use pesp_problem::{Pair, Pairs, SignedRow, Walk};
 pub use pesp_truth::{Answer, TreeLine};

@@ -2,7 +2,6 @@
 
 ghost use Rattle.std.specs.Prelude.{◌≡◌, ◌<◌, ◌+◌, ◌^◌, ◌++◌, codes, OnOk, OnErr, if◌then◌else◌};
 ghost use Rattle.std.specs.List.{flat_map};
-ghost use Rattle.std.specs.Fmt.{signed_decimal};
 ghost use Rattle.pesp_stream.specs.Counts.{FewerThan, HasWorked, DeviceFailed};
 ghost use Rattle.pesp_stream.specs.Printing.{Sending, Sends};
 ghost use Rattle.pesp_stream.specs.Writing.{Writes};
@@ -11,36 +10,10 @@ ghost use Rattle.pesp_cert.specs.Texts.{HasText, spelling};
 
 use crate::certificate::Certificate;
 use crate::laws::limits_are_those_of_texts;
-use itoa::{Buffer, Integer};
+use crate::number::{Number, Whole};
 use pesp_problem::{Pair, SignedRow, Walk};
 use pesp_stream::{Output, Printed, Sink, WriteFault, print_to};
 use pesp_truth::{Answer, TreeLine};
-
-/// An unsigned number in plain digits.
-#[derive(Clone, Copy)]
-struct Number<I: Integer>(I);
-
-impl<I: Integer> Printed for Number<I> {
-    ghost text = { λ n. I.text n.0 };
-
-    fn print<O: Output>(&self, out: &mut O) {
-        let mut buffer = Buffer::new();
-        out.put(buffer.format(self.0).as_bytes());
-    }
-}
-
-/// A whole number in plain digits, a negative one behind `-`.
-#[derive(Clone, Copy)]
-struct Whole<'a>(&'a i64);
-
-impl Printed for Whole<'_> {
-    ghost text = { λ n. signed_decimal n.0.now };
-
-    fn print<O: Output>(&self, out: &mut O) {
-        let mut buffer = Buffer::new();
-        out.put(buffer.format(*self.0).as_bytes());
-    }
-}
 
 /// The first two lines.
 fn print_head<O: Output>(version: u32, period: u32, out: &mut O)

@@ -5,33 +5,49 @@ ghost use Rattle.pesp_cert.specs.Refusals.{refusal_at};
 
 use pesp_cert_lines::LineFault;
 use pesp_problem::Memory;
-use thiserror::Error;
+use std::error::Error;
+use std::fmt;
 
 /// Why a text is no certificate's: the first fault of its first line with a fault. Lines are numbered from 1.
-#[derive(Clone, Copy, Debug, PartialEq, Eq, Error)]
+#[derive(Clone, Copy, Debug, PartialEq, Eq)]
 pub enum CertRefusal {
     /// The first line is not that of a certificate.
-    #[error("the first line is not that of a certificate")]
     Header,
     /// Line `n` has no form that may stand at its place.
-    #[error("line {n} has no form that may stand there")]
     Line { n: u64 },
     /// A word of line `n` is not spelt as its kind says, a multiplier is 0, or its pairs do not rise.
-    #[error("line {n} has a word that is no number of its kind, or pairs that do not rise")]
     Number { n: u64 },
     /// A number or a count passes its limit with line `n`, or the line has more than 100,000,000 bytes.
-    #[error("line {n} passes a limit")]
     Limit { n: u64 },
     /// The text ends before its last line is whole, or before the tree is.
-    #[error("the text ends too early")]
     Truncated,
     /// Line `n` begins behind the end of the certificate.
-    #[error("line {n} stands behind the end")]
     Trailing { n: u64 },
     /// A growth was refused.
-    #[error("out of memory")]
     Memory,
 }
+
+/// A refusal of a certificate's text: its number, its name and its line, as `3 Number line 9`.
+impl fmt::Display for CertRefusal {
+    ghost use Rattle.std.specs.Prelude.{Some};
+    ghost use Rattle.pesp_cert.specs.RefusalLines.{certificate_line};
+
+    ghost output = { λ refusal. Some (certificate_line refusal) };
+
+    fn fmt<W: fmt::Write>(&self, f: &mut fmt::Formatter<W>) -> fmt::Result {
+        match self {
+            CertRefusal::Header => f.write_str("1 Header"),
+            CertRefusal::Line { n } => write!(f, "2 Line line {n}"),
+            CertRefusal::Number { n } => write!(f, "3 Number line {n}"),
+            CertRefusal::Limit { n } => write!(f, "4 Limit line {n}"),
+            CertRefusal::Truncated => f.write_str("5 Truncated"),
+            CertRefusal::Trailing { n } => write!(f, "6 Trailing line {n}"),
+            CertRefusal::Memory => f.write_str("7 Memory"),
+        }
+    }
+}
+
+impl Error for CertRefusal {}
 
 impl From<Memory> for CertRefusal {
     ghost use Rattle.std.specs.Prelude.{◌≡◌};

@@ -10,7 +10,7 @@ use Rattle.pesp_cert_lines.specs.declared.progress.Progress.{Progress}
 use Rattle.pesp_cert_lines.specs.Rows.{rows_of, rows_are_named, row_words}
 use Rattle.pesp_cert_lines.specs.Pairs.{pairs_from, all_within, pair_words}
 use Rattle.pesp_cert_lines.specs.Items.{item_words}
-use Rattle.pesp_cert_lines.specs.Lines.{Spells}
+use Rattle.pesp_cert_lines.specs.Lines.{SpellsItem}
 use Rattle.pesp_cert_lines.proofs.LineLaws.{words_of-item}
 use Rattle.pesp_cert_lines.proofs.WordLaws.{rows_read, pairs_read}
 use Rattle.pesp_cert.specs.Texts.{is_end}
@@ -21,7 +21,7 @@ use Rattle.pesp_cert_items.specs.declared.pairs.LinePairs.{LinePairs}
 use Rattle.pesp_cert_items.specs.Lent.{rows_in, pairs_in, listed, bare, read_back, IsSpelt}
 
 -- the words behind the first
-behind : (p : Progress) (item : Item) (line w : List ℕ) (ws : List (List ℕ)) → Spells p line item → item_words item ≡ w ∷ ws → drop 1 (words_of line) ≡ ws
+behind : (p : Progress) (item : Item) (line w : List ℕ) (ws : List (List ℕ)) → SpellsItem p line item → item_words item ≡ w ∷ ws → drop 1 (words_of line) ≡ ws
 behind p item line w ws s words = ap (λ l. drop 1 (words_of l)) s.0 ∙ ap (drop 1) (words_of-item item s.1.proper s.1.within) ∙ ap (drop 1) words
 
 -- what is lent says the item
@@ -88,7 +88,7 @@ plain_lent (lent.Nothing ps) line item plain h = let bad : true ≡ has_list ite
 plain_lent (lent.Gap cycle) line item plain h = record { says = h; spelt = tt }
 plain_lent lent.Propagated line item plain h = record { says = h; spelt = tt }
 
-pub lent_back : (p : Progress) (said : LentItem) (line : List ℕ) (item : Item) → Spells p line item → is_end item ≡ false → listed said ≡ bare item → IsLent said line item
+pub lent_back : (p : Progress) (said : LentItem) (line : List ℕ) (item : Item) → SpellsItem p line item → is_end item ≡ false → listed said ≡ bare item → IsLent said line item
 lent_back p said line (Period n) s e h = plain_lent said line (Period n) refl h
 lent_back p said line (Version n) s e h = plain_lent said line (Version n) refl h
 lent_back p said line (Says a) s e h = plain_lent said line (Says a) refl h

@@ -12,7 +12,7 @@ use Rattle.pesp_cert_lines.specs.declared.fault.LineFault.{LineFault}
 use Rattle.pesp_cert_lines.specs.declared.fault.LineFault.TheVariants as faults
 use Rattle.pesp_cert_lines.specs.declared.item.Item.{Item}
 use Rattle.pesp_cert_lines.specs.declared.item.Item.TheVariants.{Version, Period, Answer as Says, Time, Cycle, Slack, Offset, Bound, Nothing, Gap, Propagated, End}
-use Rattle.pesp_text.specs.Words.{line_of}
+use Rattle.pesp_text.specs.Words.{line_of_words}
 use Rattle.pesp_cert_lines.specs.Items.{item_words}
 use Rattle.pesp_cert_lines.proofs.LineLaws.{line_read as line_read_law}
 use Rattle.std.proofs.lemmas.Slice.Eq.{bytes_eq-Decides}
@@ -140,10 +140,10 @@ item_read old told' left' held' line n p q item l h e goes = record {
 
 -- ---- the last line
 
-pub is_the_end : (line : List ℕ) → bytes_eq line (codes "end") ≡ true → line ≡ line_of (item_words End)
+pub is_the_end : (line : List ℕ) → bytes_eq line (codes "end") ≡ true → line ≡ line_of_words (item_words End)
 is_the_end line h = (bytes_eq-Decides line (codes "end")).0 h
 
-pub not_the_end : (item : Item) (line : List ℕ) → bytes_eq line (codes "end") ≡ false → line ≡ line_of (item_words item) → is_end item ≡ false
+pub not_the_end : (item : Item) (line : List ℕ) → bytes_eq line (codes "end") ≡ false → line ≡ line_of_words (item_words item) → is_end item ≡ false
 not_the_end (Version n) line h is = refl
 not_the_end (Period n) line h is = refl
 not_the_end (Says a) line h is = refl

@@ -5,7 +5,7 @@ use Rattle.std.proofs.lemmas.List.{take_all}
 use Rattle.pesp_stream.specs.Reading.{ReadsText}
 use Rattle.pesp_cert_lines.specs.declared.item.Item.{Item}
 use Rattle.pesp_cert_lines.specs.declared.item.Item.TheVariants.{End}
-use Rattle.pesp_cert_lines.specs.Counts.{start}
+use Rattle.pesp_cert_lines.specs.Counts.{beginning}
 use Rattle.pesp_cert.specs.declared.refusal.CertRefusal.{CertRefusal}
 use Rattle.pesp_cert.specs.Refusals.{items_of_text}
 use Rattle.pesp_cert_items.specs.declared.stage.Stage.TheVariants as stages
@@ -15,7 +15,7 @@ use Rattle.pesp_cert_items.proofs.Running.{Ran}
 
 -- nothing was read
 abbrev pub at_first : Option (List ℕ) → ℕ → Reading
-at_first told limit = record { told = told; left = limit; held = []; n = 0; progress = start; stage = stages.Going }
+at_first told limit = record { told = told; left = limit; held = []; n = 0; progress = beginning; stage = stages.Going }
 
 take_front : (got ys : List ℕ) (left : ℕ) → take (length got + left) (got ++ ys) ≡ got ++ take left ys
 take_front [] ys left = ap (λ k. take k ys) {y = left} (omega arith)

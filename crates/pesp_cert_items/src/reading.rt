@@ -5,7 +5,7 @@ ghost use Rattle.std.below.core.specs.declared.int.u64.TheConstants.{MAX};
 ghost use Rattle.std.specs.Borrow.{sem};
 ghost use Rattle.std.specs.Io.BufRead.{Rests};
 ghost use Rattle.pesp_stream.specs.Counts.{Worked};
-ghost use Rattle.pesp_cert_lines.specs.Counts.{IsKept, start};
+ghost use Rattle.pesp_cert_lines.specs.Counts.{IsKept, beginning};
 ghost use Rattle.pesp_cert_items.specs.declared.stage.Stage.TheVariants as stages;
 ghost use Rattle.pesp_cert_items.specs.Readings.{is_open};
 
@@ -50,7 +50,7 @@ impl ItemReader {
               left = 1073741824;
               held = [];
               n = 0;
-              progress = start;
+              progress = beginning;
               stage = stages.Going;
             } }
     {

@@ -19,7 +19,7 @@ use Rattle.pesp_cert_lines.specs.Rows.{is_name, row_words, rows_of}
 use Rattle.pesp_cert_lines.specs.Pairs.{pairs_from, pair_words}
 use Rattle.pesp_cert_lines.specs.declared.item.Item.{Item}
 use Rattle.pesp_cert_lines.specs.declared.item.Item.TheVariants.{Version, Period, Answer as Says, Time, Cycle, Slack, Offset, Bound, Nothing, Gap, Propagated, End}
-use Rattle.pesp_cert_lines.specs.Items.{is_item_within, item_of, is_form, item_words, one, two, cost_of, cost_word, answer_of, answer_words, optimal_of, open_of, is_answer_form, IsProper, HasProperCosts}
+use Rattle.pesp_cert_lines.specs.Items.{is_item_within, item_of, is_form, item_words, one, two, spelt_cost, cost_word, answer_of, answer_words, optimal_of, open_of, is_answer_form, IsProper, HasProperCosts}
 use Rattle.pesp_cert_lines.specs.Counts.{kind_in}
 use Rattle.pesp_text.proofs.Digits.{natural_spells, natural_read, whole_spells, whole_read, decimal_digits}
 use Rattle.pesp_cert_lines.proofs.Tests.{cases}
@@ -30,8 +30,8 @@ is_bytes w name h = (bytes_eq-Decides w name).0 h
 
 -- ---- answers
 
-cost_spells : (w : List ℕ) (o : Option ℕ) → cost_of w ≡ Some o → (w ≡ cost_word o) × IfSome o (λ c. c < NATURALS)
-unfolding cost_of
+cost_spells : (w : List ℕ) (o : Option ℕ) → spelt_cost w ≡ Some o → (w ≡ cost_word o) × IfSome o (λ c. c < NATURALS)
+unfolding spelt_cost
 cost_spells w o h =
     elim (cases (bytes_eq w (codes "none"))) [
       | inl is ↦ let e : None ≡ o = same_Some None o (rw is at h) in rw (← e) (is_bytes w (codes "none") is, tt)
@@ -54,7 +54,7 @@ open_spells : (ws : List (List ℕ)) (a : Answer) → (length ws == 2) ≡ true 
 open_spells [] a f h = absurd cc
 open_spells (l ∷ []) a f h = absurd cc
 open_spells (l ∷ c ∷ []) a f h =
-    let x = both_some answers.Bounded (natural_of l) (cost_of c) a h in
+    let x = both_some answers.Bounded (natural_of l) (spelt_cost c) a h in
     let least = natural_spells l x.0 x.2 in
     let cost = cost_spells c x.1 x.3 in
     rw (← x.4) (ap (λ (ws : List (List ℕ)). codes "open" ∷ ws) (joined l (decimal x.0) (c ∷ []) (cost_word x.1 ∷ []) least.1 (joined c (cost_word x.1) [] [] cost.0 refl)), (least.0, cost.1))
@@ -92,8 +92,8 @@ none_word n lt =
       | inr isnt ↦ isnt
     ]
 
-cost_read : (o : Option ℕ) → IfSome o (λ c. c < NATURALS) → cost_of (cost_word o) ≡ Some o
-unfolding cost_of
+cost_read : (o : Option ℕ) → IfSome o (λ c. c < NATURALS) → spelt_cost (cost_word o) ≡ Some o
+unfolding spelt_cost
 cost_read None h = refl
 cost_read (Some c) h = rw (none_word c h, natural_read (decimal c) c (h, refl)) refl
 

@@ -22,7 +22,7 @@ use Rattle.pesp_cert_lines.specs.declared.progress.Progress.{Progress}
 use Rattle.pesp_cert_lines.specs.declared.progress.Place.{Place}
 use Rattle.pesp_cert_lines.specs.declared.progress.Place.TheVariants as places
 use Rattle.pesp_text.specs.Number.{NATURALS}
-use Rattle.pesp_text.specs.Words.{is_byte, words_of, spaced, line_of, has_empty}
+use Rattle.pesp_text.specs.Words.{is_byte, words_of, spaced, line_of_words, has_empty}
 use Rattle.pesp_cert_lines.specs.Rows.{is_name, rows_are_named, row_word, row_words}
 use Rattle.pesp_cert_lines.specs.Pairs.{pair_words, is_pair_within, all_within}
 use Rattle.pesp_cert_lines.specs.declared.item.Item.{Item}
@@ -115,7 +115,7 @@ words_joined w [] h k = rw append-nil (slice_split_none (is_byte 32) w (no_space
 words_joined w (v ∷ vs) h k =
     slice_split_at (is_byte 32) w 32 (v ++ spaced vs) (no_space w (inner_of w h)) refl ∙ ap (λ (us : List (List ℕ)). w ∷ us) (words_joined v vs (and_left (is_plain v) (all_plain vs) k) (and_right (is_plain v) (all_plain vs) k))
 
-nonempty : (ps : List (List ℕ)) (c : ℕ) (line : List ℕ) → line_of ps ≡ line → (length ps ≡ 0 → ⊥) → line_of (cond (is_byte 32 c) ([] ∷ ps) (onto_first c ps)) ≡ c ∷ line
+nonempty : (ps : List (List ℕ)) (c : ℕ) (line : List ℕ) → line_of_words ps ≡ line → (length ps ≡ 0 → ⊥) → line_of_words (cond (is_byte 32 c) ([] ∷ ps) (onto_first c ps)) ≡ c ∷ line
 nonempty [] c line h some = absurd (some refl)
 nonempty (w ∷ ws) c line h some =
     elim (cases (is_byte 32 c)) [
@@ -132,9 +132,9 @@ some_words (c ∷ cs) h = go (is_byte 32 c) (words_of cs) h
     go false [] h = omega (arith, h)
     go false (p ∷ ps) h = omega (arith, h)
 
-pub line_of-words_of : (line : List ℕ) → line_of (words_of line) ≡ line
-line_of-words_of [] = refl
-line_of-words_of (c ∷ cs) = nonempty (words_of cs) c cs (line_of-words_of cs) (some_words cs)
+pub line_of_words-words_of : (line : List ℕ) → line_of_words (words_of line) ≡ line
+line_of_words-words_of [] = refl
+line_of_words-words_of (c ∷ cs) = nonempty (words_of cs) c cs (line_of_words-words_of cs) (some_words cs)
 
 -- ---- a line at its place
 
@@ -183,13 +183,13 @@ not_cut true r item h = absurd cc
 not_cut false r item h = h
 
 -- what is read stands at its place, and is spelt so
-pub line_found : (p : Progress) (line : List ℕ) (item : Item) → line_at p line ≡ Ok item → (line ≡ line_of (item_words item)) × CanStand p item
+pub line_found : (p : Progress) (line : List ℕ) (item : Item) → line_at p line ≡ Ok item → (line ≡ line_of_words (item_words item)) × CanStand p item
 unfolding line_at
 line_found p line item h =
     let r = not_cut (bytes_eq line (codes "end") && not (p.needs == 0)) (counted p (words_judged p (words_of line))) item h in
     let c = counted_ok p (words_judged p (words_of line)) item r in
     let w = words_ok p (words_of line) item c.0 in
-    (sym (line_of-words_of line) ∙ ap line_of (sym w.0), record { allowed = w.1; proper = w.2; within = w.3; counts = c.1 })
+    (sym (line_of_words-words_of line) ∙ ap line_of_words (sym w.0), record { allowed = w.1; proper = w.2; within = w.3; counts = c.1 })
 
 plain_words_have_no_empty : (ws : List (List ℕ)) → all_plain ws ≡ true → has_empty ws ≡ false
 plain_words_have_no_empty [] h = refl
@@ -213,30 +213,30 @@ only_end p k e h = go (p.needs == 0) p.place (rw (← e) at h)
     go false places.Cycles h = absurd cc
     go false places.Tree h = absurd cc
 
-pub words_of-item : (item : Item) → IsProper item → is_item_within item ≡ true → words_of (line_of (item_words item)) ≡ item_words item
+pub words_of-item : (item : Item) → IsProper item → is_item_within item ≡ true → words_of (line_of_words (item_words item)) ≡ item_words item
 words_of-item item proper within =
     let r = item_read item proper within in
     let plain = rw r.1.words at (item_plain item proper within) in
     rw r.1.words (words_joined (kind_word (kind_in item)) r.0 (and_left (is_plain (kind_word (kind_in item))) (all_plain r.0) plain) (and_right (is_plain (kind_word (kind_in item))) (all_plain r.0) plain))
 
-end_is : (item : Item) → IsProper item → is_item_within item ≡ true → bytes_eq (line_of (item_words item)) (codes "end") ≡ true → kinds.End ≡ kind_in item
+end_is : (item : Item) → IsProper item → is_item_within item ≡ true → bytes_eq (line_of_words (item_words item)) (codes "end") ≡ true → kinds.End ≡ kind_in item
 end_is item proper within h =
     let r = item_read item proper within in
-    let same : line_of (item_words item) ≡ codes "end" = (bytes_eq-Decides (line_of (item_words item)) (codes "end")).0 h in
+    let same : line_of_words (item_words item) ≡ codes "end" = (bytes_eq-Decides (line_of_words (item_words item)) (codes "end")).0 h in
     let words : codes "end" ∷ [] ≡ kind_word (kind_in item) ∷ r.0 = sym (ap words_of same) ∙ words_of-item item proper within ∙ r.1.words in
     let first : codes "end" ≡ kind_word (kind_in item) = cc in
     same_Some kinds.End (kind_in item) (sym (kind_read kinds.End) ∙ ap kind_of first ∙ kind_read (kind_in item))
 
-pub line_read : (p : Progress) (item : Item) → CanStand p item → line_at p (line_of (item_words item)) ≡ Ok item
+pub line_read : (p : Progress) (item : Item) → CanStand p item → line_at p (line_of_words (item_words item)) ≡ Ok item
 unfolding line_at
 line_read p item can =
     let r = item_read item can.proper can.within in
     let plain : has_empty (kind_word (kind_in item) ∷ r.0) ≡ false = plain_words_have_no_empty (kind_word (kind_in item) ∷ r.0) (rw r.1.words at (item_plain item can.proper can.within)) in
-    let goes : (bytes_eq (line_of (item_words item)) (codes "end") && not (p.needs == 0)) ≡ false = elim (cases (bytes_eq (line_of (item_words item)) (codes "end"))) [
+    let goes : (bytes_eq (line_of_words (item_words item)) (codes "end") && not (p.needs == 0)) ≡ false = elim (cases (bytes_eq (line_of_words (item_words item)) (codes "end"))) [
       | inl is ↦ rw (is, only_end p (kind_in item) (end_is item can.proper can.within is) can.allowed) refl
       | inr isnt ↦ rw isnt refl
     ] in
-    let judged : words_judged p (words_of (line_of (item_words item))) ≡ Ok item = ap (words_judged p) (words_of-item item can.proper can.within ∙ r.1.words) ∙ rw (plain, kind_read (kind_in item), can.allowed, r.1.form, r.1.says, can.within) refl in
+    let judged : words_judged p (words_of (line_of_words (item_words item))) ≡ Ok item = ap (words_judged p) (words_of-item item can.proper can.within ∙ r.1.words) ∙ rw (plain, kind_read (kind_in item), can.allowed, r.1.form, r.1.says, can.within) refl in
     rw (goes, judged, can.counts) refl
 
 pub reads_line : (p : Progress) (line : List ℕ) (r : Result Item LineFault) → r ≡ line_at p line → ReadsLine p line r

@@ -14,7 +14,7 @@ use Rattle.pesp_cert_lines.specs.declared.kind.Kind.{Kind}
 use Rattle.pesp_cert_lines.specs.declared.kind.Kind.TheVariants as kinds
 use Rattle.pesp_text.specs.Number.{NATURALS, natural_of, whole_of}
 use Rattle.pesp_cert_lines.specs.Pairs.{pair_at, pairs_from, pair_words, is_pair_within, all_within, follows, rise_from}
-use Rattle.pesp_cert_lines.specs.Rows.{row_at, row_made, row_word, row_words, rows_of, rows_are_named, signed, both, is_name}
+use Rattle.pesp_cert_lines.specs.Rows.{spelt_row, row_made, row_word, row_words, rows_of, rows_are_named, signed, both, is_name}
 use Rattle.pesp_cert_lines.specs.Items.{kind_of}
 use Rattle.pesp_cert_lines.proofs.Tests.{and_left, and_right, and_both, cases}
 use Rattle.pesp_text.proofs.Digits.{natural_spells, natural_read, whole_spells, whole_read}
@@ -73,8 +73,8 @@ led_by : (w : List ℕ) (c : ℕ) (rest : List ℕ) → 0 < c → get_or w 0 0 �
 led_by [] c rest some h e = absurd (omega arith)
 led_by (b ∷ bs) c rest some h e = rw (h, e) refl
 
-pub row_spells : (w : List ℕ) (p : ℕ × Bool) → row_at w ≡ Some p → (w ≡ row_word (row_made p)) × (p.0 < NATURALS)
-unfolding row_at
+pub row_spells : (w : List ℕ) (p : ℕ × Bool) → spelt_row w ≡ Some p → (w ≡ row_word (row_made p)) × (p.0 < NATURALS)
+unfolding spelt_row
 row_spells w p h =
     elim (cases (slice_index w 0 == 43)) [
       | inl is ↦
@@ -90,11 +90,11 @@ row_spells w p h =
       ]
     ]
 
-pub row_read : (r : SignedRow) → r.row < NATURALS → row_at (row_word r) ≡ Some (r.row, r.plus)
-unfolding row_at
+pub row_read : (r : SignedRow) → r.row < NATURALS → spelt_row (row_word r) ≡ Some (r.row, r.plus)
+unfolding spelt_row
 row_read r lt = go r.plus
   where
-    go : (plus : Bool) → row_at (row_word (record { row = r.row; plus = plus })) ≡ Some (r.row, plus)
+    go : (plus : Bool) → spelt_row (row_word (record { row = r.row; plus = plus })) ≡ Some (r.row, plus)
     go true = rw (natural_read (decimal r.row) r.row (lt, refl)) refl
     go false = rw (natural_read (decimal r.row) r.row (lt, refl)) refl
 
@@ -107,7 +107,7 @@ pub rows_spell : (ws : List (List ℕ)) (rs : List SignedRow) → rows_of ws ≡
 unfolding rows_of
 rows_spell [] rs h = let e : [] ≡ rs = same_Some [] rs h in rw (← e) refl
 rows_spell (w ∷ ws) rs h =
-    let b = both_some (λ (p : ℕ × Bool) (qs : List SignedRow). row_made p ∷ qs) (row_at w) (rows_of ws) rs h in
+    let b = both_some (λ (p : ℕ × Bool) (qs : List SignedRow). row_made p ∷ qs) (spelt_row w) (rows_of ws) rs h in
     let first = row_spells w b.0 b.2 in
     let others = rows_spell ws b.1 b.3 in
     rw (← b.4) (joined w (row_word (row_made b.0)) ws (row_words b.1) first.0 others)

@@ -64,8 +64,8 @@ allows p k = if p.needs == 0 then is_end_kind k else may_follow p.place k && has
 
 -- ---- the counts
 
-abbrev pub start : Progress
-start = record { place = places.Front; version = 0; needs = 1; times = 0; cycles = 0; rows = 0; lines = 0; pairs = 0 }
+abbrev pub beginning : Progress
+beginning = record { place = places.Front; version = 0; needs = 1; times = 0; cycles = 0; rows = 0; lines = 0; pairs = 0 }
 
 -- behind a line of the tree that asks for so many trees in place of the one that it is, and has so many pairs
 abbrev pub after_tree : Progress → ℕ → ℕ → Progress

@@ -6,7 +6,7 @@ use Rattle.std.specs.Fmt.{signed_decimal}
 use Rattle.pesp_truth.specs.declared.answer.Answer.{Answer}
 use Rattle.pesp_truth.specs.declared.answer.Answer.TheVariants as answers
 use Rattle.pesp_text.specs.Number.{NATURALS, natural_of, whole_of}
-use Rattle.pesp_text.specs.Words.{line_of}
+use Rattle.pesp_text.specs.Words.{line_of_words}
 use Rattle.pesp_cert_lines.specs.declared.kind.Kind.{Kind}
 use Rattle.pesp_cert_lines.specs.declared.kind.Kind.TheVariants as kinds
 use Rattle.pesp_cert_lines.specs.declared.item.Item.{Item}
@@ -43,7 +43,7 @@ item_words End = codes "end" ∷ []
 
 -- the line, with its LF
 abbrev pub item_line : Item → List ℕ
-item_line item = line_of (item_words item) ++ 10 ∷ []
+item_line item = line_of_words (item_words item) ++ 10 ∷ []
 
 -- ---- what a line can say
 
@@ -114,8 +114,8 @@ is_form kinds.Gap ws = length ws == 1
 is_form kinds.Propagated ws = length ws == 0
 is_form kinds.End ws = length ws == 0
 
-unfoldable pub cost_of : List ℕ → Option (Option ℕ)
-cost_of w = if bytes_eq w (codes "none") then Some None else option_map Some (natural_of w)
+unfoldable pub spelt_cost : List ℕ → Option (Option ℕ)
+spelt_cost w = if bytes_eq w (codes "none") then Some None else option_map Some (natural_of w)
 
 abbrev pub optimal_of : List (List ℕ) → Option Answer
 optimal_of [] = None
@@ -124,7 +124,7 @@ optimal_of (c ∷ cs) = option_map answers.Optimal (natural_of c)
 abbrev pub open_of : List (List ℕ) → Option Answer
 open_of [] = None
 open_of (l ∷ []) = None
-open_of (l ∷ c ∷ cs) = both answers.Bounded (natural_of l) (cost_of c)
+open_of (l ∷ c ∷ cs) = both answers.Bounded (natural_of l) (spelt_cost c)
 
 unfoldable pub answer_of : List (List ℕ) → Option Answer
 answer_of [] = None

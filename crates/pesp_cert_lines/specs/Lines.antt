@@ -1,7 +1,7 @@
 -- One line at its place: what it says, or its first fault.
 use Rattle.std.specs.Prelude.{◌≡◌, ℕ, ◌&&◌, not, ◌==◌, if◌then◌else◌, Option, Some, None, Result, Ok, Err, List, [], ◌∷◌, codes}
 use Rattle.std.specs.Str.{bytes_eq}
-use Rattle.pesp_text.specs.Words.{words_of, line_of, has_empty}
+use Rattle.pesp_text.specs.Words.{words_of, line_of_words, has_empty}
 use Rattle.pesp_cert_lines.specs.declared.kind.Kind.{Kind}
 use Rattle.pesp_cert_lines.specs.declared.fault.LineFault.{LineFault}
 use Rattle.pesp_cert_lines.specs.declared.fault.LineFault.TheVariants as faults
@@ -35,9 +35,9 @@ line_at p line = if bytes_eq line (codes "end") && not (p.needs == 0) then Err f
 -- ---- the same in words of the spelling
 
 -- the line is the item's spelling, and the item may stand there
-abbrev pub Spells : Progress → List ℕ → Item → Type 0
-Spells p line item = (line ≡ line_of (item_words item)) × CanStand p item
+abbrev pub SpellsItem : Progress → List ℕ → Item → Type 0
+SpellsItem p line item = (line ≡ line_of_words (item_words item)) × CanStand p item
 
 -- what is read is spelt so, and what is spelt so is read
 abbrev pub ReadsLine : Progress → List ℕ → Result Item LineFault → Type 0
-ReadsLine p line r = (item : Item) → (r ≡ Ok item → Spells p line item) × (Spells p line item → r ≡ Ok item)
+ReadsLine p line r = (item : Item) → (r ≡ Ok item → SpellsItem p line item) × (SpellsItem p line item → r ≡ Ok item)

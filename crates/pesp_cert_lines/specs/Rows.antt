@@ -35,8 +35,8 @@ signed plus None = None
 signed plus (Some n) = Some (n, plus)
 
 -- a sign and a natural
-unfoldable pub row_at : List ℕ → Option (ℕ × Bool)
-row_at w = if slice_index w 0 == 43 then signed true (natural_of (drop 1 w)) else
+unfoldable pub spelt_row : List ℕ → Option (ℕ × Bool)
+spelt_row w = if slice_index w 0 == 43 then signed true (natural_of (drop 1 w)) else
     if slice_index w 0 == 45 then signed false (natural_of (drop 1 w)) else None
 
 abbrev pub row_made : ℕ × Bool → SignedRow
@@ -45,7 +45,7 @@ row_made p = record { row = p.0; plus = p.1 }
 -- the rows that words spell
 unfoldable pub rows_of : List (List ℕ) → Option (List SignedRow)
 rows_of [] = Some []
-rows_of (w ∷ ws) = both (λ p rs. row_made p ∷ rs) (row_at w) (rows_of ws)
+rows_of (w ∷ ws) = both (λ p rs. row_made p ∷ rs) (spelt_row w) (rows_of ws)
 
 -- the spelling first, then the limits
 abbrev pub rows_within : Option (List SignedRow) → Result (List SignedRow) LineFault

@@ -1,7 +1,7 @@
 //! The numbers of one line, where its words have the form of its kind.
 
 ghost use Rattle.std.specs.Prelude.{◌≡◌, ◌≤◌, length};
-ghost use Rattle.pesp_cert_lines.specs.Items.{item_of, checked, cost_of, answer_of};
+ghost use Rattle.pesp_cert_lines.specs.Items.{item_of, checked, spelt_cost, answer_of};
 
 use crate::fault::LineFault;
 use crate::item::Item;
@@ -165,9 +165,9 @@ fn offset(mut words: Words<'_>) -> Result<Item<'static>, LineFault>
 }
 
 /// A cost, or `none`.
-#[tactic(auto, unfolding(crate::specs::Items::cost_of))]
-fn cost_of(word: &[u8]) -> Option<Option<u64>>
-    ensures { result ≡ cost_of word.now }
+#[tactic(auto, unfolding(crate::specs::Items::spelt_cost))]
+fn spelt_cost(word: &[u8]) -> Option<Option<u64>>
+    ensures { result ≡ spelt_cost word.now }
 {
     if is_word(word, "none") {
         return Some(None);
@@ -191,7 +191,7 @@ fn answer_of(mut words: Words<'_>) -> Option<Answer>
     let second = words.next()?;
     let third = words.next()?;
     let least = natural(second)?;
-    let cost = cost_of(third)?;
+    let cost = spelt_cost(third)?;
     Some(Answer::Bounded { least, cost })
 }
 

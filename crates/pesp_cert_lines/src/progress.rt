@@ -1,7 +1,7 @@
 //! How far a text has come.
 
 ghost use Rattle.std.specs.Prelude.{◌≡◌, ◌≤◌};
-ghost use Rattle.pesp_cert_lines.specs.Counts.{after, after_tree, counted_after, keeps_counts, IsKept, start, may_follow, has_kind, allows};
+ghost use Rattle.pesp_cert_lines.specs.Counts.{after, after_tree, counted_after, keeps_counts, IsKept, beginning, may_follow, has_kind, allows};
 
 use crate::item::Item;
 use crate::kind::Kind;
@@ -39,11 +39,11 @@ pub struct Progress {
 
 impl Progress {
     ghost use Rattle.std.specs.Prelude.{◌≡◌};
-    ghost use Rattle.pesp_cert_lines.specs.Counts.{IsKept, start};
+    ghost use Rattle.pesp_cert_lines.specs.Counts.{IsKept, beginning};
 
     /// Before the first line of a text: one tree is still to come.
     pub fn new() -> Progress
-        ensures exact { result ≡ start }
+        ensures exact { result ≡ beginning }
         ensures kept { IsKept result }
     {
         Progress {

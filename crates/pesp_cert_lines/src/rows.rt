@@ -4,7 +4,7 @@ ghost use Rattle.std.specs.Prelude.{◌≡◌, ◌≤◌, IfOk, Some, true, leng
 ghost use Rattle.std.specs.Option.{option_copied};
 ghost use Rattle.pesp_text.specs.Number.{natural_of};
 ghost use Rattle.pesp_text.specs.Words.{words_of, pieces_left};
-ghost use Rattle.pesp_cert_lines.specs.Rows.{is_name, row_at, signed, rows_of, rows_within, count_of_rows, rows_are_good, BeginsRows};
+ghost use Rattle.pesp_cert_lines.specs.Rows.{is_name, spelt_row, signed, rows_of, rows_within, count_of_rows, rows_are_good, BeginsRows};
 
 use crate::fault::LineFault;
 use pesp_problem::SignedRow;
@@ -78,9 +78,9 @@ fn with_sign(plus: bool, word: &[u8]) -> Option<(u64, bool)>
 
 /// A sign and a number.
 #[inline(always)]
-#[tactic(auto, unfolding(crate::specs::Rows::row_at))]
-fn row_at(word: &[u8]) -> Option<(u64, bool)>
-    ensures { result ≡ row_at word.now }
+#[tactic(auto, unfolding(crate::specs::Rows::spelt_row))]
+fn spelt_row(word: &[u8]) -> Option<(u64, bool)>
+    ensures { result ≡ spelt_row word.now }
 {
     if word.is_empty() {
         None
@@ -110,7 +110,7 @@ fn count_rows(words: Words<'_>) -> Result<u64, LineFault>
     let mut within = true;
     let mut number = 0u64;
     while let Some(word) = words.next() {
-        let Some((row, _plus)) = row_at(word) else {
+        let Some((row, _plus)) = spelt_row(word) else {
             return Err(LineFault::Number);
         };
         within &= is_name(row);
@@ -140,7 +140,7 @@ pub fn first_row(words: &[u8]) -> (SignedRow, Option<&[u8]>)
         (rows_of (pieces_left 32 (option_copied result.1))) }
 {
     let (word, rest) = split_at_byte(b' ', words);
-    let Some((row, plus)) = row_at(word) else {
+    let Some((row, plus)) = spelt_row(word) else {
         unreachable!()
     };
     let row = SignedRow {
@@ -156,7 +156,7 @@ fn take_row(words: &mut Words<'_>) -> Option<SignedRow>
     ensures { BeginsRows result (rows_of words.old) (rows_of words.new) }
 {
     let word = words.next()?;
-    let (row, plus) = row_at(word)?;
+    let (row, plus) = spelt_row(word)?;
     Some(SignedRow {
         row: row as u32,
         plus,

@@ -92,59 +92,6 @@ impl From<AllocError> for VerdictFault {
     }
 }
 
-/// A refusal of an instance's text: its number, its name and its place, as
-/// `4 NotANumber record 3 field 6`.
-#[derive(Drop)]
-pub struct InstanceLine<'a>(pub &'a ReadRefusal);
-
-impl fmt::Display for InstanceLine<'_> {
-    ghost use Rattle.std.specs.Prelude.{Some};
-    ghost use Rattle.pesp_check_run.specs.FaultLines.{instance_line};
-
-    ghost output = { λ line. Some (instance_line line.0.now) };
-
-    fn fmt<W: fmt::Write>(&self, f: &mut fmt::Formatter<W>) -> fmt::Result {
-        match self.0 {
-            ReadRefusal::Period => f.write_str("1 Period"),
-            ReadRefusal::TextTooLong => f.write_str("2 TextTooLong"),
-            ReadRefusal::FieldCount { at } => write!(f, "3 FieldCount record {at}"),
-            ReadRefusal::NotANumber { at, field } => {
-                write!(f, "4 NotANumber record {at} field {field}")
-            }
-            ReadRefusal::OutOfRange { at, field } => {
-                write!(f, "5 OutOfRange record {at} field {field}")
-            }
-            ReadRefusal::BoundsCrossed { at } => write!(f, "6 BoundsCrossed record {at}"),
-            ReadRefusal::TooManyRows { at } => write!(f, "7 TooManyRows record {at}"),
-            ReadRefusal::TooManyEvents { at } => write!(f, "8 TooManyEvents record {at}"),
-            ReadRefusal::Memory => f.write_str("9 Memory"),
-        }
-    }
-}
-
-/// A refusal of a certificate's text: its number, its name and its line, as `3 Number line 9`.
-#[derive(Drop)]
-pub struct CertificateLine<'a>(pub &'a CertRefusal);
-
-impl fmt::Display for CertificateLine<'_> {
-    ghost use Rattle.std.specs.Prelude.{Some};
-    ghost use Rattle.pesp_check_run.specs.FaultLines.{certificate_line};
-
-    ghost output = { λ line. Some (certificate_line line.0.now) };
-
-    fn fmt<W: fmt::Write>(&self, f: &mut fmt::Formatter<W>) -> fmt::Result {
-        match self.0 {
-            CertRefusal::Header => f.write_str("1 Header"),
-            CertRefusal::Line { n } => write!(f, "2 Line line {n}"),
-            CertRefusal::Number { n } => write!(f, "3 Number line {n}"),
-            CertRefusal::Limit { n } => write!(f, "4 Limit line {n}"),
-            CertRefusal::Truncated => f.write_str("5 Truncated"),
-            CertRefusal::Trailing { n } => write!(f, "6 Trailing line {n}"),
-            CertRefusal::Memory => f.write_str("7 Memory"),
-        }
-    }
-}
-
 /// The fault's line, without the line feed at its end.
 impl fmt::Display for VerdictFault {
     ghost use Rattle.std.specs.Prelude.{Some};
@@ -154,14 +101,8 @@ impl fmt::Display for VerdictFault {
 
     fn fmt<W: fmt::Write>(&self, f: &mut fmt::Formatter<W>) -> fmt::Result {
         match self {
-            VerdictFault::Instance(refusal) => {
-                let line = InstanceLine(refusal);
-                write!(f, "instance: {line}")
-            }
-            VerdictFault::Certificate(refusal) => {
-                let line = CertificateLine(refusal);
-                write!(f, "certificate: {line}")
-            }
+            VerdictFault::Instance(refusal) => write!(f, "instance: {refusal}"),
+            VerdictFault::Certificate(refusal) => write!(f, "certificate: {refusal}"),
             VerdictFault::Memory => f.write_str("memory"),
             VerdictFault::Read => f.write_str("device: read"),
             VerdictFault::Write => f.write_str("device: write"),

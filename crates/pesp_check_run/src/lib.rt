@@ -8,6 +8,6 @@ mod reading;
 mod verdict;
 
 pub use checking::run_check;
-pub use fault::{CertificateLine, InstanceLine, VerdictFault, status_of};
+pub use fault::{VerdictFault, status_of};
 pub use reading::read_whole_instance;
 pub use verdict::{RefusalText, status_of_verdict, write_verdict};

@@ -1,5 +1,5 @@
 -- Each fault's line and exit status.
-use Rattle.std.specs.Prelude.{ℕ, List, ◌++◌, codes, decimal}
+use Rattle.std.specs.Prelude.{ℕ, List, ◌++◌, codes}
 use Rattle.pesp_stream.specs.declared.reading.ReadFault.{ReadFault}
 use Rattle.pesp_stream.specs.declared.reading.ReadFault.TheVariants.{Memory as ReadMemory, Device}
 use Rattle.pesp_cert.specs.declared.refusal.CertRefusal.{CertRefusal}
@@ -7,13 +7,16 @@ use Rattle.pesp_cert.specs.declared.refusal.CertRefusal.TheVariants.{Memory as C
 use Rattle.pesp_search.specs.declared.refusal.SolveRefusal.{SolveRefusal}
 use Rattle.pesp_search.specs.declared.refusal.SolveRefusal.TheVariants.{Memory as SearchMemory, TableTooLarge, PairsTooMany}
 use Rattle.pesp_names.specs.declared.refusal.NamesRefusal.{NamesRefusal}
-use Rattle.pesp_names.specs.declared.refusal.NamesRefusal.TheVariants.{TextTooLong as NamesTooLong, FieldCount as NamesFieldCount, NotANumber as NamesNotANumber, NotText, Memory as NamesMemory}
+use Rattle.pesp_names.specs.declared.refusal.NamesRefusal.TheVariants.{Memory as NamesMemory}
 use Rattle.pesp_report.specs.declared.refusal.TimesRefusal.{TimesRefusal}
-use Rattle.pesp_report.specs.declared.refusal.TimesRefusal.TheVariants.{BadLine, WrongCount, Memory as TimesMemory}
+use Rattle.pesp_report.specs.declared.refusal.TimesRefusal.TheVariants.{Memory as TimesMemory}
 use Rattle.pesp_report.specs.declared.refusal.ReportRefusal.{ReportRefusal}
-use Rattle.pesp_report.specs.declared.refusal.ReportRefusal.TheVariants.{Violates, NotTimes, Memory as ReportMemory, Write as ReportWrite}
+use Rattle.pesp_report.specs.declared.refusal.ReportRefusal.TheVariants.{NotTimes, Memory as ReportMemory, Write as ReportWrite}
 use Rattle.pesp_check_run.specs.Verdicts.{refusal_text}
-use Rattle.pesp_check_run.specs.FaultLines.{at_record, instance_line, certificate_line}
+use Rattle.pesp_instance.specs.RefusalLines.{instance_line}
+use Rattle.pesp_cert.specs.RefusalLines.{certificate_line}
+use Rattle.pesp_names.specs.RefusalLines.{names_line}
+use Rattle.pesp_report.specs.RefusalLines.{times_line, report_line}
 use Rattle.pesp_check_run.specs.declared.fault.VerdictFault.{VerdictFault}
 use Rattle.pesp_check_run.specs.declared.fault.VerdictFault.TheVariants.{Instance as OfInstance, Certificate as OfCertificate, Memory as OfMemory, Read as OfRead, Write as OfWrite, NoFile as OfNoFile}
 use Rattle.pesp_report.specs.declared.refusal.ViolationsRefusal.{ViolationsRefusal}
@@ -62,32 +65,11 @@ abbrev pub read_fault : ReadFault → Fault
 read_fault ReadMemory = Memory
 read_fault Device = Read
 
--- number, name and line of a refusal of a times text
-abbrev pub times_line : TimesRefusal → List ℕ
-times_line (BadLine n) = codes "1 BadLine line " ++ decimal n
-times_line WrongCount = codes "2 WrongCount"
-times_line TimesMemory = codes "3 Memory"
-
--- number, name and record of a refusal of a text of names
-abbrev pub names_line : NamesRefusal → List ℕ
-names_line NamesTooLong = codes "1 TextTooLong"
-names_line (NamesFieldCount at) = codes "2 FieldCount" ++ at_record at
-names_line (NamesNotANumber at) = codes "3 NotANumber" ++ at_record at
-names_line (NotText at) = codes "4 NotText" ++ at_record at
-names_line NamesMemory = codes "5 Memory"
-
 -- number and name of a refusal of the search
 abbrev pub search_line : SolveRefusal → List ℕ
 search_line SearchMemory = codes "1 Memory"
 search_line TableTooLarge = codes "2 TableTooLarge"
 search_line PairsTooMany = codes "3 PairsTooMany"
-
--- number, name and row of a refusal of a report
-abbrev pub report_line : ReportRefusal → List ℕ
-report_line (Violates row) = codes "1 Violates row " ++ decimal row
-report_line NotTimes = codes "2 NotTimes"
-report_line ReportMemory = codes "3 Memory"
-report_line ReportWrite = codes "4 Write"
 
 -- the line of a fault, without its line feed
 abbrev pub fault_line : Fault → List ℕ

@@ -5,7 +5,7 @@ ghost use Rattle.pesp_faults.specs.FaultLines.{exit_status};
 
 use pesp_cert::CertRefusal;
 use pesp_check::Refusal;
-use pesp_check_run::{CertificateLine, InstanceLine, RefusalText, VerdictFault};
+use pesp_check_run::{RefusalText, VerdictFault};
 use pesp_instance::ReadRefusal;
 use pesp_names::NamesRefusal;
 use pesp_problem::Memory as NoMemory;
@@ -198,46 +198,6 @@ impl From<NoMemory> for Fault {
     }
 }
 
-/// A refusal of a times text: its number, its name and its line.
-#[derive(Drop)]
-struct TimesLine<'a>(&'a TimesRefusal);
-
-impl fmt::Display for TimesLine<'_> {
-    ghost use Rattle.std.specs.Prelude.{Some};
-    ghost use Rattle.pesp_faults.specs.FaultLines.{times_line};
-
-    ghost output = { λ line. Some (times_line line.0.now) };
-
-    fn fmt<W: fmt::Write>(&self, f: &mut fmt::Formatter<W>) -> fmt::Result {
-        match self.0 {
-            TimesRefusal::BadLine { n } => write!(f, "1 BadLine line {n}"),
-            TimesRefusal::WrongCount => f.write_str("2 WrongCount"),
-            TimesRefusal::Memory => f.write_str("3 Memory"),
-        }
-    }
-}
-
-/// A refusal of a text of names: its number, its name and its record.
-#[derive(Drop)]
-struct NamesLine<'a>(&'a NamesRefusal);
-
-impl fmt::Display for NamesLine<'_> {
-    ghost use Rattle.std.specs.Prelude.{Some};
-    ghost use Rattle.pesp_faults.specs.FaultLines.{names_line};
-
-    ghost output = { λ line. Some (names_line line.0.now) };
-
-    fn fmt<W: fmt::Write>(&self, f: &mut fmt::Formatter<W>) -> fmt::Result {
-        match self.0 {
-            NamesRefusal::TextTooLong => f.write_str("1 TextTooLong"),
-            NamesRefusal::FieldCount { at } => write!(f, "2 FieldCount record {at}"),
-            NamesRefusal::NotANumber { at } => write!(f, "3 NotANumber record {at}"),
-            NamesRefusal::NotText { at } => write!(f, "4 NotText record {at}"),
-            NamesRefusal::Memory => f.write_str("5 Memory"),
-        }
-    }
-}
-
 /// A refusal of the search: its number and its name.
 #[derive(Drop)]
 struct SearchLine<'a>(&'a SolveRefusal);
@@ -257,26 +217,6 @@ impl fmt::Display for SearchLine<'_> {
     }
 }
 
-/// A refusal of a report: its number, its name and its row.
-#[derive(Drop)]
-struct ReportLine<'a>(&'a ReportRefusal);
-
-impl fmt::Display for ReportLine<'_> {
-    ghost use Rattle.std.specs.Prelude.{Some};
-    ghost use Rattle.pesp_faults.specs.FaultLines.{report_line};
-
-    ghost output = { λ line. Some (report_line line.0.now) };
-
-    fn fmt<W: fmt::Write>(&self, f: &mut fmt::Formatter<W>) -> fmt::Result {
-        match self.0 {
-            ReportRefusal::Violates { row } => write!(f, "1 Violates row {row}"),
-            ReportRefusal::NotTimes => f.write_str("2 NotTimes"),
-            ReportRefusal::Memory => f.write_str("3 Memory"),
-            ReportRefusal::Write => f.write_str("4 Write"),
-        }
-    }
-}
-
 /// The fault's line, without the line feed at its end.
 impl fmt::Display for Fault {
     ghost use Rattle.std.specs.Prelude.{Some};
@@ -286,38 +226,20 @@ impl fmt::Display for Fault {
 
     fn fmt<W: fmt::Write>(&self, f: &mut fmt::Formatter<W>) -> fmt::Result {
         match self {
-            Fault::Instance(refusal) => {
-                let line = InstanceLine(refusal);
-                write!(f, "instance: {line}")
-            }
-            Fault::Certificate(refusal) => {
-                let line = CertificateLine(refusal);
-                write!(f, "certificate: {line}")
-            }
-            Fault::Times(refusal) => {
-                let line = TimesLine(refusal);
-                write!(f, "times: {line}")
-            }
-            Fault::Names(refusal) => {
-                let line = NamesLine(refusal);
-                write!(f, "names: {line}")
-            }
+            Fault::Instance(refusal) => write!(f, "instance: {refusal}"),
+            Fault::Certificate(refusal) => write!(f, "certificate: {refusal}"),
+            Fault::Times(refusal) => write!(f, "times: {refusal}"),
+            Fault::Names(refusal) => write!(f, "names: {refusal}"),
             Fault::Search(refusal) => {
                 let line = SearchLine(refusal);
                 write!(f, "search: {line}")
             }
-            Fault::Report(refusal) => {
-                let line = ReportLine(refusal);
-                write!(f, "report: {line}")
-            }
+            Fault::Report(refusal) => write!(f, "report: {refusal}"),
             Fault::Base(refusal) => {
                 let line = RefusalText(*refusal);
                 write!(f, "base: {line}")
             }
-            Fault::Works(refusal) => {
-                let line = CertificateLine(refusal);
-                write!(f, "works: {line}")
-            }
+            Fault::Works(refusal) => write!(f, "works: {refusal}"),
             Fault::NoJob => f.write_str("job: none"),
             Fault::Memory => f.write_str("memory"),
             Fault::Read => f.write_str("device: read"),

@@ -4,3 +4,4 @@ pub mod Activities
 pub mod Tables
 pub mod Instance
 pub mod Reading
+pub mod RefusalLines

@@ -39,7 +39,7 @@ pub record AreActivities (records : List (ℕ × List (List ℕ))) (activities :
   pub events : length (events_of activities) ≤ 100000
 
 -- the records before one are activities, and that one has this fault
-pub record IsFirstFault (records : List (ℕ × List (List ℕ))) (e : ReadRefusal) : Type 0 where
+pub record IsFirstRefusal (records : List (ℕ × List (List ℕ))) (e : ReadRefusal) : Type 0 where
   pub front : List (ℕ × List (List ℕ))
   pub activities : List Activity
   pub at : ℕ

@@ -4,7 +4,7 @@ ghost use Rattle.std.specs.Prelude.{◌≡◌, ◌≤◌, ◌⊎◌, [], List, O
 ghost use Rattle.pesp_instance.specs.Activities.{activities_after};
 ghost use Rattle.pesp_instance.specs.Tables.{Holds, Refuses};
 ghost use Rattle.pesp_instance.specs.Instance.{instance_of, pesp_of};
-ghost use Rattle.pesp_instance.specs.Reading.{AreActivities, IsFirstFault};
+ghost use Rattle.pesp_instance.specs.Reading.{AreActivities, IsFirstRefusal};
 ghost use Rattle.pesp_instance.specs.Records.{records_of};
 ghost use Rattle.pesp_instance.specs.declared.activity.Activity.{Activity};
 ghost use Rattle.pesp_instance.specs.declared.refusal.ReadRefusal.TheVariants.{Memory, Period, TextTooLong};
@@ -35,7 +35,7 @@ pub fn read_instance(alloc: Global, text: &[u8], period: u32) -> Result<Instance
     ensures activities { IfOk result (λ v. (activities : List Activity)
         × AreActivities (records_of text.now) activities × (v ≡ pesp_of period activities)) }
     ensures first_fault { 1 ≤ period → period ≤ 10000 → length text.now ≤ 16777216
-        → IfErr result (λ e. (e ≡ Memory) ⊎ IsFirstFault (records_of text.now) e) }
+        → IfErr result (λ e. (e ≡ Memory) ⊎ IsFirstRefusal (records_of text.now) e) }
 
     // These two take no memory, so no refusal of memory comes in their place.
     ensures period { ¬ ((1 ≤ period) × (period ≤ 10000)) → result ≡ Err Period }

@@ -5,7 +5,7 @@ use Rattle.std.specs.List.{enumerate_from}
 use Rattle.std.proofs.lemmas.List.Elements.{All-push, All-nil}
 use Rattle.std.proofs.lemmas.List.Splits.{length-slice_split}
 use Rattle.std.proofs.lemmas.List.Sums.{count_by-le-length}
-use Rattle.pesp_text.specs.Words.{but_empty_end, is_byte, lines_of, pieces}
+use Rattle.pesp_text.specs.Words.{but_empty_end, is_byte, lines_of_text, pieces}
 use Rattle.pesp_report.specs.TimesText.{behind, names_a_time, time_at, time_for, time_lines, times_for}
 use Rattle.pesp_report.specs.declared.refusal.TimesRefusal.{TimesRefusal}
 use Rattle.pesp_report.specs.declared.refusal.TimesRefusal.TheVariants.{BadLine, WrongCount}
@@ -21,7 +21,7 @@ numbered n lines = filter (λ line. names_a_time line.1) (enumerate_from n lines
 
 -- how the reading stands after n lines, with these lines left
 pub record Reads (period : ℕ) (events : List ℤ) (text : List ℕ) (rest : List (List ℕ)) (n : ℕ) (times : List ℕ) : Type 0 where
-  pub count : n + length rest ≡ length (lines_of text)
+  pub count : n + length rest ≡ length (lines_of_text text)
   pub goes : times_for period events (time_lines text) ≡ after times (times_for period (drop (length times) events) (numbered (n + 1) rest))
   pub below : All (λ t. t < period) times
   pub few : length times ≤ length events
@@ -45,7 +45,7 @@ drop-past [] (suc k) h = refl
 drop-past (x ∷ xs) zero h = cc h
 drop-past (x ∷ xs) (suc k) h = drop-past xs k h
 
-pub reads-start : (period : ℕ) (events : List ℤ) (text : List ℕ) → Reads period events text (lines_of text) 0 []
+pub reads-start : (period : ℕ) (events : List ℤ) (text : List ℕ) → Reads period events text (lines_of_text text) 0 []
 reads-start period events text = record {
   count = omega arith;
   goes = sym (after-none (times_for period events (time_lines text)));
@@ -114,5 +114,5 @@ end-shorter (p ∷ []) = by (length p == 0)
 end-shorter (p ∷ q ∷ ps) = omega (arith, end-shorter (q ∷ ps))
 
 -- a text has no more lines than bytes, but for one
-pub most_lines : (text : List ℕ) → length (lines_of text) ≤ length text + 1
+pub most_lines : (text : List ℕ) → length (lines_of_text text) ≤ length text + 1
 most_lines text = omega (arith, end-shorter (pieces 10 text), length-slice_split (is_byte 10) text, count_by-le-length (is_byte 10) text)

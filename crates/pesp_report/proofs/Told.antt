@@ -8,7 +8,7 @@ use Rattle.std.specs.Fmt.{decimal, signed_decimal}
 use Rattle.std.proofs.lemmas.Int.{ints}
 use Rattle.std.proofs.Common.{arith}
 use Rattle.pesp_text.specs.Number.{natural_of, whole_of}
-use Rattle.pesp_text.specs.Words.{lines_of, words_of}
+use Rattle.pesp_text.specs.Words.{lines_of_text, words_of}
 use Rattle.pesp_text.proofs.Digits.{natural_iff, whole_spells}
 use Rattle.pesp_report.specs.TimesText.{TellTimes, behind, below_period, is_label, names_a_time, time_lines, time_of_words, times_for}
 use Rattle.pesp_report.specs.declared.refusal.TimesRefusal.{TimesRefusal}
@@ -82,4 +82,4 @@ lines-tell period (event ∷ events) (line ∷ lines) times a e = by (time_of_wo
         rw (← whole) (words-tell period event (words_of line.1) (codes "time") f.0 t f.1 v, more ts a.1 w)
 
 pub lines-all-tell : (text : List ℕ) → AllTell (time_lines text)
-lines-all-tell text = filtered-tell (enumerate_from 1 (lines_of text))
+lines-all-tell text = filtered-tell (enumerate_from 1 (lines_of_text text))

@@ -4,3 +4,4 @@ pub mod Written
 pub mod Reporting
 pub mod Violations
 pub mod Named
+pub mod RefusalLines

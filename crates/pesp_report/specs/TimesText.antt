@@ -5,7 +5,7 @@ use Rattle.std.specs.Ordering.{int_eq}
 use Rattle.std.specs.Fmt.{decimal, signed_decimal}
 use Rattle.pesp_problem.specs.Timetables.{Pesp}
 use Rattle.pesp_text.specs.Number.{natural_of, whole_of}
-use Rattle.pesp_text.specs.Words.{lines_of, words_of}
+use Rattle.pesp_text.specs.Words.{lines_of_text, words_of}
 use Rattle.pesp_report.specs.declared.refusal.TimesRefusal.{TimesRefusal}
 use Rattle.pesp_report.specs.declared.refusal.TimesRefusal.TheVariants.{BadLine, WrongCount}
 
@@ -15,7 +15,7 @@ names_a_time line = starts_with nat_eq line (codes "time ")
 
 -- the lines that tell times, each with its number from 1 on
 abbrev pub time_lines : List ℕ → List (ℕ × List ℕ)
-time_lines text = filter (λ line. names_a_time line.1) (enumerate_from 1 (lines_of text))
+time_lines text = filter (λ line. names_a_time line.1) (enumerate_from 1 (lines_of_text text))
 
 abbrev pub is_label : ℤ → Option ℤ → Bool
 is_label event None = false

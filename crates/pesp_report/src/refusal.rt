@@ -7,22 +7,38 @@ ghost use Rattle.pesp_report.specs.declared.refusal.ViolationsRefusal.TheVariant
 
 use pesp_problem::Memory;
 use std::alloc::AllocFailed;
-use thiserror::Error;
+use std::error::Error;
+use std::fmt;
 
 /// Why a text gives no times.
-#[derive(Clone, Copy, Debug, PartialEq, Eq, Error)]
+#[derive(Clone, Copy, Debug, PartialEq, Eq)]
 pub enum TimesRefusal {
     /// Line `n`, from 1 on, begins with `time ` and isn't `time LABEL TIME` with the label of the next event and a time
     /// below the period; there may be no next event.
-    #[error("line {n} does not tell the next event's time")]
     BadLine { n: u64 },
     /// The text ends before all events have their times.
-    #[error("there are fewer times than events")]
     WrongCount,
     /// A growth was refused.
-    #[error("out of memory")]
     Memory,
 }
+
+/// A refusal of a times text: its number, its name and its line.
+impl fmt::Display for TimesRefusal {
+    ghost use Rattle.std.specs.Prelude.{Some};
+    ghost use Rattle.pesp_report.specs.RefusalLines.{times_line};
+
+    ghost output = { λ refusal. Some (times_line refusal) };
+
+    fn fmt<W: fmt::Write>(&self, f: &mut fmt::Formatter<W>) -> fmt::Result {
+        match self {
+            TimesRefusal::BadLine { n } => write!(f, "1 BadLine line {n}"),
+            TimesRefusal::WrongCount => f.write_str("2 WrongCount"),
+            TimesRefusal::Memory => f.write_str("3 Memory"),
+        }
+    }
+}
+
+impl Error for TimesRefusal {}
 
 impl<T: Drop> From<AllocFailed<T>> for TimesRefusal {
     ghost from_gives = { λ _ e. e ≡ times.Memory };
@@ -33,21 +49,36 @@ impl<T: Drop> From<AllocFailed<T>> for TimesRefusal {
 }
 
 /// Why there is no whole report.
-#[derive(Clone, Copy, Debug, PartialEq, Eq, Error)]
+#[derive(Clone, Copy, Debug, PartialEq, Eq)]
 pub enum ReportRefusal {
     /// Row `row`, from 1 on, is the first one that isn't satisfied.
-    #[error("row {row} is violated")]
     Violates { row: u32 },
     /// There isn't one time below the period for each event.
-    #[error("these are no times of the instance")]
     NotTimes,
     /// A growth was refused.
-    #[error("out of memory")]
     Memory,
     /// The writer failed.
-    #[error("the report could not be written")]
     Write,
 }
+
+/// A refusal of a report: its number, its name and its row.
+impl fmt::Display for ReportRefusal {
+    ghost use Rattle.std.specs.Prelude.{Some};
+    ghost use Rattle.pesp_report.specs.RefusalLines.{report_line};
+
+    ghost output = { λ refusal. Some (report_line refusal) };
+
+    fn fmt<W: fmt::Write>(&self, f: &mut fmt::Formatter<W>) -> fmt::Result {
+        match self {
+            ReportRefusal::Violates { row } => write!(f, "1 Violates row {row}"),
+            ReportRefusal::NotTimes => f.write_str("2 NotTimes"),
+            ReportRefusal::Memory => f.write_str("3 Memory"),
+            ReportRefusal::Write => f.write_str("4 Write"),
+        }
+    }
+}
+
+impl Error for ReportRefusal {}
 
 impl From<Memory> for ReportRefusal {
     ghost from_gives = { λ _ e. e ≡ report.Memory };
@@ -58,16 +89,13 @@ impl From<Memory> for ReportRefusal {
 }
 
 /// Why the violated activities aren't told.
-#[derive(Clone, Copy, Debug, PartialEq, Eq, Error)]
+#[derive(Clone, Copy, Debug, PartialEq, Eq)]
 pub enum ViolationsRefusal {
     /// There isn't one time below the period for each event.
-    #[error("these are no times of the instance")]
     NotTimes,
     /// A growth was refused.
-    #[error("out of memory")]
     Memory,
     /// The writer failed.
-    #[error("the violated activities could not be written")]
     Write,
 }
 

@@ -10,7 +10,7 @@ use Rattle.std.proofs.lemmas.List.Splits.{slice_split_at, join_with_byte-slice_s
 use Rattle.std.proofs.lemmas.List.Sums.{sum_by-cons}
 use Rattle.std.proofs.lemmas.Slice.Eq.{bytes_eq-Decides}
 use Rattle.pesp_text.specs.Number.{NATURALS, natural_of}
-use Rattle.pesp_text.specs.Words.{is_byte, pieces, words_of, spaced, line_of, has_empty}
+use Rattle.pesp_text.specs.Words.{is_byte, pieces, words_of, spaced, line_of_words, has_empty}
 use Rattle.pesp_text.proofs.Digits.{natural_spells, natural_read, decimal_some}
 use Rattle.pesp_cert_lines.specs.declared.fault.LineFault.{LineFault}
 use Rattle.pesp_cert_lines.specs.Lines.{LONGEST}
@@ -18,7 +18,7 @@ use Rattle.pesp_truth.specs.declared.answer.Answer.TheVariants.{Optimal}
 use Rattle.pesp_cert_lines.specs.declared.item.Item.TheVariants.{Answer as Says}
 use Rattle.pesp_cert.proofs.ShortLaws.{nat_len}
 use Rattle.pesp_cert_lines.proofs.Tests.{cases, and_left, and_right, and_both}
-use Rattle.pesp_cert_lines.proofs.LineLaws.{is_plain, all_plain, item_plain, words_joined, line_of-words_of}
+use Rattle.pesp_cert_lines.proofs.LineLaws.{is_plain, all_plain, item_plain, words_joined, line_of_words-words_of}
 use Rattle.pesp_cert.specs.declared.refusal.CertRefusal.{CertRefusal}
 use Rattle.pesp_cert.specs.declared.refusal.CertRefusal.TheVariants as refusals
 use Rattle.pesp_cert.specs.Refusals.{refusal_at}
@@ -63,12 +63,12 @@ judged_ok n line walk h = go (nat_lt LONGEST (length line)) (walk_at line) h
     go false (Err f) h = absurd cc
     go false (Ok rows) h = let same : rows ≡ walk = cc in ap Ok same
 
-pub walk_found : (n : ℕ) (line : List ℕ) (walk : List MarkedRow) → is_walk_line line ≡ true → judged n line ≡ Ok walk → (line ≡ line_of (codes "walk" ∷ marked_words walk)) × (is_walk walk ≡ true)
+pub walk_found : (n : ℕ) (line : List ℕ) (walk : List MarkedRow) → is_walk_line line ≡ true → judged n line ≡ Ok walk → (line ≡ line_of_words (codes "walk" ∷ marked_words walk)) × (is_walk walk ≡ true)
 walk_found n line walk is h =
     let f = walk_in_found (words_of line) walk is (judged_ok n line walk h) in
-    (sym (line_of-words_of line) ∙ ap line_of f.0, f.1)
+    (sym (line_of_words-words_of line) ∙ ap line_of_words f.0, f.1)
 
-line_words : (walk : List MarkedRow) → is_walk walk ≡ true → words_of (line_of (codes "walk" ∷ marked_words walk)) ≡ codes "walk" ∷ marked_words walk
+line_words : (walk : List MarkedRow) → is_walk walk ≡ true → words_of (line_of_words (codes "walk" ∷ marked_words walk)) ≡ codes "walk" ∷ marked_words walk
 line_words walk h = words_joined (codes "walk") (marked_words walk) refl (words_plain walk (and_right (nat_le 1 (length walk)) (are_named walk) h))
 
 no_empty : (ws : List (List ℕ)) → all_plain ws ≡ true → has_empty ws ≡ false
@@ -79,16 +79,16 @@ no_empty (w ∷ ws) h = let some : (length w == 0) ≡ false = is_some w (and_le
     is_some [] h = absurd cc
     is_some (b ∷ bs) h = grind (arith, nat_tests)
 
-walk_line_len : (walk : List MarkedRow) → is_walk walk ≡ true → length (line_of (codes "walk" ∷ marked_words walk)) ≤ 4 + 9 * length walk
+walk_line_len : (walk : List MarkedRow) → is_walk walk ≡ true → length (line_of_words (codes "walk" ∷ marked_words walk)) ≤ 4 + 9 * length walk
 walk_line_len walk h = omega (arith, length-append (codes "walk") (spaced (marked_words walk)), words_len walk (and_right (nat_le 1 (length walk)) (are_named walk) h))
 
 -- a walk's line is one, and says the walk
-walk_line_is : (walk : List MarkedRow) → is_walk walk ≡ true → is_walk_line (line_of (codes "walk" ∷ marked_words walk)) ≡ true
+walk_line_is : (walk : List MarkedRow) → is_walk walk ≡ true → is_walk_line (line_of_words (codes "walk" ∷ marked_words walk)) ≡ true
 walk_line_is walk h = ap begins_walk (line_words walk h)
 
-walk_line_read : (n : ℕ) (walk : List MarkedRow) → is_walk walk ≡ true → length walk ≤ 10000000 → judged n (line_of (codes "walk" ∷ marked_words walk)) ≡ Ok walk
+walk_line_read : (n : ℕ) (walk : List MarkedRow) → is_walk walk ≡ true → length walk ≤ 10000000 → judged n (line_of_words (codes "walk" ∷ marked_words walk)) ≡ Ok walk
 walk_line_read n walk h few =
-    let line = line_of (codes "walk" ∷ marked_words walk) in
+    let line = line_of_words (codes "walk" ∷ marked_words walk) in
     let short : length line ≤ LONGEST = omega (arith, walk_line_len walk h, few) in
     let named = and_right (nat_le 1 (length walk)) (are_named walk) h in
     let plain : has_empty (codes "walk" ∷ marked_words walk) ≡ false = no_empty (codes "walk" ∷ marked_words walk) (and_both (is_plain (codes "walk")) (all_plain (marked_words walk)) refl (words_plain walk named)) in
@@ -127,8 +127,8 @@ scale_in_found (w ∷ v ∷ []) scale h =
     ]
 scale_in_found (w ∷ v ∷ u ∷ ws) scale h = absurd cc
 
-scale_found : (line : List ℕ) (scale : ℕ) → scale_at line ≡ Ok scale → (line ≡ line_of (codes "scale" ∷ decimal scale ∷ [])) × (is_scale scale ≡ true)
-scale_found line scale h = let f = scale_in_found (words_of line) scale h in (sym (line_of-words_of line) ∙ ap line_of f.0, f.1)
+scale_found : (line : List ℕ) (scale : ℕ) → scale_at line ≡ Ok scale → (line ≡ line_of_words (codes "scale" ∷ decimal scale ∷ [])) × (is_scale scale ≡ true)
+scale_found line scale h = let f = scale_in_found (words_of line) scale h in (sym (line_of_words-words_of line) ∙ ap line_of_words f.0, f.1)
 
 scale_below : (scale : ℕ) → is_scale scale ≡ true → scale < NATURALS
 scale_below scale h = grind (arith, nat_tests, h)
@@ -138,10 +138,10 @@ plain_number n below =
     let all = item_plain (Says (Optimal n)) below refl in
     and_left (is_plain (decimal n)) true (and_right (is_plain (codes "optimal")) (all_plain (decimal n ∷ [])) (and_right (is_plain (codes "answer")) (all_plain (codes "optimal" ∷ decimal n ∷ [])) all))
 
-scale_words : (scale : ℕ) → is_scale scale ≡ true → words_of (line_of (codes "scale" ∷ decimal scale ∷ [])) ≡ codes "scale" ∷ decimal scale ∷ []
+scale_words : (scale : ℕ) → is_scale scale ≡ true → words_of (line_of_words (codes "scale" ∷ decimal scale ∷ [])) ≡ codes "scale" ∷ decimal scale ∷ []
 scale_words scale h = words_joined (codes "scale") (decimal scale ∷ []) refl (and_both (is_plain (decimal scale)) true (plain_number scale (scale_below scale h)) refl)
 
-scale_read : (scale : ℕ) → is_scale scale ≡ true → scale_at (line_of (codes "scale" ∷ decimal scale ∷ [])) ≡ Ok scale
+scale_read : (scale : ℕ) → is_scale scale ≡ true → scale_at (line_of_words (codes "scale" ∷ decimal scale ∷ [])) ≡ Ok scale
 scale_read scale h =
     let below = scale_below scale h in
     let some : (length (decimal scale) == 0) ≡ false = (let above = decimal_some scale (omega (arith, below)) in grind (arith, nat_tests, above)) in
@@ -149,7 +149,7 @@ scale_read scale h =
     let said : scale_in (codes "scale" ∷ decimal scale ∷ []) ≡ Ok scale = rw (some, number, h) refl in
     ap scale_in (scale_words scale h) ∙ said
 
-scale_len : (scale : ℕ) → is_scale scale ≡ true → length (line_of (codes "scale" ∷ decimal scale ∷ [])) ≤ 100
+scale_len : (scale : ℕ) → is_scale scale ≡ true → length (line_of_words (codes "scale" ∷ decimal scale ∷ [])) ≤ 100
 scale_len scale h = omega (arith, length-append (codes "scale") ((32 ∷ decimal scale) ++ []), length-append (32 ∷ decimal scale) [], nat_len scale (scale_below scale h))
 
 -- ---- lines and pieces
@@ -157,11 +157,11 @@ scale_len scale h = omega (arith, length-append (codes "scale") ((32 ∷ decimal
 cut_line : (line rest : List ℕ) → All (λ b. is_byte 10 b ≡ false) line → pieces 10 ((line ++ 10 ∷ []) ++ rest) ≡ line ∷ pieces 10 rest
 cut_line line rest h = rw append_assoc (slice_split_at (is_byte 10) line 10 rest h refl)
 
-walk_no_lf : (walk : List MarkedRow) → is_walk walk ≡ true → All (λ b. is_byte 10 b ≡ false) (line_of (codes "walk" ∷ marked_words walk))
-walk_no_lf walk h = no_lf (line_of (codes "walk" ∷ marked_words walk)) (line_lf (codes "walk" ∷ marked_words walk) (and_both (is_plain (codes "walk")) (all_plain (marked_words walk)) refl (words_plain walk (and_right (nat_le 1 (length walk)) (are_named walk) h))))
+walk_no_lf : (walk : List MarkedRow) → is_walk walk ≡ true → All (λ b. is_byte 10 b ≡ false) (line_of_words (codes "walk" ∷ marked_words walk))
+walk_no_lf walk h = no_lf (line_of_words (codes "walk" ∷ marked_words walk)) (line_lf (codes "walk" ∷ marked_words walk) (and_both (is_plain (codes "walk")) (all_plain (marked_words walk)) refl (words_plain walk (and_right (nat_le 1 (length walk)) (are_named walk) h))))
 
-scale_no_lf : (scale : ℕ) → is_scale scale ≡ true → All (λ b. is_byte 10 b ≡ false) (line_of (codes "scale" ∷ decimal scale ∷ []))
-scale_no_lf scale h = no_lf (line_of (codes "scale" ∷ decimal scale ∷ [])) (line_lf (codes "scale" ∷ decimal scale ∷ []) (and_both (is_plain (codes "scale")) (all_plain (decimal scale ∷ [])) refl (and_both (is_plain (decimal scale)) true (plain_number scale (scale_below scale h)) refl)))
+scale_no_lf : (scale : ℕ) → is_scale scale ≡ true → All (λ b. is_byte 10 b ≡ false) (line_of_words (codes "scale" ∷ decimal scale ∷ []))
+scale_no_lf scale h = no_lf (line_of_words (codes "scale" ∷ decimal scale ∷ [])) (line_lf (codes "scale" ∷ decimal scale ∷ []) (and_both (is_plain (codes "scale")) (all_plain (decimal scale ∷ [])) refl (and_both (is_plain (decimal scale)) true (plain_number scale (scale_below scale h)) refl)))
 
 -- ---- walks that were found
 
@@ -181,9 +181,9 @@ onto_ok : (walk : List MarkedRow) (q : Result Read CertRefusal) (read : Read) �
 onto_ok walk (Err e) read h = absurd cc
 onto_ok walk (Ok rest) read h = (rest, refl, (let same : record { walks = walk ∷ rest.walks; rest = rest.rest } ≡ read = cc in sym same))
 
-one_found : (line next : List ℕ) (more : List (List ℕ)) (w r : ℕ) (walk : List MarkedRow) (rest read : Read) → (line ≡ line_of (codes "walk" ∷ marked_words walk)) × (is_walk walk ≡ true) → AreFound (next ∷ more) (w + 1) (r + length walk) rest → read ≡ record { walks = walk ∷ rest.walks; rest = rest.rest } → AreFound (line ∷ next ∷ more) w r read
+one_found : (line next : List ℕ) (more : List (List ℕ)) (w r : ℕ) (walk : List MarkedRow) (rest read : Read) → (line ≡ line_of_words (codes "walk" ∷ marked_words walk)) × (is_walk walk ≡ true) → AreFound (next ∷ more) (w + 1) (r + length walk) rest → read ≡ record { walks = walk ∷ rest.walks; rest = rest.rest } → AreFound (line ∷ next ∷ more) w r read
 one_found line next more w r walk rest read found others same =
-    let front : List ℕ = line_of (codes "walk" ∷ marked_words walk) in
+    let front : List ℕ = line_of_words (codes "walk" ∷ marked_words walk) in
     let lines : List ℕ = flat_map walk_line rest.walks in
     let behind : List ℕ = join_with_byte 10 rest.rest in
     let first : line ++ (10 ∷ join_with_byte 10 (next ∷ more)) ≡ front ++ (10 ∷ (lines ++ behind)) = ap (λ (x : List ℕ). x ++ (10 ∷ join_with_byte 10 (next ∷ more))) found.0 ∙ ap (λ (x : List ℕ). front ++ (10 ∷ x)) others.text in
@@ -242,7 +242,7 @@ pub walks_read : (n w r : ℕ) (walks : List (List MarkedRow)) (t : List ℕ) �
 walks_read n w r [] t each hw hr h = rest_read n w r (pieces 10 t) h
 walks_read n w r (walk ∷ walks) t each hw hr h =
     let is = and_left (is_walk walk) (list_all is_walk walks) each in
-    let line = line_of (codes "walk" ∷ marked_words walk) in
+    let line = line_of_words (codes "walk" ∷ marked_words walk) in
     let rest : List ℕ = flat_map walk_line walks ++ t in
     let some = nonempty rest in
     let rows : total_rows (walk ∷ walks) ≡ length walk + total_rows walks = sum_by-cons (λ (x : List MarkedRow). length x) walk walks in
@@ -278,7 +278,7 @@ header_found : (line next : List ℕ) (more : List (List ℕ)) (scale : ℕ) (re
 header_found line next more scale read s h =
     let found = walks_found 3 0 0 (next ∷ more) read (omega arith) (omega arith) h in
     let head : List ℕ = codes "pesp-certificate 3" ++ 10 ∷ [] in
-    let first : List ℕ = line_of (codes "scale" ∷ decimal scale ∷ []) in
+    let first : List ℕ = line_of_words (codes "scale" ∷ decimal scale ∷ []) in
     let lines : List ℕ = flat_map walk_line read.walks in
     let behind : List ℕ = join_with_byte 10 read.rest in
     let a : line ++ (10 ∷ join_with_byte 10 (next ∷ more)) ≡ first ++ (10 ∷ (lines ++ behind)) = ap (λ (x : List ℕ). x ++ (10 ∷ join_with_byte 10 (next ∷ more))) (scale_found line scale s).0 ∙ ap (λ (x : List ℕ). first ++ (10 ∷ x)) found.text in
@@ -333,7 +333,7 @@ header_no_lf = no_lf (codes "pesp-certificate 3") refl
 
 behind_read : (m : Marks) (t : List ℕ) → KeepsLimits m → begins_no_walk (pieces 10 t) → behind_header (pieces 10 ((scale_line m.scale ++ flat_map walk_line m.walks) ++ t)) ≡ Ok (record { marks = Some m; rest = pieces 10 t })
 behind_read m t keeps h =
-    let line : List ℕ = line_of (codes "scale" ∷ decimal m.scale ∷ []) in
+    let line : List ℕ = line_of_words (codes "scale" ∷ decimal m.scale ∷ []) in
     let rest : List ℕ = flat_map walk_line m.walks ++ t in
     let is = scale_is m.scale keeps.scale in
     let some = nonempty rest in

@@ -7,7 +7,7 @@ use Rattle.std.proofs.lemmas.List.Concat.{flat_map-cons}
 use Rattle.std.proofs.lemmas.List.Splits.{join_with_byte-slice_split, length-slice_split}
 use Rattle.std.proofs.lemmas.List.Sums.{count_by-le-length}
 use Rattle.pesp_truth.specs.Certificates.{Content}
-use Rattle.pesp_text.specs.Words.{is_byte, pieces, words_of, line_of}
+use Rattle.pesp_text.specs.Words.{is_byte, pieces, words_of, line_of_words}
 use Rattle.pesp_cert_lines.specs.declared.fault.LineFault.{LineFault}
 use Rattle.pesp_cert_lines.specs.declared.fault.LineFault.TheVariants as faults
 use Rattle.pesp_cert_lines.specs.declared.item.Item.{Item}
@@ -20,7 +20,7 @@ use Rattle.pesp_cert.specs.Drafts.{blank, all_added}
 use Rattle.pesp_cert.proofs.DraftLaws.{all_added-items_of}
 use Rattle.pesp_cert_lines.specs.declared.progress.Progress.{Progress}
 use Rattle.pesp_cert_lines.specs.Items.{item_words, item_line}
-use Rattle.pesp_cert_lines.specs.Counts.{start, after, CanStand}
+use Rattle.pesp_cert_lines.specs.Counts.{beginning, after, CanStand}
 use Rattle.pesp_cert_lines.specs.Lines.{LONGEST, line_at}
 use Rattle.pesp_cert_lines.proofs.LineLaws.{words_of-item}
 use Rattle.pesp_cert_lines.proofs.Tests.{cases}
@@ -40,22 +40,22 @@ use Rattle.pesp_sharp_text.proofs.Founds.{begins_no_walk, front_found, front_rea
 
 -- ---- the first line of a certificate without a front
 
-first_can : (c : Content) → HasText c → CanStand start (Version c.version)
+first_can : (c : Content) → HasText c → CanStand beginning (Version c.version)
 first_can c h = h.run.0
 
-within : (n : ℕ) → CanStand start (Version n) → (1 ≤ n) × (n ≤ 2)
+within : (n : ℕ) → CanStand beginning (Version n) → (1 ≤ n) × (n ≤ 2)
 within n can = (grind (arith, nat_tests, can.within), grind (arith, nat_tests, can.within))
 
 three : natural_of (codes "3") ≡ Some 3
 unfolding natural_of is_natural
 three = refl
 
-no_header : (n : ℕ) → CanStand start (Version n) → is_header (line_of (item_words (Version n))) ≡ false
+no_header : (n : ℕ) → CanStand beginning (Version n) → is_header (line_of_words (item_words (Version n))) ≡ false
 no_header n can =
-    elim (cases (is_header (line_of (item_words (Version n))))) [
+    elim (cases (is_header (line_of_words (item_words (Version n))))) [
       | inr isnt ↦ isnt
       | inl is ↦
-          let line : line_of (item_words (Version n)) ≡ codes "pesp-certificate 3" = (bytes_eq-Decides (line_of (item_words (Version n))) (codes "pesp-certificate 3")).0 is in
+          let line : line_of_words (item_words (Version n)) ≡ codes "pesp-certificate 3" = (bytes_eq-Decides (line_of_words (item_words (Version n))) (codes "pesp-certificate 3")).0 is in
           let words : codes "pesp-certificate" ∷ decimal n ∷ [] ≡ codes "pesp-certificate" ∷ codes "3" ∷ [] = sym (words_of-item (Version n) tt can.within) ∙ ap words_of line in
           let digits : decimal n ≡ codes "3" = cc in
           let small : (1 ≤ n) × (n ≤ 2) = within n can in
@@ -64,7 +64,7 @@ no_header n can =
           absurd (omega (arith, same, small))
     ]
 
-no_walk : (n : ℕ) → CanStand start (Version n) → is_walk_line (line_of (item_words (Version n))) ≡ false
+no_walk : (n : ℕ) → CanStand beginning (Version n) → is_walk_line (line_of_words (item_words (Version n))) ≡ false
 no_walk n can = ap begins_walk (words_of-item (Version n) tt can.within)
 
 -- a certificate's text, and what may stand behind it, begins with the line of its version
@@ -72,14 +72,14 @@ abbrev tail_of : Content → List Item
 tail_of c = Period c.period ∷ Says c.answer ∷ (((map time_item c.times ++ map Cycle c.cycles) ++ map tree_item c.tree) ++ End ∷ [])
 
 abbrev first_line : Content → List ℕ
-first_line c = line_of (item_words (Version c.version))
+first_line c = line_of_words (item_words (Version c.version))
 
 abbrev others : Content → List ℕ → List ℕ
 others c more = flat_map item_line (tail_of c) ++ more
 
 module _ (c : Content) (more : List ℕ) (h : HasText c) where
   cut : pieces 10 (spelling c ++ more) ≡ first_line c ∷ pieces 10 (others c more)
-  cut = ap (λ (t : List ℕ). pieces 10 (t ++ more)) (flat_map-cons item_line (Version c.version) (tail_of c)) ∙ ap (pieces 10) (append_assoc (item_line (Version c.version)) (flat_map item_line (tail_of c)) more) ∙ line_cut start (Version c.version) (others c more) (first_can c h)
+  cut = ap (λ (t : List ℕ). pieces 10 (t ++ more)) (flat_map-cons item_line (Version c.version) (tail_of c)) ∙ ap (pieces 10) (append_assoc (item_line (Version c.version)) (flat_map item_line (tail_of c)) more) ∙ line_cut beginning (Version c.version) (others c more) (first_can c h)
 
   pub begins_plain : begins_no_walk (pieces 10 (spelling c ++ more))
   begins_plain = go (pieces 10 (spelling c ++ more)) cut
@@ -205,7 +205,7 @@ refused_within n p (line ∷ next ∷ more) r h = go (nat_lt LONGEST (length lin
 pub text_refused_within : (text : List ℕ) (r : CertRefusal) → IsRefusal r (items_of_text text) → number_in r ≤ length text + 2
 unfolding items_of_text
 text_refused_within text r (inl memory) = rw memory (omega arith)
-text_refused_within text r (inr h) = omega (arith, refused_within 1 start (pieces 10 text) r h, length-slice_split (is_byte 10) text, count_by-le-length (is_byte 10) text)
+text_refused_within text r (inr h) = omega (arith, refused_within 1 beginning (pieces 10 text) r h, length-slice_split (is_byte 10) text, count_by-le-length (is_byte 10) text)
 
 pub short_number : (text : List ℕ) (r : CertRefusal) → length text ≤ 2 ^ 62 + 19 → IsRefusal r (items_of_text text) → number_in r ≤ 2 ^ 63
 short_number text r short h = omega (arith, text_refused_within text r h)

@@ -12,7 +12,7 @@ use Rattle.pesp_problem.specs.declared.row.SignedRow.{SignedRow}
 use Rattle.pesp_text.specs.Number.{NATURALS}
 use Rattle.pesp_text.specs.Words.{spaced}
 use Rattle.pesp_text.proofs.Digits.{decimal_digits, decimal_some, digit_range}
-use Rattle.pesp_cert_lines.specs.Rows.{is_name, row_word, row_words, row_at, row_made}
+use Rattle.pesp_cert_lines.specs.Rows.{is_name, row_word, row_words, spelt_row, row_made}
 use Rattle.pesp_cert_lines.specs.declared.item.Item.TheVariants.{Cycle}
 use Rattle.pesp_cert_lines.proofs.Tests.{cases, and_left, and_right, and_both}
 use Rattle.pesp_cert_lines.proofs.WordLaws.{row_spells, row_read, both_some, joined, named_below}
@@ -78,11 +78,11 @@ marked_spells : (w : List ℕ) (p : ℕ × Bool × Bool) → marked_at w ≡ Som
 marked_spells w p h =
     elim (cases (is_starred w)) [
       | inl is ↦
-          let m = mark_some true (row_at (but_last w)) p (rw is at h) in
+          let m = mark_some true (spelt_row (but_last w)) p (rw is at h) in
           let row = (row_spells (but_last w) m.0 m.1).0 in
           rw (← m.2) (starred_word w is ∙ ap (λ (t : List ℕ). t ++ 42 ∷ []) row)
       | inr isnt ↦
-          let m = mark_some false (row_at w) p (rw isnt at h) in
+          let m = mark_some false (spelt_row w) p (rw isnt at h) in
           let row = (row_spells w m.0 m.1).0 in
           rw (← m.2) (row ∙ sym (append-nil (row_word (row_made m.0))))
     ]
@@ -90,12 +90,12 @@ marked_spells w p h =
 marked_read : (s : MarkedRow) → is_name s.signed.row ≡ true → marked_at (marked_word s) ≡ Some (s.signed.row, s.signed.plus, s.flipped)
 marked_read s h = go s.flipped
   where
-    row : row_at (row_word s.signed) ≡ Some (s.signed.row, s.signed.plus)
+    row : spelt_row (row_word s.signed) ≡ Some (s.signed.row, s.signed.plus)
     row = row_read s.signed (named_below s.signed.row h)
 
     go : (flipped : Bool) → marked_at (marked_word (record { signed = s.signed; flipped = flipped })) ≡ Some (s.signed.row, s.signed.plus, flipped)
     go true = let r = star_read (row_word s.signed) in rw (r.0, r.1, row) refl
-    go false = ap marked_at (append-nil (row_word s.signed)) ∙ ap (λ (t : Bool). if t then with_mark true (row_at (but_last (row_word s.signed))) else with_mark false (row_at (row_word s.signed))) (plain_row s.signed h) ∙ ap (with_mark false) row
+    go false = ap marked_at (append-nil (row_word s.signed)) ∙ ap (λ (t : Bool). if t then with_mark true (spelt_row (but_last (row_word s.signed))) else with_mark false (spelt_row (row_word s.signed))) (plain_row s.signed h) ∙ ap (with_mark false) row
 
 -- ---- all words
 

@@ -3,7 +3,7 @@ use Rattle.std.specs.Prelude.{ℕ, ◌-◌, Bool, true, false, ◌&&◌, ◌==�
 use Rattle.std.specs.List.{list_all}
 use Rattle.pesp_cert_lines.specs.declared.fault.LineFault.{LineFault}
 use Rattle.pesp_cert_lines.specs.declared.fault.LineFault.TheVariants.{Number, Limit}
-use Rattle.pesp_cert_lines.specs.Rows.{is_name, row_word, row_at, both}
+use Rattle.pesp_cert_lines.specs.Rows.{is_name, row_word, spelt_row, both}
 use Rattle.pesp_sharp.specs.declared.marked.MarkedRow.{MarkedRow}
 
 -- ---- the spelling: a signed row, and `*` behind it where it is flipped
@@ -37,7 +37,7 @@ with_mark flipped (Some p) = Some (p.0, p.1, flipped)
 
 -- the number, whether the sign is plus, and whether it is flipped
 abbrev pub marked_at : List ℕ → Option (ℕ × Bool × Bool)
-marked_at w = if is_starred w then with_mark true (row_at (but_last w)) else with_mark false (row_at w)
+marked_at w = if is_starred w then with_mark true (spelt_row (but_last w)) else with_mark false (spelt_row w)
 
 abbrev pub marked_made : ℕ × Bool × Bool → MarkedRow
 marked_made p = record { signed = record { row = p.0; plus = p.1 }; flipped = p.2 }

@@ -2,7 +2,7 @@
 use Rattle.std.specs.Prelude.{◌≡◌, ◌⊎◌, ℕ, ◌+◌, List, [], ◌∷◌, ◌++◌, length, codes, decimal, Option, Some, None, IfSome, Result, Ok, Err}
 use Rattle.std.specs.List.{flat_map, join_with_byte}
 use Rattle.pesp_truth.specs.Certificates.{Content}
-use Rattle.pesp_text.specs.Words.{line_of}
+use Rattle.pesp_text.specs.Words.{line_of_words}
 use Rattle.pesp_cert_lines.specs.declared.item.Item.{Item}
 use Rattle.pesp_cert.specs.declared.refusal.CertRefusal.{CertRefusal}
 use Rattle.pesp_cert.specs.declared.refusal.CertRefusal.TheVariants as refusals
@@ -18,10 +18,10 @@ use Rattle.pesp_sharp_text.specs.Fronts.{Front, front_of}
 -- ---- the spelling
 
 abbrev pub walk_line : List MarkedRow → List ℕ
-walk_line walk = line_of (codes "walk" ∷ marked_words walk) ++ 10 ∷ []
+walk_line walk = line_of_words (codes "walk" ∷ marked_words walk) ++ 10 ∷ []
 
 abbrev pub scale_line : ℕ → List ℕ
-scale_line scale = line_of (codes "scale" ∷ decimal scale ∷ []) ++ 10 ∷ []
+scale_line scale = line_of_words (codes "scale" ∷ decimal scale ∷ []) ++ 10 ∷ []
 
 -- the header, the scale, and a line for each marked walk; nothing where there is no front
 abbrev pub front_text : Option Marks → List ℕ

@@ -11,22 +11,9 @@ ghost use Rattle.pesp_sharp_text.specs.Rows.{star};
 
 use crate::fronted::Fronted;
 use crate::marks::Marks;
-use itoa::{Buffer, Integer};
+use pesp_cert::Number;
 use pesp_sharp::{MarkedRow, MarkedWalk};
 use pesp_stream::{Output, Printed, Sink, WriteFault, print_to};
-
-/// An unsigned number in plain digits.
-#[derive(Clone, Copy)]
-struct Number<I: Integer>(I);
-
-impl<I: Integer> Printed for Number<I> {
-    ghost text = { λ n. I.text n.0 };
-
-    fn print<O: Output>(&self, out: &mut O) {
-        let mut buffer = Buffer::new();
-        out.put(buffer.format(self.0).as_bytes());
-    }
-}
 
 /// A space and a sign.
 fn sign_text(plus: bool) -> &'static str

@@ -2,7 +2,7 @@
 
 ghost use Rattle.std.specs.Prelude.{◌≡◌, ◌++◌, ◌∷◌, [], true, drop, Ok, IfOk, IfErr, OnOk};
 ghost use Rattle.pesp_text.specs.Number.{natural_of, NATURALS};
-ghost use Rattle.pesp_cert_lines.specs.Rows.{signed, row_at, is_name};
+ghost use Rattle.pesp_cert_lines.specs.Rows.{signed, spelt_row, is_name};
 ghost use Rattle.pesp_sharp_text.specs.Rows.{is_starred, but_last, with_mark, marked_at, marked_made, walk_of};
 ghost use Rattle.pesp_sharp_text.specs.Faults.{IsFault};
 
@@ -32,9 +32,9 @@ fn with_sign(plus: bool, word: &[u8]) -> Option<(u64, bool)>
 }
 
 /// A sign and a number.
-#[tactic(auto, unfolding(pesp_cert_lines::specs::Rows::row_at))]
-fn row_at(word: &[u8]) -> Option<(u64, bool)>
-    ensures { result ≡ row_at word.now }
+#[tactic(auto, unfolding(pesp_cert_lines::specs::Rows::spelt_row))]
+fn spelt_row(word: &[u8]) -> Option<(u64, bool)>
+    ensures { result ≡ spelt_row word.now }
 {
     if word.is_empty() {
         None
@@ -65,9 +65,9 @@ fn but_last(word: &[u8]) -> &[u8]
 }
 
 fn with_mark(flipped: bool, word: &[u8]) -> Option<(u64, bool, bool)>
-    ensures { result ≡ with_mark flipped (row_at word.now) }
+    ensures { result ≡ with_mark flipped (spelt_row word.now) }
 {
-    let (row, plus) = row_at(word)?;
+    let (row, plus) = spelt_row(word)?;
     Some((row, plus, flipped))
 }
 

@@ -10,7 +10,7 @@ use Rattle.std.proofs.lemmas.Option.{cond_some}
 use Rattle.std.proofs.lemmas.List.{take_all, length-drop}
 use Rattle.std.proofs.lemmas.List.Splits.{slice_split_none, slice_split_first, length-slice_split, join_with_byte-slice_split}
 use Rattle.std.proofs.lemmas.List.Sums.{fails_before_first, count_by-le-length}
-use Rattle.pesp_text.specs.Words.{is_byte, pieces, pieces_left, words_of, has_empty, but_empty_end, lines_of}
+use Rattle.pesp_text.specs.Words.{is_byte, pieces, pieces_left, words_of, has_empty, but_empty_end, lines_of_text}
 
 found_at : (p : ℕ → Bool) (text : List ℕ) (at : ℕ) → position p text ≡ Some at → (position_or_len p text ≡ at) × (position_or_len p text < length text)
 found_at p text at h =
@@ -62,7 +62,7 @@ some_end [] h = absurd (omega arith)
 some_end (b ∷ bs) h = rw (ne_eqb (length (b ∷ bs)) 0 (omega arith)) refl
 
 -- the first line of a text that isn't empty, and the others
-pub lines_step : (text line : List ℕ) (rest : Option (List ℕ)) → 0 < length text → pieces 10 text ≡ line ∷ pieces_left 10 rest → lines_of text ≡ line ∷ lines_of (unwrap_or rest [])
+pub lines_step : (text line : List ℕ) (rest : Option (List ℕ)) → 0 < length text → pieces 10 text ≡ line ∷ pieces_left 10 rest → lines_of_text text ≡ line ∷ lines_of_text (unwrap_or rest [])
 lines_step text line None some cut =
     let same : text ≡ line = sym (join_with_byte-slice_split 10 text) ∙ ap (join_with_byte 10) cut in
     rw cut (some_end line (rw same at some))
@@ -70,11 +70,11 @@ lines_step text line (Some rest) some cut =
     let p = pieces_some 10 rest in
     rw cut (but_empty_end-cons line (pieces 10 rest) p.0 p.1 p.2)
 
-pub no_lines : (text : List ℕ) → length text ≡ 0 → lines_of text ≡ []
+pub no_lines : (text : List ℕ) → length text ≡ 0 → lines_of_text text ≡ []
 no_lines [] h = refl
 no_lines (b ∷ bs) h = absurd (omega arith)
 
 -- what a reference to the rest points to
-pub rest_now : (text line : List ℕ) (o : Option (Bor (List ℕ))) (d r : Bor (List ℕ)) → (length text == 0) ≡ false → pieces 10 text ≡ line ∷ pieces_left 10 (option_copied o) → d.now ≡ [] → r ≡ unwrap_or o d → lines_of text ≡ line ∷ lines_of r.now
+pub rest_now : (text line : List ℕ) (o : Option (Bor (List ℕ))) (d r : Bor (List ℕ)) → (length text == 0) ≡ false → pieces 10 text ≡ line ∷ pieces_left 10 (option_copied o) → d.now ≡ [] → r ≡ unwrap_or o d → lines_of_text text ≡ line ∷ lines_of_text r.now
 rest_now text line None d r some cut empty is = rw (is, empty) (lines_step text line None (grind (arith, nat_tests, some)) cut)
 rest_now text line (Some b) d r some cut empty is = rw is (lines_step text line (Some b.now) (grind (arith, nat_tests, some)) cut)

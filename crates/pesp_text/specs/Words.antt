@@ -19,9 +19,9 @@ spaced [] = []
 spaced (w ∷ ws) = (32 ∷ w) ++ spaced ws
 
 -- the line of these words
-abbrev pub line_of : List (List ℕ) → List ℕ
-line_of [] = []
-line_of (w ∷ ws) = w ++ spaced ws
+abbrev pub line_of_words : List (List ℕ) → List ℕ
+line_of_words [] = []
+line_of_words (w ∷ ws) = w ++ spaced ws
 
 abbrev pub has_empty : List (List ℕ) → Bool
 has_empty [] = false
@@ -43,5 +43,5 @@ but_empty_end (p ∷ []) = if length p == 0 then [] else p ∷ []
 but_empty_end (p ∷ q ∷ ps) = p ∷ but_empty_end (q ∷ ps)
 
 -- the lines of a text, each without its LF; a last line without LF counts
-abbrev pub lines_of : List ℕ → List (List ℕ)
-lines_of text = but_empty_end (pieces 10 text)
+abbrev pub lines_of_text : List ℕ → List (List ℕ)
+lines_of_text text = but_empty_end (pieces 10 text)

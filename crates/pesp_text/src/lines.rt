@@ -1,7 +1,7 @@
 //! The lines of a text, one after another.
 
 ghost use Rattle.std.specs.Prelude.{◌≡◌, ◌∷◌, [], MatchOption};
-ghost use Rattle.pesp_text.specs.Words.{lines_of};
+ghost use Rattle.pesp_text.specs.Words.{lines_of_text};
 
 use crate::split::split_at_byte;
 use std::marker::Model;
@@ -14,17 +14,17 @@ pub struct Lines<'a> {
 
 impl<'a> Model for Lines<'a> {
     ghost use Rattle.std.specs.Prelude.{List, ℕ};
-    ghost use Rattle.pesp_text.specs.Words.{lines_of};
+    ghost use Rattle.pesp_text.specs.Words.{lines_of_text};
 
     ghost Value = { List (List ℕ) };
 
-    ghost view = { λ l. lines_of l.rest.now };
+    ghost view = { λ l. lines_of_text l.rest.now };
 }
 
 impl<'a> Lines<'a> {
     /// The lines of this text.
     pub fn new(text: &'a [u8]) -> Self
-        ensures { result ≡ lines_of text.now }
+        ensures { result ≡ lines_of_text text.now }
     {
         Lines { rest: text }
     }
@@ -48,8 +48,8 @@ impl<'a> Iterator for Lines<'a> {
 
 /// The first line of a text, without its LF, and what stands behind it; None for an empty text.
 fn split_line(text: &[u8]) -> Option<(&[u8], &[u8])>
-    ensures { MatchOption result (lines_of text.now ≡ [])
-        (λ r. lines_of text.now ≡ r.0.now ∷ lines_of r.1.now) }
+    ensures { MatchOption result (lines_of_text text.now ≡ [])
+        (λ r. lines_of_text text.now ≡ r.0.now ∷ lines_of_text r.1.now) }
 {
     if text.is_empty() {
         return None;

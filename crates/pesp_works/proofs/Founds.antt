@@ -8,7 +8,7 @@ use Rattle.std.proofs.lemmas.List.Concat.{flat_map-cons}
 use Rattle.std.proofs.lemmas.Slice.Eq.{bytes_eq-Decides}
 use Rattle.pesp_problem.specs.declared.row.SignedRow.{SignedRow}
 use Rattle.pesp_truth.specs.Certificates.{Content}
-use Rattle.pesp_text.specs.Words.{words_of, line_of}
+use Rattle.pesp_text.specs.Words.{words_of, line_of_words}
 use Rattle.pesp_cert_lines.specs.declared.fault.LineFault.{LineFault}
 use Rattle.pesp_cert_lines.specs.declared.fault.LineFault.TheVariants as faults
 use Rattle.pesp_cert_lines.specs.declared.item.Item.{Item}
@@ -41,7 +41,7 @@ is_other item = not (begins_cycle (item_words item))
 
 -- what a line of a work says may stand there, is spelt so, and is no cycle
 pub record IsLine (p : Progress) (line : List ℕ) (item : Item) : Type 0 where
-  pub spelt : line ≡ line_of (item_words item)
+  pub spelt : line ≡ line_of_words (item_words item)
   pub can : CanStand p item
   pub other : is_other item ≡ true
 
@@ -140,7 +140,7 @@ end_goes job p c line next more item rest ws found e others is =
       is = is ∙ ap (λ (d : Content). made job d ∷ rest) (sym (end_adds c item e));
       run = (found.can, e);
       others = and_both (is_other item) true found.other refl;
-      spelt = rw (found.spelt, others.spelt, one) (sym (append_assoc (line_of (item_words item)) (10 ∷ []) (spellings rest)));
+      spelt = rw (found.spelt, others.spelt, one) (sym (append_assoc (line_of_words (item_words item)) (10 ∷ []) (spellings rest)));
       have = others.have;
     }
 
@@ -148,8 +148,8 @@ item_goes : (job : ℕ) (p : Progress) (c : Content) (line next : List ℕ) (mor
     → IsInsideWork job p c (join_with_byte 10 (line ∷ next ∷ more)) ws
 item_goes job p c line next more item ws found e others =
     let lines : List ℕ = flat_map item_line others.items in
-    let cons : flat_map item_line (item ∷ others.items) ++ spellings others.rest ≡ line_of (item_words item) ++ 10 ∷ (lines ++ spellings others.rest) =
-    ap (λ (t : List ℕ). t ++ spellings others.rest) (flat_map-cons item_line item others.items) ∙ append_assoc (item_line item) lines (spellings others.rest) ∙ append_assoc (line_of (item_words item)) (10 ∷ []) (lines ++ spellings others.rest) in
+    let cons : flat_map item_line (item ∷ others.items) ++ spellings others.rest ≡ line_of_words (item_words item) ++ 10 ∷ (lines ++ spellings others.rest) =
+    ap (λ (t : List ℕ). t ++ spellings others.rest) (flat_map-cons item_line item others.items) ∙ append_assoc (item_line item) lines (spellings others.rest) ∙ append_assoc (line_of_words (item_words item)) (10 ∷ []) (lines ++ spellings others.rest) in
     record {
       items = item ∷ others.items;
       rest = others.rest;

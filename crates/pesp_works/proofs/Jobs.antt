@@ -7,13 +7,13 @@ use Rattle.std.proofs.lemmas.Bool.Decides.{nat_tests}
 use Rattle.std.proofs.lemmas.Slice.Eq.{bytes_eq-Decides}
 use Rattle.pesp_truth.specs.declared.answer.Answer.TheVariants.{Optimal}
 use Rattle.pesp_text.specs.Number.{NATURALS, natural_of}
-use Rattle.pesp_text.specs.Words.{words_of, line_of, is_byte}
+use Rattle.pesp_text.specs.Words.{words_of, line_of_words, is_byte}
 use Rattle.pesp_text.proofs.Digits.{natural_spells, natural_read}
 use Rattle.pesp_cert_lines.specs.declared.fault.LineFault.TheVariants as faults
 use Rattle.pesp_cert_lines.specs.declared.item.Item.TheVariants.{Answer as Says}
 use Rattle.pesp_cert_lines.specs.Lines.{LONGEST}
 use Rattle.pesp_cert_lines.proofs.Tests.{cases, and_left, and_right, and_both}
-use Rattle.pesp_cert_lines.proofs.LineLaws.{is_plain, all_plain, item_plain, words_joined, line_of-words_of}
+use Rattle.pesp_cert_lines.proofs.LineLaws.{is_plain, all_plain, item_plain, words_joined, line_of_words-words_of}
 use Rattle.pesp_cert.proofs.ShortLaws.{nat_len}
 use Rattle.pesp_cert.proofs.TextLaws.{no_lf, line_lf}
 use Rattle.pesp_works.specs.Works.{job_line}
@@ -60,7 +60,7 @@ pub job_found : (line : List ℕ) (n : ℕ) → job_at line ≡ Ok n → (line �
 unfolding job_at
 job_found line n h =
     let s = said_found (words_of line) n (go (bytes_eq line (codes "end")) h) in
-    (sym (line_of-words_of line) ∙ ap line_of s.0, s.1)
+    (sym (line_of_words-words_of line) ∙ ap line_of_words s.0, s.1)
   where
     go : (b : Bool) → cond b (Err faults.Truncated) (job_said (words_of line)) ≡ Ok n → job_said (words_of line) ≡ Ok n
     go true e = absurd cc

@@ -7,7 +7,7 @@ use Rattle.std.proofs.lemmas.List.Splits.{slice_split_at}
 use Rattle.pesp_truth.specs.declared.tree.TreeLine.{TreeLine}
 use Rattle.pesp_truth.specs.declared.tree.TreeLine.TheVariants as lines
 use Rattle.pesp_truth.specs.Certificates.{Content}
-use Rattle.pesp_text.specs.Words.{pieces, words_of, line_of, is_byte}
+use Rattle.pesp_text.specs.Words.{pieces, words_of, line_of_words, is_byte}
 use Rattle.pesp_cert_lines.specs.declared.item.Item.{Item}
 use Rattle.pesp_cert_lines.specs.declared.item.Item.TheVariants.{End}
 use Rattle.pesp_cert_lines.specs.declared.progress.Progress.{Progress}
@@ -60,10 +60,10 @@ not_true : (b : Bool) → not b ≡ true → b ≡ false
 not_true true h = absurd cc
 not_true false h = refl
 
-work_line_read : (p : Progress) (item : Item) → CanStand p item → is_other item ≡ true → work_line_at p (line_of (item_words item)) ≡ Ok item
+work_line_read : (p : Progress) (item : Item) → CanStand p item → is_other item ≡ true → work_line_at p (line_of_words (item_words item)) ≡ Ok item
 unfolding work_line_at
 work_line_read p item can other =
-    let words : begins_cycle (words_of (line_of (item_words item))) ≡ false = ap begins_cycle (words_of-item item can.proper can.within) ∙ not_true (begins_cycle (item_words item)) other in
+    let words : begins_cycle (words_of (line_of_words (item_words item))) ≡ false = ap begins_cycle (words_of-item item can.proper can.within) ∙ not_true (begins_cycle (item_words item)) other in
     rw words (line_read p item can)
 
 -- ---- lines in front of others
@@ -78,9 +78,9 @@ lines_read : (items : List Item) (n job : ℕ) (p : Progress) (c : Content) (mor
 lines_read [] n job p c more run other short = absurd run
 lines_read (item ∷ []) n job p c more run other short =
     let some = nonempty more in
-    let cut : pieces 10 (flat_map item_line (item ∷ []) ++ more) ≡ line_of (item_words item) ∷ some.0 ∷ some.1 = ap (λ (t : List ℕ). pieces 10 (t ++ more)) (flat_map-cons item_line item [] ∙ append-nil (item_line item)) ∙ line_cut p item more run.0 ∙ ap (λ (ps : List (List ℕ)). line_of (item_words item) ∷ ps) some.2 in
+    let cut : pieces 10 (flat_map item_line (item ∷ []) ++ more) ≡ line_of_words (item_words item) ∷ some.0 ∷ some.1 = ap (λ (t : List ℕ). pieces 10 (t ++ more)) (flat_map-cons item_line item [] ∙ append-nil (item_line item)) ∙ line_cut p item more run.0 ∙ ap (λ (ps : List (List ℕ)). line_of_words (item_words item) ∷ ps) some.2 in
     let read = work_line_read p item run.0 (and_left (is_other item) true other) in
-    let step = at_end n job p c (line_of (item_words item)) some.0 some.1 item short.0 read run.1 in
+    let step = at_end n job p c (line_of_words (item_words item)) some.0 some.1 item short.0 read run.1 in
     record {
       number = n + 1;
       same = rw (cut, end_adds c item run.1) (step ∙ ap (λ (ps : List (List ℕ)). onto (made job c) (works_from (n + 1) Front ps)) (sym some.2));
@@ -88,9 +88,9 @@ lines_read (item ∷ []) n job p c more run other short =
 lines_read (item ∷ next ∷ others) n job p c more run other short =
     let rest : List ℕ = flat_map item_line (next ∷ others) ++ more in
     let some = nonempty rest in
-    let cut : pieces 10 (flat_map item_line (item ∷ next ∷ others) ++ more) ≡ line_of (item_words item) ∷ some.0 ∷ some.1 = ap (λ (t : List ℕ). pieces 10 (t ++ more)) (flat_map-cons item_line item (next ∷ others)) ∙ ap (pieces 10) (append_assoc (item_line item) (flat_map item_line (next ∷ others)) more) ∙ line_cut p item rest run.0 ∙ ap (λ (ps : List (List ℕ)). line_of (item_words item) ∷ ps) some.2 in
+    let cut : pieces 10 (flat_map item_line (item ∷ next ∷ others) ++ more) ≡ line_of_words (item_words item) ∷ some.0 ∷ some.1 = ap (λ (t : List ℕ). pieces 10 (t ++ more)) (flat_map-cons item_line item (next ∷ others)) ∙ ap (pieces 10) (append_assoc (item_line item) (flat_map item_line (next ∷ others)) more) ∙ line_cut p item rest run.0 ∙ ap (λ (ps : List (List ℕ)). line_of_words (item_words item) ∷ ps) some.2 in
     let read = work_line_read p item run.0 (and_left (is_other item) (list_all is_other (next ∷ others)) other) in
-    let step = at_item n job p c (line_of (item_words item)) some.0 some.1 item short.0 read run.1 in
+    let step = at_item n job p c (line_of_words (item_words item)) some.0 some.1 item short.0 read run.1 in
     let later = lines_read (next ∷ others) (n + 1) job (after p item) (added c item) more run.2 (and_right (is_other item) (list_all is_other (next ∷ others)) other) short.1 in
     record {
       number = later.number;

@@ -4,13 +4,13 @@ use Rattle.std.specs.List.{flat_map}
 use Rattle.pesp_truth.specs.declared.answer.Answer.TheVariants.{Infeasible}
 use Rattle.pesp_truth.specs.declared.tree.TreeLine.{TreeLine}
 use Rattle.pesp_truth.specs.Certificates.{Content}
-use Rattle.pesp_text.specs.Words.{line_of}
+use Rattle.pesp_text.specs.Words.{line_of_words}
 use Rattle.pesp_cert_lines.specs.declared.item.Item.{Item}
 use Rattle.pesp_cert_lines.specs.declared.item.Item.TheVariants.{End}
 use Rattle.pesp_cert_lines.specs.declared.progress.Place.TheVariants as places
 use Rattle.pesp_cert_lines.specs.declared.progress.Progress.{Progress}
 use Rattle.pesp_cert_lines.specs.Items.{item_line}
-use Rattle.pesp_cert_lines.specs.Counts.{start}
+use Rattle.pesp_cert_lines.specs.Counts.{beginning}
 use Rattle.pesp_cert.specs.Limits.{KeepsLimits}
 use Rattle.pesp_cert.specs.Texts.{IsRun, time_item, tree_item}
 
@@ -25,7 +25,7 @@ HEADER = codes "pesp-work 1"
 
 -- the line of the job, without its LF
 abbrev pub job_line : ℕ → List ℕ
-job_line n = line_of (codes "job" ∷ decimal n ∷ [])
+job_line n = line_of_words (codes "job" ∷ decimal n ∷ [])
 
 -- the lines behind the job's: times, the tree and the end
 abbrev pub items_of : WorkValue → List Item
@@ -33,7 +33,7 @@ items_of w = map time_item w.times ++ (map tree_item w.tree ++ End ∷ [])
 
 -- behind the job's line times may stand, and one tree is still to come, with the lines of version 2
 abbrev pub opening : Progress
-opening = record start { place = places.Times; version = 2 }
+opening = record beginning { place = places.Times; version = 2 }
 
 -- the one text of a work
 abbrev pub spelling : WorkValue → List ℕ

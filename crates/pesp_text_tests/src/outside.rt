@@ -30,18 +30,18 @@ struct Graft {
     told: Vec<u8>,
 }
 
-/// Grafts works onto a base: how it ended, and what was written.
+/// Grafts works onto a base, over the devices of the instance, of the works and of the certificate: how it ended, and what was
+/// written.
 fn grafted(
     alloc: Global,
-    instance: &[u8],
+    given: &Given,
     base: &[u8],
     works: &[u8],
-    period: u32,
 ) -> (Result<(), Fault>, Graft) {
-    let mut first = feed_of(instance, Device::whole());
+    let mut first = feed_of(&given.instance, given.first);
     let mut second = feed_of(base, Device::whole());
-    let mut third = feed_of(works, Device::whole());
-    let mut writer = drain_of(alloc, Device::whole());
+    let mut third = feed_of(works, given.second);
+    let mut writer = drain_of(alloc, given.output);
     let mut teller = drain_of(alloc, Device::whole());
     let answer = run_graft(
         alloc,
@@ -50,7 +50,7 @@ fn grafted(
         &mut third,
         &mut writer,
         &mut teller,
-        period,
+        given.period,
     );
     let graft = Graft {
         certificate: writer.into_inner().taken,
@@ -67,7 +67,7 @@ fn tell_graft(alloc: Global, graft: &Graft) -> Option<String> {
 
 /// What `graft` tells and writes, with the works of the input.
 fn tell_grafted(alloc: Global, given: &Given, base: &[u8]) -> Option<String> {
-    match grafted(alloc, &given.instance, base, &given.input, given.period) {
+    match grafted(alloc, given, base, &given.input) {
         (Ok(()), graft) => tell_graft(alloc, &graft),
         (Err(fault), _) => tell_fault(alloc, &fault, &[]),
     }
@@ -131,7 +131,7 @@ fn works_for(alloc: Global, given: &Given, words: &[&str]) -> Option<Vec<u8>> {
 
 /// What `check` says of the certificate of the input, once works are grafted onto it.
 fn check_grafted(alloc: Global, given: &Given, works: &[u8]) -> Option<String> {
-    match grafted(alloc, &given.instance, &given.input, works, given.period) {
+    match grafted(alloc, given, &given.input, works) {
         (Ok(()), graft) => tell_check(alloc, &given.instance, &graft.certificate, given.period),
         _ => None,
     }

@@ -37,7 +37,7 @@ takes_keeps p old new number work apart t other path pairs differs leaf =
 
 -- whatever the reply
 pub given_keeps : (p : ProblemValue) (old new : State) (number : ℕ) (work : Work) (reply : Result (Unit {0}) GiveRefusal) → AreLentApart old → Gives p old number work reply new → KeepsOthers old number new
-given_keeps p old new number work (Ok done) apart g = takes_keeps p old new number work apart g
+given_keeps p old new number work (Ok done) apart g other path pairs differs leaf = takes_keeps p old new number work apart g other path pairs differs leaf
 given_keeps p old new number work (Err refusal) apart g other path pairs differs leaf = subst (λ (s : State). HasLeaf s other path pairs) (sym g.0) leaf
 
 -- nothing changed

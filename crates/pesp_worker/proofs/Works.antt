@@ -1,10 +1,12 @@
 -- Works that are judged one after the other, and handed in together.
-use Rattle.std.proofs.Common.{◌≡◌, ℕ, ◌+◌, ◌<◌, ◌≤◌, List, [], ◌∷◌, ◌++◌, length, map, refl, sym, ap, ◌∙◌, subst, arith}
-use Rattle.std.specs.Prelude.{All, Contains, Option, Result, Ok, Err, IfErr, IsErrAnd, sum_by}
+use Rattle.std.proofs.Common.{◌≡◌, ◌⊎◌, inl, inr, ℕ, ◌+◌, ◌<◌, ◌≤◌, List, [], ◌∷◌, ◌++◌, length, map, refl, sym, ap, ◌∙◌, subst, arith}
+use Rattle.std.specs.Prelude.{ℤ, All, Contains, Option, Result, Ok, Err, IfOk, IfErr, IsErrAnd, sum_by}
+use Rattle.std.specs.Global.{Vec}
 use Rattle.std.specs.List.{AllZip}
 use Rattle.std.specs.List.Sorted.{IsStrictlyIncreasing}
 use Rattle.std.proofs.lemmas.List.Elements.{All-nil, All-cons, All-head, All-tail, All-contains, Contains-append_right}
 use Rattle.std.proofs.lemmas.List.Sums.{sum_by-cons, sum_by_push}
+use Rattle.std.proofs.lemmas.Slice.Zip.{all_zipped_more}
 use Rattle.pesp_problem.specs.declared.pair.Pair.{Pair}
 use Rattle.pesp_problem.specs.declared.cut.Cut.{Cut}
 use Rattle.pesp_problem.specs.declared.cut.Side.{Side}
@@ -20,14 +22,18 @@ use Rattle.pesp_outside.specs.Lent.{IsLentFrom}
 use Rattle.pesp_worker.specs.declared.refusal.WorkRefusal.{WorkRefusal}
 use Rattle.pesp_worker.specs.declared.refusal.WorkRefusal.TheVariants.{Memory, NoSuchJob}
 use Rattle.pesp_worker.specs.Holding.{KeepsOthers}
-use Rattle.pesp_worker.specs.HandingIn.{AreTimesFor, AreShort, Fits, StandsFor, IsFound, IsJudged, AreJudged, IsWholeFrom, branches_of, without_times, IsWorkOn, IsSplitBelow, AreWorksOn, AreWorkRefusal}
+use Rattle.pesp_worker.specs.HandingIn.{AreTimesFor, AreShort, Fits, StandsFor, IsFound, IsJudged, AreJudged, IsWholeFrom, branches_of, without_times, IsWorkOn, IsSplitBelow, AreWorksOn, HasNoJob, IsWorkRefusal, AreWorkRefusal}
 use Rattle.pesp_worker.proofs.Fitting.{text_with_times}
 use Rattle.pesp_worker.proofs.Numbers.{lent_below, few_jobs}
 use Rattle.pesp_worker.proofs.Rising.{RiseFrom, rise_from_none}
-use Rattle.pesp_worker.proofs.Zips.{zip_push, zip_map}
+use Rattle.pesp_worker.proofs.Zips.{zip_weaker, zip_map}
 
 abbrev Path : Type 0
 Path = List (Cut × Side)
+
+-- a work of this number, with these times or none
+abbrev pub HasShown : List (ℤ × ℕ) → ℕ → WorkValue → Type 0
+HasShown shown job work = (work.job ≡ job) × ((work.times ≡ []) ⊎ (work.times ≡ shown))
 
 -- ---- one judged after the other
 
@@ -48,7 +54,7 @@ pub none_judged : (p : ProblemValue) (old : State) (steps : ℕ) (until : Option
 none_judged p old steps until rest rise = record {
   problem = refl;
   each = tt;
-  room = refl;
+  room = omega arith;
   above = 0;
   rise = rise;
   stay = λ number path pairs from leaf. leaf;
@@ -103,7 +109,7 @@ judged_next p q after old now new steps left still until judged rest before work
     let room = h.room in
     record {
       problem = same ∙ h.problem;
-      each = subst (AllZip (IsJudged p old until) (judged ++ found ∷ [])) (sym is) (zip_push (IsJudged p old until) judged before found work h.each (judged_then p old now h.above until found work orderly h.stay h.rise.0 lent here));
+      each = subst (AllZip (IsJudged p old until) (judged ++ found ∷ [])) (sym is) (all_zipped_more (IsJudged p old until) judged before found work h.each (judged_then p old now h.above until found work orderly h.stay h.rise.0 lent here));
       room = (let total = ap (sum_by branches_of) is ∙ sum in omega (arith, total, room, count));
       above = found.job + 1;
       rise = h.rise.1;
@@ -187,9 +193,39 @@ all_rise i known asked found f rise = subst IsStrictlyIncreasing (sym (zip_map (
 pub this_is_lent : (state : State) (before rest all : List WorkValue) (one : WorkValue) → before ++ one ∷ rest ≡ all → All (λ (w : WorkValue). IsLentNumber state w.job) all → IsLentNumber state one.job
 this_is_lent state before rest all one is lent = All-contains (λ (w : WorkValue). IsLentNumber state w.job) all one lent (subst (λ (ws : List WorkValue). Contains ws one) is (Contains-append_right before (one ∷ rest) one (0, omega arith, refl)))
 
+-- ---- what is found
+
+-- the times of a certificate, or none
+found_times : (i : Pesp) (known : Option ℕ) (shown times : List (ℤ × ℕ)) → AreTimesFor i known shown → (times ≡ []) ⊎ (times ≡ shown) → AreTimesFor i known times
+found_times i known shown times are (inl none) = inl none
+found_times i known shown times are (inr same) = subst (AreTimesFor i known) (sym same) are
+
+found_short : (shown times : List (ℤ × ℕ)) → AreShort shown → (times ≡ []) ⊎ (times ≡ shown) → AreShort times
+found_short shown times short (inl none) = subst AreShort (sym none) (omega arith, refl)
+found_short shown times short (inr same) = subst AreShort (sym same) short
+
+pub all_found : {E : Type 0} (i : Pesp) (known : Option ℕ) (shown : List (ℤ × ℕ)) (jobs : List ℕ) (r : Result (Vec WorkValue) E) → AreTimesFor i known shown → AreShort shown → IfOk r (λ works. AllZip (HasShown shown) jobs works.items) → IfOk r (λ works. AllZip (IsFound i known) jobs works.items)
+all_found i known shown jobs (Ok works) are short each = zip_weaker (HasShown shown) (IsFound i known) jobs works.items (λ job work h. record {
+  number = h.0;
+  times = found_times i known shown work.times are h.1;
+  short = found_short shown work.times short h.1;
+}) each
+all_found i known shown jobs (Err e) are short each = tt
+
 -- ---- one job alone
 
-pub one_job : {R : ℕ → WorkValue → Type 0} (job : ℕ) (works : List WorkValue) → AllZip R (job ∷ []) works → (work : WorkValue) × (works ≡ work ∷ []) × R job work
-one_job job [] h = absurd h
-one_job job (work ∷ []) h = (work, refl, h.0)
-one_job job (work ∷ other ∷ works) h = absurd h.1
+-- the last of the works for one job is for that job
+pub last_work : (R : ℕ → WorkValue → Type 0) (job : ℕ) (before : List WorkValue) (work : WorkValue) → AllZip R (job ∷ []) (before ++ work ∷ []) → R job work
+last_work R job [] work h = h.0
+last_work R job (one ∷ []) work h = absurd h.1
+last_work R job (one ∷ other ∷ before) work h = absurd h.1
+
+pub one_rises : (job : ℕ) → IsStrictlyIncreasing (job ∷ [])
+one_rises job k below = absurd (omega (arith, below))
+
+-- a refusal of the jobs is one of the job
+pub one_refused : (i : Pesp) (base : Content) (job : ℕ) (refusal : WorkRefusal) → AreWorkRefusal i base (job ∷ []) refusal → IsWorkRefusal i base job refusal
+one_refused i base job Memory h = tt
+one_refused i base job NoSuchJob h =
+    let same = All-contains (λ (n : ℕ). n ≡ job) (job ∷ []) h.0 (All-cons (λ (n : ℕ). n ≡ job) job [] refl (All-nil (λ (n : ℕ). n ≡ job))) h.1 in
+    subst (HasNoJob i base) same h.2

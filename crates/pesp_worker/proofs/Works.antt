@@ -6,7 +6,7 @@ use Rattle.std.specs.List.{AllZip}
 use Rattle.std.specs.List.Sorted.{IsStrictlyIncreasing}
 use Rattle.std.proofs.lemmas.List.Elements.{All-nil, All-cons, All-head, All-tail, All-contains, Contains-append_right}
 use Rattle.std.proofs.lemmas.List.Sums.{sum_by-cons, sum_by_push}
-use Rattle.std.proofs.lemmas.Slice.Zip.{all_zipped_more}
+use Rattle.std.proofs.lemmas.Slice.Zip.{all_zipped_more, AllZip-long}
 use Rattle.pesp_problem.specs.declared.pair.Pair.{Pair}
 use Rattle.pesp_problem.specs.declared.cut.Cut.{Cut}
 use Rattle.pesp_problem.specs.declared.cut.Side.{Side}
@@ -214,18 +214,19 @@ all_found i known shown jobs (Err e) are short each = tt
 
 -- ---- one job alone
 
--- the last of the works for one job is for that job
-pub last_work : (R : ℕ → WorkValue → Type 0) (job : ℕ) (before : List WorkValue) (work : WorkValue) → AllZip R (job ∷ []) (before ++ work ∷ []) → R job work
-last_work R job [] work h = h.0
-last_work R job (one ∷ []) work h = absurd h.1
-last_work R job (one ∷ other ∷ before) work h = absurd h.1
-
 pub one_rises : (job : ℕ) → IsStrictlyIncreasing (job ∷ [])
 one_rises job k below = absurd (omega (arith, below))
 
--- a refusal of the jobs is one of the job
-pub one_refused : (i : Pesp) (base : Content) (job : ℕ) (refusal : WorkRefusal) → AreWorkRefusal i base (job ∷ []) refusal → IsWorkRefusal i base job refusal
-one_refused i base job Memory h = tt
-one_refused i base job NoSuchJob h =
-    let same = All-contains (λ (n : ℕ). n ≡ job) (job ∷ []) h.0 (All-cons (λ (n : ℕ). n ≡ job) job [] refl (All-nil (λ (n : ℕ). n ≡ job))) h.1 in
-    subst (HasNoJob i base) same h.2
+pub one_work : (i : Pesp) (base : Content) (job steps : ℕ) (until : Option ℕ) (works : List WorkValue) → AreWorksOn i base (job ∷ []) steps until works → length works ≡ 1
+one_work i base job steps until works are = AllZip-long (λ job work. IsWorkOn i base job steps work × IsSplitBelow i base job until work) (job ∷ []) works are.each
+
+last_pair : (R : ℕ → WorkValue → Type 0) (job : ℕ) (before : List WorkValue) (work : WorkValue) → AllZip R (job ∷ []) (before ++ work ∷ []) → R job work
+last_pair R job [] work h = h.0
+last_pair R job (one ∷ []) work h = absurd h.1
+last_pair R job (one ∷ other ∷ before) work h = absurd h.1
+
+-- the last work is for that job
+pub last_work : (i : Pesp) (base : Content) (job steps : ℕ) (until : Option ℕ) (before works : List WorkValue) (work : WorkValue) → works ≡ before ++ work ∷ [] → AreWorksOn i base (job ∷ []) steps until works → IsWorkOn i base job steps work
+last_work i base job steps until before works work e are =
+    let R : ℕ → WorkValue → Type 0 = λ job work. IsWorkOn i base job steps work × IsSplitBelow i base job until work in
+    (last_pair R job before work (subst (AllZip R (job ∷ [])) e are.each)).0

@@ -1,6 +1,6 @@
 -- What is judged is handed in.
 use Rattle.std.proofs.Common.{◌≡◌, ◌≤◌, ◌<◌, ℕ, List, [], ◌∷◌, map, refl, ap, sym, ◌∙◌, subst, arith}
-use Rattle.std.specs.Prelude.{Option, Some, None, option_map, Result, Ok, Err, IfOk, IfSome, IsOk}
+use Rattle.std.specs.Prelude.{Option, Some, option_map, Result, Ok, Err, IfOk, IfSome, IsOk}
 use Rattle.std.specs.Global.{Vec}
 use Rattle.pesp_problem.specs.declared.pair.Pair.{Pair}
 use Rattle.pesp_network.specs.Networks.{KeepsNetLimits}

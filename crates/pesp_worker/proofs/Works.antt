@@ -1,6 +1,6 @@
 -- Works that are judged one after the other, and handed in together.
 use Rattle.std.proofs.Common.{◌≡◌, ◌⊎◌, inl, inr, ℕ, ◌+◌, ◌<◌, ◌≤◌, List, [], ◌∷◌, ◌++◌, length, map, refl, sym, ap, ◌∙◌, subst, arith}
-use Rattle.std.specs.Prelude.{ℤ, All, Contains, Option, Result, Ok, Err, IfOk, IfErr, IsErrAnd, sum_by}
+use Rattle.std.specs.Prelude.{ℤ, All, Contains, Option, Result, Ok, Err, IfOk, sum_by}
 use Rattle.std.specs.Global.{Vec}
 use Rattle.std.specs.List.{AllZip}
 use Rattle.std.specs.List.Sorted.{IsStrictlyIncreasing}
@@ -14,15 +14,14 @@ use Rattle.pesp_problem.specs.Timetables.{Pesp}
 use Rattle.pesp_truth.specs.Certificates.{Content, cost_of}
 use Rattle.pesp_nodes.specs.Problems.{ProblemValue}
 use Rattle.pesp_machine.specs.declared.job.Job.{Job}
-use Rattle.pesp_machine.specs.States.{State, HasLeaf, IsJobLeaf, IsLentNumber}
+use Rattle.pesp_machine.specs.States.{State, HasLeaf, IsLentNumber}
 use Rattle.pesp_machine.specs.Reached.{IsOrderly}
 use Rattle.pesp_machine.proofs.OneSize.{same_path, same_pairs}
 use Rattle.pesp_works.specs.Works.{WorkValue, HasText}
 use Rattle.pesp_outside.specs.Lent.{IsLentFrom}
-use Rattle.pesp_worker.specs.declared.refusal.WorkRefusal.{WorkRefusal}
-use Rattle.pesp_worker.specs.declared.refusal.WorkRefusal.TheVariants.{Memory, NoSuchJob}
+use Rattle.pesp_worker.specs.declared.refusal.WorkRefusal.TheVariants.{NoSuchJob}
 use Rattle.pesp_worker.specs.Holding.{KeepsOthers}
-use Rattle.pesp_worker.specs.HandingIn.{AreTimesFor, AreShort, Fits, StandsFor, IsFound, IsJudged, AreJudged, IsWholeFrom, branches_of, without_times, IsWorkOn, IsSplitBelow, AreWorksOn, HasNoJob, IsWorkRefusal, AreWorkRefusal}
+use Rattle.pesp_worker.specs.HandingIn.{AreTimesFor, AreShort, StandsFor, IsFound, IsJudged, AreJudged, IsWholeFrom, branches_of, without_times, IsWorkOn, IsSplitBelow, AreWorksOn, AreWorkRefusal}
 use Rattle.pesp_worker.proofs.Fitting.{text_with_times}
 use Rattle.pesp_worker.proofs.Numbers.{lent_below, few_jobs}
 use Rattle.pesp_worker.proofs.Rising.{RiseFrom, rise_from_none}
@@ -169,12 +168,6 @@ all_on i base p jobs state steps until asked found works lent there f j = record
 -- one of the jobs isn't there
 pub one_missing : (i : Pesp) (base : Content) (p : ProblemValue) (jobs : List Job) (state : State) (asked : List ℕ) → IsLentFrom i base p jobs state → (job : ℕ) × Contains asked job × (length jobs ≤ job) → AreWorkRefusal i base asked NoSuchJob
 one_missing i base p jobs state asked lent m = (m.0, m.1, record { problem = p; jobs = jobs; lent = state; begins = lent; few = m.2 })
-
--- a refusal of memory may always come
-pub memory_for_all : {A : Type 0} (i : Pesp) (base : Content) (asked : List ℕ) (r : Result A WorkRefusal) → IsErrAnd r (λ refusal. refusal ≡ Memory) → IfErr r (AreWorkRefusal i base asked)
-memory_for_all i base asked (Ok a) h = tt
-memory_for_all i base asked (Err Memory) h = tt
-memory_for_all i base asked (Err NoSuchJob) h = cc
 
 -- the jobs that are there are lent
 pub all_lent : (i : Pesp) (base : Content) (p : ProblemValue) (jobs : List Job) (state : State) (known : Option ℕ) (asked : List ℕ) (found : List WorkValue) → IsLentFrom i base p jobs state → All (λ job. job < length jobs) asked → AllZip (IsFound i known) asked found → All (λ (w : WorkValue). IsLentNumber state w.job) found

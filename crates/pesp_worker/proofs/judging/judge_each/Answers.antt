@@ -1,10 +1,8 @@
 use Rattle.std.proofs.Common.{◌≡◌, ◌∷◌, [], ◌++◌, List, length, refl, sym, ap, subst, ◌∙◌, append_assoc, append-nil, arith}
-use Rattle.std.specs.List.{AllZip}
 use Rattle.std.specs.Vec.Iter.{into_iter_items}
 use Rattle.pesp_works.specs.Works.{WorkValue}
 use Rattle.pesp_outside.proofs.Opening.{nothing_left}
-use Rattle.pesp_worker.specs.HandingIn.{IsJudged, AreJudged}
-use Rattle.pesp_worker.proofs.Rising.{rise_from_none}
+use Rattle.pesp_worker.specs.HandingIn.{AreJudged}
 use Rattle.pesp_worker.proofs.Works.{none_judged, judged_next, lent_still, this_is_lent, all_judged, rise_of}
 use Rattle.pesp_worker.proofs.judging.judge_each.Goals as goal
 

@@ -1,4 +1,4 @@
-use Rattle.std.proofs.Common.{◌≡◌, ◌⊎◌, ◌∷◌, [], inl, ℕ, List, get_or, refl, sym, ap, subst, ◌∙◌, take, ◌+◌}
+use Rattle.std.proofs.Common.{◌≡◌, ◌⊎◌, [], inl, ℕ, List, get_or, refl, sym, ap, subst, ◌∙◌, take, ◌+◌}
 use Rattle.std.specs.Prelude.{ℤ}
 use Rattle.std.specs.Global.{Vec}
 use Rattle.std.specs.List.{AllZip}

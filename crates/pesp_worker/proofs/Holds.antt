@@ -4,16 +4,13 @@ use Rattle.std.specs.Prelude.{Option, Some, IfSome}
 use Rattle.pesp_problem.specs.declared.pair.Pair.{Pair}
 use Rattle.pesp_problem.specs.declared.cut.Cut.{Cut}
 use Rattle.pesp_problem.specs.declared.cut.Side.{Side}
-use Rattle.pesp_problem.specs.Nodes.{Node, LeavesBoth}
-use Rattle.pesp_network.specs.Networks.{KeepsNetLimits}
-use Rattle.pesp_truth.specs.Trees.{Bound, CutExists}
-use Rattle.pesp_nodes.specs.Problems.{ProblemValue, net_of, IsNodeOf, IsCutOf, IsSmallTable, ArePairs}
+use Rattle.pesp_truth.specs.Trees.{Bound}
+use Rattle.pesp_nodes.specs.Problems.{ProblemValue, IsNodeOf, ArePairs}
 use Rattle.pesp_machine.specs.declared.job.Job.{Job}
 use Rattle.pesp_machine.specs.States.{State, IsJobLeaf, node_at}
 use Rattle.pesp_machine.specs.Reached.{IsOrderly}
 use Rattle.pesp_machine.specs.Events.{LendsLeaf}
 use Rattle.pesp_board.specs.Giving.{AreCuts}
-use Rattle.pesp_board.proofs.Paths.{cut_at}
 use Rattle.pesp_search_laws.proofs.Replies.{lent_leaf}
 use Rattle.pesp_search_laws.proofs.Sizes.{path_cuts, leaf_pairs}
 use Rattle.pesp_worker.specs.declared.holding.Held.{Held}

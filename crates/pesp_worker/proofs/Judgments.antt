@@ -1,6 +1,6 @@
 -- What is judged is handed in.
 use Rattle.std.proofs.Common.{◌≡◌, ◌≤◌, ◌<◌, ℕ, List, [], ◌∷◌, map, refl, ap, sym, ◌∙◌, subst, arith}
-use Rattle.std.specs.Prelude.{Option, Some, None, option_map, Result, Ok, Err, IfOk, IfSome, IsOk}
+use Rattle.std.specs.Prelude.{Option, Some, option_map, Result, Ok, Err, IfOk, IfSome, IsOk}
 use Rattle.std.specs.Global.{Vec}
 use Rattle.pesp_problem.specs.declared.pair.Pair.{Pair}
 use Rattle.pesp_network.specs.Networks.{KeepsNetLimits}
@@ -38,7 +38,7 @@ taken_is p q old new number tree reply found e limits table ok gives is =
 -- ---- room for branches
 
 some_same : {A : Type 0} (a b : A) → Some a ≡ Some b → a ≡ b
-some_same a b e = ap (λ (o : Option A). elim o [ None ↦ a | Some x ↦ x ]) e
+some_same a b e = cc
 
 -- a number is lent with a leaf of one value
 one_value : (p : ProblemValue) (state : State) (number value other : ℕ) (pairs others : List Pair) → IsJobLeaf p state number value pairs → IsJobLeaf p state number other others → value ≡ other
@@ -53,3 +53,9 @@ whole_below p state number branches least found until others named there below b
     let one = some_same least bound (sym named ∙ named_so) in
     let worth = one_value p state number value found pairs others leaf there in
     absurd (omega (arith, one, worth, below, above))
+
+-- where nothing is split with so many branches, nothing is with fewer
+pub whole_fewer : (p : ProblemValue) (state : State) (until : Option ℕ) (number most branches : ℕ) → branches ≤ most → IsWholeFrom p state until number most → IsWholeFrom p state until number branches
+whole_fewer p state until number most branches few whole bound value pairs named leaf above =
+    let none = whole bound value pairs named leaf above in
+    omega (arith, few, none)

@@ -2,7 +2,6 @@
 use Rattle.std.proofs.Common.{◌≡◌, ◌≢◌, ℕ, List, [], ◌∷◌, refl, sym, ap, ◌∙◌, subst}
 use Rattle.std.specs.Prelude.{Result, Ok, Err}
 use Rattle.std.proofs.lemmas.List.{get_or-set_other}
-use Rattle.pesp_problem.specs.declared.pair.Pair.{Pair}
 use Rattle.pesp_problem.specs.declared.cut.Cut.{Cut}
 use Rattle.pesp_problem.specs.declared.cut.Side.{Side}
 use Rattle.pesp_problem.specs.declared.cut.Side.TheVariants.{Low, High}
@@ -37,7 +36,7 @@ takes_keeps p old new number work apart t other path pairs differs leaf =
 
 -- whatever the reply
 pub given_keeps : (p : ProblemValue) (old new : State) (number : ℕ) (work : Work) (reply : Result (Unit {0}) GiveRefusal) → AreLentApart old → Gives p old number work reply new → KeepsOthers old number new
-given_keeps p old new number work (Ok done) apart g = takes_keeps p old new number work apart g
+given_keeps p old new number work (Ok done) apart g other path pairs differs leaf = takes_keeps p old new number work apart g other path pairs differs leaf
 given_keeps p old new number work (Err refusal) apart g other path pairs differs leaf = subst (λ (s : State). HasLeaf s other path pairs) (sym g.0) leaf
 
 -- nothing changed

@@ -1,6 +1,6 @@
 -- What is handed in for a base is taken where it is grafted onto that base first.
-use Rattle.std.proofs.Common.{◌≡◌, ℕ, List, length, map, refl, sym, ap, ◌∙◌, subst, true, Option}
-use Rattle.std.specs.Prelude.{ℤ, ◌≤ℤ◌, IsSomeAnd, IfSome, Result, Ok, Err, ⊤}
+use Rattle.std.proofs.Common.{◌≡◌, ℕ, List, length, refl, sym, ◌∙◌, subst, true, Option}
+use Rattle.std.specs.Prelude.{ℤ, ◌≤ℤ◌, IsSomeAnd, IfSome, Result, Ok, Err}
 use Rattle.std.specs.Global.{Vec}
 use Rattle.pesp_problem.specs.declared.cut.Cut.{Cut}
 use Rattle.pesp_problem.specs.declared.cut.Side.{Side}
@@ -11,8 +11,8 @@ use Rattle.pesp_problem.specs.Arcs.{Net}
 use Rattle.pesp_problem.specs.Walks.{Names}
 use Rattle.pesp_problem.specs.Nodes.{Node, leaf_value, root, low_part, high_part}
 use Rattle.pesp_truth.specs.Paths.{along}
-use Rattle.pesp_truth.specs.Trees.{Tree, Ends, Branch, Bound, Shut, ByPairs, ByGap, ByPropagation, preorder, CutExists, IsShut}
-use Rattle.pesp_truth.specs.Certificates.{Content, line_of}
+use Rattle.pesp_truth.specs.Trees.{Tree, Ends, Branch, Bound, Shut, ByPairs, ByGap, ByPropagation, CutExists, IsShut}
+use Rattle.pesp_truth.specs.Certificates.{Content}
 use Rattle.pesp_truth.specs.declared.tree.TreeLine.{TreeLine}
 use Rattle.pesp_nodes.specs.Problems.{ProblemValue, net_of, ArePairs}
 use Rattle.pesp_machine.specs.declared.job.Job.{Job}

@@ -1,10 +1,12 @@
 -- Works that are judged one after the other, and handed in together.
-use Rattle.std.proofs.Common.{◌≡◌, ℕ, ◌+◌, ◌<◌, ◌≤◌, List, [], ◌∷◌, ◌++◌, length, map, refl, sym, ap, ◌∙◌, subst, arith}
-use Rattle.std.specs.Prelude.{All, Contains, Option, Result, Ok, Err, IfErr, IsErrAnd, sum_by}
+use Rattle.std.proofs.Common.{◌≡◌, ◌⊎◌, inl, inr, ℕ, ◌+◌, ◌<◌, ◌≤◌, List, [], ◌∷◌, ◌++◌, length, map, refl, sym, ap, ◌∙◌, subst, arith}
+use Rattle.std.specs.Prelude.{ℤ, All, Contains, Option, Result, Ok, Err, IfOk, sum_by}
+use Rattle.std.specs.Global.{Vec}
 use Rattle.std.specs.List.{AllZip}
 use Rattle.std.specs.List.Sorted.{IsStrictlyIncreasing}
 use Rattle.std.proofs.lemmas.List.Elements.{All-nil, All-cons, All-head, All-tail, All-contains, Contains-append_right}
 use Rattle.std.proofs.lemmas.List.Sums.{sum_by-cons, sum_by_push}
+use Rattle.std.proofs.lemmas.Slice.Zip.{all_zipped_more, AllZip-long}
 use Rattle.pesp_problem.specs.declared.pair.Pair.{Pair}
 use Rattle.pesp_problem.specs.declared.cut.Cut.{Cut}
 use Rattle.pesp_problem.specs.declared.cut.Side.{Side}
@@ -12,22 +14,25 @@ use Rattle.pesp_problem.specs.Timetables.{Pesp}
 use Rattle.pesp_truth.specs.Certificates.{Content, cost_of}
 use Rattle.pesp_nodes.specs.Problems.{ProblemValue}
 use Rattle.pesp_machine.specs.declared.job.Job.{Job}
-use Rattle.pesp_machine.specs.States.{State, HasLeaf, IsJobLeaf, IsLentNumber}
+use Rattle.pesp_machine.specs.States.{State, HasLeaf, IsLentNumber}
 use Rattle.pesp_machine.specs.Reached.{IsOrderly}
 use Rattle.pesp_machine.proofs.OneSize.{same_path, same_pairs}
 use Rattle.pesp_works.specs.Works.{WorkValue, HasText}
 use Rattle.pesp_outside.specs.Lent.{IsLentFrom}
-use Rattle.pesp_worker.specs.declared.refusal.WorkRefusal.{WorkRefusal}
-use Rattle.pesp_worker.specs.declared.refusal.WorkRefusal.TheVariants.{Memory, NoSuchJob}
+use Rattle.pesp_worker.specs.declared.refusal.WorkRefusal.TheVariants.{NoSuchJob}
 use Rattle.pesp_worker.specs.Holding.{KeepsOthers}
-use Rattle.pesp_worker.specs.HandingIn.{AreTimesFor, AreShort, Fits, StandsFor, IsFound, IsJudged, AreJudged, IsWholeFrom, branches_of, without_times, IsWorkOn, IsSplitBelow, AreWorksOn, AreWorkRefusal}
+use Rattle.pesp_worker.specs.HandingIn.{AreTimesFor, AreShort, StandsFor, IsFound, IsJudged, AreJudged, IsWholeFrom, branches_of, without_times, IsWorkOn, IsSplitBelow, AreWorksOn, AreWorkRefusal}
 use Rattle.pesp_worker.proofs.Fitting.{text_with_times}
 use Rattle.pesp_worker.proofs.Numbers.{lent_below, few_jobs}
 use Rattle.pesp_worker.proofs.Rising.{RiseFrom, rise_from_none}
-use Rattle.pesp_worker.proofs.Zips.{zip_push, zip_map}
+use Rattle.pesp_worker.proofs.Zips.{zip_weaker, zip_map}
 
 abbrev Path : Type 0
 Path = List (Cut × Side)
+
+-- a work of this number, with these times or none
+abbrev pub HasShown : List (ℤ × ℕ) → ℕ → WorkValue → Type 0
+HasShown shown job work = (work.job ≡ job) × ((work.times ≡ []) ⊎ (work.times ≡ shown))
 
 -- ---- one judged after the other
 
@@ -48,7 +53,7 @@ pub none_judged : (p : ProblemValue) (old : State) (steps : ℕ) (until : Option
 none_judged p old steps until rest rise = record {
   problem = refl;
   each = tt;
-  room = refl;
+  room = omega arith;
   above = 0;
   rise = rise;
   stay = λ number path pairs from leaf. leaf;
@@ -103,7 +108,7 @@ judged_next p q after old now new steps left still until judged rest before work
     let room = h.room in
     record {
       problem = same ∙ h.problem;
-      each = subst (AllZip (IsJudged p old until) (judged ++ found ∷ [])) (sym is) (zip_push (IsJudged p old until) judged before found work h.each (judged_then p old now h.above until found work orderly h.stay h.rise.0 lent here));
+      each = subst (AllZip (IsJudged p old until) (judged ++ found ∷ [])) (sym is) (all_zipped_more (IsJudged p old until) judged before found work h.each (judged_then p old now h.above until found work orderly h.stay h.rise.0 lent here));
       room = (let total = ap (sum_by branches_of) is ∙ sum in omega (arith, total, room, count));
       above = found.job + 1;
       rise = h.rise.1;
@@ -164,12 +169,6 @@ all_on i base p jobs state steps until asked found works lent there f j = record
 pub one_missing : (i : Pesp) (base : Content) (p : ProblemValue) (jobs : List Job) (state : State) (asked : List ℕ) → IsLentFrom i base p jobs state → (job : ℕ) × Contains asked job × (length jobs ≤ job) → AreWorkRefusal i base asked NoSuchJob
 one_missing i base p jobs state asked lent m = (m.0, m.1, record { problem = p; jobs = jobs; lent = state; begins = lent; few = m.2 })
 
--- a refusal of memory may always come
-pub memory_for_all : {A : Type 0} (i : Pesp) (base : Content) (asked : List ℕ) (r : Result A WorkRefusal) → IsErrAnd r (λ refusal. refusal ≡ Memory) → IfErr r (AreWorkRefusal i base asked)
-memory_for_all i base asked (Ok a) h = tt
-memory_for_all i base asked (Err Memory) h = tt
-memory_for_all i base asked (Err NoSuchJob) h = cc
-
 -- the jobs that are there are lent
 pub all_lent : (i : Pesp) (base : Content) (p : ProblemValue) (jobs : List Job) (state : State) (known : Option ℕ) (asked : List ℕ) (found : List WorkValue) → IsLentFrom i base p jobs state → All (λ job. job < length jobs) asked → AllZip (IsFound i known) asked found → All (λ (w : WorkValue). IsLentNumber state w.job) found
 all_lent i base p jobs state known [] [] lent there f = All-nil (λ (w : WorkValue). IsLentNumber state w.job)
@@ -187,9 +186,40 @@ all_rise i known asked found f rise = subst IsStrictlyIncreasing (sym (zip_map (
 pub this_is_lent : (state : State) (before rest all : List WorkValue) (one : WorkValue) → before ++ one ∷ rest ≡ all → All (λ (w : WorkValue). IsLentNumber state w.job) all → IsLentNumber state one.job
 this_is_lent state before rest all one is lent = All-contains (λ (w : WorkValue). IsLentNumber state w.job) all one lent (subst (λ (ws : List WorkValue). Contains ws one) is (Contains-append_right before (one ∷ rest) one (0, omega arith, refl)))
 
+-- ---- what is found
+
+-- the times of a certificate, or none
+found_times : (i : Pesp) (known : Option ℕ) (shown times : List (ℤ × ℕ)) → AreTimesFor i known shown → (times ≡ []) ⊎ (times ≡ shown) → AreTimesFor i known times
+found_times i known shown times are (inl none) = inl none
+found_times i known shown times are (inr same) = subst (AreTimesFor i known) (sym same) are
+
+found_short : (shown times : List (ℤ × ℕ)) → AreShort shown → (times ≡ []) ⊎ (times ≡ shown) → AreShort times
+found_short shown times short (inl none) = subst AreShort (sym none) (omega arith, refl)
+found_short shown times short (inr same) = subst AreShort (sym same) short
+
+pub all_found : {E : Type 0} (i : Pesp) (known : Option ℕ) (shown : List (ℤ × ℕ)) (jobs : List ℕ) (r : Result (Vec WorkValue) E) → AreTimesFor i known shown → AreShort shown → IfOk r (λ works. AllZip (HasShown shown) jobs works.items) → IfOk r (λ works. AllZip (IsFound i known) jobs works.items)
+all_found i known shown jobs (Ok works) are short each = zip_weaker (HasShown shown) (IsFound i known) jobs works.items (λ job work h. record {
+  number = h.0;
+  times = found_times i known shown work.times are h.1;
+  short = found_short shown work.times short h.1;
+}) each
+all_found i known shown jobs (Err e) are short each = tt
+
 -- ---- one job alone
 
-pub one_job : {R : ℕ → WorkValue → Type 0} (job : ℕ) (works : List WorkValue) → AllZip R (job ∷ []) works → (work : WorkValue) × (works ≡ work ∷ []) × R job work
-one_job job [] h = absurd h
-one_job job (work ∷ []) h = (work, refl, h.0)
-one_job job (work ∷ other ∷ works) h = absurd h.1
+pub one_rises : (job : ℕ) → IsStrictlyIncreasing (job ∷ [])
+one_rises job k below = absurd (omega (arith, below))
+
+pub one_work : (i : Pesp) (base : Content) (job steps : ℕ) (until : Option ℕ) (works : List WorkValue) → AreWorksOn i base (job ∷ []) steps until works → length works ≡ 1
+one_work i base job steps until works are = AllZip-long (λ job work. IsWorkOn i base job steps work × IsSplitBelow i base job until work) (job ∷ []) works are.each
+
+last_pair : (R : ℕ → WorkValue → Type 0) (job : ℕ) (before : List WorkValue) (work : WorkValue) → AllZip R (job ∷ []) (before ++ work ∷ []) → R job work
+last_pair R job [] work h = h.0
+last_pair R job (one ∷ []) work h = absurd h.1
+last_pair R job (one ∷ other ∷ before) work h = absurd h.1
+
+-- the last work is for that job
+pub last_work : (i : Pesp) (base : Content) (job steps : ℕ) (until : Option ℕ) (before works : List WorkValue) (work : WorkValue) → works ≡ before ++ work ∷ [] → AreWorksOn i base (job ∷ []) steps until works → IsWorkOn i base job steps work
+last_work i base job steps until before works work e are =
+    let R : ℕ → WorkValue → Type 0 = λ job work. IsWorkOn i base job steps work × IsSplitBelow i base job until work in
+    (last_pair R job before work (subst (AllZip R (job ∷ [])) e are.each)).0

@@ -5,6 +5,7 @@
 mod answers;
 mod boards;
 mod calls;
+mod items;
 mod texts;
 
 use crate::answers::{Answer, status_of, word_of};
@@ -12,6 +13,7 @@ use crate::boards::try_board;
 use crate::calls::{
     try_check, try_check_text, try_parse, try_read_instance, try_report, try_solve,
 };
+use crate::items::{try_items, try_items_of_a_front};
 use std::process::ExitCode;
 
 fn main(rt: HostRuntime) -> ExitCode {
@@ -24,6 +26,8 @@ fn main(rt: HostRuntime) -> ExitCode {
         tell(&rt, "report: ", try_report(alloc)),
         tell(&rt, "solve: ", try_solve(alloc)),
         tell(&rt, "board: ", try_board(alloc)),
+        tell(&rt, "items: ", try_items(alloc)),
+        tell(&rt, "items of a front: ", try_items_of_a_front(alloc)),
     ];
     ExitCode::from(status_of(&answers))
 }

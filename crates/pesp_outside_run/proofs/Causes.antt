@@ -1,5 +1,5 @@
 -- Why a run has no answer, from what the call that failed says of it, and what it wrote.
-use Rattle.std.proofs.Common.{◌≡◌, ◌⊎◌, inl, inr, ℕ, List, Err}
+use Rattle.std.proofs.Common.{inl, inr, ℕ, List}
 use Rattle.std.specs.Prelude.{Option}
 use Rattle.std.specs.List.{flat_map}
 use Rattle.pesp_stream.specs.Counts.{Calls}

@@ -32,12 +32,7 @@ struct Graft {
 
 /// Grafts works onto a base, over the devices of the instance, of the works and of the certificate: how it ended, and what was
 /// written.
-fn grafted(
-    alloc: Global,
-    given: &Given,
-    base: &[u8],
-    works: &[u8],
-) -> (Result<(), Fault>, Graft) {
+fn grafted(alloc: Global, given: &Given, base: &[u8], works: &[u8]) -> (Result<(), Fault>, Graft) {
     let mut first = feed_of(&given.instance, given.first);
     let mut second = feed_of(base, Device::whole());
     let mut third = feed_of(works, given.second);

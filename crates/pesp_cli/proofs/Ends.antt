@@ -21,7 +21,12 @@ pub got_line : {A E : Type 0} (r : Result A E) (old new : Option (List ℕ)) (ca
 got_line (Ok a) old new calls after line written fault = inl written
 got_line (Err e) old new calls after line written fault = inr (fault, written)
 
--- what holds of the texts of two files holds of some texts
+-- what holds of the text of a file holds of some text
+pub of_some_file : (r : Result ℕ Fault) (P : Device → ℕ → Type 0) (instance : Device) → IfOk r (P instance) → IfOk r (λ status. (instance : Device) × P instance status)
+of_some_file (Ok status) P instance holds = (instance, holds)
+of_some_file (Err fault) P instance holds = tt
+
+-- the same of two files
 pub of_some_files : (r : Result ℕ Fault) (P : Device → Device → ℕ → Type 0) (instance base : Device) → IfOk r (P instance base) → IfOk r (λ status. (instance base : Device) × P instance base status)
 of_some_files (Ok status) P instance base holds = (instance, base, holds)
 of_some_files (Err fault) P instance base holds = tt

@@ -52,13 +52,17 @@ use Rattle.pesp_board.proofs.Taken.{sound_lines_keep}
 -- ---- the certificate
 
 -- its lines are a sound tree of the problem's root
-pub certificate_sound : (i : Pesp) (p : ProblemValue) (content : Content) → IsProblemOf i p → p.table ≡ content.cycles → IsValid i content → AreSoundLines p (lines_of content) (root_of p ∷ [])
+pub certificate_sound : (i : Pesp) (p : ProblemValue) (content : Content) → IsProblemOf i p
+    → p.table ≡ content.cycles → IsValid i content → AreSoundLines p (lines_of content) (root_of p ∷ [])
 certificate_sound i p content o cycles v =
     let n : Net = nets.net_of i in
     let bound = least_of content.answer in
     let lines = lines_of content in
-    let sound : AreSound n content.cycles bound lines (root n content.cycles ∷ []) = sound_as_lines n content.cycles bound lines (root n content.cycles) v.tree in
-    let on_table : AreSound n p.table bound lines (root n p.table ∷ []) = subst (λ (table : List (List SignedRow)). AreSound n table bound lines (root n table ∷ [])) (sym cycles) sound in
+    let sound : AreSound n content.cycles bound lines (root n content.cycles ∷ []) =
+    sound_as_lines n content.cycles bound lines (root n content.cycles) v.tree in
+    let on_table : AreSound n p.table bound lines (root n p.table ∷ []) =
+    subst (λ (table : List (List SignedRow)). AreSound n table bound lines (root n table ∷ []))
+    (sym cycles) sound in
     (bound, subst (λ (m : Net). AreSound m p.table bound lines (root m p.table ∷ [])) (sym (same_net i p o)) on_table)
 
 short : (n : ℕ) → nat_lt n NATURALS ≡ true → n ≤ 999999999999999999
@@ -82,10 +86,15 @@ no_items : {X : Type 0} (xs : List X) → length xs ≡ 0 → xs ≡ []
 no_items [] e = refl
 no_items (x ∷ xs) e = absurd (omega (arith, e))
 
-pub planted_alone : (parts : List Part) (t u v : WorkTreeValue) (q w : QueueValue) → t ≡ opening → u ≡ with_room t u.room → q.waiting ≡ [] → q.parked ≡ [] → AreAllPlanted u q (0 ∷ []) parts v w → IsPlantedAlone parts v w
+pub planted_alone : (parts : List Part) (t u v : WorkTreeValue) (q w : QueueValue) → t ≡ opening
+    → u ≡ with_room t u.room → q.waiting ≡ [] → q.parked ≡ [] → AreAllPlanted u q (0 ∷ []) parts v w
+    → IsPlantedAlone parts v w
 planted_alone parts t u v q w first room waiting parked all =
     let is : u ≡ with_room opening u.room = room ∙ ap (λ (x : WorkTreeValue). with_room x u.room) first in
-    let entries : news u (0 ∷ []) parts ++ q.waiting ≡ news (with_room opening u.room) (0 ∷ []) parts = ap (λ (xs : List Entry). news u (0 ∷ []) parts ++ xs) waiting ∙ append-nil (news u (0 ∷ []) parts) ∙ ap (λ (x : WorkTreeValue). news x (0 ∷ []) parts) is in
+    let entries : news u (0 ∷ []) parts ++ q.waiting
+    ≡ news (with_room opening u.room) (0 ∷ []) parts =
+    ap (λ (xs : List Entry). news u (0 ∷ []) parts ++ xs) waiting ∙ append-nil (news u (0 ∷ []) parts)
+    ∙ ap (λ (x : WorkTreeValue). news x (0 ∷ []) parts) is in
     let fewer : length q.parked ≡ 0 = ap (λ (xs : List Entry). length xs) parked in
     record {
       room = u.room;
@@ -96,7 +105,9 @@ planted_alone parts t u v q w first room waiting parked all =
 
 -- ---- the board
 
-module _ (p : ProblemValue) (parts : List Part) (u : WorkTreeValue) (r : QueueValue) (shape : are_trees 1 (part_lines parts) ≡ true) (valued : AreValued p (root_of p ∷ []) parts) (k : IsPlantedAlone parts u r) where
+module _ (p : ProblemValue) (parts : List Part) (u : WorkTreeValue) (r : QueueValue)
+    (shape : are_trees 1 (part_lines parts) ≡ true) (valued : AreValued p (root_of p ∷ []) parts)
+    (k : IsPlantedAlone parts u r) where
   abbrev alone : WorkTreeValue
   alone = with_room opening k.room
 
@@ -121,7 +132,8 @@ module _ (p : ProblemValue) (parts : List Part) (u : WorkTreeValue) (r : QueueVa
   alone_tree tree said = ap (λ (x : WorkTreeValue). x.tree) k.tree ∙ one_tree_grown alone 0 parts tree refl refl said
 
 -- what is made of a valid certificate
-pub record IsMadeOf (i : Pesp) (p : ProblemValue) (content : Content) (pairs : ℕ) (u : WorkTreeValue) (r : QueueValue) (slots : List Slot) (best : Option Best) : Type 0 where
+pub record IsMadeOf (i : Pesp) (p : ProblemValue) (content : Content) (pairs : ℕ) (u : WorkTreeValue)
+    (r : QueueValue) (slots : List Slot) (best : Option Best) : Type 0 where
   pub instance : instances.KeepsLimits i
   pub certificate : KeepsLimits content
   pub valid : IsValid i content
@@ -132,25 +144,30 @@ pub record IsMadeOf (i : Pesp) (p : ProblemValue) (content : Content) (pairs : �
   pub times : times_of best ≡ shown_best content.answer (shown_times content)
   pub cost : cost_of best ≡ certificates.cost_of content.answer
 
-module _ (i : Pesp) (p : ProblemValue) (content : Content) (pairs : ℕ) (u : WorkTreeValue) (r : QueueValue) (slots : List Slot) (best : Option Best) (m : IsMadeOf i p content pairs u r slots best) where
+module _ (i : Pesp) (p : ProblemValue) (content : Content) (pairs : ℕ) (u : WorkTreeValue) (r : QueueValue)
+    (slots : List Slot) (best : Option Best) (m : IsMadeOf i p content pairs u r slots best) where
   abbrev pub state : State
   state = state_of u slots (times_of best)
 
   same_lines : preorder u.tree ≡ lines_of content
-  same_lines = ap preorder (alone_tree p m.grown.parts u r m.grown.shape m.grown.valued m.grown.planted m.valid.tree.0 (m.valid.tree.1 ∙ sym m.grown.lines)) ∙ m.valid.tree.1
+  same_lines = ap preorder (alone_tree p m.grown.parts u r m.grown.shape m.grown.valued m.grown.planted
+      m.valid.tree.0 (m.valid.tree.1 ∙ sym m.grown.lines)) ∙ m.valid.tree.1
 
   pub made_adopts : Adopts content state
   made_adopts = record { tree = same_lines; numbers = ap (map (ticket_of u)) m.none; best = m.times }
 
   in_limits : KeepsTreeLimits p u.tree
   in_limits =
-      let long : length (preorder u.tree) ≡ length content.tree = ap (λ (l : List Line). length l) same_lines ∙ length-map content.tree line_of in
+      let long : length (preorder u.tree) ≡ length content.tree = ap (λ (l : List Line). length l) same_lines
+      ∙ length-map content.tree line_of in
       let many : sum_by pairs_in (preorder u.tree) ≡ sum_by pairs_in (lines_of content) = ap (sum_by pairs_in) same_lines in
       let few = m.certificate.lines in
       let most = m.certificate.pairs in
       record {
         small = record { lines = omega (arith, long, few); pairs = omega (arith, many, same_pairs content.tree, most) };
-        lines = subst (AreLinesOf p) (sym same_lines) (sound_lines_keep p content.tree (root_of p ∷ []) m.certificate.each_line (certificate_sound i p content m.of m.cycles m.valid));
+        lines = subst (AreLinesOf p) (sym same_lines)
+            (sound_lines_keep p content.tree (root_of p ∷ []) m.certificate.each_line
+            (certificate_sound i p content m.of m.cycles m.valid));
       }
 
   pub made_board : KeepsNetLimits p.network → IsSmallTable p.table → IsBoard p u slots r best pairs

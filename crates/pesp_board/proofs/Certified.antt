@@ -51,7 +51,8 @@ cost_is_short : (p : ProblemValue) (best : Option (List ℕ)) → KeepsNetLimits
 cost_is_short p None limits = tt
 cost_is_short p (Some times) limits = omega (arith, costs_are_small p.network times limits)
 
-closed_fits : (b : Bool) (l c : ℕ) → l ≤ 999999999999999999 → c ≤ 999999999999999999 → has_costs (if b then Optimal c else Bounded l (Some c)) ≡ true
+closed_fits : (b : Bool) (l c : ℕ) → l ≤ 999999999999999999 → c ≤ 999999999999999999
+    → has_costs (if b then Optimal c else Bounded l (Some c)) ≡ true
 closed_fits true l c h k = grind (arith, nat_tests)
 closed_fits false l c h k = and_both (nat_lt l NATURALS) (nat_lt c NATURALS) (grind (arith, nat_tests)) (grind (arith, nat_tests))
 
@@ -82,11 +83,15 @@ record TimesFit (ts : List (ℤ × ℕ)) : Type 0 where
   few : length ts ≤ 100000
   each : list_all is_time ts ≡ true
 
-shown_fit : (i : Pesp) (p : ProblemValue) (best : Option (List ℕ)) (ts : List (ℤ × ℕ)) → instances.KeepsLimits i → KeepsNetLimits p.network → IfSome best (IsNetTimetable (net_of p) p.network.events) → ShowsBest i.events best (map (λ t. t.0) ts) (map (λ t. t.1) ts) → TimesFit ts
+shown_fit : (i : Pesp) (p : ProblemValue) (best : Option (List ℕ)) (ts : List (ℤ × ℕ)) → instances.KeepsLimits i
+    → KeepsNetLimits p.network → IfSome best (IsNetTimetable (net_of p) p.network.events)
+    → ShowsBest i.events best (map (λ t. t.0) ts) (map (λ t. t.1) ts) → TimesFit ts
 shown_fit i p None ts l n k s = rw (no_times ts s) (record { few = omega arith; each = refl })
 shown_fit i p (Some best) ts l n k s = record {
   few = (let e = ap length s.0 in let few = l.events in omega (arith, length-map ts (λ t. t.0), e, few));
-  each = times_fit ts (subst (All IsLabel) (sym s.0) l.labels) (subst (All (λ m. m ≤ 9999)) (sym s.1) (λ j d within. let below = k.below j d within in let most = n.period_most in omega (arith, below, most)));
+  each = times_fit ts (subst (All IsLabel) (sym s.0) l.labels)
+      (subst (All (λ m. m ≤ 9999)) (sym s.1) (λ j d within. let below = k.below j d within in
+      let most = n.period_most in omega (arith, below, most)));
 }
 
 -- ---- cycles
@@ -96,15 +101,23 @@ row_fits count row h few = (let low = h.0 in let high = h.1 in grind (arith, nat
 
 rows_fit : (arcs : List Arc) (walk : List SignedRow) → length arcs ≤ 100000 → AreRows arcs walk → rows_are_named walk ≡ true
 rows_fit arcs [] few h = refl
-rows_fit arcs (s ∷ walk) few h = rw (row_fits (length arcs) s.row (All-head (RowExists arcs) s walk h) few, rows_fit arcs walk few (All-tail (RowExists arcs) s walk h)) refl
+rows_fit arcs (s ∷ walk) few h = rw (
+  row_fits (length arcs) s.row (All-head (RowExists arcs) s walk h) few,
+  rows_fit arcs walk few (All-tail (RowExists arcs) s walk h),
+) refl
 
 cycle_fits : (arcs : List Arc) (walk : List SignedRow) → length arcs ≤ 100000 → IsWalk arcs walk → is_cycle walk ≡ true
 cycle_fits arcs [] few w = absurd w
-cycle_fits arcs (s ∷ walk) few w = and_both (nat_le 1 (length (s ∷ walk))) (rows_are_named (s ∷ walk)) (grind (arith, nat_tests)) (rows_fit arcs (s ∷ walk) few w.0)
+cycle_fits arcs (s ∷ walk) few w = and_both (nat_le 1 (length (s ∷ walk))) (rows_are_named (s ∷ walk))
+    (grind (arith, nat_tests)) (rows_fit arcs (s ∷ walk) few w.0)
 
-cycles_fit : (arcs : List Arc) (table : List (List SignedRow)) → length arcs ≤ 100000 → All (IsWalk arcs) table → list_all is_cycle table ≡ true
+cycles_fit : (arcs : List Arc) (table : List (List SignedRow)) → length arcs ≤ 100000 → All (IsWalk arcs) table
+    → list_all is_cycle table ≡ true
 cycles_fit arcs [] few h = refl
-cycles_fit arcs (walk ∷ table) few h = rw (cycle_fits arcs walk few (All-head (IsWalk arcs) walk table h), cycles_fit arcs table few (All-tail (IsWalk arcs) walk table h)) refl
+cycles_fit arcs (walk ∷ table) few h = rw (
+  cycle_fits arcs walk few (All-head (IsWalk arcs) walk table h),
+  cycles_fit arcs table few (All-tail (IsWalk arcs) walk table h),
+) refl
 
 -- ---- pairs
 
@@ -113,39 +126,58 @@ pair_fits n pair few h = (let low = h.names.0 in let high = h.names.1 in let mos
 
 pairs_fit : (n : ℕ) (pairs : List Pair) → n ≤ 100000 → All (IsPairOf n) pairs → all_within pairs ≡ true
 pairs_fit n [] few h = refl
-pairs_fit n (pair ∷ pairs) few h = rw (pair_fits n pair few (All-head (IsPairOf n) pair pairs h), pairs_fit n pairs few (All-tail (IsPairOf n) pair pairs h)) refl
+pairs_fit n (pair ∷ pairs) few h = rw (
+  pair_fits n pair few (All-head (IsPairOf n) pair pairs h),
+  pairs_fit n pairs few (All-tail (IsPairOf n) pair pairs h),
+) refl
 
 follows_least : (least : ℕ) (pair : Pair) (n : ℕ) → least ≤ pair.cycle → IsPairOf n pair → follows least pair ≡ true
 follows_least least pair n h k = (let some = k.some in grind (arith, nat_tests))
 
-do_rise : (n least : ℕ) (pairs : List Pair) → ((i : ℕ) (d : Pair) → i < length pairs → least ≤ (get_or pairs i d).cycle) → Rise pairs → All (IsPairOf n) pairs → rise_from least pairs ≡ true
+do_rise : (n least : ℕ) (pairs : List Pair) → ((i : ℕ) (d : Pair) → i < length pairs
+    → least ≤ (get_or pairs i d).cycle) → Rise pairs → All (IsPairOf n) pairs → rise_from least pairs ≡ true
 do_rise n least [] from rise each = refl
 do_rise n least (pair ∷ pairs) from rise each =
-    and_both (follows least pair) (rise_from (pair.cycle + 1) pairs) (follows_least least pair n (from 0 pair (omega arith)) (All-head (IsPairOf n) pair pairs each))
-    (do_rise n (pair.cycle + 1) pairs (λ i d l. let above = rise 0 (suc i) d (omega arith) (omega (arith, l)) in omega (arith, above)) (λ i j d below l. rise (suc i) (suc j) d (omega (arith, below)) (omega (arith, l))) (All-tail (IsPairOf n) pair pairs each))
+    and_both (follows least pair) (rise_from (pair.cycle + 1) pairs)
+    (follows_least least pair n (from 0 pair (omega arith)) (All-head (IsPairOf n) pair pairs each))
+    (do_rise n (pair.cycle + 1) pairs (λ i d l. let above = rise 0 (suc i) d (omega arith) (omega (arith, l)) in
+    omega (arith, above)) (λ i j d below l. rise (suc i) (suc j) d (omega (arith, below)) (omega (arith, l)))
+    (All-tail (IsPairOf n) pair pairs each))
 
 are_pairs_fit : (n : ℕ) (pairs : List Pair) → n ≤ 100000 → ArePairs n pairs → is_line (Bound pairs) ≡ true
-are_pairs_fit n pairs few h = and_both (rise_from 0 pairs) (all_within pairs) (do_rise n 0 pairs (λ i d l. omega arith) h.rise h.each) (pairs_fit n pairs few h.each)
+are_pairs_fit n pairs few h = and_both (rise_from 0 pairs) (all_within pairs)
+    (do_rise n 0 pairs (λ i d l. omega arith) h.rise h.each) (pairs_fit n pairs few h.each)
 
 -- ---- lines
 
 slack_fits : (count row k : ℕ) → (1 ≤ row) × (row ≤ count) → count ≤ 100000 → k ≤ 9999 → is_line (Slack row k) ≡ true
 slack_fits count row k h few small = (let low = h.0 in let high = h.1 in grind (arith, nat_tests))
 
-offset_fits : (count cycle : ℕ) (k : ℤ) → (1 ≤ cycle) × (cycle ≤ count) → count ≤ 100000 → unsigned_abs k ≤ 100000000000000 → is_line (Offset cycle k) ≡ true
+offset_fits : (count cycle : ℕ) (k : ℤ) → (1 ≤ cycle) × (cycle ≤ count) → count ≤ 100000
+    → unsigned_abs k ≤ 100000000000000 → is_line (Offset cycle k) ≡ true
 offset_fits count cycle k h few small = (let low = h.0 in let high = h.1 in grind (arith, nat_tests))
 
-line_fits : (p : ProblemValue) (line : TreeLine) → KeepsNetLimits p.network → IsSmallTable p.table → IsLineOf p (line_of line) → is_line line ≡ true
-line_fits p (Slack row k) n t h = (let long = length-map p.network.rows arc_of_net in let wide = length-map (net_of p).arcs (λ (arc : Arc). let range : ℕ × ℕ = (0, arc.span) in range) in let few = n.rows_most in slack_fits (length (root_of p).slacks) row k h.0 (omega (arith, long, wide, few)) h.1)
-line_fits p (Offset cycle k) n t h = (let wide = length-map p.table (odijk_range (net_of p) (root_slacks (net_of p))) in let few = t.cycles in offset_fits (length (root_of p).offsets) cycle k h.0 (omega (arith, wide, few)) h.1)
+line_fits : (p : ProblemValue) (line : TreeLine) → KeepsNetLimits p.network → IsSmallTable p.table
+    → IsLineOf p (line_of line) → is_line line ≡ true
+line_fits p (Slack row k) n t h = (let long = length-map p.network.rows arc_of_net in
+    let wide = length-map (net_of p).arcs (λ (arc : Arc). let range : ℕ × ℕ = (0, arc.span) in range) in
+    let few = n.rows_most in slack_fits (length (root_of p).slacks) row k h.0 (omega (arith, long, wide, few)) h.1)
+line_fits p (Offset cycle k) n t h = (let wide =
+    length-map p.table (odijk_range (net_of p) (root_slacks (net_of p))) in let few = t.cycles in
+    offset_fits (length (root_of p).offsets) cycle k h.0 (omega (arith, wide, few)) h.1)
 line_fits p (Bound pairs) n t h = are_pairs_fit (length p.table) pairs t.cycles h
 line_fits p (Nothing pairs) n t h = are_pairs_fit (length p.table) pairs t.cycles h
 line_fits p (Gap cycle) n t h = row_fits (length p.table) cycle h t.cycles
 line_fits p Propagated n t h = refl
 
-pub lines_fit : (p : ProblemValue) (lines : List TreeLine) → KeepsNetLimits p.network → IsSmallTable p.table → All (IsLineOf p) (map line_of lines) → list_all is_line lines ≡ true
+pub lines_fit : (p : ProblemValue) (lines : List TreeLine) → KeepsNetLimits p.network → IsSmallTable p.table
+    → All (IsLineOf p) (map line_of lines) → list_all is_line lines ≡ true
 lines_fit p [] n t h = refl
-lines_fit p (line ∷ lines) n t h = rw (line_fits p line n t (All-head (IsLineOf p) (line_of line) (map line_of lines) h), lines_fit p lines n t (All-tail (IsLineOf p) (line_of line) (map line_of lines) h)) refl
+lines_fit p (line ∷ lines) n t h = rw (
+  line_fits p line n t
+      (All-head (IsLineOf p) (line_of line) (map line_of lines) h),
+  lines_fit p lines n t (All-tail (IsLineOf p) (line_of line) (map line_of lines) h),
+) refl
 
 same_pairs_in : (line : TreeLine) → pairs_in line ≡ machine.pairs_in (line_of line)
 same_pairs_in (Slack row k) = refl
@@ -203,21 +235,27 @@ by_lines lines true e = ((omega arith, omega arith), all_two lines)
 by_lines lines false e = ((omega arith, omega arith), all_one lines e)
 
 version_fits : (version : ℕ) (lines : List TreeLine) → version ≡ version_of (map line_of lines) → HasLines version lines
-version_fits version lines e = subst (λ (v : ℕ). HasLines v lines) (sym e) (by_lines lines (list_any is_propagated (map line_of lines)) refl)
+version_fits version lines e = subst (λ (v : ℕ). HasLines v lines) (sym e)
+    (by_lines lines (list_any is_propagated (map line_of lines)) refl)
 
 -- ---- all of it
 
-pub keeps_limits : (i : Pesp) (p : ProblemValue) (state : State) (content : Content) → instances.KeepsLimits i → KeepsNetLimits p.network → IsSmallTable p.table → All (IsWalk (net_of p).arcs) p.table → IsOrderly p state → IsCertificateOf p i.events state content → KeepsLimits content
+pub keeps_limits : (i : Pesp) (p : ProblemValue) (state : State) (content : Content) → instances.KeepsLimits i
+    → KeepsNetLimits p.network → IsSmallTable p.table → All (IsWalk (net_of p).arcs) p.table → IsOrderly p state
+    → IsCertificateOf p i.events state content → KeepsLimits content
 keeps_limits i p state content l n t walks o c =
     let known = version_fits content.version content.tree (c.version ∙ ap version_of (sym c.tree)) in
     let shown = shown_fit i p state.best content.times l n o.kept.best c.times in
     let long : length content.tree ≡ length (preorder state.tree) = sym (length-map content.tree line_of) ∙ ap length c.tree in
-    let many : total_pairs content.tree ≡ sum_by machine.pairs_in (preorder state.tree) = same_pairs content.tree ∙ ap (sum_by machine.pairs_in) c.tree in
-    let few : length (net_of p).arcs ≤ 100000 = (let same = length-map p.network.rows arc_of_net in let most = n.rows_most in omega (arith, same, most)) in
+    let many : total_pairs content.tree ≡ sum_by machine.pairs_in (preorder state.tree) = same_pairs content.tree
+    ∙ ap (sum_by machine.pairs_in) c.tree in
+    let few : length (net_of p).arcs ≤ 100000 =
+    (let same = length-map p.network.rows arc_of_net in let most = n.rows_most in omega (arith, same, most)) in
     record {
       version = known.0;
       period = rw c.period (n.some_period, n.period_most);
-      answer = rw c.answer (costs_fit (least p state) (best_cost p state) (told_is_short (least_value (net_of p) p.table state.tree (root_of p))) (cost_is_short p state.best n));
+      answer = rw c.answer (costs_fit (least p state) (best_cost p state)
+          (told_is_short (least_value (net_of p) p.table state.tree (root_of p))) (cost_is_short p state.best n));
       times = shown.few;
       each_time = shown.each;
       cycles = rw c.cycles t.cycles;
@@ -233,7 +271,9 @@ keeps_limits i p state content l n t walks o c =
 -- ---- what is made of the parts
 
 -- the parts are those of what the board certifies
-pub says : (p : ProblemValue) (state : State) (events : List ℤ) (self : BoardValue) (value cost : Option ℕ) (labels : List ℤ) (table : List (List SignedRow)) (network : NetworkValue) (content : Content) → record { problem = p; state = state } ≡ self
+pub says : (p : ProblemValue) (state : State) (events : List ℤ) (self : BoardValue) (value cost : Option ℕ)
+    (labels : List ℤ) (table : List (List SignedRow)) (network : NetworkValue) (content : Content)
+    → record { problem = p; state = state } ≡ self
     → content.version ≡ version_of (lines_of content)
     → network ≡ p.network → content.period ≡ network.period
     → value ≡ least self.problem self.state → cost ≡ best_cost self.problem self.state → content.answer ≡ answer_of value cost
@@ -242,7 +282,9 @@ pub says : (p : ProblemValue) (state : State) (events : List ℤ) (self : BoardV
 says p state events self value cost labels table network content view version n period v k answer l times t cycles lines = record {
   version = version ∙ ap version_of lines;
   period = period ∙ ap (λ (m : NetworkValue). m.period) n;
-  answer = (let value_is : value ≡ least p state = rw (← view) at v in let cost_is : cost ≡ best_cost p state = rw (← view) at k in answer ∙ (λ i. answer_of (value_is i) (cost_is i)));
+  answer = (let value_is : value ≡ least p state = rw (← view) at v in
+      let cost_is : cost ≡ best_cost p state = rw (← view) at k in
+      answer ∙ (λ i. answer_of (value_is i) (cost_is i)));
   times = subst (λ (names : List ℤ). ShowsBest names state.best (shown_labels content) (shown_times content)) l times;
   cycles = cycles ∙ t;
   tree = lines;

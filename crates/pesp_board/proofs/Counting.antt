@@ -38,7 +38,9 @@ at_most_once : (item : ℕ) (xs : List Entry) → ItemsDiffer xs → times item 
 at_most_once item [] h = omega arith
 at_most_once item (x ∷ xs) h =
     elim (cases_eq x.item item) [
-      | inl same ↦ (let rest = never item xs (λ j l e. h 0 (suc j) (omega arith) (omega (arith, l)) (same ∙ sym e)) in omega (arith, rest, once_is item x same, times-cons item x xs))
+      | inl same ↦ (let rest = never item xs (λ j l e.
+          h 0 (suc j) (omega arith) (omega (arith, l)) (same ∙ sym e)) in
+          omega (arith, rest, once_is item x same, times-cons item x xs))
       | inr other ↦ omega (arith, at_most_once item xs (tail_differs x xs h), once_not item x other, times-cons item x xs)
     ]
 
@@ -53,4 +55,13 @@ pub gone : (a b d : List Entry) (item value : ℕ) → ItemsDiffer (a ++ b) → 
 gone a b d item value differ taken has =
     let most = at_most_once item (a ++ b) differ in
     let moved = sum_by-IsPermutation (once item) b (entry item value ∷ d) taken in
-    omega (arith, most, moved, times-cons item (entry item value) d, once_is item (entry item value) refl, sum_by-append (once item) a b, sum_by-append (once item) a d, counted item (a ++ d) has)
+    omega (
+      arith,
+      most,
+      moved,
+      times-cons item (entry item value) d,
+      once_is item (entry item value) refl,
+      sum_by-append (once item) a b,
+      sum_by-append (once item) a d,
+      counted item (a ++ d) has,
+    )

@@ -48,14 +48,21 @@ pub long_cut : (t : WorkTreeValue) (n : ℕ) (cut : Cut) → length (with_part t
 long_cut t n cut = omega (arith, length-append (set t.leaves n None) (Some blank ∷ Some blank ∷ []), length-set t.leaves n None)
 
 pub counted_part : (t : WorkTreeValue) (n : ℕ) (part : Part) → IsCounted t → IsCounted (with_part t n part)
-counted_part t n (CutPart cut) c = omega (arith, c, long_cut t n cut, length-append t.paths ((path_to t n ++ (cut, Low) ∷ []) ∷ (path_to t n ++ (cut, High) ∷ []) ∷ []))
+counted_part t n (CutPart cut) c = omega (
+  arith,
+  c,
+  long_cut t n cut,
+  length-append t.paths ((path_to t n ++ (cut, Low) ∷ []) ∷ (path_to t n ++ (cut, High) ∷ []) ∷ []),
+)
 counted_part t n (LeafPart part) c = omega (arith, c, length-set t.leaves n (Some (leaf_of part.leaf)))
 
-part_others : (t : WorkTreeValue) (n : ℕ) (part : Part) (other : ℕ) → other < length t.leaves → other ≢ n → leaf_at (with_part t n part) other ≡ leaf_at t other
+part_others : (t : WorkTreeValue) (n : ℕ) (part : Part) (other : ℕ) → other < length t.leaves → other ≢ n
+    → leaf_at (with_part t n part) other ≡ leaf_at t other
 part_others t n (CutPart cut) other l ne = split_others t n cut blank blank other l ne
 part_others t n (LeafPart part) other l ne = put_others t n (leaf_of part.leaf) other ne
 
-part_paths : (t : WorkTreeValue) (n : ℕ) (part : Part) (other : ℕ) → IsCounted t → other < length t.leaves → path_to (with_part t n part) other ≡ path_to t other
+part_paths : (t : WorkTreeValue) (n : ℕ) (part : Part) (other : ℕ) → IsCounted t → other < length t.leaves
+    → path_to (with_part t n part) other ≡ path_to t other
 part_paths t n (CutPart cut) other c l = path_others t n cut blank blank other (omega (arith, l, c))
 part_paths t n (LeafPart part) other c l = refl
 
@@ -65,24 +72,35 @@ others_beyond : (t : WorkTreeValue) (nodes : List ℕ) (k : ℕ) → AreSites t 
 others_beyond t [] k s l = tt
 others_beyond t (n ∷ nodes) k s l = (λ e. let within = site_within t n s.0 in omega (arith, within, l, e), others_beyond t nodes k s.2 l)
 
-sites_stay : (t : WorkTreeValue) (n : ℕ) (part : Part) (nodes : List ℕ) → AreOthers n nodes → AreSites t nodes → AreSites (with_part t n part) nodes
+sites_stay : (t : WorkTreeValue) (n : ℕ) (part : Part) (nodes : List ℕ) → AreOthers n nodes → AreSites t nodes
+    → AreSites (with_part t n part) nodes
 sites_stay t n part [] o s = tt
-sites_stay t n part (m ∷ nodes) o s = (subst IsSome (sym (part_others t n part m (site_within t m s.0) o.0)) s.0, s.1, sites_stay t n part nodes o.1 s.2)
+sites_stay t n part (m ∷ nodes) o s = (
+  subst IsSome (sym (part_others t n part m (site_within t m s.0) o.0)) s.0,
+  s.1,
+  sites_stay t n part nodes o.1 s.2,
+)
 
 some_blank : (o : Option Leaf) → o ≡ Some blank → IsSome o
 some_blank None e = cc
 some_blank (Some x) e = refl
 
-pub next_sites : (t : WorkTreeValue) (n : ℕ) (part : Part) (nodes : List ℕ) → AreSites t (n ∷ nodes) → AreSites (with_part t n part) (next (length t.leaves) part nodes)
+pub next_sites : (t : WorkTreeValue) (n : ℕ) (part : Part) (nodes : List ℕ) → AreSites t (n ∷ nodes)
+    → AreSites (with_part t n part) (next (length t.leaves) part nodes)
 next_sites t n (CutPart cut) nodes s =
     let k = length t.leaves in
     let u = with_part t n (CutPart cut) in
     let first : IsSome (leaf_at u k) = some_blank (leaf_at u k) (split_low t n cut blank blank) in
-    let second : IsSome (leaf_at u (k + 1)) = some_blank (leaf_at u (k + 1)) (split_high t n cut blank blank) in
-    (first, (λ e. omega (arith, e), others_beyond t nodes k s.2 (omega arith)), (second, others_beyond t nodes (k + 1) s.2 (omega arith), sites_stay t n (CutPart cut) nodes s.1 s.2))
+    let second : IsSome (leaf_at u (k + 1)) = some_blank (leaf_at u (k + 1)) (split_high t n cut blank blank) in (
+      first,
+      (λ e. omega (arith, e), others_beyond t nodes k s.2 (omega arith)),
+      (second, others_beyond t nodes (k + 1) s.2 (omega arith), sites_stay t n (CutPart cut) nodes s.1 s.2),
+    )
 next_sites t n (LeafPart part) nodes s = sites_stay t n (LeafPart part) nodes s.1 s.2
 
-pub next_shape : (k : ℕ) (part : Part) (nodes : List ℕ) (lines : List Line) → are_trees (suc (length nodes)) (part_line part ∷ lines) ≡ true → are_trees (length (next k part nodes)) lines ≡ true
+pub next_shape : (k : ℕ) (part : Part) (nodes : List ℕ) (lines : List Line)
+    → are_trees (suc (length nodes)) (part_line part ∷ lines) ≡ true
+    → are_trees (length (next k part nodes)) lines ≡ true
 next_shape k (CutPart cut) nodes lines e = e
 next_shape k (LeafPart part) nodes lines e = e
 
@@ -92,33 +110,46 @@ abbrev nodes_at : ProblemValue → WorkTreeValue → List ℕ → List Node
 nodes_at p t [] = []
 nodes_at p t (n ∷ nodes) = node_at p (path_to t n) ∷ nodes_at p t nodes
 
-nodes_stay : (p : ProblemValue) (t : WorkTreeValue) (n : ℕ) (part : Part) (nodes : List ℕ) → IsCounted t → AreSites t nodes → nodes_at p (with_part t n part) nodes ≡ nodes_at p t nodes
+nodes_stay : (p : ProblemValue) (t : WorkTreeValue) (n : ℕ) (part : Part) (nodes : List ℕ) → IsCounted t
+    → AreSites t nodes → nodes_at p (with_part t n part) nodes ≡ nodes_at p t nodes
 nodes_stay p t n part [] c s = refl
-nodes_stay p t n part (m ∷ nodes) c s = (λ i. node_at p (part_paths t n part m c (site_within t m s.0) i) ∷ nodes_stay p t n part nodes c s.2 i)
+nodes_stay p t n part (m ∷ nodes) c s = (λ i. node_at p (part_paths t n part m c (site_within t m s.0) i)
+    ∷ nodes_stay p t n part nodes c s.2 i)
 
-low_path : (t : WorkTreeValue) (n : ℕ) (cut : Cut) → IsCounted t → path_to (with_part t n (CutPart cut)) (length t.leaves) ≡ path_to t n ++ (cut, Low) ∷ []
-low_path t n cut c = subst (λ (k : ℕ). path_to (with_part t n (CutPart cut)) k ≡ path_to t n ++ (cut, Low) ∷ []) c (path_low t n cut blank blank)
+low_path : (t : WorkTreeValue) (n : ℕ) (cut : Cut) → IsCounted t
+    → path_to (with_part t n (CutPart cut)) (length t.leaves) ≡ path_to t n ++ (cut, Low) ∷ []
+low_path t n cut c = subst (λ (k : ℕ). path_to (with_part t n (CutPart cut)) k ≡ path_to t n ++ (cut, Low) ∷ []) c
+    (path_low t n cut blank blank)
 
-high_path : (t : WorkTreeValue) (n : ℕ) (cut : Cut) → IsCounted t → path_to (with_part t n (CutPart cut)) (length t.leaves + 1) ≡ path_to t n ++ (cut, High) ∷ []
-high_path t n cut c = subst (λ (k : ℕ). path_to (with_part t n (CutPart cut)) (k + 1) ≡ path_to t n ++ (cut, High) ∷ []) c (path_high t n cut blank blank)
+high_path : (t : WorkTreeValue) (n : ℕ) (cut : Cut) → IsCounted t
+    → path_to (with_part t n (CutPart cut)) (length t.leaves + 1) ≡ path_to t n ++ (cut, High) ∷ []
+high_path t n cut c = subst (λ (k : ℕ). path_to (with_part t n (CutPart cut)) (k + 1)
+    ≡ path_to t n ++ (cut, High) ∷ []) c (path_high t n cut blank blank)
 
 -- the first part is valued rightly, where it is a leaf
 abbrev FirstValued : ProblemValue → WorkTreeValue → ℕ → Part → Type 0
 FirstValued p t n (CutPart cut) = Unit {0}
 FirstValued p t n (LeafPart part) = IsValued p (node_at p (path_to t n)) part
 
-first_valued : (p : ProblemValue) (t : WorkTreeValue) (n : ℕ) (nodes : List ℕ) (part : Part) (parts : List Part) → AreValued p (nodes_at p t (n ∷ nodes)) (part ∷ parts) → FirstValued p t n part
+first_valued : (p : ProblemValue) (t : WorkTreeValue) (n : ℕ) (nodes : List ℕ) (part : Part) (parts : List Part)
+    → AreValued p (nodes_at p t (n ∷ nodes)) (part ∷ parts) → FirstValued p t n part
 first_valued p t n nodes (CutPart cut) parts v = tt
 first_valued p t n nodes (LeafPart part) parts v = v.0
 
-next_valued : (p : ProblemValue) (t : WorkTreeValue) (n : ℕ) (nodes : List ℕ) (part : Part) (parts : List Part) → IsCounted t → AreSites t (n ∷ nodes) → AreValued p (nodes_at p t (n ∷ nodes)) (part ∷ parts)
+next_valued : (p : ProblemValue) (t : WorkTreeValue) (n : ℕ) (nodes : List ℕ) (part : Part) (parts : List Part)
+    → IsCounted t → AreSites t (n ∷ nodes) → AreValued p (nodes_at p t (n ∷ nodes)) (part ∷ parts)
     → AreValued p (nodes_at p (with_part t n part) (next (length t.leaves) part nodes)) parts
 next_valued p t n nodes (CutPart cut) parts c s v =
-    let low : node_at p (path_to (with_part t n (CutPart cut)) (length t.leaves)) ≡ low_part (node_at p (path_to t n)) cut = ap (node_at p) (low_path t n cut c) ∙ along-push (root_of p) (path_to t n) cut Low in
-    let high : node_at p (path_to (with_part t n (CutPart cut)) (length t.leaves + 1)) ≡ high_part (node_at p (path_to t n)) cut = ap (node_at p) (high_path t n cut c) ∙ along-push (root_of p) (path_to t n) cut High in
+    let low : node_at p (path_to (with_part t n (CutPart cut)) (length t.leaves))
+    ≡ low_part (node_at p (path_to t n)) cut = ap (node_at p) (low_path t n cut c)
+    ∙ along-push (root_of p) (path_to t n) cut Low in
+    let high : node_at p (path_to (with_part t n (CutPart cut)) (length t.leaves + 1))
+    ≡ high_part (node_at p (path_to t n)) cut = ap (node_at p) (high_path t n cut c)
+    ∙ along-push (root_of p) (path_to t n) cut High in
     let others = nodes_stay p t n (CutPart cut) nodes c s.2 in
     subst (λ (ns : List Node). AreValued p ns parts) (λ i. sym low i ∷ sym high i ∷ sym others i) v
-next_valued p t n nodes (LeafPart part) parts c s v = subst (λ (ns : List Node). AreValued p ns parts) (sym (nodes_stay p t n (LeafPart part) nodes c s.2)) v.1
+next_valued p t n nodes (LeafPart part) parts c s v =
+    subst (λ (ns : List Node). AreValued p ns parts) (sym (nodes_stay p t n (LeafPart part) nodes c s.2)) v.1
 
 -- ---- what changes
 
@@ -129,12 +160,14 @@ pub record AreChanged (p : ProblemValue) (t u : WorkTreeValue) (nodes : List ℕ
   pub each : (e : Entry) → Contains entries e → IsWorth p u e
   pub has : (n : ℕ) (pairs : List Pair) → leaf_at u n ≡ Some (Bound pairs) → HasItem entries n ⊎ ((n < length t.leaves) × AreOthers n nodes)
 
-part_changed : (p : ProblemValue) (t : WorkTreeValue) (n : ℕ) (part : Part) → IsCounted t → IsSome (leaf_at t n) → FirstValued p t n part → IsChanged p t (with_part t n part) n (waits n (part_value part))
+part_changed : (p : ProblemValue) (t : WorkTreeValue) (n : ℕ) (part : Part) → IsCounted t → IsSome (leaf_at t n)
+    → FirstValued p t n part → IsChanged p t (with_part t n part) n (waits n (part_value part))
 part_changed p t n (CutPart cut) c some v = branch_changed p t n cut blank blank None None c (site_within t n some) refl refl
 part_changed p t n (LeafPart part) c some v = leaf_changed p t n (leaf_of part.leaf) part.value some v
 
 -- the entry of a node that keeps its path and its leaf is worth it still
-worth_stays : (p : ProblemValue) (t u : WorkTreeValue) (nodes : List ℕ) (entries : List Entry) (e : Entry) → AreChanged p t u nodes entries → AreOthers e.item nodes → IsWorth p t e → IsWorth p u e
+worth_stays : (p : ProblemValue) (t u : WorkTreeValue) (nodes : List ℕ) (entries : List Entry) (e : Entry)
+    → AreChanged p t u nodes entries → AreOthers e.item nodes → IsWorth p t e → IsWorth p u e
 worth_stays p t u nodes entries e c o w =
     let within = leaf_within t.leaves e.item (Bound w.pairs) w.leaf in
     record {
@@ -152,7 +185,9 @@ next_other : (k other : ℕ) (part : Part) (nodes : List ℕ) → other < k → 
 next_other k other (CutPart cut) nodes l o = (λ e. omega (arith, l, e), (λ e. omega (arith, l, e), o))
 next_other k other (LeafPart part) nodes l o = o
 
-pub grown_changed : (p : ProblemValue) (t : WorkTreeValue) (nodes : List ℕ) (parts : List Part) → IsCounted t → AreSites t nodes → are_trees (length nodes) (part_lines parts) ≡ true → AreValued p (nodes_at p t nodes) parts → AreChanged p t (grown t nodes parts) nodes (news t nodes parts)
+pub grown_changed : (p : ProblemValue) (t : WorkTreeValue) (nodes : List ℕ) (parts : List Part) → IsCounted t
+    → AreSites t nodes → are_trees (length nodes) (part_lines parts) ≡ true
+    → AreValued p (nodes_at p t nodes) parts → AreChanged p t (grown t nodes parts) nodes (news t nodes parts)
 grown_changed p t [] [] c s w v = record {
   leaves = λ other l o. refl;
   paths = λ other l. refl;
@@ -166,27 +201,39 @@ grown_changed p t (n ∷ nodes) (part ∷ parts) c s w v =
     let u = with_part t n part in
     let within = site_within t n s.0 in
     let now = part_changed p t n part c s.0 (first_valued p t n nodes part parts v) in
-    let later = grown_changed p u (next k part nodes) parts (counted_part t n part c) (next_sites t n part nodes s) (next_shape k part nodes (part_lines parts) w) (next_valued p t n nodes part parts c s v) in
+    let later = grown_changed p u (next k part nodes) parts (counted_part t n part c) (next_sites t n part nodes s)
+    (next_shape k part nodes (part_lines parts) w) (next_valued p t n nodes part parts c s v) in
     record {
-      leaves = λ other l o. later.leaves other (omega (arith, l, long_part t n part)) (next_other k other part nodes l o.1) ∙ now.leaves other l (λ e. o.0 (sym e));
+      leaves = λ other l o. later.leaves other (omega (arith, l, long_part t n part))
+          (next_other k other part nodes l o.1) ∙ now.leaves other l (λ e. o.0 (sym e));
       paths = λ other l. later.paths other (omega (arith, l, long_part t n part)) ∙ now.paths other l;
       each = λ e h. elim (Contains-append_cases (news u (next k part nodes) parts) (waits n (part_value part)) e h) [
         | inl new ↦ later.each e new
         | inr own ↦
             let at = waits_item n (part_value part) e own in
-            worth_stays p u (grown u (next k part nodes) parts) (next k part nodes) (news u (next k part nodes) parts) e later (subst (λ (m : ℕ). AreOthers m (next k part nodes)) (sym at) (next_other k n part nodes within s.1)) (now.each e own)
+            worth_stays p u (grown u (next k part nodes) parts) (next k part nodes)
+            (news u (next k part nodes) parts) e later
+            (subst (λ (m : ℕ). AreOthers m (next k part nodes)) (sym at)
+            (next_other k n part nodes within s.1)) (now.each e own)
       ];
       has = λ m pairs e. elim (later.has m pairs e) [
         | inl new ↦ inl (new.0, Contains-append_left (news u (next k part nodes) parts) (waits n (part_value part)) (entry m new.0) new.1)
         | inr old ↦ elim (now.has m pairs (sym (later.leaves m old.0 old.1) ∙ e)) [
-          | inl own ↦ inl (own.0, Contains-append_right (news u (next k part nodes) parts) (waits n (part_value part)) (entry m own.0) own.1)
+          | inl own ↦ inl (
+            own.0,
+            Contains-append_right (news u (next k part nodes) parts)
+                (waits n (part_value part)) (entry m own.0) own.1,
+          )
           | inr other ↦ inr (other.0, (λ same. other.1 (sym same), other_next t k m part nodes old.1))
         ]
       ];
     }
 
 -- one node
-pub one_changed : (p : ProblemValue) (t : WorkTreeValue) (n : ℕ) (parts : List Part) → IsCounted t → IsSome (leaf_at t n) → are_trees 1 (part_lines parts) ≡ true → AreValued p (node_at p (path_to t n) ∷ []) parts → IsChanged p t (grown t (n ∷ []) parts) n (news t (n ∷ []) parts)
+pub one_changed : (p : ProblemValue) (t : WorkTreeValue) (n : ℕ) (parts : List Part) → IsCounted t
+    → IsSome (leaf_at t n) → are_trees 1 (part_lines parts) ≡ true
+    → AreValued p (node_at p (path_to t n) ∷ []) parts
+    → IsChanged p t (grown t (n ∷ []) parts) n (news t (n ∷ []) parts)
 one_changed p t n parts c some w v =
     let all = grown_changed p t (n ∷ []) parts c (some, tt, tt) w v in
     record {
@@ -212,7 +259,8 @@ abbrev paths_at : WorkTreeValue → List ℕ → List (List (Cut × Side))
 paths_at t [] = []
 paths_at t (n ∷ nodes) = path_to t n ∷ paths_at t nodes
 
-paths_stay : (t : WorkTreeValue) (n : ℕ) (part : Part) (nodes : List ℕ) → IsCounted t → AreSites t nodes → paths_at (with_part t n part) nodes ≡ paths_at t nodes
+paths_stay : (t : WorkTreeValue) (n : ℕ) (part : Part) (nodes : List ℕ) → IsCounted t → AreSites t nodes
+    → paths_at (with_part t n part) nodes ≡ paths_at t nodes
 paths_stay t n part [] c s = refl
 paths_stay t n part (m ∷ nodes) c s = (λ i. part_paths t n part m c (site_within t m s.0) i ∷ paths_stay t n part nodes c s.2 i)
 
@@ -220,11 +268,14 @@ put_here_is : (tree new : Tree) → put tree [] new ≡ new
 put_here_is (Ends leaf) new = refl
 put_here_is (Branch cut low high) new = refl
 
-put_both : (cut : Cut) (a b low high : Tree) → put (put (Branch cut a b) ((cut, Low) ∷ []) low) ((cut, High) ∷ []) high ≡ Branch cut low high
+put_both : (cut : Cut) (a b low high : Tree) → put (put (Branch cut a b) ((cut, Low) ∷ []) low)
+    ((cut, High) ∷ []) high ≡ Branch cut low high
 put_both cut a b low high i = Branch cut (put_here_is a low i) (put_here_is b high i)
 
 -- a branch whose parts are put one after the other
-put_branch : (tree : Tree) (path : List (Cut × Side)) (cut : Cut) (a b low high : Tree) → put (put (put tree path (Branch cut a b)) (path ++ (cut, Low) ∷ []) low) (path ++ (cut, High) ∷ []) high ≡ put tree path (Branch cut low high)
+put_branch : (tree : Tree) (path : List (Cut × Side)) (cut : Cut) (a b low high : Tree)
+    → put (put (put tree path (Branch cut a b)) (path ++ (cut, Low) ∷ []) low) (path ++ (cut, High) ∷ []) high
+    ≡ put tree path (Branch cut low high)
 put_branch (Ends leaf) [] cut a b low high = put_both cut a b low high
 put_branch (Ends leaf) (step ∷ path) cut a b low high = refl
 put_branch (Branch c x y) [] cut a b low high = put_both cut a b low high
@@ -236,7 +287,8 @@ record IsNext (t : WorkTreeValue) (n : ℕ) (nodes : List ℕ) (trees : List Tre
   after : List Tree
   lines : all_lines after ≡ part_lines parts
   count : length after ≡ length (next (length t.leaves) part nodes)
-  tree : puts (with_part t n part).tree (paths_at (with_part t n part) (next (length t.leaves) part nodes)) after ≡ puts t.tree (paths_at t (n ∷ nodes)) trees
+  tree : puts (with_part t n part).tree (paths_at (with_part t n part) (next (length t.leaves) part nodes)) after
+      ≡ puts t.tree (paths_at t (n ∷ nodes)) trees
 
 leaf_line : (leaf : Leaf) (cut : Cut) (a b : List Line) → EndLine leaf ∷ a ≡ CutLine cut ∷ b → ⊥
 leaf_line leaf cut a b e = cc
@@ -250,7 +302,10 @@ same_leaf x y a b e = (cc, cc)
 same_cut : (x y : Cut) (a b : List Line) → CutLine x ∷ a ≡ CutLine y ∷ b → (x ≡ y) × (a ≡ b)
 same_cut x y a b e = (cc, cc)
 
-next_trees : (t : WorkTreeValue) (n : ℕ) (nodes : List ℕ) (tree : Tree) (trees : List Tree) (part : Part) (parts : List Part) → IsCounted t → AreSites t (n ∷ nodes) → preorder tree ++ all_lines trees ≡ part_lines (part ∷ parts) → length trees ≡ length nodes → IsNext t n nodes (tree ∷ trees) part parts
+next_trees : (t : WorkTreeValue) (n : ℕ) (nodes : List ℕ) (tree : Tree) (trees : List Tree) (part : Part)
+    (parts : List Part) → IsCounted t → AreSites t (n ∷ nodes)
+    → preorder tree ++ all_lines trees ≡ part_lines (part ∷ parts) → length trees ≡ length nodes
+    → IsNext t n nodes (tree ∷ trees) part parts
 next_trees t n nodes (Ends leaf) trees (CutPart cut) parts c s l m = absurd (leaf_line leaf cut _ _ l)
 next_trees t n nodes (Ends leaf) trees (LeafPart part) parts c s l m =
     let same = same_leaf leaf (leaf_of part.leaf) (all_lines trees) (part_lines parts) l in
@@ -281,7 +336,9 @@ no_lines : (tree : Tree) (lines : List Line) → preorder tree ++ lines ≡ [] �
 no_lines (Ends leaf) lines e = cc
 no_lines (Branch cut low high) lines e = cc
 
-grown_tree : (t : WorkTreeValue) (nodes : List ℕ) (parts : List Part) (trees : List Tree) → IsCounted t → AreSites t nodes → all_lines trees ≡ part_lines parts → length trees ≡ length nodes → (grown t nodes parts).tree ≡ puts t.tree (paths_at t nodes) trees
+grown_tree : (t : WorkTreeValue) (nodes : List ℕ) (parts : List Part) (trees : List Tree) → IsCounted t
+    → AreSites t nodes → all_lines trees ≡ part_lines parts → length trees ≡ length nodes
+    → (grown t nodes parts).tree ≡ puts t.tree (paths_at t nodes) trees
 grown_tree t [] [] trees c s l m = refl
 grown_tree t (n ∷ nodes) [] [] c s l m = cc
 grown_tree t (n ∷ nodes) [] (tree ∷ trees) c s l m = absurd (no_lines tree (all_lines trees) l)
@@ -290,7 +347,10 @@ grown_tree t [] (part ∷ parts) (tree ∷ trees) c s l m = cc
 grown_tree t (n ∷ nodes) (part ∷ parts) [] c s l m = cc
 grown_tree t (n ∷ nodes) (part ∷ parts) (tree ∷ trees) c s l m =
     let rest = next_trees t n nodes tree trees part parts c s l (omega (arith, m)) in
-    grown_tree (with_part t n part) (next (length t.leaves) part nodes) parts rest.after (counted_part t n part c) (next_sites t n part nodes s) rest.lines rest.count ∙ rest.tree
+    grown_tree (with_part t n part) (next (length t.leaves) part nodes) parts rest.after (counted_part t n part c)
+    (next_sites t n part nodes s) rest.lines rest.count ∙ rest.tree
 
-pub one_tree_grown : (t : WorkTreeValue) (n : ℕ) (parts : List Part) (tree : Tree) → IsCounted t → IsSome (leaf_at t n) → preorder tree ≡ part_lines parts → (grown t (n ∷ []) parts).tree ≡ put t.tree (path_to t n) tree
+pub one_tree_grown : (t : WorkTreeValue) (n : ℕ) (parts : List Part) (tree : Tree) → IsCounted t
+    → IsSome (leaf_at t n) → preorder tree ≡ part_lines parts
+    → (grown t (n ∷ []) parts).tree ≡ put t.tree (path_to t n) tree
 one_tree_grown t n parts tree c some l = grown_tree t (n ∷ []) parts (tree ∷ []) c (some, tt, tt) (append-nil (preorder tree) ∙ l) refl

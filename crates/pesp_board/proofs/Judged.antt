@@ -43,7 +43,8 @@ reached_part p node cut side r = record {
   fits = part_fits p node cut side r.fits;
 }
 
-reached_after : (p : ProblemValue) (line : Line) (node : Node) (nodes : List Node) → AreReached p (node ∷ nodes) → AreReached p (after line node nodes)
+reached_after : (p : ProblemValue) (line : Line) (node : Node) (nodes : List Node) → AreReached p (node ∷ nodes)
+    → AreReached p (after line node nodes)
 reached_after p (EndLine leaf) node nodes r = r.1
 reached_after p (CutLine cut) node nodes r = (reached_part p node cut Low r.0, (reached_part p node cut High r.0, r.1))
 
@@ -62,14 +63,21 @@ AreGraftTrees p worth (node ∷ nodes) (tree ∷ trees) = IsGraft p worth node t
 abbrev Forest : ProblemValue → Option ℤ → List Node → List Line → Type 0
 Forest p worth nodes lines = (trees : List Tree) × (all_lines trees ≡ lines) × AreGraftTrees p worth nodes trees
 
-joined : (p : ProblemValue) (worth : Option ℤ) (node : Node) (nodes : List Node) (cut : Cut) (lines : List Line) (trees : List Tree) → IsGraftLine p worth node (CutLine cut) → all_lines trees ≡ lines → AreGraftTrees p worth (low_part node cut ∷ high_part node cut ∷ nodes) trees
+joined : (p : ProblemValue) (worth : Option ℤ) (node : Node) (nodes : List Node) (cut : Cut) (lines : List Line)
+    (trees : List Tree) → IsGraftLine p worth node (CutLine cut) → all_lines trees ≡ lines
+    → AreGraftTrees p worth (low_part node cut ∷ high_part node cut ∷ nodes) trees
     → Forest p worth (node ∷ nodes) (CutLine cut ∷ lines)
 joined p worth node nodes cut lines [] g l h = absurd h
 joined p worth node nodes cut lines (low ∷ []) g l h = absurd h.1
-joined p worth node nodes cut lines (low ∷ high ∷ trees) g l h =
-    (Branch cut low high ∷ trees, ap (λ (x : List Line). CutLine cut ∷ x) (append_assoc (preorder low) (preorder high) (all_lines trees) ∙ l), ((g.0, g.1, h.0, h.1.0), h.1.1))
+joined p worth node nodes cut lines (low ∷ high ∷ trees) g l h = (
+  Branch cut low high ∷ trees,
+  ap (λ (x : List Line). CutLine cut ∷ x)
+      (append_assoc (preorder low) (preorder high) (all_lines trees) ∙ l),
+  ((g.0, g.1, h.0, h.1.0), h.1.1),
+)
 
-forest : (p : ProblemValue) (worth : Option ℤ) (lines : List Line) (nodes : List Node) → AreGrafts p worth lines nodes → Forest p worth nodes lines
+forest : (p : ProblemValue) (worth : Option ℤ) (lines : List Line) (nodes : List Node)
+    → AreGrafts p worth lines nodes → Forest p worth nodes lines
 forest p worth [] [] h = ([], refl, tt)
 forest p worth [] (node ∷ nodes) h = absurd h
 forest p worth (line ∷ lines) [] h = absurd h
@@ -80,34 +88,46 @@ forest p worth (CutLine cut ∷ lines) (node ∷ nodes) h =
     let rest = forest p worth lines (low_part node cut ∷ high_part node cut ∷ nodes) h.1 in
     joined p worth node nodes cut lines rest.0 h.0 rest.1 rest.2
 
-one_of : (p : ProblemValue) (worth : Option ℤ) (node : Node) (lines : List Line) (trees : List Tree) → all_lines trees ≡ lines → AreGraftTrees p worth (node ∷ []) trees → (tree : Tree) × (preorder tree ≡ lines) × IsGraft p worth node tree
+one_of : (p : ProblemValue) (worth : Option ℤ) (node : Node) (lines : List Line) (trees : List Tree)
+    → all_lines trees ≡ lines → AreGraftTrees p worth (node ∷ []) trees
+    → (tree : Tree) × (preorder tree ≡ lines) × IsGraft p worth node tree
 one_of p worth node lines [] l h = absurd h
 one_of p worth node lines (tree ∷ []) l h = (tree, sym (append-nil (preorder tree)) ∙ l, h.0)
 one_of p worth node lines (tree ∷ other ∷ trees) l h = absurd h.1
 
-pub graft_is : (p : ProblemValue) (worth : Option ℤ) (node : Node) (lines : List Line) → AreGrafts p worth lines (node ∷ []) → (tree : Tree) × (preorder tree ≡ lines) × IsGraft p worth node tree
+pub graft_is : (p : ProblemValue) (worth : Option ℤ) (node : Node) (lines : List Line)
+    → AreGrafts p worth lines (node ∷ []) → (tree : Tree) × (preorder tree ≡ lines) × IsGraft p worth node tree
 graft_is p worth node lines h = let trees = forest p worth lines (node ∷ []) h in one_of p worth node lines trees.0 trees.1 trees.2
 
-tree_grafts : (p : ProblemValue) (worth : Option ℤ) (tree : Tree) (node : Node) (lines : List Line) (nodes : List Node) → IsGraft p worth node tree → AreGrafts p worth lines nodes → AreGrafts p worth (preorder tree ++ lines) (node ∷ nodes)
+tree_grafts : (p : ProblemValue) (worth : Option ℤ) (tree : Tree) (node : Node) (lines : List Line)
+    (nodes : List Node) → IsGraft p worth node tree → AreGrafts p worth lines nodes
+    → AreGrafts p worth (preorder tree ++ lines) (node ∷ nodes)
 tree_grafts p worth (Ends leaf) node lines nodes g h = (g, h)
 tree_grafts p worth (Branch cut low high) node lines nodes g h =
     let second = tree_grafts p worth high (high_part node cut) lines nodes g.3 h in
-    let first = tree_grafts p worth low (low_part node cut) (preorder high ++ lines) (high_part node cut ∷ nodes) g.2 second in
-    ((g.0, g.1), subst (λ (x : List Line). AreGrafts p worth x (low_part node cut ∷ high_part node cut ∷ nodes)) (sym (append_assoc (preorder low) (preorder high) lines)) first)
+    let first = tree_grafts p worth low (low_part node cut) (preorder high ++ lines) (high_part node cut ∷ nodes) g.2 second in (
+      (g.0, g.1),
+      subst (λ (x : List Line). AreGrafts p worth x (low_part node cut ∷ high_part node cut ∷ nodes))
+          (sym (append_assoc (preorder low) (preorder high) lines)) first,
+    )
 
-pub is_graft : (p : ProblemValue) (worth : Option ℤ) (node : Node) (lines : List Line) (tree : Tree) → preorder tree ≡ lines → IsGraft p worth node tree → AreGrafts p worth lines (node ∷ [])
-is_graft p worth node lines tree l g = subst (λ (x : List Line). AreGrafts p worth x (node ∷ [])) (append-nil (preorder tree) ∙ l) (tree_grafts p worth tree node [] [] g tt)
+pub is_graft : (p : ProblemValue) (worth : Option ℤ) (node : Node) (lines : List Line) (tree : Tree)
+    → preorder tree ≡ lines → IsGraft p worth node tree → AreGrafts p worth lines (node ∷ [])
+is_graft p worth node lines tree l g = subst (λ (x : List Line). AreGrafts p worth x (node ∷ []))
+    (append-nil (preorder tree) ∙ l) (tree_grafts p worth tree node [] [] g tt)
 
 -- ---- the lines that are left
 
-pub record AreJudged (p : ProblemValue) (worth : Option ℤ) (start : List Node) (lines left : List Line) (nodes : List Node) (parts : List Part) : Type 0 where
+pub record AreJudged (p : ProblemValue) (worth : Option ℤ) (start : List Node) (lines left : List Line)
+    (nodes : List Node) (parts : List Part) : Type 0 where
   pub grafts : AreGrafts p worth left nodes → AreGrafts p worth lines start
   pub needed : AreGrafts p worth lines start → AreGrafts p worth left nodes
   pub said : part_lines parts ++ left ≡ lines
   pub valued : (rest : List Part) → AreValued p nodes rest → AreValued p start (parts ++ rest)
   pub reached : AreReached p nodes
 
-pub judged_none : (p : ProblemValue) (worth : Option ℤ) (start : List Node) (lines : List Line) → AreReached p start → AreJudged p worth start lines lines start []
+pub judged_none : (p : ProblemValue) (worth : Option ℤ) (start : List Node) (lines : List Line)
+    → AreReached p start → AreJudged p worth start lines lines start []
 judged_none p worth start lines r = record {
   grafts = λ a. a;
   needed = λ a. a;
@@ -120,27 +140,36 @@ pub lines_more : (parts : List Part) (part : Part) → part_lines (parts ++ part
 lines_more [] part = refl
 lines_more (x ∷ parts) part = ap (λ (l : List Line). part_line x ∷ l) (lines_more parts part)
 
-pub value_more : (p : ProblemValue) (node : Node) (nodes : List Node) (part : Part) (rest : List Part) → IsValuedPart p node part → AreValued p (after (part_line part) node nodes) rest → AreValued p (node ∷ nodes) (part ∷ rest)
+pub value_more : (p : ProblemValue) (node : Node) (nodes : List Node) (part : Part) (rest : List Part)
+    → IsValuedPart p node part → AreValued p (after (part_line part) node nodes) rest
+    → AreValued p (node ∷ nodes) (part ∷ rest)
 value_more p node nodes (CutPart cut) rest v h = h
 value_more p node nodes (LeafPart part) rest v h = (v, h)
 
-judged_step : (p : ProblemValue) (worth : Option ℤ) (start : List Node) (lines left : List Line) (n : Node) (nodes : List Node) (parts : List Part) (line : Line) (part : Part) → AreJudged p worth start lines (line ∷ left) (n ∷ nodes) parts → MakesPartOf p worth n line (Ok part)
+judged_step : (p : ProblemValue) (worth : Option ℤ) (start : List Node) (lines left : List Line) (n : Node)
+    (nodes : List Node) (parts : List Part) (line : Line) (part : Part)
+    → AreJudged p worth start lines (line ∷ left) (n ∷ nodes) parts → MakesPartOf p worth n line (Ok part)
     → AreJudged p worth start lines left (after line n nodes) (parts ++ part ∷ [])
 judged_step p worth start lines left n nodes parts line part j m = record {
   grafts = λ a. j.grafts (m.0, a);
   needed = λ a. (j.needed a).1;
-  said = ap (λ (x : List Line). x ++ left) (lines_more parts part) ∙ append_assoc (part_lines parts) (part_line part ∷ []) left ∙ ap (λ (x : Line). part_lines parts ++ x ∷ left) m.1 ∙ j.said;
+  said = ap (λ (x : List Line). x ++ left) (lines_more parts part)
+      ∙ append_assoc (part_lines parts) (part_line part ∷ []) left
+      ∙ ap (λ (x : Line). part_lines parts ++ x ∷ left) m.1 ∙ j.said;
   valued = λ rest v.
       let v' = subst (λ (x : Line). AreValued p (after x n nodes) rest) (sym m.1) v in
-      subst (λ (x : List Part). AreValued p start x) (sym (append_assoc parts (part ∷ []) rest)) (j.valued (part ∷ rest) (value_more p n nodes part rest m.2 v'));
+      subst (λ (x : List Part). AreValued p start x) (sym (append_assoc parts (part ∷ []) rest))
+      (j.valued (part ∷ rest) (value_more p n nodes part rest m.2 v'));
   reached = reached_after p line n nodes j.reached;
 }
 
 module _ (lines : List TreeLine) (k : ℕ) (line : TreeLine) (within : k < length lines) (is : line ≡ get_or lines k line) where
   next_line : map line_of (drop k lines) ≡ line_of line ∷ map line_of (drop (k + 1) lines)
-  next_line = ap (map line_of) (drop_more lines k line within) ∙ ap (λ (l : TreeLine). line_of l ∷ map line_of (drop (k + 1) lines)) (sym is)
+  next_line = ap (map line_of) (drop_more lines k line within)
+      ∙ ap (λ (l : TreeLine). line_of l ∷ map line_of (drop (k + 1) lines)) (sym is)
 
-  module _ (p : ProblemValue) (worth : Option ℤ) (start : List Node) (nodes : List Node) (parts : List Part) (before : AreJudged p worth start (map line_of lines) (map line_of (drop k lines)) nodes parts) where
+  module _ (p : ProblemValue) (worth : Option ℤ) (start : List Node) (nodes : List Node) (parts : List Part)
+      (before : AreJudged p worth start (map line_of lines) (map line_of (drop k lines)) nodes parts) where
     here : AreJudged p worth start (map line_of lines) (line_of line ∷ map line_of (drop (k + 1) lines)) nodes parts
     here = subst (λ (x : List Line). AreJudged p worth start (map line_of lines) x nodes parts) next_line before
 
@@ -150,24 +179,34 @@ module _ (lines : List TreeLine) (k : ℕ) (line : TreeLine) (within : k < lengt
 
     module _ (n : Node) (rest : List Node) (e : nodes ≡ n ∷ rest) where
       first : AreJudged p worth start (map line_of lines) (line_of line ∷ map line_of (drop (k + 1) lines)) (n ∷ rest) parts
-      first = subst (λ (x : List Node). AreJudged p worth start (map line_of lines) (line_of line ∷ map line_of (drop (k + 1) lines)) x parts) e here
+      first = subst (λ (x : List Node). AreJudged p worth start (map line_of lines)
+          (line_of line ∷ map line_of (drop (k + 1) lines)) x parts) e here
 
       pub fits_there : IsNodeOf p n
       fits_there = first.reached.0.fits
 
-      pub stands_there : (part : Part) → KeepsNetLimits p.network → IsSmallTable p.table → MakesPartOf p worth n (line_of line) (Ok part) → StandsFirst nodes part
+      pub stands_there : (part : Part) → KeepsNetLimits p.network → IsSmallTable p.table
+          → MakesPartOf p worth n (line_of line) (Ok part) → StandsFirst nodes part
       stands_there (CutPart cut) limits small m =
           let reached = first.reached.0 in
           rw e (cut_at p reached.path n n cut limits small reached.at (subst (IsGraftLine p worth n) (sym m.1) m.0) reached.fits)
       stands_there (LeafPart part) limits small m = λ none. let no = sym e ∙ none in cc
 
-      pub judged_more : (part : Part) (nodes' : List Node) → MakesPartOf p worth n (line_of line) (Ok part) → nodes' ≡ after_first (part_line part) nodes → AreJudged p worth start (map line_of lines) (map line_of (drop (k + 1) lines)) nodes' (parts ++ part ∷ [])
+      pub judged_more : (part : Part) (nodes' : List Node) → MakesPartOf p worth n (line_of line) (Ok part)
+          → nodes' ≡ after_first (part_line part) nodes
+          → AreJudged p worth start (map line_of lines) (map line_of (drop (k + 1) lines)) nodes'
+          (parts ++ part ∷ [])
       judged_more part nodes' m s =
-          let next : after (line_of line) n rest ≡ nodes' = sym (s ∙ ap (λ (x : List Node). after_first (part_line part) x) e ∙ ap (λ (x : Line). after x n rest) m.1) in
-          subst (λ (x : List Node). AreJudged p worth start (map line_of lines) (map line_of (drop (k + 1) lines)) x (parts ++ part ∷ [])) next
+          let next : after (line_of line) n rest
+          ≡ nodes' = sym (s ∙ ap (λ (x : List Node). after_first (part_line part) x) e
+          ∙ ap (λ (x : Line). after x n rest) m.1) in
+          subst (λ (x : List Node). AreJudged p worth start (map line_of lines)
+          (map line_of (drop (k + 1) lines)) x (parts ++ part ∷ [])) next
           (judged_step p worth start (map line_of lines) (map line_of (drop (k + 1) lines)) n rest parts (line_of line) part first m)
 
-      pub not_there : (refusal : GiveRefusal) (result : Result (Vec Part) GiveRefusal) → MakesPartOf p worth n (line_of line) (Err refusal) → IsErrAnd result (λ told. told ≡ refusal) → IsJudged p worth start (map line_of lines) result
+      pub not_there : (refusal : GiveRefusal) (result : Result (Vec Part) GiveRefusal)
+          → MakesPartOf p worth n (line_of line) (Err refusal) → IsErrAnd result (λ told. told ≡ refusal)
+          → IsJudged p worth start (map line_of lines) result
       not_there UnknownJob result m e = absurd m
       not_there AlreadyGiven result m e = absurd m
       not_there TooLarge result m e = absurd m
@@ -180,15 +219,19 @@ still_open : (p : ProblemValue) (worth : Option ℤ) (nodes : List Node) → nod
 still_open p worth [] n a = n refl
 still_open p worth (node ∷ nodes) n a = a
 
-module _ (p : ProblemValue) (worth : Option ℤ) (start : List Node) (lines : List TreeLine) (nodes : List Node) (parts : List Part) (k : ℕ) (done : length lines ≤ k) (before : AreJudged p worth start (map line_of lines) (map line_of (drop k lines)) nodes parts) where
+module _ (p : ProblemValue) (worth : Option ℤ) (start : List Node) (lines : List TreeLine) (nodes : List Node)
+    (parts : List Part) (k : ℕ) (done : length lines ≤ k)
+    (before : AreJudged p worth start (map line_of lines) (map line_of (drop k lines)) nodes parts) where
   last : AreJudged p worth start (map line_of lines) [] nodes parts
-  last = subst (λ (x : List Line). AreJudged p worth start (map line_of lines) x nodes parts) (ap (map line_of) (drop_all k lines done)) before
+  last = subst (λ (x : List Line). AreJudged p worth start (map line_of lines) x nodes parts)
+      (ap (map line_of) (drop_all k lines done)) before
 
   -- a node waits, and there is no line
   pub too_short : nodes ≢ [] → AreGrafts p worth (map line_of lines) start → ⊥
   too_short n g = still_open p worth nodes n (last.needed g)
 
-  pub judged_all : nodes ≡ [] → AreGrafts p worth (map line_of lines) start × (part_lines parts ≡ map line_of lines) × AreValued p start parts
+  pub judged_all : nodes ≡ [] → AreGrafts p worth (map line_of lines) start
+      × (part_lines parts ≡ map line_of lines) × AreValued p start parts
   judged_all e =
       let whole = subst (λ (x : List Node). AreJudged p worth start (map line_of lines) [] x parts) e last in
       (whole.grafts tt, sym (append-nil (part_lines parts)) ∙ whole.said, subst (AreValued p start) (append-nil parts) (whole.valued [] tt))
@@ -196,7 +239,10 @@ module _ (p : ProblemValue) (worth : Option ℤ) (start : List Node) (lines : Li
 -- ---- what a work of lines makes
 
 -- what was judged, where the worth is that of the leaf
-pub tree_made : (p : ProblemValue) (worth : Option ℤ) (node : Node) (old : List Pair) (lines : Vec TreeLine) (parts : Vec Part) → worth ≡ leaf_value (net_of p) p.table node old true → IsJudged p worth (node ∷ []) (map line_of lines.items) (Ok parts) → MakesParts p node old (works.Tree lines) parts.items
+pub tree_made : (p : ProblemValue) (worth : Option ℤ) (node : Node) (old : List Pair) (lines : Vec TreeLine)
+    (parts : Vec Part) → worth ≡ leaf_value (net_of p) p.table node old true
+    → IsJudged p worth (node ∷ []) (map line_of lines.items) (Ok parts)
+    → MakesParts p node old (works.Tree lines) parts.items
 tree_made p worth node old lines parts e j =
     let whole = graft_is p worth node (map line_of lines.items) j.0 in
     record {
@@ -206,12 +252,17 @@ tree_made p worth node old lines parts e j =
       valued = j.2;
     }
 
-pub tree_not_made : (p : ProblemValue) (worth : Option ℤ) (node : Node) (old : List Pair) (lines : Vec TreeLine) (refusal : GiveRefusal) (result : Result Made GiveRefusal) → worth ≡ leaf_value (net_of p) p.table node old true → IsJudged p worth (node ∷ []) (map line_of lines.items) (Err refusal)
+pub tree_not_made : (p : ProblemValue) (worth : Option ℤ) (node : Node) (old : List Pair) (lines : Vec TreeLine)
+    (refusal : GiveRefusal) (result : Result Made GiveRefusal)
+    → worth ≡ leaf_value (net_of p) p.table node old true
+    → IsJudged p worth (node ∷ []) (map line_of lines.items) (Err refusal)
     → IsErrAnd result (λ told. told ≡ refusal) → MakesOf p node old (works.Tree lines) result
 tree_not_made p worth node old lines UnknownJob result e j t = absurd j
 tree_not_made p worth node old lines AlreadyGiven result e j t = absurd j
 tree_not_made p worth node old lines TooLarge result e j t = absurd j
 tree_not_made p worth node old lines NotValid (Ok made) e j t = absurd t
-tree_not_made p worth node old lines NotValid (Err told) e j t = rw t (λ tree. j (is_graft p worth node (map line_of lines.items) tree.0 tree.1.0 (subst (λ (w : Option ℤ). IsGraft p w node tree.0) (sym e) tree.1.1)))
+tree_not_made p worth node old lines NotValid (Err told) e j t =
+    rw t (λ tree. j (is_graft p worth node (map line_of lines.items) tree.0 tree.1.0
+    (subst (λ (w : Option ℤ). IsGraft p w node tree.0) (sym e) tree.1.1)))
 tree_not_made p worth node old lines Memory (Ok made) e j t = absurd t
 tree_not_made p worth node old lines Memory (Err told) e j t = rw t tt

@@ -39,7 +39,9 @@ same_told (Some u) v l e f = cc
 -- ---- values in the queue
 
 -- a value that a bound leaf has is told in the queue
-pub in_queue : (p : ProblemValue) (t : WorkTreeValue) (slots : List Slot) (q : QueueValue) (v : ℤ) → IsWhole t → IsQueue p t slots q → HasValue (net_of p) p.table t.tree (root_of p) v → (node : ℕ) × Contains (all_of q) (entry node (told v))
+pub in_queue : (p : ProblemValue) (t : WorkTreeValue) (slots : List Slot) (q : QueueValue) (v : ℤ) → IsWhole t
+    → IsQueue p t slots q → HasValue (net_of p) p.table t.tree (root_of p) v
+    → (node : ℕ) × Contains (all_of q) (entry node (told v))
 in_queue p t slots q v w is h =
     let at = w.found h.path (Bound h.pairs) h.leaf in
     let held = is.has at.0 h.pairs at.2 in
@@ -49,19 +51,31 @@ in_queue p t slots q v w is h =
     let same : told v ≡ held.0 = same_told (value_at p (path_to t at.0) worth.pairs) v held.0 value worth.worth in
     (at.0, subst (λ n. Contains (all_of q) (entry at.0 n)) (sym same) held.1)
 
-least_none : (p : ProblemValue) (t : WorkTreeValue) (slots : List Slot) (times : Option (List ℕ)) (q : QueueValue) → IsWhole t → IsQueue p t slots q → all_of q ≡ [] → None ≡ least p (state_of t slots times)
+least_none : (p : ProblemValue) (t : WorkTreeValue) (slots : List Slot) (times : Option (List ℕ)) (q : QueueValue)
+    → IsWhole t → IsQueue p t slots q → all_of q ≡ [] → None ≡ least p (state_of t slots times)
 least_none p t slots times q w is e =
-    sym (ap (option_map told) (least_is_none (net_of p) p.table t.tree (root_of p) (λ v h. let held = in_queue p t slots q v w is h in no_entry (entry held.0 (told v)) (subst (λ l. Contains l (entry held.0 (told v))) e held.1))))
+    sym (ap (option_map told) (least_is_none (net_of p) p.table t.tree (root_of p)
+    (λ v h. let held = in_queue p t slots q v w is h in
+    no_entry (entry held.0 (told v)) (subst (λ l. Contains l (entry held.0 (told v))) e held.1))))
   where
     no_entry : (x : Entry) → Contains [] x → ⊥
     no_entry x h = absurd (omega (arith, h.1))
 
-least_some : (p : ProblemValue) (t : WorkTreeValue) (slots : List Slot) (times : Option (List ℕ)) (q : QueueValue) (l : ℕ) → IsWhole t → IsQueue p t slots q → IsLeastValue (all_of q) l → Some l ≡ least p (state_of t slots times)
+least_some : (p : ProblemValue) (t : WorkTreeValue) (slots : List Slot) (times : Option (List ℕ)) (q : QueueValue)
+    (l : ℕ) → IsWhole t → IsQueue p t slots q → IsLeastValue (all_of q) l
+    → Some l ≡ least p (state_of t slots times)
 least_some p t slots times q l w is first =
     let worth = is.each (entry first.0 l) first.1.0 in
     let value = some_told (value_at p (path_to t first.0) worth.pairs) l worth.worth in
-    let had : HasValue (net_of p) p.table t.tree (root_of p) value.0 = record { path = path_to t first.0; pairs = worth.pairs; leaf = w.stands first.0 (Bound worth.pairs) worth.leaf; worth = value.1 } in
-    let under = and_is (least_value (net_of p) p.table t.tree (root_of p)) (λ u. u ≤ℤ value.0) (least_is_under (net_of p) p.table t.tree (root_of p) value.0 had) in
+    let had : HasValue (net_of p) p.table t.tree (root_of p) value.0 =
+    record {
+      path = path_to t first.0;
+      pairs = worth.pairs;
+      leaf = w.stands first.0 (Bound worth.pairs) worth.leaf;
+      worth = value.1;
+    } in
+    let under = and_is (least_value (net_of p) p.table t.tree (root_of p)) (λ u. u ≤ℤ value.0)
+    (least_is_under (net_of p) p.table t.tree (root_of p) value.0 had) in
     let held = in_queue p t slots q under.0 w is (least_is_had (net_of p) p.table t.tree (root_of p) under.0 under.1) in
     let above : l ≤ told under.0 = All-contains (λ (e : Entry). l ≤ e.value) (all_of q) (entry held.0 (told under.0)) first.1.1 held.1 in
     let below : told under.0 ≤ told value.0 = told_rises under.0 value.0 under.2 in
@@ -69,6 +83,8 @@ least_some p t slots times q l w is first =
     let same : l ≡ told under.0 = omega (arith, above, below, is_it) in
     ap Some same ∙ sym (ap (option_map told) under.1)
 
-pub least_is : (p : ProblemValue) (t : WorkTreeValue) (slots : List Slot) (times : Option (List ℕ)) (q : QueueValue) (result : Option ℕ) → IsWhole t → IsQueue p t slots q → MatchOption result (all_of q ≡ []) (IsLeastValue (all_of q)) → result ≡ least p (state_of t slots times)
+pub least_is : (p : ProblemValue) (t : WorkTreeValue) (slots : List Slot) (times : Option (List ℕ))
+    (q : QueueValue) (result : Option ℕ) → IsWhole t → IsQueue p t slots q
+    → MatchOption result (all_of q ≡ []) (IsLeastValue (all_of q)) → result ≡ least p (state_of t slots times)
 least_is p t slots times q None w is e = least_none p t slots times q w is e
 least_is p t slots times q (Some l) w is first = least_some p t slots times q l w is first

@@ -28,14 +28,19 @@ use Rattle.pesp_board.proofs.Lending.{some_leaf, waiting_opens, open_is}
 
 all_both : {X : Type 0} (P Q R : X → Type 0) → ((x : X) → P x → Q x → R x) → (xs : List X) → All P xs → All Q xs → All R xs
 all_both P Q R f [] p q = All-nil R
-all_both P Q R f (x ∷ xs) p q = All-cons R x xs (f x (All-head P x xs p) (All-head Q x xs q)) (all_both P Q R f xs (All-tail P x xs p) (All-tail Q x xs q))
+all_both P Q R f (x ∷ xs) p q = All-cons R x xs (f x (All-head P x xs p) (All-head Q x xs q))
+    (all_both P Q R f xs (All-tail P x xs p) (All-tail Q x xs q))
 
 -- what passes a test is kept
 kept : {X : Type 0} (test : X → Bool) (xs : List X) (x : X) → Contains xs x → test x ≡ true → Contains (filter test xs) x
 kept test [] x h t = h
 kept test (y ∷ xs) x h t = elim (held_cases y xs x h) [
-  | inl same ↦ cond_both (test y) (y ∷ filter test xs) (filter test xs) (λ l. Contains l x) (λ passes. subst (Contains (y ∷ filter test xs)) same (held_first y (filter test xs))) (λ fails. absurd (both_ways (test y) fails (ap test same ∙ t)))
-  | inr rest ↦ (let more = kept test xs x rest t in cond_both (test y) (y ∷ filter test xs) (filter test xs) (λ l. Contains l x) (λ passes. held_more y (filter test xs) x more) (λ fails. more))
+  | inl same ↦ cond_both (test y) (y ∷ filter test xs) (filter test xs) (λ l. Contains l x)
+      (λ passes. subst (Contains (y ∷ filter test xs)) same (held_first y (filter test xs)))
+      (λ fails. absurd (both_ways (test y) fails (ap test same ∙ t)))
+  | inr rest ↦ (let more = kept test xs x rest t in
+      cond_both (test y) (y ∷ filter test xs) (filter test xs) (λ l. Contains l x)
+      (λ passes. held_more y (filter test xs) x more) (λ fails. more))
 ]
 
 mapped : {X Y : Type 0} (f : X → Y) (xs : List X) (x : X) → Contains xs x → Contains (map f xs) (f x)
@@ -47,7 +52,9 @@ mapped f (y ∷ xs) x h = elim (held_cases y xs x h) [
 
 -- ---- entries that wait
 
-module _ (p : ProblemValue) (t : WorkTreeValue) (slots : List Slot) (q : QueueValue) (best : Option Best) (count most : ℕ) (b : IsBoard p t slots q best count) (differ : ItemsDiffer (all_of q)) (below : (value : ℕ) → value ≤ 999999999999999999 → (value < most) ↔ IsCheaper value (cost_of best)) where
+module _ (p : ProblemValue) (t : WorkTreeValue) (slots : List Slot) (q : QueueValue) (best : Option Best)
+    (count most : ℕ) (b : IsBoard p t slots q best count) (differ : ItemsDiffer (all_of q))
+    (below : (value : ℕ) → value ≤ 999999999999999999 → (value < most) ↔ IsCheaper value (cost_of best)) where
   abbrev cheap : Entry → Bool
   cheap e = nat_lt e.value most
 
@@ -73,7 +80,8 @@ module _ (p : ProblemValue) (t : WorkTreeValue) (slots : List Slot) (q : QueueVa
       let waits = open_is p t slots q best count found.0 b some (subst (IsOpen p (state_of t slots (times_of best))) (sym found.1) o) in
       let e = entry found.0 waits.0 in
       let passes : cheap e ≡ true = lt-ltb waits.0 most ((below waits.0 (short e waits.1)).1 waits.2) in
-      subst (Contains (map path (filter cheap q.waiting))) found.1 (mapped path (filter cheap q.waiting) e (kept cheap q.waiting e waits.1 passes))
+      subst (Contains (map path (filter cheap q.waiting))) found.1
+      (mapped path (filter cheap q.waiting) e (kept cheap q.waiting e waits.1 passes))
 
   abbrev Apart : Entry → Entry → Type 0
   Apart e f = path e ≢ path f
@@ -82,7 +90,8 @@ module _ (p : ProblemValue) (t : WorkTreeValue) (slots : List Slot) (q : QueueVa
   leaf_of_waiting i d within = Contains-append_left q.waiting q.parked (get_or q.waiting i d) (Contains-get_or q.waiting i d within)
 
   item_of_waiting : (i : ℕ) (d : Entry) → i < length q.waiting → item_at (all_of q) i ≡ (get_or q.waiting i d).item
-  item_of_waiting i d within = ap (λ (e : Entry). e.item) (get_or_append_left q.waiting q.parked (entry 0 0) i within ∙ get_or_default q.waiting i (entry 0 0) d within)
+  item_of_waiting i d within = ap (λ (e : Entry). e.item)
+      (get_or_append_left q.waiting q.parked (entry 0 0) i within ∙ get_or_default q.waiting i (entry 0 0) d within)
 
   apart_waiting : AllPairs Apart q.waiting
   apart_waiting i j d less within same =
@@ -92,7 +101,8 @@ module _ (p : ProblemValue) (t : WorkTreeValue) (slots : List Slot) (q : QueueVa
       let f = get_or q.waiting j d in
       let here = b.queue.each e (leaf_of_waiting i d first) in
       let there = b.queue.each f (leaf_of_waiting j d within) in
-      let one = b.whole.one e.item f.item (some_leaf (leaf_at t e.item) (Bound here.pairs) here.leaf) (some_leaf (leaf_at t f.item) (Bound there.pairs) there.leaf) same in
+      let one = b.whole.one e.item f.item (some_leaf (leaf_at t e.item) (Bound here.pairs) here.leaf)
+      (some_leaf (leaf_at t f.item) (Bound there.pairs) there.leaf) same in
       differ i j less (omega (arith, within, long)) (item_of_waiting i d first ∙ one ∙ sym (item_of_waiting j d within))
 
   apart_paths : (xs : List Entry) → AllPairs Apart xs → AllPairs (λ a c. a ≢ c) (map path xs)
@@ -111,7 +121,9 @@ module _ (p : ProblemValue) (t : WorkTreeValue) (slots : List Slot) (q : QueueVa
       record {
         paths = map path some;
         differ = apart_paths some (AllPairs-filter Apart cheap q.waiting apart_waiting);
-        opens = All-map (IsOpen p state) path some (all_both (Contains q.waiting) (λ e. cheap e ≡ true) (λ e. IsOpen p state (path e)) opens_one some held (filter_passes cheap q.waiting));
+        opens = All-map (IsOpen p state) path some
+            (all_both (Contains q.waiting) (λ e. cheap e ≡ true) (λ e. IsOpen p state (path e)) opens_one some held
+            (filter_passes cheap q.waiting));
         each = each_one;
         number = is ∙ sym (length-map some path);
       }

@@ -63,28 +63,38 @@ first_leaf : (node : ℕ) (pairs : List Pair) → leaf_at trees.opening node ≡
 first_leaf zero pairs e = refl
 first_leaf (suc node) pairs e = cc
 
-opening_queue : (p : ProblemValue) (q : QueueValue) → IsPermutation (entry 0 0 ∷ []) q.waiting → IsPermutation [] q.parked → IsQueue p trees.opening [] q
+opening_queue : (p : ProblemValue) (q : QueueValue) → IsPermutation (entry 0 0 ∷ []) q.waiting
+    → IsPermutation [] q.parked → IsQueue p trees.opening [] q
 opening_queue p q w k =
-    let none : (e : Entry) → Contains q.parked e → ⊥ = λ e h. none_held e (Contains-permutation q.parked [] e (IsPermutation-sym _ _ k) h) in
-    let worth : IsWorth p trees.opening (entry 0 0) = record { pairs = []; leaf = refl; worth = ap (option_map told) (no_pairs_value (net_of p) p.table) } in
+    let none : (e : Entry) → Contains q.parked e
+    → ⊥ = λ e h. none_held e (Contains-permutation q.parked [] e (IsPermutation-sym _ _ k) h) in
+    let worth : IsWorth p trees.opening (entry 0 0) =
+    record { pairs = []; leaf = refl; worth = ap (option_map told) (no_pairs_value (net_of p) p.table) } in
     let here : Contains q.waiting (entry 0 0) = Contains-permutation (entry 0 0 ∷ []) q.waiting (entry 0 0) w (0, omega arith, refl) in
     record {
       each = λ e h. elim (Contains-append_cases q.waiting q.parked e h) [
-        | inl waits ↦ subst (IsWorth p trees.opening) (one_held e (entry 0 0) (Contains-permutation q.waiting (entry 0 0 ∷ []) e (IsPermutation-sym _ _ w) waits)) worth
+        | inl waits ↦ subst (IsWorth p trees.opening)
+            (one_held e (entry 0 0) (Contains-permutation q.waiting (entry 0 0 ∷ []) e
+            (IsPermutation-sym _ _ w) waits)) worth
         | inr lies ↦ absurd (none e lies)
       ];
-      has = λ node pairs e. subst (HasItem (all_of q)) (sym (first_leaf node pairs e)) (0, Contains-append_left q.waiting q.parked (entry 0 0) here);
+      has = λ node pairs e. subst (HasItem (all_of q)) (sym (first_leaf node pairs e))
+          (0, Contains-append_left q.waiting q.parked (entry 0 0) here);
       lent = λ node l. absurd (nothing_lent node l);
       parked = λ node h. absurd (none (entry node h.0) h.1);
     }
 
-pub opening_board : (p : ProblemValue) (t : WorkTreeValue) (slots : List Slot) (q r : QueueValue) → KeepsNetLimits p.network → IsSmallTable p.table → t ≡ trees.opening → IsWhole t → slots ≡ [] → r.waiting ≡ [] → r.parked ≡ [] → IsPermutation (entry 0 0 ∷ r.waiting) q.waiting → IsPermutation r.parked q.parked → IsBoard p t slots q None 0
+pub opening_board : (p : ProblemValue) (t : WorkTreeValue) (slots : List Slot) (q r : QueueValue)
+    → KeepsNetLimits p.network → IsSmallTable p.table → t ≡ trees.opening → IsWhole t → slots ≡ [] → r.waiting ≡ []
+    → r.parked ≡ [] → IsPermutation (entry 0 0 ∷ r.waiting) q.waiting → IsPermutation r.parked q.parked
+    → IsBoard p t slots q None 0
 opening_board p t slots q r network table e whole none w k more same = record {
   network = network;
   table = table;
   whole = whole;
   orderly = rw (e, none) (opening_is_orderly p);
-  queue = rw (e, none) (opening_queue p q (subst (λ l. IsPermutation (entry 0 0 ∷ l) q.waiting) w more) (subst (λ l. IsPermutation l q.parked) k same));
+  queue = rw (e, none) (opening_queue p q (subst (λ l. IsPermutation (entry 0 0 ∷ l) q.waiting) w more)
+      (subst (λ l. IsPermutation l q.parked) k same));
   cost = refl;
   pairs = rw e refl;
 }

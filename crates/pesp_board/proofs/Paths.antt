@@ -18,10 +18,12 @@ use Rattle.pesp_machine.proofs.Ranges.{cut_keeps_limits}
 use Rattle.pesp_machine.proofs.TreeLimits.{leaf_line, cuts_along}
 use Rattle.pesp_board.specs.Giving.{AreCuts}
 
-pub path_cuts : (p : ProblemValue) (t : WorkTreeValue) (node : ℕ) (leaf : Leaf) → IsWhole t → KeepsTreeLimits p t.tree → leaf_at t node ≡ Some leaf → AreCuts p (path_to t node)
+pub path_cuts : (p : ProblemValue) (t : WorkTreeValue) (node : ℕ) (leaf : Leaf) → IsWhole t
+    → KeepsTreeLimits p t.tree → leaf_at t node ≡ Some leaf → AreCuts p (path_to t node)
 path_cuts p t node leaf w k e = cuts_along (IsLineOf p) t.tree (path_to t node) leaf (w.stands node leaf e) k.lines
 
-pub leaf_pairs : (p : ProblemValue) (t : WorkTreeValue) (node : ℕ) (pairs : List Pair) → IsWhole t → KeepsTreeLimits p t.tree → leaf_at t node ≡ Some (Bound pairs) → ArePairs (length p.table) pairs
+pub leaf_pairs : (p : ProblemValue) (t : WorkTreeValue) (node : ℕ) (pairs : List Pair) → IsWhole t
+    → KeepsTreeLimits p t.tree → leaf_at t node ≡ Some (Bound pairs) → ArePairs (length p.table) pairs
 leaf_pairs p t node pairs w k e = leaf_line (IsLineOf p) t.tree (path_to t node) (Bound pairs) (w.stands node (Bound pairs) e) k.lines
 
 -- ---- the node that a path leads to
@@ -36,9 +38,15 @@ root_is_node p =
 
 -- what a cut of one node names exists for the others
 pub cut_of_node : (p : ProblemValue) (node : Node) (cut : Cut) → IsNodeOf p node → IsCutOf (root_of p) cut → IsCutOf node cut
-cut_of_node p node (Slack row k) h c = let root = root_is_node p in let here = h.slacks in let there = root.slacks in let most = c.0.1 in ((c.0.0, omega (arith, here, there, most)), c.1)
-cut_of_node p node (Offset cycle k) h c = let root = root_is_node p in let here = h.offsets in let there = root.offsets in let most = c.0.1 in ((c.0.0, omega (arith, here, there, most)), c.1)
+cut_of_node p node (Slack row k) h c = let root = root_is_node p in let here = h.slacks in
+    let there = root.slacks in let most = c.0.1 in ((c.0.0, omega (arith, here, there, most)), c.1)
+cut_of_node p node (Offset cycle k) h c = let root = root_is_node p in let here = h.offsets in
+    let there = root.offsets in let most = c.0.1 in ((c.0.0, omega (arith, here, there, most)), c.1)
 
 -- a cut of what exists that leaves both sides a value at the end of a path cuts every node
-pub cut_at : (p : ProblemValue) (path : List (Cut × Side)) (there node : Node) (cut : Cut) → KeepsNetLimits p.network → IsSmallTable p.table → there ≡ node_at p path → CutExists (net_of p) p.table cut × LeavesBoth there cut → IsNodeOf p node → IsCutOf node cut
-cut_at p path there node cut limits small e both h = cut_of_node p node cut h (cut_keeps_limits p path cut limits small both.0 (subst (λ (n : Node). LeavesBoth n cut) e both.1))
+pub cut_at : (p : ProblemValue) (path : List (Cut × Side)) (there node : Node) (cut : Cut)
+    → KeepsNetLimits p.network → IsSmallTable p.table → there ≡ node_at p path
+    → CutExists (net_of p) p.table cut × LeavesBoth there cut → IsNodeOf p node → IsCutOf node cut
+cut_at p path there node cut limits small e both h =
+    cut_of_node p node cut h (cut_keeps_limits p path cut limits small both.0
+    (subst (λ (n : Node). LeavesBoth n cut) e both.1))

@@ -42,8 +42,11 @@ pub apart : (q : QueueValue) (item : ℕ) → ItemsDiffer (all_of q) → HasItem
 apart q item differ w k =
     let i = w.1.0 in
     let j = k.1.0 in
-    let first : item_at (all_of q) i ≡ item = ap (λ (e : Entry). e.item) (get_or_append_left q.waiting q.parked (entry 0 0) i w.1.1) ∙ item_held q.waiting item w in
-    let second : item_at (all_of q) (length q.waiting + j) ≡ item = ap (λ (e : Entry). e.item) (get_or-append-add q.waiting q.parked j (entry 0 0)) ∙ item_held q.parked item k in
+    let first : item_at (all_of q) i ≡ item = ap (λ (e : Entry). e.item)
+    (get_or_append_left q.waiting q.parked (entry 0 0) i w.1.1) ∙ item_held q.waiting item w in
+    let second : item_at (all_of q) (length q.waiting + j)
+    ≡ item = ap (λ (e : Entry). e.item) (get_or-append-add q.waiting q.parked j (entry 0 0))
+    ∙ item_held q.parked item k in
     let waits = w.1.1 in
     let lies = k.1.1 in
     let long = length-append q.waiting q.parked in
@@ -57,7 +60,8 @@ same_entries a b c d e parked waiting =
 
 -- ---- a number ends, and its node waits again
 
-pub waits_again : (p : ProblemValue) (t : WorkTreeValue) (slots : List Slot) (q r : QueueValue) (number node value : ℕ) → IsQueue p t slots q
+pub waits_again : (p : ProblemValue) (t : WorkTreeValue) (slots : List Slot) (q r : QueueValue)
+    (number node value : ℕ) → IsQueue p t slots q
     → ((a b n : ℕ) → slot_at slots a ≡ LentSlot n → slot_at slots b ≡ LentSlot n → a ≡ b) → ItemsDiffer (all_of r)
     → number < length slots → slot_at slots number ≡ LentSlot node
     → IsPermutation q.parked (entry node value ∷ r.parked) → IsPermutation (entry node value ∷ q.waiting) r.waiting
@@ -76,9 +80,14 @@ waits_again p t slots q r number node value is one differ within lends parked wa
             | inr rest ↦ (old.0, rest)
           ];
       parked = λ n h.
-          let old = is.parked n (h.0, Contains-permutation _ _ _ (IsPermutation-sym _ _ parked) (held_more (entry node value) r.parked (entry n h.0) h.1)) in
+          let old = is.parked n (
+            h.0,
+            Contains-permutation _ _ _ (IsPermutation-sym _ _ parked)
+                (held_more (entry node value) r.parked (entry n h.0) h.1),
+          ) in
           elim (cases_eq old.0 number) [
-            | inl same ↦ absurd (apart r node differ here (subst (HasItem r.parked) (node_of_slot n node (sym old.1 ∙ ap (slot_at slots) same ∙ lends)) h))
+            | inl same ↦ absurd (apart r node differ here
+                (subst (HasItem r.parked) (node_of_slot n node (sym old.1 ∙ ap (slot_at slots) same ∙ lends)) h))
             | inr another ↦ still_lent slots number old.0 n RecalledSlot another old.1
           ];
     }

@@ -23,15 +23,22 @@ use Rattle.pesp_board.specs.Parts.{part_line, part_lines, parts_of, MakesParts}
 use Rattle.pesp_board.specs.Giving.{MakesOf, HasRoom, MakesPart, MakesLarge}
 
 -- a leaf's pairs are among those of the tree
-pub pairs_few : (t : WorkTreeValue) (node : ℕ) (pairs : List Pair) → IsWhole t → leaf_at t node ≡ Some (Bound pairs) → length pairs ≤ sum_by pairs_in (preorder t.tree)
-pairs_few t node pairs w e = omega (arith, put_pairs_add_up t.tree (path_to t node) (Bound pairs) (Ends (Gap 0)) (w.stands node (Bound pairs) e))
+pub pairs_few : (t : WorkTreeValue) (node : ℕ) (pairs : List Pair) → IsWhole t
+    → leaf_at t node ≡ Some (Bound pairs) → length pairs ≤ sum_by pairs_in (preorder t.tree)
+pairs_few t node pairs w e = omega (
+  arith,
+  put_pairs_add_up t.tree (path_to t node) (Bound pairs) (Ends (Gap 0))
+      (w.stands node (Bound pairs) e),
+)
 
 -- the tree with another in place of a leaf, in numbers
 record Adds (t : WorkTreeValue) (node : ℕ) (old : List Pair) (new : Tree) : Type 0 where
   lines : length (preorder (put t.tree (path_to t node) new)) + 1 ≡ length t.leaves + length (preorder new)
-  pairs : sum_by pairs_in (preorder (put t.tree (path_to t node) new)) + length old ≡ sum_by pairs_in (preorder t.tree) + sum_by pairs_in (preorder new)
+  pairs : sum_by pairs_in (preorder (put t.tree (path_to t node) new)) + length old
+      ≡ sum_by pairs_in (preorder t.tree) + sum_by pairs_in (preorder new)
 
-adds : (t : WorkTreeValue) (node : ℕ) (pairs : List Pair) (new : Tree) → IsWhole t → leaf_at t node ≡ Some (Bound pairs) → Adds t node pairs new
+adds : (t : WorkTreeValue) (node : ℕ) (pairs : List Pair) (new : Tree) → IsWhole t
+    → leaf_at t node ≡ Some (Bound pairs) → Adds t node pairs new
 adds t node pairs new w e =
     let lines = put_lines_add_up t.tree (path_to t node) (Bound pairs) new (w.stands node (Bound pairs) e) in
     let counted = w.lines in
@@ -40,7 +47,9 @@ adds t node pairs new w e =
       pairs = put_pairs_add_up t.tree (path_to t node) (Bound pairs) new (w.stands node (Bound pairs) e);
     }
 
-small_there : (t : WorkTreeValue) (node rest : ℕ) (pairs : List Pair) (new : Tree) → IsWhole t → leaf_at t node ≡ Some (Bound pairs) → rest + length pairs ≡ sum_by pairs_in (preorder t.tree) → HasRoom (length t.leaves) rest (preorder new) → IsSmallTree (put t.tree (path_to t node) new)
+small_there : (t : WorkTreeValue) (node rest : ℕ) (pairs : List Pair) (new : Tree) → IsWhole t
+    → leaf_at t node ≡ Some (Bound pairs) → rest + length pairs ≡ sum_by pairs_in (preorder t.tree)
+    → HasRoom (length t.leaves) rest (preorder new) → IsSmallTree (put t.tree (path_to t node) new)
 small_there t node rest pairs new w e count room =
     let a = adds t node pairs new w e in
     let a_lines = a.lines in
@@ -49,7 +58,9 @@ small_there t node rest pairs new w e count room =
     let most = room.pairs in
     record { lines = omega (arith, a_lines, lines); pairs = omega (arith, a_pairs, count, most) }
 
-room_there : (t : WorkTreeValue) (node rest : ℕ) (pairs : List Pair) (new : Tree) → IsWhole t → leaf_at t node ≡ Some (Bound pairs) → rest + length pairs ≡ sum_by pairs_in (preorder t.tree) → IsSmallTree (put t.tree (path_to t node) new) → HasRoom (length t.leaves) rest (preorder new)
+room_there : (t : WorkTreeValue) (node rest : ℕ) (pairs : List Pair) (new : Tree) → IsWhole t
+    → leaf_at t node ≡ Some (Bound pairs) → rest + length pairs ≡ sum_by pairs_in (preorder t.tree)
+    → IsSmallTree (put t.tree (path_to t node) new) → HasRoom (length t.leaves) rest (preorder new)
 room_there t node rest pairs new w e count small =
     let a = adds t node pairs new w e in
     let a_lines = a.lines in
@@ -59,7 +70,8 @@ room_there t node rest pairs new w e count small =
     record { lines = omega (arith, a_lines, lines); pairs = omega (arith, a_pairs, count, most) }
 
 -- what is made, as the code has it: at the end of a path, with lines and pairs that were counted
-pub record IsMade (p : ProblemValue) (t : WorkTreeValue) (node k rest : ℕ) (way : List (Cut × Side)) (pairs : List Pair) (work : Work) (parts : List Part) : Type 0 where
+pub record IsMade (p : ProblemValue) (t : WorkTreeValue) (node k rest : ℕ) (way : List (Cut × Side))
+    (pairs : List Pair) (work : Work) (parts : List Part) : Type 0 where
   pub whole : IsWhole t
   pub leaf : leaf_at t node ≡ Some (Bound pairs)
   pub path : way ≡ path_to t node
@@ -67,7 +79,9 @@ pub record IsMade (p : ProblemValue) (t : WorkTreeValue) (node k rest : ℕ) (wa
   pub count : rest + length pairs ≡ sum_by pairs_in (preorder t.tree)
   pub makes : MakesParts p (node_at p way) pairs work parts
 
-pub part_made : (p : ProblemValue) (t : WorkTreeValue) (node long rest n : ℕ) (path : List (Cut × Side)) (pairs : List Pair) (work : Work) (read parts : List Part) → IsMade p t node long rest path pairs work parts → read ≡ parts
+pub part_made : (p : ProblemValue) (t : WorkTreeValue) (node long rest n : ℕ) (path : List (Cut × Side))
+    (pairs : List Pair) (work : Work) (read parts : List Part) → IsMade p t node long rest path pairs work parts
+    → read ≡ parts
     → HasRoom long rest (part_lines read) × (n ≡ rest + sum_by pairs_in (part_lines read)) → MakesPart p t node work parts n
 part_made p t node long rest n path pairs work read parts m is counted =
     let told = subst (λ (ps : List Part). HasRoom long rest (part_lines ps) × (n ≡ rest + sum_by pairs_in (part_lines ps))) is counted in
@@ -77,7 +91,9 @@ part_made p t node long rest n path pairs work read parts m is counted =
     let a = adds t node pairs made.tree m.whole m.leaf in
     let a_pairs = a.pairs in
     let count = m.count in
-    let room' : HasRoom (length t.leaves) rest (preorder made.tree) = subst (λ (k : ℕ). HasRoom k rest (preorder made.tree)) m.long (subst (λ (l : List Line). HasRoom long rest l) (sym made.lines) room) in
+    let room' : HasRoom (length t.leaves) rest (preorder made.tree) =
+    subst (λ (k : ℕ). HasRoom k rest (preorder made.tree)) m.long
+    (subst (λ (l : List Line). HasRoom long rest l) (sym made.lines) room) in
     let sums : sum_by pairs_in (preorder made.tree) ≡ sum_by pairs_in (part_lines parts) = ap (sum_by pairs_in) made.lines in
     record {
       pairs = pairs;
@@ -87,7 +103,9 @@ part_made p t node long rest n path pairs work read parts m is counted =
       count = omega (arith, a_pairs, count, e, sums);
     }
 
-pub part_large : (p : ProblemValue) (t : WorkTreeValue) (node long rest : ℕ) (path : List (Cut × Side)) (pairs : List Pair) (work : Work) (read parts : List Part) → IsMade p t node long rest path pairs work parts → read ≡ parts
+pub part_large : (p : ProblemValue) (t : WorkTreeValue) (node long rest : ℕ) (path : List (Cut × Side))
+    (pairs : List Pair) (work : Work) (read parts : List Part) → IsMade p t node long rest path pairs work parts
+    → read ≡ parts
     → (HasRoom long rest (part_lines read) → ⊥) → MakesLarge p t node work
 part_large p t node long rest path pairs work read parts m is past =
     let none = subst (λ (ps : List Part). HasRoom long rest (part_lines ps) → ⊥) is past in
@@ -97,14 +115,23 @@ part_large p t node long rest path pairs work read parts m is past =
       leaf = m.leaf;
       new = made.tree;
       makes = made.makes;
-      large = λ small. none (subst (λ (l : List Line). HasRoom long rest l) made.lines (subst (λ (k : ℕ). HasRoom k rest (preorder made.tree)) (sym m.long) (room_there t node rest pairs made.tree m.whole m.leaf m.count small)));
+      large = λ small. none (subst (λ (l : List Line). HasRoom long rest l) made.lines
+          (subst (λ (k : ℕ). HasRoom k rest (preorder made.tree)) (sym m.long)
+          (room_there t node rest pairs made.tree m.whole m.leaf m.count small)));
     }
 
 -- ---- the parts of what is made
 
-pub made_parts : (p : ProblemValue) (node : Node) (old : List Pair) (work : Work) (made : Made) → MakesOf p node old work (Ok made) → MakesParts p node old work (parts_of made)
+pub made_parts : (p : ProblemValue) (node : Node) (old : List Pair) (work : Work) (made : Made)
+    → MakesOf p node old work (Ok made) → MakesParts p node old work (parts_of made)
 made_parts p node old work (MadeLeaf part) m = record { tree = Ends (leaf_of part.leaf); lines = refl; makes = m.0; valued = (m.1, tt) }
-made_parts p node old work (MadeBranch cut low high) m = record { tree = Branch cut (Ends (leaf_of low.leaf)) (Ends (leaf_of high.leaf)); lines = refl; makes = m.0; valued = (m.1, (m.2, tt)) }
+made_parts p node old work (MadeBranch cut low high) m =
+    record {
+      tree = Branch cut (Ends (leaf_of low.leaf)) (Ends (leaf_of high.leaf));
+      lines = refl;
+      makes = m.0;
+      valued = (m.1, (m.2, tt));
+    }
 made_parts p node old work (MadeTree parts) m = m
 
 -- ---- the count of pairs
@@ -117,10 +144,12 @@ pub record IsCounted (rest : ℕ) (parts : List Part) (count k : ℕ) : Type 0 w
 pub counted_none : (rest : ℕ) (parts : List Part) → rest ≤ 20000000 → IsCounted rest parts rest 0
 counted_none rest parts h = record { total = refl; small = h }
 
-module _ (rest : ℕ) (parts : List Part) (count k : ℕ) (part : Part) (within : k < length parts) (is : part ≡ get_or parts k part) (before : IsCounted rest parts count k) where
+module _ (rest : ℕ) (parts : List Part) (count k : ℕ) (part : Part) (within : k < length parts)
+    (is : part ≡ get_or parts k part) (before : IsCounted rest parts count k) where
   sum_there : sum_by pairs_in (part_lines (drop k parts)) ≡ pairs_in (part_line part) + sum_by pairs_in (part_lines (drop (k + 1) parts))
   sum_there =
-      ap (λ (l : List Part). sum_by pairs_in (part_lines l)) (drop_more parts k part within) ∙ ap (λ (x : Part). sum_by pairs_in (part_line x ∷ part_lines (drop (k + 1) parts))) (sym is)
+      ap (λ (l : List Part). sum_by pairs_in (part_lines l)) (drop_more parts k part within)
+      ∙ ap (λ (x : Part). sum_by pairs_in (part_line x ∷ part_lines (drop (k + 1) parts))) (sym is)
       ∙ sum_by-cons pairs_in (part_line part) (part_lines (drop (k + 1) parts))
 
   pub counted_more : (new : ℕ) → new ≡ count + pairs_in (part_line part) → new ≤ 20000000 → IsCounted rest parts new (k + 1)
@@ -135,16 +164,25 @@ module _ (rest : ℕ) (parts : List Part) (count k : ℕ) (part : Part) (within 
 lines_few : (long n m : ℕ) → long ≤ 1000000 → (1000001 - long < n → ⊥) → m ≡ n → long + m ≤ 1000001
 lines_few long n m h few e = grind (arith, h, few, e)
 
-pub counted_all : (long rest : ℕ) (parts : List Part) (count k : ℕ) → length parts ≤ k → long ≤ 1000000 → (1000001 - long < length parts → ⊥) → IsCounted rest parts count k → HasRoom long rest (part_lines parts) × (count ≡ rest + sum_by pairs_in (part_lines parts))
+pub counted_all : (long rest : ℕ) (parts : List Part) (count k : ℕ) → length parts ≤ k → long ≤ 1000000
+    → (1000001 - long < length parts → ⊥) → IsCounted rest parts count k
+    → HasRoom long rest (part_lines parts) × (count ≡ rest + sum_by pairs_in (part_lines parts))
 counted_all long rest parts count k done small few c =
     let total = c.total in
     let most = c.small in
-    let left : sum_by pairs_in (part_lines (drop k parts)) ≡ 0 = ap (λ (l : List Part). sum_by pairs_in (part_lines l)) (drop_all k parts done) in
+    let left : sum_by pairs_in (part_lines (drop k parts))
+    ≡ 0 = ap (λ (l : List Part). sum_by pairs_in (part_lines l)) (drop_all k parts done) in
     let counted = length-map parts part_line in
-    let whole : count ≡ rest + sum_by pairs_in (part_lines parts) = omega (arith, total, left) in
-    (record { lines = lines_few long (length parts) (length (part_lines parts)) small few counted; pairs = omega (arith, whole, most) }, whole)
+    let whole : count ≡ rest + sum_by pairs_in (part_lines parts) = omega (arith, total, left) in (
+      record {
+        lines = lines_few long (length parts) (length (part_lines parts)) small few counted;
+        pairs = omega (arith, whole, most);
+      },
+      whole,
+    )
 
-pub too_many_lines : (long rest : ℕ) (parts : List Part) → long ≤ 1000000 → 1000001 - long < length parts → HasRoom long rest (part_lines parts) → ⊥
+pub too_many_lines : (long rest : ℕ) (parts : List Part) → long ≤ 1000000 → 1000001 - long < length parts
+    → HasRoom long rest (part_lines parts) → ⊥
 too_many_lines long rest parts small many room =
     let lines = room.lines in
     let counted = length-map parts part_line in

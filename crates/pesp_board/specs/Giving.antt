@@ -53,7 +53,8 @@ HaveValue p node pairs weighted v = ArePairs (length p.table) pairs × (leaf_val
 abbrev pub MakesOf : ProblemValue → Node → List Pair → Work → Result Made GiveRefusal → Type 0
 MakesOf p node old work (Ok (MadeLeaf part)) = Makes p node old work (Ends (leaf_of part.leaf)) × IsValued p node part
 MakesOf p node old work (Ok (MadeBranch cut low high)) =
-    Makes p node old work (Branch cut (Ends (leaf_of low.leaf)) (Ends (leaf_of high.leaf))) × IsValued p (low_part node cut) low × IsValued p (high_part node cut) high
+    Makes p node old work (Branch cut (Ends (leaf_of low.leaf)) (Ends (leaf_of high.leaf)))
+    × IsValued p (low_part node cut) low × IsValued p (high_part node cut) high
 MakesOf p node old work (Ok (MadeTree parts)) = MakesParts p node old work parts.items
 MakesOf p node old work (Err NotValid) = IsValidAt p node old work → ⊥
 MakesOf p node old work (Err Memory) = Unit {0}
@@ -94,7 +95,8 @@ pub record MakesLarge (p : ProblemValue) (t : WorkTreeValue) (node : ℕ) (work 
 -- what a work makes of a node's bound leaf, with the number of pairs of the tree then, or why it isn't taken
 abbrev pub MakesAt : ProblemValue → WorkTreeValue → ℕ → Work → Result (Vec Part × ℕ) GiveRefusal → Type 0
 MakesAt p t node work (Ok part) = MakesPart p t node work part.0.items part.1
-MakesAt p t node work (Err NotValid) = (pairs : List Pair) × (leaf_at t node ≡ Some (Bound pairs)) × (IsValidAt p (node_at p (path_to t node)) pairs work → ⊥)
+MakesAt p t node work (Err NotValid) = (pairs : List Pair) × (leaf_at t node ≡ Some (Bound pairs))
+    × (IsValidAt p (node_at p (path_to t node)) pairs work → ⊥)
 MakesAt p t node work (Err Memory) = Unit {0}
 MakesAt p t node work (Err TooLarge) = MakesLarge p t node work
 MakesAt p t node work (Err UnknownJob) = ⊥

@@ -50,7 +50,8 @@ grown t (node ∷ nodes) (part ∷ parts) = grown (with_part t node part) (next 
 abbrev pub news : WorkTreeValue → List ℕ → List Part → List Entry
 news t nodes [] = []
 news t [] (part ∷ parts) = []
-news t (node ∷ nodes) (part ∷ parts) = news (with_part t node part) (next (length t.leaves) part nodes) parts ++ waits node (part_value part)
+news t (node ∷ nodes) (part ∷ parts) = news (with_part t node part) (next (length t.leaves) part nodes) parts
+    ++ waits node (part_value part)
 
 -- the nodes differ from this one
 abbrev pub AreOthers : ℕ → List ℕ → Type 0

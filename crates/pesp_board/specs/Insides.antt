@@ -67,7 +67,8 @@ pub record IsQueue (p : ProblemValue) (t : WorkTreeValue) (slots : List Slot) (q
 
 -- the problem keeps its limits, the tree is whole, the state is one that events lead to, and what is kept beside it is right:
 -- the queue, the cost of the best times, and how many pairs the tree has
-pub record IsBoard (p : ProblemValue) (t : WorkTreeValue) (slots : List Slot) (q : QueueValue) (best : Option Best) (count : ℕ) : Type 0 where
+pub record IsBoard (p : ProblemValue) (t : WorkTreeValue) (slots : List Slot) (q : QueueValue) (best : Option Best)
+    (count : ℕ) : Type 0 where
   pub network : KeepsNetLimits p.network
   pub table : IsSmallTable p.table
   pub whole : IsWhole t

@@ -22,7 +22,8 @@ use Rattle.pesp_board.specs.Giving.{AreCuts}
 -- the path leads to an open leaf, and no open leaf has a lesser value, as values are told
 pub record IsFirstOpen (p : ProblemValue) (state : State) (path : List (Cut × Side)) : Type 0 where
   pub opens : IsOpen p state path
-  pub least : (other : List (Cut × Side)) (o : IsOpen p state other) (v w : ℤ) → value_at p path opens.pairs ≡ Some v → value_at p other o.pairs ≡ Some w → told v ≤ told w
+  pub least : (other : List (Cut × Side)) (o : IsOpen p state other) (v w : ℤ)
+      → value_at p path opens.pairs ≡ Some v → value_at p other o.pairs ≡ Some w → told v ≤ told w
 
 -- the entry's node is lent under the next number, with the path to it
 pub record LendsNext (t : WorkTreeValue) (best : Option Best) (old : List Slot) (e : Entry) (job : Job) (new : List Slot) : Type 0 where

@@ -24,7 +24,8 @@ WaitsCheaper q best node = (value : ℕ) × Contains q.waiting (entry node value
 -- those of the nodes that wait with a value below the best cost, in their order
 abbrev pub AreWaitingOf : QueueValue → Option Best → List ℕ → List ℕ → Type 0
 AreWaitingOf q best [] some = some ≡ []
-AreWaitingOf q best (node ∷ nodes) some = ((rest : List ℕ) × WaitsCheaper q best node × (some ≡ node ∷ rest) × AreWaitingOf q best nodes rest) ⊎ ((WaitsCheaper q best node → ⊥) × AreWaitingOf q best nodes some)
+AreWaitingOf q best (node ∷ nodes) some = ((rest : List ℕ) × WaitsCheaper q best node × (some ≡ node ∷ rest)
+    × AreWaitingOf q best nodes rest) ⊎ ((WaitsCheaper q best node → ⊥) × AreWaitingOf q best nodes some)
 
 -- those of the nodes with leaves, in the order of the tree's lines, that wait with a value below the best cost
 pub record AreOpenNodes (t : WorkTreeValue) (q : QueueValue) (best : Option Best) (opens : List ℕ) : Type 0 where
@@ -35,7 +36,8 @@ pub record AreOpenNodes (t : WorkTreeValue) (q : QueueValue) (best : Option Best
 
 -- the nodes are lent under the next numbers, in order, or nothing has changed
 abbrev pub LendsNodes : WorkTreeValue → List Slot → List ℕ → Result (Vec Job) LendRefusal → List Slot → Type 0
-LendsNodes t old nodes (Ok jobs) new = (new ≡ old ++ map LentSlot nodes) × AreNumbered (length old) jobs.items (map (path_to t) nodes) × (length old + length nodes ≤ 1000000)
+LendsNodes t old nodes (Ok jobs) new = (new ≡ old ++ map LentSlot nodes)
+    × AreNumbered (length old) jobs.items (map (path_to t) nodes) × (length old + length nodes ≤ 1000000)
 LendsNodes t old nodes (Err NumbersSpent) new = (new ≡ old) × (1000000 < length old + length nodes)
 LendsNodes t old nodes (Err Memory) new = new ≡ old
 

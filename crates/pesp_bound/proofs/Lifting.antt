@@ -38,7 +38,9 @@ pub record Rises (old new t t2 : ℕ → ℕ) (now v : ℕ) : Type 0 where
   pub others : (x : ℕ) → x ≢ v → (new x ≡ old x) × (t2 x ≡ t x)
 
 -- the event that is lifted
-here_held : (edges : List Edge) (old new t t2 : ℕ → ℕ) (now v k : ℕ) → Rises old new t t2 now v → (edge_at edges k).start ≡ v → new v + (edge_at edges k).loss ≡ old (edge_at edges k).finish + (edge_at edges k).gain → Held edges new t2 v k
+here_held : (edges : List Edge) (old new t t2 : ℕ → ℕ) (now v k : ℕ) → Rises old new t t2 now v
+    → (edge_at edges k).start ≡ v → new v + (edge_at edges k).loss
+    ≡ old (edge_at edges k).finish + (edge_at edges k).gain → Held edges new t2 v k
 here_held edges old new t t2 now v k r e set =
     let u = (edge_at edges k).finish in
     let above = r.above in
@@ -56,7 +58,8 @@ here_held edges old new t t2 now v k r e set =
     ]
 
 -- another event
-other_held : (edges : List Edge) (old new t t2 : ℕ → ℕ) (now v x j : ℕ) → Rises old new t t2 now v → x ≢ v → Held edges old t x j → Held edges new t2 x j
+other_held : (edges : List Edge) (old new t t2 : ℕ → ℕ) (now v x j : ℕ) → Rises old new t t2 now v → x ≢ v
+    → Held edges old t x j → Held edges new t2 x j
 other_held edges old new t t2 now v x j r ne h =
     let u = (edge_at edges j).finish in
     let above = r.above in
@@ -83,14 +86,24 @@ held_at edges h t x y i e k = subst (λ (z : ℕ). Held edges h t z i) (sym e) k
 old_held : (edges : List Edge) (h by t : ℕ → ℕ) (now x : ℕ) → Grown edges h by t now → 0 < by x → Held edges h t x (by x - 1)
 old_held edges h by t now x g b = record { from = g.from x b; holds = g.holds x b; strict = g.strict x b }
 
-all_held : (edges : List Edge) (old new by by2 t t2 : ℕ → ℕ) (now v k x : ℕ) → Grown edges old by t now → Rises old new t t2 now v → (edge_at edges k).start ≡ v → new v + (edge_at edges k).loss ≡ old (edge_at edges k).finish + (edge_at edges k).gain → by2 v ≡ k + 1 → ((y : ℕ) → y ≢ v → by2 y ≡ by y) → 0 < by2 x → Held edges new t2 x (by2 x - 1)
+all_held : (edges : List Edge) (old new by by2 t t2 : ℕ → ℕ) (now v k x : ℕ) → Grown edges old by t now
+    → Rises old new t t2 now v → (edge_at edges k).start ≡ v
+    → new v + (edge_at edges k).loss ≡ old (edge_at edges k).finish + (edge_at edges k).gain → by2 v ≡ k + 1
+    → ((y : ℕ) → y ≢ v → by2 y ≡ by y) → 0 < by2 x → Held edges new t2 x (by2 x - 1)
 all_held edges old new by by2 t t2 now v k x g r e is here others b =
     elim (same_or_not x v) [
-      | inl same ↦ let place : by2 x - 1 ≡ k = let w : by2 x ≡ by2 v = ap by2 same in omega arith in held_as edges new t2 x k (by2 x - 1) place (held_at edges new t2 x v k same (here_held edges old new t t2 now v k r e is))
-      | inr ne ↦ let w : by2 x ≡ by x = others x ne in held_as edges new t2 x (by x - 1) (by2 x - 1) (omega arith) (other_held edges old new t t2 now v x (by x - 1) r ne (old_held edges old by t now x g (omega arith)))
+      | inl same ↦ let place : by2 x - 1 ≡ k = let w : by2 x ≡ by2 v = ap by2 same in omega arith in
+          held_as edges new t2 x k (by2 x - 1) place
+          (held_at edges new t2 x v k same (here_held edges old new t t2 now v k r e is))
+      | inr ne ↦ let w : by2 x ≡ by x = others x ne in
+          held_as edges new t2 x (by x - 1) (by2 x - 1) (omega arith)
+          (other_held edges old new t t2 now v x (by x - 1) r ne (old_held edges old by t now x g (omega arith)))
     ]
 
-pub lifted : (edges : List Edge) (old new by by2 t t2 : ℕ → ℕ) (now v k : ℕ) → k < length edges → Grown edges old by t now → Rises old new t t2 now v → (edge_at edges k).start ≡ v → new v + (edge_at edges k).loss ≡ old (edge_at edges k).finish + (edge_at edges k).gain → by2 v ≡ k + 1 → ((y : ℕ) → y ≢ v → by2 y ≡ by y) → Grown edges new by2 t2 (now + 1)
+pub lifted : (edges : List Edge) (old new by by2 t t2 : ℕ → ℕ) (now v k : ℕ) → k < length edges
+    → Grown edges old by t now → Rises old new t t2 now v → (edge_at edges k).start ≡ v
+    → new v + (edge_at edges k).loss ≡ old (edge_at edges k).finish + (edge_at edges k).gain → by2 v ≡ k + 1
+    → ((y : ℕ) → y ≢ v → by2 y ≡ by y) → Grown edges new by2 t2 (now + 1)
 lifted edges old new by by2 t t2 now v k l g r e is here others =
     let held = λ (x : ℕ) (b : 0 < by2 x). all_held edges old new by by2 t t2 now v k x g r e is here others b in
     record {
@@ -116,7 +129,10 @@ lifted edges old new by by2 t t2 now v k l g r e is here others =
 abbrev time_of : (ℕ → ℕ) → ℕ → ℕ → ℕ → ℕ
 time_of t now v x = if x == v then now + 1 else t x
 
-pub lifted_lists : (edges : List Edge) (level by : List ℕ) (k v new : ℕ) → k < length edges → IsGrown edges level by → (edge_at edges k).start ≡ v → v < length level → v < length by → at level v < new → new + (edge_at edges k).loss ≡ at level (edge_at edges k).finish + (edge_at edges k).gain → IsGrown edges (set level v new) (set by v (k + 1))
+pub lifted_lists : (edges : List Edge) (level by : List ℕ) (k v new : ℕ) → k < length edges
+    → IsGrown edges level by → (edge_at edges k).start ≡ v → v < length level → v < length by → at level v < new
+    → new + (edge_at edges k).loss ≡ at level (edge_at edges k).finish + (edge_at edges k).gain
+    → IsGrown edges (set level v new) (set by v (k + 1))
 lifted_lists edges level by k v new l g e in_level in_by above is =
     let t = g.0 in
     let now = g.1 in
@@ -127,8 +143,13 @@ lifted_lists edges level by k v new l g e in_level in_by above is =
       time = ap (λ b. if b then now + 1 else t v) (eq-true v v refl);
       times = g.2.times;
       others = λ x ne. (get_or-set_other level v x new 0 ne, ap (λ b. if b then now + 1 else t x) (eq-false x v ne));
-    } in
-    (time_of t now v, now + 1, lifted edges (at level) (at (set level v new)) (at by) (at (set by v (k + 1))) t (time_of t now v) now v k l g.2 rises e (omega arith) by_here (λ x ne. get_or-set_other by v x (k + 1) 0 ne))
+    } in (
+      time_of t now v,
+      now + 1,
+      lifted edges (at level) (at (set level v new)) (at by) (at (set by v (k + 1))) t
+          (time_of t now v) now v k l g.2 rises e (omega arith) by_here
+          (λ x ne. get_or-set_other by v x (k + 1) 0 ne),
+    )
 
 pub sum_rises : (level : List ℕ) (v new : ℕ) → v < length level → at level v < new → sum level < sum (set level v new)
 sum_rises level v new l above = let s = sum_by-set (λ (x : ℕ). x) level v new 0 l in omega arith
@@ -155,7 +176,8 @@ pub record Climbed (edges : List Edge) (level by place way : List ℕ) (cur even
   pub comes : (y : ℕ) → 0 < at place y → Comes edges (at level) t y (drop (at place y - 1) way) cur
   pub high : length level * most < at level event → unmarked place * most < at level cur
 
-pub IsWay-snoc : (edges : List Edge) (way : List ℕ) (a b k : ℕ) → IsWay edges a way b → k < length edges → (edge_at edges k).start ≡ b → IsWay edges a (way ++ k ∷ []) (edge_at edges k).finish
+pub IsWay-snoc : (edges : List Edge) (way : List ℕ) (a b k : ℕ) → IsWay edges a way b → k < length edges
+    → (edge_at edges k).start ≡ b → IsWay edges a (way ++ k ∷ []) (edge_at edges k).finish
 IsWay-snoc edges [] a b k h l e = (l, e ∙ sym h, refl)
 IsWay-snoc edges (j ∷ way) a b k h l e = (h.0, h.1, IsWay-snoc edges way (edge_at edges j).finish b k h.2 l e)
 
@@ -168,7 +190,9 @@ losses-snoc edges [] k = omega arith
 losses-snoc edges (j ∷ way) k = omega (arith, losses-snoc edges way k)
 
 -- one edge on, from the current event
-pub comes_on : (edges : List Edge) (h by t : ℕ → ℕ) (now y cur : ℕ) (way : List ℕ) → Grown edges h by t now → 0 < by cur → Comes edges h t y way cur → Comes edges h t y (way ++ (by cur - 1) ∷ []) (edge_at edges (by cur - 1)).finish
+pub comes_on : (edges : List Edge) (h by t : ℕ → ℕ) (now y cur : ℕ) (way : List ℕ) → Grown edges h by t now
+    → 0 < by cur → Comes edges h t y way cur → Comes edges h t y (way ++ (by cur - 1) ∷ [])
+    (edge_at edges (by cur - 1)).finish
 comes_on edges h by t now y cur way g b c =
     let k = by cur - 1 in
     let row = g.row cur in
@@ -187,7 +211,8 @@ comes_on edges h by t now y cur way g b c =
           ];
     }
 
-pub comes_one : (edges : List Edge) (h by t : ℕ → ℕ) (now cur : ℕ) → Grown edges h by t now → 0 < by cur → Comes edges h t cur ((by cur - 1) ∷ []) (edge_at edges (by cur - 1)).finish
+pub comes_one : (edges : List Edge) (h by t : ℕ → ℕ) (now cur : ℕ) → Grown edges h by t now → 0 < by cur
+    → Comes edges h t cur ((by cur - 1) ∷ []) (edge_at edges (by cur - 1)).finish
 comes_one edges h by t now cur g b =
     let k = by cur - 1 in
     let row = g.row cur in
@@ -217,7 +242,11 @@ drop_past way i k l = drop-append-le i way (k ∷ []) l
 drop_all : (way : List ℕ) (k : ℕ) → drop (length way) (way ++ k ∷ []) ≡ k ∷ []
 drop_all way k = drop-append_seam way (k ∷ [])
 
-pub climbs_on : (edges : List Edge) (level by place way : List ℕ) (cur event most : ℕ) → Climbed edges level by place way cur event most → cur < length place → at place cur ≡ 0 → 0 < at by cur → (edge_at edges (at by cur - 1)).gain ≤ most → Climbed edges level by (set place cur (length way + 1)) (way ++ (at by cur - 1) ∷ []) (edge_at edges (at by cur - 1)).finish event most
+pub climbs_on : (edges : List Edge) (level by place way : List ℕ) (cur event most : ℕ)
+    → Climbed edges level by place way cur event most → cur < length place → at place cur ≡ 0 → 0 < at by cur
+    → (edge_at edges (at by cur - 1)).gain ≤ most
+    → Climbed edges level by (set place cur (length way + 1)) (way ++ (at by cur - 1) ∷ [])
+    (edge_at edges (at by cur - 1)).finish event most
 climbs_on edges level by place way cur event most c l e b gain =
     let k = at by cur - 1 in
     let next = (edge_at edges k).finish in
@@ -229,30 +258,45 @@ climbs_on edges level by place way cur event most c l e b gain =
       grown = c.grown;
       few = let less = one_less place cur (length way + 1) l e (omega arith) in let f = c.few in omega (arith, less, longer, f);
       marked = λ y m. elim (same_or_not y cur) [
-        | inl same ↦ let w : at (set place cur (length way + 1)) y ≡ at (set place cur (length way + 1)) cur = ap (at (set place cur (length way + 1))) same in omega arith
-        | inr ne ↦ let w : at (set place cur (length way + 1)) y ≡ at place y = get_or-set_other place cur y (length way + 1) 0 ne in let o = c.marked y (omega arith) in omega arith
+        | inl same ↦ let w : at (set place cur (length way + 1)) y
+            ≡ at (set place cur (length way + 1)) cur = ap (at (set place cur (length way + 1))) same in omega arith
+        | inr ne ↦ let w : at (set place cur (length way + 1)) y
+            ≡ at place y = get_or-set_other place cur y (length way + 1) 0 ne in
+            let o = c.marked y (omega arith) in omega arith
       ];
       comes = λ y m. elim (same_or_not y cur) [
         | inl same ↦
-            let w : at (set place cur (length way + 1)) y - 1 ≡ length way = let w : at (set place cur (length way + 1)) y ≡ at (set place cur (length way + 1)) cur = ap (at (set place cur (length way + 1))) same in omega arith in
-            let cut : drop (at (set place cur (length way + 1)) y - 1) (way ++ k ∷ []) ≡ k ∷ [] = ap (λ (i : ℕ). drop i (way ++ k ∷ [])) w ∙ drop_all way k in
-            subst (λ (z : List ℕ). Comes edges (at level) c.t y z next) (sym cut) (subst (λ (x : ℕ). Comes edges (at level) c.t x (k ∷ []) next) (sym same) (comes_one edges (at level) (at by) c.t c.now cur c.grown b))
+            let w : at (set place cur (length way + 1)) y - 1
+            ≡ length way = let w : at (set place cur (length way + 1)) y
+            ≡ at (set place cur (length way + 1)) cur = ap (at (set place cur (length way + 1))) same in
+            omega arith in
+            let cut : drop (at (set place cur (length way + 1)) y - 1) (way ++ k ∷ [])
+            ≡ k ∷ [] = ap (λ (i : ℕ). drop i (way ++ k ∷ [])) w ∙ drop_all way k in
+            subst (λ (z : List ℕ). Comes edges (at level) c.t y z next) (sym cut)
+            (subst (λ (x : ℕ). Comes edges (at level) c.t x (k ∷ []) next) (sym same)
+            (comes_one edges (at level) (at by) c.t c.now cur c.grown b))
         | inr ne ↦
             let w : at (set place cur (length way + 1)) y ≡ at place y = get_or-set_other place cur y (length way + 1) 0 ne in
             let was : 0 < at place y = omega arith in
             let in_way = c.marked y was in
-            let cut : drop (at (set place cur (length way + 1)) y - 1) (way ++ k ∷ []) ≡ drop (at place y - 1) way ++ k ∷ [] = ap (λ (i : ℕ). drop (i - 1) (way ++ k ∷ [])) w ∙ drop_past way (at place y - 1) k (omega arith) in
-            subst (λ (z : List ℕ). Comes edges (at level) c.t y z next) (sym cut) (comes_on edges (at level) (at by) c.t c.now y cur (drop (at place y - 1) way) c.grown b (c.comes y was))
+            let cut : drop (at (set place cur (length way + 1)) y - 1) (way ++ k ∷ [])
+            ≡ drop (at place y - 1) way ++ k ∷ [] = ap (λ (i : ℕ). drop (i - 1) (way ++ k ∷ [])) w
+            ∙ drop_past way (at place y - 1) k (omega arith) in
+            subst (λ (z : List ℕ). Comes edges (at level) c.t y z next) (sym cut)
+            (comes_on edges (at level) (at by) c.t c.now y cur (drop (at place y - 1) way) c.grown b
+            (c.comes y was))
       ];
       high = λ h.
           let less = one_less place cur (length way + 1) l e (omega arith) in
-          let times : unmarked place * most ≡ (unmarked (set place cur (length way + 1)) + 1) * most = ap (λ (x : ℕ). x * most) (sym less) in
+          let times : unmarked place * most ≡ (unmarked (set place cur (length way + 1)) + 1) * most =
+          ap (λ (x : ℕ). x * most) (sym less) in
           let before = c.high h in
           let step = c.grown.holds cur b in
           omega (arith, times, before, step, gain);
     }
 
-pub starts : (edges : List Edge) (level by place : List ℕ) (event most : ℕ) → IsGrown edges level by → ((y : ℕ) → at place y ≡ 0) → unmarked place ≤ length level → Climbed edges level by place [] event event most
+pub starts : (edges : List Edge) (level by place : List ℕ) (event most : ℕ) → IsGrown edges level by
+    → ((y : ℕ) → at place y ≡ 0) → unmarked place ≤ length level → Climbed edges level by place [] event event most
 starts edges level by place event most g none few =
     record {
       t = g.0;
@@ -267,19 +311,29 @@ starts edges level by place event most g none few =
 pub sum-le : (xs : List ℕ) (m : ℕ) → ((x : ℕ) → at xs x ≤ m) → sum xs ≤ length xs * m
 sum-le xs m h = sum_by-le (λ (x : ℕ). x) m xs (λ k d l. let e = get_or_default xs k d 0 l in let b = h k in omega arith)
 
-pub climbs_on_as : (edges : List Edge) (level by place way way2 : List ℕ) (cur event most m : ℕ) → Climbed edges level by place way cur event most → cur < length place → at place cur ≡ 0 → 0 < at by cur → (edge_at edges (at by cur - 1)).gain ≤ most → m ≡ length way + 1 → way2 ≡ way ++ (at by cur - 1) ∷ [] → Climbed edges level by (set place cur m) way2 (edge_at edges (at by cur - 1)).finish event most
+pub climbs_on_as : (edges : List Edge) (level by place way way2 : List ℕ) (cur event most m : ℕ)
+    → Climbed edges level by place way cur event most → cur < length place → at place cur ≡ 0 → 0 < at by cur
+    → (edge_at edges (at by cur - 1)).gain ≤ most → m ≡ length way + 1 → way2 ≡ way ++ (at by cur - 1) ∷ []
+    → Climbed edges level by (set place cur m) way2 (edge_at edges (at by cur - 1)).finish event most
 climbs_on_as edges level by place way way2 cur event most m c l e b gain s w =
-    subst (λ (x : ℕ). Climbed edges level by (set place cur x) way2 (edge_at edges (at by cur - 1)).finish event most) (sym s) (subst (λ (z : List ℕ). Climbed edges level by (set place cur (length way + 1)) z (edge_at edges (at by cur - 1)).finish event most) (sym w) (climbs_on edges level by place way cur event most c l e b gain))
+    subst (λ (x : ℕ). Climbed edges level by (set place cur x) way2
+    (edge_at edges (at by cur - 1)).finish event most) (sym s)
+    (subst (λ (z : List ℕ). Climbed edges level by (set place cur (length way + 1)) z
+    (edge_at edges (at by cur - 1)).finish event most) (sym w)
+    (climbs_on edges level by place way cur event most c l e b gain))
 
 replicate_zero : (n y : ℕ) → at (replicate n 0) y ≡ 0
 replicate_zero zero y = refl
 replicate_zero (suc n) zero = refl
 replicate_zero (suc n) (suc y) = replicate_zero n y
 
-pub starts_as : (edges : List Edge) (level by place way : List ℕ) (event most : ℕ) → IsGrown edges level by → place ≡ replicate (length level) 0 → way ≡ [] → Climbed edges level by place way event event most
+pub starts_as : (edges : List Edge) (level by place way : List ℕ) (event most : ℕ) → IsGrown edges level by
+    → place ≡ replicate (length level) 0 → way ≡ [] → Climbed edges level by place way event event most
 starts_as edges level by place way event most g p w =
     subst (λ (z : List ℕ). Climbed edges level by place z event event most) (sym w)
-    (starts edges level by place event most g (λ y. ap (λ (z : List ℕ). at z y) p ∙ replicate_zero (length level) y) (let few = count_by-le-length (λ (x : ℕ). x == 0) place in let size = ap length p ∙ length-replicate (length level) 0 in omega (arith, few, size)))
+    (starts edges level by place event most g (λ y. ap (λ (z : List ℕ). at z y) p
+    ∙ replicate_zero (length level) y) (let few = count_by-le-length (λ (x : ℕ). x == 0) place in
+    let size = ap length p ∙ length-replicate (length level) 0 in omega (arith, few, size)))
 
 pub grown_empty : (edges : List Edge) (n : ℕ) → IsGrown edges (replicate n 0) (replicate n 0)
 grown_empty edges n = (
@@ -296,7 +350,8 @@ grown_empty edges n = (
 )
 
 pub grown_zeros : (edges : List Edge) (n : ℕ) (level by : List ℕ) → level ≡ replicate n 0 → by ≡ replicate n 0 → IsGrown edges level by
-grown_zeros edges n level by l b = subst (λ (x : List ℕ). IsGrown edges x by) (sym l) (subst (λ (x : List ℕ). IsGrown edges (replicate n 0) x) (sym b) (grown_empty edges n))
+grown_zeros edges n level by l b = subst (λ (x : List ℕ). IsGrown edges x by) (sym l)
+    (subst (λ (x : List ℕ). IsGrown edges (replicate n 0) x) (sym b) (grown_empty edges n))
 
 pub low_zeros : (n limit : ℕ) (level : List ℕ) → level ≡ replicate n 0 → (x : ℕ) → at level x ≤ limit
 low_zeros n limit level l x = let z = ap (λ (y : List ℕ). at y x) l ∙ replicate_zero n x in omega (arith, z)
@@ -313,26 +368,36 @@ pub when_false : (A B : Type 0) (b : Bool) → b ≡ false → MatchBool b A B �
 when_false A B b e m = subst (λ (x : Bool). MatchBool x A B) e m
 
 abbrev pub SoFar : List Edge → List ℕ → List ℕ → Option ℕ → ℕ → Type 0
-SoFar edges initial level last k = MatchOption last ((level ≡ initial) × ((j : ℕ) → j < k → Settles edges (at level) j)) (λ e. (e < length initial) × (sum initial < sum level))
+SoFar edges initial level last k = MatchOption last
+    ((level ≡ initial) × ((j : ℕ) → j < k → Settles edges (at level) j))
+    (λ e. (e < length initial) × (sum initial < sum level))
 
-so_far_le : (edges : List Edge) (initial level : List ℕ) (last : Option ℕ) (k : ℕ) → SoFar edges initial level last k → sum initial ≤ sum level
+so_far_le : (edges : List Edge) (initial level : List ℕ) (last : Option ℕ) (k : ℕ)
+    → SoFar edges initial level last k → sum initial ≤ sum level
 so_far_le edges initial level None k h = let e = ap sum h.0 in omega (arith, e)
 so_far_le edges initial level (Some e) k h = let l = h.1 in omega (arith, l)
 
-pub so_far_lifts : (edges : List Edge) (initial old new : List ℕ) (last : Option ℕ) (k e : ℕ) → SoFar edges initial old last k → sum old < sum new → e < length initial → SoFar edges initial new (Some e) (k + 1)
+pub so_far_lifts : (edges : List Edge) (initial old new : List ℕ) (last : Option ℕ) (k e : ℕ)
+    → SoFar edges initial old last k → sum old < sum new → e < length initial
+    → SoFar edges initial new (Some e) (k + 1)
 so_far_lifts edges initial old new last k e h more l = let first = so_far_le edges initial old last k h in (l, omega (arith, first, more))
 
-below_next : (edges : List Edge) (level : List ℕ) (k j : ℕ) → ((j : ℕ) → j < k → Settles edges (at level) j) → Settles edges (at level) k → j < k + 1 → Settles edges (at level) j
+below_next : (edges : List Edge) (level : List ℕ) (k j : ℕ) → ((j : ℕ) → j < k → Settles edges (at level) j)
+    → Settles edges (at level) k → j < k + 1 → Settles edges (at level) j
 below_next edges level k j h s l = below_more _ _ h s j l
 
-so_far_same : (edges : List Edge) (initial level : List ℕ) (last : Option ℕ) (k : ℕ) → SoFar edges initial level last k → Settles edges (at level) k → SoFar edges initial level last (k + 1)
+so_far_same : (edges : List Edge) (initial level : List ℕ) (last : Option ℕ) (k : ℕ)
+    → SoFar edges initial level last k → Settles edges (at level) k → SoFar edges initial level last (k + 1)
 so_far_same edges initial level None k h s = (h.0, λ j l. below_next edges level k j h.1 s l)
 so_far_same edges initial level (Some e) k h s = h
 
-pub so_far_stays : (edges : List Edge) (initial old new : List ℕ) (last : Option ℕ) (k : ℕ) → SoFar edges initial old last k → new ≡ old → Settles edges (at old) k → SoFar edges initial new last (k + 1)
-so_far_stays edges initial old new last k h e s = subst (λ (x : List ℕ). SoFar edges initial x last (k + 1)) (sym e) (so_far_same edges initial old last k h s)
+pub so_far_stays : (edges : List Edge) (initial old new : List ℕ) (last : Option ℕ) (k : ℕ)
+    → SoFar edges initial old last k → new ≡ old → Settles edges (at old) k → SoFar edges initial new last (k + 1)
+so_far_stays edges initial old new last k h e s =
+    subst (λ (x : List ℕ). SoFar edges initial x last (k + 1)) (sym e) (so_far_same edges initial old last k h s)
 
-pub low_but : (old new : List ℕ) (limit start x : ℕ) → ((x : ℕ) → at old x ≤ limit) → ((x : ℕ) → x ≢ start → at new x ≡ at old x) → at new start ≤ limit → at new x ≤ limit
+pub low_but : (old new : List ℕ) (limit start x : ℕ) → ((x : ℕ) → at old x ≤ limit)
+    → ((x : ℕ) → x ≢ start → at new x ≡ at old x) → at new start ≤ limit → at new x ≤ limit
 low_but old new limit start x h others here =
     elim (same_or_not x start) [
       | inl same ↦ let w : at new x ≡ at new start = ap (at new) same in omega (arith, w, here)
@@ -348,7 +413,8 @@ all_low new event limit x others here =
       | inr ne ↦ others x ne
     ]
 
-pub less_left : (old new : List ℕ) (event limit n : ℕ) → length new ≡ n → sum old < sum new → ((x : ℕ) → x ≢ event → at new x ≤ limit) → at new event ≤ limit → n * limit - sum new < n * limit - sum old
+pub less_left : (old new : List ℕ) (event limit n : ℕ) → length new ≡ n → sum old < sum new
+    → ((x : ℕ) → x ≢ event → at new x ≤ limit) → at new event ≤ limit → n * limit - sum new < n * limit - sum old
 less_left old new event limit n size more others here =
     let most = sum-le new limit (λ x. all_low new event limit x others here) in
     let same = ap (λ (k : ℕ). k * limit) size in

@@ -7,7 +7,8 @@ use Rattle.pesp_bound.specs.declared.leaf.Leaf.{Leaf}
 use Rattle.pesp_bound.specs.declared.leaf.Leaf.TheVariants.{Gap, Nothing, Bound}
 use Rattle.pesp_bound.specs.Leaves.{HasNoGap}
 
--- the table has the fundamental walks of the network's forest; each slack range has a value, each offset range has one value, and that offset is left; but no slacks of the ranges have these offsets on all cycles
+-- the table has the fundamental walks of the network's forest; each slack range has a value, each offset range has one
+-- value, and that offset is left; but no slacks of the ranges have these offsets on all cycles
 pub record IsDecided (p : ProblemValue) (node : Node) : Type 0 where
   pub fundamental : AreFundamental (net_of p).arcs p.network.forest p.table
   pub slacks : (i : ℕ) → i < length p.network.rows → (slack_range node.slacks i).0 ≤ (slack_range node.slacks i).1

@@ -20,7 +20,8 @@ last_owner table (suc m) i = if own_row (cycle_at table m) == i + 1 then m + 1 e
 
 -- the offsets by which a row is shifted: those left of the cycle that owns it, 0 where none does
 abbrev pub IsShift : Net → List (List SignedRow) → Node → ℕ → ℤ × ℤ → Type 0
-IsShift n table node owner shift = ((owner ≡ 0) × (shift ≡ (pos 0, pos 0))) ⊎ ((0 < owner) × (offsets_left n table node (owner - 1) ≡ Some shift))
+IsShift n table node owner shift = ((owner ≡ 0) × (shift ≡ (pos 0, pos 0)))
+    ⊎ ((0 < owner) × (offsets_left n table node (owner - 1) ≡ Some shift))
 
 abbrev pub shift_at : List (ℤ × ℤ) → ℕ → ℤ × ℤ
 shift_at shifts i = slice_index_or shifts i (pos 0, pos 0)
@@ -29,14 +30,16 @@ shift_at shifts i = slice_index_or shifts i (pos 0, pos 0)
 abbrev pub AreShifts : Net → List (List SignedRow) → Node → ℕ → List (ℤ × ℤ) → Type 0
 AreShifts n table node m shifts = (i : ℕ) → i < length shifts → IsShift n table node (last_owner table m i) (shift_at shifts i)
 
--- the most by which levels may rise from a row's tail to its head: its greatest duration less so many periods; and from its head to its tail: so many periods less its least duration
+-- the most by which levels may rise from a row's tail to its head: its greatest duration less so many periods; and from
+-- its head to its tail: so many periods less its least duration
 abbrev pub rise_bound : ℕ → Arc → ℕ × ℕ → ℤ × ℤ → Bool → ℤ
 rise_bound period arc slacks shift plus =
     if plus then arc.lower +ℤ pos slacks.1 -ℤ pos period *ℤ shift.0
     else pos period *ℤ shift.1 -ℤ (arc.lower +ℤ pos slacks.0)
 
 abbrev pub bound_of : Net → List (ℕ × ℕ) → List (ℤ × ℤ) → SignedRow → ℤ
-bound_of n slacks shifts s = rise_bound n.period (arc_at n.arcs (s.row - 1)) (slack_range slacks (s.row - 1)) (shift_at shifts (s.row - 1)) s.plus
+bound_of n slacks shifts s = rise_bound n.period (arc_at n.arcs (s.row - 1)) (slack_range slacks (s.row - 1))
+    (shift_at shifts (s.row - 1)) s.plus
 
 -- the edge along a signed row whose loss less gain is that bound
 pub record IsDemand (n : Net) (slacks : List (ℕ × ℕ)) (shifts : List (ℤ × ℤ)) (s : SignedRow) (edge : Edge) : Type 0 where
@@ -60,7 +63,8 @@ pub record AreDemands (n : Net) (slacks : List (ℕ × ℕ)) (shifts : List (ℤ
 -- the rows that cycles pass, under both signs, as far as the first m rows
 pub record ArePassed (by_row : List (List Passage)) (m : ℕ) (rows : List SignedRow) : Type 0 where
   pub exist : All (λ s. Names (length by_row) s.row) rows
-  pub all : (s : SignedRow) → Names m s.row → 0 < length (passages_at by_row (s.row - 1)) → (k : ℕ) × (k < length rows) × (signed_at rows k ≡ s)
+  pub all : (s : SignedRow) → Names m s.row → 0 < length (passages_at by_row (s.row - 1))
+      → (k : ℕ) × (k < length rows) × (signed_at rows k ≡ s)
 
 -- the edges along the rows that cycles pass, each shifted by the offsets left of its cycle
 pub record IsSystem (n : Net) (table : List (List SignedRow)) (node : Node) (rows : List SignedRow) (edges : List Edge) : Type 0 where

@@ -8,8 +8,11 @@ pub record Grown (edges : List Edge) (h by t : ℕ → ℕ) (now : ℕ) : Type 0
   pub root : (x : ℕ) → by x ≡ 0 → h x ≡ 0
   pub row : (x : ℕ) → by x ≤ length edges
   pub from : (x : ℕ) → 0 < by x → (edge_at edges (by x - 1)).start ≡ x
-  pub holds : (x : ℕ) → 0 < by x → h x + (edge_at edges (by x - 1)).loss ≤ h (edge_at edges (by x - 1)).finish + (edge_at edges (by x - 1)).gain
-  pub strict : (x : ℕ) → 0 < by x → t x ≤ t (edge_at edges (by x - 1)).finish → h x + (edge_at edges (by x - 1)).loss + 1 ≤ h (edge_at edges (by x - 1)).finish + (edge_at edges (by x - 1)).gain
+  pub holds : (x : ℕ) → 0 < by x → h x + (edge_at edges (by x - 1)).loss
+      ≤ h (edge_at edges (by x - 1)).finish + (edge_at edges (by x - 1)).gain
+  pub strict : (x : ℕ) → 0 < by x → t x ≤ t (edge_at edges (by x - 1)).finish
+      → h x + (edge_at edges (by x - 1)).loss + 1 ≤ h (edge_at edges (by x - 1)).finish
+      + (edge_at edges (by x - 1)).gain
   pub times : (x : ℕ) → t x ≤ now
 
 -- at some times the levels grew in this way

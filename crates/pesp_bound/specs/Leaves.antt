@@ -15,11 +15,14 @@ IsGapAt p node c = offsets_left (net_of p) p.table node c ≡ None
 abbrev pub HasNoGap : ProblemValue → Node → Type 0
 HasNoGap p node = (c : ℕ) → c < length p.table → IsGapAt p node c → ⊥
 
--- a gap leaf names a cycle with no offset left; elsewhere there is none, and the pairs keep their limits: those of a nothing leaf have a value above 0 with all weights 0, those of a bound leaf have the value with the rows' weights
+-- a gap leaf names a cycle with no offset left; elsewhere there is none, and the pairs keep their limits: those of a
+-- nothing leaf have a value above 0 with all weights 0, those of a bound leaf have the value with the rows' weights
 abbrev pub IsLeafOf : ProblemValue → Node → Leaf → Type 0
 IsLeafOf p node (Gap cycle) = Names (length p.table) cycle × IsGapAt p node (cycle - 1)
-IsLeafOf p node (Nothing pairs) = HasNoGap p node × ArePairs (length p.table) pairs × IsSomeAnd (leaf_value (net_of p) p.table node pairs false) (λ v. pos 0 <ℤ v)
-IsLeafOf p node (Bound pairs value) = HasNoGap p node × ArePairs (length p.table) pairs × (leaf_value (net_of p) p.table node pairs true ≡ Some value)
+IsLeafOf p node (Nothing pairs) = HasNoGap p node × ArePairs (length p.table) pairs
+    × IsSomeAnd (leaf_value (net_of p) p.table node pairs false) (λ v. pos 0 <ℤ v)
+IsLeafOf p node (Bound pairs value) = HasNoGap p node × ArePairs (length p.table) pairs
+    × (leaf_value (net_of p) p.table node pairs true ≡ Some value)
 
 -- a bound leaf has at least the value of these pairs, where they have one
 abbrev pub IsNoLess : ProblemValue → Node → List Pair → Leaf → Type 0

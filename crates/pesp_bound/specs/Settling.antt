@@ -18,7 +18,8 @@ at xs i = slice_index xs i
 
 -- edges between so many events, with gains of at most so much
 abbrev pub AreWithin : ℕ → ℕ → List Edge → Type 0
-AreWithin events most edges = (k : ℕ) → k < length edges → ((edge_at edges k).start < events) × ((edge_at edges k).finish < events) × ((edge_at edges k).gain ≤ most)
+AreWithin events most edges = (k : ℕ) → k < length edges
+    → ((edge_at edges k).start < events) × ((edge_at edges k).finish < events) × ((edge_at edges k).gain ≤ most)
 
 -- the start is no lower than the edge demands
 abbrev pub Settles : List Edge → (ℕ → ℕ) → ℕ → Type 0

@@ -26,25 +26,38 @@ none_is : {A : Type 0} (o : Option A) → IsNone o → o ≡ None
 none_is None e = refl
 none_is (Some x) e = cc
 
-pub gap_leaf : (p : ProblemValue) (node : Node) (cycle : ℕ) → IsSoundLeaf (net_of p) p.table None (trees.Gap cycle) node → IsLeafOf p node (Gap cycle)
+pub gap_leaf : (p : ProblemValue) (node : Node) (cycle : ℕ)
+    → IsSoundLeaf (net_of p) p.table None (trees.Gap cycle) node → IsLeafOf p node (Gap cycle)
 gap_leaf p node cycle l = (l.0, none_is (offsets_left (net_of p) p.table node (cycle - 1)) l.1)
 
 and_some : (o : Option ℤ) (P : ℤ → Type 0) (v : ℤ) → o ≡ Some v → P v → IsSomeAnd o P
 and_some o P v e h = rw e h
 
-found_leaf : (p : ProblemValue) (start : List Pair) (node : Node) (leaf : Found) → IsLeafOf p node leaf → IsNoLess p node start leaf → IsFoundAt p start node (leaf_of leaf)
+found_leaf : (p : ProblemValue) (start : List Pair) (node : Node) (leaf : Found) → IsLeafOf p node leaf
+    → IsNoLess p node start leaf → IsFoundAt p start node (leaf_of leaf)
 found_leaf p start node (Gap cycle) l n = (l.0, (l.0, is_none (offsets_left (net_of p) p.table node (cycle - 1)) l.1))
 found_leaf p start node (Nothing pairs) l n = (l.1, (pairs_exist p.table pairs l.1, l.2))
-found_leaf p start node (Bound pairs value) l n = (l.0, l.1, and_some (leaf_value (net_of p) p.table node pairs true) (λ v. IfSome (leaf_value (net_of p) p.table node start true) (λ w. w ≤ℤ v)) value l.2 n)
+found_leaf p start node (Bound pairs value) l n = (
+  l.0,
+  l.1,
+  and_some (leaf_value (net_of p) p.table node pairs true)
+      (λ v. IfSome (leaf_value (net_of p) p.table node start true) (λ w. w ≤ℤ v)) value l.2 n,
+)
 
-pub found_line : (p : ProblemValue) (start : List Pair) (node : Node) (leaf : Found) (line : TreeLine) → IsLeafOf p node leaf → IsNoLess p node start leaf → line_of line ≡ EndLine (leaf_of leaf) → IsFoundLine p start node line
+pub found_line : (p : ProblemValue) (start : List Pair) (node : Node) (leaf : Found) (line : TreeLine)
+    → IsLeafOf p node leaf → IsNoLess p node start leaf → line_of line ≡ EndLine (leaf_of leaf)
+    → IsFoundLine p start node line
 found_line p start node leaf line l n e = record { leaf = leaf_of leaf; says = e; found = found_leaf p start node leaf l n }
 
 -- a node that propagation shuts
-pub shut_line : (p : ProblemValue) (start : List Pair) (node : Node) (line : TreeLine) → MayShut p node ByPropagation → line_of line ≡ EndLine (Shut ByPropagation) → IsFoundLine p start node line
+pub shut_line : (p : ProblemValue) (start : List Pair) (node : Node) (line : TreeLine)
+    → MayShut p node ByPropagation → line_of line ≡ EndLine (Shut ByPropagation) → IsFoundLine p start node line
 shut_line p start node line h e = record { leaf = Shut ByPropagation; says = e; found = h }
 
-pub expanded : (p : ProblemValue) (start : List Pair) (node : Node) (cut : Cut) (first low high : TreeLine) (lines : List TreeLine) → line_of first ≡ CutLine cut → IsFoundLine p start (part node cut Low) low → IsFoundLine p start (part node cut High) high → lines ≡ first ∷ low ∷ high ∷ [] → IsExpanded p start node cut lines
+pub expanded : (p : ProblemValue) (start : List Pair) (node : Node) (cut : Cut) (first low high : TreeLine)
+    (lines : List TreeLine) → line_of first ≡ CutLine cut → IsFoundLine p start (part node cut Low) low
+    → IsFoundLine p start (part node cut High) high → lines ≡ first ∷ low ∷ high ∷ []
+    → IsExpanded p start node cut lines
 expanded p start node cut first low high lines e l h same = record {
   low = l.leaf;
   high = h.leaf;

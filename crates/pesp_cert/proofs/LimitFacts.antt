@@ -27,11 +27,18 @@ limits_of c whole =
     let period = and_left (is_period c.period) (has_costs c.answer) h3 in
     let answer = and_right (is_period c.period) (has_costs c.answer) h3 in
     let c1 = and_left (nat_le (length c.cycles) 100000 && nat_le (total_rows c.cycles) 10000000) (list_all is_cycle c.cycles) cycles in
-    let l1 = and_left (nat_le (length c.tree) 1000000 && nat_le (total_pairs c.tree) 20000000 && list_all is_line c.tree) (are_trees 1 (lines_of c)) tree in
+    let l1 = and_left (nat_le (length c.tree) 1000000 && nat_le (total_pairs c.tree) 20000000
+    && list_all is_line c.tree) (are_trees 1 (lines_of c)) tree in
     let l2 = and_left (nat_le (length c.tree) 1000000 && nat_le (total_pairs c.tree) 20000000) (list_all is_line c.tree) l1 in
     record {
-      version = (le_of 1 c.version (and_left (nat_le 1 c.version) (nat_le c.version 2) version_is), le_of c.version 2 (and_right (nat_le 1 c.version) (nat_le c.version 2) version_is));
-      period = (le_of 1 c.period (and_left (nat_le 1 c.period) (nat_le c.period 10000) period), le_of c.period 10000 (and_right (nat_le 1 c.period) (nat_le c.period 10000) period));
+      version = (
+        le_of 1 c.version (and_left (nat_le 1 c.version) (nat_le c.version 2) version_is),
+        le_of c.version 2 (and_right (nat_le 1 c.version) (nat_le c.version 2) version_is),
+      );
+      period = (
+        le_of 1 c.period (and_left (nat_le 1 c.period) (nat_le c.period 10000) period),
+        le_of c.period 10000 (and_right (nat_le 1 c.period) (nat_le c.period 10000) period),
+      );
       answer = answer;
       times = le_of (length c.times) 100000 (and_left (nat_le (length c.times) 100000) (list_all is_time c.times) times);
       each_time = and_right (nat_le (length c.times) 100000) (list_all is_time c.times) times;
@@ -41,6 +48,7 @@ limits_of c whole =
       lines = le_of (length c.tree) 1000000 (and_left (nat_le (length c.tree) 1000000) (nat_le (total_pairs c.tree) 20000000) l2);
       pairs = le_of (total_pairs c.tree) 20000000 (and_right (nat_le (length c.tree) 1000000) (nat_le (total_pairs c.tree) 20000000) l2);
       each_line = and_right (nat_le (length c.tree) 1000000 && nat_le (total_pairs c.tree) 20000000) (list_all is_line c.tree) l1;
-      whole = and_right (nat_le (length c.tree) 1000000 && nat_le (total_pairs c.tree) 20000000 && list_all is_line c.tree) (are_trees 1 (lines_of c)) tree;
+      whole = and_right (nat_le (length c.tree) 1000000 && nat_le (total_pairs c.tree) 20000000
+          && list_all is_line c.tree) (are_trees 1 (lines_of c)) tree;
       known = and_right (nat_le 1 c.version && nat_le c.version 2) (list_all (has_line c.version) c.tree) version;
     }

@@ -17,20 +17,23 @@ use Rattle.pesp_cert.specs.Limits.{is_branch}
 pub record LeavesRoom {A : Type 0} (f : A → ℕ) (xs : List A) (limit i left : ℕ) : Type 0 where
   pub room : sum_by f xs + left ≡ limit + sum_by f (drop i xs)
 
-pub room_next : {A : Type 0} (f : A → ℕ) (xs : List A) (limit i left : ℕ) (x : A) → i < length xs → x ≡ get_or xs i x → f x ≤ left → LeavesRoom f xs limit i left → LeavesRoom f xs limit (i + 1) (left - f x)
+pub room_next : {A : Type 0} (f : A → ℕ) (xs : List A) (limit i left : ℕ) (x : A) → i < length xs
+    → x ≡ get_or xs i x → f x ≤ left → LeavesRoom f xs limit i left → LeavesRoom f xs limit (i + 1) (left - f x)
 room_next f xs limit i left x lt is fits h =
     let more = sum_by-drop_more f xs i x lt in
     let same : f x ≡ f (get_or xs i x) = ap f is in
     record { room = omega (arith, h.room, more, same) }
 
-pub no_room : {A : Type 0} (f : A → ℕ) (xs : List A) (limit i left : ℕ) (x : A) → i < length xs → x ≡ get_or xs i x → left < f x → LeavesRoom f xs limit i left → false ≡ nat_le (sum_by f xs) limit
+pub no_room : {A : Type 0} (f : A → ℕ) (xs : List A) (limit i left : ℕ) (x : A) → i < length xs → x ≡ get_or xs i x
+    → left < f x → LeavesRoom f xs limit i left → false ≡ nat_le (sum_by f xs) limit
 no_room f xs limit i left x lt is over h =
     let more = sum_by-drop_more f xs i x lt in
     let same : f x ≡ f (get_or xs i x) = ap f is in
     let above : limit < sum_by f xs = omega (arith, h.room, more, same) in
     grind (arith, nat_tests, above)
 
-pub all_fit : {A : Type 0} (f : A → ℕ) (xs : List A) (limit i left : ℕ) → length xs ≤ i → LeavesRoom f xs limit i left → true ≡ nat_le (sum_by f xs) limit
+pub all_fit : {A : Type 0} (f : A → ℕ) (xs : List A) (limit i left : ℕ) → length xs ≤ i
+    → LeavesRoom f xs limit i left → true ≡ nat_le (sum_by f xs) limit
 all_fit f xs limit i left past h =
     let nil : sum_by f (drop i xs) ≡ 0 = ap (sum_by f) (drop_all i xs past) in
     let below : sum_by f xs ≤ limit = omega (arith, h.room, nil) in
@@ -45,10 +48,12 @@ pub record RisesTo (ps : List Pair) (i least : ℕ) : Type 0 where
 cut : {A : Type 0} (xs : List A) (i : ℕ) (x : A) → i < length xs → x ≡ get_or xs i x → drop i xs ≡ x ∷ drop (i + 1) xs
 cut xs i x lt is = rw (add-one) (drop-cons xs i x lt) ∙ ap (λ y. y ∷ drop (i + 1) xs) (sym is)
 
-pub rises_next : (ps : List Pair) (i least : ℕ) (p : Pair) → i < length ps → p ≡ get_or ps i p → follows least p ≡ true → RisesTo ps i least → RisesTo ps (i + 1) (p.cycle + 1)
+pub rises_next : (ps : List Pair) (i least : ℕ) (p : Pair) → i < length ps → p ≡ get_or ps i p
+    → follows least p ≡ true → RisesTo ps i least → RisesTo ps (i + 1) (p.cycle + 1)
 rises_next ps i least p lt is good h = record { same = (rw good refl) ∙ (rw (cut ps i p lt is) at h.same) }
 
-pub no_rise : (ps : List Pair) (i least : ℕ) (p : Pair) → i < length ps → p ≡ get_or ps i p → follows least p ≡ false → RisesTo ps i least → false ≡ rise_from 0 ps
+pub no_rise : (ps : List Pair) (i least : ℕ) (p : Pair) → i < length ps → p ≡ get_or ps i p
+    → follows least p ≡ false → RisesTo ps i least → false ≡ rise_from 0 ps
 no_rise ps i least p lt is bad h = (rw bad refl) ∙ (rw (cut ps i p lt is) at h.same)
 
 pub all_rise : (ps : List Pair) (i least : ℕ) → length ps ≤ i → RisesTo ps i least → true ≡ rise_from 0 ps
@@ -61,7 +66,8 @@ pub record IsTreeTo (ls : List TreeLine) (i needs : ℕ) : Type 0 where
   pub same : are_trees needs (map line_of (drop i ls)) ≡ are_trees 1 (map line_of ls)
   pub few : needs ≤ i + 1
 
-branch_step : (n : ℕ) (line : TreeLine) (ls : List Line) → is_branch line ≡ true → are_trees (suc n) (line_of line ∷ ls) ≡ are_trees (suc (suc n)) ls
+branch_step : (n : ℕ) (line : TreeLine) (ls : List Line) → is_branch line ≡ true
+    → are_trees (suc n) (line_of line ∷ ls) ≡ are_trees (suc (suc n)) ls
 branch_step n (Slack row k) ls h = refl
 branch_step n (Offset cycle k) ls h = refl
 branch_step n (Bound ps) ls h = absurd cc
@@ -77,19 +83,30 @@ leaf_step n (Nothing ps) ls h = refl
 leaf_step n (Gap cycle) ls h = refl
 leaf_step n Propagated ls h = refl
 
-pub tree_branch : (ls : List TreeLine) (i needs : ℕ) (line : TreeLine) → i < length ls → line ≡ get_or ls i line → 0 < needs → is_branch line ≡ true → IsTreeTo ls i needs → IsTreeTo ls (i + 1) (needs + 1)
+pub tree_branch : (ls : List TreeLine) (i needs : ℕ) (line : TreeLine) → i < length ls → line ≡ get_or ls i line
+    → 0 < needs → is_branch line ≡ true → IsTreeTo ls i needs → IsTreeTo ls (i + 1) (needs + 1)
 tree_branch ls i zero line lt is some h t = absurd (omega arith)
 tree_branch ls i (suc n) line lt is some h t =
     let e : suc n + 1 ≡ suc (suc n) = omega arith in
-    record { same = rw e (sym (branch_step n line (map line_of (drop (i + 1) ls)) h) ∙ (rw (cut ls i line lt is) at t.same)); few = omega (arith, t.few) }
+    record {
+      same = rw e (sym (branch_step n line (map line_of (drop (i + 1) ls)) h)
+          ∙ (rw (cut ls i line lt is) at t.same));
+      few = omega (arith, t.few);
+    }
 
-pub tree_leaf : (ls : List TreeLine) (i needs : ℕ) (line : TreeLine) → i < length ls → line ≡ get_or ls i line → 0 < needs → is_branch line ≡ false → IsTreeTo ls i needs → IsTreeTo ls (i + 1) (needs - 1)
+pub tree_leaf : (ls : List TreeLine) (i needs : ℕ) (line : TreeLine) → i < length ls → line ≡ get_or ls i line
+    → 0 < needs → is_branch line ≡ false → IsTreeTo ls i needs → IsTreeTo ls (i + 1) (needs - 1)
 tree_leaf ls i zero line lt is some h t = absurd (omega arith)
 tree_leaf ls i (suc n) line lt is some h t =
     let e : suc n - 1 ≡ n = omega arith in
-    record { same = rw e (sym (leaf_step n line (map line_of (drop (i + 1) ls)) h) ∙ (rw (cut ls i line lt is) at t.same)); few = omega (arith, t.few) }
+    record {
+      same = rw e (sym (leaf_step n line (map line_of (drop (i + 1) ls)) h)
+          ∙ (rw (cut ls i line lt is) at t.same));
+      few = omega (arith, t.few);
+    }
 
-pub no_tree : (ls : List TreeLine) (i needs : ℕ) (line : TreeLine) → i < length ls → line ≡ get_or ls i line → needs ≡ 0 → IsTreeTo ls i needs → false ≡ are_trees 1 (map line_of ls)
+pub no_tree : (ls : List TreeLine) (i needs : ℕ) (line : TreeLine) → i < length ls → line ≡ get_or ls i line
+    → needs ≡ 0 → IsTreeTo ls i needs → false ≡ are_trees 1 (map line_of ls)
 no_tree ls i needs line lt is none t = rw (none, cut ls i line lt is) at t.same
 
 pub all_tree : (ls : List TreeLine) (i needs : ℕ) → length ls ≤ i → IsTreeTo ls i needs → (needs == 0) ≡ are_trees 1 (map line_of ls)

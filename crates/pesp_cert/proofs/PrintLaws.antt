@@ -38,17 +38,20 @@ whole_shape h p a t c r e = simp append_assoc
 
 pairs_are : (ps : List Pair) → spaced (pair_words ps) ≡ pairs_text ps
 pairs_are [] = refl
-pairs_are (p ∷ ps) = pair_shape (decimal p.cycle) (signed_decimal p.mult) (spaced (pair_words ps)) ∙ ap (λ (t : List ℕ). pair_text p ++ t) (pairs_are ps) ∙ sym (flat_map-cons pair_text p ps)
+pairs_are (p ∷ ps) = pair_shape (decimal p.cycle) (signed_decimal p.mult) (spaced (pair_words ps))
+    ∙ ap (λ (t : List ℕ). pair_text p ++ t) (pairs_are ps) ∙ sym (flat_map-cons pair_text p ps)
 
 rows_are : (rs : List SignedRow) → spaced (row_words rs) ≡ rows_text rs
 rows_are [] = refl
 rows_are (r ∷ rs) = go r.plus ∙ ap (λ (t : List ℕ). row_text r ++ t) (rows_are rs) ∙ sym (flat_map-cons row_text r rs)
   where
-    go : (plus : Bool) → spaced (row_words (record { row = r.row; plus = plus } ∷ rs)) ≡ row_text (record { row = r.row; plus = plus }) ++ spaced (row_words rs)
+    go : (plus : Bool) → spaced (row_words (record { row = r.row; plus = plus } ∷ rs))
+        ≡ row_text (record { row = r.row; plus = plus }) ++ spaced (row_words rs)
     go true = refl
     go false = refl
 
-two_lines : (v w sp a b lf : List ℕ) → ((v ++ ((sp ++ a) ++ [])) ++ lf) ++ ((w ++ ((sp ++ b) ++ [])) ++ lf) ≡ ((((v ++ sp) ++ a) ++ (lf ++ (w ++ sp))) ++ b) ++ lf
+two_lines : (v w sp a b lf : List ℕ) → ((v ++ ((sp ++ a) ++ [])) ++ lf) ++ ((w ++ ((sp ++ b) ++ [])) ++ lf)
+    ≡ ((((v ++ sp) ++ a) ++ (lf ++ (w ++ sp))) ++ b) ++ lf
 two_lines v w sp a b lf = simp (append_assoc, append-nil)
 
 head_is : (version n : ℕ) → item_line (Version version) ++ item_line (Period n) ≡ head_lines version n
@@ -74,18 +77,40 @@ tree_is (lines.Nothing ps) = ap (λ (t : List ℕ). (codes "n" ++ t) ++ 10 ∷ [
 tree_is (lines.Gap cycle) = one_word (codes "g") (decimal cycle)
 tree_is lines.Propagated = refl
 
-pub mapped : {A : Type 0} (f : A → Item) (g : A → List ℕ) → ((x : A) → item_line (f x) ≡ g x) → (xs : List A) → flat_map item_line (map f xs) ≡ flat_map g xs
+pub mapped : {A : Type 0} (f : A → Item) (g : A → List ℕ) → ((x : A) → item_line (f x) ≡ g x) → (xs : List A)
+    → flat_map item_line (map f xs) ≡ flat_map g xs
 mapped f g same [] = refl
-mapped f g same (x ∷ xs) = flat_map-cons item_line (f x) (map f xs) ∙ ap (λ (t : List ℕ). t ++ flat_map item_line (map f xs)) (same x) ∙ ap (λ (t : List ℕ). g x ++ t) (mapped f g same xs) ∙ sym (flat_map-cons g x xs)
+mapped f g same (x ∷ xs) = flat_map-cons item_line (f x) (map f xs)
+    ∙ ap (λ (t : List ℕ). t ++ flat_map item_line (map f xs)) (same x)
+    ∙ ap (λ (t : List ℕ). g x ++ t) (mapped f g same xs) ∙ sym (flat_map-cons g x xs)
 
 pub certificate_is : (c : Content) → certificate_text c ≡ spelling c
 certificate_is c =
     let ts = map time_item c.times in
     let cs = map Cycle c.cycles in
     let others : List Item = ((ts ++ cs) ++ map tree_item c.tree) ++ End ∷ [] in
-    let rest : flat_map item_line others ≡ ((flat_map time_line c.times ++ flat_map cycle_line c.cycles) ++ flat_map tree_line c.tree) ++ codes "end\n" =
-    rw (flat_map-append item_line ((ts ++ cs) ++ map tree_item c.tree) (End ∷ []), flat_map-append item_line (ts ++ cs) (map tree_item c.tree), flat_map-append item_line ts cs, mapped time_item time_line time_is c.times, mapped Cycle cycle_line cycle_is c.cycles, mapped tree_item tree_line tree_is c.tree) refl in
+    let rest : flat_map item_line others ≡ ((flat_map time_line c.times ++ flat_map cycle_line c.cycles)
+    ++ flat_map tree_line c.tree) ++ codes "end\n" =
+    rw (
+      flat_map-append item_line ((ts ++ cs) ++ map tree_item c.tree) (End ∷ []),
+      flat_map-append item_line (ts ++ cs) (map tree_item c.tree),
+      flat_map-append item_line ts cs,
+      mapped time_item time_line time_is c.times,
+      mapped Cycle cycle_line cycle_is c.cycles,
+      mapped tree_item tree_line tree_is c.tree,
+    ) refl in
     let first : List ℕ = item_line (Version c.version) in
-    let all : spelling c ≡ first ++ (item_line (Period c.period) ++ (answer_line c.answer ++ (((flat_map time_line c.times ++ flat_map cycle_line c.cycles) ++ flat_map tree_line c.tree) ++ codes "end\n"))) =
-    flat_map-cons item_line (Version c.version) (Period c.period ∷ Says c.answer ∷ others) ∙ ap (λ (t : List ℕ). first ++ t) (flat_map-cons item_line (Period c.period) (Says c.answer ∷ others) ∙ ap (λ (t : List ℕ). item_line (Period c.period) ++ t) (flat_map-cons item_line (Says c.answer) others ∙ ap (λ (t : List ℕ). t ++ flat_map item_line others) (answer_is c.answer) ∙ ap (λ (t : List ℕ). answer_line c.answer ++ t) rest)) in
-    sym (all ∙ whole_shape first (item_line (Period c.period)) (answer_line c.answer) (flat_map time_line c.times) (flat_map cycle_line c.cycles) (flat_map tree_line c.tree) (codes "end\n") ∙ ap (λ (h : List ℕ). ((((h ++ answer_line c.answer) ++ flat_map time_line c.times) ++ flat_map cycle_line c.cycles) ++ flat_map tree_line c.tree) ++ codes "end\n") (head_is c.version c.period))
+    let all : spelling c ≡ first ++ (item_line (Period c.period)
+    ++ (answer_line c.answer ++ (((flat_map time_line c.times ++ flat_map cycle_line c.cycles)
+    ++ flat_map tree_line c.tree) ++ codes "end\n"))) =
+    flat_map-cons item_line (Version c.version) (Period c.period ∷ Says c.answer ∷ others)
+    ∙ ap (λ (t : List ℕ). first ++ t) (flat_map-cons item_line (Period c.period) (Says c.answer ∷ others)
+    ∙ ap (λ (t : List ℕ). item_line (Period c.period) ++ t)
+    (flat_map-cons item_line (Says c.answer) others
+    ∙ ap (λ (t : List ℕ). t ++ flat_map item_line others) (answer_is c.answer)
+    ∙ ap (λ (t : List ℕ). answer_line c.answer ++ t) rest)) in
+    sym (all ∙ whole_shape first (item_line (Period c.period)) (answer_line c.answer) (flat_map time_line c.times)
+    (flat_map cycle_line c.cycles) (flat_map tree_line c.tree) (codes "end\n")
+    ∙ ap (λ (h : List ℕ). ((((h ++ answer_line c.answer) ++ flat_map time_line c.times)
+    ++ flat_map cycle_line c.cycles) ++ flat_map tree_line c.tree) ++ codes "end\n")
+    (head_is c.version c.period))

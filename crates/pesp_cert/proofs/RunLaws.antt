@@ -26,7 +26,9 @@ in_tree Propagated = true
 in_tree End = true
 in_tree _ = false
 
-tree_allowed : (b : Bool) (version : ℕ) (item : Item) → cond b (is_end_kind (kind_in item)) (may_follow places.Tree (kind_in item) && has_kind version (kind_in item)) ≡ true → in_tree item ≡ true
+tree_allowed : (b : Bool) (version : ℕ) (item : Item)
+    → cond b (is_end_kind (kind_in item)) (may_follow places.Tree (kind_in item)
+    && has_kind version (kind_in item)) ≡ true → in_tree item ≡ true
 tree_allowed b version (Slack row k) h = refl
 tree_allowed b version (Offset cycle k) h = refl
 tree_allowed b version (Bound ps) h = refl
@@ -57,7 +59,9 @@ first p item (next ∷ more) run = run.0
 
 other : (p : Progress) (item : Item) → p.place ≡ places.Tree → CanStand p item → in_tree item ≡ false → ⊥
 other p item at can not =
-    let allowed : cond (p.needs == 0) (is_end_kind (kind_in item)) (may_follow places.Tree (kind_in item) && has_kind p.version (kind_in item)) ≡ true = rw at at can.allowed in
+    let allowed : cond (p.needs == 0) (is_end_kind (kind_in item))
+    (may_follow places.Tree (kind_in item) && has_kind p.version (kind_in item))
+    ≡ true = rw at at can.allowed in
     let is = tree_allowed (p.needs == 0) p.version item allowed in
     cc
 
@@ -69,12 +73,18 @@ tree_run p (Bound ps ∷ []) at run = absurd cc
 tree_run p (Nothing ps ∷ []) at run = absurd cc
 tree_run p (Gap cycle ∷ []) at run = absurd cc
 tree_run p (Propagated ∷ []) at run = absurd cc
-tree_run p (Slack row k ∷ next ∷ more) at run = tree_more (lines.Slack row k) (next ∷ more) (tree_run (after p (Slack row k)) (next ∷ more) refl run.2)
-tree_run p (Offset cycle k ∷ next ∷ more) at run = tree_more (lines.Offset cycle k) (next ∷ more) (tree_run (after p (Offset cycle k)) (next ∷ more) refl run.2)
-tree_run p (Bound ps ∷ next ∷ more) at run = tree_more (lines.Bound ps) (next ∷ more) (tree_run (after p (Bound ps)) (next ∷ more) refl run.2)
-tree_run p (Nothing ps ∷ next ∷ more) at run = tree_more (lines.Nothing ps) (next ∷ more) (tree_run (after p (Nothing ps)) (next ∷ more) refl run.2)
-tree_run p (Gap cycle ∷ next ∷ more) at run = tree_more (lines.Gap cycle) (next ∷ more) (tree_run (after p (Gap cycle)) (next ∷ more) refl run.2)
-tree_run p (Propagated ∷ next ∷ more) at run = tree_more lines.Propagated (next ∷ more) (tree_run (after p Propagated) (next ∷ more) refl run.2)
+tree_run p (Slack row k ∷ next ∷ more) at run =
+    tree_more (lines.Slack row k) (next ∷ more) (tree_run (after p (Slack row k)) (next ∷ more) refl run.2)
+tree_run p (Offset cycle k ∷ next ∷ more) at run =
+    tree_more (lines.Offset cycle k) (next ∷ more) (tree_run (after p (Offset cycle k)) (next ∷ more) refl run.2)
+tree_run p (Bound ps ∷ next ∷ more) at run = tree_more (lines.Bound ps) (next ∷ more)
+    (tree_run (after p (Bound ps)) (next ∷ more) refl run.2)
+tree_run p (Nothing ps ∷ next ∷ more) at run =
+    tree_more (lines.Nothing ps) (next ∷ more) (tree_run (after p (Nothing ps)) (next ∷ more) refl run.2)
+tree_run p (Gap cycle ∷ next ∷ more) at run = tree_more (lines.Gap cycle) (next ∷ more)
+    (tree_run (after p (Gap cycle)) (next ∷ more) refl run.2)
+tree_run p (Propagated ∷ next ∷ more) at run =
+    tree_more lines.Propagated (next ∷ more) (tree_run (after p Propagated) (next ∷ more) refl run.2)
 tree_run p (End ∷ []) at run = ([], refl)
 tree_run p (End ∷ next ∷ more) at run = absurd cc
 tree_run p (Period n ∷ more) at run = absurd (other p (Period n) at (first p (Period n) more run) refl)
@@ -85,8 +95,10 @@ tree_run p (Cycle rs ∷ more) at run = absurd (other p (Cycle rs) at (first p (
 
 -- ---- before the tree
 
-follows : (p : Progress) (place : Place) (item : Item) → p.place ≡ place → p.needs ≡ 1 → CanStand p item → may_follow place (kind_in item) ≡ true
-follows p place item at needs can = and_left (may_follow place (kind_in item)) (has_kind p.version (kind_in item)) (rw (needs, at) at can.allowed)
+follows : (p : Progress) (place : Place) (item : Item) → p.place ≡ place → p.needs ≡ 1 → CanStand p item
+    → may_follow place (kind_in item) ≡ true
+follows p place item at needs can = and_left (may_follow place (kind_in item)) (has_kind p.version (kind_in item))
+    (rw (needs, at) at can.allowed)
 
 abbrev CycleItems : List Item → Type 0
 CycleItems items = (cs : List (List SignedRow)) × (ls : List TreeLine) × (items ≡ map Cycle cs ++ (map tree_item ls ++ End ∷ []))
@@ -100,27 +112,42 @@ cycles_none items t = ([], t.0, t.1)
 cycle_run : (p : Progress) (items : List Item) → p.place ≡ places.Cycles → p.needs ≡ 1 → IsRun p items → CycleItems items
 cycle_run p [] at needs run = absurd run
 cycle_run p (Cycle rs ∷ []) at needs run = absurd cc
-cycle_run p (Cycle rs ∷ next ∷ more) at needs run = cycle_more rs (next ∷ more) (cycle_run (after p (Cycle rs)) (next ∷ more) refl needs run.2)
+cycle_run p (Cycle rs ∷ next ∷ more) at needs run =
+    cycle_more rs (next ∷ more) (cycle_run (after p (Cycle rs)) (next ∷ more) refl needs run.2)
 cycle_run p (Slack row k ∷ []) at needs run = absurd cc
 cycle_run p (Offset cycle k ∷ []) at needs run = absurd cc
 cycle_run p (Bound ps ∷ []) at needs run = absurd cc
 cycle_run p (Nothing ps ∷ []) at needs run = absurd cc
 cycle_run p (Gap cycle ∷ []) at needs run = absurd cc
 cycle_run p (Propagated ∷ []) at needs run = absurd cc
-cycle_run p (Slack row k ∷ next ∷ more) at needs run = cycles_none (Slack row k ∷ next ∷ more) (tree_more (lines.Slack row k) (next ∷ more) (tree_run (after p (Slack row k)) (next ∷ more) refl run.2))
-cycle_run p (Offset cycle k ∷ next ∷ more) at needs run = cycles_none (Offset cycle k ∷ next ∷ more) (tree_more (lines.Offset cycle k) (next ∷ more) (tree_run (after p (Offset cycle k)) (next ∷ more) refl run.2))
-cycle_run p (Bound ps ∷ next ∷ more) at needs run = cycles_none (Bound ps ∷ next ∷ more) (tree_more (lines.Bound ps) (next ∷ more) (tree_run (after p (Bound ps)) (next ∷ more) refl run.2))
-cycle_run p (Nothing ps ∷ next ∷ more) at needs run = cycles_none (Nothing ps ∷ next ∷ more) (tree_more (lines.Nothing ps) (next ∷ more) (tree_run (after p (Nothing ps)) (next ∷ more) refl run.2))
-cycle_run p (Gap cycle ∷ next ∷ more) at needs run = cycles_none (Gap cycle ∷ next ∷ more) (tree_more (lines.Gap cycle) (next ∷ more) (tree_run (after p (Gap cycle)) (next ∷ more) refl run.2))
-cycle_run p (Propagated ∷ next ∷ more) at needs run = cycles_none (Propagated ∷ next ∷ more) (tree_more lines.Propagated (next ∷ more) (tree_run (after p Propagated) (next ∷ more) refl run.2))
+cycle_run p (Slack row k ∷ next ∷ more) at needs run =
+    cycles_none (Slack row k ∷ next ∷ more) (tree_more (lines.Slack row k) (next ∷ more)
+    (tree_run (after p (Slack row k)) (next ∷ more) refl run.2))
+cycle_run p (Offset cycle k ∷ next ∷ more) at needs run =
+    cycles_none (Offset cycle k ∷ next ∷ more) (tree_more (lines.Offset cycle k) (next ∷ more)
+    (tree_run (after p (Offset cycle k)) (next ∷ more) refl run.2))
+cycle_run p (Bound ps ∷ next ∷ more) at needs run =
+    cycles_none (Bound ps ∷ next ∷ more) (tree_more (lines.Bound ps) (next ∷ more)
+    (tree_run (after p (Bound ps)) (next ∷ more) refl run.2))
+cycle_run p (Nothing ps ∷ next ∷ more) at needs run =
+    cycles_none (Nothing ps ∷ next ∷ more) (tree_more (lines.Nothing ps) (next ∷ more)
+    (tree_run (after p (Nothing ps)) (next ∷ more) refl run.2))
+cycle_run p (Gap cycle ∷ next ∷ more) at needs run =
+    cycles_none (Gap cycle ∷ next ∷ more) (tree_more (lines.Gap cycle) (next ∷ more)
+    (tree_run (after p (Gap cycle)) (next ∷ more) refl run.2))
+cycle_run p (Propagated ∷ next ∷ more) at needs run =
+    cycles_none (Propagated ∷ next ∷ more) (tree_more lines.Propagated (next ∷ more)
+    (tree_run (after p Propagated) (next ∷ more) refl run.2))
 cycle_run p (End ∷ more) at needs run = let h = follows p places.Cycles End at needs (first p End more run) in absurd cc
 cycle_run p (Period n ∷ more) at needs run = let h = follows p places.Cycles (Period n) at needs (first p (Period n) more run) in absurd cc
-cycle_run p (Version n ∷ more) at needs run = let h = follows p places.Cycles (Version n) at needs (first p (Version n) more run) in absurd cc
+cycle_run p (Version n ∷ more) at needs run = let h =
+    follows p places.Cycles (Version n) at needs (first p (Version n) more run) in absurd cc
 cycle_run p (Says a ∷ more) at needs run = let h = follows p places.Cycles (Says a) at needs (first p (Says a) more run) in absurd cc
 cycle_run p (Time l t ∷ more) at needs run = let h = follows p places.Cycles (Time l t) at needs (first p (Time l t) more run) in absurd cc
 
 abbrev pub TimeItems : List Item → Type 0
-TimeItems items = (ts : List (ℤ × ℕ)) × (cs : List (List SignedRow)) × (ls : List TreeLine) × (items ≡ map time_item ts ++ (map Cycle cs ++ (map tree_item ls ++ End ∷ [])))
+TimeItems items = (ts : List (ℤ × ℕ)) × (cs : List (List SignedRow)) × (ls : List TreeLine)
+    × (items ≡ map time_item ts ++ (map Cycle cs ++ (map tree_item ls ++ End ∷ [])))
 
 time_more : (l : ℤ) (t : ℕ) (items : List Item) → TimeItems items → TimeItems (Time l t ∷ items)
 time_more l t items h = ((l, t) ∷ h.0, h.1, h.2, ap (λ (is : List Item). Time l t ∷ is) h.3)
@@ -133,19 +160,33 @@ time_run p [] at needs run = absurd run
 time_run p (Time l t ∷ []) at needs run = absurd cc
 time_run p (Time l t ∷ next ∷ more) at needs run = time_more l t (next ∷ more) (time_run (after p (Time l t)) (next ∷ more) at needs run.2)
 time_run p (Cycle rs ∷ []) at needs run = absurd cc
-time_run p (Cycle rs ∷ next ∷ more) at needs run = times_none (Cycle rs ∷ next ∷ more) (cycle_more rs (next ∷ more) (cycle_run (after p (Cycle rs)) (next ∷ more) refl needs run.2))
+time_run p (Cycle rs ∷ next ∷ more) at needs run =
+    times_none (Cycle rs ∷ next ∷ more) (cycle_more rs (next ∷ more)
+    (cycle_run (after p (Cycle rs)) (next ∷ more) refl needs run.2))
 time_run p (Slack row k ∷ []) at needs run = absurd cc
 time_run p (Offset cycle k ∷ []) at needs run = absurd cc
 time_run p (Bound ps ∷ []) at needs run = absurd cc
 time_run p (Nothing ps ∷ []) at needs run = absurd cc
 time_run p (Gap cycle ∷ []) at needs run = absurd cc
 time_run p (Propagated ∷ []) at needs run = absurd cc
-time_run p (Slack row k ∷ next ∷ more) at needs run = times_none (Slack row k ∷ next ∷ more) (cycles_none (Slack row k ∷ next ∷ more) (tree_more (lines.Slack row k) (next ∷ more) (tree_run (after p (Slack row k)) (next ∷ more) refl run.2)))
-time_run p (Offset cycle k ∷ next ∷ more) at needs run = times_none (Offset cycle k ∷ next ∷ more) (cycles_none (Offset cycle k ∷ next ∷ more) (tree_more (lines.Offset cycle k) (next ∷ more) (tree_run (after p (Offset cycle k)) (next ∷ more) refl run.2)))
-time_run p (Bound ps ∷ next ∷ more) at needs run = times_none (Bound ps ∷ next ∷ more) (cycles_none (Bound ps ∷ next ∷ more) (tree_more (lines.Bound ps) (next ∷ more) (tree_run (after p (Bound ps)) (next ∷ more) refl run.2)))
-time_run p (Nothing ps ∷ next ∷ more) at needs run = times_none (Nothing ps ∷ next ∷ more) (cycles_none (Nothing ps ∷ next ∷ more) (tree_more (lines.Nothing ps) (next ∷ more) (tree_run (after p (Nothing ps)) (next ∷ more) refl run.2)))
-time_run p (Gap cycle ∷ next ∷ more) at needs run = times_none (Gap cycle ∷ next ∷ more) (cycles_none (Gap cycle ∷ next ∷ more) (tree_more (lines.Gap cycle) (next ∷ more) (tree_run (after p (Gap cycle)) (next ∷ more) refl run.2)))
-time_run p (Propagated ∷ next ∷ more) at needs run = times_none (Propagated ∷ next ∷ more) (cycles_none (Propagated ∷ next ∷ more) (tree_more lines.Propagated (next ∷ more) (tree_run (after p Propagated) (next ∷ more) refl run.2)))
+time_run p (Slack row k ∷ next ∷ more) at needs run =
+    times_none (Slack row k ∷ next ∷ more) (cycles_none (Slack row k ∷ next ∷ more)
+    (tree_more (lines.Slack row k) (next ∷ more) (tree_run (after p (Slack row k)) (next ∷ more) refl run.2)))
+time_run p (Offset cycle k ∷ next ∷ more) at needs run =
+    times_none (Offset cycle k ∷ next ∷ more) (cycles_none (Offset cycle k ∷ next ∷ more)
+    (tree_more (lines.Offset cycle k) (next ∷ more) (tree_run (after p (Offset cycle k)) (next ∷ more) refl run.2)))
+time_run p (Bound ps ∷ next ∷ more) at needs run =
+    times_none (Bound ps ∷ next ∷ more) (cycles_none (Bound ps ∷ next ∷ more)
+    (tree_more (lines.Bound ps) (next ∷ more) (tree_run (after p (Bound ps)) (next ∷ more) refl run.2)))
+time_run p (Nothing ps ∷ next ∷ more) at needs run =
+    times_none (Nothing ps ∷ next ∷ more) (cycles_none (Nothing ps ∷ next ∷ more)
+    (tree_more (lines.Nothing ps) (next ∷ more) (tree_run (after p (Nothing ps)) (next ∷ more) refl run.2)))
+time_run p (Gap cycle ∷ next ∷ more) at needs run =
+    times_none (Gap cycle ∷ next ∷ more) (cycles_none (Gap cycle ∷ next ∷ more)
+    (tree_more (lines.Gap cycle) (next ∷ more) (tree_run (after p (Gap cycle)) (next ∷ more) refl run.2)))
+time_run p (Propagated ∷ next ∷ more) at needs run =
+    times_none (Propagated ∷ next ∷ more) (cycles_none (Propagated ∷ next ∷ more)
+    (tree_more lines.Propagated (next ∷ more) (tree_run (after p Propagated) (next ∷ more) refl run.2)))
 time_run p (End ∷ more) at needs run = let h = follows p places.Times End at needs (first p End more run) in absurd cc
 time_run p (Period n ∷ more) at needs run = let h = follows p places.Times (Period n) at needs (first p (Period n) more run) in absurd cc
 time_run p (Version n ∷ more) at needs run = let h = follows p places.Times (Version n) at needs (first p (Version n) more run) in absurd cc
@@ -153,39 +194,64 @@ time_run p (Says a ∷ more) at needs run = let h = follows p places.Times (Says
 
 made : (v n : ℕ) (a : Answer) (rest : List Item) → TimeItems rest → (c : Content) × (Version v ∷ Period n ∷ Says a ∷ rest ≡ items_of c)
 made v n a rest h =
-    let shape : rest ≡ ((map time_item h.0 ++ map Cycle h.1) ++ map tree_item h.2) ++ End ∷ [] = h.3 ∙ sym (append_assoc (map time_item h.0 ++ map Cycle h.1) (map tree_item h.2) (End ∷ []) ∙ append_assoc (map time_item h.0) (map Cycle h.1) (map tree_item h.2 ++ End ∷ [])) in
-    (record { version = v; period = n; answer = a; times = h.0; cycles = h.1; tree = h.2 }, ap (λ (is : List Item). Version v ∷ Period n ∷ Says a ∷ is) shape)
+    let shape : rest ≡ ((map time_item h.0 ++ map Cycle h.1) ++ map tree_item h.2) ++ End ∷ [] = h.3
+    ∙ sym (append_assoc (map time_item h.0 ++ map Cycle h.1) (map tree_item h.2) (End ∷ [])
+    ∙ append_assoc (map time_item h.0) (map Cycle h.1) (map tree_item h.2 ++ End ∷ [])) in (
+      record { version = v; period = n; answer = a; times = h.0; cycles = h.1; tree = h.2 },
+      ap (λ (is : List Item). Version v ∷ Period n ∷ Says a ∷ is) shape,
+    )
 
-answer_run : (p : Progress) (v n : ℕ) (items : List Item) → p.place ≡ places.Period → p.needs ≡ 1 → IsRun p items → (c : Content) × (Version v ∷ Period n ∷ items ≡ items_of c)
+answer_run : (p : Progress) (v n : ℕ) (items : List Item) → p.place ≡ places.Period → p.needs ≡ 1 → IsRun p items
+    → (c : Content) × (Version v ∷ Period n ∷ items ≡ items_of c)
 answer_run p v n [] at needs run = absurd run
 answer_run p v n (Says a ∷ []) at needs run = absurd cc
 answer_run p v n (Says a ∷ next ∷ more) at needs run = made v n a (next ∷ more) (time_run (after p (Says a)) (next ∷ more) refl needs run.2)
-answer_run p v n (Period m ∷ more) at needs run = let h = follows p places.Period (Period m) at needs (first p (Period m) more run) in absurd cc
-answer_run p v n (Version m ∷ more) at needs run = let h = follows p places.Period (Version m) at needs (first p (Version m) more run) in absurd cc
-answer_run p v n (Time l t ∷ more) at needs run = let h = follows p places.Period (Time l t) at needs (first p (Time l t) more run) in absurd cc
-answer_run p v n (Cycle rs ∷ more) at needs run = let h = follows p places.Period (Cycle rs) at needs (first p (Cycle rs) more run) in absurd cc
-answer_run p v n (Slack row k ∷ more) at needs run = let h = follows p places.Period (Slack row k) at needs (first p (Slack row k) more run) in absurd cc
-answer_run p v n (Offset cycle k ∷ more) at needs run = let h = follows p places.Period (Offset cycle k) at needs (first p (Offset cycle k) more run) in absurd cc
-answer_run p v n (Bound ps ∷ more) at needs run = let h = follows p places.Period (Bound ps) at needs (first p (Bound ps) more run) in absurd cc
-answer_run p v n (Nothing ps ∷ more) at needs run = let h = follows p places.Period (Nothing ps) at needs (first p (Nothing ps) more run) in absurd cc
-answer_run p v n (Gap cycle ∷ more) at needs run = let h = follows p places.Period (Gap cycle) at needs (first p (Gap cycle) more run) in absurd cc
-answer_run p v n (Propagated ∷ more) at needs run = let h = follows p places.Period Propagated at needs (first p Propagated more run) in absurd cc
+answer_run p v n (Period m ∷ more) at needs run = let h =
+    follows p places.Period (Period m) at needs (first p (Period m) more run) in absurd cc
+answer_run p v n (Version m ∷ more) at needs run = let h =
+    follows p places.Period (Version m) at needs (first p (Version m) more run) in absurd cc
+answer_run p v n (Time l t ∷ more) at needs run = let h =
+    follows p places.Period (Time l t) at needs (first p (Time l t) more run) in absurd cc
+answer_run p v n (Cycle rs ∷ more) at needs run = let h =
+    follows p places.Period (Cycle rs) at needs (first p (Cycle rs) more run) in absurd cc
+answer_run p v n (Slack row k ∷ more) at needs run = let h =
+    follows p places.Period (Slack row k) at needs (first p (Slack row k) more run) in absurd cc
+answer_run p v n (Offset cycle k ∷ more) at needs run = let h =
+    follows p places.Period (Offset cycle k) at needs (first p (Offset cycle k) more run) in absurd cc
+answer_run p v n (Bound ps ∷ more) at needs run = let h =
+    follows p places.Period (Bound ps) at needs (first p (Bound ps) more run) in absurd cc
+answer_run p v n (Nothing ps ∷ more) at needs run = let h =
+    follows p places.Period (Nothing ps) at needs (first p (Nothing ps) more run) in absurd cc
+answer_run p v n (Gap cycle ∷ more) at needs run = let h =
+    follows p places.Period (Gap cycle) at needs (first p (Gap cycle) more run) in absurd cc
+answer_run p v n (Propagated ∷ more) at needs run = let h =
+    follows p places.Period Propagated at needs (first p Propagated more run) in absurd cc
 answer_run p v n (End ∷ more) at needs run = let h = follows p places.Period End at needs (first p End more run) in absurd cc
 
-period_run : (p : Progress) (v : ℕ) (items : List Item) → p.place ≡ places.Header → p.needs ≡ 1 → IsRun p items → (c : Content) × (Version v ∷ items ≡ items_of c)
+period_run : (p : Progress) (v : ℕ) (items : List Item) → p.place ≡ places.Header → p.needs ≡ 1 → IsRun p items
+    → (c : Content) × (Version v ∷ items ≡ items_of c)
 period_run p v [] at needs run = absurd run
 period_run p v (Period n ∷ []) at needs run = absurd cc
 period_run p v (Period n ∷ next ∷ more) at needs run = answer_run (after p (Period n)) v n (next ∷ more) refl needs run.2
-period_run p v (Version m ∷ more) at needs run = let h = follows p places.Header (Version m) at needs (first p (Version m) more run) in absurd cc
+period_run p v (Version m ∷ more) at needs run = let h =
+    follows p places.Header (Version m) at needs (first p (Version m) more run) in absurd cc
 period_run p v (Says a ∷ more) at needs run = let h = follows p places.Header (Says a) at needs (first p (Says a) more run) in absurd cc
-period_run p v (Time l t ∷ more) at needs run = let h = follows p places.Header (Time l t) at needs (first p (Time l t) more run) in absurd cc
-period_run p v (Cycle rs ∷ more) at needs run = let h = follows p places.Header (Cycle rs) at needs (first p (Cycle rs) more run) in absurd cc
-period_run p v (Slack row k ∷ more) at needs run = let h = follows p places.Header (Slack row k) at needs (first p (Slack row k) more run) in absurd cc
-period_run p v (Offset cycle k ∷ more) at needs run = let h = follows p places.Header (Offset cycle k) at needs (first p (Offset cycle k) more run) in absurd cc
-period_run p v (Bound ps ∷ more) at needs run = let h = follows p places.Header (Bound ps) at needs (first p (Bound ps) more run) in absurd cc
-period_run p v (Nothing ps ∷ more) at needs run = let h = follows p places.Header (Nothing ps) at needs (first p (Nothing ps) more run) in absurd cc
-period_run p v (Gap cycle ∷ more) at needs run = let h = follows p places.Header (Gap cycle) at needs (first p (Gap cycle) more run) in absurd cc
-period_run p v (Propagated ∷ more) at needs run = let h = follows p places.Header Propagated at needs (first p Propagated more run) in absurd cc
+period_run p v (Time l t ∷ more) at needs run = let h =
+    follows p places.Header (Time l t) at needs (first p (Time l t) more run) in absurd cc
+period_run p v (Cycle rs ∷ more) at needs run = let h =
+    follows p places.Header (Cycle rs) at needs (first p (Cycle rs) more run) in absurd cc
+period_run p v (Slack row k ∷ more) at needs run = let h =
+    follows p places.Header (Slack row k) at needs (first p (Slack row k) more run) in absurd cc
+period_run p v (Offset cycle k ∷ more) at needs run = let h =
+    follows p places.Header (Offset cycle k) at needs (first p (Offset cycle k) more run) in absurd cc
+period_run p v (Bound ps ∷ more) at needs run = let h =
+    follows p places.Header (Bound ps) at needs (first p (Bound ps) more run) in absurd cc
+period_run p v (Nothing ps ∷ more) at needs run = let h =
+    follows p places.Header (Nothing ps) at needs (first p (Nothing ps) more run) in absurd cc
+period_run p v (Gap cycle ∷ more) at needs run = let h =
+    follows p places.Header (Gap cycle) at needs (first p (Gap cycle) more run) in absurd cc
+period_run p v (Propagated ∷ more) at needs run = let h =
+    follows p places.Header Propagated at needs (first p Propagated more run) in absurd cc
 period_run p v (End ∷ more) at needs run = let h = follows p places.Header End at needs (first p End more run) in absurd cc
 
 -- each run is that of a content
@@ -193,14 +259,24 @@ pub run_content : (items : List Item) → IsRun beginning items → (c : Content
 run_content [] run = absurd run
 run_content (Version v ∷ []) run = absurd cc
 run_content (Version v ∷ next ∷ more) run = period_run (after beginning (Version v)) v (next ∷ more) refl refl run.2
-run_content (Period n ∷ more) run = let h = follows beginning places.Front (Period n) refl refl (first beginning (Period n) more run) in absurd cc
+run_content (Period n ∷ more) run = let h = follows beginning places.Front (Period n) refl refl
+    (first beginning (Period n) more run) in absurd cc
 run_content (Says a ∷ more) run = let h = follows beginning places.Front (Says a) refl refl (first beginning (Says a) more run) in absurd cc
-run_content (Time l t ∷ more) run = let h = follows beginning places.Front (Time l t) refl refl (first beginning (Time l t) more run) in absurd cc
-run_content (Cycle rs ∷ more) run = let h = follows beginning places.Front (Cycle rs) refl refl (first beginning (Cycle rs) more run) in absurd cc
-run_content (Slack row k ∷ more) run = let h = follows beginning places.Front (Slack row k) refl refl (first beginning (Slack row k) more run) in absurd cc
-run_content (Offset cycle k ∷ more) run = let h = follows beginning places.Front (Offset cycle k) refl refl (first beginning (Offset cycle k) more run) in absurd cc
-run_content (Bound ps ∷ more) run = let h = follows beginning places.Front (Bound ps) refl refl (first beginning (Bound ps) more run) in absurd cc
-run_content (Nothing ps ∷ more) run = let h = follows beginning places.Front (Nothing ps) refl refl (first beginning (Nothing ps) more run) in absurd cc
-run_content (Gap cycle ∷ more) run = let h = follows beginning places.Front (Gap cycle) refl refl (first beginning (Gap cycle) more run) in absurd cc
-run_content (Propagated ∷ more) run = let h = follows beginning places.Front Propagated refl refl (first beginning Propagated more run) in absurd cc
+run_content (Time l t ∷ more) run = let h = follows beginning places.Front (Time l t) refl refl
+    (first beginning (Time l t) more run) in absurd cc
+run_content (Cycle rs ∷ more) run = let h = follows beginning places.Front (Cycle rs) refl refl
+    (first beginning (Cycle rs) more run) in absurd cc
+run_content (Slack row k ∷ more) run = let h =
+    follows beginning places.Front (Slack row k) refl refl (first beginning (Slack row k) more run) in absurd cc
+run_content (Offset cycle k ∷ more) run = let h =
+    follows beginning places.Front (Offset cycle k) refl refl (first beginning (Offset cycle k) more run) in
+    absurd cc
+run_content (Bound ps ∷ more) run = let h = follows beginning places.Front (Bound ps) refl refl
+    (first beginning (Bound ps) more run) in absurd cc
+run_content (Nothing ps ∷ more) run = let h = follows beginning places.Front (Nothing ps) refl refl
+    (first beginning (Nothing ps) more run) in absurd cc
+run_content (Gap cycle ∷ more) run = let h = follows beginning places.Front (Gap cycle) refl refl
+    (first beginning (Gap cycle) more run) in absurd cc
+run_content (Propagated ∷ more) run = let h = follows beginning places.Front Propagated refl refl
+    (first beginning Propagated more run) in absurd cc
 run_content (End ∷ more) run = let h = follows beginning places.Front End refl refl (first beginning End more run) in absurd cc

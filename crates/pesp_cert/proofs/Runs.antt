@@ -30,7 +30,8 @@ use Rattle.pesp_cert.proofs.LimitFacts.{limits_of}
 
 -- ---- one item and the others
 
-pub run_onto : (p : Progress) (item : Item) (rest : List Item) → CanStand p item → is_end item ≡ false → IsRun (after p item) rest → IsRun p (item ∷ rest)
+pub run_onto : (p : Progress) (item : Item) (rest : List Item) → CanStand p item → is_end item ≡ false
+    → IsRun (after p item) rest → IsRun p (item ∷ rest)
 run_onto p item [] can e h = absurd h
 run_onto p item (next ∷ more) can e h = (can, e, h)
 
@@ -84,7 +85,17 @@ proper_line lines.Propagated h w = w
 
 -- behind the other lines, with so many trees to come
 abbrev in_tree : (v : ℕ) (place : Place) (needs times cycles rows lines pairs : ℕ) → Progress
-in_tree v place needs times cycles rows lines pairs = record { place = place; version = v; needs = needs; times = times; cycles = cycles; rows = rows; lines = lines; pairs = pairs }
+in_tree v place needs times cycles rows lines pairs =
+    record {
+      place = place;
+      version = v;
+      needs = needs;
+      times = times;
+      cycles = cycles;
+      rows = rows;
+      lines = lines;
+      pairs = pairs;
+    }
 
 abbrev parts_in : TreeLine → ℕ
 parts_in line = cond (is_branch line) 2 0
@@ -146,7 +157,9 @@ trees_step n (lines.Nothing ps) ls = let e : suc n + 0 - 1 ≡ n = omega arith i
 trees_step n (lines.Gap cycle) ls = let e : suc n + 0 - 1 ≡ n = omega arith in rw e refl
 trees_step n lines.Propagated ls = let e : suc n + 0 - 1 ≡ n = omega arith in rw e refl
 
-counts_fit : (v : ℕ) (place : Place) (needs times cycles rows lines pairs : ℕ) → times ≤ 100000 → cycles ≤ 100000 → rows ≤ 10000000 → lines ≤ 1000000 → pairs ≤ 20000000 → keeps_counts (in_tree v place needs times cycles rows lines pairs) ≡ true
+counts_fit : (v : ℕ) (place : Place) (needs times cycles rows lines pairs : ℕ) → times ≤ 100000 → cycles ≤ 100000
+    → rows ≤ 10000000 → lines ≤ 1000000 → pairs ≤ 20000000
+    → keeps_counts (in_tree v place needs times cycles rows lines pairs) ≡ true
 counts_fit v place needs times cycles rows lines pairs a b c d e = grind (arith, nat_tests, a, b, c, d, e)
 
 -- what the counts keep to
@@ -157,8 +170,16 @@ record Fit (times cycles rows lines pairs : ℕ) : Type 0 where
   few_lines : lines ≤ 1000000
   few_pairs : pairs ≤ 20000000
 
-fit_counts : (v : ℕ) (place : Place) (needs times cycles rows lines pairs : ℕ) → keeps_counts (in_tree v place needs times cycles rows lines pairs) ≡ true → Fit times cycles rows lines pairs
-fit_counts v place needs times cycles rows lines pairs h = record { few_times = grind (arith, nat_tests, h); few_cycles = grind (arith, nat_tests, h); few_rows = grind (arith, nat_tests, h); few_lines = grind (arith, nat_tests, h); few_pairs = grind (arith, nat_tests, h) }
+fit_counts : (v : ℕ) (place : Place) (needs times cycles rows lines pairs : ℕ)
+    → keeps_counts (in_tree v place needs times cycles rows lines pairs) ≡ true → Fit times cycles rows lines pairs
+fit_counts v place needs times cycles rows lines pairs h =
+    record {
+      few_times = grind (arith, nat_tests, h);
+      few_cycles = grind (arith, nat_tests, h);
+      few_rows = grind (arith, nat_tests, h);
+      few_lines = grind (arith, nat_tests, h);
+      few_pairs = grind (arith, nat_tests, h);
+    }
 
 none_needed : (n : ℕ) → are_trees n [] ≡ true → n ≡ 0
 none_needed zero h = refl
@@ -179,15 +200,29 @@ allows_next p k some h known = rw (ne_eqb p.needs 0 (omega arith)) (and_both (ma
 known_next : (p : Progress) (k : Kind) → 0 < p.needs → allows p k ≡ true → has_kind p.version k ≡ true
 known_next p k some h = and_right (may_follow p.place k) (has_kind p.version k) (rw (ne_eqb p.needs 0 (omega arith)) at h)
 
-allows_line : (b : Bool) (v : ℕ) (place : Place) (line : TreeLine) → cond b (is_end_kind (kind_in (tree_item line))) (may_follow place (kind_in (tree_item line)) && has_kind v (kind_in (tree_item line))) ≡ true → b ≡ false
+allows_line : (b : Bool) (v : ℕ) (place : Place) (line : TreeLine)
+    → cond b (is_end_kind (kind_in (tree_item line)))
+    (may_follow place (kind_in (tree_item line)) && has_kind v (kind_in (tree_item line))) ≡ true → b ≡ false
 allows_line true v place line h = let bad : false ≡ true = sym (not_end line) ∙ h in cc
 allows_line false v place line h = refl
 
-tree_gives : (v : ℕ) (ls : List TreeLine) (place : Place) (needs times cycles rows lines pairs : ℕ) → may_follow place kinds.Gap ≡ true → are_trees needs (map line_of ls) ≡ true → list_all is_line ls ≡ true → list_all (has_line v) ls ≡ true
-    → Fit times cycles rows (lines + length ls) (pairs + total_pairs ls) → IsRun (in_tree v place needs times cycles rows lines pairs) (map tree_item ls ++ End ∷ [])
+tree_gives : (v : ℕ) (ls : List TreeLine) (place : Place) (needs times cycles rows lines pairs : ℕ)
+    → may_follow place kinds.Gap ≡ true → are_trees needs (map line_of ls) ≡ true → list_all is_line ls ≡ true
+    → list_all (has_line v) ls ≡ true
+    → Fit times cycles rows (lines + length ls) (pairs + total_pairs ls)
+    → IsRun (in_tree v place needs times cycles rows lines pairs) (map tree_item ls ++ End ∷ [])
 tree_gives v [] place needs times cycles rows lines pairs follows whole each known fit =
     let none : needs ≡ 0 = none_needed needs whole in
-    rw none (record { allowed = refl; proper = tt; within = refl; counts = counts_fit v place 0 times cycles rows lines pairs fit.few_times fit.few_cycles fit.few_rows (omega (arith, fit.few_lines)) (omega (arith, fit.few_pairs)) }, refl)
+    rw none (
+      record {
+        allowed = refl;
+        proper = tt;
+        within = refl;
+        counts = counts_fit v place 0 times cycles rows lines pairs fit.few_times fit.few_cycles fit.few_rows
+            (omega (arith, fit.few_lines)) (omega (arith, fit.few_pairs));
+      },
+      refl,
+    )
 tree_gives v (line ∷ ls) place zero times cycles rows lines pairs follows whole each known fit = absurd cc
 tree_gives v (line ∷ ls) place (suc n) times cycles rows lines pairs follows whole each known fit =
     let p : Progress = in_tree v place (suc n) times cycles rows lines pairs in
@@ -195,13 +230,25 @@ tree_gives v (line ∷ ls) place (suc n) times cycles rows lines pairs follows w
     let total : total_pairs (line ∷ ls) ≡ pairs_in line + total_pairs ls = sum_by-cons pairs_in line ls in
     let few : lines + 1 ≤ 1000000 = omega (arith, fit.few_lines) in
     let few_pairs : pairs + pairs_in line ≤ 20000000 = omega (arith, fit.few_pairs, total) in
-    let later : Fit times cycles rows (lines + 1 + length ls) (pairs + pairs_in line + total_pairs ls) = record { few_times = fit.few_times; few_cycles = fit.few_cycles; few_rows = fit.few_rows; few_lines = omega (arith, fit.few_lines); few_pairs = omega (arith, fit.few_pairs, total) } in
-    let run = tree_gives v ls places.Tree (suc n + parts_in line - 1) times cycles rows (lines + 1) (pairs + pairs_in line) refl (sym (trees_step n line (map line_of ls)) ∙ whole) (and_right (is_line line) (list_all is_line ls) each) (and_right (has_line v line) (list_all (has_line v) ls) known) later in
+    let later : Fit times cycles rows (lines + 1 + length ls) (pairs + pairs_in line + total_pairs ls) =
+    record {
+      few_times = fit.few_times;
+      few_cycles = fit.few_cycles;
+      few_rows = fit.few_rows;
+      few_lines = omega (arith, fit.few_lines);
+      few_pairs = omega (arith, fit.few_pairs, total);
+    } in
+    let run = tree_gives v ls places.Tree (suc n + parts_in line - 1) times cycles rows (lines + 1)
+    (pairs + pairs_in line) refl (sym (trees_step n line (map line_of ls)) ∙ whole)
+    (and_right (is_line line) (list_all is_line ls) each)
+    (and_right (has_line v line) (list_all (has_line v) ls) known) later in
     let can : CanStand p (tree_item line) = record {
-      allowed = allows_next p (kind_in (tree_item line)) (omega arith) (line_follows place line follows) (line_known v line ∙ and_left (has_line v line) (list_all (has_line v) ls) known);
+      allowed = allows_next p (kind_in (tree_item line)) (omega arith) (line_follows place line follows)
+          (line_known v line ∙ and_left (has_line v line) (list_all (has_line v) ls) known);
       proper = line_proper line one;
       within = line_within line one;
-      counts = rw (after_line p line) (counts_fit v places.Tree (suc n + parts_in line - 1) times cycles rows (lines + 1) (pairs + pairs_in line) fit.few_times fit.few_cycles fit.few_rows few few_pairs);
+      counts = rw (after_line p line) (counts_fit v places.Tree (suc n + parts_in line - 1) times cycles rows
+          (lines + 1) (pairs + pairs_in line) fit.few_times fit.few_cycles fit.few_rows few few_pairs);
     } in
     run_onto p (tree_item line) (map tree_item ls ++ End ∷ []) can (line_goes line) (rw (after_line p line) run)
 
@@ -221,11 +268,24 @@ end_needs false places.Times h = absurd cc
 end_needs false places.Cycles h = absurd cc
 end_needs false places.Tree h = absurd cc
 
-tree_takes : (v : ℕ) (ls : List TreeLine) (place : Place) (needs times cycles rows lines pairs : ℕ) → IsRun (in_tree v place needs times cycles rows lines pairs) (map tree_item ls ++ End ∷ []) → IsTree v ls needs times cycles rows lines pairs
+tree_takes : (v : ℕ) (ls : List TreeLine) (place : Place) (needs times cycles rows lines pairs : ℕ)
+    → IsRun (in_tree v place needs times cycles rows lines pairs) (map tree_item ls ++ End ∷ [])
+    → IsTree v ls needs times cycles rows lines pairs
 tree_takes v [] place needs times cycles rows lines pairs run =
     let none : needs ≡ 0 = eqb-true needs 0 (end_needs (needs == 0) place run.0.allowed) in
     let fit = fit_counts v place needs times cycles rows lines pairs run.0.counts in
-    record { whole = rw none refl; each = refl; known = refl; fit = record { few_times = fit.few_times; few_cycles = fit.few_cycles; few_rows = fit.few_rows; few_lines = omega (arith, fit.few_lines); few_pairs = omega (arith, fit.few_pairs) } }
+    record {
+      whole = rw none refl;
+      each = refl;
+      known = refl;
+      fit = record {
+        few_times = fit.few_times;
+        few_cycles = fit.few_cycles;
+        few_rows = fit.few_rows;
+        few_lines = omega (arith, fit.few_lines);
+        few_pairs = omega (arith, fit.few_pairs);
+      };
+    }
 tree_takes v (line ∷ ls) place zero times cycles rows lines pairs run =
     let can = run_first (in_tree v place zero times cycles rows lines pairs) (tree_item line) (map tree_item ls ++ End ∷ []) run in
     let bad : true ≡ false = allows_line true v place line can.allowed in
@@ -234,13 +294,21 @@ tree_takes v (line ∷ ls) place (suc n) times cycles rows lines pairs run =
     let p : Progress = in_tree v place (suc n) times cycles rows lines pairs in
     let can = run_first p (tree_item line) (map tree_item ls ++ End ∷ []) run in
     let rest = run_rest p (tree_item line) (map tree_item ls ++ End ∷ []) (line_goes line) run in
-    let later = tree_takes v ls places.Tree (suc n + parts_in line - 1) times cycles rows (lines + 1) (pairs + pairs_in line) (rw (after_line p line) at rest) in
+    let later = tree_takes v ls places.Tree (suc n + parts_in line - 1) times cycles rows (lines + 1)
+    (pairs + pairs_in line) (rw (after_line p line) at rest) in
     let total : total_pairs (line ∷ ls) ≡ pairs_in line + total_pairs ls = sum_by-cons pairs_in line ls in
     record {
       whole = trees_step n line (map line_of ls) ∙ later.whole;
       each = and_both (is_line line) (list_all is_line ls) (proper_line line can.proper can.within) later.each;
-      known = and_both (has_line v line) (list_all (has_line v) ls) (sym (line_known v line) ∙ known_next p (kind_in (tree_item line)) (omega arith) can.allowed) later.known;
-      fit = record { few_times = later.fit.few_times; few_cycles = later.fit.few_cycles; few_rows = later.fit.few_rows; few_lines = omega (arith, later.fit.few_lines); few_pairs = omega (arith, later.fit.few_pairs, total) };
+      known = and_both (has_line v line) (list_all (has_line v) ls)
+          (sym (line_known v line) ∙ known_next p (kind_in (tree_item line)) (omega arith) can.allowed) later.known;
+      fit = record {
+        few_times = later.fit.few_times;
+        few_cycles = later.fit.few_cycles;
+        few_rows = later.fit.few_rows;
+        few_lines = omega (arith, later.fit.few_lines);
+        few_pairs = omega (arith, later.fit.few_pairs, total);
+      };
     }
 
 -- ---- the cycles
@@ -253,11 +321,15 @@ some_rows : (rows : List SignedRow) → is_cycle rows ≡ true → 0 < length ro
 some_rows rows h = let some = and_left (nat_le 1 (length rows)) (rows_are_named rows) h in grind (arith, nat_tests, some)
 
 rows_some : (rows : List SignedRow) → 0 < length rows → rows_are_named rows ≡ true → is_cycle rows ≡ true
-rows_some rows h k = let some : nat_le 1 (length rows) ≡ true = grind (arith, nat_tests, h) in and_both (nat_le 1 (length rows)) (rows_are_named rows) some k
+rows_some rows h k = let some : nat_le 1 (length rows) ≡ true = grind (arith, nat_tests, h) in
+    and_both (nat_le 1 (length rows)) (rows_are_named rows) some k
 
-cycles_give : (v : ℕ) (cs : List (List SignedRow)) (place : Place) (times cycles rows : ℕ) (more : List Item) → may_follow place kinds.Cycle ≡ true → list_all is_cycle cs ≡ true
+cycles_give : (v : ℕ) (cs : List (List SignedRow)) (place : Place) (times cycles rows : ℕ) (more : List Item)
+    → may_follow place kinds.Cycle ≡ true → list_all is_cycle cs ≡ true
     → times ≤ 100000 → cycles + length cs ≤ 100000 → rows + total_rows cs ≤ 10000000
-    → ((last : Place) → may_follow last kinds.Cycle ≡ true → IsRun (in_cycles v last times (cycles + length cs) (rows + total_rows cs)) more) → IsRun (in_cycles v place times cycles rows) (map Cycle cs ++ more)
+    → ((last : Place) → may_follow last kinds.Cycle ≡ true
+    → IsRun (in_cycles v last times (cycles + length cs) (rows + total_rows cs)) more)
+    → IsRun (in_cycles v place times cycles rows) (map Cycle cs ++ more)
 cycles_give v [] place times cycles rows more follows each few_times few_cycles few_rows others =
     let c : cycles + 0 ≡ cycles = omega arith in
     let r : rows + 0 ≡ rows = omega arith in
@@ -270,7 +342,9 @@ cycles_give v (w ∷ cs) place times cycles rows more follows each few_times few
     let few_r : rows + length w ≤ 10000000 = omega (arith, few_rows, total) in
     let c : cycles + length (w ∷ cs) ≡ cycles + 1 + length cs = omega arith in
     let r : rows + total_rows (w ∷ cs) ≡ rows + length w + total_rows cs = omega (arith, total) in
-    let run = cycles_give v cs places.Cycles times (cycles + 1) (rows + length w) more refl (and_right (is_cycle w) (list_all is_cycle cs) each) few_times (omega (arith, few_cycles)) (omega (arith, few_rows, total)) (λ last f. rw (c, r) at (others last f)) in
+    let run = cycles_give v cs places.Cycles times (cycles + 1) (rows + length w) more refl
+    (and_right (is_cycle w) (list_all is_cycle cs) each) few_times (omega (arith, few_cycles))
+    (omega (arith, few_rows, total)) (λ last f. rw (c, r) at (others last f)) in
     let can : CanStand p (Cycle w) = record {
       allowed = and_both (may_follow place kinds.Cycle) true follows refl;
       proper = some_rows w one;
@@ -281,9 +355,11 @@ cycles_give v (w ∷ cs) place times cycles rows more follows each few_times few
 
 -- what a run of cycles says of them, and the run behind it
 abbrev AreCycles : ℕ → List (List SignedRow) → (times cycles rows : ℕ) → List Item → Type 0
-AreCycles v cs times cycles rows more = (list_all is_cycle cs ≡ true) × ((last : Place) × IsRun (in_cycles v last times (cycles + length cs) (rows + total_rows cs)) more)
+AreCycles v cs times cycles rows more = (list_all is_cycle cs ≡ true)
+    × ((last : Place) × IsRun (in_cycles v last times (cycles + length cs) (rows + total_rows cs)) more)
 
-cycles_take : (v : ℕ) (cs : List (List SignedRow)) (place : Place) (times cycles rows : ℕ) (more : List Item) → IsRun (in_cycles v place times cycles rows) (map Cycle cs ++ more) → AreCycles v cs times cycles rows more
+cycles_take : (v : ℕ) (cs : List (List SignedRow)) (place : Place) (times cycles rows : ℕ) (more : List Item)
+    → IsRun (in_cycles v place times cycles rows) (map Cycle cs ++ more) → AreCycles v cs times cycles rows more
 cycles_take v [] place times cycles rows more run =
     let c : cycles ≡ cycles + 0 = omega arith in
     let r : rows ≡ rows + 0 = omega arith in
@@ -306,7 +382,9 @@ cycles_take v (w ∷ cs) place times cycles rows more run =
 abbrev in_times : ℕ → ℕ → Progress
 in_times v times = in_cycles v places.Times times 0 0
 
-times_give : (v : ℕ) (ts : List (ℤ × ℕ)) (times : ℕ) (more : List Item) → list_all is_time ts ≡ true → times + length ts ≤ 100000 → IsRun (in_times v (times + length ts)) more → IsRun (in_times v times) (map time_item ts ++ more)
+times_give : (v : ℕ) (ts : List (ℤ × ℕ)) (times : ℕ) (more : List Item) → list_all is_time ts ≡ true
+    → times + length ts ≤ 100000 → IsRun (in_times v (times + length ts)) more
+    → IsRun (in_times v times) (map time_item ts ++ more)
 times_give v [] times more each few run = let t : times + 0 ≡ times = omega arith in rw t at run
 times_give v (t ∷ ts) times more each few run =
     let few_t : times + 1 ≤ 100000 = omega (arith, few) in
@@ -320,7 +398,9 @@ times_give v (t ∷ ts) times more each few run =
     } in
     run_onto (in_times v times) (time_item t) (map time_item ts ++ more) can refl later
 
-times_take : (v : ℕ) (ts : List (ℤ × ℕ)) (times : ℕ) (more : List Item) → IsRun (in_times v times) (map time_item ts ++ more) → (list_all is_time ts ≡ true) × IsRun (in_times v (times + length ts)) more
+times_take : (v : ℕ) (ts : List (ℤ × ℕ)) (times : ℕ) (more : List Item)
+    → IsRun (in_times v times) (map time_item ts ++ more)
+    → (list_all is_time ts ≡ true) × IsRun (in_times v (times + length ts)) more
 times_take v [] times more run = let t : times + 0 ≡ times = omega arith in (refl, rw t run)
 times_take v (t ∷ ts) times more run =
     let can = run_first (in_times v times) (time_item t) (map time_item ts ++ more) run in
@@ -346,17 +426,35 @@ pub limits_give : (c : Content) → KeepsLimits c → HasText c
 limits_give c k =
     let tree : List Item = map tree_item c.tree ++ End ∷ [] in
     let others : List Item = ((map time_item c.times ++ map Cycle c.cycles) ++ map tree_item c.tree) ++ End ∷ [] in
-    let behind : (last : Place) → may_follow last kinds.Cycle ≡ true → IsRun (in_cycles c.version last (0 + length c.times) (0 + length c.cycles) (0 + total_rows c.cycles)) tree = λ last f.
-    tree_gives c.version c.tree last 1 (0 + length c.times) (0 + length c.cycles) (0 + total_rows c.cycles) 0 0 (tree_where_cycle last f) k.whole k.each_line k.known
-    (record { few_times = omega (arith, k.times); few_cycles = omega (arith, k.cycles); few_rows = omega (arith, k.rows); few_lines = omega (arith, k.lines); few_pairs = omega (arith, k.pairs) }) in
-    let cycles = cycles_give c.version c.cycles places.Times (0 + length c.times) 0 0 tree refl k.each_cycle (omega (arith, k.times)) (omega (arith, k.cycles)) (omega (arith, k.rows)) behind in
+    let behind : (last : Place) → may_follow last kinds.Cycle ≡ true
+    → IsRun (in_cycles c.version last (0 + length c.times) (0 + length c.cycles) (0 + total_rows c.cycles))
+    tree = λ last f.
+    tree_gives c.version c.tree last 1 (0 + length c.times) (0 + length c.cycles) (0 + total_rows c.cycles) 0 0
+    (tree_where_cycle last f) k.whole k.each_line k.known
+    (record {
+      few_times = omega (arith, k.times);
+      few_cycles = omega (arith, k.cycles);
+      few_rows = omega (arith, k.rows);
+      few_lines = omega (arith, k.lines);
+      few_pairs = omega (arith, k.pairs);
+    }) in
+    let cycles = cycles_give c.version c.cycles places.Times (0 + length c.times) 0 0 tree refl k.each_cycle
+    (omega (arith, k.times)) (omega (arith, k.cycles)) (omega (arith, k.rows)) behind in
     let times = times_give c.version c.times 0 (map Cycle c.cycles ++ tree) k.each_time (omega (arith, k.times)) cycles in
-    let shaped : IsRun (in_times c.version 0) (((map time_item c.times ++ map Cycle c.cycles) ++ map tree_item c.tree) ++ End ∷ []) = rw (items_shape (map time_item c.times) (map Cycle c.cycles) (map tree_item c.tree) (End ∷ [])) times in
-    let answer = run_onto (in_tree c.version places.Period 1 0 0 0 0 0) (Says c.answer) others (record { allowed = refl; proper = costs_proper c.answer k.answer; within = refl; counts = refl }) refl shaped in
+    let shaped : IsRun (in_times c.version 0) (((map time_item c.times ++ map Cycle c.cycles)
+    ++ map tree_item c.tree) ++ End ∷ []) = rw (items_shape (map time_item c.times) (map Cycle c.cycles)
+    (map tree_item c.tree) (End ∷ [])) times in
+    let answer = run_onto (in_tree c.version places.Period 1 0 0 0 0 0) (Says c.answer) others
+    (record { allowed = refl; proper = costs_proper c.answer k.answer; within = refl; counts = refl }) refl
+    shaped in
     let within : (nat_le 1 c.period && nat_le c.period 10000) ≡ true = grind (arith, nat_tests, k.period) in
     let version : (nat_le 1 c.version && nat_le c.version 2) ≡ true = grind (arith, nat_tests, k.version) in
-    let period = run_onto (in_tree c.version places.Header 1 0 0 0 0 0) (Period c.period) (Says c.answer ∷ others) (record { allowed = refl; proper = tt; within = within; counts = refl }) refl answer in
-    record { run = run_onto beginning (Version c.version) (Period c.period ∷ Says c.answer ∷ others) (record { allowed = refl; proper = tt; within = version; counts = refl }) refl period }
+    let period = run_onto (in_tree c.version places.Header 1 0 0 0 0 0) (Period c.period) (Says c.answer ∷ others)
+    (record { allowed = refl; proper = tt; within = within; counts = refl }) refl answer in
+    record {
+      run = run_onto beginning (Version c.version) (Period c.period ∷ Says c.answer ∷ others)
+          (record { allowed = refl; proper = tt; within = version; counts = refl }) refl period;
+    }
 
 le_test : (m n : ℕ) → m ≤ n → nat_le m n ≡ true
 le_test m n h = grind (arith, nat_tests, h)
@@ -369,25 +467,39 @@ text_keeps_limits c h =
     let version = run_first beginning (Version c.version) (Period c.period ∷ Says c.answer ∷ others) h.run in
     let behind_version = run_rest beginning (Version c.version) (Period c.period ∷ Says c.answer ∷ others) refl h.run in
     let period = run_first (in_tree c.version places.Header 1 0 0 0 0 0) (Period c.period) (Says c.answer ∷ others) behind_version in
-    let behind_period = run_rest (in_tree c.version places.Header 1 0 0 0 0 0) (Period c.period) (Says c.answer ∷ others) refl behind_version in
+    let behind_period = run_rest (in_tree c.version places.Header 1 0 0 0 0 0) (Period c.period)
+    (Says c.answer ∷ others) refl behind_version in
     let answer = run_first (in_tree c.version places.Period 1 0 0 0 0 0) (Says c.answer) others behind_period in
     let behind_answer = run_rest (in_tree c.version places.Period 1 0 0 0 0 0) (Says c.answer) others refl behind_period in
-    let shaped : IsRun (in_times c.version 0) (map time_item c.times ++ (map Cycle c.cycles ++ tree)) = rw (items_shape (map time_item c.times) (map Cycle c.cycles) (map tree_item c.tree) (End ∷ [])) at behind_answer in
+    let shaped : IsRun (in_times c.version 0) (map time_item c.times ++ (map Cycle c.cycles ++ tree)) =
+    rw (items_shape (map time_item c.times) (map Cycle c.cycles) (map tree_item c.tree) (End ∷ [])) at
+    behind_answer in
     let times = times_take c.version c.times 0 (map Cycle c.cycles ++ tree) shaped in
     let cycles = cycles_take c.version c.cycles places.Times (0 + length c.times) 0 0 tree times.1 in
-    let lines = tree_takes c.version c.tree cycles.1.0 1 (0 + length c.times) (0 + length c.cycles) (0 + total_rows c.cycles) 0 0 cycles.1.1 in
-    let t : are_times c.times ≡ true = and_both (nat_le (length c.times) 100000) (list_all is_time c.times) (le_test (length c.times) 100000 (omega (arith, lines.fit.few_times))) times.0 in
-    let k1 = and_both (nat_le (length c.cycles) 100000) (nat_le (total_rows c.cycles) 10000000) (le_test (length c.cycles) 100000 (omega (arith, lines.fit.few_cycles))) (le_test (total_rows c.cycles) 10000000 (omega (arith, lines.fit.few_rows))) in
-    let k : are_cycles c.cycles ≡ true = and_both (nat_le (length c.cycles) 100000 && nat_le (total_rows c.cycles) 10000000) (list_all is_cycle c.cycles) k1 cycles.0 in
-    let l1 = and_both (nat_le (length c.tree) 1000000) (nat_le (total_pairs c.tree) 20000000) (le_test (length c.tree) 1000000 (omega (arith, lines.fit.few_lines))) (le_test (total_pairs c.tree) 20000000 (omega (arith, lines.fit.few_pairs))) in
+    let lines = tree_takes c.version c.tree cycles.1.0 1 (0 + length c.times) (0 + length c.cycles)
+    (0 + total_rows c.cycles) 0 0 cycles.1.1 in
+    let t : are_times c.times ≡ true = and_both (nat_le (length c.times) 100000) (list_all is_time c.times)
+    (le_test (length c.times) 100000 (omega (arith, lines.fit.few_times))) times.0 in
+    let k1 = and_both (nat_le (length c.cycles) 100000) (nat_le (total_rows c.cycles) 10000000)
+    (le_test (length c.cycles) 100000 (omega (arith, lines.fit.few_cycles)))
+    (le_test (total_rows c.cycles) 10000000 (omega (arith, lines.fit.few_rows))) in
+    let k : are_cycles c.cycles ≡ true = and_both
+    (nat_le (length c.cycles) 100000 && nat_le (total_rows c.cycles) 10000000)
+    (list_all is_cycle c.cycles) k1 cycles.0 in
+    let l1 = and_both (nat_le (length c.tree) 1000000) (nat_le (total_pairs c.tree) 20000000)
+    (le_test (length c.tree) 1000000 (omega (arith, lines.fit.few_lines)))
+    (le_test (total_pairs c.tree) 20000000 (omega (arith, lines.fit.few_pairs))) in
     let l2 = and_both (nat_le (length c.tree) 1000000 && nat_le (total_pairs c.tree) 20000000) (list_all is_line c.tree) l1 lines.each in
-    let l : are_lines c.tree ≡ true = and_both (nat_le (length c.tree) 1000000 && nat_le (total_pairs c.tree) 20000000 && list_all is_line c.tree) (are_trees 1 (lines_of c)) l2 lines.whole in
+    let l : are_lines c.tree ≡ true = and_both
+    (nat_le (length c.tree) 1000000 && nat_le (total_pairs c.tree) 20000000 && list_all is_line c.tree)
+    (are_trees 1 (lines_of c)) l2 lines.whole in
     let a = and_both (is_period c.period) (has_costs c.answer) period.within (proper_costs c.answer answer.proper) in
     let at = and_both (is_period c.period && has_costs c.answer) (are_times c.times) a t in
     let atc = and_both (is_period c.period && has_costs c.answer && are_times c.times) (are_cycles c.cycles) at k in
     let atcl = and_both (is_period c.period && has_costs c.answer && are_times c.times && are_cycles c.cycles) (are_lines c.tree) atc l in
     let known = and_both (nat_le 1 c.version && nat_le c.version 2) (list_all (has_line c.version) c.tree) version.within lines.known in
-    and_both (is_period c.period && has_costs c.answer && are_times c.times && are_cycles c.cycles && are_lines c.tree) (has_lines c.version c.tree) atcl known
+    and_both (is_period c.period && has_costs c.answer && are_times c.times && are_cycles c.cycles
+    && are_lines c.tree) (has_lines c.version c.tree) atcl known
 
 pub no_text : (c : Content) → keeps_limits c ≡ false → HasText c → ⊥
 no_text c h text = let bad : true ≡ false = sym (text_keeps_limits c text) ∙ h in cc

@@ -34,7 +34,8 @@ int_len (pos n) lt = omega (arith, nat_len n lt)
 int_len (negsuc n) lt = omega (arith, nat_len (suc n) lt)
 
 -- the pairs rise below 100001, so there are few of them
-pub pairs_few : (least : ℕ) (ps : List Pair) → least ≤ 100001 → rise_from least ps ≡ true → all_within ps ≡ true → least + length ps ≤ 100001
+pub pairs_few : (least : ℕ) (ps : List Pair) → least ≤ 100001 → rise_from least ps ≡ true → all_within ps ≡ true
+    → least + length ps ≤ 100001
 pairs_few least [] le h k = omega (arith, le)
 pairs_few least (p ∷ ps) le h k =
     let within = and_left (is_pair_within p) (all_within ps) k in
@@ -49,9 +50,19 @@ pairs_len [] h = omega arith
 pairs_len (p ∷ ps) h =
     let one = and_left (is_pair_within p) (all_within ps) h in
     let rest = spaced (pair_words ps) in
-    let second : length (signed_decimal p.mult ++ rest) ≡ length (signed_decimal p.mult) + length rest = length-append (signed_decimal p.mult) rest in
-    let first : length (decimal p.cycle ++ 32 ∷ (signed_decimal p.mult ++ rest)) ≡ length (decimal p.cycle) + suc (length (signed_decimal p.mult ++ rest)) = length-append (decimal p.cycle) (32 ∷ (signed_decimal p.mult ++ rest)) in
-    omega (arith, first, second, nat_len p.cycle (cycle_below p one), int_len p.mult (mult_below p one), pairs_len ps (and_right (is_pair_within p) (all_within ps) h))
+    let second : length (signed_decimal p.mult ++ rest)
+    ≡ length (signed_decimal p.mult) + length rest = length-append (signed_decimal p.mult) rest in
+    let first : length (decimal p.cycle ++ 32 ∷ (signed_decimal p.mult ++ rest))
+    ≡ length (decimal p.cycle) + suc (length (signed_decimal p.mult ++ rest)) =
+    length-append (decimal p.cycle) (32 ∷ (signed_decimal p.mult ++ rest)) in
+    omega (
+      arith,
+      first,
+      second,
+      nat_len p.cycle (cycle_below p one),
+      int_len p.mult (mult_below p one),
+      pairs_len ps (and_right (is_pair_within p) (all_within ps) h),
+    )
 
 leaf_short : (ps : List Pair) → rise_from 0 ps ≡ true → all_within ps ≡ true → length (spaced (pair_words ps)) ≤ 3900039
 leaf_short ps h k = omega (arith, pairs_len ps k, pairs_few 0 ps (omega arith) h k)
@@ -65,14 +76,29 @@ row_len r h = omega (arith, length-decimal-le 6 r.row (omega arith) (named h) (o
 pub rows_len : (rs : List SignedRow) → rows_are_named rs ≡ true → length (spaced (row_words rs)) ≤ 8 * length rs
 rows_len [] h = omega arith
 rows_len (r ∷ rs) h =
-    let first : length (row_word r ++ spaced (row_words rs)) ≡ length (row_word r) + length (spaced (row_words rs)) = length-append (row_word r) (spaced (row_words rs)) in
-    omega (arith, first, row_len r (and_left (is_name r.row) (rows_are_named rs) h), rows_len rs (and_right (is_name r.row) (rows_are_named rs) h))
+    let first : length (row_word r ++ spaced (row_words rs))
+    ≡ length (row_word r) + length (spaced (row_words rs)) =
+    length-append (row_word r) (spaced (row_words rs)) in
+    omega (
+      arith,
+      first,
+      row_len r (and_left (is_name r.row) (rows_are_named rs) h),
+      rows_len rs (and_right (is_name r.row) (rows_are_named rs) h),
+    )
 
 one_short : (w a : List ℕ) → length w ≤ 100 → length a ≤ 100 → length (w ++ ((32 ∷ a) ++ [])) ≤ 100000000
 one_short w a h k = omega (arith, length-append w (32 ∷ (a ++ [])), length-append a [], h, k)
 
 two_short : (w a b : List ℕ) → length w ≤ 100 → length a ≤ 100 → length b ≤ 100 → length (w ++ ((32 ∷ a) ++ ((32 ∷ b) ++ []))) ≤ 100000000
-two_short w a b h k l = omega (arith, length-append w (32 ∷ (a ++ (32 ∷ (b ++ [])))), length-append a (32 ∷ (b ++ [])), length-append b [], h, k, l)
+two_short w a b h k l = omega (
+  arith,
+  length-append w (32 ∷ (a ++ (32 ∷ (b ++ [])))),
+  length-append a (32 ∷ (b ++ [])),
+  length-append b [],
+  h,
+  k,
+  l,
+)
 
 list_short : (w a : List ℕ) → length w ≤ 100 → length a ≤ 80000000 → length (w ++ a) ≤ 100000000
 list_short w a h k = omega (arith, length-append w a, h, k)
@@ -84,20 +110,30 @@ int100 : (z : ℤ) → nat_abs z < NATURALS → length (signed_decimal z) ≤ 10
 int100 z lt = omega (arith, int_len z lt)
 
 pub can_short : (p : Progress) (item : Item) → CanStand p item → IsShort item
-can_short p (Version n) can = one_short (codes "pesp-certificate") (decimal n) (omega arith) (nat100 n (grind (arith, nat_tests, can.within)))
+can_short p (Version n) can = one_short (codes "pesp-certificate") (decimal n) (omega arith)
+    (nat100 n (grind (arith, nat_tests, can.within)))
 can_short p (Period n) can = one_short (codes "period") (decimal n) (omega arith) (nat100 n (grind (arith, nat_tests, can.within)))
 can_short p (Says (answers.Optimal c)) can = one_short (codes "answer optimal") (decimal c) (omega arith) (nat100 c can.proper)
 can_short p (Says answers.Infeasible) can = omega arith
-can_short p (Says (answers.Bounded least None)) can = two_short (codes "answer open") (decimal least) (codes "none") (omega arith) (nat100 least can.proper.0) (omega arith)
-can_short p (Says (answers.Bounded least (Some c))) can = two_short (codes "answer open") (decimal least) (decimal c) (omega arith) (nat100 least can.proper.0) (nat100 c can.proper.1)
-can_short p (Time label time) can = two_short (codes "time") (signed_decimal label) (decimal time) (omega arith) (int100 label (grind (arith, nat_tests, can.within))) (nat100 time (grind (arith, nat_tests, can.within)))
+can_short p (Says (answers.Bounded least None)) can =
+    two_short (codes "answer open") (decimal least) (codes "none") (omega arith) (nat100 least can.proper.0)
+    (omega arith)
+can_short p (Says (answers.Bounded least (Some c))) can =
+    two_short (codes "answer open") (decimal least) (decimal c) (omega arith) (nat100 least can.proper.0)
+    (nat100 c can.proper.1)
+can_short p (Time label time) can = two_short (codes "time") (signed_decimal label) (decimal time) (omega arith)
+    (int100 label (grind (arith, nat_tests, can.within))) (nat100 time (grind (arith, nat_tests, can.within)))
 can_short p (Cycle rs) can =
     let few : length rs ≤ 10000000 = grind (arith, nat_tests, can.counts) in
     list_short (codes "cycle") (spaced (row_words rs)) (omega arith) (omega (arith, rows_len rs can.within, few))
-can_short p (Slack row k) can = two_short (codes "s") (decimal row) (decimal k) (omega arith) (nat100 row (grind (arith, nat_tests, can.within))) (nat100 k (grind (arith, nat_tests, can.within)))
-can_short p (Offset cycle k) can = two_short (codes "o") (decimal cycle) (signed_decimal k) (omega arith) (nat100 cycle (grind (arith, nat_tests, can.within))) (int100 k (grind (arith, nat_tests, can.within)))
-can_short p (Bound ps) can = list_short (codes "b") (spaced (pair_words ps)) (omega arith) (omega (arith, leaf_short ps can.proper can.within))
-can_short p (Nothing ps) can = list_short (codes "n") (spaced (pair_words ps)) (omega arith) (omega (arith, leaf_short ps can.proper can.within))
+can_short p (Slack row k) can = two_short (codes "s") (decimal row) (decimal k) (omega arith)
+    (nat100 row (grind (arith, nat_tests, can.within))) (nat100 k (grind (arith, nat_tests, can.within)))
+can_short p (Offset cycle k) can = two_short (codes "o") (decimal cycle) (signed_decimal k) (omega arith)
+    (nat100 cycle (grind (arith, nat_tests, can.within))) (int100 k (grind (arith, nat_tests, can.within)))
+can_short p (Bound ps) can = list_short (codes "b") (spaced (pair_words ps)) (omega arith)
+    (omega (arith, leaf_short ps can.proper can.within))
+can_short p (Nothing ps) can = list_short (codes "n") (spaced (pair_words ps)) (omega arith)
+    (omega (arith, leaf_short ps can.proper can.within))
 can_short p (Gap cycle) can = one_short (codes "g") (decimal cycle) (omega arith) (nat100 cycle (grind (arith, nat_tests, can.within)))
 can_short p Propagated can = omega arith
 can_short p End can = omega arith

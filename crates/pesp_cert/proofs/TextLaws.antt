@@ -31,7 +31,8 @@ is_ok : (b : Bool) (r : CertRefusal) (q : Result (List Item) CertRefusal) (items
 is_ok true r q items h = absurd cc
 is_ok false r q items h = h
 
-onto_ok : (item : Item) (q : Result (List Item) CertRefusal) (items : List Item) → onto item q ≡ Ok items → (rest : List Item) × (q ≡ Ok rest) × (items ≡ item ∷ rest)
+onto_ok : (item : Item) (q : Result (List Item) CertRefusal) (items : List Item) → onto item q ≡ Ok items
+    → (rest : List Item) × (q ≡ Ok rest) × (items ≡ item ∷ rest)
 onto_ok item (Err r) items h = absurd cc
 onto_ok item (Ok rest) items h = (rest, refl, cc)
 
@@ -45,25 +46,38 @@ nothing_is [] [] h = (refl, refl)
 nothing_is [] (m ∷ ms) h = absurd (grind (arith, nat_tests, h))
 nothing_is (c ∷ cs) more h = absurd (grind (arith, nat_tests, h))
 
-ends : (p : Progress) (line next : List ℕ) (more : List (List ℕ)) (item : Item) (n : ℕ) (items : List Item) → (line ≡ line_of_words (item_words item)) × CanStand p item → is_end item ≡ true
+ends : (p : Progress) (line next : List ℕ) (more : List (List ℕ)) (item : Item) (n : ℕ) (items : List Item)
+    → (line ≡ line_of_words (item_words item)) × CanStand p item → is_end item ≡ true
     → cond (is_nothing (next ∷ more)) (Ok (item ∷ [])) (Err (refusals.Trailing n)) ≡ Ok items → AreFound p (line ∷ next ∷ more) items
 ends p line next more item n items found e h = go (is_nothing (next ∷ more)) refl h
   where
-    go : (b : Bool) → is_nothing (next ∷ more) ≡ b → cond b (Ok (item ∷ [])) (Err (refusals.Trailing n)) ≡ Ok items → AreFound p (line ∷ next ∷ more) items
+    go : (b : Bool) → is_nothing (next ∷ more) ≡ b → cond b (Ok (item ∷ [])) (Err (refusals.Trailing n)) ≡ Ok items
+        → AreFound p (line ∷ next ∷ more) items
     go false t h = absurd cc
     go true t h =
         let nothing = nothing_is next more t in
         let same : item ∷ [] ≡ items = cc in
-        rw (← same, nothing.0, nothing.1) (record { text = rw (found.0, flat_map-cons item_line item [], append-nil) refl; run = (found.1, e) })
+        rw (← same, nothing.0, nothing.1) (record {
+          text =
+              rw (found.0, flat_map-cons item_line item [], append-nil) refl;
+          run = (found.1, e);
+        })
 
-run_onto : (p : Progress) (item : Item) (rest : List Item) → CanStand p item → is_end item ≡ false → IsRun (after p item) rest → IsRun p (item ∷ rest)
+run_onto : (p : Progress) (item : Item) (rest : List Item) → CanStand p item → is_end item ≡ false
+    → IsRun (after p item) rest → IsRun p (item ∷ rest)
 run_onto p item [] can e h = absurd h
 run_onto p item (next ∷ more) can e h = (can, e, h)
 
-goes_on : (p : Progress) (line next : List ℕ) (more : List (List ℕ)) (item : Item) (rest items : List Item) → (line ≡ line_of_words (item_words item)) × CanStand p item → is_end item ≡ false
+goes_on : (p : Progress) (line next : List ℕ) (more : List (List ℕ)) (item : Item) (rest items : List Item)
+    → (line ≡ line_of_words (item_words item)) × CanStand p item → is_end item ≡ false
     → AreFound (after p item) (next ∷ more) rest → items ≡ item ∷ rest → AreFound p (line ∷ next ∷ more) items
 goes_on p line next more item rest items found e others same =
-    rw same (record { text = rw (flat_map-cons item_line item rest) (rw (found.0, others.text) (sym (append_assoc (line_of_words (item_words item)) (10 ∷ []) (flat_map item_line rest)))); run = run_onto p item rest found.1 e others.run })
+    rw same (record {
+      text = rw (flat_map-cons item_line item rest)
+          (rw (found.0, others.text) (sym (append_assoc (line_of_words (item_words item)) (10 ∷ [])
+          (flat_map item_line rest))));
+      run = run_onto p item rest found.1 e others.run;
+    })
 
 pub items_found : (n : ℕ) (p : Progress) (pcs : List (List ℕ)) (items : List Item) → items_from n p pcs ≡ Ok items → AreFound p pcs items
 unfolding items_from
@@ -73,12 +87,17 @@ items_found n p (line ∷ []) items h = go (nat_lt LONGEST (length line)) h
     go : (b : Bool) → cond b (Err (refusals.Limit n)) (Err refusals.Truncated) ≡ Ok items → AreFound p (line ∷ []) items
     go true h = absurd cc
     go false h = absurd cc
-items_found n p (line ∷ next ∷ more) items h = at (line_at p line) refl (λ q rest e. items_found (n + 1) q (next ∷ more) rest e) (is_ok (nat_lt LONGEST (length line)) (refusals.Limit n) _ items h)
+items_found n p (line ∷ next ∷ more) items h =
+    at (line_at p line) refl (λ q rest e. items_found (n + 1) q (next ∷ more) rest e)
+    (is_ok (nat_lt LONGEST (length line)) (refusals.Limit n) _ items h)
   where
-    at : (r : Result Item LineFault) → line_at p line ≡ r → ((q : Progress) (rest : List Item) → items_from (n + 1) q (next ∷ more) ≡ Ok rest → AreFound q (next ∷ more) rest) → elim r as (λ r. Result (List Item) CertRefusal) [
-      | Err f ↦ Err (refusal_at n f)
-      | Ok item ↦ cond (is_end item) (cond (is_nothing (next ∷ more)) (Ok (item ∷ [])) (Err (refusals.Trailing (n + 1)))) (onto item (items_from (n + 1) (after p item) (next ∷ more)))
-    ] ≡ Ok items → AreFound p (line ∷ next ∷ more) items
+    at : (r : Result Item LineFault) → line_at p line ≡ r
+        → ((q : Progress) (rest : List Item) → items_from (n + 1) q (next ∷ more) ≡ Ok rest
+        → AreFound q (next ∷ more) rest) → elim r as (λ r. Result (List Item) CertRefusal) [
+          | Err f ↦ Err (refusal_at n f)
+          | Ok item ↦ cond (is_end item) (cond (is_nothing (next ∷ more)) (Ok (item ∷ []))
+              (Err (refusals.Trailing (n + 1)))) (onto item (items_from (n + 1) (after p item) (next ∷ more)))
+        ] ≡ Ok items → AreFound p (line ∷ next ∷ more) items
     at (Err f) e others h = absurd cc
     at (Ok item) e others h =
         elim (cases (is_end item)) [
@@ -99,52 +118,75 @@ not_lf b = not (b == 10)
 
 word_lf : (w : List ℕ) → list_all is_inner w ≡ true → list_all not_lf w ≡ true
 word_lf [] h = refl
-word_lf (b ∷ bs) h = rw (and_right (not (b == 32)) (not (b == 10)) (and_left (is_inner b) (list_all is_inner bs) h), word_lf bs (and_right (is_inner b) (list_all is_inner bs) h)) refl
+word_lf (b ∷ bs) h = rw (
+  and_right (not (b == 32)) (not (b == 10))
+      (and_left (is_inner b) (list_all is_inner bs) h),
+  word_lf bs (and_right (is_inner b) (list_all is_inner bs) h),
+)
+    refl
 
 plain_lf : (w : List ℕ) → is_plain w ≡ true → list_all not_lf w ≡ true
 plain_lf w h = word_lf w (and_right (not (length w == 0)) (list_all is_inner w) h)
 
 spaced_lf : (ws : List (List ℕ)) → all_plain ws ≡ true → list_all not_lf (spaced ws) ≡ true
 spaced_lf [] h = refl
-spaced_lf (w ∷ ws) h = all_append not_lf (32 ∷ w) (spaced ws) (plain_lf w (and_left (is_plain w) (all_plain ws) h)) (spaced_lf ws (and_right (is_plain w) (all_plain ws) h))
+spaced_lf (w ∷ ws) h = all_append not_lf (32 ∷ w) (spaced ws) (plain_lf w (and_left (is_plain w) (all_plain ws) h))
+    (spaced_lf ws (and_right (is_plain w) (all_plain ws) h))
 
 pub line_lf : (ws : List (List ℕ)) → all_plain ws ≡ true → list_all not_lf (line_of_words ws) ≡ true
 line_lf [] h = refl
-line_lf (w ∷ ws) h = all_append not_lf w (spaced ws) (plain_lf w (and_left (is_plain w) (all_plain ws) h)) (spaced_lf ws (and_right (is_plain w) (all_plain ws) h))
+line_lf (w ∷ ws) h = all_append not_lf w (spaced ws) (plain_lf w (and_left (is_plain w) (all_plain ws) h))
+    (spaced_lf ws (and_right (is_plain w) (all_plain ws) h))
 
 pub no_lf : (w : List ℕ) → list_all not_lf w ≡ true → All (λ b. is_byte 10 b ≡ false) w
 no_lf [] h k d lt = absurd (omega arith)
 no_lf (b ∷ bs) h zero d lt = grind (arith, nat_tests, and_left (not_lf b) (list_all not_lf bs) h)
 no_lf (b ∷ bs) h (suc k) d lt = no_lf bs (and_right (not_lf b) (list_all not_lf bs) h) k d (omega arith)
 
-pub line_cut : (p : Progress) (item : Item) (rest : List ℕ) → CanStand p item → pieces 10 (item_line item ++ rest) ≡ line_of_words (item_words item) ∷ pieces 10 rest
+pub line_cut : (p : Progress) (item : Item) (rest : List ℕ) → CanStand p item
+    → pieces 10 (item_line item ++ rest) ≡ line_of_words (item_words item) ∷ pieces 10 rest
 line_cut p item rest can =
-    rw append_assoc (slice_split_at (is_byte 10) (line_of_words (item_words item)) 10 rest (no_lf (line_of_words (item_words item)) (line_lf (item_words item) (item_plain item can.proper can.within))) refl)
+    rw append_assoc (slice_split_at (is_byte 10) (line_of_words (item_words item)) 10 rest
+    (no_lf (line_of_words (item_words item)) (line_lf (item_words item)
+    (item_plain item can.proper can.within))) refl)
 
-pub items_read : (items : List Item) (n m : ℕ) (p : Progress) (more : List ℕ) → IsRun p items → AllByRecursion IsShort items → m ≡ n + length items
+pub items_read : (items : List Item) (n m : ℕ) (p : Progress) (more : List ℕ) → IsRun p items
+    → AllByRecursion IsShort items → m ≡ n + length items
     → items_from n p (pieces 10 (flat_map item_line items ++ more)) ≡ cond (length more == 0) (Ok items) (Err (refusals.Trailing m))
 items_read [] n m p more run short last = absurd run
 items_read (item ∷ []) n m p more run short last =
     let some = nonempty more in
-    let cut : pieces 10 (flat_map item_line (item ∷ []) ++ more) ≡ line_of_words (item_words item) ∷ some.0 ∷ some.1 = ap (λ (t : List ℕ). pieces 10 (t ++ more)) (flat_map-cons item_line item [] ∙ append-nil (item_line item)) ∙ line_cut p item more run.0 ∙ ap (λ (ps : List (List ℕ)). line_of_words (item_words item) ∷ ps) some.2 in
+    let cut : pieces 10 (flat_map item_line (item ∷ []) ++ more)
+    ≡ line_of_words (item_words item) ∷ some.0 ∷ some.1 =
+    ap (λ (t : List ℕ). pieces 10 (t ++ more)) (flat_map-cons item_line item [] ∙ append-nil (item_line item))
+    ∙ line_cut p item more run.0 ∙ ap (λ (ps : List (List ℕ)). line_of_words (item_words item) ∷ ps) some.2 in
     let test : is_nothing (some.0 ∷ some.1) ≡ (length more == 0) = ap is_nothing (sym some.2) ∙ nothing_more more in
     let number : n + 1 ≡ m = omega (arith, last) in
     rw cut (at_end n p (line_of_words (item_words item)) some.0 some.1 item short.0 (line_read p item run.0) run.1 ∙ rw (test, number) refl)
 items_read (item ∷ next ∷ others) n m p more run short last =
     let rest : List ℕ = flat_map item_line (next ∷ others) ++ more in
     let some = nonempty rest in
-    let cut : pieces 10 (flat_map item_line (item ∷ next ∷ others) ++ more) ≡ line_of_words (item_words item) ∷ some.0 ∷ some.1 = ap (λ (t : List ℕ). pieces 10 (t ++ more)) (flat_map-cons item_line item (next ∷ others)) ∙ ap (pieces 10) (append_assoc (item_line item) (flat_map item_line (next ∷ others)) more) ∙ line_cut p item rest run.0 ∙ ap (λ (ps : List (List ℕ)). line_of_words (item_words item) ∷ ps) some.2 in
+    let cut : pieces 10 (flat_map item_line (item ∷ next ∷ others) ++ more)
+    ≡ line_of_words (item_words item) ∷ some.0 ∷ some.1 =
+    ap (λ (t : List ℕ). pieces 10 (t ++ more)) (flat_map-cons item_line item (next ∷ others))
+    ∙ ap (pieces 10) (append_assoc (item_line item) (flat_map item_line (next ∷ others)) more)
+    ∙ line_cut p item rest run.0 ∙ ap (λ (ps : List (List ℕ)). line_of_words (item_words item) ∷ ps) some.2 in
     let later = items_read (next ∷ others) (n + 1) m (after p item) more run.2 short.1 (omega (arith, last)) in
     let step = at_item n p (line_of_words (item_words item)) some.0 some.1 item short.0 (line_read p item run.0) run.1 in
-    rw cut (step ∙ ap (onto item) (ap (items_from (n + 1) (after p item)) (sym some.2) ∙ later) ∙ through item (length more == 0) (next ∷ others) m)
+    rw cut (step ∙ ap (onto item) (ap (items_from (n + 1) (after p item)) (sym some.2) ∙ later)
+    ∙ through item (length more == 0) (next ∷ others) m)
   where
-    through : (item : Item) (b : Bool) (rest : List Item) (m : ℕ) → onto item (cond b (Ok rest) (Err (refusals.Trailing m))) ≡ cond b (Ok (item ∷ rest)) (Err (refusals.Trailing m))
+    through : (item : Item) (b : Bool) (rest : List Item) (m : ℕ)
+        → onto item (cond b (Ok rest) (Err (refusals.Trailing m)))
+        ≡ cond b (Ok (item ∷ rest)) (Err (refusals.Trailing m))
     through item true rest m = refl
     through item false rest m = refl
 
 -- ---- whole texts
 
-pub text_read : (items : List Item) (more : List ℕ) → IsRun beginning items → items_of_text (text_of items ++ more) ≡ cond (length more == 0) (Ok items) (Err (refusals.Trailing (1 + length items)))
+pub text_read : (items : List Item) (more : List ℕ) → IsRun beginning items
+    → items_of_text (text_of items ++ more) ≡ cond (length more == 0) (Ok items)
+    (Err (refusals.Trailing (1 + length items)))
 unfolding items_of_text
 text_read items more run = items_read items 1 (1 + length items) beginning more run (run_short beginning items run) refl
 
@@ -156,7 +198,8 @@ text_found text items h =
 
 -- ---- no text begins another
 
-begun : (b : Bool) (items others : List Item) (m : ℕ) → cond b (Ok items) (Err (refusals.Trailing m)) ≡ Ok others → (b ≡ true) × (items ≡ others)
+begun : (b : Bool) (items others : List Item) (m : ℕ) → cond b (Ok items) (Err (refusals.Trailing m)) ≡ Ok others
+    → (b ≡ true) × (items ≡ others)
 begun true items others m h = (refl, cc)
 begun false items others m h = absurd cc
 
@@ -164,17 +207,20 @@ nil_is : (more : List ℕ) → (length more == 0) ≡ true → more ≡ []
 nil_is [] h = refl
 nil_is (c ∷ cs) h = absurd (grind (arith, nat_tests, h))
 
-pub none_begins : (a b : List Item) (more : List ℕ) → IsRun beginning a → IsRun beginning b → text_of a ++ more ≡ text_of b → (a ≡ b) × (more ≡ [])
+pub none_begins : (a b : List Item) (more : List ℕ) → IsRun beginning a → IsRun beginning b
+    → text_of a ++ more ≡ text_of b → (a ≡ b) × (more ≡ [])
 none_begins a b more run_a run_b same =
     let whole : items_of_text (text_of b) ≡ Ok b = ap items_of_text (sym (append-nil (text_of b))) ∙ text_read b [] run_b in
-    let both : cond (length more == 0) (Ok a) (Err (refusals.Trailing (1 + length a))) ≡ Ok b = sym (text_read a more run_a) ∙ ap items_of_text same ∙ whole in
+    let both : cond (length more == 0) (Ok a) (Err (refusals.Trailing (1 + length a)))
+    ≡ Ok b = sym (text_read a more run_a) ∙ ap items_of_text same ∙ whole in
     let t = begun (length more == 0) a b (1 + length a) both in
     (t.1, nil_is more t.0)
 
 -- ---- contents
 
 -- what is read whole is some content's text
-pub text_found_of : (text : List ℕ) (items : List Item) → items_of_text text ≡ Ok items → (c : Content) × (items ≡ items_of c) × IsTextOf text c
+pub text_found_of : (text : List ℕ) (items : List Item) → items_of_text text ≡ Ok items
+    → (c : Content) × (items ≡ items_of c) × IsTextOf text c
 text_found_of text items h =
     let t = text_found text items h in
     let c = run_content items t.1 in

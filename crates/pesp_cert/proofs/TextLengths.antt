@@ -43,7 +43,13 @@ one_len w a = omega (arith, length-append (w ++ ((32 ∷ a) ++ [])) (10 ∷ []),
 
 two_len : (w a b : List ℕ) → length ((w ++ ((32 ∷ a) ++ ((32 ∷ b) ++ []))) ++ 10 ∷ []) ≡ length w + length a + length b + 3
 two_len w a b =
-    omega (arith, length-append (w ++ ((32 ∷ a) ++ ((32 ∷ b) ++ []))) (10 ∷ []), length-append w ((32 ∷ a) ++ ((32 ∷ b) ++ [])), length-append (32 ∷ a) ((32 ∷ b) ++ []), length-append (32 ∷ b) [])
+    omega (
+      arith,
+      length-append (w ++ ((32 ∷ a) ++ ((32 ∷ b) ++ []))) (10 ∷ []),
+      length-append w ((32 ∷ a) ++ ((32 ∷ b) ++ [])),
+      length-append (32 ∷ a) ((32 ∷ b) ++ []),
+      length-append (32 ∷ b) [],
+    )
 
 list_len : (w a : List ℕ) → length ((w ++ a) ++ 10 ∷ []) ≡ length w + length a + 1
 list_len w a = omega (arith, length-append (w ++ a) (10 ∷ []), length-append w a)
@@ -57,22 +63,47 @@ period_len n le = omega (arith, one_len (codes "period") (decimal n), nat_len n 
 answer_len : (a : Answer) → has_costs a ≡ true → length (item_line (Says a)) ≤ 60
 answer_len (answers.Optimal c) h = omega (arith, one_len (codes "answer optimal") (decimal c), nat_len c (grind (arith, nat_tests, h)))
 answer_len answers.Infeasible h = omega arith
-answer_len (answers.Bounded least None) h = omega (arith, two_len (codes "answer open") (decimal least) (codes "none"), nat_len least (grind (arith, nat_tests, h)))
+answer_len (answers.Bounded least None) h = omega (
+  arith,
+  two_len (codes "answer open") (decimal least) (codes "none"),
+  nat_len least (grind (arith, nat_tests, h)),
+)
 answer_len (answers.Bounded least (Some c)) h =
-    omega (arith, two_len (codes "answer open") (decimal least) (decimal c), nat_len least (grind (arith, nat_tests, h)), nat_len c (grind (arith, nat_tests, h)))
+    omega (
+      arith,
+      two_len (codes "answer open") (decimal least) (decimal c),
+      nat_len least (grind (arith, nat_tests, h)),
+      nat_len c (grind (arith, nat_tests, h)),
+    )
 
 time_len : (t : ℤ × ℕ) → is_time t ≡ true → length (item_line (time_item t)) ≤ 50
-time_len (label, time) h = omega (arith, two_len (codes "time") (signed_decimal label) (decimal time), int_len label (grind (arith, nat_tests, h)), nat_len time (grind (arith, nat_tests, h)))
+time_len (label, time) h = omega (
+  arith,
+  two_len (codes "time") (signed_decimal label) (decimal time),
+  int_len label (grind (arith, nat_tests, h)),
+  nat_len time (grind (arith, nat_tests, h)),
+)
 
 cycle_len : (rs : List SignedRow) → is_cycle rs ≡ true → length (item_line (Cycle rs)) ≤ 6 + 8 * length rs
 cycle_len rs h = omega (arith, list_len (codes "cycle") (spaced (row_words rs)), rows_len rs (and_right _ (rows_are_named rs) h))
 
-leaf_len : (w : List ℕ) (ps : List Pair) → length w ≤ 1 → rise_from 0 ps && all_within ps ≡ true → length ((w ++ spaced (pair_words ps)) ++ 10 ∷ []) ≤ 50 + 39 * length ps
+leaf_len : (w : List ℕ) (ps : List Pair) → length w ≤ 1 → rise_from 0 ps && all_within ps ≡ true
+    → length ((w ++ spaced (pair_words ps)) ++ 10 ∷ []) ≤ 50 + 39 * length ps
 leaf_len w ps one h = omega (arith, one, list_len w (spaced (pair_words ps)), pairs_len ps (and_right (rise_from 0 ps) (all_within ps) h))
 
 line_len : (line : TreeLine) → is_line line ≡ true → length (item_line (tree_item line)) ≤ 50 + 39 * pairs_in line
-line_len (lines.Slack row k) h = omega (arith, two_len (codes "s") (decimal row) (decimal k), nat_len row (grind (arith, nat_tests, h)), nat_len k (grind (arith, nat_tests, h)))
-line_len (lines.Offset cycle k) h = omega (arith, two_len (codes "o") (decimal cycle) (signed_decimal k), nat_len cycle (grind (arith, nat_tests, h)), int_len k (grind (arith, nat_tests, h)))
+line_len (lines.Slack row k) h = omega (
+  arith,
+  two_len (codes "s") (decimal row) (decimal k),
+  nat_len row (grind (arith, nat_tests, h)),
+  nat_len k (grind (arith, nat_tests, h)),
+)
+line_len (lines.Offset cycle k) h = omega (
+  arith,
+  two_len (codes "o") (decimal cycle) (signed_decimal k),
+  nat_len cycle (grind (arith, nat_tests, h)),
+  int_len k (grind (arith, nat_tests, h)),
+)
 line_len (lines.Bound ps) h = leaf_len (codes "b") ps (omega arith) h
 line_len (lines.Nothing ps) h = leaf_len (codes "n") ps (omega arith) h
 line_len (lines.Gap cycle) h = omega (arith, one_len (codes "g") (decimal cycle), nat_len cycle (grind (arith, nat_tests, h)))
@@ -83,23 +114,41 @@ line_len lines.Propagated h = omega arith
 times_len : (ts : List (ℤ × ℕ)) → list_all is_time ts ≡ true → bytes_in (map time_item ts) ≤ 50 * length ts
 times_len [] h = omega arith
 times_len (t ∷ ts) h =
-    omega (arith, bytes-onto (time_item t) (map time_item ts), time_len t (and_left (is_time t) (list_all is_time ts) h), times_len ts (and_right (is_time t) (list_all is_time ts) h))
+    omega (
+      arith,
+      bytes-onto (time_item t) (map time_item ts),
+      time_len t (and_left (is_time t) (list_all is_time ts) h),
+      times_len ts (and_right (is_time t) (list_all is_time ts) h),
+    )
 
 cycles_len : (cs : List (List SignedRow)) → list_all is_cycle cs ≡ true → bytes_in (map Cycle cs) ≤ 6 * length cs + 8 * total_rows cs
 cycles_len [] h = omega arith
 cycles_len (w ∷ cs) h =
     let total : total_rows (w ∷ cs) ≡ length w + total_rows cs = sum_by-cons (λ (rs : List SignedRow). length rs) w cs in
-    omega (arith, total, bytes-onto (Cycle w) (map Cycle cs), cycle_len w (and_left (is_cycle w) (list_all is_cycle cs) h), cycles_len cs (and_right (is_cycle w) (list_all is_cycle cs) h))
+    omega (
+      arith,
+      total,
+      bytes-onto (Cycle w) (map Cycle cs),
+      cycle_len w (and_left (is_cycle w) (list_all is_cycle cs) h),
+      cycles_len cs (and_right (is_cycle w) (list_all is_cycle cs) h),
+    )
 
 tree_len : (ls : List TreeLine) → list_all is_line ls ≡ true → bytes_in (map tree_item ls) ≤ 50 * length ls + 39 * total_pairs ls
 tree_len [] h = omega arith
 tree_len (l ∷ ls) h =
     let total : total_pairs (l ∷ ls) ≡ pairs_in l + total_pairs ls = sum_by-cons pairs_in l ls in
-    omega (arith, total, bytes-onto (tree_item l) (map tree_item ls), line_len l (and_left (is_line l) (list_all is_line ls) h), tree_len ls (and_right (is_line l) (list_all is_line ls) h))
+    omega (
+      arith,
+      total,
+      bytes-onto (tree_item l) (map tree_item ls),
+      line_len l (and_left (is_line l) (list_all is_line ls) h),
+      tree_len ls (and_right (is_line l) (list_all is_line ls) h),
+    )
 
 -- ---- the whole text
 
-others_len : (c : Content) → KeepsLimits c → bytes_in (((map time_item c.times ++ map Cycle c.cycles) ++ map tree_item c.tree) ++ End ∷ []) ≤ 1000000000
+others_len : (c : Content) → KeepsLimits c → bytes_in
+    (((map time_item c.times ++ map Cycle c.cycles) ++ map tree_item c.tree) ++ End ∷ []) ≤ 1000000000
 others_len c k =
     let last : bytes_in (End ∷ []) ≡ 4 = refl in
     omega (

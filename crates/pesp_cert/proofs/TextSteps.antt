@@ -14,7 +14,8 @@ use Rattle.pesp_cert.specs.declared.refusal.CertRefusal.TheVariants as refusals
 use Rattle.pesp_cert.specs.Texts.{is_end}
 use Rattle.pesp_cert.specs.Refusals.{items_from, refusal_at, is_nothing, onto}
 
-pub at_long : (n : ℕ) (p : Progress) (line : List ℕ) (rest : List (List ℕ)) → LONGEST < length line → items_from n p (line ∷ rest) ≡ Err (refusals.Limit n)
+pub at_long : (n : ℕ) (p : Progress) (line : List ℕ) (rest : List (List ℕ)) → LONGEST < length line
+    → items_from n p (line ∷ rest) ≡ Err (refusals.Limit n)
 unfolding items_from
 at_long n p line [] long = rw (lt-ltb LONGEST (length line) long) refl
 at_long n p line (next ∷ more) long = rw (lt-ltb LONGEST (length line) long) refl
@@ -23,16 +24,19 @@ pub at_last : (n : ℕ) (p : Progress) (line : List ℕ) → length line ≤ LON
 unfolding items_from
 at_last n p line short = rw (le-ltb LONGEST (length line) short) refl
 
-pub at_fault : (n : ℕ) (p : Progress) (line next : List ℕ) (more : List (List ℕ)) (f : LineFault) → length line ≤ LONGEST → line_at p line ≡ Err f → items_from n p (line ∷ next ∷ more) ≡ Err (refusal_at n f)
+pub at_fault : (n : ℕ) (p : Progress) (line next : List ℕ) (more : List (List ℕ)) (f : LineFault)
+    → length line ≤ LONGEST → line_at p line ≡ Err f → items_from n p (line ∷ next ∷ more) ≡ Err (refusal_at n f)
 unfolding items_from
 at_fault n p line next more f short h = rw (le-ltb LONGEST (length line) short, h) refl
 
-pub at_end : (n : ℕ) (p : Progress) (line next : List ℕ) (more : List (List ℕ)) (item : Item) → length line ≤ LONGEST → line_at p line ≡ Ok item → is_end item ≡ true
+pub at_end : (n : ℕ) (p : Progress) (line next : List ℕ) (more : List (List ℕ)) (item : Item)
+    → length line ≤ LONGEST → line_at p line ≡ Ok item → is_end item ≡ true
     → items_from n p (line ∷ next ∷ more) ≡ cond (is_nothing (next ∷ more)) (Ok (item ∷ [])) (Err (refusals.Trailing (n + 1)))
 unfolding items_from
 at_end n p line next more item short h e = rw (le-ltb LONGEST (length line) short, h) (rw e refl)
 
-pub at_item : (n : ℕ) (p : Progress) (line next : List ℕ) (more : List (List ℕ)) (item : Item) → length line ≤ LONGEST → line_at p line ≡ Ok item → is_end item ≡ false
+pub at_item : (n : ℕ) (p : Progress) (line next : List ℕ) (more : List (List ℕ)) (item : Item)
+    → length line ≤ LONGEST → line_at p line ≡ Ok item → is_end item ≡ false
     → items_from n p (line ∷ next ∷ more) ≡ onto item (items_from (n + 1) (after p item) (next ∷ more))
 unfolding items_from
 at_item n p line next more item short h e = rw (le-ltb LONGEST (length line) short, h) (rw e refl)
@@ -52,6 +56,7 @@ nothing_more (c ∷ cs) =
     let some = nonempty cs in
     split (is_byte 10 c) c (pieces 10 cs) some.0 some.1 some.2
   where
-    split : (b : Bool) (x : ℕ) (ps : List (List ℕ)) (w : List ℕ) (ws : List (List ℕ)) → ps ≡ w ∷ ws → is_nothing (cond b ([] ∷ ps) (onto_first x ps)) ≡ (suc (length cs) == 0)
+    split : (b : Bool) (x : ℕ) (ps : List (List ℕ)) (w : List ℕ) (ws : List (List ℕ)) → ps ≡ w ∷ ws
+        → is_nothing (cond b ([] ∷ ps) (onto_first x ps)) ≡ (suc (length cs) == 0)
     split true x ps w ws h = rw h (grind (arith, nat_tests))
     split false x ps w ws h = rw h (grind (arith, nat_tests))

@@ -71,7 +71,8 @@ total_pairs lines = sum_by pairs_in lines
 
 -- one whole tree
 abbrev pub are_lines : List TreeLine → Bool
-are_lines lines = nat_le (length lines) 1000000 && nat_le (total_pairs lines) 20000000 && list_all is_line lines && are_trees 1 (map line_of lines)
+are_lines lines = nat_le (length lines) 1000000 && nat_le (total_pairs lines) 20000000 && list_all is_line lines
+    && are_trees 1 (map line_of lines)
 
 -- whether certificates of this version have such a line
 abbrev pub has_line : ℕ → TreeLine → Bool
@@ -84,7 +85,8 @@ has_lines version lines = nat_le 1 version && nat_le version 2 && list_all (has_
 
 -- what a certificate may hold
 unfoldable pub keeps_limits : Content → Bool
-keeps_limits c = is_period c.period && has_costs c.answer && are_times c.times && are_cycles c.cycles && are_lines c.tree && has_lines c.version c.tree
+keeps_limits c = is_period c.period && has_costs c.answer && are_times c.times && are_cycles c.cycles
+    && are_lines c.tree && has_lines c.version c.tree
 
 -- the same as facts
 pub record KeepsLimits (c : Content) : Type 0 where

@@ -50,4 +50,5 @@ tree_line (lines.Gap cycle) = codes "g " ++ decimal cycle ++ codes "\n"
 tree_line lines.Propagated = codes "p\n"
 
 abbrev pub certificate_text : Content → List ℕ
-certificate_text c = head_lines c.version c.period ++ answer_line c.answer ++ flat_map time_line c.times ++ flat_map cycle_line c.cycles ++ flat_map tree_line c.tree ++ codes "end\n"
+certificate_text c = head_lines c.version c.period ++ answer_line c.answer ++ flat_map time_line c.times
+    ++ flat_map cycle_line c.cycles ++ flat_map tree_line c.tree ++ codes "end\n"

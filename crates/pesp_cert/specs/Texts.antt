@@ -37,7 +37,8 @@ tree_item lines.Propagated = Propagated
 
 -- version, period, answer, times, cycles, tree and end
 abbrev pub items_of : Content → List Item
-items_of c = Version c.version ∷ Period c.period ∷ Says c.answer ∷ map time_item c.times ++ map Cycle c.cycles ++ map tree_item c.tree ++ End ∷ []
+items_of c = Version c.version ∷ Period c.period ∷ Says c.answer ∷ map time_item c.times ++ map Cycle c.cycles
+    ++ map tree_item c.tree ++ End ∷ []
 
 -- the one text of a certificate
 abbrev pub spelling : Content → List ℕ

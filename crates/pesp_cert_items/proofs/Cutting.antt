@@ -31,11 +31,14 @@ cut_start told left held line' none = record {
 pub range_behind : (xs : List ℕ) (a e m : ℕ) → m ≤ e - a → slice_range xs (a + m) e ≡ drop m (slice_range xs a e)
 range_behind xs a e m le =
     let whole : m + (e - (a + m)) ≡ e - a = omega arith in
-    ap (take (e - (a + m))) (sym (drop-drop m a xs)) ∙ sym (drop-take m (e - (a + m)) (drop a xs)) ∙ ap (λ k. drop m (take k (drop a xs))) whole
+    ap (take (e - (a + m))) (sym (drop-drop m a xs)) ∙ sym (drop-take m (e - (a + m)) (drop a xs))
+    ∙ ap (λ k. drop m (take k (drop a xs))) whole
 
 -- up to an LF in what is held
-pub line_moved : (bytes : List ℕ) (start end at : ℕ) (self line line' : List ℕ) → slice_range bytes start end ≡ self → CutsAt (Some at) (slice_range bytes start end)
-    → line' ≡ line ++ take at (slice_range bytes start end) → at ≤ LONGEST - length line → length line ≤ LONGEST → Moves fronts.Line self line (slice_range bytes (start + (at + 1)) end) line'
+pub line_moved : (bytes : List ℕ) (start end at : ℕ) (self line line' : List ℕ)
+    → slice_range bytes start end ≡ self → CutsAt (Some at) (slice_range bytes start end)
+    → line' ≡ line ++ take at (slice_range bytes start end) → at ≤ LONGEST - length line → length line ≤ LONGEST
+    → Moves fronts.Line self line (slice_range bytes (start + (at + 1)) end) line'
 line_moved bytes start end at self line line' view cut is few short =
     let held = slice_range bytes start end in
     let few' : at + 1 ≤ end - start = omega (arith, cut.0, length-take (end - start) (drop start bytes)) in
@@ -49,7 +52,8 @@ line_moved bytes start end at self line line' view cut is few short =
 
 -- ---- the loop
 
-pub cut_line : (told told' : Option (List ℕ)) (left left' : ℕ) (held held' line' held'' line'' : List ℕ) → IsCutTo told told' left left' held held' line' → Moves fronts.Line held' line' held'' line''
+pub cut_line : (told told' : Option (List ℕ)) (left left' : ℕ) (held held' line' held'' line'' : List ℕ)
+    → IsCutTo told told' left left' held held' line' → Moves fronts.Line held' line' held'' line''
     → Advances told told' left left' held held'' line'' nexts.Line
 cut_line told told' left left' held held' line' held'' line'' so_far m =
     record {
@@ -62,7 +66,8 @@ cut_line told told' left left' held held' line' held'' line'' so_far m =
       );
     }
 
-pub cut_long : (told told' : Option (List ℕ)) (left left' : ℕ) (held held' line' held'' line'' : List ℕ) → IsCutTo told told' left left' held held' line' → Moves fronts.Long held' line' held'' line''
+pub cut_long : (told told' : Option (List ℕ)) (left left' : ℕ) (held held' line' held'' line'' : List ℕ)
+    → IsCutTo told told' left left' held held' line' → Moves fronts.Long held' line' held'' line''
     → (h : List ℕ) (l : List ℕ) → Advances told told' left left' held h l nexts.Long
 cut_long told told' left left' held held' line' held'' line'' so_far m h l =
     record {
@@ -78,7 +83,9 @@ cut_long told told' left left' held held' line' held'' line'' so_far m h l =
     }
 
 -- the piece that is read then
-pub cut_more : (told told' told'' : Option (List ℕ)) (left left' left'' : ℕ) (held held' line' held'' line'' piece : List ℕ) → IsCutTo told told' left left' held held' line' → Moves fronts.Part held' line' held'' line''
+pub cut_more : (told told' told'' : Option (List ℕ)) (left left' left'' : ℕ)
+    (held held' line' held'' line'' piece : List ℕ) → IsCutTo told told' left left' held held' line'
+    → Moves fronts.Part held' line' held'' line''
     → Consumes told' told'' piece → left'' + length piece ≡ left' → IsCutTo told told'' left left'' held piece line''
 cut_more told told' told'' left left' left'' held held' line' held'' line'' piece so_far m consumed within =
     record {
@@ -92,8 +99,11 @@ cut_more told told' told'' left left' left'' held held' line' held'' line'' piec
       short = m.3;
     }
 
-pub cut_end : (told told' told'' : Option (List ℕ)) (left left' : ℕ) (held held' line' held'' line'' piece : List ℕ) → IsCutTo told told' left left' held held' line' → Moves fronts.Part held' line' held'' line''
-    → Consumes told' told'' piece → 0 ≡ length piece → (0 < left' → IsAtEnd told'') → Advances told told'' left left' held piece line'' nexts.End
+pub cut_end : (told told' told'' : Option (List ℕ)) (left left' : ℕ)
+    (held held' line' held'' line'' piece : List ℕ) → IsCutTo told told' left left' held held' line'
+    → Moves fronts.Part held' line' held'' line''
+    → Consumes told' told'' piece → 0 ≡ length piece → (0 < left' → IsAtEnd told'')
+    → Advances told told'' left left' held piece line'' nexts.End
 cut_end told told' told'' left left' held held' line' held'' line'' piece so_far m consumed none end =
     let empty : piece ≡ [] = nil_from_length piece (sym none) in
     let read = cut_more told told' told'' left left' left' held held' line' held'' line'' piece so_far m consumed (omega (arith, none)) in

@@ -21,15 +21,18 @@ use Rattle.pesp_cert_items.specs.declared.pairs.LinePairs.{LinePairs}
 use Rattle.pesp_cert_items.specs.Lent.{rows_in, pairs_in, listed, bare, read_back, IsSpelt}
 
 -- the words behind the first
-behind : (p : Progress) (item : Item) (line w : List ℕ) (ws : List (List ℕ)) → SpellsItem p line item → item_words item ≡ w ∷ ws → drop 1 (words_of line) ≡ ws
-behind p item line w ws s words = ap (λ l. drop 1 (words_of l)) s.0 ∙ ap (drop 1) (words_of-item item s.1.proper s.1.within) ∙ ap (drop 1) words
+behind : (p : Progress) (item : Item) (line w : List ℕ) (ws : List (List ℕ)) → SpellsItem p line item
+    → item_words item ≡ w ∷ ws → drop 1 (words_of line) ≡ ws
+behind p item line w ws s words = ap (λ l. drop 1 (words_of l)) s.0
+    ∙ ap (drop 1) (words_of-item item s.1.proper s.1.within) ∙ ap (drop 1) words
 
 -- what is lent says the item
 pub record IsLent (said : LentItem) (line : List ℕ) (item : Item) : Type 0 where
   pub says : read_back said line ≡ item
   pub spelt : IsSpelt said line
 
-cycle_lent : (said : LentItem) (line : List ℕ) (xs : List SignedRow) → listed said ≡ Cycle [] → rows_of (drop 1 (words_of line)) ≡ Some xs → rows_are_named xs ≡ true → IsLent said line (Cycle xs)
+cycle_lent : (said : LentItem) (line : List ℕ) (xs : List SignedRow) → listed said ≡ Cycle []
+    → rows_of (drop 1 (words_of line)) ≡ Some xs → rows_are_named xs ≡ true → IsLent said line (Cycle xs)
 cycle_lent (lent.Period n) line xs h read good = absurd cc
 cycle_lent (lent.Version n) line xs h read good = absurd cc
 cycle_lent (lent.Answer a) line xs h read good = absurd cc
@@ -42,7 +45,8 @@ cycle_lent (lent.Nothing ps) line xs h read good = absurd cc
 cycle_lent (lent.Gap cycle) line xs h read good = absurd cc
 cycle_lent lent.Propagated line xs h read good = absurd cc
 
-bound_lent : (said : LentItem) (line : List ℕ) (xs : List Pair) → listed said ≡ Bound [] → pairs_from 0 (drop 1 (words_of line)) ≡ Some xs → all_within xs ≡ true → IsLent said line (Bound xs)
+bound_lent : (said : LentItem) (line : List ℕ) (xs : List Pair) → listed said ≡ Bound []
+    → pairs_from 0 (drop 1 (words_of line)) ≡ Some xs → all_within xs ≡ true → IsLent said line (Bound xs)
 bound_lent (lent.Period n) line xs h read good = absurd cc
 bound_lent (lent.Version n) line xs h read good = absurd cc
 bound_lent (lent.Answer a) line xs h read good = absurd cc
@@ -55,7 +59,8 @@ bound_lent (lent.Nothing ps) line xs h read good = absurd cc
 bound_lent (lent.Gap cycle) line xs h read good = absurd cc
 bound_lent lent.Propagated line xs h read good = absurd cc
 
-nothing_lent : (said : LentItem) (line : List ℕ) (xs : List Pair) → listed said ≡ Nothing [] → pairs_from 0 (drop 1 (words_of line)) ≡ Some xs → all_within xs ≡ true → IsLent said line (Nothing xs)
+nothing_lent : (said : LentItem) (line : List ℕ) (xs : List Pair) → listed said ≡ Nothing []
+    → pairs_from 0 (drop 1 (words_of line)) ≡ Some xs → all_within xs ≡ true → IsLent said line (Nothing xs)
 nothing_lent (lent.Period n) line xs h read good = absurd cc
 nothing_lent (lent.Version n) line xs h read good = absurd cc
 nothing_lent (lent.Answer a) line xs h read good = absurd cc
@@ -88,16 +93,23 @@ plain_lent (lent.Nothing ps) line item plain h = let bad : true ≡ has_list ite
 plain_lent (lent.Gap cycle) line item plain h = record { says = h; spelt = tt }
 plain_lent lent.Propagated line item plain h = record { says = h; spelt = tt }
 
-pub lent_back : (p : Progress) (said : LentItem) (line : List ℕ) (item : Item) → SpellsItem p line item → is_end item ≡ false → listed said ≡ bare item → IsLent said line item
+pub lent_back : (p : Progress) (said : LentItem) (line : List ℕ) (item : Item) → SpellsItem p line item
+    → is_end item ≡ false → listed said ≡ bare item → IsLent said line item
 lent_back p said line (Period n) s e h = plain_lent said line (Period n) refl h
 lent_back p said line (Version n) s e h = plain_lent said line (Version n) refl h
 lent_back p said line (Says a) s e h = plain_lent said line (Says a) refl h
 lent_back p said line (Time l t) s e h = plain_lent said line (Time l t) refl h
-lent_back p said line (Cycle rows) s e h = cycle_lent said line rows h (ap rows_of (behind p (Cycle rows) line (codes "cycle") (row_words rows) s refl) ∙ rows_read rows s.1.within) s.1.within
+lent_back p said line (Cycle rows) s e h = cycle_lent said line rows h
+    (ap rows_of (behind p (Cycle rows) line (codes "cycle") (row_words rows) s refl) ∙ rows_read rows s.1.within)
+    s.1.within
 lent_back p said line (Slack row k) s e h = plain_lent said line (Slack row k) refl h
 lent_back p said line (Offset cycle k) s e h = plain_lent said line (Offset cycle k) refl h
-lent_back p said line (Bound ps) s e h = bound_lent said line ps h (ap (pairs_from 0) (behind p (Bound ps) line (codes "b") (pair_words ps) s refl) ∙ pairs_read 0 ps s.1.proper s.1.within) s.1.within
-lent_back p said line (Nothing ps) s e h = nothing_lent said line ps h (ap (pairs_from 0) (behind p (Nothing ps) line (codes "n") (pair_words ps) s refl) ∙ pairs_read 0 ps s.1.proper s.1.within) s.1.within
+lent_back p said line (Bound ps) s e h = bound_lent said line ps h
+    (ap (pairs_from 0) (behind p (Bound ps) line (codes "b") (pair_words ps) s refl)
+    ∙ pairs_read 0 ps s.1.proper s.1.within) s.1.within
+lent_back p said line (Nothing ps) s e h = nothing_lent said line ps h
+    (ap (pairs_from 0) (behind p (Nothing ps) line (codes "n") (pair_words ps) s refl)
+    ∙ pairs_read 0 ps s.1.proper s.1.within) s.1.within
 lent_back p said line (Gap cycle) s e h = plain_lent said line (Gap cycle) refl h
 lent_back p said line Propagated s e h = plain_lent said line Propagated refl h
 lent_back p said line End s e h = absurd cc

@@ -31,7 +31,8 @@ behind_none : (r : Result (List Item) CertRefusal) → r ≡ behind [] r
 behind_none (Ok items) = refl
 behind_none (Err e) = refl
 
-behind_more : (items : List Item) (item : Item) (r : Result (List Item) CertRefusal) → behind items (onto item r) ≡ behind (items ++ item ∷ []) r
+behind_more : (items : List Item) (item : Item) (r : Result (List Item) CertRefusal)
+    → behind items (onto item r) ≡ behind (items ++ item ∷ []) r
 behind_more items item (Ok others) = ap Ok (sym (append_assoc items (item ∷ []) others))
 behind_more items item (Err e) = refl
 
@@ -47,7 +48,8 @@ runs_more a b c items item p q = record {
   got = p.got ++ q.got;
   reads = reads_then _ _ _ _ _ _ p.got q.got p.reads q.reads;
   says = λ more.
-      ap (λ t. items_at a (a.held ++ t)) (append_assoc p.got q.got more) ∙ p.says (q.got ++ more) ∙ ap (behind items) (q.says more) ∙ behind_more items item (items_at c (c.held ++ more));
+      ap (λ t. items_at a (a.held ++ t)) (append_assoc p.got q.got more) ∙ p.says (q.got ++ more)
+      ∙ ap (behind items) (q.says more) ∙ behind_more items item (items_at c (c.held ++ more));
 }
 
 pub runs_all : (a b c : Reading) (items : List Item) → Runs a b items → Ends b c → Ran a c items
@@ -62,11 +64,13 @@ pub runs_refused : (a b c : Reading) (items : List Item) (r : CertRefusal) → R
 runs_refused a b c items r p q = record {
   got = p.got ++ q.got;
   reads = reads_then _ _ _ _ _ _ p.got q.got p.reads q.reads;
-  says = λ more over. ap (λ t. items_at a (a.held ++ t)) (append_assoc p.got q.got more) ∙ p.says (q.got ++ more) ∙ ap (behind items) (q.says more over);
+  says = λ more over. ap (λ t. items_at a (a.held ++ t)) (append_assoc p.got q.got more) ∙ p.says (q.got ++ more)
+      ∙ ap (behind items) (q.says more over);
 }
 
 -- what a call answers while none answered None or a fault
-pub gives_of : (stage : Stage) (old new : Reading) (r : Result (Option Item) ItemFault) → is_open stage ≡ true → Answers stage old new r → Gives old new r
+pub gives_of : (stage : Stage) (old new : Reading) (r : Result (Option Item) ItemFault) → is_open stage ≡ true
+    → Answers stage old new r → Gives old new r
 gives_of stages.Going old new r o a = a
 gives_of stages.Ended old new r o a = absurd cc
 gives_of (stages.Failed f) old new r o a = absurd cc

@@ -32,10 +32,12 @@ use Rattle.pesp_cert_items.specs.Readings.{Reading, items_at, items_behind, is_o
 -- ---- pieces
 
 -- bytes without LF go before the first piece
-pub pieces_before : (front xs q : List ℕ) (qs : List (List ℕ)) → Clean front → pieces 10 xs ≡ q ∷ qs → pieces 10 (front ++ xs) ≡ (front ++ q) ∷ qs
+pub pieces_before : (front xs q : List ℕ) (qs : List (List ℕ)) → Clean front → pieces 10 xs ≡ q ∷ qs
+    → pieces 10 (front ++ xs) ≡ (front ++ q) ∷ qs
 pieces_before [] xs q qs clean h = h
 pieces_before (c ∷ cs) xs q qs clean h =
-    slice_split-cons_no (is_byte 10) c (cs ++ xs) (All-head (λ b. is_byte 10 b ≡ false) c cs clean) ∙ ap (onto_first c) (pieces_before cs xs q qs (All-tail (λ b. is_byte 10 b ≡ false) c cs clean) h)
+    slice_split-cons_no (is_byte 10) c (cs ++ xs) (All-head (λ b. is_byte 10 b ≡ false) c cs clean)
+    ∙ ap (onto_first c) (pieces_before cs xs q qs (All-tail (λ b. is_byte 10 b ≡ false) c cs clean) h)
 
 -- a line and its LF
 pub pieces_line : (line rest : List ℕ) → Clean line → pieces 10 (line ++ 10 ∷ rest) ≡ line ∷ pieces 10 rest
@@ -46,36 +48,55 @@ regroup held got more line held' all = sym (append_assoc held got more) ∙ ap (
 
 -- ---- one line
 
-line_says : (stage : Stage) (n : ℕ) (p : Progress) (text line : List ℕ) (ps : List (List ℕ)) → pieces 10 text ≡ line ∷ ps → items_at (record { told = None; left = 0; held = []; n = n; progress = p; stage = stage }) text ≡ items_behind stage (n + 1) p line ps
+line_says : (stage : Stage) (n : ℕ) (p : Progress) (text line : List ℕ) (ps : List (List ℕ))
+    → pieces 10 text ≡ line ∷ ps → items_at (record {
+      told = None;
+      left = 0;
+      held = [];
+      n = n;
+      progress = p;
+      stage = stage;
+    }) text ≡ items_behind stage (n + 1) p line ps
 line_says stages.Going n p text line ps cut = rw cut refl
 line_says stages.Ended n p text line ps cut = refl
 line_says (stages.Failed f) n p text line ps cut = refl
 
-pub line_read : (told told' : Option (List ℕ)) (left left' : ℕ) (held held' line' : List ℕ) (n : ℕ) (p : Progress) (stage : Stage) → Advances told told' left left' held held' line' nexts.Line
-    → Lines (record { told = told; left = left; held = held; n = n; progress = p; stage = stage }) (record { told = told'; left = left'; held = held'; n = n + 1; progress = p; stage = stage }) line'
+pub line_read : (told told' : Option (List ℕ)) (left left' : ℕ) (held held' line' : List ℕ) (n : ℕ) (p : Progress)
+    (stage : Stage) → Advances told told' left left' held held' line' nexts.Line
+    → Lines (record { told = told; left = left; held = held; n = n; progress = p; stage = stage })
+    (record { told = told'; left = left'; held = held'; n = n + 1; progress = p; stage = stage }) line'
 line_read told told' left left' held held' line' n p stage a = record {
   got = a.got;
   reads = a.reads;
   later = omega arith;
   short = a.reaches.2;
-  says = λ more. line_says stage n p (held ++ (a.got ++ more)) line' (pieces 10 (held' ++ more)) (ap (pieces 10) (regroup held a.got more line' held' a.reaches.1) ∙ pieces_line line' (held' ++ more) a.reaches.0);
+  says = λ more. line_says stage n p (held ++ (a.got ++ more)) line' (pieces 10 (held' ++ more))
+      (ap (pieces 10) (regroup held a.got more line' held' a.reaches.1)
+      ∙ pieces_line line' (held' ++ more) a.reaches.0);
 }
 
-pub line_counted : (told told' : Option (List ℕ)) (left left' : ℕ) (held held' line' : List ℕ) (n : ℕ) → Advances told told' left left' held held' line' nexts.Line → n + (left + length held) ≤ 1073741824 → (n + 1) + (left' + length held') ≤ 1073741824
+pub line_counted : (told told' : Option (List ℕ)) (left left' : ℕ) (held held' line' : List ℕ) (n : ℕ)
+    → Advances told told' left left' held held' line' nexts.Line → n + (left + length held) ≤ 1073741824
+    → (n + 1) + (left' + length held') ≤ 1073741824
 line_counted told told' left left' held held' line' n a le =
     let lengths = ap length a.reaches.1 in
     omega (arith, a.reads.within, lengths, length-append held a.got, length-append line' (10 ∷ held'), le)
 
 -- ---- a line that is too long, or has no LF
 
-long_says : (stage : Stage) (n : ℕ) (p : Progress) (text line : List ℕ) (ps : List (List ℕ)) → is_open stage ≡ true → pieces 10 text ≡ line ∷ ps → LONGEST < length line
+long_says : (stage : Stage) (n : ℕ) (p : Progress) (text line : List ℕ) (ps : List (List ℕ)) → is_open stage ≡ true
+    → pieces 10 text ≡ line ∷ ps → LONGEST < length line
     → items_at (record { told = None; left = 0; held = []; n = n; progress = p; stage = stage }) text ≡ Err (refusals.Limit (n + 1))
 long_says stages.Going n p text line ps o cut long = rw cut (at_long (n + 1) p line ps long)
 long_says stages.Ended n p text line ps o cut long = absurd cc
 long_says (stages.Failed f) n p text line ps o cut long = absurd cc
 
-pub long_refused : (told told' : Option (List ℕ)) (left left' : ℕ) (held held' line' : List ℕ) (n : ℕ) (p : Progress) (stage stage' : Stage) → is_open stage ≡ true → Advances told told' left left' held held' line' nexts.Long
-    → Refuses (record { told = told; left = left; held = held; n = n; progress = p; stage = stage }) (record { told = told'; left = left'; held = held'; n = n; progress = p; stage = stage' }) (refusals.Limit (n + 1))
+pub long_refused : (told told' : Option (List ℕ)) (left left' : ℕ) (held held' line' : List ℕ) (n : ℕ)
+    (p : Progress) (stage stage' : Stage) → is_open stage ≡ true
+    → Advances told told' left left' held held' line' nexts.Long
+    → Refuses (record { told = told; left = left; held = held; n = n; progress = p; stage = stage })
+    (record { told = told'; left = left'; held = held'; n = n; progress = p; stage = stage' })
+    (refusals.Limit (n + 1))
 long_refused told told' left left' held held' line' n p stage stage' o a =
     let front = a.reaches.0 in
     let rest = a.reaches.1 in
@@ -86,17 +107,23 @@ long_refused told told' left left' held held' line' n p stage stage' o a =
           let next = nonempty (rest ++ more) in
           let text = sym (append_assoc held a.got more) ∙ ap (λ l. l ++ more) a.reaches.3 ∙ append_assoc front rest more in
           let cut = ap (pieces 10) text ∙ pieces_before front (rest ++ more) next.0 next.1 a.reaches.2 next.2 in
-          long_says stage n p (held ++ (a.got ++ more)) (front ++ next.0) next.1 o cut (omega (arith, length-append front next.0, a.reaches.4));
+          long_says stage n p (held ++ (a.got ++ more)) (front ++ next.0) next.1 o cut
+          (omega (arith, length-append front next.0, a.reaches.4));
     }
 
-cut_says : (stage : Stage) (n : ℕ) (p : Progress) (text line : List ℕ) → is_open stage ≡ true → pieces 10 text ≡ line ∷ [] → length line ≤ LONGEST
+cut_says : (stage : Stage) (n : ℕ) (p : Progress) (text line : List ℕ) → is_open stage ≡ true
+    → pieces 10 text ≡ line ∷ [] → length line ≤ LONGEST
     → items_at (record { told = None; left = 0; held = []; n = n; progress = p; stage = stage }) text ≡ Err refusals.Truncated
 cut_says stages.Going n p text line o cut short = rw cut (at_last (n + 1) p line short)
 cut_says stages.Ended n p text line o cut short = absurd cc
 cut_says (stages.Failed f) n p text line o cut short = absurd cc
 
-pub cut_refused : (told told' : Option (List ℕ)) (left left' : ℕ) (held held' line' : List ℕ) (n : ℕ) (p : Progress) (stage stage' : Stage) → is_open stage ≡ true → Advances told told' left left' held held' line' nexts.End
-    → Refuses (record { told = told; left = left; held = held; n = n; progress = p; stage = stage }) (record { told = told'; left = left'; held = held'; n = n; progress = p; stage = stage' }) refusals.Truncated
+pub cut_refused : (told told' : Option (List ℕ)) (left left' : ℕ) (held held' line' : List ℕ) (n : ℕ)
+    (p : Progress) (stage stage' : Stage) → is_open stage ≡ true
+    → Advances told told' left left' held held' line' nexts.End
+    → Refuses (record { told = told; left = left; held = held; n = n; progress = p; stage = stage })
+    (record { told = told'; left = left'; held = held'; n = n; progress = p; stage = stage' })
+    refusals.Truncated
 cut_refused told told' left left' held held' line' n p stage stage' o a =
     record {
       got = a.got;
@@ -109,14 +136,17 @@ cut_refused told told' left left' held held' line' n p stage stage' o a =
 
 -- ---- a line that was read
 
-pub reads_then : (a b c : Option (List ℕ)) (l m n : ℕ) (got more : List ℕ) → Reads a b l m got → Reads b c m n more → Reads a c l n (got ++ more)
+pub reads_then : (a b c : Option (List ℕ)) (l m n : ℕ) (got more : List ℕ) → Reads a b l m got → Reads b c m n more
+    → Reads a c l n (got ++ more)
 reads_then a b c l m n got more p q = record {
   consumed = Consumes-trans a b c got more p.consumed q.consumed;
   within = omega (arith, length-append got more, p.within, q.within);
 }
 
-pub fault_read : (old : Reading) (told' : Option (List ℕ)) (left' : ℕ) (held' line : List ℕ) (n : ℕ) (p p' : Progress) (f : LineFault) (stage : Stage)
-    → Lines old (record { told = told'; left = left'; held = held'; n = n; progress = p; stage = stages.Going }) line → line_at p line ≡ Err f
+pub fault_read : (old : Reading) (told' : Option (List ℕ)) (left' : ℕ) (held' line : List ℕ) (n : ℕ)
+    (p p' : Progress) (f : LineFault) (stage : Stage)
+    → Lines old (record { told = told'; left = left'; held = held'; n = n; progress = p; stage = stages.Going })
+    line → line_at p line ≡ Err f
     → Refuses old (record { told = told'; left = left'; held = held'; n = n; progress = p'; stage = stage }) (refusal_at n f)
 fault_read old told' left' held' line n p p' f stage l h = record {
   got = l.got;
@@ -127,7 +157,8 @@ fault_read old told' left' held' line n p p' f stage l h = record {
 }
 
 pub item_read : (old : Reading) (told' : Option (List ℕ)) (left' : ℕ) (held' line : List ℕ) (n : ℕ) (p q : Progress) (item : Item)
-    → Lines old (record { told = told'; left = left'; held = held'; n = n; progress = p; stage = stages.Going }) line → line_at p line ≡ Ok item → is_end item ≡ false → q ≡ after p item
+    → Lines old (record { told = told'; left = left'; held = held'; n = n; progress = p; stage = stages.Going })
+    line → line_at p line ≡ Ok item → is_end item ≡ false → q ≡ after p item
     → Goes old (record { told = told'; left = left'; held = held'; n = n; progress = q; stage = stages.Going }) (onto item)
 item_read old told' left' held' line n p q item l h e goes = record {
   got = l.got;
@@ -143,7 +174,8 @@ item_read old told' left' held' line n p q item l h e goes = record {
 pub is_the_end : (line : List ℕ) → bytes_eq line (codes "end") ≡ true → line ≡ line_of_words (item_words End)
 is_the_end line h = (bytes_eq-Decides line (codes "end")).0 h
 
-pub not_the_end : (item : Item) (line : List ℕ) → bytes_eq line (codes "end") ≡ false → line ≡ line_of_words (item_words item) → is_end item ≡ false
+pub not_the_end : (item : Item) (line : List ℕ) → bytes_eq line (codes "end") ≡ false
+    → line ≡ line_of_words (item_words item) → is_end item ≡ false
 not_the_end (Version n) line h is = refl
 not_the_end (Period n) line h is = refl
 not_the_end (Says a) line h is = refl
@@ -161,7 +193,8 @@ all_counted : (p : Progress) → IsKept p → keeps_counts p ≡ true
 all_counted p k = grind (arith, nat_tests, k.times, k.cycles, k.rows, k.lines, k.pairs)
 
 pub end_whole : (p : Progress) (line : List ℕ) → IsKept p → p.needs ≡ 0 → bytes_eq line (codes "end") ≡ true → line_at p line ≡ Ok End
-end_whole p line k none h = rw (is_the_end line h) (line_read_law p End (record { allowed = rw none refl; proper = tt; within = refl; counts = all_counted p k }))
+end_whole p line k none h = rw (is_the_end line h)
+    (line_read_law p End (record { allowed = rw none refl; proper = tt; within = refl; counts = all_counted p k }))
 
 pub end_early : (p : Progress) (line : List ℕ) → p.needs ≢ 0 → bytes_eq line (codes "end") ≡ true → line_at p line ≡ Err faults.Truncated
 unfolding line_at
@@ -170,7 +203,8 @@ end_early p line some h =
     rw (h, more) refl
 
 pub ends_there : (old : Reading) (told' told'' : Option (List ℕ)) (left' left'' : ℕ) (held' held'' line : List ℕ) (n : ℕ) (p : Progress)
-    → Lines old (record { told = told'; left = left'; held = held'; n = n; progress = p; stage = stages.Going }) line → line_at p line ≡ Ok End → EndsHere told' told'' left' left'' held' true
+    → Lines old (record { told = told'; left = left'; held = held'; n = n; progress = p; stage = stages.Going })
+    line → line_at p line ≡ Ok End → EndsHere told' told'' left' left'' held' true
     → Ends old (record { told = told''; left = left''; held = held''; n = n; progress = p; stage = stages.Ended })
 ends_there old told' told'' left' left'' held' held'' line n p l h e = record {
   got = l.got ++ e.got;
@@ -179,8 +213,10 @@ ends_there old told' told'' left' left'' held' held'' line n p l h e = record {
   says = l.says e.got ∙ rw e.there.0 (at_end n p line [] [] End l.short h refl);
 }
 
-pub trails : (old : Reading) (told' told'' : Option (List ℕ)) (left' left'' : ℕ) (held' held'' line : List ℕ) (n : ℕ) (p : Progress) (stage : Stage)
-    → Lines old (record { told = told'; left = left'; held = held'; n = n; progress = p; stage = stages.Going }) line → line_at p line ≡ Ok End → EndsHere told' told'' left' left'' held' false
+pub trails : (old : Reading) (told' told'' : Option (List ℕ)) (left' left'' : ℕ) (held' held'' line : List ℕ)
+    (n : ℕ) (p : Progress) (stage : Stage)
+    → Lines old (record { told = told'; left = left'; held = held'; n = n; progress = p; stage = stages.Going })
+    line → line_at p line ≡ Ok End → EndsHere told' told'' left' left'' held' false
     → Refuses old (record { told = told''; left = left''; held = held''; n = n; progress = p; stage = stage }) (refusals.Trailing (n + 1))
 trails old told' told'' left' left'' held' held'' line n p stage l h e = record {
   got = l.got ++ e.got;
@@ -188,16 +224,35 @@ trails old told' told'' left' left'' held' held'' line n p stage l h e = record 
   says = λ more over.
       let rest = held' ++ (e.got ++ more) in
       let next = nonempty rest in
-      let some : (length rest == 0) ≡ false = grind (arith, nat_tests, ap length (sym (append_assoc held' e.got more)), length-append (held' ++ e.got) more, e.there) in
+      let some : (length rest == 0) ≡ false = grind (
+        arith,
+        nat_tests,
+        ap length (sym (append_assoc held' e.got more)),
+        length-append (held' ++ e.got) more,
+        e.there,
+      ) in
       let test : is_nothing (next.0 ∷ next.1) ≡ false = ap is_nothing (sym next.2) ∙ nothing_more rest ∙ some in
-      ap (λ t. items_at old (old.held ++ t)) (append_assoc l.got e.got more) ∙ l.says (e.got ++ more) ∙ rw next.2 (at_end n p line next.0 next.1 End l.short h refl ∙ ap (λ (b : Bool). cond b (Ok (End ∷ [])) (Err (refusals.Trailing (n + 1)))) test);
+      ap (λ t. items_at old (old.held ++ t)) (append_assoc l.got e.got more) ∙ l.says (e.got ++ more)
+      ∙ rw next.2 (at_end n p line next.0 next.1 End l.short h refl
+      ∙ ap (λ (b : Bool). cond b (Ok (End ∷ [])) (Err (refusals.Trailing (n + 1)))) test);
 }
 
 -- ---- the stage
 
-pub of_going : (old : Reading) (told' : Option (List ℕ)) (left' : ℕ) (held' line : List ℕ) (n : ℕ) (p : Progress) (stage : Stage) → stage ≡ stages.Going
-    → Lines old (record { told = told'; left = left'; held = held'; n = n; progress = p; stage = stage }) line → Lines old (record { told = told'; left = left'; held = held'; n = n; progress = p; stage = stages.Going }) line
-of_going old told' left' held' line n p stage is l = subst (λ s. Lines old (record { told = told'; left = left'; held = held'; n = n; progress = p; stage = s }) line) is l
+pub of_going : (old : Reading) (told' : Option (List ℕ)) (left' : ℕ) (held' line : List ℕ) (n : ℕ) (p : Progress)
+    (stage : Stage) → stage ≡ stages.Going
+    → Lines old (record { told = told'; left = left'; held = held'; n = n; progress = p; stage = stage }) line
+    → Lines old (record {
+      told = told';
+      left = left';
+      held = held';
+      n = n;
+      progress = p;
+      stage = stages.Going;
+    }) line
+of_going old told' left' held' line n p stage is l =
+    subst (λ s. Lines old (record { told = told'; left = left'; held = held'; n = n; progress = p; stage = s })
+    line) is l
 
 pub zero_of : (n : ℕ) → (n ≢ 0 → ⊥) → n ≡ 0
 zero_of zero h = refl

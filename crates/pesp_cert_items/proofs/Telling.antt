@@ -19,26 +19,33 @@ at_first told limit = record { told = told; left = limit; held = []; n = 0; prog
 
 take_front : (got ys : List ℕ) (left : ℕ) → take (length got + left) (got ++ ys) ≡ got ++ take left ys
 take_front [] ys left = ap (λ k. take k ys) {y = left} (omega arith)
-take_front (x ∷ got) ys left = ap (λ k. take k (x ∷ got ++ ys)) {y = suc (length got + left)} (omega arith) ∙ ap (λ l. x ∷ l) (take_front got ys left)
+take_front (x ∷ got) ys left = ap (λ k. take k (x ∷ got ++ ys)) {y = suc (length got + left)} (omega arith)
+    ∙ ap (λ l. x ∷ l) (take_front got ys left)
 
 judged : (xs got ys : List ℕ) (left limit : ℕ) → xs ≡ got ++ ys → left + length got ≡ limit → take limit xs ≡ got ++ take left ys
-judged xs got ys left limit is within = ap (λ l. take limit l) is ∙ ap (λ k. take k (got ++ ys)) {y = length got + left} (omega (arith, within)) ∙ take_front got ys left
+judged xs got ys left limit is within = ap (λ l. take limit l) is
+    ∙ ap (λ k. take k (got ++ ys)) {y = length got + left} (omega (arith, within)) ∙ take_front got ys left
 
 none_left : (left : ℕ) (ys : List ℕ) → (left ≡ 0) ⊎ (ys ≡ []) → take left ys ≡ []
 none_left left ys (inl e) = ap (λ k. take k ys) e
 none_left left ys (inr e) = ap (take left) e ∙ take_all left [] (omega arith)
 
 -- the bytes that were read are the reader's first ones
-front_is : (told told' : Option (List ℕ)) (limit left : ℕ) (got : List ℕ) → Consumes told told' got → left + length got ≡ limit → (left ≡ 0) ⊎ IsAtEnd told' → IfSome told (λ xs. got ≡ take limit xs)
+front_is : (told told' : Option (List ℕ)) (limit left : ℕ) (got : List ℕ) → Consumes told told' got
+    → left + length got ≡ limit → (left ≡ 0) ⊎ IsAtEnd told' → IfSome told (λ xs. got ≡ take limit xs)
 front_is None told' limit left got c w over = tt
 front_is (Some xs) None limit left got c w over = absurd c
-front_is (Some xs) (Some ys) limit left got c w over = sym (judged xs got ys left limit c w ∙ ap (λ l. got ++ l) (none_left left ys over) ∙ append-nil got)
+front_is (Some xs) (Some ys) limit left got c w over =
+    sym (judged xs got ys left limit c w ∙ ap (λ l. got ++ l) (none_left left ys over) ∙ append-nil got)
 
-ended_is : (told' : Option (List ℕ)) (limit left : ℕ) (got : List ℕ) → left + length got ≡ limit → (left ≡ 0) ⊎ IsAtEnd told' → length got < limit → IsAtEnd told'
+ended_is : (told' : Option (List ℕ)) (limit left : ℕ) (got : List ℕ) → left + length got ≡ limit
+    → (left ≡ 0) ⊎ IsAtEnd told' → length got < limit → IsAtEnd told'
 ended_is told' limit left got w (inl e) l = absurd (omega (arith, w, e, l))
 ended_is told' limit left got w (inr e) l = e
 
-pub ran_text : (told : Option (List ℕ)) (limit : ℕ) (new : Reading) (items : List Item) (ran : Ran (at_first told limit) new items) → ReadsText told new.told limit ran.got × (items_of_text ran.got ≡ Ok (items ++ End ∷ []))
+pub ran_text : (told : Option (List ℕ)) (limit : ℕ) (new : Reading) (items : List Item)
+    (ran : Ran (at_first told limit) new items) → ReadsText told new.told limit ran.got
+    × (items_of_text ran.got ≡ Ok (items ++ End ∷ []))
 unfolding items_of_text
 ran_text told limit new items ran = (
   record {
@@ -50,7 +57,8 @@ ran_text told limit new items ran = (
   ran.says,
 )
 
-pub refused_text : (told : Option (List ℕ)) (limit : ℕ) (new : Reading) (r : CertRefusal) → Refuses (at_first told limit) new r → RefusesText told new.told limit r
+pub refused_text : (told : Option (List ℕ)) (limit : ℕ) (new : Reading) (r : CertRefusal)
+    → Refuses (at_first told limit) new r → RefusesText told new.told limit r
 unfolding items_of_text
 refused_text told limit new r f = record {
   read = f.got;

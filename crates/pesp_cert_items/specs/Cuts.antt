@@ -17,15 +17,19 @@ Clean bytes = All (λ b. is_byte 10 b ≡ false) bytes
 
 -- what a front of the bytes that are held is, where a line so far went before it
 abbrev pub Moves : Front → List ℕ → List ℕ → List ℕ → List ℕ → Type 0
-Moves fronts.Line held line held' line' = (front : List ℕ) × Clean front × (held ≡ front ++ 10 ∷ held') × (line' ≡ line ++ front) × (length line' ≤ LONGEST)
-Moves fronts.Long held line held' line' = (front : List ℕ) × (rest : List ℕ) × Clean front × (held ≡ front ++ rest) × (LONGEST < length line + length front)
+Moves fronts.Line held line held' line' = (front : List ℕ) × Clean front × (held ≡ front ++ 10 ∷ held')
+    × (line' ≡ line ++ front) × (length line' ≤ LONGEST)
+Moves fronts.Long held line held' line' = (front : List ℕ) × (rest : List ℕ) × Clean front × (held ≡ front ++ rest)
+    × (LONGEST < length line + length front)
 Moves fronts.Part held line held' line' = Clean held × (line' ≡ line ++ held) × (held' ≡ []) × (length line' ≤ LONGEST)
 
 -- what stands at the front of all bytes that are held or were read now: a line, more than a line may have, or the last of the text
 abbrev pub Reaches : Next → Option (List ℕ) → ℕ → List ℕ → List ℕ → List ℕ → Type 0
 Reaches nexts.Line told' left' all held' line' = Clean line' × (all ≡ line' ++ 10 ∷ held') × (length line' ≤ LONGEST)
-Reaches nexts.Long told' left' all held' line' = (front : List ℕ) × (rest : List ℕ) × Clean front × (all ≡ front ++ rest) × (LONGEST < length front)
-Reaches nexts.End told' left' all held' line' = Clean line' × (all ≡ line') × (held' ≡ []) × (length line' ≤ LONGEST) × ((left' ≡ 0) ⊎ IsAtEnd told')
+Reaches nexts.Long told' left' all held' line' = (front : List ℕ) × (rest : List ℕ) × Clean front
+    × (all ≡ front ++ rest) × (LONGEST < length front)
+Reaches nexts.End told' left' all held' line' = Clean line' × (all ≡ line') × (held' ≡ [])
+    × (length line' ≤ LONGEST) × ((left' ≡ 0) ⊎ IsAtEnd told')
 
 -- so many bytes were read, within what was left to be read
 pub record Reads (told told' : Option (List ℕ)) (left left' : ℕ) (got : List ℕ) : Type 0 where

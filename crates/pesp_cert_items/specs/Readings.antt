@@ -66,7 +66,8 @@ pub record Lines (old new : Reading) (line : List ℕ) : Type 0 where
   pub reads : Reads old.told new.told old.left new.left got
   pub later : old.n < new.n
   pub short : length line ≤ LONGEST
-  pub says : (more : List ℕ) → items_at old (old.held ++ (got ++ more)) ≡ items_behind new.stage new.n new.progress line (pieces 10 (new.held ++ more))
+  pub says : (more : List ℕ) → items_at old (old.held ++ (got ++ more))
+      ≡ items_behind new.stage new.n new.progress line (pieces 10 (new.held ++ more))
 
 -- the text ends behind its last line
 pub record Ends (old new : Reading) : Type 0 where
@@ -99,7 +100,8 @@ stepped item (Err fault) = Err fault
 
 -- what the next item is, which may stand somewhere in a text, or that none comes any more, and why
 abbrev pub Gives : Reading → Reading → Result (Option Item) ItemFault → Type 0
-Gives old new (Ok (Some item)) = (new.stage ≡ stages.Going) × (is_end item ≡ false) × Goes old new (onto item) × ((p : Progress) × CanStand p item)
+Gives old new (Ok (Some item)) = (new.stage ≡ stages.Going) × (is_end item ≡ false) × Goes old new (onto item)
+    × ((p : Progress) × CanStand p item)
 Gives old new (Ok None) = (new.stage ≡ stages.Ended) × Ends old new
 Gives old new (Err fault) = (new.stage ≡ stages.Failed fault) × Faults old new fault
 

@@ -38,11 +38,13 @@ cost_spells w o h =
       | inr isnt ↦ number w o (natural_of w) (λ n e. natural_spells w n e) (rw isnt at h)
     ]
   where
-    number : (w : List ℕ) (o : Option ℕ) (q : Option ℕ) → ((n : ℕ) → q ≡ Some n → SpellsNatural w n) → option_map Some q ≡ Some o → (w ≡ cost_word o) × IfSome o (λ c. c < NATURALS)
+    number : (w : List ℕ) (o : Option ℕ) (q : Option ℕ) → ((n : ℕ) → q ≡ Some n → SpellsNatural w n)
+        → option_map Some q ≡ Some o → (w ≡ cost_word o) × IfSome o (λ c. c < NATURALS)
     number w o None spells h = absurd cc
     number w o (Some n) spells h = let e : Some n ≡ o = same_Some (Some n) o h in rw (← e) ((spells n refl).1, (spells n refl).0)
 
-optimal_spells : (ws : List (List ℕ)) (a : Answer) → (length ws == 1) ≡ true → optimal_of ws ≡ Some a → (codes "optimal" ∷ ws ≡ answer_words a) × HasProperCosts a
+optimal_spells : (ws : List (List ℕ)) (a : Answer) → (length ws == 1) ≡ true → optimal_of ws ≡ Some a
+    → (codes "optimal" ∷ ws ≡ answer_words a) × HasProperCosts a
 optimal_spells [] a f h = absurd cc
 optimal_spells (c ∷ []) a f h =
     let x = option_map_some answers.Optimal (natural_of c) a h in
@@ -50,24 +52,32 @@ optimal_spells (c ∷ []) a f h =
     rw (← x.2) (ap (λ (w : List ℕ). codes "optimal" ∷ w ∷ []) n.1, n.0)
 optimal_spells (c ∷ d ∷ ws) a f h = absurd (omega (arith, eqb-true (length (c ∷ d ∷ ws)) 1 f))
 
-open_spells : (ws : List (List ℕ)) (a : Answer) → (length ws == 2) ≡ true → open_of ws ≡ Some a → (codes "open" ∷ ws ≡ answer_words a) × HasProperCosts a
+open_spells : (ws : List (List ℕ)) (a : Answer) → (length ws == 2) ≡ true → open_of ws ≡ Some a
+    → (codes "open" ∷ ws ≡ answer_words a) × HasProperCosts a
 open_spells [] a f h = absurd cc
 open_spells (l ∷ []) a f h = absurd cc
 open_spells (l ∷ c ∷ []) a f h =
     let x = both_some answers.Bounded (natural_of l) (spelt_cost c) a h in
     let least = natural_spells l x.0 x.2 in
     let cost = cost_spells c x.1 x.3 in
-    rw (← x.4) (ap (λ (ws : List (List ℕ)). codes "open" ∷ ws) (joined l (decimal x.0) (c ∷ []) (cost_word x.1 ∷ []) least.1 (joined c (cost_word x.1) [] [] cost.0 refl)), (least.0, cost.1))
+    rw (← x.4) (
+      ap (λ (ws : List (List ℕ)). codes "open" ∷ ws)
+          (joined l (decimal x.0) (c ∷ []) (cost_word x.1 ∷ []) least.1
+          (joined c (cost_word x.1) [] [] cost.0 refl)),
+      (least.0, cost.1),
+    )
 open_spells (l ∷ c ∷ d ∷ ws) a f h = absurd (omega (arith, eqb-true (length (l ∷ c ∷ d ∷ ws)) 2 f))
 
 nil_spells : (ws : List (List ℕ)) → (length ws == 0) ≡ true → ws ≡ []
 nil_spells [] h = refl
 nil_spells (w ∷ ws) h = absurd (omega (arith, eqb-true (length (w ∷ ws)) 0 h))
 
-led : (w name : List ℕ) (ws : List (List ℕ)) (a : Answer) → w ≡ name → (name ∷ ws ≡ answer_words a) × HasProperCosts a → (w ∷ ws ≡ answer_words a) × HasProperCosts a
+led : (w name : List ℕ) (ws : List (List ℕ)) (a : Answer) → w ≡ name
+    → (name ∷ ws ≡ answer_words a) × HasProperCosts a → (w ∷ ws ≡ answer_words a) × HasProperCosts a
 led w name ws a e h = rw e h
 
-pub answer_spells : (ws : List (List ℕ)) (a : Answer) → is_answer_form ws ≡ true → answer_of ws ≡ Some a → (ws ≡ answer_words a) × HasProperCosts a
+pub answer_spells : (ws : List (List ℕ)) (a : Answer) → is_answer_form ws ≡ true → answer_of ws ≡ Some a
+    → (ws ≡ answer_words a) × HasProperCosts a
 unfolding is_answer_form answer_of
 answer_spells [] a f h = absurd cc
 answer_spells (w ∷ ws) a f h =
@@ -79,7 +89,8 @@ answer_spells (w ∷ ws) a f h =
             let e : answers.Infeasible ≡ a = same_Some answers.Infeasible a (rw (not1, is) at h) in
             led w (codes "infeasible") ws a (is_bytes w (codes "infeasible") is) (rw (← e, nil) (refl, tt))
         | inr not2 ↦ elim (cases (bytes_eq w (codes "open"))) [
-          | inl is ↦ led w (codes "open") ws a (is_bytes w (codes "open") is) (open_spells ws a (rw (not1, not2, is) at f) (rw (not1, not2) at h))
+          | inl is ↦ led w (codes "open") ws a (is_bytes w (codes "open") is)
+              (open_spells ws a (rw (not1, not2, is) at f) (rw (not1, not2) at h))
           | inr not3 ↦ let bad : false ≡ true = rw (not1, not2, not3) at f in absurd cc
         ]
       ]
@@ -88,7 +99,8 @@ answer_spells (w ∷ ws) a f h =
 none_word : (n : ℕ) → n < NATURALS → bytes_eq (decimal n) (codes "none") ≡ false
 none_word n lt =
     elim (cases (bytes_eq (decimal n) (codes "none"))) [
-      | inl is ↦ let bad : false ≡ true = ap all_ascii_digits (sym (is_bytes (decimal n) (codes "none") is)) ∙ decimal_digits n (omega (arith, lt)) in absurd cc
+      | inl is ↦ let bad : false ≡ true = ap all_ascii_digits (sym (is_bytes (decimal n) (codes "none") is))
+          ∙ decimal_digits n (omega (arith, lt)) in absurd cc
       | inr isnt ↦ isnt
     ]
 
@@ -110,14 +122,17 @@ pub record IsSpelt (k : Kind) (ws : List (List ℕ)) (item : Item) : Type 0 wher
   pub kind : kind_in item ≡ k
   pub proper : IsProper item
 
-one_spells : {A : Type 0} (f : List ℕ → Option A) (g : A → List ℕ) → ((w : List ℕ) (a : A) → f w ≡ Some a → w ≡ g a) → (ws : List (List ℕ)) (a : A) → (length ws == 1) ≡ true → one f ws ≡ Some a → ws ≡ g a ∷ []
+one_spells : {A : Type 0} (f : List ℕ → Option A) (g : A → List ℕ)
+    → ((w : List ℕ) (a : A) → f w ≡ Some a → w ≡ g a) → (ws : List (List ℕ)) (a : A) → (length ws == 1) ≡ true
+    → one f ws ≡ Some a → ws ≡ g a ∷ []
 one_spells f g spells [] a e h = absurd cc
 one_spells f g spells (w ∷ []) a e h = joined w (g a) [] [] (spells w a h) refl
 one_spells f g spells (v ∷ w ∷ ws) a e h = absurd (omega (arith, eqb-true (length (v ∷ w ∷ ws)) 1 e))
 
 two_spells : {A B C : Type 0} (h : A → B → C) (f : List ℕ → Option A) (g : List ℕ → Option B) (x : A → List ℕ) (y : B → List ℕ)
     → ((w : List ℕ) (a : A) → f w ≡ Some a → w ≡ x a) → ((w : List ℕ) (b : B) → g w ≡ Some b → w ≡ y b)
-    → (ws : List (List ℕ)) (c : C) → (length ws == 2) ≡ true → two h f g ws ≡ Some c → (a : A) × (b : B) × (h a b ≡ c) × (ws ≡ x a ∷ y b ∷ [])
+    → (ws : List (List ℕ)) (c : C) → (length ws == 2) ≡ true → two h f g ws ≡ Some c
+    → (a : A) × (b : B) × (h a b ≡ c) × (ws ≡ x a ∷ y b ∷ [])
 two_spells h f g x y spellf spellg [] c e q = absurd cc
 two_spells h f g x y spellf spellg (v ∷ []) c e q = absurd cc
 two_spells h f g x y spellf spellg (v ∷ w ∷ []) c e q =
@@ -138,48 +153,82 @@ pub item_spells : (k : Kind) (ws : List (List ℕ)) (item : Item) → is_form k 
 unfolding item_of
 item_spells kinds.Version ws item f h =
     let m = option_map_some Version (one natural_of ws) item h in
-    at_item kinds.Version ws (Version m.0) item m.2 (record { words = ap (λ (vs : List (List ℕ)). codes "pesp-certificate" ∷ vs) (one_spells natural_of decimal nat_word ws m.0 f m.1); kind = refl; proper = tt })
+    at_item kinds.Version ws (Version m.0) item m.2
+    (record {
+      words = ap (λ (vs : List (List ℕ)). codes "pesp-certificate" ∷ vs)
+          (one_spells natural_of decimal nat_word ws m.0 f m.1);
+      kind = refl;
+      proper = tt;
+    })
 item_spells kinds.Period ws item f h =
     let m = option_map_some Period (one natural_of ws) item h in
-    at_item kinds.Period ws (Period m.0) item m.2 (record { words = ap (λ (vs : List (List ℕ)). codes "period" ∷ vs) (one_spells natural_of decimal nat_word ws m.0 f m.1); kind = refl; proper = tt })
+    at_item kinds.Period ws (Period m.0) item m.2
+    (record {
+      words = ap (λ (vs : List (List ℕ)). codes "period" ∷ vs)
+          (one_spells natural_of decimal nat_word ws m.0 f m.1);
+      kind = refl;
+      proper = tt;
+    })
 item_spells kinds.Answer ws item f h =
     let m = option_map_some Says (answer_of ws) item h in
     let a = answer_spells ws m.0 f m.1 in
-    at_item kinds.Answer ws (Says m.0) item m.2 (record { words = ap (λ (vs : List (List ℕ)). codes "answer" ∷ vs) a.0; kind = refl; proper = a.1 })
+    at_item kinds.Answer ws (Says m.0) item m.2
+    (record { words = ap (λ (vs : List (List ℕ)). codes "answer" ∷ vs) a.0; kind = refl; proper = a.1 })
 item_spells kinds.Time ws item f h =
     let t = two_spells Time whole_of natural_of signed_decimal decimal int_word nat_word ws item f h in
-    at_item kinds.Time ws (Time t.0 t.1) item t.2 (record { words = ap (λ (vs : List (List ℕ)). codes "time" ∷ vs) t.3; kind = refl; proper = tt })
+    at_item kinds.Time ws (Time t.0 t.1) item t.2
+    (record { words = ap (λ (vs : List (List ℕ)). codes "time" ∷ vs) t.3; kind = refl; proper = tt })
 item_spells kinds.Cycle ws item f h =
     let m = option_map_some Cycle (rows_of ws) item h in
     let words = rows_spell ws m.0 m.1 in
-    at_item kinds.Cycle ws (Cycle m.0) item m.2 (record { words = ap (λ (vs : List (List ℕ)). codes "cycle" ∷ vs) words; kind = refl; proper = some_rows m.0 (ap length (sym words)) (grind (arith, nat_tests, f)) })
+    at_item kinds.Cycle ws (Cycle m.0) item m.2
+    (record {
+      words = ap (λ (vs : List (List ℕ)). codes "cycle" ∷ vs) words;
+      kind = refl;
+      proper = some_rows m.0 (ap length (sym words)) (grind (arith, nat_tests, f));
+    })
   where
     some_rows : (rs : List SignedRow) → length (row_words rs) ≡ length ws → 1 ≤ length ws → 0 < length rs
     some_rows [] e h = omega (arith, e)
     some_rows (r ∷ rs) e h = omega arith
 item_spells kinds.Slack ws item f h =
     let t = two_spells Slack natural_of natural_of decimal decimal nat_word nat_word ws item f h in
-    at_item kinds.Slack ws (Slack t.0 t.1) item t.2 (record { words = ap (λ (vs : List (List ℕ)). codes "s" ∷ vs) t.3; kind = refl; proper = tt })
+    at_item kinds.Slack ws (Slack t.0 t.1) item t.2
+    (record { words = ap (λ (vs : List (List ℕ)). codes "s" ∷ vs) t.3; kind = refl; proper = tt })
 item_spells kinds.Offset ws item f h =
     let t = two_spells Offset natural_of whole_of decimal signed_decimal nat_word int_word ws item f h in
-    at_item kinds.Offset ws (Offset t.0 t.1) item t.2 (record { words = ap (λ (vs : List (List ℕ)). codes "o" ∷ vs) t.3; kind = refl; proper = tt })
+    at_item kinds.Offset ws (Offset t.0 t.1) item t.2
+    (record { words = ap (λ (vs : List (List ℕ)). codes "o" ∷ vs) t.3; kind = refl; proper = tt })
 item_spells kinds.Bound ws item f h =
     let m = option_map_some Bound (pairs_from 0 ws) item h in
     let s = pairs_spell 0 ws m.0 m.1 in
-    at_item kinds.Bound ws (Bound m.0) item m.2 (record { words = ap (λ (vs : List (List ℕ)). codes "b" ∷ vs) s.0; kind = refl; proper = s.1 })
+    at_item kinds.Bound ws (Bound m.0) item m.2
+    (record { words = ap (λ (vs : List (List ℕ)). codes "b" ∷ vs) s.0; kind = refl; proper = s.1 })
 item_spells kinds.Nothing ws item f h =
     let m = option_map_some Nothing (pairs_from 0 ws) item h in
     let s = pairs_spell 0 ws m.0 m.1 in
-    at_item kinds.Nothing ws (Nothing m.0) item m.2 (record { words = ap (λ (vs : List (List ℕ)). codes "n" ∷ vs) s.0; kind = refl; proper = s.1 })
+    at_item kinds.Nothing ws (Nothing m.0) item m.2
+    (record { words = ap (λ (vs : List (List ℕ)). codes "n" ∷ vs) s.0; kind = refl; proper = s.1 })
 item_spells kinds.Gap ws item f h =
     let m = option_map_some Gap (one natural_of ws) item h in
-    at_item kinds.Gap ws (Gap m.0) item m.2 (record { words = ap (λ (vs : List (List ℕ)). codes "g" ∷ vs) (one_spells natural_of decimal nat_word ws m.0 f m.1); kind = refl; proper = tt })
+    at_item kinds.Gap ws (Gap m.0) item m.2 (record {
+      words =
+          ap (λ (vs : List (List ℕ)). codes "g" ∷ vs) (one_spells natural_of decimal nat_word ws m.0 f m.1);
+      kind = refl;
+      proper = tt;
+    })
 item_spells kinds.Propagated ws item f h =
     let e : Propagated ≡ item = same_Some Propagated item h in
-    at_item kinds.Propagated ws Propagated item e (record { words = ap (λ (vs : List (List ℕ)). codes "p" ∷ vs) (nil_spells ws f); kind = refl; proper = tt })
+    at_item kinds.Propagated ws Propagated item e
+    (record { words = ap (λ (vs : List (List ℕ)). codes "p" ∷ vs) (nil_spells ws f); kind = refl; proper = tt })
 item_spells kinds.End ws item f h =
     let e : End ≡ item = same_Some End item h in
-    at_item kinds.End ws End item e (record { words = ap (λ (vs : List (List ℕ)). codes "end" ∷ vs) (nil_spells ws f); kind = refl; proper = tt })
+    at_item kinds.End ws End item e (record {
+      words =
+          ap (λ (vs : List (List ℕ)). codes "end" ∷ vs) (nil_spells ws f);
+      kind = refl;
+      proper = tt;
+    })
 
 -- ---- and back
 
@@ -207,19 +256,67 @@ name_fits n h = grind (arith, nat_tests, h)
 
 pub item_read : (item : Item) → IsProper item → is_item_within item ≡ true → (ws : List (List ℕ)) × IsRead item ws
 unfolding item_of
-item_read (Version n) proper within = (decimal n ∷ [], record { words = refl; form = refl; says = rw (nat_read n (grind (arith, nat_tests, within))) refl })
-item_read (Period n) proper within = (decimal n ∷ [], record { words = refl; form = refl; says = rw (nat_read n (grind (arith, nat_tests, within))) refl })
+item_read (Version n) proper within = (
+  decimal n ∷ [],
+  record { words = refl; form = refl; says = rw (nat_read n (grind (arith, nat_tests, within))) refl },
+)
+item_read (Period n) proper within = (
+  decimal n ∷ [],
+  record { words = refl; form = refl; says = rw (nat_read n (grind (arith, nat_tests, within))) refl },
+)
 item_read (Says a) proper within = let r = answer_read a proper in (answer_words a, record { words = refl; form = r.0; says = rw r.1 refl })
-item_read (Time label time) proper within = (signed_decimal label ∷ decimal time ∷ [], record { words = refl; form = refl; says = rw (int_read label (grind (arith, nat_tests, within)), nat_read time (grind (arith, nat_tests, within))) refl })
-item_read (Cycle rs) proper within = (row_words rs, record { words = refl; form = some_words rs proper; says = rw (rows_read rs within) refl })
+item_read (Time label time) proper within = (
+  signed_decimal label ∷ decimal time ∷ [],
+  record {
+    words = refl;
+    form = refl;
+    says = rw (
+      int_read label (grind (arith, nat_tests, within)),
+      nat_read time (grind (arith, nat_tests, within)),
+    ) refl;
+  },
+)
+item_read (Cycle rs) proper within = (
+  row_words rs,
+  record { words = refl; form = some_words rs proper; says = rw (rows_read rs within) refl },
+)
   where
     some_words : (rs : List SignedRow) → 0 < length rs → nat_le 1 (length (row_words rs)) ≡ true
     some_words [] h = absurd (omega arith)
     some_words (r ∷ rs) h = grind (arith, nat_tests)
-item_read (Slack row k) proper within = (decimal row ∷ decimal k ∷ [], record { words = refl; form = refl; says = rw (nat_read row (grind (arith, nat_tests, within)), nat_read k (grind (arith, nat_tests, within))) refl })
-item_read (Offset cycle k) proper within = (decimal cycle ∷ signed_decimal k ∷ [], record { words = refl; form = refl; says = rw (nat_read cycle (grind (arith, nat_tests, within)), int_read k (grind (arith, nat_tests, within))) refl })
-item_read (Bound ps) proper within = (pair_words ps, record { words = refl; form = pair_count ps; says = rw (pairs_read 0 ps proper within) refl })
-item_read (Nothing ps) proper within = (pair_words ps, record { words = refl; form = pair_count ps; says = rw (pairs_read 0 ps proper within) refl })
-item_read (Gap cycle) proper within = (decimal cycle ∷ [], record { words = refl; form = refl; says = rw (nat_read cycle (grind (arith, nat_tests, within))) refl })
+item_read (Slack row k) proper within = (
+  decimal row ∷ decimal k ∷ [],
+  record {
+    words = refl;
+    form = refl;
+    says = rw (
+      nat_read row (grind (arith, nat_tests, within)),
+      nat_read k (grind (arith, nat_tests, within)),
+    ) refl;
+  },
+)
+item_read (Offset cycle k) proper within = (
+  decimal cycle ∷ signed_decimal k ∷ [],
+  record {
+    words = refl;
+    form = refl;
+    says = rw (
+      nat_read cycle (grind (arith, nat_tests, within)),
+      int_read k (grind (arith, nat_tests, within)),
+    ) refl;
+  },
+)
+item_read (Bound ps) proper within = (
+  pair_words ps,
+  record { words = refl; form = pair_count ps; says = rw (pairs_read 0 ps proper within) refl },
+)
+item_read (Nothing ps) proper within = (
+  pair_words ps,
+  record { words = refl; form = pair_count ps; says = rw (pairs_read 0 ps proper within) refl },
+)
+item_read (Gap cycle) proper within = (
+  decimal cycle ∷ [],
+  record { words = refl; form = refl; says = rw (nat_read cycle (grind (arith, nat_tests, within))) refl },
+)
 item_read Propagated proper within = ([], record { words = refl; form = refl; says = refl })
 item_read End proper within = ([], record { words = refl; form = refl; says = refl })

@@ -48,7 +48,9 @@ all_plain ws = list_all is_plain ws
 
 inner_digits : (w : List ℕ) → all_ascii_digits w ≡ true → list_all is_inner w ≡ true
 inner_digits [] h = refl
-inner_digits (c ∷ cs) h = and_both (is_inner c) (list_all is_inner cs) (inner c (and_left (is_ascii_digit c) (all_ascii_digits cs) h)) (inner_digits cs (and_right (is_ascii_digit c) (all_ascii_digits cs) h))
+inner_digits (c ∷ cs) h = and_both (is_inner c) (list_all is_inner cs)
+    (inner c (and_left (is_ascii_digit c) (all_ascii_digits cs) h))
+    (inner_digits cs (and_right (is_ascii_digit c) (all_ascii_digits cs) h))
   where
     inner : (c : ℕ) → is_ascii_digit c ≡ true → is_inner c ≡ true
     inner c h = grind (arith, nat_tests)
@@ -60,7 +62,10 @@ plain_nat : (n : ℕ) → n < NATURALS → is_plain (decimal n) ≡ true
 plain_nat n lt = let fits : n < 2 ^ 64 = omega (arith, lt) in plain_digits (decimal n) (decimal_some n fits) (decimal_digits n fits)
 
 plain_led : (c : ℕ) (n : ℕ) → is_inner c ≡ true → n < NATURALS → is_plain (c ∷ decimal n) ≡ true
-plain_led c n h lt = let fits : n < 2 ^ 64 = omega (arith, lt) in and_both (not (suc (length (decimal n)) == 0)) (is_inner c && list_all is_inner (decimal n)) (grind (arith, nat_tests)) (and_both (is_inner c) (list_all is_inner (decimal n)) h (inner_digits (decimal n) (decimal_digits n fits)))
+plain_led c n h lt = let fits : n < 2 ^ 64 = omega (arith, lt) in
+    and_both (not (suc (length (decimal n)) == 0)) (is_inner c && list_all is_inner (decimal n))
+    (grind (arith, nat_tests)) (and_both (is_inner c) (list_all is_inner (decimal n)) h
+    (inner_digits (decimal n) (decimal_digits n fits)))
 
 plain_int : (z : ℤ) → nat_abs z < NATURALS → is_plain (signed_decimal z) ≡ true
 plain_int (pos n) lt = plain_nat n lt
@@ -70,11 +75,14 @@ plain_pairs : (ps : List Pair) → all_within ps ≡ true → all_plain (pair_wo
 plain_pairs [] h = refl
 plain_pairs (p ∷ ps) h =
     let one = and_left (is_pair_within p) (all_within ps) h in
-    and_both _ _ (plain_nat p.cycle (cycle_below p one)) (and_both _ _ (plain_int p.mult (mult_below p one)) (plain_pairs ps (and_right (is_pair_within p) (all_within ps) h)))
+    and_both _ _ (plain_nat p.cycle (cycle_below p one))
+    (and_both _ _ (plain_int p.mult (mult_below p one))
+    (plain_pairs ps (and_right (is_pair_within p) (all_within ps) h)))
 
 plain_rows : (rs : List SignedRow) → rows_are_named rs ≡ true → all_plain (row_words rs) ≡ true
 plain_rows [] h = refl
-plain_rows (r ∷ rs) h = and_both _ _ (row r.plus r.row (named_below r.row (and_left (is_name r.row) _ h))) (plain_rows rs (and_right (is_name r.row) _ h))
+plain_rows (r ∷ rs) h = and_both _ _ (row r.plus r.row (named_below r.row (and_left (is_name r.row) _ h)))
+    (plain_rows rs (and_right (is_name r.row) _ h))
   where
     row : (plus : Bool) (n : ℕ) → n < NATURALS → is_plain (row_word (record { row = n; plus = plus })) ≡ true
     row true n lt = plain_led 43 n refl lt
@@ -89,11 +97,15 @@ item_plain (Version n) proper within = and_both _ _ (plain_nat n (grind (arith, 
 item_plain (Period n) proper within = and_both _ _ (plain_nat n (grind (arith, nat_tests, within))) refl
 item_plain (Says (answers.Optimal c)) proper within = and_both _ _ (plain_nat c proper) refl
 item_plain (Says answers.Infeasible) proper within = refl
-item_plain (Says (answers.Bounded least cost)) proper within = and_both _ _ (plain_nat least proper.0) (and_both _ _ (plain_cost cost proper.1) refl)
-item_plain (Time label time) proper within = and_both _ _ (plain_int label (grind (arith, nat_tests, within))) (and_both _ _ (plain_nat time (grind (arith, nat_tests, within))) refl)
+item_plain (Says (answers.Bounded least cost)) proper within =
+    and_both _ _ (plain_nat least proper.0) (and_both _ _ (plain_cost cost proper.1) refl)
+item_plain (Time label time) proper within = and_both _ _ (plain_int label (grind (arith, nat_tests, within)))
+    (and_both _ _ (plain_nat time (grind (arith, nat_tests, within))) refl)
 item_plain (Cycle rs) proper within = plain_rows rs within
-item_plain (Slack row k) proper within = and_both _ _ (plain_nat row (grind (arith, nat_tests, within))) (and_both _ _ (plain_nat k (grind (arith, nat_tests, within))) refl)
-item_plain (Offset cycle k) proper within = and_both _ _ (plain_nat cycle (grind (arith, nat_tests, within))) (and_both _ _ (plain_int k (grind (arith, nat_tests, within))) refl)
+item_plain (Slack row k) proper within = and_both _ _ (plain_nat row (grind (arith, nat_tests, within)))
+    (and_both _ _ (plain_nat k (grind (arith, nat_tests, within))) refl)
+item_plain (Offset cycle k) proper within = and_both _ _ (plain_nat cycle (grind (arith, nat_tests, within)))
+    (and_both _ _ (plain_int k (grind (arith, nat_tests, within))) refl)
 item_plain (Bound ps) proper within = plain_pairs ps within
 item_plain (Nothing ps) proper within = plain_pairs ps within
 item_plain (Gap cycle) proper within = and_both _ _ (plain_nat cycle (grind (arith, nat_tests, within))) refl
@@ -113,9 +125,12 @@ inner_of w h = and_right (not (length w == 0)) (list_all is_inner w) h
 pub words_joined : (w : List ℕ) (ws : List (List ℕ)) → is_plain w ≡ true → all_plain ws ≡ true → words_of (w ++ spaced ws) ≡ w ∷ ws
 words_joined w [] h k = rw append-nil (slice_split_none (is_byte 32) w (no_space w (inner_of w h)))
 words_joined w (v ∷ vs) h k =
-    slice_split_at (is_byte 32) w 32 (v ++ spaced vs) (no_space w (inner_of w h)) refl ∙ ap (λ (us : List (List ℕ)). w ∷ us) (words_joined v vs (and_left (is_plain v) (all_plain vs) k) (and_right (is_plain v) (all_plain vs) k))
+    slice_split_at (is_byte 32) w 32 (v ++ spaced vs) (no_space w (inner_of w h)) refl
+    ∙ ap (λ (us : List (List ℕ)). w ∷ us) (words_joined v vs (and_left (is_plain v) (all_plain vs) k)
+    (and_right (is_plain v) (all_plain vs) k))
 
-nonempty : (ps : List (List ℕ)) (c : ℕ) (line : List ℕ) → line_of_words ps ≡ line → (length ps ≡ 0 → ⊥) → line_of_words (cond (is_byte 32 c) ([] ∷ ps) (onto_first c ps)) ≡ c ∷ line
+nonempty : (ps : List (List ℕ)) (c : ℕ) (line : List ℕ) → line_of_words ps ≡ line → (length ps ≡ 0 → ⊥)
+    → line_of_words (cond (is_byte 32 c) ([] ∷ ps) (onto_first c ps)) ≡ c ∷ line
 nonempty [] c line h some = absurd (some refl)
 nonempty (w ∷ ws) c line h some =
     elim (cases (is_byte 32 c)) [
@@ -145,31 +160,41 @@ checked_ok : (o : Option Item) (item : Item) → checked o ≡ Ok item → (o �
 checked_ok None item h = absurd cc
 checked_ok (Some i) item h = go (is_item_within i) refl h
   where
-    go : (b : Bool) → is_item_within i ≡ b → cond b (done i) (Err faults.Limit) ≡ Ok item → (Some i ≡ Some item) × (is_item_within item ≡ true)
+    go : (b : Bool) → is_item_within i ≡ b → cond b (done i) (Err faults.Limit) ≡ Ok item
+        → (Some i ≡ Some item) × (is_item_within item ≡ true)
     go true e h = let same : i ≡ item = cc in (ap Some same, rw (← same) e)
     go false e h = absurd cc
 
-kind_ok : (p : Progress) (ws : List (List ℕ)) (o : Option Kind) (item : Item) → kind_judged p ws o ≡ Ok item → (k : Kind) × (o ≡ Some k) × (allows p k ≡ true) × (is_form k ws ≡ true) × (checked (item_of k ws) ≡ Ok item)
+kind_ok : (p : Progress) (ws : List (List ℕ)) (o : Option Kind) (item : Item) → kind_judged p ws o ≡ Ok item
+    → (k : Kind) × (o ≡ Some k) × (allows p k ≡ true) × (is_form k ws ≡ true) × (checked (item_of k ws) ≡ Ok item)
 kind_ok p ws None item h = absurd cc
 kind_ok p ws (Some k) item h = go (allows p k && is_form k ws) refl h
   where
-    go : (b : Bool) → (allows p k && is_form k ws) ≡ b → cond b (checked (item_of k ws)) (Err faults.Line) ≡ Ok item → (j : Kind) × (Some k ≡ Some j) × (allows p j ≡ true) × (is_form j ws ≡ true) × (checked (item_of j ws) ≡ Ok item)
+    go : (b : Bool) → (allows p k && is_form k ws) ≡ b
+        → cond b (checked (item_of k ws)) (Err faults.Line) ≡ Ok item
+        → (j : Kind) × (Some k ≡ Some j) × (allows p j ≡ true) × (is_form j ws ≡ true)
+        × (checked (item_of j ws) ≡ Ok item)
     go true e h = (k, refl, and_left (allows p k) (is_form k ws) e, and_right (allows p k) (is_form k ws) e, h)
     go false e h = absurd cc
 
-counted_ok : (p : Progress) (r : Result Item LineFault) (item : Item) → counted p r ≡ Ok item → (r ≡ Ok item) × (keeps_counts (after p item) ≡ true)
+counted_ok : (p : Progress) (r : Result Item LineFault) (item : Item) → counted p r ≡ Ok item
+    → (r ≡ Ok item) × (keeps_counts (after p item) ≡ true)
 counted_ok p (Err f) item h = absurd cc
 counted_ok p (Ok i) item h = go (keeps_counts (after p i)) refl h
   where
-    go : (b : Bool) → keeps_counts (after p i) ≡ b → cond b (done i) (Err faults.Limit) ≡ Ok item → (done i ≡ Ok item) × (keeps_counts (after p item) ≡ true)
+    go : (b : Bool) → keeps_counts (after p i) ≡ b → cond b (done i) (Err faults.Limit) ≡ Ok item
+        → (done i ≡ Ok item) × (keeps_counts (after p item) ≡ true)
     go true e h = let same : i ≡ item = cc in (h, rw (← same) e)
     go false e h = absurd cc
 
-words_ok : (p : Progress) (ws : List (List ℕ)) (item : Item) → words_judged p ws ≡ Ok item → (item_words item ≡ ws) × (allows p (kind_in item) ≡ true) × IsProper item × (is_item_within item ≡ true)
+words_ok : (p : Progress) (ws : List (List ℕ)) (item : Item) → words_judged p ws ≡ Ok item
+    → (item_words item ≡ ws) × (allows p (kind_in item) ≡ true) × IsProper item × (is_item_within item ≡ true)
 words_ok p [] item h = absurd cc
 words_ok p (w ∷ ws) item h = go (has_empty (w ∷ ws)) h
   where
-    go : (b : Bool) → cond b (Err faults.Line) (kind_judged p ws (kind_of w)) ≡ Ok item → (item_words item ≡ w ∷ ws) × (allows p (kind_in item) ≡ true) × IsProper item × (is_item_within item ≡ true)
+    go : (b : Bool) → cond b (Err faults.Line) (kind_judged p ws (kind_of w)) ≡ Ok item
+        → (item_words item ≡ w ∷ ws) × (allows p (kind_in item) ≡ true) × IsProper item
+        × (is_item_within item ≡ true)
     go true h = absurd cc
     go false h =
         let k = kind_ok p ws (kind_of w) item h in
@@ -183,7 +208,8 @@ not_cut true r item h = absurd cc
 not_cut false r item h = h
 
 -- what is read stands at its place, and is spelt so
-pub line_found : (p : Progress) (line : List ℕ) (item : Item) → line_at p line ≡ Ok item → (line ≡ line_of_words (item_words item)) × CanStand p item
+pub line_found : (p : Progress) (line : List ℕ) (item : Item) → line_at p line ≡ Ok item
+    → (line ≡ line_of_words (item_words item)) × CanStand p item
 unfolding line_at
 line_found p line item h =
     let r = not_cut (bytes_eq line (codes "end") && not (p.needs == 0)) (counted p (words_judged p (words_of line))) item h in
@@ -213,13 +239,17 @@ only_end p k e h = go (p.needs == 0) p.place (rw (← e) at h)
     go false places.Cycles h = absurd cc
     go false places.Tree h = absurd cc
 
-pub words_of-item : (item : Item) → IsProper item → is_item_within item ≡ true → words_of (line_of_words (item_words item)) ≡ item_words item
+pub words_of-item : (item : Item) → IsProper item → is_item_within item ≡ true
+    → words_of (line_of_words (item_words item)) ≡ item_words item
 words_of-item item proper within =
     let r = item_read item proper within in
     let plain = rw r.1.words at (item_plain item proper within) in
-    rw r.1.words (words_joined (kind_word (kind_in item)) r.0 (and_left (is_plain (kind_word (kind_in item))) (all_plain r.0) plain) (and_right (is_plain (kind_word (kind_in item))) (all_plain r.0) plain))
+    rw r.1.words (words_joined (kind_word (kind_in item)) r.0
+    (and_left (is_plain (kind_word (kind_in item))) (all_plain r.0) plain)
+    (and_right (is_plain (kind_word (kind_in item))) (all_plain r.0) plain))
 
-end_is : (item : Item) → IsProper item → is_item_within item ≡ true → bytes_eq (line_of_words (item_words item)) (codes "end") ≡ true → kinds.End ≡ kind_in item
+end_is : (item : Item) → IsProper item → is_item_within item ≡ true
+    → bytes_eq (line_of_words (item_words item)) (codes "end") ≡ true → kinds.End ≡ kind_in item
 end_is item proper within h =
     let r = item_read item proper within in
     let same : line_of_words (item_words item) ≡ codes "end" = (bytes_eq-Decides (line_of_words (item_words item)) (codes "end")).0 h in
@@ -231,12 +261,17 @@ pub line_read : (p : Progress) (item : Item) → CanStand p item → line_at p (
 unfolding line_at
 line_read p item can =
     let r = item_read item can.proper can.within in
-    let plain : has_empty (kind_word (kind_in item) ∷ r.0) ≡ false = plain_words_have_no_empty (kind_word (kind_in item) ∷ r.0) (rw r.1.words at (item_plain item can.proper can.within)) in
-    let goes : (bytes_eq (line_of_words (item_words item)) (codes "end") && not (p.needs == 0)) ≡ false = elim (cases (bytes_eq (line_of_words (item_words item)) (codes "end"))) [
+    let plain : has_empty (kind_word (kind_in item) ∷ r.0)
+    ≡ false = plain_words_have_no_empty (kind_word (kind_in item) ∷ r.0)
+    (rw r.1.words at (item_plain item can.proper can.within)) in
+    let goes : (bytes_eq (line_of_words (item_words item)) (codes "end") && not (p.needs == 0))
+    ≡ false = elim (cases (bytes_eq (line_of_words (item_words item)) (codes "end"))) [
       | inl is ↦ rw (is, only_end p (kind_in item) (end_is item can.proper can.within is) can.allowed) refl
       | inr isnt ↦ rw isnt refl
     ] in
-    let judged : words_judged p (words_of (line_of_words (item_words item))) ≡ Ok item = ap (words_judged p) (words_of-item item can.proper can.within ∙ r.1.words) ∙ rw (plain, kind_read (kind_in item), can.allowed, r.1.form, r.1.says, can.within) refl in
+    let judged : words_judged p (words_of (line_of_words (item_words item)))
+    ≡ Ok item = ap (words_judged p) (words_of-item item can.proper can.within ∙ r.1.words)
+    ∙ rw (plain, kind_read (kind_in item), can.allowed, r.1.form, r.1.says, can.within) refl in
     rw (goes, judged, can.counts) refl
 
 pub reads_line : (p : Progress) (line : List ℕ) (r : Result Item LineFault) → r ≡ line_at p line → ReadsLine p line r

@@ -11,22 +11,27 @@ pub record IsJudgedTo (all rest : List (List ℕ)) (within : Bool) (number : ℕ
   pub same : counted_rows number within (rows_of rest) ≡ count_of_rows (rows_of all)
   pub count : number + length rest ≡ length all
 
-pub rows_end : (all : List (List ℕ)) (within : Bool) (number : ℕ) → IsJudgedTo all [] within number → counted_rows number within (Some []) ≡ count_of_rows (rows_of all)
+pub rows_end : (all : List (List ℕ)) (within : Bool) (number : ℕ) → IsJudgedTo all [] within number
+    → counted_rows number within (Some []) ≡ count_of_rows (rows_of all)
 unfolding rows_of
 rows_end all within number so_far = so_far.same
 
-pub rows_bad : (all ws : List (List ℕ)) (w : List ℕ) (within : Bool) (number : ℕ) → None ≡ spelt_row w → IsJudgedTo all (w ∷ ws) within number → Err Number ≡ count_of_rows (rows_of all)
+pub rows_bad : (all ws : List (List ℕ)) (w : List ℕ) (within : Bool) (number : ℕ) → None ≡ spelt_row w
+    → IsJudgedTo all (w ∷ ws) within number → Err Number ≡ count_of_rows (rows_of all)
 unfolding rows_of
 rows_bad all ws w within number bad so_far = (rw (sym bad) refl) ∙ so_far.same
 
-step : (rs : Option (List SignedRow)) (r : ℕ × Bool) (within : Bool) (number : ℕ) → counted_rows (number + 1) (within && is_name r.0) rs ≡ counted_rows number within (both (λ p qs. row_made p ∷ qs) (Some r) rs)
+step : (rs : Option (List SignedRow)) (r : ℕ × Bool) (within : Bool) (number : ℕ)
+    → counted_rows (number + 1) (within && is_name r.0) rs
+    ≡ counted_rows number within (both (λ p qs. row_made p ∷ qs) (Some r) rs)
 step None r within number = refl
 step (Some rs) r false number = refl
 step (Some rs) r true number =
     let more : number + 1 + length rs ≡ number + suc (length rs) = omega arith in
     rw more refl
 
-pub rows_more : (all ws : List (List ℕ)) (w : List ℕ) (n : ℕ) (plus : Bool) (within : Bool) (number : ℕ) → Some (n, plus) ≡ spelt_row w → IsJudgedTo all (w ∷ ws) within number
+pub rows_more : (all ws : List (List ℕ)) (w : List ℕ) (n : ℕ) (plus : Bool) (within : Bool) (number : ℕ)
+    → Some (n, plus) ≡ spelt_row w → IsJudgedTo all (w ∷ ws) within number
     → IsJudgedTo all ws (within && is_name n) (number + 1)
 unfolding rows_of
 rows_more all ws w n plus within number good so_far =
@@ -45,12 +50,15 @@ pub bad_row : (w : List ℕ) (ws : List (List ℕ)) → None ≡ spelt_row w →
 unfolding rows_of
 bad_row w ws bad h = let none : false ≡ true = rw (sym bad) at h in cc
 
-row_step : (r : SignedRow) (rest : Option (List SignedRow)) (n : ℕ) (plus : Bool) → r ≡ record { row = n; plus = plus } → rows_are_good (both (λ p qs. row_made p ∷ qs) (Some (n, plus)) rest) ≡ true
+row_step : (r : SignedRow) (rest : Option (List SignedRow)) (n : ℕ) (plus : Bool)
+    → r ≡ record { row = n; plus = plus } → rows_are_good (both (λ p qs. row_made p ∷ qs) (Some (n, plus)) rest)
+    ≡ true
     → (is_name n ≡ true) × BeginsRows (Some r) (both (λ p qs. row_made p ∷ qs) (Some (n, plus)) rest) rest
 row_step r None n plus e h = absurd cc
 row_step r (Some rs) n plus e h = (and_left (is_name n) (rows_are_named rs) h, (and_right (is_name n) (rows_are_named rs) h, rw e refl))
 
-pub first_row : (w : List ℕ) (ws : List (List ℕ)) (n : ℕ) (plus : Bool) → Some (n, plus) ≡ spelt_row w → rows_are_good (rows_of (w ∷ ws)) ≡ true
+pub first_row : (w : List ℕ) (ws : List (List ℕ)) (n : ℕ) (plus : Bool) → Some (n, plus) ≡ spelt_row w
+    → rows_are_good (rows_of (w ∷ ws)) ≡ true
     → (is_name n ≡ true) × BeginsRows (Some (record { row = n; plus = plus })) (rows_of (w ∷ ws)) (rows_of ws)
 unfolding rows_of
 first_row w ws n plus good h = rw (sym good) (row_step (record { row = n; plus = plus }) (rows_of ws) n plus refl (rw (sym good) at h))

@@ -29,23 +29,30 @@ joined a b xs ys e f = cc
 
 -- ---- pairs
 
-now_rise : (least : ℕ) (p : ℕ × ℤ) (ps : List Pair) → least ≤ p.0 → 0 < nat_abs p.1 → rise_from (p.0 + 1) ps ≡ true → rise_from least (record { cycle = p.0; mult = p.1 } ∷ ps) ≡ true
+now_rise : (least : ℕ) (p : ℕ × ℤ) (ps : List Pair) → least ≤ p.0 → 0 < nat_abs p.1 → rise_from (p.0 + 1) ps ≡ true
+    → rise_from least (record { cycle = p.0; mult = p.1 } ∷ ps) ≡ true
 now_rise least p ps low some rest =
     let one : (nat_le least p.0 && not (nat_abs p.1 == 0)) ≡ true = grind (arith, nat_tests, low, some) in
     and_both (nat_le least p.0 && not (nat_abs p.1 == 0)) (rise_from (p.0 + 1) ps) one rest
 
-pub pairs_spell : (least : ℕ) (ws : List (List ℕ)) (ps : List Pair) → pairs_from least ws ≡ Some ps → (ws ≡ pair_words ps) × (rise_from least ps ≡ true)
+pub pairs_spell : (least : ℕ) (ws : List (List ℕ)) (ps : List Pair) → pairs_from least ws ≡ Some ps
+    → (ws ≡ pair_words ps) × (rise_from least ps ≡ true)
 unfolding pairs_from
 pairs_spell least [] ps h = let e : [] ≡ ps = same_Some [] ps h in rw (← e) (refl, refl)
 pairs_spell least (c ∷ []) ps h = absurd cc
 pairs_spell least (c ∷ m ∷ ws) ps h =
-    option_and_then_some (λ (p : ℕ × ℤ). option_map (λ (qs : List Pair). record { cycle = p.0; mult = p.1 } ∷ qs) (pairs_from (p.0 + 1) ws)) (pair_at least c m) ps h (λ p good made.
+    option_and_then_some (λ (p : ℕ × ℤ). option_map (λ (qs : List Pair). record { cycle = p.0; mult = p.1 } ∷ qs)
+    (pairs_from (p.0 + 1) ws)) (pair_at least c m) ps h (λ p good made.
     let parts = pair_parts least c m p.0 p.1 good in
     let rest = option_map_some (λ (qs : List Pair). record { cycle = p.0; mult = p.1 } ∷ qs) (pairs_from (p.0 + 1) ws) ps made in
     let others = pairs_spell (p.0 + 1) ws rest.0 rest.1 in
     let cycle = natural_spells c p.0 parts.cycle in
     let mult = whole_spells m p.1 parts.mult in
-    rw (← rest.2) (joined c (decimal p.0) (m ∷ ws) (signed_decimal p.1 ∷ pair_words rest.0) cycle.1 (joined m (signed_decimal p.1) ws (pair_words rest.0) mult.1 others.0), now_rise least p rest.0 parts.rises parts.nonzero others.1))
+    rw (← rest.2) (
+      joined c (decimal p.0) (m ∷ ws) (signed_decimal p.1 ∷ pair_words rest.0) cycle.1
+          (joined m (signed_decimal p.1) ws (pair_words rest.0) mult.1 others.0),
+      now_rise least p rest.0 parts.rises parts.nonzero others.1,
+    ))
 
 pub cycle_below : (p : Pair) → is_pair_within p ≡ true → p.cycle < NATURALS
 cycle_below p h = grind (arith, nat_tests, h)
@@ -53,7 +60,8 @@ cycle_below p h = grind (arith, nat_tests, h)
 pub mult_below : (p : Pair) → is_pair_within p ≡ true → nat_abs p.mult < NATURALS
 mult_below p h = grind (arith, nat_tests, h)
 
-pub pairs_read : (least : ℕ) (ps : List Pair) → rise_from least ps ≡ true → all_within ps ≡ true → pairs_from least (pair_words ps) ≡ Some ps
+pub pairs_read : (least : ℕ) (ps : List Pair) → rise_from least ps ≡ true → all_within ps ≡ true
+    → pairs_from least (pair_words ps) ≡ Some ps
 unfolding pairs_from pair_at
 pairs_read least [] h k = refl
 pairs_read least (p ∷ ps) h k =
@@ -61,13 +69,20 @@ pairs_read least (p ∷ ps) h k =
     let c : natural_of (decimal p.cycle) ≡ Some p.cycle = natural_read (decimal p.cycle) p.cycle (cycle_below p one, refl) in
     let m : whole_of (signed_decimal p.mult) ≡ Some p.mult = whole_read (signed_decimal p.mult) p.mult (mult_below p one, refl) in
     let test : follows least p ≡ true = and_left (follows least p) (rise_from (p.cycle + 1) ps) h in
-    rw (c, m, test, pairs_read (p.cycle + 1) ps (and_right (follows least p) (rise_from (p.cycle + 1) ps) h) (and_right (is_pair_within p) (all_within ps) k)) refl
+    rw (
+      c,
+      m,
+      test,
+      pairs_read (p.cycle + 1) ps (and_right (follows least p) (rise_from (p.cycle + 1) ps) h)
+          (and_right (is_pair_within p) (all_within ps) k),
+    ) refl
 
 -- ---- rows
 
 signed_some : (plus : Bool) (o : Option ℕ) (p : ℕ × Bool) → signed plus o ≡ Some p → (o ≡ Some p.0) × (plus ≡ p.1)
 signed_some plus None p h = absurd cc
-signed_some plus (Some n) p h = let e : (n, plus) ≡ p = same_Some (n, plus) p h in (ap Some (ap (λ (q : ℕ × Bool). q.0) e), ap (λ (q : ℕ × Bool). q.1) e)
+signed_some plus (Some n) p h = let e : (n, plus) ≡ p = same_Some (n, plus) p h in
+    (ap Some (ap (λ (q : ℕ × Bool). q.0) e), ap (λ (q : ℕ × Bool). q.1) e)
 
 led_by : (w : List ℕ) (c : ℕ) (rest : List ℕ) → 0 < c → get_or w 0 0 ≡ c → drop 1 w ≡ rest → w ≡ c ∷ rest
 led_by [] c rest some h e = absurd (omega arith)
@@ -98,7 +113,8 @@ row_read r lt = go r.plus
     go true = rw (natural_read (decimal r.row) r.row (lt, refl)) refl
     go false = rw (natural_read (decimal r.row) r.row (lt, refl)) refl
 
-pub both_some : {A B C : Type 0} (f : A → B → C) (o : Option A) (q : Option B) (z : C) → both f o q ≡ Some z → (x : A) × (y : B) × (o ≡ Some x) × (q ≡ Some y) × (f x y ≡ z)
+pub both_some : {A B C : Type 0} (f : A → B → C) (o : Option A) (q : Option B) (z : C) → both f o q ≡ Some z
+    → (x : A) × (y : B) × (o ≡ Some x) × (q ≡ Some y) × (f x y ≡ z)
 both_some f None q z h = absurd cc
 both_some f (Some x) None z h = absurd cc
 both_some f (Some x) (Some y) z h = (x, y, refl, refl, same_Some (f x y) z h)
@@ -138,7 +154,8 @@ kind_word kinds.Gap = codes "g"
 kind_word kinds.Propagated = codes "p"
 kind_word kinds.End = codes "end"
 
-kind_step : (w name : List ℕ) (k j : Kind) (rest : Option Kind) → cond (bytes_eq w name) (Some k) rest ≡ Some j → ((w ≡ name) × (k ≡ j)) ⊎ (rest ≡ Some j)
+kind_step : (w name : List ℕ) (k j : Kind) (rest : Option Kind) → cond (bytes_eq w name) (Some k) rest ≡ Some j
+    → ((w ≡ name) × (k ≡ j)) ⊎ (rest ≡ Some j)
 kind_step w name k j rest h = go (bytes_eq w name) (bytes_eq-Decides w name).0 h
   where
     go : (b : Bool) → (b ≡ true → w ≡ name) → cond b (Some k) rest ≡ Some j → ((w ≡ name) × (k ≡ j)) ⊎ (rest ≡ Some j)
@@ -184,7 +201,13 @@ kind_spells w j h0 =
                                                                 elim (kind_step w (codes "pesp-certificate") kinds.Version j _ h10) [
                                                                   | inl e ↦ as_kind w kinds.Version j e.0 e.1
                                                                   | inr h11 ↦
-                                                                      elim (kind_step w (codes "end") kinds.End j _ h11) [ inl e ↦ as_kind w kinds.End j e.0 e.1 | inr h12 ↦ absurd cc ]
+                                                                      elim
+                                                                      (kind_step w (codes "end") kinds.End j _
+                                                                      h11) [
+                                                                        | inl e ↦ as_kind w kinds.End j e.0
+                                                                            e.1
+                                                                        | inr h12 ↦ absurd cc
+                                                                      ]
                                                                 ]
                                                           ]
                                                     ]

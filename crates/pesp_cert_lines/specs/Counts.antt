@@ -87,7 +87,8 @@ after p End = p
 
 -- the limits of the counts
 abbrev pub keeps_counts : Progress → Bool
-keeps_counts p = nat_le p.times 100000 && nat_le p.cycles 100000 && nat_le p.rows 10000000 && nat_le p.lines 1000000 && nat_le p.pairs 20000000
+keeps_counts p = nat_le p.times 100000 && nat_le p.cycles 100000 && nat_le p.rows 10000000
+    && nat_le p.lines 1000000 && nat_le p.pairs 20000000
 
 abbrev pub counted_after : Progress → Item → Option Progress
 counted_after p item = if keeps_counts (after p item) then Some (after p item) else None

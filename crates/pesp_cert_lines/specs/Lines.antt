@@ -30,7 +30,8 @@ counted p (Ok item) = if keeps_counts (after p item) then Ok item else Err fault
 
 -- what a line says at its place, or its first fault
 unfoldable pub line_at : Progress → List ℕ → Result Item LineFault
-line_at p line = if bytes_eq line (codes "end") && not (p.needs == 0) then Err faults.Truncated else counted p (words_judged p (words_of line))
+line_at p line = if bytes_eq line (codes "end")
+    && not (p.needs == 0) then Err faults.Truncated else counted p (words_judged p (words_of line))
 
 -- ---- the same in words of the spelling
 

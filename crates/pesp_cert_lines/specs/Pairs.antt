@@ -33,13 +33,15 @@ rise_from least (p ∷ ps) = follows least p && rise_from (p.cycle + 1) ps
 
 -- two words that spell a cycle number of at least `least` and a multiplier
 unfoldable pub pair_at : ℕ → List ℕ → List ℕ → Option (ℕ × ℤ)
-pair_at least c m = option_and_then (λ n. option_and_then (λ z. if nat_le least n && not (nat_abs z == 0) then Some (n, z) else None) (whole_of m)) (natural_of c)
+pair_at least c m = option_and_then (λ n. option_and_then
+    (λ z. if nat_le least n && not (nat_abs z == 0) then Some (n, z) else None) (whole_of m)) (natural_of c)
 
 -- the pairs that words spell two by two, where the cycle numbers rise from least on
 unfoldable pub pairs_from : ℕ → List (List ℕ) → Option (List Pair)
 pairs_from least [] = Some []
 pairs_from least (c ∷ []) = None
-pairs_from least (c ∷ m ∷ ws) = option_and_then (λ p. option_map (λ ps. record { cycle = p.0; mult = p.1 } ∷ ps) (pairs_from (p.0 + 1) ws)) (pair_at least c m)
+pairs_from least (c ∷ m ∷ ws) = option_and_then
+    (λ p. option_map (λ ps. record { cycle = p.0; mult = p.1 } ∷ ps) (pairs_from (p.0 + 1) ws)) (pair_at least c m)
 
 -- the spelling first, then the limits
 abbrev pub pairs_within : Option (List Pair) → Result (List Pair) LineFault
@@ -72,5 +74,7 @@ pub record PairsAreGood (pairs : Option (List Pair)) (number : ℕ) : Type 0 whe
 
 -- the first pair of the words and the words of the others, or there is none
 abbrev pub BeginsPairs : Option Pair → ℕ → List (List ℕ) → List (List ℕ) → Type 0
-BeginsPairs None least old new = (pairs_are_good (pairs_from least new) ≡ true) × (pairs_left (pairs_from least old) ≡ []) × (pairs_left (pairs_from least new) ≡ [])
-BeginsPairs (Some p) least old new = (pairs_are_good (pairs_from (p.cycle + 1) new) ≡ true) × (pairs_left (pairs_from least old) ≡ p ∷ pairs_left (pairs_from (p.cycle + 1) new))
+BeginsPairs None least old new = (pairs_are_good (pairs_from least new) ≡ true)
+    × (pairs_left (pairs_from least old) ≡ []) × (pairs_left (pairs_from least new) ≡ [])
+BeginsPairs (Some p) least old new = (pairs_are_good (pairs_from (p.cycle + 1) new) ≡ true)
+    × (pairs_left (pairs_from least old) ≡ p ∷ pairs_left (pairs_from (p.cycle + 1) new))

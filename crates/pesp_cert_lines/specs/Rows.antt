@@ -78,4 +78,5 @@ pub record RowsAreGood (rows : Option (List SignedRow)) (number : ℕ) : Type 0 
 
 -- the first of the rows and the others, or there is none
 abbrev pub BeginsRows : Option SignedRow → Option (List SignedRow) → Option (List SignedRow) → Type 0
-BeginsRows r all rest = (rows_are_good rest ≡ true) × MatchOption r ((rows_left all ≡ []) × (rows_left rest ≡ [])) (λ x. rows_left all ≡ x ∷ rows_left rest)
+BeginsRows r all rest = (rows_are_good rest ≡ true)
+    × MatchOption r ((rows_left all ≡ []) × (rows_left rest ≡ [])) (λ x. rows_left all ≡ x ∷ rows_left rest)

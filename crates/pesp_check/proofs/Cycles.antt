@@ -27,7 +27,8 @@ use Rattle.pesp_check.proofs.Lists.{IsNext, next_of, cycle_in_tree, all_cycles}
 pub shown_still : (p : Pesp) (c : Content) (old new : Kept) → new.answer ≡ old.answer → IsShown p c old → IsShown p c new
 shown_still p c old new e s = record { period = s.period; answer = e ∙ s.answer; shows = s.shows }
 
-module _ (p : Pesp) (c : Content) (rows : List SignedRow) (rest : List Item) (kept : Kept) (stage : Stage) (is : stage ≡ stages.Cycles) (before : JudgedAt stage p c (Cycle rows ∷ rest) kept) where
+module _ (p : Pesp) (c : Content) (rows : List SignedRow) (rest : List Item) (kept : Kept) (stage : Stage)
+    (is : stage ≡ stages.Cycles) (before : JudgedAt stage p c (Cycle rows ∷ rest) kept) where
   abbrev so_far : JudgedAt stages.Cycles p c (Cycle rows ∷ rest) kept
   so_far = subst (λ (s : Stage). JudgedAt s p c (Cycle rows ∷ rest) kept) is before
 
@@ -52,7 +53,9 @@ module _ (p : Pesp) (c : Content) (rows : List SignedRow) (rest : List Item) (ke
   at : rows ≡ cycle_at c.cycles k
   at = read ∙ get_or_default c.cycles k rows [] next.1.within
 
-  pub walk_taken : (counts : List NetCount) (kept' : Kept) → kept' ≡ record kept { line = kept.line + 1; table = kept.table ++ counts ∷ [] } → IsWalk (arcs_of p) rows → AreNetCounts (length p.rows) rows counts → JudgedAt stage p c rest kept'
+  pub walk_taken : (counts : List NetCount) (kept' : Kept)
+      → kept' ≡ record kept { line = kept.line + 1; table = kept.table ++ counts ∷ [] } → IsWalk (arcs_of p) rows
+      → AreNetCounts (length p.rows) rows counts → JudgedAt stage p c rest kept'
   walk_taken counts kept' e walk nets =
       let P : Kept → Type 0 = JudgedAt stages.Cycles p c rest in
       let Q : Stage → Type 0 = λ s. JudgedAt s p c rest kept' in
@@ -69,22 +72,40 @@ module _ (p : Pesp) (c : Content) (rows : List SignedRow) (rest : List Item) (ke
         },
       ))
 
-  pub walk_refused : (refusal : Refusal) (number line : ℕ) (kept' : Kept) → number ≡ length kept.table + 1 → line ≡ kept.line + 1 → kept'.answer ≡ kept.answer → IsWalkFault (arcs_of p) rows number line refusal → JudgedAt (stages.Refused refusal) p c rest kept'
+  pub walk_refused : (refusal : Refusal) (number line : ℕ) (kept' : Kept) → number ≡ length kept.table + 1
+      → line ≡ kept.line + 1 → kept'.answer ≡ kept.answer → IsWalkFault (arcs_of p) rows number line refusal
+      → JudgedAt (stages.Refused refusal) p c rest kept'
   walk_refused refusal number line kept' e f a fault =
       let n : number ≡ k + 1 = omega (arith, e, cycles.nets.long, length-take k c.cycles, next.1.within) in
       let l : line ≡ line_before_cycles c + (k + 1) = omega (arith, f, cycles.line) in
       record {
         answer = a ∙ cycles.shown.answer;
         later = ap (list_all is_later) next.1.left ∙ all_cycles c (k + 1);
-        first = inr (cycles.shown.period, inr (inl (cycles.shown.shows, walk_fault (arcs_of p) c.cycles (line_before_cycles c) k rows rows next.1.within read refl cycles.walks refusal number line n l fault)));
+        first = inr (
+          cycles.shown.period,
+          inr (inl (
+            cycles.shown.shows,
+            walk_fault (arcs_of p) c.cycles
+                (line_before_cycles c) k rows rows next.1.within read refl cycles.walks refusal number line n l
+                fault,
+          )),
+        );
       }
 
 -- an item behind a refusal
-pub passed : (p : Pesp) (c : Content) (refusal : Refusal) (item : Item) (rest : List Item) (kept kept' : Kept) → kept'.answer ≡ kept.answer → JudgedAt (stages.Refused refusal) p c (item ∷ rest) kept → JudgedAt (stages.Refused refusal) p c rest kept'
-passed p c refusal item rest kept kept' e h = record { answer = e ∙ h.answer; later = and_right (is_later item) (list_all is_later rest) h.later; first = h.first }
+pub passed : (p : Pesp) (c : Content) (refusal : Refusal) (item : Item) (rest : List Item) (kept kept' : Kept)
+    → kept'.answer ≡ kept.answer → JudgedAt (stages.Refused refusal) p c (item ∷ rest) kept
+    → JudgedAt (stages.Refused refusal) p c rest kept'
+passed p c refusal item rest kept kept' e h = record {
+  answer = e ∙ h.answer;
+  later = and_right (is_later item) (list_all is_later rest) h.later;
+  first = h.first;
+}
 
 -- a cycle where none may come any more
-pub cycle_passed : (stage : Stage) (p : Pesp) (c : Content) (rows : List SignedRow) (rest : List Item) (kept kept' : Kept) → is_front stage ≡ false → (stage ≡ stages.Cycles → ⊥) → kept'.answer ≡ kept.answer → JudgedAt stage p c (Cycle rows ∷ rest) kept → JudgedAt stage p c rest kept'
+pub cycle_passed : (stage : Stage) (p : Pesp) (c : Content) (rows : List SignedRow) (rest : List Item)
+    (kept kept' : Kept) → is_front stage ≡ false → (stage ≡ stages.Cycles → ⊥) → kept'.answer ≡ kept.answer
+    → JudgedAt stage p c (Cycle rows ∷ rest) kept → JudgedAt stage p c rest kept'
 cycle_passed stages.Front p c rows rest kept kept' f n e h = absurd cc
 cycle_passed stages.Cycles p c rows rest kept kept' f n e h = absurd (n refl)
 cycle_passed stages.Tree p c rows rest kept kept' f n e h = absurd (cycle_in_tree c h.0 rows rest h.2.left)

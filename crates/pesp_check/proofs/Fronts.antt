@@ -20,40 +20,51 @@ use Rattle.pesp_check.specs.Judging.{Kept, cycles_from, times_from, TimesTo, Fro
 use Rattle.pesp_check.proofs.Lists.{IsNext, next_of, cycles_later, tree_later, all_cycles}
 
 -- an item that doesn't come behind the times is left only while the times are not judged
-front_only : (stage : Stage) (p : Pesp) (c : Content) (item : Item) (rest : List Item) (kept : Kept) → is_later item ≡ false → JudgedAt stage p c (item ∷ rest) kept → (stage ≡ stages.Front) × (kept.table ≡ []) × FrontTo c (item ∷ rest) kept
+front_only : (stage : Stage) (p : Pesp) (c : Content) (item : Item) (rest : List Item) (kept : Kept)
+    → is_later item ≡ false → JudgedAt stage p c (item ∷ rest) kept
+    → (stage ≡ stages.Front) × (kept.table ≡ []) × FrontTo c (item ∷ rest) kept
 front_only stages.Front p c item rest kept e h = (refl, h.0, h.1)
 front_only stages.Cycles p c item rest kept e h = let l = cycles_later c h.0 item rest h.1.left in absurd cc
 front_only stages.Tree p c item rest kept e h = let l = tree_later c h.0 item rest h.2.left in absurd cc
 front_only (stages.Refused r) p c item rest kept e h = let l = and_left (is_later item) (list_all is_later rest) h.later in absurd cc
 
 -- so it is a time, where some may come
-next_time : (c : Content) (k : ℕ) (item : Item) (rest : List Item) → is_later item ≡ false → item ∷ rest ≡ times_from c k → (t : ℤ × ℕ) × IsNext time_item c.times k (cycles_from c 0) item rest t
+next_time : (c : Content) (k : ℕ) (item : Item) (rest : List Item) → is_later item ≡ false
+    → item ∷ rest ≡ times_from c k → (t : ℤ × ℕ) × IsNext time_item c.times k (cycles_from c 0) item rest t
 next_time c k item rest e h = elim (next_of time_item c.times k (cycles_from c 0) item rest h) [
   | inl n ↦ n
   | inr n ↦ let l = cycles_later c 0 item rest n.1 in absurd cc
 ]
 
-version_front : (c : Content) (n : ℕ) (rest : List Item) (kept : Kept) → FrontTo c (Version n ∷ rest) kept → FrontTo c rest (record kept { line = kept.line + 1 })
+version_front : (c : Content) (n : ℕ) (rest : List Item) (kept : Kept) → FrontTo c (Version n ∷ rest) kept
+    → FrontTo c rest (record kept { line = kept.line + 1 })
 version_front c n rest kept (inl h) = let e = h.2 in inr (inl (omega (arith, h.0), h.1, cc))
 version_front c n rest kept (inr (inl h)) = let e = h.2 in absurd cc
 version_front c n rest kept (inr (inr (inl h))) = let e = h.3 in absurd cc
-version_front c n rest kept (inr (inr (inr h))) = let t = next_time c h.0 (Version n) rest refl h.1.left in let e : Version n ≡ Time t.0.0 t.0.1 = t.1.item_is in absurd cc
+version_front c n rest kept (inr (inr (inr h))) = let t = next_time c h.0 (Version n) rest refl h.1.left in
+    let e : Version n ≡ Time t.0.0 t.0.1 = t.1.item_is in absurd cc
 
-period_front : (c : Content) (n : ℕ) (rest : List Item) (kept : Kept) → FrontTo c (Period n ∷ rest) kept → FrontTo c rest (record kept { line = kept.line + 1; period = n })
+period_front : (c : Content) (n : ℕ) (rest : List Item) (kept : Kept) → FrontTo c (Period n ∷ rest) kept
+    → FrontTo c rest (record kept { line = kept.line + 1; period = n })
 period_front c n rest kept (inl h) = let e = h.2 in absurd cc
 period_front c n rest kept (inr (inl h)) = let e = h.2 in inr (inr (inl (omega (arith, h.0), h.1, cc, cc)))
 period_front c n rest kept (inr (inr (inl h))) = let e = h.3 in absurd cc
-period_front c n rest kept (inr (inr (inr h))) = let t = next_time c h.0 (Period n) rest refl h.1.left in let e : Period n ≡ Time t.0.0 t.0.1 = t.1.item_is in absurd cc
+period_front c n rest kept (inr (inr (inr h))) = let t = next_time c h.0 (Period n) rest refl h.1.left in
+    let e : Period n ≡ Time t.0.0 t.0.1 = t.1.item_is in absurd cc
 
-answer_front : (c : Content) (a : Answer) (rest : List Item) (kept : Kept) → FrontTo c (Says a ∷ rest) kept → FrontTo c rest (record kept { line = kept.line + 1; answer = a })
+answer_front : (c : Content) (a : Answer) (rest : List Item) (kept : Kept) → FrontTo c (Says a ∷ rest) kept
+    → FrontTo c rest (record kept { line = kept.line + 1; answer = a })
 answer_front c a rest kept (inl h) = let e = h.2 in absurd cc
 answer_front c a rest kept (inr (inl h)) = let e = h.2 in absurd cc
 answer_front c a rest kept (inr (inr (inl h))) =
     let e = h.3 in
     inr (inr (inr (0, record { period = h.2; answer = cc; within = omega arith; times = h.1; line = omega (arith, h.0); left = cc })))
-answer_front c a rest kept (inr (inr (inr h))) = let t = next_time c h.0 (Says a) rest refl h.1.left in let e : Says a ≡ Time t.0.0 t.0.1 = t.1.item_is in absurd cc
+answer_front c a rest kept (inr (inr (inr h))) = let t = next_time c h.0 (Says a) rest refl h.1.left in
+    let e : Says a ≡ Time t.0.0 t.0.1 = t.1.item_is in absurd cc
 
-time_front : (c : Content) (label : ℤ) (time : ℕ) (rest : List Item) (kept : Kept) → FrontTo c (Time label time ∷ rest) kept → FrontTo c rest (record kept { line = kept.line + 1; times = kept.times ++ (label, time) ∷ [] })
+time_front : (c : Content) (label : ℤ) (time : ℕ) (rest : List Item) (kept : Kept)
+    → FrontTo c (Time label time ∷ rest) kept → FrontTo c rest
+    (record kept { line = kept.line + 1; times = kept.times ++ (label, time) ∷ [] })
 time_front c label time rest kept (inl h) = let e = h.2 in absurd cc
 time_front c label time rest kept (inr (inl h)) = let e = h.2 in absurd cc
 time_front c label time rest kept (inr (inr (inl h))) = let e = h.3 in absurd cc
@@ -70,7 +81,9 @@ time_front c label time rest kept (inr (inr (inr h))) =
         period = h.1.period;
         answer = h.1.answer;
         within = omega (arith, t.1.within);
-        times = ap (λ ts. ts ++ (label, time) ∷ []) h.1.times ∙ ap (λ (s : ℤ × ℕ). take k c.times ++ s ∷ []) (same ∙ t.1.read) ∙ sym (take_more c.times k t.0 t.1.within);
+        times = ap (λ ts. ts ++ (label, time) ∷ []) h.1.times
+            ∙ ap (λ (s : ℤ × ℕ). take k c.times ++ s ∷ []) (same ∙ t.1.read)
+            ∙ sym (take_more c.times k t.0 t.1.within);
         line = omega (arith, h.1.line);
         left = t.1.left;
       },
@@ -88,14 +101,18 @@ module _ (stage : Stage) (p : Pesp) (c : Content) (rest : List Item) (kept : Kep
   pub version_taken : (n : ℕ) → JudgedAt stage p c (Version n ∷ rest) kept → JudgedAt stage p c rest (record kept { line = kept.line + 1 })
   version_taken n h = let f = front_only stage p c (Version n) rest kept refl h in at_front _ f.1 f.0 (version_front c n rest kept f.2)
 
-  pub period_taken : (n : ℕ) → JudgedAt stage p c (Period n ∷ rest) kept → JudgedAt stage p c rest (record kept { line = kept.line + 1; period = n })
+  pub period_taken : (n : ℕ) → JudgedAt stage p c (Period n ∷ rest) kept
+      → JudgedAt stage p c rest (record kept { line = kept.line + 1; period = n })
   period_taken n h = let f = front_only stage p c (Period n) rest kept refl h in at_front _ f.1 f.0 (period_front c n rest kept f.2)
 
-  pub answer_taken : (a : Answer) → JudgedAt stage p c (Says a ∷ rest) kept → JudgedAt stage p c rest (record kept { line = kept.line + 1; answer = a })
+  pub answer_taken : (a : Answer) → JudgedAt stage p c (Says a ∷ rest) kept
+      → JudgedAt stage p c rest (record kept { line = kept.line + 1; answer = a })
   answer_taken a h = let f = front_only stage p c (Says a) rest kept refl h in at_front _ f.1 f.0 (answer_front c a rest kept f.2)
 
-  pub time_taken : (label : ℤ) (time : ℕ) → JudgedAt stage p c (Time label time ∷ rest) kept → JudgedAt stage p c rest (record kept { line = kept.line + 1; times = kept.times ++ (label, time) ∷ [] })
-  time_taken label time h = let f = front_only stage p c (Time label time) rest kept refl h in at_front _ f.1 f.0 (time_front c label time rest kept f.2)
+  pub time_taken : (label : ℤ) (time : ℕ) → JudgedAt stage p c (Time label time ∷ rest) kept
+      → JudgedAt stage p c rest (record kept { line = kept.line + 1; times = kept.times ++ (label, time) ∷ [] })
+  time_taken label time h = let f = front_only stage p c (Time label time) rest kept refl h in
+      at_front _ f.1 f.0 (time_front c label time rest kept f.2)
 
 -- ---- all times came
 
@@ -116,14 +133,22 @@ front_done c rest kept b (inr (inr (inr h))) = go rest b h.1
     go [] b t = absurd cc
     go (item ∷ rest) b t = elim (next_of time_item c.times h.0 (cycles_from c 0) item rest t.left) [
       | inl n ↦ let l : is_later item ≡ false = ap is_later n.1.item_is in absurd cc
-      | inr n ↦ record { period = t.period; answer = t.answer; times = t.times ∙ take_all h.0 c.times n.0; line = omega (arith, t.line, t.within, n.0); left = n.1 }
+      | inr n ↦ record {
+        period = t.period;
+        answer = t.answer;
+        times = t.times ∙ take_all h.0 c.times n.0;
+        line = omega (arith, t.line, t.within, n.0);
+        left = n.1;
+      }
     ]
 
-module _ (p : Pesp) (c : Content) (rest : List Item) (kept : Kept) (b : begins_later rest ≡ true) (before : JudgedAt stages.Front p c rest kept) where
+module _ (p : Pesp) (c : Content) (rest : List Item) (kept : Kept) (b : begins_later rest ≡ true)
+    (before : JudgedAt stages.Front p c rest kept) where
   done : IsDone c rest kept
   done = front_done c rest kept b before.1
 
-  pub front_ends : (kept.period ≡ p.period) × ShowsAnswer p kept.answer (map (λ t. t.0) kept.times) (map (λ t. t.1) kept.times) → JudgedAt stages.Cycles p c rest kept
+  pub front_ends : (kept.period ≡ p.period) × ShowsAnswer p kept.answer (map (λ t. t.0) kept.times)
+      (map (λ t. t.1) kept.times) → JudgedAt stages.Cycles p c rest kept
   front_ends h = (
     0,
     record {
@@ -140,7 +165,8 @@ module _ (p : Pesp) (c : Content) (rest : List Item) (kept : Kept) (b : begins_l
     },
   )
 
-  pub front_refused : (refusal : Refusal) → IsFrontFault p kept.period kept.answer (map (λ t. t.0) kept.times) (map (λ t. t.1) kept.times) refusal → JudgedAt (stages.Refused refusal) p c rest kept
+  pub front_refused : (refusal : Refusal) → IsFrontFault p kept.period kept.answer (map (λ t. t.0) kept.times)
+      (map (λ t. t.1) kept.times) refusal → JudgedAt (stages.Refused refusal) p c rest kept
   front_refused refusal f = record {
     answer = done.answer;
     later = ap (list_all is_later) done.left ∙ all_cycles c 0;
@@ -151,6 +177,7 @@ module _ (p : Pesp) (c : Content) (rest : List Item) (kept : Kept) (b : begins_l
   }
 
 -- what holds where nothing is wrong
-pub of_none : (found : Option Refusal) (P : Type 0) (Q : Refusal → Type 0) → ((refusal : Refusal) → found ≡ Some refusal → ⊥) → MatchOption found P Q → P
+pub of_none : (found : Option Refusal) (P : Type 0) (Q : Refusal → Type 0)
+    → ((refusal : Refusal) → found ≡ Some refusal → ⊥) → MatchOption found P Q → P
 of_none None P Q n h = h
 of_none (Some refusal) P Q n h = absurd (n refusal refl)

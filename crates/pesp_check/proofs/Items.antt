@@ -13,7 +13,8 @@ use Rattle.pesp_check.specs.Items.{KeepsItemLimits}
 
 few_rows : (p : Progress) → keeps_counts p ≡ true → p.rows ≤ 10000000
 few_rows p h =
-    let most = and_left (nat_le p.times 100000 && nat_le p.cycles 100000 && nat_le p.rows 10000000 && nat_le p.lines 1000000) (nat_le p.pairs 20000000) h in
+    let most = and_left (nat_le p.times 100000 && nat_le p.cycles 100000 && nat_le p.rows 10000000
+    && nat_le p.lines 1000000) (nat_le p.pairs 20000000) h in
     let lines = and_left (nat_le p.times 100000 && nat_le p.cycles 100000 && nat_le p.rows 10000000) (nat_le p.lines 1000000) most in
     le_of p.rows 10000000 (and_right (nat_le p.times 100000 && nat_le p.cycles 100000) (nat_le p.rows 10000000) lines)
 
@@ -24,7 +25,8 @@ item_limits p (Says a) h = tt
 item_limits p (Time label time) h = tt
 item_limits p (Cycle rows) h = let few = few_rows (after p (Cycle rows)) h.counts in omega (arith, few)
 item_limits p (Slack row k) h = le_of k 9999 (and_right (is_name row) (nat_le k 9999) h.within)
-item_limits p (Offset cycle k) h = le_of (nat_abs k) 100000000000000 (and_right (is_name cycle) (nat_le (nat_abs k) 100000000000000) h.within)
+item_limits p (Offset cycle k) h = le_of (nat_abs k) 100000000000000
+    (and_right (is_name cycle) (nat_le (nat_abs k) 100000000000000) h.within)
 item_limits p (Bound ps) h = pair_limits ps (and_both (rise_from 0 ps) (all_within ps) h.proper h.within)
 item_limits p (Nothing ps) h = pair_limits ps (and_both (rise_from 0 ps) (all_within ps) h.proper h.within)
 item_limits p (Gap cycle) h = tt

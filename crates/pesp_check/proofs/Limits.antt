@@ -25,7 +25,8 @@ mults_of [] w = All-nil (λ (pair : Pair). unsigned_abs pair.mult ≤ 1000000000
 mults_of (pair ∷ pairs) w =
     let within = both (is_pair_within pair) (list_all is_pair_within pairs) w in
     let numbers = both (nat_le 1 pair.cycle && nat_le pair.cycle 100000) (nat_le (nat_abs pair.mult) 1000000000000) within.0 in
-    All-cons (λ (pair : Pair). unsigned_abs pair.mult ≤ 1000000000000) pair pairs (le_of (nat_abs pair.mult) 1000000000000 numbers.1) (mults_of pairs within.1)
+    All-cons (λ (pair : Pair). unsigned_abs pair.mult ≤ 1000000000000) pair pairs
+    (le_of (nat_abs pair.mult) 1000000000000 numbers.1) (mults_of pairs within.1)
 
 pub pair_limits : (pairs : List Pair) → are_pairs pairs ≡ true → ArePairLimits pairs
 pair_limits pairs e =

@@ -40,17 +40,22 @@ cycles_done c k (item ∷ rest) b e = elim (next_of Cycle c.cycles k (tree_from 
   | inr n ↦ record { all = n.0; left = n.1 }
 ]
 
-pub cycles_end : (stage : Stage) (p : Pesp) (c : Content) (rest : List Item) (kept : Kept) (standing : Standing) (node : Node) → stage ≡ stages.Cycles → are_trees 1 (lines_of c) ≡ true → begins_tree rest ≡ true
-    → ((walks : List (List SignedRow)) → AreNets (length p.rows) walks kept.table → node ≡ root (net_of p) walks) → standing.nodes ≡ node ∷ []
+pub cycles_end : (stage : Stage) (p : Pesp) (c : Content) (rest : List Item) (kept : Kept) (standing : Standing)
+    (node : Node) → stage ≡ stages.Cycles → are_trees 1 (lines_of c) ≡ true → begins_tree rest ≡ true
+    → ((walks : List (List SignedRow)) → AreNets (length p.rows) walks kept.table → node ≡ root (net_of p) walks)
+    → standing.nodes ≡ node ∷ []
     → JudgedAt stage p c rest kept → JudgedAt stages.Tree p c rest (record kept { walk = Some standing })
 cycles_end stage p c rest kept standing node is whole b roots nodes before =
     let so_far : JudgedAt stages.Cycles p c rest kept = subst (λ (s : Stage). JudgedAt s p c rest kept) is before in
     let k = so_far.0 in
     let h = so_far.1 in
     let done = cycles_done c k rest b h.left in
-    let nets : AreNets (length p.rows) c.cycles kept.table = subst (λ (ws : List (List SignedRow)). AreNets (length p.rows) ws kept.table) (take_all k c.cycles done.all) h.nets in
+    let nets : AreNets (length p.rows) c.cycles kept.table =
+    subst (λ (ws : List (List SignedRow)). AreNets (length p.rows) ws kept.table)
+    (take_all k c.cycles done.all) h.nets in
     let at : standing.nodes ≡ root (net_of p) c.cycles ∷ [] = nodes ∙ ap (λ (n : Node). n ∷ []) (roots c.cycles nets) in
-    let P : List Node → Type 0 = λ ns. AreJudged (net_of p) c.cycles (least_of c.answer) c.tree (root (net_of p) c.cycles) (first_tree_line c) ns 0 in
+    let P : List Node → Type 0 = λ ns. AreJudged (net_of p) c.cycles (least_of c.answer) c.tree
+    (root (net_of p) c.cycles) (first_tree_line c) ns 0 in
     let Q : List Node → Type 0 = λ ns. are_trees (length ns) (lines_of c) ≡ true in (
       0,
       standing,
@@ -60,7 +65,8 @@ cycles_end stage p c rest kept standing node is whole b roots nodes before =
         nets = nets;
         walk = refl;
         whole = subst Q (sym at) whole;
-        judged = subst P (sym at) (judged_none (net_of p) c.cycles (least_of c.answer) c.tree (root (net_of p) c.cycles) (first_tree_line c));
+        judged = subst P (sym at) (judged_none (net_of p) c.cycles (least_of c.answer) c.tree
+            (root (net_of p) c.cycles) (first_tree_line c));
         line = omega (arith, h.line, h.within, done.all);
         left = done.left;
       },
@@ -68,7 +74,8 @@ cycles_end stage p c rest kept standing node is whole b roots nodes before =
 
 -- ---- one line
 
-module _ (p : Pesp) (c : Content) (line : TreeLine) (rest : List Item) (kept : Kept) (stage : Stage) (is : stage ≡ stages.Tree) (before : JudgedAt stage p c (tree_item line ∷ rest) kept) where
+module _ (p : Pesp) (c : Content) (line : TreeLine) (rest : List Item) (kept : Kept) (stage : Stage)
+    (is : stage ≡ stages.Tree) (before : JudgedAt stage p c (tree_item line ∷ rest) kept) where
   abbrev so_far : JudgedAt stages.Tree p c (tree_item line ∷ rest) kept
   so_far = subst (λ (s : Stage). JudgedAt s p c (tree_item line ∷ rest) kept) is before
 
@@ -103,12 +110,15 @@ module _ (p : Pesp) (c : Content) (line : TreeLine) (rest : List Item) (kept : K
   answer_is = tree.shown.answer
 
   -- what is said at the node where the walk stands is said for the certificate's answer
-  pub line_found : (walk walk' : Standing) (least : Option ℕ) (at : ℕ) (found : Option Refusal) → kept.walk ≡ Some walk → least ≡ least_of kept.answer → IsLineVerdict (net_of p) c.cycles least (line_of line) walk.nodes walk'.nodes at found
+  pub line_found : (walk walk' : Standing) (least : Option ℕ) (at : ℕ) (found : Option Refusal)
+      → kept.walk ≡ Some walk → least ≡ least_of kept.answer
+      → IsLineVerdict (net_of p) c.cycles least (line_of line) walk.nodes walk'.nodes at found
       → IsLineVerdict (net_of p) c.cycles (least_of c.answer) (line_of line) standing.nodes walk'.nodes at found
   line_found walk walk' least at found e l v =
       let same : Some standing ≡ Some walk = sym stands ∙ e in
       let s : standing ≡ walk = cc in
-      let P : Standing → Type 0 = λ st. IsLineVerdict (net_of p) c.cycles (least_of c.answer) (line_of line) st.nodes walk'.nodes at found in
+      let P : Standing → Type 0 = λ st. IsLineVerdict (net_of p) c.cycles (least_of c.answer)
+      (line_of line) st.nodes walk'.nodes at found in
       let Q : Option ℕ → Type 0 = λ m. IsLineVerdict (net_of p) c.cycles m (line_of line) walk.nodes walk'.nodes at found in
       subst P (sym s) (subst Q (l ∙ ap least_of answer_is) v)
 
@@ -121,7 +131,10 @@ module _ (p : Pesp) (c : Content) (line : TreeLine) (rest : List Item) (kept : K
   pub never_gone : kept.walk ≡ None → ⊥
   never_gone e = let same : Some standing ≡ None = sym stands ∙ e in absurd cc
 
-  pub line_taken : (standing' : Standing) (kept' : Kept) → kept' ≡ record kept { line = kept.line + 1; walk = Some standing' } → IsSoundLine (net_of p) c.cycles (least_of c.answer) (line_of line) standing.nodes → standing'.nodes ≡ after (line_of line) standing.nodes
+  pub line_taken : (standing' : Standing) (kept' : Kept)
+      → kept' ≡ record kept { line = kept.line + 1; walk = Some standing' }
+      → IsSoundLine (net_of p) c.cycles (least_of c.answer) (line_of line) standing.nodes
+      → standing'.nodes ≡ after (line_of line) standing.nodes
       → JudgedAt stage p c rest kept'
   line_taken standing' kept' e sound nodes =
       let P : Kept → Type 0 = JudgedAt stages.Tree p c rest in
@@ -135,17 +148,21 @@ module _ (p : Pesp) (c : Content) (line : TreeLine) (rest : List Item) (kept : K
           nets = tree.nets;
           walk = refl;
           whole = whole_more c.tree k line next.1.within read standing.nodes standing'.nodes nodes tree.whole;
-          judged = judged_more c.tree k line next.1.within read (net_of p) c.cycles (least_of c.answer) (root (net_of p) c.cycles) (first_tree_line c) standing.nodes tree.judged standing'.nodes sound nodes;
+          judged = judged_more c.tree k line next.1.within read (net_of p) c.cycles (least_of c.answer)
+              (root (net_of p) c.cycles) (first_tree_line c) standing.nodes tree.judged standing'.nodes sound nodes;
           line = omega (arith, tree.line);
           left = next.1.left;
         },
       ))
 
-  pub line_refused : (refusal : Refusal) (at : ℕ) (kept' : Kept) → at ≡ kept.line + 1 → kept'.answer ≡ kept.answer → are_trees 1 (lines_of c) ≡ true → IsLineFault (net_of p) c.cycles (least_of c.answer) (line_of line) standing.nodes at refusal
+  pub line_refused : (refusal : Refusal) (at : ℕ) (kept' : Kept) → at ≡ kept.line + 1 → kept'.answer ≡ kept.answer
+      → are_trees 1 (lines_of c) ≡ true → IsLineFault (net_of p) c.cycles (least_of c.answer)
+      (line_of line) standing.nodes at refusal
       → JudgedAt (stages.Refused refusal) p c rest kept'
   line_refused refusal at kept' e a whole fault =
       let number : at ≡ first_tree_line c + k = omega (arith, e, tree.line) in
-      let faults = fault_here c.tree k line next.1.within read (net_of p) c.cycles (least_of c.answer) (root (net_of p) c.cycles) (first_tree_line c) standing.nodes tree.judged at refusal number fault in
+      let faults = fault_here c.tree k line next.1.within read (net_of p) c.cycles (least_of c.answer)
+      (root (net_of p) c.cycles) (first_tree_line c) standing.nodes tree.judged at refusal number fault in
       record {
         answer = a ∙ tree.shown.answer;
         later = ap (list_all is_later) next.1.left ∙ all_tree c (k + 1);
@@ -153,7 +170,9 @@ module _ (p : Pesp) (c : Content) (line : TreeLine) (rest : List Item) (kept : K
       }
 
 -- a line of the tree behind a refusal
-pub line_passed : (stage : Stage) (p : Pesp) (c : Content) (line : TreeLine) (rest : List Item) (kept kept' : Kept) → is_before_tree stage ≡ false → (stage ≡ stages.Tree → ⊥) → kept'.answer ≡ kept.answer → JudgedAt stage p c (tree_item line ∷ rest) kept → JudgedAt stage p c rest kept'
+pub line_passed : (stage : Stage) (p : Pesp) (c : Content) (line : TreeLine) (rest : List Item) (kept kept' : Kept)
+    → is_before_tree stage ≡ false → (stage ≡ stages.Tree → ⊥) → kept'.answer ≡ kept.answer
+    → JudgedAt stage p c (tree_item line ∷ rest) kept → JudgedAt stage p c rest kept'
 line_passed stages.Front p c line rest kept kept' b n e h = absurd cc
 line_passed stages.Cycles p c line rest kept kept' b n e h = absurd cc
 line_passed stages.Tree p c line rest kept kept' b n e h = absurd (n refl)
@@ -168,7 +187,8 @@ no_tree c Q whole none = go c.tree whole none
     go [] w l = absurd cc
     go (x ∷ xs) w l = absurd (omega arith)
 
-front_open : (stage : Stage) (p : Pesp) (c : Content) (kept : Kept) (Q : Type 0) → is_before_tree stage ≡ true → are_trees 1 (lines_of c) ≡ true → JudgedAt stage p c (End ∷ []) kept → Q
+front_open : (stage : Stage) (p : Pesp) (c : Content) (kept : Kept) (Q : Type 0) → is_before_tree stage ≡ true
+    → are_trees 1 (lines_of c) ≡ true → JudgedAt stage p c (End ∷ []) kept → Q
 front_open stages.Front p c kept Q b whole (none, inl h) = let e = h.2 in absurd cc
 front_open stages.Front p c kept Q b whole (none, inr (inl h)) = let e = h.2 in absurd cc
 front_open stages.Front p c kept Q b whole (none, inr (inr (inl h))) = let e = h.3 in absurd cc
@@ -177,19 +197,24 @@ front_open stages.Cycles p c kept Q b whole h = no_tree c Q whole (cycles_ended 
 front_open stages.Tree p c kept Q b whole h = absurd cc
 front_open (stages.Refused r) p c kept Q b whole h = absurd cc
 
-pub end_answer : (stage : Stage) (p : Pesp) (c : Content) (kept : Kept) → are_trees 1 (lines_of c) ≡ true → JudgedAt stage p c (End ∷ []) kept → kept.answer ≡ c.answer
+pub end_answer : (stage : Stage) (p : Pesp) (c : Content) (kept : Kept) → are_trees 1 (lines_of c) ≡ true
+    → JudgedAt stage p c (End ∷ []) kept → kept.answer ≡ c.answer
 end_answer stages.Front p c kept whole h = front_open stages.Front p c kept (kept.answer ≡ c.answer) refl whole h
 end_answer stages.Cycles p c kept whole h = h.1.shown.answer
 end_answer stages.Tree p c kept whole h = h.2.shown.answer
 end_answer (stages.Refused r) p c kept whole h = h.answer
 
-pub end_valid : (stage : Stage) (p : Pesp) (c : Content) (kept : Kept) → (stage ≡ stages.Front) ⊎ ((stage ≡ stages.Cycles) ⊎ (stage ≡ stages.Tree)) → are_trees 1 (lines_of c) ≡ true → JudgedAt stage p c (End ∷ []) kept → IsValid p c
+pub end_valid : (stage : Stage) (p : Pesp) (c : Content) (kept : Kept)
+    → (stage ≡ stages.Front) ⊎ ((stage ≡ stages.Cycles) ⊎ (stage ≡ stages.Tree)) → are_trees 1 (lines_of c) ≡ true
+    → JudgedAt stage p c (End ∷ []) kept → IsValid p c
 end_valid stages.Front p c kept is whole h = front_open stages.Front p c kept (IsValid p c) refl whole h
 end_valid stages.Cycles p c kept is whole h = front_open stages.Cycles p c kept (IsValid p c) refl whole h
 end_valid stages.Tree p c kept is whole h =
     let t = h.2 in
     let done = tree_ended c h.0 t.left in
-    valid_is p c t.shown.period t.shown.shows t.walks (judged_all (net_of p) c.cycles (least_of c.answer) c.tree (root (net_of p) c.cycles) (first_tree_line c) h.1.nodes h.0 done t.whole t.judged)
+    valid_is p c t.shown.period t.shown.shows t.walks
+    (judged_all (net_of p) c.cycles (least_of c.answer) c.tree (root (net_of p) c.cycles)
+    (first_tree_line c) h.1.nodes h.0 done t.whole t.judged)
 end_valid (stages.Refused r) p c kept (inl e) whole h = absurd cc
 end_valid (stages.Refused r) p c kept (inr (inl e)) whole h = absurd cc
 end_valid (stages.Refused r) p c kept (inr (inr e)) whole h = absurd cc

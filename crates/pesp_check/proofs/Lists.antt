@@ -28,7 +28,8 @@ pub record IsNext {A : Type 0} (f : A → Item) (xs : List A) (k : ℕ) (ys : Li
   pub left : rest ≡ map f (drop (k + 1) xs) ++ ys
 
 -- or all elements came
-pub next_of : {A : Type 0} (f : A → Item) (xs : List A) (k : ℕ) (ys : List Item) (item : Item) (rest : List Item) → item ∷ rest ≡ map f (drop k xs) ++ ys
+pub next_of : {A : Type 0} (f : A → Item) (xs : List A) (k : ℕ) (ys : List Item) (item : Item) (rest : List Item)
+    → item ∷ rest ≡ map f (drop k xs) ++ ys
     → ((x : A) × IsNext f xs k ys item rest x) ⊎ ((length xs ≤ k) × (item ∷ rest ≡ ys))
 next_of f [] k ys item rest e = inr (omega arith, e ∙ ap (λ l. map f l ++ ys) (drop_all k [] (omega arith)))
 next_of f (d ∷ ds) k ys item rest e = elim (cases_lt k (length (d ∷ ds))) [

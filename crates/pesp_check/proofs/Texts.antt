@@ -39,7 +39,8 @@ pub record IsCheckedTo (p : Pesp) (old now : Reading) (stage : Stage) (kept : Ke
   pub judged : (c : Content) (rest : List Item) → are_trees 1 (lines_of c) ≡ true → behind c ≡ so_far ++ rest → JudgedAt stage p c rest kept
   pub going : is_open now.stage ≡ true
 
-pub checked_none : (p : Pesp) (r : Reading) (stage : Stage) (kept : Kept) → is_open r.stage ≡ true → ((c : Content) → JudgedAt stage p c (behind c) kept) → IsCheckedTo p r r stage kept
+pub checked_none : (p : Pesp) (r : Reading) (stage : Stage) (kept : Kept) → is_open r.stage ≡ true
+    → ((c : Content) → JudgedAt stage p c (behind c) kept) → IsCheckedTo p r r stage kept
 checked_none p r stage kept o h = record {
   so_far = [];
   runs = runs_none r;
@@ -47,8 +48,10 @@ checked_none p r stage kept o h = record {
   going = o;
 }
 
-pub checked_more : (p : Pesp) (a b c : Reading) (stage stage' : Stage) (kept kept' : Kept) (item : Item) → IsCheckedTo p a b stage kept → Gives b c (Ok (Some item))
-    → ((c : Content) (rest : List Item) → are_trees 1 (lines_of c) ≡ true → JudgedAt stage p c (item ∷ rest) kept → JudgedAt stage' p c rest kept') → IsCheckedTo p a c stage' kept'
+pub checked_more : (p : Pesp) (a b c : Reading) (stage stage' : Stage) (kept kept' : Kept) (item : Item)
+    → IsCheckedTo p a b stage kept → Gives b c (Ok (Some item))
+    → ((c : Content) (rest : List Item) → are_trees 1 (lines_of c) ≡ true → JudgedAt stage p c (item ∷ rest) kept
+    → JudgedAt stage' p c rest kept') → IsCheckedTo p a c stage' kept'
 checked_more p a b c stage stage' kept kept' item h g step = record {
   so_far = h.so_far ++ item ∷ [];
   runs = runs_more a b c h.so_far item h.runs g.2;
@@ -59,13 +62,16 @@ checked_more p a b c stage stage' kept kept' item h g step = record {
 -- ---- the end
 
 behind_is : (c : Content) → items_of c ≡ behind c
-behind_is c = ap (λ is. Version c.version ∷ Period c.period ∷ Says c.answer ∷ is) (items_shape (map time_item c.times) (map Cycle c.cycles) (map tree_item c.tree) (End ∷ []))
+behind_is c = ap (λ is. Version c.version ∷ Period c.period ∷ Says c.answer ∷ is)
+    (items_shape (map time_item c.times) (map Cycle c.cycles) (map tree_item c.tree) (End ∷ []))
 
 verdict_is : (p : Pesp) (content : Content) (verdict : Verdict) → IsVerdict p content verdict → (verdict ≡ Accepted) ↔ IsValid p content
 verdict_is p content Accepted h = (λ e. h, λ v. refl)
 verdict_is p content (Refused refusal) h = (λ e. cc, λ valid. absurd (fault_is_not_valid p content refusal h valid))
 
-pub checked_all : (p : Pesp) (told : Option (List ℕ)) (b c : Reading) (stage : Stage) (kept : Kept) (verdict : Verdict) (answer : Answer) → IsCheckedTo p (at_first told 1073741824) b stage kept → Gives b c (Ok None)
+pub checked_all : (p : Pesp) (told : Option (List ℕ)) (b c : Reading) (stage : Stage) (kept : Kept)
+    (verdict : Verdict) (answer : Answer) → IsCheckedTo p (at_first told 1073741824) b stage kept
+    → Gives b c (Ok None)
     → ((c : Content) → are_trees 1 (lines_of c) ≡ true → JudgedAt stage p c (End ∷ []) kept → IsVerdict p c verdict)
     → ((c : Content) → are_trees 1 (lines_of c) ≡ true → JudgedAt stage p c (End ∷ []) kept → answer ≡ c.answer)
     → ((c : Content) → IsValid p c → IsTrueAnswer p c.answer (shown_times c))
@@ -87,12 +93,15 @@ checked_all p told b c stage kept verdict answer h g says is true_then =
       answer_is = same;
       said = said;
       exactly = verdict_is p content verdict said;
-      truth = λ e. subst (λ (a : Answer). IsTrueAnswer p a (shown_times content)) (sym same) (true_then content ((verdict_is p content verdict said).0 e));
+      truth = λ e. subst (λ (a : Answer). IsTrueAnswer p a (shown_times content)) (sym same)
+          (true_then content ((verdict_is p content verdict said).0 e));
     }
 
 -- ---- a fault
 
-text_faults : (told told' : Option (List ℕ)) (failed : Type 0) (r : CertRefusal) → (r ≡ refusals.Memory) ⊎ RefusesText told told' 1073741824 r → Faults (fault_of (items.Text r)) told told' failed
+text_faults : (told told' : Option (List ℕ)) (failed : Type 0) (r : CertRefusal)
+    → (r ≡ refusals.Memory) ⊎ RefusesText told told' 1073741824 r
+    → Faults (fault_of (items.Text r)) told told' failed
 text_faults told told' failed refusals.Memory h = tt
 text_faults told told' failed refusals.Header (inl e) = absurd cc
 text_faults told told' failed refusals.Header (inr f) = f
@@ -107,7 +116,9 @@ text_faults told told' failed refusals.Truncated (inr f) = f
 text_faults told told' failed (refusals.Trailing n) (inl e) = absurd cc
 text_faults told told' failed (refusals.Trailing n) (inr f) = f
 
-pub checked_fault : (p : Pesp) (told : Option (List ℕ)) (b c : Reading) (stage : Stage) (kept : Kept) (f : ItemFault) (old : Calls) (most : ℕ) (new : Calls) → IsCheckedTo p (at_first told 1073741824) b stage kept → Gives b c (Err f) → Blamed f old most new
+pub checked_fault : (p : Pesp) (told : Option (List ℕ)) (b c : Reading) (stage : Stage) (kept : Kept)
+    (f : ItemFault) (old : Calls) (most : ℕ) (new : Calls) → IsCheckedTo p (at_first told 1073741824) b stage kept
+    → Gives b c (Err f) → Blamed f old most new
     → Faults (fault_of f) told c.told (Failed old most new)
 checked_fault p told b c stage kept items.Read old most new h g blamed = blamed
 checked_fault p told b c stage kept (items.Text r) old most new h g blamed = text_faults told c.told (Failed old most new) r (refused g.1)
@@ -117,9 +128,11 @@ checked_fault p told b c stage kept (items.Text r) old most new h g blamed = tex
     refused (inr q) = inr (refused_text told 1073741824 c r (runs_refused (at_first told 1073741824) b c h.so_far r h.runs q))
 
 -- what is blamed after calls that worked is to be blamed for all of them
-pub blamed_since : (f : ItemFault) (first old new : Calls) (most limit : ℕ) → old.failed ≡ first.failed → most ≡ limit → Blamed f old most new → Blamed f first limit new
+pub blamed_since : (f : ItemFault) (first old new : Calls) (most limit : ℕ) → old.failed ≡ first.failed
+    → most ≡ limit → Blamed f old most new → Blamed f first limit new
 blamed_since (items.Text r) first old new most limit same is (failed, few) = (failed ∙ same, subst (λ (n : ℕ). new.interrupted ≤ n) is few)
-blamed_since items.Read first old new most limit same is (inl (failed, few)) = inl (failed ∙ ap (λ (n : ℕ). n + 1) same, subst (λ (n : ℕ). new.interrupted ≤ n) is few)
+blamed_since items.Read first old new most limit same is (inl (failed, few)) =
+    inl (failed ∙ ap (λ (n : ℕ). n + 1) same, subst (λ (n : ℕ). new.interrupted ≤ n) is few)
 blamed_since items.Read first old new most limit same is (inr (failed, many)) = inr (failed ∙ same, many ∙ ap (λ (n : ℕ). n + 1) is)
 
 -- where the reader isn't blamed it worked
@@ -130,4 +143,5 @@ not_blamed items.Read old new most failed other = absurd (other refl)
 -- a list that is written over one of its length
 pub writes_all : (len : ℕ) (xs ys : List ℤ) → length xs ≡ length ys → len ≡ length ys → take len (xs ++ drop (length xs) ys) ≡ xs
 writes_all len xs ys same is =
-    ap (λ zs. take len (xs ++ zs)) (drop_all (length xs) ys (omega (arith, same))) ∙ ap (take len) (append-nil xs) ∙ take_all len xs (omega (arith, same, is))
+    ap (λ zs. take len (xs ++ zs)) (drop_all (length xs) ys (omega (arith, same))) ∙ ap (take len) (append-nil xs)
+    ∙ take_all len xs (omega (arith, same, is))

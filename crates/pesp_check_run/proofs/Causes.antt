@@ -12,12 +12,16 @@ use Rattle.pesp_check_run.specs.Devices.{over}
 use Rattle.pesp_check_run.specs.Checking.{CertificateCause, OutCause}
 
 -- a fault of the certificate's text, of its reader, or of memory
-pub certificate_cause : (fault : CheckFault) (told left : Option (List ℕ)) (calls after : Calls) → Faults fault told left (DeviceFailed calls after) → CertificateCause (check_fault fault) (over told left calls after)
+pub certificate_cause : (fault : CheckFault) (told left : Option (List ℕ)) (calls after : Calls)
+    → Faults fault told left (DeviceFailed calls after)
+    → CertificateCause (check_fault fault) (over told left calls after)
 certificate_cause (Text refusal) told left calls after cause = cause
 certificate_cause CheckRead told left calls after cause = cause
 certificate_cause CheckMemory told left calls after cause = tt
 
 -- a line that didn't go out: for memory, or because the writer failed behind a front of it
-pub line_cause : (fault : VerdictFault) (Same Failed Front Cut : Type 0) → ((fault ≡ Memory) × Same) ⊎ ((fault ≡ Write) × Failed × Front) → (Failed → Front → Cut) → OutCause fault Cut
+pub line_cause : (fault : VerdictFault) (Same Failed Front Cut : Type 0)
+    → ((fault ≡ Memory) × Same) ⊎ ((fault ≡ Write) × Failed × Front) → (Failed → Front → Cut) → OutCause fault Cut
 line_cause fault Same Failed Front Cut (inl (is, same)) made = subst (λ (f : VerdictFault). OutCause f Cut) (sym is) tt
-line_cause fault Same Failed Front Cut (inr (is, failed, front)) made = subst (λ (f : VerdictFault). OutCause f Cut) (sym is) (made failed front)
+line_cause fault Same Failed Front Cut (inr (is, failed, front)) made =
+    subst (λ (f : VerdictFault). OutCause f Cut) (sym is) (made failed front)

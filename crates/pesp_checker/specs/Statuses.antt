@@ -7,7 +7,8 @@ use Rattle.pesp_judges.specs.declared.refusal.Verdict.{Verdict}
 use Rattle.pesp_check.specs.Texts.{ChecksText}
 use Rattle.pesp_check_run.specs.Verdicts.{verdict_status}
 
--- some text is an instance with this period, the text that was read is that of a certificate which is judged so for it, and the status is that of the verdict
+-- some text is an instance with this period, the text that was read is that of a certificate which is judged so for it,
+-- and the status is that of the verdict
 pub record TellsVerdict (told left : Option (List ℕ)) (period status : ℕ) : Type 0 where
   pub text : List ℕ
   pub p : Pesp

@@ -65,12 +65,14 @@ AnswersSolveSharp (Some file) steps period reader writer status =
 -- what the program does for what is asked of an instance, from the reader that has it; `silent` says that the writer was not called
 abbrev pub AnswersInstance : OfInstance → ℕ → Device → Device → Device → Type 0 → ℕ → Type 0
 AnswersInstance (Solve steps from progress) period reader writer teller silent status = AnswersSolve from steps period reader writer status
-AnswersInstance (SolveSharp steps from progress) period reader writer teller silent status = AnswersSolveSharp from steps period reader writer status
+AnswersInstance (SolveSharp steps from progress) period reader writer teller silent status =
+    AnswersSolveSharp from steps period reader writer status
 AnswersInstance (Conflict steps) period reader writer teller silent status =
     (told : Told) × TellsConflict reader.old reader.new period steps told (Gets writer) silent
     × GetsLine teller (told_text told) × (status ≡ told_status told)
 
--- the same of a certificate, from the readers that have its instance and its text; a search that goes on is stopped only where seconds are counted
+-- the same of a certificate, from the readers that have its instance and its text; a search that goes on is stopped
+-- only where seconds are counted
 abbrev pub AnswersCertificate : OfCertificate → ℕ → Device → Device → Device → ℕ → Type 0
 AnswersCertificate Check period instance reader writer status =
     (verdict : Verdict) × Checks instance.old instance.new reader.old reader.new period verdict (Gets writer)
@@ -81,7 +83,8 @@ AnswersCertificate CheckSharp period instance reader writer status =
 AnswersCertificate Gap period instance reader writer status =
     HasBase instance.old instance.new reader.old reader.new period (λ p base. Gets writer (gap_line base.answer)) × (status ≡ 0)
 AnswersCertificate (Resume steps seconds progress) period instance reader writer status =
-    HasBase instance.old instance.new reader.old reader.new period (λ p base. WritesResumed p base steps (IsSome seconds) (Gets writer)) × (status ≡ 0)
+    HasBase instance.old instance.new reader.old reader.new period
+    (λ p base. WritesResumed p base steps (IsSome seconds) (Gets writer)) × (status ≡ 0)
 AnswersCertificate (ResumeSharp steps seconds progress) period instance reader writer status =
     ResumesSharp instance.old instance.new reader.old reader.new period steps (Gets writer) × (status ≡ 0)
 AnswersCertificate Split period instance reader writer status =
@@ -90,7 +93,8 @@ AnswersCertificate Split period instance reader writer status =
 -- the same of work on open leaves of a certificate
 abbrev pub AnswersWork : ℕ → ℕ → Option ℕ → List ℕ → Device → Device → Device → ℕ → Type 0
 AnswersWork period steps until jobs instance reader writer status =
-    HasBase instance.old instance.new reader.old reader.new period (λ p base. WritesWorks p base jobs steps until (Gets writer)) × (status ≡ 0)
+    HasBase instance.old instance.new reader.old reader.new period
+    (λ p base. WritesWorks p base jobs steps until (Gets writer)) × (status ≡ 0)
 
 -- 1 where any activity is violated
 abbrev pub violations_status : ℕ → ℕ
@@ -100,13 +104,16 @@ violations_status (suc n) = 1
 -- the same of times; nothing is said of what a picture shows, or of what names a file tells
 abbrev pub AnswersTimes : OfTimes → ℕ → Device → Device → Device → ℕ → Type 0
 AnswersTimes (Report None) period instance reader writer status =
-    ReadsTimetable instance.old instance.new reader.old reader.new period (λ p times. WritesSheet (IsReport p times) (Gets writer)) × (status ≡ 0)
+    ReadsTimetable instance.old instance.new reader.old reader.new period
+    (λ p times. WritesSheet (IsReport p times) (Gets writer)) × (status ≡ 0)
 AnswersTimes (Report (Some names)) period instance reader writer status =
     ((name : ℤ → List ℕ)
-    × ReadsTimetable instance.old instance.new reader.old reader.new period (λ p times. WritesSheet (IsNamedReport p times name) (Gets writer)))
+    × ReadsTimetable instance.old instance.new reader.old reader.new period
+    (λ p times. WritesSheet (IsNamedReport p times name) (Gets writer)))
     × (status ≡ 0)
 AnswersTimes Violations period instance reader writer status =
-    (count : ℕ) × ReadsForEvents instance.old instance.new reader.old reader.new period (λ p times. WritesViolations p times count (Gets writer))
+    (count : ℕ) × ReadsForEvents instance.old instance.new reader.old reader.new period
+    (λ p times. WritesViolations p times count (Gets writer))
     × (status ≡ violations_status count)
 AnswersTimes (Picture rows names) period instance reader writer status =
     ReadsTimetable instance.old instance.new reader.old reader.new period (λ p times. WritesSheet (λ text. ⊤) (Gets writer)) × (status ≡ 0)
@@ -116,9 +123,11 @@ AnswersTimes (Diagrams names) period instance reader writer status =
 -- the same of works, from the readers that have the instance, the base and the works
 abbrev pub AnswersWorks : ℕ → Device → Device → Device → Device → Device → ℕ → Type 0
 AnswersWorks period instance base reader writer teller status =
-    HasBase instance.old instance.new base.old base.new period (λ p base. Grafts reader.old reader.new p base (Gets writer) (Gets teller)) × (status ≡ 0)
+    HasBase instance.old instance.new base.old base.new period
+    (λ p base. Grafts reader.old reader.new p base (Gets writer) (Gets teller)) × (status ≡ 0)
 
--- what the program does for a request, from the reader of standard input to the writers of standard output and standard error; what stands in a file that is named is some text
+-- what the program does for a request, from the reader of standard input to the writers of standard output and standard
+-- error; what stands in a file that is named is some text
 abbrev pub Answers : Request → Device → Device → Device → Type 0 → ℕ → Type 0
 Answers (Instance period None asked) reader writer teller silent status = AnswersInstance asked period reader writer teller silent status
 Answers (Instance period (Some file) asked) reader writer teller silent status =

@@ -33,13 +33,16 @@ has_more xs n h last row names =
 
 -- and is put behind it
 pub has_pushed : (xs : List ℕ) (n : ℕ) → HasFirst xs n → HasFirst (xs ++ (n + 1) ∷ []) (n + 1)
-has_pushed xs n h = has_more (xs ++ (n + 1) ∷ []) n (λ row names. Contains-append_left xs ((n + 1) ∷ []) row (h row names)) (length xs, omega (arith, length_push xs (n + 1)), get_or_push xs (n + 1) (n + 1) (length xs) refl)
+has_pushed xs n h = has_more (xs ++ (n + 1) ∷ []) n
+    (λ row names. Contains-append_left xs ((n + 1) ∷ []) row (h row names))
+    (length xs, omega (arith, length_push xs (n + 1)), get_or_push xs (n + 1) (n + 1) (length xs) refl)
 
 -- the first numbers of some are in a list
 abbrev pub AreAmong : List ℕ → List ℕ → ℕ → Type 0
 AreAmong listed some n = (i : ℕ) → i < n → Contains listed (slice_index some i)
 
-pub more_among : (listed some : List ℕ) (n : ℕ) → AreAmong listed some n → Contains listed (slice_index some n) → AreAmong listed some (n + 1)
+pub more_among : (listed some : List ℕ) (n : ℕ) → AreAmong listed some n → Contains listed (slice_index some n)
+    → AreAmong listed some (n + 1)
 more_among listed some n h last i l =
     elim (lt-or-same i n l) [
       | inl before ↦ h i before
@@ -53,14 +56,16 @@ all_among listed some n h l = All-from_get_or (Contains listed) some 0 (λ i k. 
 abbrev pub AllTo : {X : Type 0} → (X → Type 0) → List X → ℕ → Type 0
 AllTo {X} P xs n = (i : ℕ) (d : X) → i < n → P (get_or xs i d)
 
-pub more_to : {X : Type 0} (P : X → Type 0) (xs : List X) (n : ℕ) (x : X) → AllTo P xs n → n < length xs → x ≡ get_or xs n x → P x → AllTo P xs (n + 1)
+pub more_to : {X : Type 0} (P : X → Type 0) (xs : List X) (n : ℕ) (x : X) → AllTo P xs n → n < length xs
+    → x ≡ get_or xs n x → P x → AllTo P xs (n + 1)
 more_to P xs n x h inside is p i d l =
     elim (lt-or-same i n l) [
       | inl before ↦ h i d before
       | inr same ↦ subst P (is ∙ get_or_default xs n x d inside ∙ ap (λ (k : ℕ). get_or xs k d) (sym same)) p
     ]
 
-pub more_at : {X : Type 0} (P : X → Type 0) (xs : List X) (n : ℕ) (e : X) → AllTo P xs n → n < length xs → P (get_or xs n e) → AllTo P xs (n + 1)
+pub more_at : {X : Type 0} (P : X → Type 0) (xs : List X) (n : ℕ) (e : X) → AllTo P xs n → n < length xs
+    → P (get_or xs n e) → AllTo P xs (n + 1)
 more_at P xs n e h inside p i d l =
     elim (lt-or-same i n l) [
       | inl before ↦ h i d before

@@ -16,7 +16,8 @@ use Rattle.pesp_conflict.proofs.Decisions.{length-only_rows}
 pub fit_is_short : (p : Pesp) (listed : List ℕ) → AreFit p listed → length listed ≤ length p.rows
 fit_is_short p listed fit = rising_short listed (length p.rows) fit.0 (λ k l. All-get_or (Names (length p.rows)) listed k 0 l fit.1)
 
-pub refused_for_part : (p : Pesp) (listed : List ℕ) (steps : ℕ) (e : SolveRefusal) → AreFit p listed → IsSearchRefusal (only_rows p listed) steps e → IsSearchRefusal p steps e
+pub refused_for_part : (p : Pesp) (listed : List ℕ) (steps : ℕ) (e : SolveRefusal) → AreFit p listed
+    → IsSearchRefusal (only_rows p listed) steps e → IsSearchRefusal p steps e
 refused_for_part p listed steps Memory fit r = tt
 refused_for_part p listed steps TableTooLarge fit r =
     let few = fit_is_short p listed fit in

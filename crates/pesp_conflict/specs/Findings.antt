@@ -15,6 +15,7 @@ pub record IsConflict (p : Pesp) (rows : List ℕ) : Type 0 where
 
 -- a conflict, and where it is said that each row is needed, times for each one that keep all others; or some timetable
 abbrev pub IsFinding : Pesp → Finding → Type 0
-IsFinding p (Conflict found) = IsConflict p found.rows.items × (found.each_needed ≡ true → All (IsNeeded p found.rows.items) found.rows.items)
+IsFinding p (Conflict found) = IsConflict p found.rows.items
+    × (found.each_needed ≡ true → All (IsNeeded p found.rows.items) found.rows.items)
 IsFinding p Timetable = (times : List ℕ) × IsTimetable p times
 IsFinding p Undecided = ⊤

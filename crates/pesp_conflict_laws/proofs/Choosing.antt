@@ -27,10 +27,16 @@ conflict_is_none p listed = (
 )
 
 -- the row at a place of the instance of listed rows
-row_of_place : (p : Pesp) (listed : List ℕ) (place : ℕ) → Names (length listed) place → row_at (only_rows p listed).rows (place - 1) ≡ unweighted (row_at p.rows (slice_index listed (place - 1) - 1))
+row_of_place : (p : Pesp) (listed : List ℕ) (place : ℕ) → Names (length listed) place
+    → row_at (only_rows p listed).rows (place - 1) ≡ unweighted (row_at p.rows (slice_index listed (place - 1) - 1))
 row_of_place p listed place n = get_or-map (λ (k : ℕ). unweighted (row_at p.rows (k - 1))) listed (place - 1) 0 no_row (omega (arith, n))
 
-pub chosen_conflict : (p : Pesp) (listed places : List ℕ) → All (Names (length listed)) places → AreInConflict (only_rows p listed) places → AreInConflict p (chosen listed places)
+pub chosen_conflict : (p : Pesp) (listed places : List ℕ) → All (Names (length listed)) places
+    → AreInConflict (only_rows p listed) places → AreInConflict p (chosen listed places)
 chosen_conflict p listed places names c times k =
     let of_places = All-unmap (KeepsRow p times) (λ (place : ℕ). slice_index listed (place - 1)) places k.1 in
-    c times (k.0, λ i d l. subst (λ (row : Row). IsSatisfied p times row) (sym (row_of_place p listed (get_or places i d) (names i d l))) (of_places i d l))
+    c times (
+      k.0,
+      λ i d l. subst (λ (row : Row). IsSatisfied p times row)
+          (sym (row_of_place p listed (get_or places i d) (names i d l))) (of_places i d l),
+    )

@@ -39,32 +39,51 @@ LinesUse P rows table (EndLine leaf ∷ lines) = LeafUses P rows table leaf × L
 LinesUse P rows table (CutLine cut ∷ lines) = LinesUse P rows table lines
 
 -- from lines to their tree, and what is behind it
-tree_of_lines : (P : ℕ → Type 0) (rows : ℕ) (table : List (List SignedRow)) (tree : Tree) (rest : List Line) → LinesUse P rows table (preorder tree ++ rest) → TreeUses P rows table tree × LinesUse P rows table rest
+tree_of_lines : (P : ℕ → Type 0) (rows : ℕ) (table : List (List SignedRow)) (tree : Tree) (rest : List Line)
+    → LinesUse P rows table (preorder tree ++ rest) → TreeUses P rows table tree × LinesUse P rows table rest
 tree_of_lines P rows table (Ends leaf) rest h = h
 tree_of_lines P rows table (Branch cut low high) rest h =
-    let first = tree_of_lines P rows table low (preorder high ++ rest) (subst (LinesUse P rows table) (append_assoc (preorder low) (preorder high) rest) h) in
+    let first = tree_of_lines P rows table low (preorder high ++ rest)
+    (subst (LinesUse P rows table) (append_assoc (preorder low) (preorder high) rest) h) in
     let second = tree_of_lines P rows table high rest first.1 in
     ((first.0, second.0), second.1)
 
 -- from the lines of a certificate
-uses_lines : (listed : List ℕ) (rows : ℕ) (table : List (List SignedRow)) (lines : List TreeLine) → All (LineUsesOnly rows table listed) lines → LinesUse (Contains listed) rows table (map line_of lines)
+uses_lines : (listed : List ℕ) (rows : ℕ) (table : List (List SignedRow)) (lines : List TreeLine)
+    → All (LineUsesOnly rows table listed) lines → LinesUse (Contains listed) rows table (map line_of lines)
 uses_lines listed rows table [] h = tt
-uses_lines listed rows table (SlackLine row k ∷ lines) h = uses_lines listed rows table lines (All-tail (LineUsesOnly rows table listed) (SlackLine row k) lines h)
-uses_lines listed rows table (OffsetLine cycle k ∷ lines) h = uses_lines listed rows table lines (All-tail (LineUsesOnly rows table listed) (OffsetLine cycle k) lines h)
-uses_lines listed rows table (BoundLine pairs ∷ lines) h = (tt, uses_lines listed rows table lines (All-tail (LineUsesOnly rows table listed) (BoundLine pairs) lines h))
-uses_lines listed rows table (NothingLine pairs ∷ lines) h = (All-head (LineUsesOnly rows table listed) (NothingLine pairs) lines h, uses_lines listed rows table lines (All-tail (LineUsesOnly rows table listed) (NothingLine pairs) lines h))
-uses_lines listed rows table (GapLine cycle ∷ lines) h = (All-head (LineUsesOnly rows table listed) (GapLine cycle) lines h, uses_lines listed rows table lines (All-tail (LineUsesOnly rows table listed) (GapLine cycle) lines h))
-uses_lines listed rows table (PropagatedLine ∷ lines) h = (All-head (LineUsesOnly rows table listed) PropagatedLine lines h, uses_lines listed rows table lines (All-tail (LineUsesOnly rows table listed) PropagatedLine lines h))
+uses_lines listed rows table (SlackLine row k ∷ lines) h =
+    uses_lines listed rows table lines (All-tail (LineUsesOnly rows table listed) (SlackLine row k) lines h)
+uses_lines listed rows table (OffsetLine cycle k ∷ lines) h =
+    uses_lines listed rows table lines (All-tail (LineUsesOnly rows table listed) (OffsetLine cycle k) lines h)
+uses_lines listed rows table (BoundLine pairs ∷ lines) h =
+    (tt, uses_lines listed rows table lines (All-tail (LineUsesOnly rows table listed) (BoundLine pairs) lines h))
+uses_lines listed rows table (NothingLine pairs ∷ lines) h = (
+  All-head (LineUsesOnly rows table listed) (NothingLine pairs) lines h,
+  uses_lines listed rows table lines (All-tail (LineUsesOnly rows table listed) (NothingLine pairs) lines h),
+)
+uses_lines listed rows table (GapLine cycle ∷ lines) h = (
+  All-head (LineUsesOnly rows table listed) (GapLine cycle) lines h,
+  uses_lines listed rows table lines (All-tail (LineUsesOnly rows table listed) (GapLine cycle) lines h),
+)
+uses_lines listed rows table (PropagatedLine ∷ lines) h = (
+  All-head (LineUsesOnly rows table listed) PropagatedLine lines h,
+  uses_lines listed rows table lines (All-tail (LineUsesOnly rows table listed) PropagatedLine lines h),
+)
 
 -- ---- a tree that is sound at a node is sound at each one that agrees with it in the rows that it uses
 
-sound_leaf : (P : ℕ → Type 0) (n : Net) (table : List (List SignedRow)) (leaf : Leaf) (a b : Node) → LeafUses P (length n.arcs) table leaf → Agree P (length n.arcs) table a b → IsSound n table None (Ends leaf) a → IsSound n table None (Ends leaf) b
+sound_leaf : (P : ℕ → Type 0) (n : Net) (table : List (List SignedRow)) (leaf : Leaf) (a b : Node)
+    → LeafUses P (length n.arcs) table leaf → Agree P (length n.arcs) table a b
+    → IsSound n table None (Ends leaf) a → IsSound n table None (Ends leaf) b
 sound_leaf P n table (Bound pairs) a b u k s = absurd s.1
 sound_leaf P n table (Shut (ByPairs pairs)) a b u k s = (s.0, nothing_agrees P n table a b pairs s.0 u k s.1)
 sound_leaf P n table (Shut (ByGap cycle)) a b u k s = (s.0, gap_agrees P n table a b cycle s.0 u k s.1)
 sound_leaf P n table (Shut ByPropagation) a b u k s = (s.0, propagated_agrees P n table a b s.0 u k s.1)
 
-sound_too : (P : ℕ → Type 0) (n : Net) (table : List (List SignedRow)) (tree : Tree) (a b : Node) → TreeUses P (length n.arcs) table tree → Agree P (length n.arcs) table a b → IsSound n table None tree a → IsSound n table None tree b
+sound_too : (P : ℕ → Type 0) (n : Net) (table : List (List SignedRow)) (tree : Tree) (a b : Node)
+    → TreeUses P (length n.arcs) table tree → Agree P (length n.arcs) table a b → IsSound n table None tree a
+    → IsSound n table None tree b
 sound_too P n table (Ends leaf) a b u k s = sound_leaf P n table leaf a b u k s
 sound_too P n table (Branch cut low high) a b u k s = (
   s.0,
@@ -74,7 +93,8 @@ sound_too P n table (Branch cut low high) a b u k s = (
 
 -- ---- certificates
 
-kept_within_span : (p : Pesp) (listed times : List ℕ) → 0 < p.period → KeepsRows p listed times → (i : ℕ) → i < length (arcs_of p) → Contains listed (i + 1) → slacks_at (net_of p) times i ≤ (arc_at (arcs_of p) i).span
+kept_within_span : (p : Pesp) (listed times : List ℕ) → 0 < p.period → KeepsRows p listed times → (i : ℕ)
+    → i < length (arcs_of p) → Contains listed (i + 1) → slacks_at (net_of p) times i ≤ (arc_at (arcs_of p) i).span
 kept_within_span p listed times h kept i l in_list =
     let inside : i < length p.rows = omega (arith, l, length-arcs_of p) in
     let satisfied = All-contains (λ (row : ℕ). IsSatisfied p times (row_at p.rows (row - 1))) listed (i + 1) kept.1 in_list in
@@ -82,14 +102,21 @@ kept_within_span p listed times h kept i l in_list =
     let within = slack-le-span p times (row_at p.rows i) h here in
     rw (slacks_at-net_of p times i inside, arc_at-arcs_of p i inside) within
 
-pub used_rows_conflict : (p : Pesp) (content : Content) (listed : List ℕ) → 0 < p.period → IsValid p content → content.answer ≡ Infeasible → UsesOnly (length p.rows) content listed → AreInConflict p listed
+pub used_rows_conflict : (p : Pesp) (content : Content) (listed : List ℕ) → 0 < p.period → IsValid p content
+    → content.answer ≡ Infeasible → UsesOnly (length p.rows) content listed → AreInConflict p listed
 used_rows_conflict p content listed h valid answer uses times kept =
     let tree = valid.tree.0 in
-    let sound : IsSound (net_of p) content.cycles None tree (root (net_of p) content.cycles) = subst (λ a. IsSound (net_of p) content.cycles (least_of a) tree (root (net_of p) content.cycles)) answer valid.tree.2 in
+    let sound : IsSound (net_of p) content.cycles None tree (root (net_of p) content.cycles) =
+    subst (λ a. IsSound (net_of p) content.cycles (least_of a) tree (root (net_of p) content.cycles)) answer
+    valid.tree.2 in
     let lines = uses_lines listed (length p.rows) content.cycles content.tree uses in
-    let of_tree : LinesUse (Contains listed) (length p.rows) content.cycles (preorder tree ++ []) = subst (LinesUse (Contains listed) (length p.rows) content.cycles) (sym valid.tree.1 ∙ sym (append-nil (preorder tree))) lines in
+    let of_tree : LinesUse (Contains listed) (length p.rows) content.cycles (preorder tree ++ []) =
+    subst (LinesUse (Contains listed) (length p.rows) content.cycles)
+    (sym valid.tree.1 ∙ sym (append-nil (preorder tree))) lines in
     let used = (tree_of_lines (Contains listed) (length p.rows) content.cycles tree [] of_tree).0 in
     let used' = subst (λ (k : ℕ). TreeUses (Contains listed) k content.cycles tree) (sym (length-arcs_of p)) used in
     let agree = roots_agree (Contains listed) (net_of p) content.cycles times (kept_within_span p listed times h kept) in
-    let wide = sound_too (Contains listed) (net_of p) content.cycles tree (root (net_of p) content.cycles) (wide_root (net_of p) content.cycles times) used' agree sound in
-    sound_is_right (net_of p) content.cycles times None tree (wide_root (net_of p) content.cycles times) h wide (lies_in_wide_root (net_of p) content.cycles times h valid.cycles)
+    let wide = sound_too (Contains listed) (net_of p) content.cycles tree (root (net_of p) content.cycles)
+    (wide_root (net_of p) content.cycles times) used' agree sound in
+    sound_is_right (net_of p) content.cycles times None tree (wide_root (net_of p) content.cycles times) h wide
+    (lies_in_wide_root (net_of p) content.cycles times h valid.cycles)

@@ -21,7 +21,8 @@ abbrev pub list_header : List (List ℕ)
 list_header = codes "row" ∷ codes "label" ∷ codes "tail" ∷ codes "head" ∷ codes "lower" ∷ codes "upper" ∷ []
 
 abbrev pub listed_fields : Listed → List (List ℕ)
-listed_fields l = decimal l.row ∷ signed_decimal l.label ∷ signed_decimal l.tail ∷ signed_decimal l.head ∷ signed_decimal l.lower ∷ signed_decimal l.upper ∷ []
+listed_fields l = decimal l.row ∷ signed_decimal l.label ∷ signed_decimal l.tail ∷ signed_decimal l.head
+    ∷ signed_decimal l.lower ∷ signed_decimal l.upper ∷ []
 
 -- the records of these rows
 abbrev pub lines_of : Pesp → List ℕ → List Listed

@@ -16,7 +16,8 @@ pub record WritesList (p : Pesp) (rows : List ℕ) (Gets : List ℕ → Type 0) 
   pub conflict : IsConflict p rows
   pub written : Gets (list_text (lines_of p rows))
 
--- a list of so many rows of so many was written, of which each is needed where this is told; or nothing was written, since some timetable exists or these steps decided nothing
+-- a list of so many rows of so many was written, of which each is needed where this is told; or nothing was written,
+-- since some timetable exists or these steps decided nothing
 abbrev pub Tells : Pesp → ℕ → Told → (List ℕ → Type 0) → Type 0 → Type 0
 Tells p steps (Irreducible listed of) Gets silent =
     (rows : List ℕ) × WritesList p rows Gets × All (IsNeeded p rows) rows × (listed ≡ length rows) × (of ≡ length p.rows)

@@ -10,14 +10,18 @@ use Rattle.pesp_domains.specs.Sets.{set_of, IsClear, Narrows, Revises, family}
 use Rattle.pesp_domains.proofs.Revising.{revised, is_one, one_is, below, in_other, same_event, narrow_within, still_clear}
 use Rattle.pesp_problem.proofs.Shifts.{LeadBoth, lead_both, loop_remainder, mod_same}
 
-pub both_ends : (t w l : ℕ) (arc : Arc) (low high m n : ℕ) (xs ys zs : List ℕ) → m ≡ min high (t - 1) → n ≡ m + 1 - low → 0 < t → arc.tail ≢ arc.head → IsClear t w xs → pos l ≡ int_rem_euclid arc.lower (pos t)
-    → Narrows t w arc.tail arc.head ((l + low) % t) n xs ys → Narrows t w arc.head arc.tail ((2 * t - l - m) % t) n ys zs → Revises t w arc (low, high) xs zs
+pub both_ends : (t w l : ℕ) (arc : Arc) (low high m n : ℕ) (xs ys zs : List ℕ) → m ≡ min high (t - 1)
+    → n ≡ m + 1 - low → 0 < t → arc.tail ≢ arc.head → IsClear t w xs → pos l ≡ int_rem_euclid arc.lower (pos t)
+    → Narrows t w arc.tail arc.head ((l + low) % t) n xs ys
+    → Narrows t w arc.head arc.tail ((2 * t - l - m) % t) n ys zs → Revises t w arc (low, high) xs zs
 both_ends t w l arc low high m n xs ys zs em en p ne c el one two =
     let P : ℕ → Type 0 = λ m. LeadBoth t arc low high ((l + low) % t) ((2 * t - l - m) % t) (m + 1 - low) in
     let Q : ℕ → Type 0 = λ n. LeadBoth t arc low high ((l + low) % t) ((2 * t - l - m) % t) n in
-    revised t w arc low high ((l + low) % t) ((2 * t - l - m) % t) n xs ys zs p ne c (subst Q (sym en) (subst P (sym em) (lead_both t l arc low high p el))) one two
+    revised t w arc low high ((l + low) % t) ((2 * t - l - m) % t) n xs ys zs p ne c
+    (subst Q (sym en) (subst P (sym em) (lead_both t l arc low high p el))) one two
 
-pub loop_kept : (t w l : ℕ) (arc : Arc) (low high m back : ℕ) (xs ys : List ℕ) → m ≡ min high (t - 1) → back ≡ (t - l) % t → 0 < t → arc.tail ≡ arc.head → IsClear t w xs → pos l ≡ int_rem_euclid arc.lower (pos t)
+pub loop_kept : (t w l : ℕ) (arc : Arc) (low high m back : ℕ) (xs ys : List ℕ) → m ≡ min high (t - 1)
+    → back ≡ (t - l) % t → 0 < t → arc.tail ≡ arc.head → IsClear t w xs → pos l ≡ int_rem_euclid arc.lower (pos t)
     → low ≤ back → back ≤ m → Narrows t w arc.tail arc.tail 0 1 xs ys → Revises t w arc (low, high) xs ys
 loop_kept t w l arc low high m back xs ys em eb p te c el lo hi n =
     let cy : IsClear t w ys = still_clear t w _ _ _ _ xs ys c n in
@@ -38,13 +42,17 @@ loop_kept t w l arc low high m back xs ys em eb p te c el lo hi n =
           elim (same_event x arc.tail) [
             | inr k ↦ one_is _ (in_other _ _ d (sym (n.else x k)) sx)
             | inl e ↦
-                let st : bit (set_of w xs arc.tail) d ≡ 1 = in_other (set_of w xs x) (set_of w xs arc.tail) d (ap (λ (m : ℕ). set_of w xs m) e) sx in
-                let u : d ≡ (d + (0 + 0)) % t = sym (mod_same (d + (0 + 0)) d t (omega arith) ∙ mod-eq_of_lt (below t w xs arc.tail d c st)) in
-                one_is _ (in_other (set_of w ys arc.tail) (set_of w ys x) d (ap (λ (m : ℕ). set_of w ys m) (sym e)) (n.here.all d st (0, omega arith, sym (ap (λ (m : ℕ). bit (set_of w xs arc.tail) m) u) ∙ st)))
+                let st : bit (set_of w xs arc.tail) d
+                ≡ 1 = in_other (set_of w xs x) (set_of w xs arc.tail) d (ap (λ (m : ℕ). set_of w xs m) e) sx in
+                let u : d ≡ (d + (0 + 0)) % t =
+                sym (mod_same (d + (0 + 0)) d t (omega arith) ∙ mod-eq_of_lt (below t w xs arc.tail d c st)) in
+                one_is _ (in_other (set_of w ys arc.tail) (set_of w ys x) d (ap (λ (m : ℕ). set_of w ys m) (sym e))
+                (n.here.all d st (0, omega arith, sym (ap (λ (m : ℕ). bit (set_of w xs arc.tail) m) u) ∙ st)))
           ];
     }
 
-pub loop_cleared : (t w l : ℕ) (arc : Arc) (low high m back : ℕ) (xs ys : List ℕ) → m ≡ min high (t - 1) → back ≡ (t - l) % t → 0 < t → arc.tail ≡ arc.head → IsClear t w xs → pos l ≡ int_rem_euclid arc.lower (pos t)
+pub loop_cleared : (t w l : ℕ) (arc : Arc) (low high m back : ℕ) (xs ys : List ℕ) → m ≡ min high (t - 1)
+    → back ≡ (t - l) % t → 0 < t → arc.tail ≡ arc.head → IsClear t w xs → pos l ≡ int_rem_euclid arc.lower (pos t)
     → (low ≤ back → back ≤ m → ⊥) → Narrows t w arc.tail arc.tail 0 0 xs ys → Revises t w arc (low, high) xs ys
 loop_cleared t w l arc low high m back xs ys em eb p te c el out n =
     let none : (d : ℕ) → family w ys arc.tail d ≡ true → ⊥ = λ d s. no_shift (n.here.found d (is_one _ s)) in

@@ -17,7 +17,8 @@ remainder_is : (t : ℕ) (z : ℤ) → pos (remainder t z) ≡ int_rem_euclid z 
 remainder_is t (pos a) = refl
 remainder_is t (negsuc a) = refl
 
-both : (t : ℕ) (arc : Arc) (range : ℕ × ℕ) → 0 < t → LeadBoth t arc range.0 range.1 (first_ahead t arc range) (first_back t arc range) (count_of t range)
+both : (t : ℕ) (arc : Arc) (range : ℕ × ℕ) → 0 < t
+    → LeadBoth t arc range.0 range.1 (first_ahead t arc range) (first_back t arc range) (count_of t range)
 both t arc range p = lead_both t (remainder t arc.lower) arc range.0 range.1 p (remainder_is t arc.lower)
 
 below : (t d : ℕ) (set : List ℕ) → AreBelow t set → bit set d ≡ 1 → d < t
@@ -29,7 +30,9 @@ below t d set h s = elim (split d t) [ inl l ↦ l | inr m ↦ let z = h d m in 
 along : (set : List ℕ) (a b : ℕ) → a ≡ b → bit set a ≡ 1 → bit set b ≡ 1
 along set a b e s = sym (ap (λ (m : ℕ). bit set m) e) ∙ s
 
-pub keeps_tails : (t : ℕ) (arc : Arc) (range : ℕ × ℕ) (tails heads new : List ℕ) → 0 < t → arc.tail ≢ arc.head → AreBelow t tails → AreBelow t heads → KeepsSupported t (first_ahead t arc range) (count_of t range) tails heads new → KeepsTails t arc range tails heads new
+pub keeps_tails : (t : ℕ) (arc : Arc) (range : ℕ × ℕ) (tails heads new : List ℕ) → 0 < t → arc.tail ≢ arc.head
+    → AreBelow t tails → AreBelow t heads → KeepsSupported t (first_ahead t arc range)
+    (count_of t range) tails heads new → KeepsTails t arc range tails heads new
 keeps_tails t arc range tails heads new p ne h k w =
     let lead = both t arc range p in
     record {
@@ -43,7 +46,9 @@ keeps_tails t arc range tails heads new p ne h k w =
           w.all a s (i.0, i.1, along heads b ((a + (first_ahead t arc range + i.0)) % t) (sym i.2) m);
     }
 
-pub keeps_heads : (t : ℕ) (arc : Arc) (range : ℕ × ℕ) (tails heads new : List ℕ) → 0 < t → arc.tail ≢ arc.head → AreBelow t tails → AreBelow t heads → KeepsSupported t (first_back t arc range) (count_of t range) heads tails new → KeepsHeads t arc range tails heads new
+pub keeps_heads : (t : ℕ) (arc : Arc) (range : ℕ × ℕ) (tails heads new : List ℕ) → 0 < t → arc.tail ≢ arc.head
+    → AreBelow t tails → AreBelow t heads → KeepsSupported t (first_back t arc range)
+    (count_of t range) heads tails new → KeepsHeads t arc range tails heads new
 keeps_heads t arc range tails heads new p ne h k w =
     let lead = both t arc range p in
     record {
@@ -72,7 +77,10 @@ counted t arc range = test range.0 (greatest t range) (spec.loop_remainder t arc
         let l : low ≤ back = grind (arith, nat_tests) in
         let m : back ≤ high = grind (arith, nat_tests) in
         record { some = λ j h. (omega arith, l, m); all = λ x y. omega arith }
-    test low high back false e = record { some = λ j h. absurd (omega arith); all = λ x y. absurd (let c : true ≡ false = grind (arith, nat_tests) in cc) }
+    test low high back false e = record {
+      some = λ j h. absurd (omega arith);
+      all = λ x y. absurd (let c : true ≡ false = grind (arith, nat_tests) in cc);
+    }
 
 own : (t : ℕ) (arc : Arc) (d : ℕ) → 0 < t → d < t → remainder_of t arc d d ≡ spec.loop_remainder t arc
 own t arc d p l = loop_remainder t (remainder t arc.lower) arc d p (remainder_is t arc.lower) l
@@ -80,10 +88,12 @@ own t arc d p l = loop_remainder t (remainder t arc.lower) arc d p (remainder_is
 same_place : (t d j : ℕ) → d < t → j ≡ 0 → (d + (0 + j)) % t ≡ d
 same_place t d j l z = mod_same (d + (0 + j)) d t (omega arith) ∙ mod-eq_of_lt l
 
-is_partner : (t : ℕ) (arc : Arc) (range : ℕ × ℕ) (d : ℕ) → 0 < t → d < t → range.0 ≤ spec.loop_remainder t arc → spec.loop_remainder t arc ≤ greatest t range → ArePartners t arc range d d
+is_partner : (t : ℕ) (arc : Arc) (range : ℕ × ℕ) (d : ℕ) → 0 < t → d < t → range.0 ≤ spec.loop_remainder t arc
+    → spec.loop_remainder t arc ≤ greatest t range → ArePartners t arc range d d
 is_partner t arc range d p l a b = let r = own t arc d p l in record { low = omega arith; high = omega arith; loop = λ e. refl }
 
-pub keeps_loop_tails : (t : ℕ) (arc : Arc) (range : ℕ × ℕ) (set new : List ℕ) → 0 < t → arc.tail ≡ arc.head → AreBelow t set → KeepsSupported t 0 (loop_count t arc range) set set new → KeepsTails t arc range set set new
+pub keeps_loop_tails : (t : ℕ) (arc : Arc) (range : ℕ × ℕ) (set new : List ℕ) → 0 < t → arc.tail ≡ arc.head
+    → AreBelow t set → KeepsSupported t 0 (loop_count t arc range) set set new → KeepsTails t arc range set set new
 keeps_loop_tails t arc range set new p e h w =
     let count = counted t arc range in
     record {
@@ -102,7 +112,8 @@ keeps_loop_tails t arc range set new p e h w =
           w.all d s (0, count.all (omega arith) (omega arith), along set d ((d + (0 + 0)) % t) (sym (same_place t d 0 l refl)) s);
     }
 
-pub keeps_loop_heads : (t : ℕ) (arc : Arc) (range : ℕ × ℕ) (set new : List ℕ) → 0 < t → arc.tail ≡ arc.head → AreBelow t set → KeepsSupported t 0 (loop_count t arc range) set set new → KeepsHeads t arc range set set new
+pub keeps_loop_heads : (t : ℕ) (arc : Arc) (range : ℕ × ℕ) (set new : List ℕ) → 0 < t → arc.tail ≡ arc.head
+    → AreBelow t set → KeepsSupported t 0 (loop_count t arc range) set set new → KeepsHeads t arc range set set new
 keeps_loop_heads t arc range set new p e h w =
     let tails = keeps_loop_tails t arc range set new p e h w in
     record {

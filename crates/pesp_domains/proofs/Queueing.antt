@@ -16,10 +16,12 @@ grows_more u v w a b = record {
   still = λ row h. b.still row (a.still row h);
   listed = λ row h. elim (b.listed row h) [ inl m ↦ elim (a.listed row m) [ inl k ↦ inl k | inr k ↦ inr (b.kept row k) ] | inr m ↦ inr m ];
   kept = λ row h. b.kept row (a.kept row h);
-  below = λ h. let P : ℕ → Type 0 = λ n. All (λ (row : ℕ). row < n) v.rows.items → All (λ (row : ℕ). row < n) w.rows.items in subst P a.long b.below (a.below h);
+  below = λ h. let P : ℕ → Type 0 = λ n. All (λ (row : ℕ). row < n) v.rows.items
+      → All (λ (row : ℕ). row < n) w.rows.items in subst P a.long b.below (a.below h);
 }
 
-pub woken_more : (n : ℕ) (T H : ℕ → ℕ) (event but row next : ℕ) (old new : Waiting) → IsNext T H event row next → Grows old new → (row ≢ but → waits_at new (row - 1) ≡ true)
+pub woken_more : (n : ℕ) (T H : ℕ → ℕ) (event but row next : ℕ) (old new : Waiting) → IsNext T H event row next
+    → Grows old new → (row ≢ but → waits_at new (row - 1) ≡ true)
     → ((k : ℕ) → row < k → k ≤ n → (T k ≡ event) ⊎ (H k ≡ event) → k ≢ but → waits_at old (k - 1) ≡ true)
     → (k : ℕ) → next < k → k ≤ n → (T k ≡ event) ⊎ (H k ≡ event) → k ≢ but → waits_at new (k - 1) ≡ true
 woken_more n T H event but row next old new o g here before k l m e ne =
@@ -46,5 +48,6 @@ pub listed_more : (n : ℕ) (v w : Waiting) → AreListed n v → Grows v w → 
 listed_more n v w a g = record {
   long = g.long ∙ a.long;
   listed = λ row h. elim (g.listed row h) [ inl m ↦ g.kept row (a.listed row m) | inr m ↦ m ];
-  below = let P : ℕ → Type 0 = λ k. All (λ (row : ℕ). row < k) v.rows.items → All (λ (row : ℕ). row < k) w.rows.items in subst P a.long g.below a.below;
+  below = let P : ℕ → Type 0 = λ k. All (λ (row : ℕ). row < k) v.rows.items
+      → All (λ (row : ℕ). row < k) w.rows.items in subst P a.long g.below a.below;
 }

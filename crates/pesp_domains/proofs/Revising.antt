@@ -30,13 +30,16 @@ in_other xs ys d e s = sym (ap (λ (m : List ℕ). bit m d) e) ∙ s
 pub same_event : (x y : ℕ) → (x ≡ y) ⊎ (x ≢ y)
 same_event x y = grind arith
 
-pub still_clear : (t w kept other first count : ℕ) (xs ys : List ℕ) → IsClear t w xs → Narrows t w kept other first count xs ys → IsClear t w ys
+pub still_clear : (t w kept other first count : ℕ) (xs ys : List ℕ) → IsClear t w xs
+    → Narrows t w kept other first count xs ys → IsClear t w ys
 still_clear t w kept other first count xs ys c n x d h =
     elim (same_event x kept) [
       | inr e ↦ ap (λ (m : List ℕ). bit m d) (n.else x e) ∙ c x d h
       | inl e ↦
           let z : bit (set_of w xs kept) d ≡ 0 = c kept d h in
-          ap (λ (m : ℕ). bit (set_of w ys m) d) e ∙ zero_of (bit (set_of w ys kept) d) (bit (set_of w xs kept) d) (bit-lt (set_of w ys kept) d) z (n.here.was d)
+          ap (λ (m : ℕ). bit (set_of w ys m) d) e
+          ∙ zero_of (bit (set_of w ys kept) d) (bit (set_of w xs kept) d) (bit-lt (set_of w ys kept) d) z
+          (n.here.was d)
     ]
   where
     zero_of : (a b : ℕ) → a < 2 → b ≡ 0 → (a ≡ 1 → b ≡ 1) → a ≡ 0
@@ -45,14 +48,17 @@ still_clear t w kept other first count xs ys c n x d h =
         cases : (a : ℕ) → a < 2 → (a ≡ 0) ⊎ (a ≡ 1)
         cases a l = grind arith
 
-pub narrow_within : (t w kept other first count : ℕ) (xs ys : List ℕ) → Narrows t w kept other first count xs ys → (x d : ℕ) → bit (set_of w ys x) d ≡ 1 → bit (set_of w xs x) d ≡ 1
+pub narrow_within : (t w kept other first count : ℕ) (xs ys : List ℕ) → Narrows t w kept other first count xs ys
+    → (x d : ℕ) → bit (set_of w ys x) d ≡ 1 → bit (set_of w xs x) d ≡ 1
 narrow_within t w kept other first count xs ys n x d s =
     elim (same_event x kept) [
       | inr e ↦ in_other _ _ d (n.else x e) s
-      | inl e ↦ in_other (set_of w xs kept) (set_of w xs x) d (ap (λ (m : ℕ). set_of w xs m) (sym e)) (n.here.was d (in_other (set_of w ys x) (set_of w ys kept) d (ap (λ (m : ℕ). set_of w ys m) e) s))
+      | inl e ↦ in_other (set_of w xs kept) (set_of w xs x) d (ap (λ (m : ℕ). set_of w xs m) (sym e))
+          (n.here.was d (in_other (set_of w ys x) (set_of w ys kept) d (ap (λ (m : ℕ). set_of w ys m) e) s))
     ]
 
-pub revised : (t w : ℕ) (arc : Arc) (low high ahead back count : ℕ) (xs ys zs : List ℕ) → 0 < t → arc.tail ≢ arc.head → IsClear t w xs → LeadBoth t arc low high ahead back count
+pub revised : (t w : ℕ) (arc : Arc) (low high ahead back count : ℕ) (xs ys zs : List ℕ) → 0 < t
+    → arc.tail ≢ arc.head → IsClear t w xs → LeadBoth t arc low high ahead back count
     → Narrows t w arc.tail arc.head ahead count xs ys → Narrows t w arc.head arc.tail back count ys zs → Revises t w arc (low, high) xs zs
 revised t w arc low high ahead back count xs ys zs p ne c lead one two =
     let cy : IsClear t w ys = still_clear t w _ _ _ _ xs ys c one in
@@ -68,14 +74,18 @@ revised t w arc low high ahead back count xs ys zs p ne c lead one two =
             let b_low : (a + (ahead + f.0)) % t < t = mod_below (a + (ahead + f.0)) t p in
             let i = lead.into_back a ((a + (ahead + f.0)) % t) a_low b_low r.0 r.1 in
             let sb : bit (set_of w ys arc.head) ((a + (ahead + f.0)) % t) ≡ 1 = in_other _ _ _ (sym heads_same) f.2 in
-            let kept : bit (set_of w zs arc.head) ((a + (ahead + f.0)) % t) ≡ 1 = two.here.all ((a + (ahead + f.0)) % t) sb (i.0, i.1, along _ _ _ (sym i.2) sy) in
+            let kept : bit (set_of w zs arc.head) ((a + (ahead + f.0)) % t)
+            ≡ 1 = two.here.all ((a + (ahead + f.0)) % t) sb (i.0, i.1, along _ _ _ (sym i.2) sy) in
             ((a + (ahead + f.0)) % t, one_is _ kept, record { low = r.0; high = r.1; loop = λ e. absurd (ne e) });
         heads = λ b s.
             let sy : bit (set_of w ys arc.head) b ≡ 1 = two.here.was b (is_one _ s) in
             let b_low : b < t = below t w ys arc.head b cy sy in
             let f = two.here.found b (is_one _ s) in
-            let r = lead.out_back b f.0 b_low f.1 in
-            ((b + (back + f.0)) % t, one_is _ (in_other _ _ _ (sym tails_same) f.2), record { low = r.0; high = r.1; loop = λ e. absurd (ne e) });
+            let r = lead.out_back b f.0 b_low f.1 in (
+              (b + (back + f.0)) % t,
+              one_is _ (in_other _ _ _ (sym tails_same) f.2),
+              record { low = r.0; high = r.1; loop = λ e. absurd (ne e) },
+            );
       };
       within = λ x d s. one_is _ (narrow_within t w _ _ _ _ xs ys one x d (narrow_within t w _ _ _ _ ys zs two x d (is_one _ s)));
       keeps = λ s sup wi.
@@ -95,10 +105,12 @@ revised t w arc low high ahead back count xs ys zs p ne c lead one two =
           two.here.all b (in_other _ _ b (sym heads_same) bx) (i.0, i.1, along _ _ _ (sym i.2) ay) in
           λ x d m.
           elim (same_event x arc.head) [
-            | inl e ↦ let P : ℕ → Type 0 = λ n. s n d ≡ true → nat_eq (bit (set_of w zs n) d) 1 ≡ true in subst P (sym e) (λ m. one_is _ (in_head d m)) m
+            | inl e ↦ let P : ℕ → Type 0 = λ n. s n d ≡ true → nat_eq (bit (set_of w zs n) d) 1 ≡ true in
+                subst P (sym e) (λ m. one_is _ (in_head d m)) m
             | inr n ↦
                 elim (same_event x arc.tail) [
-                  | inl e ↦ let P : ℕ → Type 0 = λ n. s n d ≡ true → nat_eq (bit (set_of w zs n) d) 1 ≡ true in subst P (sym e) (λ m. one_is _ (in_other _ _ d (sym tails_same) (in_tail d m))) m
+                  | inl e ↦ let P : ℕ → Type 0 = λ n. s n d ≡ true → nat_eq (bit (set_of w zs n) d) 1 ≡ true in
+                      subst P (sym e) (λ m. one_is _ (in_other _ _ d (sym tails_same) (in_tail d m))) m
                   | inr k ↦ one_is _ (in_other _ _ d (sym (two.else x n ∙ one.else x k)) (is_one _ (wi x d m)))
                 ]
           ];

@@ -44,4 +44,5 @@ loop_remainder period arc = (period - remainder period arc.lower) % period
 
 -- 1 where the remainder of a loop is in the range, else 0
 abbrev pub loop_count : ℕ → Arc → ℕ × ℕ → ℕ
-loop_count period arc range = if nat_le range.0 (loop_remainder period arc) && nat_le (loop_remainder period arc) (greatest period range) then 1 else 0
+loop_count period arc range = if nat_le range.0 (loop_remainder period arc)
+    && nat_le (loop_remainder period arc) (greatest period range) then 1 else 0

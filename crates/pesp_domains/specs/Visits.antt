@@ -18,7 +18,8 @@ sets_at t xs = family (width_of t) xs
 
 -- each row that doesn't wait supports the sets
 abbrev pub RestIsSupported : ℕ → List Arc → List (ℕ × ℕ) → Waiting → List ℕ → Type 0
-RestIsSupported t arcs ranges waiting xs = (row : ℕ) → row < length arcs → waits_at waiting row ≡ false → IsSupportedBy t (arc_at arcs row) (slack_range ranges row) (sets_at t xs)
+RestIsSupported t arcs ranges waiting xs = (row : ℕ) → row < length arcs → waits_at waiting row ≡ false
+    → IsSupportedBy t (arc_at arcs row) (slack_range ranges row) (sets_at t xs)
 
 -- the sets at both ends of an arc are the same
 pub record HasSameEnds (t : ℕ) (arc : Arc) (xs ys : List ℕ) : Type 0 where
@@ -33,9 +34,11 @@ pub record TakesRow (t : ℕ) (arcs : List Arc) (ranges : List (ℕ × ℕ)) (ro
 -- where a row doesn't wait after a visit of another, it didn't wait before, and the sets at its ends are the same;
 -- and only where a set is another does some row begin to wait
 pub record Visited (t : ℕ) (arcs : List Arc) (row : ℕ) (xs ys : List ℕ) (before after : Waiting) : Type 0 where
-  pub rest : (other : ℕ) → other < length arcs → other ≢ row → waits_at after other ≡ false → (waits_at before other ≡ false) × HasSameEnds t (arc_at arcs other) xs ys
+  pub rest : (other : ℕ) → other < length arcs → other ≢ row → waits_at after other ≡ false
+      → (waits_at before other ≡ false) × HasSameEnds t (arc_at arcs other) xs ys
   pub long : vec_len after.flags ≡ vec_len before.flags
-  pub listed : (other : ℕ) → waits_at after other ≡ true → ((other ≢ row) × (waits_at before other ≡ true)) ⊎ Contains after.rows.items other
+  pub listed : (other : ℕ) → waits_at after other ≡ true
+      → ((other ≢ row) × (waits_at before other ≡ true)) ⊎ Contains after.rows.items other
   pub kept : (other : ℕ) → Contains before.rows.items other → Contains after.rows.items other
   pub below : All (λ other. other < vec_len before.flags) before.rows.items → All (λ other. other < vec_len before.flags) after.rows.items
   pub quiet : (sum ys < sum xs) ⊎ (after.rows.items ≡ before.rows.items)
@@ -50,12 +53,14 @@ IsVisit t events arcs row xs ys before after (Some event) = IsEmptyAt t events y
 IsVisit t events arcs row xs ys before after None = Visited t arcs row xs ys before after
 
 -- the rows of a line were visited up to a place, while others began to wait
-pub record Passed (t : ℕ) (arcs : List Arc) (ranges : List (ℕ × ℕ)) (line : List ℕ) (i : ℕ) (xs ys : List ℕ) (before after : Waiting) : Type 0 where
+pub record Passed (t : ℕ) (arcs : List Arc) (ranges : List (ℕ × ℕ)) (line : List ℕ) (i : ℕ) (xs ys : List ℕ)
+    (before after : Waiting) : Type 0 where
   pub shrinks : Shrinks (net_at t arcs) ranges (sets_at t xs) (sets_at t ys)
   pub most : sum ys ≤ sum xs
   pub supported : RestIsSupported t arcs ranges before xs → RestIsSupported t arcs ranges after ys
   pub long : vec_len after.flags ≡ vec_len before.flags
-  pub listed : (row : ℕ) → waits_at after row ≡ true → ((k : ℕ) × (i ≤ k) × (k < length line) × (slice_index line k ≡ row)) ⊎ Contains after.rows.items row
+  pub listed : (row : ℕ) → waits_at after row ≡ true
+      → ((k : ℕ) × (i ≤ k) × (k < length line) × (slice_index line k ≡ row)) ⊎ Contains after.rows.items row
   pub below : All (λ row. row < vec_len before.flags) after.rows.items
   pub quiet : (sum ys < sum xs) ⊎ (after.rows.items ≡ before.rows.items)
 

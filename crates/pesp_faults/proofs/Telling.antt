@@ -19,7 +19,8 @@ use Rattle.pesp_faults.specs.FaultLines.{verdict_fault, search_fault, times_faul
 use Rattle.pesp_faults.specs.Causes.{InstanceCause, TimesCause, SearchCause, LimitCause}
 
 -- why there is no instance, told as a fault of the runs
-pub instance_cause : (fault : VerdictFault) (reader : Device) (period : ℕ) → checking.InstanceCause fault reader period → InstanceCause (verdict_fault fault) reader period
+pub instance_cause : (fault : VerdictFault) (reader : Device) (period : ℕ)
+    → checking.InstanceCause fault reader period → InstanceCause (verdict_fault fault) reader period
 instance_cause (Instance refusal) reader period cause = cause
 instance_cause (Certificate refusal) reader period cause = cause
 instance_cause Memory reader period cause = cause
@@ -28,7 +29,8 @@ instance_cause Write reader period cause = cause
 instance_cause NoFile reader period cause = cause
 
 -- a limit that the search passes, or a refusal of memory
-pub search_cause : (refusal : SolveRefusal) (p : Pesp) (steps : ℕ) → IsSearchRefusal p steps refusal → SearchCause (search_fault refusal) p steps
+pub search_cause : (refusal : SolveRefusal) (p : Pesp) (steps : ℕ) → IsSearchRefusal p steps refusal
+    → SearchCause (search_fault refusal) p steps
 search_cause SearchMemory p steps refused = tt
 search_cause TableTooLarge p steps refused = refused
 search_cause PairsTooMany p steps refused = refused
@@ -39,7 +41,11 @@ limit_cause TableTooLarge p steps met = met
 limit_cause PairsTooMany p steps met = met
 
 -- a refusal of the times' text, or of memory
-pub times_cause : (refusal : TimesRefusal) (told left : Option (List ℕ)) (calls after : Calls) (bytes : List ℕ) (p : Pesp) → ReadsText told left 1073741824 bytes → (refusal ≡ TimesMemory) ⊎ (times_of p bytes ≡ Err refusal) → TimesCause (times_fault refusal) (over told left calls after) p
+pub times_cause : (refusal : TimesRefusal) (told left : Option (List ℕ)) (calls after : Calls) (bytes : List ℕ)
+    (p : Pesp) → ReadsText told left 1073741824 bytes → (refusal ≡ TimesMemory) ⊎ (times_of p bytes ≡ Err refusal)
+    → TimesCause (times_fault refusal) (over told left calls after) p
 times_cause TimesMemory told left calls after bytes p read first = tt
-times_cause (BadLine n) told left calls after bytes p read first = elim first [ inl e ↦ cc | inr e ↦ record { text = bytes; read = read; holds = e } ]
-times_cause WrongCount told left calls after bytes p read first = elim first [ inl e ↦ cc | inr e ↦ record { text = bytes; read = read; holds = e } ]
+times_cause (BadLine n) told left calls after bytes p read first =
+    elim first [ inl e ↦ cc | inr e ↦ record { text = bytes; read = read; holds = e } ]
+times_cause WrongCount told left calls after bytes p read first =
+    elim first [ inl e ↦ cc | inr e ↦ record { text = bytes; read = read; holds = e } ]

@@ -87,7 +87,8 @@ fault_line Read = codes "device: read"
 fault_line Write = codes "device: write"
 fault_line NoFile = codes "device: no file"
 
--- 1 for times that violate a row and a certificate that is not valid, 3 for a text that is refused and a job that is not there, 4 for memory, devices and a search that passes its limits
+-- 1 for times that violate a row and a certificate that is not valid, 3 for a text that is refused and a job that is
+-- not there, 4 for memory, devices and a search that passes its limits
 abbrev pub exit_status : Fault → ℕ
 exit_status (Instance refusal) = 3
 exit_status (Certificate refusal) = 3

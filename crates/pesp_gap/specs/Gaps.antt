@@ -13,7 +13,8 @@ percent_text n = decimal (n / 100) ++ codes "." ++ decimal (n / 10 % 10) ++ deci
 
 -- a cost, a bound and their gap
 abbrev pub gap_words : ℕ → ℕ → List ℕ
-gap_words bound cost = codes "cost " ++ decimal cost ++ codes ", bound " ++ decimal bound ++ codes ", gap " ++ percent_text (gap_of bound cost)
+gap_words bound cost = codes "cost " ++ decimal cost ++ codes ", bound " ++ decimal bound ++ codes ", gap "
+    ++ percent_text (gap_of bound cost)
 
 -- an answer in a line
 abbrev pub gap_line : Answer → List ℕ

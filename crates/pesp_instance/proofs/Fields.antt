@@ -25,14 +25,19 @@ joined : (before : List ℤ) (n : ℤ) (rest : Result (List ℤ) ReadRefusal)
 joined before n (Ok ns) = ap Ok (append_assoc before (n ∷ []) ns)
 joined before n (Err e) = refl
 
-numbers-behind : (at : ℕ) (before : List ℤ) (fields : List (List ℕ)) → numbers_after at before fields ≡ and_then (numbers_from at (length before + 1) fields) (λ ns. Ok (before ++ ns))
+numbers-behind : (at : ℕ) (before : List ℤ) (fields : List (List ℕ))
+    → numbers_after at before fields ≡ and_then (numbers_from at (length before + 1) fields)
+    (λ ns. Ok (before ++ ns))
 unfolding numbers_after numbers_from
 numbers-behind at before [] = ap Ok (sym (append-nil before))
 numbers-behind at before (field ∷ rest) = by (number_of field) (λ n. numbers-behind at (before ++ n ∷ []) rest)
   where
-    by : (o : Option ℤ) → ((n : ℤ) → numbers_after at (before ++ n ∷ []) rest ≡ and_then (numbers_from at (length (before ++ n ∷ []) + 1) rest) (λ ns. Ok ((before ++ n ∷ []) ++ ns)))
+    by : (o : Option ℤ) → ((n : ℤ) → numbers_after at (before ++ n ∷ []) rest
+        ≡ and_then (numbers_from at (length (before ++ n ∷ []) + 1) rest) (λ ns. Ok ((before ++ n ∷ []) ++ ns)))
         → and_then (ok_or o (NotANumber at (length before + 1))) (λ n. numbers_after at (before ++ n ∷ []) rest)
-        ≡ and_then (and_then (ok_or o (NotANumber at (length before + 1))) (λ n. and_then (numbers_from at (length before + 1 + 1) rest) (λ ns. Ok (n ∷ ns)))) (λ ns. Ok (before ++ ns))
+        ≡ and_then (and_then (ok_or o (NotANumber at (length before + 1)))
+        (λ n. and_then (numbers_from at (length before + 1 + 1) rest) (λ ns. Ok (n ∷ ns))))
+        (λ ns. Ok (before ++ ns))
     by None more = refl
     by (Some n) more =
         let longer : length (before ++ n ∷ []) + 1 ≡ length before + 1 + 1 = omega (arith, length-append before (n ∷ [])) in
@@ -52,12 +57,14 @@ module _ (at : ℕ) (fields : List (List ℕ)) (before : List ℤ) (i : ℕ) (th
   next-field = rw (add-one i) (drop-cons fields i [] there)
 
   -- one more number
-  pub numbers-more : (n : ℤ) → number_of (get_or fields i []) ≡ Some n → numbers_after at before (drop i fields) ≡ numbers_after at (before ++ n ∷ []) (drop (i + 1) fields)
+  pub numbers-more : (n : ℤ) → number_of (get_or fields i []) ≡ Some n
+      → numbers_after at before (drop i fields) ≡ numbers_after at (before ++ n ∷ []) (drop (i + 1) fields)
   unfolding numbers_after
   numbers-more n e = rw (next-field, e) refl
 
   -- a field that spells none
-  pub numbers-none : number_of (get_or fields i []) ≡ None → numbers_after at before (drop i fields) ≡ Err (NotANumber at (length before + 1))
+  pub numbers-none : number_of (get_or fields i []) ≡ None
+      → numbers_after at before (drop i fields) ≡ Err (NotANumber at (length before + 1))
   unfolding numbers_after
   numbers-none e = rw (next-field, e) refl
 
@@ -71,7 +78,8 @@ module _ (at field : ℕ) (ns : List ℤ) (i : ℕ) (there : i < length ns) wher
   next-number = rw (add-one i) (drop-cons ns i (pos 0) there)
 
   -- a number within its limits
-  pub range-more : is_within field (get_or ns i (pos 0)) ≡ true → out_of_range at field (drop i ns) ≡ out_of_range at (field + 1) (drop (i + 1) ns)
+  pub range-more : is_within field (get_or ns i (pos 0)) ≡ true
+      → out_of_range at field (drop i ns) ≡ out_of_range at (field + 1) (drop (i + 1) ns)
   unfolding out_of_range
   range-more e = rw (next-number, e) refl
 
@@ -85,12 +93,15 @@ unfolding out_of_range
 range-all at field = refl
 
 -- each number keeps its limits
-pub range-at : (at field : ℕ) (ns : List ℤ) (i : ℕ) → out_of_range at field ns ≡ None → i < length ns → is_within (field + i) (get_or ns i (pos 0)) ≡ true
+pub range-at : (at field : ℕ) (ns : List ℤ) (i : ℕ) → out_of_range at field ns ≡ None → i < length ns
+    → is_within (field + i) (get_or ns i (pos 0)) ≡ true
 unfolding out_of_range
 range-at at field [] i e h = absurd (omega arith)
 range-at at field (n ∷ ns) i e h = by (is_within field n) refl i e h (range-at at (field + 1) ns)
   where
-    by : (b : Bool) → is_within field n ≡ b → (i : ℕ) → cond (is_within field n) (out_of_range at (field + 1) ns) (Some (OutOfRange at field)) ≡ None → i < length (n ∷ ns)
+    by : (b : Bool) → is_within field n ≡ b → (i : ℕ)
+        → cond (is_within field n) (out_of_range at (field + 1) ns) (Some (OutOfRange at field)) ≡ None
+        → i < length (n ∷ ns)
         → ((j : ℕ) → out_of_range at (field + 1) ns ≡ None → j < length ns → is_within (field + 1 + j) (get_or ns j (pos 0)) ≡ true)
         → is_within (field + i) (get_or (n ∷ ns) i (pos 0)) ≡ true
     by true w zero e h more = let z : field + 0 ≡ field = omega arith in rw z w
@@ -107,7 +118,8 @@ pub weight-natural : (n : ℤ) → is_within 6 n ≡ true → (m : ℕ) × (n �
 weight-natural (pos m) e = (m, refl, grind (arith, nat_tests))
 weight-natural (negsuc m) e = cc e
 
-pub ok-weight : (at : ℕ) (ns : List ℤ) (u : Unit {0}) → length ns ≡ 6 → Ok u ≡ unless_refused (out_of_range at 1 ns) tt → (m : ℕ) × (get_or ns 5 (pos 0) ≡ pos m) × (m ≤ 1000000000)
+pub ok-weight : (at : ℕ) (ns : List ℤ) (u : Unit {0}) → length ns ≡ 6
+    → Ok u ≡ unless_refused (out_of_range at 1 ns) tt → (m : ℕ) × (get_or ns 5 (pos 0) ≡ pos m) × (m ≤ 1000000000)
 ok-weight at ns u six e =
     let none = unless-none (out_of_range at 1 ns) tt u (sym e) in
     weight-natural (get_or ns 5 (pos 0)) (range-at at 1 ns 5 none (omega arith))

@@ -10,7 +10,8 @@ use Rattle.pesp_instance.proofs.Leads.{and-left, and-right}
 -- a run that passes a test, and then a byte that does not
 span : (p : ℕ → Bool) (xs ys : List ℕ) → list_all p xs ≡ true → prefix_len p ys ≡ 0 → prefix_len p (xs ++ ys) ≡ length xs
 span p [] ys h z = z
-span p (x ∷ xs) ys h z = let v = and-left (p x) (list_all p xs) h in let more = span p xs ys (and-right (p x) (list_all p xs) h) z in rw (v, more, one-add) refl
+span p (x ∷ xs) ys h z = let v = and-left (p x) (list_all p xs) h in
+    let more = span p xs ys (and-right (p x) (list_all p xs) h) z in rw (v, more, one-add) refl
 
 drop-run : (xs ys : List ℕ) → drop (length xs) (xs ++ ys) ≡ ys
 drop-run [] ys = refl
@@ -41,7 +42,8 @@ digit-no-plus d h = grind (arith, nat_tests)
 digit-no-minus : (d : ℕ) → is_digit d ≡ true → (d == 45) ≡ false
 digit-no-minus d h = grind (arith, nat_tests)
 
-blanks-stop : (p : ℕ → Bool) → ((b : ℕ) → is_blank b ≡ true → p b ≡ false) → (after : List ℕ) → all_blank after ≡ true → prefix_len p after ≡ 0
+blanks-stop : (p : ℕ → Bool) → ((b : ℕ) → is_blank b ≡ true → p b ≡ false) → (after : List ℕ)
+    → all_blank after ≡ true → prefix_len p after ≡ 0
 blanks-stop p fails [] h = refl
 blanks-stop p fails (b ∷ after) h = stops p b after (fails b (and-left (is_blank b) (all_blank after) h))
 
@@ -57,18 +59,27 @@ ends-digits : (fraction after : List ℕ) → IsFraction fraction → all_blank 
 ends-digits [] after f h = blanks-stop is_digit blank-no-digit after h
 ends-digits (x ∷ xs) after (zeros_only zeros z) h = refl
 
-unsigned : (digits fraction after : List ℕ) → list_all is_digit digits ≡ true → 1 ≤ length digits → length digits ≤ 18 → IsFraction fraction → all_blank after ≡ true
+unsigned : (digits fraction after : List ℕ) → list_all is_digit digits ≡ true → 1 ≤ length digits
+    → length digits ≤ 18 → IsFraction fraction → all_blank after ≡ true
     → unsigned_number (digits ++ (fraction ++ after)) ≡ Some (digits_value 10 digits)
 unsigned digits fraction after a low high f h =
     let rest : List ℕ = fraction ++ after in
     let n = span is_digit digits rest a (ends-digits fraction after f h) in
-    rw (n, le-leb 1 (length digits) low, le-leb (length digits) 18 high, drop-run digits rest, take-run digits rest, ends fraction after f h) refl
+    rw (
+      n,
+      le-leb 1 (length digits) low,
+      le-leb (length digits) 18 high,
+      drop-run digits rest,
+      take-run digits rest,
+      ends fraction after f h,
+    ) refl
 
 after-blanks : (before rest : List ℕ) → all_blank before ≡ true → prefix_len is_blank rest ≡ 0 → past_blanks (before ++ rest) ≡ rest
 after-blanks before rest h z = let n = span is_blank before rest h z in rw (n, drop-run before rest) refl
 
 signed-start : (sign digits rest : List ℕ) (negative : Bool) → IsSign sign negative → list_all is_digit digits ≡ true → 1 ≤ length digits
-    → (prefix_len is_blank (sign ++ (digits ++ rest)) ≡ 0) × (has_minus (sign ++ (digits ++ rest)) ≡ negative) × (past_sign (sign ++ (digits ++ rest)) ≡ digits ++ rest)
+    → (prefix_len is_blank (sign ++ (digits ++ rest)) ≡ 0) × (has_minus (sign ++ (digits ++ rest)) ≡ negative)
+    × (past_sign (sign ++ (digits ++ rest)) ≡ digits ++ rest)
 signed-start sign [] rest negative s a low = absurd (omega arith)
 signed-start [] (d ∷ ds) rest false no_sign a low =
     let v = and-left (is_digit d) (list_all is_digit ds) a in
@@ -96,7 +107,8 @@ front-run : (p : ℕ → Bool) (xs : List ℕ) → list_all p (take (prefix_len 
 front-run p [] = refl
 front-run p (x ∷ xs) = by (p x) refl (front-run p xs)
   where
-    by : (r : Bool) → p x ≡ r → list_all p (take (prefix_len p xs) xs) ≡ true → list_all p (take (cond (p x) (1 + prefix_len p xs) 0) (x ∷ xs)) ≡ true
+    by : (r : Bool) → p x ≡ r → list_all p (take (prefix_len p xs) xs) ≡ true
+        → list_all p (take (cond (p x) (1 + prefix_len p xs) 0) (x ∷ xs)) ≡ true
     by true e more = rw (e, one-add) (rw (e, more) refl)
     by false e more = rw e refl
 
@@ -137,7 +149,8 @@ end-split (b ∷ r) e = by (b == 46) refl e
           split = rw p (ap (λ (l : List ℕ). 46 ∷ l) (sym (take-append-drop (prefix_len (λ c. c == 48) r) r)));
           blank = g;
         }
-    by false f h = let g : all_blank (b ∷ r) ≡ true = rw f at h in record { fraction = []; after = b ∷ r; fractioned = no_fraction; split = refl; blank = g }
+    by false f h = let g : all_blank (b ∷ r) ≡ true = rw f at h in
+        record { fraction = []; after = b ∷ r; fractioned = no_fraction; split = refl; blank = g }
 
 record SplitNumber (u : List ℕ) (v : ℕ) : Type 0 where
   low : 1 ≤ digit_count u
@@ -148,7 +161,8 @@ record SplitNumber (u : List ℕ) (v : ℕ) : Type 0 where
 number-split : (u : List ℕ) (v : ℕ) → unsigned_number u ≡ Some v → SplitNumber u v
 number-split u v e = by (nat_le 1 (digit_count u)) (nat_le (digit_count u) 18) (may_end (drop (digit_count u) u)) refl refl refl e
   where
-    by : (x y z : Bool) → nat_le 1 (digit_count u) ≡ x → nat_le (digit_count u) 18 ≡ y → may_end (drop (digit_count u) u) ≡ z → unsigned_number u ≡ Some v → SplitNumber u v
+    by : (x y z : Bool) → nat_le 1 (digit_count u) ≡ x → nat_le (digit_count u) 18 ≡ y
+        → may_end (drop (digit_count u) u) ≡ z → unsigned_number u ≡ Some v → SplitNumber u v
     by true true true a b c h =
         let g : ◌≡◌ {A = Option ℕ} (Some (digits_value 10 (take (digit_count u) u))) (Some v) = rw (a, b, c) at h in
         record { low = leb-true 1 (digit_count u) a; high = leb-true (digit_count u) 18 b; ends = c; value = cc }
@@ -159,7 +173,9 @@ number-split u v e = by (nat_le 1 (digit_count u)) (nat_le (digit_count u) 18) (
 pub spelling-read : (field : List ℕ) (n : ℤ) → number_of field ≡ Some n → Spells field n
 spelling-read field n e = by (unsigned_number (past_sign (past_blanks field))) refl e
   where
-    by : (o : Option ℕ) → unsigned_number (past_sign (past_blanks field)) ≡ o → with_sign (has_minus (past_blanks field)) (unsigned_number (past_sign (past_blanks field))) ≡ Some n → Spells field n
+    by : (o : Option ℕ) → unsigned_number (past_sign (past_blanks field)) ≡ o
+        → with_sign (has_minus (past_blanks field)) (unsigned_number (past_sign (past_blanks field))) ≡ Some n
+        → Spells field n
     by None w h = let g : ◌≡◌ {A = Option ℤ} None (Some n) = rw w at h in cc
     by (Some v) w h =
         let t : List ℕ = past_blanks field in
@@ -178,7 +194,9 @@ spelling-read field n e = by (unsigned_number (past_sign (past_blanks field))) r
           after = f.after;
           negative = has_minus t;
           whole = sym (take-append-drop (prefix_len is_blank field) field)
-              ∙ ap (λ (l : List ℕ). take (prefix_len is_blank field) field ++ l) (s.split ∙ ap (λ (l : List ℕ). s.sign ++ l) (sym (take-append-drop k u) ∙ ap (λ (l : List ℕ). take k u ++ l) f.split));
+              ∙ ap (λ (l : List ℕ). take (prefix_len is_blank field) field ++ l)
+              (s.split ∙ ap (λ (l : List ℕ). s.sign ++ l)
+              (sym (take-append-drop k u) ∙ ap (λ (l : List ℕ). take k u ++ l) f.split));
           blank_before = front-run is_blank field;
           signed = s.signed;
           are_digits = front-run is_digit u;

@@ -43,7 +43,8 @@ both-ok (Err e) g b h = cc h
 ordered : (at : ℕ) (a b : Activity) → in_order at a ≡ Ok b → (b ≡ a) × (a.lower ≤ℤ a.upper)
 ordered at a b e = by (int_lt a.upper a.lower) refl e
   where
-    by : (r : Bool) → int_lt a.upper a.lower ≡ r → (if int_lt a.upper a.lower then Err (BoundsCrossed at) else Ok a) ≡ Ok b → (b ≡ a) × (a.lower ≤ℤ a.upper)
+    by : (r : Bool) → int_lt a.upper a.lower ≡ r
+        → (if int_lt a.upper a.lower then Err (BoundsCrossed at) else Ok a) ≡ Ok b → (b ≡ a) × (a.lower ≤ℤ a.upper)
     by true w h = let g : ◌≡◌ {A = Result Activity ReadRefusal} (Err (BoundsCrossed at)) (Ok b) = rw w at h in cc
     by false w h = let g : ◌≡◌ {A = Result Activity ReadRefusal} (Ok a) (Ok b) = rw w at h in (cc, not-under a.upper a.lower w)
 
@@ -57,7 +58,8 @@ numbers-length : (at field : ℕ) (fields : List (List ℕ)) (ns : List ℤ) →
 unfolding numbers_from
 numbers-length at field [] ns e = let g : ◌≡◌ {A = List ℤ} [] ns = cc in ap length (sym g)
 numbers-length at field (f ∷ fs) ns e =
-    let b = both-ok (ok_or (number_of f) (NotANumber at field)) (λ n. and_then (numbers_from at (field + 1) fs) (λ rest. Ok (n ∷ rest))) ns e in
+    let b = both-ok (ok_or (number_of f) (NotANumber at field))
+    (λ n. and_then (numbers_from at (field + 1) fs) (λ rest. Ok (n ∷ rest))) ns e in
     let d = both-ok (numbers_from at (field + 1) fs) (λ rest. Ok (b.0 ∷ rest)) ns b.2 in
     let whole : b.0 ∷ d.0 ≡ ns = cc in
     ap length (sym whole) ∙ ap suc (numbers-length at (field + 1) fs d.0 d.1)
@@ -75,14 +77,23 @@ assembled-keeps at ns a six e =
     let upper = between (neg_ℤ (pos 1000000)) (pos 1000000) (get_or ns 4 (pos 0)) (range-at at 1 ns 4 none (omega arith)) in
     let w = weight-natural (get_or ns 5 (pos 0)) (range-at at 1 ns 5 none (omega arith)) in
     let light : nat_abs (get_or ns 5 (pos 0)) ≤ 1000000000 = rw w.1 w.2 in
-    rw (o.0, ← same) (record { label = label; tail = tail; head = head; lower = lower.0; upper = upper.1; bounds = rw (← same) at o.1; weight = light })
+    rw (o.0, ← same) (record {
+      label = label;
+      tail = tail;
+      head = head;
+      lower = lower.0;
+      upper = upper.1;
+      bounds = rw (← same) at o.1;
+      weight = light;
+    })
 
 assembled-from : (at : ℕ) (ns : List ℤ) (a : Activity) → assembled at ns ≡ Ok a → activity_from ns ≡ a
 assembled-from at ns a e =
     let b = both-ok (unless_refused (out_of_range at 1 ns) (activity_from ns)) (in_order at) a e in
     unless-same (out_of_range at 1 ns) (activity_from ns) b.0 b.1 ∙ sym (ordered at b.0 a b.2).0
 
-assembled-weight : (at : ℕ) (ns : List ℤ) (a : Activity) → length ns ≡ 6 → assembled at ns ≡ Ok a → pos (nat_abs (get_or ns 5 (pos 0))) ≡ get_or ns 5 (pos 0)
+assembled-weight : (at : ℕ) (ns : List ℤ) (a : Activity) → length ns ≡ 6 → assembled at ns ≡ Ok a
+    → pos (nat_abs (get_or ns 5 (pos 0))) ≡ get_or ns 5 (pos 0)
 assembled-weight at ns a six e =
     let b = both-ok (unless_refused (out_of_range at 1 ns) (activity_from ns)) (in_order at) a e in
     let none = unless-none (out_of_range at 1 ns) (activity_from ns) b.0 b.1 in
@@ -95,7 +106,8 @@ fits-six fields e = grind (arith, nat_tests)
 pub activity-keeps : (at : ℕ) (fields : List (List ℕ)) (a : Activity) → activity_of at fields ≡ Ok a → KeepsActivity a
 activity-keeps at fields a e = by (fits fields) refl e
   where
-    by : (b : Bool) → fits fields ≡ b → (if fits fields then and_then (numbers_from at 1 (take 6 fields)) (assembled at) else Err (FieldCount at)) ≡ Ok a → KeepsActivity a
+    by : (b : Bool) → fits fields ≡ b → (if fits fields then and_then (numbers_from at 1 (take 6 fields))
+        (assembled at) else Err (FieldCount at)) ≡ Ok a → KeepsActivity a
     by true w h =
         let g : and_then (numbers_from at 1 (take 6 fields)) (assembled at) ≡ Ok a = rw w at h in
         let b = both-ok (numbers_from at 1 (take 6 fields)) (assembled at) a g in
@@ -104,18 +116,22 @@ activity-keeps at fields a e = by (fits fields) refl e
     by false w h = let g : ◌≡◌ {A = Result Activity ReadRefusal} (Err (FieldCount at)) (Ok a) = rw w at h in cc
 
 -- each field spells its number
-numbers-spelled : (at field : ℕ) (fields : List (List ℕ)) (ns : List ℤ) → numbers_from at field fields ≡ Ok ns → (i : ℕ) → i < length fields → SpellsAt fields i (get_or ns i (pos 0))
+numbers-spelled : (at field : ℕ) (fields : List (List ℕ)) (ns : List ℤ) → numbers_from at field fields ≡ Ok ns
+    → (i : ℕ) → i < length fields → SpellsAt fields i (get_or ns i (pos 0))
 unfolding numbers_from
 numbers-spelled at field [] ns e i h = absurd (omega arith)
 numbers-spelled at field (f ∷ fs) ns e i h =
-    let b = both-ok (ok_or (number_of f) (NotANumber at field)) (λ n. and_then (numbers_from at (field + 1) fs) (λ rest. Ok (n ∷ rest))) ns e in
+    let b = both-ok (ok_or (number_of f) (NotANumber at field))
+    (λ n. and_then (numbers_from at (field + 1) fs) (λ rest. Ok (n ∷ rest))) ns e in
     let d = both-ok (numbers_from at (field + 1) fs) (λ rest. Ok (b.0 ∷ rest)) ns b.2 in
     let whole : b.0 ∷ d.0 ≡ ns = cc in
     let first = spelling-read f b.0 (is-some (number_of f) (NotANumber at field) b.0 b.1) in
     let more = numbers-spelled at (field + 1) fs d.0 d.1 in
     rw (← whole) (by b.0 d.0 i first more h)
   where
-    by : (n : ℤ) (rest : List ℤ) (i : ℕ) → Spells f n → ((j : ℕ) → j < length fs → SpellsAt fs j (get_or rest j (pos 0))) → i < length (f ∷ fs) → SpellsAt (f ∷ fs) i (get_or (n ∷ rest) i (pos 0))
+    by : (n : ℤ) (rest : List ℤ) (i : ℕ) → Spells f n
+        → ((j : ℕ) → j < length fs → SpellsAt fs j (get_or rest j (pos 0))) → i < length (f ∷ fs)
+        → SpellsAt (f ∷ fs) i (get_or (n ∷ rest) i (pos 0))
     by n rest zero first more h = first
     by n rest (suc j) first more h = more j (omega arith)
 
@@ -123,14 +139,16 @@ numbers-spelled at field (f ∷ fs) ns e i h =
 pub activity-spelled : (at : ℕ) (fields : List (List ℕ)) (a : Activity) → activity_of at fields ≡ Ok a → IsActivityOf fields a
 activity-spelled at fields a e = by (fits fields) refl e
   where
-    by : (b : Bool) → fits fields ≡ b → (if fits fields then and_then (numbers_from at 1 (take 6 fields)) (assembled at) else Err (FieldCount at)) ≡ Ok a → IsActivityOf fields a
+    by : (b : Bool) → fits fields ≡ b → (if fits fields then and_then (numbers_from at 1 (take 6 fields))
+        (assembled at) else Err (FieldCount at)) ≡ Ok a → IsActivityOf fields a
     by true w h =
         let g : and_then (numbers_from at 1 (take 6 fields)) (assembled at) ≡ Ok a = rw w at h in
         let b = both-ok (numbers_from at 1 (take 6 fields)) (assembled at) a g in
         let ns : List ℤ = b.0 in
         let six : length (take 6 fields) ≡ 6 = omega (arith, fits-six fields w, length-take 6 fields) in
         let count : length ns ≡ 6 = numbers-length at 1 (take 6 fields) ns b.1 ∙ six in
-        let place = λ (i : ℕ) (there : i < 6). rw (get_or-take 6 fields i [] there) at (numbers-spelled at 1 (take 6 fields) ns b.1 i (omega arith)) in
+        let place = λ (i : ℕ) (there : i < 6). rw (get_or-take 6 fields i [] there) at
+        (numbers-spelled at 1 (take 6 fields) ns b.1 i (omega arith)) in
         let whole : activity_from ns ≡ a = assembled-from at ns a b.2 in
         rw (← whole) (record {
           six = w;
@@ -159,20 +177,32 @@ labels-add es x k h = by (list_any (int_eq x) es) refl
     by true w = rw w k
     by false w = rw w (All-push IsLabel es x k h)
 
-labels-last : (acts : List Activity) (a : Activity) → All IsLabel (events_of acts) → KeepsActivity a → All IsLabel (events_of (acts ++ a ∷ []))
-labels-last acts a k h = rw (events-last acts a) (labels-add (add_event (events_of acts) a.tail) a.head (labels-add (events_of acts) a.tail k h.tail) h.head)
+labels-last : (acts : List Activity) (a : Activity) → All IsLabel (events_of acts) → KeepsActivity a
+    → All IsLabel (events_of (acts ++ a ∷ []))
+labels-last acts a k h = rw (events-last acts a)
+    (labels-add (add_event (events_of acts) a.tail) a.head (labels-add (events_of acts) a.tail k h.tail) h.head)
 
-admit-keeps : (before : List Activity) (at : ℕ) (a : Activity) (next : List Activity) → admit before at a ≡ Ok next → AllKeep before → KeepsActivity a → AllKeep next
+admit-keeps : (before : List Activity) (at : ℕ) (a : Activity) (next : List Activity) → admit before at a ≡ Ok next
+    → AllKeep before → KeepsActivity a → AllKeep next
 admit-keeps before at a next e k h = by (nat_lt (length before) 100000) (nat_le (length (events_of (before ++ a ∷ []))) 100000) refl refl e
   where
-    by : (x y : Bool) → nat_lt (length before) 100000 ≡ x → nat_le (length (events_of (before ++ a ∷ []))) 100000 ≡ y → admit before at a ≡ Ok next → AllKeep next
+    by : (x y : Bool) → nat_lt (length before) 100000 ≡ x
+        → nat_le (length (events_of (before ++ a ∷ []))) 100000 ≡ y → admit before at a ≡ Ok next → AllKeep next
     by true true v w g =
-        let r : before ++ a ∷ [] ≡ next = let q : ◌≡◌ {A = Result (List Activity) ReadRefusal} (Ok (before ++ a ∷ [])) (Ok next) = rw (v, w) at g in cc in
-        subst AllKeep r (record { rows = let l = ltb-true (length before) 100000 v in omega (arith, length-append before (a ∷ [])); events = leb-true (length (events_of (before ++ a ∷ []))) 100000 w; labels = labels-last before a k.labels h; each = All-push KeepsActivity before a k.each h })
+        let r : before ++ a ∷ [] ≡ next = let q :
+        ◌≡◌ {A = Result (List Activity) ReadRefusal} (Ok (before ++ a ∷ [])) (Ok next) = rw (v, w) at g in cc in
+        subst AllKeep r (record {
+          rows = let l = ltb-true (length before) 100000 v in
+              omega (arith, length-append before (a ∷ []));
+          events = leb-true (length (events_of (before ++ a ∷ []))) 100000 w;
+          labels = labels-last before a k.labels h;
+          each = All-push KeepsActivity before a k.each h;
+        })
     by true false v w g = let q : ◌≡◌ {A = Result (List Activity) ReadRefusal} (Err (TooManyEvents at)) (Ok next) = rw (v, w) at g in cc
     by false y v w g = let q : ◌≡◌ {A = Result (List Activity) ReadRefusal} (Err (TooManyRows at)) (Ok next) = rw v at g in cc
 
-pub activities-keep : (before : List Activity) (rs : List (ℕ × List (List ℕ))) (acts : List Activity) → activities_after before rs ≡ Ok acts → AllKeep before → AllKeep acts
+pub activities-keep : (before : List Activity) (rs : List (ℕ × List (List ℕ))) (acts : List Activity)
+    → activities_after before rs ≡ Ok acts → AllKeep before → AllKeep acts
 unfolding activities_after
 activities-keep before [] acts e k = let r : before ≡ acts = cc in subst AllKeep r k
 activities-keep before (r ∷ rs) acts e k =
@@ -183,7 +213,8 @@ activities-keep before (r ∷ rs) acts e k =
 none-keep : AllKeep []
 none-keep = record { rows = omega arith; events = omega arith; labels = All-nil IsLabel; each = All-nil KeepsActivity }
 
-rows-keep : (events : List ℤ) (acts : List Activity) → AllPlaced events acts → All KeepsActivity acts → All (RowKeepsLimits (length events)) (map (row_of events) acts)
+rows-keep : (events : List ℤ) (acts : List Activity) → AllPlaced events acts → All KeepsActivity acts
+    → All (RowKeepsLimits (length events)) (map (row_of events) acts)
 unfolding AllPlaced
 rows-keep events [] p k = All-nil (RowKeepsLimits (length events))
 rows-keep events (a ∷ acts) p k =
@@ -193,7 +224,9 @@ rows-keep events (a ∷ acts) p k =
     (rows-keep events acts p.2 (All-tail KeepsActivity a acts k))
 
 -- a table that was read makes an instance
-pub table-keeps : (period : ℕ) (rows : List Row) (events : List ℤ) (rs : List (ℕ × List (List ℕ))) (acts : List Activity) → 1 ≤ period → period ≤ 10000 → activities_after [] rs ≡ Ok acts → IsTable rows events acts
+pub table-keeps : (period : ℕ) (rows : List Row) (events : List ℤ) (rs : List (ℕ × List (List ℕ)))
+    (acts : List Activity) → 1 ≤ period → period ≤ 10000 → activities_after [] rs ≡ Ok acts
+    → IsTable rows events acts
     → KeepsLimits (record { period = period; events = events; rows = rows })
 table-keeps period rows events rs acts low high e t =
     let k = activities-keep [] rs acts e none-keep in

@@ -21,7 +21,8 @@ pub front-digits : (text : List ℕ) → AllDigits 10 (take (prefix_len is_digit
 front-digits [] = tt
 front-digits (b ∷ text) = by (is_digit b) refl (front-digits text)
   where
-    by : (r : Bool) → is_digit b ≡ r → AllDigits 10 (take (prefix_len is_digit text) text) → AllDigits 10 (take (cond (is_digit b) (1 + prefix_len is_digit text) 0) (b ∷ text))
+    by : (r : Bool) → is_digit b ≡ r → AllDigits 10 (take (prefix_len is_digit text) text)
+        → AllDigits 10 (take (cond (is_digit b) (1 + prefix_len is_digit text) 0) (b ∷ text))
     by true e more = rw (e, one-add) (digit_value-lt b e, more)
     by false e more = rw e tt
 

@@ -35,7 +35,9 @@ unfolding kept
 kept-rest at [] = refl
 kept-rest at (f ∷ rest) = by (is_skipped f) refl (kept-rest (at + 1) rest)
   where
-    by : (b : Bool) → is_skipped f ≡ b → kept (at + 1) false rest ≡ filter says_something (enumerate_from (at + 1) rest) → kept at false (f ∷ rest) ≡ filter says_something (enumerate_from at (f ∷ rest))
+    by : (b : Bool) → is_skipped f ≡ b → kept (at + 1) false rest
+        ≡ filter says_something (enumerate_from (at + 1) rest)
+        → kept at false (f ∷ rest) ≡ filter says_something (enumerate_from at (f ∷ rest))
     by true e more = rw e more
     by false e more = rw e (ap (λ (l : List (ℕ × List (List ℕ))). (at, f) ∷ l) more)
 
@@ -45,8 +47,10 @@ unfolding kept
 kept-is at [] = refl
 kept-is at (f ∷ rest) = by (is_skipped f) (is_header f) refl refl (kept-is (at + 1) rest) (kept-rest (at + 1) rest)
   where
-    by : (b h : Bool) → is_skipped f ≡ b → is_header f ≡ h → kept (at + 1) true rest ≡ past_header (filter says_something (enumerate_from (at + 1) rest))
-        → kept (at + 1) false rest ≡ filter says_something (enumerate_from (at + 1) rest) → kept at true (f ∷ rest) ≡ past_header (filter says_something (enumerate_from at (f ∷ rest)))
+    by : (b h : Bool) → is_skipped f ≡ b → is_header f ≡ h
+        → kept (at + 1) true rest ≡ past_header (filter says_something (enumerate_from (at + 1) rest))
+        → kept (at + 1) false rest ≡ filter says_something (enumerate_from (at + 1) rest)
+        → kept at true (f ∷ rest) ≡ past_header (filter says_something (enumerate_from at (f ∷ rest)))
     by true h e g more tail = rw e more
     by false true e g more tail = rw (e, g) tail
     by false false e g more tail = rw (e, g) (ap (λ (l : List (ℕ × List (List ℕ))). (at, f) ∷ l) tail)
@@ -72,21 +76,31 @@ after-end (term.Any t) c = refl
 
 in-field : (cfg : Config) (c : ℕ) → EndsBetween (in_field cfg c)
 in-field cfg c =
-    by-cond EndsBetween (c == cfg.delimiter) (st.StartField, act.EndField) (if ends_with cfg.terminator c then (after_end cfg.terminator c, act.EndRecord) else (st.InField, act.Copy)) (no-end _ _ refl)
-    (by-cond EndsBetween (ends_with cfg.terminator c) (after_end cfg.terminator c, act.EndRecord) (st.InField, act.Copy) (record { ends = λ _. after-end cfg.terminator c }) (no-end _ _ refl))
+    by-cond EndsBetween (c == cfg.delimiter) (st.StartField, act.EndField)
+    (if ends_with cfg.terminator c then (after_end cfg.terminator c, act.EndRecord) else (
+      st.InField,
+      act.Copy,
+    )) (no-end _ _ refl)
+    (by-cond EndsBetween (ends_with cfg.terminator c) (after_end cfg.terminator c, act.EndRecord)
+    (st.InField, act.Copy) (record { ends = λ _. after-end cfg.terminator c }) (no-end _ _ refl))
 
 start-field : (cfg : Config) (c : ℕ) → EndsBetween (start_field cfg c)
-start-field cfg c = by-cond EndsBetween (cfg.quoting && (c == cfg.quote)) (st.InQuoted, act.Skip) (in_field cfg c) (no-end _ _ refl) (in-field cfg c)
+start-field cfg c = by-cond EndsBetween (cfg.quoting && (c == cfg.quote)) (st.InQuoted, act.Skip) (in_field cfg c)
+    (no-end _ _ refl) (in-field cfg c)
 
 start-record : (cfg : Config) (c : ℕ) → EndsBetween (start_record cfg c)
 start-record cfg c =
-    by-cond EndsBetween (ends_with cfg.terminator c) (st.StartRecord, act.Skip) (if is_byte cfg.comment c then (st.InComment, act.Skip) else start_field cfg c) (no-end _ _ refl)
+    by-cond EndsBetween (ends_with cfg.terminator c) (st.StartRecord, act.Skip)
+    (if is_byte cfg.comment c then (st.InComment, act.Skip) else start_field cfg c) (no-end _ _ refl)
     (by-cond EndsBetween (is_byte cfg.comment c) (st.InComment, act.Skip) (start_field cfg c) (no-end _ _ refl) (start-field cfg c))
 
 in-quoted : (cfg : Config) (c : ℕ) → EndsBetween (step cfg st.InQuoted c)
 in-quoted cfg c =
-    by-cond EndsBetween (cfg.quoting && (c == cfg.quote)) (st.AfterQuote, act.Skip) (if cfg.quoting && is_byte cfg.escape c then (st.InEscape, act.Skip) else (st.InQuoted, act.Copy)) (no-end _ _ refl)
-    (by-cond EndsBetween (cfg.quoting && is_byte cfg.escape c) (st.InEscape, act.Skip) (st.InQuoted, act.Copy) (no-end _ _ refl) (no-end _ _ refl))
+    by-cond EndsBetween (cfg.quoting && (c == cfg.quote)) (st.AfterQuote, act.Skip)
+    (if cfg.quoting && is_byte cfg.escape c then (st.InEscape, act.Skip) else (st.InQuoted, act.Copy))
+    (no-end _ _ refl)
+    (by-cond EndsBetween (cfg.quoting && is_byte cfg.escape c) (st.InEscape, act.Skip) (st.InQuoted, act.Copy)
+    (no-end _ _ refl) (no-end _ _ refl))
 
 end-between : (cfg : Config) (s : State) (c : ℕ) → EndsBetween (step cfg s c)
 end-between cfg st.StartRecord c = start-record cfg c
@@ -94,29 +108,38 @@ end-between cfg st.StartField c = start-field cfg c
 end-between cfg st.InField c = in-field cfg c
 end-between cfg st.InQuoted c = in-quoted cfg c
 end-between cfg st.InEscape c = no-end _ _ refl
-end-between cfg st.AfterQuote c = by-cond EndsBetween (cfg.quoting && cfg.double_quote && (c == cfg.quote)) (st.InQuoted, act.Copy) (in_field cfg c) (no-end _ _ refl) (in-field cfg c)
-end-between cfg st.InComment c = by-cond EndsBetween (c == 10) (st.StartRecord, act.Skip) (st.InComment, act.Skip) (no-end _ _ refl) (no-end _ _ refl)
-end-between cfg st.AfterCr c = by-cond EndsBetween (c == 10) (st.StartRecord, act.Skip) (start_record cfg c) (no-end _ _ refl) (start-record cfg c)
+end-between cfg st.AfterQuote c = by-cond EndsBetween (cfg.quoting && cfg.double_quote && (c == cfg.quote))
+    (st.InQuoted, act.Copy) (in_field cfg c) (no-end _ _ refl) (in-field cfg c)
+end-between cfg st.InComment c = by-cond EndsBetween (c == 10) (st.StartRecord, act.Skip) (st.InComment, act.Skip)
+    (no-end _ _ refl) (no-end _ _ refl)
+end-between cfg st.AfterCr c = by-cond EndsBetween (c == 10) (st.StartRecord, act.Skip) (start_record cfg c)
+    (no-end _ _ refl) (start-record cfg c)
 
 -- a record that was read takes bytes, unless the text had none, and leaves the machine between records
 abbrev pub Takes : State → List ℕ → Read → Type 0
 Takes s text p = (ends_at_end p.1 ≡ false) × (length p.2 ≤ length text) × (ends_at_end s ≡ false → length p.2 < length text)
 
-pub takes : (cfg : Config) (s : State) (fields : List (List ℕ)) (field text : List ℕ) (p : Read) → next_record cfg s fields field text ≡ Some p → Takes s text p
+pub takes : (cfg : Config) (s : State) (fields : List (List ℕ)) (field text : List ℕ) (p : Read)
+    → next_record cfg s fields field text ≡ Some p → Takes s text p
 unfolding next_record
 takes cfg s fields field [] p e = at-end (ends_at_end s) refl e
   where
-    at-end : (b : Bool) → ends_at_end s ≡ b → (if ends_at_end s then Some (fields ++ (field ∷ []), st.StartRecord, []) else None) ≡ Some p → Takes s [] p
+    at-end : (b : Bool) → ends_at_end s ≡ b → (if ends_at_end s then Some
+        (fields ++ (field ∷ []), st.StartRecord, []) else None) ≡ Some p → Takes s [] p
     at-end true h g = let q : Some (fields ++ (field ∷ []), st.StartRecord, []) ≡ Some p = rw h at g in
         let r : ◌≡◌ {A = Read} (fields ++ (field ∷ []), st.StartRecord, []) p = cc in
         subst (Takes s []) r (refl, omega arith, λ x. absurd (true≢false (sym h ∙ x)))
     at-end false h g = let q : ◌≡◌ {A = Option Read} None (Some p) = rw h at g in cc
-takes cfg s fields field (c ∷ rest) p e = go (is_end (step cfg s c).1) refl e (takes cfg (step cfg s c).0 (fields_after (step cfg s c).1 fields field) (field_after (step cfg s c).1 c field) rest p)
+takes cfg s fields field (c ∷ rest) p e = go (is_end (step cfg s c).1) refl e
+    (takes cfg (step cfg s c).0 (fields_after (step cfg s c).1 fields field)
+    (field_after (step cfg s c).1 c field) rest p)
   where
     go : (b : Bool) → is_end (step cfg s c).1 ≡ b
         → (if is_end (step cfg s c).1 then Some (fields_after (step cfg s c).1 fields field, (step cfg s c).0, rest)
-        else next_record cfg (step cfg s c).0 (fields_after (step cfg s c).1 fields field) (field_after (step cfg s c).1 c field) rest) ≡ Some p
-        → (next_record cfg (step cfg s c).0 (fields_after (step cfg s c).1 fields field) (field_after (step cfg s c).1 c field) rest ≡ Some p → Takes (step cfg s c).0 rest p)
+        else next_record cfg (step cfg s c).0 (fields_after (step cfg s c).1 fields field)
+        (field_after (step cfg s c).1 c field) rest) ≡ Some p
+        → (next_record cfg (step cfg s c).0 (fields_after (step cfg s c).1 fields field)
+        (field_after (step cfg s c).1 c field) rest ≡ Some p → Takes (step cfg s c).0 rest p)
         → Takes s (c ∷ rest) p
     go true h g more = let q : Some (fields_after (step cfg s c).1 fields field, (step cfg s c).0, rest) ≡ Some p = rw h at g in
         let r : ◌≡◌ {A = Read} (fields_after (step cfg s c).1 fields field, (step cfg s c).0, rest) p = cc in
@@ -138,15 +161,19 @@ bytes_left None = 0
 bytes_left (Some text) = length text
 
 -- what is left of a reading after its next record
-pub record StepOn (cfg : Config) (acts : List Activity) (at : ℕ) (head : Bool) (fuel : ℕ) (s : State) (left : List ℕ) (f : List (List ℕ)) (s2 : State) (z : List ℕ) : Type 0 where
+pub record StepOn (cfg : Config) (acts : List Activity) (at : ℕ) (head : Bool) (fuel : ℕ) (s : State)
+    (left : List ℕ) (f : List (List ℕ)) (s2 : State) (z : List ℕ) : Type 0 where
   pub less : length z < length left
   pub between : ends_at_end s2 ≡ false
   pub more : ℕ
   pub enough : length z < more
-  pub goes : activities_after acts (kept at head (records_from cfg fuel s left)) ≡ activities_after acts (kept at head (f ∷ records_from cfg more s2 z))
+  pub goes : activities_after acts (kept at head (records_from cfg fuel s left))
+      ≡ activities_after acts (kept at head (f ∷ records_from cfg more s2 z))
 
-pub step-on : (cfg : Config) (acts : List Activity) (at : ℕ) (head : Bool) (fuel : ℕ) (s : State) (left : List ℕ) (f : List (List ℕ)) (s2 : State) (z : List ℕ)
-    → next_record cfg s [] [] left ≡ Some (f, s2, z) → length left < fuel → ends_at_end s ≡ false → StepOn cfg acts at head fuel s left f s2 z
+pub step-on : (cfg : Config) (acts : List Activity) (at : ℕ) (head : Bool) (fuel : ℕ) (s : State) (left : List ℕ)
+    (f : List (List ℕ)) (s2 : State) (z : List ℕ)
+    → next_record cfg s [] [] left ≡ Some (f, s2, z) → length left < fuel → ends_at_end s ≡ false
+    → StepOn cfg acts at head fuel s left f s2 z
 unfolding records_from
 step-on cfg acts at head zero s left f s2 z e h b = absurd (omega arith)
 step-on cfg acts at head (suc m) s left f s2 z e h b =
@@ -155,26 +182,32 @@ step-on cfg acts at head (suc m) s left f s2 z e h b =
     record { less = less; between = t.0; more = m; enough = omega arith; goes = rw e refl }
 
 -- a text with no record left
-pub step-end : (cfg : Config) (acts : List Activity) (at : ℕ) (head : Bool) (fuel : ℕ) (s : State) (left : List ℕ) → next_record cfg s [] [] left ≡ None → activities_after acts (kept at head (records_from cfg fuel s left)) ≡ Ok acts
+pub step-end : (cfg : Config) (acts : List Activity) (at : ℕ) (head : Bool) (fuel : ℕ) (s : State) (left : List ℕ)
+    → next_record cfg s [] [] left ≡ None → activities_after acts (kept at head (records_from cfg fuel s left))
+    ≡ Ok acts
 unfolding records_from kept activities_after
 step-end cfg acts at head zero s left e = refl
 step-end cfg acts at head (suc m) s left e = rw e refl
 
 -- a record that is skipped, one that names the columns, and one that counts
-pub kept-skip : (at : ℕ) (head : Bool) (f : List (List ℕ)) (rest : List (List (List ℕ))) → is_skipped f ≡ true → kept at head (f ∷ rest) ≡ kept (at + 1) head rest
+pub kept-skip : (at : ℕ) (head : Bool) (f : List (List ℕ)) (rest : List (List (List ℕ))) → is_skipped f ≡ true
+    → kept at head (f ∷ rest) ≡ kept (at + 1) head rest
 unfolding kept
 kept-skip at head f rest e = rw e refl
 
-pub kept-head : (at : ℕ) (head : Bool) (f : List (List ℕ)) (rest : List (List (List ℕ))) → is_skipped f ≡ false → head && is_header f ≡ true → kept at head (f ∷ rest) ≡ kept (at + 1) false rest
+pub kept-head : (at : ℕ) (head : Bool) (f : List (List ℕ)) (rest : List (List (List ℕ))) → is_skipped f ≡ false
+    → head && is_header f ≡ true → kept at head (f ∷ rest) ≡ kept (at + 1) false rest
 unfolding kept
 kept-head at head f rest e h = rw (e, h) refl
 
-pub kept-row : (at : ℕ) (head : Bool) (f : List (List ℕ)) (rest : List (List (List ℕ))) → is_skipped f ≡ false → head && is_header f ≡ false → kept at head (f ∷ rest) ≡ (at, f) ∷ kept (at + 1) false rest
+pub kept-row : (at : ℕ) (head : Bool) (f : List (List ℕ)) (rest : List (List (List ℕ))) → is_skipped f ≡ false
+    → head && is_header f ≡ false → kept at head (f ∷ rest) ≡ (at, f) ∷ kept (at + 1) false rest
 unfolding kept
 kept-row at head f rest e h = rw (e, h) refl
 
 pub activities-row : (acts : List Activity) (at : ℕ) (f : List (List ℕ)) (rest : List (ℕ × List (List ℕ)))
-    → activities_after acts ((at, f) ∷ rest) ≡ and_then (activity_of at f) (λ a. and_then (admit acts at a) (λ next. activities_after next rest))
+    → activities_after acts ((at, f) ∷ rest) ≡ and_then (activity_of at f)
+    (λ a. and_then (admit acts at a) (λ next. activities_after next rest))
 unfolding activities_after
 activities-row acts at f rest = refl
 
@@ -183,14 +216,16 @@ unfolding strip_bom
 strip-shorter [] = omega arith
 strip-shorter (a ∷ []) = omega arith
 strip-shorter (a ∷ b ∷ []) = omega arith
-strip-shorter (a ∷ b ∷ d ∷ rest) = by-cond (λ (l : List ℕ). length l ≤ length (a ∷ b ∷ d ∷ rest)) (is_bom a b d) rest (a ∷ b ∷ d ∷ rest) (omega arith) (omega arith)
+strip-shorter (a ∷ b ∷ d ∷ rest) = by-cond (λ (l : List ℕ). length l ≤ length (a ∷ b ∷ d ∷ rest))
+    (is_bom a b d) rest (a ∷ b ∷ d ∷ rest) (omega arith) (omega arith)
 
 -- the bytes of a reader over a slice
 abbrev pub rest_of : Bor (List ℕ) → Option (List ℕ)
 rest_of s = Some s.now
 
 -- how a reading of a text stands after `at` records
-pub record Standing (text : List ℕ) (cfg : Config) (r : Reader (Bor (List ℕ))) (rows : List Row) (events : List ℤ) (at : ℕ) (head : Bool) : Type 0 where
+pub record Standing (text : List ℕ) (cfg : Config) (r : Reader (Bor (List ℕ))) (rows : List Row) (events : List ℤ)
+    (at : ℕ) (head : Bool) : Type 0 where
   pub config : r.config ≡ cfg
   pub trim : r.trim ≡ trim.None
   pub ready : Ready r
@@ -205,10 +240,17 @@ pub record Standing (text : List ℕ) (cfg : Config) (r : Reader (Bor (List ℕ)
   pub enough : length left < fuel
   pub goes : activities_after [] (said cfg text) ≡ activities_after acts (kept (at + 1) head (records_from cfg fuel r.state left))
 
-module _ (text : List ℕ) (cfg : Config) (r r2 : Reader (Bor (List ℕ))) (rows : List Row) (events : List ℤ) (at : ℕ) (head : Bool) (w : Standing text cfg r rows events at head) (f : List (List ℕ)) where
+module _ (text : List ℕ) (cfg : Config) (r r2 : Reader (Bor (List ℕ))) (rows : List Row) (events : List ℤ) (at : ℕ)
+    (head : Bool) (w : Standing text cfg r rows events at head) (f : List (List ℕ)) where
   -- the reading ends
-  pub stands-end : ReadRecord rest_of r r2 false f → (acts : List Activity) × (activities_after [] (said cfg text) ≡ Ok acts) × IsTable rows events acts
-  stands-end h = (w.acts, w.goes ∙ step-end cfg w.acts (at + 1) head w.fuel r.state w.left (rows-end rest_of r r2 f cfg w.left w.config w.source h), w.table)
+  pub stands-end : ReadRecord rest_of r r2 false f
+      → (acts : List Activity) × (activities_after [] (said cfg text) ≡ Ok acts) × IsTable rows events acts
+  stands-end h = (
+    w.acts,
+    w.goes ∙ step-end cfg w.acts (at + 1) head w.fuel r.state w.left
+        (rows-end rest_of r r2 f cfg w.left w.config w.source h),
+    w.table,
+  )
 
   -- one more record
   pub record More : Type 0 where
@@ -219,13 +261,20 @@ module _ (text : List ℕ) (cfg : Config) (r r2 : Reader (Bor (List ℕ))) (rows
   pub stands-more : ReadRecord rest_of r r2 true f → More
   stands-more h =
       let g = found-record rest_of r r2 f cfg w.left w.config w.source h in
-      record { left = g.0; source = g.1; step = step-on cfg w.acts (at + 1) head w.fuel r.state w.left f r2.state g.0 g.2 w.enough w.between }
+      record {
+        left = g.0;
+        source = g.1;
+        step =
+            step-on cfg w.acts (at + 1) head w.fuel r.state w.left f r2.state g.0 g.2 w.enough w.between;
+      }
 
-both-fault : {A B D E : Type 0} (x : Result A E) (g : A → Result B E) (k : B → Result D E) (e : E) → and_then x g ≡ Err e → and_then x (λ a. and_then (g a) k) ≡ Err e
+both-fault : {A B D E : Type 0} (x : Result A E) (g : A → Result B E) (k : B → Result D E) (e : E)
+    → and_then x g ≡ Err e → and_then x (λ a. and_then (g a) k) ≡ Err e
 both-fault (Err y) g k e h = cc h
 both-fault (Ok a) g k e h = rw h refl
 
-both-go : {A B D E : Type 0} (x : Result A E) (g : A → Result B E) (k : B → Result D E) (b : B) → and_then x g ≡ Ok b → and_then x (λ a. and_then (g a) k) ≡ k b
+both-go : {A B D E : Type 0} (x : Result A E) (g : A → Result B E) (k : B → Result D E) (b : B)
+    → and_then x g ≡ Ok b → and_then x (λ a. and_then (g a) k) ≡ k b
 both-go (Err y) g k b h = cc h
 both-go (Ok a) g k b h = rw h refl
 
@@ -233,13 +282,17 @@ pub err-is : {T E : Type 0} (r : Result T E) (e : E) → IsErrAnd r (λ x. x ≡
 err-is (Ok x) e h = absurd h
 err-is (Err x) e h = ap Err h
 
-module _ (text : List ℕ) (cfg : Config) (r r2 : Reader (Bor (List ℕ))) (rows : List Row) (events : List ℤ) (at : ℕ) (head : Bool) (w : Standing text cfg r rows events at head) (f : List (List ℕ)) (h : ReadRecord rest_of r r2 true f) where
+module _ (text : List ℕ) (cfg : Config) (r r2 : Reader (Bor (List ℕ))) (rows : List Row) (events : List ℤ) (at : ℕ)
+    (head : Bool) (w : Standing text cfg r rows events at head) (f : List (List ℕ))
+    (h : ReadRecord rest_of r r2 true f) where
   -- the reading of one more record uses up bytes
   pub stands-less : bytes_left (source_of rest_of r2) < bytes_left (source_of rest_of r)
   stands-less = let m = stands-more text cfg r r2 rows events at head w f h in rw (m.source, w.source) m.step.less
 
   -- a record after which the same activities stand
-  pub stands-past : (head2 : Bool) → took_first r2 ≡ true → ((rest : List (List (List ℕ))) → kept (at + 1) head (f ∷ rest) ≡ kept (at + 1 + 1) head2 rest) → Standing text cfg r2 rows events (at + 1) head2
+  pub stands-past : (head2 : Bool) → took_first r2 ≡ true
+      → ((rest : List (List (List ℕ))) → kept (at + 1) head (f ∷ rest) ≡ kept (at + 1 + 1) head2 rest)
+      → Standing text cfg r2 rows events (at + 1) head2
   stands-past head2 first k =
       let m = stands-more text cfg r r2 rows events at head w f h in
       let less : length m.left < length w.left = m.step.less in
@@ -261,15 +314,18 @@ module _ (text : List ℕ) (cfg : Config) (r r2 : Reader (Bor (List ℕ))) (rows
 
   module _ (counts : is_skipped f ≡ false) (row : head && is_header f ≡ false) where
     -- a record with a fault
-    pub stands-fault : (e : ReadRefusal) → and_then (activity_of (at + 1) f) (admit w.acts (at + 1)) ≡ Err e → activities_after [] (said cfg text) ≡ Err e
+    pub stands-fault : (e : ReadRefusal) → and_then (activity_of (at + 1) f) (admit w.acts (at + 1)) ≡ Err e
+        → activities_after [] (said cfg text) ≡ Err e
     stands-fault e k =
         let m = stands-more text cfg r r2 rows events at head w f h in
         let rest : List (List (List ℕ)) = records_from cfg m.step.more r2.state m.left in
-        w.goes ∙ m.step.goes ∙ ap (activities_after w.acts) (kept-row (at + 1) head f rest counts row) ∙ activities-row w.acts (at + 1) f (kept (at + 1 + 1) false rest)
+        w.goes ∙ m.step.goes ∙ ap (activities_after w.acts) (kept-row (at + 1) head f rest counts row)
+        ∙ activities-row w.acts (at + 1) f (kept (at + 1 + 1) false rest)
         ∙ both-fault (activity_of (at + 1) f) (admit w.acts (at + 1)) (λ next. activities_after next (kept (at + 1 + 1) false rest)) e k
 
     -- a record with none
-    pub stands-next : (rows2 : List Row) (events2 : List ℤ) (acts2 : List Activity) → took_first r2 ≡ true → and_then (activity_of (at + 1) f) (admit w.acts (at + 1)) ≡ Ok acts2 → IsTable rows2 events2 acts2
+    pub stands-next : (rows2 : List Row) (events2 : List ℤ) (acts2 : List Activity) → took_first r2 ≡ true
+        → and_then (activity_of (at + 1) f) (admit w.acts (at + 1)) ≡ Ok acts2 → IsTable rows2 events2 acts2
         → length events2 ≤ 100000 → Standing text cfg r2 rows2 events2 (at + 1) false
     stands-next rows2 events2 acts2 first k table few =
         let m = stands-more text cfg r r2 rows events at head w f h in
@@ -288,12 +344,15 @@ module _ (text : List ℕ) (cfg : Config) (r r2 : Reader (Bor (List ℕ))) (rows
           few = few;
           fuel = m.step.more;
           enough = m.step.enough;
-          goes = w.goes ∙ m.step.goes ∙ ap (activities_after w.acts) (kept-row (at + 1) head f rest counts row) ∙ activities-row w.acts (at + 1) f (kept (at + 1 + 1) false rest)
-              ∙ both-go (activity_of (at + 1) f) (admit w.acts (at + 1)) (λ next. activities_after next (kept (at + 1 + 1) false rest)) acts2 k;
+          goes = w.goes ∙ m.step.goes ∙ ap (activities_after w.acts) (kept-row (at + 1) head f rest counts row)
+              ∙ activities-row w.acts (at + 1) f (kept (at + 1 + 1) false rest)
+              ∙ both-go (activity_of (at + 1) f) (admit w.acts (at + 1))
+              (λ next. activities_after next (kept (at + 1 + 1) false rest)) acts2 k;
         }
 
 -- the reading begins
-pub stands-first : (text : List ℕ) (cfg : Config) (r : Reader (Bor (List ℕ))) (rows : List Row) (events : List ℤ) → r.config ≡ cfg → r.trim ≡ trim.None → Ready r → r.state ≡ st.StartRecord
+pub stands-first : (text : List ℕ) (cfg : Config) (r : Reader (Bor (List ℕ))) (rows : List Row) (events : List ℤ)
+    → r.config ≡ cfg → r.trim ≡ trim.None → Ready r → r.state ≡ st.StartRecord
     → source_of rest_of r ≡ Some (strip_bom text) → IsTable rows events [] → length events ≤ 100000 → Standing text cfg r rows events 0 true
 stands-first text cfg r rows events c t ready s source table few =
     record {

@@ -35,18 +35,24 @@ pub any-placed : (es : List ℤ) (x : ℤ) → list_any (int_eq x) es ≡ true �
 any-placed [] x h = absurd (true≢false (sym h))
 any-placed (e ∷ es) x h = by (int_eq x e) refl (any-placed es x) h
   where
-    by : (b : Bool) → int_eq x e ≡ b → (list_any (int_eq x) es ≡ true → place_of es x < length es) → (int_eq x e) || (list_any (int_eq x) es) ≡ true
+    by : (b : Bool) → int_eq x e ≡ b → (list_any (int_eq x) es ≡ true → place_of es x < length es)
+        → (int_eq x e) || (list_any (int_eq x) es) ≡ true
         → cond (not (int_eq x e)) (1 + place_of es x) 0 < length (e ∷ es)
     by true w more h = rw w (omega arith)
     by false w more h = let g : list_any (int_eq x) es ≡ true = rw w at h in let p = more g in rw w (omega arith)
 
 -- an event that goes last stands at the end
-pub last-placed : (es : List ℤ) (x : ℤ) → list_any (int_eq x) es ≡ false → (place_of (es ++ x ∷ []) x ≡ place_of es x) × (place_of es x ≡ length es)
+pub last-placed : (es : List ℤ) (x : ℤ) → list_any (int_eq x) es ≡ false
+    → (place_of (es ++ x ∷ []) x ≡ place_of es x) × (place_of es x ≡ length es)
 last-placed [] x h = (rw (int_eq_equiv.refl x) refl, refl)
 last-placed (e ∷ es) x h = by (int_eq x e) refl (last-placed es x) h
   where
-    by : (b : Bool) → int_eq x e ≡ b → (list_any (int_eq x) es ≡ false → (place_of (es ++ x ∷ []) x ≡ place_of es x) × (place_of es x ≡ length es)) → (int_eq x e) || (list_any (int_eq x) es) ≡ false
-        → (cond (not (int_eq x e)) (1 + place_of (es ++ x ∷ []) x) 0 ≡ cond (not (int_eq x e)) (1 + place_of es x) 0) × (cond (not (int_eq x e)) (1 + place_of es x) 0 ≡ length (e ∷ es))
+    by : (b : Bool) → int_eq x e ≡ b → (list_any (int_eq x) es ≡ false
+        → (place_of (es ++ x ∷ []) x ≡ place_of es x) × (place_of es x ≡ length es))
+        → (int_eq x e) || (list_any (int_eq x) es) ≡ false
+        → (cond (not (int_eq x e)) (1 + place_of (es ++ x ∷ []) x) 0
+        ≡ cond (not (int_eq x e)) (1 + place_of es x) 0)
+        × (cond (not (int_eq x e)) (1 + place_of es x) 0 ≡ length (e ∷ es))
     by true w more h = let g : true ≡ false = rw w at h in absurd (true≢false g)
     by false w more h = let g : list_any (int_eq x) es ≡ false = rw w at h in let p = more g in rw (w, p.0) (refl, rw one-add (ap suc p.1))
 
@@ -59,7 +65,8 @@ added-place es x = by (list_any (int_eq x) es) refl
     by false w = let p = last-placed es x w in rw w (p.0, omega (arith, length-append es (x ∷ []), p.1))
 
 -- more events leave the rows as they are
-pub rows-stay : (es ys : List ℤ) (acts : List Activity) → AllPlaced es acts → AllPlaced (es ++ ys) acts × (map (row_of (es ++ ys)) acts ≡ map (row_of es) acts)
+pub rows-stay : (es ys : List ℤ) (acts : List Activity) → AllPlaced es acts
+    → AllPlaced (es ++ ys) acts × (map (row_of (es ++ ys)) acts ≡ map (row_of es) acts)
 unfolding AllPlaced
 rows-stay es ys [] h = (tt, refl)
 rows-stay es ys (a ∷ acts) h =
@@ -69,7 +76,8 @@ rows-stay es ys (a ∷ acts) h =
     let l = length-append es ys in
     ((rw t (omega (arith, l, h.0)), rw d (omega (arith, l, h.1)), more.0), rw (t, d, more.1) refl)
 
-placed-last : (es : List ℤ) (acts : List Activity) (a : Activity) → AllPlaced es acts → place_of es a.tail < length es → place_of es a.head < length es → AllPlaced es (acts ++ a ∷ [])
+placed-last : (es : List ℤ) (acts : List Activity) (a : Activity) → AllPlaced es acts
+    → place_of es a.tail < length es → place_of es a.head < length es → AllPlaced es (acts ++ a ∷ [])
 unfolding AllPlaced
 placed-last es [] a h t d = (t, d, tt)
 placed-last es (b ∷ acts) a h t d = (h.0, h.1, placed-last es acts a h.2 t d)
@@ -83,7 +91,15 @@ length-rows f (x ∷ xs) = ap suc (length-rows f xs)
 
 -- the table with one more activity
 pub one-more : (rows : List Row) (es : List ℤ) (acts : List Activity) (a : Activity) → IsTable rows es acts
-    → IsTable (rows ++ record { label = a.label; tail = place_of es a.tail; head = place_of (add_event es a.tail) a.head; lower = a.lower; upper = a.upper; weight = a.weight } ∷ []) (add_ends es a) (acts ++ a ∷ [])
+    → IsTable (rows ++ record {
+      label = a.label;
+      tail = place_of es a.tail;
+      head = place_of (add_event es a.tail) a.head;
+      lower = a.lower;
+      upper = a.upper;
+      weight = a.weight;
+    } ∷ [])
+    (add_ends es a) (acts ++ a ∷ [])
 one-more rows es acts a t =
     let es1 : List ℤ = add_event es a.tail in
     let es2 : List ℤ = add_ends es a in
@@ -103,7 +119,16 @@ one-more rows es acts a t =
     let rows2 : map (row_of es2) acts ≡ rows = ap (λ (l : List ℤ). map (row_of l) acts) grown ∙ stay.1 ∙ sym t.as_rows in
     record {
       in_order = ap (λ (l : List ℤ). add_ends l a) t.in_order ∙ sym (events-last acts a);
-      as_rows = sym (map-append (row_of es2) acts (a ∷ []) ∙ ap₂ (λ (x y : List Row). x ++ y) rows2 (ap₂ (λ (m n : ℕ). record { label = a.label; tail = m; head = n; lower = a.lower; upper = a.upper; weight = a.weight } ∷ []) (tail2 ∙ tail1.0) head2.0));
+      as_rows = sym (map-append (row_of es2) acts (a ∷ [])
+          ∙ ap₂ (λ (x y : List Row). x ++ y) rows2 (ap₂
+          (λ (m n : ℕ). record {
+            label = a.label;
+            tail = m;
+            head = n;
+            lower = a.lower;
+            upper = a.upper;
+            weight = a.weight;
+          } ∷ []) (tail2 ∙ tail1.0) head2.0));
       placed = placed-last es2 acts a placed2 tail-in head-in;
     }
 
@@ -114,10 +139,12 @@ no-table = record { in_order = refl; as_rows = refl; placed = tt }
 pub length-table : (rows : List Row) (es : List ℤ) (acts : List Activity) → IsTable rows es acts → length rows ≡ length acts
 length-table rows es acts t = ap length t.as_rows ∙ length-rows (row_of es) acts
 
-pub admit-ok : (acts : List Activity) (at : ℕ) (a : Activity) → length acts < 100000 → length (events_of (acts ++ a ∷ [])) ≤ 100000 → admit acts at a ≡ Ok (acts ++ a ∷ [])
+pub admit-ok : (acts : List Activity) (at : ℕ) (a : Activity) → length acts < 100000
+    → length (events_of (acts ++ a ∷ [])) ≤ 100000 → admit acts at a ≡ Ok (acts ++ a ∷ [])
 admit-ok acts at a h k = rw (lt-ltb (length acts) 100000 h, le-leb (length (events_of (acts ++ a ∷ []))) 100000 k) refl
 
-pub admit-crowded : (acts : List Activity) (at : ℕ) (a : Activity) → length acts < 100000 → 100000 < length (events_of (acts ++ a ∷ [])) → admit acts at a ≡ Err (TooManyEvents at)
+pub admit-crowded : (acts : List Activity) (at : ℕ) (a : Activity) → length acts < 100000
+    → 100000 < length (events_of (acts ++ a ∷ [])) → admit acts at a ≡ Err (TooManyEvents at)
 admit-crowded acts at a h k = rw (lt-ltb (length acts) 100000 h, lt-leb (length (events_of (acts ++ a ∷ []))) 100000 k) refl
 
 pub admit-full : (acts : List Activity) (at : ℕ) (a : Activity) → 100000 ≤ length acts → admit acts at a ≡ Err (TooManyRows at)

@@ -43,7 +43,14 @@ out_of_range at field (n ∷ ns) = if is_within field n then out_of_range at (fi
 
 -- six numbers as an activity
 abbrev pub activity_from : List ℤ → Activity
-activity_from ns = record { label = get_or ns 0 (pos 0); tail = get_or ns 1 (pos 0); head = get_or ns 2 (pos 0); lower = get_or ns 3 (pos 0); upper = get_or ns 4 (pos 0); weight = nat_abs (get_or ns 5 (pos 0)) }
+activity_from ns = record {
+  label = get_or ns 0 (pos 0);
+  tail = get_or ns 1 (pos 0);
+  head = get_or ns 2 (pos 0);
+  lower = get_or ns 3 (pos 0);
+  upper = get_or ns 4 (pos 0);
+  weight = nat_abs (get_or ns 5 (pos 0));
+}
 
 abbrev pub in_order : ℕ → Activity → Result Activity ReadRefusal
 in_order at a = if int_lt a.upper a.lower then Err (BoundsCrossed at) else Ok a
@@ -78,7 +85,14 @@ place_of events e = position_or_len (int_eq e) events
 
 -- an activity with the places of its events
 abbrev pub row_of : List ℤ → Activity → Row
-row_of events a = record { label = a.label; tail = place_of events a.tail; head = place_of events a.head; lower = a.lower; upper = a.upper; weight = a.weight }
+row_of events a = record {
+  label = a.label;
+  tail = place_of events a.tail;
+  head = place_of events a.head;
+  lower = a.lower;
+  upper = a.upper;
+  weight = a.weight;
+}
 
 -- one more activity, unless there are too many rows or events
 abbrev pub admit : List Activity → ℕ → Activity → Result (List Activity) ReadRefusal

@@ -8,7 +8,15 @@ use Rattle.pesp_instance.specs.Number.{all_blank, past_blanks}
 
 -- how the lines of a text are cut into fields: csv's defaults, with this delimiter
 abbrev pub line_config : ℕ → Config
-line_config delimiter = record { delimiter = delimiter; quote = 34; escape = None; double_quote = true; quoting = true; comment = None; terminator = term.CRLF }
+line_config delimiter = record {
+  delimiter = delimiter;
+  quote = 34;
+  escape = None;
+  double_quote = true;
+  quoting = true;
+  comment = None;
+  terminator = term.CRLF;
+}
 
 abbrev pub has_byte : ℕ → List ℕ → Bool
 has_byte b text = list_any (λ c. c == b) text

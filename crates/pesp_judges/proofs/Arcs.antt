@@ -14,5 +14,6 @@ pub arc_is : (p : Pesp) (i : ℕ) → i < length p.rows → arc_at (arcs_of p) i
 arc_is p i l = get_or-map (arc_of p.period) p.rows i no_row no_arc l
 
 -- net counts of so many rows are those of so many arcs
-pub nets_of_arcs : (p : Pesp) (walk : List SignedRow) (counts : List NetCount) → AreNetCounts (length p.rows) walk counts → AreNetCounts (length (arcs_of p)) walk counts
+pub nets_of_arcs : (p : Pesp) (walk : List SignedRow) (counts : List NetCount)
+    → AreNetCounts (length p.rows) walk counts → AreNetCounts (length (arcs_of p)) walk counts
 nets_of_arcs p walk counts h = let P : ℕ → Type 0 = λ n. AreNetCounts n walk counts in subst P (sym (arcs_long p)) h

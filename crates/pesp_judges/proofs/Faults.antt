@@ -20,8 +20,12 @@ use Rattle.pesp_judges.specs.Lines.{IsLinesFault}
 -- ---- from lines to the tree
 
 -- a fault of a tree's lines and others is one of the tree, or the tree is sound and it is one of the others
-fault_in_tree : (n : Net) (table : List (List SignedRow)) (least : Option ℕ) (tree : Tree) (node : Node) (nodes : List Node) (rest : List Line) (at : ℕ) (refusal : Refusal) → IsLinesFault n table least (preorder tree ++ rest) (node ∷ nodes) at refusal
-    → IsTreeFault n table least tree node at refusal ⊎ (IsSound n table least tree node × IsLinesFault n table least rest nodes (at + length (preorder tree)) refusal)
+fault_in_tree : (n : Net) (table : List (List SignedRow)) (least : Option ℕ) (tree : Tree) (node : Node)
+    (nodes : List Node) (rest : List Line) (at : ℕ) (refusal : Refusal)
+    → IsLinesFault n table least (preorder tree ++ rest) (node ∷ nodes) at refusal
+    → IsTreeFault n table least tree node at refusal
+    ⊎ (IsSound n table least tree node × IsLinesFault n table least rest nodes
+    (at + length (preorder tree)) refusal)
 fault_in_tree n table least (Ends leaf) node nodes rest at refusal (inl f) = inl f
 fault_in_tree n table least (Ends leaf) node nodes rest at refusal (inr g) = inr g
 fault_in_tree n table least (Branch cut low high) node nodes rest at refusal (inl f) = inl (inl f)
@@ -39,7 +43,9 @@ fault_in_tree n table least (Branch cut low high) node nodes rest at refusal (in
           ]
     ]
 
-pub tree_fault_is : (n : Net) (table : List (List SignedRow)) (least : Option ℕ) (tree : Tree) (lines : List Line) (node : Node) (at : ℕ) (refusal : Refusal) → preorder tree ≡ lines → IsLinesFault n table least lines (node ∷ []) at refusal → IsTreeFault n table least tree node at refusal
+pub tree_fault_is : (n : Net) (table : List (List SignedRow)) (least : Option ℕ) (tree : Tree) (lines : List Line)
+    (node : Node) (at : ℕ) (refusal : Refusal) → preorder tree ≡ lines
+    → IsLinesFault n table least lines (node ∷ []) at refusal → IsTreeFault n table least tree node at refusal
 tree_fault_is n table least tree lines node at refusal e f =
     let P : List Line → Type 0 = λ ls. IsLinesFault n table least ls (node ∷ []) at refusal in
     elim (fault_in_tree n table least tree node [] [] at refusal (subst P (sym e ∙ sym (append-nil (preorder tree))) f)) [
@@ -48,14 +54,29 @@ tree_fault_is n table least tree lines node at refusal e f =
     ]
 
 -- the fault of a certificate's tree
-pub later_tree_fault : (p : Pesp) (content : Content) (refusal : Refusal) → are_trees 1 (lines_of content) ≡ true → ShowsAnswer p content.answer (shown_labels content) (shown_times content) → All (IsWalk (arcs_of p)) content.cycles
-    → IsLinesFault (net_of p) content.cycles (least_of content.answer) (lines_of content) (root (net_of p) content.cycles ∷ []) (first_tree_line content) refusal → IsLaterFault p content refusal
+pub later_tree_fault : (p : Pesp) (content : Content) (refusal : Refusal) → are_trees 1 (lines_of content) ≡ true
+    → ShowsAnswer p content.answer (shown_labels content) (shown_times content)
+    → All (IsWalk (arcs_of p)) content.cycles
+    → IsLinesFault (net_of p) content.cycles (least_of content.answer) (lines_of content)
+    (root (net_of p) content.cycles ∷ []) (first_tree_line content) refusal → IsLaterFault p content refusal
 later_tree_fault p content refusal whole answer cycles f =
     let tree = (whole_tree (lines_of content)).0 whole in
-    inr (inr (answer, cycles, (tree.0, tree.1, tree_fault_is (net_of p) content.cycles (least_of content.answer) tree.0 (lines_of content) (root (net_of p) content.cycles) (first_tree_line content) refusal tree.1 f)))
+    inr (inr (
+      answer,
+      cycles,
+      (
+        tree.0,
+        tree.1,
+        tree_fault_is (net_of p) content.cycles (least_of content.answer) tree.0 (lines_of content)
+            (root (net_of p) content.cycles) (first_tree_line content) refusal tree.1 f,
+      ),
+    ))
 
-pub valid_is : (p : Pesp) (content : Content) → content.period ≡ p.period → ShowsAnswer p content.answer (shown_labels content) (shown_times content) → All (IsWalk (arcs_of p)) content.cycles
-    → AreSound (net_of p) content.cycles (least_of content.answer) (lines_of content) (root (net_of p) content.cycles ∷ []) → IsValid p content
+pub valid_is : (p : Pesp) (content : Content) → content.period ≡ p.period
+    → ShowsAnswer p content.answer (shown_labels content) (shown_times content)
+    → All (IsWalk (arcs_of p)) content.cycles
+    → AreSound (net_of p) content.cycles (least_of content.answer) (lines_of content)
+    (root (net_of p) content.cycles ∷ []) → IsValid p content
 valid_is p content period answer cycles sound = record {
   period = period;
   answer = answer;
@@ -71,32 +92,42 @@ shape_of p Infeasible labels times h = h
 shape_of p (Bounded least (Some c)) labels times h = h.0
 shape_of p (Bounded least None) labels times h = h
 
-timetable_of : (p : Pesp) (answer : Answer) (labels : List ℤ) (times : List ℕ) (c : ℕ) → ShowsAnswer p answer labels times → cost_of answer ≡ Some c → ShowsTimetable p labels times c
-timetable_of p (Optimal d) labels times c h e = let same : d ≡ c = cc in let P : ℕ → Type 0 = λ m. ShowsTimetable p labels times m in subst P same h
+timetable_of : (p : Pesp) (answer : Answer) (labels : List ℤ) (times : List ℕ) (c : ℕ)
+    → ShowsAnswer p answer labels times → cost_of answer ≡ Some c → ShowsTimetable p labels times c
+timetable_of p (Optimal d) labels times c h e = let same : d ≡ c = cc in
+    let P : ℕ → Type 0 = λ m. ShowsTimetable p labels times m in subst P same h
 timetable_of p Infeasible labels times c h e = cc
-timetable_of p (Bounded least (Some d)) labels times c h e = let same : d ≡ c = cc in let P : ℕ → Type 0 = λ m. ShowsTimetable p labels times m in subst P same h.1
+timetable_of p (Bounded least (Some d)) labels times c h e = let same : d ≡ c = cc in
+    let P : ℕ → Type 0 = λ m. ShowsTimetable p labels times m in subst P same h.1
 timetable_of p (Bounded least None) labels times c h e = cc
 
-times_fault : (p : Pesp) (c : ℕ) (labels : List ℤ) (times : List ℕ) (refusal : Refusal) → ShowsTimetable p labels times c → IsTimesFault p c labels times refusal → ⊥
+times_fault : (p : Pesp) (c : ℕ) (labels : List ℤ) (times : List ℕ) (refusal : Refusal)
+    → ShowsTimetable p labels times c → IsTimesFault p c labels times refusal → ⊥
 times_fault p c labels times refusal h (inl f) = f.1 (h.0, h.1.0.0)
 times_fault p c labels times refusal h (inr (inl f)) = f.3.violated (h.1.0.1 (f.0 - 1) no_row (omega (arith, f.3.exists)))
 times_fault p c labels times refusal h (inr (inr f)) = f.3 h.1.1
 
-pub answer_fault : (p : Pesp) (answer : Answer) (labels : List ℤ) (times : List ℕ) (refusal : Refusal) → ShowsAnswer p answer labels times → IsAnswerFault p answer labels times refusal → ⊥
+pub answer_fault : (p : Pesp) (answer : Answer) (labels : List ℤ) (times : List ℕ) (refusal : Refusal)
+    → ShowsAnswer p answer labels times → IsAnswerFault p answer labels times refusal → ⊥
 answer_fault p answer labels times refusal h (inl f) = f.1 (shape_of p answer labels times h)
-answer_fault p answer labels times refusal h (inr f) = times_fault p f.1.0 labels times refusal (timetable_of p answer labels times f.1.0 h f.1.1) f.1.2
+answer_fault p answer labels times refusal h (inr f) =
+    times_fault p f.1.0 labels times refusal (timetable_of p answer labels times f.1.0 h f.1.1) f.1.2
 
-pub cycle_fault : (arcs : List Arc) (cycles : List (List SignedRow)) (line : ℕ) (refusal : Refusal) → All (IsWalk arcs) cycles → IsCycleFault arcs cycles line refusal → ⊥
+pub cycle_fault : (arcs : List Arc) (cycles : List (List SignedRow)) (line : ℕ) (refusal : Refusal)
+    → All (IsWalk arcs) cycles → IsCycleFault arcs cycles line refusal → ⊥
 cycle_fault arcs cycles line refusal h f = let first = f.1 in first.open_ends (h (f.0 - 1) [] (omega (arith, first.exists)))
 
-reason_fault : (n : Net) (table : List (List SignedRow)) (reason : Reason) (node : Node) (at : ℕ) (refusal : Refusal) → IsShut n table reason node → IsReasonFault n table reason node at refusal → ⊥
+reason_fault : (n : Net) (table : List (List SignedRow)) (reason : Reason) (node : Node) (at : ℕ)
+    (refusal : Refusal) → IsShut n table reason node → IsReasonFault n table reason node at refusal → ⊥
 reason_fault n table (ByPairs pairs) node at refusal h (inl f) = f.1 h.0
 reason_fault n table (ByPairs pairs) node at refusal h (inr f) = f.2 h.1
 reason_fault n table (ByGap cycle) node at refusal h (inl f) = f.1 h.0
 reason_fault n table (ByGap cycle) node at refusal h (inr f) = f.2 h.1
 reason_fault n table ByPropagation node at refusal h f = f.1 h
 
-leaf_fault : (n : Net) (table : List (List SignedRow)) (least : Option ℕ) (leaf : Leaf) (node : Node) (at : ℕ) (refusal : Refusal) → IsSound n table least (Ends leaf) node → IsLeafFault n table least leaf node at refusal → ⊥
+leaf_fault : (n : Net) (table : List (List SignedRow)) (least : Option ℕ) (leaf : Leaf) (node : Node) (at : ℕ)
+    (refusal : Refusal) → IsSound n table least (Ends leaf) node → IsLeafFault n table least leaf node at refusal
+    → ⊥
 leaf_fault n table None (Bound pairs) node at refusal h f = h.1
 leaf_fault n table (Some c) (Bound pairs) node at refusal h (inl f) = f.1 h.0
 leaf_fault n table (Some c) (Bound pairs) node at refusal h (inr (inl f)) = cc
@@ -107,11 +138,14 @@ leaf_fault n table (Some c) (Bound pairs) node at refusal h (inr (inr f)) =
     value.2 (subst P same h.1)
 leaf_fault n table least (Shut reason) node at refusal h f = reason_fault n table reason node at refusal h f
 
-tree_fault : (n : Net) (table : List (List SignedRow)) (least : Option ℕ) (tree : Tree) (node : Node) (at : ℕ) (refusal : Refusal) → IsSound n table least tree node → IsTreeFault n table least tree node at refusal → ⊥
+tree_fault : (n : Net) (table : List (List SignedRow)) (least : Option ℕ) (tree : Tree) (node : Node) (at : ℕ)
+    (refusal : Refusal) → IsSound n table least tree node → IsTreeFault n table least tree node at refusal → ⊥
 tree_fault n table least (Ends leaf) node at refusal h f = leaf_fault n table least leaf node at refusal h f
 tree_fault n table least (Branch cut low high) node at refusal h (inl f) = f.1 h.0
-tree_fault n table least (Branch cut low high) node at refusal h (inr (inl f)) = tree_fault n table least low (low_part node cut) (at + 1) refusal h.1 f.1
-tree_fault n table least (Branch cut low high) node at refusal h (inr (inr f)) = tree_fault n table least high (high_part node cut) (at + 1 + length (preorder low)) refusal h.2 f.2
+tree_fault n table least (Branch cut low high) node at refusal h (inr (inl f)) =
+    tree_fault n table least low (low_part node cut) (at + 1) refusal h.1 f.1
+tree_fault n table least (Branch cut low high) node at refusal h (inr (inr f)) =
+    tree_fault n table least high (high_part node cut) (at + 1 + length (preorder low)) refusal h.2 f.2
 
 later_fault : (p : Pesp) (content : Content) (refusal : Refusal) → IsValid p content → IsLaterFault p content refusal → ⊥
 later_fault p content refusal h (inl f) = answer_fault p content.answer (shown_labels content) (shown_times content) refusal h.answer f
@@ -121,7 +155,8 @@ later_fault p content refusal h (inr (inr f)) =
     let sound = h.tree in
     let same : sound.0 ≡ fault.0 = one_tree sound.0 fault.0 (sound.1 ∙ sym fault.1) in
     let P : Tree → Type 0 = λ t. IsSound (net_of p) content.cycles (least_of content.answer) t (root (net_of p) content.cycles) in
-    tree_fault (net_of p) content.cycles (least_of content.answer) fault.0 (root (net_of p) content.cycles) (first_tree_line content) refusal (subst P same sound.2) fault.2
+    tree_fault (net_of p) content.cycles (least_of content.answer) fault.0 (root (net_of p) content.cycles)
+    (first_tree_line content) refusal (subst P same sound.2) fault.2
 
 pub fault_is_not_valid : (p : Pesp) (content : Content) (refusal : Refusal) → IsFirstFault p content refusal → IsValid p content → ⊥
 fault_is_not_valid p content refusal (inl f) h = f.1 h.period

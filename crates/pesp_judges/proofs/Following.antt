@@ -43,7 +43,9 @@ module _ (arcs : List Arc) (rows left others : List SignedRow) (s : SignedRow) (
   way_apart : Leads arcs at left begin ↔ Leads arcs at (s ∷ others) begin
   way_apart = let P : List SignedRow → Type 0 = λ w. Leads arcs at w begin in (subst P is, subst P (sym is))
 
-  followed_more : (joined here : Bool) → RowExists arcs s → (here ≡ true → start arcs s ≡ at) → (here ≡ false → start arcs s ≢ at) → IsFollowed arcs rows left begin at joined → IsFollowed arcs rows others begin (finish arcs s) (joined && here)
+  followed_more : (joined here : Bool) → RowExists arcs s → (here ≡ true → start arcs s ≡ at)
+      → (here ≡ false → start arcs s ≢ at) → IsFollowed arcs rows left begin at joined
+      → IsFollowed arcs rows others begin (finish arcs s) (joined && here)
   followed_more false here exists meets parts h = record {
     exist = exist_more (RowExists arcs) left others s (AreRows arcs rows) is exists h.exist;
     way = λ t. absurd cc;
@@ -60,12 +62,16 @@ module _ (arcs : List Arc) (rows left others : List SignedRow) (s : SignedRow) (
     broken = λ f w. parts refl (way_apart.0 ((h.way refl).1 w)).0;
   }
 
-  pub followed_next : (joined : Bool) (x : ℕ) → x ≡ start arcs s → RowExists arcs s → IsFollowed arcs rows left begin at joined → IsFollowed arcs rows others begin (finish arcs s) (joined && (x == at))
-  followed_next joined x e exists h = followed_more joined (x == at) exists (λ t. sym e ∙ equal_of x at t) (λ f q. apart_of x at f (e ∙ q)) h
+  pub followed_next : (joined : Bool) (x : ℕ) → x ≡ start arcs s → RowExists arcs s
+      → IsFollowed arcs rows left begin at joined → IsFollowed arcs rows others begin (finish arcs s)
+      (joined && (x == at))
+  followed_next joined x e exists h = followed_more joined (x == at) exists (λ t. sym e ∙ equal_of x at t)
+      (λ f q. apart_of x at f (e ∙ q)) h
 
 -- ---- from where the first row begins
 
-pub way_from : (arcs : List Arc) (rows others : List SignedRow) (s : SignedRow) (begin : ℕ) (way : Way) → rows ≡ s ∷ others → begin ≡ start arcs s → IsWay arcs rows begin way → IsWayOf arcs rows way
+pub way_from : (arcs : List Arc) (rows others : List SignedRow) (s : SignedRow) (begin : ℕ) (way : Way)
+    → rows ≡ s ∷ others → begin ≡ start arcs s → IsWay arcs rows begin way → IsWayOf arcs rows way
 way_from arcs rows others s begin way is e h =
     let P : List SignedRow → Type 0 = λ rs. IsWay arcs rs (start arcs s) way in
     let Q : List SignedRow → Type 0 = λ rs. IsWayOf arcs rs way in
@@ -88,18 +94,22 @@ pub record AreCountedTo (rows left : List SignedRow) (working : List ℤ) : Type
 pub counted_none : (rows : List SignedRow) (working : List ℤ) → AreZeros working → AreCountedTo rows rows working
 counted_none rows working zeros = record { k = 0; came = came_none rows; counts = zeros }
 
-module _ (rows left others : List SignedRow) (s : SignedRow) (is : left ≡ s ∷ others) (working : List ℤ) (h : AreCountedTo rows left working) where
+module _ (rows left others : List SignedRow) (s : SignedRow) (is : left ≡ s ∷ others) (working : List ℤ)
+    (h : AreCountedTo rows left working) where
   pub counted_small : (i : ℕ) → i < length working → length rows ≤ 10000000 → unsigned_abs (get_or working i (pos 0)) ≤ 10000000
   counted_small i l short =
       let few : length (take h.k rows) ≤ 10000000 = omega (arith, length-take h.k rows) in
       let small = net_count_small (take h.k rows) i 10000000 few in
       omega (arith, ap unsigned_abs (h.counts i l))
 
-  pub counted_more : Names (length working) s.row → AreCountedTo rows others (set working (s.row - 1) (get_or working (s.row - 1) (pos 0) +ℤ sign s))
+  pub counted_more : Names (length working) s.row
+      → AreCountedTo rows others (set working (s.row - 1) (get_or working (s.row - 1) (pos 0) +ℤ sign s))
   counted_more exists =
       let within = came_within rows left others s h.k h.came is in
       let here = came_here rows left others s h.k h.came is s in
-      let P : SignedRow → Type 0 = λ x. (i : ℕ) → i < length working → get_or (set working (x.row - 1) (get_or working (x.row - 1) (pos 0) +ℤ sign x)) i (pos 0) ≡ net_count (take (h.k + 1) rows) i in
+      let P : SignedRow → Type 0 = λ x. (i : ℕ) → i < length working
+      → get_or (set working (x.row - 1) (get_or working (x.row - 1) (pos 0) +ℤ sign x)) i (pos 0)
+      ≡ net_count (take (h.k + 1) rows) i in
       let row : (get_or rows h.k s).row ≡ s.row = ap (λ (x : SignedRow). x.row) here in
       let counts = count_step working rows h.k s _ within (omega (arith, exists)) (omega (arith, exists)) refl h.counts in
       let moved = subst P here counts in
@@ -115,7 +125,9 @@ counted_all rows left working is h i l =
 
 -- ---- the places
 
-pub placed_more : (places places' : List ℕ) (working : List ℤ) (at : ℕ) (z : ℤ) → at < length working → IsEntered places places' at (get_or working at (pos 0)) → ArePlaces places working → ArePlaces places' (set working at z)
+pub placed_more : (places places' : List ℕ) (working : List ℤ) (at : ℕ) (z : ℤ) → at < length working
+    → IsEntered places places' at (get_or working at (pos 0)) → ArePlaces places working
+    → ArePlaces places' (set working at z)
 placed_more places places' working at z inside (inl (some, same)) h = record {
   inside = rw (same, length-set working at z) h.inside;
   named = λ i l none.
@@ -130,9 +142,12 @@ placed_more places places' working at z inside (inr more) h = record {
   inside = rw (more, length-set working at z) (All-push (λ (place : ℕ). place < length working) places at h.inside inside);
   named = λ i l none.
       let l' : i < length working = omega (arith, length-set working at z) in
-      let both : count_by (λ place. place == i) places' ≡ count_by (λ place. place == i) places + cond (at == i) 1 0 = ap (count_by (λ place. place == i)) more ∙ sum_by_push (λ (place : ℕ). cond (place == i) 1 0) places at in
+      let both : count_by (λ place. place == i) places'
+      ≡ count_by (λ place. place == i) places + cond (at == i) 1 0 = ap (count_by (λ place. place == i)) more
+      ∙ sum_by_push (λ (place : ℕ). cond (place == i) 1 0) places at in
       elim (cases_eq i at) [
-        | inl e ↦ (let one : cond (at == i) 1 0 ≡ 1 = (let pick : Bool → ℕ = λ b. cond b 1 0 in ap pick (eq-true at i (sym e))) in absurd (omega arith))
+        | inl e ↦ (let one : cond (at == i) 1 0
+            ≡ 1 = (let pick : Bool → ℕ = λ b. cond b 1 0 in ap pick (eq-true at i (sym e))) in absurd (omega arith))
         | inr other ↦ get_or-set_other working at i z (pos 0) other ∙ h.named i l' (omega arith)
       ];
 }

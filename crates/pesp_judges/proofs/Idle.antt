@@ -21,30 +21,47 @@ small_weight p i keeps l =
     let row = All-get_or (RowKeepsLimits (length p.events)) p.rows i no_row l keeps.each in
     omega (arith, row.weight, ap (λ (a : Arc). a.weight) (arc_is p i l))
 
-pub idle_small : (w l h : ℕ) → w ≤ 1000000000 → l ≤ 10000 → h ≤ 10000 → unsigned_abs (int_min (pos w *ℤ pos l) (pos w *ℤ pos h)) ≤ 10000000000000
+pub idle_small : (w l h : ℕ) → w ≤ 1000000000 → l ≤ 10000 → h ≤ 10000
+    → unsigned_abs (int_min (pos w *ℤ pos l) (pos w *ℤ pos h)) ≤ 10000000000000
 idle_small w l h small low high = omega (arith, ints, clamps, mul-le-mul small low, mul-le-mul small high)
 
-pub idle_sum_small : (p : Pesp) (slacks : List (ℕ × ℕ)) → KeepsLimits p → AreSlackRanges (length p.rows) slacks → unsigned_abs (idle_sum (arcs_of p) slacks) ≤ 1000000000000000000
+pub idle_sum_small : (p : Pesp) (slacks : List (ℕ × ℕ)) → KeepsLimits p → AreSlackRanges (length p.rows) slacks
+    → unsigned_abs (idle_sum (arcs_of p) slacks) ≤ 1000000000000000000
 idle_sum_small p slacks keeps are =
     let long = arcs_long p in
     let each = λ (i : ℕ) (l : i < length (arcs_of p)).
     (let range = are.1 i (0, 0) (omega (arith, are.0)) in
-    idle_small (arc_at (arcs_of p) i).weight (slack_range slacks i).0 (slack_range slacks i).1 (small_weight p i keeps (omega arith)) range.0 range.1) in
+    idle_small (arc_at (arcs_of p) i).weight (slack_range slacks i).0 (slack_range slacks i).1
+    (small_weight p i keeps (omega arith)) range.0 range.1) in
     omega (arith, sum_below-small (length (arcs_of p)) 10000000000000 (idle_term (arcs_of p) slacks) each, keeps.rows)
 
 -- one range more or less
-pub idle_set : (p : Pesp) (slacks : List (ℕ × ℕ)) (i : ℕ) (range : ℕ × ℕ) (idle before after : ℤ) → i < length p.rows → AreSlackRanges (length p.rows) slacks → idle ≡ idle_sum (arcs_of p) slacks → before ≡ idle_term (arcs_of p) slacks i
-    → after ≡ int_min (pos (arc_at (arcs_of p) i).weight *ℤ pos range.0) (pos (arc_at (arcs_of p) i).weight *ℤ pos range.1) → (idle -ℤ before) +ℤ after ≡ idle_sum (arcs_of p) (set slacks i range)
+pub idle_set : (p : Pesp) (slacks : List (ℕ × ℕ)) (i : ℕ) (range : ℕ × ℕ) (idle before after : ℤ)
+    → i < length p.rows → AreSlackRanges (length p.rows) slacks → idle ≡ idle_sum (arcs_of p) slacks
+    → before ≡ idle_term (arcs_of p) slacks i
+    → after ≡ int_min (pos (arc_at (arcs_of p) i).weight *ℤ pos range.0)
+    (pos (arc_at (arcs_of p) i).weight *ℤ pos range.1)
+    → (idle -ℤ before) +ℤ after ≡ idle_sum (arcs_of p) (set slacks i range)
 idle_set p slacks i range idle before after l are e b a =
     let long = arcs_long p in
-    let here : after ≡ idle_term (arcs_of p) (set slacks i range) i = a ∙ ap (λ (r : ℕ × ℕ). int_min (pos (arc_at (arcs_of p) i).weight *ℤ pos r.0) (pos (arc_at (arcs_of p) i).weight *ℤ pos r.1)) (sym (get_or-set_same slacks i range (0, 0) (omega (arith, are.0)))) in
-    let others = λ (k : ℕ) (m : k < length (arcs_of p)) (ne : k ≢ i). ap (λ (r : ℕ × ℕ). int_min (pos (arc_at (arcs_of p) k).weight *ℤ pos r.0) (pos (arc_at (arcs_of p) k).weight *ℤ pos r.1)) (sym (get_or-set_other slacks i k range (0, 0) ne)) in
-    let change = sum_below-change (length (arcs_of p)) i (idle_term (arcs_of p) slacks) (idle_term (arcs_of p) (set slacks i range)) (omega arith) others in
+    let here : after ≡ idle_term (arcs_of p) (set slacks i range) i = a
+    ∙ ap (λ (r : ℕ × ℕ). int_min (pos (arc_at (arcs_of p) i).weight *ℤ pos r.0)
+    (pos (arc_at (arcs_of p) i).weight *ℤ pos r.1))
+    (sym (get_or-set_same slacks i range (0, 0) (omega (arith, are.0)))) in
+    let others = λ (k : ℕ) (m : k < length (arcs_of p)) (ne : k ≢ i).
+    ap (λ (r : ℕ × ℕ). int_min (pos (arc_at (arcs_of p) k).weight *ℤ pos r.0)
+    (pos (arc_at (arcs_of p) k).weight *ℤ pos r.1)) (sym (get_or-set_other slacks i k range (0, 0) ne)) in
+    let change = sum_below-change (length (arcs_of p)) i (idle_term (arcs_of p) slacks)
+    (idle_term (arcs_of p) (set slacks i range)) (omega arith) others in
     move idle before after _ _ _ _ e b here change
   where
     move : (idle before after s s' t t' : ℤ) → idle ≡ s → before ≡ t → after ≡ t' → s +ℤ t' ≡ s' +ℤ t → (idle -ℤ before) +ℤ after ≡ s'
     move idle before after s s' t t' e b a change = omega (arith, ints)
 
 -- the ranges stay ranges
-pub ranges_set : (n : ℕ) (slacks : List (ℕ × ℕ)) (i : ℕ) (range : ℕ × ℕ) → AreSlackRanges n slacks → range.0 ≤ 10000 → range.1 ≤ 10000 → AreSlackRanges n (set slacks i range)
-ranges_set n slacks i range are low high = (length-set slacks i range ∙ are.0, All-set (λ (r : ℕ × ℕ). (r.0 ≤ 10000) × (r.1 ≤ 10000)) slacks i range (low, high) are.1)
+pub ranges_set : (n : ℕ) (slacks : List (ℕ × ℕ)) (i : ℕ) (range : ℕ × ℕ) → AreSlackRanges n slacks
+    → range.0 ≤ 10000 → range.1 ≤ 10000 → AreSlackRanges n (set slacks i range)
+ranges_set n slacks i range are low high = (
+  length-set slacks i range ∙ are.0,
+  All-set (λ (r : ℕ × ℕ). (r.0 ≤ 10000) × (r.1 ≤ 10000)) slacks i range (low, high) are.1,
+)

@@ -4,12 +4,14 @@ use Rattle.std.specs.Prelude.{is_some, MatchOption}
 use Rattle.pesp_judges.specs.declared.refusal.Refusal.{Refusal}
 
 -- what follows from either side
-pub match_map : (found : Option Refusal) (P P' : Type 0) (Q Q' : Refusal → Type 0) → (P → P') → ((refusal : Refusal) → Q refusal → Q' refusal) → MatchOption found P Q → MatchOption found P' Q'
+pub match_map : (found : Option Refusal) (P P' : Type 0) (Q Q' : Refusal → Type 0) → (P → P')
+    → ((refusal : Refusal) → Q refusal → Q' refusal) → MatchOption found P Q → MatchOption found P' Q'
 match_map None P P' Q Q' f g h = f h
 match_map (Some refusal) P P' Q Q' f g h = g refusal h
 
 -- something is wrong
-pub match_some : (found : Option Refusal) (P P' : Type 0) (Q Q' : Refusal → Type 0) → is_some found ≡ true → ((refusal : Refusal) → Q refusal → Q' refusal) → MatchOption found P Q → MatchOption found P' Q'
+pub match_some : (found : Option Refusal) (P P' : Type 0) (Q Q' : Refusal → Type 0) → is_some found ≡ true
+    → ((refusal : Refusal) → Q refusal → Q' refusal) → MatchOption found P Q → MatchOption found P' Q'
 match_some None P P' Q Q' e g h = cc
 match_some (Some refusal) P P' Q Q' e g h = g refusal h
 

@@ -20,10 +20,13 @@ use Rattle.pesp_judges.specs.Lines.{after, IsSoundLine, IsLineFault}
 
 -- both ends of each row are events
 pub all_ends : (p : Pesp) → KeepsLimits p → All (λ (arc : Arc). (arc.tail < length p.events) × (arc.head < length p.events)) (arcs_of p)
-all_ends p k = All-map (λ (arc : Arc). (arc.tail < length p.events) × (arc.head < length p.events)) (arc_of p.period) p.rows (λ i d l. (let r = k.each i d l in (r.tail, r.head)))
+all_ends p k = All-map (λ (arc : Arc). (arc.tail < length p.events) × (arc.head < length p.events))
+    (arc_of p.period) p.rows (λ i d l. (let r = k.each i d l in (r.tail, r.head)))
 
 -- an exact answer for the rows of an instance is one for a node with these slack ranges
-pub shut_is : (p : Pesp) (walks : List (List SignedRow)) (node : Node) (rows : Rows) (ranges : List (ℕ × ℕ)) (answer : Bool) → KeepsLimits p → rows ≡ rows_of p → ranges ≡ node.slacks → IsTrue answer ↔ NoFamilyIsSupported rows.net ranges rows.events
+pub shut_is : (p : Pesp) (walks : List (List SignedRow)) (node : Node) (rows : Rows) (ranges : List (ℕ × ℕ))
+    (answer : Bool) → KeepsLimits p → rows ≡ rows_of p → ranges ≡ node.slacks
+    → IsTrue answer ↔ NoFamilyIsSupported rows.net ranges rows.events
     → IsTrue answer ↔ IsShut (net_of p) walks ByPropagation node
 shut_is p walks node rows ranges answer k is same h =
     let P : Rows → Type 0 = λ r. IsTrue answer ↔ NoFamilyIsSupported r.net ranges r.events in
@@ -33,13 +36,18 @@ shut_is p walks node rows ranges answer k is same h =
     (λ t. law.1 (exact.0 t), λ s. exact.1 (law.0 s))
 
 -- where some node waits, the present one does
-pub first_waits : (open_ : Bool) (node : Node) (path : List Branch) (nodes : List Node) → waiting open_ node path ≡ nodes → nodes ≢ [] → nodes ≡ node ∷ pending node (reverse path)
+pub first_waits : (open_ : Bool) (node : Node) (path : List Branch) (nodes : List Node)
+    → waiting open_ node path ≡ nodes → nodes ≢ [] → nodes ≡ node ∷ pending node (reverse path)
 first_waits true node path nodes e some = sym e
 first_waits false node path nodes e some = absurd (some (sym e))
 
-module _ (n : Net) (walks : List (List SignedRow)) (least : Option ℕ) (nodes nodes' rest : List Node) (node : Node) (is : nodes ≡ node ∷ rest) where
-  pub shut_none : IsShut n walks ByPropagation node → nodes' ≡ drop 1 nodes → IsSoundLine n walks least (EndLine (Shut ByPropagation)) nodes × (nodes' ≡ after (EndLine (Shut ByPropagation)) nodes)
+module _ (n : Net) (walks : List (List SignedRow)) (least : Option ℕ) (nodes nodes' rest : List Node) (node : Node)
+    (is : nodes ≡ node ∷ rest) where
+  pub shut_none : IsShut n walks ByPropagation node → nodes' ≡ drop 1 nodes
+      → IsSoundLine n walks least (EndLine (Shut ByPropagation)) nodes
+      × (nodes' ≡ after (EndLine (Shut ByPropagation)) nodes)
   shut_none s d = rw is (s, rw is at d)
 
-  pub shut_some : (at : ℕ) → (IsShut n walks ByPropagation node → ⊥) → IsLineFault n walks least (EndLine (Shut ByPropagation)) nodes at (NotPropagated at)
+  pub shut_some : (at : ℕ) → (IsShut n walks ByPropagation node → ⊥)
+      → IsLineFault n walks least (EndLine (Shut ByPropagation)) nodes at (NotPropagated at)
   shut_some at not = rw is (refl, not)

@@ -39,7 +39,8 @@ IsTimesFault p c labels times refusal =
 -- the first thing that is wrong with an answer and what is shown with it
 abbrev pub IsAnswerFault : Pesp → Answer → List ℤ → List ℕ → Refusal → Type 0
 IsAnswerFault p answer labels times refusal =
-    ((refusal ≡ AnswerShape) × (HasShape answer times → ⊥)) ⊎ (HasShape answer times × ((c : ℕ) × (cost_of answer ≡ Some c) × IsTimesFault p c labels times refusal))
+    ((refusal ≡ AnswerShape) × (HasShape answer times → ⊥))
+    ⊎ (HasShape answer times × ((c : ℕ) × (cost_of answer ≡ Some c) × IsTimesFault p c labels times refusal))
 
 -- ---- the cycles
 
@@ -51,22 +52,28 @@ pub record IsFirstOpen (arcs : List Arc) (cycles : List (List SignedRow)) (numbe
 
 -- what is wrong with a cycle that has this number and stands in this line
 abbrev pub IsWalkFault : List Arc → List SignedRow → ℕ → ℕ → Refusal → Type 0
-IsWalkFault arcs walk number line refusal = (IsWalk arcs walk → ⊥) × (((refusal ≡ NoSuch line) × (AreRows arcs walk → ⊥)) ⊎ ((refusal ≡ OpenWalk number) × AreRows arcs walk))
+IsWalkFault arcs walk number line refusal = (IsWalk arcs walk → ⊥)
+    × (((refusal ≡ NoSuch line) × (AreRows arcs walk → ⊥)) ⊎ ((refusal ≡ OpenWalk number) × AreRows arcs walk))
 
 -- the first cycle that is no walk: a row of it doesn't exist, or its ends don't meet. Cycle 1 stands in the line after `line`
 abbrev pub IsCycleFault : List Arc → List (List SignedRow) → ℕ → Refusal → Type 0
 IsCycleFault arcs cycles line refusal =
     (number : ℕ) × IsFirstOpen arcs cycles number
-    × (((refusal ≡ NoSuch (line + number)) × (AreRows arcs (cycle_at cycles (number - 1)) → ⊥)) ⊎ ((refusal ≡ OpenWalk number) × AreRows arcs (cycle_at cycles (number - 1))))
+    × (((refusal ≡ NoSuch (line + number)) × (AreRows arcs (cycle_at cycles (number - 1)) → ⊥))
+    ⊎ ((refusal ≡ OpenWalk number) × AreRows arcs (cycle_at cycles (number - 1))))
 
 -- ---- the tree
 
 -- what is wrong with a reason at a node; its leaf stands in this line
 abbrev pub IsReasonFault : Net → List (List SignedRow) → Reason → Node → ℕ → Refusal → Type 0
 IsReasonFault n table (ByPairs pairs) node line refusal =
-    ((refusal ≡ NoSuch line) × (PairsExist table pairs → ⊥)) ⊎ ((refusal ≡ NotEmpty line) × PairsExist table pairs × (IsSomeAnd (leaf_value n table node pairs false) (λ v. pos 0 <ℤ v) → ⊥))
+    ((refusal ≡ NoSuch line) × (PairsExist table pairs → ⊥))
+    ⊎ ((refusal ≡ NotEmpty line) × PairsExist table pairs
+    × (IsSomeAnd (leaf_value n table node pairs false) (λ v. pos 0 <ℤ v) → ⊥))
 IsReasonFault n table (ByGap cycle) node line refusal =
-    ((refusal ≡ NoSuch line) × (Names (length table) cycle → ⊥)) ⊎ ((refusal ≡ NotAGap line) × Names (length table) cycle × (IsNone (offsets_left n table node (cycle - 1)) → ⊥))
+    ((refusal ≡ NoSuch line) × (Names (length table) cycle → ⊥))
+    ⊎ ((refusal ≡ NotAGap line) × Names (length table) cycle
+    × (IsNone (offsets_left n table node (cycle - 1)) → ⊥))
 IsReasonFault n table ByPropagation node line refusal = (refusal ≡ NotPropagated line) × (IsShut n table ByPropagation node → ⊥)
 
 -- what is wrong with a leaf at a node; the leaf stands in this line
@@ -74,7 +81,8 @@ abbrev pub IsLeafFault : Net → List (List SignedRow) → Option ℕ → Leaf �
 IsLeafFault n table least (Bound pairs) node line refusal =
     ((refusal ≡ NoSuch line) × (PairsExist table pairs → ⊥))
     ⊎ ((refusal ≡ BoundInInfeasible line) × PairsExist table pairs × (least ≡ None))
-    ⊎ ((refusal ≡ LeafBelow line) × PairsExist table pairs × ((c : ℕ) × (least ≡ Some c) × (IsSomeAnd (leaf_value n table node pairs true) (λ v. pos c ≤ℤ v) → ⊥)))
+    ⊎ ((refusal ≡ LeafBelow line) × PairsExist table pairs
+    × ((c : ℕ) × (least ≡ Some c) × (IsSomeAnd (leaf_value n table node pairs true) (λ v. pos c ≤ℤ v) → ⊥)))
 IsLeafFault n table least (Shut reason) node line refusal = IsReasonFault n table reason node line refusal
 
 -- the first fault of a tree at a node, in preorder; the tree's lines begin with this line
@@ -83,7 +91,8 @@ IsTreeFault n table least (Ends leaf) node line refusal = IsLeafFault n table le
 IsTreeFault n table least (Branch cut low high) node line refusal =
     ((refusal ≡ NoSuch line) × (CutExists n table cut → ⊥))
     ⊎ (CutExists n table cut × IsTreeFault n table least low (low_part node cut) (line + 1) refusal)
-    ⊎ (CutExists n table cut × IsSound n table least low (low_part node cut) × IsTreeFault n table least high (high_part node cut) (line + 1 + length (preorder low)) refusal)
+    ⊎ (CutExists n table cut × IsSound n table least low (low_part node cut)
+    × IsTreeFault n table least high (high_part node cut) (line + 1 + length (preorder low)) refusal)
 
 -- ---- the certificate
 
@@ -99,9 +108,12 @@ first_tree_line content = 4 + length content.times + length content.cycles
 abbrev pub IsLaterFault : Pesp → Content → Refusal → Type 0
 IsLaterFault p content refusal =
     IsAnswerFault p content.answer (shown_labels content) (shown_times content) refusal
-    ⊎ (ShowsAnswer p content.answer (shown_labels content) (shown_times content) × IsCycleFault (arcs_of p) content.cycles (line_before_cycles content) refusal)
+    ⊎ (ShowsAnswer p content.answer (shown_labels content) (shown_times content)
+    × IsCycleFault (arcs_of p) content.cycles (line_before_cycles content) refusal)
     ⊎ (ShowsAnswer p content.answer (shown_labels content) (shown_times content) × All (IsWalk (arcs_of p)) content.cycles
-    × ((tree : Tree) × (preorder tree ≡ lines_of content) × IsTreeFault (net_of p) content.cycles (least_of content.answer) tree (root (net_of p) content.cycles) (first_tree_line content) refusal))
+    × ((tree : Tree) × (preorder tree ≡ lines_of content)
+    × IsTreeFault (net_of p) content.cycles (least_of content.answer) tree (root (net_of p) content.cycles)
+    (first_tree_line content) refusal))
 
 -- the first thing that is wrong with a certificate
 abbrev pub IsFirstFault : Pesp → Content → Refusal → Type 0

@@ -28,7 +28,8 @@ ArePairs cycles pairs = All (λ pair. Names cycles pair.cycle × (unsigned_abs p
 -- what a flow on the row at place i changes: of what its slack costs at least, and by its lower bound
 abbrev pub flow_term : List Arc → List (ℕ × ℕ) → Bool → ℕ → ℤ → ℤ
 flow_term arcs slacks weighted i flow =
-    (lesser (weight_of weighted (arc_at arcs i) -ℤ flow) (slack_range slacks i) -ℤ lesser (weight_of weighted (arc_at arcs i)) (slack_range slacks i)) -ℤ flow *ℤ (arc_at arcs i).lower
+    (lesser (weight_of weighted (arc_at arcs i) -ℤ flow) (slack_range slacks i) -ℤ lesser
+    (weight_of weighted (arc_at arcs i)) (slack_range slacks i)) -ℤ flow *ℤ (arc_at arcs i).lower
 
 -- the sum of these over all rows
 abbrev pub flow_sum : List Arc → List (ℕ × ℕ) → Bool → List ℤ → ℤ

@@ -17,11 +17,14 @@ use Rattle.pesp_judges.specs.Faults.{IsLeafFault, IsReasonFault}
 
 -- what the code says of a leaf: none where it is sound, else what is wrong with it
 abbrev pub IsLeafVerdict : Net → List (List SignedRow) → Option ℕ → Leaf → Node → ℕ → Option Refusal → Type 0
-IsLeafVerdict n table least leaf node at found = MatchOption found (IsSoundLeaf n table least leaf node) (λ refusal. IsLeafFault n table least leaf node at refusal)
+IsLeafVerdict n table least leaf node at found =
+    MatchOption found (IsSoundLeaf n table least leaf node)
+    (λ refusal. IsLeafFault n table least leaf node at refusal)
 
 -- what the code says of a reason: none where it holds, else what is wrong with it
 abbrev pub IsReasonVerdict : Net → List (List SignedRow) → Reason → Node → ℕ → Option Refusal → Type 0
-IsReasonVerdict n table reason node at found = MatchOption found (IsShut n table reason node) (λ refusal. IsReasonFault n table reason node at refusal)
+IsReasonVerdict n table reason node at found =
+    MatchOption found (IsShut n table reason node) (λ refusal. IsReasonFault n table reason node at refusal)
 
 -- the nodes that wait after a line
 abbrev pub after : Line → List Node → List Node
@@ -43,18 +46,23 @@ IsLineFault n table least (CutLine cut) (node ∷ nodes) at refusal = (refusal �
 
 abbrev pub IsLineVerdict : Net → List (List SignedRow) → Option ℕ → Line → List Node → List Node → ℕ → Option Refusal → Type 0
 IsLineVerdict n table least line nodes nodes' at found =
-    MatchOption found (IsSoundLine n table least line nodes × (nodes' ≡ after line nodes)) (λ refusal. IsLineFault n table least line nodes at refusal)
+    MatchOption found (IsSoundLine n table least line nodes × (nodes' ≡ after line nodes))
+    (λ refusal. IsLineFault n table least line nodes at refusal)
 
 -- the first fault of lines
 abbrev pub IsLinesFault : Net → List (List SignedRow) → Option ℕ → List Line → List Node → ℕ → Refusal → Type 0
 IsLinesFault n table least [] nodes at refusal = ⊥
 IsLinesFault n table least (line ∷ lines) nodes at refusal =
-    IsLineFault n table least line nodes at refusal ⊎ (IsSoundLine n table least line nodes × IsLinesFault n table least lines (after line nodes) (at + 1) refusal)
+    IsLineFault n table least line nodes at refusal
+    ⊎ (IsSoundLine n table least line nodes × IsLinesFault n table least lines (after line nodes)
+    (at + 1) refusal)
 
 -- k lines were judged, and these nodes wait: what the lines that are left say there decides of all lines at the first node
-pub record AreJudged (n : Net) (table : List (List SignedRow)) (least : Option ℕ) (lines : List TreeLine) (node : Node) (first : ℕ) (nodes : List Node) (k : ℕ) : Type 0 where
+pub record AreJudged (n : Net) (table : List (List SignedRow)) (least : Option ℕ) (lines : List TreeLine)
+    (node : Node) (first : ℕ) (nodes : List Node) (k : ℕ) : Type 0 where
   pub sound : AreSound n table least (map line_of (drop k lines)) nodes → AreSound n table least (map line_of lines) (node ∷ [])
-  pub fault : (refusal : Refusal) → IsLinesFault n table least (map line_of (drop k lines)) nodes (first + k) refusal → IsLinesFault n table least (map line_of lines) (node ∷ []) first refusal
+  pub fault : (refusal : Refusal) → IsLinesFault n table least (map line_of (drop k lines)) nodes
+      (first + k) refusal → IsLinesFault n table least (map line_of lines) (node ∷ []) first refusal
 
 -- few enough pairs, with multipliers within their limit
 abbrev pub ArePairLimits : List Pair → Type 0

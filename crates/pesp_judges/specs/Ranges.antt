@@ -13,7 +13,8 @@ node_of ranges = record { slacks = ranges.slacks.items; offsets = ranges.offsets
 
 -- the lesser of the weight times each end of the slack range of the row at place i
 abbrev pub idle_term : List Arc → List (ℕ × ℕ) → ℕ → ℤ
-idle_term arcs slacks i = int_min (pos (arc_at arcs i).weight *ℤ pos (slack_range slacks i).0) (pos (arc_at arcs i).weight *ℤ pos (slack_range slacks i).1)
+idle_term arcs slacks i = int_min (pos (arc_at arcs i).weight *ℤ pos (slack_range slacks i).0)
+    (pos (arc_at arcs i).weight *ℤ pos (slack_range slacks i).1)
 
 -- the sum of these over all rows
 abbrev pub idle_sum : List Arc → List (ℕ × ℕ) → ℤ

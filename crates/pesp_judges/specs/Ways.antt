@@ -28,4 +28,5 @@ IsWayOf arcs rows Closed = IsWalk arcs rows
 -- wrong with it
 abbrev pub IsCycleVerdict : Pesp → List SignedRow → ℕ → ℕ → Result (List NetCount) Refusal → Type 0
 IsCycleVerdict p rows number line found =
-    MatchResult found (λ nets. IsWalk (arcs_of p) rows × AreNetCounts (length p.rows) rows nets) (λ refusal. IsWalkFault (arcs_of p) rows number line refusal)
+    MatchResult found (λ nets. IsWalk (arcs_of p) rows × AreNetCounts (length p.rows) rows nets)
+    (λ refusal. IsWalkFault (arcs_of p) rows number line refusal)

@@ -12,7 +12,8 @@ use Rattle.pesp_machine.specs.Events.{Event, Lend, Give, Recall, Offer, Step, Ru
 pub data Change (p : ProblemValue) (old new : State) : Type 0 where
   Lends_leaf : (job : Job) → LendsLeaf p old job new → Change p old new
   Takes_work : (number : ℕ) (work : Work) → Takes p old number work new → Change p old new
-  Recalls_number : (number : ℕ) → IsLentNumber old number → new ≡ record old { numbers = slice_set old.numbers number Recalled } → Change p old new
+  Recalls_number : (number : ℕ) → IsLentNumber old number
+      → new ≡ record old { numbers = slice_set old.numbers number Recalled } → Change p old new
   Keeps_times : (times : List ℕ) → Improves p old times → new ≡ record old { best = Some times } → Change p old new
   Same : new ≡ old → Change p old new
 
@@ -29,6 +30,7 @@ change_of p old (Offer times true) new s = Keeps_times times s.0 s.1
 change_of p old (Offer times false) new s = Same s.1
 
 -- what each change keeps a run keeps
-pub run_keeps : (p : ProblemValue) (P : State → Type 0) → ((old new : State) → P old → Change p old new → P new) → (events : List Event) (old new : State) → P old → Run p old events new → P new
+pub run_keeps : (p : ProblemValue) (P : State → Type 0) → ((old new : State) → P old → Change p old new → P new)
+    → (events : List Event) (old new : State) → P old → Run p old events new → P new
 run_keeps p P keeps [] old new k r = subst P (sym r) k
 run_keeps p P keeps (event ∷ events) old new k r = run_keeps p P keeps events r.0 new (keeps old r.0 k (change_of p old event r.0 r.1)) r.2

@@ -31,7 +31,9 @@ costs_are_small n times limits =
     let small : AreArcs arcs = arcs_small n limits in
     let each : All (λ arc. worth arc ≤ 1000000000 * 9999) arcs = λ i d l.
     let arc = get_or arcs i d in
-    let slack : arc_slack n.period times arc < n.period = remainder-lt (difference times arc.tail arc.head -ℤ arc.lower) n.period (let some = limits.some_period in omega arith) in
+    let slack : arc_slack n.period times arc < n.period =
+    remainder-lt (difference times arc.tail arc.head -ℤ arc.lower) n.period
+    (let some = limits.some_period in omega arith) in
     let least : arc_slack n.period times arc ≤ 9999 = (let most = limits.period_most in omega arith) in
     mul-le-mul (small i d l).2 least in
     let rows = limits.rows_most in

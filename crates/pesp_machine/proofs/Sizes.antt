@@ -8,8 +8,12 @@ use Rattle.pesp_truth.specs.Leaves.{IsLeafAt, put}
 use Rattle.pesp_truth.proofs.Leaves.{lines_after_put, sums_after_put}
 use Rattle.pesp_machine.specs.Limits.{pairs_in}
 
-pub put_lines_add_up : (tree : Tree) (path : List (Cut × Side)) (leaf : Leaf) (new : Tree) → IsLeafAt tree path leaf → length (preorder (put tree path new)) + 1 ≡ length (preorder tree) + length (preorder new)
+pub put_lines_add_up : (tree : Tree) (path : List (Cut × Side)) (leaf : Leaf) (new : Tree)
+    → IsLeafAt tree path leaf → length (preorder (put tree path new)) + 1
+    ≡ length (preorder tree) + length (preorder new)
 put_lines_add_up = lines_after_put
 
-pub put_pairs_add_up : (tree : Tree) (path : List (Cut × Side)) (leaf : Leaf) (new : Tree) → IsLeafAt tree path leaf → sum_by pairs_in (preorder (put tree path new)) + pairs_in (EndLine leaf) ≡ sum_by pairs_in (preorder tree) + sum_by pairs_in (preorder new)
+pub put_pairs_add_up : (tree : Tree) (path : List (Cut × Side)) (leaf : Leaf) (new : Tree)
+    → IsLeafAt tree path leaf → sum_by pairs_in (preorder (put tree path new)) + pairs_in (EndLine leaf)
+    ≡ sum_by pairs_in (preorder tree) + sum_by pairs_in (preorder new)
 put_pairs_add_up = sums_after_put pairs_in

@@ -52,30 +52,50 @@ pub record GoesOn (p : ProblemValue) (first new : State) : Type 0 where
 goes_on : (p : ProblemValue) (first old new : State) → GoesOn p first old → GoesOn p old new → GoesOn p first new
 goes_on p first old new g h = record {
   kept = h.kept;
-  tightens = record { least = at_most_trans _ _ _ g.tightens.least h.tightens.least; best = at_most_trans _ _ _ h.tightens.best g.tightens.best };
+  tightens = record {
+    least = at_most_trans _ _ _ g.tightens.least h.tightens.least;
+    best = at_most_trans _ _ _ h.tightens.best g.tightens.best;
+  };
 }
 
 from_here : (p : ProblemValue) (state : State) → IsKept p state → GoesOn p state state
-from_here p state k = record { kept = k; tightens = record { least = at_most_same (least p state); best = at_most_same (best_cost p state) } }
+from_here p state k = record {
+  kept = k;
+  tightens =
+      record { least = at_most_same (least p state); best = at_most_same (best_cost p state) };
+}
 
 -- other numbers change neither
 other_numbers : (p : ProblemValue) (old : State) (numbers : List Ticket) → IsKept p old → GoesOn p old (record old { numbers = numbers })
-other_numbers p old numbers k = record { kept = record { tree = k.tree; best = k.best }; tightens = record { least = at_most_same (least p old); best = at_most_same (best_cost p old) } }
+other_numbers p old numbers k = record {
+  kept = record { tree = k.tree; best = k.best };
+  tightens = record { least = at_most_same (least p old); best = at_most_same (best_cost p old) };
+}
 
-takes_goes_on : (p : ProblemValue) (old : State) (number : ℕ) (work : Work) (new : State) → 0 < (net_of p).period → IsKept p old → Takes p old number work new → GoesOn p old new
+takes_goes_on : (p : ProblemValue) (old : State) (number : ℕ) (work : Work) (new : State) → 0 < (net_of p).period
+    → IsKept p old → Takes p old number work new → GoesOn p old new
 takes_goes_on p old number work new h k s =
     let leaf = sound_leaf (net_of p) p.table (Some 0) old.tree s.path (Bound s.pairs) (root_of p) s.leaf.1 k.tree in
     let made = makes_follows p (node_at p s.path) s.pairs work s.part h s.makes leaf in
     subst (λ state. GoesOn p old state) (sym s.state) (record {
-      kept = record { tree = put_sound (net_of p) p.table (Some 0) old.tree s.path (Bound s.pairs) s.part (root_of p) s.leaf.1 k.tree made.sound; best = k.best };
-      tightens = record { least = told_under _ _ (put_least (net_of p) p.table old.tree s.path (Bound s.pairs) s.part (root_of p) s.leaf.1 made.under); best = at_most_same (best_cost p old) };
+      kept = record {
+        tree = put_sound (net_of p) p.table (Some 0) old.tree s.path (Bound s.pairs) s.part
+            (root_of p) s.leaf.1 k.tree made.sound;
+        best = k.best;
+      };
+      tightens = record {
+        least = told_under _ _
+            (put_least (net_of p) p.table old.tree s.path (Bound s.pairs) s.part (root_of p) s.leaf.1 made.under);
+        best = at_most_same (best_cost p old);
+      };
     })
 
 cheaper_at_most : (c : ℕ) (best : Option ℕ) → IsCheaper c best → IsAtMost (Some c) best
 cheaper_at_most c None h = tt
 cheaper_at_most c (Some best) h = omega (arith, h)
 
-improves_goes_on : (p : ProblemValue) (old : State) (times : List ℕ) → IsKept p old → Improves p old times → GoesOn p old (record old { best = Some times })
+improves_goes_on : (p : ProblemValue) (old : State) (times : List ℕ) → IsKept p old → Improves p old times
+    → GoesOn p old (record old { best = Some times })
 improves_goes_on p old times k better = record {
   kept = record { tree = k.tree; best = better.0 };
   tightens = record { least = at_most_same (least p old); best = cheaper_at_most (net_cost (net_of p) times) (best_cost p old) better.1 };
@@ -85,8 +105,11 @@ pub change_goes_on : (p : ProblemValue) (old new : State) → 0 < (net_of p).per
 change_goes_on p old new h k (Lends_leaf job s) = subst (λ state. GoesOn p old state) (sym s.state) (other_numbers p old _ k)
 change_goes_on p old new h k (Takes_work number work s) = takes_goes_on p old number work new h k s
 change_goes_on p old new h k (Recalls_number number lent e) = subst (λ state. GoesOn p old state) (sym e) (other_numbers p old _ k)
-change_goes_on p old new h k (Keeps_times times better e) = subst (λ state. GoesOn p old state) (sym e) (improves_goes_on p old times k better)
+change_goes_on p old new h k (Keeps_times times better e) =
+    subst (λ state. GoesOn p old state) (sym e) (improves_goes_on p old times k better)
 change_goes_on p old new h k (Same e) = subst (λ state. GoesOn p old state) (sym e) (from_here p old k)
 
-pub run_goes_on : (p : ProblemValue) (events : List Event) (old new : State) → 0 < (net_of p).period → IsKept p old → Run p old events new → GoesOn p old new
-run_goes_on p events old new h k r = run_keeps p (λ state. GoesOn p old state) (λ a b g c. goes_on p old a b g (change_goes_on p a b h g.kept c)) events old new (from_here p old k) r
+pub run_goes_on : (p : ProblemValue) (events : List Event) (old new : State) → 0 < (net_of p).period → IsKept p old
+    → Run p old events new → GoesOn p old new
+run_goes_on p events old new h k r = run_keeps p (λ state. GoesOn p old state)
+    (λ a b g c. goes_on p old a b g (change_goes_on p a b h g.kept c)) events old new (from_here p old k) r

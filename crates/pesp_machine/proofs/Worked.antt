@@ -29,7 +29,9 @@ use Rattle.pesp_machine.proofs.Lending.{ticket_in}
 
 -- ---- events of any board
 
-lends_at : (p : ProblemValue) (old : State) (job : Job) (path : List (Cut × Side)) → job.number ≡ length old.numbers → job.path.items ≡ path → length old.numbers < 1000000 → IsOpen p old path → LendsLeaf p old job (record old { numbers = old.numbers ++ Lent path ∷ [] })
+lends_at : (p : ProblemValue) (old : State) (job : Job) (path : List (Cut × Side))
+    → job.number ≡ length old.numbers → job.path.items ≡ path → length old.numbers < 1000000 → IsOpen p old path
+    → LendsLeaf p old job (record old { numbers = old.numbers ++ Lent path ∷ [] })
 lends_at p old job path n e l opens = record {
   opens = subst (IsOpen p old) (sym e) opens;
   number = n;
@@ -37,9 +39,12 @@ lends_at p old job path n e l opens = record {
   state = ap (λ (x : List (Cut × Side)). let new : State = record old { numbers = old.numbers ++ Lent x ∷ [] } in new) (sym e);
 }
 
-takes_at : (p : ProblemValue) (old : State) (number : ℕ) (work : Work) (path : List (Cut × Side)) (pairs : List Pair) (part : Tree) → HasLeaf old number path pairs → Makes p (node_at p path) pairs work part → IsSmallTree (put old.tree path part)
+takes_at : (p : ProblemValue) (old : State) (number : ℕ) (work : Work) (path : List (Cut × Side))
+    (pairs : List Pair) (part : Tree) → HasLeaf old number path pairs → Makes p (node_at p path) pairs work part
+    → IsSmallTree (put old.tree path part)
     → Takes p old number work (record old { tree = put old.tree path part; numbers = slice_set old.numbers number Given })
-takes_at p old number work path pairs part h m s = record { path = path; pairs = pairs; leaf = h; part = part; makes = m; small = s; state = refl }
+takes_at p old number work path pairs part h m s =
+    record { path = path; pairs = pairs; leaf = h; part = part; makes = m; small = s; state = refl }
 
 -- ---- the problem
 
@@ -84,7 +89,8 @@ equal_times : IsNetTimetable (net_of aside) 2 (0 ∷ 0 ∷ [])
 equal_times = record {
   count = refl;
   below = both (λ t. t < 10) 0 0 (omega arith) (omega arith);
-  slacks = both (λ (arc : Arc). arc_slack 10 (0 ∷ 0 ∷ []) arc ≤ arc.span) (arc_of_net first_row) (arc_of_net second_row) (omega arith) (omega arith);
+  slacks = both (λ (arc : Arc). arc_slack 10 (0 ∷ 0 ∷ []) arc ≤ arc.span) (arc_of_net first_row)
+      (arc_of_net second_row) (omega arith) (omega arith);
 }
 
 offered : Step aside opening (Offer (0 ∷ 0 ∷ []) true) (with_times (Ends (Bound [])) [])
@@ -178,7 +184,8 @@ events root high low =
 abbrev IsJob : Job → ℕ → List (Cut × Side) → Type 0
 IsJob job number path = (job.number ≡ number) × (job.path.items ≡ path)
 
-run : (root high low : Job) → IsJob root 0 [] → IsJob high 1 at_high → IsJob low 2 at_low → Run aside opening (events root high low) all_given
+run : (root high low : Job) → IsJob root 0 [] → IsJob high 1 at_high → IsJob low 2 at_low
+    → Run aside opening (events root high low) all_given
 run root high low r h l =
     let offered_root = with_times (Ends (Bound [])) [] in
     let lent_root = with_times (Ends (Bound [])) (Lent [] ∷ []) in
@@ -193,7 +200,8 @@ run root high low r h l =
         lends_at aside offered_root root [] r.0 r.1 (omega arith) root_opens,
         (
           halves,
-          takes_at aside lent_root 0 (works.Split cut) [] [] (leaves [] []) (refl, refl) split (small_leaves [] [] (omega arith) (omega arith)),
+          takes_at aside lent_root 0 (works.Split cut) [] [] (leaves [] []) (refl, refl) split
+              (small_leaves [] [] (omega arith) (omega arith)),
           (
             lent_high,
             lends_at aside halves high at_high h.0 h.1 (omega arith) high_opens,
@@ -205,7 +213,8 @@ run root high low r h l =
                 (refl, record { path = at_high; pairs = []; leaf = (refl, (refl, refl)); none = no_gap }),
                 (
                   given_high,
-                  takes_at aside lent_both 1 (works.Leaf plus_pair) at_high [] (Ends (Bound plus_pair)) (refl, (refl, refl)) high_pairs (small_leaves [] plus_pair (omega arith) (omega arith)),
+                  takes_at aside lent_both 1 (works.Leaf plus_pair) at_high [] (Ends (Bound plus_pair))
+                      (refl, (refl, refl)) high_pairs (small_leaves [] plus_pair (omega arith) (omega arith)),
                   (
                     given_high,
                     (refl, refl),
@@ -214,7 +223,9 @@ run root high low r h l =
                       (refl, refl),
                       (
                         all_given,
-                        takes_at aside given_high 2 (works.Leaf minus_pair) at_low [] (Ends (Bound minus_pair)) (refl, (refl, refl)) low_pairs (small_leaves minus_pair plus_pair (omega arith) (omega arith)),
+                        takes_at aside given_high 2 (works.Leaf minus_pair) at_low [] (Ends (Bound minus_pair))
+                            (refl, (refl, refl)) low_pairs (small_leaves minus_pair plus_pair (omega arith)
+                            (omega arith)),
                         refl,
                       ),
                     ),
@@ -278,7 +289,8 @@ recalling root high low again =
     ∷ Lend (Ok (Some again))
     ∷ []
 
-run_with_recall : (root high low again : Job) → IsJob root 0 [] → IsJob high 1 at_high → IsJob low 2 at_low → IsJob again 3 at_low → Run aside opening (recalling root high low again) lent_again
+run_with_recall : (root high low again : Job) → IsJob root 0 [] → IsJob high 1 at_high → IsJob low 2 at_low
+    → IsJob again 3 at_low → Run aside opening (recalling root high low again) lent_again
 run_with_recall root high low again r h l a =
     let lent_root = without_times (Ends (Bound [])) (Lent [] ∷ []) in
     let halves = without_times (leaves [] []) (Given ∷ []) in
@@ -290,7 +302,8 @@ run_with_recall root high low again r h l a =
       lends_at aside opening root [] r.0 r.1 (omega arith) root_opens_first,
       (
         halves,
-        takes_at aside lent_root 0 (works.Split cut) [] [] (leaves [] []) (refl, refl) split (small_leaves [] [] (omega arith) (omega arith)),
+        takes_at aside lent_root 0 (works.Split cut) [] [] (leaves [] []) (refl, refl) split
+            (small_leaves [] [] (omega arith) (omega arith)),
         (
           lent_high,
           lends_at aside halves high at_high h.0 h.1 (omega arith) high_opens_first,
@@ -299,7 +312,8 @@ run_with_recall root high low again r h l a =
             lends_at aside lent_high low at_low l.0 l.1 (omega arith) low_opens_first,
             (
               given_high,
-              takes_at aside lent_both 1 (works.Leaf plus_pair) at_high [] (Ends (Bound plus_pair)) (refl, (refl, refl)) high_pairs (small_leaves [] plus_pair (omega arith) (omega arith)),
+              takes_at aside lent_both 1 (works.Leaf plus_pair) at_high [] (Ends (Bound plus_pair))
+                  (refl, (refl, refl)) high_pairs (small_leaves [] plus_pair (omega arith) (omega arith)),
               (
                 recalled_low,
                 ((at_low, refl), refl),

@@ -35,12 +35,15 @@ pub record Adopts (content : Content) (state : State) : Type 0 where
 -- those of the paths that lead to open leaves, in their order
 abbrev pub AreOpenOf : ProblemValue → State → List (List (Cut × Side)) → List (List (Cut × Side)) → Type 0
 AreOpenOf p state [] opens = opens ≡ []
-AreOpenOf p state (path ∷ paths) opens = ((rest : List (List (Cut × Side))) × IsOpen p state path × (opens ≡ path ∷ rest) × AreOpenOf p state paths rest) ⊎ ((IsOpen p state path → ⊥) × AreOpenOf p state paths opens)
+AreOpenOf p state (path ∷ paths) opens = ((rest : List (List (Cut × Side))) × IsOpen p state path
+    × (opens ≡ path ∷ rest) × AreOpenOf p state paths rest)
+    ⊎ ((IsOpen p state path → ⊥) × AreOpenOf p state paths opens)
 
 -- the jobs have these paths, and numbers from n on
 abbrev pub AreNumbered : ℕ → List Job → List (List (Cut × Side)) → Type 0
 AreNumbered n [] paths = paths ≡ []
-AreNumbered n (job ∷ jobs) paths = (rest : List (List (Cut × Side))) × (job.number ≡ n) × (paths ≡ job.path.items ∷ rest) × AreNumbered (n + 1) jobs rest
+AreNumbered n (job ∷ jobs) paths = (rest : List (List (Cut × Side))) × (job.number ≡ n)
+    × (paths ≡ job.path.items ∷ rest) × AreNumbered (n + 1) jobs rest
 
 -- each open leaf is lent, in preorder, under the next numbers
 pub record LendsEach (p : ProblemValue) (old : State) (jobs : List Job) (new : State) : Type 0 where
@@ -53,7 +56,9 @@ pub record LendsEach (p : ProblemValue) (old : State) (jobs : List Job) (new : S
 -- all open leaves are lent; or the numbers wouldn't last, or a growth was refused, and nothing is lent
 abbrev pub LendsAll : ProblemValue → State → Result (Vec Job) LendRefusal → State → Type 0
 LendsAll p old (Ok jobs) new = LendsEach p old jobs.items new
-LendsAll p old (Err lending.NumbersSpent) new = (new ≡ old) × ((paths : List (List (Cut × Side))) × AreOpenOf p old (leaf_paths old.tree) paths × (1000000 < length old.numbers + length paths))
+LendsAll p old (Err lending.NumbersSpent) new = (new ≡ old)
+    × ((paths : List (List (Cut × Side))) × AreOpenOf p old (leaf_paths old.tree) paths
+    × (1000000 < length old.numbers + length paths))
 LendsAll p old (Err lending.Memory) new = new ≡ old
 
 -- the same as one lend after the other

@@ -35,7 +35,9 @@ ticket_code = code_by (List (Cut × Side) ⊎ ℕ) (coded⊎ (coded_list (coded�
 -- ---- states, problems and boards, each as the tuple of its fields
 
 abbrev pub state_code : Coded State
-state_code = code_by (Tree × (List Ticket × Option (List ℕ))) (coded× tree_code (coded× (coded_list ticket_code) (coded_option (coded_list coded_ℕ)))) (λ s. (s.tree, (s.numbers, s.best))) (λ x. record { tree = x.0; numbers = x.1.0; best = x.1.1 }) (λ _. refl)
+state_code = code_by (Tree × (List Ticket × Option (List ℕ)))
+    (coded× tree_code (coded× (coded_list ticket_code) (coded_option (coded_list coded_ℕ))))
+    (λ s. (s.tree, (s.numbers, s.best))) (λ x. record { tree = x.0; numbers = x.1.0; best = x.1.1 }) (λ _. refl)
 
 abbrev pub signed_row_code : Coded SignedRow
 signed_row_code = code_by (ℕ × Bool) (coded× coded_ℕ coded_bool) (λ s. (s.row, s.plus)) (λ x. record { row = x.0; plus = x.1 }) (λ _. refl)
@@ -49,10 +51,14 @@ net_row_code =
 abbrev pub network_code : Coded NetworkValue
 network_code =
     code_by (ℕ × (ℕ × (List NetRow × List ℕ))) (coded× coded_ℕ (coded× coded_ℕ (coded× (coded_list net_row_code) (coded_list coded_ℕ))))
-    (λ n. (n.period, (n.events, (n.rows, n.forest)))) (λ x. record { period = x.0; events = x.1.0; rows = x.1.1.0; forest = x.1.1.1 }) (λ _. refl)
+    (λ n. (n.period, (n.events, (n.rows, n.forest))))
+    (λ x. record { period = x.0; events = x.1.0; rows = x.1.1.0; forest = x.1.1.1 }) (λ _. refl)
 
 abbrev pub problem_code : Coded ProblemValue
-problem_code = code_by (NetworkValue × List (List SignedRow)) (coded× network_code (coded_list (coded_list signed_row_code))) (λ p. (p.network, p.table)) (λ x. record { network = x.0; table = x.1 }) (λ _. refl)
+problem_code = code_by (NetworkValue × List (List SignedRow))
+    (coded× network_code (coded_list (coded_list signed_row_code))) (λ p. (p.network, p.table))
+    (λ x. record { network = x.0; table = x.1 }) (λ _. refl)
 
 abbrev pub board_code : Coded BoardValue
-board_code = code_by (ProblemValue × State) (coded× problem_code state_code) (λ b. (b.problem, b.state)) (λ x. record { problem = x.0; state = x.1 }) (λ _. refl)
+board_code = code_by (ProblemValue × State) (coded× problem_code state_code) (λ b. (b.problem, b.state))
+    (λ x. record { problem = x.0; state = x.1 }) (λ _. refl)

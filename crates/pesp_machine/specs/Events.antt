@@ -46,7 +46,8 @@ is_better (Some old) (Some new) = int_lt old new
 
 -- the pairs of the greater value at a node, the old ones where both are equal
 abbrev pub better_pairs : ProblemValue → Node → List Pair → List Pair → List Pair
-better_pairs p node old new = if is_better (leaf_value (net_of p) p.table node old true) (leaf_value (net_of p) p.table node new true) then new else old
+better_pairs p node old new = if is_better (leaf_value (net_of p) p.table node old true)
+    (leaf_value (net_of p) p.table node new true) then new else old
 
 -- a pair names the cycle
 abbrev pub Uses : List Pair → ℕ → Type 0
@@ -55,7 +56,8 @@ Uses pairs cycle = (pair : Pair) × Contains pairs pair × (pair.cycle ≡ cycle
 -- at a part of a split the pairs are kept, or it is shut by one of their cycles that has no offset left
 abbrev pub Keeps : ProblemValue → List Pair → Node → Leaf → Type 0
 Keeps p pairs node (Bound kept) = (kept ≡ pairs) × IsSome (leaf_value (net_of p) p.table node pairs true)
-Keeps p pairs node (Shut reason) = (cycle : ℕ) × (reason ≡ ByGap cycle) × Uses pairs cycle × IsNone (offsets_left (net_of p) p.table node (cycle - 1))
+Keeps p pairs node (Shut reason) = (cycle : ℕ) × (reason ≡ ByGap cycle) × Uses pairs cycle
+    × IsNone (offsets_left (net_of p) p.table node (cycle - 1))
 
 -- a cut makes a branch with two leaves of a leaf with these pairs
 pub record Splits (p : ProblemValue) (node : Node) (pairs : List Pair) (cut : Cut) (new : Tree) : Type 0 where
@@ -74,9 +76,11 @@ MayShut p node reason = IsReasonOf p reason × IsShut (net_of p) p.table reason 
 -- a tree may stand at a node in the place of a bound leaf that is worth so much: its cuts leave both sides a value, its leaves
 -- that are shut are so at their nodes, and its bound leaves have a value there that isn't below that worth
 abbrev pub IsGraft : ProblemValue → Option ℤ → Node → Tree → Type 0
-IsGraft p worth node (Ends (Bound pairs)) = ArePairs (length p.table) pairs × IsSomeAnd (leaf_value (net_of p) p.table node pairs true) (λ v. IfSome worth (λ w. w ≤ℤ v))
+IsGraft p worth node (Ends (Bound pairs)) = ArePairs (length p.table) pairs
+    × IsSomeAnd (leaf_value (net_of p) p.table node pairs true) (λ v. IfSome worth (λ w. w ≤ℤ v))
 IsGraft p worth node (Ends (Shut reason)) = MayShut p node reason
-IsGraft p worth node (Branch cut low high) = CutExists (net_of p) p.table cut × LeavesBoth node cut × IsGraft p worth (low_part node cut) low × IsGraft p worth (high_part node cut) high
+IsGraft p worth node (Branch cut low high) = CutExists (net_of p) p.table cut × LeavesBoth node cut
+    × IsGraft p worth (low_part node cut) low × IsGraft p worth (high_part node cut) high
 
 -- the lines are a tree that may stand in the place of a bound leaf with these pairs
 abbrev pub Grafts : ProblemValue → Node → List Pair → List TreeLine → Tree → Type 0
@@ -89,7 +93,8 @@ Shuts p node reason new = MayShut p node reason × (new ≡ Ends (Shut reason))
 -- what a work makes of a bound leaf with these pairs at a node: pairs that rise, keep their limits and have a value there;
 -- a leaf that a reason shuts; a split; or a whole tree
 abbrev pub Makes : ProblemValue → Node → List Pair → Work → Tree → Type 0
-Makes p node old (works.Leaf pairs) new = ArePairs (length p.table) pairs × IsSome (leaf_value (net_of p) p.table node pairs true) × (new ≡ Ends (Bound (better_pairs p node old pairs)))
+Makes p node old (works.Leaf pairs) new = ArePairs (length p.table) pairs
+    × IsSome (leaf_value (net_of p) p.table node pairs true) × (new ≡ Ends (Bound (better_pairs p node old pairs)))
 Makes p node old (works.Nothing pairs) new = Shuts p node (ByPairs pairs) new
 Makes p node old (works.Gap cycle) new = Shuts p node (ByGap cycle) new
 Makes p node old works.Propagated new = Shuts p node ByPropagation new

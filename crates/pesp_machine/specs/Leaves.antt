@@ -28,7 +28,8 @@ lesser (Some a) (Some b) = Some (int_min a b)
 abbrev pub least_value : Net → List (List SignedRow) → Tree → Node → Option ℤ
 least_value n table (Ends (Bound pairs)) node = leaf_value n table node pairs true
 least_value n table (Ends (Shut reason)) node = None
-least_value n table (Branch cut low high) node = lesser (least_value n table low (low_part node cut)) (least_value n table high (high_part node cut))
+least_value n table (Branch cut low high) node =
+    lesser (least_value n table low (low_part node cut)) (least_value n table high (high_part node cut))
 
 -- a value as it is told: one above 999999999999999999 as that number; no bound leaf of a board has one below 0
 abbrev pub told : ℤ → ℕ

@@ -17,7 +17,8 @@ pub record IsKept (p : ProblemValue) (state : State) : Type 0 where
 
 -- each number that is lent has a bound leaf, and no two numbers have the same one
 pub record AreLentApart (state : State) : Type 0 where
-  pub leaf : (number : ℕ) (path : List (Cut × Side)) → ticket state number ≡ Lent path → (pairs : List Pair) × IsLeafAt state.tree path (Bound pairs)
+  pub leaf : (number : ℕ) (path : List (Cut × Side)) → ticket state number ≡ Lent path
+      → (pairs : List Pair) × IsLeafAt state.tree path (Bound pairs)
   pub apart : (a b : ℕ) (path : List (Cut × Side)) → ticket state a ≡ Lent path → ticket state b ≡ Lent path → a ≡ b
 
 -- all of it: the state is kept, its tree keeps the limits of a certificate's, and its lent leaves are apart

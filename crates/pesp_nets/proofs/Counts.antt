@@ -13,13 +13,16 @@ use Rattle.pesp_nets.specs.declared.nets.NetCount.{NetCount}
 use Rattle.pesp_nets.specs.Nets.{sum_of, amount, AreSmallCounts, AreNets}
 use Rattle.pesp_problem.proofs.Integers.{sum_below-zero, sum_below-single, sum_below-le, sum_below-add}
 
-pub one_more : (plus here : Bool) → pos (cond (plus && here) 1 0) -ℤ pos (cond (not plus && here) 1 0) ≡ (if here then (if plus then pos 1 else negsuc 0) else pos 0)
+pub one_more : (plus here : Bool) → pos (cond (plus && here) 1 0) -ℤ pos (cond (not plus && here) 1 0)
+    ≡ (if here then (if plus then pos 1 else negsuc 0) else pos 0)
 one_more true true = refl
 one_more true false = refl
 one_more false true = refl
 one_more false false = refl
 
-pub net_count_more : (walk : List SignedRow) (k i : ℕ) (d : SignedRow) → k < length walk → net_count (take (k + 1) walk) i ≡ net_count (take k walk) i +ℤ (if (get_or walk k d).row == i + 1 then sign (get_or walk k d) else pos 0)
+pub net_count_more : (walk : List SignedRow) (k i : ℕ) (d : SignedRow) → k < length walk
+    → net_count (take (k + 1) walk) i ≡ net_count (take k walk) i
+    +ℤ (if (get_or walk k d).row == i + 1 then sign (get_or walk k d) else pos 0)
 net_count_more walk k i d h =
     let plus = sum_by_more (λ (x : SignedRow). cond (x.plus && (x.row == i + 1)) 1 0) walk k d h in
     let minus = sum_by_more (λ (x : SignedRow). cond (not x.plus && (x.row == i + 1)) 1 0) walk k d h in
@@ -32,7 +35,9 @@ pub eq-false : (a b : ℕ) → a ≢ b → (a == b) ≡ false
 eq-false a b e = grind (arith, nat_tests)
 
 -- one more signed row is counted
-pub count_step : (counts : List ℤ) (walk : List SignedRow) (k : ℕ) (d : SignedRow) (z : ℤ) → k < length walk → 1 ≤ (get_or walk k d).row → (get_or walk k d).row ≤ length counts → z ≡ get_or counts ((get_or walk k d).row - 1) (pos 0) +ℤ sign (get_or walk k d)
+pub count_step : (counts : List ℤ) (walk : List SignedRow) (k : ℕ) (d : SignedRow) (z : ℤ) → k < length walk
+    → 1 ≤ (get_or walk k d).row → (get_or walk k d).row ≤ length counts
+    → z ≡ get_or counts ((get_or walk k d).row - 1) (pos 0) +ℤ sign (get_or walk k d)
     → ((i : ℕ) → i < length counts → get_or counts i (pos 0) ≡ net_count (take k walk) i)
     → (i : ℕ) → i < length counts → get_or (set counts ((get_or walk k d).row - 1) z) i (pos 0) ≡ net_count (take (k + 1) walk) i
 count_step counts walk k d z h low high e inv i l =
@@ -41,15 +46,18 @@ count_step counts walk k d z h low high e inv i l =
     elim (cases_eq i at) [
       | inl same ↦
           let here = ap (λ b. if b then sign (get_or walk k d) else pos 0) (eq-true (get_or walk k d).row (i + 1) (omega arith)) in
-          let read : get_or (set counts at z) i (pos 0) ≡ z = ap (λ j. get_or (set counts at z) j (pos 0)) same ∙ get_or-set_same counts at z (pos 0) (omega arith) in
+          let read : get_or (set counts at z) i (pos 0) ≡ z = ap (λ j. get_or (set counts at z) j (pos 0)) same
+          ∙ get_or-set_same counts at z (pos 0) (omega arith) in
           let before = ap (λ j. get_or counts j (pos 0)) same in
           omega (arith, ints, read, before, more, here, e, inv i l)
       | inr other ↦
-          let here = ap (λ b. if b then sign (get_or walk k d) else pos 0) (eq-false (get_or walk k d).row (i + 1) (λ e'. other (omega arith))) in
+          let here = ap (λ b. if b then sign (get_or walk k d) else pos 0)
+          (eq-false (get_or walk k d).row (i + 1) (λ e'. other (omega arith))) in
           omega (arith, ints, more, here, inv i l, get_or-set_other counts at i z (pos 0) other)
     ]
 
-pub net_count_bound : (walk : List SignedRow) (k i : ℕ) → (neg_ℤ (pos k) ≤ℤ net_count (take k walk) i) × (net_count (take k walk) i ≤ℤ pos k)
+pub net_count_bound : (walk : List SignedRow) (k i : ℕ)
+    → (neg_ℤ (pos k) ≤ℤ net_count (take k walk) i) × (net_count (take k walk) i ≤ℤ pos k)
 net_count_bound walk k i =
     let plus = count_by-le-length (λ (x : SignedRow). x.plus && (x.row == i + 1)) (take k walk) in
     let minus = count_by-le-length (λ (x : SignedRow). not x.plus && (x.row == i + 1)) (take k walk) in
@@ -67,7 +75,8 @@ net_count_small walk i n h =
 
 -- ---- the amounts of the net counts are no more than the walk is long
 
-net_count-cons : (s : SignedRow) (walk : List SignedRow) (i : ℕ) → net_count (s ∷ walk) i ≡ (if s.row == i + 1 then sign s else pos 0) +ℤ net_count walk i
+net_count-cons : (s : SignedRow) (walk : List SignedRow) (i : ℕ)
+    → net_count (s ∷ walk) i ≡ (if s.row == i + 1 then sign s else pos 0) +ℤ net_count walk i
 net_count-cons s walk i =
     let plus = sum_by-cons (λ (x : SignedRow). cond (x.plus && (x.row == i + 1)) 1 0) s walk in
     let minus = sum_by-cons (λ (x : SignedRow). cond (not x.plus && (x.row == i + 1)) 1 0) s walk in
@@ -117,7 +126,12 @@ amounts_short n (s ∷ walk) =
 
 amount_from : (counts : List NetCount) (z : ℤ) → fold (λ z e. z +ℤ pos (unsigned_abs e.count)) z counts ≡ z +ℤ pos (amount counts)
 amount_from [] z = omega (arith, ints)
-amount_from (e ∷ counts) z = omega (arith, ints, amount_from counts (z +ℤ pos (unsigned_abs e.count)), sum_by-cons (λ (e : NetCount). unsigned_abs e.count) e counts)
+amount_from (e ∷ counts) z = omega (
+  arith,
+  ints,
+  amount_from counts (z +ℤ pos (unsigned_abs e.count)),
+  sum_by-cons (λ (e : NetCount). unsigned_abs e.count) e counts,
+)
 
 -- the sum of the amounts is the amount
 pub amount_is : (counts : List NetCount) → sum_of (λ i z. pos (unsigned_abs z)) counts ≡ pos (amount counts)

@@ -15,7 +15,8 @@ use Rattle.pesp_nets.specs.Ranges.{least_term, greatest_term}
 use Rattle.pesp_nets.specs.Nets.{sum_of, amount, AreSmallCounts, AreNetCounts}
 use Rattle.pesp_problem.proofs.Integers.{zero-mul, mul-le, floor_div-le, le-ceil_div, le_trans}
 
-pub small_count : (n : ℕ) (counts : List NetCount) (k : ℕ) (d : NetCount) → k < length counts → AreSmallCounts n counts → unsigned_abs (get_or counts k d).count ≤ 10000000
+pub small_count : (n : ℕ) (counts : List NetCount) (k : ℕ) (d : NetCount) → k < length counts
+    → AreSmallCounts n counts → unsigned_abs (get_or counts k d).count ≤ 10000000
 small_count n counts k d h small = omega (arith, get_or-le-sum_by (λ (e : NetCount). unsigned_abs e.count) counts k d h, small.1)
 
 -- the sum of a term over the first k entries, and its size where the term is at most so many times the count
@@ -23,15 +24,22 @@ pub record SoFar (most : ℕ) (term : ℕ → ℤ → ℤ) (counts : List NetCou
   pub is : sum ≡ sum_of term (take k counts)
   pub size : unsigned_abs sum ≤ amount (take k counts) * most
 
-pub so_far_more : (most : ℕ) (term : ℕ → ℤ → ℤ) (counts : List NetCount) (k : ℕ) (d : NetCount) (sum here : ℤ) → k < length counts → here ≡ term (get_or counts k d).place (get_or counts k d).count → unsigned_abs here ≤ unsigned_abs (get_or counts k d).count * most
+pub so_far_more : (most : ℕ) (term : ℕ → ℤ → ℤ) (counts : List NetCount) (k : ℕ) (d : NetCount) (sum here : ℤ)
+    → k < length counts → here ≡ term (get_or counts k d).place (get_or counts k d).count
+    → unsigned_abs here ≤ unsigned_abs (get_or counts k d).count * most
     → SoFar most term counts k sum → SoFar most term counts (k + 1) (sum +ℤ here)
 so_far_more most term counts k d sum here h e small before = record {
-  is = ap (λ z. z +ℤ here) before.is ∙ ap (λ z. sum_of term (take k counts) +ℤ z) e ∙ sym (fold_more (λ z e. z +ℤ term e.place e.count) (pos 0) counts k d h);
-  size = (let more = sum_by_more (λ (e : NetCount). unsigned_abs e.count) counts k d h in let size = before.size in omega (arith, ints, ap (λ n. n * most) more));
+  is = ap (λ z. z +ℤ here) before.is ∙ ap (λ z. sum_of term (take k counts) +ℤ z) e
+      ∙ sym (fold_more (λ z e. z +ℤ term e.place e.count) (pos 0) counts k d h);
+  size = (let more = sum_by_more (λ (e : NetCount). unsigned_abs e.count) counts k d h in let size = before.size in
+      omega (arith, ints, ap (λ n. n * most) more));
 }
 
 -- sums stay small
-pub small_sum : (most : ℕ) (term : ℕ → ℤ → ℤ) (n : ℕ) (counts : List NetCount) (k : ℕ) (d : NetCount) (sum here : ℤ) → k < length counts → AreSmallCounts n counts → unsigned_abs here ≤ unsigned_abs (get_or counts k d).count * most → SoFar most term counts k sum → unsigned_abs sum + unsigned_abs here ≤ 10000000 * most
+pub small_sum : (most : ℕ) (term : ℕ → ℤ → ℤ) (n : ℕ) (counts : List NetCount) (k : ℕ) (d : NetCount)
+    (sum here : ℤ) → k < length counts → AreSmallCounts n counts
+    → unsigned_abs here ≤ unsigned_abs (get_or counts k d).count * most → SoFar most term counts k sum
+    → unsigned_abs sum + unsigned_abs here ≤ 10000000 * most
 small_sum most term n counts k d sum here h small s before =
     let within = sum_by_more_le (λ (e : NetCount). unsigned_abs e.count) counts k d h in
     let few : amount (take k counts) + unsigned_abs (get_or counts k d).count ≤ 10000000 = omega (arith, within, small.1) in
@@ -45,14 +53,19 @@ no_least arcs slacks i = zero-mul ((arc_at arcs i).lower +ℤ pos (slack_range s
 no_greatest : (arcs : List Arc) (slacks : List (ℕ × ℕ)) (i : ℕ) → greatest_term arcs slacks i (pos 0) ≡ pos 0
 no_greatest arcs slacks i = zero-mul ((arc_at arcs i).lower +ℤ pos (slack_range slacks i).1)
 
-pub least_is : (arcs : List Arc) (slacks : List (ℕ × ℕ)) (walk : List SignedRow) (counts : List NetCount) → AreNetCounts (length arcs) walk counts → sum_of (least_term arcs slacks) counts ≡ least_sum arcs slacks walk
+pub least_is : (arcs : List Arc) (slacks : List (ℕ × ℕ)) (walk : List SignedRow) (counts : List NetCount)
+    → AreNetCounts (length arcs) walk counts → sum_of (least_term arcs slacks) counts ≡ least_sum arcs slacks walk
 least_is arcs slacks walk counts h = h.sums (least_term arcs slacks) (no_least arcs slacks)
 
-pub greatest_is : (arcs : List Arc) (slacks : List (ℕ × ℕ)) (walk : List SignedRow) (counts : List NetCount) → AreNetCounts (length arcs) walk counts → sum_of (greatest_term arcs slacks) counts ≡ greatest_sum arcs slacks walk
+pub greatest_is : (arcs : List Arc) (slacks : List (ℕ × ℕ)) (walk : List SignedRow) (counts : List NetCount)
+    → AreNetCounts (length arcs) walk counts → sum_of (greatest_term arcs slacks) counts
+    ≡ greatest_sum arcs slacks walk
 greatest_is arcs slacks walk counts h = h.sums (greatest_term arcs slacks) (no_greatest arcs slacks)
 
 -- what lies between two small sums
-pub small_between : (period most : ℕ) (low high z : ℤ) → 0 < period → unsigned_abs low ≤ most → unsigned_abs high ≤ most → ceil_div low period ≤ℤ z → z ≤ℤ floor_div high period → unsigned_abs (pos period *ℤ z) ≤ most
+pub small_between : (period most : ℕ) (low high z : ℤ) → 0 < period → unsigned_abs low ≤ most
+    → unsigned_abs high ≤ most → ceil_div low period ≤ℤ z → z ≤ℤ floor_div high period
+    → unsigned_abs (pos period *ℤ z) ≤ most
 small_between period most low high z some small small' from to =
     let a = le_trans _ _ _ (le-ceil_div low period some) (mul-le period _ z from) in
     let b = le_trans _ _ _ (mul-le period z _ to) (floor_div-le high period some) in
@@ -60,10 +73,17 @@ small_between period most low high z some small small' from to =
 
 -- the offsets left between two sums
 pub left_small : (period most : ℕ) (low high from to : ℤ) → 0 < period → unsigned_abs low ≤ most → unsigned_abs high ≤ most
-    → IfSome (range_or_none (int_max from (ceil_div low period)) (int_min to (floor_div high period))) (λ left. (unsigned_abs (pos period *ℤ left.0) ≤ most) × (unsigned_abs (pos period *ℤ left.1) ≤ most))
-left_small period most low high from to some small small' = go (int_le (int_max from (ceil_div low period)) (int_min to (floor_div high period))) refl
+    → IfSome (range_or_none (int_max from (ceil_div low period)) (int_min to (floor_div high period)))
+    (λ left. (unsigned_abs (pos period *ℤ left.0) ≤ most) × (unsigned_abs (pos period *ℤ left.1) ≤ most))
+left_small period most low high from to some small small' =
+    go (int_le (int_max from (ceil_div low period)) (int_min to (floor_div high period))) refl
   where
-    go : (b : Bool) → int_le (int_max from (ceil_div low period)) (int_min to (floor_div high period)) ≡ b → IfSome {T = ℤ × ℤ} (if b then Some (int_max from (ceil_div low period), int_min to (floor_div high period)) else None) (λ left. (unsigned_abs (pos period *ℤ left.0) ≤ most) × (unsigned_abs (pos period *ℤ left.1) ≤ most))
+    go : (b : Bool) → int_le (int_max from (ceil_div low period)) (int_min to (floor_div high period)) ≡ b
+        → IfSome {T = ℤ × ℤ} (if b then Some (
+          int_max from (ceil_div low period),
+          int_min to (floor_div high period),
+        ) else None)
+        (λ left. (unsigned_abs (pos period *ℤ left.0) ≤ most) × (unsigned_abs (pos period *ℤ left.1) ≤ most))
     go true e = let le : int_max from (ceil_div low period) ≤ℤ int_min to (floor_div high period) = omega (arith, ints) in (
       small_between period most low high _ some small small' (omega (arith, ints, clamps)) (omega (arith, ints, clamps)),
       small_between period most low high _ some small small' (omega (arith, ints, clamps)) (omega (arith, ints, clamps)),

@@ -32,7 +32,8 @@ with_second node cut High nodes = nodes
 -- the nodes to come after the present one, by its path with the newest branch first
 abbrev pub pending : Node → List Branch → List Node
 pending node [] = []
-pending node (branch ∷ path) = with_second (restored node branch.change) (cut_of branch.change) branch.side (pending (restored node branch.change) path)
+pending node (branch ∷ path) = with_second (restored node branch.change) (cut_of branch.change) branch.side
+    (pending (restored node branch.change) path)
 
 -- the present node, where there is one, and those to come after it, by its path with the oldest branch first
 abbrev pub waiting : Bool → Node → List Branch → List Node

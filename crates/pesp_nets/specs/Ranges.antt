@@ -37,11 +37,13 @@ lesser factor range = int_min (factor *ℤ pos range.0) (factor *ℤ pos range.1
 
 -- a count times the least duration of the row at place i, or the greatest where the count is negative
 abbrev pub least_term : List Arc → List (ℕ × ℕ) → ℕ → ℤ → ℤ
-least_term arcs slacks i count = scaled count ((arc_at arcs i).lower +ℤ pos (slack_range slacks i).0) ((arc_at arcs i).lower +ℤ pos (slack_range slacks i).1)
+least_term arcs slacks i count = scaled count ((arc_at arcs i).lower +ℤ pos (slack_range slacks i).0)
+    ((arc_at arcs i).lower +ℤ pos (slack_range slacks i).1)
 
 -- a count times the greatest duration, or the least where the count is negative
 abbrev pub greatest_term : List Arc → List (ℕ × ℕ) → ℕ → ℤ → ℤ
-greatest_term arcs slacks i count = scaled count ((arc_at arcs i).lower +ℤ pos (slack_range slacks i).1) ((arc_at arcs i).lower +ℤ pos (slack_range slacks i).0)
+greatest_term arcs slacks i count = scaled count ((arc_at arcs i).lower +ℤ pos (slack_range slacks i).1)
+    ((arc_at arcs i).lower +ℤ pos (slack_range slacks i).0)
 
 -- the least and the greatest offset that an offset range and slack ranges leave to a walk
 abbrev pub left_of : Net → List (ℕ × ℕ) → ℤ × ℤ → List SignedRow → Option (ℤ × ℤ)

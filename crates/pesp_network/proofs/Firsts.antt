@@ -17,6 +17,12 @@ first_event n arcs g x f b =
     let r = as_roots g in let a = are_roots n arcs g f in
     let w = to_root n arcs r a (at g.place.items x + 1) x (omega arith) b in
     record {
-      joined = (w.way, All-weaker (λ (s : SignedRow). IsTreeRow n r s.row) (RowExists arcs) (λ s. tree_row_exists n arcs r s.row a) w.way w.over, w.leads);
-      least = λ other h. let j = along n arcs r x other h.0 a b h.1 h.2 in let first = f.grown.root_first other (f.all_seen other j.0) in let e = j.1 in omega arith;
+      joined = (
+        w.way,
+        All-weaker (λ (s : SignedRow). IsTreeRow n r s.row) (RowExists arcs)
+            (λ s. tree_row_exists n arcs r s.row a) w.way w.over,
+        w.leads,
+      );
+      least = λ other h. let j = along n arcs r x other h.0 a b h.1 h.2 in
+          let first = f.grown.root_first other (f.all_seen other j.0) in let e = j.1 in omega arith;
     }

@@ -15,7 +15,9 @@ use Rattle.pesp_network.proofs.Closing.{closed_grown, closed_at, all_closed, cur
 use Rattle.pesp_network.proofs.Steps.{room, grown_from, keeps_opening}
 use Rattle.pesp_network.proofs.Chaining.{all_zero}
 
-pub start_flood : (arcs : List Arc) (g h : Growth) (y : ℕ) → GrownOver arcs g → AllClosed g → y < vec_len g.up → ((x : ℕ) → x < y → 0 < at g.place.items x) → at g.place.items y ≡ 0 → Opens (fns_of g) (fns_of h) y y 0 y → vec_len h.up ≡ vec_len g.up
+pub start_flood : (arcs : List Arc) (g h : Growth) (y : ℕ) → GrownOver arcs g → AllClosed g → y < vec_len g.up
+    → ((x : ℕ) → x < y → 0 < at g.place.items x) → at g.place.items y ≡ 0 → Opens (fns_of g) (fns_of h) y y 0 y
+    → vec_len h.up ≡ vec_len g.up
     → GrownOver arcs h × IsCurrent h y × KeepsSeen g h × (0 < at h.place.items y)
 start_flood arcs g h y grown closed below before fresh opens e =
     let T = tail_of arcs in let H = head_of arcs in
@@ -29,28 +31,39 @@ start_flood arcs g h y grown closed below before fresh opens e =
       step = opens;
     } in
     let here = opens.here in (
-      grown_from arcs (vec_len g.up) (vec_len h.up) (fns_of h) e (rooted (vec_len g.up) (length arcs) OPEN_END T H (fns_of g) (fns_of h) y root),
+      grown_from arcs (vec_len g.up) (vec_len h.up) (fns_of h) e
+          (rooted (vec_len g.up) (length arcs) OPEN_END T H (fns_of g) (fns_of h) y root),
       rooted_at (vec_len g.up) (length arcs) OPEN_END T H (fns_of g) (fns_of h) y root,
       keeps_opening g h y y 0 y opens,
       omega arith,
     )
 
-pub closes_at : (arcs : List Arc) (g h : Growth) (u : ℕ) → GrownOver arcs g → IsCurrent g u → at g.left.items u ≡ 0 → Closes (fns_of g) (fns_of h) u
+pub closes_at : (arcs : List Arc) (g h : Growth) (u : ℕ) → GrownOver arcs g → IsCurrent g u → at g.left.items u ≡ 0
+    → Closes (fns_of g) (fns_of h) u
     → ClosesCurrent (vec_len g.up) (length arcs) OPEN_END (tail_of arcs) (head_of arcs) (fns_of g) (fns_of h) u
-closes_at arcs g h u grown current done closes = record { g = grown; current = current; done = done; room = let w = room g in omega arith; step = closes }
+closes_at arcs g h u grown current done closes =
+    record { g = grown; current = current; done = done; room = let w = room g in omega arith; step = closes }
 
-pub close_grown : (arcs : List Arc) (g h : Growth) (u : ℕ) → GrownOver arcs g → IsCurrent g u → at g.left.items u ≡ 0 → Closes (fns_of g) (fns_of h) u → vec_len h.up ≡ vec_len g.up → GrownOver arcs h
+pub close_grown : (arcs : List Arc) (g h : Growth) (u : ℕ) → GrownOver arcs g → IsCurrent g u
+    → at g.left.items u ≡ 0 → Closes (fns_of g) (fns_of h) u → vec_len h.up ≡ vec_len g.up → GrownOver arcs h
 close_grown arcs g h u grown current done closes e =
-    grown_from arcs (vec_len g.up) (vec_len h.up) (fns_of h) e (closed_grown (vec_len g.up) (length arcs) OPEN_END (tail_of arcs) (head_of arcs) (fns_of g) (fns_of h) u (closes_at arcs g h u grown current done closes))
+    grown_from arcs (vec_len g.up) (vec_len h.up) (fns_of h) e
+    (closed_grown (vec_len g.up) (length arcs) OPEN_END (tail_of arcs) (head_of arcs) (fns_of g) (fns_of h) u
+    (closes_at arcs g h u grown current done closes))
 
-pub close_root : (arcs : List Arc) (g h : Growth) (u : ℕ) → GrownOver arcs g → IsCurrent g u → at g.left.items u ≡ 0 → Closes (fns_of g) (fns_of h) u → at h.by.items u ≡ 0 → AllClosed h
+pub close_root : (arcs : List Arc) (g h : Growth) (u : ℕ) → GrownOver arcs g → IsCurrent g u
+    → at g.left.items u ≡ 0 → Closes (fns_of g) (fns_of h) u → at h.by.items u ≡ 0 → AllClosed h
 close_root arcs g h u grown current done closes root = let e = closes.same u in
-    all_closed (vec_len g.up) (length arcs) OPEN_END (tail_of arcs) (head_of arcs) (fns_of g) (fns_of h) u (closes_at arcs g h u grown current done closes) (omega arith)
+    all_closed (vec_len g.up) (length arcs) OPEN_END (tail_of arcs) (head_of arcs) (fns_of g) (fns_of h) u
+    (closes_at arcs g h u grown current done closes) (omega arith)
 
-pub close_up : (arcs : List Arc) (g h : Growth) (u p : ℕ) → GrownOver arcs g → IsCurrent g u → at g.left.items u ≡ 0 → Closes (fns_of g) (fns_of h) u → 0 < at h.by.items u → p ≡ at h.up.items u → IsCurrent h p
+pub close_up : (arcs : List Arc) (g h : Growth) (u p : ℕ) → GrownOver arcs g → IsCurrent g u
+    → at g.left.items u ≡ 0 → Closes (fns_of g) (fns_of h) u → 0 < at h.by.items u → p ≡ at h.up.items u
+    → IsCurrent h p
 close_up arcs g h u p grown current done closes b q = let e = closes.same u in
     let P : ℕ → Type 0 = λ x. IsCurrent h x in
-    subst P (sym (q ∙ e.0)) (closed_at (vec_len g.up) (length arcs) OPEN_END (tail_of arcs) (head_of arcs) (fns_of g) (fns_of h) u (closes_at arcs g h u grown current done closes) (omega arith))
+    subst P (sym (q ∙ e.0)) (closed_at (vec_len g.up) (length arcs) OPEN_END (tail_of arcs) (head_of arcs)
+    (fns_of g) (fns_of h) u (closes_at arcs g h u grown current done closes) (omega arith))
 
 pub keeps_closing : (g h : Growth) (u : ℕ) → Closes (fns_of g) (fns_of h) u → KeepsSeen g h
 keeps_closing g h u closes = λ x sx. let e = closes.same x in omega arith
@@ -66,7 +79,8 @@ none_at : (x : ℕ) → x < OPEN_END → weight x ≡ 0
 unfolding weight
 none_at x e = grind arith
 
-pub less_work : (arcs : List Arc) (g h : Growth) (u : ℕ) → GrownOver arcs g → IsCurrent g u → h.last.items ≡ set g.last.items u (vec_len g.order) → h.left.items ≡ g.left.items → work_left h < work_left g
+pub less_work : (arcs : List Arc) (g h : Growth) (u : ℕ) → GrownOver arcs g → IsCurrent g u
+    → h.last.items ≡ set g.last.items u (vec_len g.order) → h.left.items ≡ g.left.items → work_left h < work_left g
 unfolding weight
 less_work arcs g h u grown current lasts lefts =
     let f : ℕ → ℕ = weight in
@@ -82,7 +96,9 @@ less_work arcs g h u grown current lasts lefts =
     omega arith
 
 -- no event is seen yet, and each has all its arcs left
-pub nothing_grown : (n m : ℕ) (T H A B F : ℕ → ℕ) (s : Fns) → Chained m T H F A B → ((x : ℕ) → s.place x ≡ 0) → ((x : ℕ) → s.by x ≡ 0) → s.count ≡ 0 → ((x : ℕ) → x < n → s.last x ≡ OPEN_END) → ((x : ℕ) → n ≤ x → (s.last x ≡ 0) × (F x ≡ 0)) → ((x : ℕ) → s.left x ≡ F x) → Grown n m OPEN_END T H s
+pub nothing_grown : (n m : ℕ) (T H A B F : ℕ → ℕ) (s : Fns) → Chained m T H F A B → ((x : ℕ) → s.place x ≡ 0)
+    → ((x : ℕ) → s.by x ≡ 0) → s.count ≡ 0 → ((x : ℕ) → x < n → s.last x ≡ OPEN_END)
+    → ((x : ℕ) → n ≤ x → (s.last x ≡ 0) × (F x ≡ 0)) → ((x : ℕ) → s.left x ≡ F x) → Grown n m OPEN_END T H s
 nothing_grown n m T H A B F s c place by count last past left = record {
   seen_below = λ x h. absurd (let p = place x in omega arith);
   places = λ x. let p = place x in omega arith;
@@ -101,7 +117,11 @@ nothing_grown n m T H A B F s c place by count last past left = record {
   inner_root = λ x y h k b i. absurd (let p = place x in omega arith);
   lasts = λ x. elim (cases_lt x n) [ inl b ↦ let l = last x b in omega arith | inr b ↦ let l = past x b in omega arith ];
   unseen = λ x b h. last x b;
-  closed = λ x h. elim (cases_lt x n) [ inl b ↦ absurd (let l = last x b in omega arith) | inr b ↦ let l = past x b in let p = place x in let q = left x in (omega arith, omega arith, omega arith) ];
+  closed = λ x h. elim (cases_lt x n) [
+    | inl b ↦ absurd (let l = last x b in omega arith)
+    | inr b ↦
+        let l = past x b in let p = place x in let q = left x in (omega arith, omega arith, omega arith)
+  ];
   left_row = λ x. let l = left x in let f = c.first_row x in omega arith;
   left_end = λ x h. let l = left x in elim (c.first_end x (omega arith)) [ inl w ↦ inl (ap T l ∙ w) | inr w ↦ inr (ap H l ∙ w) ];
   tail_met = λ k a b h. absurd (let l = left (T k) in let f = c.tail_reached k a b in omega arith);
@@ -118,11 +138,15 @@ pub past_end : (n x : ℕ) (xs : List ℕ) → length xs ≡ n → n ≤ x → a
 past_end n x xs e b = get_or_past xs x 0 (omega arith)
 
 -- the forest as it is made
-pub starts : (arcs : List Arc) (g : Growth) (c : Chains) (n : ℕ) → AreChains arcs n c → vec_len g.up ≡ n → g.by.items ≡ replicate n 0 → g.place.items ≡ replicate n 0 → g.last.items ≡ replicate n OPEN_END → g.left.items ≡ c.first.items → g.order.items ≡ []
+pub starts : (arcs : List Arc) (g : Growth) (c : Chains) (n : ℕ) → AreChains arcs n c → vec_len g.up ≡ n
+    → g.by.items ≡ replicate n 0 → g.place.items ≡ replicate n 0 → g.last.items ≡ replicate n OPEN_END
+    → g.left.items ≡ c.first.items → g.order.items ≡ []
     → GrownOver arcs g
 starts arcs g c n chains events by place last left order =
-    let k = g.order.ok.0 in let q = ap length order in let s = g.sized in let a = g.last.ok.0 in let b = c.first.ok.0 in let d = chains.firsts in
-    nothing_grown (vec_len g.up) (length arcs) (tail_of arcs) (head_of arcs) (at c.at_tail.items) (at c.at_head.items) (at c.first.items) (fns_of g) chains.chained
+    let k = g.order.ok.0 in let q = ap length order in let s = g.sized in let a = g.last.ok.0 in
+    let b = c.first.ok.0 in let d = chains.firsts in
+    nothing_grown (vec_len g.up) (length arcs) (tail_of arcs) (head_of arcs) (at c.at_tail.items)
+    (at c.at_head.items) (at c.first.items) (fns_of g) chains.chained
     (λ x. at_zeros n x g.place.items place) (λ x. at_zeros n x g.by.items by) (omega arith)
     (λ x h. at_same n x g.last.items last (omega arith))
     (λ x h. (past_end n x g.last.items (omega arith) (omega arith), past_end n x c.first.items (omega arith) (omega arith)))

@@ -20,10 +20,12 @@ use Rattle.pesp_network.proofs.Bridging.{inside_trans, tree_is_row}
 use Rattle.pesp_network.proofs.Distinct.{IsChain, chain_append, chain_distinct, chain_bounds, apart_below, apart_all, distinct_cons}
 
 pub under_true : (g : Forest) (x y : ℕ) → is_under g x y ≡ true → Under g x y
-under_true g x y e = let w = and_parts (nat_le (at g.place.items x) (at g.place.items y)) (nat_le (at g.place.items y) (at g.last.items x)) e in (leb-true _ _ w.0, leb-true _ _ w.1)
+under_true g x y e = let w = and_parts (nat_le (at g.place.items x) (at g.place.items y))
+    (nat_le (at g.place.items y) (at g.last.items x)) e in (leb-true _ _ w.0, leb-true _ _ w.1)
 
 pub true_under : (g : Forest) (x y : ℕ) → Under g x y → is_under g x y ≡ true
-true_under g x y i = and_from (nat_le (at g.place.items x) (at g.place.items y)) (nat_le (at g.place.items y) (at g.last.items x)) (le-leb _ _ i.0) (le-leb _ _ i.1)
+true_under g x y i = and_from (nat_le (at g.place.items x) (at g.place.items y))
+    (nat_le (at g.place.items y) (at g.last.items x)) (le-leb _ _ i.0) (le-leb _ _ i.1)
 
 pub under_false : (g : Forest) (x y : ℕ) → is_under g x y ≡ false → Under g x y → ⊥
 under_false g x y e i = let q = sym e ∙ true_under g x y i in cc
@@ -33,21 +35,27 @@ under_false g x y e i = let q = sym e ∙ true_under g x y i in cc
 ends_by : (a b : ℕ) (t : Bool) (c : Bool) → t ≡ c → (if t then a else b) ≡ (if c then a else b)
 ends_by a b t c e = ap (λ (x : Bool). if x then a else b) e
 
-pub step_up_ends : (n : ℕ) (arcs : List Arc) (g : Forest) (x : ℕ) → IsForest n arcs g → 0 < at g.by.items x → (start arcs (step_up arcs g x) ≡ x) × (finish arcs (step_up arcs g x) ≡ at g.up.items x)
+pub step_up_ends : (n : ℕ) (arcs : List Arc) (g : Forest) (x : ℕ) → IsForest n arcs g → 0 < at g.by.items x
+    → (start arcs (step_up arcs g x) ≡ x) × (finish arcs (step_up arcs g x) ≡ at g.up.items x)
 step_up_ends n arcs g x f j =
     let k = at g.by.items x in let t = tail_of arcs k in let h = head_of arcs k in
     let c = f.grown.climbs x j in
     elim (f.grown.by_ends x j) [
       | inl w ↦ let e : (t == x) ≡ true = eq-eqb t x w.0 in (ends_by t h (t == x) true e ∙ w.0, ends_by h t (t == x) true e ∙ w.1)
-      | inr w ↦ let e : (t == x) ≡ false = ne_eqb t x (λ q. let p = ap (at g.place.items) (sym w.1 ∙ q) in omega arith) in (ends_by t h (t == x) false e ∙ w.0, ends_by h t (t == x) false e ∙ w.1)
+      | inr w ↦ let e : (t == x) ≡ false = ne_eqb t x
+          (λ q. let p = ap (at g.place.items) (sym w.1 ∙ q) in omega arith) in
+          (ends_by t h (t == x) false e ∙ w.0, ends_by h t (t == x) false e ∙ w.1)
     ]
 
-pub step_down_ends : (n : ℕ) (arcs : List Arc) (g : Forest) (x : ℕ) → IsForest n arcs g → 0 < at g.by.items x → (start arcs (step_down arcs g x) ≡ at g.up.items x) × (finish arcs (step_down arcs g x) ≡ x)
+pub step_down_ends : (n : ℕ) (arcs : List Arc) (g : Forest) (x : ℕ) → IsForest n arcs g → 0 < at g.by.items x
+    → (start arcs (step_down arcs g x) ≡ at g.up.items x) × (finish arcs (step_down arcs g x) ≡ x)
 step_down_ends n arcs g x f j =
     let k = at g.by.items x in let t = tail_of arcs k in let h = head_of arcs k in
     let c = f.grown.climbs x j in
     elim (f.grown.by_ends x j) [
-      | inl w ↦ let e : (h == x) ≡ false = ne_eqb h x (λ q. let p = ap (at g.place.items) (sym w.1 ∙ q) in omega arith) in (ends_by t h (h == x) false e ∙ w.1, ends_by h t (h == x) false e ∙ w.0)
+      | inl w ↦ let e : (h == x) ≡ false = ne_eqb h x
+          (λ q. let p = ap (at g.place.items) (sym w.1 ∙ q) in omega arith) in
+          (ends_by t h (h == x) false e ∙ w.1, ends_by h t (h == x) false e ∙ w.0)
       | inr w ↦ let e : (h == x) ≡ true = eq-eqb h x w.0 in (ends_by t h (h == x) true e ∙ w.1, ends_by h t (h == x) true e ∙ w.0)
     ]
 
@@ -60,7 +68,8 @@ low_is n arcs g x f j =
     let k = at g.by.items x in let t = tail_of arcs k in let h = head_of arcs k in
     let c = f.grown.climbs x j in
     elim (f.grown.by_ends x j) [
-      | inl w ↦ let e : (at g.by.items t == k) ≡ true = eq-eqb _ _ (ap (at g.by.items) w.0) in ends_by t h (at g.by.items t == k) true e ∙ w.0
+      | inl w ↦ let e : (at g.by.items t == k) ≡ true = eq-eqb _ _ (ap (at g.by.items) w.0) in
+          ends_by t h (at g.by.items t == k) true e ∙ w.0
       | inr w ↦
           let e : (at g.by.items t == k) ≡ false = ne_eqb _ _ (λ q.
           let u = at g.up.items x in
@@ -110,7 +119,9 @@ no_way_up n arcs g most t x b i = record {
   none = λ i. refl;
 }
 
-one_up : (n : ℕ) (arcs : List Arc) (g : Forest) (most t x : ℕ) (way : List SignedRow) (u : ℕ) → IsForest n arcs g → ((y : ℕ) → at g.place.items y < most) → 0 < at g.by.items x → is_under g x t ≡ false → GoesUp n arcs g most t (at g.up.items x) way u
+one_up : (n : ℕ) (arcs : List Arc) (g : Forest) (most t x : ℕ) (way : List SignedRow) (u : ℕ) → IsForest n arcs g
+    → ((y : ℕ) → at g.place.items y < most) → 0 < at g.by.items x → is_under g x t ≡ false
+    → GoesUp n arcs g most t (at g.up.items x) way u
     → GoesUp n arcs g most t x (step_up arcs g x ∷ way) u
 one_up n arcs g most t x way u f room j out w =
     let s = step_up arcs g x in
@@ -149,7 +160,9 @@ one_up n arcs g most t x way u f room j out w =
       none = λ i. absurd (under_false g x t out i);
     }
 
-pub goes_up : (n : ℕ) (arcs : List Arc) (g : Forest) (most t : ℕ) → IsForest n arcs g → ((y : ℕ) → at g.place.items y < most) → t < n → (m x : ℕ) → at g.place.items x ≤ m → x < n → at g.root.items x ≡ at g.root.items t
+pub goes_up : (n : ℕ) (arcs : List Arc) (g : Forest) (most t : ℕ) → IsForest n arcs g
+    → ((y : ℕ) → at g.place.items y < most) → t < n → (m x : ℕ) → at g.place.items x ≤ m → x < n
+    → at g.root.items x ≡ at g.root.items t
     → GoesUp n arcs g most t x (up_way arcs g t m x) (top g t m x)
 goes_up n arcs g most t f room bt zero x h b r = absurd (let s = f.all_seen x b in omega arith)
 goes_up n arcs g most t f room bt (suc m) x h b r =
@@ -175,7 +188,9 @@ no_way_down arcs g most t u y e s = record {
   rises = record { tree = All-nil (λ (z : SignedRow). IsTreeRow g z.row); starts = omega arith; rows = omega arith };
 }
 
-one_down : (n : ℕ) (arcs : List Arc) (g : Forest) (most t u y : ℕ) (way : List SignedRow) → IsForest n arcs g → 0 < at g.by.items y → Under g y t → Under g (at g.up.items y) t → GoesDown arcs g most t u way (at g.up.items y)
+one_down : (n : ℕ) (arcs : List Arc) (g : Forest) (most t u y : ℕ) (way : List SignedRow) → IsForest n arcs g
+    → 0 < at g.by.items y → Under g y t → Under g (at g.up.items y) t
+    → GoesDown arcs g most t u way (at g.up.items y)
     → GoesDown arcs g most t u (way ++ step_down arcs g y ∷ []) y
 one_down n arcs g most t u y way f j iy ip w =
     let s = step_down arcs g y in
@@ -200,12 +215,17 @@ one_down n arcs g most t u y way f j iy ip w =
       leads = leads_append arcs way (s ∷ []) u p y w.leads (e.0, e.1);
       rises = record {
         tree = All-push (λ (z : SignedRow). IsTreeRow g z.row) way s w.rises.tree (y, j, refl);
-        starts = subst P (sym (map-append (start arcs) way (s ∷ []))) (chain_append (rank most g t) most (hp - 1) (hy - 1) (map (start arcs) way) ts w.rises.starts more_starts);
-        rows = subst Q (sym (map-append (λ (z : SignedRow). z.row) way (s ∷ []))) (chain_append R most hp hy (map (λ (z : SignedRow). z.row) way) rs w.rises.rows more_rows);
+        starts = subst P (sym (map-append (start arcs) way (s ∷ [])))
+            (chain_append (rank most g t) most (hp - 1) (hy - 1)
+            (map (start arcs) way) ts w.rises.starts more_starts);
+        rows = subst Q (sym (map-append (λ (z : SignedRow). z.row) way (s ∷ [])))
+            (chain_append R most hp hy (map (λ (z : SignedRow). z.row) way) rs w.rises.rows more_rows);
       };
     }
 
-pub goes_down : (n : ℕ) (arcs : List Arc) (g : Forest) (most t u : ℕ) → IsForest n arcs g → t < n → u < n → (m y : ℕ) → at g.place.items y ≤ m → y < n → Under g u y → Under g y t → GoesDown arcs g most t u (down_way arcs g u m y) y
+pub goes_down : (n : ℕ) (arcs : List Arc) (g : Forest) (most t u : ℕ) → IsForest n arcs g → t < n → u < n
+    → (m y : ℕ) → at g.place.items y ≤ m → y < n → Under g u y → Under g y t
+    → GoesDown arcs g most t u (down_way arcs g u m y) y
 goes_down n arcs g most t u f bt bu zero y h b i k = absurd (let s = f.all_seen y b in omega arith)
 goes_down n arcs g most t u f bt bu (suc m) y h b i k =
     let p = at g.up.items y in
@@ -234,7 +254,9 @@ pub record WayBetween (arcs : List Arc) (g : Forest) (most x t : ℕ) (way : Lis
   pub starts : IsChain (rank most g t) 0 (map (start arcs) way) (most + at g.place.items t - 1)
   pub rows : IsChain (λ k. rank most g t (low_of arcs g k)) 0 (map (λ (s : SignedRow). s.row) way) (most + at g.place.items t)
 
-pub way_facts : (n : ℕ) (arcs : List Arc) (g : Forest) (most x t : ℕ) → IsForest n arcs g → ((y : ℕ) → at g.place.items y < most) → x < n → t < n → at g.root.items x ≡ at g.root.items t → WayBetween arcs g most x t (way_between arcs g x t)
+pub way_facts : (n : ℕ) (arcs : List Arc) (g : Forest) (most x t : ℕ) → IsForest n arcs g
+    → ((y : ℕ) → at g.place.items y < most) → x < n → t < n → at g.root.items x ≡ at g.root.items t
+    → WayBetween arcs g most x t (way_between arcs g x t)
 way_facts n arcs g most x t f room bx bt r =
     let up = up_way arcs g t (at g.place.items x) x in
     let u = top g t (at g.place.items x) x in
@@ -258,8 +280,11 @@ way_facts n arcs g most x t f room bx bt r =
     record {
       leads = leads_append arcs up down x u t a.leads b.leads;
       tree = All-append T up down rises.tree b.rises.tree;
-      starts = subst P (sym (map-append (start arcs) up down)) (chain_append (rank most g t) 0 most (most + at g.place.items t - 1) (map (start arcs) up) (map (start arcs) down) rises.starts b.rises.starts);
-      rows = subst Q (sym (map-append row up down)) (chain_append R 0 most (most + at g.place.items t) (map row up) (map row down) rises.rows b.rises.rows);
+      starts = subst P (sym (map-append (start arcs) up down))
+          (chain_append (rank most g t) 0 most (most + at g.place.items t - 1) (map (start arcs) up)
+          (map (start arcs) down) rises.starts b.rises.starts);
+      rows = subst Q (sym (map-append row up down))
+          (chain_append R 0 most (most + at g.place.items t) (map row up) (map row down) rises.rows b.rises.rows);
     }
 
 -- the fundamental walk of a row
@@ -272,25 +297,31 @@ pub record IsWalkOf (arcs : List Arc) (g : Forest) (k : ℕ) (walk : List Signed
 pub room_of : (n : ℕ) (arcs : List Arc) (g : Forest) → IsForest n arcs g → (y : ℕ) → at g.place.items y < vec_len g.order + 1
 room_of n arcs g f y = let p = f.grown.places y in omega arith
 
-pub walk_facts : (n : ℕ) (arcs : List Arc) (g : Forest) (k : ℕ) → IsForest n arcs g → Names (length arcs) k → IsWalkOf arcs g k (walk_of arcs g k)
+pub walk_facts : (n : ℕ) (arcs : List Arc) (g : Forest) (k : ℕ) → IsForest n arcs g → Names (length arcs) k
+    → IsWalkOf arcs g k (walk_of arcs g k)
 walk_facts n arcs g k f r =
     let e = ends_of n arcs k f.ends r in
-    let w = way_facts n arcs g (vec_len g.order + 1) (head_of arcs k) (tail_of arcs k) f (room_of n arcs g f) e.1 e.0 (one_tree n arcs g k f r) in
+    let w = way_facts n arcs g (vec_len g.order + 1) (head_of arcs k) (tail_of arcs k) f
+    (room_of n arcs g f) e.1 e.0 (one_tree n arcs g k f r) in
     let way = way_between arcs g (head_of arcs k) (tail_of arcs k) in
     let s : SignedRow = record { row = k; plus = true } in
     record {
-      closes = is_walk arcs (tail_of arcs k) s way (All-cons (RowExists arcs) s way r (All-weaker (λ (z : SignedRow). IsTreeRow g z.row) (RowExists arcs) (tree_is_row n arcs g f) way w.tree)) (refl, w.leads);
+      closes = is_walk arcs (tail_of arcs k) s way
+          (All-cons (RowExists arcs) s way r (All-weaker (λ (z : SignedRow). IsTreeRow g z.row) (RowExists arcs)
+          (tree_is_row n arcs g f) way w.tree)) (refl, w.leads);
       back = way;
       begins = refl;
       tree = w.tree;
     }
 
 -- the rank of the end is above that of every start
-end_once : (arcs : List Arc) (r : ℕ → ℕ) (t low high : ℕ) (way : List SignedRow) → high < r t → IsChain r low (map (start arcs) way) high → All (λ (s : SignedRow). start arcs s ≢ t) way
+end_once : (arcs : List Arc) (r : ℕ → ℕ) (t low high : ℕ) (way : List SignedRow) → high < r t
+    → IsChain r low (map (start arcs) way) high → All (λ (s : SignedRow). start arcs s ≢ t) way
 end_once arcs r t low high [] l h = All-nil (λ (s : SignedRow). start arcs s ≢ t)
 end_once arcs r t low high (s ∷ way) l h =
     let b = chain_bounds r (r (start arcs s)) high (map (start arcs) way) h.1 in
-    All-cons (λ (z : SignedRow). start arcs z ≢ t) s way (λ e. let q = ap r e in omega arith) (end_once arcs r t (r (start arcs s)) high way l h.1)
+    All-cons (λ (z : SignedRow). start arcs z ≢ t) s way (λ e. let q = ap r e in omega arith)
+    (end_once arcs r t (r (start arcs s)) high way l h.1)
 
 -- no event and no row twice on a way along the forest, the event at its end included
 pub record IsPath (arcs : List Arc) (g : Forest) (x t : ℕ) (way : List SignedRow) : Type 0 where
@@ -301,7 +332,8 @@ pub record IsPath (arcs : List Arc) (g : Forest) (x t : ℕ) (way : List SignedR
   pub starts : IsDistinct nat_eq (map (start arcs) way)
   pub rows : IsDistinct nat_eq (map (λ (s : SignedRow). s.row) way)
 
-pub is_path : (n : ℕ) (arcs : List Arc) (g : Forest) (x t : ℕ) → IsForest n arcs g → x < n → t < n → at g.root.items x ≡ at g.root.items t → IsPath arcs g x t (way_between arcs g x t)
+pub is_path : (n : ℕ) (arcs : List Arc) (g : Forest) (x t : ℕ) → IsForest n arcs g → x < n → t < n
+    → at g.root.items x ≡ at g.root.items t → IsPath arcs g x t (way_between arcs g x t)
 is_path n arcs g x t f bx bt r =
     let most = vec_len g.order + 1 in
     let w = way_facts n arcs g most x t f (room_of n arcs g f) bx bt r in
@@ -319,7 +351,8 @@ is_path n arcs g x t f bx bt r =
       rows = chain_distinct R 0 (most + at g.place.items t) (map (λ (s : SignedRow). s.row) way) w.rows;
     }
 
-pub walk_simple : (n : ℕ) (arcs : List Arc) (g : Forest) (k : ℕ) → IsForest n arcs g → Names (length arcs) k → (IsTreeRow g k → ⊥) → IsSimple arcs (walk_of arcs g k)
+pub walk_simple : (n : ℕ) (arcs : List Arc) (g : Forest) (k : ℕ) → IsForest n arcs g → Names (length arcs) k
+    → (IsTreeRow g k → ⊥) → IsSimple arcs (walk_of arcs g k)
 walk_simple n arcs g k f r out =
     let e = ends_of n arcs k f.ends r in
     let t = tail_of arcs k in
@@ -328,27 +361,38 @@ walk_simple n arcs g k f r out =
     let row : SignedRow → ℕ = λ s. s.row in (
       distinct_cons t (map (start arcs) way) w.apart w.starts,
       distinct_cons k (map row way)
-          (apart_all k (map row way) (All-map (λ j. k ≢ j) row way (All-weaker (λ (s : SignedRow). IsTreeRow g s.row) (λ (s : SignedRow). k ≢ s.row) (λ s tr q. out (let P : ℕ → Type 0 = λ j. IsTreeRow g j in subst P (sym q) tr)) way w.tree)))
+          (apart_all k (map row way) (All-map (λ j. k ≢ j) row way
+          (All-weaker (λ (s : SignedRow). IsTreeRow g s.row) (λ (s : SignedRow). k ≢ s.row)
+          (λ s tr q. out (let P : ℕ → Type 0 = λ j. IsTreeRow g j in subst P (sym q) tr)) way w.tree)))
           w.rows,
     )
 
 -- the event where the way up stops
-pub top_facts : (n : ℕ) (arcs : List Arc) (g : Forest) (x t : ℕ) → IsForest n arcs g → x < n → t < n → at g.root.items x ≡ at g.root.items t → (top g t (at g.place.items x) x < n) × Under g (top g t (at g.place.items x) x) t
-top_facts n arcs g x t f bx bt r = let a = goes_up n arcs g (vec_len g.order + 1) t f (room_of n arcs g f) bt (at g.place.items x) x (omega arith) bx r in (a.below, a.above)
+pub top_facts : (n : ℕ) (arcs : List Arc) (g : Forest) (x t : ℕ) → IsForest n arcs g → x < n → t < n
+    → at g.root.items x ≡ at g.root.items t → (top g t (at g.place.items x) x < n)
+    × Under g (top g t (at g.place.items x) x) t
+top_facts n arcs g x t f bx bt r = let a = goes_up n arcs g (vec_len g.order + 1) t f (room_of n arcs g f) bt
+    (at g.place.items x) x (omega arith) bx r in (a.below, a.above)
 
 pub above_at : (g : Forest) (u v t : ℕ) → u ≡ v → Under g v t → Under g u t
 above_at g u v t e i = let P : ℕ → Type 0 = λ z. Under g z t in subst P (sym e) i
 
 -- what was there, the way up, and then the way down
-pub goes_on : (arcs : List Arc) (g : Forest) (x t u : ℕ) (before walk rest final : List SignedRow) → u ≡ top g t (at g.place.items x) x → walk ≡ before ++ up_way arcs g t (at g.place.items x) x
+pub goes_on : (arcs : List Arc) (g : Forest) (x t u : ℕ) (before walk rest final : List SignedRow)
+    → u ≡ top g t (at g.place.items x) x → walk ≡ before ++ up_way arcs g t (at g.place.items x) x
     → rest ≡ down_way arcs g u (at g.place.items t) t → final ≡ walk ++ rest → final ≡ before ++ way_between arcs g x t
 goes_on arcs g x t u before walk rest final eu ew er ef =
     let up = up_way arcs g t (at g.place.items x) x in
-    ef ∙ ap (λ (w : List SignedRow). w ++ rest) ew ∙ ap (λ (w : List SignedRow). (before ++ up) ++ w) (er ∙ ap (λ v. down_way arcs g v (at g.place.items t) t) eu)
+    ef ∙ ap (λ (w : List SignedRow). w ++ rest) ew
+    ∙ ap (λ (w : List SignedRow). (before ++ up) ++ w)
+    (er ∙ ap (λ v. down_way arcs g v (at g.place.items t) t) eu)
     ∙ append_assoc before up (down_way arcs g (top g t (at g.place.items x) x) (at g.place.items t) t)
 
 -- a row, and then the way from its head back to its tail
-pub walk_is : (arcs : List Arc) (g : Forest) (k h t : ℕ) (first final : List SignedRow) → h ≡ head_of arcs k → t ≡ tail_of arcs k → first ≡ record { row = k; plus = true } ∷ [] → final ≡ first ++ way_between arcs g h t → final ≡ walk_of arcs g k
+pub walk_is : (arcs : List Arc) (g : Forest) (k h t : ℕ) (first final : List SignedRow) → h ≡ head_of arcs k
+    → t ≡ tail_of arcs k → first ≡ record { row = k; plus = true } ∷ [] → final ≡ first ++ way_between arcs g h t
+    → final ≡ walk_of arcs g k
 walk_is arcs g k h t first final eh et e1 ef =
     let s : SignedRow = record { row = k; plus = true } in
-    ef ∙ ap (λ (w : List SignedRow). w ++ way_between arcs g h t) e1 ∙ ap (λ x. s ∷ way_between arcs g x t) eh ∙ ap (λ y. s ∷ way_between arcs g (head_of arcs k) y) et
+    ef ∙ ap (λ (w : List SignedRow). w ++ way_between arcs g h t) e1 ∙ ap (λ x. s ∷ way_between arcs g x t) eh
+    ∙ ap (λ y. s ∷ way_between arcs g (head_of arcs k) y) et

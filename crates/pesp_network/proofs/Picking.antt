@@ -31,7 +31,9 @@ number_none numbers k h = grind (arith, nat_tests)
 
 -- a picked row is the row of its number
 pub picked_arc : (rows : List NetRow) (numbers : List ℕ) (k : ℕ) → All (Names (length rows)) numbers → 0 < k → k ≤ length numbers
-    → (Names (length rows) (number_of numbers k)) × (arc_at (arcs_of_network rows) (number_of numbers k - 1) ≡ arc_at (arcs_of_network (picked rows numbers)) (k - 1))
+    → (Names (length rows) (number_of numbers k))
+    × (arc_at (arcs_of_network rows) (number_of numbers k - 1)
+    ≡ arc_at (arcs_of_network (picked rows numbers)) (k - 1))
 picked_arc rows numbers k names some most =
     let h : k - 1 < length numbers = omega arith in
     let n = number_some numbers k some in
@@ -47,17 +49,30 @@ picked_arc rows numbers k names some most =
 
 -- a forest of lists as functions, but for its rows and what is left
 abbrev pub fns_with : Forest → (ℕ → ℕ) → (ℕ → ℕ) → Fns
-fns_with f b l = record { up = at f.up.items; by = b; place = at f.place.items; last = at f.last.items; root = at f.root.items; left = l; order = at f.order.items; count = vec_len f.order }
+fns_with f b l = record {
+  up = at f.up.items;
+  by = b;
+  place = at f.place.items;
+  last = at f.last.items;
+  root = at f.root.items;
+  left = l;
+  order = at f.order.items;
+  count = vec_len f.order;
+}
 
 -- the rows of the forest have other names
 pub record Renamed (m : ℕ) (T H new_tail new_head b : ℕ → ℕ) (f : Forest) : Type 0 where
   pub none : (x : ℕ) → b x ≡ 0 → at f.by.items x ≡ 0
-  pub some : (x : ℕ) → 0 < b x → (0 < at f.by.items x) × (at f.by.items x ≤ m) × (new_tail (at f.by.items x) ≡ T (b x)) × (new_head (at f.by.items x) ≡ H (b x))
+  pub some : (x : ℕ) → 0 < b x → (0 < at f.by.items x) × (at f.by.items x ≤ m)
+      × (new_tail (at f.by.items x) ≡ T (b x)) × (new_head (at f.by.items x) ≡ H (b x))
 
 was : (m : ℕ) (T H new_tail new_head b : ℕ → ℕ) (f : Forest) → Renamed m T H new_tail new_head b f → (x : ℕ) → 0 < at f.by.items x → 0 < b x
-was m T H new_tail new_head b f r x h = elim (cases_lt 0 (b x)) [ inl s ↦ s | inr z ↦ absurd (let n = r.none x (omega arith) in omega arith) ]
+was m T H new_tail new_head b f r x h = elim (cases_lt 0 (b x))
+    [ inl s ↦ s | inr z ↦ absurd (let n = r.none x (omega arith) in omega arith) ]
 
-pub rooted_as : (n m m2 : ℕ) (T H new_tail new_head b l : ℕ → ℕ) (f : Forest) → Grown n m OPEN_END T H (fns_with f b l) → ((x : ℕ) → 0 < at f.place.items x → at f.last.items x < OPEN_END) → Renamed m2 T H new_tail new_head b f → IsRooted n m2 new_tail new_head f
+pub rooted_as : (n m m2 : ℕ) (T H new_tail new_head b l : ℕ → ℕ) (f : Forest)
+    → Grown n m OPEN_END T H (fns_with f b l) → ((x : ℕ) → 0 < at f.place.items x → at f.last.items x < OPEN_END)
+    → Renamed m2 T H new_tail new_head b f → IsRooted n m2 new_tail new_head f
 rooted_as n m m2 T H new_tail new_head b l f g closed r =
     let old = was m2 T H new_tail new_head b f r in
     record {
@@ -65,16 +80,23 @@ rooted_as n m m2 T H new_tail new_head b l f g closed r =
       places = g.places;
       order_at = g.order_at;
       place_at = g.place_at;
-      by_row = λ x. elim (cases_lt 0 (b x)) [ inl s ↦ let w = r.some x s in omega arith | inr z ↦ let w = r.none x (omega arith) in omega arith ];
-      by_ends = λ x h. let w = r.some x (old x h) in elim (g.by_ends x (old x h)) [ inl e ↦ inl (w.2 ∙ e.0, w.3 ∙ e.1) | inr e ↦ inr (w.3 ∙ e.0, w.2 ∙ e.1) ];
+      by_row = λ x. elim (cases_lt 0 (b x)) [
+        | inl s ↦ let w = r.some x s in
+            omega arith
+        | inr z ↦ let w = r.none x (omega arith) in omega arith
+      ];
+      by_ends = λ x h. let w = r.some x (old x h) in
+          elim (g.by_ends x (old x h)) [ inl e ↦ inl (w.2 ∙ e.0, w.3 ∙ e.1) | inr e ↦ inr (w.3 ∙ e.0, w.2 ∙ e.1) ];
       by_seen = λ x h. g.by_seen x (old x h);
       climbs = λ x h. g.climbs x (old x h);
       same_root = λ x h. g.same_root x (old x h);
-      own_root = λ x s h. elim (cases_lt 0 (b x)) [ inl k ↦ absurd (let w = r.some x k in omega arith) | inr z ↦ g.own_root x s (omega arith) ];
+      own_root = λ x s h. elim (cases_lt 0 (b x))
+          [ inl k ↦ absurd (let w = r.some x k in omega arith) | inr z ↦ g.own_root x s (omega arith) ];
       root_first = g.root_first;
       inner_up = λ x y s h. g.inner_up x y s (old y h);
       inner_down = λ x y s h. g.inner_down x y s (old y h);
-      inner_root = λ x y s t h. elim (cases_lt 0 (b y)) [ inl k ↦ absurd (let w = r.some y k in omega arith) | inr z ↦ g.inner_root x y s t (omega arith) ];
+      inner_root = λ x y s t h. elim (cases_lt 0 (b y))
+          [ inl k ↦ absurd (let w = r.some y k in omega arith) | inr z ↦ g.inner_root x y s t (omega arith) ];
       lasts = λ x s. let c = g.closed x (closed x s) in omega arith;
     }
 
@@ -85,20 +107,29 @@ at_map h xs x z = elim (cases_lt x (length xs)) [
   | inr l ↦ get_or_past (map h xs) x 0 (let e = length-map xs h in omega arith) ∙ sym (ap h (get_or_past xs x 0 l) ∙ z)
 ]
 
-pub renamed : (rows : List NetRow) (numbers bys : List ℕ) (f : Forest) → All (Names (length rows)) numbers → ((x : ℕ) → at bys x ≤ length numbers) → f.by.items ≡ map (number_of numbers) bys
-    → Renamed (length (arcs_of_network rows)) (tail_of (arcs_of_network (picked rows numbers))) (head_of (arcs_of_network (picked rows numbers))) (tail_of (arcs_of_network rows)) (head_of (arcs_of_network rows)) (at bys) f
+pub renamed : (rows : List NetRow) (numbers bys : List ℕ) (f : Forest) → All (Names (length rows)) numbers
+    → ((x : ℕ) → at bys x ≤ length numbers) → f.by.items ≡ map (number_of numbers) bys
+    → Renamed (length (arcs_of_network rows)) (tail_of (arcs_of_network (picked rows numbers)))
+    (head_of (arcs_of_network (picked rows numbers))) (tail_of (arcs_of_network rows))
+    (head_of (arcs_of_network rows)) (at bys) f
 renamed rows numbers bys f names few e =
-    let is : (x : ℕ) → at f.by.items x ≡ number_of numbers (at bys x) = λ x. ap (λ xs. at xs x) e ∙ at_map (number_of numbers) bys x (number_none numbers 0 refl) in
+    let is : (x : ℕ) → at f.by.items x ≡ number_of numbers (at bys x) = λ x. ap (λ xs. at xs x) e
+    ∙ at_map (number_of numbers) bys x (number_none numbers 0 refl) in
     record {
       none = λ x z. is x ∙ number_none numbers (at bys x) z;
       some = λ x s.
           let a = picked_arc rows numbers (at bys x) names s (few x) in
-          let q = is x in let c = count rows in let a0 = a.0 in
-          (omega arith, omega arith, ap (tail_of (arcs_of_network rows)) q ∙ ap (λ (r : Arc). r.tail) a.1, ap (head_of (arcs_of_network rows)) q ∙ ap (λ (r : Arc). r.head) a.1);
+          let q = is x in let c = count rows in let a0 = a.0 in (
+            omega arith,
+            omega arith,
+            ap (tail_of (arcs_of_network rows)) q ∙ ap (λ (r : Arc). r.tail) a.1,
+            ap (head_of (arcs_of_network rows)) q ∙ ap (λ (r : Arc). r.head) a.1,
+          );
     }
 
 -- the ends of the picked rows are events
-pub picked_ends : (n : ℕ) (rows : List NetRow) (numbers : List ℕ) → All (Names (length rows)) numbers → HaveEnds n (arcs_of_network rows) → HaveEnds n (arcs_of_network (picked rows numbers))
+pub picked_ends : (n : ℕ) (rows : List NetRow) (numbers : List ℕ) → All (Names (length rows)) numbers
+    → HaveEnds n (arcs_of_network rows) → HaveEnds n (arcs_of_network (picked rows numbers))
 picked_ends n rows numbers names ends k h =
     let c = count (picked rows numbers) in let e = length-map numbers (λ j. net_row_at rows (j - 1)) in let d = count rows in
     let a = picked_arc rows numbers (k + 1) names (omega arith) (omega arith) in
@@ -109,8 +140,12 @@ picked_ends n rows numbers names ends k h =
     let x = ap (λ (r : Arc). r.tail) q in let y = ap (λ (r : Arc). r.head) q in (omega arith, omega arith)
 
 -- both ends of a picked row are in one tree
-pub picked_met : (n : ℕ) (rows : List NetRow) (numbers : List ℕ) (g : Growth) (i : ℕ) → All (Names (length rows)) numbers → HaveEnds n (arcs_of_network rows) → GrownOver (arcs_of_network (picked rows numbers)) g → AllClosed g
-    → ((x : ℕ) → x < n → 0 < at g.place.items x) → i < length numbers → at g.root.items (tail_of (arcs_of_network rows) (slice_index numbers i)) ≡ at g.root.items (head_of (arcs_of_network rows) (slice_index numbers i))
+pub picked_met : (n : ℕ) (rows : List NetRow) (numbers : List ℕ) (g : Growth) (i : ℕ)
+    → All (Names (length rows)) numbers → HaveEnds n (arcs_of_network rows)
+    → GrownOver (arcs_of_network (picked rows numbers)) g → AllClosed g
+    → ((x : ℕ) → x < n → 0 < at g.place.items x) → i < length numbers
+    → at g.root.items (tail_of (arcs_of_network rows) (slice_index numbers i))
+    ≡ at g.root.items (head_of (arcs_of_network rows) (slice_index numbers i))
 picked_met n rows numbers g i names ends grown closed seen h =
     let arcs = arcs_of_network (picked rows numbers) in
     let c = count (picked rows numbers) in let e = length-map numbers (λ j. net_row_at rows (j - 1)) in
@@ -129,7 +164,9 @@ pub picked_count : (rows : List NetRow) (numbers : List ℕ) → length (arcs_of
 picked_count rows numbers = count (picked rows numbers) ∙ length-map numbers (λ j. net_row_at rows (j - 1))
 
 -- the rows that join events are among the picked ones
-pub bys_few : (rows : List NetRow) (numbers : List ℕ) (kept : List NetRow) (g : Growth) (bys : List ℕ) → kept ≡ picked rows numbers → bys ≡ g.by.items → GrownOver (arcs_of_network kept) g → All (λ k. k ≤ length numbers) bys
+pub bys_few : (rows : List NetRow) (numbers : List ℕ) (kept : List NetRow) (g : Growth) (bys : List ℕ)
+    → kept ≡ picked rows numbers → bys ≡ g.by.items → GrownOver (arcs_of_network kept) g
+    → All (λ k. k ≤ length numbers) bys
 bys_few rows numbers kept g bys e q grown = All-from_get_or (λ k. k ≤ length numbers) bys 0 (λ k h.
     let b = grown.by_row k in
     let c = picked_count rows numbers in
@@ -137,21 +174,33 @@ bys_few rows numbers kept g bys e q grown = All-from_get_or (λ k. k ≤ length 
     let s = ap (λ xs. at xs k) q in
     omega arith)
 
-pub kept_ends : (n : ℕ) (rows : List NetRow) (numbers : List ℕ) (kept : List NetRow) → kept ≡ picked rows numbers → All (Names (length rows)) numbers → HaveEnds n (arcs_of_network rows) → HaveEnds n (arcs_of_network kept)
-kept_ends n rows numbers kept e names ends = let P : List NetRow → Type 0 = λ r. HaveEnds n (arcs_of_network r) in subst P (sym e) (picked_ends n rows numbers names ends)
+pub kept_ends : (n : ℕ) (rows : List NetRow) (numbers : List ℕ) (kept : List NetRow) → kept ≡ picked rows numbers
+    → All (Names (length rows)) numbers → HaveEnds n (arcs_of_network rows) → HaveEnds n (arcs_of_network kept)
+kept_ends n rows numbers kept e names ends = let P : List NetRow → Type 0 = λ r. HaveEnds n (arcs_of_network r) in
+    subst P (sym e) (picked_ends n rows numbers names ends)
 
-pub kept_grown : (rows : List NetRow) (numbers : List ℕ) (kept : List NetRow) (g : Growth) → kept ≡ picked rows numbers → GrownOver (arcs_of_network kept) g → GrownOver (arcs_of_network (picked rows numbers)) g
+pub kept_grown : (rows : List NetRow) (numbers : List ℕ) (kept : List NetRow) (g : Growth)
+    → kept ≡ picked rows numbers → GrownOver (arcs_of_network kept) g
+    → GrownOver (arcs_of_network (picked rows numbers)) g
 kept_grown rows numbers kept g e grown = let P : List NetRow → Type 0 = λ r. GrownOver (arcs_of_network r) g in subst P e grown
 
 -- a forest of the same lists as a grown one, with its rows renamed
-pub regrown : (n : ℕ) (rows : List NetRow) (numbers : List ℕ) (bys : List ℕ) (f : Forest) (l : ℕ → ℕ) (names : All (Names (length rows)) numbers) (ends : HaveEnds n (arcs_of_network rows)) (few : length rows ≤ 100000)
-    (grown : Grown n (length (arcs_of_network (picked rows numbers))) OPEN_END (tail_of (arcs_of_network (picked rows numbers))) (head_of (arcs_of_network (picked rows numbers))) (fns_with f (at bys) l))
-    (closed : (x : ℕ) → 0 < at f.place.items x → at f.last.items x < OPEN_END) (seen : (x : ℕ) → x < n → 0 < at f.place.items x) (events : vec_len f.up ≡ n) (e : f.by.items ≡ map (number_of numbers) bys) → IsGrown n (arcs_of_network rows) f
+pub regrown : (n : ℕ) (rows : List NetRow) (numbers : List ℕ) (bys : List ℕ) (f : Forest) (l : ℕ → ℕ)
+    (names : All (Names (length rows)) numbers) (ends : HaveEnds n (arcs_of_network rows))
+    (few : length rows ≤ 100000)
+    (grown : Grown n (length (arcs_of_network (picked rows numbers))) OPEN_END
+    (tail_of (arcs_of_network (picked rows numbers))) (head_of (arcs_of_network (picked rows numbers)))
+    (fns_with f (at bys) l))
+    (closed : (x : ℕ) → 0 < at f.place.items x → at f.last.items x < OPEN_END)
+    (seen : (x : ℕ) → x < n → 0 < at f.place.items x) (events : vec_len f.up ≡ n)
+    (e : f.by.items ≡ map (number_of numbers) bys) → IsGrown n (arcs_of_network rows) f
 regrown n rows numbers bys f l names ends few grown closed seen events e =
     let arcs = arcs_of_network (picked rows numbers) in
     let less : (x : ℕ) → at bys x ≤ length numbers = λ x. let b = grown.by_row x in let c = picked_count rows numbers in omega arith in
     record {
-      grown = rooted_as n (length arcs) (length (arcs_of_network rows)) (tail_of arcs) (head_of arcs) (tail_of (arcs_of_network rows)) (head_of (arcs_of_network rows)) (at bys) l f grown closed (renamed rows numbers bys f names less e);
+      grown = rooted_as n (length arcs) (length (arcs_of_network rows)) (tail_of arcs) (head_of arcs)
+          (tail_of (arcs_of_network rows)) (head_of (arcs_of_network rows)) (at bys) l f grown closed
+          (renamed rows numbers bys f names less e);
       all_seen = seen;
       events = events;
       ends = ends;
@@ -159,10 +208,13 @@ regrown n rows numbers bys f l names ends few grown closed seen events e =
     }
 
 -- all rows are met
-pub met_forest : (n : ℕ) (arcs : List Arc) (f : Forest) → IsGrown n arcs f → ((k : ℕ) → Names (length arcs) k → IsMetBy arcs f k) → IsForest n arcs f
+pub met_forest : (n : ℕ) (arcs : List Arc) (f : Forest) → IsGrown n arcs f
+    → ((k : ℕ) → Names (length arcs) k → IsMetBy arcs f k) → IsForest n arcs f
 met_forest n arcs f g met = record { grown = g.grown; all_seen = g.all_seen; events = g.events; ends = g.ends; few = g.few; met = met }
 
-pub all_met : (rows : List NetRow) (numbers : List ℕ) (f : Forest) → ((i : ℕ) → i < length rows → slice_index numbers i ≡ i + 1) → ((i : ℕ) → i < length rows → IsMetBy (arcs_of_network rows) f (slice_index numbers i))
+pub all_met : (rows : List NetRow) (numbers : List ℕ) (f : Forest)
+    → ((i : ℕ) → i < length rows → slice_index numbers i ≡ i + 1)
+    → ((i : ℕ) → i < length rows → IsMetBy (arcs_of_network rows) f (slice_index numbers i))
     → (k : ℕ) → Names (length (arcs_of_network rows)) k → IsMetBy (arcs_of_network rows) f k
 all_met rows numbers f are met k h =
     let c = count rows in let h0 = h.0 in let h1 = h.1 in
@@ -171,11 +223,16 @@ all_met rows numbers f are met k h =
     let e : slice_index numbers (k - 1) ≡ k = are (k - 1) l ∙ omega arith in
     subst P e (met (k - 1) l)
 
-pub names_all : (rows : List NetRow) (numbers : List ℕ) → length numbers ≡ length rows → ((i : ℕ) → i < length rows → slice_index numbers i ≡ i + 1) → All (Names (length rows)) numbers
-names_all rows numbers e are = All-from_get_or (Names (length rows)) numbers 0 (λ k h. let a = are k (omega arith) in (omega arith, omega arith))
+pub names_all : (rows : List NetRow) (numbers : List ℕ) → length numbers ≡ length rows
+    → ((i : ℕ) → i < length rows → slice_index numbers i ≡ i + 1) → All (Names (length rows)) numbers
+names_all rows numbers e are = All-from_get_or (Names (length rows)) numbers 0
+    (λ k h. let a = are k (omega arith) in (omega arith, omega arith))
 
-pub met_more : (rows : List NetRow) (f : Forest) (i : ℕ) → i < length rows → ((k : ℕ) → Names (length (arcs_of_network rows)) k → k ≤ i → IsMetBy (arcs_of_network rows) f k)
-    → at f.root.items (slice_index_or rows i no_net_row).tail ≡ at f.root.items (slice_index_or rows i no_net_row).head → (k : ℕ) → Names (length (arcs_of_network rows)) k → k ≤ i + 1 → IsMetBy (arcs_of_network rows) f k
+pub met_more : (rows : List NetRow) (f : Forest) (i : ℕ) → i < length rows
+    → ((k : ℕ) → Names (length (arcs_of_network rows)) k → k ≤ i → IsMetBy (arcs_of_network rows) f k)
+    → at f.root.items (slice_index_or rows i no_net_row).tail
+    ≡ at f.root.items (slice_index_or rows i no_net_row).head → (k : ℕ)
+    → Names (length (arcs_of_network rows)) k → k ≤ i + 1 → IsMetBy (arcs_of_network rows) f k
 met_more rows f i lt before here k names h = elim (cases_lt i k) [
   | inl w ↦
       let e : i + 1 ≡ k = omega arith in
@@ -184,8 +241,11 @@ met_more rows f i lt before here k names h = elim (cases_lt i k) [
   | inr w ↦ before k names w
 ]
 
-pub grown_among : (n : ℕ) (rows : List NetRow) (numbers : List ℕ) (g : Growth) → vec_len g.up ≡ n → GrownOver (arcs_of_network (picked rows numbers)) g
-    → Grown n (length (arcs_of_network (picked rows numbers))) OPEN_END (tail_of (arcs_of_network (picked rows numbers))) (head_of (arcs_of_network (picked rows numbers))) (fns_of g)
+pub grown_among : (n : ℕ) (rows : List NetRow) (numbers : List ℕ) (g : Growth) → vec_len g.up ≡ n
+    → GrownOver (arcs_of_network (picked rows numbers)) g
+    → Grown n (length (arcs_of_network (picked rows numbers))) OPEN_END
+    (tail_of (arcs_of_network (picked rows numbers))) (head_of (arcs_of_network (picked rows numbers)))
+    (fns_of g)
 grown_among n rows numbers g e h =
     let arcs = arcs_of_network (picked rows numbers) in
     let P : ℕ → Type 0 = λ m. Grown m (length arcs) OPEN_END (tail_of arcs) (head_of arcs) (fns_of g) in subst P e h

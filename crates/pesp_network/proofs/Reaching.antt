@@ -21,16 +21,20 @@ reached_same arcs g x v w e h = let P : ℕ → Type 0 = λ z. IsReached arcs g 
 reached_at : (arcs : List Arc) (g : Forest) (x z v : ℕ) → z ≡ x → IsReached arcs g x v → IsReached arcs g z v
 reached_at arcs g x z v e h = let P : ℕ → Type 0 = λ u. IsReached arcs g u v in subst P (sym e) h
 
-by_row_end : (n : ℕ) (arcs : List Arc) (g : Forest) (k x y : ℕ) → IsForest n arcs g → Names (length arcs) k → HasEnds (arc_at arcs (k - 1)) x y → at g.by.items x ≢ k → IsReached arcs g x (at g.place.items y)
+by_row_end : (n : ℕ) (arcs : List Arc) (g : Forest) (k x y : ℕ) → IsForest n arcs g → Names (length arcs) k
+    → HasEnds (arc_at arcs (k - 1)) x y → at g.by.items x ≢ k → IsReached arcs g x (at g.place.items y)
 by_row_end n arcs g k x y f r ends ne = inr (x, k, y, self_inside n arcs g x f (end_seen n arcs g k x y f r ends).0, r, ends, ne, refl)
 
-taken_mono : (g : Forest) (k x y : ℕ) (low high low2 high2 : List ℕ) → TakenRow g k x y low high low2 high2 → (z : ℕ) → (at low2 z ≤ at low z) × (at high z ≤ at high2 z)
+taken_mono : (g : Forest) (k x y : ℕ) (low high low2 high2 : List ℕ) → TakenRow g k x y low high low2 high2
+    → (z : ℕ) → (at low2 z ≤ at low z) × (at high z ≤ at high2 z)
 taken_mono g k x y low high low2 high2 t z = elim (cases_eq (at g.by.items x) k) [
   | inl e ↦ let w = t.kept e in let a = ap (λ l. at l z) w.0 in let b = ap (λ l. at l z) w.1 in (omega arith, omega arith)
   | inr ne ↦ let w = t.takes ne in (w.low_less z, w.high_more z)
 ]
 
-taken_one : (n : ℕ) (arcs : List Arc) (g : Forest) (i k x y : ℕ) (low high low2 high2 : List ℕ) → IsForest n arcs g → TakesRows n arcs g i low high → Names (length arcs) k → HasEnds (arc_at arcs (k - 1)) x y → TakenRow g k x y low high low2 high2
+taken_one : (n : ℕ) (arcs : List Arc) (g : Forest) (i k x y : ℕ) (low high low2 high2 : List ℕ) → IsForest n arcs g
+    → TakesRows n arcs g i low high → Names (length arcs) k → HasEnds (arc_at arcs (k - 1)) x y
+    → TakenRow g k x y low high low2 high2
     → TakesRows n arcs g i low2 high2
 taken_one n arcs g i k x y low high low2 high2 f o r ends t = record {
   row_low = λ j u v ij le e ne. let a = o.row_low j u v ij le e ne in let m = taken_mono g k x y low high low2 high2 t u in omega arith;
@@ -39,20 +43,24 @@ taken_one n arcs g i k x y low high low2 high2 f o r ends t = record {
     | inl e ↦ reached_same arcs g z (at low z) (at low2 z) (ap (λ q. at q z) (t.kept e).0) (o.low_reached z l)
     | inr ne ↦ elim ((t.takes ne).low_is z) [
       | inl e ↦ reached_same arcs g z (at low z) (at low2 z) e (o.low_reached z l)
-      | inr e ↦ reached_same arcs g z (at g.place.items y) (at low2 z) e.1 (reached_at arcs g x z (at g.place.items y) e.0 (by_row_end n arcs g k x y f r ends ne))
+      | inr e ↦ reached_same arcs g z (at g.place.items y) (at low2 z) e.1
+          (reached_at arcs g x z (at g.place.items y) e.0 (by_row_end n arcs g k x y f r ends ne))
     ]
   ];
   high_reached = λ z l. elim (cases_eq (at g.by.items x) k) [
     | inl e ↦ reached_same arcs g z (at high z) (at high2 z) (ap (λ q. at q z) (t.kept e).1) (o.high_reached z l)
     | inr ne ↦ elim ((t.takes ne).high_is z) [
       | inl e ↦ reached_same arcs g z (at high z) (at high2 z) e (o.high_reached z l)
-      | inr e ↦ reached_same arcs g z (at g.place.items y) (at high2 z) e.1 (reached_at arcs g x z (at g.place.items y) e.0 (by_row_end n arcs g k x y f r ends ne))
+      | inr e ↦ reached_same arcs g z (at g.place.items y) (at high2 z) e.1
+          (reached_at arcs g x z (at g.place.items y) e.0 (by_row_end n arcs g k x y f r ends ne))
     ]
   ];
 }
 
 -- one row more, at both of its ends
-pub taken_more : (n : ℕ) (arcs : List Arc) (g : Forest) (i x y : ℕ) (low high low2 high2 low3 high3 : List ℕ) → IsForest n arcs g → TakesRows n arcs g i low high → i < length arcs → x ≡ tail_of arcs (i + 1) → y ≡ head_of arcs (i + 1)
+pub taken_more : (n : ℕ) (arcs : List Arc) (g : Forest) (i x y : ℕ) (low high low2 high2 low3 high3 : List ℕ)
+    → IsForest n arcs g → TakesRows n arcs g i low high → i < length arcs → x ≡ tail_of arcs (i + 1)
+    → y ≡ head_of arcs (i + 1)
     → TakenRow g (i + 1) x y low high low2 high2 → TakenRow g (i + 1) y x low2 high2 low3 high3 → TakesRows n arcs g (i + 1) low3 high3
 taken_more n arcs g i x y low high low2 high2 low3 high3 f o lt ex ey t u =
     let k = i + 1 in
@@ -66,7 +74,8 @@ taken_more n arcs g i x y low high low2 high2 low3 high3 f o lt ex ey t u =
             let q : j ≡ k = omega arith in let tj = ap (tail_of arcs) q in let hj = ap (head_of arcs) q in
             elim e [
               | inl w ↦ let w0 = w.0 in let w1 = w.1 in let ax : a ≡ x = omega arith in let by : b ≡ y = omega arith in
-                  let s = t.takes (λ z. ne (ap (at g.by.items) ax ∙ z ∙ sym q)) in let m = taken_mono g k y x low2 high2 low3 high3 u x in let h = s.low_here in
+                  let s = t.takes (λ z. ne (ap (at g.by.items) ax ∙ z ∙ sym q)) in
+                  let m = taken_mono g k y x low2 high2 low3 high3 u x in let h = s.low_here in
                   let p = ap (at low3) ax in let pb = ap (at g.place.items) by in omega arith
               | inr w ↦ let w0 = w.0 in let w1 = w.1 in let ay : a ≡ y = omega arith in let bx : b ≡ x = omega arith in
                   let s = u.takes (λ z. ne (ap (at g.by.items) ay ∙ z ∙ sym q)) in let h = s.low_here in
@@ -79,7 +88,8 @@ taken_more n arcs g i x y low high low2 high2 low3 high3 f o lt ex ey t u =
             let q : j ≡ k = omega arith in let tj = ap (tail_of arcs) q in let hj = ap (head_of arcs) q in
             elim e [
               | inl w ↦ let w0 = w.0 in let w1 = w.1 in let ax : a ≡ x = omega arith in let by : b ≡ y = omega arith in
-                  let s = t.takes (λ z. ne (ap (at g.by.items) ax ∙ z ∙ sym q)) in let m = taken_mono g k y x low2 high2 low3 high3 u x in let h = s.high_here in
+                  let s = t.takes (λ z. ne (ap (at g.by.items) ax ∙ z ∙ sym q)) in
+                  let m = taken_mono g k y x low2 high2 low3 high3 u x in let h = s.high_here in
                   let p = ap (at high3) ax in let pb = ap (at g.place.items) by in omega arith
               | inr w ↦ let w0 = w.0 in let w1 = w.1 in let ay : a ≡ y = omega arith in let bx : b ≡ x = omega arith in
                   let s = u.takes (λ z. ne (ap (at g.by.items) ay ∙ z ∙ sym q)) in let h = s.high_here in
@@ -91,7 +101,8 @@ taken_more n arcs g i x y low high low2 high2 low3 high3 f o lt ex ey t u =
     }
 
 -- each event reaches its own place
-pub taken_none : (n : ℕ) (arcs : List Arc) (g : Forest) (low high : List ℕ) → IsForest n arcs g → low ≡ g.place.items → high ≡ g.place.items → TakesRows n arcs g 0 low high
+pub taken_none : (n : ℕ) (arcs : List Arc) (g : Forest) (low high : List ℕ) → IsForest n arcs g
+    → low ≡ g.place.items → high ≡ g.place.items → TakesRows n arcs g 0 low high
 taken_none n arcs g low high f a b = record {
   row_low = λ j x y r le e ne. absurd (let p = r.0 in omega arith);
   row_high = λ j x y r le e ne. absurd (let p = r.0 in omega arith);
@@ -100,7 +111,8 @@ taken_none n arcs g low high f a b = record {
 }
 
 -- no event of a later place than the last one
-pub up_none : (n : ℕ) (arcs : List Arc) (g : Forest) (low high : List ℕ) → IsForest n arcs g → TakesRows n arcs g (length arcs) low high → TakesUp n arcs g (vec_len g.order) low high
+pub up_none : (n : ℕ) (arcs : List Arc) (g : Forest) (low high : List ℕ) → IsForest n arcs g
+    → TakesRows n arcs g (length arcs) low high → TakesUp n arcs g (vec_len g.order) low high
 up_none n arcs g low high f o = record {
   rows_in = o;
   up_low = λ x b h. absurd (let p = f.grown.places x in omega arith);
@@ -108,12 +120,16 @@ up_none n arcs g low high f o = record {
 }
 
 -- a root has nothing above it
-pub up_root : (n : ℕ) (arcs : List Arc) (g : Forest) (i e : ℕ) (low high : List ℕ) → IsForest n arcs g → TakesUp n arcs g (i + 1) low high → i < vec_len g.order → e ≡ at g.order.items i → at g.by.items e ≡ 0 → TakesUp n arcs g i low high
+pub up_root : (n : ℕ) (arcs : List Arc) (g : Forest) (i e : ℕ) (low high : List ℕ) → IsForest n arcs g
+    → TakesUp n arcs g (i + 1) low high → i < vec_len g.order → e ≡ at g.order.items i → at g.by.items e ≡ 0
+    → TakesUp n arcs g i low high
 up_root n arcs g i e low high f o lt q z =
     let only : (x : ℕ) → 0 < at g.by.items x → i < at g.place.items x → i + 1 < at g.place.items x = λ x b h.
     elim (cases_lt (i + 1) (at g.place.items x)) [
       | inl w ↦ w
-      | inr w ↦ absurd (let p = f.grown.place_at x (omega arith) in let c : at g.place.items x - 1 ≡ i = omega arith in let d = ap (at g.order.items) c in let same : x ≡ e = omega arith in let k = ap (at g.by.items) same in omega arith)
+      | inr w ↦ absurd (let p = f.grown.place_at x (omega arith) in
+          let c : at g.place.items x - 1 ≡ i = omega arith in let d = ap (at g.order.items) c in
+          let same : x ≡ e = omega arith in let k = ap (at g.by.items) same in omega arith)
     ] in
     record {
       rows_in = o.rows_in;
@@ -121,7 +137,8 @@ up_root n arcs g i e low high f o lt q z =
       up_high = λ x b h. o.up_high x b (only x b h);
     }
 
-pub up_more : (n : ℕ) (arcs : List Arc) (g : Forest) (i e : ℕ) (low high low2 high2 : List ℕ) → IsForest n arcs g → TakesUp n arcs g (i + 1) low high → i < vec_len g.order → e ≡ at g.order.items i → 0 < at g.by.items e
+pub up_more : (n : ℕ) (arcs : List Arc) (g : Forest) (i e : ℕ) (low high low2 high2 : List ℕ) → IsForest n arcs g
+    → TakesUp n arcs g (i + 1) low high → i < vec_len g.order → e ≡ at g.order.items i → 0 < at g.by.items e
     → Takes low high low2 high2 (at g.up.items e) (at low e) (at high e) → TakesUp n arcs g i low2 high2
 up_more n arcs g i e low high low2 high2 f o lt q b t =
     let p = at g.up.items e in
@@ -134,31 +151,39 @@ up_more n arcs g i e low high low2 high2 f o lt q b t =
       elim (t.high_is x) [ inl w ↦ w | inr w ↦ absurd (let k = ap (at g.place.items) w.0 in omega arith) ],
     ) in
     let is_e : (x : ℕ) → i < at g.place.items x → at g.place.items x ≤ i + 1 → x ≡ e = λ x h w.
-    let r = f.grown.place_at x (omega arith) in let c : at g.place.items x - 1 ≡ i = omega arith in let d = ap (at g.order.items) c in omega arith in
+    let r = f.grown.place_at x (omega arith) in let c : at g.place.items x - 1 ≡ i = omega arith in
+    let d = ap (at g.order.items) c in omega arith in
     record {
       rows_in = record {
         row_low = λ j x y r le ends ne. let a = o.rows_in.row_low j x y r le ends ne in let m = t.low_less x in omega arith;
         row_high = λ j x y r le ends ne. let a = o.rows_in.row_high j x y r le ends ne in let m = t.high_more x in omega arith;
         low_reached = λ x l. elim (t.low_is x) [
           | inl w ↦ reached_same arcs g x (at low x) (at low2 x) w (o.rows_in.low_reached x l)
-          | inr w ↦ reached_same arcs g x (at low e) (at low2 x) w.1 (reached_at arcs g p x (at low e) w.0 (reached_up n arcs g e (at low e) f b (o.rows_in.low_reached e el)))
+          | inr w ↦ reached_same arcs g x (at low e) (at low2 x) w.1
+              (reached_at arcs g p x (at low e) w.0 (reached_up n arcs g e (at low e) f b
+              (o.rows_in.low_reached e el)))
         ];
         high_reached = λ x l. elim (t.high_is x) [
           | inl w ↦ reached_same arcs g x (at high x) (at high2 x) w (o.rows_in.high_reached x l)
-          | inr w ↦ reached_same arcs g x (at high e) (at high2 x) w.1 (reached_at arcs g p x (at high e) w.0 (reached_up n arcs g e (at high e) f b (o.rows_in.high_reached e el)))
+          | inr w ↦ reached_same arcs g x (at high e) (at high2 x) w.1
+              (reached_at arcs g p x (at high e) w.0 (reached_up n arcs g e (at high e) f b
+              (o.rows_in.high_reached e el)))
         ];
       };
       up_low = λ x bx h. let same = later x h in let m = t.low_less (at g.up.items x) in elim (cases_lt (i + 1) (at g.place.items x)) [
         | inl w ↦ let a = o.up_low x bx w in omega arith
-        | inr w ↦ let v = is_e x h w in let c = ap (λ z. at low2 (at g.up.items z)) v in let d = ap (at low) v in let hh = t.low_here in omega arith
+        | inr w ↦ let v = is_e x h w in let c = ap (λ z. at low2 (at g.up.items z)) v in let d = ap (at low) v in
+            let hh = t.low_here in omega arith
       ];
       up_high = λ x bx h. let same = later x h in let m = t.high_more (at g.up.items x) in elim (cases_lt (i + 1) (at g.place.items x)) [
         | inl w ↦ let a = o.up_high x bx w in omega arith
-        | inr w ↦ let v = is_e x h w in let c = ap (λ z. at high2 (at g.up.items z)) v in let d = ap (at high) v in let hh = t.high_here in omega arith
+        | inr w ↦ let v = is_e x h w in let c = ap (λ z. at high2 (at g.up.items z)) v in let d = ap (at high) v in
+            let hh = t.high_here in omega arith
       ];
     }
 
-pub all_up : (n : ℕ) (arcs : List Arc) (g : Forest) (low high : List ℕ) → IsForest n arcs g → TakesUp n arcs g 0 low high → AreReaches n arcs g low high
+pub all_up : (n : ℕ) (arcs : List Arc) (g : Forest) (low high : List ℕ) → IsForest n arcs g
+    → TakesUp n arcs g 0 low high → AreReaches n arcs g low high
 all_up n arcs g low high f o = record {
   row_low = λ j x y r ends ne. o.rows_in.row_low j x y r r.1 ends ne;
   row_high = λ j x y r ends ne. o.rows_in.row_high j x y r r.1 ends ne;
@@ -168,23 +193,34 @@ all_up n arcs g low high f o = record {
   high_reached = o.rows_in.high_reached;
 }
 
-pub taken_all : (n : ℕ) (arcs : List Arc) (g : Forest) (i m : ℕ) (low high : List ℕ) → m ≡ i → TakesRows n arcs g i low high → TakesRows n arcs g m low high
+pub taken_all : (n : ℕ) (arcs : List Arc) (g : Forest) (i m : ℕ) (low high : List ℕ) → m ≡ i
+    → TakesRows n arcs g i low high → TakesRows n arcs g m low high
 taken_all n arcs g i m low high e o = let P : ℕ → Type 0 = λ k. TakesRows n arcs g k low high in subst P (sym e) o
 
-up_same : (n : ℕ) (arcs : List Arc) (g : Forest) (i : ℕ) (low high low2 high2 : List ℕ) → low2 ≡ low → high2 ≡ high → TakesUp n arcs g i low high → TakesUp n arcs g i low2 high2
-up_same n arcs g i low high low2 high2 a b o = let P : List ℕ → Type 0 = λ k. TakesUp n arcs g i k high in let Q : List ℕ → Type 0 = λ k. TakesUp n arcs g i low2 k in subst Q (sym b) (subst P (sym a) o)
+up_same : (n : ℕ) (arcs : List Arc) (g : Forest) (i : ℕ) (low high low2 high2 : List ℕ) → low2 ≡ low → high2 ≡ high
+    → TakesUp n arcs g i low high → TakesUp n arcs g i low2 high2
+up_same n arcs g i low high low2 high2 a b o = let P : List ℕ → Type 0 = λ k. TakesUp n arcs g i k high in
+    let Q : List ℕ → Type 0 = λ k. TakesUp n arcs g i low2 k in subst Q (sym b) (subst P (sym a) o)
 
-pub up_at : (n : ℕ) (arcs : List Arc) (g : Forest) (i j : ℕ) (low high : List ℕ) → j ≡ i → TakesUp n arcs g i low high → TakesUp n arcs g j low high
+pub up_at : (n : ℕ) (arcs : List Arc) (g : Forest) (i j : ℕ) (low high : List ℕ) → j ≡ i
+    → TakesUp n arcs g i low high → TakesUp n arcs g j low high
 up_at n arcs g i j low high e o = let P : ℕ → Type 0 = λ k. TakesUp n arcs g k low high in subst P (sym e) o
 
-pub event_below : (n : ℕ) (arcs : List Arc) (g : Forest) (i e : ℕ) → IsForest n arcs g → i < vec_len g.order → e ≡ at g.order.items i → e < n
-event_below n arcs g i e f lt q = let p = ap (at g.place.items) q in let o = f.grown.order_at i lt in let s = f.grown.seen_below e (omega arith) in let v = f.events in omega arith
+pub event_below : (n : ℕ) (arcs : List Arc) (g : Forest) (i e : ℕ) → IsForest n arcs g → i < vec_len g.order
+    → e ≡ at g.order.items i → e < n
+event_below n arcs g i e f lt q = let p = ap (at g.place.items) q in let o = f.grown.order_at i lt in
+    let s = f.grown.seen_below e (omega arith) in let v = f.events in omega arith
 
-pub up_step : (n : ℕ) (arcs : List Arc) (g : Forest) (count e : ℕ) (low high low2 high2 : List ℕ) → IsForest n arcs g → TakesUp n arcs g count low high → 0 < count → count ≤ vec_len g.order → e ≡ at g.order.items (count - 1)
-    → (at g.by.items e ≡ 0 → (low2 ≡ low) × (high2 ≡ high)) → (0 < at g.by.items e → Takes low high low2 high2 (at g.up.items e) (at low e) (at high e)) → TakesUp n arcs g (count - 1) low2 high2
+pub up_step : (n : ℕ) (arcs : List Arc) (g : Forest) (count e : ℕ) (low high low2 high2 : List ℕ)
+    → IsForest n arcs g → TakesUp n arcs g count low high → 0 < count → count ≤ vec_len g.order
+    → e ≡ at g.order.items (count - 1)
+    → (at g.by.items e ≡ 0 → (low2 ≡ low) × (high2 ≡ high))
+    → (0 < at g.by.items e → Takes low high low2 high2 (at g.up.items e) (at low e) (at high e))
+    → TakesUp n arcs g (count - 1) low2 high2
 up_step n arcs g count e low high low2 high2 f o a b q kept takes =
     let o2 = up_at n arcs g count (count - 1 + 1) low high (omega arith) o in
     elim (cases_lt 0 (at g.by.items e)) [
       | inl j ↦ up_more n arcs g (count - 1) e low high low2 high2 f o2 (omega arith) q j (takes j)
-      | inr z ↦ let k = kept (omega arith) in up_same n arcs g (count - 1) low high low2 high2 k.0 k.1 (up_root n arcs g (count - 1) e low high f o2 (omega arith) q (omega arith))
+      | inr z ↦ let k = kept (omega arith) in up_same n arcs g (count - 1) low high low2 high2 k.0 k.1
+          (up_root n arcs g (count - 1) e low high f o2 (omega arith) q (omega arith))
     ]

@@ -44,7 +44,8 @@ pub event_below : (n : ℕ) (arcs : List Arc) (g : Forest) (x : ℕ) → IsFores
 event_below n arcs g x f j = f.grown.seen_below x (seen_joined n arcs g x f j)
 
 -- a way along the forest between the ends of a row
-pub loop_of : (n : ℕ) (arcs : List Arc) (g : Forest) (k : ℕ) → IsForest n arcs g → Names (length arcs) k → WayOver arcs (IsTreeRow g) (head_of arcs k) (tail_of arcs k)
+pub loop_of : (n : ℕ) (arcs : List Arc) (g : Forest) (k : ℕ) → IsForest n arcs g → Names (length arcs) k
+    → WayOver arcs (IsTreeRow g) (head_of arcs k) (tail_of arcs k)
 loop_of n arcs g k f r =
     let e = ends_of n arcs k f.ends r in
     let roots = as_roots g in
@@ -81,14 +82,16 @@ side_same s e x y to from = elim (cases_inside s e x) [
 ]
 
 -- an event that is joined upwards is on the other side of its own cut than the event above it
-side_own : (n : ℕ) (arcs : List Arc) (g : Forest) (e : ℕ) → IsForest n arcs g → 0 < at g.by.items e → (side g e e ≡ 1) × (side g e (at g.up.items e) ≡ 0)
+side_own : (n : ℕ) (arcs : List Arc) (g : Forest) (e : ℕ) → IsForest n arcs g → 0 < at g.by.items e
+    → (side g e e ≡ 1) × (side g e (at g.up.items e) ≡ 0)
 side_own n arcs g e f j = (
   side_in g e e (self_inside n arcs g e f (let c = f.grown.climbs e j in omega arith)),
   side_out g e (at g.up.items e) (λ i. let c = f.grown.climbs e j in let a = i.0 in omega arith),
 )
 
 -- the row that joins e to the one above it crosses e's cut
-pub own_cut : (n : ℕ) (arcs : List Arc) (g : Forest) (e i : ℕ) → IsForest n arcs g → 0 < at g.by.items e → at g.by.items e ≡ i + 1 → Crosses arcs (side g e) i
+pub own_cut : (n : ℕ) (arcs : List Arc) (g : Forest) (e i : ℕ) → IsForest n arcs g → 0 < at g.by.items e
+    → at g.by.items e ≡ i + 1 → Crosses arcs (side g e) i
 own_cut n arcs g e i f j q =
     let d = side g e in
     let o = side_own n arcs g e f j in
@@ -100,7 +103,8 @@ own_cut n arcs g e i f j q =
     ]
 
 -- no other row of the forest does
-pub tree_keeps : (n : ℕ) (arcs : List Arc) (g : Forest) (e i : ℕ) → IsForest n arcs g → 0 < at g.by.items e → at g.by.items e ≡ i + 1 → (s : SignedRow) → IsTreeRow g s.row → KeepsSide arcs (side g e) i s
+pub tree_keeps : (n : ℕ) (arcs : List Arc) (g : Forest) (e i : ℕ) → IsForest n arcs g → 0 < at g.by.items e
+    → at g.by.items e ≡ i + 1 → (s : SignedRow) → IsTreeRow g s.row → KeepsSide arcs (side g e) i s
 tree_keeps n arcs g e i f j q s t ne =
     let d = side g e in
     let x = t.0 in
@@ -114,7 +118,8 @@ tree_keeps n arcs g e i f j q s t ne =
     ]
 
 -- a row joins one event at most to the one above it
-pub one_below : (n m : ℕ) (T H : ℕ → ℕ) (g : Forest) (x y : ℕ) → IsRooted n m T H g → 0 < at g.by.items x → at g.by.items x ≡ at g.by.items y → x ≡ y
+pub one_below : (n m : ℕ) (T H : ℕ → ℕ) (g : Forest) (x y : ℕ) → IsRooted n m T H g → 0 < at g.by.items x
+    → at g.by.items x ≡ at g.by.items y → x ≡ y
 one_below n m T H g x y r h e =
     let j : 0 < at g.by.items y = omega arith in
     let tails = ap T e in

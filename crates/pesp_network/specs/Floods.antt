@@ -10,7 +10,16 @@ abbrev pub OPEN_END : ℕ
 OPEN_END = 18446744073709551615
 
 abbrev pub fns_of : Growth → Fns
-fns_of g = record { up = at g.up.items; by = at g.by.items; place = at g.place.items; last = at g.last.items; root = at g.root.items; left = at g.left.items; order = at g.order.items; count = vec_len g.order }
+fns_of g = record {
+  up = at g.up.items;
+  by = at g.by.items;
+  place = at g.place.items;
+  last = at g.last.items;
+  root = at g.root.items;
+  left = at g.left.items;
+  order = at g.order.items;
+  count = vec_len g.order;
+}
 
 abbrev pub GrownOver : List Arc → Growth → Type 0
 GrownOver arcs g = Grown (vec_len g.up) (length arcs) OPEN_END (tail_of arcs) (head_of arcs) (fns_of g)

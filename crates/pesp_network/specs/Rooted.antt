@@ -19,7 +19,9 @@ pub record IsRooted (n m : ℕ) (T H : ℕ → ℕ) (g : Forest) : Type 0 where
   pub order_at : (i : ℕ) → i < vec_len g.order → at g.place.items (at g.order.items i) ≡ i + 1
   pub place_at : (x : ℕ) → 0 < at g.place.items x → at g.order.items (at g.place.items x - 1) ≡ x
   pub by_row : (x : ℕ) → at g.by.items x ≤ m
-  pub by_ends : (x : ℕ) → 0 < at g.by.items x → ((T (at g.by.items x) ≡ x) × (H (at g.by.items x) ≡ at g.up.items x)) ⊎ ((H (at g.by.items x) ≡ x) × (T (at g.by.items x) ≡ at g.up.items x))
+  pub by_ends : (x : ℕ) → 0 < at g.by.items x → ((T (at g.by.items x) ≡ x)
+      × (H (at g.by.items x) ≡ at g.up.items x)) ⊎ ((H (at g.by.items x) ≡ x)
+      × (T (at g.by.items x) ≡ at g.up.items x))
   pub by_seen : (x : ℕ) → 0 < at g.by.items x → 0 < at g.place.items (at g.up.items x)
   pub climbs : (x : ℕ) → 0 < at g.by.items x → at g.place.items (at g.up.items x) < at g.place.items x
   pub same_root : (x : ℕ) → 0 < at g.by.items x → at g.root.items (at g.up.items x) ≡ at g.root.items x
@@ -70,12 +72,15 @@ pub record AreTreeRows (n : ℕ) (g : Forest) (rows : List ℕ) : Type 0 where
 -- v is the place of an event at or below x, or of one to which a row leads from there, other than the row to the event above
 abbrev pub IsReached : List Arc → Forest → ℕ → ℕ → Type 0
 IsReached arcs g x v = ((z : ℕ) × Under g x z × (v ≡ at g.place.items z))
-    ⊎ ((z : ℕ) × (j : ℕ) × (y : ℕ) × Under g x z × Names (length arcs) j × HasEnds (arc_at arcs (j - 1)) z y × (at g.by.items z ≡ j → ⊥) × (v ≡ at g.place.items y))
+    ⊎ ((z : ℕ) × (j : ℕ) × (y : ℕ) × Under g x z × Names (length arcs) j × HasEnds (arc_at arcs (j - 1)) z y
+    × (at g.by.items z ≡ j → ⊥) × (v ≡ at g.place.items y))
 
 -- the first and the last place that are reached from each event
 pub record AreReaches (n : ℕ) (arcs : List Arc) (g : Forest) (low high : List ℕ) : Type 0 where
-  pub row_low : (j x y : ℕ) → Names (length arcs) j → HasEnds (arc_at arcs (j - 1)) x y → (at g.by.items x ≡ j → ⊥) → at low x ≤ at g.place.items y
-  pub row_high : (j x y : ℕ) → Names (length arcs) j → HasEnds (arc_at arcs (j - 1)) x y → (at g.by.items x ≡ j → ⊥) → at g.place.items y ≤ at high x
+  pub row_low : (j x y : ℕ) → Names (length arcs) j → HasEnds (arc_at arcs (j - 1)) x y → (at g.by.items x ≡ j → ⊥)
+      → at low x ≤ at g.place.items y
+  pub row_high : (j x y : ℕ) → Names (length arcs) j → HasEnds (arc_at arcs (j - 1)) x y
+      → (at g.by.items x ≡ j → ⊥) → at g.place.items y ≤ at high x
   pub up_low : (x : ℕ) → 0 < at g.by.items x → at low (at g.up.items x) ≤ at low x
   pub up_high : (x : ℕ) → 0 < at g.by.items x → at high x ≤ at high (at g.up.items x)
   pub low_reached : (x : ℕ) → x < n → IsReached arcs g x (at low x)
@@ -83,8 +88,10 @@ pub record AreReaches (n : ℕ) (arcs : List Arc) (g : Forest) (low high : List 
 
 -- the first rows up to i are taken in
 pub record TakesRows (n : ℕ) (arcs : List Arc) (g : Forest) (i : ℕ) (low high : List ℕ) : Type 0 where
-  pub row_low : (j x y : ℕ) → Names (length arcs) j → j ≤ i → HasEnds (arc_at arcs (j - 1)) x y → (at g.by.items x ≡ j → ⊥) → at low x ≤ at g.place.items y
-  pub row_high : (j x y : ℕ) → Names (length arcs) j → j ≤ i → HasEnds (arc_at arcs (j - 1)) x y → (at g.by.items x ≡ j → ⊥) → at g.place.items y ≤ at high x
+  pub row_low : (j x y : ℕ) → Names (length arcs) j → j ≤ i → HasEnds (arc_at arcs (j - 1)) x y
+      → (at g.by.items x ≡ j → ⊥) → at low x ≤ at g.place.items y
+  pub row_high : (j x y : ℕ) → Names (length arcs) j → j ≤ i → HasEnds (arc_at arcs (j - 1)) x y
+      → (at g.by.items x ≡ j → ⊥) → at g.place.items y ≤ at high x
   pub low_reached : (x : ℕ) → x < n → IsReached arcs g x (at low x)
   pub high_reached : (x : ℕ) → x < n → IsReached arcs g x (at high x)
 

@@ -33,8 +33,10 @@ pub record AreSlacks (period : ℕ) (arcs : List Arc) (slacks : List ℕ) : Type
 -- each event up to a place that is joined upwards has its row's slack
 abbrev pub FitsForest : ℕ → List Arc → Forest → List ℕ → List ℕ → ℕ → Type 0
 FitsForest period arcs g slacks times i = (x : ℕ) → 0 < at g.by.items x → at g.place.items x ≤ i
-    → IsSame period (pos (at times (head_of arcs (at g.by.items x))) -ℤ pos (at times (tail_of arcs (at g.by.items x)))) (duration arcs slacks (at g.by.items x))
+    → IsSame period (pos (at times (head_of arcs (at g.by.items x))) -ℤ pos
+    (at times (tail_of arcs (at g.by.items x)))) (duration arcs slacks (at g.by.items x))
 
 -- with any list of the forest's rows, some row outside it is open
 abbrev pub OpensRow : ℕ → ℕ → List Arc → Forest → List ℕ → Type 0
-OpensRow period n arcs g slacks = (rows : List ℕ) → AreTreeRows n g rows → HasOpenRow (record { period = period; arcs = arcs }) rows (slice_index slacks)
+OpensRow period n arcs g slacks = (rows : List ℕ) → AreTreeRows n g rows
+    → HasOpenRow (record { period = period; arcs = arcs }) rows (slice_index slacks)

@@ -21,7 +21,9 @@ one_small : (here : Bool) (count : ℤ) → unsigned_abs (if here then count els
 one_small true count = omega arith
 one_small false count = omega arith
 
-count_from : (counts : List NetCount) (i : ℕ) (z : ℤ) → unsigned_abs (fold (λ z e. z +ℤ (if e.place == i then e.count else pos 0)) z counts) ≤ unsigned_abs z + amount counts
+count_from : (counts : List NetCount) (i : ℕ) (z : ℤ)
+    → unsigned_abs (fold (λ z e. z +ℤ (if e.place == i then e.count else pos 0)) z counts)
+    ≤ unsigned_abs z + amount counts
 count_from [] i z = omega arith
 count_from (e ∷ counts) i z =
     let rest = count_from counts i (z +ℤ (if e.place == i then e.count else pos 0)) in
@@ -40,44 +42,62 @@ pub added_none : (counts : List NetCount) (mult : ℤ) (flows : List ℤ) → Ar
 added_none counts mult flows = record { sum = λ i l. omega (arith, ints) }
 
 -- how much a part of the entries adds
-pub added_small : (n : ℕ) (counts : List NetCount) (mult : ℤ) (k i : ℕ) → AreSmallCounts n counts → unsigned_abs mult ≤ 1000000000000 → unsigned_abs (mult *ℤ count_of (take k counts) i) ≤ 10 ^ 19
+pub added_small : (n : ℕ) (counts : List NetCount) (mult : ℤ) (k i : ℕ) → AreSmallCounts n counts
+    → unsigned_abs mult ≤ 1000000000000 → unsigned_abs (mult *ℤ count_of (take k counts) i) ≤ 10 ^ 19
 added_small n counts mult k i small m =
-    let count : unsigned_abs (count_of (take k counts) i) ≤ 10000000 = omega (arith, count_small (take k counts) i, sum_by-take-le (λ (e : NetCount). unsigned_abs e.count) counts k, small.1) in
+    let count : unsigned_abs (count_of (take k counts) i)
+    ≤ 10000000 = omega (
+      arith,
+      count_small (take k counts) i,
+      sum_by-take-le (λ (e : NetCount). unsigned_abs e.count) counts k,
+      small.1,
+    ) in
     omega (arith, unsigned_abs-mul mult (count_of (take k counts) i), mul-le-mul m count)
 
-pub added_more : (counts : List NetCount) (mult : ℤ) (initial flows : List ℤ) (k at : ℕ) (d : NetCount) (flow : ℤ) → k < length counts → at ≡ (get_or counts k d).place → at < length flows → flow ≡ number_at flows at +ℤ mult *ℤ (get_or counts k d).count
+pub added_more : (counts : List NetCount) (mult : ℤ) (initial flows : List ℤ) (k at : ℕ) (d : NetCount) (flow : ℤ)
+    → k < length counts → at ≡ (get_or counts k d).place → at < length flows
+    → flow ≡ number_at flows at +ℤ mult *ℤ (get_or counts k d).count
     → AreAdded counts mult initial flows k → AreAdded counts mult initial (set flows at flow) (k + 1)
 added_more counts mult initial flows k at d flow h is inside e before = record {
   sum = λ i l.
       let e' = get_or counts k d in
       let l' : i < length flows = omega (arith, length-set flows at flow) in
-      let more : count_of (take (k + 1) counts) i ≡ count_of (take k counts) i +ℤ (if e'.place == i then e'.count else pos 0) = fold_more (λ z (e : NetCount). z +ℤ (if e.place == i then e.count else pos 0)) (pos 0) counts k d h in
+      let more : count_of (take (k + 1) counts) i
+      ≡ count_of (take k counts) i +ℤ (if e'.place == i then e'.count else pos 0) =
+      fold_more (λ z (e : NetCount). z +ℤ (if e.place == i then e.count else pos 0)) (pos 0) counts k d h in
       let pick : Bool → ℤ = λ b. if b then e'.count else pos 0 in
       let apart = mul-add mult (count_of (take k counts) i) in
       elim (cases_eq i at) [
         | inl same ↦
             let here : pick (e'.place == i) ≡ e'.count = ap pick (eq-true e'.place i (omega arith)) in
-            let read : number_at (set flows at flow) i ≡ flow = ap (λ j. number_at (set flows at flow) j) same ∙ get_or-set_same flows at flow (pos 0) inside in
+            let read : number_at (set flows at flow) i ≡ flow = ap (λ j. number_at (set flows at flow) j) same
+            ∙ get_or-set_same flows at flow (pos 0) inside in
             let old = before.sum i l' in
             let at_is : number_at flows i ≡ number_at flows at = ap (number_at flows) same in
-            let all : mult *ℤ count_of (take (k + 1) counts) i ≡ mult *ℤ count_of (take k counts) i +ℤ mult *ℤ e'.count = ap (λ z. mult *ℤ z) (more ∙ ap (λ z. count_of (take k counts) i +ℤ z) here) ∙ apart e'.count in
+            let all : mult *ℤ count_of (take (k + 1) counts) i
+            ≡ mult *ℤ count_of (take k counts) i +ℤ mult *ℤ e'.count =
+            ap (λ z. mult *ℤ z) (more ∙ ap (λ z. count_of (take k counts) i +ℤ z) here) ∙ apart e'.count in
             omega (arith, ints)
         | inr other ↦
             let none : pick (e'.place == i) ≡ pos 0 = ap pick (eq-false e'.place i (λ f. other (sym f ∙ sym is))) in
             let read = get_or-set_other flows at i flow (pos 0) other in
             let old = before.sum i l' in
-            let all : mult *ℤ count_of (take (k + 1) counts) i ≡ mult *ℤ count_of (take k counts) i +ℤ mult *ℤ pos 0 = ap (λ z. mult *ℤ z) (more ∙ ap (λ z. count_of (take k counts) i +ℤ z) none) ∙ apart (pos 0) in
+            let all : mult *ℤ count_of (take (k + 1) counts) i
+            ≡ mult *ℤ count_of (take k counts) i +ℤ mult *ℤ pos 0 =
+            ap (λ z. mult *ℤ z) (more ∙ ap (λ z. count_of (take k counts) i +ℤ z) none) ∙ apart (pos 0) in
             omega (arith, ints)
       ];
 }
 
 -- the entries of a walk's row add up to its net count
-pub count_is : (n : ℕ) (walk : List SignedRow) (counts : List NetCount) (i : ℕ) → AreNetCounts n walk counts → i < n → count_of counts i ≡ net_count walk i
+pub count_is : (n : ℕ) (walk : List SignedRow) (counts : List NetCount) (i : ℕ) → AreNetCounts n walk counts
+    → i < n → count_of counts i ≡ net_count walk i
 count_is n walk counts i h l =
     let term : ℕ → ℤ → ℤ = λ place count. if place == i then count else pos 0 in
     let pick : ℤ → Bool → ℤ = λ z b. if b then z else pos 0 in
     let others = λ (j : ℕ) (m : j < n) (ne : j ≢ i). ap (pick (net_count walk j)) (eq-false j i ne) in
-    h.sums term (λ j. zero_either (j == i)) ∙ sum_below-single n i (λ j. term j (net_count walk j)) l others ∙ ap (pick (net_count walk i)) (eq-true i i refl)
+    h.sums term (λ j. zero_either (j == i)) ∙ sum_below-single n i (λ j. term j (net_count walk j)) l others
+    ∙ ap (pick (net_count walk i)) (eq-true i i refl)
   where
     zero_either : (b : Bool) → (if b then pos 0 else pos 0) ≡ pos 0
     zero_either true = refl
@@ -85,31 +105,43 @@ count_is n walk counts i h l =
 
 -- the flows of the first k pairs
 pub record AreMade (n : ℕ) (table : List (List NetCount)) (pairs : List Pair) (k : ℕ) (flows : List ℤ) : Type 0 where
-  pub sum : (walks : List (List SignedRow)) → AreNets n walks table → (i : ℕ) → i < n → number_at flows i +ℤ flow walks (drop k pairs) i ≡ flow walks pairs i
+  pub sum : (walks : List (List SignedRow)) → AreNets n walks table → (i : ℕ) → i < n
+      → number_at flows i +ℤ flow walks (drop k pairs) i ≡ flow walks pairs i
   pub size : (i : ℕ) → i < n → unsigned_abs (number_at flows i) ≤ k * 10 ^ 19
 
-pub made_none : (n : ℕ) (table : List (List NetCount)) (pairs : List Pair) (flows : List ℤ) → ((i : ℕ) → i < n → number_at flows i ≡ pos 0) → AreMade n table pairs 0 flows
-made_none n table pairs flows zeros = record { sum = λ walks nets i l. omega (arith, ints, zeros i l); size = λ i l. omega (arith, ap unsigned_abs (zeros i l)) }
+pub made_none : (n : ℕ) (table : List (List NetCount)) (pairs : List Pair) (flows : List ℤ)
+    → ((i : ℕ) → i < n → number_at flows i ≡ pos 0) → AreMade n table pairs 0 flows
+made_none n table pairs flows zeros = record {
+  sum = λ walks nets i l. omega (arith, ints, zeros i l);
+  size = λ i l. omega (arith, ap unsigned_abs (zeros i l));
+}
 
-pub made_more : (n : ℕ) (table : List (List NetCount)) (pairs : List Pair) (k : ℕ) (d : Pair) (flows flows' : List ℤ) → k < length pairs → Names (length table) (get_or pairs k d).cycle
-    → ((i : ℕ) → i < n → number_at flows' i ≡ number_at flows i +ℤ (get_or pairs k d).mult *ℤ count_of (nets_at table ((get_or pairs k d).cycle - 1)) i)
-    → ((i : ℕ) → i < n → unsigned_abs (number_at flows' i) ≤ unsigned_abs (number_at flows i) + 10 ^ 19) → AreMade n table pairs k flows → AreMade n table pairs (k + 1) flows'
+pub made_more : (n : ℕ) (table : List (List NetCount)) (pairs : List Pair) (k : ℕ) (d : Pair)
+    (flows flows' : List ℤ) → k < length pairs → Names (length table) (get_or pairs k d).cycle
+    → ((i : ℕ) → i < n → number_at flows' i ≡ number_at flows i
+    +ℤ (get_or pairs k d).mult *ℤ count_of (nets_at table ((get_or pairs k d).cycle - 1)) i)
+    → ((i : ℕ) → i < n → unsigned_abs (number_at flows' i) ≤ unsigned_abs (number_at flows i) + 10 ^ 19)
+    → AreMade n table pairs k flows → AreMade n table pairs (k + 1) flows'
 made_more n table pairs k d flows flows' l names more small before = record {
   sum = λ walks nets i m.
       let p = get_or pairs k d in
       let c = p.cycle - 1 in
       let net = count_is n (cycle_at walks c) (nets_at table c) i (nets.each c (omega (arith, names.0, names.1))) m in
-      let whole : flow walks (drop k pairs) i ≡ p.mult *ℤ net_count (cycle_at walks c) i +ℤ flow walks (drop (k + 1) pairs) i = ap (λ (ps : List Pair). flow walks ps i) (left pairs k d l) in
+      let whole : flow walks (drop k pairs) i ≡ p.mult *ℤ net_count (cycle_at walks c) i
+      +ℤ flow walks (drop (k + 1) pairs) i = ap (λ (ps : List Pair). flow walks ps i) (left pairs k d l) in
       omega (arith, ints, more i m, before.sum walks nets i m, whole, ap (λ z. p.mult *ℤ z) net);
   size = λ i m. omega (arith, small i m, before.size i m);
 }
 
 -- all pairs are added
-pub made_all : (n : ℕ) (table : List (List NetCount)) (pairs : List Pair) (k : ℕ) (flows : List ℤ) → length pairs ≤ k → AreMade n table pairs k flows → (walks : List (List SignedRow)) → AreNets n walks table → (i : ℕ) → i < n → number_at flows i ≡ flow walks pairs i
+pub made_all : (n : ℕ) (table : List (List NetCount)) (pairs : List Pair) (k : ℕ) (flows : List ℤ)
+    → length pairs ≤ k → AreMade n table pairs k flows → (walks : List (List SignedRow)) → AreNets n walks table
+    → (i : ℕ) → i < n → number_at flows i ≡ flow walks pairs i
 made_all n table pairs k flows done before walks nets i l =
     let none : flow walks (drop k pairs) i ≡ pos 0 = ap (λ (ps : List Pair). flow walks ps i) (drop_all k pairs done) in
     omega (arith, ints, before.sum walks nets i l, none)
 
 -- the entries as the code reads them
-pub nets_read : (table : List (List NetCount)) (c : ℕ) (counts read : List NetCount) → c < length table → read ≡ get_or table c read → counts ≡ read → counts ≡ nets_at table c
+pub nets_read : (table : List (List NetCount)) (c : ℕ) (counts read : List NetCount) → c < length table
+    → read ≡ get_or table c read → counts ≡ read → counts ≡ nets_at table c
 nets_read table c counts read l is e = e ∙ is ∙ get_or_default table c read [] l

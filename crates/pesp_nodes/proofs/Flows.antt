@@ -19,7 +19,8 @@ use Rattle.pesp_nodes.specs.Passages.{mult_of, sum_over, ArePassagesOf}
 
 -- what one pair adds to the sum over the cycles
 one_pair : (walks : List (List SignedRow)) (i : ℕ) (p : Pair) → Names (length walks) p.cycle
-    → sum_below (length walks) (λ c. cond (eqb p.cycle (c + 1)) p.mult (pos 0) *ℤ net_count (cycle_at walks c) i) ≡ p.mult *ℤ net_count (cycle_at walks (p.cycle - 1)) i
+    → sum_below (length walks) (λ c. cond (eqb p.cycle (c + 1)) p.mult (pos 0) *ℤ net_count (cycle_at walks c) i)
+    ≡ p.mult *ℤ net_count (cycle_at walks (p.cycle - 1)) i
 one_pair walks i p names =
     let f : ℕ → ℤ = λ c. cond (eqb p.cycle (c + 1)) p.mult (pos 0) *ℤ net_count (cycle_at walks c) i in
     let low = names.0 in
@@ -33,12 +34,16 @@ one_pair walks i p names =
 -- the flow on a row is the sum over the cycles of multiplier times net count
 pub flow_is : (walks : List (List SignedRow)) (i : ℕ) (pairs : List Pair) → All (λ pair. Names (length walks) pair.cycle) pairs
     → flow walks pairs i ≡ sum_below (length walks) (λ c. mult_of pairs (c + 1) *ℤ net_count (cycle_at walks c) i)
-flow_is walks i [] names = sym (sum_below-zero (length walks) (λ c. pos 0 *ℤ net_count (cycle_at walks c) i) (λ c l. zero-mul (net_count (cycle_at walks c) i)))
+flow_is walks i [] names = sym (sum_below-zero (length walks) (λ c. pos 0 *ℤ net_count (cycle_at walks c) i)
+    (λ c l. zero-mul (net_count (cycle_at walks c) i)))
 flow_is walks i (p ∷ pairs) names =
     let rest = flow_is walks i pairs (All-tail (λ (pair : Pair). Names (length walks) pair.cycle) p pairs names) in
     let f : ℕ → ℤ = λ c. cond (eqb p.cycle (c + 1)) p.mult (pos 0) *ℤ net_count (cycle_at walks c) i in
     let g : ℕ → ℤ = λ c. mult_of pairs (c + 1) *ℤ net_count (cycle_at walks c) i in
-    let split = sum_below-same (length walks) (λ c. (cond (eqb p.cycle (c + 1)) p.mult (pos 0) +ℤ mult_of pairs (c + 1)) *ℤ net_count (cycle_at walks c) i) (λ c. f c +ℤ g c) (λ c l. add-mul (cond (eqb p.cycle (c + 1)) p.mult (pos 0)) (mult_of pairs (c + 1)) (net_count (cycle_at walks c) i)) in
+    let split = sum_below-same (length walks) (λ c.
+    (cond (eqb p.cycle (c + 1)) p.mult (pos 0) +ℤ mult_of pairs (c + 1)) *ℤ net_count (cycle_at walks c) i)
+    (λ c. f c +ℤ g c) (λ c l. add-mul (cond (eqb p.cycle (c + 1)) p.mult (pos 0)) (mult_of pairs (c + 1))
+    (net_count (cycle_at walks c) i)) in
     let apart = sum_below-add (length walks) f g in
     let one = one_pair walks i p (All-head (λ (pair : Pair). Names (length walks) pair.cycle) p pairs names) in
     omega (arith, ints)
@@ -47,9 +52,11 @@ mul_zero : (a : ℤ) → a *ℤ pos 0 ≡ pos 0
 mul_zero a = omega (arith, ints)
 
 -- and so the sum over its passages
-pub flow_by_passages : (walks : List (List SignedRow)) (i : ℕ) (passages : List Passage) (pairs : List Pair) → All (λ pair. Names (length walks) pair.cycle) pairs → ArePassagesOf (length walks) walks i passages
+pub flow_by_passages : (walks : List (List SignedRow)) (i : ℕ) (passages : List Passage) (pairs : List Pair)
+    → All (λ pair. Names (length walks) pair.cycle) pairs → ArePassagesOf (length walks) walks i passages
     → sum_over (λ c n. mult_of pairs c *ℤ n) passages ≡ flow walks pairs i
-flow_by_passages walks i passages pairs names are = are (λ c n. mult_of pairs c *ℤ n) (λ c. mul_zero (mult_of pairs c)) ∙ sym (flow_is walks i pairs names)
+flow_by_passages walks i passages pairs names are =
+    are (λ c n. mult_of pairs c *ℤ n) (λ c. mul_zero (mult_of pairs c)) ∙ sym (flow_is walks i pairs names)
 
 -- ---- the sum over passages as it is added up
 
@@ -61,15 +68,22 @@ pub record IsFlow (pairs : List Pair) (passages : List Passage) (k : ℕ) (sum :
 product_small : (m n : ℤ) → unsigned_abs m ≤ 1000000000000 → unsigned_abs (m *ℤ n) ≤ 1000000000000 * unsigned_abs n
 product_small m n h = let same : unsigned_abs n ≤ unsigned_abs n = omega arith in omega (arith, unsigned_abs-mul m n, mul-le-mul h same)
 
-pub flow_more : (pairs : List Pair) (passages : List Passage) (k : ℕ) (d : Passage) (sum here : ℤ) → k < length passages → here ≡ mult_of pairs (get_or passages k d).cycle *ℤ (get_or passages k d).count → unsigned_abs (mult_of pairs (get_or passages k d).cycle) ≤ 1000000000000
+pub flow_more : (pairs : List Pair) (passages : List Passage) (k : ℕ) (d : Passage) (sum here : ℤ)
+    → k < length passages → here ≡ mult_of pairs (get_or passages k d).cycle *ℤ (get_or passages k d).count
+    → unsigned_abs (mult_of pairs (get_or passages k d).cycle) ≤ 1000000000000
     → IsFlow pairs passages k sum → IsFlow pairs passages (k + 1) (sum +ℤ here)
 flow_more pairs passages k d sum here l e small before = record {
-  is = ap (λ z. z +ℤ here) before.is ∙ ap (λ z. sum_over (λ c n. mult_of pairs c *ℤ n) (take k passages) +ℤ z) e ∙ sym (fold_more (λ z e. z +ℤ mult_of pairs e.cycle *ℤ e.count) (pos 0) passages k d l);
-  size = (let more = sum_by_more (λ (e : Passage). unsigned_abs e.count) passages k d l in let size = before.size in let product = product_small (mult_of pairs (get_or passages k d).cycle) (get_or passages k d).count small in omega (arith, ints, ap unsigned_abs e));
+  is = ap (λ z. z +ℤ here) before.is ∙ ap (λ z. sum_over (λ c n. mult_of pairs c *ℤ n) (take k passages) +ℤ z) e
+      ∙ sym (fold_more (λ z e. z +ℤ mult_of pairs e.cycle *ℤ e.count) (pos 0) passages k d l);
+  size = (let more = sum_by_more (λ (e : Passage). unsigned_abs e.count) passages k d l in
+      let size = before.size in let product = product_small (mult_of pairs (get_or passages k d).cycle)
+      (get_or passages k d).count small in omega (arith, ints, ap unsigned_abs e));
 }
 
 -- sums stay small
-pub flow_small : (pairs : List Pair) (passages : List Passage) (k : ℕ) (d : Passage) (sum here : ℤ) → k < length passages → here ≡ mult_of pairs (get_or passages k d).cycle *ℤ (get_or passages k d).count → unsigned_abs (mult_of pairs (get_or passages k d).cycle) ≤ 1000000000000
+pub flow_small : (pairs : List Pair) (passages : List Passage) (k : ℕ) (d : Passage) (sum here : ℤ)
+    → k < length passages → here ≡ mult_of pairs (get_or passages k d).cycle *ℤ (get_or passages k d).count
+    → unsigned_abs (mult_of pairs (get_or passages k d).cycle) ≤ 1000000000000
     → sum_by (λ e. unsigned_abs e.count) passages ≤ 10000000 → IsFlow pairs passages k sum → unsigned_abs sum + unsigned_abs here ≤ 10 ^ 19
 flow_small pairs passages k d sum here l e small most before =
     let within = sum_by_more_le (λ (e : Passage). unsigned_abs e.count) passages k d l in
@@ -77,5 +91,6 @@ flow_small pairs passages k d sum here l e small most before =
     let size = before.size in
     omega (arith, ints, ap unsigned_abs e)
 
-pub count_small : (passages : List Passage) (k : ℕ) (d : Passage) → k < length passages → sum_by (λ e. unsigned_abs e.count) passages ≤ 10000000 → unsigned_abs (get_or passages k d).count ≤ 10000000
+pub count_small : (passages : List Passage) (k : ℕ) (d : Passage) → k < length passages
+    → sum_by (λ e. unsigned_abs e.count) passages ≤ 10000000 → unsigned_abs (get_or passages k d).count ≤ 10000000
 count_small passages k d l most = omega (arith, get_or-le-sum_by (λ (e : Passage). unsigned_abs e.count) passages k d l)

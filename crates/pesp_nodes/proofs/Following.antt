@@ -23,23 +23,35 @@ continues_none arcs from way to = record { on = λ h. h; back = λ h. h }
 left : (way : List SignedRow) (k : ℕ) (d : SignedRow) → k < length way → drop k way ≡ get_or way k d ∷ drop (k + 1) way
 left way k d l = rw (add-one, drop-cons way k d) refl
 
-pub continues_more : (arcs : List Arc) (from : ℕ) (way : List SignedRow) (to event k : ℕ) (d : SignedRow) → k < length way → RowExists arcs (get_or way k d) → start arcs (get_or way k d) ≡ event → Continues arcs from way to event k → Continues arcs from way to (finish arcs (get_or way k d)) (k + 1)
+pub continues_more : (arcs : List Arc) (from : ℕ) (way : List SignedRow) (to event k : ℕ) (d : SignedRow)
+    → k < length way → RowExists arcs (get_or way k d) → start arcs (get_or way k d) ≡ event
+    → Continues arcs from way to event k → Continues arcs from way to (finish arcs (get_or way k d)) (k + 1)
 continues_more arcs from way to event k d l exists starts h = record {
   on = λ w. let a = rw (left way k d l) at (h.on w) in (All-tail (RowExists arcs) (get_or way k d) (drop (k + 1) way) a.0, a.1.1);
   back = λ w. h.back (rw (left way k d l) (All-cons (RowExists arcs) (get_or way k d) (drop (k + 1) way) exists w.0, (starts, w.1)));
 }
 
-pub stops_no_row : (arcs : List Arc) (from : ℕ) (way : List SignedRow) (to event k : ℕ) (d : SignedRow) → k < length way → (RowExists arcs (get_or way k d) → ⊥) → Continues arcs from way to event k → LeadsTo arcs from way to → ⊥
-stops_no_row arcs from way to event k d l none h w = let a = rw (left way k d l) at (h.on w) in none (All-head (RowExists arcs) (get_or way k d) (drop (k + 1) way) a.0)
+pub stops_no_row : (arcs : List Arc) (from : ℕ) (way : List SignedRow) (to event k : ℕ) (d : SignedRow)
+    → k < length way → (RowExists arcs (get_or way k d) → ⊥) → Continues arcs from way to event k
+    → LeadsTo arcs from way to → ⊥
+stops_no_row arcs from way to event k d l none h w = let a = rw (left way k d l) at (h.on w) in
+    none (All-head (RowExists arcs) (get_or way k d) (drop (k + 1) way) a.0)
 
-pub stops_elsewhere : (arcs : List Arc) (from : ℕ) (way : List SignedRow) (to event k : ℕ) (d : SignedRow) → k < length way → start arcs (get_or way k d) ≢ event → Continues arcs from way to event k → LeadsTo arcs from way to → ⊥
+pub stops_elsewhere : (arcs : List Arc) (from : ℕ) (way : List SignedRow) (to event k : ℕ) (d : SignedRow)
+    → k < length way → start arcs (get_or way k d) ≢ event → Continues arcs from way to event k
+    → LeadsTo arcs from way to → ⊥
 stops_elsewhere arcs from way to event k d l ne h w = let a = rw (left way k d l) at (h.on w) in ne (a.1.0)
 
-pub ends : (arcs : List Arc) (from : ℕ) (way : List SignedRow) (to event k : ℕ) → length way ≤ k → Continues arcs from way to event k → (event ≡ to) ↔ LeadsTo arcs from way to
-ends arcs from way to event k l h = (λ e. h.back (rw (drop_all k way l) (All-nil (RowExists arcs), e)), λ w. (rw (drop_all k way l) at (h.on w)).1)
+pub ends : (arcs : List Arc) (from : ℕ) (way : List SignedRow) (to event k : ℕ) → length way ≤ k
+    → Continues arcs from way to event k → (event ≡ to) ↔ LeadsTo arcs from way to
+ends arcs from way to event k l h = (
+  λ e. h.back (rw (drop_all k way l) (All-nil (RowExists arcs), e)),
+  λ w. (rw (drop_all k way l) at (h.on w)).1,
+)
 
 -- a way with a row closes where it leads back to where it begins
-pub closed_way : (arcs : List Arc) (walk : List SignedRow) (d : SignedRow) → 0 < length walk → LeadsTo arcs (start arcs (get_or walk 0 d)) walk (start arcs (get_or walk 0 d)) ↔ IsWalk arcs walk
+pub closed_way : (arcs : List Arc) (walk : List SignedRow) (d : SignedRow) → 0 < length walk
+    → LeadsTo arcs (start arcs (get_or walk 0 d)) walk (start arcs (get_or walk 0 d)) ↔ IsWalk arcs walk
 closed_way arcs [] d l = absurd (omega arith)
 closed_way arcs (s ∷ walk) d l = (λ h. h, λ h. h)
 

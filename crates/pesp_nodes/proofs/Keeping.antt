@@ -23,7 +23,9 @@ arcs_small n h k d l =
     let period = h.period_most in
     rw is (keeps.lower, omega (arith, keeps.span), keeps.weight)
 
-pub passages_small : (n : ℕ) (walks : List (List SignedRow)) (by_row : List (List Passage)) → IsSmallTable walks → ArePassages n (length walks) walks by_row → All (λ ps. sum_by (λ e. unsigned_abs e.count) ps ≤ 10000000) by_row
+pub passages_small : (n : ℕ) (walks : List (List SignedRow)) (by_row : List (List Passage)) → IsSmallTable walks
+    → ArePassages n (length walks) walks by_row → All
+    (λ ps. sum_by (λ e. unsigned_abs e.count) ps ≤ 10000000) by_row
 passages_small n walks by_row small h k d l =
     let long = h.long in
     let short = passages_short walks k (passages_at by_row k) (h.each k (omega arith)) in
@@ -31,7 +33,8 @@ passages_small n walks by_row small h k d l =
     rw (get_or_default by_row k d [] l) (omega arith)
 
 -- the offset ranges of the first k walks
-pub ranges_more : {X Y : Type 0} (f : X → Y) (xs : List X) (ys : List Y) (k : ℕ) (d : X) (y : Y) → k < length xs → y ≡ f (get_or xs k d) → ys ≡ map f (take k xs) → ys ++ y ∷ [] ≡ map f (take (k + 1) xs)
+pub ranges_more : {X Y : Type 0} (f : X → Y) (xs : List X) (ys : List Y) (k : ℕ) (d : X) (y : Y) → k < length xs
+    → y ≡ f (get_or xs k d) → ys ≡ map f (take k xs) → ys ++ y ∷ [] ≡ map f (take (k + 1) xs)
 ranges_more f xs ys k d y l e h = rw (e, h) (sym (map_more f xs k d l))
 
 -- walks that close pass rows that exist
@@ -51,7 +54,9 @@ pub pair_is : (p : ℤ × ℤ) (a b : ℤ) → p.0 ≡ a → p.1 ≡ b → p ≡
 pair_is p a b e f = ap (λ (x : ℤ). (x, p.1)) e ∙ ap (λ (y : ℤ). (a, y)) f
 
 -- slack ranges that are each the whole one of their row
-pub whole_is : (arcs : List Arc) (slacks : List (ℕ × ℕ)) → length slacks ≡ length arcs → ((i : ℕ) → i < length arcs → slack_range slacks i ≡ (0, (arc_at arcs i).span)) → slacks ≡ map (λ arc. (0, arc.span)) arcs
+pub whole_is : (arcs : List Arc) (slacks : List (ℕ × ℕ)) → length slacks ≡ length arcs
+    → ((i : ℕ) → i < length arcs → slack_range slacks i ≡ (0, (arc_at arcs i).span))
+    → slacks ≡ map (λ arc. (0, arc.span)) arcs
 whole_is [] [] e h = refl
 whole_is [] (s ∷ slacks) e h = absurd (omega (arith, e))
 whole_is (a ∷ arcs) [] e h = absurd (omega (arith, e))

@@ -13,9 +13,16 @@ pub record AreRisen (cycles : ℕ) (pairs : List Pair) (last k : ℕ) : Type 0 w
   pub met : (d : Pair) → 0 < last → (0 < k) × ((get_or pairs (k - 1) d).cycle ≡ last)
 
 pub risen_none : (cycles : ℕ) (pairs : List Pair) → AreRisen cycles pairs 0 0
-risen_none cycles pairs = record { each = λ i d l. absurd (omega arith); below = λ i d l. absurd (omega arith); rise = λ i j d l m. absurd (omega arith); met = λ d l. absurd (omega arith) }
+risen_none cycles pairs = record {
+  each = λ i d l. absurd (omega arith);
+  below = λ i d l. absurd (omega arith);
+  rise = λ i j d l m. absurd (omega arith);
+  met = λ d l. absurd (omega arith);
+}
 
-pub risen_more : (cycles : ℕ) (pairs : List Pair) (last k : ℕ) (d : Pair) → k < length pairs → IsPairOf cycles (get_or pairs k d) → last < (get_or pairs k d).cycle → AreRisen cycles pairs last k → AreRisen cycles pairs (get_or pairs k d).cycle (k + 1)
+pub risen_more : (cycles : ℕ) (pairs : List Pair) (last k : ℕ) (d : Pair) → k < length pairs
+    → IsPairOf cycles (get_or pairs k d) → last < (get_or pairs k d).cycle → AreRisen cycles pairs last k
+    → AreRisen cycles pairs (get_or pairs k d).cycle (k + 1)
 risen_more cycles pairs last k d l is above h = record {
   each = λ i e m. elim (cases_eq i k) [
     | inl same ↦ rw (same, get_or_default pairs k e d l) is
@@ -29,11 +36,16 @@ risen_more cycles pairs last k d l is above h = record {
     | inl same ↦ rw (same, get_or_default pairs k e d l) (let b = h.below i e (omega arith) in omega arith)
     | inr other ↦ h.rise i j e m (omega arith)
   ];
-  met = λ e m. (omega arith, (let same : k + 1 - 1 ≡ k = omega arith in ap (λ i. (get_or pairs i e).cycle) same ∙ ap (λ p. p.cycle) (get_or_default pairs k e d l)));
+  met = λ e m. (
+    omega arith,
+    (let same : k + 1 - 1 ≡ k = omega arith in
+        ap (λ i. (get_or pairs i e).cycle) same ∙ ap (λ p. p.cycle) (get_or_default pairs k e d l)),
+  );
 }
 
 -- a pair that doesn't rise above the one before is refused
-pub not_risen : (cycles : ℕ) (pairs : List Pair) (last k : ℕ) (d : Pair) → k < length pairs → (get_or pairs k d).cycle ≤ last → AreRisen cycles pairs last k → ArePairs cycles pairs → ⊥
+pub not_risen : (cycles : ℕ) (pairs : List Pair) (last k : ℕ) (d : Pair) → k < length pairs
+    → (get_or pairs k d).cycle ≤ last → AreRisen cycles pairs last k → ArePairs cycles pairs → ⊥
 not_risen cycles pairs last k d l low h are =
     let some = (are.each k d l).names.0 in
     let met = h.met d (omega arith) in

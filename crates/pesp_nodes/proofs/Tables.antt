@@ -25,24 +25,44 @@ length-replicate (suc n) x = ap suc (length-replicate n x)
 pub passages_none : (n : ℕ) (walks : List (List SignedRow)) → ArePassages n 0 walks (replicate n [])
 passages_none n walks = record { long = length-replicate n []; each = λ i l term none. ap (sum_over term) (empty_at n i) }
 
-sums_by : {X : Type 0} (f : X → ℕ) (xs : List X) (d : X) (n : ℕ) → n ≤ length xs → sum_below n (λ i. pos (f (get_or xs i d))) ≡ pos (sum_by f (take n xs))
+sums_by : {X : Type 0} (f : X → ℕ) (xs : List X) (d : X) (n : ℕ) → n ≤ length xs
+    → sum_below n (λ i. pos (f (get_or xs i d))) ≡ pos (sum_by f (take n xs))
 sums_by f xs d zero h = refl
-sums_by f xs d (suc n) h = omega (arith, ints, sums_by f xs d n (omega arith), sum_by_more f xs n d (omega arith), ap (λ k. sum_by f (take k xs)) (add-one n))
+sums_by f xs d (suc n) h = omega (
+  arith,
+  ints,
+  sums_by f xs d n (omega arith),
+  sum_by_more f xs n d (omega arith),
+  ap (λ k. sum_by f (take k xs)) (add-one n),
+)
 
 -- the sum over the cycles of how often each passes a row is no more than the table is long
-pub counts_short : (walks : List (List SignedRow)) (i : ℕ) → sum_below (length walks) (λ c. pos (unsigned_abs (net_count (cycle_at walks c) i))) ≤ℤ pos (sum_by length walks)
+pub counts_short : (walks : List (List SignedRow)) (i : ℕ)
+    → sum_below (length walks) (λ c. pos (unsigned_abs (net_count (cycle_at walks c) i)))
+    ≤ℤ pos (sum_by length walks)
 counts_short walks i =
-    let each = sum_below-le (length walks) (λ c. pos (unsigned_abs (net_count (cycle_at walks c) i))) (λ c. pos (length (cycle_at walks c))) (λ c l. let s = net_count_small (cycle_at walks c) i (length (cycle_at walks c)) (omega arith) in omega (arith, ints)) in
+    let each = sum_below-le (length walks) (λ c. pos (unsigned_abs (net_count (cycle_at walks c) i)))
+    (λ c. pos (length (cycle_at walks c))) (λ c l. let s =
+    net_count_small (cycle_at walks c) i (length (cycle_at walks c)) (omega arith) in omega (arith, ints)) in
     let all = sums_by length walks [] (length walks) (omega arith) in
     let whole = ap (λ (ws : List (List SignedRow)). sum_by length ws) (take_all (length walks) walks (omega arith)) in
     omega (arith, ints)
 
-amount_from : (passages : List Passage) (z : ℤ) → fold (λ z e. z +ℤ pos (unsigned_abs e.count)) z passages ≡ z +ℤ pos (sum_by (λ e. unsigned_abs e.count) passages)
+amount_from : (passages : List Passage) (z : ℤ)
+    → fold (λ z e. z +ℤ pos (unsigned_abs e.count)) z passages
+    ≡ z +ℤ pos (sum_by (λ e. unsigned_abs e.count) passages)
 amount_from [] z = omega (arith, ints)
-amount_from (e ∷ passages) z = omega (arith, ints, amount_from passages (z +ℤ pos (unsigned_abs e.count)), sum_by-cons (λ (e : Passage). unsigned_abs e.count) e passages)
+amount_from (e ∷ passages) z = omega (
+  arith,
+  ints,
+  amount_from passages (z +ℤ pos (unsigned_abs e.count)),
+  sum_by-cons (λ (e : Passage). unsigned_abs e.count) e passages,
+)
 
 -- and so is the sum over a row's passages
-pub passages_short : (walks : List (List SignedRow)) (i : ℕ) (passages : List Passage) → ArePassagesOf (length walks) walks i passages → sum_by (λ e. unsigned_abs e.count) passages ≤ sum_by length walks
+pub passages_short : (walks : List (List SignedRow)) (i : ℕ) (passages : List Passage)
+    → ArePassagesOf (length walks) walks i passages
+    → sum_by (λ e. unsigned_abs e.count) passages ≤ sum_by length walks
 passages_short walks i passages are =
     let sums = are (λ c n. pos (unsigned_abs n)) (λ c. refl) in
     let from = amount_from passages (pos 0) in

@@ -12,5 +12,6 @@ of_cycle term place c cycle count = if cycle == c + 1 then term place count else
 -- the net counts of the cycles have the passages of one row more
 pub record IsRowAdded (place : ℕ) (passages : List Passage) (before after : List (List NetCount)) : Type 0 where
   pub long : length after ≡ length before
-  pub sums : (c : ℕ) → c < length before → (term : ℕ → ℤ → ℤ) → sum_of term (nets_at after c) ≡ sum_of term (nets_at before c) +ℤ sum_over (of_cycle term place c) passages
+  pub sums : (c : ℕ) → c < length before → (term : ℕ → ℤ → ℤ)
+      → sum_of term (nets_at after c) ≡ sum_of term (nets_at before c) +ℤ sum_over (of_cycle term place c) passages
   pub places : (n : ℕ) → place < n → All (All (λ e. e.place < n)) before → All (All (λ e. e.place < n)) after

@@ -31,7 +31,8 @@ extreme High factor low high = scaled factor high low
 
 -- the least of a count times the durations of the row at place i, or the greatest
 abbrev pub end_term : End → List Arc → List (ℕ × ℕ) → ℕ → ℤ → ℤ
-end_term end arcs slacks i count = extreme end count ((arc_at arcs i).lower +ℤ pos (slack_range slacks i).0) ((arc_at arcs i).lower +ℤ pos (slack_range slacks i).1)
+end_term end arcs slacks i count = extreme end count ((arc_at arcs i).lower +ℤ pos (slack_range slacks i).0)
+    ((arc_at arcs i).lower +ℤ pos (slack_range slacks i).1)
 
 -- the least sum of net count times duration along a walk, or the greatest
 abbrev pub end_sum : End → List Arc → List (ℕ × ℕ) → List SignedRow → ℤ

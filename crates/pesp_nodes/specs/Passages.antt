@@ -16,7 +16,8 @@ passages_at by_row i = slice_index_or by_row i []
 
 -- the passages of the row at place i by the first m cycles: what is 0 at 0 has the same sum over them as over these cycles
 abbrev pub ArePassagesOf : ℕ → List (List SignedRow) → ℕ → List Passage → Type 0
-ArePassagesOf m walks i passages = (term : ℕ → ℤ → ℤ) → ((c : ℕ) → term c (pos 0) ≡ pos 0) → sum_over term passages ≡ sum_below m (λ c. term (c + 1) (net_count (cycle_at walks c) i))
+ArePassagesOf m walks i passages = (term : ℕ → ℤ → ℤ) → ((c : ℕ) → term c (pos 0) ≡ pos 0)
+    → sum_over term passages ≡ sum_below m (λ c. term (c + 1) (net_count (cycle_at walks c) i))
 
 -- passages of cycles before this one, with small counts
 abbrev pub AreBefore : ℕ → List Passage → Type 0

@@ -23,17 +23,21 @@ use Rattle.pesp_outside.specs.Jobs.{told_job}
 abbrev pub Below : Net → List (List SignedRow) → State → List (Cut × Side) → List Pair → Type 0
 Below n table s path pairs = IsBelow (leaf_value n table (along (root n table) path) pairs true) (option_map (net_cost n) s.best)
 
-open_same : (p q : ProblemValue) (s : State) → net_of p ≡ net_of q → p.table ≡ q.table → (path : List (Cut × Side)) → IsOpen p s path → IsOpen q s path
+open_same : (p q : ProblemValue) (s : State) → net_of p ≡ net_of q → p.table ≡ q.table → (path : List (Cut × Side))
+    → IsOpen p s path → IsOpen q s path
 open_same p q s n t path o = record {
   pairs = o.pairs;
   leaf = o.leaf;
   unlent = o.unlent;
-  cheaper = subst (λ (x : Net). Below x q.table s path o.pairs) n (subst (λ (x : List (List SignedRow)). Below (net_of p) x s path o.pairs) t o.cheaper);
+  cheaper = subst (λ (x : Net). Below x q.table s path o.pairs) n
+      (subst (λ (x : List (List SignedRow)). Below (net_of p) x s path o.pairs) t o.cheaper);
 }
 
-same_opens : (p q : ProblemValue) (s : State) → net_of p ≡ net_of q → p.table ≡ q.table → (paths xs ys : List (List (Cut × Side))) → AreOpenOf p s paths xs → AreOpenOf q s paths ys → xs ≡ ys
+same_opens : (p q : ProblemValue) (s : State) → net_of p ≡ net_of q → p.table ≡ q.table
+    → (paths xs ys : List (List (Cut × Side))) → AreOpenOf p s paths xs → AreOpenOf q s paths ys → xs ≡ ys
 same_opens p q s n t [] xs ys a b = a ∙ sym b
-same_opens p q s n t (path ∷ paths) xs ys (inl a) (inl b) = a.2 ∙ ap (λ rest. path ∷ rest) (same_opens p q s n t paths a.0 b.0 a.3 b.3) ∙ sym b.2
+same_opens p q s n t (path ∷ paths) xs ys (inl a) (inl b) = a.2
+    ∙ ap (λ rest. path ∷ rest) (same_opens p q s n t paths a.0 b.0 a.3 b.3) ∙ sym b.2
 same_opens p q s n t (path ∷ paths) xs ys (inl a) (inr b) = absurd (b.0 (open_same p q s n t path a.1))
 same_opens p q s n t (path ∷ paths) xs ys (inr a) (inl b) = absurd (a.0 (open_same q p s (sym n) (sym t) path b.1))
 same_opens p q s n t (path ∷ paths) xs ys (inr a) (inr b) = same_opens p q s n t paths xs ys a.1 b.1
@@ -42,23 +46,31 @@ abbrev pub numbered : ℕ → List (List (Cut × Side)) → List (ℕ × List (C
 numbered n [] = []
 numbered n (path ∷ paths) = (n, path) ∷ numbered (n + 1) paths
 
-are_numbered : (n : ℕ) (jobs : List Job) (paths : List (List (Cut × Side))) → AreNumbered n jobs paths → map told_job jobs ≡ numbered n paths
+are_numbered : (n : ℕ) (jobs : List Job) (paths : List (List (Cut × Side))) → AreNumbered n jobs paths
+    → map told_job jobs ≡ numbered n paths
 are_numbered n [] paths h = sym (ap (numbered n) h)
 are_numbered n (job ∷ jobs) paths h =
-    ap (λ (k : ℕ). (k, job.path.items) ∷ map told_job jobs) h.1 ∙ ap (λ rest. (n, job.path.items) ∷ rest) (are_numbered (n + 1) jobs h.0 h.3) ∙ sym (ap (numbered n) h.2)
+    ap (λ (k : ℕ). (k, job.path.items) ∷ map told_job jobs) h.1
+    ∙ ap (λ rest. (n, job.path.items) ∷ rest) (are_numbered (n + 1) jobs h.0 h.3) ∙ sym (ap (numbered n) h.2)
 
 state_same : (x y : State) → x.tree ≡ y.tree → x.numbers ≡ y.numbers → x.best ≡ y.best → x ≡ y
-state_same x y e f g = ap (λ tree. record x { tree = tree }) e ∙ ap (λ numbers. record x { tree = y.tree; numbers = numbers }) f ∙ ap (λ best. record y { best = best }) g
+state_same x y e f g = ap (λ tree. record x { tree = tree }) e
+    ∙ ap (λ numbers. record x { tree = y.tree; numbers = numbers }) f ∙ ap (λ best. record y { best = best }) g
 
-pub one_lending : (i : Pesp) (base : Content) (p q : ProblemValue) (jobs others : List Job) (s t : State) → IsLentFrom i base p jobs s → IsLentFrom i base q others t → (map told_job jobs ≡ map told_job others) × (s ≡ t)
+pub one_lending : (i : Pesp) (base : Content) (p q : ProblemValue) (jobs others : List Job) (s t : State)
+    → IsLentFrom i base p jobs s → IsLentFrom i base q others t
+    → (map told_job jobs ≡ map told_job others) × (s ≡ t)
 one_lending i base p q jobs others s t a b =
-    let same : a.opening ≡ b.opening = state_same a.opening b.opening (one_tree a.opening.tree b.opening.tree (a.adopts.tree ∙ sym b.adopts.tree)) (a.adopts.numbers ∙ sym b.adopts.numbers) (a.adopts.best ∙ sym b.adopts.best) in
+    let same : a.opening ≡ b.opening = state_same a.opening b.opening
+    (one_tree a.opening.tree b.opening.tree (a.adopts.tree ∙ sym b.adopts.tree))
+    (a.adopts.numbers ∙ sym b.adopts.numbers) (a.adopts.best ∙ sym b.adopts.best) in
     let nets : net_of p ≡ net_of q = same_net i p a.of ∙ sym (same_net i q b.of) in
     let paths : a.lends.paths ≡ b.lends.paths =
     same_opens p q a.opening nets (a.cycles ∙ sym b.cycles) (leaf_paths a.opening.tree) a.lends.paths b.lends.paths a.lends.opens
     (subst (λ (o : State). AreOpenOf q o (leaf_paths o.tree) b.lends.paths) (sym same) b.lends.opens) in (
       are_numbered (length a.opening.numbers) jobs a.lends.paths a.lends.numbered ∙ ap (numbered (length a.opening.numbers)) paths
-          ∙ ap (λ (o : State). numbered (length o.numbers) b.lends.paths) same ∙ sym (are_numbered (length b.opening.numbers) others b.lends.paths b.lends.numbered),
+          ∙ ap (λ (o : State). numbered (length o.numbers) b.lends.paths) same
+          ∙ sym (are_numbered (length b.opening.numbers) others b.lends.paths b.lends.numbered),
       a.lends.state ∙ ap (λ (ps : List (List (Cut × Side))). record a.opening { numbers = a.opening.numbers ++ map Lent ps }) paths
           ∙ ap (λ (o : State). record o { numbers = o.numbers ++ map Lent b.lends.paths }) same ∙ sym b.lends.state,
     )

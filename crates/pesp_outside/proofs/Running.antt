@@ -33,13 +33,18 @@ run_then p (event ∷ first) rest a b c r s = (r.0, r.1, run_then p first rest r
 abbrev Leads : ProblemValue → State → State → Type 0
 Leads p old new = (events : List Event) × Run p old events new
 
-work_leads : (p : ProblemValue) (labels : List ℤ) (old new : State) (work : WorkValue) (reply : Reply) → TakesWork p labels old work reply new → Leads p old new
+work_leads : (p : ProblemValue) (labels : List ℤ) (old new : State) (work : WorkValue) (reply : Reply)
+    → TakesWork p labels old work reply new → Leads p old new
 work_leads p labels old new work reply t = elim (t.offers) [
-  | inl o ↦ (Give work.job (Tree t.lines) reply.given ∷ Offer (map (λ t. t.1) work.times) o.1.0 ∷ [], (t.given, t.gives, (new, o.1.1, refl)))
+  | inl o ↦ (
+    Give work.job (Tree t.lines) reply.given ∷ Offer (map (λ t. t.1) work.times) o.1.0 ∷ [],
+    (t.given, t.gives, (new, o.1.1, refl)),
+  )
   | inr o ↦ (Give work.job (Tree t.lines) reply.given ∷ [], (t.given, t.gives, o.1))
 ]
 
-works_lead : (p : ProblemValue) (labels : List ℤ) (works : List WorkValue) (replies : List Reply) (old new : State) → TakesWorks p labels old works replies new → Leads p old new
+works_lead : (p : ProblemValue) (labels : List ℤ) (works : List WorkValue) (replies : List Reply) (old new : State)
+    → TakesWorks p labels old works replies new → Leads p old new
 works_lead p labels [] replies old new h = ([], h.1)
 works_lead p labels (work ∷ works) [] old new h = absurd h
 works_lead p labels (work ∷ works) (reply ∷ replies) old new h =
@@ -48,11 +53,18 @@ works_lead p labels (work ∷ works) (reply ∷ replies) old new h =
     (first.0 ++ rest.0, run_then p first.0 rest.0 old h.0 new first.1 rest.1)
 
 -- the cycles of a valid base are walks of the problem
-walks_there : (i : Pesp) (base : Content) (p : ProblemValue) (jobs : List Job) (lent : State) → IsValid i base → IsLentFrom i base p jobs lent → All (IsWalk (net_of p).arcs) p.table
-walks_there i base p jobs lent valid b = subst (λ (table : List (List SignedRow)). All (IsWalk (net_of p).arcs) table) (sym b.cycles) (subst (λ (n : Net). All (IsWalk n.arcs) base.cycles) (sym (same_net i p b.of)) valid.cycles)
+walks_there : (i : Pesp) (base : Content) (p : ProblemValue) (jobs : List Job) (lent : State) → IsValid i base
+    → IsLentFrom i base p jobs lent → All (IsWalk (net_of p).arcs) p.table
+walks_there i base p jobs lent valid b = subst
+    (λ (table : List (List SignedRow)). All (IsWalk (net_of p).arcs) table) (sym b.cycles)
+    (subst (λ (n : Net). All (IsWalk n.arcs) base.cycles) (sym (same_net i p b.of)) valid.cycles)
 
-pub all_grafted : {E : Type 0} (i : Pesp) (base : Content) (p : ProblemValue) (jobs : List Job) (lent state : State) (works : List WorkValue) (r : Result Grafted E) → KeepsLimits i → has_costs base.answer ≡ true → IsValid i base → IsLentFrom i base p jobs lent
-    → IfOk r (λ g. TakesWorks p i.events lent works g.replies.items state) → IfOk r (λ g. IsCertificateOf p i.events state g.certificate) → IfOk r (λ g. IsValid i g.certificate) → IfOk r (λ g. IsGrafted i base works g.replies.items g.certificate)
+pub all_grafted : {E : Type 0} (i : Pesp) (base : Content) (p : ProblemValue) (jobs : List Job)
+    (lent state : State) (works : List WorkValue) (r : Result Grafted E) → KeepsLimits i
+    → has_costs base.answer ≡ true → IsValid i base → IsLentFrom i base p jobs lent
+    → IfOk r (λ g. TakesWorks p i.events lent works g.replies.items state)
+    → IfOk r (λ g. IsCertificateOf p i.events state g.certificate) → IfOk r (λ g. IsValid i g.certificate)
+    → IfOk r (λ g. IsGrafted i base works g.replies.items g.certificate)
 all_grafted i base p jobs lent state works (Ok g) limits costs valid begins takes certified after =
     let lead = works_lead p i.events works g.replies.items lent state takes in
     let run = run_then p (lends_of jobs) lead.0 begins.opening lent state (lends_each_run p begins.opening lent jobs begins.lends) lead.1 in
@@ -67,7 +79,9 @@ all_grafted i base p jobs lent state works (Ok g) limits costs valid begins take
       takes = takes;
       certified = certified;
       valid = after;
-      bound = later_is_not_below i p events base begins.opening state g.certificate limits begins.of walks (sym begins.cycles) valid begins.adopts run certified (bound_is_short base.answer costs);
-      cost = later_is_not_above i p events base begins.opening state g.certificate limits begins.of walks (sym begins.cycles) valid begins.adopts run certified;
+      bound = later_is_not_below i p events base begins.opening state g.certificate limits begins.of walks
+          (sym begins.cycles) valid begins.adopts run certified (bound_is_short base.answer costs);
+      cost = later_is_not_above i p events base begins.opening state g.certificate limits begins.of walks
+          (sym begins.cycles) valid begins.adopts run certified;
     }
 all_grafted i base p jobs lent state works (Err e) limits costs valid begins takes certified after = tt

@@ -34,9 +34,12 @@ pub record TakesWork (p : ProblemValue) (events : List ℤ) (old : State) (work 
 abbrev pub TakesWorks : ProblemValue → List ℤ → State → List WorkValue → List Reply → State → Type 0
 TakesWorks p events old [] replies new = (replies ≡ []) × (new ≡ old)
 TakesWorks p events old (work ∷ works) [] new = ⊥
-TakesWorks p events old (work ∷ works) (reply ∷ replies) new = (between : State) × TakesWork p events old work reply between × TakesWorks p events between works replies new
+TakesWorks p events old (work ∷ works) (reply ∷ replies) new = (between : State)
+    × TakesWork p events old work reply between × TakesWorks p events between works replies new
 
--- what a certificate becomes by works: that of the state which they lead to from the base, all of whose open leaves are lent; it is valid, its bound isn't below the base's, no bound standing above every number, and its cost isn't above the base's
+-- what a certificate becomes by works: that of the state which they lead to from the base, all of whose open leaves are
+-- lent; it is valid, its bound isn't below the base's, no bound standing above every number, and its cost isn't above
+-- the base's
 pub record IsGrafted (instance : Pesp) (base : Content) (works : List WorkValue) (replies : List Reply) (content : Content) : Type 0 where
   pub problem : ProblemValue
   pub jobs : List Job

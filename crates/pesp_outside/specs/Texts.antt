@@ -26,7 +26,8 @@ step_words step = cut_words step.0 ++ side_word step.1
 
 -- the number of the job, its value, and the path to its leaf
 abbrev pub job_line : OpenJob → List ℕ
-job_line leaf = codes "job " ++ decimal leaf.job.number ++ codes " " ++ decimal leaf.value ++ flat_map step_words leaf.job.path.items ++ codes "\n"
+job_line leaf = codes "job " ++ decimal leaf.job.number ++ codes " " ++ decimal leaf.value
+    ++ flat_map step_words leaf.job.path.items ++ codes "\n"
 
 -- the header, a line for each job, and the end
 abbrev pub jobs_text : List OpenJob → List ℕ

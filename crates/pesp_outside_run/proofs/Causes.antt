@@ -21,23 +21,33 @@ use Rattle.pesp_check_run.specs.Devices.{over}
 use Rattle.pesp_outside_run.specs.Outside.{works_fault, work_fault, WorksCause, JobCause, WritesGraft}
 
 -- a refusal of the works' text, or of memory
-pub works_cause : (refusal : CertRefusal) (told left : Option (List ℕ)) (calls after : Calls) (bytes : List ℕ) → ReadsText told left 1073741824 bytes → RefusesFirst bytes refusal → WorksCause (works_fault refusal) (over told left calls after)
+pub works_cause : (refusal : CertRefusal) (told left : Option (List ℕ)) (calls after : Calls) (bytes : List ℕ)
+    → ReadsText told left 1073741824 bytes → RefusesFirst bytes refusal
+    → WorksCause (works_fault refusal) (over told left calls after)
 works_cause CertMemory told left calls after bytes read first = tt
-works_cause Header told left calls after bytes read first = elim first [ inl e ↦ cc | inr e ↦ record { text = bytes; read = read; holds = e } ]
-works_cause (Line n) told left calls after bytes read first = elim first [ inl e ↦ cc | inr e ↦ record { text = bytes; read = read; holds = e } ]
-works_cause (Number n) told left calls after bytes read first = elim first [ inl e ↦ cc | inr e ↦ record { text = bytes; read = read; holds = e } ]
-works_cause (Limit n) told left calls after bytes read first = elim first [ inl e ↦ cc | inr e ↦ record { text = bytes; read = read; holds = e } ]
-works_cause Truncated told left calls after bytes read first = elim first [ inl e ↦ cc | inr e ↦ record { text = bytes; read = read; holds = e } ]
-works_cause (Trailing n) told left calls after bytes read first = elim first [ inl e ↦ cc | inr e ↦ record { text = bytes; read = read; holds = e } ]
+works_cause Header told left calls after bytes read first =
+    elim first [ inl e ↦ cc | inr e ↦ record { text = bytes; read = read; holds = e } ]
+works_cause (Line n) told left calls after bytes read first =
+    elim first [ inl e ↦ cc | inr e ↦ record { text = bytes; read = read; holds = e } ]
+works_cause (Number n) told left calls after bytes read first =
+    elim first [ inl e ↦ cc | inr e ↦ record { text = bytes; read = read; holds = e } ]
+works_cause (Limit n) told left calls after bytes read first =
+    elim first [ inl e ↦ cc | inr e ↦ record { text = bytes; read = read; holds = e } ]
+works_cause Truncated told left calls after bytes read first =
+    elim first [ inl e ↦ cc | inr e ↦ record { text = bytes; read = read; holds = e } ]
+works_cause (Trailing n) told left calls after bytes read first =
+    elim first [ inl e ↦ cc | inr e ↦ record { text = bytes; read = read; holds = e } ]
 
 -- a job that isn't there, or a refusal of memory
-pub job_cause : (refusal : WorkRefusal) (p : Pesp) (base : Content) (jobs : List ℕ) → AreWorkRefusal p base jobs refusal → JobCause (work_fault refusal) p base jobs
+pub job_cause : (refusal : WorkRefusal) (p : Pesp) (base : Content) (jobs : List ℕ)
+    → AreWorkRefusal p base jobs refusal → JobCause (work_fault refusal) p base jobs
 job_cause WorkMemory p base jobs refused = tt
 job_cause NoSuchJob p base jobs refused = refused
 
 -- works were grafted, and the writers got what is said of the certificate's text and of the replies' lines
 pub graft : {p : Pesp} {base certificate : Content} {works : List WorkValue} {Gets Tells : List ℕ → Type 0} (replies : List Reply)
-    → IsGrafted p base works replies certificate → HasText certificate → Gets (spelling certificate) → Tells (flat_map reply_line replies) → WritesGraft p base works Gets Tells
+    → IsGrafted p base works replies certificate → HasText certificate → Gets (spelling certificate)
+    → Tells (flat_map reply_line replies) → WritesGraft p base works Gets Tells
 graft {certificate = certificate} replies grafted has_text gets tells = record {
   replies = replies;
   certificate = certificate;

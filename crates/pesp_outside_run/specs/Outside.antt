@@ -56,7 +56,8 @@ pub record WritesJobs (p : Pesp) (base : Content) (Gets : List ℕ → Type 0) :
   pub are_open : AreOpenJobs p base jobs
   pub written : Gets (jobs_text jobs)
 
--- each fault of `split` and its cause, in the order of what is read and written; the second reader is called only where the first text has an instance
+-- each fault of `split` and its cause, in the order of what is read and written; the second reader is called only where
+-- the first text has an instance
 abbrev pub SplitCause : Fault → Device → Device → Device → ℕ → Type 0 → Type 0
 SplitCause fault reader base_reader writer period uncalled =
     (InstanceCause fault reader period × uncalled)
@@ -91,7 +92,8 @@ WorkCause fault reader base_reader writer period jobs steps until uncalled =
 
 -- ---- graft
 
--- the first writer got what its relation says of the text of the certificate with these works grafted onto the base, and the second what its relation says of a line for each work
+-- the first writer got what its relation says of the text of the certificate with these works grafted onto the base,
+-- and the second what its relation says of a line for each work
 pub record WritesGraft (p : Pesp) (base : Content) (works : List WorkValue) (Gets Tells : List ℕ → Type 0) : Type 0 where
   pub replies : List Reply
   pub certificate : Content
@@ -118,7 +120,8 @@ CutsGraft p base works writer teller =
     (HasFailed writer × IsUncalled teller × WritesGraft p base works (GetsFront writer) (λ replies. Unit {0}))
     ⊎ (HasFailed teller × WritesGraft p base works (GetsWhole writer) (GetsFront teller))
 
--- each fault of `graft` and its cause; the second reader is called only where the first text has an instance, and the third only where the second has a base of it
+-- each fault of `graft` and its cause; the second reader is called only where the first text has an instance, and the
+-- third only where the second has a base of it
 abbrev pub GraftCause : Fault → Device → Device → Device → Device → Device → ℕ → Type 0 → Type 0 → Type 0
 GraftCause fault reader base_reader works_reader writer teller period uncalled works_uncalled =
     (InstanceCause fault reader period × uncalled × works_uncalled)

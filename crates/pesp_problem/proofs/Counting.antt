@@ -32,9 +32,11 @@ differ xs i j h k l e =
     ]
 
 -- the number at a place is above the place, where the first is above 0
-above_place : (xs : List ℕ) (i : ℕ) → IsStrictlyIncreasing xs → ((k : ℕ) → k < length xs → 1 ≤ slice_index xs k) → i < length xs → i + 1 ≤ slice_index xs i
+above_place : (xs : List ℕ) (i : ℕ) → IsStrictlyIncreasing xs → ((k : ℕ) → k < length xs → 1 ≤ slice_index xs k)
+    → i < length xs → i + 1 ≤ slice_index xs i
 above_place xs zero h some l = let first = some 0 l in omega (arith, first)
-above_place xs (suc i) h some l = let before = above_place xs i h some (omega arith) in let next = rises_to xs i (suc i) h (omega arith) l in omega (arith, before, next)
+above_place xs (suc i) h some l = let before = above_place xs i h some (omega arith) in
+    let next = rises_to xs i (suc i) h (omega arith) l in omega (arith, before, next)
 
 -- names that rise are no more than what they name
 pub rising_short : (xs : List ℕ) (n : ℕ) → IsStrictlyIncreasing xs → ((k : ℕ) → k < length xs → Names n (slice_index xs k)) → length xs ≤ n
@@ -61,20 +63,25 @@ distinct_short xs n d h =
 
 -- ---- ways, forests and tables
 
-pub ways_are_short : (arcs : List Arc) (way : List SignedRow) → AreRows arcs way → IsDistinct nat_eq (map (λ s. s.row) way) → length way ≤ length arcs
+pub ways_are_short : (arcs : List Arc) (way : List SignedRow) → AreRows arcs way
+    → IsDistinct nat_eq (map (λ s. s.row) way) → length way ≤ length arcs
 ways_are_short arcs way exist once =
-    let short = distinct_short (map (λ (s : SignedRow). s.row) way) (length arcs) once (All-map (Names (length arcs)) (λ (s : SignedRow). s.row) way exist) in
+    let short = distinct_short (map (λ (s : SignedRow). s.row) way) (length arcs) once
+    (All-map (Names (length arcs)) (λ (s : SignedRow). s.row) way exist) in
     omega (arith, short, length-map way (λ (s : SignedRow). s.row))
 
 pub forests_are_short : (arcs : List Arc) (forest : List ℕ) → IsSpanningForest arcs forest → length forest ≤ length arcs
 forests_are_short arcs forest f = distinct_short forest (length arcs) f.once f.exist
 
-own_named : (arcs : List Arc) (forest : List ℕ) (walk : List SignedRow) → IsFundamental arcs forest (own_row walk) walk → Names (length arcs) (own_row walk)
+own_named : (arcs : List Arc) (forest : List ℕ) (walk : List SignedRow)
+    → IsFundamental arcs forest (own_row walk) walk → Names (length arcs) (own_row walk)
 own_named arcs forest [] h = absurd h.closes
 own_named arcs forest (s ∷ walk) h = All-head (RowExists arcs) s walk h.closes.0
 
-pub tables_are_short : (arcs : List Arc) (forest : List ℕ) (table : List (List SignedRow)) → AreFundamental arcs forest table → length table ≤ length arcs
+pub tables_are_short : (arcs : List Arc) (forest : List ℕ) (table : List (List SignedRow))
+    → AreFundamental arcs forest table → length table ≤ length arcs
 tables_are_short arcs forest table f =
     let named = All-map (Names (length arcs)) own_row table (λ k d l. own_named arcs forest _ (f.each k d l)) in
-    let short = rising_short (map own_row table) (length arcs) f.rising (λ k l. All-get_or (Names (length arcs)) (map own_row table) k 0 l named) in
+    let short = rising_short (map own_row table) (length arcs) f.rising
+    (λ k l. All-get_or (Names (length arcs)) (map own_row table) k 0 l named) in
     omega (arith, short, length-map table own_row)

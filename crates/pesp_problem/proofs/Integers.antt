@@ -16,7 +16,14 @@ pub mul-add : (a b c : ℤ) → a *ℤ (b +ℤ c) ≡ a *ℤ b +ℤ a *ℤ c
 mul-add a b c = omega (arith, ints, ap (λ (n : ℕ). up a * n) (sum_is_lem b c), ap (λ (n : ℕ). down a * n) (sum_is_lem b c))
 
 pub mul-neg : (a b : ℤ) → a *ℤ neg_ℤ b ≡ neg_ℤ (a *ℤ b)
-mul-neg a b = omega (arith, ints, ap (λ (n : ℕ). up a * n) ((neg_is b).0), ap (λ (n : ℕ). down a * n) ((neg_is b).0), ap (λ (n : ℕ). up a * n) ((neg_is b).1), ap (λ (n : ℕ). down a * n) ((neg_is b).1))
+mul-neg a b = omega (
+  arith,
+  ints,
+  ap (λ (n : ℕ). up a * n) ((neg_is b).0),
+  ap (λ (n : ℕ). down a * n) ((neg_is b).0),
+  ap (λ (n : ℕ). up a * n) ((neg_is b).1),
+  ap (λ (n : ℕ). down a * n) ((neg_is b).1),
+)
 
 pub mul-sub : (a b c : ℤ) → a *ℤ (b -ℤ c) ≡ a *ℤ b -ℤ a *ℤ c
 mul-sub a b c = omega (arith, ints, mul-add a b (neg_ℤ c), mul-neg a c)
@@ -106,7 +113,14 @@ pub le-floor_div : (z : ℤ) (n : ℕ) (x : ℤ) → 0 < n → (pos n *ℤ x) �
 le-floor_div z n x h k =
     elim (le-cases x (floor_div z n)) [
       | inl m ↦ m
-      | inr m ↦ absurd (omega (arith, ints, quotient-remainder z n h, remainder-lt z n h, mul-le n (floor_div z n +ℤ pos 1) x m, mul-add (pos n) (floor_div z n) (pos 1)))
+      | inr m ↦ absurd (omega (
+        arith,
+        ints,
+        quotient-remainder z n h,
+        remainder-lt z n h,
+        mul-le n (floor_div z n +ℤ pos 1) x m,
+        mul-add (pos n) (floor_div z n) (pos 1),
+      ))
     ]
 
 pub ceil_div-le : (z : ℤ) (n : ℕ) (x : ℤ) → 0 < n → z ≤ℤ (pos n *ℤ x) → ceil_div z n ≤ℤ x

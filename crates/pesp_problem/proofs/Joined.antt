@@ -25,7 +25,9 @@ joined_both arcs a b c h k = (h.0 ++ k.0, All-append (RowExists arcs) h.0 k.0 h.
 joined_row : (arcs : List Arc) (s : SignedRow) → RowExists arcs s → AreJoined arcs (start arcs s) (finish arcs s)
 joined_row arcs s e = (s ∷ [], All-cons (RowExists arcs) s [] e (All-nil (RowExists arcs)), (refl, refl))
 
-turned : (arcs : List Arc) (row : ℕ) (plus : Bool) → Names (length arcs) row → AreJoined arcs (finish arcs (record { row = row; plus = plus })) (start arcs (record { row = row; plus = plus }))
+turned : (arcs : List Arc) (row : ℕ) (plus : Bool) → Names (length arcs) row
+    → AreJoined arcs (finish arcs (record { row = row; plus = plus }))
+    (start arcs (record { row = row; plus = plus }))
 turned arcs row true e = joined_row arcs (record { row = row; plus = false }) e
 turned arcs row false e = joined_row arcs (record { row = row; plus = true }) e
 
@@ -33,7 +35,9 @@ pub joined_back : (arcs : List Arc) (way : List SignedRow) (a b : ℕ) → AreRo
 joined_back arcs [] a b rows l = let P : ℕ → Type 0 = λ x. AreJoined arcs x a in subst P l (joined_same arcs a)
 joined_back arcs (s ∷ way) a b rows l =
     let P : ℕ → Type 0 = λ x. AreJoined arcs b x in
-    subst P l.0 (joined_both arcs b (finish arcs s) (start arcs s) (joined_back arcs way (finish arcs s) b (All-tail (RowExists arcs) s way rows) l.1) (turned arcs s.row s.plus (All-head (RowExists arcs) s way rows)))
+    subst P l.0 (joined_both arcs b (finish arcs s) (start arcs s)
+    (joined_back arcs way (finish arcs s) b (All-tail (RowExists arcs) s way rows) l.1)
+    (turned arcs s.row s.plus (All-head (RowExists arcs) s way rows)))
 
 -- both ends of a row are joined
 pub ends_joined : (arcs : List Arc) (i : ℕ) → i < length arcs → AreJoined arcs (arc_at arcs i).tail (arc_at arcs i).head
@@ -60,10 +64,17 @@ merged_cases a b f = by (nat_eq f a) (nat_eq f b) refl refl
     is : (x y : ℕ) → nat_eq x y ≡ true → x ≡ y
     is x y h = grind (arith, nat_tests)
 
-    by : (u v : Bool) → nat_eq f a ≡ u → nat_eq f b ≡ v → (((f ≡ a) ⊎ (f ≡ b)) × ((if nat_eq f a || nat_eq f b then min a b else f) ≡ min a b)) ⊎ ((if nat_eq f a || nat_eq f b then min a b else f) ≡ f)
+    by : (u v : Bool) → nat_eq f a ≡ u → nat_eq f b ≡ v
+        → (((f ≡ a) ⊎ (f ≡ b)) × ((if nat_eq f a || nat_eq f b then min a b else f) ≡ min a b))
+        ⊎ ((if nat_eq f a || nat_eq f b then min a b else f) ≡ f)
     by true v e g = inl (inl (is f a e), ap (λ (w : Bool). if w || nat_eq f b then min a b else f) e)
-    by false true e g = inl (inr (is f b g), ap (λ (w : Bool). if w || nat_eq f b then min a b else f) e ∙ ap (λ (w : Bool). if false || w then min a b else f) g)
-    by false false e g = inr (ap (λ (w : Bool). if w || nat_eq f b then min a b else f) e ∙ ap (λ (w : Bool). if false || w then min a b else f) g)
+    by false true e g = inl (
+      inr (is f b g),
+      ap (λ (w : Bool). if w || nat_eq f b then min a b else f) e
+          ∙ ap (λ (w : Bool). if false || w then min a b else f) g,
+    )
+    by false false e g = inr (ap (λ (w : Bool). if w || nat_eq f b then min a b else f) e
+        ∙ ap (λ (w : Bool). if false || w then min a b else f) g)
 
 merged_left : (a b : ℕ) → merged a b a ≡ min a b
 unfolding merged
@@ -95,7 +106,11 @@ merged_most a b f e = elim (which a b) [
 
 pub merged_else : (a b f : ℕ) → f ≢ max a b → merged a b f ≡ f
 merged_else a b f n = elim (merged_cases a b f) [
-  | inl h ↦ h.1 ∙ elim h.0 [ inl e ↦ let m : min a b ≡ f = lesser a b f (inl e) n in m | inr e ↦ let m : min a b ≡ f = lesser a b f (inr e) n in m ]
+  | inl h ↦ h.1 ∙ elim h.0 [
+    | inl e ↦ let m : min a b ≡ f = lesser a b f (inl e) n in
+        m
+    | inr e ↦ let m : min a b ≡ f = lesser a b f (inr e) n in m
+  ]
   | inr h ↦ h
 ]
   where
@@ -107,7 +122,8 @@ pub first_none : (arcs : List Arc) (x : ℕ) → first_in arcs 0 x ≡ x
 unfolding first_in
 first_none arcs x = refl
 
-pub first_more : (arcs : List Arc) (k x : ℕ) → first_in arcs (k + 1) x ≡ merged (first_in arcs k (arc_at arcs k).tail) (first_in arcs k (arc_at arcs k).head) (first_in arcs k x)
+pub first_more : (arcs : List Arc) (k x : ℕ) → first_in arcs (k + 1) x
+    ≡ merged (first_in arcs k (arc_at arcs k).tail) (first_in arcs k (arc_at arcs k).head) (first_in arcs k x)
 unfolding first_in
 first_more arcs k x = ap (λ (m : ℕ). first_in arcs m x) (add-one k)
 
@@ -135,7 +151,9 @@ first_same arcs (suc k) i l =
       | inl m ↦ ap (λ (f : ℕ). merged a b f) (first_same arcs k i m)
       | inr m ↦
           let e : i ≡ k = omega arith in
-          ap (λ (j : ℕ). merged a b (first_in arcs k (arc_at arcs j).tail)) e ∙ (merged_left a b ∙ (sym (merged_right a b) ∙ ap (λ (j : ℕ). merged a b (first_in arcs k (arc_at arcs j).head)) (sym e)))
+          ap (λ (j : ℕ). merged a b (first_in arcs k (arc_at arcs j).tail)) e
+          ∙ (merged_left a b ∙ (sym (merged_right a b)
+          ∙ ap (λ (j : ℕ). merged a b (first_in arcs k (arc_at arcs j).head)) (sym e)))
     ]
 
 first_joined : (arcs : List Arc) (k x : ℕ) → k ≤ length arcs → AreJoined arcs x (first_in arcs k x)
@@ -150,7 +168,8 @@ first_joined arcs (suc k) x l =
     let row = ends_joined arcs k (omega arith) in
     let ab = joined_both arcs _ t _ (joined_back arcs ja.0 t _ ja.1 ja.2) (joined_both arcs t h _ row jb) in
     let ba = joined_back arcs ab.0 _ _ ab.1 ab.2 in
-    reach (first_in arcs k t) (first_in arcs k h) (first_in arcs k x) jx ab ba (merged_cases (first_in arcs k t) (first_in arcs k h) (first_in arcs k x))
+    reach (first_in arcs k t) (first_in arcs k h) (first_in arcs k x) jx ab ba
+    (merged_cases (first_in arcs k t) (first_in arcs k h) (first_in arcs k x))
   where
     least : (a b : ℕ) → (min a b ≡ a) ⊎ (min a b ≡ b)
     least a b = grind arith
@@ -160,10 +179,13 @@ first_joined arcs (suc k) x l =
         let P : ℕ → Type 0 = λ y. AreJoined arcs x y in
         elim (least a b) [ inl q ↦ subst P (sym (e ∙ q)) ja | inr q ↦ subst P (sym (e ∙ q)) jb ]
 
-    reach : (a b f : ℕ) → AreJoined arcs x f → AreJoined arcs a b → AreJoined arcs b a → (((f ≡ a) ⊎ (f ≡ b)) × (merged a b f ≡ min a b)) ⊎ (merged a b f ≡ f) → AreJoined arcs x (merged a b f)
+    reach : (a b f : ℕ) → AreJoined arcs x f → AreJoined arcs a b → AreJoined arcs b a
+        → (((f ≡ a) ⊎ (f ≡ b)) × (merged a b f ≡ min a b)) ⊎ (merged a b f ≡ f) → AreJoined arcs x (merged a b f)
     reach a b f jx ab ba (inr e) = let P : ℕ → Type 0 = λ y. AreJoined arcs x y in subst P (sym e) jx
-    reach a b f jx ab ba (inl (inl q, e)) = let P : ℕ → Type 0 = λ y. AreJoined arcs x y in let ja = subst P q jx in to a b (merged a b f) e ja (joined_both arcs x a b ja ab)
-    reach a b f jx ab ba (inl (inr q, e)) = let P : ℕ → Type 0 = λ y. AreJoined arcs x y in let jb = subst P q jx in to a b (merged a b f) e (joined_both arcs x b a jb ba) jb
+    reach a b f jx ab ba (inl (inl q, e)) = let P : ℕ → Type 0 = λ y. AreJoined arcs x y in
+        let ja = subst P q jx in to a b (merged a b f) e ja (joined_both arcs x a b ja ab)
+    reach a b f jx ab ba (inl (inr q, e)) = let P : ℕ → Type 0 = λ y. AreJoined arcs x y in
+        let jb = subst P q jx in to a b (merged a b f) e (joined_both arcs x b a jb ba) jb
 
 -- the first event of a component
 pub first_event : List Arc → ℕ → ℕ
@@ -174,9 +196,12 @@ unfolding first_event
 along arcs [] a b rows l = ap (λ (x : ℕ). first_in arcs (length arcs) x) l
 along arcs (s ∷ way) a b rows l =
     let e : Names (length arcs) s.row = All-head (RowExists arcs) s way rows in
-    ap (λ (x : ℕ). first_in arcs (length arcs) x) (sym l.0) ∙ (over s.row s.plus e ∙ along arcs way (finish arcs s) b (All-tail (RowExists arcs) s way rows) l.1)
+    ap (λ (x : ℕ). first_in arcs (length arcs) x) (sym l.0)
+    ∙ (over s.row s.plus e ∙ along arcs way (finish arcs s) b (All-tail (RowExists arcs) s way rows) l.1)
   where
-    over : (row : ℕ) (plus : Bool) → Names (length arcs) row → first_in arcs (length arcs) (start arcs (record { row = row; plus = plus })) ≡ first_in arcs (length arcs) (finish arcs (record { row = row; plus = plus }))
+    over : (row : ℕ) (plus : Bool) → Names (length arcs) row
+        → first_in arcs (length arcs) (start arcs (record { row = row; plus = plus }))
+        ≡ first_in arcs (length arcs) (finish arcs (record { row = row; plus = plus }))
     over row true e = let l : row - 1 < length arcs = below row e.0 e.1 in first_same arcs (length arcs) (row - 1) l
       where
         below : (row : ℕ) → 1 ≤ row → row ≤ length arcs → row - 1 < length arcs
@@ -198,7 +223,9 @@ unfolding first_event
 first_all arcs x f e = subst (λ (y : ℕ). IsFirstOf arcs x y) (sym e) (first_is arcs x)
 
 pub one_first : (arcs : List Arc) (x f : ℕ) → IsFirstOf arcs x f → f ≡ first_event arcs x
-one_first arcs x f h = let o = first_is arcs x in let a : f ≤ first_event arcs x = h.least (first_event arcs x) o.joined in let b : first_event arcs x ≤ f = o.least f h.joined in omega arith
+one_first arcs x f h = let o = first_is arcs x in
+    let a : f ≤ first_event arcs x = h.least (first_event arcs x) o.joined in
+    let b : first_event arcs x ≤ f = o.least f h.joined in omega arith
 
 pub row_first : (arcs : List Arc) (i : ℕ) → i < length arcs → first_event arcs (arc_at arcs i).tail ≡ first_event arcs (arc_at arcs i).head
 unfolding first_event

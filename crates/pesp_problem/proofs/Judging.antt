@@ -20,8 +20,11 @@ lt-or-same : (k n : ℕ) → k < n + 1 → (k < n) ⊎ (k ≡ n)
 lt-or-same k n h = grind arith
 
 -- one more row
-pub judged-more : (period : ℕ) (rows : List Row) (times : List ℕ) (i total y events : ℕ) → Judged period rows times i total → i < length rows → period ≤ 10000 → y < period → All (RowKeepsLimits events) rows
-    → y ≡ slack period times (row_at rows i) → pos y ≤ℤ ((row_at rows i).upper -ℤ (row_at rows i).lower) → Judged period rows times (i + 1) (total + (row_at rows i).weight * y)
+pub judged-more : (period : ℕ) (rows : List Row) (times : List ℕ) (i total y events : ℕ)
+    → Judged period rows times i total → i < length rows → period ≤ 10000 → y < period
+    → All (RowKeepsLimits events) rows
+    → y ≡ slack period times (row_at rows i) → pos y ≤ℤ ((row_at rows i).upper -ℤ (row_at rows i).lower)
+    → Judged period rows times (i + 1) (total + (row_at rows i).weight * y)
 judged-more period rows times i total y events before there small below limits is fits =
     let keeps = All-get_or (RowKeepsLimits events) rows i no_row there limits in
     let least : y ≤ 9999 = omega arith in
@@ -36,12 +39,14 @@ judged-more period rows times i total y events before there small below limits i
     }
 
 -- all rows
-pub judged-all : (p : Pesp) (times : List ℕ) (i total : ℕ) → Judged p.period p.rows times i total → length p.rows ≤ i → All (λ row. IsSatisfied p times row) p.rows × (cost p.period p.rows times ≡ total)
+pub judged-all : (p : Pesp) (times : List ℕ) (i total : ℕ) → Judged p.period p.rows times i total
+    → length p.rows ≤ i → All (λ row. IsSatisfied p times row) p.rows × (cost p.period p.rows times ≡ total)
 judged-all p times i total before there = (
   λ k d l. rw (get_or_default p.rows k d no_row l) (before.satisfied k (omega arith)),
   ap (λ rows. cost p.period rows times) (sym (take_all i p.rows there)) ∙ sym before.sum,
 )
 
 -- a timetable has one cost
-pub only_cost : (p : Pesp) (times : List ℕ) (total : ℕ) → IsTimetableOfCost p times total → (c : ℕ) → (Feasible total ≡ Feasible c) ↔ IsTimetableOfCost p times c
+pub only_cost : (p : Pesp) (times : List ℕ) (total : ℕ) → IsTimetableOfCost p times total → (c : ℕ)
+    → (Feasible total ≡ Feasible c) ↔ IsTimetableOfCost p times c
 only_cost p times total t c = (λ e. let same : total ≡ c = cc in rw (← same) t, λ u. ap Feasible (sym t.1 ∙ u.1))

@@ -21,22 +21,40 @@ has_none events s e l = grind (arith, nat_tests)
 
 is_family : (n : Net) (events more : ℕ) (s : Family) → 0 < n.period → IsFamily n events s → IsFamily n more (extended events s)
 is_family n events more s h f = record {
-  below = λ e d l k. elim (cases_lt e events) [ inl low ↦ f.below e d low (sym (inside events s e d low) ∙ k) | inr out ↦ omega (arith, h, outside events s e d out k) ];
-  first = λ e d l is k. elim (cases_lt e events) [ inl low ↦ f.first e d low is (sym (inside events s e d low) ∙ k) | inr out ↦ outside events s e d out k ];
+  below = λ e d l k. elim (cases_lt e events) [
+    | inl low ↦
+        f.below e d low (sym (inside events s e d low) ∙ k)
+    | inr out ↦
+        omega (arith, h, outside events s e d out k)
+  ];
+  first = λ e d l is k. elim (cases_lt e events)
+      [ inl low ↦ f.first e d low is (sym (inside events s e d low) ∙ k) | inr out ↦ outside events s e d out k ];
 }
 
-is_supported : (n : Net) (ranges : List (ℕ × ℕ)) (events : ℕ) (s : Family) → All (λ arc. (arc.tail < events) × (arc.head < events)) n.arcs → IsSupported n ranges s → IsSupported n ranges (extended events s)
+is_supported : (n : Net) (ranges : List (ℕ × ℕ)) (events : ℕ) (s : Family)
+    → All (λ arc. (arc.tail < events) × (arc.head < events)) n.arcs → IsSupported n ranges s
+    → IsSupported n ranges (extended events s)
 is_supported n ranges events s ends k i l =
     let arc = arc_at n.arcs i in
     let at : (arc.tail < events) × (arc.head < events) = ends i no_arc l in
     let by = k i l in
     record {
-      tails = λ t h. (let p = by.tails t (sym (inside events s arc.tail t at.0) ∙ h) in (p.0, inside events s arc.head p.0 at.1 ∙ p.1, p.2));
-      heads = λ d h. (let p = by.heads d (sym (inside events s arc.head d at.1) ∙ h) in (p.0, inside events s arc.tail p.0 at.0 ∙ p.1, p.2));
+      tails = λ t h. (let p = by.tails t (sym (inside events s arc.tail t at.0) ∙ h) in
+          (p.0, inside events s arc.head p.0 at.1 ∙ p.1, p.2));
+      heads = λ d h. (let p = by.heads d (sym (inside events s arc.head d at.1) ∙ h) in
+          (p.0, inside events s arc.tail p.0 at.0 ∙ p.1, p.2));
     }
 
 no_empty : (events more : ℕ) (s : Family) → HasNoEmpty events s → HasNoEmpty more (extended events s)
-no_empty events more s h e l = elim (cases_lt e events) [ inl low ↦ (let p = h e low in (p.0, inside events s e p.0 low ∙ p.1)) | inr out ↦ (0, has_none events s e out) ]
+no_empty events more s h e l = elim (cases_lt e events) [
+  | inl low ↦ (let p = h e low in (p.0, inside events s e p.0 low ∙ p.1))
+  | inr out ↦
+      (0, has_none events s e out)
+]
 
-pub none_for_all : (n : Net) (ranges : List (ℕ × ℕ)) (events more : ℕ) → 0 < n.period → All (λ arc. (arc.tail < events) × (arc.head < events)) n.arcs → NoFamilyIsSupported n ranges more → NoFamilyIsSupported n ranges events
-none_for_all n ranges events more h ends none s f k some = none (extended events s) (is_family n events more s h f) (is_supported n ranges events s ends k) (no_empty events more s some)
+pub none_for_all : (n : Net) (ranges : List (ℕ × ℕ)) (events more : ℕ) → 0 < n.period
+    → All (λ arc. (arc.tail < events) × (arc.head < events)) n.arcs → NoFamilyIsSupported n ranges more
+    → NoFamilyIsSupported n ranges events
+none_for_all n ranges events more h ends none s f k some =
+    none (extended events s) (is_family n events more s h f) (is_supported n ranges events s ends k)
+    (no_empty events more s some)

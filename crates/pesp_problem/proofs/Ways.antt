@@ -54,7 +54,8 @@ all_back P (s ∷ way) h =
     let Q : SignedRow → Type 0 = λ x. P x.row in
     All-push Q (back way) (turned s) (all_back P way (All-tail Q s way h)) (All-head Q s way h)
 
-turned_if : (plus here : Bool) → (if here then (if not plus then pos 1 else negsuc 0) else pos 0) ≡ neg_ℤ (if here then (if plus then pos 1 else negsuc 0) else pos 0)
+turned_if : (plus here : Bool) → (if here then (if not plus then pos 1 else negsuc 0) else pos 0)
+    ≡ neg_ℤ (if here then (if plus then pos 1 else negsuc 0) else pos 0)
 turned_if true true = refl
 turned_if true false = refl
 turned_if false true = refl
@@ -80,7 +81,8 @@ pub closed : (arcs : List Arc) (walk : List SignedRow) → IsWalk arcs walk → 
 closed arcs [] w = absurd w
 closed arcs (s ∷ walk) w = record { event = start arcs s; rows = w.0; closes = w.1 }
 
-pub is_walk : (arcs : List Arc) (a : ℕ) (s : SignedRow) (way : List SignedRow) → AreRows arcs (s ∷ way) → Leads arcs a (s ∷ way) a → IsWalk arcs (s ∷ way)
+pub is_walk : (arcs : List Arc) (a : ℕ) (s : SignedRow) (way : List SignedRow) → AreRows arcs (s ∷ way)
+    → Leads arcs a (s ∷ way) a → IsWalk arcs (s ∷ way)
 is_walk arcs a s way r h = (r, (refl, subst (λ (x : ℕ). Leads arcs (finish arcs s) way x) (sym h.0) h.1))
 
 -- ---- ways along rows of which P holds
@@ -93,8 +95,13 @@ pub record WayOver (arcs : List Arc) (P : ℕ → Type 0) (a b : ℕ) : Type 0 w
 pub no_way : (arcs : List Arc) (P : ℕ → Type 0) (a b : ℕ) → a ≡ b → WayOver arcs P a b
 no_way arcs P a b e = record { way = []; over = All-nil (λ (s : SignedRow). P s.row); leads = e }
 
-pub one_row : (arcs : List Arc) (P : ℕ → Type 0) (a b : ℕ) (s : SignedRow) → P s.row → start arcs s ≡ a → finish arcs s ≡ b → WayOver arcs P a b
-one_row arcs P a b s p starts ends = record { way = s ∷ []; over = All-cons (λ (x : SignedRow). P x.row) s [] p (All-nil (λ (x : SignedRow). P x.row)); leads = (starts, ends) }
+pub one_row : (arcs : List Arc) (P : ℕ → Type 0) (a b : ℕ) (s : SignedRow) → P s.row → start arcs s ≡ a
+    → finish arcs s ≡ b → WayOver arcs P a b
+one_row arcs P a b s p starts ends = record {
+  way = s ∷ [];
+  over = All-cons (λ (x : SignedRow). P x.row) s [] p (All-nil (λ (x : SignedRow). P x.row));
+  leads = (starts, ends);
+}
 
 pub way_joined : (arcs : List Arc) (P : ℕ → Type 0) (a b c : ℕ) → WayOver arcs P a b → WayOver arcs P b c → WayOver arcs P a c
 way_joined arcs P a b c v w = record {
@@ -107,4 +114,8 @@ pub way_back : (arcs : List Arc) (P : ℕ → Type 0) (a b : ℕ) → WayOver ar
 way_back arcs P a b w = record { way = back w.way; over = all_back P w.way w.over; leads = leads_back arcs w.way a b w.leads }
 
 pub way_weaker : (arcs : List Arc) (P Q : ℕ → Type 0) (a b : ℕ) → ((k : ℕ) → P k → Q k) → WayOver arcs P a b → WayOver arcs Q a b
-way_weaker arcs P Q a b weaker w = record { way = w.way; over = All-weaker (λ (s : SignedRow). P s.row) (λ (s : SignedRow). Q s.row) (λ s. weaker s.row) w.way w.over; leads = w.leads }
+way_weaker arcs P Q a b weaker w = record {
+  way = w.way;
+  over = All-weaker (λ (s : SignedRow). P s.row) (λ (s : SignedRow). Q s.row) (λ s. weaker s.row) w.way w.over;
+  leads = w.leads;
+}

@@ -9,6 +9,13 @@ sum_most xs ys false h = let e : sum ys ≡ sum xs = ap sum (h.same refl) in ome
 
 pub less_step : (xs ys zs : List ℕ) (b c : Bool) → IsLess xs ys b → IsLess ys zs c → IsLess xs zs (b || c)
 less_step xs ys zs true true h k = record { same = λ e. absurd (cc); less = λ _. let l = h.less refl in let m = k.less refl in omega arith }
-less_step xs ys zs true false h k = record { same = λ e. absurd (cc); less = λ _. let l = h.less refl in let m : sum zs ≡ sum ys = ap sum (k.same refl) in omega arith }
-less_step xs ys zs false true h k = record { same = λ e. absurd (cc); less = λ _. let l : sum ys ≡ sum xs = ap sum (h.same refl) in let m = k.less refl in omega arith }
+less_step xs ys zs true false h k = record {
+  same = λ e. absurd (cc);
+  less = λ _. let l = h.less refl in
+      let m : sum zs ≡ sum ys = ap sum (k.same refl) in omega arith;
+}
+less_step xs ys zs false true h k = record {
+  same = λ e. absurd (cc);
+  less = λ _. let l : sum ys ≡ sum xs = ap sum (h.same refl) in let m = k.less refl in omega arith;
+}
 less_step xs ys zs false false h k = record { same = λ _. k.same refl ∙ h.same refl; less = λ e. absurd (cc) }

@@ -42,7 +42,13 @@ abbrev pub one_row : Pesp
 one_row = record { period = 10; events = pos 1 ∷ pos 2 ∷ []; rows = row (pos 1) 0 1 (pos 0) (pos 9) 3 ∷ [] }
 
 pub one_row_timetable : IsTimetableOfCost one_row (0 ∷ 0 ∷ []) 0
-one_row_timetable = (((refl, both (λ t. t < 10) 0 0 (omega arith) (omega arith)), single (λ r. IsSatisfied one_row (0 ∷ 0 ∷ []) r) (row (pos 1) 0 1 (pos 0) (pos 9) 3) (le_z_yes tt)), refl)
+one_row_timetable = (
+  (
+    (refl, both (λ t. t < 10) 0 0 (omega arith) (omega arith)),
+    single (λ r. IsSatisfied one_row (0 ∷ 0 ∷ []) r) (row (pos 1) 0 1 (pos 0) (pos 9) 3) (le_z_yes tt),
+  ),
+  refl,
+)
 
 -- a row whose slack at equal times is its lower bound short of the period
 abbrev pub late : Pesp
@@ -76,7 +82,11 @@ period_one times r = omega (arith, slack-lt-period 1 times r (omega arith))
 
 -- a lower bound below 0 beside a fixed row
 abbrev pub beside_fixed : Pesp
-beside_fixed = record { period = 10; events = pos 1 ∷ pos 2 ∷ []; rows = row (pos 1) 0 1 (neg_ℤ (pos 5)) (pos 4) 1 ∷ row (pos 2) 0 1 (pos 5) (pos 5) 1 ∷ [] }
+beside_fixed = record {
+  period = 10;
+  events = pos 1 ∷ pos 2 ∷ [];
+  rows = row (pos 1) 0 1 (neg_ℤ (pos 5)) (pos 4) 1 ∷ row (pos 2) 0 1 (pos 5) (pos 5) 1 ∷ [];
+}
 
 beside_fixed_slacks : (slack 10 (0 ∷ 5 ∷ []) (row_at beside_fixed.rows 0) ≡ 0) × (slack 10 (0 ∷ 5 ∷ []) (row_at beside_fixed.rows 1) ≡ 0)
 beside_fixed_slacks = (refl, refl)
@@ -84,7 +94,11 @@ beside_fixed_slacks = (refl, refl)
 -- ---- two rows against one another
 
 abbrev pub against : Pesp
-against = record { period = 10; events = pos 1 ∷ pos 2 ∷ []; rows = row (pos 1) 0 1 (pos 3) (pos 12) 2 ∷ row (pos 2) 1 0 (pos 4) (pos 13) 1 ∷ [] }
+against = record {
+  period = 10;
+  events = pos 1 ∷ pos 2 ∷ [];
+  rows = row (pos 1) 0 1 (pos 3) (pos 12) 2 ∷ row (pos 2) 1 0 (pos 4) (pos 13) 1 ∷ [];
+}
 
 abbrev pub against_table : List (List SignedRow)
 against_table = (plus 1 ∷ plus 2 ∷ []) ∷ []
@@ -92,7 +106,8 @@ against_table = (plus 1 ∷ plus 2 ∷ []) ∷ []
 abbrev pub against_root : Node
 against_root = root (net_of against) against_table
 
-against_sums : (least_sum (arcs_of against) against_root.slacks (plus 1 ∷ plus 2 ∷ []) ≡ pos 7) × (greatest_sum (arcs_of against) against_root.slacks (plus 1 ∷ plus 2 ∷ []) ≡ pos 25)
+against_sums : (least_sum (arcs_of against) against_root.slacks (plus 1 ∷ plus 2 ∷ []) ≡ pos 7)
+    × (greatest_sum (arcs_of against) against_root.slacks (plus 1 ∷ plus 2 ∷ []) ≡ pos 25)
 against_sums = (refl, refl)
 
 against_offsets : offsets_left (net_of against) against_table against_root 0 ≡ Some (pos 1, pos 2)
@@ -114,7 +129,11 @@ against_cost_at_zero = refl
 -- ---- two rows side by side
 
 abbrev pub aside : Pesp
-aside = record { period = 10; events = pos 1 ∷ pos 2 ∷ []; rows = row (pos 1) 0 1 (pos 0) (pos 9) 1 ∷ row (pos 2) 0 1 (pos 5) (pos 14) 1 ∷ [] }
+aside = record {
+  period = 10;
+  events = pos 1 ∷ pos 2 ∷ [];
+  rows = row (pos 1) 0 1 (pos 0) (pos 9) 1 ∷ row (pos 2) 0 1 (pos 5) (pos 14) 1 ∷ [];
+}
 
 abbrev pub aside_table : List (List SignedRow)
 aside_table = (plus 1 ∷ minus 2 ∷ []) ∷ []
@@ -129,7 +148,8 @@ aside_low = low_part aside_root (Offset 1 (negsuc 0))
 abbrev pub aside_high : Node
 aside_high = high_part aside_root (Offset 1 (negsuc 0))
 
-aside_sums : (least_sum (arcs_of aside) aside_root.slacks (plus 1 ∷ minus 2 ∷ []) ≡ neg_ℤ (pos 14)) × (greatest_sum (arcs_of aside) aside_root.slacks (plus 1 ∷ minus 2 ∷ []) ≡ pos 4)
+aside_sums : (least_sum (arcs_of aside) aside_root.slacks (plus 1 ∷ minus 2 ∷ []) ≡ neg_ℤ (pos 14))
+    × (greatest_sum (arcs_of aside) aside_root.slacks (plus 1 ∷ minus 2 ∷ []) ≡ pos 4)
 aside_sums = (refl, refl)
 
 aside_offsets : offsets_left (net_of aside) aside_table aside_root 0 ≡ Some (negsuc 0, pos 0)
@@ -165,7 +185,8 @@ aside_empty_value : leaf_value (net_of aside) aside_table aside_root [] false �
 aside_empty_value = refl
 
 -- a cut of the first row's slack at 2, and its two parts
-aside_slack_cut : ((low_part aside_root (Slack 1 2)).slacks ≡ (0, 2) ∷ (0, 9) ∷ []) × ((high_part aside_root (Slack 1 2)).slacks ≡ (3, 9) ∷ (0, 9) ∷ [])
+aside_slack_cut : ((low_part aside_root (Slack 1 2)).slacks ≡ (0, 2) ∷ (0, 9) ∷ [])
+    × ((high_part aside_root (Slack 1 2)).slacks ≡ (3, 9) ∷ (0, 9) ∷ [])
 aside_slack_cut = (refl, refl)
 
 aside_cost : cost 10 aside.rows (0 ∷ 0 ∷ []) ≡ 5
@@ -195,7 +216,8 @@ loop_cost = refl
 abbrev pub tight_loop : Pesp
 tight_loop = record { period = 10; events = pos 1 ∷ []; rows = row (pos 1) 0 0 (pos 3) (pos 9) 2 ∷ [] }
 
-tight_loop_sums : (least_sum (arcs_of tight_loop) (root_slacks (net_of tight_loop)) (plus 1 ∷ []) ≡ pos 3) × (greatest_sum (arcs_of tight_loop) (root_slacks (net_of tight_loop)) (plus 1 ∷ []) ≡ pos 9)
+tight_loop_sums : (least_sum (arcs_of tight_loop) (root_slacks (net_of tight_loop)) (plus 1 ∷ []) ≡ pos 3)
+    × (greatest_sum (arcs_of tight_loop) (root_slacks (net_of tight_loop)) (plus 1 ∷ []) ≡ pos 9)
 tight_loop_sums = (refl, refl)
 
 tight_loop_offsets : offsets_left (net_of tight_loop) loop_table (root (net_of tight_loop) loop_table) 0 ≡ None
@@ -214,7 +236,8 @@ large_slack = refl
 large_offsets : offsets_left (net_of large) loop_table (root (net_of large) loop_table) 0 ≡ Some (pos 1, pos 1)
 large_offsets = refl
 
-large_value : leaf_value (net_of large) loop_table (root (net_of large) loop_table) (pair 1 (pos 1000000000) ∷ []) true ≡ Some (pos 10000000000000 -ℤ pos 1000000000)
+large_value : leaf_value (net_of large) loop_table (root (net_of large) loop_table)
+    (pair 1 (pos 1000000000) ∷ []) true ≡ Some (pos 10000000000000 -ℤ pos 1000000000)
 large_value = refl
 
 large_cost : cost 10000 large.rows (0 ∷ []) ≡ 9999000000000
@@ -223,18 +246,27 @@ large_cost = refl
 -- ---- two cycles that only together show that there is no timetable
 
 abbrev pub crossed : Pesp
-crossed = record { period = 10; events = pos 1 ∷ pos 2 ∷ []; rows = row (pos 1) 0 1 (pos 0) (pos 4) 1 ∷ row (pos 2) 1 0 (pos 5) (pos 8) 1 ∷ row (pos 3) 0 1 (pos 0) (pos 1) 1 ∷ [] }
+crossed = record {
+  period = 10;
+  events = pos 1 ∷ pos 2 ∷ [];
+  rows = row (pos 1) 0 1 (pos 0) (pos 4) 1 ∷ row (pos 2) 1 0 (pos 5) (pos 8) 1
+      ∷ row (pos 3) 0 1 (pos 0) (pos 1) 1 ∷ [];
+}
 
 abbrev pub crossed_table : List (List SignedRow)
 crossed_table = (plus 1 ∷ plus 2 ∷ []) ∷ (plus 1 ∷ minus 3 ∷ []) ∷ []
 
-crossed_offsets : (offsets_left (net_of crossed) crossed_table (root (net_of crossed) crossed_table) 0 ≡ Some (pos 1, pos 1)) × (offsets_left (net_of crossed) crossed_table (root (net_of crossed) crossed_table) 1 ≡ Some (pos 0, pos 0))
+crossed_offsets : (offsets_left (net_of crossed) crossed_table (root (net_of crossed) crossed_table) 0
+    ≡ Some (pos 1, pos 1)) × (offsets_left (net_of crossed) crossed_table (root (net_of crossed) crossed_table) 1
+    ≡ Some (pos 0, pos 0))
 crossed_offsets = (refl, refl)
 
-crossed_value : leaf_value (net_of crossed) crossed_table (root (net_of crossed) crossed_table) (pair 1 (pos 1) ∷ pair 2 (negsuc 0) ∷ []) false ≡ Some (pos 1)
+crossed_value : leaf_value (net_of crossed) crossed_table (root (net_of crossed) crossed_table)
+    (pair 1 (pos 1) ∷ pair 2 (negsuc 0) ∷ []) false ≡ Some (pos 1)
 crossed_value = refl
 
 -- ---- net counts of a walk that passes a row both ways
 
-both_ways : (net_count (plus 1 ∷ minus 1 ∷ plus 2 ∷ plus 2 ∷ []) 0 ≡ pos 0) × (net_count (plus 1 ∷ minus 1 ∷ plus 2 ∷ plus 2 ∷ []) 1 ≡ pos 2)
+both_ways : (net_count (plus 1 ∷ minus 1 ∷ plus 2 ∷ plus 2 ∷ []) 0 ≡ pos 0)
+    × (net_count (plus 1 ∷ minus 1 ∷ plus 2 ∷ plus 2 ∷ []) 1 ≡ pos 2)
 both_ways = (refl, refl)

@@ -27,8 +27,10 @@ pub record ArePartners (period : ℕ) (arc : Arc) (range : ℕ × ℕ) (at_tail 
 
 -- each difference at one end has a partner at the other
 pub record IsSupportedBy (period : ℕ) (arc : Arc) (range : ℕ × ℕ) (s : Family) : Type 0 where
-  pub tails : (at_tail : ℕ) → s arc.tail at_tail ≡ true → (at_head : ℕ) × (s arc.head at_head ≡ true) × ArePartners period arc range at_tail at_head
-  pub heads : (at_head : ℕ) → s arc.head at_head ≡ true → (at_tail : ℕ) × (s arc.tail at_tail ≡ true) × ArePartners period arc range at_tail at_head
+  pub tails : (at_tail : ℕ) → s arc.tail at_tail ≡ true
+      → (at_head : ℕ) × (s arc.head at_head ≡ true) × ArePartners period arc range at_tail at_head
+  pub heads : (at_head : ℕ) → s arc.head at_head ≡ true
+      → (at_tail : ℕ) × (s arc.tail at_tail ≡ true) × ArePartners period arc range at_tail at_head
 
 -- every arc supports the family under its slack range
 abbrev pub IsSupported : Net → List (ℕ × ℕ) → Family → Type 0

@@ -16,7 +16,8 @@ HaveNoCycle arcs rows = (walk : List SignedRow) (i : ℕ) → IsWalk arcs walk �
 
 -- where a way leads, a way along these rows leads too
 abbrev pub JoinAll : List Arc → List ℕ → Type 0
-JoinAll arcs rows = (a b : ℕ) (way : List SignedRow) → AreRows arcs way → Leads arcs a way b → (other : List SignedRow) × KeepsTo rows other × Leads arcs a other b
+JoinAll arcs rows = (a b : ℕ) (way : List SignedRow) → AreRows arcs way → Leads arcs a way b
+    → (other : List SignedRow) × KeepsTo rows other × Leads arcs a other b
 
 -- rows, none of them twice, that have no cycle and join what the arcs join
 pub record IsSpanningForest (arcs : List Arc) (rows : List ℕ) : Type 0 where

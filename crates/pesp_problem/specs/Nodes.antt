@@ -34,7 +34,9 @@ SlacksIn n slacks ranges = (i : ℕ) → i < length n.arcs → ((slack_range ran
 
 -- each cycle has an offset, and it is in its range
 abbrev pub OffsetsIn : Net → List (List SignedRow) → (ℕ → ℕ) → List (ℤ × ℤ) → Type 0
-OffsetsIn n table slacks ranges = (c : ℕ) → c < length table → (z : ℤ) × HasOffset n slacks (cycle_at table c) z × ((offset_range ranges c).0 ≤ℤ z) × (z ≤ℤ (offset_range ranges c).1)
+OffsetsIn n table slacks ranges = (c : ℕ) → c < length table
+    → (z : ℤ) × HasOffset n slacks (cycle_at table c) z × ((offset_range ranges c).0 ≤ℤ z)
+    × (z ≤ℤ (offset_range ranges c).1)
 
 -- the slacks lie in the node
 abbrev pub LieIn : Net → List (List SignedRow) → (ℕ → ℕ) → Node → Type 0
@@ -44,10 +46,14 @@ LieIn n table slacks node = SlacksIn n slacks node.slacks × OffsetsIn n table s
 
 -- the least sum of net count times duration that the slack ranges allow, and the greatest
 abbrev pub least_sum : List Arc → List (ℕ × ℕ) → List SignedRow → ℤ
-least_sum arcs slacks walk = over_arcs arcs (λ i. scaled (net_count walk i) ((arc_at arcs i).lower +ℤ pos (slack_range slacks i).0) ((arc_at arcs i).lower +ℤ pos (slack_range slacks i).1))
+least_sum arcs slacks walk = over_arcs arcs (λ i.
+    scaled (net_count walk i) ((arc_at arcs i).lower +ℤ pos (slack_range slacks i).0)
+    ((arc_at arcs i).lower +ℤ pos (slack_range slacks i).1))
 
 abbrev pub greatest_sum : List Arc → List (ℕ × ℕ) → List SignedRow → ℤ
-greatest_sum arcs slacks walk = over_arcs arcs (λ i. scaled (net_count walk i) ((arc_at arcs i).lower +ℤ pos (slack_range slacks i).1) ((arc_at arcs i).lower +ℤ pos (slack_range slacks i).0))
+greatest_sum arcs slacks walk = over_arcs arcs
+    (λ i. scaled (net_count walk i) ((arc_at arcs i).lower +ℤ pos (slack_range slacks i).1)
+    ((arc_at arcs i).lower +ℤ pos (slack_range slacks i).0))
 
 -- the offsets for which the period times the offset lies between these sums (Odijk 1996)
 abbrev pub odijk_range : Net → List (ℕ × ℕ) → List SignedRow → ℤ × ℤ
@@ -65,7 +71,9 @@ offsets_left n table node c =
 -- an offset of the range for which the period times it lies between the two sums
 abbrev pub IsOffsetLeft : Net → List (List SignedRow) → Node → ℕ → ℤ → Type 0
 IsOffsetLeft n table node c z =
-    ((offset_range node.offsets c).0 ≤ℤ z) × (z ≤ℤ (offset_range node.offsets c).1) × (least_sum n.arcs node.slacks (cycle_at table c) ≤ℤ (pos n.period *ℤ z)) × ((pos n.period *ℤ z) ≤ℤ greatest_sum n.arcs node.slacks (cycle_at table c))
+    ((offset_range node.offsets c).0 ≤ℤ z) × (z ≤ℤ (offset_range node.offsets c).1)
+    × (least_sum n.arcs node.slacks (cycle_at table c) ≤ℤ (pos n.period *ℤ z))
+    × ((pos n.period *ℤ z) ≤ℤ greatest_sum n.arcs node.slacks (cycle_at table c))
 
 -- ---- the root and the parts of a branch
 
@@ -78,13 +86,37 @@ root n table = record { slacks = root_slacks n; offsets = map (odijk_range n (ro
 
 -- the part in which the cut range is at most k
 abbrev pub low_part : Node → Cut → Node
-low_part node (Slack row k) = record node { slacks = slice_set node.slacks (row - 1) ((slack_range node.slacks (row - 1)).0, min (slack_range node.slacks (row - 1)).1 k) }
-low_part node (Offset cycle k) = record node { offsets = slice_set node.offsets (cycle - 1) ((offset_range node.offsets (cycle - 1)).0, int_min (offset_range node.offsets (cycle - 1)).1 k) }
+low_part node (Slack row k) = record node {
+  slacks =
+      slice_set node.slacks (row - 1) (
+        (slack_range node.slacks (row - 1)).0,
+        min (slack_range node.slacks (row - 1)).1 k,
+      );
+}
+low_part node (Offset cycle k) = record node {
+  offsets =
+      slice_set node.offsets (cycle - 1) (
+        (offset_range node.offsets (cycle - 1)).0,
+        int_min (offset_range node.offsets (cycle - 1)).1 k,
+      );
+}
 
 -- the part in which it is at least k + 1
 abbrev pub high_part : Node → Cut → Node
-high_part node (Slack row k) = record node { slacks = slice_set node.slacks (row - 1) (max (slack_range node.slacks (row - 1)).0 (k + 1), (slack_range node.slacks (row - 1)).1) }
-high_part node (Offset cycle k) = record node { offsets = slice_set node.offsets (cycle - 1) (int_max (offset_range node.offsets (cycle - 1)).0 (k +ℤ pos 1), (offset_range node.offsets (cycle - 1)).1) }
+high_part node (Slack row k) = record node {
+  slacks =
+      slice_set node.slacks (row - 1) (
+        max (slack_range node.slacks (row - 1)).0 (k + 1),
+        (slack_range node.slacks (row - 1)).1,
+      );
+}
+high_part node (Offset cycle k) = record node {
+  offsets =
+      slice_set node.offsets (cycle - 1) (
+        int_max (offset_range node.offsets (cycle - 1)).0 (k +ℤ pos 1),
+        (offset_range node.offsets (cycle - 1)).1,
+      );
+}
 
 abbrev pub part : Node → Cut → Side → Node
 part node cut Low = low_part node cut
@@ -102,11 +134,13 @@ abbrev pub flow : List (List SignedRow) → List Pair → ℕ → ℤ
 flow table [] i = pos 0
 flow table (pair ∷ pairs) i = pair.mult *ℤ net_count (cycle_at table (pair.cycle - 1)) i +ℤ flow table pairs i
 
--- the sum over the pairs of the multiplier times the least offset left, or the greatest where the multiplier is negative; none where a cycle has no offset left
+-- the sum over the pairs of the multiplier times the least offset left, or the greatest where the multiplier is
+-- negative; none where a cycle has no offset left
 abbrev pub offset_part : Net → List (List SignedRow) → Node → List Pair → Option ℤ
 offset_part n table node [] = Some (pos 0)
 offset_part n table node (pair ∷ pairs) =
-    option_and_then (λ left. option_map (λ rest. scaled pair.mult left.0 left.1 +ℤ rest) (offset_part n table node pairs)) (offsets_left n table node (pair.cycle - 1))
+    option_and_then (λ left. option_map (λ rest. scaled pair.mult left.0 left.1 +ℤ rest)
+    (offset_part n table node pairs)) (offsets_left n table node (pair.cycle - 1))
 
 -- the weight, or 0 for a leaf that is to show that no timetable lies in the node
 abbrev pub weight_of : Bool → Arc → ℤ
@@ -122,5 +156,6 @@ slack_part n table node pairs weighted i =
 abbrev pub leaf_value : Net → List (List SignedRow) → Node → List Pair → Bool → Option ℤ
 leaf_value n table node pairs weighted =
     option_map
-    (λ offsets. pos n.period *ℤ offsets -ℤ over_arcs n.arcs (λ i. flow table pairs i *ℤ (arc_at n.arcs i).lower) +ℤ over_arcs n.arcs (slack_part n table node pairs weighted))
+    (λ offsets. pos n.period *ℤ offsets -ℤ over_arcs n.arcs (λ i. flow table pairs i *ℤ (arc_at n.arcs i).lower)
+    +ℤ over_arcs n.arcs (slack_part n table node pairs weighted))
     (offset_part n table node pairs)

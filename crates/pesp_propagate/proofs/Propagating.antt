@@ -29,21 +29,28 @@ pub record Ended (n : Net) (ranges : List (ℕ × ℕ)) (events : ℕ) (old new 
   pub supported : IfOk result (LeavesSupported n ranges new)
 
 -- the period and the arcs of the work are those of the network
-pub at_network : (n : NetworkValue) (rows : RowsValue) (ranges : List (ℕ × ℕ)) (old new : SetRows) (result : Result Outcome Memory) → rows ≡ rows_of n → old.period ≡ n.period → new.period ≡ n.period
-    → Ended (net_at rows.period rows.arcs) ranges rows.events (sets_at rows.period old.words) (sets_at rows.period new.words) result → Ended (net_of_network n) ranges n.events (family_of old) (family_of new) result
+pub at_network : (n : NetworkValue) (rows : RowsValue) (ranges : List (ℕ × ℕ)) (old new : SetRows)
+    (result : Result Outcome Memory) → rows ≡ rows_of n → old.period ≡ n.period → new.period ≡ n.period
+    → Ended (net_at rows.period rows.arcs) ranges rows.events (sets_at rows.period old.words)
+    (sets_at rows.period new.words) result → Ended (net_of_network n) ranges n.events (family_of old)
+    (family_of new) result
 at_network n rows ranges old new result e f g h =
-    let A : RowsValue → Type 0 = λ r. Ended (net_at r.period r.arcs) ranges r.events (sets_at r.period old.words) (sets_at r.period new.words) result in
+    let A : RowsValue → Type 0 = λ r. Ended (net_at r.period r.arcs) ranges r.events (sets_at r.period old.words)
+    (sets_at r.period new.words) result in
     let B : ℕ → Type 0 = λ t. Ended (net_of_network n) ranges n.events (sets_at t old.words) (sets_at n.period new.words) result in
     let C : ℕ → Type 0 = λ t. Ended (net_of_network n) ranges n.events (family_of old) (sets_at t new.words) result in
     subst C (sym g) (subst B (sym f) (subst A e h))
 
-pub stable_of : (n : Net) (ranges : List (ℕ × ℕ)) (events : ℕ) (old new : Family) (result : Result Outcome Memory) → Ended n ranges events old new result → result ≡ Ok Stable → IsSupported n ranges new × HasNoEmpty events new
+pub stable_of : (n : Net) (ranges : List (ℕ × ℕ)) (events : ℕ) (old new : Family) (result : Result Outcome Memory)
+    → Ended n ranges events old new result → result ≡ Ok Stable → IsSupported n ranges new × HasNoEmpty events new
 stable_of n ranges events old new result h e =
     let P : Result Outcome Memory → Type 0 = λ r. IfOk r (LeavesSupported n ranges new) in
     let Q : Result Outcome Memory → Type 0 = λ r. IfOk r (IsOutcome events new) in
     (subst P e h.supported, subst Q e h.outcome)
 
-pub exact_of : (n : Net) (ranges : List (ℕ × ℕ)) (events : ℕ) (old new : Family) (result : Result Outcome Memory) → Ended n ranges events old new result → IfOk result (λ outcome. TellsEmpty outcome ↔ HasNone n ranges events old)
+pub exact_of : (n : Net) (ranges : List (ℕ × ℕ)) (events : ℕ) (old new : Family) (result : Result Outcome Memory)
+    → Ended n ranges events old new result → IfOk result
+    (λ outcome. TellsEmpty outcome ↔ HasNone n ranges events old)
 exact_of n ranges events old new (Err e) h = tt
 exact_of n ranges events old new (Ok Stable) h = (λ x. absurd x, λ none. none new h.supported h.shrinks.within h.outcome)
 exact_of n ranges events old new (Ok (Empty e)) h = (
@@ -74,7 +81,8 @@ is_lt x n h = grind (arith, nat_tests)
 lt_is : (x n : ℕ) → nat_lt x n ≡ true → x < n
 lt_is x n h = grind (arith, nat_tests)
 
-cut_supported : (n : Net) (ranges : List (ℕ × ℕ)) (events : ℕ) (s : Family) → HaveEnds events n.arcs → IsSupported n ranges s → IsSupported n ranges (cut events s)
+cut_supported : (n : Net) (ranges : List (ℕ × ℕ)) (events : ℕ) (s : Family) → HaveEnds events n.arcs
+    → IsSupported n ranges s → IsSupported n ranges (cut events s)
 unfolding cut
 cut_supported n ranges events s ends h i l = let e = ends i l in record {
   tails = λ a m. let q = (h i l).tails a (cut_out _ _ m).1 in (q.0, cut_in _ _ (is_lt _ _ e.1) q.1, q.2);
@@ -86,7 +94,8 @@ bool_cases true = inl refl
 bool_cases false = inr refl
 
 -- full sets have all that a family may have
-in_full : (n : Net) (events : ℕ) (s full : Family) → IsFull n events full → IsFamily n events s → (x d : ℕ) → x < events → s x d ≡ true → full x d ≡ true
+in_full : (n : Net) (events : ℕ) (s full : Family) → IsFull n events full → IsFamily n events s → (x d : ℕ)
+    → x < events → s x d ≡ true → full x d ≡ true
 in_full n events s full f h x d l m = elim (bool_cases (full x d)) [
   | inl e ↦ e
   | inr e ↦
@@ -105,14 +114,20 @@ of_full n events s full p f w = record {
   first = λ x d l first m. (f.first x d l first).0 (w x d m);
 }
 
-pub none_full : (n : Net) (ranges : List (ℕ × ℕ)) (events : ℕ) (full : Family) → 0 < n.period → HaveEnds events n.arcs → IsFull n events full → HasNone n ranges events full ↔ NoFamilyIsSupported n ranges events
+pub none_full : (n : Net) (ranges : List (ℕ × ℕ)) (events : ℕ) (full : Family) → 0 < n.period
+    → HaveEnds events n.arcs → IsFull n events full
+    → HasNone n ranges events full ↔ NoFamilyIsSupported n ranges events
 unfolding cut
 none_full n ranges events full p ends f = (
-  λ none s fam sup some. none (cut events s) (cut_supported n ranges events s ends sup) (λ x d m. let q = cut_out _ _ m in in_full n events s full f fam x d (lt_is x events q.0) q.1) (λ x l. let q = some x l in (q.0, cut_in _ _ (is_lt x events l) q.1)),
+  λ none s fam sup some. none (cut events s) (cut_supported n ranges events s ends sup)
+      (λ x d m. let q = cut_out _ _ m in in_full n events s full f fam x d (lt_is x events q.0) q.1)
+      (λ x l. let q = some x l in (q.0, cut_in _ _ (is_lt x events l) q.1)),
   λ none s sup wi some. none s (of_full n events s full p f wi) sup some,
 )
 
-pub full_of : (n : Net) (ranges : List (ℕ × ℕ)) (events : ℕ) (old : Family) (result : Result Outcome Memory) → 0 < n.period → HaveEnds events n.arcs → IsFull n events old
-    → IfOk result (λ outcome. TellsEmpty outcome ↔ HasNone n ranges events old) → IfOk result (λ outcome. TellsEmpty outcome ↔ NoFamilyIsSupported n ranges events)
+pub full_of : (n : Net) (ranges : List (ℕ × ℕ)) (events : ℕ) (old : Family) (result : Result Outcome Memory)
+    → 0 < n.period → HaveEnds events n.arcs → IsFull n events old
+    → IfOk result (λ outcome. TellsEmpty outcome ↔ HasNone n ranges events old)
+    → IfOk result (λ outcome. TellsEmpty outcome ↔ NoFamilyIsSupported n ranges events)
 full_of n ranges events old (Err e) p ends f h = tt
 full_of n ranges events old (Ok o) p ends f h = let q = none_full n ranges events old p ends f in (λ e. q.0 (h.0 e), λ e. h.1 (q.1 e))

@@ -18,4 +18,5 @@ TellsEmpty (Empty event) = Unit {0}
 
 -- each event's set has the difference, round the period, of its time to that of its component's first event
 abbrev pub HasDifferences : Net → ℕ → List ℕ → Family → Type 0
-HasDifferences n events times s = (event first : ℕ) → event < events → IsFirstOf n.arcs event first → s event (remainder n.period (difference times first event)) ≡ true
+HasDifferences n events times s = (event first : ℕ) → event < events → IsFirstOf n.arcs event first
+    → s event (remainder n.period (difference times first event)) ≡ true

@@ -25,11 +25,14 @@ pub part_cases : (b : Bool) (row : NetRow) → (part b row ≡ row) ⊎ (part b 
 part_cases true row = inl refl
 part_cases false row = inr refl
 
-loop_keeps : (period events : ℕ) (row : NetRow) → 0 < period → RowKeepsNetLimits period events row → RowKeepsNetLimits period events (loop_at row)
+loop_keeps : (period events : ℕ) (row : NetRow) → 0 < period → RowKeepsNetLimits period events row
+    → RowKeepsNetLimits period events (loop_at row)
 loop_keeps period events row h k = record { tail = k.tail; head = k.tail; span = h; lower = omega arith; weight = omega arith }
 
 -- rows and loops in their places keep the limits
-pub keeps_parts : (period events : ℕ) (rows made : List NetRow) (forest : List ℕ) → KeepsNetLimits (record { period = period; events = events; rows = rows; forest = forest }) → length made ≡ length rows
+pub keeps_parts : (period events : ℕ) (rows made : List NetRow) (forest : List ℕ)
+    → KeepsNetLimits (record { period = period; events = events; rows = rows; forest = forest })
+    → length made ≡ length rows
     → ((i : ℕ) → i < length rows → (net_row_at made i ≡ net_row_at rows i) ⊎ (net_row_at made i ≡ loop_at (net_row_at rows i)))
     → KeepsNetLimits (record { period = period; events = events; rows = made; forest = [] })
 keeps_parts period events rows made forest k n each =
@@ -59,13 +62,17 @@ fixed_on row e = ap (λ (b : Bool). part b row) (eq-eqb row.span 0 e)
 fixed_off : (row : NetRow) → (row.span == 0) ≡ false → fixed_row row ≡ loop_at row
 fixed_off row e = ap (λ (b : Bool). part b row) e
 
-pub fixed_arc : (rows : List NetRow) (i : ℕ) → (net_row_at rows i).span ≡ 0 → arc_at (arcs_of_network (map fixed_row rows)) i ≡ arc_at (arcs_of_network rows) i
-fixed_arc rows i e = arc_at_net (map fixed_row rows) i ∙ ap arc_of_net (fixed_at rows i ∙ fixed_on (net_row_at rows i) e) ∙ sym (arc_at_net rows i)
+pub fixed_arc : (rows : List NetRow) (i : ℕ) → (net_row_at rows i).span ≡ 0
+    → arc_at (arcs_of_network (map fixed_row rows)) i ≡ arc_at (arcs_of_network rows) i
+fixed_arc rows i e = arc_at_net (map fixed_row rows) i
+    ∙ ap arc_of_net (fixed_at rows i ∙ fixed_on (net_row_at rows i) e) ∙ sym (arc_at_net rows i)
 
 fixed_length : (rows : List NetRow) → length (arcs_of_network (map fixed_row rows)) ≡ length rows
 fixed_length rows = arcs_length (map fixed_row rows) ∙ length-map rows fixed_row
 
-flagged_is_fixed : (rows : List NetRow) (forest : List ℕ) (i : ℕ) → IsSpanningForest (arcs_of_network (map fixed_row rows)) forest → Contains forest (i + 1) → (i < length rows) × ((net_row_at rows i).span ≡ 0)
+flagged_is_fixed : (rows : List NetRow) (forest : List ℕ) (i : ℕ)
+    → IsSpanningForest (arcs_of_network (map fixed_row rows)) forest → Contains forest (i + 1)
+    → (i < length rows) × ((net_row_at rows i).span ≡ 0)
 flagged_is_fixed rows forest i f c =
     let row = net_row_at rows i in
     let F = arcs_of_network (map fixed_row rows) in
@@ -75,7 +82,8 @@ flagged_is_fixed rows forest i f c =
       | inl e ↦ (inside, eqb-true row.span 0 e)
       | inr e ↦
           let place : (i + 1) - 1 ≡ i = omega arith in
-          let arc : arc_at F i ≡ arc_of_net (loop_at row) = arc_at_net (map fixed_row rows) i ∙ ap arc_of_net (fixed_at rows i ∙ fixed_off row e) in
+          let arc : arc_at F i ≡ arc_of_net (loop_at row) = arc_at_net (map fixed_row rows) i
+          ∙ ap arc_of_net (fixed_at rows i ∙ fixed_off row e) in
           let here : arc_at F ((i + 1) - 1) ≡ arc_of_net (loop_at row) = ap (arc_at F) place ∙ arc in
           absurd (no_loop_in F forest (i + 1) f c (ap (λ (a : Arc). a.tail) here ∙ sym (ap (λ (a : Arc). a.head) here)))
     ]
@@ -83,21 +91,30 @@ flagged_is_fixed rows forest i f c =
 place_of : (k : ℕ) → 1 ≤ k → (k - 1) + 1 ≡ k
 place_of k h = omega arith
 
-fixed_no_cycle : (rows : List NetRow) (forest : List ℕ) (flags : List Bool) (walk : List SignedRow) (i : ℕ) → IsSpanningForest (arcs_of_network (map fixed_row rows)) forest → AreFlags (length rows) forest flags
+fixed_no_cycle : (rows : List NetRow) (forest : List ℕ) (flags : List Bool) (walk : List SignedRow) (i : ℕ)
+    → IsSpanningForest (arcs_of_network (map fixed_row rows)) forest → AreFlags (length rows) forest flags
     → IsWalk (arcs_of_network rows) walk → All (λ s. flag flags (s.row - 1) ≡ true) walk → net_count walk i ≡ pos 0
 fixed_no_cycle rows forest flags [] i f g w k = absurd w
 fixed_no_cycle rows forest flags (s ∷ way) i f g w k =
     let R = arcs_of_network rows in let F = arcs_of_network (map fixed_row rows) in
     let walk : List SignedRow = s ∷ way in
     let G : SignedRow → Type 0 = λ x. flag flags (x.row - 1) ≡ true in
-    let same : All (λ x. arc_at F (x.row - 1) ≡ arc_at R (x.row - 1)) walk = λ j d l. fixed_arc rows ((get_or walk j d).row - 1) (flagged_is_fixed rows forest ((get_or walk j d).row - 1) f (g.only ((get_or walk j d).row - 1) (k j d l))).1 in
-    let exists : AreRows F walk = λ j d l. let e = w.0 j d l in let n = fixed_length rows in let m = arcs_length rows in (e.0, omega (arith, e, n, m)) in
-    let keeps : KeepsTo forest walk = λ j d l. subst (Contains forest) (place_of (get_or walk j d).row (w.0 j d l).0) (g.only ((get_or walk j d).row - 1) (k j d l)) in
+    let same : All (λ x. arc_at F (x.row - 1) ≡ arc_at R (x.row - 1)) walk =
+    λ j d l. fixed_arc rows ((get_or walk j d).row - 1)
+    (flagged_is_fixed rows forest ((get_or walk j d).row - 1) f
+    (g.only ((get_or walk j d).row - 1) (k j d l))).1 in
+    let exists : AreRows F walk = λ j d l. let e = w.0 j d l in let n = fixed_length rows in
+    let m = arcs_length rows in (e.0, omega (arith, e, n, m)) in
+    let keeps : KeepsTo forest walk = λ j d l.
+    subst (Contains forest) (place_of (get_or walk j d).row (w.0 j d l).0)
+    (g.only ((get_or walk j d).row - 1) (k j d l)) in
     let leads = leads_same R F walk (start R s) (start R s) same w.1 in
     let closed : Leads F (start F s) walk (start F s) = subst (λ x. Leads F x walk x) (sym leads.0) leads in
     f.no_cycle walk i (exists, closed) keeps
 
-pub are_tree : (rows tree : List NetRow) (forest : List ℕ) (flags : List Bool) → IsSpanningForest (arcs_of_network (map fixed_row rows)) forest → AreFlags (length rows) forest flags → length tree ≡ length rows
+pub are_tree : (rows tree : List NetRow) (forest : List ℕ) (flags : List Bool)
+    → IsSpanningForest (arcs_of_network (map fixed_row rows)) forest → AreFlags (length rows) forest flags
+    → length tree ≡ length rows
     → ((i : ℕ) → i < length rows → net_row_at tree i ≡ part (flag flags i) (net_row_at rows i)) → AreTree rows tree flags
 are_tree rows tree forest flags f g n each = record {
   flags_count = g.count_is;
@@ -116,8 +133,10 @@ are_tree rows tree forest flags f g n each = record {
 
 -- ---- shifts
 
-pub are_shifts : (period events : ℕ) (rows tree : List NetRow) (flags : List Bool) (shifts : List ℕ) → 0 < period → AreTree rows tree flags → length shifts ≡ events → All (λ t. t < period) shifts
-    → ((i : ℕ) → i < length tree → slacks_at (record { period = period; arcs = arcs_of_network tree }) shifts i ≡ 0) → AreShifts period events rows flags shifts
+pub are_shifts : (period events : ℕ) (rows tree : List NetRow) (flags : List Bool) (shifts : List ℕ) → 0 < period
+    → AreTree rows tree flags → length shifts ≡ events → All (λ t. t < period) shifts
+    → ((i : ℕ) → i < length tree → slacks_at (record { period = period; arcs = arcs_of_network tree }) shifts i
+    ≡ 0) → AreShifts period events rows flags shifts
 are_shifts period events rows tree flags shifts h t n b none = record {
   count = n;
   below = b;
@@ -125,13 +144,16 @@ are_shifts period events rows tree flags shifts h t n b none = record {
       let inside = (t.fixed i e).0 in
       let row = net_row_at rows i in
       let same : arc_at (arcs_of_network tree) i ≡ arc_of_net row = same_arc rows tree flags i t e ∙ arc_at_net rows i in
-      let zero : arc_slack period shifts (arc_of_net row) ≡ 0 = sym (ap (arc_slack period shifts) same) ∙ none i (omega (arith, t.tree_count)) in
+      let zero : arc_slack period shifts (arc_of_net row) ≡ 0 = sym (ap (arc_slack period shifts) same)
+      ∙ none i (omega (arith, t.tree_count)) in
       none_left period (pos (slice_index shifts row.head) -ℤ pos (slice_index shifts row.tail)) row.lower h zero;
 }
 
 -- ---- what becomes one
 
-pub are_together : (period events : ℕ) (rows tree : List NetRow) (forest : List ℕ) (flags : List Bool) (stands firsts : List ℕ) → IsSpanningForest (arcs_of_network (map fixed_row rows)) forest → AreFlags (length rows) forest flags → AreTree rows tree flags
+pub are_together : (period events : ℕ) (rows tree : List NetRow) (forest : List ℕ) (flags : List Bool)
+    (stands firsts : List ℕ) → IsSpanningForest (arcs_of_network (map fixed_row rows)) forest
+    → AreFlags (length rows) forest flags → AreTree rows tree flags
     → All (RowKeepsNetLimits period events) rows → IsStanding (arcs_of_network tree) events stands firsts → AreTogether rows stands
 are_together period events rows tree forest flags stands firsts f g t k s = λ i l e.
     let row = net_row_at rows i in
@@ -139,7 +161,8 @@ are_together period events rows tree forest flags stands firsts f g t k s = λ i
     let one : SignedRow = record { row = i + 1; plus = true } in
     let place : (i + 1) - 1 ≡ i = omega arith in
     let arc : arc_at F (one.row - 1) ≡ arc_of_net row = ap (arc_at F) place ∙ fixed_arc rows i e ∙ arc_at_net rows i in
-    let exists : AreRows F (one ∷ []) = All-cons (RowExists F) one [] (omega arith, omega (arith, fixed_length rows)) (All-nil (RowExists F)) in
+    let exists : AreRows F (one ∷ []) = All-cons (RowExists F) one []
+    (omega arith, omega (arith, fixed_length rows)) (All-nil (RowExists F)) in
     let leads : Leads F row.tail (one ∷ []) row.head = (ap (λ (a : Arc). a.tail) arc, ap (λ (a : Arc). a.head) arc) in
     let other = f.joins row.tail row.head (one ∷ []) exists leads in
     let way = other.0 in
@@ -154,7 +177,9 @@ are_together period events rows tree forest flags stands firsts f g t k s = λ i
     let b = All-get_or (RowKeepsNetLimits period events) rows i no_net_row l k in
     standing_joined T events stands firsts row.tail row.head s b.tail b.head joined
 
-pub keeps_fixed : (period events : ℕ) (rows made : List NetRow) (forest : List ℕ) → KeepsNetLimits (record { period = period; events = events; rows = rows; forest = forest }) → made ≡ map fixed_row rows
+pub keeps_fixed : (period events : ℕ) (rows made : List NetRow) (forest : List ℕ)
+    → KeepsNetLimits (record { period = period; events = events; rows = rows; forest = forest })
+    → made ≡ map fixed_row rows
     → KeepsNetLimits (record { period = period; events = events; rows = made; forest = [] })
 keeps_fixed period events rows made forest k e =
     keeps_parts period events rows made forest k (ap length e ∙ length-map rows fixed_row) (λ i l.
@@ -164,8 +189,11 @@ keeps_fixed period events rows made forest k e =
       | inr p ↦ inr (at ∙ p)
     ])
 
-pub keeps_some : (period events : ℕ) (rows made : List NetRow) (forest : List ℕ) (flags : List Bool) → KeepsNetLimits (record { period = period; events = events; rows = rows; forest = forest }) → length made ≡ length rows
-    → ((i : ℕ) → i < length rows → net_row_at made i ≡ part (flag flags i) (net_row_at rows i)) → KeepsNetLimits (record { period = period; events = events; rows = made; forest = [] })
+pub keeps_some : (period events : ℕ) (rows made : List NetRow) (forest : List ℕ) (flags : List Bool)
+    → KeepsNetLimits (record { period = period; events = events; rows = rows; forest = forest })
+    → length made ≡ length rows
+    → ((i : ℕ) → i < length rows → net_row_at made i ≡ part (flag flags i) (net_row_at rows i))
+    → KeepsNetLimits (record { period = period; events = events; rows = made; forest = [] })
 keeps_some period events rows made forest flags k n each =
     keeps_parts period events rows made forest k n (λ i l. elim (part_cases (flag flags i) (net_row_at rows i)) [
       | inl p ↦ inl (each i l ∙ p)

@@ -10,8 +10,10 @@ use Rattle.pesp_reduce.specs.declared.fate.Fate.TheVariants.{Free}
 use Rattle.pesp_reduce.specs.Rows.{flag}
 use Rattle.pesp_reduce.specs.Fates.{fate_at, IsFate}
 
-pub fates_more : (period : ℕ) (rows : List NetRow) (flags : List Bool) (left : List Arc) (fates : List Fate) (fate : Fate) (i : ℕ) → length fates ≡ i
-    → ((k : ℕ) → k < i → IsFate period (net_row_at rows k) (flag flags k) left (k + 1) (fate_at fates k)) → IsFate period (net_row_at rows i) (flag flags i) left (i + 1) fate
+pub fates_more : (period : ℕ) (rows : List NetRow) (flags : List Bool) (left : List Arc) (fates : List Fate)
+    (fate : Fate) (i : ℕ) → length fates ≡ i
+    → ((k : ℕ) → k < i → IsFate period (net_row_at rows k) (flag flags k) left (k + 1) (fate_at fates k))
+    → IsFate period (net_row_at rows i) (flag flags i) left (i + 1) fate
     → (k : ℕ) → k < i + 1 → IsFate period (net_row_at rows k) (flag flags k) left (k + 1) (fate_at (fates ++ fate ∷ []) k)
 fates_more period rows flags left fates fate i n old new k l =
     let P : ℕ → Fate → Type 0 = λ j f. IsFate period (net_row_at rows j) (flag flags j) left (j + 1) f in

@@ -26,7 +26,9 @@ flags_none count numbers = record {
   done = λ k h. absurd (omega arith);
 }
 
-pub flags_more : (count j x : ℕ) (numbers : List ℕ) (flags : List Bool) → AreFlaggedUpTo count j numbers flags → j < length numbers → x ≡ slice_index numbers j → Names count x → AreFlaggedUpTo count (j + 1) numbers (set flags (x - 1) true)
+pub flags_more : (count j x : ℕ) (numbers : List ℕ) (flags : List Bool) → AreFlaggedUpTo count j numbers flags
+    → j < length numbers → x ≡ slice_index numbers j → Names count x
+    → AreFlaggedUpTo count (j + 1) numbers (set flags (x - 1) true)
 flags_more count j x numbers flags s l e n =
     let p = x - 1 in
     let inside : p < length flags = omega (arith, s.count_is, n) in
@@ -52,7 +54,8 @@ flags_more count j x numbers flags s l e n =
       ];
     }
 
-pub flags_all : (count j : ℕ) (numbers : List ℕ) (flags : List Bool) → AreFlaggedUpTo count j numbers flags → length numbers ≤ j → AreFlags count numbers flags
+pub flags_all : (count j : ℕ) (numbers : List ℕ) (flags : List Bool) → AreFlaggedUpTo count j numbers flags
+    → length numbers ≤ j → AreFlags count numbers flags
 flags_all count j numbers flags s l = record {
   count_is = s.count_is;
   only = s.only;

@@ -21,11 +21,14 @@ abbrev pub places : List Fate → ℕ → ℕ
 places fates zero = 0
 places fates (suc n) = places fates n + (if keeps fates n then 1 else 0)
 
-pub kept_yes : (fates : List Fate) (rows : List NetRow) (n : ℕ) → keeps fates n ≡ true → kept_below fates rows (suc n) ≡ kept_below fates rows n ++ net_row_at rows n ∷ []
+pub kept_yes : (fates : List Fate) (rows : List NetRow) (n : ℕ) → keeps fates n ≡ true
+    → kept_below fates rows (suc n) ≡ kept_below fates rows n ++ net_row_at rows n ∷ []
 kept_yes fates rows n e = ap (λ (b : Bool). kept_below fates rows n ++ (if b then net_row_at rows n ∷ [] else [])) e
 
-pub kept_no : (fates : List Fate) (rows : List NetRow) (n : ℕ) → keeps fates n ≡ false → kept_below fates rows (suc n) ≡ kept_below fates rows n
-kept_no fates rows n e = ap (λ (b : Bool). kept_below fates rows n ++ (if b then net_row_at rows n ∷ [] else [])) e ∙ append-nil (kept_below fates rows n)
+pub kept_no : (fates : List Fate) (rows : List NetRow) (n : ℕ) → keeps fates n ≡ false
+    → kept_below fates rows (suc n) ≡ kept_below fates rows n
+kept_no fates rows n e = ap (λ (b : Bool). kept_below fates rows n ++ (if b then net_row_at rows n ∷ [] else [])) e
+    ∙ append-nil (kept_below fates rows n)
 
 places_yes : (fates : List Fate) (n : ℕ) → keeps fates n ≡ true → places fates (suc n) ≡ places fates n + 1
 places_yes fates n e = ap (λ (b : Bool). places fates n + (if b then 1 else 0)) e
@@ -38,7 +41,8 @@ length_kept fates rows zero = refl
 length_kept fates rows (suc n) =
     let before = length_kept fates rows n in
     elim (cases_Bool (keeps fates n)) [
-      | inl e ↦ ap length (kept_yes fates rows n e) ∙ length_push (kept_below fates rows n) (net_row_at rows n) ∙ ap (λ k. k + 1) before ∙ sym (places_yes fates n e)
+      | inl e ↦ ap length (kept_yes fates rows n e) ∙ length_push (kept_below fates rows n) (net_row_at rows n)
+          ∙ ap (λ k. k + 1) before ∙ sym (places_yes fates n e)
       | inr e ↦ ap length (kept_no fates rows n e) ∙ before ∙ sym (places_no fates n e)
     ]
 
@@ -71,7 +75,8 @@ one_place fates i j k l e =
           ]
     ]
 
-pub kept_at : (fates : List Fate) (rows : List NetRow) (n i : ℕ) → i < n → keeps fates i ≡ true → net_row_at (kept_below fates rows n) (places fates i) ≡ net_row_at rows i
+pub kept_at : (fates : List Fate) (rows : List NetRow) (n i : ℕ) → i < n → keeps fates i ≡ true
+    → net_row_at (kept_below fates rows n) (places fates i) ≡ net_row_at rows i
 kept_at fates rows zero i l k = absurd (omega arith)
 kept_at fates rows (suc n) i l k =
     let before = kept_below fates rows n in
@@ -81,12 +86,15 @@ kept_at fates rows (suc n) i l k =
           let b = places_before fates n i m k in
           let old = kept_at fates rows n i m k in
           elim (cases_Bool (keeps fates n)) [
-            | inl e ↦ ap (λ xs. net_row_at xs (places fates i)) (kept_yes fates rows n e) ∙ get_or_append_left before (net_row_at rows n ∷ []) no_net_row (places fates i) (omega arith) ∙ old
+            | inl e ↦ ap (λ xs. net_row_at xs (places fates i)) (kept_yes fates rows n e)
+                ∙ get_or_append_left before (net_row_at rows n ∷ []) no_net_row (places fates i) (omega arith) ∙ old
             | inr e ↦ ap (λ xs. net_row_at xs (places fates i)) (kept_no fates rows n e) ∙ old
           ]
       | inr e ↦
           let here : keeps fates n ≡ true = ap (keeps fates) (sym e) ∙ k in
-          ap (λ xs. net_row_at xs (places fates i)) (kept_yes fates rows n here) ∙ get_or_push before (net_row_at rows n) no_net_row (places fates i) (size ∙ ap (places fates) (sym e)) ∙ ap (net_row_at rows) (sym e)
+          ap (λ xs. net_row_at xs (places fates i)) (kept_yes fates rows n here)
+          ∙ get_or_push before (net_row_at rows n) no_net_row (places fates i)
+          (size ∙ ap (places fates) (sym e)) ∙ ap (net_row_at rows) (sym e)
     ]
 
 -- the row at a place among the kept ones
@@ -100,7 +108,13 @@ pub which : (fates : List Fate) (n j : ℕ) → j < places fates n → StandsAt 
 which fates zero j l = absurd (omega arith)
 which fates (suc n) j l =
     elim (cases_lt j (places fates n)) [
-      | inl m ↦ let w = which fates n j m in record { from = w.from; below = let b = w.below in omega arith; kept = w.kept; place = w.place }
+      | inl m ↦ let w = which fates n j m in record {
+        from = w.from;
+        below = let b = w.below in
+            omega arith;
+        kept = w.kept;
+        place = w.place;
+      }
       | inr m ↦
           elim (cases_Bool (keeps fates n)) [
             | inl e ↦ record { from = n; below = omega arith; kept = e; place = let p = places_yes fates n e in omega arith }
@@ -108,12 +122,14 @@ which fates (suc n) j l =
           ]
     ]
 
-pub all_kept : (P : NetRow → Type 0) (fates : List Fate) (rows : List NetRow) (n : ℕ) → ((i : ℕ) → i < n → P (net_row_at rows i)) → All P (kept_below fates rows n)
+pub all_kept : (P : NetRow → Type 0) (fates : List Fate) (rows : List NetRow) (n : ℕ)
+    → ((i : ℕ) → i < n → P (net_row_at rows i)) → All P (kept_below fates rows n)
 all_kept P fates rows zero h = All-nil P
 all_kept P fates rows (suc n) h =
     let before = all_kept P fates rows n (λ i l. h i (omega arith)) in
     elim (cases_Bool (keeps fates n)) [
-      | inl e ↦ subst (λ xs. All P xs) (sym (kept_yes fates rows n e)) (All-push P (kept_below fates rows n) (net_row_at rows n) before (h n (omega arith)))
+      | inl e ↦ subst (λ xs. All P xs) (sym (kept_yes fates rows n e))
+          (All-push P (kept_below fates rows n) (net_row_at rows n) before (h n (omega arith)))
       | inr e ↦ subst (λ xs. All P xs) (sym (kept_no fates rows n e)) before
     ]
 
@@ -127,7 +143,9 @@ few_kept fates (suc n) =
     ]
 
 -- a sum over all rows is one over the kept ones where the others' terms are 0
-pub sum_kept : (fates : List Fate) (given : List Row) (rows : List NetRow) (g : Row → ℕ) (f : NetRow → ℕ) (n : ℕ) → n ≤ length given → ((i : ℕ) → i < n → g (row_at given i) ≡ (if keeps fates i then f (net_row_at rows i) else 0))
+pub sum_kept : (fates : List Fate) (given : List Row) (rows : List NetRow) (g : Row → ℕ) (f : NetRow → ℕ) (n : ℕ)
+    → n ≤ length given → ((i : ℕ) → i < n → g (row_at given i)
+    ≡ (if keeps fates i then f (net_row_at rows i) else 0))
     → sum_by g (take n given) ≡ sum_by f (kept_below fates rows n)
 sum_kept fates given rows g f zero l h = refl
 sum_kept fates given rows g f (suc n) l h =

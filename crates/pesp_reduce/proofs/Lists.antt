@@ -46,5 +46,6 @@ arc_at_net rows i = get_or_map arc_of_net rows no_net_row i
 pub arcs_length : (rows : List NetRow) → length (arcs_of_network rows) ≡ length rows
 arcs_length rows = length-map rows arc_of_net
 
-pub row_of_map : (f : NetRow → NetRow) (rows : List NetRow) (i : ℕ) → f no_net_row ≡ no_net_row → net_row_at (map f rows) i ≡ f (net_row_at rows i)
+pub row_of_map : (f : NetRow → NetRow) (rows : List NetRow) (i : ℕ) → f no_net_row ≡ no_net_row
+    → net_row_at (map f rows) i ≡ f (net_row_at rows i)
 row_of_map f rows i e = ap (λ (d : NetRow). get_or (map f rows) i d) (sym e) ∙ get_or_map f rows no_net_row i

@@ -25,7 +25,8 @@ at_new : (xs : List ℕ) (x k : ℕ) → length xs ≡ k → slice_index (xs ++ 
 at_new xs x k h = get_or_push xs x 0 k h
 
 -- an event that is joined with an earlier one has its number
-pub standing_old : (arcs : List Arc) (e f : ℕ) (stands firsts : List ℕ) → IsStanding arcs e stands firsts → IsFirstOf arcs e f → f < e → IsStanding arcs (e + 1) (stands ++ slice_index stands f ∷ []) firsts
+pub standing_old : (arcs : List Arc) (e f : ℕ) (stands firsts : List ℕ) → IsStanding arcs e stands firsts
+    → IsFirstOf arcs e f → f < e → IsStanding arcs (e + 1) (stands ++ slice_index stands f ∷ []) firsts
 standing_old arcs e f stands firsts s x l =
     let c = slice_index stands f in
     let new = at_new stands c e s.stands_count in
@@ -42,14 +43,16 @@ standing_old arcs e f stands firsts s x l =
         | inl m ↦ subst (λ y. IsFirstOf arcs k (slice_index firsts y)) (sym (old k m)) (s.first k m)
         | inr q ↦
             let here : IsFirstOf arcs e (slice_index firsts c) = first_by arcs e f (slice_index firsts c) x (s.first f l) in
-            let there : IsFirstOf arcs e (slice_index firsts (slice_index (stands ++ c ∷ []) e)) = subst (λ y. IsFirstOf arcs e (slice_index firsts y)) (sym new) here in
+            let there : IsFirstOf arcs e (slice_index firsts (slice_index (stands ++ c ∷ []) e)) =
+            subst (λ y. IsFirstOf arcs e (slice_index firsts y)) (sym new) here in
             subst (λ j. IsFirstOf arcs j (slice_index firsts (slice_index (stands ++ c ∷ []) j))) (sym q) there
       ];
       own = λ k h. old (slice_index firsts k) (s.firsts_below k h) ∙ s.own k h;
     }
 
 -- an event that is the first of those joined with it has a number of its own
-pub standing_new : (arcs : List Arc) (e : ℕ) (stands firsts : List ℕ) → IsStanding arcs e stands firsts → IsFirstOf arcs e e → IsStanding arcs (e + 1) (stands ++ length firsts ∷ []) (firsts ++ e ∷ [])
+pub standing_new : (arcs : List Arc) (e : ℕ) (stands firsts : List ℕ) → IsStanding arcs e stands firsts
+    → IsFirstOf arcs e e → IsStanding arcs (e + 1) (stands ++ length firsts ∷ []) (firsts ++ e ∷ [])
 standing_new arcs e stands firsts s x =
     let c = length firsts in
     let S = stands ++ c ∷ [] in let F = firsts ++ e ∷ [] in
@@ -72,7 +75,9 @@ standing_new arcs e stands firsts s x =
       first = λ k h. elim (lt-or-same k e h) [
         | inl m ↦
             let b = s.stands_below k m in
-            let is : slice_index F (slice_index S k) ≡ slice_index firsts (slice_index stands k) = ap (slice_index F) (old k m) ∙ old_first (slice_index stands k) b in
+            let is : slice_index F (slice_index S k)
+            ≡ slice_index firsts (slice_index stands k) = ap (slice_index F) (old k m)
+            ∙ old_first (slice_index stands k) b in
             subst (λ y. IsFirstOf arcs k y) (sym is) (s.first k m)
         | inr q ↦
             let is : slice_index F (slice_index S e) ≡ e = ap (slice_index F) new ∙ new_first in
@@ -86,7 +91,11 @@ standing_new arcs e stands firsts s x =
     }
 
 -- joined events have one number
-pub standing_joined : (arcs : List Arc) (events : ℕ) (stands firsts : List ℕ) (a b : ℕ) → IsStanding arcs events stands firsts → a < events → b < events → AreJoined arcs a b → slice_index stands a ≡ slice_index stands b
+pub standing_joined : (arcs : List Arc) (events : ℕ) (stands firsts : List ℕ) (a b : ℕ)
+    → IsStanding arcs events stands firsts → a < events → b < events → AreJoined arcs a b
+    → slice_index stands a ≡ slice_index stands b
 standing_joined arcs events stands firsts a b s x y j =
-    let same = one_first arcs a b (slice_index firsts (slice_index stands a)) (slice_index firsts (slice_index stands b)) (s.first a x) (s.first b y) j in
-    sym (s.own (slice_index stands a) (s.stands_below a x)) ∙ ap (slice_index stands) same ∙ s.own (slice_index stands b) (s.stands_below b y)
+    let same = one_first arcs a b (slice_index firsts (slice_index stands a))
+    (slice_index firsts (slice_index stands b)) (s.first a x) (s.first b y) j in
+    sym (s.own (slice_index stands a) (s.stands_below a x)) ∙ ap (slice_index stands) same
+    ∙ s.own (slice_index stands b) (s.stands_below b y)

@@ -31,7 +31,8 @@ loop_counts k h =
 one_not_none : pos 1 ≡ pos 0 → ⊥
 one_not_none e = cc
 
-pub no_loop_in : (arcs : List Arc) (forest : List ℕ) (k : ℕ) → IsSpanningForest arcs forest → Contains forest k → (arc_at arcs (k - 1)).tail ≡ (arc_at arcs (k - 1)).head → ⊥
+pub no_loop_in : (arcs : List Arc) (forest : List ℕ) (k : ℕ) → IsSpanningForest arcs forest → Contains forest k
+    → (arc_at arcs (k - 1)).tail ≡ (arc_at arcs (k - 1)).head → ⊥
 no_loop_in arcs forest k f c e =
     let exists : Names (length arcs) k = All-contains (Names (length arcs)) forest k f.exist c in
     let s = plus_of k in
@@ -43,14 +44,19 @@ no_loop_in arcs forest k f c e =
 
 -- ---- closed ways along rows without a cycle
 
-pub closed_counts : (arcs : List Arc) (flags : List Bool) (way : List SignedRow) (a i : ℕ) → HaveNoCycleAt arcs flags → AreRows arcs way → Leads arcs a way a → All (λ s. flag flags (s.row - 1) ≡ true) way → net_count way i ≡ pos 0
+pub closed_counts : (arcs : List Arc) (flags : List Bool) (way : List SignedRow) (a i : ℕ)
+    → HaveNoCycleAt arcs flags → AreRows arcs way → Leads arcs a way a
+    → All (λ s. flag flags (s.row - 1) ≡ true) way → net_count way i ≡ pos 0
 closed_counts arcs flags [] a i n r h k = refl
 closed_counts arcs flags (s ∷ way) a i n r h k = n (s ∷ way) i (r, subst (λ x. Leads arcs x (s ∷ way) x) (sym h.0) h) k
 
-pub closed_sum : (arcs : List Arc) (flags : List Bool) (way : List SignedRow) (a : ℕ) (g : ℕ → ℤ) → HaveNoCycleAt arcs flags → AreRows arcs way → Leads arcs a way a → All (λ s. flag flags (s.row - 1) ≡ true) way → sum_along way g ≡ pos 0
+pub closed_sum : (arcs : List Arc) (flags : List Bool) (way : List SignedRow) (a : ℕ) (g : ℕ → ℤ)
+    → HaveNoCycleAt arcs flags → AreRows arcs way → Leads arcs a way a
+    → All (λ s. flag flags (s.row - 1) ≡ true) way → sum_along way g ≡ pos 0
 closed_sum arcs flags way a g n r h k =
     sym (net_count_sum arcs way g r)
-    ∙ sum_below-zero (length arcs) (λ i. net_count way i *ℤ g i) (λ i l. ap (λ z. z *ℤ g i) (closed_counts arcs flags way a i n r h k) ∙ zero-mul (g i))
+    ∙ sum_below-zero (length arcs) (λ i. net_count way i *ℤ g i)
+    (λ i l. ap (λ z. z *ℤ g i) (closed_counts arcs flags way a i n r h k) ∙ zero-mul (g i))
 
 -- ---- a way over a tree, without its loops
 
@@ -60,20 +66,32 @@ is_flagged flags s = flag flags (s.row - 1)
 part_on : (b : Bool) (row : NetRow) → b ≡ true → part b row ≡ row
 part_on b row e = ap (λ (x : Bool). part x row) e
 
-part_off : (b : Bool) (row : NetRow) → b ≡ false → part b row ≡ record { tail = row.tail; head = row.tail; lower = pos 0; span = 0; weight = 0; origin = row.origin }
+part_off : (b : Bool) (row : NetRow) → b ≡ false
+    → part b row ≡ record {
+      tail = row.tail;
+      head = row.tail;
+      lower = pos 0;
+      span = 0;
+      weight = 0;
+      origin = row.origin;
+    }
 part_off b row e = ap (λ (x : Bool). part x row) e
 
-pub same_arc : (rows tree : List NetRow) (flags : List Bool) (i : ℕ) → AreTree rows tree flags → flag flags i ≡ true → arc_at (arcs_of_network tree) i ≡ arc_at (arcs_of_network rows) i
-same_arc rows tree flags i t e = arc_at_net tree i ∙ ap arc_of_net (t.parts i ∙ part_on (flag flags i) (net_row_at rows i) e) ∙ sym (arc_at_net rows i)
+pub same_arc : (rows tree : List NetRow) (flags : List Bool) (i : ℕ) → AreTree rows tree flags
+    → flag flags i ≡ true → arc_at (arcs_of_network tree) i ≡ arc_at (arcs_of_network rows) i
+same_arc rows tree flags i t e = arc_at_net tree i
+    ∙ ap arc_of_net (t.parts i ∙ part_on (flag flags i) (net_row_at rows i) e) ∙ sym (arc_at_net rows i)
 
-pub loop_arc : (rows tree : List NetRow) (flags : List Bool) (i : ℕ) → AreTree rows tree flags → flag flags i ≡ false → arc_at (arcs_of_network tree) i ≡ arc_of_net (loop_at (net_row_at rows i))
+pub loop_arc : (rows tree : List NetRow) (flags : List Bool) (i : ℕ) → AreTree rows tree flags
+    → flag flags i ≡ false → arc_at (arcs_of_network tree) i ≡ arc_of_net (loop_at (net_row_at rows i))
 loop_arc rows tree flags i t e = arc_at_net tree i ∙ ap arc_of_net (t.parts i ∙ part_off (flag flags i) (net_row_at rows i) e)
 
 both_ends : (b : Bool) (x y : ℕ) → x ≡ y → (if b then x else y) ≡ (if b then y else x)
 both_ends true x y e = e
 both_ends false x y e = sym e
 
-pub loop_stays : (arcs : List Arc) (s : SignedRow) → (arc_at arcs (s.row - 1)).tail ≡ (arc_at arcs (s.row - 1)).head → start arcs s ≡ finish arcs s
+pub loop_stays : (arcs : List Arc) (s : SignedRow)
+    → (arc_at arcs (s.row - 1)).tail ≡ (arc_at arcs (s.row - 1)).head → start arcs s ≡ finish arcs s
 loop_stays arcs s e = both_ends s.plus (arc_at arcs (s.row - 1)).tail (arc_at arcs (s.row - 1)).head e
 
 pub filter_on : (p : SignedRow → Bool) (s : SignedRow) (way : List SignedRow) → p s ≡ true → filter p (s ∷ way) ≡ s ∷ filter p way
@@ -82,7 +100,9 @@ filter_on p s way e = ap (λ (b : Bool). cond b (s ∷ filter p way) (filter p w
 pub filter_off : (p : SignedRow → Bool) (s : SignedRow) (way : List SignedRow) → p s ≡ false → filter p (s ∷ way) ≡ filter p way
 filter_off p s way e = ap (λ (b : Bool). cond b (s ∷ filter p way) (filter p way)) e
 
-pub leads_flagged : (rows tree : List NetRow) (flags : List Bool) (way : List SignedRow) (a b : ℕ) → AreTree rows tree flags → Leads (arcs_of_network tree) a way b → Leads (arcs_of_network rows) a (filter (is_flagged flags) way) b
+pub leads_flagged : (rows tree : List NetRow) (flags : List Bool) (way : List SignedRow) (a b : ℕ)
+    → AreTree rows tree flags → Leads (arcs_of_network tree) a way b
+    → Leads (arcs_of_network rows) a (filter (is_flagged flags) way) b
 leads_flagged rows tree flags [] a b t h = h
 leads_flagged rows tree flags (s ∷ way) a b t h =
     let T = arcs_of_network tree in let R = arcs_of_network rows in
@@ -93,17 +113,21 @@ leads_flagged rows tree flags (s ∷ way) a b t h =
           let same = same_arc rows tree flags (s.row - 1) t e in
           let starts : start T s ≡ start R s = ap (λ (arc : Arc). if s.plus then arc.tail else arc.head) same in
           let ends : finish T s ≡ finish R s = ap (λ (arc : Arc). if s.plus then arc.head else arc.tail) same in
-          subst P (sym (filter_on (is_flagged flags) s way e)) (sym starts ∙ h.0, subst (λ x. Leads R x (filter (is_flagged flags) way) b) ends rest)
+          subst P (sym (filter_on (is_flagged flags) s way e))
+          (sym starts ∙ h.0, subst (λ x. Leads R x (filter (is_flagged flags) way) b) ends rest)
       | inr e ↦
           let arc = loop_arc rows tree flags (s.row - 1) t e in
           let stays = loop_stays T s (ap (λ (x : Arc). x.tail) arc ∙ sym (ap (λ (x : Arc). x.head) arc)) in
-          subst P (sym (filter_off (is_flagged flags) s way e)) (subst (λ x. Leads R x (filter (is_flagged flags) way) b) (sym stays ∙ h.0) rest)
+          subst P (sym (filter_off (is_flagged flags) s way e))
+          (subst (λ x. Leads R x (filter (is_flagged flags) way) b) (sym stays ∙ h.0) rest)
     ]
 
 times_none : (a b c : ℤ) → b ≡ pos 0 → a *ℤ b +ℤ c ≡ c
 times_none a b c e = ap (λ z. a *ℤ z +ℤ c) e ∙ omega (arith, ints)
 
-pub sum_flagged : (flags : List Bool) (f g : ℕ → ℤ) (way : List SignedRow) → ((i : ℕ) → flag flags i ≡ true → f i ≡ g i) → ((i : ℕ) → flag flags i ≡ false → f i ≡ pos 0) → sum_along way f ≡ sum_along (filter (is_flagged flags) way) g
+pub sum_flagged : (flags : List Bool) (f g : ℕ → ℤ) (way : List SignedRow)
+    → ((i : ℕ) → flag flags i ≡ true → f i ≡ g i) → ((i : ℕ) → flag flags i ≡ false → f i ≡ pos 0)
+    → sum_along way f ≡ sum_along (filter (is_flagged flags) way) g
 sum_flagged flags f g [] h k = refl
 sum_flagged flags f g (s ∷ way) h k =
     let rest = sum_flagged flags f g way h k in
@@ -111,11 +135,14 @@ sum_flagged flags f g (s ∷ way) h k =
       | inl e ↦
           ap (λ z. sign s *ℤ z +ℤ sum_along way f) (h (s.row - 1) e) ∙ ap (λ z. sign s *ℤ g (s.row - 1) +ℤ z) rest
           ∙ sym (ap (λ w. sum_along w g) (filter_on (is_flagged flags) s way e))
-      | inr e ↦ times_none (sign s) (f (s.row - 1)) (sum_along way f) (k (s.row - 1) e) ∙ rest ∙ sym (ap (λ w. sum_along w g) (filter_off (is_flagged flags) s way e))
+      | inr e ↦ times_none (sign s) (f (s.row - 1)) (sum_along way f) (k (s.row - 1) e) ∙ rest
+          ∙ sym (ap (λ w. sum_along w g) (filter_off (is_flagged flags) s way e))
     ]
 
 -- the lower bounds along a walk over the tree add up to 0, so that with all slacks 0 it has an offset
-pub tree_whole : (period : ℕ) (rows tree : List NetRow) (flags : List Bool) (slacks : ℕ → ℕ) (walk : List SignedRow) → AreTree rows tree flags → ((i : ℕ) → slacks i ≡ 0) → IsWalk (arcs_of_network tree) walk
+pub tree_whole : (period : ℕ) (rows tree : List NetRow) (flags : List Bool) (slacks : ℕ → ℕ)
+    (walk : List SignedRow) → AreTree rows tree flags → ((i : ℕ) → slacks i ≡ 0)
+    → IsWalk (arcs_of_network tree) walk
     → HasWholeOffset (record { period = period; arcs = arcs_of_network tree }) slacks walk
 tree_whole period rows tree flags slacks [] t z w = absurd w
 tree_whole period rows tree flags slacks (s ∷ way) t z w =
@@ -132,5 +159,8 @@ tree_whole period rows tree flags slacks (s ∷ way) t z w =
     let fewer = sum_flagged flags term low walk on off in
     let same_count : length T ≡ length R = arcs_length tree ∙ t.tree_count ∙ sym (arcs_length rows) in
     let exists : All (RowExists R) walk = subst (λ (n : ℕ). All (λ (x : SignedRow). Names n x.row) walk) same_count w.0 in
-    let none = closed_sum R flags F (start T s) low t.no_cycle (All-filter (is_flagged flags) (RowExists R) walk exists) (leads_flagged rows tree flags walk (start T s) (start T s) t w.1) (filter_passes (is_flagged flags) walk) in
+    let none = closed_sum R flags F (start T s) low t.no_cycle
+    (All-filter (is_flagged flags) (RowExists R) walk exists)
+    (leads_flagged rows tree flags walk (start T s) (start T s) t w.1)
+    (filter_passes (is_flagged flags) walk) in
     (pos 0, omega (arith, ints, all, fewer, none))

@@ -10,7 +10,8 @@ use Rattle.pesp_problem.specs.Forests.{AreJoined, IsFirstOf}
 use Rattle.pesp_problem.proofs.Ways.{leads_append, back, leads_back, all_back}
 
 -- a way is one over other arcs that agree at its rows
-pub leads_same : (arcs others : List Arc) (way : List SignedRow) (a b : ℕ) → All (λ s. arc_at others (s.row - 1) ≡ arc_at arcs (s.row - 1)) way → Leads arcs a way b → Leads others a way b
+pub leads_same : (arcs others : List Arc) (way : List SignedRow) (a b : ℕ)
+    → All (λ s. arc_at others (s.row - 1) ≡ arc_at arcs (s.row - 1)) way → Leads arcs a way b → Leads others a way b
 leads_same arcs others [] a b e h = h
 leads_same arcs others (s ∷ way) a b e h =
     let Q : SignedRow → Type 0 = λ x. arc_at others (x.row - 1) ≡ arc_at arcs (x.row - 1) in
@@ -21,7 +22,8 @@ leads_same arcs others (s ∷ way) a b e h =
     (starts ∙ h.0, subst (λ x. Leads others x way b) (sym ends) rest)
 
 -- a closed walk is one over other arcs that agree at its rows
-pub walk_same : (arcs others : List Arc) (walk : List SignedRow) → length others ≡ length arcs → All (λ s. arc_at others (s.row - 1) ≡ arc_at arcs (s.row - 1)) walk → IsWalk arcs walk → IsWalk others walk
+pub walk_same : (arcs others : List Arc) (walk : List SignedRow) → length others ≡ length arcs
+    → All (λ s. arc_at others (s.row - 1) ≡ arc_at arcs (s.row - 1)) walk → IsWalk arcs walk → IsWalk others walk
 walk_same arcs others [] n e w = absurd w
 walk_same arcs others (s ∷ way) n e w =
     let walk : List SignedRow = s ∷ way in

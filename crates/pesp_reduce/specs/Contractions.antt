@@ -11,7 +11,8 @@ use Rattle.pesp_reduce.specs.Rows.{flag, part, fixed_row}
 
 -- no walk along the flagged rows alone passes a row more often one way than the other
 abbrev pub HaveNoCycleAt : List Arc → List Bool → Type 0
-HaveNoCycleAt arcs flags = (walk : List SignedRow) (i : ℕ) → IsWalk arcs walk → All (λ s. flag flags (s.row - 1) ≡ true) walk → net_count walk i ≡ pos 0
+HaveNoCycleAt arcs flags = (walk : List SignedRow) (i : ℕ) → IsWalk arcs walk
+    → All (λ s. flag flags (s.row - 1) ≡ true) walk → net_count walk i ≡ pos 0
 
 -- each of the first events has a number, that of the first event that is joined with it; no two first events have one number
 pub record IsStanding (arcs : List Arc) (events : ℕ) (stands firsts : List ℕ) : Type 0 where
@@ -35,11 +36,13 @@ pub record AreShifts (period events : ℕ) (rows : List NetRow) (flags : List Bo
   pub count : length shifts ≡ events
   pub below : All (λ t. t < period) shifts
   pub tight : (i : ℕ) → flag flags i ≡ true
-      → IsSame period (pos (slice_index shifts (net_row_at rows i).head) -ℤ pos (slice_index shifts (net_row_at rows i).tail)) (net_row_at rows i).lower
+      → IsSame period (pos (slice_index shifts (net_row_at rows i).head) -ℤ pos
+      (slice_index shifts (net_row_at rows i).tail)) (net_row_at rows i).lower
 
 -- both ends of each fixed row have one number
 abbrev pub AreTogether : List NetRow → List ℕ → Type 0
-AreTogether rows stands = (i : ℕ) → i < length rows → (net_row_at rows i).span ≡ 0 → slice_index stands (net_row_at rows i).tail ≡ slice_index stands (net_row_at rows i).head
+AreTogether rows stands = (i : ℕ) → i < length rows → (net_row_at rows i).span ≡ 0
+    → slice_index stands (net_row_at rows i).tail ≡ slice_index stands (net_row_at rows i).head
 
 -- the rows are flagged whose numbers these are
 pub record AreFlags (count : ℕ) (numbers : List ℕ) (flags : List Bool) : Type 0 where
@@ -49,4 +52,5 @@ pub record AreFlags (count : ℕ) (numbers : List ℕ) (flags : List Bool) : Typ
 
 -- those rows are flagged that are in one spanning forest of the fixed rows
 abbrev pub AreForestFlags : List NetRow → List Bool → Type 0
-AreForestFlags rows flags = (forest : List ℕ) × IsSpanningForest (arcs_of_network (map fixed_row rows)) forest × AreFlags (length rows) forest flags
+AreForestFlags rows flags = (forest : List ℕ) × IsSpanningForest (arcs_of_network (map fixed_row rows)) forest
+    × AreFlags (length rows) forest flags

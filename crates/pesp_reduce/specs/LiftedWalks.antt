@@ -67,8 +67,10 @@ pub record IsContractionOf (whole : List NetRow) (c : Contraction) : Type 0 wher
 pub record AreLeftOf (whole : List NetRow) (c : Contraction) (left : List NetRow) : Type 0 where
   pub names : (j : ℕ) → j < length left → Names (length whole) (net_row_at left j).origin
   pub other : (j : ℕ) → j < length left → flag c.contracted.items ((net_row_at left j).origin - 1) ≡ false
-  pub tails : (j : ℕ) → j < length left → (net_row_at left j).tail ≡ slice_index c.stands.items (net_row_at whole ((net_row_at left j).origin - 1)).tail
-  pub heads : (j : ℕ) → j < length left → (net_row_at left j).head ≡ slice_index c.stands.items (net_row_at whole ((net_row_at left j).origin - 1)).head
+  pub tails : (j : ℕ) → j < length left → (net_row_at left j).tail
+      ≡ slice_index c.stands.items (net_row_at whole ((net_row_at left j).origin - 1)).tail
+  pub heads : (j : ℕ) → j < length left → (net_row_at left j).head
+      ≡ slice_index c.stands.items (net_row_at whole ((net_row_at left j).origin - 1)).head
   pub apart : (j k : ℕ) → j < length left → k < length left → (net_row_at left j).origin ≡ (net_row_at left k).origin → j ≡ k
 
 -- a walk closes, and passes beside contracted rows those from which the rows of another one come, in order; no row twice

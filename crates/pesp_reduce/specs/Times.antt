@@ -22,4 +22,5 @@ is_bridge Kept = false
 -- the slack of a row at shifted times, and 0 for a bridge
 abbrev pub lifted_slack : ℕ → List ℕ → List ℕ → List ℕ → NetRow → Fate → ℕ
 lifted_slack period stands shifts times row fate =
-    if is_bridge fate then 0 else remainder period ((shifted stands shifts times row.head -ℤ shifted stands shifts times row.tail) -ℤ row.lower)
+    if is_bridge fate then 0 else remainder period
+    ((shifted stands shifts times row.head -ℤ shifted stands shifts times row.tail) -ℤ row.lower)

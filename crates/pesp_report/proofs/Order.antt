@@ -27,14 +27,16 @@ pub kept : (z : ℤ) → unsigned_abs z ≤ 4611686018427387904 → to_z w64 (of
 kept z h = let fits : SFits w64 z = search (rules, ints) in to_z-of_z w64 z fits
 
 -- the line of a row within its limits
-pub line-is : (p : Pesp) (times : List ℕ) (place : ℕ) → KeepsLimits p → place < length p.rows → slack p.period times (row_at p.rows place) < 4294967296
+pub line-is : (p : Pesp) (times : List ℕ) (place : ℕ) → KeepsLimits p → place < length p.rows
+    → slack p.period times (row_at p.rows place) < 4294967296
     → ◌≡◌ {A = Line}
     (record {
       row = place + 1;
       label = to_z w64 (of_z w64 (row_at p.rows place).label);
       tail = to_z w64 (of_z w64 (label_at p.events (row_at p.rows place).tail));
       head = to_z w64 (of_z w64 (label_at p.events (row_at p.rows place).head));
-      duration = to_z w64 (of_z w64 (to_z w64 (of_z w64 (row_at p.rows place).lower) +ℤ to_z w64 (of_z w64 (pos (slack p.period times (row_at p.rows place))))));
+      duration = to_z w64 (of_z w64 (to_z w64 (of_z w64 (row_at p.rows place).lower)
+          +ℤ to_z w64 (of_z w64 (pos (slack p.period times (row_at p.rows place))))));
       slack = slack p.period times (row_at p.rows place);
       weight = (row_at p.rows place).weight;
       weighted = (row_at p.rows place).weight * slack p.period times (row_at p.rows place);
@@ -68,12 +70,15 @@ pub length-lines : (p : Pesp) (times : List ℕ) → length (lines_of p times) �
 length-lines p times = length-mapped (line_of p times) (enumerate_from 1 p.rows) ∙ length-enumerate_from 1 p.rows
 
 -- one more line
-pub lines-more : (p : Pesp) (times : List ℕ) (i : ℕ) → i < length p.rows → take (i + 1) (lines_of p times) ≡ take i (lines_of p times) ++ line_of p times (i + 1, row_at p.rows i) ∷ []
+pub lines-more : (p : Pesp) (times : List ℕ) (i : ℕ) → i < length p.rows
+    → take (i + 1) (lines_of p times) ≡ take i (lines_of p times) ++ line_of p times (i + 1, row_at p.rows i) ∷ []
 lines-more p times i there =
     let d : ℕ × Row = (0, no_row) in
     let here : i < length (lines_of p times) = omega (arith, length-lines p times, there) in
     let number : (1 + i) ≡ i + 1 = omega arith in
-    let at = get_or-map (line_of p times) (enumerate_from 1 p.rows) i d ∙ ap (line_of p times) (get_or-enumerate_from 1 p.rows i d there ∙ ap (λ (n : ℕ). (n, row_at p.rows i)) number) in
+    let at = get_or-map (line_of p times) (enumerate_from 1 p.rows) i d
+    ∙ ap (line_of p times) (get_or-enumerate_from 1 p.rows i d there
+    ∙ ap (λ (n : ℕ). (n, row_at p.rows i)) number) in
     take_more (lines_of p times) i (line_of p times d) here ∙ ap (λ (l : Line). take i (lines_of p times) ++ l ∷ []) at
 
 flat_map-last : {A : Type 0} (f : A → List ℕ) (xs : List A) (x : A) → flat_map f (xs ++ x ∷ []) ≡ flat_map f xs ++ f x
@@ -82,7 +87,8 @@ flat_map-last f (y ∷ ys) x = ap (λ (l : List ℕ). f y ++ l) (flat_map-last f
 
 -- the records of one more item
 pub records-more : {A : Type 0} (fields : A → List (List ℕ)) (items : List A) (i : ℕ) (d : A) → i < length items
-    → records_text (map fields (take (i + 1) items)) ≡ records_text (map fields (take i items)) ++ row_text default_writer (fields (get_or items i d))
+    → records_text (map fields (take (i + 1) items))
+    ≡ records_text (map fields (take i items)) ++ row_text default_writer (fields (get_or items i d))
 records-more {A} fields items i d there =
     ap (λ (l : List A). records_text (map fields l)) (take_more items i d there)
     ∙ ap records_text (map-append fields (take i items) (get_or items i d ∷ []))

@@ -30,11 +30,13 @@ after-none : (r : Result (List ℕ) TimesRefusal) → after [] r ≡ r
 after-none (Ok times) = refl
 after-none (Err e) = refl
 
-after-one : (before : List ℕ) (t : ℕ) (e : TimesRefusal) (r : Result (List ℕ) TimesRefusal) → after before (behind (Some t) e r) ≡ after (before ++ t ∷ []) r
+after-one : (before : List ℕ) (t : ℕ) (e : TimesRefusal) (r : Result (List ℕ) TimesRefusal)
+    → after before (behind (Some t) e r) ≡ after (before ++ t ∷ []) r
 after-one before t e (Ok times) = ap Ok (sym (append_assoc before (t ∷ []) times))
 after-one before t e (Err f) = refl
 
-drop-there : (events : List ℤ) (k : ℕ) (e : ℤ) → slice_get events k ≡ Some e → (drop k events ≡ e ∷ drop (k + 1) events) × (k < length events)
+drop-there : (events : List ℤ) (k : ℕ) (e : ℤ) → slice_get events k ≡ Some e
+    → (drop k events ≡ e ∷ drop (k + 1) events) × (k < length events)
 drop-there [] k e h = cc h
 drop-there (x ∷ xs) zero e h = let s : x ≡ e = cc h in (rw s refl, omega arith)
 drop-there (x ∷ xs) (suc k) e h = let more = drop-there xs k e h in (more.0 ∙ rw (add-one k, add-one (suc k)) refl, omega (arith, more.1))
@@ -53,7 +55,8 @@ reads-start period events text = record {
   few = omega arith;
 }
 
-module _ (period : ℕ) (events : List ℤ) (text line : List ℕ) (rest : List (List ℕ)) (n : ℕ) (times : List ℕ) (r : Reads period events text (line ∷ rest) n times) where
+module _ (period : ℕ) (events : List ℤ) (text line : List ℕ) (rest : List (List ℕ)) (n : ℕ) (times : List ℕ)
+    (r : Reads period events text (line ∷ rest) n times) where
   -- a line that is passed over
   pub reads-past : names_a_time line ≡ false → Reads period events text rest (n + 1) times
   reads-past e = record {
@@ -64,28 +67,34 @@ module _ (period : ℕ) (events : List ℤ) (text line : List ℕ) (rest : List 
   }
 
   -- a line that tells the next event's time
-  pub reads-more : (t : ℕ) → names_a_time line ≡ true → time_at period events (length times) line ≡ Some t → t < period → Reads period events text rest (n + 1) (times ++ t ∷ [])
+  pub reads-more : (t : ℕ) → names_a_time line ≡ true → time_at period events (length times) line ≡ Some t
+      → t < period → Reads period events text rest (n + 1) (times ++ t ∷ [])
   unfolding times_for
   reads-more t e h small = by (slice_get events (length times)) refl h
     where
-      by : (o : Option ℤ) → slice_get events (length times) ≡ o → time_for period o line ≡ Some t → Reads period events text rest (n + 1) (times ++ t ∷ [])
+      by : (o : Option ℤ) → slice_get events (length times) ≡ o → time_for period o line ≡ Some t
+          → Reads period events text rest (n + 1) (times ++ t ∷ [])
       by None v g = cc g
       by (Some event) v g =
           let d = drop-there events (length times) event v in
           let longer : length (times ++ t ∷ []) ≡ length times + 1 = length-append times (t ∷ []) in
           record {
             count = omega (arith, r.count);
-            goes = r.goes ∙ rw (e, d.0, g, longer) (after-one times t (BadLine (n + 1)) (times_for period (drop (length times + 1) events) (numbered (n + 1 + 1) rest)));
+            goes = r.goes ∙ rw (e, d.0, g, longer)
+                (after-one times t (BadLine (n + 1)) (times_for period (drop (length times + 1) events)
+                (numbered (n + 1 + 1) rest)));
             below = All-push (λ k. k < period) times t r.below small;
             few = omega (arith, longer, d.1);
           }
 
   -- a line that does not
-  pub reads-fault : names_a_time line ≡ true → time_at period events (length times) line ≡ None → times_for period events (time_lines text) ≡ Err (BadLine (n + 1))
+  pub reads-fault : names_a_time line ≡ true → time_at period events (length times) line ≡ None
+      → times_for period events (time_lines text) ≡ Err (BadLine (n + 1))
   unfolding times_for
   reads-fault e h = by (slice_get events (length times)) refl h
     where
-      by : (o : Option ℤ) → slice_get events (length times) ≡ o → time_for period o line ≡ None → times_for period events (time_lines text) ≡ Err (BadLine (n + 1))
+      by : (o : Option ℤ) → slice_get events (length times) ≡ o → time_for period o line ≡ None
+          → times_for period events (time_lines text) ≡ Err (BadLine (n + 1))
       by None v g = r.goes ∙ rw (e, drop-past events (length times) v) refl
       by (Some event) v g = r.goes ∙ rw (e, (drop-there events (length times) event v).0, g) refl
 

@@ -33,14 +33,17 @@ below-is period (Some n) t e = by (nat_lt n period) refl e
     by false w h = let g : ◌≡◌ {A = Option ℕ} None (Some t) = rw w at h in cc
 
 -- three words that give an event a time spell its label and that time
-words-tell : (period : ℕ) (event : ℤ) (words : List (List ℕ)) (first : List ℕ) (rest : List (List ℕ)) (t : ℕ) → words ≡ first ∷ rest → time_of_words period event words ≡ Some t
+words-tell : (period : ℕ) (event : ℤ) (words : List (List ℕ)) (first : List ℕ) (rest : List (List ℕ)) (t : ℕ)
+    → words ≡ first ∷ rest → time_of_words period event words ≡ Some t
     → words ≡ first ∷ signed_decimal event ∷ decimal t ∷ []
 words-tell period event [] first rest t s e = cc e
 words-tell period event (w ∷ []) first rest t s e = cc e
 words-tell period event (w ∷ label ∷ []) first rest t s e = cc e
 words-tell period event (w ∷ label ∷ time ∷ []) first rest t s e = by (is_label event (whole_of label)) refl e
   where
-    by : (b : Bool) → is_label event (whole_of label) ≡ b → time_of_words period event (w ∷ label ∷ time ∷ []) ≡ Some t → (w ∷ label ∷ time ∷ []) ≡ first ∷ signed_decimal event ∷ decimal t ∷ []
+    by : (b : Bool) → is_label event (whole_of label) ≡ b
+        → time_of_words period event (w ∷ label ∷ time ∷ []) ≡ Some t
+        → (w ∷ label ∷ time ∷ []) ≡ first ∷ signed_decimal event ∷ decimal t ∷ []
     by true v h =
         let g : below_period period (natural_of time) ≡ Some t = rw v at h in
         let l : label ≡ signed_decimal event = (whole_spells label event (label-is event (whole_of label) v)).1 in
@@ -59,21 +62,28 @@ pub filtered-tell : (lines : List (ℕ × List ℕ)) → AllTell (filter (λ lin
 filtered-tell [] = tt
 filtered-tell (line ∷ lines) = by (names_a_time line.1) refl (filtered-tell lines)
   where
-    by : (b : Bool) → names_a_time line.1 ≡ b → AllTell (filter (λ line. names_a_time line.1) lines) → AllTell (filter (λ line. names_a_time line.1) (line ∷ lines))
+    by : (b : Bool) → names_a_time line.1 ≡ b → AllTell (filter (λ line. names_a_time line.1) lines)
+        → AllTell (filter (λ line. names_a_time line.1) (line ∷ lines))
     by true e more = rw e (e, more)
     by false e more = rw e more
 
 -- lines that are read tell the times
-pub lines-tell : (period : ℕ) (events : List ℤ) (lines : List (ℕ × List ℕ)) (times : List ℕ) → AllTell lines → times_for period events lines ≡ Ok times → TellTimes events times lines
+pub lines-tell : (period : ℕ) (events : List ℤ) (lines : List (ℕ × List ℕ)) (times : List ℕ) → AllTell lines
+    → times_for period events lines ≡ Ok times → TellTimes events times lines
 unfolding times_for
 lines-tell period [] [] [] a e = tt
 lines-tell period [] [] (t ∷ ts) a e = cc e
 lines-tell period (event ∷ events) [] times a e = cc e
 lines-tell period [] (line ∷ lines) times a e = cc e
-lines-tell period (event ∷ events) (line ∷ lines) times a e = by (time_of_words period event (words_of line.1)) (times_for period events lines) times refl refl e (lines-tell period events lines)
+lines-tell period (event ∷ events) (line ∷ lines) times a e =
+    by (time_of_words period event (words_of line.1)) (times_for period events lines) times refl refl e
+    (lines-tell period events lines)
   where
-    by : (o : Option ℕ) (r : Result (List ℕ) TimesRefusal) (times : List ℕ) → time_of_words period event (words_of line.1) ≡ o → times_for period events lines ≡ r → behind o (BadLine line.0) r ≡ Ok times
-        → ((ts : List ℕ) → AllTell lines → times_for period events lines ≡ Ok ts → TellTimes events ts lines) → TellTimes (event ∷ events) times (line ∷ lines)
+    by : (o : Option ℕ) (r : Result (List ℕ) TimesRefusal) (times : List ℕ)
+        → time_of_words period event (words_of line.1) ≡ o → times_for period events lines ≡ r
+        → behind o (BadLine line.0) r ≡ Ok times
+        → ((ts : List ℕ) → AllTell lines → times_for period events lines ≡ Ok ts → TellTimes events ts lines)
+        → TellTimes (event ∷ events) times (line ∷ lines)
     by None r times v w h more = cc h
     by (Some t) (Err f) times v w h more = cc h
     by (Some t) (Ok ts) times v w h more =

@@ -23,7 +23,8 @@ violations_to p times i = filter_map (violation_at p times) (take i (enumerate_f
 
 module _ (p : Pesp) (times : List ℕ) (i : ℕ) (there : i < length p.rows) where
   -- one more row
-  pub violations-more : violations_to p times (i + 1) ≡ violations_to p times i ++ cons_option (violation_at p times (i + 1, row_at p.rows i)) []
+  pub violations-more : violations_to p times (i + 1)
+      ≡ violations_to p times i ++ cons_option (violation_at p times (i + 1, row_at p.rows i)) []
   violations-more =
       let d : ℕ × Row = (0, no_row) in
       let all : List (ℕ × Row) = enumerate_from 1 p.rows in
@@ -44,7 +45,8 @@ pub violation-is : (p : Pesp) (times : List ℕ) (place : ℕ) → KeepsLimits p
       duration = to_z w64 (of_z w64 ((row_at p.rows place).lower +ℤ pos (slack p.period times (row_at p.rows place))));
       lower = to_z w64 (of_z w64 (row_at p.rows place).lower);
       upper = to_z w64 (of_z w64 (row_at p.rows place).upper);
-      excess = to_z w64 (of_z w64 (pos (slack p.period times (row_at p.rows place)) -ℤ ((row_at p.rows place).upper -ℤ (row_at p.rows place).lower)));
+      excess = to_z w64 (of_z w64 (pos (slack p.period times (row_at p.rows place)) -ℤ
+          ((row_at p.rows place).upper -ℤ (row_at p.rows place).lower)));
     })
     (violation_of p times (place + 1, row_at p.rows place))
 violation-is p times place limits there =
@@ -73,29 +75,39 @@ violated : (p : Pesp) (times : List ℕ) (row : Row) → is_violated p times row
 violated p times row e h = grind (arith, ints, e, h)
 
 -- what is told of a row that is violated, and of one that isn't
-pub violation-some : (p : Pesp) (times : List ℕ) (n : ℕ) (row : Row) → is_violated p times row ≡ true → violation_at p times (n, row) ≡ Some (violation_of p times (n, row))
+pub violation-some : (p : Pesp) (times : List ℕ) (n : ℕ) (row : Row) → is_violated p times row ≡ true
+    → violation_at p times (n, row) ≡ Some (violation_of p times (n, row))
 violation-some p times n row e = rw e refl
 
-pub violation-none : (p : Pesp) (times : List ℕ) (n : ℕ) (row : Row) → is_violated p times row ≡ false → violation_at p times (n, row) ≡ None
+pub violation-none : (p : Pesp) (times : List ℕ) (n : ℕ) (row : Row) → is_violated p times row ≡ false
+    → violation_at p times (n, row) ≡ None
 violation-none p times n row e = rw e refl
 
 -- where none of these rows is violated all are satisfied
-none-all : (p : Pesp) (times : List ℕ) (n : ℕ) (rows : List Row) → length (filter_map (violation_at p times) (enumerate_from n rows)) ≡ 0 → All (λ row. IsSatisfied p times row) rows
+none-all : (p : Pesp) (times : List ℕ) (n : ℕ) (rows : List Row)
+    → length (filter_map (violation_at p times) (enumerate_from n rows)) ≡ 0
+    → All (λ row. IsSatisfied p times row) rows
 none-all p times n [] e = All-nil (λ row. IsSatisfied p times row)
 none-all p times n (row ∷ rows) e = by (is_violated p times row) refl (none-all p times (n + 1) rows)
   where
-    by : (b : Bool) → is_violated p times row ≡ b → (length (filter_map (violation_at p times) (enumerate_from (n + 1) rows)) ≡ 0 → All (λ row. IsSatisfied p times row) rows) → All (λ row. IsSatisfied p times row) (row ∷ rows)
+    by : (b : Bool) → is_violated p times row ≡ b
+        → (length (filter_map (violation_at p times) (enumerate_from (n + 1) rows)) ≡ 0
+        → All (λ row. IsSatisfied p times row) rows) → All (λ row. IsSatisfied p times row) (row ∷ rows)
     by true v more = let none = rw v at e in absurd (omega (arith, none))
     by false v more =
         let less = rw v at e in
         All-cons (λ row. IsSatisfied p times row) row rows (satisfied p times row v) (more less)
 
 -- where all rows are satisfied none is violated
-all-none : (p : Pesp) (times : List ℕ) (n : ℕ) (rows : List Row) → All (λ row. IsSatisfied p times row) rows → length (filter_map (violation_at p times) (enumerate_from n rows)) ≡ 0
+all-none : (p : Pesp) (times : List ℕ) (n : ℕ) (rows : List Row) → All (λ row. IsSatisfied p times row) rows
+    → length (filter_map (violation_at p times) (enumerate_from n rows)) ≡ 0
 all-none p times n [] a = refl
-all-none p times n (row ∷ rows) a = by (is_violated p times row) refl (all-none p times (n + 1) rows (All-tail (λ row. IsSatisfied p times row) row rows a))
+all-none p times n (row ∷ rows) a = by (is_violated p times row) refl
+    (all-none p times (n + 1) rows (All-tail (λ row. IsSatisfied p times row) row rows a))
   where
-    by : (b : Bool) → is_violated p times row ≡ b → length (filter_map (violation_at p times) (enumerate_from (n + 1) rows)) ≡ 0 → length (filter_map (violation_at p times) (enumerate_from n (row ∷ rows))) ≡ 0
+    by : (b : Bool) → is_violated p times row ≡ b
+        → length (filter_map (violation_at p times) (enumerate_from (n + 1) rows)) ≡ 0
+        → length (filter_map (violation_at p times) (enumerate_from n (row ∷ rows))) ≡ 0
     by true v more = absurd (violated p times row v (All-head (λ row. IsSatisfied p times row) row rows a))
     by false v more = rw v more
 

@@ -41,7 +41,8 @@ violation_header =
 
 abbrev pub violation_fields : Violation → List (List ℕ)
 violation_fields v =
-    decimal v.row ∷ signed_decimal v.label ∷ signed_decimal v.tail ∷ signed_decimal v.head ∷ signed_decimal v.duration ∷ signed_decimal v.lower
+    decimal v.row ∷ signed_decimal v.label ∷ signed_decimal v.tail ∷ signed_decimal v.head
+    ∷ signed_decimal v.duration ∷ signed_decimal v.lower
     ∷ signed_decimal v.upper ∷ signed_decimal v.excess ∷ []
 
 -- the header and these records

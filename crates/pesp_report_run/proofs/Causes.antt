@@ -27,7 +27,8 @@ blamed ReportMemory A B follows fact = tt
 blamed ReportWrite A B follows fact = follows fact
 
 -- a refusal of the names' text, or of memory
-pub names_cause : (refusal : NamesRefusal) (told left : Option (List ℕ)) (calls after : Calls) → NamesCause (names_fault refusal) (over told left calls after)
+pub names_cause : (refusal : NamesRefusal) (told left : Option (List ℕ)) (calls after : Calls)
+    → NamesCause (names_fault refusal) (over told left calls after)
 names_cause NamesTooLong told left calls after = tt
 names_cause (NamesFieldCount at) told left calls after = tt
 names_cause (NamesNotANumber at) told left calls after = tt
@@ -35,25 +36,38 @@ names_cause (NotText at) told left calls after = tt
 names_cause NamesMemory told left calls after = tt
 
 -- times that are no timetable, or of which nothing went out whole, for memory or because the writer failed
-pub timetable_cause : (refusal : ReportRefusal) (p : Pesp) (times : List ℕ) (Failed Front : Type 0) → AreTimes p times → Refuses p times refusal → IfBlamed refusal Failed → IfBlamed refusal Front → RowCause (report_fault refusal) p times ⊎ OutCause (report_fault refusal) (IsTimetable p times × Failed × Front)
+pub timetable_cause : (refusal : ReportRefusal) (p : Pesp) (times : List ℕ) (Failed Front : Type 0)
+    → AreTimes p times → Refuses p times refusal → IfBlamed refusal Failed → IfBlamed refusal Front
+    → RowCause (report_fault refusal) p times ⊎ OutCause (report_fault refusal)
+    (IsTimetable p times × Failed × Front)
 timetable_cause (Violates row) p times Failed Front are refused failed front = inl refused.1
 timetable_cause NotTimes p times Failed Front are refused failed front = absurd (refused are)
 timetable_cause ReportMemory p times Failed Front are refused failed front = inr tt
 timetable_cause ReportWrite p times Failed Front are refused failed front = inr (refused, failed, front)
 
 -- violated activities of which nothing went out whole, for memory or because the writer failed
-violations_out : (refusal : ViolationsRefusal) (p : Pesp) (times : List ℕ) (Failed Front : Type 0) → AreTimes p times → RefusesViolations p times refusal → IfWriteFailed refusal Failed → IfWriteFailed refusal Front → OutCause (violations_fault refusal) (AreTimes p times × Failed × Front)
+violations_out : (refusal : ViolationsRefusal) (p : Pesp) (times : List ℕ) (Failed Front : Type 0)
+    → AreTimes p times → RefusesViolations p times refusal → IfWriteFailed refusal Failed
+    → IfWriteFailed refusal Front → OutCause (violations_fault refusal) (AreTimes p times × Failed × Front)
 violations_out NoTimes p times Failed Front are refused failed front = absurd (refused are)
 violations_out ViolationsMemory p times Failed Front are refused failed front = tt
 violations_out ViolationsWrite p times Failed Front are refused failed front = (are, failed, front)
 
 -- the same of times that are these ones
-pub violations_cause : (refusal : ViolationsRefusal) (p : Pesp) (told times : List ℕ) (old new : Option (List ℕ)) (Failed : Type 0) → told ≡ times → AreTimes p times → RefusesViolations p told refusal → IfWriteFailed refusal Failed → IfWriteFailed refusal (AppendsFront old new (violations_text (violations_of p told)))
+pub violations_cause : (refusal : ViolationsRefusal) (p : Pesp) (told times : List ℕ) (old new : Option (List ℕ))
+    (Failed : Type 0) → told ≡ times → AreTimes p times → RefusesViolations p told refusal
+    → IfWriteFailed refusal Failed → IfWriteFailed refusal
+    (AppendsFront old new (violations_text (violations_of p told)))
     → OutCause (violations_fault refusal) (AreTimes p times × Failed × AppendsFront old new (violations_text (violations_of p times)))
 violations_cause refusal p told times old new Failed same are refused failed front =
-    subst (λ (ts : List ℕ). OutCause (violations_fault refusal) (AreTimes p ts × Failed × AppendsFront old new (violations_text (violations_of p ts)))) same
-    (violations_out refusal p told Failed (AppendsFront old new (violations_text (violations_of p told))) (subst (λ (ts : List ℕ). AreTimes p ts) (sym same) are) refused failed front)
+    subst (λ (ts : List ℕ). OutCause (violations_fault refusal)
+    (AreTimes p ts × Failed × AppendsFront old new (violations_text (violations_of p ts)))) same
+    (violations_out refusal p told Failed (AppendsFront old new (violations_text (violations_of p told)))
+    (subst (λ (ts : List ℕ). AreTimes p ts) (sym same) are) refused failed front)
 
 -- violated activities of times that are these ones were counted and written
-pub violations_told : (p : Pesp) (told times : List ℕ) (count : ℕ) (old new : Option (List ℕ)) → told ≡ times → count ≡ length (violations_of p told) → Appends old new (violations_text (violations_of p told)) → WritesViolations p times count (Appends old new)
-violations_told p told times count old new same counted written = subst (λ (ts : List ℕ). WritesViolations p ts count (Appends old new)) same (counted, written)
+pub violations_told : (p : Pesp) (told times : List ℕ) (count : ℕ) (old new : Option (List ℕ)) → told ≡ times
+    → count ≡ length (violations_of p told) → Appends old new (violations_text (violations_of p told))
+    → WritesViolations p times count (Appends old new)
+violations_told p told times count old new same counted written =
+    subst (λ (ts : List ℕ). WritesViolations p ts count (Appends old new)) same (counted, written)

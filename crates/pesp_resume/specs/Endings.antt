@@ -19,15 +19,18 @@ ending_of turns.NumbersSpent = Some Full
 ending_of turns.TreeTooLarge = Some Full
 ending_of turns.TurnsUsed = None
 
--- the tree is full, or 1000000 numbers are spent by turns, each of which splits or closes a leaf or finds nothing left to cut at one; without a split they are spent by looks
+-- the tree is full, or 1000000 numbers are spent by turns, each of which splits or closes a leaf or finds nothing left
+-- to cut at one; without a split they are spent by looks
 abbrev pub IsFull : ProblemValue → ℕ → State → State → Type 0
-IsFull p steps opening state = IsTreeFull p state ⊎ (((r : ReducedValue) × SpendsNumbers p r opening state) ⊎ ((steps ≡ 0) × (1000000 ≤ length state.numbers)))
+IsFull p steps opening state = IsTreeFull p state
+    ⊎ (((r : ReducedValue) × SpendsNumbers p r opening state) ⊎ ((steps ≡ 0) × (1000000 ≤ length state.numbers)))
 
 -- no open leaf waits: each is lent, and was looked at
 abbrev pub IsNoneWaiting : ProblemValue → State → Type 0
 IsNoneWaiting p state = (path : List (Cut × Side)) → IsOpen p state path → ⊥
 
--- all splits are used up, and where there are none each open leaf was looked at; or nothing is left to split, a limit is met, or the watcher ended it
+-- all splits are used up, and where there are none each open leaf was looked at; or nothing is left to split, a limit
+-- is met, or the watcher ended it
 abbrev pub IsEndedAs : ProblemValue → ℕ → Type 0 → State → State → ℕ → Ending → Type 0
 IsEndedAs p steps stopped opening state used StepsUsed = (used ≡ steps) × (steps ≡ 0 → IsNoneWaiting p state)
 IsEndedAs p steps stopped opening state used NoneOpen = IsNoneLeft p state

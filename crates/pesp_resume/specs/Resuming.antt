@@ -22,8 +22,12 @@ pub record IsCertified (instance : Pesp) (p : ProblemValue) (state : State) (con
   pub is_certificate : IsCertificateOf p instance.events state content
   pub valid : IsValid instance content
 
--- the certificate of a state to which the events of a board lead from the base, with so many splits of at most so many; it is valid, its bound isn't below the base's, no bound standing above every number, its cost isn't above the base's, and its tree has as many branches more; and either all splits are used up, or nothing is left to split, or a limit is met, or the watcher ended it
-pub record IsResumed (instance : Pesp) (base : Content) (steps : ℕ) (stopped : Type 0) (used : ℕ) (ending : Ending) (content : Content) : Type 0 where
+-- the certificate of a state to which the events of a board lead from the base, with so many splits of at most so many;
+-- it is valid, its bound isn't below the base's, no bound standing above every number, its cost isn't above the base's,
+-- and its tree has as many branches more; and either all splits are used up, or nothing is left to split, or a limit is
+-- met, or the watcher ended it
+pub record IsResumed (instance : Pesp) (base : Content) (steps : ℕ) (stopped : Type 0) (used : ℕ) (ending : Ending)
+    (content : Content) : Type 0 where
   pub problem : ProblemValue
   pub opening : State
   pub begins : IsBegun instance base problem opening

@@ -9,7 +9,9 @@ use Rattle.pesp_resume.proofs.Resumptions.{resumed_weaker}
 use Rattle.pesp_resume_run.specs.Resuming.{WritesResumed}
 
 -- the writer got what is said of the certificate's text
-pub writes : {p : Pesp} {base certificate : Content} {steps : ℕ} {stopped : Type 0} {Gets : List ℕ → Type 0} (used : ℕ) (ending : Ending) → IsResumed p base steps stopped used ending certificate → HasText certificate → Gets (spelling certificate) → WritesResumed p base steps stopped Gets
+pub writes : {p : Pesp} {base certificate : Content} {steps : ℕ} {stopped : Type 0} {Gets : List ℕ → Type 0}
+    (used : ℕ) (ending : Ending) → IsResumed p base steps stopped used ending certificate → HasText certificate
+    → Gets (spelling certificate) → WritesResumed p base steps stopped Gets
 writes {certificate = certificate} used ending resumed has_text gets = record {
   used = used;
   ending = ending;
@@ -20,7 +22,8 @@ writes {certificate = certificate} used ending resumed has_text gets = record {
 }
 
 -- where less is said of a stop
-pub written_weaker : {A B : Type 0} (p : Pesp) (base : Content) (steps : ℕ) (Gets : List ℕ → Type 0) → (A → B) → WritesResumed p base steps A Gets → WritesResumed p base steps B Gets
+pub written_weaker : {A B : Type 0} (p : Pesp) (base : Content) (steps : ℕ) (Gets : List ℕ → Type 0) → (A → B)
+    → WritesResumed p base steps A Gets → WritesResumed p base steps B Gets
 written_weaker p base steps Gets f w = record {
   used = w.used;
   ending = w.ending;

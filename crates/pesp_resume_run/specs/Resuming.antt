@@ -10,7 +10,8 @@ use Rattle.pesp_faults.specs.Reading.{ReadsInstance, ReadsBase}
 use Rattle.pesp_faults.specs.Causes.{InstanceCause, BaseCause, OutCause}
 use Rattle.pesp_faults.specs.declared.fault.Fault.{Fault}
 
--- the writer got what the relation says of the text of a certificate to which a search leads from the base, within so many steps; it ended before all were used only where nothing is left to split, a limit is met, or it was stopped
+-- the writer got what the relation says of the text of a certificate to which a search leads from the base, within so
+-- many steps; it ended before all were used only where nothing is left to split, a limit is met, or it was stopped
 pub record WritesResumed (p : Pesp) (base : Content) (steps : ℕ) (stopped : Type 0) (Gets : List ℕ → Type 0) : Type 0 where
   pub used : ℕ
   pub ending : Ending
@@ -19,7 +20,8 @@ pub record WritesResumed (p : Pesp) (base : Content) (steps : ℕ) (stopped : Ty
   pub has_text : HasText certificate
   pub written : Gets (spelling certificate)
 
--- each fault of `resume` and its cause, in the order of what is read and written; the second reader is called only where the first text has an instance
+-- each fault of `resume` and its cause, in the order of what is read and written; the second reader is called only
+-- where the first text has an instance
 abbrev pub ResumeCause : Fault → Device → Device → Device → ℕ → ℕ → Type 0 → Type 0 → Type 0
 ResumeCause fault reader base_reader writer period steps stopped uncalled =
     (InstanceCause fault reader period × uncalled)

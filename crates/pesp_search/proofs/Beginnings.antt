@@ -17,7 +17,9 @@ use Rattle.pesp_turns.specs.Knowing.{IsKnown}
 use Rattle.pesp_turns.specs.Settling.{IsSearched}
 use Rattle.pesp_search.specs.Beginning.{IsNewBoard, IsBegun}
 
-few_cycles : (r : ReducedValue) (walks table : List (List SignedRow)) → IsReduced r → AreFundamental (arcs_of_network r.network.rows) r.network.forest walks → AreLifted r walks table → length table ≤ length r.original.rows
+few_cycles : (r : ReducedValue) (walks table : List (List SignedRow)) → IsReduced r
+    → AreFundamental (arcs_of_network r.network.rows) r.network.forest walks → AreLifted r walks table
+    → length table ≤ length r.original.rows
 few_cycles r walks table h f a =
     let short = short_table (arcs_of_network r.network.rows) r.network.forest walks f in
     let fewer = fewer_rows r h in
@@ -25,11 +27,18 @@ few_cycles r walks table h f a =
     let long = a.long in
     omega (arith, short, fewer, count, long)
 
-pub few_there : {E : Type 0} (instance : Pesp) (r : ReducedValue) (walks : List (List SignedRow)) (result : Result ProblemValue E) → r.original ≡ instance → IsReduced r → AreFundamental (arcs_of_network r.network.rows) r.network.forest walks → IfOk result (λ p. AreLifted r walks p.table) → IfOk result (λ p. length p.table ≤ length instance.rows)
-few_there instance r walks (Ok p) e reduced fundamental lifted = subst (λ (i : Pesp). length p.table ≤ length i.rows) e (few_cycles r walks p.table reduced fundamental lifted)
+pub few_there : {E : Type 0} (instance : Pesp) (r : ReducedValue) (walks : List (List SignedRow))
+    (result : Result ProblemValue E) → r.original ≡ instance → IsReduced r
+    → AreFundamental (arcs_of_network r.network.rows) r.network.forest walks
+    → IfOk result (λ p. AreLifted r walks p.table) → IfOk result (λ p. length p.table ≤ length instance.rows)
+few_there instance r walks (Ok p) e reduced fundamental lifted =
+    subst (λ (i : Pesp). length p.table ≤ length i.rows) e (few_cycles r walks p.table reduced fundamental lifted)
 few_there instance r walks (Err x) e reduced fundamental lifted = tt
 
-pub searched_there : {E : Type 0} (instance : Pesp) (r : ReducedValue) (walks : List (List SignedRow)) (result : Result ProblemValue E) → KeepsLimits instance → r.original ≡ instance → IsReduced r → AreFundamental (arcs_of_network r.network.rows) r.network.forest walks → IfOk result (IsProblemOf instance) → IfOk result (λ p. AreLifted r walks p.table) → IfOk result (λ p. IsSearched p r)
+pub searched_there : {E : Type 0} (instance : Pesp) (r : ReducedValue) (walks : List (List SignedRow))
+    (result : Result ProblemValue E) → KeepsLimits instance → r.original ≡ instance → IsReduced r
+    → AreFundamental (arcs_of_network r.network.rows) r.network.forest walks → IfOk result (IsProblemOf instance)
+    → IfOk result (λ p. AreLifted r walks p.table) → IfOk result (λ p. IsSearched p r)
 searched_there instance r walks (Ok p) limits e reduced fundamental of lifted = record {
   of = subst (λ (i : Pesp). IsProblemOf i p) (sym e) of;
   reduced = reduced;
@@ -40,12 +49,17 @@ searched_there instance r walks (Ok p) limits e reduced fundamental of lifted = 
 }
 searched_there instance r walks (Err x) limits e reduced fundamental of lifted = tt
 
-pub new_board : (instance : Pesp) (r : ReducedValue) (p : ProblemValue) (board : BoardValue) → board ≡ record { problem = p; state = opening } → IsProblemOf instance p → IsSearched p r → IsFrugal p.table → length p.table ≤ length instance.rows → IsNewBoard instance r board
+pub new_board : (instance : Pesp) (r : ReducedValue) (p : ProblemValue) (board : BoardValue)
+    → board ≡ record { problem = p; state = opening } → IsProblemOf instance p → IsSearched p r → IsFrugal p.table
+    → length p.table ≤ length instance.rows → IsNewBoard instance r board
 new_board instance r p board e of searched frugal few =
-    let there : IsNewBoard instance r (record { problem = p; state = opening }) = record { opening = refl; of = of; searched = searched; frugal = frugal; few = few } in
+    let there : IsNewBoard instance r (record { problem = p; state = opening }) =
+    record { opening = refl; of = of; searched = searched; frugal = frugal; few = few } in
     subst (IsNewBoard instance r) (sym e) there
 
-pub begun_is : (instance : Pesp) (r : ReducedValue) (q : ProblemValue) (search : Search) → q ≡ search.board.problem → r.original ≡ instance → IsNewBoard instance r search.board → search.known.reduced ≡ r → IsKnown q search.known → IsBegun instance search
+pub begun_is : (instance : Pesp) (r : ReducedValue) (q : ProblemValue) (search : Search) → q ≡ search.board.problem
+    → r.original ≡ instance → IsNewBoard instance r search.board → search.known.reduced ≡ r
+    → IsKnown q search.known → IsBegun instance search
 begun_is instance r q search e original board same known = record {
   original = ap (λ (x : ReducedValue). x.original) same ∙ original;
   board = subst (λ (x : ReducedValue). IsNewBoard instance x search.board) (sym same) board;

@@ -36,22 +36,31 @@ offered_cheap p old new times (true, o) is =
     let same : net_cost (net_of p) times ≤ net_cost (net_of p) times = omega arith in
     subst (λ (s : State). IsAtMost (best_cost p s) (Some (net_cost (net_of p) times))) (sym o.1) same
 offered_cheap p old new times (false, o) is =
-    subst (λ (s : State). IsAtMost (best_cost p s) (Some (net_cost (net_of p) times))) (sym o.1) (not_cheaper (net_cost (net_of p) times) (best_cost p old) (λ cheaper. o.0 (is, cheaper)))
+    subst (λ (s : State). IsAtMost (best_cost p s) (Some (net_cost (net_of p) times))) (sym o.1)
+    (not_cheaper (net_cost (net_of p) times) (best_cost p old) (λ cheaper. o.0 (is, cheaper)))
 
-pub still_cheap : (p : ProblemValue) (times : List ℕ) (old new : State) → IsAtMost (best_cost p new) (best_cost p old) → IsAsCheapAs p times old → IsAsCheapAs p times new
-still_cheap p times old new less cheap is = at_most_trans (best_cost p new) (best_cost p old) (Some (net_cost (net_of p) times)) less (cheap is)
+pub still_cheap : (p : ProblemValue) (times : List ℕ) (old new : State)
+    → IsAtMost (best_cost p new) (best_cost p old) → IsAsCheapAs p times old → IsAsCheapAs p times new
+still_cheap p times old new less cheap is = at_most_trans (best_cost p new) (best_cost p old)
+    (Some (net_cost (net_of p) times)) less (cheap is)
 
-no_dearer : (p : ProblemValue) (old new : State) → 0 < p.network.period → IsKept p old → OffersFirst p old new → IsAtMost (best_cost p new) (best_cost p old)
-no_dearer p old new h k (between, (times, kept, first), inl same) = best_never_rises p (Offer times kept ∷ []) old new h k (between, first, same)
-no_dearer p old new h k (between, (times, kept, first), inr (others, also, second)) = best_never_rises p (Offer times kept ∷ Offer others also ∷ []) old new h k (between, first, (new, second, refl))
+no_dearer : (p : ProblemValue) (old new : State) → 0 < p.network.period → IsKept p old → OffersFirst p old new
+    → IsAtMost (best_cost p new) (best_cost p old)
+no_dearer p old new h k (between, (times, kept, first), inl same) =
+    best_never_rises p (Offer times kept ∷ []) old new h k (between, first, same)
+no_dearer p old new h k (between, (times, kept, first), inr (others, also, second)) =
+    best_never_rises p (Offer times kept ∷ Offer others also ∷ []) old new h k (between, first, (new, second, refl))
 
 -- ---- trees
 
 -- times that are offered leave the root's bound
 offered_bound : (p : ProblemValue) (old new : State) → new.tree ≡ old.tree → IsRootBound p old → IsRootBound p new
-offered_bound p old new e bound l h = bound l (subst (λ (t : Tree). IsAtMost (option_map told (least_value (net_of p) p.table t (root_of p))) (Some l)) e h)
+offered_bound p old new e bound l h = bound l (subst
+    (λ (t : Tree). IsAtMost (option_map told (least_value (net_of p) p.table t (root_of p))) (Some l)) e h)
 
-pub ready : (p q r : ProblemValue) (first second third : State) (times : List ℕ) → q ≡ p → r ≡ q → KeepsNetLimits p.network → IsSmallTable p.table → IsWorked p 0 first → IsRootBound p first → AreOffered q times first second
+pub ready : (p q r : ProblemValue) (first second third : State) (times : List ℕ) → q ≡ p → r ≡ q
+    → KeepsNetLimits p.network → IsSmallTable p.table → IsWorked p 0 first → IsRootBound p first
+    → AreOffered q times first second
     → OffersFirst r second third → third.tree ≡ second.tree → (IsWorked r 0 second → IsWorked r 0 third) → IsReady p times third
 ready p q r first second third times e f limits small worked bound given others tree works =
     let there : r ≡ p = f ∙ e in
@@ -61,5 +70,7 @@ ready p q r first second third times e f limits small worked bound given others 
     record {
       worked = subst (λ (x : ProblemValue). IsWorked x 0 second → IsWorked x 0 third) there works after;
       bound = offered_bound p first third (tree ∙ offered_tree p first second times offered.0 offered.1) bound;
-      cheap = still_cheap p times second third (no_dearer p second third (let some = limits.some_period in omega (arith, some)) after.orderly.kept later) (offered_cheap p first second times offered);
+      cheap = still_cheap p times second third
+          (no_dearer p second third (let some = limits.some_period in omega (arith, some)) after.orderly.kept
+          later) (offered_cheap p first second times offered);
     }

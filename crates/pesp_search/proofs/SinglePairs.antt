@@ -13,11 +13,20 @@ use Rattle.pesp_search.specs.Singles.{plus_pair, minus_pair, IsSingle, IsBestSin
 pub one_pair : (n : ℕ) (pair : Pair) → Names n pair.cycle → unsigned_abs pair.mult ≡ 1 → ArePairs n (pair ∷ [])
 one_pair n pair names one = record {
   rise = λ i j d l m. absurd (omega (arith, l, m));
-  each = All-cons (IsPairOf n) pair [] (record { names = names; some = omega (arith, one); most = omega (arith, one) }) (All-nil (IsPairOf n));
+  each = All-cons (IsPairOf n) pair [] (record {
+    names = names;
+    some = omega (arith, one);
+    most = omega (arith, one);
+  }) (All-nil (IsPairOf n));
 }
 
-pub one_valued : (p : ProblemValue) (node : Node) (pair : Pair) (items : List Pair) (value : Option ℤ) (v w : ℤ) → Names (length p.table) pair.cycle → unsigned_abs pair.mult ≡ 1 → items ≡ pair ∷ [] → value ≡ leaf_value (net_of p) p.table node (pair ∷ []) true → value ≡ Some v → w ≡ v → HaveValue p node items true w
-one_valued p node pair items value v w names one e f g h = subst (λ (x : List Pair). HaveValue p node x true w) (sym e) (one_pair (length p.table) pair names one, sym f ∙ g ∙ ap Some (sym h))
+pub one_valued : (p : ProblemValue) (node : Node) (pair : Pair) (items : List Pair) (value : Option ℤ) (v w : ℤ)
+    → Names (length p.table) pair.cycle → unsigned_abs pair.mult ≡ 1 → items ≡ pair ∷ []
+    → value ≡ leaf_value (net_of p) p.table node (pair ∷ []) true → value ≡ Some v → w ≡ v
+    → HaveValue p node items true w
+one_valued p node pair items value v w names one e f g h =
+    subst (λ (x : List Pair). HaveValue p node x true w) (sym e)
+    (one_pair (length p.table) pair names one, sym f ∙ g ∙ ap Some (sym h))
 
 -- at most so much, where there is a value
 abbrev pub IsUpTo : ProblemValue → Node → List Pair → ℤ → Type 0
@@ -37,7 +46,8 @@ up_to_more (Some v) a b h k = omega (arith, ints, h, k)
 up_to_itself : (o : Option ℤ) (a : ℤ) → o ≡ Some a → IfSome o (λ v. v ≤ℤ a)
 up_to_itself o a e = rw e (omega (arith, ints))
 
-pub none_best : (p : ProblemValue) (node : Node) (pairs : List Pair) (value : ℤ) → pairs ≡ [] → HaveValue p node [] true value → IsBestOf p node 0 pairs value
+pub none_best : (p : ProblemValue) (node : Node) (pairs : List Pair) (value : ℤ) → pairs ≡ []
+    → HaveValue p node [] true value → IsBestOf p node 0 pairs value
 none_best p node pairs value e h = record {
   worth = subst (λ (x : List Pair). HaveValue p node x true value) (sym e) h;
   none = up_to_itself (leaf_value (net_of p) p.table node [] true) value h.1;
@@ -45,7 +55,10 @@ none_best p node pairs value e h = record {
   minus = λ c m. absurd (omega (arith, m));
 }
 
-pub one_more : (p : ProblemValue) (node : Node) (n : ℕ) (pairs new : List Pair) (value more : ℤ) → IsBestOf p node n pairs value → HaveValue p node new true more → value ≤ℤ more → IsUpTo p node (plus_pair (n + 1)) more → IsUpTo p node (minus_pair (n + 1)) more → IsBestOf p node (n + 1) new more
+pub one_more : (p : ProblemValue) (node : Node) (n : ℕ) (pairs new : List Pair) (value more : ℤ)
+    → IsBestOf p node n pairs value → HaveValue p node new true more → value ≤ℤ more
+    → IsUpTo p node (plus_pair (n + 1)) more → IsUpTo p node (minus_pair (n + 1)) more
+    → IsBestOf p node (n + 1) new more
 one_more p node n pairs new value more h w less plus minus = record {
   worth = w;
   none = up_to_more (leaf_value (net_of p) p.table node [] true) value more less h.none;
@@ -68,20 +81,27 @@ one_more p node n pairs new value more h w less plus minus = record {
       | inr after ↦ inr (let most = m.1 in omega (arith, after, most))
     ]
 
-below_best : (o : Option ℤ) (best : Option ℤ) (value : ℤ) → best ≡ Some value → IfSome o (λ v. v ≤ℤ value) → IfSome o (λ v. IsSomeAnd best (λ w. v ≤ℤ w))
+below_best : (o : Option ℤ) (best : Option ℤ) (value : ℤ) → best ≡ Some value → IfSome o (λ v. v ≤ℤ value)
+    → IfSome o (λ v. IsSomeAnd best (λ w. v ≤ℤ w))
 below_best None best value e h = tt
 below_best (Some v) best value e h = rw e h
 
-pub all_best : (p : ProblemValue) (node : Node) (n : ℕ) (pairs : List Pair) (value : ℤ) → n ≡ length p.table → IsBestOf p node n pairs value → IsBestSingle p node pairs
+pub all_best : (p : ProblemValue) (node : Node) (n : ℕ) (pairs : List Pair) (value : ℤ) → n ≡ length p.table
+    → IsBestOf p node n pairs value → IsBestSingle p node pairs
 all_best p node n pairs value e h = record {
   pairs = h.worth.0;
-  others = λ others single. below_best (leaf_value (net_of p) p.table node others true) (leaf_value (net_of p) p.table node pairs true) value h.worth.1 (each others single);
+  others = λ others single. below_best (leaf_value (net_of p) p.table node others true)
+      (leaf_value (net_of p) p.table node pairs true) value h.worth.1 (each others single);
 }
   where
     each : (others : List Pair) → IsSingle (length p.table) others → IsUpTo p node others value
     each others (inl none) = subst (λ (x : List Pair). IsUpTo p node x value) (sym none) h.none
-    each others (inr (cycle, names, inl plus)) = subst (λ (x : List Pair). IsUpTo p node x value) (sym plus) (h.plus cycle (subst (λ (k : ℕ). Names k cycle) (sym e) names))
-    each others (inr (cycle, names, inr minus)) = subst (λ (x : List Pair). IsUpTo p node x value) (sym minus) (h.minus cycle (subst (λ (k : ℕ). Names k cycle) (sym e) names))
+    each others (inr (cycle, names, inl plus)) =
+        subst (λ (x : List Pair). IsUpTo p node x value) (sym plus)
+        (h.plus cycle (subst (λ (k : ℕ). Names k cycle) (sym e) names))
+    each others (inr (cycle, names, inr minus)) =
+        subst (λ (x : List Pair). IsUpTo p node x value) (sym minus)
+        (h.minus cycle (subst (λ (k : ℕ). Names k cycle) (sym e) names))
 
 pub if_ok : {A B : Type 0} (r : Result A B) (P Q : A → Type 0) → ((x : A) → P x → Q x) → IfOk r P → IfOk r Q
 if_ok (Ok x) P Q f h = f x h

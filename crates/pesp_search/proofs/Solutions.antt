@@ -47,17 +47,23 @@ open_is (Optimal c) opens = absurd opens
 open_is Infeasible opens = absurd opens
 open_is (Bounded l cost) opens = (l, cost, refl)
 
-pub is_solved : (instance : Pesp) (p : ProblemValue) (steps used : ℕ) (first now : State) (content : Content) → KeepsNetLimits p.network → IsProblemOf instance p → IsFrugal p.table → IsRootBound p first → AreAllTurns p steps first used now → IsCertificateOf p instance.events now content → IsValid instance content → IsSolved instance steps used content
+pub is_solved : (instance : Pesp) (p : ProblemValue) (steps used : ℕ) (first now : State) (content : Content)
+    → KeepsNetLimits p.network → IsProblemOf instance p → IsFrugal p.table → IsRootBound p first
+    → AreAllTurns p steps first used now → IsCertificateOf p instance.events now content → IsValid instance content
+    → IsSolved instance steps used content
 is_solved instance p steps used first now content limits of frugal bound turns c valid = record {
   valid = valid;
   few = turns.few;
   finished = λ opens. finish turns.finished opens;
   supported = λ opens.
       let says = open_is content.answer opens in
-      let there : IsRootSupported (instance_net instance) p.table = subst (λ (n : Net). IsRootSupported n p.table) (same_net instance p of) (bound says.0 (reached says.0 says.1 says.2)).0 in
+      let there : IsRootSupported (instance_net instance) p.table =
+      subst (λ (n : Net). IsRootSupported n p.table) (same_net instance p of)
+      (bound says.0 (reached says.0 says.1 says.2)).0 in
       subst (λ (table : List (List SignedRow)). IsRootSupported (instance_net instance) table) (sym c.cycles) there;
   least = λ l cost e.
-      let there : IsAboveSingles (instance_net instance) p.table l = subst (λ (n : Net). IsAboveSingles n p.table l) (same_net instance p of) (bound l (reached l cost e)).1 in
+      let there : IsAboveSingles (instance_net instance) p.table l =
+      subst (λ (n : Net). IsAboveSingles n p.table l) (same_net instance p of) (bound l (reached l cost e)).1 in
       subst (λ (table : List (List SignedRow)). IsAboveSingles (instance_net instance) table l) (sym c.cycles) there;
   branches = has_branches instance p used now content of turns.worked c;
   frugal = subst IsFrugal (sym c.cycles) frugal;
@@ -65,7 +71,9 @@ is_solved instance p steps used first now content limits of frugal bound turns c
 }
   where
     reached : (l : ℕ) (cost : Option ℕ) → content.answer ≡ Bounded l cost → IsAtMost (least p first) (Some l)
-    reached l cost e = let here : least p now ≡ Some l = bounded_least (least p now) (best_cost p now) l cost (sym c.answer ∙ e) in subst (IsAtMost (least p first)) here turns.least
+    reached l cost e = let here : least p now ≡ Some l =
+        bounded_least (least p now) (best_cost p now) l cost (sym c.answer ∙ e) in
+        subst (IsAtMost (least p first)) here turns.least
 
     finish : (used ≡ steps) ⊎ ((path : List (Cut × Side)) → IsOpen p now path → ⊥) → IsOpenAnswer content.answer → used ≡ steps
     finish (inl all) opens = all
@@ -74,7 +82,8 @@ is_solved instance p steps used first now content limits of frugal bound turns c
 -- ---- the cost
 
 -- an answer that isn't infeasible tells the best cost
-told_cost : (low best : Option ℕ) (most : ℕ) → IsAtMost best (Some most) → (answer_of low best ≡ Infeasible → ⊥) → IsSomeAnd (cost_of (answer_of low best)) (λ c. c ≤ most)
+told_cost : (low best : Option ℕ) (most : ℕ) → IsAtMost best (Some most) → (answer_of low best ≡ Infeasible → ⊥)
+    → IsSomeAnd (cost_of (answer_of low best)) (λ c. c ≤ most)
 told_cost None best most h not = absurd (not refl)
 told_cost (Some l) None most h not = absurd h
 told_cost (Some l) (Some c) most h not = by_test (nat_le c l)
@@ -83,26 +92,37 @@ told_cost (Some l) (Some c) most h not = by_test (nat_le c l)
     by_test true = h
     by_test false = h
 
-feasible : (instance : Pesp) (answer : Answer) (shown times : List ℕ) → IsTrueAnswer instance answer shown → IsTimetable instance times → answer ≡ Infeasible → ⊥
+feasible : (instance : Pesp) (answer : Answer) (shown times : List ℕ) → IsTrueAnswer instance answer shown
+    → IsTimetable instance times → answer ≡ Infeasible → ⊥
 feasible instance answer shown times t is e = (subst (λ (a : Answer). IsTrueAnswer instance a shown) e t) times is
 
-pub costs_no_more : (instance : Pesp) (p : ProblemValue) (times : List ℕ) (now : State) (content : Content) → KeepsLimits instance → IsProblemOf instance p → IsCertificateOf p instance.events now content → IsValid instance content → IsAsCheapAs p times now → CostsNoMore instance times content
+pub costs_no_more : (instance : Pesp) (p : ProblemValue) (times : List ℕ) (now : State) (content : Content)
+    → KeepsLimits instance → IsProblemOf instance p → IsCertificateOf p instance.events now content
+    → IsValid instance content → IsAsCheapAs p times now → CostsNoMore instance times content
 costs_no_more instance p times now content limits of c valid cheap is =
     let some = limits.some_period in
     let positive : 0 < instance.period = omega (arith, some) in
     let net = (net_timetables instance times positive (limits_in_order instance limits)).0 is in
-    let there : IsNetTimetable (net_of p) p.network.events times = subst (λ (n : Net). IsNetTimetable n p.network.events times) (sym (same_net instance p of)) (subst (λ (k : ℕ). IsNetTimetable (instance_net instance) k times) (sym of.events) net) in
-    let same : net_cost (net_of p) times ≡ cost instance.period instance.rows times = ap (λ (n : Net). net_cost n times) (same_net instance p of) ∙ net_cost-is instance times in
-    let most : IsAtMost (best_cost p now) (Some (cost instance.period instance.rows times)) = subst (λ (n : ℕ). IsAtMost (best_cost p now) (Some n)) same (cheap there) in
-    let here = told_cost (least p now) (best_cost p now) (cost instance.period instance.rows times) most (λ e. feasible instance content.answer (shown_times content) times (valid_is_true instance content positive valid) is (c.answer ∙ e)) in
+    let there : IsNetTimetable (net_of p) p.network.events times =
+    subst (λ (n : Net). IsNetTimetable n p.network.events times) (sym (same_net instance p of))
+    (subst (λ (k : ℕ). IsNetTimetable (instance_net instance) k times) (sym of.events) net) in
+    let same : net_cost (net_of p) times ≡ cost instance.period instance.rows times =
+    ap (λ (n : Net). net_cost n times) (same_net instance p of) ∙ net_cost-is instance times in
+    let most : IsAtMost (best_cost p now) (Some (cost instance.period instance.rows times)) =
+    subst (λ (n : ℕ). IsAtMost (best_cost p now) (Some n)) same (cheap there) in
+    let here = told_cost (least p now) (best_cost p now) (cost instance.period instance.rows times) most
+    (λ e. feasible instance content.answer (shown_times content) times
+    (valid_is_true instance content positive valid) is (c.answer ∙ e)) in
     subst (λ (a : Answer). IsSomeAnd (cost_of a) (λ k. k ≤ cost instance.period instance.rows times)) (sym c.answer) here
 
 -- ---- refusals
 
-pub refused_for_rows : (instance : Pesp) (p : ProblemValue) (steps : ℕ) (r : SolveRefusal) → length p.table ≤ length instance.rows → AreTurnsRefused p steps r → IsSearchRefusal instance steps r
+pub refused_for_rows : (instance : Pesp) (p : ProblemValue) (steps : ℕ) (r : SolveRefusal)
+    → length p.table ≤ length instance.rows → AreTurnsRefused p steps r → IsSearchRefusal instance steps r
 refused_for_rows instance p steps Memory few h = tt
 refused_for_rows instance p steps TableTooLarge few h = absurd h
-refused_for_rows instance p steps PairsTooMany few h = let many = h.many in let more = mul-le-mul_left (steps + 1) few in omega (arith, many, more)
+refused_for_rows instance p steps PairsTooMany few h = let many = h.many in
+    let more = mul-le-mul_left (steps + 1) few in omega (arith, many, more)
 
 one_more : (n : ℕ) → 1 ≤ n + 1
 one_more n = omega arith
@@ -110,10 +130,13 @@ one_more n = omega arith
 pub refused_at_once : (instance : Pesp) (steps : ℕ) (r : SolveRefusal) → IsSearchRefusal instance 0 r → IsSearchRefusal instance steps r
 refused_at_once instance steps Memory h = tt
 refused_at_once instance steps TableTooLarge h = h
-refused_at_once instance steps PairsTooMany h = let more : 1 * length instance.rows ≤ (steps + 1) * length instance.rows = mul-le-mul_right (length instance.rows) (one_more steps) in omega (arith, h, more)
+refused_at_once instance steps PairsTooMany h = let more : 1 * length instance.rows
+    ≤ (steps + 1) * length instance.rows = mul-le-mul_right (length instance.rows) (one_more steps) in
+    omega (arith, h, more)
 
 -- the limit that the turns on a problem of the instance met
-pub meets_limit : (instance : Pesp) (p : ProblemValue) (steps : ℕ) (r : SolveRefusal) → IsProblemOf instance p → IsFrugal p.table → AreTurnsRefused p steps r → MeetsLimit instance steps r
+pub meets_limit : (instance : Pesp) (p : ProblemValue) (steps : ℕ) (r : SolveRefusal) → IsProblemOf instance p
+    → IsFrugal p.table → AreTurnsRefused p steps r → MeetsLimit instance steps r
 meets_limit instance p steps Memory of frugal h = tt
 meets_limit instance p steps TableTooLarge of frugal h = absurd h
 meets_limit instance p steps PairsTooMany of frugal h = record { problem = p; of = of; frugal = frugal; fills = h }

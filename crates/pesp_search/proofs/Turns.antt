@@ -20,7 +20,9 @@ none_lent : (p : ProblemValue) (used : ℕ) (state : State) → IsWorked p used 
 none_lent p used state w number path e = absurd (w.unlent number (path, e))
 
 -- the tree is full
-pub fills_tree : (p : ProblemValue) (r : ReducedValue) (steps used : ℕ) (old new : State) → used ≤ steps → Grows p used old new → IsWorked p 0 old → AreTurns p steps old used TreeTooLarge new → (AreLentSettled p old → EndsAs p r steps old used TreeTooLarge new) → FillsTree p steps
+pub fills_tree : (p : ProblemValue) (r : ReducedValue) (steps used : ℕ) (old new : State) → used ≤ steps
+    → Grows p used old new → IsWorked p 0 old → AreTurns p steps old used TreeTooLarge new
+    → (AreLentSettled p old → EndsAs p r steps old used TreeTooLarge new) → FillsTree p steps
 fills_tree p r steps used old new few g was many ends = record {
   many = many;
   first = old;
@@ -32,7 +34,9 @@ fills_tree p r steps used old new few g was many ends = record {
   full = ends (none_lent p 0 old was);
 }
 
-all_turns : (p : ProblemValue) (steps used : ℕ) (old new : State) → KeepsNetLimits p.network → used ≤ steps → Grows p used old new → IsWorked p 0 old → IsWorkedFrom p used old new → (used ≡ steps) ⊎ ((path : List (Cut × Side)) → IsOpen p new path → ⊥) → AreAllTurns p steps old used new
+all_turns : (p : ProblemValue) (steps used : ℕ) (old new : State) → KeepsNetLimits p.network → used ≤ steps
+    → Grows p used old new → IsWorked p 0 old → IsWorkedFrom p used old new
+    → (used ≡ steps) ⊎ ((path : List (Cut × Side)) → IsOpen p new path → ⊥) → AreAllTurns p steps old used new
 all_turns p steps used old new limits few g was w finished = record {
   worked = w.worked;
   few = few;
@@ -41,8 +45,12 @@ all_turns p steps used old new limits few g was w finished = record {
   best = best_never_rises p g.events old new (let some = limits.some_period in omega (arith, some)) was.orderly.kept g.run;
 }
 
-pub all_used : (p : ProblemValue) (steps used : ℕ) (old new : State) → KeepsNetLimits p.network → used ≤ steps → Grows p used old new → IsWorked p 0 old → AreTurns p steps old used StepsUsed new → AreAllTurns p steps old used new
+pub all_used : (p : ProblemValue) (steps used : ℕ) (old new : State) → KeepsNetLimits p.network → used ≤ steps
+    → Grows p used old new → IsWorked p 0 old → AreTurns p steps old used StepsUsed new
+    → AreAllTurns p steps old used new
 all_used p steps used old new limits few g was t = all_turns p steps used old new limits few g was t.0 (inl t.1)
 
-pub none_open : (p : ProblemValue) (steps used : ℕ) (old new : State) → KeepsNetLimits p.network → used ≤ steps → Grows p used old new → IsWorked p 0 old → AreTurns p steps old used NoneOpen new → AreAllTurns p steps old used new
+pub none_open : (p : ProblemValue) (steps used : ℕ) (old new : State) → KeepsNetLimits p.network → used ≤ steps
+    → Grows p used old new → IsWorked p 0 old → AreTurns p steps old used NoneOpen new
+    → AreAllTurns p steps old used new
 none_open p steps used old new limits few g was t = all_turns p steps used old new limits few g was t.0 (inr t.1)

@@ -23,6 +23,7 @@ work_of false (Bound pairs value) = works.Leaf pairs
 abbrev pub IsRootSupported : Net → List (List SignedRow) → Type 0
 IsRootSupported n table = IsShut n table ByPropagation (root n table) → ⊥
 
--- where there is a least value the root is supported, and each bound that the value reaches is above the value at the root of no pairs, and of each single pair that has one
+-- where there is a least value the root is supported, and each bound that the value reaches is above the value at the
+-- root of no pairs, and of each single pair that has one
 abbrev pub IsRootBound : ProblemValue → State → Type 0
 IsRootBound p state = (l : ℕ) → IsAtMost (least p state) (Some l) → IsRootSupported (net_of p) p.table × IsAboveSingles (net_of p) p.table l

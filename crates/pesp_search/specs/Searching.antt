@@ -18,7 +18,8 @@ AreOffered p times old new = (kept : Bool) × Offers p old times kept new
 
 -- where the times are a timetable, the best ones cost no more
 abbrev pub IsAsCheapAs : ProblemValue → List ℕ → State → Type 0
-IsAsCheapAs p times state = IsNetTimetable (net_of p) p.network.events times → IsAtMost (best_cost p state) (Some (net_cost (net_of p) times))
+IsAsCheapAs p times state = IsNetTimetable (net_of p) p.network.events times
+    → IsAtMost (best_cost p state) (Some (net_cost (net_of p) times))
 
 -- the root was looked at, and these times were offered
 pub record IsReady (p : ProblemValue) (times : List ℕ) (state : State) : Type 0 where

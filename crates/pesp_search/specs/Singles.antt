@@ -21,9 +21,12 @@ IsSingle cycles pairs = (pairs ≡ []) ⊎ ((cycle : ℕ) × Names cycles cycle 
 
 -- at least the value at the root of no pairs, and of each single pair that has one
 abbrev pub IsAboveSingles : Net → List (List SignedRow) → ℕ → Type 0
-IsAboveSingles n table l = (pairs : List Pair) → IsSingle (length table) pairs → IfSome (leaf_value n table (root n table) pairs true) (λ v. v ≤ℤ pos l)
+IsAboveSingles n table l = (pairs : List Pair) → IsSingle (length table) pairs
+    → IfSome (leaf_value n table (root n table) pairs true) (λ v. v ≤ℤ pos l)
 
 -- pairs whose value at a node is no less than that of no pairs, and of each single pair that has one
 pub record IsBestSingle (p : ProblemValue) (node : Node) (best : List Pair) : Type 0 where
   pub pairs : ArePairs (length p.table) best
-  pub others : (pairs : List Pair) → IsSingle (length p.table) pairs → IfSome (leaf_value (net_of p) p.table node pairs true) (λ v. IsSomeAnd (leaf_value (net_of p) p.table node best true) (λ w. v ≤ℤ w))
+  pub others : (pairs : List Pair) → IsSingle (length p.table) pairs
+      → IfSome (leaf_value (net_of p) p.table node pairs true)
+      (λ v. IsSomeAnd (leaf_value (net_of p) p.table node best true) (λ w. v ≤ℤ w))

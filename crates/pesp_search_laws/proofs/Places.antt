@@ -14,7 +14,8 @@ sum_grows f n (suc k) h =
     ]
 
 -- the sum over places that rise is at most the sum over all places below a bound
-pub sum_at_places : (f : ℕ → ℕ) (place : ℕ → ℕ) (m bound : ℕ) → ((j k : ℕ) → j < k → k < m → place j < place k) → ((j : ℕ) → j < m → place j < bound) → sum_below m (λ j. pos (f (place j))) ≤ℤ sum_below bound (λ i. pos (f i))
+pub sum_at_places : (f : ℕ → ℕ) (place : ℕ → ℕ) (m bound : ℕ) → ((j k : ℕ) → j < k → k < m → place j < place k)
+    → ((j : ℕ) → j < m → place j < bound) → sum_below m (λ j. pos (f (place j))) ≤ℤ sum_below bound (λ i. pos (f i))
 sum_at_places f place zero bound rise within = sum_grows f 0 bound (omega arith)
 sum_at_places f place (suc m) bound rise within =
     let before = sum_at_places f place m (place m) (λ j k l n. rise j k l (omega arith)) (λ j l. rise j m l (omega arith)) in

@@ -27,17 +27,26 @@ lent_here p old mid job l =
     let numbers : mid.numbers ≡ old.numbers ++ Lent job.path.items ∷ [] = ap (λ (s : State). s.numbers) l.state in
     rw (numbers, l.number) (lent_last old.numbers job.path.items)
 
-pub refused_for_room : (p : ProblemValue) (state : State) (number : ℕ) (path : List (Cut × Side)) (pairs : List Pair) (work : Work) (refusal : GiveRefusal) → HasLeaf state number path pairs → IsValidAt p (node_at p path) pairs work → IsRefusedFor p state number work refusal → (refusal ≡ Memory) ⊎ (refusal ≡ TooLarge)
+pub refused_for_room : (p : ProblemValue) (state : State) (number : ℕ) (path : List (Cut × Side))
+    (pairs : List Pair) (work : Work) (refusal : GiveRefusal) → HasLeaf state number path pairs
+    → IsValidAt p (node_at p path) pairs work → IsRefusedFor p state number work refusal
+    → (refusal ≡ Memory) ⊎ (refusal ≡ TooLarge)
 refused_for_room p state number path pairs work UnknownJob l v r = absurd (not_recalled path (sym l.0 ∙ r))
 refused_for_room p state number path pairs work AlreadyGiven l v r = absurd (not_given path (sym l.0 ∙ r))
 refused_for_room p state number path pairs work NotValid l v r =
     let at = same_path state number path r.path pairs r.pairs l r.leaf in
     let of = same_pairs state number path r.path pairs r.pairs l r.leaf in
     let made = (valid_works_make p (node_at p path) pairs work).1 v in
-    absurd (r.none made.0 (subst (λ (q : List (Cut × Side)). Makes p (node_at p q) r.pairs work made.0) at (subst (λ (x : List Pair). Makes p (node_at p path) x work made.0) of made.1)))
+    absurd (r.none made.0 (subst (λ (q : List (Cut × Side)). Makes p (node_at p q) r.pairs work made.0) at
+    (subst (λ (x : List Pair). Makes p (node_at p path) x work made.0) of made.1)))
 refused_for_room p state number path pairs work Memory l v r = inl refl
 refused_for_room p state number path pairs work TooLarge l v r = inr refl
 
 -- the leaf that was lent last
-pub lent_leaf : (p : ProblemValue) (old mid : State) (job : Job) (l : LendsLeaf p old job mid) → HasLeaf mid job.number job.path.items l.opens.pairs
-lent_leaf p old mid job l = (lent_here p old mid job l, subst (λ (t : Tree). IsLeafAt t job.path.items (Bound l.opens.pairs)) (sym (ap (λ (s : State). s.tree) l.state)) l.opens.leaf)
+pub lent_leaf : (p : ProblemValue) (old mid : State) (job : Job) (l : LendsLeaf p old job mid)
+    → HasLeaf mid job.number job.path.items l.opens.pairs
+lent_leaf p old mid job l = (
+  lent_here p old mid job l,
+  subst (λ (t : Tree). IsLeafAt t job.path.items (Bound l.opens.pairs))
+      (sym (ap (λ (s : State). s.tree) l.state)) l.opens.leaf,
+)

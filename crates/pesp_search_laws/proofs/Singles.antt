@@ -26,10 +26,14 @@ use Rattle.pesp_machine.proofs.Ranges.{walk_size, least_size, greatest_size}
 
 -- ---- one pair
 
-left_within : (n : Net) (table : List (List SignedRow)) (node : Node) (c : ℕ) (left : ℤ × ℤ) → 0 < n.period → offsets_left n table node c ≡ Some left → IsOffsetLeft n table node c left.0 × IsOffsetLeft n table node c left.1
+left_within : (n : Net) (table : List (List SignedRow)) (node : Node) (c : ℕ) (left : ℤ × ℤ) → 0 < n.period
+    → offsets_left n table node c ≡ Some left → IsOffsetLeft n table node c left.0
+    × IsOffsetLeft n table node c left.1
 left_within n table node c left t e =
-    let k : left.0 ≤ℤ left.1 = rw e at (ends_in_order n table node c) in
-    ((exactly_left n table node c left.0 t).1 (rw e (omega (arith, ints), k)), (exactly_left n table node c left.1 t).1 (rw e (k, omega (arith, ints))))
+    let k : left.0 ≤ℤ left.1 = rw e at (ends_in_order n table node c) in (
+      (exactly_left n table node c left.0 t).1 (rw e (omega (arith, ints), k)),
+      (exactly_left n table node c left.1 t).1 (rw e (k, omega (arith, ints))),
+    )
 
 one_times : (x : ℤ) → pos 1 *ℤ x ≡ x
 one_times x = omega (arith, ints)
@@ -40,8 +44,10 @@ minus_times x = omega (arith, ints)
 none_times : (x : ℤ) → pos 0 *ℤ x ≡ pos 0
 none_times x = omega (arith, ints)
 
-offset_small : (t b : ℕ) (mult low high : ℤ) → unsigned_abs mult ≤ 1 → (pos t *ℤ low) ≤ℤ pos b → neg_ℤ (pos b) ≤ℤ (pos t *ℤ high) → (pos t *ℤ scaled mult low high) ≤ℤ pos b
-offset_small t b (pos zero) low high h k l = rw (none_times low) (let zeroed : pos t *ℤ pos 0 ≡ pos 0 = omega (arith, ints) in omega (arith, ints, zeroed))
+offset_small : (t b : ℕ) (mult low high : ℤ) → unsigned_abs mult ≤ 1 → (pos t *ℤ low) ≤ℤ pos b
+    → neg_ℤ (pos b) ≤ℤ (pos t *ℤ high) → (pos t *ℤ scaled mult low high) ≤ℤ pos b
+offset_small t b (pos zero) low high h k l = rw (none_times low)
+    (let zeroed : pos t *ℤ pos 0 ≡ pos 0 = omega (arith, ints) in omega (arith, ints, zeroed))
 offset_small t b (pos (suc zero)) low high h k l = rw (one_times low) k
 offset_small t b (pos (suc (suc m))) low high h k l = absurd (omega (arith, h))
 offset_small t b (negsuc zero) low high h k l = rw (minus_times high) (omega (arith, ints, mul-neg (pos t) high, l))
@@ -53,7 +59,9 @@ flow_small m c l h k =
     let outer = unsigned_abs-mul (m *ℤ c) l in
     let inner = unsigned_abs-mul m c in
     let once : unsigned_abs m * unsigned_abs c ≤ 1 * unsigned_abs c = mul-le-mul h (refl_le (unsigned_abs c)) in
-    let all : unsigned_abs (m *ℤ c) * unsigned_abs l ≤ unsigned_abs c * 1020000 = mul-le-mul (small (unsigned_abs (m *ℤ c)) (unsigned_abs m * unsigned_abs c) (unsigned_abs c) inner once) k in
+    let all : unsigned_abs (m *ℤ c) * unsigned_abs l
+    ≤ unsigned_abs c * 1020000 = mul-le-mul (small (unsigned_abs (m *ℤ c)) (unsigned_abs m * unsigned_abs c)
+    (unsigned_abs c) inner once) k in
     rw same (last (unsigned_abs ((m *ℤ c) *ℤ l)) (unsigned_abs (m *ℤ c) * unsigned_abs l) (unsigned_abs c) outer all)
   where
     refl_le : (a : ℕ) → a ≤ a
@@ -66,14 +74,18 @@ flow_small m c l h k =
     last a b d e f = omega (arith, e, f)
 
 -- at the root the slacks of the rows add nothing
-slack_none : (n : Net) (table : List (List SignedRow)) (pairs : List Pair) → over_arcs n.arcs (slack_part n table (root n table) pairs true) ≤ℤ pos 0
+slack_none : (n : Net) (table : List (List SignedRow)) (pairs : List Pair)
+    → over_arcs n.arcs (slack_part n table (root n table) pairs true) ≤ℤ pos 0
 slack_none n table pairs =
-    let below = sum_below-le (length n.arcs) (slack_part n table (root n table) pairs true) (λ i. pos 0) (λ i l. at_zero (weight_of true (arc_at n.arcs i) -ℤ flow table pairs i) (slack_range (root_slacks n) i) (low_is i l)) in
+    let below = sum_below-le (length n.arcs) (slack_part n table (root n table) pairs true) (λ i. pos 0)
+    (λ i l. at_zero (weight_of true (arc_at n.arcs i) -ℤ flow table pairs i) (slack_range (root_slacks n) i)
+    (low_is i l)) in
     let zeros = sum_below-zero (length n.arcs) (λ i. pos 0) (λ i l. refl) in
     omega (arith, ints, below, zeros)
   where
     low_is : (i : ℕ) → i < length n.arcs → (slack_range (root_slacks n) i).0 ≡ 0
-    low_is i l = let full = λ (arc : Arc). let range : ℕ × ℕ = (0, arc.span) in range in ap (λ (r : ℕ × ℕ). r.0) (get_or-map full n.arcs i no_arc (0, 0) l)
+    low_is i l = let full = λ (arc : Arc). let range : ℕ × ℕ = (0, arc.span) in range in
+        ap (λ (r : ℕ × ℕ). r.0) (get_or-map full n.arcs i no_arc (0, 0) l)
 
     at_zero : (c : ℤ) (r : ℕ × ℕ) → r.0 ≡ 0 → int_min (c *ℤ pos r.0) (c *ℤ pos r.1) ≤ℤ pos 0
     at_zero c r e = let none : c *ℤ pos 0 ≡ pos 0 = omega (arith, ints) in rw e (omega (arith, ints, clamps, none))
@@ -81,7 +93,10 @@ slack_none n table pairs =
 some_same : {a b : ℤ} → Some a ≡ Some b → a ≡ b
 some_same e = cc
 
-pub single_small : (p : ProblemValue) (cycle : ℕ) (mult v : ℤ) → KeepsNetLimits p.network → IsSmallTable p.table → unsigned_abs mult ≤ 1 → Names (length p.table) cycle → leaf_value (net_of p) p.table (root_of p) (record { cycle = cycle; mult = mult } ∷ []) true ≡ Some v → v ≤ℤ pos 999999999999999999
+pub single_small : (p : ProblemValue) (cycle : ℕ) (mult v : ℤ) → KeepsNetLimits p.network → IsSmallTable p.table
+    → unsigned_abs mult ≤ 1 → Names (length p.table) cycle
+    → leaf_value (net_of p) p.table (root_of p) (record { cycle = cycle; mult = mult } ∷ []) true ≡ Some v
+    → v ≤ℤ pos 999999999999999999
 single_small p cycle mult v limits small one names e =
     let n = net_of p in
     let table = p.table in
@@ -97,7 +112,8 @@ single_small p cycle mult v limits small one names e =
     let lowers = over_arcs n.arcs (λ i. flow table pairs i *ℤ (arc_at n.arcs i).lower) in
     let slacks = over_arcs n.arcs (slack_part n table node pairs true) in
     let was = value_was (λ (x : ℤ). pos n.period *ℤ x -ℤ lowers +ℤ slacks) (offset_part n table node pairs) v e in
-    let part = both_were (λ (left : ℤ × ℤ) (rest : ℤ). scaled mult left.0 left.1 +ℤ rest) (offsets_left n table node (cycle - 1)) (Some (pos 0)) was.0 was.1 in
+    let part = both_were (λ (left : ℤ × ℤ) (rest : ℤ). scaled mult left.0 left.1 +ℤ rest)
+    (offsets_left n table node (cycle - 1)) (Some (pos 0)) was.0 was.1 in
     let left = part.0 in
     let within = left_within n table node (cycle - 1) left t part.2 in
     let least = least_size n.arcs (root_slacks n) walk arcs ends long short in
@@ -108,10 +124,12 @@ single_small p cycle mult v limits small one names e =
     let rest : pos 0 ≡ part.1 = some_same part.3 in
     let x_is : was.0 ≡ scaled mult left.0 left.1 = (let sum = part.4 in omega (arith, ints, sum, rest)) in
     let first : (pos n.period *ℤ was.0) ≤ℤ pos 10300000000000 = rw x_is offset in
-    let lower_size = walk_size n.arcs walk (λ i. flow table pairs i *ℤ (arc_at n.arcs i).lower) short (λ i l. flow_small mult (net_count walk i) (arc_at n.arcs i).lower one ((arcs i no_arc l).0)) in
+    let lower_size = walk_size n.arcs walk (λ i. flow table pairs i *ℤ (arc_at n.arcs i).lower) short
+    (λ i l. flow_small mult (net_count walk i) (arc_at n.arcs i).lower one ((arcs i no_arc l).0)) in
     let none = slack_none n table pairs in
     let whole = was.2 in
     at_most (pos n.period *ℤ was.0) lowers slacks v whole first lower_size none
   where
-    at_most : (a b c w : ℤ) → w ≡ a -ℤ b +ℤ c → a ≤ℤ pos 10300000000000 → unsigned_abs b ≤ 10300000000000 → c ≤ℤ pos 0 → w ≤ℤ pos 999999999999999999
+    at_most : (a b c w : ℤ) → w ≡ a -ℤ b +ℤ c → a ≤ℤ pos 10300000000000 → unsigned_abs b ≤ 10300000000000
+        → c ≤ℤ pos 0 → w ≤ℤ pos 999999999999999999
     at_most a b c w f g h k = omega (arith, ints, f, g, h, k)

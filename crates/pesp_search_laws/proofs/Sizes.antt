@@ -27,7 +27,8 @@ use Rattle.pesp_search_laws.specs.Turns.{splits_of}
 
 above_place : (pairs : List Pair) (n i : ℕ) (d : Pair) → ArePairs n pairs → i < length pairs → i + 1 ≤ (get_or pairs i d).cycle
 above_place pairs n zero d h l = let first = (h.each 0 d l).names in omega (arith, first)
-above_place pairs n (suc i) d h l = let before = above_place pairs n i d h (omega arith) in let next = h.rise i (suc i) d (omega arith) l in omega (arith, before, next)
+above_place pairs n (suc i) d h l = let before = above_place pairs n i d h (omega arith) in
+    let next = h.rise i (suc i) d (omega arith) l in omega (arith, before, next)
 
 few_pairs : (pairs : List Pair) (n : ℕ) → ArePairs n pairs → length pairs ≤ n
 few_pairs [] n h = omega arith
@@ -45,7 +46,8 @@ line_pairs : (p : ProblemValue) (leaf : Leaf) → IsLineOf p (EndLine leaf) → 
 line_pairs p (Bound pairs) h = few_pairs pairs (length p.table) h
 line_pairs p (Shut reason) h = reason_pairs p reason h
 
-tree_pairs : (p : ProblemValue) (tree : Tree) → All (IsLineOf p) (preorder tree) → sum_by pairs_in (preorder tree) ≤ (branches tree + 1) * length p.table
+tree_pairs : (p : ProblemValue) (tree : Tree) → All (IsLineOf p) (preorder tree)
+    → sum_by pairs_in (preorder tree) ≤ (branches tree + 1) * length p.table
 tree_pairs p (Ends leaf) h =
     let one = sum_by-cons pairs_in (EndLine leaf) [] in
     let few = line_pairs p leaf (All-head (IsLineOf p) (EndLine leaf) [] h) in
@@ -65,7 +67,8 @@ tree_pairs p (Branch cut low high) h =
 
 -- ---- what works make
 
-made_branches : (p : ProblemValue) (node : Node) (old : List Pair) (work : Work) (new : Tree) → Makes p node old work new → branches new ≡ splits_of work
+made_branches : (p : ProblemValue) (node : Node) (old : List Pair) (work : Work) (new : Tree)
+    → Makes p node old work new → branches new ≡ splits_of work
 made_branches p node old (works.Leaf pairs) new m = ap branches m.2
 made_branches p node old (works.Nothing pairs) new m = ap branches m.1
 made_branches p node old (works.Gap cycle) new m = ap branches m.1
@@ -85,7 +88,9 @@ many lines pairs most h k l = by_order (cases_le pairs 20000000)
     by_order (inl few) = absurd (k (h, few))
     by_order (inr more) = omega (arith, more, l)
 
-pub large_has_many : (p : ProblemValue) (state : State) (number used : ℕ) (work : Work) → KeepsNetLimits p.network → IsSmallTable p.table → IsOrderly p state → branches state.tree ≡ used → used + splits_of work ≤ 400000 → MakesTooMuch p state number work → 20000000 < (used + splits_of work + 1) * length p.table
+pub large_has_many : (p : ProblemValue) (state : State) (number used : ℕ) (work : Work) → KeepsNetLimits p.network
+    → IsSmallTable p.table → IsOrderly p state → branches state.tree ≡ used → used + splits_of work ≤ 400000
+    → MakesTooMuch p state number work → 20000000 < (used + splits_of work + 1) * length p.table
 large_has_many p state number used work limits small o count few m =
     let old = leaf_line (IsLineOf p) state.tree m.path (Bound m.pairs) m.leaf.1 o.limits.lines in
     let part = made_lines p m.path m.pairs work m.part limits small old m.makes in
@@ -96,12 +101,16 @@ large_has_many p state number used work limits small o count few m =
     let made = made_branches p (node_at p m.path) m.pairs work m.part m.makes in
     let all : branches new ≡ used + splits_of work = omega (arith, put_count, made, count) in
     let long : length (preorder new) ≤ 1000000 = omega (arith, lines_in_all new, all, few) in
-    many (length (preorder new)) (sum_by pairs_in (preorder new)) ((used + splits_of work + 1) * length p.table) long (λ h. m.large (record { lines = h.0; pairs = h.1 })) (subst (λ (k : ℕ). sum_by pairs_in (preorder new) ≤ (k + 1) * length p.table) all pairs)
+    many (length (preorder new)) (sum_by pairs_in (preorder new))
+    ((used + splits_of work + 1) * length p.table) long (λ h. m.large (record { lines = h.0; pairs = h.1 }))
+    (subst (λ (k : ℕ). sum_by pairs_in (preorder new) ≤ (k + 1) * length p.table) all pairs)
 
 -- ---- paths
 
-pub path_cuts : (p : ProblemValue) (state : State) (path : List (Cut × Side)) (leaf : Leaf) → IsOrderly p state → IsLeafAt state.tree path leaf → All (λ (step : Cut × Side). IsCutOf (root_of p) step.0) path
+pub path_cuts : (p : ProblemValue) (state : State) (path : List (Cut × Side)) (leaf : Leaf) → IsOrderly p state
+    → IsLeafAt state.tree path leaf → All (λ (step : Cut × Side). IsCutOf (root_of p) step.0) path
 path_cuts p state path leaf o h = cuts_along (IsLineOf p) state.tree path leaf h o.limits.lines
 
-pub leaf_pairs : (p : ProblemValue) (state : State) (path : List (Cut × Side)) (pairs : List Pair) → IsOrderly p state → IsLeafAt state.tree path (Bound pairs) → ArePairs (length p.table) pairs
+pub leaf_pairs : (p : ProblemValue) (state : State) (path : List (Cut × Side)) (pairs : List Pair)
+    → IsOrderly p state → IsLeafAt state.tree path (Bound pairs) → ArePairs (length p.table) pairs
 leaf_pairs p state path pairs o h = leaf_line (IsLineOf p) state.tree path (Bound pairs) h o.limits.lines

@@ -25,31 +25,49 @@ use Rattle.pesp_search_laws.proofs.Tables.{origins_rise, any_default}
 -- ---- offsets
 
 -- contracted rows have slack 0
-none_contracted : (r : ReducedValue) (slacks : ℕ → ℕ) → IsReduced r → AreWithin (net_of r.original) slacks → (i : ℕ) → i < length (arcs_of r.original) → fate_at r.fates i ≡ Contracted → slacks i ≡ 0
+none_contracted : (r : ReducedValue) (slacks : ℕ → ℕ) → IsReduced r → AreWithin (net_of r.original) slacks
+    → (i : ℕ) → i < length (arcs_of r.original) → fate_at r.fates i ≡ Contracted → slacks i ≡ 0
 none_contracted r slacks h w i l e =
     let long = length-map r.original.rows (arc_of r.original.period) in
     let fate = subst (λ (f : Fate). IsFateOf r.original i f) e (h.fates.each i (omega (arith, l, long))) in
     let within = w i l in
     omega (arith, within, fate.1)
 
-pub offsets_come_back : (r : ReducedValue) (walk lifted : List SignedRow) (slacks : ℕ → ℕ) (left : List ℕ) → IsReduced r → IsWalk (arcs_of_network r.network.rows) walk → IsLifted r walk lifted → AreWithin (net_of r.original) slacks → AreSlacksOf r slacks left → HasWholeOffset (net_of r.original) slacks lifted → HasWholeOffset (net_of_network r.network) (slice_index left) walk
+pub offsets_come_back : (r : ReducedValue) (walk lifted : List SignedRow) (slacks : ℕ → ℕ) (left : List ℕ)
+    → IsReduced r → IsWalk (arcs_of_network r.network.rows) walk → IsLifted r walk lifted
+    → AreWithin (net_of r.original) slacks → AreSlacksOf r slacks left
+    → HasWholeOffset (net_of r.original) slacks lifted
+    → HasWholeOffset (net_of_network r.network) (slice_index left) walk
 offsets_come_back r walk lifted slacks left h closed lift w a o =
     let arcs = arcs_of_network r.network.rows in
     let many = length-map r.original.rows (arc_of r.original.period) in
     let long = length-map r.network.rows arc_of_net in
-    let lifted_is : IsLiftedWalk r walk lifted = record { closes = lift.closes; kept = lift.kept; others = lift.others; lower = lift.lower } in
-    let own = (lifted_offsets r walk lifted slacks h.period closed lifted_is (λ i l e. none_contracted r slacks h w i (omega (arith, l, many)) e)).0 o in
-    (own.0, sum_below-same (length arcs) _ _ (λ j l. ap (λ (n : ℕ). net_count walk j *ℤ ((arc_at arcs j).lower +ℤ pos n)) (a.each j (omega (arith, l, long)))) ∙ own.1)
+    let lifted_is : IsLiftedWalk r walk lifted =
+    record { closes = lift.closes; kept = lift.kept; others = lift.others; lower = lift.lower } in
+    let own = (lifted_offsets r walk lifted slacks h.period closed lifted_is
+    (λ i l e. none_contracted r slacks h w i (omega (arith, l, many)) e)).0 o in (
+      own.0,
+      sum_below-same (length arcs) _ _ (λ j l.
+          ap (λ (n : ℕ). net_count walk j *ℤ ((arc_at arcs j).lower +ℤ pos n)) (a.each j (omega (arith, l, long))))
+          ∙ own.1,
+    )
 
 -- ---- timetables
 
-arc_is : (r : ReducedValue) (j : ℕ) → j < length r.network.rows → arc_at (arcs_of_network r.network.rows) j ≡ arc_of_net (net_row_at r.network.rows j)
+arc_is : (r : ReducedValue) (j : ℕ) → j < length r.network.rows
+    → arc_at (arcs_of_network r.network.rows) j ≡ arc_of_net (net_row_at r.network.rows j)
 arc_is r j l = get_or-map arc_of_net r.network.rows j no_net_row no_arc l
 
-pub origin_inside : (r : ReducedValue) (j : ℕ) → IsReduced r → j < length r.network.rows → origin_place r.network j < length (arcs_of r.original)
-origin_inside r j h l = let names = (h.rows j l).names in let long = length-map r.original.rows (arc_of r.original.period) in omega (arith, names, long)
+pub origin_inside : (r : ReducedValue) (j : ℕ) → IsReduced r → j < length r.network.rows
+    → origin_place r.network j < length (arcs_of r.original)
+origin_inside r j h l = let names = (h.rows j l).names in
+    let long = length-map r.original.rows (arc_of r.original.period) in omega (arith, names, long)
 
-pub timetable_again : (r : ReducedValue) (slacks : ℕ → ℕ) (left times : List ℕ) → IsReduced r → AreWithin (net_of r.original) slacks → AreSlacksOf r slacks left → length times ≡ r.network.events → All (λ t. t < r.network.period) times → ((j : ℕ) → j < length r.network.rows → slacks_at (net_of_network r.network) times j ≡ slice_index left j) → IsNetTimetable (net_of_network r.network) r.network.events times
+pub timetable_again : (r : ReducedValue) (slacks : ℕ → ℕ) (left times : List ℕ) → IsReduced r
+    → AreWithin (net_of r.original) slacks → AreSlacksOf r slacks left → length times ≡ r.network.events
+    → All (λ t. t < r.network.period) times → ((j : ℕ) → j < length r.network.rows
+    → slacks_at (net_of_network r.network) times j ≡ slice_index left j)
+    → IsNetTimetable (net_of_network r.network) r.network.events times
 timetable_again r slacks left times h w a count below same = record {
   count = count;
   below = below;
@@ -62,19 +80,31 @@ timetable_again r slacks left times h w a count below same = record {
       let span = (h.rows j inside).span in
       let arc = arc_is r j inside in
       let here : (arc_at arcs j).span ≡ (net_row_at r.network.rows j).span = ap (λ (x : Arc). x.span) arc in
-      subst (λ (x : Arc). arc_slack r.network.period times x ≤ x.span) (any_default arcs j no_arc d l) (omega (arith, slack, each, within, span, here));
+      subst (λ (x : Arc). arc_slack r.network.period times x ≤ x.span) (any_default arcs j no_arc d l)
+      (omega (arith, slack, each, within, span, here));
 }
 
 -- ---- costs
 
 sum_by_is : {X : Type 0} (f : X → ℕ) (xs : List X) (d : X) → sum_below (length xs) (λ i. pos (f (get_or xs i d))) ≡ pos (sum_by f xs)
-sum_by_is f xs d = sum_by_front f xs d (length xs) (omega arith) ∙ ap (λ taken. pos (sum_by f taken)) (take_all (length xs) xs (omega arith))
+sum_by_is f xs d = sum_by_front f xs d (length xs) (omega arith)
+    ∙ ap (λ taken. pos (sum_by f taken)) (take_all (length xs) xs (omega arith))
   where
-    sum_by_front : {X : Type 0} (f : X → ℕ) (xs : List X) (d : X) (n : ℕ) → n ≤ length xs → sum_below n (λ i. pos (f (get_or xs i d))) ≡ pos (sum_by f (take n xs))
+    sum_by_front : {X : Type 0} (f : X → ℕ) (xs : List X) (d : X) (n : ℕ) → n ≤ length xs
+        → sum_below n (λ i. pos (f (get_or xs i d))) ≡ pos (sum_by f (take n xs))
     sum_by_front f xs d zero h = refl
-    sum_by_front f xs d (suc n) h = omega (arith, ints, sum_by_front f xs d n (omega arith), sum_by_more f xs n d (omega arith), ap (λ k. sum_by f (take k xs)) (add-one n))
+    sum_by_front f xs d (suc n) h = omega (
+      arith,
+      ints,
+      sum_by_front f xs d n (omega arith),
+      sum_by_more f xs n d (omega arith),
+      ap (λ k. sum_by f (take k xs)) (add-one n),
+    )
 
-pub costs_no_more : (r : ReducedValue) (slacks : ℕ → ℕ) (left times : List ℕ) → IsReduced r → AreSlacksOf r slacks left → ((j : ℕ) → j < length r.network.rows → slacks_at (net_of_network r.network) times j ≡ slice_index left j) → pos (net_cost (net_of_network r.network) times) ≤ℤ weighted (net_of r.original) slacks
+pub costs_no_more : (r : ReducedValue) (slacks : ℕ → ℕ) (left times : List ℕ) → IsReduced r
+    → AreSlacksOf r slacks left → ((j : ℕ) → j < length r.network.rows
+    → slacks_at (net_of_network r.network) times j ≡ slice_index left j)
+    → pos (net_cost (net_of_network r.network) times) ≤ℤ weighted (net_of r.original) slacks
 costs_no_more r slacks left times h a same =
     let n = net_of_network r.network in
     let rows = r.network.rows in
@@ -87,8 +117,12 @@ costs_no_more r slacks left times h a same =
     let terms = sum_below-same (length arcs) (λ j. pos (worth (arc_at arcs j))) (λ j. pos (term (place j)))
     (λ j l.
     let inside : j < length rows = omega (arith, l, count) in
-    ap (λ (x : ℕ). pos x) (one_term (arc_at arcs j).weight (arc_at (arcs_of r.original) (place j)).weight (arc_slack r.network.period times (arc_at arcs j)) (slacks (place j)) (ap (λ (x : Arc). x.weight) (arc_is r j inside) ∙ (h.rows j inside).weight) (same j inside ∙ a.each j inside))) in
-    let within = sum_at_places term place (length arcs) (length (arcs_of r.original)) (λ j k l m. rise j k l (omega (arith, m, count))) (λ j l. origin_inside r j h (omega (arith, l, count))) in
+    ap (λ (x : ℕ). pos x) (one_term (arc_at arcs j).weight (arc_at (arcs_of r.original) (place j)).weight
+    (arc_slack r.network.period times (arc_at arcs j)) (slacks (place j))
+    (ap (λ (x : Arc). x.weight) (arc_is r j inside) ∙ (h.rows j inside).weight)
+    (same j inside ∙ a.each j inside))) in
+    let within = sum_at_places term place (length arcs) (length (arcs_of r.original))
+    (λ j k l m. rise j k l (omega (arith, m, count))) (λ j l. origin_inside r j h (omega (arith, l, count))) in
     let total : weighted (net_of r.original) slacks ≡ sum_below (length (arcs_of r.original)) (λ i. pos (term i)) = refl in
     omega (arith, ints, cost, terms, within, total)
   where

@@ -50,7 +50,9 @@ AreStep lines cut low high = map line_of lines ≡ CutLine cut ∷ EndLine low �
 
 -- a leaf that was found at a part of a node, for pairs that a leaf has at the node
 abbrev pub IsFoundAt : ProblemValue → List Pair → Node → Leaf → Type 0
-IsFoundAt p start node (Bound pairs) = HaveOffsetsLeft (net_of p) p.table node × ArePairs (length p.table) pairs × IsSomeAnd (leaf_value (net_of p) p.table node pairs true) (λ v. IfSome (leaf_value (net_of p) p.table node start true) (λ w. w ≤ℤ v))
+IsFoundAt p start node (Bound pairs) = HaveOffsetsLeft (net_of p) p.table node × ArePairs (length p.table) pairs
+    × IsSomeAnd (leaf_value (net_of p) p.table node pairs true)
+    (λ v. IfSome (leaf_value (net_of p) p.table node start true) (λ w. w ≤ℤ v))
 IsFoundAt p start node (Shut reason) = MayShut p node reason
 
 -- how many branches a work adds

@@ -14,7 +14,8 @@ use Rattle.pesp_sharp.specs.declared.marked.MarkedRow.{MarkedRow}
 use Rattle.pesp_sharp.specs.Marked.{signed_rows, IsMarkedWalk}
 use Rattle.pesp_sharp_check.specs.Verdicts.{IsMarkFault}
 
-module _ (arcs : List Arc) (walks : List (List MarkedRow)) (k : ℕ) (walk : List MarkedRow) (within : k < length walks) (is : walk ≡ get_or walks k walk) where
+module _ (arcs : List Arc) (walks : List (List MarkedRow)) (k : ℕ) (walk : List MarkedRow)
+    (within : k < length walks) (is : walk ≡ get_or walks k walk) where
   inside : k < length (map signed_rows walks)
   inside = omega (arith, within, length-map walks signed_rows)
 
@@ -27,15 +28,20 @@ module _ (arcs : List Arc) (walks : List (List MarkedRow)) (k : ℕ) (walk : Lis
   here : cycle_at (map signed_rows walks) k ≡ cycle_at (map signed_rows walks) (k + 1 - 1)
   here = ap (cycle_at (map signed_rows walks)) (omega arith)
 
-  first : ((c : ℕ) → c < k → IsWalk arcs (cycle_at (map signed_rows walks) c)) → (IsWalk arcs (signed_rows walk) → ⊥) → IsFirstOpen arcs (map signed_rows walks) (k + 1)
+  first : ((c : ℕ) → c < k → IsWalk arcs (cycle_at (map signed_rows walks) c))
+      → (IsWalk arcs (signed_rows walk) → ⊥) → IsFirstOpen arcs (map signed_rows walks) (k + 1)
   first before never = first_open arcs (map signed_rows walks) 0 k (signed_rows walk) (signed_rows walk) inside read refl before never
 
   -- one walk more
-  pub closed_more : ((c : ℕ) → c < k → IsWalk arcs (cycle_at (map signed_rows walks) c)) → IsWalk arcs (signed_rows walk) → (c : ℕ) → c < k + 1 → IsWalk arcs (cycle_at (map signed_rows walks) c)
+  pub closed_more : ((c : ℕ) → c < k → IsWalk arcs (cycle_at (map signed_rows walks) c))
+      → IsWalk arcs (signed_rows walk) → (c : ℕ) → c < k + 1 → IsWalk arcs (cycle_at (map signed_rows walks) c)
   closed_more before w = walks_more arcs (map signed_rows walks) k (signed_rows walk) walk_is before w
 
   -- it isn't closed
-  pub mark_fault : (cycles number at : ℕ) (refusal : Refusal) → ((c : ℕ) → c < k → IsWalk arcs (cycle_at (map signed_rows walks) c)) → number ≡ cycles + (k + 1) → at ≡ 2 + (k + 1) → IsWalkFault arcs (signed_rows walk) number at refusal → IsMarkFault arcs cycles walks refusal
+  pub mark_fault : (cycles number at : ℕ) (refusal : Refusal)
+      → ((c : ℕ) → c < k → IsWalk arcs (cycle_at (map signed_rows walks) c)) → number ≡ cycles + (k + 1)
+      → at ≡ 2 + (k + 1) → IsWalkFault arcs (signed_rows walk) number at refusal
+      → IsMarkFault arcs cycles walks refusal
   mark_fault cycles number at refusal before e e' (never, inl (f, rows)) =
       let P : List SignedRow → Type 0 = AreRows arcs in
       (k + 1, first before never, inl (f ∙ ap NoSuch e', λ r. rows (subst P (sym (walk_is ∙ here)) r)))
@@ -44,7 +50,8 @@ module _ (arcs : List Arc) (walks : List (List MarkedRow)) (k : ℕ) (walk : Lis
       (k + 1, first before never, inr (f ∙ ap OpenWalk e, subst P (walk_is ∙ here) rows))
 
 -- none of them is open
-pub all_closed : (arcs : List Arc) (walks : List (List MarkedRow)) (k : ℕ) → length walks ≤ k → ((c : ℕ) → c < k → IsWalk arcs (cycle_at (map signed_rows walks) c)) → All (IsMarkedWalk arcs) walks
+pub all_closed : (arcs : List Arc) (walks : List (List MarkedRow)) (k : ℕ) → length walks ≤ k
+    → ((c : ℕ) → c < k → IsWalk arcs (cycle_at (map signed_rows walks) c)) → All (IsMarkedWalk arcs) walks
 all_closed arcs walks k done closed c d l =
     let P : List SignedRow → Type 0 = IsWalk arcs in
     subst P (get_or-map signed_rows walks c d [] l) (closed c (omega (arith, l, done)))

@@ -40,13 +40,15 @@ none_named cycles pairs h = within cycles pairs (λ k d l. let here = h k d l in
 module _ (n : Net) (table : List (List SignedRow)) (least : Option ℕ) where
   to_leaf : (leaf : Leaf) (node : Node) → IsSoundLeaf n table least leaf node → IsSoundLeafWith n table no_marks least leaf node
   to_leaf (Bound pairs) node s = (plain_leaf n table no_marks least (Bound pairs) node (cycles_alone (length table) pairs s.0)).1 s
-  to_leaf (Shut (ByPairs pairs)) node s = (plain_leaf n table no_marks least (Shut (ByPairs pairs)) node (cycles_alone (length table) pairs s.0)).1 s
+  to_leaf (Shut (ByPairs pairs)) node s = (plain_leaf n table no_marks least (Shut (ByPairs pairs)) node
+      (cycles_alone (length table) pairs s.0)).1 s
   to_leaf (Shut (ByGap cycle)) node s = s
   to_leaf (Shut ByPropagation) node s = s
 
   from_leaf : (leaf : Leaf) (node : Node) → IsSoundLeafWith n table no_marks least leaf node → IsSoundLeaf n table least leaf node
   from_leaf (Bound pairs) node s = (plain_leaf n table no_marks least (Bound pairs) node (none_named (length table) pairs s.0)).0 s
-  from_leaf (Shut (ByPairs pairs)) node s = (plain_leaf n table no_marks least (Shut (ByPairs pairs)) node (none_named (length table) pairs s.0)).0 s
+  from_leaf (Shut (ByPairs pairs)) node s = (plain_leaf n table no_marks least (Shut (ByPairs pairs)) node
+      (none_named (length table) pairs s.0)).0 s
   from_leaf (Shut (ByGap cycle)) node s = s
   from_leaf (Shut ByPropagation) node s = s
 
@@ -65,23 +67,37 @@ without_front p content = (
     period = v.period;
     answer = v.answer;
     cycles = v.cycles;
-    tree = (v.tree.0, v.tree.1, to_tree (net_of p) content.cycles (least_of content.answer) v.tree.0 (root (net_of p) content.cycles) v.tree.2);
+    tree = (
+      v.tree.0,
+      v.tree.1,
+      to_tree (net_of p) content.cycles (least_of content.answer) v.tree.0
+          (root (net_of p) content.cycles) v.tree.2,
+    );
   },
   λ v. record {
     period = v.period;
     answer = v.answer;
     cycles = v.cycles;
-    tree = (v.tree.0, v.tree.1, from_tree (net_of p) content.cycles (least_of content.answer) v.tree.0 (root (net_of p) content.cycles) v.tree.2);
+    tree = (
+      v.tree.0,
+      v.tree.1,
+      from_tree (net_of p) content.cycles (least_of content.answer) v.tree.0
+          (root (net_of p) content.cycles) v.tree.2,
+    );
   },
 )
 
 -- accepted is exactly what is valid, with a front and without
-pub exactly_with : (p : Pesp) (front : Option Marks) (content : Content) (marks : Marks) (verdict : Verdict) → front ≡ Some marks → IsMarksVerdict p marks content verdict → (verdict ≡ Accepted) ↔ IsValidWith p (record { marks = marks_of front; content = content })
+pub exactly_with : (p : Pesp) (front : Option Marks) (content : Content) (marks : Marks) (verdict : Verdict)
+    → front ≡ Some marks → IsMarksVerdict p marks content verdict
+    → (verdict ≡ Accepted) ↔ IsValidWith p (record { marks = marks_of front; content = content })
 exactly_with p front content marks verdict is h =
     let P : Option Marks → Type 0 = λ o. (verdict ≡ Accepted) ↔ IsValidWith p (record { marks = marks_of o; content = content }) in
     subst P (sym is) (accepts_valid p marks content verdict h)
 
-pub exactly_without : (p : Pesp) (front : Option Marks) (content : Content) (verdict : Verdict) → front ≡ None → (verdict ≡ Accepted) ↔ IsValid p content → (verdict ≡ Accepted) ↔ IsValidWith p (record { marks = marks_of front; content = content })
+pub exactly_without : (p : Pesp) (front : Option Marks) (content : Content) (verdict : Verdict) → front ≡ None
+    → (verdict ≡ Accepted) ↔ IsValid p content → (verdict ≡ Accepted)
+    ↔ IsValidWith p (record { marks = marks_of front; content = content })
 exactly_without p front content verdict is h =
     let P : Option Marks → Type 0 = λ o. (verdict ≡ Accepted) ↔ IsValidWith p (record { marks = marks_of o; content = content }) in
     let law = without_front p content in

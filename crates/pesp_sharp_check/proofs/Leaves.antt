@@ -19,7 +19,8 @@ mapped : (f : ℤ → ℤ) (P : ℤ → Type 0) (o : Option ℤ) → IsSomeAnd (
 mapped f P None = (λ h. h, λ h. h)
 mapped f P (Some v) = (λ h. h, λ h. h)
 
-module _ (n : Net) (table : List (List SignedRow)) (marks : Marks) (least : Option ℕ) (pairs : List Pair) (node : Node) (line cycles : ℕ) (long : cycles ≡ length table) (uses : uses_walks cycles pairs ≡ true) where
+module _ (n : Net) (table : List (List SignedRow)) (marks : Marks) (least : Option ℕ) (pairs : List Pair)
+    (node : Node) (line cycles : ℕ) (long : cycles ≡ length table) (uses : uses_walks cycles pairs ≡ true) where
   here : AreNamed cycles (length marks.walks) pairs → AreNamed (length table) (length marks.walks) pairs
   here h = let P : ℕ → Type 0 = λ k. AreNamed k (length marks.walks) pairs in subst P long h
 
@@ -30,23 +31,35 @@ module _ (n : Net) (table : List (List SignedRow)) (marks : Marks) (least : Opti
   scale_there : (multipliers (length table) marks pairs).scale ≡ marks.scale
   scale_there = let P : ℕ → Type 0 = λ k. uses_walks k pairs ≡ true in scale_is (length table) marks pairs (subst P long uses)
 
-  cost : (c : ℕ) (value : Option ℤ) → value ≡ sharp_value n table node (multipliers (length table) marks pairs) true → IsSomeAnd value (λ v. pos c ≤ℤ ceil_div v marks.scale) ↔ IsSomeAnd (sharp_cost n table node (multipliers (length table) marks pairs)) (λ v. pos c ≤ℤ v)
+  cost : (c : ℕ) (value : Option ℤ) → value ≡ sharp_value n table node
+      (multipliers (length table) marks pairs) true
+      → IsSomeAnd value (λ v. pos c ≤ℤ ceil_div v marks.scale)
+      ↔ IsSomeAnd (sharp_cost n table node (multipliers (length table) marks pairs)) (λ v. pos c ≤ℤ v)
   cost c value is =
-      let P : ℕ → Type 0 = λ d. IsSomeAnd value (λ v. pos c ≤ℤ ceil_div v d) ↔ IsSomeAnd (sharp_cost n table node (multipliers (length table) marks pairs)) (λ v. pos c ≤ℤ v) in
-      let Q : Option ℤ → Type 0 = λ o. IsSomeAnd o (λ v. pos c ≤ℤ ceil_div v (multipliers (length table) marks pairs).scale) ↔ IsSomeAnd (sharp_cost n table node (multipliers (length table) marks pairs)) (λ v. pos c ≤ℤ v) in
-      let m = mapped (λ v. ceil_div v (multipliers (length table) marks pairs).scale) (λ v. pos c ≤ℤ v) (sharp_value n table node (multipliers (length table) marks pairs) true) in
+      let P : ℕ → Type 0 = λ d. IsSomeAnd value (λ v. pos c ≤ℤ ceil_div v d)
+      ↔ IsSomeAnd (sharp_cost n table node (multipliers (length table) marks pairs)) (λ v. pos c ≤ℤ v) in
+      let Q : Option ℤ → Type 0 = λ o. IsSomeAnd o
+      (λ v. pos c ≤ℤ ceil_div v (multipliers (length table) marks pairs).scale)
+      ↔ IsSomeAnd (sharp_cost n table node (multipliers (length table) marks pairs)) (λ v. pos c ≤ℤ v) in
+      let m = mapped (λ v. ceil_div v (multipliers (length table) marks pairs).scale) (λ v. pos c ≤ℤ v)
+      (sharp_value n table node (multipliers (length table) marks pairs) true) in
       subst P scale_there (subst Q (sym is) (m.1, m.0))
 
   -- ---- a bound
 
-  pub bound_unnamed : (AreNamed cycles (length marks.walks) pairs → ⊥) → IsLeafFaultWith n table marks least (Bound pairs) node line (NoSuch line)
+  pub bound_unnamed : (AreNamed cycles (length marks.walks) pairs → ⊥)
+      → IsLeafFaultWith n table marks least (Bound pairs) node line (NoSuch line)
   bound_unnamed h = inl (refl, not_here h)
 
-  pub bound_infeasible : AreNamed cycles (length marks.walks) pairs → least ≡ None → IsLeafFaultWith n table marks least (Bound pairs) node line (BoundInInfeasible line)
+  pub bound_infeasible : AreNamed cycles (length marks.walks) pairs → least ≡ None
+      → IsLeafFaultWith n table marks least (Bound pairs) node line (BoundInInfeasible line)
   bound_infeasible h e = inr (inl (refl, here h, e))
 
-  module _ (c : ℕ) (value : Option ℤ) (wanted : least ≡ Some c) (is : value ≡ sharp_value n table node (multipliers (length table) marks pairs) true) (named : AreNamed cycles (length marks.walks) pairs) where
-    pub bound_below : (IsSomeAnd value (λ v. pos c ≤ℤ ceil_div v marks.scale) → ⊥) → IsLeafFaultWith n table marks least (Bound pairs) node line (LeafBelow line)
+  module _ (c : ℕ) (value : Option ℤ) (wanted : least ≡ Some c)
+      (is : value ≡ sharp_value n table node (multipliers (length table) marks pairs) true)
+      (named : AreNamed cycles (length marks.walks) pairs) where
+    pub bound_below : (IsSomeAnd value (λ v. pos c ≤ℤ ceil_div v marks.scale) → ⊥)
+        → IsLeafFaultWith n table marks least (Bound pairs) node line (LeafBelow line)
     bound_below h = inr (inr (refl, here named, (c, wanted, λ s. h ((cost c value is).1 s))))
 
     pub bound_sound : IsSomeAnd value (λ v. pos c ≤ℤ ceil_div v marks.scale) → IsSoundLeafWith n table marks least (Bound pairs) node
@@ -56,11 +69,14 @@ module _ (n : Net) (table : List (List SignedRow)) (marks : Marks) (least : Opti
 
   -- ---- none there
 
-  pub nothing_unnamed : (AreNamed cycles (length marks.walks) pairs → ⊥) → IsLeafFaultWith n table marks least (Nothing pairs) node line (NoSuch line)
+  pub nothing_unnamed : (AreNamed cycles (length marks.walks) pairs → ⊥)
+      → IsLeafFaultWith n table marks least (Nothing pairs) node line (NoSuch line)
   nothing_unnamed h = inl (refl, not_here h)
 
-  module _ (value : Option ℤ) (is : value ≡ sharp_value n table node (multipliers (length table) marks pairs) false) (named : AreNamed cycles (length marks.walks) pairs) where
-    pub nothing_open : (IsSomeAnd value (λ v. pos 0 <ℤ v) → ⊥) → IsLeafFaultWith n table marks least (Nothing pairs) node line (NotEmpty line)
+  module _ (value : Option ℤ) (is : value ≡ sharp_value n table node
+      (multipliers (length table) marks pairs) false) (named : AreNamed cycles (length marks.walks) pairs) where
+    pub nothing_open : (IsSomeAnd value (λ v. pos 0 <ℤ v) → ⊥)
+        → IsLeafFaultWith n table marks least (Nothing pairs) node line (NotEmpty line)
     nothing_open h = let P : Option ℤ → Type 0 = λ o. IsSomeAnd o (λ v. pos 0 <ℤ v) → ⊥ in inr (refl, here named, subst P is h)
 
     pub nothing_sound : IsSomeAnd value (λ v. pos 0 <ℤ v) → IsSoundLeafWith n table marks least (Nothing pairs) node

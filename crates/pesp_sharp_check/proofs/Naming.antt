@@ -53,7 +53,8 @@ few_of_cycles cycles (pair ∷ pairs) =
 abbrev IsPair : ℕ → Pair → Type 0
 IsPair cycles pair = Names cycles pair.cycle × (unsigned_abs pair.mult ≤ 1000000000000)
 
-each_of_cycles : (cycles walks : ℕ) (pairs : List Pair) → AreNamed cycles walks pairs → All (λ pair. unsigned_abs pair.mult ≤ 1000000000000) pairs → All (IsPair cycles) (of_cycles cycles pairs)
+each_of_cycles : (cycles walks : ℕ) (pairs : List Pair) → AreNamed cycles walks pairs
+    → All (λ pair. unsigned_abs pair.mult ≤ 1000000000000) pairs → All (IsPair cycles) (of_cycles cycles pairs)
 each_of_cycles cycles walks [] named small = All-nil (IsPair cycles)
 each_of_cycles cycles walks (pair ∷ pairs) named small =
     let here = All-head (IsNamed cycles walks) pair pairs named in
@@ -66,5 +67,9 @@ each_of_cycles cycles walks (pair ∷ pairs) named small =
     ]
 
 -- the pairs of cycles are pairs of a leaf
-pub are_pairs : (cycles walks : ℕ) (pairs : List Pair) → AreNamed cycles walks pairs → ArePairLimits pairs → ArePairs cycles (of_cycles cycles pairs)
-are_pairs cycles walks pairs named limits = (each_of_cycles cycles walks pairs named limits.0, omega (arith, few_of_cycles cycles pairs, limits.1))
+pub are_pairs : (cycles walks : ℕ) (pairs : List Pair) → AreNamed cycles walks pairs → ArePairLimits pairs
+    → ArePairs cycles (of_cycles cycles pairs)
+are_pairs cycles walks pairs named limits = (
+  each_of_cycles cycles walks pairs named limits.0,
+  omega (arith, few_of_cycles cycles pairs, limits.1),
+)

@@ -18,29 +18,48 @@ use Rattle.pesp_sharp_check.specs.Faults.{IsLeafFaultWith}
 use Rattle.pesp_sharp_check.specs.Lines.{IsLeafVerdictWith, IsLineVerdictWith}
 
 module _ (n : Net) (table : List (List SignedRow)) (marks : Marks) (least : Option ℕ) (node : Node) (at : ℕ) (refusal : Refusal) where
-  not_named : (pairs : List Pair) → uses_walks (length table) pairs ≡ false → (PairsExist table pairs → ⊥) → AreNamed (length table) (length marks.walks) pairs → ⊥
+  not_named : (pairs : List Pair) → uses_walks (length table) pairs ≡ false → (PairsExist table pairs → ⊥)
+      → AreNamed (length table) (length marks.walks) pairs → ⊥
   not_named pairs e never named = never ((named_cycles (length table) (length marks.walks) pairs e).0 named)
 
-  are_named : (pairs : List Pair) → uses_walks (length table) pairs ≡ false → PairsExist table pairs → AreNamed (length table) (length marks.walks) pairs
+  are_named : (pairs : List Pair) → uses_walks (length table) pairs ≡ false → PairsExist table pairs
+      → AreNamed (length table) (length marks.walks) pairs
   are_named pairs e exist = (named_cycles (length table) (length marks.walks) pairs e).1 exist
 
-  leaf_fault : (leaf : Leaf) → uses_walks (length table) (pairs_of_leaf leaf) ≡ false → IsLeafFault n table least leaf node at refusal → IsLeafFaultWith n table marks least leaf node at refusal
+  leaf_fault : (leaf : Leaf) → uses_walks (length table) (pairs_of_leaf leaf) ≡ false
+      → IsLeafFault n table least leaf node at refusal → IsLeafFaultWith n table marks least leaf node at refusal
   leaf_fault (Bound pairs) e (inl f) = inl (f.0, not_named pairs e f.1)
   leaf_fault (Bound pairs) e (inr (inl f)) = inr (inl (f.0, are_named pairs e f.1, f.2))
   leaf_fault (Bound pairs) e (inr (inr f)) =
       let fault = f.2 in
       let P : Option ℤ → Type 0 = λ o. IsSomeAnd o (λ v. pos fault.0 ≤ℤ v) → ⊥ in
       let Q : Multipliers → Type 0 = λ m. IsSomeAnd (sharp_cost n table node m) (λ v. pos fault.0 ≤ℤ v) → ⊥ in
-      inr (inr (f.0, are_named pairs e f.1, (fault.0, fault.1, subst Q (sym (no_walks (length table) marks pairs e)) (subst P (sym (cost_without_walks n table node pairs)) fault.2))))
+      inr (inr (
+        f.0,
+        are_named pairs e f.1,
+        (
+          fault.0,
+          fault.1,
+          subst Q (sym (no_walks (length table) marks pairs e))
+              (subst P (sym (cost_without_walks n table node pairs)) fault.2),
+        ),
+      ))
   leaf_fault (Shut (ByPairs pairs)) e (inl f) = inl (f.0, not_named pairs e f.1)
   leaf_fault (Shut (ByPairs pairs)) e (inr f) =
       let P : Option ℤ → Type 0 = λ o. IsSomeAnd o (λ v. pos 0 <ℤ v) → ⊥ in
       let Q : Multipliers → Type 0 = λ m. IsSomeAnd (sharp_value n table node m false) (λ v. pos 0 <ℤ v) → ⊥ in
-      inr (f.0, are_named pairs e f.1, subst Q (sym (no_walks (length table) marks pairs e)) (subst P (sym (value_without_walks n table node pairs false)) f.2))
+      inr (
+        f.0,
+        are_named pairs e f.1,
+        subst Q (sym (no_walks (length table) marks pairs e))
+            (subst P (sym (value_without_walks n table node pairs false)) f.2),
+      )
   leaf_fault (Shut (ByGap cycle)) e f = f
   leaf_fault (Shut ByPropagation) e f = f
 
-pub leaf_verdict : (n : Net) (table : List (List SignedRow)) (marks : Marks) (least : Option ℕ) (leaf : Leaf) (node : Node) (at : ℕ) (found : Option Refusal) → uses_walks (length table) (pairs_of_leaf leaf) ≡ false → IsLeafVerdict n table least leaf node at found → IsLeafVerdictWith n table marks least leaf node at found
+pub leaf_verdict : (n : Net) (table : List (List SignedRow)) (marks : Marks) (least : Option ℕ) (leaf : Leaf)
+    (node : Node) (at : ℕ) (found : Option Refusal) → uses_walks (length table) (pairs_of_leaf leaf) ≡ false
+    → IsLeafVerdict n table least leaf node at found → IsLeafVerdictWith n table marks least leaf node at found
 leaf_verdict n table marks least leaf node at None e h = (plain_leaf n table marks least leaf node e).1 h
 leaf_verdict n table marks least leaf node at (Some refusal) e h = leaf_fault n table marks least node at refusal leaf e h
 
@@ -48,10 +67,16 @@ abbrev pub pairs_of_line : Line → List Pair
 pairs_of_line (EndLine leaf) = pairs_of_leaf leaf
 pairs_of_line (CutLine cut) = []
 
-pub line_verdict : (n : Net) (table : List (List SignedRow)) (marks : Marks) (least : Option ℕ) (line : Line) (nodes nodes' : List Node) (at : ℕ) (found : Option Refusal) → uses_walks (length table) (pairs_of_line line) ≡ false → IsLineVerdict n table least line nodes nodes' at found → IsLineVerdictWith n table marks least line nodes nodes' at found
+pub line_verdict : (n : Net) (table : List (List SignedRow)) (marks : Marks) (least : Option ℕ) (line : Line)
+    (nodes nodes' : List Node) (at : ℕ) (found : Option Refusal)
+    → uses_walks (length table) (pairs_of_line line) ≡ false
+    → IsLineVerdict n table least line nodes nodes' at found
+    → IsLineVerdictWith n table marks least line nodes nodes' at found
 line_verdict n table marks least line [] nodes' at None e h = absurd h.0
 line_verdict n table marks least line [] nodes' at (Some refusal) e h = absurd h
-line_verdict n table marks least (EndLine leaf) (node ∷ nodes) nodes' at None e h = ((plain_leaf n table marks least leaf node e).1 h.0, h.1)
-line_verdict n table marks least (EndLine leaf) (node ∷ nodes) nodes' at (Some refusal) e h = leaf_fault n table marks least node at refusal leaf e h
+line_verdict n table marks least (EndLine leaf) (node ∷ nodes) nodes' at None e h =
+    ((plain_leaf n table marks least leaf node e).1 h.0, h.1)
+line_verdict n table marks least (EndLine leaf) (node ∷ nodes) nodes' at (Some refusal) e h =
+    leaf_fault n table marks least node at refusal leaf e h
 line_verdict n table marks least (CutLine cut) (node ∷ nodes) nodes' at None e h = h
 line_verdict n table marks least (CutLine cut) (node ∷ nodes) nodes' at (Some refusal) e h = h

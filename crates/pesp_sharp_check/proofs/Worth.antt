@@ -16,42 +16,66 @@ use Rattle.pesp_sharp_check.specs.Gains.{gains_of, rates_of}
 
 -- the multipliers of a leaf that names marked walks
 abbrev with_scale : ℕ → Marks → List Pair → Multipliers
-with_scale cycles marks pairs = record { scale = marks.scale; pairs = of_cycles cycles pairs; multiples = of_walks cycles marks.walks pairs }
+with_scale cycles marks pairs = record {
+  scale = marks.scale;
+  pairs = of_cycles cycles pairs;
+  multiples = of_walks cycles marks.walks pairs;
+}
 
 abbrev at_scale : ℕ → Marks → List Pair → ℕ → Multipliers
 at_scale cycles marks pairs scale = record { scale = scale; pairs = of_cycles cycles pairs; multiples = of_walks cycles marks.walks pairs }
 
-scaled : (cycles : ℕ) (marks : Marks) (pairs : List Pair) → uses_walks cycles pairs ≡ true → multipliers cycles marks pairs ≡ with_scale cycles marks pairs
+scaled : (cycles : ℕ) (marks : Marks) (pairs : List Pair) → uses_walks cycles pairs ≡ true
+    → multipliers cycles marks pairs ≡ with_scale cycles marks pairs
 scaled cycles marks pairs uses = ap (λ (b : Bool). at_scale cycles marks pairs (scale_of marks b)) uses
 
-pub scale_is : (cycles : ℕ) (marks : Marks) (pairs : List Pair) → uses_walks cycles pairs ≡ true → (multipliers cycles marks pairs).scale ≡ marks.scale
+pub scale_is : (cycles : ℕ) (marks : Marks) (pairs : List Pair) → uses_walks cycles pairs ≡ true
+    → (multipliers cycles marks pairs).scale ≡ marks.scale
 scale_is cycles marks pairs uses = ap (scale_of marks) uses
 
-module _ (p : Pesp) (table : List (List SignedRow)) (node : Node) (marks : Marks) (pairs : List Pair) (weighted : Bool) (cycles : ℕ) (uses : uses_walks cycles pairs ≡ true) (long : cycles ≡ length table) where
-  there : sharp_value (net_of p) table node (with_scale cycles marks pairs) weighted ≡ sharp_value (net_of p) table node (multipliers (length table) marks pairs) weighted
-  there = ap (λ (m : Multipliers). sharp_value (net_of p) table node m weighted) (sym (scaled cycles marks pairs uses) ∙ ap (λ (k : ℕ). multipliers k marks pairs) long)
+module _ (p : Pesp) (table : List (List SignedRow)) (node : Node) (marks : Marks) (pairs : List Pair)
+    (weighted : Bool) (cycles : ℕ) (uses : uses_walks cycles pairs ≡ true) (long : cycles ≡ length table) where
+  there : sharp_value (net_of p) table node (with_scale cycles marks pairs) weighted
+      ≡ sharp_value (net_of p) table node (multipliers (length table) marks pairs) weighted
+  there = ap (λ (m : Multipliers). sharp_value (net_of p) table node m weighted)
+      (sym (scaled cycles marks pairs uses) ∙ ap (λ (k : ℕ). multipliers k marks pairs) long)
 
   -- a cycle of a pair has no offset left
-  pub no_value : ◌≡◌ {A = Option ℤ} None (option_map (λ z. pos p.period *ℤ z) (offset_part (net_of p) table node (of_cycles cycles pairs))) → ◌≡◌ {A = Option ℤ} None (sharp_value (net_of p) table node (multipliers (length table) marks pairs) weighted)
+  pub no_value : ◌≡◌ {A = Option ℤ} None (option_map (λ z. pos p.period *ℤ z)
+      (offset_part (net_of p) table node (of_cycles cycles pairs)))
+      → ◌≡◌ {A = Option ℤ} None (sharp_value (net_of p) table node
+      (multipliers (length table) marks pairs) weighted)
   no_value none = go (offset_part (net_of p) table node (of_cycles cycles pairs)) none _ ∙ there
     where
-      go : (o : Option ℤ) → ◌≡◌ {A = Option ℤ} None (option_map (λ z. pos p.period *ℤ z) o) → (f : ℤ → ℤ) → ◌≡◌ {A = Option ℤ} None (option_map f o)
+      go : (o : Option ℤ) → ◌≡◌ {A = Option ℤ} None (option_map (λ z. pos p.period *ℤ z) o) → (f : ℤ → ℤ)
+          → ◌≡◌ {A = Option ℤ} None (option_map f o)
       go None e f = refl
       go (Some z) e f = cc
 
-  pub whole_value : (flows : List ℤ) (rates : List Rates) (offsets gains rows value : ℤ) → ((i : ℕ) → i < length (arcs_of p) → number_at flows i ≡ flow table (of_cycles cycles pairs) i)
-      → ((i : ℕ) (flipped : Bool) → i < length (arcs_of p) → entry flipped (rates_at rates i) ≡ rates_of (net_of p) node.slacks cycles marks.walks pairs flipped i)
-      → ◌≡◌ {A = Option ℤ} (Some offsets) (option_map (λ z. pos p.period *ℤ z) (offset_part (net_of p) table node (of_cycles cycles pairs))) → gains ≡ gains_of (net_of p) node.slacks cycles marks.walks pairs
-      → rows ≡ rows_sum (arcs_of p) node.slacks weighted marks.scale flows rates → value ≡ offsets +ℤ gains +ℤ rows → ◌≡◌ {A = Option ℤ} (Some value) (sharp_value (net_of p) table node (multipliers (length table) marks pairs) weighted)
+  pub whole_value : (flows : List ℤ) (rates : List Rates) (offsets gains rows value : ℤ)
+      → ((i : ℕ) → i < length (arcs_of p) → number_at flows i ≡ flow table (of_cycles cycles pairs) i)
+      → ((i : ℕ) (flipped : Bool) → i < length (arcs_of p)
+      → entry flipped (rates_at rates i) ≡ rates_of (net_of p) node.slacks cycles marks.walks pairs flipped i)
+      → ◌≡◌ {A = Option ℤ} (Some offsets) (option_map (λ z. pos p.period *ℤ z)
+      (offset_part (net_of p) table node (of_cycles cycles pairs)))
+      → gains ≡ gains_of (net_of p) node.slacks cycles marks.walks pairs
+      → rows ≡ rows_sum (arcs_of p) node.slacks weighted marks.scale flows rates → value ≡ offsets +ℤ gains +ℤ rows
+      → ◌≡◌ {A = Option ℤ} (Some value) (sharp_value (net_of p) table node
+      (multipliers (length table) marks pairs) weighted)
   whole_value flows rates offsets gains rows value flows_are rates_are part g r v =
       go (offset_part (net_of p) table node (of_cycles cycles pairs)) refl part ∙ there
     where
       are : AreOf (net_of p) table node (with_scale cycles marks pairs) flows rates
       are = record { flows = flows_are; rates = rates_are }
 
-      go : (o : Option ℤ) → offset_part (net_of p) table node (of_cycles cycles pairs) ≡ o → ◌≡◌ {A = Option ℤ} (Some offsets) (option_map (λ z. pos p.period *ℤ z) o) → ◌≡◌ {A = Option ℤ} (Some value) (sharp_value (net_of p) table node (with_scale cycles marks pairs) weighted)
+      go : (o : Option ℤ) → offset_part (net_of p) table node (of_cycles cycles pairs) ≡ o
+          → ◌≡◌ {A = Option ℤ} (Some offsets) (option_map (λ z. pos p.period *ℤ z) o)
+          → ◌≡◌ {A = Option ℤ} (Some value) (sharp_value (net_of p) table node
+          (with_scale cycles marks pairs) weighted)
       go None is e = cc
       go (Some z) is e =
           let same : offsets ≡ pos p.period *ℤ z = cc in
-          let sum : value ≡ pos p.period *ℤ z +ℤ gains +ℤ rows_sum (arcs_of p) node.slacks weighted marks.scale flows rates = v ∙ ap (λ x. x +ℤ gains +ℤ rows) same ∙ ap (λ x. pos p.period *ℤ z +ℤ gains +ℤ x) r in
+          let sum : value ≡ pos p.period *ℤ z +ℤ gains
+          +ℤ rows_sum (arcs_of p) node.slacks weighted marks.scale flows rates = v
+          ∙ ap (λ x. x +ℤ gains +ℤ rows) same ∙ ap (λ x. pos p.period *ℤ z +ℤ gains +ℤ x) r in
           ap Some sum ∙ sym (value_is (net_of p) table node (with_scale cycles marks pairs) weighted flows rates are z gains is g)

@@ -19,7 +19,9 @@ NameAll table marks pairs = AreNamed (length table) (length marks.walks) pairs
 abbrev pub IsReasonFaultWith : Net → List (List SignedRow) → Marks → Reason → Node → ℕ → Refusal → Type 0
 IsReasonFaultWith n table marks (ByPairs pairs) node line refusal =
     ((refusal ≡ NoSuch line) × (NameAll table marks pairs → ⊥))
-    ⊎ ((refusal ≡ NotEmpty line) × NameAll table marks pairs × (IsSomeAnd (sharp_value n table node (multipliers (length table) marks pairs) false) (λ v. pos 0 <ℤ v) → ⊥))
+    ⊎ ((refusal ≡ NotEmpty line) × NameAll table marks pairs
+    × (IsSomeAnd (sharp_value n table node (multipliers (length table) marks pairs) false) (λ v. pos 0 <ℤ v)
+    → ⊥))
 IsReasonFaultWith n table marks (ByGap cycle) node line refusal = IsReasonFault n table (ByGap cycle) node line refusal
 IsReasonFaultWith n table marks ByPropagation node line refusal = IsReasonFault n table ByPropagation node line refusal
 
@@ -28,5 +30,7 @@ abbrev pub IsLeafFaultWith : Net → List (List SignedRow) → Marks → Option 
 IsLeafFaultWith n table marks least (Bound pairs) node line refusal =
     ((refusal ≡ NoSuch line) × (NameAll table marks pairs → ⊥))
     ⊎ ((refusal ≡ BoundInInfeasible line) × NameAll table marks pairs × (least ≡ None))
-    ⊎ ((refusal ≡ LeafBelow line) × NameAll table marks pairs × ((c : ℕ) × (least ≡ Some c) × (IsSomeAnd (sharp_cost n table node (multipliers (length table) marks pairs)) (λ v. pos c ≤ℤ v) → ⊥)))
+    ⊎ ((refusal ≡ LeafBelow line) × NameAll table marks pairs
+    × ((c : ℕ) × (least ≡ Some c) × (IsSomeAnd (sharp_cost n table node
+    (multipliers (length table) marks pairs)) (λ v. pos c ≤ℤ v) → ⊥)))
 IsLeafFaultWith n table marks least (Shut reason) node line refusal = IsReasonFaultWith n table marks reason node line refusal

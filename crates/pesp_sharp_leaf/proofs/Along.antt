@@ -7,7 +7,8 @@ use Rattle.pesp_sharp.specs.declared.marked.MarkedRow.{MarkedRow}
 use Rattle.pesp_sharp.specs.Marked.{along}
 
 -- the rows from the k-th on
-pub along_more : (walk : List MarkedRow) (k : ℕ) (d : MarkedRow) (term : MarkedRow → ℤ) → k < length walk → along (drop k walk) term ≡ term (get_or walk k d) +ℤ along (drop (k + 1) walk) term
+pub along_more : (walk : List MarkedRow) (k : ℕ) (d : MarkedRow) (term : MarkedRow → ℤ) → k < length walk
+    → along (drop k walk) term ≡ term (get_or walk k d) +ℤ along (drop (k + 1) walk) term
 along_more walk k d term l = ap (λ (w : List MarkedRow). along w term) (drop_more walk k d l)
 
 pub along_done : (walk : List MarkedRow) (k : ℕ) (term : MarkedRow → ℤ) → length walk ≤ k → along (drop k walk) term ≡ pos 0
@@ -21,7 +22,9 @@ pub record IsAdded (most : ℕ) (walk : List MarkedRow) (term : MarkedRow → �
 pub added_none : (most : ℕ) (walk : List MarkedRow) (term : MarkedRow → ℤ) → IsAdded most walk term 0 (pos 0)
 added_none most walk term = record { is = omega (arith, ints); size = omega arith }
 
-pub added_more : (most : ℕ) (walk : List MarkedRow) (term : MarkedRow → ℤ) (k : ℕ) (d : MarkedRow) (sum next : ℤ) → k < length walk → unsigned_abs (term (get_or walk k d)) ≤ most → next ≡ sum +ℤ term (get_or walk k d) → IsAdded most walk term k sum → IsAdded most walk term (k + 1) next
+pub added_more : (most : ℕ) (walk : List MarkedRow) (term : MarkedRow → ℤ) (k : ℕ) (d : MarkedRow) (sum next : ℤ)
+    → k < length walk → unsigned_abs (term (get_or walk k d)) ≤ most → next ≡ sum +ℤ term (get_or walk k d)
+    → IsAdded most walk term k sum → IsAdded most walk term (k + 1) next
 added_more most walk term k d sum next l small e before = record {
   is = let apart = along_more walk k d term l in omega (arith, ints, before.is);
   size = omega (arith, ints, before.size);

@@ -14,10 +14,12 @@ use Rattle.pesp_sharp.specs.declared.marked.MarkedRow.{MarkedRow}
 use Rattle.pesp_sharp.specs.Marked.{signed_rows}
 use Rattle.pesp_sharp_leaf.specs.Terms.{AreSmallArcs}
 
-pub arc_small : (arcs : List Arc) (i : ℕ) → AreSmallArcs arcs → i < length arcs → (unsigned_abs (arc_at arcs i).lower ≤ 1020000) × ((arc_at arcs i).weight ≤ 1000000000)
+pub arc_small : (arcs : List Arc) (i : ℕ) → AreSmallArcs arcs → i < length arcs
+    → (unsigned_abs (arc_at arcs i).lower ≤ 1020000) × ((arc_at arcs i).weight ≤ 1000000000)
 arc_small arcs i are l = are.each i no_arc l
 
-pub range_small : (slacks : List (ℕ × ℕ)) (i : ℕ) → AreSlackEnds slacks → i < length slacks → ((slack_range slacks i).0 ≤ 10000) × ((slack_range slacks i).1 ≤ 10000)
+pub range_small : (slacks : List (ℕ × ℕ)) (i : ℕ) → AreSlackEnds slacks → i < length slacks
+    → ((slack_range slacks i).0 ≤ 10000) × ((slack_range slacks i).1 ≤ 10000)
 range_small slacks i ends l = ends i (0, 0) l
 
 -- the rows of a marked walk exist

@@ -20,7 +20,8 @@ more_of flipped by b = if (if b then flipped else not flipped) then by else pos 
 
 -- the rate of a marked row, where it passes the row at place i so
 abbrev pub passed : ℕ → ℕ → ℕ → Bool → MarkedRow → ℤ
-passed period alpha i flipped s = if (s.signed.row == i + 1) && (if flipped then s.flipped else not s.flipped) then pos (rate period alpha s) else pos 0
+passed period alpha i flipped s = if (s.signed.row == i + 1)
+    && (if flipped then s.flipped else not s.flipped) then pos (rate period alpha s) else pos 0
 
 -- the numbers are small enough to go on with, where so many marked walks were added
 abbrev pub AreSmallRates : ℕ → List Rates → Type 0

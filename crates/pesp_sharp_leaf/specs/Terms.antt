@@ -33,4 +33,6 @@ row_term arc range weighted scale flow rates = lesser_excess (pos scale *ℤ wei
 
 -- the sum of these over all rows
 abbrev pub rows_sum : List Arc → List (ℕ × ℕ) → Bool → ℕ → List ℤ → List Rates → ℤ
-rows_sum arcs slacks weighted scale flows rates = sum_below (length arcs) (λ i. row_term (arc_at arcs i) (slack_range slacks i) weighted scale (number_at flows i) (rates_at rates i))
+rows_sum arcs slacks weighted scale flows rates =
+    sum_below (length arcs) (λ i. row_term (arc_at arcs i) (slack_range slacks i) weighted scale
+    (number_at flows i) (rates_at rates i))

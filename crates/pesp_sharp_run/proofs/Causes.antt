@@ -25,7 +25,9 @@ refusal_cause text (refusals.Trailing n) h = elim h [ inl e ↦ cc | inr e ↦ e
 
 -- what was read is judged so, or refused for this cause
 module _ (told left : Option (List ℕ)) (text : List ℕ) (read : ReadsText told left 1073741824 text) where
-  pub read_judged : (p : Pesp) (r : Result (Verdict × Answer) VerdictFault) → IfOk r (λ found. Judges text p found.0 found.1) → IfOk r (λ found. ChecksFronted told left p found.0 found.1)
+  pub read_judged : (p : Pesp) (r : Result (Verdict × Answer) VerdictFault)
+      → IfOk r (λ found. Judges text p found.0 found.1)
+      → IfOk r (λ found. ChecksFronted told left p found.0 found.1)
   read_judged p (Ok found) h = record { text = text; read = read; judged = h }
   read_judged p (Err fault) h = tt
 
@@ -37,6 +39,7 @@ module _ (told left : Option (List ℕ)) (text : List ℕ) (read : ReadsText tol
   fault_read faults.Write failed h = absurd h
   fault_read faults.NoFile failed h = absurd h
 
-  pub read_refused : (r : Result (Verdict × Answer) VerdictFault) (failed : Type 0) → IfErr r (λ fault. TextCause fault text) → IfErr r (λ fault. SourceCause fault told left failed)
+  pub read_refused : (r : Result (Verdict × Answer) VerdictFault) (failed : Type 0)
+      → IfErr r (λ fault. TextCause fault text) → IfErr r (λ fault. SourceCause fault told left failed)
   read_refused (Ok found) failed h = tt
   read_refused (Err fault) failed h = fault_read fault failed h

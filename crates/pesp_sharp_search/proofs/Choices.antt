@@ -18,7 +18,8 @@ at_most_itself None = tt
 at_most_itself (Some a) = omega arith
 
 -- a plain answer may stand in its own place
-pub plain_stands : (p : Pesp) (content : Content) (steps : ℕ) (c : Fronted) → c ≡ record { front = None; content = content } → IsSolved p 0 0 content → MayStand p content.answer steps c
+pub plain_stands : (p : Pesp) (content : Content) (steps : ℕ) (c : Fronted)
+    → c ≡ record { front = None; content = content } → IsSolved p 0 0 content → MayStand p content.answer steps c
 plain_stands p content steps c is solved =
     let count = solved.branches.lines in
     let there : MayStand p content.answer steps (record { front = None; content = content }) = record {
@@ -29,7 +30,8 @@ plain_stands p content steps c is solved =
     subst (MayStand p content.answer steps) (sym is) there
 
 -- where more branches are allowed
-pub stands_longer : (p : Pesp) (answer : Answer) (most more : ℕ) (c : Fronted) → most ≤ more → MayStand p answer most c → MayStand p answer more c
+pub stands_longer : (p : Pesp) (answer : Answer) (most more : ℕ) (c : Fronted) → most ≤ more
+    → MayStand p answer most c → MayStand p answer more c
 stands_longer p answer most more c longer stands =
     let few = stands.few in
     record { valid = stands.valid; few = omega (arith, few, longer); no_worse = stands.no_worse }
@@ -42,7 +44,8 @@ base_stands p base steps valid = record {
   no_worse = (at_most_itself (least_of base.content.answer), at_most_itself (cost_of base.content.answer));
 }
 
-pub sharp_solved : (p : Pesp) (content : Content) (steps used : ℕ) (c : Fronted) → IsSolved p 0 0 content → MayStand p content.answer steps c → used ≡ branch_lines (lines_of c.content) → IsSharpSolved p steps used c
+pub sharp_solved : (p : Pesp) (content : Content) (steps used : ℕ) (c : Fronted) → IsSolved p 0 0 content
+    → MayStand p content.answer steps c → used ≡ branch_lines (lines_of c.content) → IsSharpSolved p steps used c
 sharp_solved p content steps used c solved stands is =
     let few = stands.few in
     record {
@@ -58,8 +61,10 @@ below None (Some b) most h some = absurd h
 below (Some a) (Some b) most h some = omega (arith, h, some)
 
 -- what costs no more than a plain answer costs no more than times that are no cheaper than that
-pub costs_no_more : (p : Pesp) (times : List ℕ) (plain content : Content) → IsNoWorse plain.answer content.answer → CostsNoMore p times plain → CostsNoMore p times content
-costs_no_more p times plain content h cheap is = below (cost_of content.answer) (cost_of plain.answer) (cost p.period p.rows times) h.1 (cheap is)
+pub costs_no_more : (p : Pesp) (times : List ℕ) (plain content : Content) → IsNoWorse plain.answer content.answer
+    → CostsNoMore p times plain → CostsNoMore p times content
+costs_no_more p times plain content h cheap is =
+    below (cost_of content.answer) (cost_of plain.answer) (cost p.period p.rows times) h.1 (cheap is)
 
 -- a search within 0 steps has used none
 pub within_none : (p : Pesp) (used : ℕ) (content : Content) → IsSolved p 0 used content → IsSolved p 0 0 content

@@ -13,19 +13,22 @@ use Rattle.pesp_search.specs.Solving.{IsSolved}
 abbrev pub IsNoWorse : Answer → Answer → Type 0
 IsNoWorse old new = IsAtMost (least_of old) (least_of new) × IsAtMost (cost_of new) (cost_of old)
 
--- a certificate that may stand in an answer's place: it is valid with its marked walks, its tree has at most so many branches, and it is no worse
+-- a certificate that may stand in an answer's place: it is valid with its marked walks, its tree has at most so many
+-- branches, and it is no worse
 pub record MayStand (p : Pesp) (answer : Answer) (steps : ℕ) (c : Fronted) : Type 0 where
   pub valid : IsValidWith p (content_of c)
   pub few : branch_lines (lines_of c.content) ≤ steps
   pub no_worse : IsNoWorse answer c.content.answer
 
--- a certificate that is valid for the instance with its marked walks; its tree has so many branches, at most so many; and it is no worse than some answer that a search without marked walks has within 0 steps
+-- a certificate that is valid for the instance with its marked walks; its tree has so many branches, at most so many;
+-- and it is no worse than some answer that a search without marked walks has within 0 steps
 pub record IsSharpSolved (p : Pesp) (steps used : ℕ) (c : Fronted) : Type 0 where
   pub valid : IsValidWith p (content_of c)
   pub branches : branch_lines (lines_of c.content) ≡ used
   pub few : used ≤ steps
   pub plain : (content : Content) × IsSolved p 0 0 content × IsNoWorse content.answer c.content.answer
 
--- a certificate to which a search leads from the base: it is valid with its marked walks, its tree has at most so many branches more than the base's, and it is no worse
+-- a certificate to which a search leads from the base: it is valid with its marked walks, its tree has at most so many
+-- branches more than the base's, and it is no worse
 abbrev pub IsSharpResumed : Pesp → Fronted → ℕ → Fronted → Type 0
 IsSharpResumed p base steps c = MayStand p base.content.answer (branch_lines (lines_of base.content) + steps) c

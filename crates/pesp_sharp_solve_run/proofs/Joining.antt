@@ -23,17 +23,24 @@ same_instance : (text : List ℕ) (period : ℕ) (p q : Pesp) → instance_of te
 same_instance text period p q is also = let same : ◌≡◌ {A = Result Pesp ReadRefusal} (Ok p) (Ok q) = sym is ∙ also in cc
 
 -- a text of which the front that is read is a certificate's text is that text
-same_certificate : (bytes front : List ℕ) (limit : ℕ) (c d : Fronted) → IsFrontedText (fronted_text c) c → fronted_text c ≡ bytes → front ≡ take limit bytes → IsFrontedText front d → d ≡ c
+same_certificate : (bytes front : List ℕ) (limit : ℕ) (c d : Fronted) → IsFrontedText (fronted_text c) c
+    → fronted_text c ≡ bytes → front ≡ take limit bytes → IsFrontedText front d → d ≡ c
 same_certificate bytes front limit c d text spelt is read =
-    let joined : front ++ drop limit bytes ≡ fronted_text c = ap (λ t. t ++ drop limit bytes) is ∙ take-append-drop limit bytes ∙ sym spelt in
+    let joined : front ++ drop limit bytes ≡ fronted_text c = ap (λ t. t ++ drop limit bytes) is
+    ∙ take-append-drop limit bytes ∙ sym spelt in
     (none_begins d c front (fronted_text c) (drop limit bytes) read text joined).0
 
-accepted : (p q : Pesp) (c d : Fronted) (verdict : Verdict) → p ≡ q → d ≡ c → IsValidWith p (content_of c) → (verdict ≡ Accepted) ↔ IsValidWith q (content_of d) → verdict ≡ Accepted
+accepted : (p q : Pesp) (c d : Fronted) (verdict : Verdict) → p ≡ q → d ≡ c → IsValidWith p (content_of c)
+    → (verdict ≡ Accepted) ↔ IsValidWith q (content_of d) → verdict ≡ Accepted
 accepted p q c d verdict same is valid exactly = exactly.1 (rw (← same, is) valid)
 
-pub accepts_what_is_sharpened : (text before bytes : List ℕ) (left left_instance left_certificate old new : Option (List ℕ)) (period steps : ℕ) (verdict : Verdict)
-    → SolvesSharp (Some text) left period steps (Appends (Some before) (Some (before ++ bytes))) → ChecksWith (Some text) left_instance (Some bytes) left_certificate period verdict (Appends old new) → verdict ≡ Accepted
-accepts_what_is_sharpened text before bytes left left_instance left_certificate old new period steps verdict (p, read, solved) (q, read_again, checked) =
+pub accepts_what_is_sharpened : (text before bytes : List ℕ)
+    (left left_instance left_certificate old new : Option (List ℕ)) (period steps : ℕ) (verdict : Verdict)
+    → SolvesSharp (Some text) left period steps (Appends (Some before) (Some (before ++ bytes)))
+    → ChecksWith (Some text) left_instance (Some bytes) left_certificate period verdict (Appends old new)
+    → verdict ≡ Accepted
+accepts_what_is_sharpened text before bytes left left_instance left_certificate old new period steps verdict
+    (p, read, solved) (q, read_again, checked) =
     let one = ap (λ t. instance_of t period) (read.read.whole) ∙ read.is_instance in
     let other = ap (λ t. instance_of t period) (read_again.read.whole) ∙ read_again.is_instance in
     let written = appended_is before bytes (fronted_text solved.certificate) solved.written in
@@ -46,13 +53,19 @@ accepts_what_is_sharpened text before bytes left left_instance left_certificate 
     judged.certificate
     verdict
     (same_instance text period p q one other)
-    (same_certificate bytes text_judged.text 1073741824 solved.certificate judged.certificate solved.has_text written text_judged.read.front judged.spelt)
+    (same_certificate bytes text_judged.text 1073741824 solved.certificate judged.certificate solved.has_text
+    written text_judged.read.front judged.spelt)
     solved.solved.valid
     judged.exactly
 
-pub accepts_what_is_resumed : (text before bytes : List ℕ) (left base left_base left_instance left_certificate old new : Option (List ℕ)) (period steps : ℕ) (verdict : Verdict)
-    → ResumesSharp (Some text) left base left_base period steps (Appends (Some before) (Some (before ++ bytes))) → ChecksWith (Some text) left_instance (Some bytes) left_certificate period verdict (Appends old new) → verdict ≡ Accepted
-accepts_what_is_resumed text before bytes left base left_base left_instance left_certificate old new period steps verdict (p, read, (begun, read_base, resumed)) (q, read_again, checked) =
+pub accepts_what_is_resumed : (text before bytes : List ℕ)
+    (left base left_base left_instance left_certificate old new : Option (List ℕ)) (period steps : ℕ)
+    (verdict : Verdict)
+    → ResumesSharp (Some text) left base left_base period steps (Appends (Some before) (Some (before ++ bytes)))
+    → ChecksWith (Some text) left_instance (Some bytes) left_certificate period verdict (Appends old new)
+    → verdict ≡ Accepted
+accepts_what_is_resumed text before bytes left base left_base left_instance left_certificate old new period steps
+    verdict (p, read, (begun, read_base, resumed)) (q, read_again, checked) =
     let one = ap (λ t. instance_of t period) (read.read.whole) ∙ read.is_instance in
     let other = ap (λ t. instance_of t period) (read_again.read.whole) ∙ read_again.is_instance in
     let written = appended_is before bytes (fronted_text resumed.certificate) resumed.written in
@@ -65,6 +78,7 @@ accepts_what_is_resumed text before bytes left base left_base left_instance left
     judged.certificate
     verdict
     (same_instance text period p q one other)
-    (same_certificate bytes text_judged.text 1073741824 resumed.certificate judged.certificate resumed.has_text written text_judged.read.front judged.spelt)
+    (same_certificate bytes text_judged.text 1073741824 resumed.certificate judged.certificate resumed.has_text
+    written text_judged.read.front judged.spelt)
     resumed.resumed.valid
     judged.exactly

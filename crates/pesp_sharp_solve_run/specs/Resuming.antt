@@ -28,7 +28,8 @@ HasSharpBase told left told_base left_base period Holds =
     (p : Pesp) × ReadsInstance told left period p
     × ((base : Fronted) × ReadsSharpBase told_base left_base p base × Holds p base)
 
--- the writer got what the relation says of the text of a certificate with its front to which a search leads from the base, within so many steps; its answer is true
+-- the writer got what the relation says of the text of a certificate with its front to which a search leads from the
+-- base, within so many steps; its answer is true
 pub record WritesSharpResumed (p : Pesp) (base : Fronted) (steps : ℕ) (Gets : List ℕ → Type 0) : Type 0 where
   pub certificate : Fronted
   pub resumed : IsSharpResumed p base steps certificate

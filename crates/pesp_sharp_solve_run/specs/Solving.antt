@@ -11,7 +11,9 @@ use Rattle.pesp_faults.specs.Reading.{ReadsInstance, ReadsTimes, ReadsTimetable}
 use Rattle.pesp_faults.specs.Causes.{InstanceCause, TimetableCause, SearchCause, LimitCause, OutCause}
 use Rattle.pesp_faults.specs.declared.fault.Fault.{Fault}
 
--- the writer got what the relation says of the text of a certificate with its front that solves the instance within so many steps, from these times where there are some; its answer is true, and it costs no more than they do where they are a timetable
+-- the writer got what the relation says of the text of a certificate with its front that solves the instance within so
+-- many steps, from these times where there are some; its answer is true, and it costs no more than they do where they
+-- are a timetable
 pub record WritesSharpSolution (p : Pesp) (times : List ℕ) (steps : ℕ) (Gets : List ℕ → Type 0) : Type 0 where
   pub used : ℕ
   pub certificate : Fronted
@@ -24,7 +26,8 @@ pub record WritesSharpSolution (p : Pesp) (times : List ℕ) (steps : ℕ) (Gets
 -- why no solution went out: what the search passes within 0 steps, or the writer
 abbrev pub SharpSolutionCause : Fault → Pesp → List ℕ → ℕ → Device → Type 0
 SharpSolutionCause fault p times steps writer =
-    (SearchCause fault p 0 × LimitCause fault p 0) ⊎ OutCause fault (HasFailed writer × WritesSharpSolution p times steps (GetsFront writer))
+    (SearchCause fault p 0 × LimitCause fault p 0)
+    ⊎ OutCause fault (HasFailed writer × WritesSharpSolution p times steps (GetsFront writer))
 
 -- the reader's text has an instance, and a solution of it is written
 abbrev pub SolvesSharp : Option (List ℕ) → Option (List ℕ) → ℕ → ℕ → (List ℕ → Type 0) → Type 0
@@ -47,4 +50,5 @@ SolveSharpFromCause fault reader times_reader writer period steps uncalled =
     (InstanceCause fault reader period × uncalled)
     ⊎ ((p : Pesp) × ReadsInstance reader.old reader.new period p
     × (TimetableCause fault times_reader p
-    ⊎ ((times : List ℕ) × ReadsTimes times_reader.old times_reader.new p times × IsTimetable p times × SharpSolutionCause fault p times steps writer)))
+    ⊎ ((times : List ℕ) × ReadsTimes times_reader.old times_reader.new p times × IsTimetable p times
+    × SharpSolutionCause fault p times steps writer)))

@@ -20,7 +20,10 @@ limits_of m whole =
     let scale = and_left (is_scale m.scale) few front in
     let counts = and_right (is_scale m.scale) few front in
     record {
-      scale = (le_of 1 m.scale (and_left (nat_le 1 m.scale) (nat_le m.scale 1000000) scale), le_of m.scale 1000000 (and_right (nat_le 1 m.scale) (nat_le m.scale 1000000) scale));
+      scale = (
+        le_of 1 m.scale (and_left (nat_le 1 m.scale) (nat_le m.scale 1000000) scale),
+        le_of m.scale 1000000 (and_right (nat_le 1 m.scale) (nat_le m.scale 1000000) scale),
+      );
       walks = le_of (length m.walks) 100000 (and_left (nat_le (length m.walks) 100000) (nat_le (total_rows m.walks) 10000000) counts);
       rows = le_of (total_rows m.walks) 10000000 (and_right (nat_le (length m.walks) 100000) (nat_le (total_rows m.walks) 10000000) counts);
       each = and_right (is_scale m.scale && few) (list_all is_walk m.walks) whole;
@@ -33,7 +36,9 @@ pub few_is : (walks rows : ℕ) → walks ≤ 100000 → rows ≤ 10000000 → a
 few_is walks rows h k = and_both (nat_le walks 100000) (nat_le rows 10000000) (of_le walks 100000 h) (of_le rows 10000000 k)
 
 pub keeps : (m : Marks) → KeepsLimits m → keeps_limits m ≡ true
-keeps m h = and_both (is_scale m.scale && are_few (length m.walks) (total_rows m.walks)) (list_all is_walk m.walks) (and_both (is_scale m.scale) (are_few (length m.walks) (total_rows m.walks)) (scale_is m.scale h.scale) (few_is (length m.walks) (total_rows m.walks) h.walks h.rows)) h.each
+keeps m h = and_both (is_scale m.scale && are_few (length m.walks) (total_rows m.walks)) (list_all is_walk m.walks)
+    (and_both (is_scale m.scale) (are_few (length m.walks) (total_rows m.walks)) (scale_is m.scale h.scale)
+    (few_is (length m.walks) (total_rows m.walks) h.walks h.rows)) h.each
 
 pub not_kept : (m : Marks) → keeps_limits m ≡ false → KeepsLimits m → ⊥
 not_kept m e h = let k = keeps m h in cc

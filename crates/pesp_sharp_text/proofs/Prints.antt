@@ -15,7 +15,13 @@ rows_are : (walk : List MarkedRow) → spaced (marked_words walk) ≡ rows_text 
 rows_are [] = refl
 rows_are (s ∷ walk) = go s.signed.plus ∙ ap (λ (t : List ℕ). row_text s ++ t) (rows_are walk) ∙ sym (flat_map-cons row_text s walk)
   where
-    go : (plus : Bool) → spaced (marked_words (record { signed = record { row = s.signed.row; plus = plus }; flipped = s.flipped } ∷ walk)) ≡ row_text (record { signed = record { row = s.signed.row; plus = plus }; flipped = s.flipped }) ++ spaced (marked_words walk)
+    go : (plus : Bool) → spaced (marked_words (record {
+      signed = record { row = s.signed.row; plus = plus };
+      flipped = s.flipped;
+    } ∷ walk)) ≡ row_text (record {
+      signed = record { row = s.signed.row; plus = plus };
+      flipped = s.flipped;
+    }) ++ spaced (marked_words walk)
     go true = refl
     go false = refl
 
@@ -24,10 +30,17 @@ walk_is walk = ap (λ (t : List ℕ). (codes "walk" ++ t) ++ 10 ∷ []) (sym (ro
 
 walks_are : (walks : List (List MarkedRow)) → flat_map walk_text walks ≡ flat_map walk_line walks
 walks_are [] = refl
-walks_are (walk ∷ walks) = flat_map-cons walk_text walk walks ∙ ap (λ (t : List ℕ). t ++ flat_map walk_text walks) (walk_is walk) ∙ ap (λ (t : List ℕ). walk_line walk ++ t) (walks_are walks) ∙ sym (flat_map-cons walk_line walk walks)
+walks_are (walk ∷ walks) = flat_map-cons walk_text walk walks
+    ∙ ap (λ (t : List ℕ). t ++ flat_map walk_text walks) (walk_is walk)
+    ∙ ap (λ (t : List ℕ). walk_line walk ++ t) (walks_are walks) ∙ sym (flat_map-cons walk_line walk walks)
 
-shape : (h s d w : List ℕ) → ((h ++ (10 ∷ [])) ++ (s ++ (32 ∷ []))) ++ (d ++ (10 ∷ [])) ++ w ≡ (h ++ (10 ∷ [])) ++ (((s ++ ((32 ∷ d) ++ [])) ++ (10 ∷ [])) ++ w)
+shape : (h s d w : List ℕ) → ((h ++ (10 ∷ [])) ++ (s ++ (32 ∷ []))) ++ (d ++ (10 ∷ [])) ++ w
+    ≡ (h ++ (10 ∷ [])) ++ (((s ++ ((32 ∷ d) ++ [])) ++ (10 ∷ [])) ++ w)
 shape h s d w = simp (append_assoc, append-nil)
 
-pub front_is : (m : Marks) → (codes "pesp-certificate 3\nscale " ++ (decimal m.scale ++ codes "\n")) ++ flat_map walk_text m.walks ≡ front_text (Some m)
-front_is m = append_assoc (codes "pesp-certificate 3\nscale ") (decimal m.scale ++ codes "\n") (flat_map walk_text m.walks) ∙ shape (codes "pesp-certificate 3") (codes "scale") (decimal m.scale) (flat_map walk_text m.walks) ∙ ap (λ (w : List ℕ). (codes "pesp-certificate 3" ++ 10 ∷ []) ++ (((codes "scale" ++ ((32 ∷ decimal m.scale) ++ [])) ++ (10 ∷ [])) ++ w)) (walks_are m.walks)
+pub front_is : (m : Marks) → (codes "pesp-certificate 3\nscale " ++ (decimal m.scale ++ codes "\n"))
+    ++ flat_map walk_text m.walks ≡ front_text (Some m)
+front_is m = append_assoc (codes "pesp-certificate 3\nscale ") (decimal m.scale ++ codes "\n")
+    (flat_map walk_text m.walks) ∙ shape (codes "pesp-certificate 3") (codes "scale") (decimal m.scale)
+    (flat_map walk_text m.walks) ∙ ap (λ (w : List ℕ). (codes "pesp-certificate 3" ++ 10 ∷ [])
+    ++ (((codes "scale" ++ ((32 ∷ decimal m.scale) ++ [])) ++ (10 ∷ [])) ++ w)) (walks_are m.walks)

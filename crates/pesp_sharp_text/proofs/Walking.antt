@@ -20,19 +20,25 @@ pub at_last : (n w r : ℕ) (line : List ℕ) → walks_from n w r (line ∷ [])
 unfolding walks_from
 at_last n w r line = refl
 
-pub at_other : (n w r : ℕ) (line next : List ℕ) (more : List (List ℕ)) → is_walk_line line ≡ false → walks_from n w r (line ∷ next ∷ more) ≡ Ok (record { walks = []; rest = line ∷ next ∷ more })
+pub at_other : (n w r : ℕ) (line next : List ℕ) (more : List (List ℕ)) → is_walk_line line ≡ false
+    → walks_from n w r (line ∷ next ∷ more) ≡ Ok (record { walks = []; rest = line ∷ next ∷ more })
 unfolding walks_from
 at_other n w r line next more h = rw h refl
 
-pub at_fault : (n w r : ℕ) (line next : List ℕ) (more : List (List ℕ)) (e : CertRefusal) → is_walk_line line ≡ true → judged n line ≡ Err e → walks_from n w r (line ∷ next ∷ more) ≡ Err e
+pub at_fault : (n w r : ℕ) (line next : List ℕ) (more : List (List ℕ)) (e : CertRefusal) → is_walk_line line ≡ true
+    → judged n line ≡ Err e → walks_from n w r (line ∷ next ∷ more) ≡ Err e
 unfolding walks_from
 at_fault n w r line next more e h j = rw (h, j) refl
 
-pub at_many : (n w r : ℕ) (line next : List ℕ) (more : List (List ℕ)) (walk : List MarkedRow) → is_walk_line line ≡ true → judged n line ≡ Ok walk → are_few (w + 1) (r + length walk) ≡ false → walks_from n w r (line ∷ next ∷ more) ≡ Err (refusals.Limit n)
+pub at_many : (n w r : ℕ) (line next : List ℕ) (more : List (List ℕ)) (walk : List MarkedRow)
+    → is_walk_line line ≡ true → judged n line ≡ Ok walk → are_few (w + 1) (r + length walk) ≡ false
+    → walks_from n w r (line ∷ next ∷ more) ≡ Err (refusals.Limit n)
 unfolding walks_from
 at_many n w r line next more walk h j f = rw (h, j) (rw f refl)
 
-pub at_walk : (n w r : ℕ) (line next : List ℕ) (more : List (List ℕ)) (walk : List MarkedRow) → is_walk_line line ≡ true → judged n line ≡ Ok walk → are_few (w + 1) (r + length walk) ≡ true → walks_from n w r (line ∷ next ∷ more) ≡ onto walk (walks_from (n + 1) (w + 1) (r + length walk) (next ∷ more))
+pub at_walk : (n w r : ℕ) (line next : List ℕ) (more : List (List ℕ)) (walk : List MarkedRow)
+    → is_walk_line line ≡ true → judged n line ≡ Ok walk → are_few (w + 1) (r + length walk) ≡ true
+    → walks_from n w r (line ∷ next ∷ more) ≡ onto walk (walks_from (n + 1) (w + 1) (r + length walk) (next ∷ more))
 unfolding walks_from
 at_walk n w r line next more walk h j f = rw (h, j) (rw f refl)
 
@@ -41,7 +47,8 @@ err_is (Ok a) e h = absurd h
 err_is (Err x) e h = ap Err h
 
 -- a refusal of a part is one of the whole
-pub refused_on : {A B : Type 0} (e : CertRefusal) (part : Result A CertRefusal) (whole : Result B CertRefusal) → (part ≡ Err e → whole ≡ Err e) → IsRefusal e part → IsRefusal e whole
+pub refused_on : {A B : Type 0} (e : CertRefusal) (part : Result A CertRefusal) (whole : Result B CertRefusal)
+    → (part ≡ Err e → whole ≡ Err e) → IsRefusal e part → IsRefusal e whole
 refused_on e part whole on (inl memory) = inl memory
 refused_on e part whole on (inr h) = inr (on h)
 
@@ -62,19 +69,28 @@ behind_none : (r : Result Read CertRefusal) → behind_walks [] r ≡ r
 behind_none (Err e) = refl
 behind_none (Ok read) = refl
 
-behind_more : (walks : List (List MarkedRow)) (walk : List MarkedRow) (r : Result Read CertRefusal) → behind_walks (walks ++ walk ∷ []) r ≡ behind_walks walks (onto walk r)
+behind_more : (walks : List (List MarkedRow)) (walk : List MarkedRow) (r : Result Read CertRefusal)
+    → behind_walks (walks ++ walk ∷ []) r ≡ behind_walks walks (onto walk r)
 behind_more walks walk (Err e) = refl
 behind_more walks walk (Ok read) = let same = append_assoc walks (walk ∷ []) read.walks in rw same refl
 
 pub walked_none : (all : List ℕ) → IsWalkedTo all all 3 0 []
-walked_none all = record { same = behind_none (walks_from 3 0 0 (pieces 10 all)); number = refl; walks_few = omega arith; rows_few = omega arith }
+walked_none all = record {
+  same = behind_none (walks_from 3 0 0 (pieces 10 all));
+  number = refl;
+  walks_few = omega arith;
+  rows_few = omega arith;
+}
 
 module _ (all rest : List ℕ) (n passed : ℕ) (walks : List (List MarkedRow)) (before : IsWalkedTo all rest n passed walks) where
-  ended : (r : List (List ℕ)) → walks_from n (length walks) passed (pieces 10 rest) ≡ Ok (record { walks = []; rest = r }) → walks_from 3 0 0 (pieces 10 all) ≡ Ok (record { walks = walks; rest = r })
+  ended : (r : List (List ℕ)) → walks_from n (length walks) passed (pieces 10 rest)
+      ≡ Ok (record { walks = []; rest = r }) → walks_from 3 0 0 (pieces 10 all)
+      ≡ Ok (record { walks = walks; rest = r })
   ended r h = sym before.same ∙ ap (behind_walks walks) h ∙ (let none = append-nil walks in rw none refl)
 
   -- the last piece is no line
-  pub walked_last : (line : List ℕ) → pieces 10 rest ≡ line ∷ [] → walks_from 3 0 0 (pieces 10 all) ≡ Ok (record { walks = walks; rest = pieces 10 rest })
+  pub walked_last : (line : List ℕ) → pieces 10 rest ≡ line ∷ []
+      → walks_from 3 0 0 (pieces 10 all) ≡ Ok (record { walks = walks; rest = pieces 10 rest })
   walked_last line cut = rw cut (ended (line ∷ []) (ap (walks_from n (length walks) passed) cut ∙ at_last n (length walks) passed line))
 
   module _ (line more : List ℕ) (cut : pieces 10 rest ≡ line ∷ pieces 10 more) where
@@ -83,22 +99,36 @@ module _ (all rest : List ℕ) (n passed : ℕ) (walks : List (List MarkedRow)) 
     apart = let some = nonempty more in (some.0, some.1, some.2, cut ∙ ap (λ (ps : List (List ℕ)). line ∷ ps) some.2)
 
     pub walked_other : is_walk_line line ≡ false → walks_from 3 0 0 (pieces 10 all) ≡ Ok (record { walks = walks; rest = pieces 10 rest })
-    walked_other h = let a = apart in rw a.3 (ended (line ∷ a.0 ∷ a.1) (ap (walks_from n (length walks) passed) a.3 ∙ at_other n (length walks) passed line a.0 a.1 h))
+    walked_other h = let a = apart in rw a.3 (ended (line ∷ a.0 ∷ a.1)
+        (ap (walks_from n (length walks) passed) a.3 ∙ at_other n (length walks) passed line a.0 a.1 h))
 
     pub walked_fault : (e : CertRefusal) → is_walk_line line ≡ true → judged n line ≡ Err e → walks_from 3 0 0 (pieces 10 all) ≡ Err e
-    walked_fault e h j = let a = apart in sym before.same ∙ ap (behind_walks walks) (ap (walks_from n (length walks) passed) a.3 ∙ at_fault n (length walks) passed line a.0 a.1 e h j)
+    walked_fault e h j = let a = apart in sym before.same
+        ∙ ap (behind_walks walks) (ap (walks_from n (length walks) passed) a.3
+        ∙ at_fault n (length walks) passed line a.0 a.1 e h j)
 
-    pub walked_many : (walk : List MarkedRow) → is_walk_line line ≡ true → judged n line ≡ Ok walk → are_few (length walks + 1) (passed + length walk) ≡ false → walks_from 3 0 0 (pieces 10 all) ≡ Err (refusals.Limit n)
-    walked_many walk h j f = let a = apart in sym before.same ∙ ap (behind_walks walks) (ap (walks_from n (length walks) passed) a.3 ∙ at_many n (length walks) passed line a.0 a.1 walk h j f)
+    pub walked_many : (walk : List MarkedRow) → is_walk_line line ≡ true → judged n line ≡ Ok walk
+        → are_few (length walks + 1) (passed + length walk) ≡ false
+        → walks_from 3 0 0 (pieces 10 all) ≡ Err (refusals.Limit n)
+    walked_many walk h j f = let a = apart in sym before.same
+        ∙ ap (behind_walks walks) (ap (walks_from n (length walks) passed) a.3
+        ∙ at_many n (length walks) passed line a.0 a.1 walk h j f)
 
-    pub walked_more : (walk : List MarkedRow) → is_walk_line line ≡ true → judged n line ≡ Ok walk → are_few (length walks + 1) (passed + length walk) ≡ true → IsWalkedTo all more (n + 1) (passed + length walk) (walks ++ walk ∷ [])
+    pub walked_more : (walk : List MarkedRow) → is_walk_line line ≡ true → judged n line ≡ Ok walk
+        → are_few (length walks + 1) (passed + length walk) ≡ true
+        → IsWalkedTo all more (n + 1) (passed + length walk) (walks ++ walk ∷ [])
     walked_more walk h j f =
         let a = apart in
         let long : length (walks ++ walk ∷ []) ≡ length walks + 1 = omega (arith, length-append walks (walk ∷ [])) in
         let one = and_left (nat_le (length walks + 1) 100000) (nat_le (passed + length walk) 10000000) f in
         let two = and_right (nat_le (length walks + 1) 100000) (nat_le (passed + length walk) 10000000) f in
         record {
-          same = rw long (behind_more walks walk (walks_from (n + 1) (length walks + 1) (passed + length walk) (pieces 10 more)) ∙ ap (behind_walks walks) (ap (λ (ps : List (List ℕ)). onto walk (walks_from (n + 1) (length walks + 1) (passed + length walk) ps)) a.2 ∙ sym (ap (walks_from n (length walks) passed) a.3 ∙ at_walk n (length walks) passed line a.0 a.1 walk h j f)) ∙ before.same);
+          same = rw long (behind_more walks walk
+              (walks_from (n + 1) (length walks + 1) (passed + length walk) (pieces 10 more))
+              ∙ ap (behind_walks walks) (ap (λ (ps : List (List ℕ)).
+              onto walk (walks_from (n + 1) (length walks + 1) (passed + length walk) ps)) a.2
+              ∙ sym (ap (walks_from n (length walks) passed) a.3
+              ∙ at_walk n (length walks) passed line a.0 a.1 walk h j f)) ∙ before.same);
           number = omega (arith, before.number, long);
           walks_few = (let few : length walks + 1 ≤ 100000 = grind (arith, nat_tests, one) in omega (arith, long, few));
           rows_few = grind (arith, nat_tests, two);

@@ -70,7 +70,8 @@ plain_row s h = go s.plus
 
 -- ---- one word
 
-mark_some : (flipped : Bool) (o : Option (ℕ × Bool)) (p : ℕ × Bool × Bool) → with_mark flipped o ≡ Some p → (q : ℕ × Bool) × (o ≡ Some q) × ((q.0, q.1, flipped) ≡ p)
+mark_some : (flipped : Bool) (o : Option (ℕ × Bool)) (p : ℕ × Bool × Bool) → with_mark flipped o ≡ Some p
+    → (q : ℕ × Bool) × (o ≡ Some q) × ((q.0, q.1, flipped) ≡ p)
 mark_some flipped None p h = absurd cc
 mark_some flipped (Some q) p h = (q, refl, same_Some (q.0, q.1, flipped) p h)
 
@@ -93,9 +94,13 @@ marked_read s h = go s.flipped
     row : spelt_row (row_word s.signed) ≡ Some (s.signed.row, s.signed.plus)
     row = row_read s.signed (named_below s.signed.row h)
 
-    go : (flipped : Bool) → marked_at (marked_word (record { signed = s.signed; flipped = flipped })) ≡ Some (s.signed.row, s.signed.plus, flipped)
+    go : (flipped : Bool) → marked_at (marked_word (record { signed = s.signed; flipped = flipped }))
+        ≡ Some (s.signed.row, s.signed.plus, flipped)
     go true = let r = star_read (row_word s.signed) in rw (r.0, r.1, row) refl
-    go false = ap marked_at (append-nil (row_word s.signed)) ∙ ap (λ (t : Bool). if t then with_mark true (spelt_row (but_last (row_word s.signed))) else with_mark false (spelt_row (row_word s.signed))) (plain_row s.signed h) ∙ ap (with_mark false) row
+    go false = ap marked_at (append-nil (row_word s.signed))
+        ∙ ap (λ (t : Bool). if t then with_mark true
+        (spelt_row (but_last (row_word s.signed))) else with_mark false (spelt_row (row_word s.signed)))
+        (plain_row s.signed h) ∙ ap (with_mark false) row
 
 -- ---- all words
 
@@ -113,7 +118,8 @@ marked_words_read (s ∷ walk) h =
     let first = marked_read s (and_left (is_name s.signed.row) (are_named walk) h) in
     rw (first, marked_words_read walk (and_right (is_name s.signed.row) (are_named walk) h)) refl
 
-behind_ok : (o : Option (List MarkedRow)) (walk : List MarkedRow) → behind_rows [] true o ≡ Ok walk → (o ≡ Some walk) × (are_named walk ≡ true)
+behind_ok : (o : Option (List MarkedRow)) (walk : List MarkedRow) → behind_rows [] true o ≡ Ok walk
+    → (o ≡ Some walk) × (are_named walk ≡ true)
 behind_ok None walk h = absurd cc
 behind_ok (Some rows) walk h =
     elim (cases (are_named rows)) [
@@ -139,7 +145,9 @@ plain_more w true h = and_both _ _ (some w) (inner w (and_right (not (length w =
 
     inner : (v : List ℕ) → list_all is_inner v ≡ true → list_all is_inner (v ++ 42 ∷ []) ≡ true
     inner [] h = refl
-    inner (b ∷ bs) h = and_both (is_inner b) (list_all is_inner (bs ++ 42 ∷ [])) (and_left (is_inner b) (list_all is_inner bs) h) (inner bs (and_right (is_inner b) (list_all is_inner bs) h))
+    inner (b ∷ bs) h = and_both (is_inner b) (list_all is_inner (bs ++ 42 ∷ []))
+        (and_left (is_inner b) (list_all is_inner bs) h)
+        (inner bs (and_right (is_inner b) (list_all is_inner bs) h))
 
 signed_plain : (s : SignedRow) → is_name s.row ≡ true → is_plain (row_word s) ≡ true
 signed_plain s h =
@@ -150,7 +158,10 @@ signed_plain s h =
 pub words_plain : (walk : List MarkedRow) → are_named walk ≡ true → all_plain (marked_words walk) ≡ true
 words_plain [] h = refl
 words_plain (s ∷ walk) h =
-    and_both (is_plain (marked_word s)) (all_plain (marked_words walk)) (plain_more (row_word s.signed) s.flipped (signed_plain s.signed (and_left (is_name s.signed.row) (are_named walk) h))) (words_plain walk (and_right (is_name s.signed.row) (are_named walk) h))
+    and_both (is_plain (marked_word s)) (all_plain (marked_words walk))
+    (plain_more (row_word s.signed) s.flipped (signed_plain s.signed
+    (and_left (is_name s.signed.row) (are_named walk) h)))
+    (words_plain walk (and_right (is_name s.signed.row) (are_named walk) h))
 
 star_len : (flipped : Bool) → length (star flipped) ≤ 1
 star_len true = omega arith
@@ -159,9 +170,18 @@ star_len false = omega arith
 pub words_len : (walk : List MarkedRow) → are_named walk ≡ true → length (spaced (marked_words walk)) ≤ 9 * length walk
 words_len [] h = omega arith
 words_len (s ∷ walk) h =
-    let one : list_all (λ (r : SignedRow). is_name r.row) (s.signed ∷ []) ≡ true = and_both (is_name s.signed.row) true (and_left (is_name s.signed.row) (are_named walk) h) refl in
+    let one : list_all (λ (r : SignedRow). is_name r.row) (s.signed ∷ [])
+    ≡ true = and_both (is_name s.signed.row) true (and_left (is_name s.signed.row) (are_named walk) h) refl in
     let row = rows_len (s.signed ∷ []) one in
-    omega (arith, row, length-append (row_word s.signed) [], star_len s.flipped, length-append (row_word s.signed) (star s.flipped), length-append (marked_word s) (spaced (marked_words walk)), words_len walk (and_right (is_name s.signed.row) (are_named walk) h))
+    omega (
+      arith,
+      row,
+      length-append (row_word s.signed) [],
+      star_len s.flipped,
+      length-append (row_word s.signed) (star s.flipped),
+      length-append (marked_word s) (spaced (marked_words walk)),
+      words_len walk (and_right (is_name s.signed.row) (are_named walk) h),
+    )
 
 pub words_many : (walk : List MarkedRow) → length (marked_words walk) ≡ length walk
 words_many [] = refl

@@ -32,7 +32,8 @@ walks_from n walks rows (line ∷ []) = Ok (record { walks = []; rest = line ∷
 walks_from n walks rows (line ∷ next ∷ more) = if not (is_walk_line line) then Ok (record { walks = []; rest = line ∷ next ∷ more }) else
     elim (judged n line) as (λ r. Result Read CertRefusal) [
       | Err r ↦ Err r
-      | Ok walk ↦ if are_few (walks + 1) (rows + length walk) then onto walk (walks_from (n + 1) (walks + 1) (rows + length walk) (next ∷ more)) else Err (refusals.Limit n)
+      | Ok walk ↦ if are_few (walks + 1) (rows + length walk) then onto walk
+          (walks_from (n + 1) (walks + 1) (rows + length walk) (next ∷ more)) else Err (refusals.Limit n)
     ]
 
 -- a front, where there is one, and the lines behind it
@@ -49,12 +50,14 @@ abbrev pub behind_header : List (List ℕ) → Result Front CertRefusal
 behind_header [] = Err refusals.Truncated
 behind_header (line ∷ []) = if nat_lt LONGEST (length line) then Err (refusals.Limit 2) else Err refusals.Truncated
 behind_header (line ∷ next ∷ more) = if nat_lt LONGEST (length line) then Err (refusals.Limit 2) else
-    elim (scale_at line) as (λ r. Result Front CertRefusal) [ Err f ↦ Err (refusal_at 2 f) | Ok scale ↦ with_scale scale (walks_from 3 0 0 (next ∷ more)) ]
+    elim (scale_at line) as (λ r. Result Front CertRefusal)
+    [ Err f ↦ Err (refusal_at 2 f) | Ok scale ↦ with_scale scale (walks_from 3 0 0 (next ∷ more)) ]
 
 abbrev pub front_in : List (List ℕ) → Result Front CertRefusal
 front_in [] = Ok (record { marks = None; rest = [] })
 front_in (line ∷ []) = Ok (record { marks = None; rest = line ∷ [] })
-front_in (line ∷ next ∷ more) = if is_header line then behind_header (next ∷ more) else Ok (record { marks = None; rest = line ∷ next ∷ more })
+front_in (line ∷ next ∷ more) = if is_header line then behind_header (next ∷ more) else Ok
+    (record { marks = None; rest = line ∷ next ∷ more })
 
 -- the front of a text
 abbrev pub front_of : List ℕ → Result Front CertRefusal

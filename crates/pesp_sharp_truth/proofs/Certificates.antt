@@ -19,13 +19,16 @@ use Rattle.pesp_sharp_truth.specs.Certificates.{SharpContent, IsValidWith}
 use Rattle.pesp_sharp_truth.proofs.Marks.{no_walks, named_cycles}
 use Rattle.pesp_sharp_truth.proofs.Trees.{root_is_right}
 
-answer_is_true : (p : Pesp) (answer : Answer) (labels : List ℤ) (times : List ℕ) → ShowsAnswer p answer labels times → ((t : List ℕ) → IsTimetable p t → CostsAtLeast p t (least_of answer)) → IsTrueAnswer p answer times
+answer_is_true : (p : Pesp) (answer : Answer) (labels : List ℤ) (times : List ℕ)
+    → ShowsAnswer p answer labels times → ((t : List ℕ) → IsTimetable p t → CostsAtLeast p t (least_of answer))
+    → IsTrueAnswer p answer times
 answer_is_true p (Optimal c) labels times s h = (s.1, h)
 answer_is_true p Infeasible labels times s h = h
 answer_is_true p (Bounded least (Some c)) labels times s h = (s.1.1, s.0, h)
 answer_is_true p (Bounded least None) labels times s h = h
 
-pub valid_with_is_true : (p : Pesp) (c : SharpContent) → 0 < p.period → IsValidWith p c → IsTrueAnswer p c.content.answer (shown_times c.content)
+pub valid_with_is_true : (p : Pesp) (c : SharpContent) → 0 < p.period → IsValidWith p c
+    → IsTrueAnswer p c.content.answer (shown_times c.content)
 valid_with_is_true p c h v =
     answer_is_true p c.content.answer (shown_labels c.content) (shown_times c.content) v.answer
     (λ times t. root_is_right p c.content.cycles c.marks times (least_of c.content.answer) v.tree.0 h v.cycles v.marks v.tree.2 t)
@@ -35,16 +38,22 @@ valid_with_is_true p c h v =
 both_ways : {A B : Type 0} → A ↔ B → {C D : Type 0} → C ↔ D → (A × C) ↔ (B × D)
 both_ways h k = (λ x. (h.0 x.0, k.0 x.1), λ y. (h.1 y.0, k.1 y.1))
 
-pub plain_leaf : (n : Net) (table : List (List SignedRow)) (marks : Marks) (least : Option ℕ) (leaf : Leaf) (node : Node) → uses_walks (length table) (pairs_of_leaf leaf) ≡ false → IsSoundLeafWith n table marks least leaf node ↔ IsSoundLeaf n table least leaf node
+pub plain_leaf : (n : Net) (table : List (List SignedRow)) (marks : Marks) (least : Option ℕ) (leaf : Leaf)
+    (node : Node) → uses_walks (length table) (pairs_of_leaf leaf) ≡ false
+    → IsSoundLeafWith n table marks least leaf node ↔ IsSoundLeaf n table least leaf node
 plain_leaf n table marks least (Bound pairs) node e =
     let m = no_walks (length table) marks pairs e in
     let P : Option ℤ → Type 0 = λ v. IsAtLeast v least in
-    let same : sharp_cost n table node (multipliers (length table) marks pairs) ≡ leaf_value n table node pairs true = ap (λ (x : Multipliers). sharp_cost n table node x) m ∙ cost_without_walks n table node pairs in
+    let same : sharp_cost n table node (multipliers (length table) marks pairs)
+    ≡ leaf_value n table node pairs true = ap (λ (x : Multipliers). sharp_cost n table node x) m
+    ∙ cost_without_walks n table node pairs in
     both_ways (named_cycles (length table) (length marks.walks) pairs e) (subst P same, subst P (sym same))
 plain_leaf n table marks least (Shut (ByPairs pairs)) node e =
     let m = no_walks (length table) marks pairs e in
     let P : Option ℤ → Type 0 = λ v. IsSomeAnd v (λ z. pos 0 <ℤ z) in
-    let same : sharp_value n table node (multipliers (length table) marks pairs) false ≡ leaf_value n table node pairs false = ap (λ (x : Multipliers). sharp_value n table node x false) m ∙ value_without_walks n table node pairs false in
+    let same : sharp_value n table node (multipliers (length table) marks pairs) false
+    ≡ leaf_value n table node pairs false = ap (λ (x : Multipliers). sharp_value n table node x false) m
+    ∙ value_without_walks n table node pairs false in
     both_ways (named_cycles (length table) (length marks.walks) pairs e) (subst P same, subst P (sym same))
 plain_leaf n table marks least (Shut (ByGap cycle)) node e = (λ s. s, λ s. s)
 plain_leaf n table marks least (Shut ByPropagation) node e = (λ s. s, λ s. s)

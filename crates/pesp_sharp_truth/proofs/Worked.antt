@@ -21,7 +21,12 @@ straight s = record { signed = s; flipped = false }
 -- ---- a railway cycle of three rows, which last at least 10, 20 and 25 minutes at a period of 60
 
 abbrev ring : Pesp
-ring = record { period = 60; events = pos 1 ∷ pos 2 ∷ pos 3 ∷ []; rows = row (pos 1) 0 1 (pos 10) (pos 69) 1 ∷ row (pos 2) 1 2 (pos 20) (pos 79) 2 ∷ row (pos 3) 2 0 (pos 25) (pos 84) 3 ∷ [] }
+ring = record {
+  period = 60;
+  events = pos 1 ∷ pos 2 ∷ pos 3 ∷ [];
+  rows = row (pos 1) 0 1 (pos 10) (pos 69) 1 ∷ row (pos 2) 1 2 (pos 20) (pos 79) 2
+      ∷ row (pos 3) 2 0 (pos 25) (pos 84) 3 ∷ [];
+}
 
 abbrev ring_root : Node
 ring_root = root (net_of ring) []
@@ -59,5 +64,6 @@ aside_scale : (uses_walks 1 (pair 1 (pos 1) ∷ []) ≡ false) × ((multipliers 
 aside_scale = (refl, refl)
 
 -- a cycle under multiplier 5 beside it counts once, and spoils the bound: 25 + 25 - 45 = 5 by 5
-aside_both : sharp_cost (net_of aside) aside_table aside_high (multipliers 1 aside_marks (pair 1 (pos 5) ∷ pair 2 (pos 1) ∷ [])) ≡ Some (pos 1)
+aside_both : sharp_cost (net_of aside) aside_table aside_high
+    (multipliers 1 aside_marks (pair 1 (pos 5) ∷ pair 2 (pos 1) ∷ [])) ≡ Some (pos 1)
 aside_both = refl

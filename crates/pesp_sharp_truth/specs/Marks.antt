@@ -41,7 +41,9 @@ of_cycles cycles (pair ∷ pairs) = if nat_le pair.cycle cycles then pair ∷ of
 -- the marked walks of the other pairs, with their multipliers
 abbrev pub of_walks : ℕ → List (List MarkedRow) → List Pair → List Multiple
 of_walks cycles walks [] = []
-of_walks cycles walks (pair ∷ pairs) = if nat_le pair.cycle cycles then of_walks cycles walks pairs else record { mult = nat_abs pair.mult; walk = walk_at walks (pair.cycle - cycles - 1) } ∷ of_walks cycles walks pairs
+of_walks cycles walks (pair ∷ pairs) = if nat_le pair.cycle cycles then of_walks cycles walks
+    pairs else record { mult = nat_abs pair.mult; walk = walk_at walks (pair.cycle - cycles - 1) }
+    ∷ of_walks cycles walks pairs
 
 -- the scale of a leaf: 1 where it names no marked walk
 abbrev pub scale_of : Marks → Bool → ℕ
@@ -49,4 +51,8 @@ scale_of marks uses = if uses then marks.scale else 1
 
 -- what the pairs of a leaf say, for a table of so many cycles
 abbrev pub multipliers : ℕ → Marks → List Pair → Multipliers
-multipliers cycles marks pairs = record { scale = scale_of marks (uses_walks cycles pairs); pairs = of_cycles cycles pairs; multiples = of_walks cycles marks.walks pairs }
+multipliers cycles marks pairs = record {
+  scale = scale_of marks (uses_walks cycles pairs);
+  pairs = of_cycles cycles pairs;
+  multiples = of_walks cycles marks.walks pairs;
+}

@@ -30,7 +30,8 @@ none_if_same i false true e = absurd (false≢true e)
 none_if_same i false false e = refl
 
 -- where the row doesn't cross, its list stays
-stays : (side : ℕ → Bool) (arcs : List Arc) (i : ℕ) → side (arc_at arcs i).head ≡ side (arc_at arcs i).tail → entries_of side arcs (suc i) ≡ entries_of side arcs i
+stays : (side : ℕ → Bool) (arcs : List Arc) (i : ℕ) → side (arc_at arcs i).head ≡ side (arc_at arcs i).tail
+    → entries_of side arcs (suc i) ≡ entries_of side arcs i
 stays side arcs i e = ap (λ xs. entries_of side arcs i ++ xs) (none_if_same i _ _ e) ∙ append-nil (entries_of side arcs i)
 
 same_or_not : (p q : Bool) → (p ≡ q) ⊎ (p ≡ q → ⊥)
@@ -40,28 +41,37 @@ same_or_not false true = inr (λ e. false≢true e)
 same_or_not false false = inl refl
 
 -- as the climb begins
-pub begins : (n : ℕ) (arcs : List Arc) (r : Roots) (i : ℕ) (cuts : Cuts) → AreListed n arcs r i cuts → IsClimbed n arcs r i (arc_at arcs i).head (arc_at arcs i).tail cuts
+pub begins : (n : ℕ) (arcs : List Arc) (r : Roots) (i : ℕ) (cuts : Cuts) → AreListed n arcs r i cuts
+    → IsClimbed n arcs r i (arc_at arcs i).head (arc_at arcs i).tail cuts
 begins n arcs r i cuts h = record {
-  lists = same_lists n _ _ _ (λ c. entries_of (below r c) arcs i) _ h (λ c l. elim (same_or_not (below r c (arc_at arcs i).head) (below r c (arc_at arcs i).tail)) [
-    | inl e ↦ sym (same (below r c (arc_at arcs i).head) (below r c (arc_at arcs i).tail) (entries_of (below r c) arcs (suc i)) (entries_of (below r c) arcs i) e ∙ stays (below r c) arcs i e)
-    | inr ne ↦ sym (apart (below r c (arc_at arcs i).head) (below r c (arc_at arcs i).tail) (entries_of (below r c) arcs (suc i)) (entries_of (below r c) arcs i) ne)
-  ]);
+  lists = same_lists n _ _ _ (λ c. entries_of (below r c) arcs i) _ h
+      (λ c l. elim (same_or_not (below r c (arc_at arcs i).head) (below r c (arc_at arcs i).tail)) [
+        | inl e ↦ sym (same (below r c (arc_at arcs i).head) (below r c (arc_at arcs i).tail)
+            (entries_of (below r c) arcs (suc i)) (entries_of (below r c) arcs i) e ∙ stays (below r c) arcs i e)
+        | inr ne ↦ sym (apart (below r c (arc_at arcs i).head) (below r c (arc_at arcs i).tail)
+            (entries_of (below r c) arcs (suc i)) (entries_of (below r c) arcs i) ne)
+      ]);
   left = λ c l ne. (refl, refl);
 }
 
 -- as the two ends have met
-pub met : (n : ℕ) (arcs : List Arc) (r : Roots) (i x y : ℕ) (cuts : Cuts) → x ≡ y → IsClimbed n arcs r i x y cuts → AreListed n arcs r (i + 1) cuts
+pub met : (n : ℕ) (arcs : List Arc) (r : Roots) (i x y : ℕ) (cuts : Cuts) → x ≡ y → IsClimbed n arcs r i x y cuts
+    → AreListed n arcs r (i + 1) cuts
 met n arcs r i x y cuts e h =
-    same_lists n _ _ _ (λ c. if_same (below r c x) (below r c y) (entries_of (below r c) arcs (suc i)) (entries_of (below r c) arcs i)) _ h.lists
-    (λ c l. same (below r c x) (below r c y) (entries_of (below r c) arcs (suc i)) (entries_of (below r c) arcs i) (ap (below r c) e) ∙ ap (entries_of (below r c) arcs) (sym (add-one i)))
+    same_lists n _ _ _ (λ c. if_same (below r c x) (below r c y) (entries_of (below r c) arcs (suc i))
+    (entries_of (below r c) arcs i)) _ h.lists
+    (λ c l. same (below r c x) (below r c y) (entries_of (below r c) arcs (suc i)) (entries_of (below r c) arcs i)
+    (ap (below r c) e) ∙ ap (entries_of (below r c) arcs) (sym (add-one i)))
 
 -- the list of a cut before and after the climb passes x
-list_passed : (n : ℕ) (arcs : List Arc) (r : Roots) (i x y : ℕ) (e : Entry) → AreRoots n arcs r → x < n → y < n → 0 < r.by x → r.depth y ≤ r.depth x → y ≢ x
+list_passed : (n : ℕ) (arcs : List Arc) (r : Roots) (i x y : ℕ) (e : Entry) → AreRoots n arcs r → x < n → y < n
+    → 0 < r.by x → r.depth y ≤ r.depth x → y ≢ x
     → entries_of (below r x) arcs (suc i) ≡ entries_of (below r x) arcs i ++ e ∷ [] → (c : ℕ) → c < n
     → pushed (λ c. if_same (below r c x) (below r c y) (entries_of (below r c) arcs (suc i)) (entries_of (below r c) arcs i)) x e c
     ≡ if_same (below r c (r.up x)) (below r c y) (entries_of (below r c) arcs (suc i)) (entries_of (below r c) arcs i)
 list_passed n arcs r i x y e a lx ly j dy ne grown c l =
-    let f : ℕ → List Entry = λ c. if_same (below r c x) (below r c y) (entries_of (below r c) arcs (suc i)) (entries_of (below r c) arcs i) in
+    let f : ℕ → List Entry = λ c. if_same (below r c x) (below r c y) (entries_of (below r c) arcs (suc i))
+    (entries_of (below r c) arcs i) in
     let climbs = a.climbs x lx j in
     elim (cases_eq c x) [
       | inl q ↦
@@ -69,15 +79,20 @@ list_passed n arcs r i x y e a lx ly j dy ne grown c l =
           let out : below r x y ≡ false = not_below n arcs r x y a lx ly dy ne in
           let up : below r x (r.up x) ≡ false = not_below n arcs r x (r.up x) a lx (a.above x lx j) (omega arith) nu in
           let here : below r x x ≡ true = below_here r x x refl in
-          let P : ℕ → Type 0 = λ z. pushed f x e z ≡ if_same (below r z (r.up x)) (below r z y) (entries_of (below r z) arcs (suc i)) (entries_of (below r z) arcs i) in
+          let P : ℕ → Type 0 = λ z. pushed f x e z
+          ≡ if_same (below r z (r.up x)) (below r z y) (entries_of (below r z) arcs (suc i))
+          (entries_of (below r z) arcs i) in
           subst P (sym q) (
           pushed_here f x e x refl
-          ∙ ap (λ xs. xs ++ e ∷ []) (apart (below r x x) (below r x y) (entries_of (below r x) arcs (suc i)) (entries_of (below r x) arcs i) (λ z. false≢true (sym out ∙ sym z ∙ here)))
+          ∙ ap (λ xs. xs ++ e ∷ []) (apart (below r x x) (below r x y) (entries_of (below r x) arcs (suc i))
+          (entries_of (below r x) arcs i) (λ z. false≢true (sym out ∙ sym z ∙ here)))
           ∙ sym grown
-          ∙ sym (same (below r x (r.up x)) (below r x y) (entries_of (below r x) arcs (suc i)) (entries_of (below r x) arcs i) (up ∙ sym out)))
+          ∙ sym (same (below r x (r.up x)) (below r x y) (entries_of (below r x) arcs (suc i))
+          (entries_of (below r x) arcs i) (up ∙ sym out)))
       | inr nc ↦
           pushed_other f x e c nc
-          ∙ ap (λ t. if_same t (below r c y) (entries_of (below r c) arcs (suc i)) (entries_of (below r c) arcs i)) (below_up n arcs r c x a lx j (λ z. nc (sym z)))
+          ∙ ap (λ t. if_same t (below r c y) (entries_of (below r c) arcs (suc i)) (entries_of (below r c) arcs i))
+          (below_up n arcs r c x a lx j (λ z. nc (sym z)))
     ]
 
 turned : {A : Type 0} (p q : Bool) (a b : A) → if_same p q a b ≡ if_same q p a b
@@ -103,7 +118,9 @@ outward_if i false true e f = refl
 outward_if i true t e f = absurd (false≢true (sym e))
 
 -- the end that comes from the head goes up
-pub step_head : (n : ℕ) (arcs : List Arc) (r : Roots) (i x y up : ℕ) (old new : Cuts) → AreRoots n arcs r → x < n → y < n → x ≢ y → r.depth y ≤ r.depth x → 0 < r.by x → up ≡ r.up x → Puts old new x (record { row = i; inward = true })
+pub step_head : (n : ℕ) (arcs : List Arc) (r : Roots) (i x y up : ℕ) (old new : Cuts) → AreRoots n arcs r → x < n
+    → y < n → x ≢ y → r.depth y ≤ r.depth x → 0 < r.by x → up ≡ r.up x
+    → Puts old new x (record { row = i; inward = true })
     → IsStep n arcs r i x y old new (up, y)
 step_head n arcs r i x y up old new a lx ly ne dy j is puts =
     let e : Entry = record { row = i; inward = true } in
@@ -117,7 +134,9 @@ step_head n arcs r i x y up old new a lx ly ne dy j is puts =
           let out : below r x y ≡ false = not_below n arcs r x y a lx ly dy ny in
           let here : below r x x ≡ true = below_here r x x refl in
           let w = h.left x lx (λ z. false≢true (sym out ∙ sym z ∙ here)) in
-          let grown : entries_of (below r x) arcs (suc i) ≡ entries_of (below r x) arcs i ++ e ∷ [] = ap (λ xs. entries_of (below r x) arcs i ++ xs) (inward_if i _ _ (sym w.0 ∙ here) (sym w.1 ∙ out)) in
+          let grown : entries_of (below r x) arcs (suc i)
+          ≡ entries_of (below r x) arcs i ++ e ∷ [] =
+          ap (λ xs. entries_of (below r x) arcs i ++ xs) (inward_if i _ _ (sym w.0 ∙ here) (sym w.1 ∙ out)) in
           record {
             lists = same_lists n _ _ _ _ _ (puts n _ lx h.lists) (list_passed n arcs r i x y e a lx ly j dy ny grown);
             left = λ c l apart_still. elim (cases_eq c x) [
@@ -135,7 +154,9 @@ step_head n arcs r i x y up old new a lx ly ne dy j is puts =
     })
 
 -- the end that comes from the tail goes up
-pub step_tail : (n : ℕ) (arcs : List Arc) (r : Roots) (i x y up : ℕ) (old new : Cuts) → AreRoots n arcs r → x < n → y < n → x ≢ y → r.depth x ≤ r.depth y → 0 < r.by y → up ≡ r.up y → Puts old new y (record { row = i; inward = false })
+pub step_tail : (n : ℕ) (arcs : List Arc) (r : Roots) (i x y up : ℕ) (old new : Cuts) → AreRoots n arcs r → x < n
+    → y < n → x ≢ y → r.depth x ≤ r.depth y → 0 < r.by y → up ≡ r.up y
+    → Puts old new y (record { row = i; inward = false })
     → IsStep n arcs r i x y old new (x, up)
 step_tail n arcs r i x y up old new a lx ly ne dx j is puts =
     let e : Entry = record { row = i; inward = false } in
@@ -148,12 +169,18 @@ step_tail n arcs r i x y up old new a lx ly ne dx j is puts =
           let out : below r y x ≡ false = not_below n arcs r y x a ly lx dx ne in
           let here : below r y y ≡ true = below_here r y y refl in
           let w = h.left y ly (λ z. false≢true (sym out ∙ z ∙ here)) in
-          let grown : entries_of (below r y) arcs (suc i) ≡ entries_of (below r y) arcs i ++ e ∷ [] = ap (λ xs. entries_of (below r y) arcs i ++ xs) (outward_if i _ _ (sym w.0 ∙ out) (sym w.1 ∙ here)) in
-          let f : ℕ → List Entry = λ c. if_same (below r c x) (below r c y) (entries_of (below r c) arcs (suc i)) (entries_of (below r c) arcs i) in
-          let g : ℕ → List Entry = λ c. if_same (below r c y) (below r c x) (entries_of (below r c) arcs (suc i)) (entries_of (below r c) arcs i) in
+          let grown : entries_of (below r y) arcs (suc i)
+          ≡ entries_of (below r y) arcs i ++ e ∷ [] =
+          ap (λ xs. entries_of (below r y) arcs i ++ xs) (outward_if i _ _ (sym w.0 ∙ out) (sym w.1 ∙ here)) in
+          let f : ℕ → List Entry = λ c. if_same (below r c x) (below r c y) (entries_of (below r c) arcs (suc i))
+          (entries_of (below r c) arcs i) in
+          let g : ℕ → List Entry = λ c. if_same (below r c y) (below r c x) (entries_of (below r c) arcs (suc i))
+          (entries_of (below r c) arcs i) in
           record {
             lists = same_lists n _ _ _ _ _ (puts n f ly h.lists) (λ c l.
-                pushed_same f g y e c (turned (below r c x) (below r c y) _ _) ∙ list_passed n arcs r i y x e a ly lx j dx ne grown c l ∙ turned (below r c (r.up y)) (below r c x) _ _);
+                pushed_same f g y e c (turned (below r c x) (below r c y) _ _)
+                ∙ list_passed n arcs r i y x e a ly lx j dx ne grown c l
+                ∙ turned (below r c (r.up y)) (below r c x) _ _);
             left = λ c l apart_still. elim (cases_eq c y) [
               | inl q ↦
                   let nu : r.up y ≢ y = λ z. let d = ap r.depth z in omega arith in

@@ -18,12 +18,19 @@ less_remainder_is a n r small h = rw h (add-mod_right r n ∙ mod-eq_of_lt small
 pub moved_in : (period : ℕ) (row : Crossing) (d : ℕ) → row.inward ≡ true → row.slack + d < period → moved period row d ≡ row.slack + d
 moved_in period row d inward l = rw inward (mod-eq_of_lt l)
 
-pub moved_in-wrapped : (period : ℕ) (row : Crossing) (d : ℕ) → row.inward ≡ true → period ≤ row.slack + d → row.slack < period → d < period → moved period row d ≡ row.slack + d - period
-moved_in-wrapped period row d inward l y e = rw inward (less_remainder_is (row.slack + d) period (row.slack + d - period) (omega arith) (omega arith))
+pub moved_in-wrapped : (period : ℕ) (row : Crossing) (d : ℕ) → row.inward ≡ true → period ≤ row.slack + d
+    → row.slack < period → d < period → moved period row d ≡ row.slack + d - period
+moved_in-wrapped period row d inward l y e = rw inward
+    (less_remainder_is (row.slack + d) period (row.slack + d - period) (omega arith) (omega arith))
 
 -- the tail is on the side
-pub moved_out : (period : ℕ) (row : Crossing) (d : ℕ) → row.inward ≡ false → d ≤ row.slack → row.slack < period → moved period row d ≡ row.slack - d
-moved_out period row d inward l y = rw inward (remainder_is (pos row.slack +ℤ neg_ℤ (pos d)) period 0 (row.slack - d) (omega arith) (omega (arith, ints)))
+pub moved_out : (period : ℕ) (row : Crossing) (d : ℕ) → row.inward ≡ false → d ≤ row.slack → row.slack < period
+    → moved period row d ≡ row.slack - d
+moved_out period row d inward l y = rw inward (remainder_is (pos row.slack +ℤ neg_ℤ (pos d)) period 0
+    (row.slack - d) (omega arith) (omega (arith, ints)))
 
-pub moved_out-wrapped : (period : ℕ) (row : Crossing) (d : ℕ) → row.inward ≡ false → row.slack < d → d < period → moved period row d ≡ row.slack + period - d
-moved_out-wrapped period row d inward l y = rw inward (remainder_is (pos row.slack +ℤ neg_ℤ (pos d)) period 1 (row.slack + period - d) (omega arith) (omega (arith, ints)))
+pub moved_out-wrapped : (period : ℕ) (row : Crossing) (d : ℕ) → row.inward ≡ false → row.slack < d → d < period
+    → moved period row d ≡ row.slack + period - d
+moved_out-wrapped period row d inward l y = rw inward
+    (remainder_is (pos row.slack +ℤ neg_ℤ (pos d)) period 1 (row.slack + period - d) (omega arith)
+    (omega (arith, ints)))

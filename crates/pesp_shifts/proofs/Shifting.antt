@@ -26,17 +26,21 @@ remainder_of z (negsuc c) n r small e = remainder_is z n (suc c) r small (omega 
 later : (period t d : ℕ) → 0 < period → (t + d) % period + period * ((t + d) / period) ≡ t + d
 later period t d some = omega arith
 
-shift_of : (period : ℕ) (s : Bool) (t d u : ℕ) → 0 < period → u ≡ (if s then (t + d) % period else t) → (q : ℕ) × (pos u +ℤ pos period *ℤ pos q ≡ pos t +ℤ (if s then pos d else pos 0))
+shift_of : (period : ℕ) (s : Bool) (t d u : ℕ) → 0 < period → u ≡ (if s then (t + d) % period else t)
+    → (q : ℕ) × (pos u +ℤ pos period *ℤ pos q ≡ pos t +ℤ (if s then pos d else pos 0))
 shift_of period true t d u some e = ((t + d) / period, let l = later period t d some in omega (arith, ints))
 shift_of period false t d u some e = (0, omega (arith, ints))
 
 -- the sum of the parts
-collects : (period : ℕ) (old new g lower q1 q2 a b r : ℤ) → new +ℤ pos period *ℤ a ≡ old +ℤ g +ℤ pos period *ℤ b → old -ℤ lower ≡ pos period *ℤ q1 +ℤ r → new -ℤ lower ≡ pos period *ℤ (q1 +ℤ b -ℤ a) +ℤ (r +ℤ g)
+collects : (period : ℕ) (old new g lower q1 q2 a b r : ℤ) → new +ℤ pos period *ℤ a ≡ old +ℤ g +ℤ pos period *ℤ b
+    → old -ℤ lower ≡ pos period *ℤ q1 +ℤ r → new -ℤ lower ≡ pos period *ℤ (q1 +ℤ b -ℤ a) +ℤ (r +ℤ g)
 collects period old new g lower q1 q2 a b r e f =
     let m = mul-sub (pos period) (q1 +ℤ b) a in let n = mul-add (pos period) q1 b in omega (arith, ints)
 
 -- the slack after the shift is the slack that the growth leaves
-pub slack_shifts : (period : ℕ) (times others : List ℕ) (side : ℕ → Bool) (d : ℕ) (arc : Arc) → 0 < period → arc.tail < length times → arc.head < length times → IsShifted period side d times others → arc_slack period others arc ≡ arc_moved period times side arc d
+pub slack_shifts : (period : ℕ) (times others : List ℕ) (side : ℕ → Bool) (d : ℕ) (arc : Arc) → 0 < period
+    → arc.tail < length times → arc.head < length times → IsShifted period side d times others
+    → arc_slack period others arc ≡ arc_moved period times side arc d
 slack_shifts period times others side d arc some lt lh h =
     let t = shift_of period (side arc.tail) (slice_index times arc.tail) d (slice_index others arc.tail) some (h.places arc.tail lt) in
     let u = shift_of period (side arc.head) (slice_index times arc.head) d (slice_index others arc.head) some (h.places arc.head lh) in
@@ -49,21 +53,30 @@ slack_shifts period times others side d arc some lt lh h =
     let w = pos y +ℤ g in
     let q2 = int_div_euclid w (pos period) in
     let b : w ≡ pos period *ℤ q2 +ℤ pos (arc_moved period times side arc d) = quotient-remainder w period some in
-    remainder_of (new -ℤ arc.lower) (q +ℤ pos (t.0) -ℤ pos (u.0) +ℤ q2) period (arc_moved period times side arc d) (remainder-lt w period some)
-    (gathers period old new g arc.lower q q2 (pos (u.0)) (pos (t.0)) (pos y) (pos (arc_moved period times side arc d)) (differ (slice_index times arc.head) (slice_index times arc.tail) (slice_index others arc.head) (slice_index others arc.tail) _ _ (if side arc.head then pos d else pos 0) (if side arc.tail then pos d else pos 0) (u.1) (t.1)) a b)
+    remainder_of (new -ℤ arc.lower) (q +ℤ pos (t.0) -ℤ pos (u.0) +ℤ q2) period (arc_moved period times side arc d)
+    (remainder-lt w period some)
+    (gathers period old new g arc.lower q q2 (pos (u.0)) (pos (t.0)) (pos y)
+    (pos (arc_moved period times side arc d)) (differ (slice_index times arc.head) (slice_index times arc.tail)
+    (slice_index others arc.head) (slice_index others arc.tail) _ _ (if side arc.head then pos d else pos 0)
+    (if side arc.tail then pos d else pos 0) (u.1) (t.1)) a b)
   where
-    differ : (th tt oh ot : ℕ) (a b gh gt : ℤ) → pos oh +ℤ a ≡ pos th +ℤ gh → pos ot +ℤ b ≡ pos tt +ℤ gt → (pos oh -ℤ pos ot) +ℤ a ≡ ((pos th -ℤ pos tt) +ℤ (gh -ℤ gt)) +ℤ b
+    differ : (th tt oh ot : ℕ) (a b gh gt : ℤ) → pos oh +ℤ a ≡ pos th +ℤ gh → pos ot +ℤ b ≡ pos tt +ℤ gt
+        → (pos oh -ℤ pos ot) +ℤ a ≡ ((pos th -ℤ pos tt) +ℤ (gh -ℤ gt)) +ℤ b
     differ th tt oh ot a b gh gt e f = omega (arith, ints)
 
-    gathers : (period : ℕ) (old new g lower q q2 a b y m : ℤ) → new +ℤ pos period *ℤ a ≡ old +ℤ g +ℤ pos period *ℤ b → old -ℤ lower ≡ pos period *ℤ q +ℤ y → y +ℤ g ≡ pos period *ℤ q2 +ℤ m → new -ℤ lower ≡ pos period *ℤ (q +ℤ b -ℤ a +ℤ q2) +ℤ m
+    gathers : (period : ℕ) (old new g lower q q2 a b y m : ℤ)
+        → new +ℤ pos period *ℤ a ≡ old +ℤ g +ℤ pos period *ℤ b → old -ℤ lower ≡ pos period *ℤ q +ℤ y
+        → y +ℤ g ≡ pos period *ℤ q2 +ℤ m → new -ℤ lower ≡ pos period *ℤ (q +ℤ b -ℤ a +ℤ q2) +ℤ m
     gathers period old new g lower q q2 a b y m e f k =
-        let r = mul-add (pos period) (q +ℤ b -ℤ a) q2 in let s = mul-sub (pos period) (q +ℤ b) a in let t = mul-add (pos period) q b in omega (arith, ints)
+        let r = mul-add (pos period) (q +ℤ b -ℤ a) q2 in let s = mul-sub (pos period) (q +ℤ b) a in
+        let t = mul-add (pos period) q b in omega (arith, ints)
 
 -- the cost as a sum over the places
 abbrev cost_at : Net → List ℕ → ℕ → ℤ
 cost_at n times i = pos (arc_at n.arcs i).weight *ℤ pos (arc_slack n.period times (arc_at n.arcs i))
 
-sum_by-places : (f : Arc → ℕ) (arcs : List Arc) (k : ℕ) → k ≤ length arcs → pos (sum_by f (take k arcs)) ≡ sum_below k (λ i. pos (f (arc_at arcs i)))
+sum_by-places : (f : Arc → ℕ) (arcs : List Arc) (k : ℕ) → k ≤ length arcs
+    → pos (sum_by f (take k arcs)) ≡ sum_below k (λ i. pos (f (arc_at arcs i)))
 sum_by-places f arcs zero h = refl
 sum_by-places f arcs (suc k) h =
     let ih = sum_by-places f arcs k (omega arith) in
@@ -76,22 +89,28 @@ net_cost-places n times =
     let f : Arc → ℕ = λ arc. arc.weight * arc_slack n.period times arc in
     let whole : sum_by f (take (length n.arcs) n.arcs) ≡ sum_by f n.arcs = ap (sum_by f) (take_all (length n.arcs) n.arcs (omega arith)) in
     let e = sum_by-places f n.arcs (length n.arcs) (omega arith) in
-    ap pos (sym whole) ∙ e ∙ sum_below-same (length n.arcs) (λ i. pos (f (arc_at n.arcs i))) (cost_at n times) (λ i l. product (arc_at n.arcs i).weight (arc_slack n.period times (arc_at n.arcs i)))
+    ap pos (sym whole) ∙ e ∙ sum_below-same (length n.arcs) (λ i. pos (f (arc_at n.arcs i))) (cost_at n times)
+    (λ i l. product (arc_at n.arcs i).weight (arc_slack n.period times (arc_at n.arcs i)))
   where
     product : (w y : ℕ) → pos (w * y) ≡ pos w *ℤ pos y
     product w y = omega (arith, ints)
 
 -- and the cost grows by what the rows that cross become dearer
-pub cost_shifts : (n : Net) (times others : List ℕ) (side : ℕ → Bool) (d : ℕ) → 0 < n.period → ((i : ℕ) → i < length n.arcs → ((arc_at n.arcs i).tail < length times) × ((arc_at n.arcs i).head < length times)) → IsShifted n.period side d times others
+pub cost_shifts : (n : Net) (times others : List ℕ) (side : ℕ → Bool) (d : ℕ) → 0 < n.period
+    → ((i : ℕ) → i < length n.arcs → ((arc_at n.arcs i).tail < length times)
+    × ((arc_at n.arcs i).head < length times)) → IsShifted n.period side d times others
     → pos (net_cost n others) -ℤ pos (net_cost n times) ≡ cut_change n times side d
 cost_shifts n times others side d some ends h =
     let period = n.period in
     let arcs = n.arcs in
     let new : ℕ → ℤ = cost_at n others in
     let old : ℕ → ℤ = cost_at n times in
-    let change : ℕ → ℤ = λ i. pos (arc_at arcs i).weight *ℤ (pos (arc_moved period times side (arc_at arcs i) d) -ℤ pos (arc_slack period times (arc_at arcs i))) in
-    less _ _ _ _ (net_cost-places n others) (net_cost-places n times) ∙ sym (sum_below-sub (length arcs) new old) ∙ sum_below-same (length arcs) (λ i. new i -ℤ old i) change (λ i l.
-    weighs (arc_at arcs i).weight (arc_slack period others (arc_at arcs i)) (arc_slack period times (arc_at arcs i)) (arc_moved period times side (arc_at arcs i) d)
+    let change : ℕ → ℤ = λ i. pos (arc_at arcs i).weight
+    *ℤ (pos (arc_moved period times side (arc_at arcs i) d) -ℤ pos (arc_slack period times (arc_at arcs i))) in
+    less _ _ _ _ (net_cost-places n others) (net_cost-places n times) ∙ sym (sum_below-sub (length arcs) new old)
+    ∙ sum_below-same (length arcs) (λ i. new i -ℤ old i) change (λ i l.
+    weighs (arc_at arcs i).weight (arc_slack period others (arc_at arcs i))
+    (arc_slack period times (arc_at arcs i)) (arc_moved period times side (arc_at arcs i) d)
     (slack_shifts period times others side d (arc_at arcs i) some (ends i l).0 (ends i l).1 h))
   where
     less : (a b c d : ℤ) → a ≡ b → c ≡ d → a -ℤ c ≡ b -ℤ d

@@ -20,16 +20,20 @@ once n arcs r x y a lx ly j e =
     elim (a.ends x lx j) [
       | inl p ↦ elim (a.ends y ly jy) [
         | inl q ↦ sym p.0 ∙ t ∙ q.0
-        | inr q ↦ absurd (let u : r.up x ≡ y = sym p.1 ∙ h ∙ q.0 in let v : r.up y ≡ x = sym q.1 ∙ sym t ∙ p.0 in let du = ap r.depth u in let dv = ap r.depth v in omega arith)
+        | inr q ↦ absurd (let u : r.up x ≡ y = sym p.1 ∙ h ∙ q.0 in let v : r.up y ≡ x = sym q.1 ∙ sym t ∙ p.0 in
+            let du = ap r.depth u in let dv = ap r.depth v in omega arith)
       ]
       | inr p ↦ elim (a.ends y ly jy) [
-        | inl q ↦ absurd (let u : r.up x ≡ y = sym p.1 ∙ t ∙ q.0 in let v : r.up y ≡ x = sym q.1 ∙ sym h ∙ p.0 in let du = ap r.depth u in let dv = ap r.depth v in omega arith)
+        | inl q ↦ absurd (let u : r.up x ≡ y = sym p.1 ∙ t ∙ q.0 in let v : r.up y ≡ x = sym q.1 ∙ sym h ∙ p.0 in
+            let du = ap r.depth u in let dv = ap r.depth v in omega arith)
         | inr q ↦ sym p.0 ∙ h ∙ q.0
       ]
     ]
 
 -- the side doesn't change upwards, but at c
-keeps_up : (n : ℕ) (arcs : List Arc) (forest : List ℕ) (r : Roots) (side : ℕ → Bool) (c x : ℕ) → AreRoots n arcs r → AreTreeRows n r forest → IsFundamentalSide arcs forest (r.by c) side → c < n → 0 < r.by c → x < n → 0 < r.by x → x ≢ c → side x ≡ side (r.up x)
+keeps_up : (n : ℕ) (arcs : List Arc) (forest : List ℕ) (r : Roots) (side : ℕ → Bool) (c x : ℕ) → AreRoots n arcs r
+    → AreTreeRows n r forest → IsFundamentalSide arcs forest (r.by c) side → c < n → 0 < r.by c → x < n
+    → 0 < r.by x → x ≢ c → side x ≡ side (r.up x)
 keeps_up n arcs forest r side c x a tree f lc jc lx jx ne =
     let other : r.by x ≢ r.by c = λ e. ne (once n arcs r x c a lx lc jx e) in
     let k = f.keeps (r.by x) (tree.listed x lx jx) other in
@@ -38,7 +42,8 @@ keeps_up n arcs forest r side c x a tree f lc jc lx jx ne =
       | inr e ↦ sym (ap side e.0) ∙ sym k ∙ ap side e.1
     ]
 
-changes_at : (n : ℕ) (arcs : List Arc) (forest : List ℕ) (r : Roots) (side : ℕ → Bool) (c : ℕ) → AreRoots n arcs r → IsFundamentalSide arcs forest (r.by c) side → c < n → 0 < r.by c → side c ≢ side (r.up c)
+changes_at : (n : ℕ) (arcs : List Arc) (forest : List ℕ) (r : Roots) (side : ℕ → Bool) (c : ℕ) → AreRoots n arcs r
+    → IsFundamentalSide arcs forest (r.by c) side → c < n → 0 < r.by c → side c ≢ side (r.up c)
 changes_at n arcs forest r side c a f lc jc e =
     elim (a.ends c lc jc) [
       | inl q ↦ f.crosses (ap side q.0 ∙ e ∙ sym (ap side q.1))
@@ -46,7 +51,8 @@ changes_at n arcs forest r side c a f lc jc e =
     ]
 
 -- what isn't below c is on the side of its root
-pub outside : (m n : ℕ) (arcs : List Arc) (forest : List ℕ) (r : Roots) (side : ℕ → Bool) (c x : ℕ) → AreRoots n arcs r → AreTreeRows n r forest → IsFundamentalSide arcs forest (r.by c) side → c < n → 0 < r.by c
+pub outside : (m n : ℕ) (arcs : List Arc) (forest : List ℕ) (r : Roots) (side : ℕ → Bool) (c x : ℕ)
+    → AreRoots n arcs r → AreTreeRows n r forest → IsFundamentalSide arcs forest (r.by c) side → c < n → 0 < r.by c
     → r.depth x < m → x < n → below r c x ≡ false → side x ≡ side (r.root x)
 outside zero n arcs forest r side c x a tree f lc jc l lx e = absurd (omega arith)
 outside (suc m) n arcs forest r side c x a tree f lc jc l lx e =
@@ -60,7 +66,8 @@ outside (suc m) n arcs forest r side c x a tree f lc jc l lx e =
     ]
 
 -- what is below c is on its side, and has its root
-pub within : (m n : ℕ) (arcs : List Arc) (forest : List ℕ) (r : Roots) (side : ℕ → Bool) (c x : ℕ) → AreRoots n arcs r → AreTreeRows n r forest → IsFundamentalSide arcs forest (r.by c) side → c < n → 0 < r.by c
+pub within : (m n : ℕ) (arcs : List Arc) (forest : List ℕ) (r : Roots) (side : ℕ → Bool) (c x : ℕ)
+    → AreRoots n arcs r → AreTreeRows n r forest → IsFundamentalSide arcs forest (r.by c) side → c < n → 0 < r.by c
     → r.depth x < m → x < n → below r c x ≡ true → (side x ≡ side c) × (r.root x ≡ r.root c)
 within zero n arcs forest r side c x a tree f lc jc l lx e = absurd (omega arith)
 within (suc m) n arcs forest r side c x a tree f lc jc l lx e =
@@ -76,10 +83,13 @@ within (suc m) n arcs forest r side c x a tree f lc jc l lx e =
     ]
 
 -- the side of c is not that of its root
-pub parted : (n : ℕ) (arcs : List Arc) (forest : List ℕ) (r : Roots) (side : ℕ → Bool) (c : ℕ) → AreRoots n arcs r → AreTreeRows n r forest → IsFundamentalSide arcs forest (r.by c) side → c < n → 0 < r.by c → side c ≢ side (r.root c)
+pub parted : (n : ℕ) (arcs : List Arc) (forest : List ℕ) (r : Roots) (side : ℕ → Bool) (c : ℕ) → AreRoots n arcs r
+    → AreTreeRows n r forest → IsFundamentalSide arcs forest (r.by c) side → c < n → 0 < r.by c
+    → side c ≢ side (r.root c)
 parted n arcs forest r side c a tree f lc jc e =
     let l = a.climbs c lc jc in
     let lu = a.above c lc jc in
     let ne : r.up c ≢ c = λ q. let d = ap r.depth q in omega arith in
-    let up = outside (suc (r.depth (r.up c))) n arcs forest r side c (r.up c) a tree f lc jc (omega arith) lu (not_below n arcs r c (r.up c) a lc lu (omega arith) ne) in
+    let up = outside (suc (r.depth (r.up c))) n arcs forest r side c (r.up c) a tree f lc jc (omega arith) lu
+    (not_below n arcs r c (r.up c) a lc lu (omega arith) ne) in
     changes_at n arcs forest r side c a f lc jc (e ∙ sym (ap side (a.same_root c lc jc)) ∙ sym up)

@@ -36,7 +36,8 @@ sums_next old now i h =
     let a2 : number_at now (i - 1) ≡ prefix i old = a ∙ ap (λ (n : ℕ). prefix n old) e in
     omega (arith, ints)
 
-pub sums_more : (old now : List ℤ) (i : ℕ) → i < length now → SumsUp old now i → SumsUp old (set now i (number_at now (i - 1) +ℤ number_at now i)) (i + 1)
+pub sums_more : (old now : List ℤ) (i : ℕ) → i < length now → SumsUp old now i
+    → SumsUp old (set now i (number_at now (i - 1) +ℤ number_at now i)) (i + 1)
 sums_more old now i l h =
     let v = number_at now (i - 1) +ℤ number_at now i in
     record {
@@ -57,7 +58,8 @@ pub record Slants (slope : ℤ) (old now : List ℤ) (i : ℕ) : Type 0 where
 pub slants_none : (slope : ℤ) (old : List ℤ) → Slants slope old old 0
 slants_none slope old = record { long = refl; done = λ d l. absurd (omega arith); left = λ d l. refl }
 
-pub slants_more : (slope : ℤ) (old now : List ℤ) (i : ℕ) → i < length now → Slants slope old now i → Slants slope old (set now i (number_at now i +ℤ slope *ℤ pos i)) (i + 1)
+pub slants_more : (slope : ℤ) (old now : List ℤ) (i : ℕ) → i < length now → Slants slope old now i
+    → Slants slope old (set now i (number_at now i +ℤ slope *ℤ pos i)) (i + 1)
 slants_more slope old now i l h =
     let v = number_at now i +ℤ slope *ℤ pos i in
     record {

@@ -19,7 +19,8 @@ pub record AreTreeRowsTo (count : ℕ) (arcs : List Arc) (r : Roots) (rows : Lis
   pub listed : (k : ℕ) → 0 < k → k ≤ count → JoinsEnd arcs r k → Contains rows k
   pub joined : (k : ℕ) → Contains rows k → (0 < k) × (k ≤ count) × JoinsEnd arcs r k
 
-pub rooted-from_tests : (n : ℕ) (arcs : List Arc) (r : Roots) → ((x : ℕ) → x < n → IsJoined n arcs r x) → ((i : ℕ) → i < length arcs → IsSpanned n (arc_at arcs i) r) → AreRoots n arcs r
+pub rooted-from_tests : (n : ℕ) (arcs : List Arc) (r : Roots) → ((x : ℕ) → x < n → IsJoined n arcs r x)
+    → ((i : ℕ) → i < length arcs → IsSpanned n (arc_at arcs i) r) → AreRoots n arcs r
 rooted-from_tests n arcs r j s = record {
   row = λ x l. (j x l).row;
   ends = λ x l b. (j x l).ends b;
@@ -34,7 +35,8 @@ rooted-from_tests n arcs r j s = record {
 joins_own : (n : ℕ) (arcs : List Arc) (r : Roots) (x : ℕ) → AreRoots n arcs r → x < n → 0 < r.by x → JoinsEnd arcs r (r.by x)
 joins_own n arcs r x a l b = elim (a.ends x l b) [ inl e ↦ inl (ap r.by e.0) | inr e ↦ inr (ap r.by e.0) ]
 
-pub tree_rows-from_all : (n : ℕ) (arcs : List Arc) (r : Roots) (rows : List ℕ) (count : ℕ) → AreRoots n arcs r → length arcs ≤ count → count ≤ length arcs → AreTreeRowsTo count arcs r rows → AreTreeRows n r rows
+pub tree_rows-from_all : (n : ℕ) (arcs : List Arc) (r : Roots) (rows : List ℕ) (count : ℕ) → AreRoots n arcs r
+    → length arcs ≤ count → count ≤ length arcs → AreTreeRowsTo count arcs r rows → AreTreeRows n r rows
 tree_rows-from_all n arcs r rows count a all most t = record {
   apart = t.apart;
   listed = λ x l b. t.listed (r.by x) b (let m = a.row x l in omega arith) (joins_own n arcs r x a l b);
@@ -50,9 +52,12 @@ tree_rows-from_all n arcs r rows count a all most t = record {
 le-or-same : (k n : ℕ) → k ≤ n + 1 → (k ≤ n) ⊎ (k ≡ n + 1)
 le-or-same k n h = grind arith
 
-pub tree_rows-more : (count : ℕ) (arcs : List Arc) (r : Roots) (rows : List ℕ) → AreTreeRowsTo count arcs r rows → JoinsEnd arcs r (count + 1) → AreTreeRowsTo (count + 1) arcs r (rows ++ (count + 1) ∷ [])
+pub tree_rows-more : (count : ℕ) (arcs : List Arc) (r : Roots) (rows : List ℕ) → AreTreeRowsTo count arcs r rows
+    → JoinsEnd arcs r (count + 1) → AreTreeRowsTo (count + 1) arcs r (rows ++ (count + 1) ∷ [])
 tree_rows-more count arcs r rows t j = record {
-  apart = all_pairs_push (λ (a : ℕ) (b : ℕ). a ≢ b) rows (count + 1) t.apart (λ k d l e. let w = t.joined (get_or rows k d) (Contains-get_or rows k d l) in let most = w.1 in omega (arith, most, e));
+  apart = all_pairs_push (λ (a : ℕ) (b : ℕ). a ≢ b) rows (count + 1) t.apart
+      (λ k d l e. let w = t.joined (get_or rows k d) (Contains-get_or rows k d l) in let most = w.1 in
+      omega (arith, most, e));
   listed = λ k some l e. elim (le-or-same k count l) [
     | inl m ↦ Contains-append_left rows ((count + 1) ∷ []) k (t.listed k some m e)
     | inr q ↦ rw q (Contains-push rows (count + 1))
@@ -63,7 +68,8 @@ tree_rows-more count arcs r rows t j = record {
   ];
 }
 
-pub tree_rows-skip : (count : ℕ) (arcs : List Arc) (r : Roots) (rows : List ℕ) → AreTreeRowsTo count arcs r rows → (JoinsEnd arcs r (count + 1) → ⊥) → AreTreeRowsTo (count + 1) arcs r rows
+pub tree_rows-skip : (count : ℕ) (arcs : List Arc) (r : Roots) (rows : List ℕ) → AreTreeRowsTo count arcs r rows
+    → (JoinsEnd arcs r (count + 1) → ⊥) → AreTreeRowsTo (count + 1) arcs r rows
 tree_rows-skip count arcs r rows t no_end = record {
   apart = t.apart;
   listed = λ k some l e. elim (le-or-same k count l) [

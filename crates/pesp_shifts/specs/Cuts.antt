@@ -15,11 +15,15 @@ arc_moved period times side arc d = remainder period (pos (arc_slack period time
 
 -- how much dearer all arcs become
 abbrev pub cut_change : Net → List ℕ → (ℕ → Bool) → ℕ → ℤ
-cut_change n times side d = over_arcs n.arcs (λ i. pos (arc_at n.arcs i).weight *ℤ (pos (arc_moved n.period times side (arc_at n.arcs i) d) -ℤ pos (arc_slack n.period times (arc_at n.arcs i))))
+cut_change n times side d = over_arcs n.arcs (λ i.
+    pos (arc_at n.arcs i).weight *ℤ (pos (arc_moved n.period times side (arc_at n.arcs i) d) -ℤ pos
+    (arc_slack n.period times (arc_at n.arcs i))))
 
 -- no amount below the period that keeps all arcs satisfied makes the times cheaper, when what is below c is shifted
 abbrev pub IsCutBest : Net → List ℕ → Roots → ℕ → Type 0
-IsCutBest net times r c = (d : ℕ) → d < net.period → ((i : ℕ) → i < length net.arcs → arc_moved net.period times (below r c) (arc_at net.arcs i) d ≤ (arc_at net.arcs i).span) → pos 0 ≤ℤ cut_change net times (below r c) d
+IsCutBest net times r c = (d : ℕ) → d < net.period
+    → ((i : ℕ) → i < length net.arcs → arc_moved net.period times (below r c) (arc_at net.arcs i) d
+    ≤ (arc_at net.arcs i).span) → pos 0 ≤ℤ cut_change net times (below r c) d
 
 -- for each event that a row joins upwards, what hangs below it
 abbrev pub AreCutsBest : ℕ → Net → List ℕ → Roots → Type 0

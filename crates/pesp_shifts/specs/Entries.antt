@@ -8,7 +8,12 @@ use Rattle.pesp_shifts.specs.Shifts.{IsCrossing}
 
 -- the row of an entry, with its slack
 abbrev pub crossing_of : List Arc → List ℕ → Entry → Crossing
-crossing_of arcs slacks e = record { slack = slice_index slacks e.row; span = (arc_at arcs e.row).span; weight = (arc_at arcs e.row).weight; inward = e.inward }
+crossing_of arcs slacks e = record {
+  slack = slice_index slacks e.row;
+  span = (arc_at arcs e.row).span;
+  weight = (arc_at arcs e.row).weight;
+  inward = e.inward;
+}
 
 -- the row of an entry is there, and keeps its limits
 pub record IsEntry (period : ℕ) (arcs : List Arc) (slacks : List ℕ) (e : Entry) : Type 0 where

@@ -52,7 +52,8 @@ if_same false false a b = a
 -- the row at place i was climbed from its head to x and from its tail to y: the cuts that part these two are still to be given the row
 pub record IsClimbed (n : ℕ) (arcs : List Arc) (r : Roots) (i x y : ℕ) (cuts : Cuts) : Type 0 where
   pub lists : Hold n cuts (λ c. if_same (below r c x) (below r c y) (entries_of (below r c) arcs (suc i)) (entries_of (below r c) arcs i))
-  pub left : (c : ℕ) → c < n → (below r c x ≡ below r c y → ⊥) → (below r c x ≡ below r c (arc_at arcs i).head) × (below r c y ≡ below r c (arc_at arcs i).tail)
+  pub left : (c : ℕ) → c < n → (below r c x ≡ below r c y → ⊥)
+      → (below r c x ≡ below r c (arc_at arcs i).head) × (below r c y ≡ below r c (arc_at arcs i).tail)
 
 -- one of the two went up, and what it passed was given the row
 pub record IsStep (n : ℕ) (arcs : List Arc) (r : Roots) (i x y : ℕ) (old new : Cuts) (next : ℕ × ℕ) : Type 0 where

@@ -12,9 +12,12 @@ pub record IsFundamentalSide (arcs : List Arc) (forest : List ℕ) (row : ℕ) (
 -- the times of the side are so much later, around the period, and the others stay
 pub record IsShifted (period : ℕ) (side : ℕ → Bool) (amount : ℕ) (times others : List ℕ) : Type 0 where
   pub count : length others ≡ length times
-  pub places : (x : ℕ) → x < length times → slice_index others x ≡ (if side x then (slice_index times x + amount) % period else slice_index times x)
+  pub places : (x : ℕ) → x < length times → slice_index others x
+      ≡ (if side x then (slice_index times x + amount) % period else slice_index times x)
 
 -- no shift of one side of a fundamental cut of the forest, by any amount, is a cheaper timetable
 abbrev pub IsLocal : Net → ℕ → List ℕ → List ℕ → Type 0
-IsLocal n events forest times = (row : ℕ) → Contains forest row → (side : ℕ → Bool) → IsFundamentalSide n.arcs forest row side → (amount : ℕ) (others : List ℕ) → IsShifted n.period side amount times others
+IsLocal n events forest times = (row : ℕ) → Contains forest row → (side : ℕ → Bool)
+    → IsFundamentalSide n.arcs forest row side → (amount : ℕ) (others : List ℕ)
+    → IsShifted n.period side amount times others
     → IsNetTimetable n events others → net_cost n times ≤ net_cost n others

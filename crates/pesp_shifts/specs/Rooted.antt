@@ -6,7 +6,12 @@ use Rattle.pesp_problem.specs.Arcs.{arc_at, HasEnds}
 use Rattle.pesp_problem.specs.Roots.{Roots}
 
 abbrev pub roots_of : Rooted → Roots
-roots_of r = record { up = slice_index r.up.items; by = slice_index r.by.items; depth = slice_index r.depth.items; root = slice_index r.root.items }
+roots_of r = record {
+  up = slice_index r.up.items;
+  by = slice_index r.by.items;
+  depth = slice_index r.depth.items;
+  root = slice_index r.root.items;
+}
 
 -- each list has an entry for each of n events
 pub record IsFor (n : ℕ) (r : Rooted) : Type 0 where

@@ -52,7 +52,8 @@ pub record IsCrossing (period : ℕ) (row : Crossing) : Type 0 where
 abbrev pub Became : ℕ → (ℕ → ℤ) → List ℤ → Type 0
 Became n f xs = (d : ℕ) → d < n → number_at xs d ≡ f d
 
--- an amount below the period under which each row is satisfied, and no such amount is cheaper; 0 exactly where none is cheaper than no shift
+-- an amount below the period under which each row is satisfied, and no such amount is cheaper; 0 exactly where none is
+-- cheaper than no shift
 pub record IsBestShift (period : ℕ) (rows : List Crossing) (amount : ℕ) : Type 0 where
   pub small : amount < period
   pub fits : AllFit period rows amount

@@ -12,7 +12,8 @@ prefix n xs = sum_below n (number_at xs)
 pub record TakesRow (period : ℕ) (row : Crossing) (old_costs costs old_bars bars : List ℤ) : Type 0 where
   pub costs_kept : length costs ≡ length old_costs
   pub bars_kept : length bars ≡ length old_bars
-  pub cost : (d : ℕ) → d < period → prefix (d + 1) costs +ℤ pos row.weight *ℤ growth row d ≡ prefix (d + 1) old_costs +ℤ row_change period row d
+  pub cost : (d : ℕ) → d < period → prefix (d + 1) costs +ℤ pos row.weight *ℤ growth row d
+      ≡ prefix (d + 1) old_costs +ℤ row_change period row d
   pub bar : (d : ℕ) → d < period → prefix (d + 1) bars ≡ prefix (d + 1) old_bars +ℤ barred period row d
   pub costs_small : (p : ℕ) → unsigned_abs (number_at costs p) ≤ unsigned_abs (number_at old_costs p) + 10000000000000
   pub costs_level : (d : ℕ) → unsigned_abs (prefix (d + 1) costs) ≤ unsigned_abs (prefix (d + 1) old_costs) + 10000000000000

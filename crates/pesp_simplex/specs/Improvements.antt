@@ -7,7 +7,8 @@ use Rattle.pesp_simplex.specs.declared.improved.Stop.TheVariants.{Local}
 use Rattle.pesp_problem.specs.NetTimetables.{IsNetTimetable, net_cost}
 use Rattle.pesp_shifts.specs.Local.{IsLocal}
 
--- a timetable that is no dearer than the times, with its cost and a spanning forest; where the improvement ended as local, no shift of a side of a fundamental cut of it is cheaper
+-- a timetable that is no dearer than the times, with its cost and a spanning forest; where the improvement ended as
+-- local, no shift of a side of a fundamental cut of it is cheaper
 pub record IsImproved (n : Net) (events : ℕ) (times : List ℕ) (i : Improved) : Type 0 where
   pub timetable : IsNetTimetable n events i.times.items
   pub cost : i.cost ≡ net_cost n i.times.items

@@ -26,17 +26,25 @@ same_instance : (text : List ℕ) (period : ℕ) (p q : Pesp) → instance_of te
 same_instance text period p q is also = let same : ◌≡◌ {A = Result Pesp ReadRefusal} (Ok p) (Ok q) = sym is ∙ also in cc
 
 -- a text of which the front that is read is a certificate's text is that text
-same_content : (bytes front : List ℕ) (limit : ℕ) (c d : Content) → HasText c → spelling c ≡ bytes → front ≡ take limit bytes → IsTextOf front d → d ≡ c
+same_content : (bytes front : List ℕ) (limit : ℕ) (c d : Content) → HasText c → spelling c ≡ bytes
+    → front ≡ take limit bytes → IsTextOf front d → d ≡ c
 same_content bytes front limit c d text spelt is read =
-    let joined : spelling d ++ drop limit bytes ≡ spelling c = ap (λ t. t ++ drop limit bytes) (sym read.spelt ∙ is) ∙ take-append-drop limit bytes ∙ sym spelt in
+    let joined : spelling d ++ drop limit bytes
+    ≡ spelling c = ap (λ t. t ++ drop limit bytes) (sym read.spelt ∙ is) ∙ take-append-drop limit bytes
+    ∙ sym spelt in
     (none_begins_another d c (drop limit bytes) read.has_text text joined).0
 
-accepted : (p q : Pesp) (c d : Content) (verdict : Verdict) → p ≡ q → d ≡ c → IsValid p c → (verdict ≡ Accepted) ↔ IsValid q d → verdict ≡ Accepted
+accepted : (p q : Pesp) (c d : Content) (verdict : Verdict) → p ≡ q → d ≡ c → IsValid p c
+    → (verdict ≡ Accepted) ↔ IsValid q d → verdict ≡ Accepted
 accepted p q c d verdict same is valid exactly = exactly.1 (rw (← same, is) valid)
 
-pub accepts_what_is_solved : (text before bytes : List ℕ) (left left_instance left_certificate old new : Option (List ℕ)) (period steps : ℕ) (verdict : Verdict)
-    → Solves (Some text) left period steps (Appends (Some before) (Some (before ++ bytes))) → Checks (Some text) left_instance (Some bytes) left_certificate period verdict (Appends old new) → verdict ≡ Accepted
-accepts_what_is_solved text before bytes left left_instance left_certificate old new period steps verdict (p, read, solved) (q, read_again, checked) =
+pub accepts_what_is_solved : (text before bytes : List ℕ)
+    (left left_instance left_certificate old new : Option (List ℕ)) (period steps : ℕ) (verdict : Verdict)
+    → Solves (Some text) left period steps (Appends (Some before) (Some (before ++ bytes)))
+    → Checks (Some text) left_instance (Some bytes) left_certificate period verdict (Appends old new)
+    → verdict ≡ Accepted
+accepts_what_is_solved text before bytes left left_instance left_certificate old new period steps verdict
+    (p, read, solved) (q, read_again, checked) =
     let one = ap (λ t. instance_of t period) (read.read.whole) ∙ read.is_instance in
     let other = ap (λ t. instance_of t period) (read_again.read.whole) ∙ read_again.is_instance in
     let written = appended_is before bytes (spelling solved.certificate) solved.written in
@@ -52,19 +60,23 @@ accepts_what_is_solved text before bytes left left_instance left_certificate old
     solved.solved.valid
     judged.exactly
 
-pub instance_is_read : (text : List ℕ) (left left_instance old new : Option (List ℕ)) (period steps : ℕ) (refusal : ReadRefusal) → Solves (Some text) left period steps (Appends old new) → RefusesInstance (Some text) left_instance period refusal → ⊥
+pub instance_is_read : (text : List ℕ) (left left_instance old new : Option (List ℕ)) (period steps : ℕ)
+    (refusal : ReadRefusal) → Solves (Some text) left period steps (Appends old new)
+    → RefusesInstance (Some text) left_instance period refusal → ⊥
 instance_is_read text left left_instance old new period steps refusal (p, read, solved) refused =
     let one = ap (λ t. instance_of t period) (read.read.whole) ∙ read.is_instance in
     let bad : ◌≡◌ {A = Result Pesp ReadRefusal} (Ok p) (Err refusal) = sym one ∙ refused.whole in
     cc
 
 -- a text that is shorter than the limit has nothing behind what was read, where no more of it is read
-nothing_behind : (bytes read rest : List ℕ) → length bytes < 1073741824 → bytes ≡ read ++ rest → (length read ≡ 1073741824) ⊎ (rest ≡ []) → rest ≡ []
+nothing_behind : (bytes read rest : List ℕ) → length bytes < 1073741824 → bytes ≡ read ++ rest
+    → (length read ≡ 1073741824) ⊎ (rest ≡ []) → rest ≡ []
 nothing_behind bytes read rest short is (inl full) = absurd (omega (arith, short, full, ap length is, length-append read rest))
 nothing_behind bytes read rest short is (inr e) = e
 
 -- the text of a certificate isn't refused
-never_refused : (bytes : List ℕ) (left : Option (List ℕ)) (c : Content) (refusal : CertRefusal) → IsTextOf bytes c → RefusesText (Some bytes) left 1073741824 refusal → ⊥
+never_refused : (bytes : List ℕ) (left : Option (List ℕ)) (c : Content) (refusal : CertRefusal) → IsTextOf bytes c
+    → RefusesText (Some bytes) left 1073741824 refusal → ⊥
 never_refused bytes None c refusal is refused = refused.consumed
 never_refused bytes (Some rest) c refusal is refused =
     let short : length bytes < 1073741824 = omega (arith, texts_short c is.has_text, ap length is.spelt) in
@@ -73,7 +85,8 @@ never_refused bytes (Some rest) c refusal is refused =
     cc
 
 pub certificate_is_read : (text before bytes : List ℕ) (left left_certificate : Option (List ℕ)) (period steps : ℕ) (refusal : CertRefusal)
-    → Solves (Some text) left period steps (Appends (Some before) (Some (before ++ bytes))) → RefusesText (Some bytes) left_certificate 1073741824 refusal → ⊥
+    → Solves (Some text) left period steps (Appends (Some before) (Some (before ++ bytes)))
+    → RefusesText (Some bytes) left_certificate 1073741824 refusal → ⊥
 certificate_is_read text before bytes left left_certificate period steps refusal (p, read, solved) refused =
     let written = appended_is before bytes (spelling solved.certificate) solved.written in
     never_refused bytes left_certificate solved.certificate refusal (record { has_text = solved.has_text; spelt = sym written }) refused

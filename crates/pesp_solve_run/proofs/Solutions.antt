@@ -8,7 +8,10 @@ use Rattle.pesp_search.specs.Solving.{IsSolved, CostsNoMore}
 use Rattle.pesp_solve_run.specs.Solving.{WritesSolution}
 
 -- a solution was found, and the writer got what is said of its text
-pub solution : {p : Pesp} {times : List ℕ} {steps : ℕ} {certificate : Content} {Gets : List ℕ → Type 0} → ((used : ℕ) × IsSolved p steps used certificate) → CostsNoMore p times certificate → IsTrueAnswer p certificate.answer (shown_times certificate) → HasText certificate → Gets (spelling certificate) → WritesSolution p times steps Gets
+pub solution : {p : Pesp} {times : List ℕ} {steps : ℕ} {certificate : Content} {Gets : List ℕ → Type 0}
+    → ((used : ℕ) × IsSolved p steps used certificate) → CostsNoMore p times certificate
+    → IsTrueAnswer p certificate.answer (shown_times certificate) → HasText certificate
+    → Gets (spelling certificate) → WritesSolution p times steps Gets
 solution {certificate = certificate} solved improved is_true has_text gets = record {
   used = solved.0;
   certificate = certificate;

@@ -13,7 +13,8 @@ goes_then : (a b c : Sending) (s t : List ℕ) → b.most ≡ a.most → Goes a 
 goes_then a b c s t m p q = record {
   moves = moves_then a.told b.told c.told a.kept s t b.kept c.kept p.moves q.moves;
   failed = q.failed ∙ p.failed;
-  interrupted = λ h. subst (λ n. c.calls.interrupted ≤ n) m (q.interrupted (subst (λ n. b.calls.interrupted ≤ n) (sym m) (p.interrupted h)));
+  interrupted = λ h. subst (λ n. c.calls.interrupted ≤ n) m
+      (q.interrupted (subst (λ n. b.calls.interrupted ≤ n) (sym m) (p.interrupted h)));
 }
 
 -- no call failed before the one that did
@@ -41,7 +42,8 @@ stopped_stays : (z : Bool) (a b c : Sending) (s t : List ℕ) → z ≡ true →
 stopped_stays true a b c s t e i p = subst (λ x. Stops a x (s ++ t)) (sym i) (stopped_then a b s t p)
 stopped_stays false a b c s t e i p = absurd cc
 
-outcome_then : (x y z : Bool) (a b c : Sending) (s t : List ℕ) → b.most ≡ a.most → Outcome x y a b s → Outcome y z b c t → Outcome x z a c (s ++ t)
+outcome_then : (x y z : Bool) (a b c : Sending) (s t : List ℕ) → b.most ≡ a.most → Outcome x y a b s
+    → Outcome y z b c t → Outcome x z a c (s ++ t)
 outcome_then true y z a b c s t m p q = let r = stays y z b c t p.0 q in (r.0, r.1 ∙ p.1)
 outcome_then false true z a b c s t m p q = stopped_stays z a b c s t q.0 q.1 p
 outcome_then false false true a b c s t m p q = stops_then a b c s t m p q
@@ -71,32 +73,42 @@ sends_nothing a = record { outcome = nothing a.stopped a; most = refl; writer = 
 pub sends_as : {a b : Sending} {s : List ℕ} (t : List ℕ) → s ≡ t → Sends a b s → Sends a b t
 sends_as t e p = rw (← e) p
 
-flat_map_suc : {X : Type 0} (f : X → List ℕ) (xs : List X) (i : ℕ) (d : X) → i < length xs → flat_map f (take i xs) ++ f (get_or xs i d) ≡ flat_map f (take (suc i) xs)
+flat_map_suc : {X : Type 0} (f : X → List ℕ) (xs : List X) (i : ℕ) (d : X) → i < length xs
+    → flat_map f (take i xs) ++ f (get_or xs i d) ≡ flat_map f (take (suc i) xs)
 flat_map_suc f [] i d lt = absurd (omega arith)
 flat_map_suc f (x ∷ xs) zero d lt = sym (flat_map-cons f x [] ∙ append-nil (f x))
 flat_map_suc f (x ∷ xs) (suc i) d lt = rw (append_assoc, flat_map_suc f xs i d (omega arith)) refl
 
-flat_map_take : {X : Type 0} (f : X → List ℕ) (xs : List X) (i : ℕ) (d : X) → i < length xs → flat_map f (take i xs) ++ f (get_or xs i d) ≡ flat_map f (take (i + 1) xs)
+flat_map_take : {X : Type 0} (f : X → List ℕ) (xs : List X) (i : ℕ) (d : X) → i < length xs
+    → flat_map f (take i xs) ++ f (get_or xs i d) ≡ flat_map f (take (i + 1) xs)
 flat_map_take f xs i d lt = flat_map_suc f xs i d lt ∙ ap (λ k. flat_map f (take k xs)) (sym (add-one i))
 
 -- the next item behind the items before it
-pub sends_next : {X : Type 0} {a b c : Sending} (f : X → List ℕ) (xs : List X) (i : ℕ) (x : X) → i < length xs → x ≡ get_or xs i x → Sends a b (flat_map f (take i xs)) → Sends b c (f x) → Sends a c (flat_map f (take (i + 1) xs))
+pub sends_next : {X : Type 0} {a b c : Sending} (f : X → List ℕ) (xs : List X) (i : ℕ) (x : X) → i < length xs
+    → x ≡ get_or xs i x → Sends a b (flat_map f (take i xs)) → Sends b c (f x)
+    → Sends a c (flat_map f (take (i + 1) xs))
 sends_next f xs i x lt is p q = sends_as _ (ap (λ y. flat_map f (take i xs) ++ f y) is ∙ flat_map_take f xs i x lt) (sends_then p q)
 
 -- the next item behind the items before it, where a loop names the item by its place
-pub sends_more : {X : Type 0} {a b c : Sending} (f : X → List ℕ) (xs : List X) (i : ℕ) (d : X) → i < length xs → Sends a b (flat_map f (take i xs)) → Sends b c (f (get_or xs i d)) → Sends a c (flat_map f (take (i + 1) xs))
+pub sends_more : {X : Type 0} {a b c : Sending} (f : X → List ℕ) (xs : List X) (i : ℕ) (d : X) → i < length xs
+    → Sends a b (flat_map f (take i xs)) → Sends b c (f (get_or xs i d)) → Sends a c (flat_map f (take (i + 1) xs))
 sends_more f xs i d lt p q = sends_as _ (flat_map_take f xs i d lt) (sends_then p q)
 
 -- all items, once none is left
-pub sends_all : {X : Type 0} {a b : Sending} (f : X → List ℕ) (xs : List X) (i : ℕ) → length xs ≤ i → Sends a b (flat_map f (take i xs)) → Sends a b (flat_map f xs)
+pub sends_all : {X : Type 0} {a b : Sending} (f : X → List ℕ) (xs : List X) (i : ℕ) → length xs ≤ i
+    → Sends a b (flat_map f (take i xs)) → Sends a b (flat_map f xs)
 sends_all f xs i le p = sends_as _ (ap (flat_map f) (take_all i xs le)) p
 
 -- a whole text was put, and then what was kept back was written
-pub writes_whole : {A E : Type 0} (a b : Sending) (new : Option (List ℕ)) (text : List ℕ) (r : Result A E) → a.stopped ≡ false → a.kept ≡ [] → Sends a b text
-    → (b.stopped ≡ true → new ≡ b.told) → (b.stopped ≡ true → IsErr r) → (b.stopped ≡ false → Writes b.told new b.kept r) → Writes a.told new text r
+pub writes_whole : {A E : Type 0} (a b : Sending) (new : Option (List ℕ)) (text : List ℕ) (r : Result A E)
+    → a.stopped ≡ false → a.kept ≡ [] → Sends a b text
+    → (b.stopped ≡ true → new ≡ b.told) → (b.stopped ≡ true → IsErr r)
+    → (b.stopped ≡ false → Writes b.told new b.kept r) → Writes a.told new text r
 writes_whole {A} {E} a b new text r going none p = whole a.stopped b.stopped going p.outcome
   where
-    whole : (x y : Bool) → x ≡ false → Outcome x y a b text → (y ≡ true → new ≡ b.told) → (y ≡ true → IsErr r) → (y ≡ false → Writes b.told new b.kept r) → Writes a.told new text r
+    whole : (x y : Bool) → x ≡ false → Outcome x y a b text → (y ≡ true → new ≡ b.told) → (y ≡ true → IsErr r)
+        → (y ≡ false → Writes b.told new b.kept r) → Writes a.told new text r
     whole true y e q same err ends = absurd cc
-    whole false true e q same err ends = let front : AppendsFront a.told new text = rw (same refl) (rw none at q.front) in writes_err a.told new text r (err refl) front
+    whole false true e q same err ends = let front : AppendsFront a.told new text =
+        rw (same refl) (rw none at q.front) in writes_err a.told new text r (err refl) front
     whole false false e q same err ends = let moves = rw none at q.moves in writes_all a.told b.told new text b.kept r moves (ends refl)

@@ -10,11 +10,15 @@ use Rattle.pesp_problem.proofs.Joined.{first_in, merged, merged_most, merged_els
 same_or : (a b : ℕ) → (a ≡ b) ⊎ (a ≢ b)
 same_or a b = grind arith
 
-pub joined_more : (arcs : List Arc) (k event a b : ℕ) (xs ys : List ℕ) → a ≡ first_in arcs k (arc_at arcs k).tail → b ≡ first_in arcs k (arc_at arcs k).head → slice_index xs event ≡ first_in arcs k event
-    → (slice_index xs event ≡ max a b → slice_index ys event ≡ min a b) → (slice_index xs event ≢ max a b → slice_index ys event ≡ slice_index xs event) → slice_index ys event ≡ first_in arcs (k + 1) event
+pub joined_more : (arcs : List Arc) (k event a b : ℕ) (xs ys : List ℕ) → a ≡ first_in arcs k (arc_at arcs k).tail
+    → b ≡ first_in arcs k (arc_at arcs k).head → slice_index xs event ≡ first_in arcs k event
+    → (slice_index xs event ≡ max a b → slice_index ys event ≡ min a b)
+    → (slice_index xs event ≢ max a b → slice_index ys event ≡ slice_index xs event)
+    → slice_index ys event ≡ first_in arcs (k + 1) event
 joined_more arcs k event a b xs ys ea eb e most rest =
     let f = first_in arcs k event in
-    let to : merged a b f ≡ first_in arcs (k + 1) event = ap (λ x. merged x b f) ea ∙ (ap (λ x. merged (first_in arcs k (arc_at arcs k).tail) x f) eb ∙ sym (first_more arcs k event)) in
+    let to : merged a b f ≡ first_in arcs (k + 1) event = ap (λ x. merged x b f) ea
+    ∙ (ap (λ x. merged (first_in arcs k (arc_at arcs k).tail) x f) eb ∙ sym (first_more arcs k event)) in
     elim (same_or (slice_index xs event) (max a b)) [
       | inl q ↦ most q ∙ (sym (merged_most a b f (sym e ∙ q)) ∙ to)
       | inr n ↦ rest n ∙ (e ∙ (sym (merged_else a b f (λ q. n (e ∙ q))) ∙ to))

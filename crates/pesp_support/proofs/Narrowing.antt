@@ -57,15 +57,26 @@ led t first d j p =
     mod_same _ _ t a ∙ (sym (mod_inner j (d + first) t p) ∙ mod_same _ _ t b)
 
 pub none_yet : (t kept other first n : ℕ) (s : Family) → Partly t kept other first n t s s
-none_yet t kept other first n s = record { else = λ _ _ _. refl; was = λ _ h. h; found = λ d l m. absurd (let b : (d + first) % t < t = omega arith in omega arith); all = λ _ h _. h }
+none_yet t kept other first n s = record {
+  else = λ _ _ _. refl;
+  was = λ _ h. h;
+  found = λ d l m. absurd (let b : (d + first) % t < t = omega arith in omega arith);
+  all = λ _ h _. h;
+}
 
 -- a place whose difference has a partner
-pub kept_one : (t kept other first n p gap : ℕ) (old new : Family) → p < t → n < t → gap < n → IsGap t other old p gap → Partly t kept other first n (p + 1) old new → Partly t kept other first n p old new
+pub kept_one : (t kept other first n p gap : ℕ) (old new : Family) → p < t → n < t → gap < n
+    → IsGap t other old p gap → Partly t kept other first n (p + 1) old new → Partly t kept other first n p old new
 kept_one t kept other first n p gap old new l m g gaps h = record {
   else = h.else;
   was = h.was;
   found = λ d b q s. elim (split p ((d + first) % t) q) [
-    | inl e ↦ (gap, g, swapped old other (led t first d gap (omega arith) ∙ mod_same _ _ t (ap (λ x. x + gap) (sym e))) (gaps.next (omega arith)))
+    | inl e ↦ (
+      gap,
+      g,
+      swapped old other (led t first d gap (omega arith)
+          ∙ mod_same _ _ t (ap (λ x. x + gap) (sym e))) (gaps.next (omega arith)),
+    )
     | inr k ↦ h.found d b k s
   ];
   all = h.all;
@@ -74,19 +85,26 @@ kept_one t kept other first n p gap old new l m g gaps h = record {
     split : (p q : ℕ) → p ≤ q → (p ≡ q) ⊎ (p + 1 ≤ q)
     split p q h = grind arith
 
-no_partner : (t other first n p gap d : ℕ) (s : Family) → 0 < t → n ≤ gap → (d + first) % t ≡ p → IsGap t other s p gap → HasPartner t other first n s d → ⊥
+no_partner : (t other first n p gap d : ℕ) (s : Family) → 0 < t → n ≤ gap → (d + first) % t ≡ p
+    → IsGap t other s p gap → HasPartner t other first n s d → ⊥
 no_partner t other first n p gap d s l g e gaps h =
-    let a : s other ((d + (first + h.0)) % t) ≡ false = swapped s other (led t first d h.0 l ∙ mod_same _ _ t (ap (λ x. x + h.0) e)) (gaps.free h.0 (let m = h.1 in omega arith)) in
+    let a : s other ((d + (first + h.0)) % t) ≡ false =
+    swapped s other (led t first d h.0 l ∙ mod_same _ _ t (ap (λ x. x + h.0) e))
+    (gaps.free h.0 (let m = h.1 in omega arith)) in
     let b = h.2 in
     absurd (cc)
 
 -- a place whose difference has none
-pub taken_one : (t kept other first n p gap : ℕ) (old : Family) (xs ys : List ℕ) → p < t → first < t → n ≤ gap → IsGap t other old p gap → IsTaken t kept first p xs ys
+pub taken_one : (t kept other first n p gap : ℕ) (old : Family) (xs ys : List ℕ) → p < t → first < t → n ≤ gap
+    → IsGap t other old p gap → IsTaken t kept first p xs ys
     → Partly t kept other first n (p + 1) old (family_at t xs) → Partly t kept other first n p old (family_at t ys)
 taken_one t kept other first n p gap old xs ys l lf g gaps k h =
     let d0 = k.difference in
     let lone : HasPartner t other first n old d0 → ⊥ = no_partner t other first n p gap d0 old (omega arith) g k.leads gaps in
-    let same : (event d : ℕ) → (event ≢ kept) ⊎ (d ≢ d0) → family_at t ys event d ≡ family_at t xs event d = λ event d o. same_places t event d xs ys (λ ld. k.others (event * span t + d) (λ q. apart event d ld o q)) in
+    let same : (event d : ℕ) → (event ≢ kept) ⊎ (d ≢ d0)
+    → family_at t ys event d ≡ family_at t xs event d =
+    λ event d o. same_places t event d xs ys (λ ld.
+    k.others (event * span t + d) (λ q. apart event d ld o q)) in
     let gone : family_at t ys kept d0 ≡ false = at_place t kept d0 ys k.below ∙ k.gone in
     record {
       else = λ event d ne. same event d (inl ne) ∙ h.else event d ne;
@@ -130,7 +148,8 @@ taken_one t kept other first n p gap old xs ys l lf g gaps k h =
         cancel first d k.difference t (omega arith) ld k.below (mod_same _ _ t a ∙ (e ∙ (sym k.leads ∙ sym (mod_same _ _ t b))))
 
 -- at the period's start all is narrowed
-pub all_places : (t kept other first n : ℕ) (old : Family) (ys : List ℕ) → Partly t kept other first n 0 old (family_at t ys) → Narrows t kept other first n old (family_at t ys)
+pub all_places : (t kept other first n : ℕ) (old : Family) (ys : List ℕ)
+    → Partly t kept other first n 0 old (family_at t ys) → Narrows t kept other first n old (family_at t ys)
 all_places t kept other first n old ys h = record {
   else = h.else;
   was = h.was;
@@ -139,11 +158,16 @@ all_places t kept other first n old ys h = record {
 }
 
 -- a window of the whole period finds each difference
-pub whole : (t kept other first n b : ℕ) (ws : List ℕ) → 0 < t → t ≤ n → family_at t ws other b ≡ true → Narrows t kept other first n (family_at t ws) (family_at t ws)
+pub whole : (t kept other first n b : ℕ) (ws : List ℕ) → 0 < t → t ≤ n → family_at t ws other b ≡ true
+    → Narrows t kept other first n (family_at t ws) (family_at t ws)
 whole t kept other first n b ws p m s = record {
   else = λ _ _ _. refl;
   was = λ _ h. h;
-  found = λ d _. ((b + (t - (d + first) % t)) % t, (let l : (b + (t - (d + first) % t)) % t < t = omega arith in omega arith), swapped (family_at t ws) other (back d) s);
+  found = λ d _. (
+    (b + (t - (d + first) % t)) % t,
+    (let l : (b + (t - (d + first) % t)) % t < t = omega arith in omega arith),
+    swapped (family_at t ws) other (back d) s,
+  );
   all = λ _ h _. h;
 }
   where
@@ -153,7 +177,9 @@ whole t kept other first n b ws p m s = record {
         let q = (d + first) / t in
         let u : d + (first + (b + (t - r)) % t) ≡ d + first + (b + (t - r)) % t = omega arith in
         let v : d + first + (b + (t - r)) ≡ b + t + t * q = omega arith in
-        mod_same _ _ t u ∙ (mod_inner (d + first) (b + (t - r)) t p ∙ (mod_same _ _ t v ∙ (add-mul-mod_self_left (b + t) t q ∙ (mod_more b t ∙ mod-eq_of_lt (below t other b ws s)))))
+        mod_same _ _ t u ∙ (mod_inner (d + first) (b + (t - r)) t p
+        ∙ (mod_same _ _ t v ∙ (add-mul-mod_self_left (b + t) t q
+        ∙ (mod_more b t ∙ mod-eq_of_lt (below t other b ws s)))))
 
 -- ---- one step down
 
@@ -161,24 +187,30 @@ bool_cases : (b : Bool) → (b ≡ true) ⊎ (b ≡ false)
 bool_cases true = inl refl
 bool_cases false = inr refl
 
-pub gap_step : (t kept other first n i p gap next : ℕ) (old : Family) (xs : List ℕ) → i < t → p ≡ t - 1 - i → kept ≢ other → IsGap t other old (t - i) gap → Partly t kept other first n (t - i) old (family_at t xs)
-    → (is_set xs (other * span t + p) ≡ true → next ≡ 0) → (is_set xs (other * span t + p) ≡ false → next ≡ gap + 1) → IsGap t other old p next
+pub gap_step : (t kept other first n i p gap next : ℕ) (old : Family) (xs : List ℕ) → i < t → p ≡ t - 1 - i
+    → kept ≢ other → IsGap t other old (t - i) gap → Partly t kept other first n (t - i) old (family_at t xs)
+    → (is_set xs (other * span t + p) ≡ true → next ≡ 0)
+    → (is_set xs (other * span t + p) ≡ false → next ≡ gap + 1) → IsGap t other old p next
 gap_step t kept other first n i p gap next old xs l ep ne gaps part here further =
     let lp : p < t = omega arith in
     let up : t - i ≡ p + 1 = omega arith in
     let same : old other p ≡ is_set xs (other * span t + p) = sym (part.else other p (λ e. ne (sym e))) ∙ at_place t other p xs lp in
     elim (bool_cases (is_set xs (other * span t + p))) [
       | inl e ↦ subst (λ g. IsGap t other old p g) (sym (here e)) (gap_here t other p old lp (same ∙ e))
-      | inr e ↦ subst (λ g. IsGap t other old p g) (sym (further e)) (gap_further t other p gap old lp (same ∙ e) (subst (λ m. IsGap t other old m gap) up gaps))
+      | inr e ↦ subst (λ g. IsGap t other old p g) (sym (further e))
+          (gap_further t other p gap old lp (same ∙ e) (subst (λ m. IsGap t other old m gap) up gaps))
     ]
 
-pub partly_step : (t kept other first n i p next : ℕ) (old : Family) (xs ys : List ℕ) → i < t → p ≡ t - 1 - i → n < t → first < t → IsGap t other old p next → Partly t kept other first n (t - i) old (family_at t xs)
+pub partly_step : (t kept other first n i p next : ℕ) (old : Family) (xs ys : List ℕ) → i < t → p ≡ t - 1 - i
+    → n < t → first < t → IsGap t other old p next → Partly t kept other first n (t - i) old (family_at t xs)
     → (n ≤ next → IsTaken t kept first p xs ys) → (next < n → ys ≡ xs) → Partly t kept other first n p old (family_at t ys)
 partly_step t kept other first n i p next old xs ys l ep m lf gaps part taken same =
     let lp : p < t = omega arith in
     let up : t - i ≡ p + 1 = omega arith in
-    let before : Partly t kept other first n (p + 1) old (family_at t xs) = subst (λ k. Partly t kept other first n k old (family_at t xs)) up part in
+    let before : Partly t kept other first n (p + 1) old (family_at t xs) =
+    subst (λ k. Partly t kept other first n k old (family_at t xs)) up part in
     elim (cases_lt next n) [
-      | inl g ↦ subst (λ zs. Partly t kept other first n p old (family_at t zs)) (sym (same g)) (kept_one t kept other first n p next old (family_at t xs) lp m g gaps before)
+      | inl g ↦ subst (λ zs. Partly t kept other first n p old (family_at t zs)) (sym (same g))
+          (kept_one t kept other first n p next old (family_at t xs) lp m g gaps before)
       | inr g ↦ taken_one t kept other first n p next old xs ys lp lf g gaps (taken g) before
     ]

@@ -24,7 +24,8 @@ pub spans : (t events n : ℕ) → n ≡ (t + 63) / 64 → events * span t ≡ 6
 spans t events n e = ap (λ x. events * x) (span_is t n e) ∙ omega arith
 
 -- a difference's word is there
-pub place_within : (ws : List ℕ) (t event d place : ℕ) → d < t → event * span t + span t ≤ 64 * length ws → place ≡ event * span t + d → place / 64 < length ws
+pub place_within : (ws : List ℕ) (t event d place : ℕ) → d < t → event * span t + span t ≤ 64 * length ws
+    → place ≡ event * span t + d → place / 64 < length ws
 place_within ws t event d place l long e = let m = span_most t in omega arith
 
 -- below the period a difference has its place
@@ -56,7 +57,9 @@ places_apart t e f d g ld lg ne = let m = span_most t in apart (span t) e f d g 
     ]
 
 -- where places are the same, sets are
-pub same_places : (t event d : ℕ) (xs ys : List ℕ) → (d < t → is_set ys (event * span t + d) ≡ is_set xs (event * span t + d)) → family_at t ys event d ≡ family_at t xs event d
+pub same_places : (t event d : ℕ) (xs ys : List ℕ)
+    → (d < t → is_set ys (event * span t + d) ≡ is_set xs (event * span t + d))
+    → family_at t ys event d ≡ family_at t xs event d
 same_places t event d xs ys h = elim (cases_lt d t) [
   | inl l ↦ at_place t event d ys l ∙ (h l ∙ sym (at_place t event d xs l))
   | inr m ↦ past t event d ys m ∙ sym (past t event d xs m)

@@ -29,7 +29,8 @@ narrow_within t kept other first n old new h event d s = elim (same_or event kep
 ]
 
 -- what a supported family has at the tail is kept there
-tails_kept : (t : ℕ) (arc : Arc) (low high ahead back n : ℕ) (old mid s : Family) → AreBelow t old → LeadBoth t arc low high ahead back n → Narrows t arc.tail arc.head ahead n old mid
+tails_kept : (t : ℕ) (arc : Arc) (low high ahead back n : ℕ) (old mid s : Family) → AreBelow t old
+    → LeadBoth t arc low high ahead back n → Narrows t arc.tail arc.head ahead n old mid
     → IsSupportedBy t arc (low, high) s → LiesAt arc s old → (a : ℕ) → s arc.tail a ≡ true → mid arc.tail a ≡ true
 tails_kept t arc low high ahead back n old mid s bel lead one sup lies a m =
     let q = sup.tails a m in
@@ -38,7 +39,8 @@ tails_kept t arc low high ahead back n old mid s bel lead one sup lies a m =
     let i = lead.into a q.0 (bel arc.tail a x) (bel arc.head q.0 y) q.2.low q.2.high in
     one.all a x (i.0, i.1, along old arc.head i.2 y)
 
-pub revised : (t : ℕ) (arc : Arc) (low high ahead back n : ℕ) (old mid new : Family) → 0 < t → arc.tail ≢ arc.head → AreBelow t old → LeadBoth t arc low high ahead back n
+pub revised : (t : ℕ) (arc : Arc) (low high ahead back n : ℕ) (old mid new : Family) → 0 < t → arc.tail ≢ arc.head
+    → AreBelow t old → LeadBoth t arc low high ahead back n
     → Narrows t arc.tail arc.head ahead n old mid → Narrows t arc.head arc.tail back n mid new → Revises t arc (low, high) old new
 revised t arc low high ahead back n old mid new p ne bel lead one two =
     let tail_same : (d : ℕ) → new arc.tail d ≡ mid arc.tail d = λ d. two.else arc.tail d ne in
@@ -53,8 +55,11 @@ revised t arc low high ahead back n old mid new p ne bel lead one two =
             let b : ℕ = (a + (ahead + f.0)) % t in
             let lb : b < t = omega arith in
             let r = lead.out a f.0 la f.1 in
-            let i = lead.into_back a b la lb r.0 r.1 in
-            (b, two.all b (head_same b ∙ f.2) (i.0, i.1, along mid arc.tail {a = (b + (back + i.0)) % t} i.2 sm), record { low = r.0; high = r.1; loop = λ e. absurd (ne e) });
+            let i = lead.into_back a b la lb r.0 r.1 in (
+              b,
+              two.all b (head_same b ∙ f.2) (i.0, i.1, along mid arc.tail {a = (b + (back + i.0)) % t} i.2 sm),
+              record { low = r.0; high = r.1; loop = λ e. absurd (ne e) },
+            );
         heads = λ b s.
             let lb : b < t = bel arc.head b (mid_old arc.head b (two.was b s)) in
             let f = two.found b s in
@@ -79,7 +84,9 @@ revised t arc low high ahead back n old mid new p ne bel lead one two =
 words_below : (t : ℕ) (xs : List ℕ) → AreBelow t (family_at t xs)
 words_below t xs event d s = below t event d xs s
 
-leads : (t l : ℕ) (arc : Arc) (low high ahead back n : ℕ) → 0 < t → pos l ≡ int_rem_euclid arc.lower (pos t) → ahead ≡ (l + low) % t → back ≡ (2 * t - l - min high (t - 1)) % t → n ≡ min high (t - 1) + 1 - low → LeadBoth t arc low high ahead back n
+leads : (t l : ℕ) (arc : Arc) (low high ahead back n : ℕ) → 0 < t → pos l ≡ int_rem_euclid arc.lower (pos t)
+    → ahead ≡ (l + low) % t → back ≡ (2 * t - l - min high (t - 1)) % t → n ≡ min high (t - 1) + 1 - low
+    → LeadBoth t arc low high ahead back n
 leads t l arc low high ahead back n p el ea eb en =
     let P : ℕ → Type 0 = λ x. LeadBoth t arc low high x ((2 * t - l - min high (t - 1)) % t) (min high (t - 1) + 1 - low) in
     let Q : ℕ → Type 0 = λ x. LeadBoth t arc low high ahead x (min high (t - 1) + 1 - low) in
@@ -94,26 +101,42 @@ pub record AreWindows (t l : ℕ) (arc : Arc) (low high ahead back n : ℕ) : Ty
   pub back_is : back ≡ (2 * t - l - min high (t - 1)) % t
   pub count_is : n ≡ min high (t - 1) + 1 - low
 
-lead_of : (t l : ℕ) (arc : Arc) (low high ahead back n : ℕ) → AreWindows t l arc low high ahead back n → LeadBoth t arc low high ahead back n
+lead_of : (t l : ℕ) (arc : Arc) (low high ahead back n : ℕ) → AreWindows t l arc low high ahead back n
+    → LeadBoth t arc low high ahead back n
 lead_of t l arc low high ahead back n w = leads t l arc low high ahead back n w.some w.shift w.ahead_is w.back_is w.count_is
 
-pub tail_refutes : (t l : ℕ) (arc : Arc) (low high ahead back n : ℕ) (xs ys : List ℕ) → AreWindows t l arc low high ahead back n → Narrows t arc.tail arc.head ahead n (family_at t xs) (family_at t ys) → (HasSome (family_at t ys) arc.tail → ⊥) → RefutesAt t arc (low, high) (family_at t xs)
-tail_refutes t l arc low high ahead back n xs ys w one none s sup lies st sh = none (st.0, tails_kept t arc low high ahead back n (family_at t xs) (family_at t ys) s (words_below t xs) (lead_of t l arc low high ahead back n w) one sup lies st.0 st.1)
+pub tail_refutes : (t l : ℕ) (arc : Arc) (low high ahead back n : ℕ) (xs ys : List ℕ)
+    → AreWindows t l arc low high ahead back n → Narrows t arc.tail arc.head ahead n (family_at t xs)
+    (family_at t ys) → (HasSome (family_at t ys) arc.tail → ⊥) → RefutesAt t arc (low, high) (family_at t xs)
+tail_refutes t l arc low high ahead back n xs ys w one none s sup lies st sh =
+    none (
+      st.0,
+      tails_kept t arc low high ahead back n (family_at t xs) (family_at t ys) s (words_below t xs)
+          (lead_of t l arc low high ahead back n w) one sup lies st.0 st.1,
+    )
 
-pub head_refutes : (t l : ℕ) (arc : Arc) (low high ahead back n : ℕ) (xs ys zs : List ℕ) → AreWindows t l arc low high ahead back n → arc.tail ≢ arc.head → Narrows t arc.tail arc.head ahead n (family_at t xs) (family_at t ys)
-    → Narrows t arc.head arc.tail back n (family_at t ys) (family_at t zs) → (HasSome (family_at t zs) arc.head → ⊥) → RefutesAt t arc (low, high) (family_at t xs)
+pub head_refutes : (t l : ℕ) (arc : Arc) (low high ahead back n : ℕ) (xs ys zs : List ℕ)
+    → AreWindows t l arc low high ahead back n → arc.tail ≢ arc.head
+    → Narrows t arc.tail arc.head ahead n (family_at t xs) (family_at t ys)
+    → Narrows t arc.head arc.tail back n (family_at t ys) (family_at t zs)
+    → (HasSome (family_at t zs) arc.head → ⊥) → RefutesAt t arc (low, high) (family_at t xs)
 head_refutes t l arc low high ahead back n xs ys zs w ne one two none s sup lies st sh =
-    let r = revised t arc low high ahead back n (family_at t xs) (family_at t ys) (family_at t zs) w.some ne (words_below t xs) (lead_of t l arc low high ahead back n w) one two in
+    let r = revised t arc low high ahead back n (family_at t xs) (family_at t ys) (family_at t zs) w.some ne
+    (words_below t xs) (lead_of t l arc low high ahead back n w) one two in
     none (sh.0, (r.keeps s sup lies sh.0).1 sh.1)
 
-pub narrowed : (t l : ℕ) (arc : Arc) (low high ahead back n : ℕ) (xs ys zs : List ℕ) (tail head : Bool) → AreWindows t l arc low high ahead back n → arc.tail ≢ arc.head → Narrows t arc.tail arc.head ahead n (family_at t xs) (family_at t ys)
-    → Narrows t arc.head arc.tail back n (family_at t ys) (family_at t zs) → IsLess xs ys tail → IsLess ys zs head → HasSome (family_at t ys) arc.tail → HasSome (family_at t zs) arc.head
+pub narrowed : (t l : ℕ) (arc : Arc) (low high ahead back n : ℕ) (xs ys zs : List ℕ) (tail head : Bool)
+    → AreWindows t l arc low high ahead back n → arc.tail ≢ arc.head
+    → Narrows t arc.tail arc.head ahead n (family_at t xs) (family_at t ys)
+    → Narrows t arc.head arc.tail back n (family_at t ys) (family_at t zs) → IsLess xs ys tail → IsLess ys zs head
+    → HasSome (family_at t ys) arc.tail → HasSome (family_at t zs) arc.head
     → IsNarrowed t arc (low, high) xs zs (record { tail = tail; head = head })
 narrowed t l arc low high ahead back n xs ys zs tail head w ne one two lt lh st sh =
     let a = sum_most xs ys tail lt in
     let b = sum_most ys zs head lh in
     record {
-      revises = revised t arc low high ahead back n (family_at t xs) (family_at t ys) (family_at t zs) w.some ne (words_below t xs) (lead_of t l arc low high ahead back n w) one two;
+      revises = revised t arc low high ahead back n (family_at t xs) (family_at t ys) (family_at t zs) w.some ne
+          (words_below t xs) (lead_of t l arc low high ahead back n w) one two;
       tells = record {
         tail = λ e d. two.else arc.tail d ne ∙ ap (λ (ws : List ℕ). family_at t ws arc.tail d) (lt.same e);
         head = λ e d. ap (λ (ws : List ℕ). family_at t ws arc.head d) (lh.same e) ∙ one.else arc.head d (λ q. ne (sym q));
@@ -127,10 +150,13 @@ narrowed t l arc low high ahead back n xs ys zs tail head w ne one two lt lh st 
 
 -- ---- loops
 
-pub loop_kept : (t l : ℕ) (arc : Arc) (low high : ℕ) (xs : List ℕ) → 0 < t → arc.tail ≡ arc.head → pos l ≡ int_rem_euclid arc.lower (pos t) → low ≤ (t - l) % t → (t - l) % t ≤ high
-    → HasSome (family_at t xs) arc.tail → HasSome (family_at t xs) arc.head → IsNarrowed t arc (low, high) xs xs (record { tail = false; head = false })
+pub loop_kept : (t l : ℕ) (arc : Arc) (low high : ℕ) (xs : List ℕ) → 0 < t → arc.tail ≡ arc.head
+    → pos l ≡ int_rem_euclid arc.lower (pos t) → low ≤ (t - l) % t → (t - l) % t ≤ high
+    → HasSome (family_at t xs) arc.tail → HasSome (family_at t xs) arc.head
+    → IsNarrowed t arc (low, high) xs xs (record { tail = false; head = false })
 loop_kept t l arc low high xs p te el lo hi st sh =
-    let part : (a : ℕ) → a < t → ArePartners t arc (low, high) a a = λ a la. let r = loop_remainder t l arc a p el la in record { low = omega arith; high = omega arith; loop = λ _. refl } in
+    let part : (a : ℕ) → a < t → ArePartners t arc (low, high) a a = λ a la. let r =
+    loop_remainder t l arc a p el la in record { low = omega arith; high = omega arith; loop = λ _. refl } in
     record {
       revises = record {
         supported = record {
@@ -141,12 +167,20 @@ loop_kept t l arc low high xs p te el lo hi st sh =
         keeps = λ _ _ lies. lies;
         else = λ _ _ _ _. refl;
       };
-      tells = record { tail = λ _ _. refl; head = λ _ _. refl; less_tail = λ e. absurd (cc); less_head = λ e. absurd (cc); most = omega arith };
+      tells = record {
+        tail = λ _ _. refl;
+        head = λ _ _. refl;
+        less_tail = λ e. absurd (cc);
+        less_head = λ e. absurd (cc);
+        most = omega arith;
+      };
       some_tail = st;
       some_head = sh;
     }
 
-pub loop_refuted : (t l : ℕ) (arc : Arc) (low high : ℕ) (xs : List ℕ) → 0 < t → arc.tail ≡ arc.head → pos l ≡ int_rem_euclid arc.lower (pos t) → (low ≤ (t - l) % t → (t - l) % t ≤ high → ⊥) → RefutesAt t arc (low, high) (family_at t xs)
+pub loop_refuted : (t l : ℕ) (arc : Arc) (low high : ℕ) (xs : List ℕ) → 0 < t → arc.tail ≡ arc.head
+    → pos l ≡ int_rem_euclid arc.lower (pos t) → (low ≤ (t - l) % t → (t - l) % t ≤ high → ⊥)
+    → RefutesAt t arc (low, high) (family_at t xs)
 loop_refuted t l arc low high xs p te el out s sup lies st sh =
     let d = st.0 in
     let f = sup.tails d st.1 in

@@ -21,7 +21,8 @@ use Rattle.pesp_support.proofs.Placing.{span_most, at_place, below, places_apart
 
 pub full_word : (ws : List ℕ) (place : ℕ) → slice_index ws (place / 64) ≡ 18446744073709551615 → is_set ws place ≡ true
 unfolding is_set
-full_word ws place e = ap (λ (w : ℕ). nat_eq (bit_at w (place % 64)) 1) e ∙ ap (λ (m : ℕ). nat_eq m 1) (bit_at_ones 64 (place % 64) (omega arith))
+full_word ws place e = ap (λ (w : ℕ). nat_eq (bit_at w (place % 64)) 1) e
+    ∙ ap (λ (m : ℕ). nat_eq m 1) (bit_at_ones 64 (place % 64) (omega arith))
 
 same_or : (a b : ℕ) → (a ≡ b) ⊎ (a ≢ b)
 same_or a b = grind arith
@@ -32,14 +33,17 @@ pub record Taking (t event i : ℕ) (old new : List ℕ) : Type 0 where
   pub zero : family_at t new event 0 ≡ family_at t old event 0
   pub others : (other d : ℕ) → other ≢ event → family_at t new other d ≡ family_at t old other d
 
-pub taking_more : (t event i : ℕ) (old xs ys : List ℕ) → 1 ≤ i → i < t → Taking t event i old xs → is_set ys (event * span t + i) ≡ false → ((other : ℕ) → other ≢ event * span t + i → is_set ys other ≡ is_set xs other) → Taking t event (i + 1) old ys
+pub taking_more : (t event i : ℕ) (old xs ys : List ℕ) → 1 ≤ i → i < t → Taking t event i old xs
+    → is_set ys (event * span t + i) ≡ false → ((other : ℕ) → other ≢ event * span t + i
+    → is_set ys other ≡ is_set xs other) → Taking t event (i + 1) old ys
 taking_more t event i old xs ys one l h gone others = record {
   gone = λ d m k. elim (same_or d i) [
     | inl e ↦ ap (λ x. family_at t ys event x) e ∙ (at_place t event i ys l ∙ gone)
     | inr n ↦ same_places t event d xs ys (λ _. others (event * span t + d) (λ q. n (omega arith))) ∙ h.gone d m (omega arith)
   ];
   zero = same_places t event 0 xs ys (λ _. others (event * span t + 0) (λ q. absurd (omega arith))) ∙ h.zero;
-  others = λ other d n. same_places t other d xs ys (λ ld. others (other * span t + d) (places_apart t other event d i ld l n)) ∙ h.others other d n;
+  others = λ other d n. same_places t other d xs ys
+      (λ ld. others (other * span t + d) (places_apart t other event d i ld l n)) ∙ h.others other d n;
 }
 
 pub taken_all : (t event i : ℕ) (old new : List ℕ) → t ≤ i → Taking t event i old new → (d : ℕ) → family_at t new event d ≡ true → d ≡ 0
@@ -51,15 +55,20 @@ taken_all t event i old new m h d s = elim (cases_lt d 1) [
 place_fits : (t event d count m : ℕ) → event < count → d < t → count * span t ≤ m → event * span t + d < m
 place_fits t event d count m l ld h = let s = span_most t in let k = mul-add-lt event (span t) d count l (omega arith) in omega arith
 
-pub start_full : (t : ℕ) (firsts ws : List ℕ) (m : ℕ) → 0 < t → length firsts * span t ≤ m → ((place : ℕ) → place < m → is_set ws place ≡ true) → IsStart t firsts 0 (family_at t ws)
+pub start_full : (t : ℕ) (firsts ws : List ℕ) (m : ℕ) → 0 < t → length firsts * span t ≤ m
+    → ((place : ℕ) → place < m → is_set ws place ≡ true) → IsStart t firsts 0 (family_at t ws)
 start_full t firsts ws m p fits full = record {
   zero = λ event l. at_place t event 0 ws p ∙ full (event * span t + 0) (place_fits t event 0 (length firsts) m l p fits);
   alone = λ event d l. absurd (omega arith);
   others = λ event d l n ld. at_place t event d ws ld ∙ full (event * span t + d) (place_fits t event d (length firsts) m l ld fits);
 }
 
-pub start_more : (t : ℕ) (firsts xs ys : List ℕ) (event : ℕ) → event < length firsts → IsStart t firsts event (family_at t xs) → (slice_index firsts event ≡ event → (d : ℕ) → family_at t ys event d ≡ true → d ≡ 0)
-    → (slice_index firsts event ≢ event → ys ≡ xs) → family_at t ys event 0 ≡ family_at t xs event 0 → ((other d : ℕ) → other ≢ event → family_at t ys other d ≡ family_at t xs other d) → IsStart t firsts (event + 1) (family_at t ys)
+pub start_more : (t : ℕ) (firsts xs ys : List ℕ) (event : ℕ) → event < length firsts
+    → IsStart t firsts event (family_at t xs) → (slice_index firsts event ≡ event → (d : ℕ)
+    → family_at t ys event d ≡ true → d ≡ 0)
+    → (slice_index firsts event ≢ event → ys ≡ xs) → family_at t ys event 0 ≡ family_at t xs event 0
+    → ((other d : ℕ) → other ≢ event → family_at t ys other d ≡ family_at t xs other d)
+    → IsStart t firsts (event + 1) (family_at t ys)
 start_more t firsts xs ys event l h alone whole zero others = record {
   zero = λ e b. elim (same_or e event) [
     | inl q ↦ subst (λ x. family_at t ys x 0 ≡ true) (sym q) (zero ∙ h.zero event l)
@@ -78,7 +87,8 @@ start_more t firsts xs ys event l h alone whole zero others = record {
 }
 
 -- what is full at the start has every supported family
-pub wide_start : (t : ℕ) (arcs : List Arc) (ranges : List (ℕ × ℕ)) (events : ℕ) (firsts ws : List ℕ) → 0 < t → length firsts ≡ events → ((event : ℕ) → event < events → IsFirstOf arcs event (slice_index firsts event))
+pub wide_start : (t : ℕ) (arcs : List Arc) (ranges : List (ℕ × ℕ)) (events : ℕ) (firsts ws : List ℕ) → 0 < t
+    → length firsts ≡ events → ((event : ℕ) → event < events → IsFirstOf arcs event (slice_index firsts event))
     → IsStart t firsts (length firsts) (family_at t ws) → IsWide (net_at t arcs) ranges events (family_at t ws)
 wide_start t arcs ranges events firsts ws p long first h = record {
   family = record {
@@ -116,16 +126,27 @@ ends_of p arcs events ea ee k =
 
 -- ---- the question
 
-pub wide_at : (t : ℕ) (arcs brcs : List Arc) (ranges : List (ℕ × ℕ)) (events m : ℕ) (xs ys : List ℕ) → brcs ≡ arcs → m ≡ events → ys ≡ xs → IsWide (net_at t arcs) ranges events (family_at t xs) → IsWide (net_at t brcs) ranges m (family_at t ys)
+pub wide_at : (t : ℕ) (arcs brcs : List Arc) (ranges : List (ℕ × ℕ)) (events m : ℕ) (xs ys : List ℕ) → brcs ≡ arcs
+    → m ≡ events → ys ≡ xs → IsWide (net_at t arcs) ranges events (family_at t xs)
+    → IsWide (net_at t brcs) ranges m (family_at t ys)
 wide_at t arcs brcs ranges events m xs ys ea em ex h =
-    subst (λ (ws : List ℕ). IsWide (net_at t brcs) ranges m (family_at t ws)) (sym ex) (subst (λ k. IsWide (net_at t brcs) ranges k (family_at t xs)) (sym em) (subst (λ (a : List Arc). IsWide (net_at t a) ranges events (family_at t xs)) (sym ea) h))
+    subst (λ (ws : List ℕ). IsWide (net_at t brcs) ranges m (family_at t ws)) (sym ex)
+    (subst (λ k. IsWide (net_at t brcs) ranges k (family_at t xs)) (sym em)
+    (subst (λ (a : List Arc). IsWide (net_at t a) ranges events (family_at t xs)) (sym ea) h))
 
 pub start_at : (t : ℕ) (firsts gs : List ℕ) (s : Family) → gs ≡ firsts → IsStart t gs (length gs) s → IsStart t firsts (length firsts) s
 start_at t firsts gs s e h = subst (λ (fs : List ℕ). IsStart t fs (length fs) s) e h
 
-pub exact_at : (P : Type 0) (t m events : ℕ) (arcs brcs : List Arc) (ranges : List (ℕ × ℕ)) (v : Rows) → brcs ≡ arcs → m ≡ events → record { net = net_at t arcs; events = events } ≡ v → P ↔ NoFamilyIsSupported (net_at t brcs) ranges m → P ↔ NoFamilyIsSupported v.net ranges v.events
+pub exact_at : (P : Type 0) (t m events : ℕ) (arcs brcs : List Arc) (ranges : List (ℕ × ℕ)) (v : Rows)
+    → brcs ≡ arcs → m ≡ events → record { net = net_at t arcs; events = events } ≡ v
+    → P ↔ NoFamilyIsSupported (net_at t brcs) ranges m → P ↔ NoFamilyIsSupported v.net ranges v.events
 exact_at P t m events arcs brcs ranges v ea em ev h =
-    subst (λ (x : Rows). P ↔ NoFamilyIsSupported x.net ranges x.events) ev (subst (λ k. P ↔ NoFamilyIsSupported (net_at t arcs) ranges k) em (subst (λ (a : List Arc). P ↔ NoFamilyIsSupported (net_at t a) ranges m) ea h))
+    subst (λ (x : Rows). P ↔ NoFamilyIsSupported x.net ranges x.events) ev
+    (subst (λ k. P ↔ NoFamilyIsSupported (net_at t arcs) ranges k) em
+    (subst (λ (a : List Arc). P ↔ NoFamilyIsSupported (net_at t a) ranges m) ea h))
 
-pub firsts_at : (arcs brcs : List Arc) (events : ℕ) (firsts : List ℕ) → brcs ≡ arcs → ((event : ℕ) → event < events → IsFirstOf brcs event (slice_index firsts event)) → (event : ℕ) → event < events → IsFirstOf arcs event (slice_index firsts event)
-firsts_at arcs brcs events firsts e h = subst (λ (a : List Arc). (event : ℕ) → event < events → IsFirstOf a event (slice_index firsts event)) e h
+pub firsts_at : (arcs brcs : List Arc) (events : ℕ) (firsts : List ℕ) → brcs ≡ arcs
+    → ((event : ℕ) → event < events → IsFirstOf brcs event (slice_index firsts event)) → (event : ℕ)
+    → event < events → IsFirstOf arcs event (slice_index firsts event)
+firsts_at arcs brcs events firsts e h = subst (λ (a : List Arc). (event : ℕ) → event < events
+    → IsFirstOf a event (slice_index firsts event)) e h

@@ -39,11 +39,13 @@ split n k = grind arith
 pub is_below : (t word : ℕ) → 0 < t → t ≤ 64 → IsBelow t word (bit_and word (18446744073709551615 / 2 ^ (64 - t)))
 is_below t word p l = record {
   inside = λ d m.
-      let e : bit_at (18446744073709551615 / 2 ^ (64 - t)) d ≡ 1 = bit_shr 18446744073709551615 (64 - t) d ∙ bit_at_ones 64 (64 - t + d) (omega arith) in
+      let e : bit_at (18446744073709551615 / 2 ^ (64 - t)) d ≡ 1 = bit_shr 18446744073709551615 (64 - t) d
+      ∙ bit_at_ones 64 (64 - t + d) (omega arith) in
       let b : bit_at word d < 2 = bit_at-lt word d in
       bit_at_and word (18446744073709551615 / 2 ^ (64 - t)) d ∙ (ap (λ (m : ℕ). min (bit_at word d) m) e ∙ least (bit_at word d) b);
   above = λ d m.
-      let e : bit_at (18446744073709551615 / 2 ^ (64 - t)) d ≡ 0 = bit_shr 18446744073709551615 (64 - t) d ∙ bit_at_ones_above 64 (64 - t + d) (omega arith) in
+      let e : bit_at (18446744073709551615 / 2 ^ (64 - t)) d ≡ 0 = bit_shr 18446744073709551615 (64 - t) d
+      ∙ bit_at_ones_above 64 (64 - t + d) (omega arith) in
       bit_at_and word (18446744073709551615 / 2 ^ (64 - t)) d ∙ (ap (λ (m : ℕ). min (bit_at word d) m) e ∙ none (bit_at word d));
 }
   where
@@ -61,7 +63,8 @@ turned_none t shift set e above = record {
   above = above;
 }
 
-pub is_turned : (t shift set round : ℕ) → t ≤ 64 → shift < t → ((d : ℕ) → t ≤ d → bit_at set d ≡ 0) → IsBelow t (set * 2 ^ (t - shift) % 2 ^ 64) round → IsTurned t shift set (bit_or (set / 2 ^ shift) round)
+pub is_turned : (t shift set round : ℕ) → t ≤ 64 → shift < t → ((d : ℕ) → t ≤ d → bit_at set d ≡ 0)
+    → IsBelow t (set * 2 ^ (t - shift) % 2 ^ 64) round → IsTurned t shift set (bit_or (set / 2 ^ shift) round)
 is_turned t shift set round few l above h = record {
   inside = λ d m. elim (split (d + shift) t) [
     | inl k ↦
@@ -113,14 +116,17 @@ partners_none t first set count e = record {
 pub partners_one : (t first set new : ℕ) → IsTurned t first set new → HavePartners t first 1 set new
 partners_one t first set new h = record {
   found = λ d s. elim (split d t) [
-    | inl l ↦ let q : d + (first + 0) ≡ d + first = omega arith in (0, (let o : 0 < 1 = omega arith in o), along set _ _ (mod_same _ _ t q) (sym (h.inside d l) ∙ s))
+    | inl l ↦ let q : d + (first + 0) ≡ d + first = omega arith in
+        (0, (let o : 0 < 1 = omega arith in o), along set _ _ (mod_same _ _ t q) (sym (h.inside d l) ∙ s))
     | inr m ↦ never (bit_at new d) (h.above d m) s
   ];
-  all = λ d l k. let m = k.1 in let q : d + first ≡ d + (first + k.0) = omega arith in h.inside d l ∙ along set _ _ (mod_same _ _ t q) (k.2);
+  all = λ d l k. let m = k.1 in let q : d + first ≡ d + (first + k.0) = omega arith in
+      h.inside d l ∙ along set _ _ (mod_same _ _ t q) (k.2);
   above = h.above;
 }
 
-pub partners_more : (t first n k set old more : ℕ) → 0 < t → k ≤ n → HavePartners t first n set old → IsTurned t k old more → HavePartners t first (n + k) set (bit_or old more)
+pub partners_more : (t first n k set old more : ℕ) → 0 < t → k ≤ n → HavePartners t first n set old
+    → IsTurned t k old more → HavePartners t first (n + k) set (bit_or old more)
 partners_more t first n k set old more p few h m = record {
   found = λ d s. elim (either (bit_at old d) (bit_at more d) (bit_at-lt old d) (bit_at-lt more d) (sym (bit_at_or old more d) ∙ s)) [
     | inl a ↦ let f = h.found d a in let l = f.1 in (f.0, (let o : f.0 < n + k = omega arith in o), f.2)
@@ -160,7 +166,10 @@ partners_more t first n k set old more p few h m = record {
 
 -- ---- keeping
 
-pub is_kept : (t event others part : ℕ) (ws : List ℕ) → t ≤ 64 → event < length ws → others < 2 ^ 64 → part < 2 ^ 64 → IsBelow t (get_or ws event 0) part → IsKept t event others ws (set ws event (bit_and (get_or ws event 0) (bit_not w64 (bit_and part (bit_not w64 others)))))
+pub is_kept : (t event others part : ℕ) (ws : List ℕ) → t ≤ 64 → event < length ws → others < 2 ^ 64
+    → part < 2 ^ 64 → IsBelow t (get_or ws event 0) part
+    → IsKept t event others ws (set ws event (bit_and (get_or ws event 0)
+    (bit_not w64 (bit_and part (bit_not w64 others)))))
 is_kept t event others part ws few l lo lp h =
     let w : ℕ = get_or ws event 0 in
     let gone : ℕ = bit_and part (bit_not w64 others) in
@@ -169,10 +178,16 @@ is_kept t event others part ws few l lo lp h =
       else = λ i ne. get_or-set_other ws event i (bit_and w (bit_not w64 gone)) 0 ne;
       bits = λ d m.
           let b : d < 64 = omega arith in
-          let e : get_or (set ws event (bit_and w (bit_not w64 gone))) event 0 ≡ bit_and w (bit_not w64 gone) = get_or-set_same ws event (bit_and w (bit_not w64 gone)) 0 l in
-          let x : bit_at gone d ≡ min (bit_at part d) (1 - bit_at others d) = bit_at_and part (bit_not w64 others) d ∙ ap (λ (m : ℕ). min (bit_at part d) m) (bit_at_not w64 others d lo b) in
-          let y : bit_at (bit_and w (bit_not w64 gone)) d ≡ min (bit_at w d) (1 - bit_at gone d) = bit_at_and w (bit_not w64 gone) d ∙ ap (λ (m : ℕ). min (bit_at w d) m) (bit_at_not w64 gone d lg b) in
-          ap (λ (m : ℕ). bit_at m d) e ∙ (y ∙ bits (bit_at w d) (bit_at part d) (bit_at others d) (bit_at gone d) (bit_at-lt w d) (bit_at-lt others d) (h.inside d m) x);
+          let e : get_or (set ws event (bit_and w (bit_not w64 gone))) event 0
+          ≡ bit_and w (bit_not w64 gone) = get_or-set_same ws event (bit_and w (bit_not w64 gone)) 0 l in
+          let x : bit_at gone d ≡ min (bit_at part d) (1 - bit_at others d) =
+          bit_at_and part (bit_not w64 others) d ∙ ap (λ (m : ℕ). min (bit_at part d) m)
+          (bit_at_not w64 others d lo b) in
+          let y : bit_at (bit_and w (bit_not w64 gone)) d
+          ≡ min (bit_at w d) (1 - bit_at gone d) = bit_at_and w (bit_not w64 gone) d
+          ∙ ap (λ (m : ℕ). min (bit_at w d) m) (bit_at_not w64 gone d lg b) in
+          ap (λ (m : ℕ). bit_at m d) e ∙ (y ∙ bits (bit_at w d) (bit_at part d) (bit_at others d) (bit_at gone d)
+          (bit_at-lt w d) (bit_at-lt others d) (h.inside d m) x);
     }
   where
     bits : (w p o g : ℕ) → w < 2 → o < 2 → p ≡ w → g ≡ min p (1 - o) → min w (1 - g) ≡ min w o
@@ -190,9 +205,11 @@ word_within ws t event p l h =
     let m : event * span t ≡ event * 64 = ap (λ x. event * x) e in
     omega arith
 
-at_word : (ws : List ℕ) (event d place : ℕ) → place / 64 ≡ event → place % 64 ≡ d → is_set ws place ≡ nat_eq (bit_at (get_or ws event 0) d) 1
+at_word : (ws : List ℕ) (event d place : ℕ) → place / 64 ≡ event → place % 64 ≡ d
+    → is_set ws place ≡ nat_eq (bit_at (get_or ws event 0) d) 1
 unfolding is_set
-at_word ws event d place q r = ap (λ (m : ℕ). nat_eq (bit_at (get_or ws m 0) (place % 64)) 1) q ∙ ap (λ (m : ℕ). nat_eq (bit_at (get_or ws event 0) m) 1) r
+at_word ws event d place q r = ap (λ (m : ℕ). nat_eq (bit_at (get_or ws m 0) (place % 64)) 1) q
+    ∙ ap (λ (m : ℕ). nat_eq (bit_at (get_or ws event 0) m) 1) r
 
 -- a set is in its event's word
 in_word : (t event d : ℕ) (ws : List ℕ) → 0 < t → t ≤ 64 → d < t → family_at t ws event d ≡ nat_eq (bit_at (get_or ws event 0) d) 1
@@ -212,7 +229,8 @@ has_bit t event d ws p l s = is_one _ (sym (in_word t event d ws p l (placing.be
 bit_has : (t event d : ℕ) (ws : List ℕ) → 0 < t → t ≤ 64 → d < t → bit_at (get_or ws event 0) d ≡ 1 → family_at t ws event d ≡ true
 bit_has t event d ws p l m s = in_word t event d ws p l m ∙ one_is _ s
 
-pub narrowed_word : (t kept other first count set partners : ℕ) (xs ys : List ℕ) → 0 < t → t ≤ 64 → IsBelow t (get_or xs other 0) set → HavePartners t first count set partners → IsKept t kept partners xs ys
+pub narrowed_word : (t kept other first count set partners : ℕ) (xs ys : List ℕ) → 0 < t → t ≤ 64
+    → IsBelow t (get_or xs other 0) set → HavePartners t first count set partners → IsKept t kept partners xs ys
     → Narrows t kept other first count (family_at t xs) (family_at t ys)
 narrowed_word t kept other first count set partners xs ys p l h m k = record {
   else = λ event d ne. elim (split d t) [
@@ -242,7 +260,8 @@ narrowed_word t kept other first count set partners xs ys p l h m k = record {
 
 -- ---- a set with a number
 
-pub some_number : (t event set : ℕ) (ws : List ℕ) → 0 < t → t ≤ 64 → set < 2 ^ 64 → IsBelow t (get_or ws event 0) set → set ≢ 0 → HasSome (family_at t ws) event
+pub some_number : (t event set : ℕ) (ws : List ℕ) → 0 < t → t ≤ 64 → set < 2 ^ 64
+    → IsBelow t (get_or ws event 0) set → set ≢ 0 → HasSome (family_at t ws) event
 some_number t event set ws p l b h ne =
     let f = bit_at-trailing_zeros w64 set (positive set ne) b in
     let d : ℕ = trailing_zeros w64 set in
@@ -254,7 +273,8 @@ some_number t event set ws p l b h ne =
     positive : (n : ℕ) → n ≢ 0 → 0 < n
     positive n h = omega arith
 
-pub no_number : (t event set : ℕ) (ws : List ℕ) → 0 < t → t ≤ 64 → IsBelow t (get_or ws event 0) set → HasSome (family_at t ws) event → set ≢ 0
+pub no_number : (t event set : ℕ) (ws : List ℕ) → 0 < t → t ≤ 64 → IsBelow t (get_or ws event 0) set
+    → HasSome (family_at t ws) event → set ≢ 0
 no_number t event set ws p l h s e =
     let m = placing.below t event s.0 ws s.1 in
     let o : bit_at set s.0 ≡ 1 = h.inside s.0 m ∙ has_bit t event s.0 ws p l s.1 in

@@ -15,7 +15,8 @@ net_at period arcs = record { period = period; arcs = arcs }
 pub record IsWide (n : Net) (ranges : List (ℕ × ℕ)) (events : ℕ) (sets : Family) : Type 0 where
   pub family : IsFamily n events sets
   pub some : HasNoEmpty events sets
-  pub keeps : (s : Family) → IsFamily n events s → IsSupported n ranges s → HasNoEmpty events s → (event difference : ℕ) → event < events → s event difference ≡ true → sets event difference ≡ true
+  pub keeps : (s : Family) → IsFamily n events s → IsSupported n ranges s → HasNoEmpty events s
+      → (event difference : ℕ) → event < events → s event difference ≡ true → sets event difference ≡ true
 
 -- the mark of an event
 abbrev pub is_marked : List Bool → ℕ → Bool
@@ -27,21 +28,26 @@ IsQuiet marks arc = (is_marked marks arc.tail ≡ false) × (is_marked marks arc
 
 -- each row without a marked end supports the sets
 abbrev pub QuietRowsSupport : Net → List (ℕ × ℕ) → List Bool → Family → Type 0
-QuietRowsSupport n ranges marks sets = (i : ℕ) → i < length n.arcs → IsQuiet marks (arc_at n.arcs i) → IsSupportedBy n.period (arc_at n.arcs i) (slack_range ranges i) sets
+QuietRowsSupport n ranges marks sets = (i : ℕ) → i < length n.arcs → IsQuiet marks (arc_at n.arcs i)
+    → IsSupportedBy n.period (arc_at n.arcs i) (slack_range ranges i) sets
 
 -- what a round shows
 abbrev pub IsRound : Net → List (ℕ × ℕ) → ℕ → List ℕ → List ℕ → List Bool → Round → Type 0
 IsRound n ranges events old new marks Emptied = NoFamilyIsSupported n ranges events
-IsRound n ranges events old new marks Narrowed = IsWide n ranges events (family_at n.period new) × QuietRowsSupport n ranges marks (family_at n.period new) × (sum new < sum old)
-IsRound n ranges events old new marks Settled = IsWide n ranges events (family_at n.period new) × IsSupported n ranges (family_at n.period new)
+IsRound n ranges events old new marks Narrowed = IsWide n ranges events (family_at n.period new)
+    × QuietRowsSupport n ranges marks (family_at n.period new) × (sum new < sum old)
+IsRound n ranges events old new marks Settled = IsWide n ranges events (family_at n.period new)
+    × IsSupported n ranges (family_at n.period new)
 
 -- rows before a place that have no marked end now, and rows from there on that have none now and had none before
 pub record InRound (n : Net) (ranges : List (ℕ × ℕ)) (before now : List Bool) (i : ℕ) (sets : Family) : Type 0 where
   pub done : (k : ℕ) → k < i → IsQuiet now (arc_at n.arcs k) → IsSupportedBy n.period (arc_at n.arcs k) (slack_range ranges k) sets
-  pub left : (k : ℕ) → i ≤ k → k < length n.arcs → IsQuiet before (arc_at n.arcs k) → IsQuiet now (arc_at n.arcs k) → IsSupportedBy n.period (arc_at n.arcs k) (slack_range ranges k) sets
+  pub left : (k : ℕ) → i ≤ k → k < length n.arcs → IsQuiet before (arc_at n.arcs k) → IsQuiet now (arc_at n.arcs k)
+      → IsSupportedBy n.period (arc_at n.arcs k) (slack_range ranges k) sets
 
 -- a row was visited where that may take something away
-pub record Stepped (n : Net) (ranges : List (ℕ × ℕ)) (events : ℕ) (before was now : List Bool) (i : ℕ) (old new : List ℕ) (changed : Bool) : Type 0 where
+pub record Stepped (n : Net) (ranges : List (ℕ × ℕ)) (events : ℕ) (before was now : List Bool) (i : ℕ)
+    (old new : List ℕ) (changed : Bool) : Type 0 where
   pub wide : IsWide n ranges events (family_at n.period new)
   pub round : InRound n ranges before now (i + 1) (family_at n.period new)
   pub less : changed ≡ true → sum new < sum old

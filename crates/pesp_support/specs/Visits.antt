@@ -11,11 +11,13 @@ HasSome s event = (difference : ℕ) × (s event difference ≡ true)
 
 -- of two families the one's sets at both ends of a row lie in the other's
 abbrev pub LiesAt : Arc → Family → Family → Type 0
-LiesAt arc s t = (difference : ℕ) → ((s arc.tail difference ≡ true) → t arc.tail difference ≡ true) × ((s arc.head difference ≡ true) → t arc.head difference ≡ true)
+LiesAt arc s t = (difference : ℕ) → ((s arc.tail difference ≡ true) → t arc.tail difference ≡ true)
+    × ((s arc.head difference ≡ true) → t arc.head difference ≡ true)
 
 -- no family that the row supports lies, at its ends, in the sets without being empty at one
 abbrev pub RefutesAt : ℕ → Arc → ℕ × ℕ → Family → Type 0
-RefutesAt period arc range sets = (s : Family) → IsSupportedBy period arc range s → LiesAt arc s sets → HasSome s arc.tail → HasSome s arc.head → ⊥
+RefutesAt period arc range sets = (s : Family) → IsSupportedBy period arc range s → LiesAt arc s sets
+    → HasSome s arc.tail → HasSome s arc.head → ⊥
 
 -- the row supports the sets at its ends, and nothing else was taken away
 pub record Revises (period : ℕ) (arc : Arc) (range : ℕ × ℕ) (old new : Family) : Type 0 where

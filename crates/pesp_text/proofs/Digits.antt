@@ -42,7 +42,8 @@ head_digit c cs h = grind (arith, h)
 head_other : (c : ℕ) (cs : List ℕ) → is_ascii_digit c ≡ false → all_ascii_digits (c ∷ cs) ≡ false
 head_other c cs h = grind (arith, h)
 
-pub is_read_more : (w : List ℕ) (i n c : ℕ) → i < length w → c ≡ get_or w i 0 → is_ascii_digit c ≡ true → IsReadTo w i n → IsReadTo w (i + 1) (n * 10 + (c - 48))
+pub is_read_more : (w : List ℕ) (i n c : ℕ) → i < length w → c ≡ get_or w i 0 → is_ascii_digit c ≡ true
+    → IsReadTo w i n → IsReadTo w (i + 1) (n * 10 + (c - 48))
 is_read_more w i n c lt is digit so_far =
     let cut : drop i w ≡ c ∷ drop (i + 1) w = rw (add-one, is) (drop-cons w i 0 lt) in
     let range = digit_range c digit in
@@ -75,7 +76,8 @@ other_is_none w i n lt other so_far =
     let none : all_ascii_digits w ≡ false = sym (rw cut at so_far.digits) ∙ head_other (get_or w i 0) (drop (i + 1) w) other in
     not_natural w (grind (arith, none))
 
-pub all_is_some : (w : List ℕ) (i n : ℕ) → length w ≤ i → 0 < length w → length w ≤ 18 → (get_or w 0 0 ≡ 48 → length w ≡ 1) → IsReadTo w i n → Some n ≡ natural_of w
+pub all_is_some : (w : List ℕ) (i n : ℕ) → length w ≤ i → 0 < length w → length w ≤ 18
+    → (get_or w 0 0 ≡ 48 → length w ≡ 1) → IsReadTo w i n → Some n ≡ natural_of w
 unfolding natural_of is_natural
 all_is_some w i n past some short led so_far =
     let nil : drop i w ≡ [] = drop_all i w past in
@@ -102,8 +104,10 @@ pub natural_spells : (w : List ℕ) (n : ℕ) → natural_of w ≡ Some n → Sp
 unfolding is_natural
 natural_spells w n h =
     let p = natural_parts w n h in
-    let a = and_right (nat_lt 0 (length w) && nat_le (length w) 18 && all_ascii_digits w) (not (slice_index w 0 == 48) || length w == 1) p.0 in
-    let b = and_left (nat_lt 0 (length w) && nat_le (length w) 18 && all_ascii_digits w) (not (slice_index w 0 == 48) || length w == 1) p.0 in
+    let a = and_right (nat_lt 0 (length w) && nat_le (length w) 18 && all_ascii_digits w)
+    (not (slice_index w 0 == 48) || length w == 1) p.0 in
+    let b = and_left (nat_lt 0 (length w) && nat_le (length w) 18 && all_ascii_digits w)
+    (not (slice_index w 0 == 48) || length w == 1) p.0 in
     let digits = and_right (nat_lt 0 (length w) && nat_le (length w) 18) (all_ascii_digits w) b in
     let c = and_left (nat_lt 0 (length w) && nat_le (length w) 18) (all_ascii_digits w) b in
     let some : 0 < length w = grind (arith, nat_tests, c) in
@@ -161,7 +165,8 @@ cases : (b : Bool) → (b ≡ true) ⊎ (b ≡ false)
 cases true = inl refl
 cases false = inr refl
 
-minus_spells : (w : List ℕ) (o : Option ℕ) (z : ℤ) → get_or w 0 0 ≡ 45 → ((n : ℕ) → o ≡ Some n → SpellsNatural (drop 1 w) n) → negated o ≡ Some z → SpellsWhole w z
+minus_spells : (w : List ℕ) (o : Option ℕ) (z : ℤ) → get_or w 0 0 ≡ 45
+    → ((n : ℕ) → o ≡ Some n → SpellsNatural (drop 1 w) n) → negated o ≡ Some z → SpellsWhole w z
 minus_spells w None z h spells e = absurd cc
 minus_spells w (Some zero) z h spells e = absurd cc
 minus_spells [] (Some (suc n)) z h spells e = absurd (omega arith)
@@ -181,7 +186,8 @@ pub whole_spells : (w : List ℕ) (z : ℤ) → whole_of w ≡ Some z → Spells
 unfolding whole_of
 whole_spells w z h =
     elim (cases (get_or w 0 0 == 45)) [
-      | inl is ↦ minus_spells w (natural_of (drop 1 w)) z (eqb-true (get_or w 0 0) 45 is) (λ n e. natural_spells (drop 1 w) n e) (rw is at h)
+      | inl is ↦ minus_spells w (natural_of (drop 1 w)) z (eqb-true (get_or w 0 0) 45 is)
+          (λ n e. natural_spells (drop 1 w) n e) (rw is at h)
       | inr isnt ↦ plain_spells w (natural_of w) z (λ n e. natural_spells w n e) (rw isnt at h)
     ]
 

@@ -46,9 +46,15 @@ pub record Noted (bs : List Branching) (kept : List Kept) (noted : List ℕ) (le
 
 size_is : (tree : Numbered) (leaf : ℕ → Leaf) → length (preorder (fill tree leaf)) ≡ size tree
 size_is (Number n) leaf = refl
-size_is (Cuts cut low high) leaf = omega (arith, length-append (preorder (fill low leaf)) (preorder (fill high leaf)), size_is low leaf, size_is high leaf)
+size_is (Cuts cut low high) leaf = omega (
+  arith,
+  length-append (preorder (fill low leaf)) (preorder (fill high leaf)),
+  size_is low leaf,
+  size_is high leaf,
+)
 
-pub noted_none : (bs : List Branching) (kept : List Kept) (left : ℕ) → AreNumbered bs kept → left ≡ 2 * length bs + 1 → Noted bs kept [] left (0 ∷ [])
+pub noted_none : (bs : List Branching) (kept : List Kept) (left : ℕ) → AreNumbered bs kept
+    → left ≡ 2 * length bs + 1 → Noted bs kept [] left (0 ∷ [])
 noted_none bs kept left a e = record {
   trees = (grown bs).tree ∷ [];
   stand = (a.stands, λ path m h. (a.nodes.only path m h).2, tt);
@@ -60,9 +66,11 @@ noted_none bs kept left a e = record {
 
 -- a node is noted where it has a leaf, and its parts' trees have the other leaves
 abbrev Opened : List Branching → List Kept → Kept → ℕ → Numbered → Type 0
-Opened bs kept one n tree = (trees : List Numbered) × AreTrees bs kept (reverse (parts_in one)) trees × (numbers tree ≡ own_in one n ++ numbers_in trees) × (size tree ≡ 1 + size_in trees)
+Opened bs kept one n tree = (trees : List Numbered) × AreTrees bs kept (reverse (parts_in one)) trees
+    × (numbers tree ≡ own_in one n ++ numbers_in trees) × (size tree ≡ 1 + size_in trees)
 
-open_node : (bs : List Branching) (kept : List Kept) (n : ℕ) (tree : Numbered) → Stands bs kept tree n → HasLeaves (map kept_leaf kept) tree → Opened bs kept (get_or kept n no_node) n tree
+open_node : (bs : List Branching) (kept : List Kept) (n : ℕ) (tree : Numbered) → Stands bs kept tree n
+    → HasLeaves (map kept_leaf kept) tree → Opened bs kept (get_or kept n no_node) n tree
 open_node bs kept n (Number m) s h =
     let leaf = leaf_in_kept kept n (h [] n s) in
     subst (λ one. Opened bs kept one n (Number m)) (sym (leaf.1)) ([], tt, ap (λ (k : ℕ). k ∷ []) s, refl)
@@ -76,13 +84,15 @@ open_node bs kept n (Cuts cut low high) s h =
 
 numbers_append : (ts us : List Numbered) → numbers_in (ts ++ us) ≡ numbers_in ts ++ numbers_in us
 numbers_append [] us = refl
-numbers_append (t ∷ ts) us = ap (λ l. numbers t ++ l) (numbers_append ts us) ∙ sym (append_assoc (numbers t) (numbers_in ts) (numbers_in us))
+numbers_append (t ∷ ts) us = ap (λ l. numbers t ++ l) (numbers_append ts us)
+    ∙ sym (append_assoc (numbers t) (numbers_in ts) (numbers_in us))
 
 size_append : (ts us : List Numbered) → size_in (ts ++ us) ≡ size_in ts + size_in us
 size_append [] us = omega arith
 size_append (t ∷ ts) us = omega (arith, size_append ts us)
 
-step : (bs : List Branching) (kept : List Kept) (noted : List ℕ) (left n : ℕ) (ns : List ℕ) (trees : List Numbered) → AreTrees bs kept (n ∷ ns) trees → numbers (grown bs).tree ≡ noted ++ numbers_in trees → left ≡ size_in trees
+step : (bs : List Branching) (kept : List Kept) (noted : List ℕ) (left n : ℕ) (ns : List ℕ) (trees : List Numbered)
+    → AreTrees bs kept (n ∷ ns) trees → numbers (grown bs).tree ≡ noted ++ numbers_in trees → left ≡ size_in trees
     → Noted bs kept (noted ++ own_at kept n) (left - 1) (reverse (parts_at kept n) ++ ns)
 step bs kept noted left n ns [] stand all count = absurd stand
 step bs kept noted left n ns (tree ∷ trees) stand all count =
@@ -101,7 +111,8 @@ step bs kept noted left n ns (tree ∷ trees) stand all count =
 
 -- ---- the loop, whose stack has the next node last
 
-module _ (bs : List Branching) (kept : List Kept) (noted waiting popped : List ℕ) (left n : ℕ) (w : Noted bs kept noted left (reverse waiting)) (e : waiting ≡ popped ++ n ∷ []) where
+module _ (bs : List Branching) (kept : List Kept) (noted waiting popped : List ℕ) (left n : ℕ)
+    (w : Noted bs kept noted left (reverse waiting)) (e : waiting ≡ popped ++ n ∷ []) where
   next : Noted bs kept noted left (n ∷ reverse popped)
   next = subst (λ ns. Noted bs kept noted left ns) (turned waiting popped n e) w
 
@@ -122,9 +133,11 @@ module _ (bs : List Branching) (kept : List Kept) (noted waiting popped : List �
       by_trees [] s c = absurd s
       by_trees (tree ∷ trees) s c = omega (arith, c, some_node tree)
 
-  pub noted_more : (noted' waiting' : List ℕ) (left' : ℕ) → left' ≡ left - 1 → noted' ≡ noted ++ own_at kept n → waiting' ≡ popped ++ parts_at kept n → Noted bs kept noted' left' (reverse waiting')
+  pub noted_more : (noted' waiting' : List ℕ) (left' : ℕ) → left' ≡ left - 1 → noted' ≡ noted ++ own_at kept n
+      → waiting' ≡ popped ++ parts_at kept n → Noted bs kept noted' left' (reverse waiting')
   noted_more noted' waiting' left' is_left is_noted is_waiting =
-      let after : reverse waiting' ≡ reverse (parts_at kept n) ++ reverse popped = ap reverse is_waiting ∙ reverse-append popped (parts_at kept n) in
+      let after : reverse waiting' ≡ reverse (parts_at kept n) ++ reverse popped = ap reverse is_waiting
+      ∙ reverse-append popped (parts_at kept n) in
       rw is_noted (rw is_left (rw after (step bs kept noted left n (reverse popped) next.trees next.stand next.all next.count)))
 
 -- ---- the paths to the leaves
@@ -140,7 +153,9 @@ map_append f (x ∷ xs) ys = ap (λ l. f x ∷ l) (map_append f xs ys)
 abbrev Path : Type 0
 Path = List (Cut × Side)
 
-paths_are : (tree : Numbered) (leaf : ℕ → Leaf) (path : ℕ → Path) (under : Path → Path) → ((q : Path) (m : ℕ) → IsAt tree q m → path m ≡ under q) → map path (numbers tree) ≡ map under (leaf_paths (fill tree leaf))
+paths_are : (tree : Numbered) (leaf : ℕ → Leaf) (path : ℕ → Path) (under : Path → Path)
+    → ((q : Path) (m : ℕ) → IsAt tree q m → path m ≡ under q)
+    → map path (numbers tree) ≡ map under (leaf_paths (fill tree leaf))
 paths_are (Number m) leaf path under h = ap (λ (p : Path). p ∷ []) (h [] m refl)
 paths_are (Cuts cut low high) leaf path under h =
     let lows = leaf_paths (fill low leaf) in
@@ -158,16 +173,20 @@ numbers_have (Number m) P h = All-one P m (h [] m refl)
   where
     All-one : (P : ℕ → Type 0) (m : ℕ) → P m → All P (m ∷ [])
     All-one P m p = search rules
-numbers_have (Cuts cut low high) P h = All-append P (numbers low) (numbers high) (numbers_have low P (λ q m a. h ((cut, Low) ∷ q) m (refl, a))) (numbers_have high P (λ q m a. h ((cut, High) ∷ q) m (refl, a)))
+numbers_have (Cuts cut low high) P h = All-append P (numbers low) (numbers high)
+    (numbers_have low P (λ q m a. h ((cut, Low) ∷ q) m (refl, a)))
+    (numbers_have high P (λ q m a. h ((cut, High) ∷ q) m (refl, a)))
 
-module _ (bs : List Branching) (kept : List Kept) (noted waiting : List ℕ) (left : ℕ) (a : AreNumbered bs kept) (w : Noted bs kept noted left (reverse waiting)) (e : waiting ≡ []) where
+module _ (bs : List Branching) (kept : List Kept) (noted waiting : List ℕ) (left : ℕ) (a : AreNumbered bs kept)
+    (w : Noted bs kept noted left (reverse waiting)) (e : waiting ≡ []) where
   all_noted : numbers (grown bs).tree ≡ noted
   all_noted = by_trees last.trees last.stand last.all
     where
       last : Noted bs kept noted left []
       last = subst (λ ns. Noted bs kept noted left (reverse ns)) e w
 
-      by_trees : (trees : List Numbered) → AreTrees bs kept [] trees → numbers (grown bs).tree ≡ noted ++ numbers_in trees → numbers (grown bs).tree ≡ noted
+      by_trees : (trees : List Numbered) → AreTrees bs kept [] trees
+          → numbers (grown bs).tree ≡ noted ++ numbers_in trees → numbers (grown bs).tree ≡ noted
       by_trees [] s all = all ∙ append-nil noted
       by_trees (tree ∷ trees) s all = absurd s
 
@@ -184,7 +203,9 @@ module _ (bs : List Branching) (kept : List Kept) (noted waiting : List ℕ) (le
       map_same (x ∷ xs) = ap (λ l. x ∷ l) (map_same xs)
 
   pub noted_leaves : All (λ n. IsSome (get_or (map kept_leaf kept) n None)) noted
-  noted_leaves = subst (All (λ n. IsSome (get_or (map kept_leaf kept) n None))) all_noted (numbers_have (grown bs).tree (λ n. IsSome (get_or (map kept_leaf kept) n None)) (λ q m h. some_is (get_or (map kept_leaf kept) m None) (a.nodes.only q m h).2))
+  noted_leaves = subst (All (λ n. IsSome (get_or (map kept_leaf kept) n None))) all_noted
+      (numbers_have (grown bs).tree (λ n. IsSome (get_or (map kept_leaf kept) n None))
+      (λ q m h. some_is (get_or (map kept_leaf kept) m None) (a.nodes.only q m h).2))
     where
       some_is : (o : Option Leaf) → o ≢ None → IsSome o
       some_is None h = absurd (h refl)

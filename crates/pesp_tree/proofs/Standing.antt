@@ -48,8 +48,11 @@ pub length_leaves : (kept : List Kept) → length (map kept_leaf kept) ≡ lengt
 length_leaves [] = refl
 length_leaves (one ∷ kept) = omega (arith, length_leaves kept)
 
-pub map_split : (kept : List Kept) (n place : ℕ) (low high : OwnLeaf) → map kept_leaf (after_split kept n place (KeptLeaf low) (KeptLeaf high)) ≡ split_leaves (map kept_leaf kept) n (Some (leaf_of low)) (Some (leaf_of high))
-map_split kept n place low high = map_append (set kept n (Branched place)) (KeptLeaf low ∷ KeptLeaf high ∷ []) ∙ ap (λ l. l ++ Some (leaf_of low) ∷ Some (leaf_of high) ∷ []) (map_set kept n (Branched place))
+pub map_split : (kept : List Kept) (n place : ℕ) (low high : OwnLeaf)
+    → map kept_leaf (after_split kept n place (KeptLeaf low) (KeptLeaf high))
+    ≡ split_leaves (map kept_leaf kept) n (Some (leaf_of low)) (Some (leaf_of high))
+map_split kept n place low high = map_append (set kept n (Branched place)) (KeptLeaf low ∷ KeptLeaf high ∷ [])
+    ∙ ap (λ l. l ++ Some (leaf_of low) ∷ Some (leaf_of high) ∷ []) (map_set kept n (Branched place))
 
 leaf_is_no_branch : (leaf : OwnLeaf) (place : ℕ) → KeptLeaf leaf ≡ Branched place → ⊥
 leaf_is_no_branch leaf place e = cc
@@ -70,7 +73,8 @@ apart kept n m place h e = λ same. h (ap (λ x. get_or (map kept_leaf kept) x N
 
 -- ---- how a tree stands
 
-pub stands_set : (bs : List Branching) (kept : List Kept) (n : ℕ) (new : Kept) (tree : Numbered) (m : ℕ) → get_or (map kept_leaf kept) n None ≢ None → Stands bs kept tree m → Stands bs (set kept n new) tree m
+pub stands_set : (bs : List Branching) (kept : List Kept) (n : ℕ) (new : Kept) (tree : Numbered) (m : ℕ)
+    → get_or (map kept_leaf kept) n None ≢ None → Stands bs kept tree m → Stands bs (set kept n new) tree m
 stands_set bs kept n new (Number l) m h s = s
 stands_set bs kept n new (Cuts cut low high) m h s = (
   s.0,
@@ -88,17 +92,24 @@ get-last (x ∷ xs) a d = get-last xs a d
 one_more : (bs : List Branching) (b : Branching) → length (bs ++ b ∷ []) ≡ length bs + 1
 one_more bs b = length-append bs (b ∷ [])
 
-stays : (kept : List Kept) (n place : ℕ) (low high : Kept) (m at : ℕ) → get_or (map kept_leaf kept) n None ≢ None → get_or kept m no_node ≡ Branched at → get_or (after_split kept n place low high) m no_node ≡ Branched at
+stays : (kept : List Kept) (n place : ℕ) (low high : Kept) (m at : ℕ) → get_or (map kept_leaf kept) n None ≢ None
+    → get_or kept m no_node ≡ Branched at → get_or (after_split kept n place low high) m no_node ≡ Branched at
 stays kept n place low high m at h e =
-    let within : m < length (set kept n (Branched place)) = omega (arith, branch_in_range kept m at e, length-set kept n (Branched place)) in
-    get-left (set kept n (Branched place)) (low ∷ high ∷ []) m no_node within ∙ get_or-set_other kept n m (Branched place) no_node (apart kept n m at h e) ∙ e
+    let within : m < length (set kept n (Branched place)) =
+    omega (arith, branch_in_range kept m at e, length-set kept n (Branched place)) in
+    get-left (set kept n (Branched place)) (low ∷ high ∷ []) m no_node within
+    ∙ get_or-set_other kept n m (Branched place) no_node (apart kept n m at h e) ∙ e
 
-becomes : (kept : List Kept) (n place : ℕ) (low high : Kept) → n < length kept → get_or (after_split kept n place low high) n no_node ≡ Branched place
+becomes : (kept : List Kept) (n place : ℕ) (low high : Kept) → n < length kept
+    → get_or (after_split kept n place low high) n no_node ≡ Branched place
 becomes kept n place low high h =
     let within : n < length (set kept n (Branched place)) = omega (arith, h, length-set kept n (Branched place)) in
     get-left (set kept n (Branched place)) (low ∷ high ∷ []) n no_node within ∙ get_or-set_same kept n (Branched place) no_node h
 
-leaf_branches : (test : Bool) (bs : List Branching) (kept : List Kept) (b : Branching) (k : ℕ) (low high : Kept) (l m : ℕ) → (l == b.node) ≡ test → b.node < length kept → k ≡ 2 * length bs + 1 → l ≡ m → Stands (bs ++ b ∷ []) (after_split kept b.node (length bs) low high) (if test then Cuts b.cut (Number k) (Number (k + 1)) else Number l) m
+leaf_branches : (test : Bool) (bs : List Branching) (kept : List Kept) (b : Branching) (k : ℕ) (low high : Kept)
+    (l m : ℕ) → (l == b.node) ≡ test → b.node < length kept → k ≡ 2 * length bs + 1 → l ≡ m
+    → Stands (bs ++ b ∷ []) (after_split kept b.node (length bs) low high)
+    (if test then Cuts b.cut (Number k) (Number (k + 1)) else Number l) m
 leaf_branches false bs kept b k low high l m t h place s = s
 leaf_branches true bs kept b k low high l m t h place s =
     let here : m ≡ b.node = sym s ∙ same_number l b.node t in (
@@ -110,7 +121,10 @@ leaf_branches true bs kept b k low high l m t h place s =
       omega (arith, place),
     )
 
-pub stands_split : (bs : List Branching) (kept : List Kept) (b : Branching) (k : ℕ) (low high : Kept) (tree : Numbered) (m : ℕ) → b.node < length kept → get_or (map kept_leaf kept) b.node None ≢ None → k ≡ 2 * length bs + 1 → Stands bs kept tree m → Stands (bs ++ b ∷ []) (after_split kept b.node (length bs) low high) (split b.node b.cut k tree) m
+pub stands_split : (bs : List Branching) (kept : List Kept) (b : Branching) (k : ℕ) (low high : Kept)
+    (tree : Numbered) (m : ℕ) → b.node < length kept → get_or (map kept_leaf kept) b.node None ≢ None
+    → k ≡ 2 * length bs + 1 → Stands bs kept tree m
+    → Stands (bs ++ b ∷ []) (after_split kept b.node (length bs) low high) (split b.node b.cut k tree) m
 stands_split bs kept b k low high (Number l) m h was place s = leaf_branches (l == b.node) bs kept b k low high l m refl h place s
 stands_split bs kept b k low high (Cuts cut first second) m h was place s = (
   s.0,

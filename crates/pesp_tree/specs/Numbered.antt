@@ -82,7 +82,12 @@ tree_of bs leaves = fill (grown bs).tree (leaf_in leaves)
 
 -- the tree under work that is kept by these branchings and nodes, with room for so many nodes
 abbrev pub value_of : List Branching → List Kept → ℕ → WorkTreeValue
-value_of bs kept room = record { tree = tree_of bs (map kept_leaf kept); paths = (grown bs).paths; leaves = map kept_leaf kept; room = room }
+value_of bs kept room = record {
+  tree = tree_of bs (map kept_leaf kept);
+  paths = (grown bs).paths;
+  leaves = map kept_leaf kept;
+  room = room;
+}
 
 -- ---- what holds of the lists
 
@@ -90,7 +95,8 @@ value_of bs kept room = record { tree = tree_of bs (map kept_leaf kept); paths =
 pub record AreNodes (bs : List Branching) (leaves : List (Option Leaf)) : Type 0 where
   pub count : length (grown bs).paths ≡ length leaves
   pub stands : (n : ℕ) → n < length leaves → slice_index_or leaves n None ≢ None → IsAt (grown bs).tree (path_in (grown bs) n) n
-  pub only : (path : List (Cut × Side)) (n : ℕ) → IsAt (grown bs).tree path n → (n < length leaves) × (path_in (grown bs) n ≡ path) × (slice_index_or leaves n None ≢ None)
+  pub only : (path : List (Cut × Side)) (n : ℕ) → IsAt (grown bs).tree path n
+      → (n < length leaves) × (path_in (grown bs) n ≡ path) × (slice_index_or leaves n None ≢ None)
 
 -- each branching is of a node that stood before
 abbrev pub AreBelow : ℕ → List Branching → Type 0
@@ -113,7 +119,9 @@ no_node = KeptLeaf (GapLeaf 0)
 abbrev pub Stands : List Branching → List Kept → Numbered → ℕ → Type 0
 Stands bs kept (Number m) n = m ≡ n
 Stands bs kept (Cuts cut low high) n =
-    (place : ℕ) × (slice_index_or kept n no_node ≡ Branched place) × (place < length bs) × ((slice_index_or bs place no_branching).cut ≡ cut) × Stands bs kept low (2 * place + 1) × Stands bs kept high (2 * place + 2)
+    (place : ℕ) × (slice_index_or kept n no_node ≡ Branched place) × (place < length bs)
+    × ((slice_index_or bs place no_branching).cut ≡ cut) × Stands bs kept low (2 * place + 1)
+    × Stands bs kept high (2 * place + 2)
 
 -- the lists keep a tree whose nodes are numbered as they were made
 pub record AreNumbered (bs : List Branching) (kept : List Kept) : Type 0 where

@@ -54,5 +54,6 @@ pub record IsWhole (t : WorkTreeValue) : Type 0 where
   pub lines : length (preorder t.tree) ≡ length t.leaves
   pub within : length t.leaves ≤ 1000000
   pub stands : (node : ℕ) (leaf : Leaf) → leaf_at t node ≡ Some leaf → IsLeafAt t.tree (path_to t node) leaf
-  pub found : (path : List (Cut × Side)) (leaf : Leaf) → IsLeafAt t.tree path leaf → (node : ℕ) × (path_to t node ≡ path) × (leaf_at t node ≡ Some leaf)
+  pub found : (path : List (Cut × Side)) (leaf : Leaf) → IsLeafAt t.tree path leaf
+      → (node : ℕ) × (path_to t node ≡ path) × (leaf_at t node ≡ Some leaf)
   pub one : (m n : ℕ) → IsSome (leaf_at t m) → IsSome (leaf_at t n) → path_to t m ≡ path_to t n → m ≡ n

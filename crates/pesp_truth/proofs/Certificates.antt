@@ -8,7 +8,9 @@ use Rattle.pesp_truth.specs.Truth.{IsTrueAnswer}
 use Rattle.pesp_truth.specs.Certificates.{Content, IsValid, ShowsAnswer, least_of, shown_times, shown_labels}
 use Rattle.pesp_truth.proofs.Trees.{CostsAtLeast, root_is_right}
 
-answer_is_true : (p : Pesp) (answer : Answer) (labels : List ℤ) (times : List ℕ) → ShowsAnswer p answer labels times → ((t : List ℕ) → IsTimetable p t → CostsAtLeast p t (least_of answer)) → IsTrueAnswer p answer times
+answer_is_true : (p : Pesp) (answer : Answer) (labels : List ℤ) (times : List ℕ)
+    → ShowsAnswer p answer labels times → ((t : List ℕ) → IsTimetable p t → CostsAtLeast p t (least_of answer))
+    → IsTrueAnswer p answer times
 answer_is_true p (Optimal c) labels times s h = (s.1, h)
 answer_is_true p Infeasible labels times s h = h
 answer_is_true p (Bounded least (Some c)) labels times s h = (s.1.1, s.0, h)

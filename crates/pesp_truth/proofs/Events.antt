@@ -8,5 +8,7 @@ use Rattle.pesp_problem.specs.Families.{NoFamilyIsSupported}
 use Rattle.pesp_problem.proofs.Supporting.{none_for_all}
 use Rattle.pesp_truth.specs.Trees.{ByPropagation, IsShut}
 
-pub any_count : (n : Net) (table : List (List SignedRow)) (node : Node) (events : ℕ) → 0 < n.period → All (λ arc. (arc.tail < events) × (arc.head < events)) n.arcs → IsShut n table ByPropagation node ↔ NoFamilyIsSupported n node.slacks events
+pub any_count : (n : Net) (table : List (List SignedRow)) (node : Node) (events : ℕ) → 0 < n.period
+    → All (λ arc. (arc.tail < events) × (arc.head < events)) n.arcs
+    → IsShut n table ByPropagation node ↔ NoFamilyIsSupported n node.slacks events
 any_count n table node events h ends = (λ s. none_for_all n node.slacks events s.0 h ends s.1, λ none. (events, none))

@@ -18,7 +18,9 @@ times_natural w y = omega (arith, ints, mul-le w (pos 0) (pos y) (omega (arith, 
 pub no_pairs : (n : Net) (table : List (List SignedRow)) (node : Node) → IsSound n table (Some 0) (Ends (Bound [])) node
 no_pairs n table node =
     let count = length n.arcs in
-    let terms = sum_below-le count (λ i. pos 0) (slack_part n table node [] true) (λ i l. le-min _ _ _ (times_natural (arc_at n.arcs i).weight _) (times_natural (arc_at n.arcs i).weight _)) in
+    let terms = sum_below-le count (λ i. pos 0) (slack_part n table node [] true)
+    (λ i l. le-min _ _ _ (times_natural (arc_at n.arcs i).weight _)
+    (times_natural (arc_at n.arcs i).weight _)) in
     let none = sum_below-zero count (λ i. pos 0) (λ i l. refl) in
     let flows = sum_below-zero count (λ i. pos 0 *ℤ (arc_at n.arcs i).lower) (λ i l. zero-mul (arc_at n.arcs i).lower) in
     (All-nil (λ (pair : Pair). Names (length table) pair.cycle), omega (arith, ints, terms, none, flows))

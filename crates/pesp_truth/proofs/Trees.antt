@@ -19,46 +19,61 @@ use Rattle.pesp_truth.specs.Trees.{Tree, Leaf, Reason, Ends, Bound, Shut, ByPair
 abbrev pub weighted_sum : Net → (ℕ → ℕ) → ℤ
 weighted_sum n slacks = over_arcs n.arcs (λ i. weight_of true (arc_at n.arcs i) *ℤ pos (slacks i))
 
--- what a sound tree says of the slacks of times in its node: their weighted sum is at least this, or, where no least cost is wanted, there are none
+-- what a sound tree says of the slacks of times in its node: their weighted sum is at least this, or, where no least
+-- cost is wanted, there are none
 abbrev pub SumsToAtLeast : Net → (ℕ → ℕ) → Option ℕ → Type 0
 SumsToAtLeast n slacks None = ⊥
 SumsToAtLeast n slacks (Some least) = pos least ≤ℤ weighted_sum n slacks
 
-bound_leaf : (n : Net) (table : List (List SignedRow)) (slacks : ℕ → ℕ) (node : Node) (pairs : List Pair) (least : ℕ) → 0 < n.period → PairsExist table pairs → IsSomeAnd (leaf_value n table node pairs true) (λ v. pos least ≤ℤ v) → LieIn n table slacks node → pos least ≤ℤ weighted_sum n slacks
+bound_leaf : (n : Net) (table : List (List SignedRow)) (slacks : ℕ → ℕ) (node : Node) (pairs : List Pair)
+    (least : ℕ) → 0 < n.period → PairsExist table pairs
+    → IsSomeAnd (leaf_value n table node pairs true) (λ v. pos least ≤ℤ v) → LieIn n table slacks node
+    → pos least ≤ℤ weighted_sum n slacks
 bound_leaf n table slacks node pairs least h e at_least lies =
     let value = leaf_value-le n table slacks node pairs true h e lies in
     let above = rw (value.1) at at_least in
     omega (arith, ints, value.2, above)
 
 -- a leaf that is shut holds no slacks, for whichever reason
-nothing_leaf : (n : Net) (table : List (List SignedRow)) (slacks : ℕ → ℕ) (node : Node) (pairs : List Pair) → 0 < n.period → PairsExist table pairs → IsSomeAnd (leaf_value n table node pairs false) (λ v. pos 0 <ℤ v) → LieIn n table slacks node → ⊥
+nothing_leaf : (n : Net) (table : List (List SignedRow)) (slacks : ℕ → ℕ) (node : Node) (pairs : List Pair)
+    → 0 < n.period → PairsExist table pairs → IsSomeAnd (leaf_value n table node pairs false) (λ v. pos 0 <ℤ v)
+    → LieIn n table slacks node → ⊥
 nothing_leaf n table slacks node pairs h e positive lies =
     let value = leaf_value-le n table slacks node pairs false h e lies in
     let above = rw (value.1) at positive in
     omega (arith, ints, value.2, above, no_weights n slacks)
 
-gap_leaf : (n : Net) (table : List (List SignedRow)) (slacks : ℕ → ℕ) (node : Node) (cycle : ℕ) → 0 < n.period → Names (length table) cycle → IsNone (offsets_left n table node (cycle - 1)) → LieIn n table slacks node → ⊥
+gap_leaf : (n : Net) (table : List (List SignedRow)) (slacks : ℕ → ℕ) (node : Node) (cycle : ℕ) → 0 < n.period
+    → Names (length table) cycle → IsNone (offsets_left n table node (cycle - 1)) → LieIn n table slacks node → ⊥
 gap_leaf n table slacks node cycle h e none lies =
     let left = has_left n table slacks node (cycle - 1) h (omega (arith, e)) lies in
     let wrong = rw (left.2.2) at none in
     cc
 
-shut_leaf : (n : Net) (table : List (List SignedRow)) (times : List ℕ) (reason : Reason) (node : Node) → 0 < n.period → IsShut n table reason node → LieIn n table (slacks_at n times) node → ⊥
+shut_leaf : (n : Net) (table : List (List SignedRow)) (times : List ℕ) (reason : Reason) (node : Node)
+    → 0 < n.period → IsShut n table reason node → LieIn n table (slacks_at n times) node → ⊥
 shut_leaf n table times (ByPairs pairs) node h s lies = nothing_leaf n table (slacks_at n times) node pairs h s.0 s.1 lies
 shut_leaf n table times (ByGap cycle) node h s lies = gap_leaf n table (slacks_at n times) node cycle h s.0 s.1 lies
 shut_leaf n table times ByPropagation node h s lies = differences_are_supported n node.slacks times s.0 h lies.0 s.1
 
-leaf_is_right : (n : Net) (table : List (List SignedRow)) (times : List ℕ) (least : Option ℕ) (leaf : Leaf) (node : Node) → 0 < n.period → IsSoundLeaf n table least leaf node → LieIn n table (slacks_at n times) node → SumsToAtLeast n (slacks_at n times) least
+leaf_is_right : (n : Net) (table : List (List SignedRow)) (times : List ℕ) (least : Option ℕ) (leaf : Leaf)
+    (node : Node) → 0 < n.period → IsSoundLeaf n table least leaf node → LieIn n table (slacks_at n times) node
+    → SumsToAtLeast n (slacks_at n times) least
 leaf_is_right n table times None (Bound pairs) node h s lies = absurd s.1
-leaf_is_right n table times (Some least) (Bound pairs) node h s lies = bound_leaf n table (slacks_at n times) node pairs least h s.0 s.1 lies
+leaf_is_right n table times (Some least) (Bound pairs) node h s lies =
+    bound_leaf n table (slacks_at n times) node pairs least h s.0 s.1 lies
 leaf_is_right n table times least (Shut reason) node h s lies = absurd (shut_leaf n table times reason node h s lies)
 
-in_part : (n : Net) (table : List (List SignedRow)) (slacks : ℕ → ℕ) (node : Node) (cut : Cut) → CutExists n table cut → LieIn n table slacks node → LieIn n table slacks (low_part node cut) ⊎ LieIn n table slacks (high_part node cut)
+in_part : (n : Net) (table : List (List SignedRow)) (slacks : ℕ → ℕ) (node : Node) (cut : Cut)
+    → CutExists n table cut → LieIn n table slacks node
+    → LieIn n table slacks (low_part node cut) ⊎ LieIn n table slacks (high_part node cut)
 in_part n table slacks node (Slack row k) e lies = in_slack_part n table slacks node row k e lies
 in_part n table slacks node (Offset cycle k) e lies = in_offset_part n table slacks node cycle k e lies
 
 -- by induction over the tree
-pub sound_is_right : (n : Net) (table : List (List SignedRow)) (times : List ℕ) (least : Option ℕ) (tree : Tree) (node : Node) → 0 < n.period → IsSound n table least tree node → LieIn n table (slacks_at n times) node → SumsToAtLeast n (slacks_at n times) least
+pub sound_is_right : (n : Net) (table : List (List SignedRow)) (times : List ℕ) (least : Option ℕ) (tree : Tree)
+    (node : Node) → 0 < n.period → IsSound n table least tree node → LieIn n table (slacks_at n times) node
+    → SumsToAtLeast n (slacks_at n times) least
 sound_is_right n table times least (Ends leaf) node h s lies = leaf_is_right n table times least leaf node h s lies
 sound_is_right n table times least (Branch cut low high) node h s lies =
     elim (in_part n table (slacks_at n times) node cut s.0 lies) [
@@ -71,11 +86,15 @@ abbrev pub CostsAtLeast : Pesp → List ℕ → Option ℕ → Type 0
 CostsAtLeast p times None = ⊥
 CostsAtLeast p times (Some least) = least ≤ cost p.period p.rows times
 
-cost_of_sum : (p : Pesp) (times : List ℕ) (least : Option ℕ) → SumsToAtLeast (net_of p) (slacks_at (net_of p) times) least → CostsAtLeast p times least
+cost_of_sum : (p : Pesp) (times : List ℕ) (least : Option ℕ)
+    → SumsToAtLeast (net_of p) (slacks_at (net_of p) times) least → CostsAtLeast p times least
 cost_of_sum p times None s = s
 cost_of_sum p times (Some least) s = omega (arith, ints, s, cost_is p times)
 
 -- at the root it is right about every timetable
-pub root_is_right : (p : Pesp) (table : List (List SignedRow)) (times : List ℕ) (least : Option ℕ) (tree : Tree) → 0 < p.period → All (IsWalk (arcs_of p)) table → IsSound (net_of p) table least tree (root (net_of p) table) → IsTimetable p times → CostsAtLeast p times least
+pub root_is_right : (p : Pesp) (table : List (List SignedRow)) (times : List ℕ) (least : Option ℕ) (tree : Tree)
+    → 0 < p.period → All (IsWalk (arcs_of p)) table → IsSound (net_of p) table least tree (root (net_of p) table)
+    → IsTimetable p times → CostsAtLeast p times least
 root_is_right p table times least tree h w s t =
-    cost_of_sum p times least (sound_is_right (net_of p) table times least tree (root (net_of p) table) h s (timetable_in_root p table times h w t))
+    cost_of_sum p times least (sound_is_right (net_of p) table times least tree (root (net_of p) table) h s
+    (timetable_in_root p table times h w t))

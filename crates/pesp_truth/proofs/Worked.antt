@@ -43,7 +43,14 @@ nothing_valid = record {
 -- ---- one row, no cycle
 
 abbrev one_row_certificate : Content
-one_row_certificate = record { version = 1; period = 10; answer = Optimal 0; times = (pos 1, 0) ∷ (pos 2, 0) ∷ []; cycles = []; tree = BoundLine [] ∷ [] }
+one_row_certificate = record {
+  version = 1;
+  period = 10;
+  answer = Optimal 0;
+  times = (pos 1, 0) ∷ (pos 2, 0) ∷ [];
+  cycles = [];
+  tree = BoundLine [] ∷ [];
+}
 
 one_row_valid : IsValid one_row one_row_certificate
 one_row_valid = record {
@@ -68,13 +75,30 @@ late_valid = record {
 -- ---- two rows against one another
 
 abbrev against_certificate : Content
-against_certificate = record { version = 1; period = 10; answer = Optimal 3; times = (pos 1, 0) ∷ (pos 2, 3) ∷ []; cycles = against_table; tree = BoundLine (pair 1 (pos 1) ∷ []) ∷ [] }
+against_certificate = record {
+  version = 1;
+  period = 10;
+  answer = Optimal 3;
+  times = (pos 1, 0) ∷ (pos 2, 3) ∷ [];
+  cycles = against_table;
+  tree = BoundLine (pair 1 (pos 1) ∷ []) ∷ [];
+}
 
 against_timetable : IsTimetableOfCost against (0 ∷ 3 ∷ []) 3
-against_timetable = (((refl, both (λ t. t < 10) 0 3 (omega arith) (omega arith)), both (λ r. IsSatisfied against (0 ∷ 3 ∷ []) r) (row (pos 1) 0 1 (pos 3) (pos 12) 2) (row (pos 2) 1 0 (pos 4) (pos 13) 1) (le_z_yes tt) (le_z_yes tt)), refl)
+against_timetable = (
+  (
+    (refl, both (λ t. t < 10) 0 3 (omega arith) (omega arith)),
+    both (λ r. IsSatisfied against (0 ∷ 3 ∷ []) r) (row (pos 1) 0 1 (pos 3) (pos 12) 2)
+        (row (pos 2) 1 0 (pos 4) (pos 13) 1) (le_z_yes tt) (le_z_yes tt),
+  ),
+  refl,
+)
 
 against_walk : All (IsWalk (arcs_of against)) against_table
-against_walk = single (IsWalk (arcs_of against)) (plus 1 ∷ plus 2 ∷ []) (both (RowExists (arcs_of against)) (plus 1) (plus 2) (omega arith, omega arith) (omega arith, omega arith), (refl, (refl, refl)))
+against_walk = single (IsWalk (arcs_of against)) (plus 1 ∷ plus 2 ∷ []) (
+  both (RowExists (arcs_of against)) (plus 1) (plus 2) (omega arith, omega arith) (omega arith, omega arith),
+  (refl, (refl, refl)),
+)
 
 against_valid : IsValid against against_certificate
 against_valid = record {
@@ -135,10 +159,20 @@ aside_sound : IsSound (net_of aside) aside_table (Some 5) aside_tree aside_root
 aside_sound = ((omega arith, omega arith), (one_pair (negsuc 0), le_z_yes tt), (one_pair (pos 1), le_z_yes tt))
 
 aside_timetable : IsTimetableOfCost aside (0 ∷ 0 ∷ []) 5
-aside_timetable = (((refl, both (λ t. t < 10) 0 0 (omega arith) (omega arith)), both (λ r. IsSatisfied aside (0 ∷ 0 ∷ []) r) (row (pos 1) 0 1 (pos 0) (pos 9) 1) (row (pos 2) 0 1 (pos 5) (pos 14) 1) (le_z_yes tt) (le_z_yes tt)), refl)
+aside_timetable = (
+  (
+    (refl, both (λ t. t < 10) 0 0 (omega arith) (omega arith)),
+    both (λ r. IsSatisfied aside (0 ∷ 0 ∷ []) r) (row (pos 1) 0 1 (pos 0) (pos 9) 1)
+        (row (pos 2) 0 1 (pos 5) (pos 14) 1) (le_z_yes tt) (le_z_yes tt),
+  ),
+  refl,
+)
 
 aside_walk : All (IsWalk (arcs_of aside)) aside_table
-aside_walk = single (IsWalk (arcs_of aside)) (plus 1 ∷ minus 2 ∷ []) (both (RowExists (arcs_of aside)) (plus 1) (minus 2) (omega arith, omega arith) (omega arith, omega arith), (refl, (refl, refl)))
+aside_walk = single (IsWalk (arcs_of aside)) (plus 1 ∷ minus 2 ∷ []) (
+  both (RowExists (arcs_of aside)) (plus 1) (minus 2) (omega arith, omega arith) (omega arith, omega arith),
+  (refl, (refl, refl)),
+)
 
 aside_valid : IsValid aside aside_certificate
 aside_valid = record { period = refl; answer = (refl, aside_timetable); cycles = aside_walk; tree = (aside_tree, refl, aside_sound) }
@@ -173,13 +207,30 @@ no_such_cycle s = omega (arith, All-head (λ (x : Pair). Names 1 x.cycle) (pair 
 -- ---- loops
 
 abbrev loop_certificate : Content
-loop_certificate = record { version = 1; period = 10; answer = Optimal 14; times = (pos 1, 0) ∷ []; cycles = loop_table; tree = BoundLine (pair 1 (pos 2) ∷ []) ∷ [] }
+loop_certificate = record {
+  version = 1;
+  period = 10;
+  answer = Optimal 14;
+  times = (pos 1, 0) ∷ [];
+  cycles = loop_table;
+  tree = BoundLine (pair 1 (pos 2) ∷ []) ∷ [];
+}
 
 loop_valid : IsValid loop loop_certificate
 loop_valid = record {
   period = refl;
-  answer = (refl, (((refl, single (λ t. t < 10) 0 (omega arith)), single (λ r. IsSatisfied loop (0 ∷ []) r) (row (pos 1) 0 0 (pos 3) (pos 12) 2) (le_z_yes tt)), refl));
-  cycles = single (IsWalk (arcs_of loop)) (plus 1 ∷ []) (single (RowExists (arcs_of loop)) (plus 1) (omega arith, omega arith), (refl, refl));
+  answer = (
+    refl,
+    (
+      (
+        (refl, single (λ t. t < 10) 0 (omega arith)),
+        single (λ r. IsSatisfied loop (0 ∷ []) r) (row (pos 1) 0 0 (pos 3) (pos 12) 2) (le_z_yes tt),
+      ),
+      refl,
+    ),
+  );
+  cycles = single (IsWalk (arcs_of loop)) (plus 1 ∷ [])
+      (single (RowExists (arcs_of loop)) (plus 1) (omega arith, omega arith), (refl, refl));
   tree = (Ends (Bound (pair 1 (pos 2) ∷ [])), refl, (one_pair (pos 2), le_z_yes tt));
 }
 
@@ -191,7 +242,8 @@ tight_loop_valid : IsValid tight_loop tight_loop_certificate
 tight_loop_valid = record {
   period = refl;
   answer = refl;
-  cycles = single (IsWalk (arcs_of tight_loop)) (plus 1 ∷ []) (single (RowExists (arcs_of tight_loop)) (plus 1) (omega arith, omega arith), (refl, refl));
+  cycles = single (IsWalk (arcs_of tight_loop)) (plus 1 ∷ [])
+      (single (RowExists (arcs_of tight_loop)) (plus 1) (omega arith, omega arith), (refl, refl));
   tree = (Ends (Gap 1), refl, ((omega arith, omega arith), refl));
 }
 
@@ -220,25 +272,57 @@ propagated_loop_valid = record {
 
 -- numbers near the limits
 abbrev large_certificate : Content
-large_certificate = record { version = 1; period = 10000; answer = Optimal 9999000000000; times = (pos 1, 0) ∷ []; cycles = loop_table; tree = BoundLine (pair 1 (pos 1000000000) ∷ []) ∷ [] }
+large_certificate = record {
+  version = 1;
+  period = 10000;
+  answer = Optimal 9999000000000;
+  times = (pos 1, 0) ∷ [];
+  cycles = loop_table;
+  tree = BoundLine (pair 1 (pos 1000000000) ∷ []) ∷ [];
+}
 
 large_valid : IsValid large large_certificate
 large_valid = record {
   period = refl;
-  answer = (refl, (((refl, single (λ t. t < 10000) 0 (omega arith)), single (λ r. IsSatisfied large (0 ∷ []) r) (row (pos 1) 0 0 (pos 1) (pos 1000000) 1000000000) (le_z_yes tt)), refl));
-  cycles = single (IsWalk (arcs_of large)) (plus 1 ∷ []) (single (RowExists (arcs_of large)) (plus 1) (omega arith, omega arith), (refl, refl));
+  answer = (
+    refl,
+    (
+      (
+        (refl, single (λ t. t < 10000) 0 (omega arith)),
+        single (λ r. IsSatisfied large (0 ∷ []) r) (row (pos 1) 0 0 (pos 1) (pos 1000000) 1000000000) (le_z_yes tt),
+      ),
+      refl,
+    ),
+  );
+  cycles = single (IsWalk (arcs_of large)) (plus 1 ∷ [])
+      (single (RowExists (arcs_of large)) (plus 1) (omega arith, omega arith), (refl, refl));
   tree = (Ends (Bound (pair 1 (pos 1000000000) ∷ [])), refl, (one_pair (pos 1000000000), le_z_yes tt));
 }
 
 -- ---- two cycles that only together show that there is no timetable
 
 abbrev crossed_certificate : Content
-crossed_certificate = record { version = 1; period = 10; answer = Infeasible; times = []; cycles = crossed_table; tree = NothingLine (pair 1 (pos 1) ∷ pair 2 (negsuc 0) ∷ []) ∷ [] }
+crossed_certificate = record {
+  version = 1;
+  period = 10;
+  answer = Infeasible;
+  times = [];
+  cycles = crossed_table;
+  tree = NothingLine (pair 1 (pos 1) ∷ pair 2 (negsuc 0) ∷ []) ∷ [];
+}
 
 crossed_walks : All (IsWalk (arcs_of crossed)) crossed_table
 crossed_walks =
-    let first : IsWalk (arcs_of crossed) (plus 1 ∷ plus 2 ∷ []) = (both (RowExists (arcs_of crossed)) (plus 1) (plus 2) (omega arith, omega arith) (omega arith, omega arith), (refl, (refl, refl))) in
-    let second : IsWalk (arcs_of crossed) (plus 1 ∷ minus 3 ∷ []) = (both (RowExists (arcs_of crossed)) (plus 1) (minus 3) (omega arith, omega arith) (omega arith, omega arith), (refl, (refl, refl))) in
+    let first : IsWalk (arcs_of crossed) (plus 1 ∷ plus 2 ∷ []) = (
+      both (RowExists (arcs_of crossed)) (plus 1) (plus 2) (omega arith, omega arith)
+          (omega arith, omega arith),
+      (refl, (refl, refl)),
+    ) in
+    let second : IsWalk (arcs_of crossed) (plus 1 ∷ minus 3 ∷ []) = (
+      both (RowExists (arcs_of crossed)) (plus 1) (minus 3) (omega arith, omega arith)
+          (omega arith, omega arith),
+      (refl, (refl, refl)),
+    ) in
     both (IsWalk (arcs_of crossed)) (plus 1 ∷ plus 2 ∷ []) (plus 1 ∷ minus 3 ∷ []) first second
 
 crossed_valid : IsValid crossed crossed_certificate
@@ -246,5 +330,13 @@ crossed_valid = record {
   period = refl;
   answer = refl;
   cycles = crossed_walks;
-  tree = (Ends (Nothing (pair 1 (pos 1) ∷ pair 2 (negsuc 0) ∷ [])), refl, (both (λ (x : Pair). Names 2 x.cycle) (pair 1 (pos 1)) (pair 2 (negsuc 0)) (omega arith, omega arith) (omega arith, omega arith), omega arith));
+  tree = (
+    Ends (Nothing (pair 1 (pos 1) ∷ pair 2 (negsuc 0) ∷ [])),
+    refl,
+    (
+      both (λ (x : Pair). Names 2 x.cycle) (pair 1 (pos 1)) (pair 2 (negsuc 0)) (omega arith, omega arith)
+          (omega arith, omega arith),
+      omega arith,
+    ),
+  );
 }

@@ -12,7 +12,8 @@ use Rattle.pesp_truth.specs.declared.tree.TreeLine.{TreeLine}
 use Rattle.pesp_truth.specs.declared.tree.TreeLine.TheVariants.{Slack as SlackLine, Offset as OffsetLine, Bound as BoundLine, Nothing as NothingLine, Gap as GapLine, Propagated as PropagatedLine}
 use Rattle.pesp_truth.specs.Trees.{Tree, Line, EndLine, CutLine, Bound, Shut, ByPropagation, Nothing, Gap, preorder, IsSound}
 
--- what a certificate says: the version of its text, its period, its answer, times with the labels of their events, a table of cycles, a tree's lines
+-- what a certificate says: the version of its text, its period, its answer, times with the labels of their events, a
+-- table of cycles, a tree's lines
 pub record Content : Type 0 where
   pub version : ℕ
   pub period : ℕ
@@ -66,4 +67,5 @@ pub record IsValid (p : Pesp) (content : Content) : Type 0 where
   pub period : content.period ≡ p.period
   pub answer : ShowsAnswer p content.answer (shown_labels content) (shown_times content)
   pub cycles : All (IsWalk (arcs_of p)) content.cycles
-  pub tree : (tree : Tree) × (preorder tree ≡ lines_of content) × IsSound (net_of p) content.cycles (least_of content.answer) tree (root (net_of p) content.cycles)
+  pub tree : (tree : Tree) × (preorder tree ≡ lines_of content)
+      × IsSound (net_of p) content.cycles (least_of content.answer) tree (root (net_of p) content.cycles)

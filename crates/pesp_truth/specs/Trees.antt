@@ -82,7 +82,8 @@ IsSoundLeaf n table least (Shut reason) node = IsShut n table reason node
 -- each leaf is sound at its node, and what the branches cut exists
 abbrev pub IsSound : Net → List (List SignedRow) → Option ℕ → Tree → Node → Type 0
 IsSound n table least (Ends leaf) node = IsSoundLeaf n table least leaf node
-IsSound n table least (Branch cut low high) node = CutExists n table cut × IsSound n table least low (low_part node cut) × IsSound n table least high (high_part node cut)
+IsSound n table least (Branch cut low high) node = CutExists n table cut
+    × IsSound n table least low (low_part node cut) × IsSound n table least high (high_part node cut)
 
 -- no leaf of the tree is a bound leaf
 abbrev pub HasNoBound : Tree → Type 0
@@ -98,7 +99,8 @@ AreSound n table least [] [] = Unit {0}
 AreSound n table least [] (node ∷ nodes) = ⊥
 AreSound n table least (line ∷ lines) [] = ⊥
 AreSound n table least (EndLine leaf ∷ lines) (node ∷ nodes) = IsSoundLeaf n table least leaf node × AreSound n table least lines nodes
-AreSound n table least (CutLine cut ∷ lines) (node ∷ nodes) = CutExists n table cut × AreSound n table least lines (low_part node cut ∷ high_part node cut ∷ nodes)
+AreSound n table least (CutLine cut ∷ lines) (node ∷ nodes) = CutExists n table cut
+    × AreSound n table least lines (low_part node cut ∷ high_part node cut ∷ nodes)
 
 -- the lines are this many whole trees, one after the other
 abbrev pub are_trees : ℕ → List Line → Bool

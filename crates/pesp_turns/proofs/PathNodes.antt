@@ -34,12 +34,17 @@ at_root root node path e = record {
 left : (path : List (Cut × Side)) (k : ℕ) (step : Cut × Side) → k < length path → drop k path ≡ get_or path k step ∷ drop (k + 1) path
 left path k step l = rw (add-one, drop-cons path k step l) refl
 
-pub one_step : (root node new : Node) (path : List (Cut × Side)) (k : ℕ) (step : Cut × Side) → k < length path → get_or path k step ≡ step → new ≡ part node step.0 step.1 → IsAlong root path k node → IsAlong root path (k + 1) new
+pub one_step : (root node new : Node) (path : List (Cut × Side)) (k : ℕ) (step : Cut × Side) → k < length path
+    → get_or path k step ≡ step → new ≡ part node step.0 step.1 → IsAlong root path k node
+    → IsAlong root path (k + 1) new
 one_step root node new path k step l is e h =
     let next : drop k path ≡ step ∷ drop (k + 1) path = left path k step l ∙ ap (λ (s : Cut × Side). s ∷ drop (k + 1) path) is in
     let sizes = part_sizes root node step.0 step.1 h.sizes in
     record {
-      sizes = record { slacks = ap (λ (n : Node). length n.slacks) e ∙ sizes.slacks; offsets = ap (λ (n : Node). length n.offsets) e ∙ sizes.offsets };
+      sizes = record {
+        slacks = ap (λ (n : Node). length n.slacks) e ∙ sizes.slacks;
+        offsets = ap (λ (n : Node). length n.offsets) e ∙ sizes.offsets;
+      };
       rest = ap (λ (n : Node). along n (drop (k + 1) path)) e ∙ sym (ap (along node) next) ∙ h.rest;
     }
 

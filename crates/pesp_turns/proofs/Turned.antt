@@ -35,7 +35,8 @@ just p q old mid job e l = record {
   lends = subst (λ (x : ProblemValue). LendsLeaf x old job mid) (sym e) l.lends;
 }
 
-pub lent_from : (p q : ProblemValue) (old mid : State) (job : Job) → q ≡ p → KeepsNetLimits q.network → IsSmallTable q.table → IsOrderly p old → LendsLeaf p old job mid → IsLentFrom p old mid job
+pub lent_from : (p q : ProblemValue) (old mid : State) (job : Job) → q ≡ p → KeepsNetLimits q.network
+    → IsSmallTable q.table → IsOrderly p old → LendsLeaf p old job mid → IsLentFrom p old mid job
 lent_from p q old mid job e limits small orderly lends = record {
   limits = subst (λ (x : ProblemValue). KeepsNetLimits x.network) e limits;
   small = subst (λ (x : ProblemValue). IsSmallTable x.table) e small;
@@ -44,11 +45,19 @@ lent_from p q old mid job e limits small orderly lends = record {
 }
 
 -- the turn on the leaf is a turn from there
-pub turned : {E : Type 0} (p q : ProblemValue) (r : ReducedValue) (old mid new : State) (job : Job) (turn : Result Turn E) → q ≡ p → IsLentFrom p old mid job → ((lent : IsJustLent q mid job) → IfOk turn (λ t. IsTurn q r lent.before t new)) → IfOk turn (λ t. IsTurn p r old t new)
-turned p q r old mid new job turn e l goes = subst (λ (x : ProblemValue). IfOk turn (λ t. IsTurn x r old t new)) e (goes (just p q old mid job e l))
+pub turned : {E : Type 0} (p q : ProblemValue) (r : ReducedValue) (old mid new : State) (job : Job)
+    (turn : Result Turn E) → q ≡ p → IsLentFrom p old mid job
+    → ((lent : IsJustLent q mid job) → IfOk turn (λ t. IsTurn q r lent.before t new))
+    → IfOk turn (λ t. IsTurn p r old t new)
+turned p q r old mid new job turn e l goes = subst (λ (x : ProblemValue). IfOk turn (λ t. IsTurn x r old t new)) e
+    (goes (just p q old mid job e l))
 
-pub gap_turn : (p : ProblemValue) (r : ReducedValue) (mid new : State) (job : Job) (cycle : ℕ) (taken : Bool) (turn : Turn) (l : IsJustLent p mid job) → turn ≡ turn_given taken → IsGiven p mid job.number (works.Gap cycle) taken new → IsTurn p r l.before turn new
-gap_turn p r mid new job cycle true turn l e g = subst (λ (t : Turn). IsTurn p r l.before t new) (sym e) (inl (record { job = job; lent = mid; lends = l.lends; cycle = cycle; takes = g }))
+pub gap_turn : (p : ProblemValue) (r : ReducedValue) (mid new : State) (job : Job) (cycle : ℕ) (taken : Bool)
+    (turn : Turn) (l : IsJustLent p mid job) → turn ≡ turn_given taken
+    → IsGiven p mid job.number (works.Gap cycle) taken new → IsTurn p r l.before turn new
+gap_turn p r mid new job cycle true turn l e g =
+    subst (λ (t : Turn). IsTurn p r l.before t new) (sym e)
+    (inl (record { job = job; lent = mid; lends = l.lends; cycle = cycle; takes = g }))
 gap_turn p r mid new job cycle false turn l e g = subst (λ (t : Turn). IsTurn p r l.before t new) (sym e) (record {
   job = job;
   lends = subst (LendsLeaf p l.before job) (sym g.0) l.lends;
@@ -58,7 +67,10 @@ gap_turn p r mid new job cycle false turn l e g = subst (λ (t : Turn). IsTurn p
 })
 
 -- nothing is left to cut at the leaf's node, and each cycle has an offset left
-pub settled_here : (p q : ProblemValue) (r : ReducedValue) (node : Node) (mid new : State) (job : Job) (found : Bool) (l : IsJustLent p mid job) → node ≡ node_at p job.path.items → q ≡ p → IsSettled (net_of p) p.table node → HaveOffsetsLeft (net_of q) q.table node → IsSettling p r node mid job.number found new → IsSettledTurn p r l.before found new
+pub settled_here : (p q : ProblemValue) (r : ReducedValue) (node : Node) (mid new : State) (job : Job)
+    (found : Bool) (l : IsJustLent p mid job) → node ≡ node_at p job.path.items → q ≡ p
+    → IsSettled (net_of p) p.table node → HaveOffsetsLeft (net_of q) q.table node
+    → IsSettling p r node mid job.number found new → IsSettledTurn p r l.before found new
 settled_here p q r node mid new job found l at e settled left s = record {
   job = job;
   lent = mid;
@@ -68,12 +80,14 @@ settled_here p q r node mid new job found l at e settled left s = record {
   settles = subst (λ (n : Node). IsSettling p r n mid job.number found new) at s;
 }
 
-pub settled_turn : (p : ProblemValue) (r : ReducedValue) (old new : State) (found : Bool) (turn : Turn) → turn ≡ turn_found found → IsSettledTurn p r old found new → IsTurn p r old turn new
+pub settled_turn : (p : ProblemValue) (r : ReducedValue) (old new : State) (found : Bool) (turn : Turn)
+    → turn ≡ turn_found found → IsSettledTurn p r old found new → IsTurn p r old turn new
 settled_turn p r old new true turn e s = subst (λ (t : Turn). IsTurn p r old t new) (sym e) (inr s)
 settled_turn p r old new false turn e s = subst (λ (t : Turn). IsTurn p r old t new) (sym e) s
 
 -- the step isn't taken, since the tree would pass a limit
-pub large_turn : (p : ProblemValue) (r : ReducedValue) (mid new : State) (job : Job) (l : IsJustLent p mid job) → IsStepGiven p mid job.number false new → IsTurn p r l.before (Over TreeTooLarge) new
+pub large_turn : (p : ProblemValue) (r : ReducedValue) (mid new : State) (job : Job) (l : IsJustLent p mid job)
+    → IsStepGiven p mid job.number false new → IsTurn p r l.before (Over TreeTooLarge) new
 large_turn p r mid new job l g =
     let one = ap branch_lines g.step in
     record {
@@ -84,5 +98,14 @@ large_turn p r mid new job l g =
       large = subst (λ (s : State). MakesTooMuch p s job.number (works.Tree g.lines)) (sym g.given.0) g.given.1;
     }
 
-pub split_turn : (p q : ProblemValue) (r : ReducedValue) (mid split new : State) (job : Job) (l : IsJustLent p mid job) → IsStepGiven p mid job.number true split → q ≡ p → MayOffer q split new → IsTurn p r l.before Split new
-split_turn p q r mid split new job l g e o = record { job = job; lent = mid; lends = l.lends; split = split; gives = g; offers = subst (λ (x : ProblemValue). MayOffer x split new) e o }
+pub split_turn : (p q : ProblemValue) (r : ReducedValue) (mid split new : State) (job : Job)
+    (l : IsJustLent p mid job) → IsStepGiven p mid job.number true split → q ≡ p → MayOffer q split new
+    → IsTurn p r l.before Split new
+split_turn p q r mid split new job l g e o = record {
+  job = job;
+  lent = mid;
+  lends = l.lends;
+  split = split;
+  gives = g;
+  offers = subst (λ (x : ProblemValue). MayOffer x split new) e o;
+}

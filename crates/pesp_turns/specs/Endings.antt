@@ -27,7 +27,8 @@ AreLentSettled p state = (number : ℕ) (path : List (Cut × Side)) → ticket s
 
 -- it is so at each bound leaf whose value is below the best cost: no leaf can be split that might hold something better
 abbrev pub IsNoneLeft : ProblemValue → State → Type 0
-IsNoneLeft p state = (path : List (Cut × Side)) (pairs : List Pair) → IsLeafAt state.tree path (Bound pairs) → IsBelow (value_at p path pairs) (best_cost p state) → IsSettledAt p path
+IsNoneLeft p state = (path : List (Cut × Side)) (pairs : List Pair) → IsLeafAt state.tree path (Bound pairs)
+    → IsBelow (value_at p path pairs) (best_cost p state) → IsSettledAt p path
 
 -- with a work for a lent leaf that adds at most one branch, the tree would pass a limit
 pub record IsTreeFull (p : ProblemValue) (state : State) : Type 0 where

@@ -10,7 +10,8 @@ use Rattle.pesp_search_laws.specs.Rooms.{branch_lines}
 abbrev pub AreCounted : ℕ → List TreeLine → ℕ → ℕ → Type 0
 AreCounted most lines k count = (count ≤ most) × (branch_lines (map line_of lines) ≡ count + branch_lines (map line_of (drop k lines)))
 
-first_line : (line : TreeLine) (rest : List TreeLine) → branch_lines (map line_of (line ∷ rest)) ≡ branch_lines (line_of line ∷ []) + branch_lines (map line_of rest)
+first_line : (line : TreeLine) (rest : List TreeLine)
+    → branch_lines (map line_of (line ∷ rest)) ≡ branch_lines (line_of line ∷ []) + branch_lines (map line_of rest)
 first_line (Slack row k) rest = omega arith
 first_line (Offset cycle k) rest = omega arith
 first_line (Bound pairs) rest = omega arith
@@ -21,7 +22,9 @@ first_line Propagated rest = omega arith
 pub none_counted : (most : ℕ) (lines : List TreeLine) → AreCounted most lines 0 0
 none_counted most lines = (omega arith, omega arith)
 
-pub one_counted : (most : ℕ) (lines : List TreeLine) (k count own : ℕ) (line : TreeLine) → k < length lines → get_or lines k line ≡ line → own ≡ branch_lines (line_of line ∷ []) → own ≤ most - count → AreCounted most lines k count → AreCounted most lines (k + 1) (count + own)
+pub one_counted : (most : ℕ) (lines : List TreeLine) (k count own : ℕ) (line : TreeLine) → k < length lines
+    → get_or lines k line ≡ line → own ≡ branch_lines (line_of line ∷ []) → own ≤ most - count
+    → AreCounted most lines k count → AreCounted most lines (k + 1) (count + own)
 one_counted most lines k count own line below is e few h =
     let there : drop k lines ≡ get_or lines k line ∷ drop (k + 1) lines = rw (add-one, drop-cons lines k line below) refl in
     let rest : drop k lines ≡ line ∷ drop (k + 1) lines = there ∙ ap (λ (x : TreeLine). x ∷ drop (k + 1) lines) is in
@@ -30,7 +33,8 @@ one_counted most lines k count own line below is e few h =
     let all = h.1 in
     (omega (arith, few, most_left), omega (arith, read, e, all))
 
-pub all_counted : (most : ℕ) (lines : List TreeLine) (k count : ℕ) → length lines ≤ k → AreCounted most lines k count → (branch_lines (map line_of lines) ≡ count) × (count ≤ most)
+pub all_counted : (most : ℕ) (lines : List TreeLine) (k count : ℕ) → length lines ≤ k
+    → AreCounted most lines k count → (branch_lines (map line_of lines) ≡ count) × (count ≤ most)
 all_counted most lines k count done h =
     let none = ap (λ (ls : List TreeLine). branch_lines (map line_of ls)) (drop_all k lines done) in
     let all = h.1 in

@@ -17,15 +17,21 @@ as_many n [] paths h = ap length (sym h)
 as_many n (job ∷ jobs) paths h = ap suc (as_many (n + 1) jobs h.0 h.3) ∙ ap length (sym h.2)
 
 -- the numbers below that of the jobs are lent, where no number was lent before
-pub lent_below : (i : Pesp) (base : Content) (p : ProblemValue) (jobs : List Job) (state : State) (number : ℕ) → IsLentFrom i base p jobs state → number < length jobs → IsLentNumber state number
+pub lent_below : (i : Pesp) (base : Content) (p : ProblemValue) (jobs : List Job) (state : State) (number : ℕ)
+    → IsLentFrom i base p jobs state → number < length jobs → IsLentNumber state number
 lent_below i base p jobs state number h below =
     let paths = h.lends.paths in
     let count = as_many (length h.opening.numbers) jobs paths h.lends.numbered in
-    let tickets : state.numbers ≡ map Lent paths = ap (λ (s : State). s.numbers) h.lends.state ∙ ap (λ (ts : List Ticket). ts ++ map Lent paths) h.adopts.numbers in
-    (get_or paths number [], ap (λ (ts : List Ticket). get_or ts number Recalled) tickets ∙ get_or-map Lent paths number [] Recalled (omega (arith, count, below)))
+    let tickets : state.numbers ≡ map Lent paths = ap (λ (s : State). s.numbers) h.lends.state
+    ∙ ap (λ (ts : List Ticket). ts ++ map Lent paths) h.adopts.numbers in (
+      get_or paths number [],
+      ap (λ (ts : List Ticket). get_or ts number Recalled) tickets
+          ∙ get_or-map Lent paths number [] Recalled (omega (arith, count, below)),
+    )
 
 -- and they are numbers that a text may have
-pub few_jobs : (i : Pesp) (base : Content) (p : ProblemValue) (jobs : List Job) (state : State) (number : ℕ) → IsLentFrom i base p jobs state → number < length jobs → number ≤ 999999
+pub few_jobs : (i : Pesp) (base : Content) (p : ProblemValue) (jobs : List Job) (state : State) (number : ℕ)
+    → IsLentFrom i base p jobs state → number < length jobs → number ≤ 999999
 few_jobs i base p jobs state number h below =
     let count = as_many (length h.opening.numbers) jobs h.lends.paths h.lends.numbered in
     let left = h.lends.left in

@@ -18,7 +18,11 @@ tail_pairs x xs h i j d below within = h (suc i) (suc j) d (omega (arith, below)
 
 rise_on : (n : ℕ) (xs : List ℕ) → Pairs xs → ((0 < length xs) → n ≤ get_or xs 0 0) → RiseFrom n xs
 rise_on n [] h first = tt
-rise_on n (x ∷ xs) h first = (first (omega arith), rise_on (x + 1) xs (tail_pairs x xs h) (λ some. let less : x < get_or xs 0 0 = h 0 1 0 (omega arith) (omega (arith, some)) in omega (arith, less)))
+rise_on n (x ∷ xs) h first = (
+  first (omega arith),
+  rise_on (x + 1) xs (tail_pairs x xs h) (λ some. let less : x
+      < get_or xs 0 0 = h 0 1 0 (omega arith) (omega (arith, some)) in omega (arith, less)),
+)
 
 pub rise_from_none : (xs : List ℕ) → IsStrictlyIncreasing xs → RiseFrom 0 xs
 rise_from_none xs h = rise_on 0 xs (AllPairs-from_increasing xs h) (λ some. omega arith)

@@ -39,7 +39,8 @@ pub record StandsFor (p : ProblemValue) (state : State) (number : ℕ) (tree : L
   pub are_lines : lines.items ≡ tree
   pub valid : IsValidAt p (node_at p path) pairs (Tree lines)
 
--- the lines are a tree with at most so many branches that may stand in the place of an open leaf of a base, all of which are lent, in preorder
+-- the lines are a tree with at most so many branches that may stand in the place of an open leaf of a base, all of
+-- which are lent, in preorder
 pub record IsTreeOn (instance : Pesp) (base : Content) (job steps : ℕ) (tree : List TreeLine) : Type 0 where
   pub problem : ProblemValue
   pub jobs : List Job
@@ -48,7 +49,8 @@ pub record IsTreeOn (instance : Pesp) (base : Content) (job steps : ℕ) (tree :
   pub stands : StandsFor problem lent job tree
   pub few : branch_lines (map line_of tree) ≤ steps
 
--- a work for an open leaf of a base: of this job, with such a tree, with no times or a timetable that costs less than the base's, and with a text
+-- a work for an open leaf of a base: of this job, with such a tree, with no times or a timetable that costs less than
+-- the base's, and with a text
 pub record IsWorkOn (instance : Pesp) (base : Content) (job steps : ℕ) (work : WorkValue) : Type 0 where
   pub number : work.job ≡ job
   pub tree : IsTreeOn instance base job steps work.tree
@@ -61,7 +63,8 @@ branches_of work = branch_lines (map line_of work.tree)
 
 -- where a bound is named and the leaf of a number is worth at least so much, the tree for it has no branch
 abbrev pub IsWholeFrom : ProblemValue → State → Option ℕ → ℕ → ℕ → Type 0
-IsWholeFrom p state until number branches = (bound value : ℕ) (pairs : List Pair) → until ≡ Some bound → IsJobLeaf p state number value pairs → bound ≤ value → branches ≡ 0
+IsWholeFrom p state until number branches = (bound value : ℕ) (pairs : List Pair) → until ≡ Some bound
+    → IsJobLeaf p state number value pairs → bound ≤ value → branches ≡ 0
 
 -- where a bound is named, a work splits no open leaf of a base that is worth at least so much
 pub record IsSplitBelow (instance : Pesp) (base : Content) (job : ℕ) (until : Option ℕ) (work : WorkValue) : Type 0 where
@@ -71,8 +74,10 @@ pub record IsSplitBelow (instance : Pesp) (base : Content) (job : ℕ) (until : 
   pub begins : IsLentFrom instance base problem jobs lent
   pub whole : IsWholeFrom problem lent until job (branches_of work)
 
--- works for open leaves of a base: one for each of these jobs, in their order, that splits no leaf worth as much as the bound, where one is named; and at most so many branches in all
-pub record AreWorksOn (instance : Pesp) (base : Content) (jobs : List ℕ) (steps : ℕ) (until : Option ℕ) (works : List WorkValue) : Type 0 where
+-- works for open leaves of a base: one for each of these jobs, in their order, that splits no leaf worth as much as the
+-- bound, where one is named; and at most so many branches in all
+pub record AreWorksOn (instance : Pesp) (base : Content) (jobs : List ℕ) (steps : ℕ) (until : Option ℕ)
+    (works : List WorkValue) : Type 0 where
   pub each : AllZip (λ job work. IsWorkOn instance base job steps work × IsSplitBelow instance base job until work) jobs works
   pub few : sum_by branches_of works ≤ steps
 

@@ -15,4 +15,5 @@ pub record IsHeld (p : ProblemValue) (held : Held) : Type 0 where
 
 -- the leaves with which other numbers are lent are lent with them still
 abbrev pub KeepsOthers : State → ℕ → State → Type 0
-KeepsOthers old number new = (other : ℕ) (path : List (Cut × Side)) (pairs : List Pair) → other ≢ number → HasLeaf old other path pairs → HasLeaf new other path pairs
+KeepsOthers old number new = (other : ℕ) (path : List (Cut × Side)) (pairs : List Pair) → other ≢ number
+    → HasLeaf old other path pairs → HasLeaf new other path pairs

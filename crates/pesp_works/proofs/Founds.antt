@@ -95,32 +95,40 @@ no_cycles [] more h = refl
 no_cycles (w ∷ cs) more h = let bad = and_left (is_other (Cycle w)) (list_all is_other (map Cycle cs ++ more)) h in absurd cc
 
 -- a run without cycles is that of the work to which its lines add up
-work_run : (job : ℕ) (items : List Item) → IsRun opening items → list_all is_other items ≡ true → items ≡ items_of (made job (all_added blank items))
+work_run : (job : ℕ) (items : List Item) → IsRun opening items → list_all is_other items ≡ true
+    → items ≡ items_of (made job (all_added blank items))
 work_run job items run others =
     let t = time_run opening items refl refl run in
     let behind : List Item = map tree_item t.2 ++ End ∷ [] in
     let none : t.1 ≡ [] = no_cycles t.1 behind (all_right is_other (map time_item t.0) (map Cycle t.1 ++ behind) (rw t.3 at others)) in
-    let shape : items ≡ map time_item t.0 ++ behind = t.3 ∙ ap (λ (cs : List (List SignedRow)). map time_item t.0 ++ (map Cycle cs ++ behind)) none in
-    let adds : all_added blank items ≡ record blank { times = t.0; tree = t.2 } = ap (all_added blank) shape ∙ times_added blank t.0 behind ∙ tree_added (record blank { times = t.0 }) t.2 (End ∷ []) in
+    let shape : items ≡ map time_item t.0 ++ behind = t.3
+    ∙ ap (λ (cs : List (List SignedRow)). map time_item t.0 ++ (map Cycle cs ++ behind)) none in
+    let adds : all_added blank items ≡ record blank { times = t.0; tree = t.2 } = ap (all_added blank) shape
+    ∙ times_added blank t.0 behind ∙ tree_added (record blank { times = t.0 }) t.2 (End ∷ []) in
     shape ∙ ap (λ (c : Content). items_of (made job c)) (sym adds)
 
 -- ---- the lines one after another
 
-front_goes : (line next : List ℕ) (more : List (List ℕ)) (ws : List WorkValue) → line ≡ HEADER → IsBehindHeader (join_with_byte 10 (next ∷ more)) ws → AreWhole (join_with_byte 10 (line ∷ next ∷ more)) ws
+front_goes : (line next : List ℕ) (more : List (List ℕ)) (ws : List WorkValue) → line ≡ HEADER
+    → IsBehindHeader (join_with_byte 10 (next ∷ more)) ws → AreWhole (join_with_byte 10 (line ∷ next ∷ more)) ws
 front_goes line next more ws head found =
     let w = found.work in
     let rest : List ℕ = job_line w.job ++ 10 ∷ flat_map item_line (items_of w) in
     let cons : spellings ws ≡ spelling w ++ spellings found.rest = ap spellings found.is ∙ flat_map-cons spelling w found.rest in
-    let shape : spelling w ++ spellings found.rest ≡ HEADER ++ 10 ∷ (rest ++ spellings found.rest) = append_assoc HEADER (10 ∷ rest) (spellings found.rest) in
+    let shape : spelling w ++ spellings found.rest
+    ≡ HEADER ++ 10 ∷ (rest ++ spellings found.rest) = append_assoc HEADER (10 ∷ rest) (spellings found.rest) in
     record { spelt = rw (head, found.spelt) (sym (cons ∙ shape)); have = rw found.is (found.has, found.have) }
 
-job_goes : (job : ℕ) (line next : List ℕ) (more : List (List ℕ)) (ws : List WorkValue) → (line ≡ job_line job) × (job ≤ 999999) → IsInsideWork job opening blank (join_with_byte 10 (next ∷ more)) ws → IsBehindHeader (join_with_byte 10 (line ∷ next ∷ more)) ws
+job_goes : (job : ℕ) (line next : List ℕ) (more : List (List ℕ)) (ws : List WorkValue)
+    → (line ≡ job_line job) × (job ≤ 999999) → IsInsideWork job opening blank (join_with_byte 10 (next ∷ more)) ws
+    → IsBehindHeader (join_with_byte 10 (line ∷ next ∷ more)) ws
 job_goes job line next more ws said found =
     let work : WorkValue = made job (all_added blank found.items) in
     let same : found.items ≡ items_of work = work_run job found.items found.run found.others in
     let lines : List ℕ = flat_map item_line (items_of work) in
     let P : List Item → Type 0 = λ items. IsRun opening items in
-    let spelt : join_with_byte 10 (next ∷ more) ≡ lines ++ spellings found.rest = found.spelt ∙ ap (λ (items : List Item). flat_map item_line items ++ spellings found.rest) same in
+    let spelt : join_with_byte 10 (next ∷ more) ≡ lines ++ spellings found.rest = found.spelt
+    ∙ ap (λ (items : List Item). flat_map item_line items ++ spellings found.rest) same in
     record {
       work = work;
       rest = found.rest;
@@ -130,7 +138,9 @@ job_goes job line next more ws said found =
       have = found.have;
     }
 
-end_goes : (job : ℕ) (p : Progress) (c : Content) (line next : List ℕ) (more : List (List ℕ)) (item : Item) (rest ws : List WorkValue) → IsLine p line item → is_end item ≡ true → AreWhole (join_with_byte 10 (next ∷ more)) rest → ws ≡ made job c ∷ rest
+end_goes : (job : ℕ) (p : Progress) (c : Content) (line next : List ℕ) (more : List (List ℕ)) (item : Item)
+    (rest ws : List WorkValue) → IsLine p line item → is_end item ≡ true
+    → AreWhole (join_with_byte 10 (next ∷ more)) rest → ws ≡ made job c ∷ rest
     → IsInsideWork job p c (join_with_byte 10 (line ∷ next ∷ more)) ws
 end_goes job p c line next more item rest ws found e others is =
     let one : flat_map item_line (item ∷ []) ≡ item_line item = flat_map-cons item_line item [] ∙ append-nil (item_line item) in
@@ -144,12 +154,17 @@ end_goes job p c line next more item rest ws found e others is =
       have = others.have;
     }
 
-item_goes : (job : ℕ) (p : Progress) (c : Content) (line next : List ℕ) (more : List (List ℕ)) (item : Item) (ws : List WorkValue) → IsLine p line item → is_end item ≡ false → IsInsideWork job (after p item) (added c item) (join_with_byte 10 (next ∷ more)) ws
+item_goes : (job : ℕ) (p : Progress) (c : Content) (line next : List ℕ) (more : List (List ℕ)) (item : Item)
+    (ws : List WorkValue) → IsLine p line item → is_end item ≡ false
+    → IsInsideWork job (after p item) (added c item) (join_with_byte 10 (next ∷ more)) ws
     → IsInsideWork job p c (join_with_byte 10 (line ∷ next ∷ more)) ws
 item_goes job p c line next more item ws found e others =
     let lines : List ℕ = flat_map item_line others.items in
-    let cons : flat_map item_line (item ∷ others.items) ++ spellings others.rest ≡ line_of_words (item_words item) ++ 10 ∷ (lines ++ spellings others.rest) =
-    ap (λ (t : List ℕ). t ++ spellings others.rest) (flat_map-cons item_line item others.items) ∙ append_assoc (item_line item) lines (spellings others.rest) ∙ append_assoc (line_of_words (item_words item)) (10 ∷ []) (lines ++ spellings others.rest) in
+    let cons : flat_map item_line (item ∷ others.items) ++ spellings others.rest
+    ≡ line_of_words (item_words item) ++ 10 ∷ (lines ++ spellings others.rest) =
+    ap (λ (t : List ℕ). t ++ spellings others.rest) (flat_map-cons item_line item others.items)
+    ∙ append_assoc (item_line item) lines (spellings others.rest)
+    ∙ append_assoc (line_of_words (item_words item)) (10 ∷ []) (lines ++ spellings others.rest) in
     record {
       items = item ∷ others.items;
       rest = others.rest;
@@ -166,18 +181,21 @@ is_ok : (b : Bool) (r : CertRefusal) (q : Result (List WorkValue) CertRefusal) (
 is_ok true r q ws h = absurd cc
 is_ok false r q ws h = h
 
-onto_ok : (w : WorkValue) (q : Result (List WorkValue) CertRefusal) (ws : List WorkValue) → onto w q ≡ Ok ws → (rest : List WorkValue) × (q ≡ Ok rest) × (ws ≡ w ∷ rest)
+onto_ok : (w : WorkValue) (q : Result (List WorkValue) CertRefusal) (ws : List WorkValue) → onto w q ≡ Ok ws
+    → (rest : List WorkValue) × (q ≡ Ok rest) × (ws ≡ w ∷ rest)
 onto_ok w (Err r) ws h = absurd cc
 onto_ok w (Ok rest) ws h = (rest, refl, cc)
 
-last_found : (n : ℕ) (line : List ℕ) (ws : List WorkValue) → cond (length line == 0) (Ok []) (Err (cut_front n line)) ≡ Ok ws → AreWhole (join_with_byte 10 (line ∷ [])) ws
+last_found : (n : ℕ) (line : List ℕ) (ws : List WorkValue)
+    → cond (length line == 0) (Ok []) (Err (cut_front n line)) ≡ Ok ws → AreWhole (join_with_byte 10 (line ∷ [])) ws
 last_found n [] ws h = let same : [] ≡ ws = cc in rw (← same) (record { spelt = refl; have = tt })
 last_found n (c ∷ cs) ws h =
     let some : (length (c ∷ cs) == 0) ≡ false = ne_eqb (length (c ∷ cs)) 0 (omega arith) in
     let bad : Err (cut_front n (c ∷ cs)) ≡ Ok ws = rw some at h in
     absurd cc
 
-pub works_found : (n : ℕ) (stage : Stage) (pcs : List (List ℕ)) (ws : List WorkValue) → works_from n stage pcs ≡ Ok ws → IsFound stage (join_with_byte 10 pcs) ws
+pub works_found : (n : ℕ) (stage : Stage) (pcs : List (List ℕ)) (ws : List WorkValue)
+    → works_from n stage pcs ≡ Ok ws → IsFound stage (join_with_byte 10 pcs) ws
 unfolding works_from
 works_found n Front [] ws h = absurd cc
 works_found n Job [] ws h = absurd cc
@@ -187,25 +205,39 @@ works_found n Job (line ∷ []) ws h = absurd cc
 works_found n (Inside job p c) (line ∷ []) ws h = absurd cc
 works_found n Front (line ∷ next ∷ more) ws h = at (bytes_eq line HEADER) refl (λ e. works_found (n + 1) Job (next ∷ more) ws e) h
   where
-    at : (b : Bool) → bytes_eq line HEADER ≡ b → (works_from (n + 1) Job (next ∷ more) ≡ Ok ws → IsBehindHeader (join_with_byte 10 (next ∷ more)) ws) → cond b (works_from (n + 1) Job (next ∷ more)) (Err (other_front n line)) ≡ Ok ws
+    at : (b : Bool) → bytes_eq line HEADER ≡ b
+        → (works_from (n + 1) Job (next ∷ more) ≡ Ok ws → IsBehindHeader (join_with_byte 10 (next ∷ more)) ws)
+        → cond b (works_from (n + 1) Job (next ∷ more)) (Err (other_front n line)) ≡ Ok ws
         → AreWhole (join_with_byte 10 (line ∷ next ∷ more)) ws
     at true is others e = front_goes line next more ws ((bytes_eq-Decides line HEADER).0 is) (others e)
     at false is others e = absurd cc
-works_found n Job (line ∷ next ∷ more) ws h = at (job_at line) refl (λ job e. works_found (n + 1) (Inside job opening blank) (next ∷ more) ws e) (is_ok (nat_lt LONGEST (length line)) (refusals.Limit n) _ ws h)
+works_found n Job (line ∷ next ∷ more) ws h = at (job_at line) refl
+    (λ job e. works_found (n + 1) (Inside job opening blank) (next ∷ more) ws e)
+    (is_ok (nat_lt LONGEST (length line)) (refusals.Limit n) _ ws h)
   where
-    at : (r : Result ℕ LineFault) → job_at line ≡ r → ((job : ℕ) → works_from (n + 1) (Inside job opening blank) (next ∷ more) ≡ Ok ws → IsInsideWork job opening blank (join_with_byte 10 (next ∷ more)) ws) → elim r as (λ r. Result (List WorkValue) CertRefusal) [
-      | Err f ↦ Err (refusal_at n f)
-      | Ok job ↦ works_from (n + 1) (Inside job opening blank) (next ∷ more)
-    ] ≡ Ok ws → IsBehindHeader (join_with_byte 10 (line ∷ next ∷ more)) ws
+    at : (r : Result ℕ LineFault) → job_at line ≡ r
+        → ((job : ℕ) → works_from (n + 1) (Inside job opening blank) (next ∷ more) ≡ Ok ws
+        → IsInsideWork job opening blank (join_with_byte 10 (next ∷ more)) ws)
+        → elim r as (λ r. Result (List WorkValue) CertRefusal) [
+          | Err f ↦ Err (refusal_at n f)
+          | Ok job ↦ works_from (n + 1) (Inside job opening blank) (next ∷ more)
+        ] ≡ Ok ws → IsBehindHeader (join_with_byte 10 (line ∷ next ∷ more)) ws
     at (Err f) is others e = absurd cc
     at (Ok job) is others e = job_goes job line next more ws (job_found line job is) (others job e)
 works_found n (Inside job p c) (line ∷ next ∷ more) ws h =
-    at (work_line_at p line) refl (λ rest e. works_found (n + 1) Front (next ∷ more) rest e) (λ q d e. works_found (n + 1) (Inside job q d) (next ∷ more) ws e) (is_ok (nat_lt LONGEST (length line)) (refusals.Limit n) _ ws h)
+    at (work_line_at p line) refl (λ rest e. works_found (n + 1) Front (next ∷ more) rest e)
+    (λ q d e. works_found (n + 1) (Inside job q d) (next ∷ more) ws e)
+    (is_ok (nat_lt LONGEST (length line)) (refusals.Limit n) _ ws h)
   where
-    at : (r : Result Item LineFault) → work_line_at p line ≡ r → ((rest : List WorkValue) → works_from (n + 1) Front (next ∷ more) ≡ Ok rest → AreWhole (join_with_byte 10 (next ∷ more)) rest)
-        → ((q : Progress) (d : Content) → works_from (n + 1) (Inside job q d) (next ∷ more) ≡ Ok ws → IsInsideWork job q d (join_with_byte 10 (next ∷ more)) ws) → elim r as (λ r. Result (List WorkValue) CertRefusal) [
+    at : (r : Result Item LineFault) → work_line_at p line ≡ r
+        → ((rest : List WorkValue) → works_from (n + 1) Front (next ∷ more) ≡ Ok rest
+        → AreWhole (join_with_byte 10 (next ∷ more)) rest)
+        → ((q : Progress) (d : Content) → works_from (n + 1) (Inside job q d) (next ∷ more) ≡ Ok ws
+        → IsInsideWork job q d (join_with_byte 10 (next ∷ more)) ws)
+        → elim r as (λ r. Result (List WorkValue) CertRefusal) [
           | Err f ↦ Err (refusal_at n f)
-          | Ok item ↦ cond (is_end item) (onto (made job c) (works_from (n + 1) Front (next ∷ more))) (works_from (n + 1) (Inside job (after p item) (added c item)) (next ∷ more))
+          | Ok item ↦ cond (is_end item) (onto (made job c) (works_from (n + 1) Front (next ∷ more)))
+              (works_from (n + 1) (Inside job (after p item) (added c item)) (next ∷ more))
         ] ≡ Ok ws → IsInsideWork job p c (join_with_byte 10 (line ∷ next ∷ more)) ws
     at (Err f) is ended goes e = absurd cc
     at (Ok item) is ended goes e =
@@ -213,5 +245,6 @@ works_found n (Inside job p c) (line ∷ next ∷ more) ws h =
           | inl last ↦
               let o = onto_ok (made job c) (works_from (n + 1) Front (next ∷ more)) ws (rw last at e) in
               end_goes job p c line next more item o.0 ws (work_line_found p line item is) last (ended o.0 o.1) o.2
-          | inr further ↦ item_goes job p c line next more item ws (work_line_found p line item is) further (goes (after p item) (added c item) (rw further at e))
+          | inr further ↦ item_goes job p c line next more item ws (work_line_found p line item is) further
+              (goes (after p item) (added c item) (rw further at e))
         ]

@@ -23,7 +23,9 @@ use Rattle.pesp_works.specs.Lines.{job_of, job_said, job_at}
 pub nat_plain : (n : ℕ) → n < NATURALS → is_plain (decimal n) ≡ true
 nat_plain n lt =
     let all : all_plain (codes "answer" ∷ codes "optimal" ∷ decimal n ∷ []) ≡ true = item_plain (Says (Optimal n)) lt refl in
-    and_left (is_plain (decimal n)) (all_plain []) (and_right (is_plain (codes "optimal")) (all_plain (decimal n ∷ [])) (and_right (is_plain (codes "answer")) (all_plain (codes "optimal" ∷ decimal n ∷ [])) all))
+    and_left (is_plain (decimal n)) (all_plain [])
+    (and_right (is_plain (codes "optimal")) (all_plain (decimal n ∷ []))
+    (and_right (is_plain (codes "answer")) (all_plain (codes "optimal" ∷ decimal n ∷ [])) all))
 
 below : (n : ℕ) → n ≤ 999999 → n < NATURALS
 below n le = omega (arith, le)
@@ -31,7 +33,8 @@ below n le = omega (arith, le)
 number_found : (v : List ℕ) (n : ℕ) → job_of (natural_of v) ≡ Ok n → (v ≡ decimal n) × (n ≤ 999999)
 number_found v n h = go (natural_of v) refl h
   where
-    within : (m : ℕ) (b : Bool) → nat_le m 999999 ≡ b → cond b (Ok m) (Err faults.Limit) ≡ Ok n → natural_of v ≡ Some m → (v ≡ decimal n) × (n ≤ 999999)
+    within : (m : ℕ) (b : Bool) → nat_le m 999999 ≡ b → cond b (Ok m) (Err faults.Limit) ≡ Ok n
+        → natural_of v ≡ Some m → (v ≡ decimal n) × (n ≤ 999999)
     within m true le e is =
         let same : m ≡ n = cc in
         let few : m ≤ 999999 = grind (arith, nat_tests, le) in
@@ -49,7 +52,9 @@ said_found (w ∷ []) n h = absurd cc
 said_found (w ∷ v ∷ u ∷ ws) n h = absurd cc
 said_found (w ∷ v ∷ []) n h = go (bytes_eq w (codes "job") && not (length v == 0)) refl h
   where
-    go : (b : Bool) → (bytes_eq w (codes "job") && not (length v == 0)) ≡ b → cond b (job_of (natural_of v)) (Err faults.Line) ≡ Ok n → (w ∷ v ∷ [] ≡ codes "job" ∷ decimal n ∷ []) × (n ≤ 999999)
+    go : (b : Bool) → (bytes_eq w (codes "job") && not (length v == 0)) ≡ b
+        → cond b (job_of (natural_of v)) (Err faults.Line) ≡ Ok n
+        → (w ∷ v ∷ [] ≡ codes "job" ∷ decimal n ∷ []) × (n ≤ 999999)
     go false is e = absurd cc
     go true is e =
         let word : w ≡ codes "job" = (bytes_eq-Decides w (codes "job")).0 (and_left (bytes_eq w (codes "job")) (not (length v == 0)) is) in
@@ -91,7 +96,14 @@ job_read n le =
     rw (not_the_end n) said
 
 pub job_short : (n : ℕ) → n ≤ 999999 → length (job_line n) ≤ LONGEST
-job_short n le = omega (arith, length-append (codes "job") ((32 ∷ decimal n) ++ []), length-append (32 ∷ decimal n) [], nat_len n (below n le))
+job_short n le = omega (
+  arith,
+  length-append (codes "job") ((32 ∷ decimal n) ++ []),
+  length-append (32 ∷ decimal n) [],
+  nat_len n (below n le),
+)
 
 pub job_lf : (n : ℕ) → n ≤ 999999 → All (λ b. is_byte 10 b ≡ false) (job_line n)
-job_lf n le = no_lf (job_line n) (line_lf (codes "job" ∷ decimal n ∷ []) (and_both (is_plain (codes "job")) (all_plain (decimal n ∷ [])) refl (and_both (is_plain (decimal n)) true (nat_plain n (below n le)) refl)))
+job_lf n le = no_lf (job_line n) (line_lf (codes "job" ∷ decimal n ∷ [])
+    (and_both (is_plain (codes "job")) (all_plain (decimal n ∷ [])) refl
+    (and_both (is_plain (decimal n)) true (nat_plain n (below n le)) refl)))

@@ -15,14 +15,16 @@ abbrev others_of : WorkValue → List Item
 others_of w = ((map time_item w.times ++ map Cycle []) ++ map tree_item w.tree) ++ End ∷ []
 
 same_items : (w : WorkValue) → others_of w ≡ items_of w
-same_items w = ap (λ (items : List Item). (items ++ map tree_item w.tree) ++ End ∷ []) (append-nil (map time_item w.times)) ∙ append_assoc (map time_item w.times) (map tree_item w.tree) (End ∷ [])
+same_items w = ap (λ (items : List Item). (items ++ map tree_item w.tree) ++ End ∷ [])
+    (append-nil (map time_item w.times)) ∙ append_assoc (map time_item w.times) (map tree_item w.tree) (End ∷ [])
 
 limits_give : (w : WorkValue) → KeepsWorkLimits w → HasText w
 limits_give w k =
     let text = (limits_iff (certificate_of w)).0 k.parts in
     let period = run_rest beginning (Version 2) (Period 1 ∷ Says Infeasible ∷ others_of w) refl text.run in
     let answer = run_rest (after beginning (Version 2)) (Period 1) (Says Infeasible ∷ others_of w) refl period in
-    let others : IsRun opening (others_of w) = run_rest (after (after beginning (Version 2)) (Period 1)) (Says Infeasible) (others_of w) refl answer in
+    let others : IsRun opening (others_of w) =
+    run_rest (after (after beginning (Version 2)) (Period 1)) (Says Infeasible) (others_of w) refl answer in
     let P : List Item → Type 0 = λ items. IsRun opening items in
     record { job = k.job; run = subst P (same_items w) others }
 
@@ -30,9 +32,12 @@ text_gives : (w : WorkValue) → HasText w → KeepsWorkLimits w
 text_gives w h =
     let P : List Item → Type 0 = λ items. IsRun opening items in
     let others : IsRun opening (others_of w) = subst P (sym (same_items w)) h.run in
-    let answer = run_onto (after (after beginning (Version 2)) (Period 1)) (Says Infeasible) (others_of w) (record { allowed = refl; proper = tt; within = refl; counts = refl }) refl others in
-    let period = run_onto (after beginning (Version 2)) (Period 1) (Says Infeasible ∷ others_of w) (record { allowed = refl; proper = tt; within = refl; counts = refl }) refl answer in
-    let version = run_onto beginning (Version 2) (Period 1 ∷ Says Infeasible ∷ others_of w) (record { allowed = refl; proper = tt; within = refl; counts = refl }) refl period in
+    let answer = run_onto (after (after beginning (Version 2)) (Period 1)) (Says Infeasible) (others_of w)
+    (record { allowed = refl; proper = tt; within = refl; counts = refl }) refl others in
+    let period = run_onto (after beginning (Version 2)) (Period 1) (Says Infeasible ∷ others_of w)
+    (record { allowed = refl; proper = tt; within = refl; counts = refl }) refl answer in
+    let version = run_onto beginning (Version 2) (Period 1 ∷ Says Infeasible ∷ others_of w)
+    (record { allowed = refl; proper = tt; within = refl; counts = refl }) refl period in
     let text : certificates.HasText (certificate_of w) = record { run = version } in
     record { job = h.job; parts = (limits_iff (certificate_of w)).1 text }
 

@@ -35,7 +35,8 @@ use Rattle.pesp_works.proofs.Founds.{is_other}
 
 all_append : {A : Type 0} (t : A → Bool) (xs ys : List A) → list_all t xs ≡ true → list_all t ys ≡ true → list_all t (xs ++ ys) ≡ true
 all_append t [] ys h k = k
-all_append t (x ∷ xs) ys h k = and_both (t x) (list_all t (xs ++ ys)) (and_left (t x) (list_all t xs) h) (all_append t xs ys (and_right (t x) (list_all t xs) h) k)
+all_append t (x ∷ xs) ys h k = and_both (t x) (list_all t (xs ++ ys)) (and_left (t x) (list_all t xs) h)
+    (all_append t xs ys (and_right (t x) (list_all t xs) h) k)
 
 line_other : (line : TreeLine) → is_other (tree_item line) ≡ true
 line_other (lines.Slack row k) = refl
@@ -54,16 +55,20 @@ tree_other [] = refl
 tree_other (line ∷ ls) = and_both (is_other (tree_item line)) (list_all is_other (map tree_item ls)) (line_other line) (tree_other ls)
 
 items_other : (w : WorkValue) → list_all is_other (items_of w) ≡ true
-items_other w = all_append is_other (map time_item w.times) (map tree_item w.tree ++ End ∷ []) (times_other w.times) (all_append is_other (map tree_item w.tree) (End ∷ []) (tree_other w.tree) refl)
+items_other w = all_append is_other (map time_item w.times) (map tree_item w.tree ++ End ∷ [])
+    (times_other w.times) (all_append is_other (map tree_item w.tree) (End ∷ []) (tree_other w.tree) refl)
 
 not_true : (b : Bool) → not b ≡ true → b ≡ false
 not_true true h = absurd cc
 not_true false h = refl
 
-work_line_read : (p : Progress) (item : Item) → CanStand p item → is_other item ≡ true → work_line_at p (line_of_words (item_words item)) ≡ Ok item
+work_line_read : (p : Progress) (item : Item) → CanStand p item → is_other item ≡ true
+    → work_line_at p (line_of_words (item_words item)) ≡ Ok item
 unfolding work_line_at
 work_line_read p item can other =
-    let words : begins_cycle (words_of (line_of_words (item_words item))) ≡ false = ap begins_cycle (words_of-item item can.proper can.within) ∙ not_true (begins_cycle (item_words item)) other in
+    let words : begins_cycle (words_of (line_of_words (item_words item)))
+    ≡ false = ap begins_cycle (words_of-item item can.proper can.within)
+    ∙ not_true (begins_cycle (item_words item)) other in
     rw words (line_read p item can)
 
 -- ---- lines in front of others
@@ -73,25 +78,35 @@ pub record IsRead (n : ℕ) (first : Result (List WorkValue) CertRefusal) (w : W
   pub number : ℕ
   pub same : first ≡ onto w (given number Front more)
 
-lines_read : (items : List Item) (n job : ℕ) (p : Progress) (c : Content) (more : List ℕ) → IsRun p items → list_all is_other items ≡ true → AllByRecursion IsShort items
+lines_read : (items : List Item) (n job : ℕ) (p : Progress) (c : Content) (more : List ℕ) → IsRun p items
+    → list_all is_other items ≡ true → AllByRecursion IsShort items
     → IsRead n (given n (Inside job p c) (flat_map item_line items ++ more)) (made job (all_added c items)) more
 lines_read [] n job p c more run other short = absurd run
 lines_read (item ∷ []) n job p c more run other short =
     let some = nonempty more in
-    let cut : pieces 10 (flat_map item_line (item ∷ []) ++ more) ≡ line_of_words (item_words item) ∷ some.0 ∷ some.1 = ap (λ (t : List ℕ). pieces 10 (t ++ more)) (flat_map-cons item_line item [] ∙ append-nil (item_line item)) ∙ line_cut p item more run.0 ∙ ap (λ (ps : List (List ℕ)). line_of_words (item_words item) ∷ ps) some.2 in
+    let cut : pieces 10 (flat_map item_line (item ∷ []) ++ more)
+    ≡ line_of_words (item_words item) ∷ some.0 ∷ some.1 =
+    ap (λ (t : List ℕ). pieces 10 (t ++ more)) (flat_map-cons item_line item [] ∙ append-nil (item_line item))
+    ∙ line_cut p item more run.0 ∙ ap (λ (ps : List (List ℕ)). line_of_words (item_words item) ∷ ps) some.2 in
     let read = work_line_read p item run.0 (and_left (is_other item) true other) in
     let step = at_end n job p c (line_of_words (item_words item)) some.0 some.1 item short.0 read run.1 in
     record {
       number = n + 1;
-      same = rw (cut, end_adds c item run.1) (step ∙ ap (λ (ps : List (List ℕ)). onto (made job c) (works_from (n + 1) Front ps)) (sym some.2));
+      same = rw (cut, end_adds c item run.1) (step
+          ∙ ap (λ (ps : List (List ℕ)). onto (made job c) (works_from (n + 1) Front ps)) (sym some.2));
     }
 lines_read (item ∷ next ∷ others) n job p c more run other short =
     let rest : List ℕ = flat_map item_line (next ∷ others) ++ more in
     let some = nonempty rest in
-    let cut : pieces 10 (flat_map item_line (item ∷ next ∷ others) ++ more) ≡ line_of_words (item_words item) ∷ some.0 ∷ some.1 = ap (λ (t : List ℕ). pieces 10 (t ++ more)) (flat_map-cons item_line item (next ∷ others)) ∙ ap (pieces 10) (append_assoc (item_line item) (flat_map item_line (next ∷ others)) more) ∙ line_cut p item rest run.0 ∙ ap (λ (ps : List (List ℕ)). line_of_words (item_words item) ∷ ps) some.2 in
+    let cut : pieces 10 (flat_map item_line (item ∷ next ∷ others) ++ more)
+    ≡ line_of_words (item_words item) ∷ some.0 ∷ some.1 =
+    ap (λ (t : List ℕ). pieces 10 (t ++ more)) (flat_map-cons item_line item (next ∷ others))
+    ∙ ap (pieces 10) (append_assoc (item_line item) (flat_map item_line (next ∷ others)) more)
+    ∙ line_cut p item rest run.0 ∙ ap (λ (ps : List (List ℕ)). line_of_words (item_words item) ∷ ps) some.2 in
     let read = work_line_read p item run.0 (and_left (is_other item) (list_all is_other (next ∷ others)) other) in
     let step = at_item n job p c (line_of_words (item_words item)) some.0 some.1 item short.0 read run.1 in
-    let later = lines_read (next ∷ others) (n + 1) job (after p item) (added c item) more run.2 (and_right (is_other item) (list_all is_other (next ∷ others)) other) short.1 in
+    let later = lines_read (next ∷ others) (n + 1) job (after p item) (added c item) more run.2
+    (and_right (is_other item) (list_all is_other (next ∷ others)) other) short.1 in
     record {
       number = later.number;
       same = rw cut (step ∙ ap (works_from (n + 1) (Inside job (after p item) (added c item))) (sym some.2) ∙ later.same);
@@ -100,20 +115,28 @@ lines_read (item ∷ next ∷ others) n job p c more run other short =
 -- ---- a work in front of others
 
 added_up : (w : WorkValue) → made w.job (all_added blank (items_of w)) ≡ w
-added_up w = ap (made w.job) (times_added blank w.times (map tree_item w.tree ++ End ∷ []) ∙ tree_added (record blank { times = w.times }) w.tree (End ∷ []))
+added_up w = ap (made w.job) (times_added blank w.times (map tree_item w.tree ++ End ∷ [])
+    ∙ tree_added (record blank { times = w.times }) w.tree (End ∷ []))
 
-job_read_at : (n : ℕ) (w : WorkValue) (more : List ℕ) → HasText w → IsRead n (given n Job ((job_line w.job ++ 10 ∷ flat_map item_line (items_of w)) ++ more)) w more
+job_read_at : (n : ℕ) (w : WorkValue) (more : List ℕ) → HasText w
+    → IsRead n (given n Job ((job_line w.job ++ 10 ∷ flat_map item_line (items_of w)) ++ more)) w more
 job_read_at n w more h =
     let rest : List ℕ = flat_map item_line (items_of w) ++ more in
     let some = nonempty rest in
-    let shape : (job_line w.job ++ 10 ∷ flat_map item_line (items_of w)) ++ more ≡ job_line w.job ++ 10 ∷ rest = append_assoc (job_line w.job) (10 ∷ flat_map item_line (items_of w)) more in
-    let split : pieces 10 (job_line w.job ++ 10 ∷ rest) ≡ job_line w.job ∷ pieces 10 rest = slice_split_at (is_byte 10) (job_line w.job) 10 rest (job_lf w.job h.job) refl in
-    let cut : pieces 10 ((job_line w.job ++ 10 ∷ flat_map item_line (items_of w)) ++ more) ≡ job_line w.job ∷ some.0 ∷ some.1 = ap (pieces 10) shape ∙ split ∙ ap (λ (ps : List (List ℕ)). job_line w.job ∷ ps) some.2 in
+    let shape : (job_line w.job ++ 10 ∷ flat_map item_line (items_of w)) ++ more
+    ≡ job_line w.job ++ 10 ∷ rest = append_assoc (job_line w.job) (10 ∷ flat_map item_line (items_of w)) more in
+    let split : pieces 10 (job_line w.job ++ 10 ∷ rest)
+    ≡ job_line w.job ∷ pieces 10 rest = slice_split_at (is_byte 10) (job_line w.job) 10 rest
+    (job_lf w.job h.job) refl in
+    let cut : pieces 10 ((job_line w.job ++ 10 ∷ flat_map item_line (items_of w)) ++ more)
+    ≡ job_line w.job ∷ some.0 ∷ some.1 = ap (pieces 10) shape ∙ split
+    ∙ ap (λ (ps : List (List ℕ)). job_line w.job ∷ ps) some.2 in
     let step = at_job n (job_line w.job) some.0 some.1 w.job (job_short w.job h.job) (job_read w.job h.job) in
     let later = lines_read (items_of w) (n + 1) w.job opening blank more h.run (items_other w) (run_short opening (items_of w) h.run) in
     record {
       number = later.number;
-      same = ap (works_from n Job) cut ∙ step ∙ ap (works_from (n + 1) (Inside w.job opening blank)) (sym some.2) ∙ later.same ∙ ap (λ (v : WorkValue). onto v (given later.number Front more)) (added_up w);
+      same = ap (works_from n Job) cut ∙ step ∙ ap (works_from (n + 1) (Inside w.job opening blank)) (sym some.2)
+          ∙ later.same ∙ ap (λ (v : WorkValue). onto v (given later.number Front more)) (added_up w);
     }
 
 pub work_read : (n : ℕ) (w : WorkValue) (more : List ℕ) → HasText w → IsRead n (given n Front (spelling w ++ more)) w more
@@ -122,8 +145,10 @@ work_read n w more h =
     let rest : List ℕ = behind ++ more in
     let some = nonempty rest in
     let shape : spelling w ++ more ≡ HEADER ++ 10 ∷ rest = append_assoc HEADER (10 ∷ behind) more in
-    let split : pieces 10 (HEADER ++ 10 ∷ rest) ≡ HEADER ∷ pieces 10 rest = slice_split_at (is_byte 10) HEADER 10 rest (no_lf HEADER refl) refl in
-    let cut : pieces 10 (spelling w ++ more) ≡ HEADER ∷ some.0 ∷ some.1 = ap (pieces 10) shape ∙ split ∙ ap (λ (ps : List (List ℕ)). HEADER ∷ ps) some.2 in
+    let split : pieces 10 (HEADER ++ 10 ∷ rest)
+    ≡ HEADER ∷ pieces 10 rest = slice_split_at (is_byte 10) HEADER 10 rest (no_lf HEADER refl) refl in
+    let cut : pieces 10 (spelling w ++ more) ≡ HEADER ∷ some.0 ∷ some.1 = ap (pieces 10) shape ∙ split
+    ∙ ap (λ (ps : List (List ℕ)). HEADER ∷ ps) some.2 in
     let step = at_header n HEADER some.0 some.1 refl in
     let later = job_read_at (n + 1) w more h in
     record {

@@ -24,7 +24,8 @@ one_onto a b (Err e) h = absurd cc
 pub none_begins_another : NoneBeginsAnother
 none_begins_another a b more text_a text_b same =
     let front = work_read 1 a more text_a in
-    let whole : given 1 Front (spelling b) ≡ Ok (b ∷ []) = ap (given 1 Front) (sym (append-nil (spelling b))) ∙ works_read (b ∷ []) 1 (text_b, tt) in
+    let whole : given 1 Front (spelling b) ≡ Ok (b ∷ []) = ap (given 1 Front) (sym (append-nil (spelling b)))
+    ∙ works_read (b ∷ []) 1 (text_b, tt) in
     let one = one_onto a b (given front.number Front more) (sym front.same ∙ ap (given 1 Front) same ∙ whole) in
     (one.0, (whole_of more front.number [] one.1).spelt)
 
@@ -33,13 +34,16 @@ text_read text ws is = ap works_of_text is.spelt ∙ works_read ws 1 (recursion_
 
 pub lists_differ : ListsDiffer
 lists_differ first other h k same =
-    let both : Ok first ≡ Ok other = sym (works_read first 1 (recursion_from_All HasText first h)) ∙ ap works_of_text same ∙ works_read other 1 (recursion_from_All HasText other k) in
+    let both : Ok first ≡ Ok other = sym (works_read first 1 (recursion_from_All HasText first h))
+    ∙ ap works_of_text same ∙ works_read other 1 (recursion_from_All HasText other k) in
     cc
 
 -- ---- what a reader answers
 
-pub reads_found : (text : List ℕ) (r : Result (Vec WorkValue) CertRefusal) → ReadsWorks r (works_of_text text) → IfOk r (λ v. IsTextOf text v.items)
-reads_found text (Ok v) r = let w = whole_of text 1 v.items r in record { have_texts = All-from_recursion HasText v.items w.have; spelt = w.spelt }
+pub reads_found : (text : List ℕ) (r : Result (Vec WorkValue) CertRefusal) → ReadsWorks r (works_of_text text)
+    → IfOk r (λ v. IsTextOf text v.items)
+reads_found text (Ok v) r = let w = whole_of text 1 v.items r in
+    record { have_texts = All-from_recursion HasText v.items w.have; spelt = w.spelt }
 reads_found text (Err e) r = tt
 
 pub reads_only : (text : List ℕ) (r : Result (Vec WorkValue) CertRefusal) → ReadsWorks r (works_of_text text) → ReadsTexts text r
@@ -47,6 +51,7 @@ reads_only text (Ok v) r ws is = let same : Ok v.items ≡ Ok ws = sym r ∙ tex
 reads_only text (Err e) (inl memory) ws is = inr (ap Err memory)
 reads_only text (Err e) (inr first) ws is = let bad : Err e ≡ Ok ws = sym first ∙ text_read text ws is in absurd cc
 
-pub reads_refused : (text : List ℕ) (r : Result (Vec WorkValue) CertRefusal) → ReadsWorks r (works_of_text text) → IfErr r (RefusesFirst text)
+pub reads_refused : (text : List ℕ) (r : Result (Vec WorkValue) CertRefusal) → ReadsWorks r (works_of_text text)
+    → IfErr r (RefusesFirst text)
 reads_refused text (Ok v) r = tt
 reads_refused text (Err e) r = r

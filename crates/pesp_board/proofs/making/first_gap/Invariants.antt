@@ -6,4 +6,5 @@ use Rattle.pesp_nodes.specs.Problems.{net_of}
 use Rattle.pesp_board.proofs.making.first_gap.Given as goal
 
 abbrev pub invariant-loop-pair : goal.invariant-loop-pair
-invariant-loop-pair l = (j : ℕ) (d : Pair) → j < l.pair-index → offsets_left (net_of l.problem) l.problem.table l.node ((get_or l.pairs j d).cycle - 1) ≡ None → ⊥
+invariant-loop-pair l = (j : ℕ) (d : Pair) → j < l.pair-index
+    → offsets_left (net_of l.problem) l.problem.table l.node ((get_or l.pairs j d).cycle - 1) ≡ None → ⊥

@@ -7,9 +7,13 @@ use Rattle.pesp_bound.proofs.settling.climb.Goals as goal
 pub loop-k-init : goal.loop-k-init
 loop-k-init c =
     record {
-      size = let l = c.in_ok-place.place.ok.0 in let z = length_zeros (length c.args.level.now) c.in_ok-place.place.items c.in_ok-place.ensures in omega (arith, l, z);
+      size = let l = c.in_ok-place.place.ok.0 in
+          let z = length_zeros (length c.args.level.now) c.in_ok-place.place.items c.in_ok-place.ensures in
+          omega (arith, l, z);
       here = c.requires.event;
-      climbed = starts_as c.args.edges.now c.args.level.now c.args.by.now c.in_ok-place.place.items c.new-way.result.items c.args.event c.args.most c.requires.grown c.in_ok-place.ensures c.new-way.ensures.items;
+      climbed = starts_as c.args.edges.now c.args.level.now c.args.by.now c.in_ok-place.place.items
+          c.new-way.result.items c.args.event c.args.most c.requires.grown c.in_ok-place.ensures
+          c.new-way.ensures.items;
     }
 
 pub loop-k-preserved : goal.loop-k-preserved
@@ -19,11 +23,16 @@ loop-k-preserved c =
     let some = c.if-k-eq0.false in
     let row = i.climbed.grown.row cur in
     let w = c.requires.within (at c.args.by.now cur - 1) (omega (arith, row, some)) in
-    let in_place : cur < length c.loop-k.place.items = let l = c.loop-k.place.ok.0 in let s = i.size in let h = i.here in omega (arith, l, s, h) in
+    let in_place : cur < length c.loop-k.place.items = let l = c.loop-k.place.ok.0 in let s = i.size in
+    let h = i.here in omega (arith, l, s, h) in
     record {
       size = i.size;
       here = w.1;
-      climbed = climbs_on_as c.args.edges.now c.args.level.now c.args.by.now c.loop-k.place.items c.loop-k.way.items c.push.new.self.items cur c.args.event c.args.most c.len.result i.climbed in_place (sym (get_or_read c.loop-k.place.items cur _ in_place c.index.ensures 0) ∙ c.loop-k-test.true) (omega (arith, some)) w.2 (let l = c.loop-k.way.ok.0 in let n = c.in_ok-push.ensures.len in let e = c.len.ensures in omega (arith, l, n, e)) c.in_ok-push.ensures.items;
+      climbed = climbs_on_as c.args.edges.now c.args.level.now c.args.by.now c.loop-k.place.items
+          c.loop-k.way.items c.push.new.self.items cur c.args.event c.args.most c.len.result i.climbed in_place
+          (sym (get_or_read c.loop-k.place.items cur _ in_place c.index.ensures 0) ∙ c.loop-k-test.true)
+          (omega (arith, some)) w.2 (let l = c.loop-k.way.ok.0 in let n = c.in_ok-push.ensures.len in
+          let e = c.len.ensures in omega (arith, l, n, e)) c.in_ok-push.ensures.items;
     }
 
 pub returns-clause-gains : goal.returns-clause-gains
@@ -36,5 +45,8 @@ returns-clause-gains c =
     let second : at items cur ≡ c.index-2.result.now = sym (get_or_read items cur _ in_place c.index-2.ensures 0) in
     let test = c.loop-k-test.false in
     let some : 0 < at items cur = omega (arith, first, test) in
-    let tail : c.in_ok-closed.closed.items ≡ drop (at items cur - 1) c.loop-k.way.items = c.in_ok-closed.ensures.tail ∙ ap (λ (n : ℕ). drop (n - 1) c.loop-k.way.items) (sym second) in
-    subst (λ (w : List ℕ). GainsForEver c.args.edges.now w) (sym tail) (closes c.args.edges.now (at c.args.level.now) i.climbed.t cur (drop (at items cur - 1) c.loop-k.way.items) (i.climbed.comes cur some))
+    let tail : c.in_ok-closed.closed.items ≡ drop (at items cur - 1) c.loop-k.way.items =
+    c.in_ok-closed.ensures.tail ∙ ap (λ (n : ℕ). drop (n - 1) c.loop-k.way.items) (sym second) in
+    subst (λ (w : List ℕ). GainsForEver c.args.edges.now w) (sym tail)
+    (closes c.args.edges.now (at c.args.level.now) i.climbed.t cur (drop (at items cur - 1) c.loop-k.way.items)
+    (i.climbed.comes cur some))

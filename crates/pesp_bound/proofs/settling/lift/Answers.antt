@@ -10,4 +10,6 @@ returns-clause-grown c =
     let same = c.requires.events in
     let ensures = c.saturating_sub-wanted.ensures in
     let above = c.if-wanted-level.false in
-    lifted_lists c.args.edges.now c.args.level.now c.args.by.now c.args.k e.start c.saturating_sub-wanted.result c.requires.edge c.requires.grown refl w.0 (let a = w.0 in omega (arith, a, same)) above (omega (arith, ensures, above))
+    lifted_lists c.args.edges.now c.args.level.now c.args.by.now c.args.k e.start c.saturating_sub-wanted.result
+    c.requires.edge c.requires.grown refl w.0 (let a = w.0 in omega (arith, a, same)) above
+    (omega (arith, ensures, above))

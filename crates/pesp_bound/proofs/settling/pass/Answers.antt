@@ -20,11 +20,16 @@ loop-k-preserved c =
       size_by = e.events_by ∙ i.size;
       low = elim c.if-lift.branch [
         | then-lift+else-level-start w ↦ λ x. low_but old new c.args.limit start x i.low e.others w.if-level-start.false
-        | else-lift w ↦ λ x. subst (λ (xs : List ℕ). at xs x ≤ c.args.limit) (sym (when_false _ _ c.lift.result w.if-lift.false e.cases).0) (i.low x)
+        | else-lift w ↦ λ x. subst (λ (xs : List ℕ). at xs x ≤ c.args.limit)
+            (sym (when_false _ _ c.lift.result w.if-lift.false e.cases).0) (i.low x)
       ];
       grown = e.grown;
       so_far = elim c.if-lift.branch [
-        | then-lift+else-level-start b ↦ subst (λ (l : Option ℕ). SoFar edges c.args.level.now new l (k + 1)) (sym b.last-is) (so_far_lifts edges c.args.level.now old new c.loop-k.last k start i.so_far (when_true _ _ c.lift.result b.if-lift.true e.cases) w.0)
-        | else-lift b ↦ let f = when_false _ _ c.lift.result b.if-lift.false e.cases in subst (λ (l : Option ℕ). SoFar edges c.args.level.now new l (k + 1)) (sym b.last-is) (so_far_stays edges c.args.level.now old new c.loop-k.last k i.so_far f.0 f.1)
+        | then-lift+else-level-start b ↦ subst (λ (l : Option ℕ). SoFar edges c.args.level.now new l (k + 1))
+            (sym b.last-is) (so_far_lifts edges c.args.level.now old new c.loop-k.last k start i.so_far
+            (when_true _ _ c.lift.result b.if-lift.true e.cases) w.0)
+        | else-lift b ↦ let f = when_false _ _ c.lift.result b.if-lift.false e.cases in
+            subst (λ (l : Option ℕ). SoFar edges c.args.level.now new l (k + 1)) (sym b.last-is)
+            (so_far_stays edges c.args.level.now old new c.loop-k.last k i.so_far f.0 f.1)
       ];
     }

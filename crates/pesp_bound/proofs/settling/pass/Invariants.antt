@@ -9,5 +9,6 @@ invariant-loop-k l = record {
   size_by : length l.by ≡ length l.initial.level;
   low : (x : ℕ) → at l.level x ≤ l.limit;
   grown : IsGrown l.edges l.level l.by;
-  so_far : MatchOption l.last ((l.level ≡ l.initial.level) × ((j : ℕ) → j < l.k → Settles l.edges (at l.level) j)) (λ e. (e < length l.initial.level) × (sum l.initial.level < sum l.level));
+  so_far : MatchOption l.last ((l.level ≡ l.initial.level) × ((j : ℕ) → j < l.k → Settles l.edges (at l.level) j))
+      (λ e. (e < length l.initial.level) × (sum l.initial.level < sum l.level));
 }

@@ -8,5 +8,9 @@ loop-event-smaller c =
     let i = c.loop-event.invariant in
     let e = c.in-Some.ensures in
     let size : length c.pass.new.level ≡ length c.args.level.now = e.events ∙ i.size in
-    let none = not_found (length c.pass.new.level * c.args.most) (at c.pass.new.level c.in-Some.event) c.in_ok-found.found c.in_ok-found.ensures.found (sym c.if-is_some.ensures) in
-    less_left c.loop-event.level c.pass.new.level c.in-Some.event (length c.args.level.now * c.args.most) (length c.args.level.now) size e.cases.1 e.cases.2 (let s = ap (λ (n : ℕ). n * c.args.most) size in omega (arith, none, s))
+    let none = not_found (length c.pass.new.level * c.args.most)
+    (at c.pass.new.level c.in-Some.event) c.in_ok-found.found c.in_ok-found.ensures.found
+    (sym c.if-is_some.ensures) in
+    less_left c.loop-event.level c.pass.new.level c.in-Some.event (length c.args.level.now * c.args.most)
+    (length c.args.level.now) size e.cases.1 e.cases.2
+    (let s = ap (λ (n : ℕ). n * c.args.most) size in omega (arith, none, s))

@@ -14,7 +14,9 @@ own_place-requires c =
     let place = c.loop-place.place in
     let same = c.table-table.ensures.table in
     let within : place < length table = let t = c.loop-place-test.true in let e = ap length same in omega (arith, t, e) in
-    let walk : c.index-table-place.result ≡ cycle_at table place = c.index-table-place.is ∙ ap (λ (x : List (List SignedRow)). get_or x place c.index-table-place.result) same ∙ get_or_default table place c.index-table-place.result [] within in
+    let walk : c.index-table-place.result ≡ cycle_at table place = c.index-table-place.is
+    ∙ ap (λ (x : List (List SignedRow)). get_or x place c.index-table-place.result) same
+    ∙ get_or_default table place c.index-table-place.result [] within in
     let names = own_row_names (net_of c.args.problem.now).arcs (cycle_at table place) (c.table-table.ensures.closed place [] within) in
     let e = ap own_row walk in
     let one = names.0 in
@@ -26,7 +28,9 @@ index_mut-requires c =
     let place = c.loop-place.place in
     let same = c.table-table.ensures.table in
     let within : place < length table = let t = c.loop-place-test.true in let e = ap length same in omega (arith, t, e) in
-    let walk : c.index-table-place.result ≡ cycle_at table place = c.index-table-place.is ∙ ap (λ (x : List (List SignedRow)). get_or x place c.index-table-place.result) same ∙ get_or_default table place c.index-table-place.result [] within in
+    let walk : c.index-table-place.result ≡ cycle_at table place = c.index-table-place.is
+    ∙ ap (λ (x : List (List SignedRow)). get_or x place c.index-table-place.result) same
+    ∙ get_or_default table place c.index-table-place.result [] within in
     let names = own_row_names (net_of c.args.problem.now).arcs (cycle_at table place) (c.table-table.ensures.closed place [] within) in
     let e = ap own_row walk in
     let o = c.own_place.ensures in
@@ -42,9 +46,12 @@ loop-place-preserved c =
     let place = c.loop-place.place in
     let same = c.table-table.ensures.table in
     let within : place < length table = let t = c.loop-place-test.true in let e = ap length same in omega (arith, t, e) in
-    let walk : c.index-table-place.result ≡ cycle_at table place = c.index-table-place.is ∙ ap (λ (x : List (List SignedRow)). get_or x place c.index-table-place.result) same ∙ get_or_default table place c.index-table-place.result [] within in
+    let walk : c.index-table-place.result ≡ cycle_at table place = c.index-table-place.is
+    ∙ ap (λ (x : List (List SignedRow)). get_or x place c.index-table-place.result) same
+    ∙ get_or_default table place c.index-table-place.result [] within in
     let names = own_row_names (net_of p).arcs (cycle_at table place) (c.table-table.ensures.closed place [] within) in
-    let is : c.own_place.result ≡ own_row (cycle_at table place) - 1 = c.own_place.ensures ∙ ap (λ (w : List SignedRow). own_row w - 1) walk in
+    let is : c.own_place.result ≡ own_row (cycle_at table place) - 1 = c.own_place.ensures
+    ∙ ap (λ (w : List SignedRow). own_row w - 1) walk in
     let back : place + 1 - 1 ≡ place = omega arith in
     let left = sym (ap (λ k. offsets_left (net_of p) table c.args.node.now k) back) ∙ sym c.in-Some.ensures.value in
     let long = c.loop-place.invariant.long in
@@ -53,14 +60,20 @@ loop-place-preserved c =
     let b = ap length c.arcs.ensures.arcs in
     record {
       long = long;
-      shifts = shifts_more (net_of p) table c.args.node.now place c.own_place.result c.in-Some.left c.loop-place.shifts.items names.0 is (omega (arith, items, long, names, is, a, b)) left c.loop-place.invariant.shifts;
-      small = small_set p.network.period c.loop-place.shifts.items c.own_place.result c.in-Some.left c.loop-place.invariant.small c.in-Some.ensures.small;
+      shifts = shifts_more (net_of p) table c.args.node.now place c.own_place.result c.in-Some.left
+          c.loop-place.shifts.items names.0 is (omega (arith, items, long, names, is, a, b)) left
+          c.loop-place.invariant.shifts;
+      small = small_set p.network.period c.loop-place.shifts.items c.own_place.result c.in-Some.left
+          c.loop-place.invariant.small c.in-Some.ensures.small;
     }
 
 pub returns-clause-shifts : goal.returns-clause-shifts
 returns-clause-shifts c =
-    let end : c.loop-place.place ≡ length c.args.problem.now.table = let t = c.loop-place-test.false in let u = c.loop-place.auto.place-end in let e = ap length c.table-table.ensures.table in omega (arith, t, u, e) in
-    as_shifts (net_of c.args.problem.now) c.args.problem.now.table c.args.node.now c.loop-place.place c.loop-place.shifts.items (length c.args.problem.now.table) end c.loop-place.invariant.shifts
+    let end : c.loop-place.place ≡ length c.args.problem.now.table = let t = c.loop-place-test.false in
+    let u = c.loop-place.auto.place-end in let e = ap length c.table-table.ensures.table in
+    omega (arith, t, u, e) in
+    as_shifts (net_of c.args.problem.now) c.args.problem.now.table c.args.node.now c.loop-place.place
+    c.loop-place.shifts.items (length c.args.problem.now.table) end c.loop-place.invariant.shifts
 
 pub offset_range-requires-clause-cycle : goal.offset_range-requires-clause-cycle
 offset_range-requires-clause-cycle c = grind (arith, common_steps)

@@ -9,7 +9,9 @@ pub returns-clause-worked : goal.returns-clause-worked
 returns-clause-worked c used worked =
     let limits = subst (λ (x : ProblemValue). KeepsNetLimits x.network) c.problem.ensures c.keeps_limits.ensures.network in
     let small = subst (λ (x : ProblemValue). IsSmallTable x.table) c.problem.ensures c.keeps_limits.ensures.table in
-    offers c.args.board.now.problem used c.args.board.now.state c.offer.new.self.state c.args.times.items c.offer.result limits small worked c.offer.ensures.state
+    offers c.args.board.now.problem used c.args.board.now.state c.offer.new.self.state c.args.times.items
+    c.offer.result limits small worked c.offer.ensures.state
 
 pub returns-clause-numbers : goal.returns-clause-numbers
-returns-clause-numbers c = offers_none c.args.board.now.problem c.args.board.now.state c.offer.new.self.state c.args.times.items c.offer.result c.offer.ensures.state
+returns-clause-numbers c = offers_none c.args.board.now.problem c.args.board.now.state c.offer.new.self.state
+    c.args.times.items c.offer.result c.offer.ensures.state

@@ -5,4 +5,5 @@ use Rattle.pesp_cert.specs.Print.{cycle_line}
 use Rattle.pesp_cert.proofs.printing.print_cycles.Given as goal
 
 abbrev pub invariant-loop-walk : goal.invariant-loop-walk
-invariant-loop-walk g l = Sends (g.O.Output.sending l.initial.out) (g.O.Output.sending l.out) (flat_map cycle_line (take l.walk-index l.cycles))
+invariant-loop-walk g l = Sends (g.O.Output.sending l.initial.out) (g.O.Output.sending l.out)
+    (flat_map cycle_line (take l.walk-index l.cycles))

@@ -7,7 +7,8 @@ pub loop-row-init : goal.loop-row-init
 loop-row-init g c = sends_nothing _
 
 pub loop-row-preserved : goal.loop-row-preserved
-loop-row-preserved g c = sends_more row_text c.args.rows.now c.loop-row.row-index _ c.loop-row-test.true c.loop-row.invariant c.print_row.ensures
+loop-row-preserved g c = sends_more row_text c.args.rows.now c.loop-row.row-index _ c.loop-row-test.true
+    c.loop-row.invariant c.print_row.ensures
 
 pub returns : goal.returns
 returns g c = sends_all row_text c.args.rows.now c.loop-row.row-index (omega (arith, c.loop-row-test.false)) c.loop-row.invariant

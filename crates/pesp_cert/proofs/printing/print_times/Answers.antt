@@ -7,7 +7,8 @@ pub loop-time-init : goal.loop-time-init
 loop-time-init g c = sends_nothing _
 
 pub loop-time-preserved : goal.loop-time-preserved
-loop-time-preserved g c = sends_more time_line c.args.times.now c.loop-time.time-index _ c.loop-time-test.true c.loop-time.invariant c.print_time.ensures
+loop-time-preserved g c = sends_more time_line c.args.times.now c.loop-time.time-index _ c.loop-time-test.true
+    c.loop-time.invariant c.print_time.ensures
 
 pub returns : goal.returns
 returns g c = sends_all time_line c.args.times.now c.loop-time.time-index (omega (arith, c.loop-time-test.false)) c.loop-time.invariant

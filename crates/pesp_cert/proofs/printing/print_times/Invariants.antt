@@ -5,4 +5,5 @@ use Rattle.pesp_cert.specs.Print.{time_line}
 use Rattle.pesp_cert.proofs.printing.print_times.Given as goal
 
 abbrev pub invariant-loop-time : goal.invariant-loop-time
-invariant-loop-time g l = Sends (g.O.Output.sending l.initial.out) (g.O.Output.sending l.out) (flat_map time_line (take l.time-index l.times))
+invariant-loop-time g l = Sends (g.O.Output.sending l.initial.out) (g.O.Output.sending l.out)
+    (flat_map time_line (take l.time-index l.times))

@@ -5,7 +5,8 @@ use Rattle.pesp_cert_items.proofs.lines.advance.Given as goal
 
 abbrev pub invariant-loop-chunk : goal.invariant-loop-chunk
 invariant-loop-chunk g l =
-    IsCutTo (g.S.Source.remaining l.initial.source) (g.S.Source.remaining l.source) l.initial.left l.left l.initial.chunk l.chunk l.line.items
+    IsCutTo (g.S.Source.remaining l.initial.source)
+    (g.S.Source.remaining l.source) l.initial.left l.left l.initial.chunk l.chunk l.line.items
     × Worked (g.S.Source.calls l.initial.source) l.most (g.S.Source.calls l.source)
 
 abbrev pub decreases-loop-chunk : goal.decreases-loop-chunk

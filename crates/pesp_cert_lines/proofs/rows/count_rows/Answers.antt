@@ -3,7 +3,8 @@ use Rattle.pesp_cert_lines.proofs.RowLoop.{rows_end, rows_bad, rows_more}
 use Rattle.pesp_cert_lines.proofs.rows.count_rows.Goals as goal
 
 pub returns-in_default-spelt_row-clause-exact : goal.returns-in_default-spelt_row-clause-exact
-returns-in_default-spelt_row-clause-exact c = rows_bad c.args.words _ c.in-Some.word.now c.loop-word.within c.loop-word.number c.in_default-spelt_row.ensures (rw c.in-Some.ensures.steps at c.loop-word.invariant)
+returns-in_default-spelt_row-clause-exact c = rows_bad c.args.words _ c.in-Some.word.now c.loop-word.within
+    c.loop-word.number c.in_default-spelt_row.ensures (rw c.in-Some.ensures.steps at c.loop-word.invariant)
 
 pub returns-then-within-clause-exact : goal.returns-then-within-clause-exact
 returns-then-within-clause-exact c =
@@ -18,4 +19,7 @@ returns-else-within-clause-exact c =
     rows_end c.args.words false c.loop-word.number h
 
 pub loop-word-preserved : goal.loop-word-preserved
-loop-word-preserved c = rw c.is_name-within.ensures (rows_more c.args.words c.next.new.self c.in-Some.word.now c.in-Some-spelt_row.row c.in-Some-spelt_row._plus c.loop-word.within c.loop-word.number c.in-Some-spelt_row.ensures (rw c.in-Some.ensures.steps at c.loop-word.invariant))
+loop-word-preserved c = rw c.is_name-within.ensures
+    (rows_more c.args.words c.next.new.self c.in-Some.word.now c.in-Some-spelt_row.row c.in-Some-spelt_row._plus
+    c.loop-word.within c.loop-word.number c.in-Some-spelt_row.ensures
+    (rw c.in-Some.ensures.steps at c.loop-word.invariant))

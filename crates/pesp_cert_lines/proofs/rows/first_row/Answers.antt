@@ -3,12 +3,15 @@ use Rattle.pesp_cert_lines.proofs.RowLoop.{bad_row, first_row, name_small}
 use Rattle.pesp_cert_lines.proofs.rows.first_row.Goals as goal
 
 pub unreachable-requires : goal.unreachable-requires
-unreachable-requires c = bad_row c.split_at_byte.result.0.now _ (sym c.in_default.is ∙ c.spelt_row.ensures) (rw c.split_at_byte.ensures.cut at c.requires)
+unreachable-requires c = bad_row c.split_at_byte.result.0.now _ (sym c.in_default.is ∙ c.spelt_row.ensures)
+    (rw c.split_at_byte.ensures.cut at c.requires)
 
 pub overflow_cast-row : goal.overflow_cast-row
 overflow_cast-row c =
-    let first = first_row c.split_at_byte.result.0.now _ c.in-Some.row c.in-Some.plus (sym c.in-Some.is ∙ c.spelt_row.ensures) (rw c.split_at_byte.ensures.cut at c.requires) in
+    let first = first_row c.split_at_byte.result.0.now _ c.in-Some.row c.in-Some.plus
+    (sym c.in-Some.is ∙ c.spelt_row.ensures) (rw c.split_at_byte.ensures.cut at c.requires) in
     omega (arith, name_small c.in-Some.row first.0)
 
 pub returns : goal.returns
-returns c = rw c.split_at_byte.ensures.cut (first_row c.split_at_byte.result.0.now _ c.in-Some.row c.in-Some.plus (sym c.in-Some.is ∙ c.spelt_row.ensures) (rw c.split_at_byte.ensures.cut at c.requires)).1
+returns c = rw c.split_at_byte.ensures.cut (first_row c.split_at_byte.result.0.now _ c.in-Some.row c.in-Some.plus
+    (sym c.in-Some.is ∙ c.spelt_row.ensures) (rw c.split_at_byte.ensures.cut at c.requires)).1

@@ -14,7 +14,9 @@ loop-judge-init g c =
     let first = at_first (g.S.Source.remaining c.args.source.now) 1073741824 in
     let judge = c.new-judge.result in
     record {
-      checked = subst (λ (r : Reading). IsCheckedTo c.args.instance.now first r judge.stage (kept judge)) (sym (c.new-items.ensures.begins (g.S.Source.remaining c.args.source.now))) (checked_none c.args.instance.now first judge.stage (kept judge) refl c.new-judge.ensures.judged);
+      checked = subst (λ (r : Reading). IsCheckedTo c.args.instance.now first r judge.stage (kept judge))
+          (sym (c.new-items.ensures.begins (g.S.Source.remaining c.args.source.now)))
+          (checked_none c.args.instance.now first judge.stage (kept judge) refl c.new-judge.ensures.judged);
       instance = c.new-judge.ensures.instance;
       line = omega (arith, c.new-judge.ensures.line);
       zeros = c.in_ok-working.ensures.zeros;
@@ -29,14 +31,24 @@ returns-in-Ok-None-clause-ok g c =
     let answers = rw (c.in-Ok-None.is, c.in-Ok-None.field-0-is) at c.next_from.follows.holds-at-none.2 in
     let gives = gives_of _ _ _ _ inv.checked.going answers in
     let judge = c.loop-judge.judge in
-    checked_all c.args.instance.now _ _ _ judge.stage (kept judge) c.verdict.result c.answer.result inv.checked gives (rw inv.instance at c.verdict.ensures) (rw inv.instance at c.answer.ensures)
+    checked_all c.args.instance.now _ _ _ judge.stage
+    (kept judge) c.verdict.result c.answer.result inv.checked gives (rw inv.instance at c.verdict.ensures)
+    (rw inv.instance at c.answer.ensures)
     (λ content valid. c.valid_is_true.ensures c.args.instance.now content (omega (arith, c.rows.ensures.limits.some_period)) valid)
 
 pub returns-in-Ok-None-clause-counts : goal.returns-in-Ok-None-clause-counts
 returns-in-Ok-None-clause-counts g c =
     let inv = c.loop-judge.invariant in
-    let counts = on_ok _ c.next_from.result _ c.in-Ok-None.is c.next_from.follows.holds-at-none.1 in
-    (counts.0 ∙ inv.worked.0, omega (arith, counts.1 inv.checked.going, inv.most, c.new-items.ensures.most, c.interrupted_reads-most.ensures))
+    let counts = on_ok _ c.next_from.result _ c.in-Ok-None.is c.next_from.follows.holds-at-none.1 in (
+      counts.0 ∙ inv.worked.0,
+      omega (
+        arith,
+        counts.1 inv.checked.going,
+        inv.most,
+        c.new-items.ensures.most,
+        c.interrupted_reads-most.ensures,
+      ),
+    )
 
 pub take-requires-clause-limits : goal.take-requires-clause-limits
 take-requires-clause-limits g c =
@@ -56,9 +68,11 @@ loop-judge-preserved g c =
     let old = c.loop-judge.judge in
     let new = c.take.new.self in
     let same : length c.take.new.working ≡ length c.loop-judge.working.items = c.take.auto.working ∙ ap length c.deref_mut.ensures.value in
-    let written = writes_all c.loop-judge.working.len c.take.new.working c.loop-judge.working.items same (let s = c.loop-judge.working.ok.0 in omega (arith, s)) in
+    let written = writes_all c.loop-judge.working.len c.take.new.working c.loop-judge.working.items same
+    (let s = c.loop-judge.working.ok.0 in omega (arith, s)) in
     record {
-      checked = checked_more c.args.instance.now _ _ _ old.stage new.stage (kept old) (kept new) (listed c.in-Ok-Some.item) inv.checked gives (rw inv.instance at took.judged);
+      checked = checked_more c.args.instance.now _ _ _ old.stage new.stage (kept old) (kept new)
+          (listed c.in-Ok-Some.item) inv.checked gives (rw inv.instance at took.judged);
       instance = took.instance ∙ inv.instance;
       line = omega (arith, inv.line, took.line, gives.2.later);
       zeros = subst AreZeros (sym written) took.zeros;
@@ -74,13 +88,16 @@ returns-in-Err-clause-fault g c =
     let answers = rw c.in-Err.is at holds.2 in
     let gives = gives_of _ _ _ _ inv.checked.going answers in
     let most = inv.most ∙ c.new-items.ensures.most ∙ ap (λ n. n + 1000) c.interrupted_reads-most.ensures in
-    let blamed = blamed_since c.in-Err.fault (g.S.Source.calls c.args.source.now) _ _ _ _ inv.worked.0 most (rw c.in-Err.is at (holds.3 inv.checked.going)) in
-    rw c.from.ensures (checked_fault c.args.instance.now _ _ _ c.loop-judge.judge.stage (kept c.loop-judge.judge) c.in-Err.fault _ _ _ inv.checked gives blamed)
+    let blamed = blamed_since c.in-Err.fault (g.S.Source.calls c.args.source.now) _ _ _ _ inv.worked.0 most
+    (rw c.in-Err.is at (holds.3 inv.checked.going)) in
+    rw c.from.ensures (checked_fault c.args.instance.now _ _ _ c.loop-judge.judge.stage
+    (kept c.loop-judge.judge) c.in-Err.fault _ _ _ inv.checked gives blamed)
 
 pub returns-in-Err-clause-counts_else : goal.returns-in-Err-clause-counts_else
 returns-in-Err-clause-counts_else g c =
     let inv = c.loop-judge.invariant in
     let holds = c.next_from.follows.holds-at-none in
     let most = inv.most ∙ c.new-items.ensures.most ∙ ap (λ n. n + 1000) c.interrupted_reads-most.ensures in
-    let blamed = blamed_since c.in-Err.fault (g.S.Source.calls c.args.source.now) _ _ _ _ inv.worked.0 most (rw c.in-Err.is at (holds.3 inv.checked.going)) in
+    let blamed = blamed_since c.in-Err.fault (g.S.Source.calls c.args.source.now) _ _ _ _ inv.worked.0 most
+    (rw c.in-Err.is at (holds.3 inv.checked.going)) in
     rw c.from.ensures (not_blamed c.in-Err.fault _ _ _ blamed)

@@ -10,7 +10,8 @@ use Rattle.pesp_check.proofs.text_check.check_text.Given as goal
 
 abbrev pub invariant-loop-judge : goal.invariant-loop-judge
 invariant-loop-judge g l = record {
-  checked : IsCheckedTo l.instance (at_first (g.S.Source.remaining l.initial.source) 1073741824) (reading (g.S.Source.remaining l.source) l.items) l.judge.stage (kept l.judge);
+  checked : IsCheckedTo l.instance (at_first (g.S.Source.remaining l.initial.source) 1073741824)
+      (reading (g.S.Source.remaining l.source) l.items) l.judge.stage (kept l.judge);
   instance : l.judge.instance.now ≡ l.instance;
   line : l.judge.line ≤ l.items.n + 1;
   zeros : AreZeros l.working.items;

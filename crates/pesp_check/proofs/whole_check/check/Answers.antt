@@ -5,7 +5,8 @@ use Rattle.pesp_check.proofs.whole_check.check.Goals as goal
 pub returns-in-None-clause-truth : goal.returns-in-None-clause-truth
 returns-in-None-clause-truth c _ =
     let limits = c.in_ok-first_fault.ensures.limits in
-    c.valid_is_true.ensures c.args.instance.now c.args.certificate.now (omega (arith, limits.some_period)) (rw c.in-None.is at c.in_ok-first_fault.ensures.found)
+    c.valid_is_true.ensures c.args.instance.now c.args.certificate.now (omega (arith, limits.some_period))
+    (rw c.in-None.is at c.in_ok-first_fault.ensures.found)
 
 pub returns-in-Some-clause-exactly : goal.returns-in-Some-clause-exactly
 returns-in-Some-clause-exactly c =

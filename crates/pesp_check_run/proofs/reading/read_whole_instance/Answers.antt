@@ -10,4 +10,5 @@ returns-in_err-instance-clause-cause g c =
 pub returns-clause-ok : goal.returns-clause-ok
 returns-clause-ok g c =
     let exact = rw c.deref.ensures.value at c.in_ok-instance.ensures.exact in
-    reads_instance _ _ c.in_ok-text.text.items c.args.period _ c.in_ok-text.ensures.ok (is_instance _ _ c.in_ok-text.text.items c.args.period refl exact)
+    reads_instance _ _ c.in_ok-text.text.items c.args.period _ c.in_ok-text.ensures.ok
+    (is_instance _ _ c.in_ok-text.text.items c.args.period refl exact)

@@ -12,6 +12,9 @@ part_of-requires-clause-few c =
 
 pub returns-in_err-solved-clause-refused : goal.returns-in_err-solved-clause-refused
 returns-in_err-solved-clause-refused c =
-    let part = subst (λ (q : Pesp). IsSearchRefusal q c.args.steps c.in_err-solved.field-0.0) c.in_ok-part.ensures c.in_err-solved.ensures.refused in
-    let refused : IsSearchRefusal c.args.instance.now c.args.steps c.in_err-solved.field-0.0 = refused_for_part c.args.instance.now c.args.listed.now c.args.steps c.in_err-solved.field-0.0 (c.are_fit.ensures c.if-not-are_fit.false) part in
+    let part = subst (λ (q : Pesp). IsSearchRefusal q c.args.steps c.in_err-solved.field-0.0) c.in_ok-part.ensures
+    c.in_err-solved.ensures.refused in
+    let refused : IsSearchRefusal c.args.instance.now c.args.steps c.in_err-solved.field-0.0 =
+    refused_for_part c.args.instance.now c.args.listed.now c.args.steps c.in_err-solved.field-0.0
+    (c.are_fit.ensures c.if-not-are_fit.false) part in
     search rules

@@ -2,4 +2,8 @@ use Rattle.pesp_conflict.proofs.Trials.{all_needed}
 use Rattle.pesp_conflict.proofs.known.conflict_of.Goals as goal
 
 pub returns : goal.returns
-returns c p known = (known.0, λ e. all_needed p c.args.known.listed.items c.args.known.needed.items (rw (c.deref.ensures.value, c.deref-2.ensures.value) at (c.are_found-each_needed.ensures e)) known.1)
+returns c p known = (
+  known.0,
+  λ e. all_needed p c.args.known.listed.items c.args.known.needed.items
+      (rw (c.deref.ensures.value, c.deref-2.ensures.value) at (c.are_found-each_needed.ensures e)) known.1,
+)

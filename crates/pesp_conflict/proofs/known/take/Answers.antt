@@ -8,8 +8,11 @@ use Rattle.pesp_conflict.proofs.known.take.Goals as goal
 pub returns-in_ok-push-in-Needed : goal.returns-in_ok-push-in-Needed
 returns-in_ok-push-in-Needed c p known trial =
     let listed = c.args.known.now.listed.items in
-    let one : IsNeeded p listed c.in-Needed.row = subst (IsTrial p listed) c.in-Needed.is trial in
-    (known.0, subst (λ (rows : List ℕ). All (IsNeeded p listed) rows) (sym c.in_ok-push-in-Needed.ensures.items) (one_more_needed p listed c.args.known.now.needed.items c.in-Needed.row known.1 one))
+    let one : IsNeeded p listed c.in-Needed.row = subst (IsTrial p listed) c.in-Needed.is trial in (
+      known.0,
+      subst (λ (rows : List ℕ). All (IsNeeded p listed) rows) (sym c.in_ok-push-in-Needed.ensures.items)
+          (one_more_needed p listed c.args.known.now.needed.items c.in-Needed.row known.1 one),
+    )
 
 pub returns-in-Fewer : goal.returns-in-Fewer
 returns-in-Fewer c p known trial =

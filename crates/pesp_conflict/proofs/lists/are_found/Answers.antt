@@ -2,7 +2,8 @@ use Rattle.pesp_conflict.proofs.Numbers.{more_among, all_among}
 use Rattle.pesp_conflict.proofs.lists.are_found.Goals as goal
 
 pub loop-row-preserved : goal.loop-row-preserved
-loop-row-preserved c = more_among c.args.rows.now c.args.some.now c.loop-row.row-index c.loop-row.invariant (c.is_found.ensures c.if-not-is_found.false)
+loop-row-preserved c = more_among c.args.rows.now c.args.some.now c.loop-row.row-index c.loop-row.invariant
+    (c.is_found.ensures c.if-not-is_found.false)
 
 pub returns : goal.returns
 returns c t = all_among c.args.rows.now c.args.some.now c.loop-row.row-index c.loop-row.invariant c.loop-row-test.false

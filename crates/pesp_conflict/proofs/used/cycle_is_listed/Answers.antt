@@ -7,4 +7,5 @@ use Rattle.pesp_conflict.proofs.used.cycle_is_listed.Goals as goal
 pub returns : goal.returns
 returns c t =
     let there = get_or_default c.args.cycles.now (c.args.cycle - 1) _ [] (omega (arith, c.if-cycle-lt1.false, c.if-cycle-cycles.false)) in
-    subst (λ (walk : List SignedRow). KeepsTo c.args.listed.now walk) (c.rows.ensures ∙ c.index-cycles-cycle.is ∙ there) (c.walk_is_listed.ensures t)
+    subst (λ (walk : List SignedRow). KeepsTo c.args.listed.now walk)
+    (c.rows.ensures ∙ c.index-cycles-cycle.is ∙ there) (c.walk_is_listed.ensures t)

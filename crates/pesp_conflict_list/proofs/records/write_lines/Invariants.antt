@@ -5,4 +5,5 @@ use Rattle.pesp_conflict_list.specs.Lists.{listed_fields}
 use Rattle.pesp_conflict_list.proofs.records.write_lines.Given as goal
 
 abbrev pub invariant-loop-line : goal.invariant-loop-line
-invariant-loop-line l = (before : List ℕ) → HasWritten l.fn.writer before → HasWritten l.writer (before ++ records_text (map listed_fields (take l.line-index l.lines)))
+invariant-loop-line l = (before : List ℕ) → HasWritten l.fn.writer before
+    → HasWritten l.writer (before ++ records_text (map listed_fields (take l.line-index l.lines)))

@@ -12,7 +12,8 @@ overflow_mul-value c =
 
 pub overflow_sub-value : goal.overflow_sub-value
 overflow_sub-value c =
-    let d = digit_value-is (get_or c.args.digits.now c.loop-digit.digit-index 0) (digit-at c.args.digits.now c.loop-digit.digit-index c.requires.digits (omega arith)) in
+    let d = digit_value-is (get_or c.args.digits.now c.loop-digit.digit-index 0)
+    (digit-at c.args.digits.now c.loop-digit.digit-index c.requires.digits (omega arith)) in
     omega arith
 
 pub overflow_add-value : goal.overflow_add-value
@@ -30,8 +31,10 @@ loop-digit-preserved c =
     let small = digit-at c.args.digits.now i c.requires.digits lt in
     let d = digit_value-is (get_or c.args.digits.now c.loop-digit.digit-index 0) small in
     let v = c.loop-digit.value in
-    let e : c.loop-digit.value * 10 + (get_or c.args.digits.now i 0 - 48) ≡ v * 10 + digit_value (get_or c.args.digits.now i 0) = omega arith in
-    rw e (rw (digits_value_more 10 c.args.digits.now i lt, ← c.loop-digit.invariant.0) (refl, power-step i v _ c.loop-digit.invariant.1 small))
+    let e : c.loop-digit.value * 10 + (get_or c.args.digits.now i 0 - 48)
+    ≡ v * 10 + digit_value (get_or c.args.digits.now i 0) = omega arith in
+    rw e (rw (digits_value_more 10 c.args.digits.now i lt, ← c.loop-digit.invariant.0)
+    (refl, power-step i v _ c.loop-digit.invariant.1 small))
 
 pub returns-clause-small : goal.returns-clause-small
 returns-clause-small c =

@@ -9,7 +9,8 @@ pub new-requires : goal.new-requires
 new-requires c =
     let e = c.in_ok-table.ensures.table in
     rw c.in_ok-events.ensures
-    (table-keeps c.args.period c.in_ok-table.table.rows.items c.in_ok-table.table.events.keys (records_of c.args.text.now) e.0 (omega arith) (omega arith) e.1 e.2)
+    (table-keeps c.args.period c.in_ok-table.table.rows.items c.in_ok-table.table.events.keys
+    (records_of c.args.text.now) e.0 (omega arith) (omega arith) e.1 e.2)
 
 pub returns-in_err-table-clause-first_fault : goal.returns-in_err-table-clause-first_fault
 returns-in_err-table-clause-first_fault c = λ low high small.
@@ -19,5 +20,9 @@ returns-in_err-table-clause-first_fault c = λ low high small.
 pub returns-clause-activities : goal.returns-clause-activities
 returns-clause-activities c =
     let e = c.in_ok-table.ensures.table in
-    let made = rw c.in_ok-events.ensures at c.new.ensures in
-    (e.0, read-law (records_of c.args.text.now) e.0 e.1, made ∙ pesp-is c.args.period c.in_ok-table.table.rows.items c.in_ok-table.table.events.keys e.0 e.2)
+    let made = rw c.in_ok-events.ensures at c.new.ensures in (
+      e.0,
+      read-law (records_of c.args.text.now) e.0 e.1,
+      made
+          ∙ pesp-is c.args.period c.in_ok-table.table.rows.items c.in_ok-table.table.events.keys e.0 e.2,
+    )

@@ -4,7 +4,8 @@ use Rattle.pesp_judges.proofs.Taking.{AreLeft}
 use Rattle.pesp_judges.proofs.flows.take_flows.Given as goal
 
 abbrev pub invariant-loop-pair : goal.invariant-loop-pair
-invariant-loop-pair g l = AreLeft (arcs_of l.instance) l.slacks l.weighted l.table (g.P.Elements.elements l.left) l.initial.flows l.flows l.sum
+invariant-loop-pair g l = AreLeft (arcs_of l.instance) l.slacks l.weighted l.table
+    (g.P.Elements.elements l.left) l.initial.flows l.flows l.sum
 
 abbrev pub decreases-loop-pair : goal.decreases-loop-pair
 decreases-loop-pair g l = length (g.P.Elements.elements l.left)

@@ -13,8 +13,11 @@ abbrev pub invariant-loop-pair : goal.invariant-loop-pair
 invariant-loop-pair g l = record {
   exist : ArePairs (length l.checker.table.now) (g.P.Elements.elements l.left);
   whole : (walks : List (List SignedRow)) → AreNets (length l.checker.instance.now.rows) walks l.checker.table.now
-      → IsWhole l.checker.instance.now.period l.sum (offset_part (net_of l.checker.instance.now) walks (node_of l.ranges) (g.P.Elements.elements l.left)) (offset_part (net_of l.checker.instance.now) walks (node_of l.ranges) (g.P.Elements.elements l.fn.pairs));
-  size : unsigned_abs l.sum + length (g.P.Elements.elements l.left) * (1000000000000 * 10100000000000) ≤ 100000 * (1000000000000 * 10100000000000);
+      → IsWhole l.checker.instance.now.period l.sum
+      (offset_part (net_of l.checker.instance.now) walks (node_of l.ranges) (g.P.Elements.elements l.left))
+      (offset_part (net_of l.checker.instance.now) walks (node_of l.ranges) (g.P.Elements.elements l.fn.pairs));
+  size : unsigned_abs l.sum + length (g.P.Elements.elements l.left) * (1000000000000 * 10100000000000)
+      ≤ 100000 * (1000000000000 * 10100000000000);
 }
 
 abbrev pub decreases-loop-pair : goal.decreases-loop-pair

@@ -15,7 +15,8 @@ returns-clause-value c =
     let mult : to_z w128 (of_z w128 c.from.result) ≡ c.args.mult = omega (arith, ints) in
     let low = to_z-of_z w128 _ low_fits ∙ (rw (to_z-of_z w64 _ left_fits) at c.period_times-low.ensures.value) in
     let high = to_z-of_z w128 _ high_fits ∙ (rw (to_z-of_z w64 _ right_fits) at c.period_times-high.ensures.value) in
-    to_z-of_z w128 _ fits ∙ (rw (mult, low, high) at c.scaled.ensures.value) ∙ scaled_times (pos c.args.period) c.args.mult c.args.left.0 c.args.left.1
+    to_z-of_z w128 _ fits ∙ (rw (mult, low, high) at c.scaled.ensures.value)
+    ∙ scaled_times (pos c.args.period) c.args.mult c.args.left.0 c.args.left.1
 
 pub returns-clause-size : goal.returns-clause-size
 returns-clause-size c =

@@ -14,5 +14,12 @@ pub returns : goal.returns
 returns c walks nets =
     let exists = c.if-not-names.ensures.0 refl in
     let at : c.args.cycle - 1 < length c.args.checker.now.table.now = omega (arith, exists) in
-    let left = left_read (length c.args.checker.now.instance.now.rows) (net_of c.args.checker.now.instance.now) walks c.args.checker.now.table.now (node_of c.args.ranges.now) (c.args.cycle - 1) c.counts.result.now c.index-checker-place.result c.deref.result.now c.index.result.now c.offsets_left-left.result nets at c.requires.cycles c.index-checker-place.is (c.counts.ensures ∙ sym c.index-checker-place.is) c.deref.ensures.value c.index.ensures c.offsets_left-left.ensures.value in
-    ((omega (arith, exists), omega (arith, exists, nets.long)), none_is _ (ap is_some (sym left) ∙ sym c.is_some.ensures ∙ c.if-is_some.false))
+    let left = left_read (length c.args.checker.now.instance.now.rows)
+    (net_of c.args.checker.now.instance.now) walks c.args.checker.now.table.now (node_of c.args.ranges.now)
+    (c.args.cycle - 1) c.counts.result.now c.index-checker-place.result c.deref.result.now c.index.result.now
+    c.offsets_left-left.result nets at c.requires.cycles c.index-checker-place.is
+    (c.counts.ensures ∙ sym c.index-checker-place.is) c.deref.ensures.value c.index.ensures
+    c.offsets_left-left.ensures.value in (
+      (omega (arith, exists), omega (arith, exists, nets.long)),
+      none_is _ (ap is_some (sym left) ∙ sym c.is_some.ensures ∙ c.if-is_some.false),
+    )

@@ -9,4 +9,5 @@ pub loop-pair-preserved : goal.loop-pair-preserved
 loop-pair-preserved g c =
     let elements = g.P.Elements.elements in
     let P : Pair → Type 0 = λ pair. Names c.args.cycles pair.cycle in
-    exist_more P (elements c.loop-pair.left) (elements c.take_next.new.self) c.in-Some.pair (All P (elements c.args.pairs)) c.in-Some.ensures (c.if-not-names.ensures.0 refl) c.loop-pair.invariant
+    exist_more P (elements c.loop-pair.left) (elements c.take_next.new.self) c.in-Some.pair
+    (All P (elements c.args.pairs)) c.in-Some.ensures (c.if-not-names.ensures.0 refl) c.loop-pair.invariant

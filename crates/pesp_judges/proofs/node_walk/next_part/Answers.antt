@@ -10,8 +10,11 @@ use Rattle.pesp_judges.proofs.node_walk.next_part.Goals as goal
 
 pub returns-in-Low-clause-parts : goal.returns-in-Low-clause-parts
 returns-in-Low-clause-parts c =
-    let top : c.len-top.result - 1 + 1 ≡ length c.loop-path.path.items = grind (arith, nat_tests, c.loop-path.path.ok.0, c.is_empty.ensures, c.len-top.ensures) in
-    turn_parts (node_of c.loop-path.ranges) (node_of c.put_back.new.ranges) (node_of c.take_part.new.ranges) c.loop-path.path.items (c.len-top.result - 1) c.index-last.result.now top c.index-last.ensures c.in-Low.is c.put_back.ensures.node
+    let top : c.len-top.result - 1 + 1 ≡ length c.loop-path.path.items =
+    grind (arith, nat_tests, c.loop-path.path.ok.0, c.is_empty.ensures, c.len-top.ensures) in
+    turn_parts (node_of c.loop-path.ranges) (node_of c.put_back.new.ranges)
+    (node_of c.take_part.new.ranges) c.loop-path.path.items
+    (c.len-top.result - 1) c.index-last.result.now top c.index-last.ensures c.in-Low.is c.put_back.ensures.node
     (c.take_part.ensures.node ∙ ap (λ (cut : Cut). part (node_of c.put_back.new.ranges) cut High) c.to_cut.ensures)
     ∙ c.loop-path.invariant.parts
 

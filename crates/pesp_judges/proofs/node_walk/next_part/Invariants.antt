@@ -10,7 +10,8 @@ invariant-loop-path l = record {
   ranges : AreRanges l.instance l.ranges;
   cycles : length l.ranges.offsets.items ≡ length l.initial.ranges.offsets.items;
   path : AreChanges (length l.instance.rows) (length l.ranges.offsets.items) l.path.items;
-  parts : ◌≡◌ {A = List Node} (pending (node_of l.ranges) (reverse l.path.items)) (pending (node_of l.initial.ranges) (reverse l.initial.path.items));
+  parts : ◌≡◌ {A = List Node} (pending (node_of l.ranges) (reverse l.path.items))
+      (pending (node_of l.initial.ranges) (reverse l.initial.path.items));
 }
 
 abbrev pub decreases-loop-path : goal.decreases-loop-path

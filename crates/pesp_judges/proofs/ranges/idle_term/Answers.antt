@@ -16,6 +16,11 @@ returns-clause-size c =
     let low_fits : FitsSigned w128 c.times.result = search rules in
     let high_fits : FitsSigned w128 c.times-2.result = search rules in
     let fits : FitsSigned w128 c.min.result = search rules in
-    let least = rw (to_z-of_z w128 c.times.result low_fits, to_z-of_z w128 c.times-2.result high_fits, low_product, high_product) at c.min.ensures.value in
+    let least = rw (
+      to_z-of_z w128 c.times.result low_fits,
+      to_z-of_z w128 c.times-2.result high_fits,
+      low_product,
+      high_product,
+    ) at c.min.ensures.value in
     let most = idle_small c.arc_at.result.weight c.args.range.0 c.args.range.1 small c.requires.low c.requires.high in
     rw (to_z-of_z w128 c.min.result fits, least) most

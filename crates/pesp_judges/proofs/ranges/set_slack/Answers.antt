@@ -10,14 +10,16 @@ use Rattle.pesp_judges.proofs.ranges.set_slack.Goals as goal
 
 pub minus-requires : goal.minus-requires
 minus-requires c =
-    let small = idle_sum_small c.args.instance.now c.args.ranges.now.slacks.items c.idle_term-before.ensures.limits c.requires.ranges.slacks in
+    let small = idle_sum_small c.args.instance.now c.args.ranges.now.slacks.items c.idle_term-before.ensures.limits
+    c.requires.ranges.slacks in
     let is : unsigned_abs c.args.ranges.now.idle ≤ 1000000000000000000 = omega (arith, small, ap unsigned_abs c.requires.ranges.idle) in
     let size = c.idle_term-before.ensures.size in
     omega (arith, ints)
 
 pub plus-ranges-requires : goal.plus-ranges-requires
 plus-ranges-requires c =
-    let small = idle_sum_small c.args.instance.now c.args.ranges.now.slacks.items c.idle_term-before.ensures.limits c.requires.ranges.slacks in
+    let small = idle_sum_small c.args.instance.now c.args.ranges.now.slacks.items c.idle_term-before.ensures.limits
+    c.requires.ranges.slacks in
     let is : unsigned_abs c.args.ranges.now.idle ≤ 1000000000000000000 = omega (arith, small, ap unsigned_abs c.requires.ranges.idle) in
     let size = c.idle_term-before.ensures.size in
     let after = c.idle_term-after.ensures.size in
@@ -29,14 +31,22 @@ returns-clause-ranges c =
     let ranges = c.requires.ranges in
     let small = idle_sum_small c.args.instance.now c.args.ranges.now.slacks.items c.idle_term-before.ensures.limits ranges.slacks in
     let is : unsigned_abs c.args.ranges.now.idle ≤ 1000000000000000000 = omega (arith, small, ap unsigned_abs ranges.idle) in
-    let read : c.index.result.now ≡ get_or c.args.ranges.now.slacks.items c.args.place (0, 0) = c.index.ensures ∙ get_or_default c.args.ranges.now.slacks.items c.args.place c.index.result.now (0, 0) (omega (arith, ranges.slacks)) in
-    let before : c.idle_term-before.result ≡ idle_term (arcs_of c.args.instance.now) c.args.ranges.now.slacks.items c.args.place = rw (sym read) c.idle_term-before.ensures.value in
+    let read : c.index.result.now ≡ get_or c.args.ranges.now.slacks.items c.args.place (0, 0) = c.index.ensures
+    ∙ get_or_default c.args.ranges.now.slacks.items c.args.place c.index.result.now (0, 0)
+    (omega (arith, ranges.slacks)) in
+    let before : c.idle_term-before.result ≡ idle_term
+    (arcs_of c.args.instance.now) c.args.ranges.now.slacks.items c.args.place =
+    rw (sym read) c.idle_term-before.ensures.value in
     let size = c.idle_term-before.ensures.size in
     let size' = c.idle_term-after.ensures.size in
     let less = c.minus.ensures.value in
     let sum = c.plus-ranges.ensures.value in
-    let e : to_z w128 (of_z w128 c.plus-ranges.result) ≡ (c.args.ranges.now.idle -ℤ c.idle_term-before.result) +ℤ c.idle_term-after.result = omega (arith, ints) in
+    let e : to_z w128 (of_z w128 c.plus-ranges.result)
+    ≡ (c.args.ranges.now.idle -ℤ c.idle_term-before.result) +ℤ c.idle_term-after.result = omega (arith, ints) in
     record {
-      slacks = ranges_set (length c.args.instance.now.rows) c.args.ranges.now.slacks.items c.args.place c.args.range ranges.slacks c.requires.low c.requires.high;
-      idle = e ∙ idle_set c.args.instance.now c.args.ranges.now.slacks.items c.args.place c.args.range c.args.ranges.now.idle c.idle_term-before.result c.idle_term-after.result c.requires.exists ranges.slacks ranges.idle before c.idle_term-after.ensures.value;
+      slacks = ranges_set (length c.args.instance.now.rows) c.args.ranges.now.slacks.items c.args.place
+          c.args.range ranges.slacks c.requires.low c.requires.high;
+      idle = e ∙ idle_set c.args.instance.now c.args.ranges.now.slacks.items c.args.place c.args.range
+          c.args.ranges.now.idle c.idle_term-before.result c.idle_term-after.result c.requires.exists ranges.slacks
+          ranges.idle before c.idle_term-after.ensures.value;
     }

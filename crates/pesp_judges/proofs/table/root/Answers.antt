@@ -8,12 +8,15 @@ use Rattle.pesp_judges.proofs.table.root.Goals as goal
 pub root_offsets-requires-clause-slacks : goal.root_offsets-requires-clause-slacks
 root_offsets-requires-clause-slacks c =
     let P : List (ℕ × ℕ) → Type 0 = λ slacks. AreSlackRanges (length c.args.instance.now.rows) slacks in
-    subst P (sym (c.deref.ensures.value ∙ c.in_ok-slacks.ensures.slacks)) (root_are_ranges c.args.instance.now c.in_ok-slacks.ensures.limits)
+    subst P (sym (c.deref.ensures.value ∙ c.in_ok-slacks.ensures.slacks))
+    (root_are_ranges c.args.instance.now c.in_ok-slacks.ensures.limits)
 
 pub returns-clause-ranges : goal.returns-clause-ranges
 returns-clause-ranges c =
     let P : List (ℕ × ℕ) → Type 0 = λ slacks. AreSlackRanges (length c.args.instance.now.rows) slacks in
     record {
       slacks = subst P (sym c.in_ok-slacks.ensures.slacks) (root_are_ranges c.args.instance.now c.in_ok-slacks.ensures.limits);
-      idle = sym (root_idle c.args.instance.now) ∙ ap (λ (slacks : List (ℕ × ℕ)). idle_sum (arcs_of c.args.instance.now) slacks) (sym c.in_ok-slacks.ensures.slacks);
+      idle = sym (root_idle c.args.instance.now)
+          ∙ ap (λ (slacks : List (ℕ × ℕ)). idle_sum (arcs_of c.args.instance.now) slacks)
+          (sym c.in_ok-slacks.ensures.slacks);
     }

@@ -14,5 +14,7 @@ invariant-loop-place l = record {
   cycles : l.walk.cycles ≡ length l.checker.table.now;
   zeros : AreZeros l.working;
   whole : are_trees (length l.walk.nodes) (map line_of (drop l.place l.lines)) ≡ true;
-  judged : (walks : List (List SignedRow)) → AreNets (length l.checker.instance.now.rows) walks l.checker.table.now → AreJudged (net_of l.checker.instance.now) walks l.checker.least l.lines (root (net_of l.checker.instance.now) walks) l.fn.first l.walk.nodes l.place;
+  judged : (walks : List (List SignedRow)) → AreNets (length l.checker.instance.now.rows) walks l.checker.table.now
+      → AreJudged (net_of l.checker.instance.now) walks l.checker.least l.lines
+      (root (net_of l.checker.instance.now) walks) l.fn.first l.walk.nodes l.place;
 }

@@ -7,7 +7,8 @@ use Rattle.pesp_network.proofs.chains.chain_rows.Given as goal
 
 abbrev pub invariant-loop-i : goal.invariant-loop-i
 invariant-loop-i l = record {
-  chained : Chained l.i (tail_of (arcs_of_network l.rows)) (head_of (arcs_of_network l.rows)) (at l.chains.first.items) (at l.chains.at_tail.items) (at l.chains.at_head.items);
+  chained : Chained l.i (tail_of (arcs_of_network l.rows)) (head_of (arcs_of_network l.rows))
+      (at l.chains.first.items) (at l.chains.at_tail.items) (at l.chains.at_head.items);
   events : vec_len l.chains.first ≡ l.events;
   tails : vec_len l.chains.at_tail ≡ length l.rows + 1;
   heads : vec_len l.chains.at_head ≡ length l.rows + 1;

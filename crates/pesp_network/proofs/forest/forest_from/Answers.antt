@@ -7,7 +7,8 @@ use Rattle.pesp_network.proofs.Picking.{met_forest, all_met}
 use Rattle.pesp_network.proofs.forest.forest_from.Goals as goal
 
 -- what is lent of all numbers
-lent : (n : ℕ) (numbers view : List ℕ) → view ≡ numbers → ((i : ℕ) → i < n → slice_index numbers i ≡ i + 1) → (i : ℕ) → i < n → slice_index view i ≡ i + 1
+lent : (n : ℕ) (numbers view : List ℕ) → view ≡ numbers → ((i : ℕ) → i < n → slice_index numbers i ≡ i + 1)
+    → (i : ℕ) → i < n → slice_index view i ≡ i + 1
 lent n numbers view e each i h = ap (λ xs. slice_index xs i) e ∙ each i h
 
 pub grow_over-requires-2-clause-names : goal.grow_over-requires-2-clause-names
@@ -20,6 +21,9 @@ grow_over-requires-2-clause-names c =
 
 pub returns : goal.returns
 returns c =
-    let rows = c.args.rows.now in let f = c.in_ok-whole.whole in let e = c.in_ok-whole.ensures in let a = c.in_ok-all.ensures in let s = c.as_slice.ensures in
+    let rows = c.args.rows.now in let f = c.in_ok-whole.whole in let e = c.in_ok-whole.ensures in
+    let a = c.in_ok-all.ensures in let s = c.as_slice.ensures in
     let l = s.len in let n = a.len in
-    met_forest c.args.events (arcs_of_network rows) f e.grown (all_met rows c.as_slice.result.now f (lent (length rows) _ c.as_slice.result.now s.value a.each) (λ i h. e.met i (omega arith)))
+    met_forest c.args.events (arcs_of_network rows) f e.grown
+    (all_met rows c.as_slice.result.now f (lent (length rows) _ c.as_slice.result.now s.value a.each)
+    (λ i h. e.met i (omega arith)))

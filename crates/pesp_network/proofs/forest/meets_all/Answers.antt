@@ -5,10 +5,13 @@ use Rattle.pesp_network.proofs.Picking.{met_more}
 use Rattle.pesp_network.proofs.forest.meets_all.Goals as goal
 
 pub index-requires : goal.index-requires
-index-requires c = let b = tail_below c.args.events c.args.rows.now c.loop-row.row-index c.requires.ends c.loop-row-test.true in let n = c.requires.events in let s = c.args.forest.now.sized in omega arith
+index-requires c = let b = tail_below c.args.events c.args.rows.now c.loop-row.row-index c.requires.ends
+    c.loop-row-test.true in let n = c.requires.events in let s = c.args.forest.now.sized in omega arith
 
 pub index-requires-in-loop-row : goal.index-requires-in-loop-row
-index-requires-in-loop-row c = let b = head_below c.args.events c.args.rows.now c.loop-row.row-index c.requires.ends c.loop-row-test.true in let n = c.requires.events in let s = c.args.forest.now.sized in omega arith
+index-requires-in-loop-row c = let b = head_below c.args.events c.args.rows.now c.loop-row.row-index
+    c.requires.ends c.loop-row-test.true in let n = c.requires.events in let s = c.args.forest.now.sized in
+    omega arith
 
 pub loop-row-preserved : goal.loop-row-preserved
 loop-row-preserved c =
@@ -21,4 +24,5 @@ loop-row-preserved c =
     met_more rows f i c.loop-row-test.true c.loop-row.invariant (sym a ∙ c.if-index.false ∙ b)
 
 pub returns : goal.returns
-returns c = λ t k h. let w = c.loop-row-test.false in let n = count c.args.rows.now in let h1 = h.1 in c.loop-row.invariant k h (omega arith)
+returns c = λ t k h. let w = c.loop-row-test.false in let n = count c.args.rows.now in let h1 = h.1 in
+    c.loop-row.invariant k h (omega arith)

@@ -7,7 +7,8 @@ pub loop-start-init : goal.loop-start-init
 loop-start-init c =
     let g = c.in_ok-growth.growth in let e = c.in_ok-growth.ensures in
     record {
-      grown = starts (arcs_of_network c.args.rows.now) g c.in_ok-chains.chains c.args.events c.in_ok-chains.ensures e.events e.by e.place e.last e.left e.order;
+      grown = starts (arcs_of_network c.args.rows.now) g c.in_ok-chains.chains c.args.events c.in_ok-chains.ensures
+          e.events e.by e.place e.last e.left e.order;
       closed = none_seen g c.args.events e.place;
       seen = λ x h. absurd (omega arith);
       events = e.events;

@@ -28,7 +28,8 @@ overflow_cast-row c =
 
 pub loop-event-preserved-then-row-eq0 : goal.loop-event-preserved-then-row-eq0
 loop-event-preserved-then-row-eq0 c =
-    let g = c.args.forest.now in let i = c.loop-event.invariant in let n = c.requires.events in let s = g.sized in let l = g.by.ok.0 in let lt = c.loop-event-test.true in
+    let g = c.args.forest.now in let i = c.loop-event.invariant in let n = c.requires.events in let s = g.sized in
+    let l = g.by.ok.0 in let lt = c.loop-event-test.true in
     let x = c.loop-event.event in
     let b = get_or_read g.by.items x _ (omega arith) c.index-row.ensures 0 in
     let zero = c.if-row-eq0.true in
@@ -43,7 +44,8 @@ loop-event-preserved-then-row-eq0 c =
 
 pub loop-event-preserved : goal.loop-event-preserved
 loop-event-preserved c =
-    let g = c.args.forest.now in let i = c.loop-event.invariant in let n = c.requires.events in let s = g.sized in let l = g.by.ok.0 in let lt = c.loop-event-test.true in
+    let g = c.args.forest.now in let i = c.loop-event.invariant in let n = c.requires.events in let s = g.sized in
+    let l = g.by.ok.0 in let lt = c.loop-event-test.true in
     let x = c.loop-event.event in
     let row = c.index-row.result.now in
     let b = get_or_read g.by.items x _ (omega arith) c.index-row.ensures 0 in
@@ -60,11 +62,15 @@ loop-event-preserved c =
     let R : List ℕ → Type 0 = λ q. Contains q row in
     subst Q b (subst R (sym e) (Contains-push old row)) in
     record {
-      apart = subst (λ (xs : List ℕ). AllPairs (λ (a : ℕ) (b : ℕ). a ≢ b) xs) (sym e) (all_pairs_push (λ (a : ℕ) (b : ℕ). a ≢ b) old row i.apart other);
-      before = subst (λ (xs : List ℕ). All (JoinsBefore g (x + 1)) xs) (sym e) (All-push (JoinsBefore g (x + 1)) old row (wider g x old i.before) (x, omega arith, omega arith, sym b));
+      apart = subst (λ (xs : List ℕ). AllPairs (λ (a : ℕ) (b : ℕ). a ≢ b) xs) (sym e)
+          (all_pairs_push (λ (a : ℕ) (b : ℕ). a ≢ b) old row i.apart other);
+      before = subst (λ (xs : List ℕ). All (JoinsBefore g (x + 1)) xs) (sym e)
+          (All-push (JoinsBefore g (x + 1)) old row (wider g x old i.before) (x, omega arith, omega arith, sym b));
       all = λ y h j. elim (cases_lt y x) [
-        | inl w ↦ let R : List ℕ → Type 0 = λ q. Contains q (at g.by.items y) in subst R (sym e) (Contains-append_left old (row ∷ []) (at g.by.items y) (i.all y w j))
-        | inr w ↦ let u : x ≡ y = omega arith in let R : ℕ → Type 0 = λ z. Contains c.push.new.self.items (at g.by.items z) in subst R u here
+        | inl w ↦ let R : List ℕ → Type 0 = λ q. Contains q (at g.by.items y) in
+            subst R (sym e) (Contains-append_left old (row ∷ []) (at g.by.items y) (i.all y w j))
+        | inr w ↦ let u : x ≡ y = omega arith in
+            let R : ℕ → Type 0 = λ z. Contains c.push.new.self.items (at g.by.items z) in subst R u here
       ];
     }
 

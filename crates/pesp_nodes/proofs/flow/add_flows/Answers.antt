@@ -29,16 +29,20 @@ loop-pair-preserved c =
     let names = keeps.names in
     let fits : FitsSigned w64 p.mult = omega (arith, ints) in
     let at : p.cycle - 1 < length c.args.nets.now = omega (arith, names.0, names.1) in
-    let read = nets_read c.args.nets.now (p.cycle - 1) c.counts.result.now c.index-nets-pair.result at c.index-nets-pair.is c.counts.ensures in
+    let read = nets_read c.args.nets.now (p.cycle - 1) c.counts.result.now c.index-nets-pair.result at
+    c.index-nets-pair.is c.counts.ensures in
     let sum = rw (to_z-of_z w64 p.mult fits) at c.add_flow.ensures.sum in
-    made_more (length c.add_flow.new.flows) c.args.nets.now c.args.pairs.now c.loop-pair.pair-index none c.loop-pair.flows c.add_flow.new.flows c.loop-pair-test.true names
-    (λ i l. sum i (omega (arith, c.add_flow.auto.flows)) ∙ ap (λ (counts : List NetCount). number_at c.loop-pair.flows i +ℤ p.mult *ℤ count_of counts i) read)
+    made_more (length c.add_flow.new.flows) c.args.nets.now c.args.pairs.now c.loop-pair.pair-index none
+    c.loop-pair.flows c.add_flow.new.flows c.loop-pair-test.true names
+    (λ i l. sum i (omega (arith, c.add_flow.auto.flows))
+    ∙ ap (λ (counts : List NetCount). number_at c.loop-pair.flows i +ℤ p.mult *ℤ count_of counts i) read)
     (λ i l. c.add_flow.ensures.size i (omega (arith, c.add_flow.auto.flows)))
     (rw c.add_flow.auto.flows c.loop-pair.invariant)
 
 pub returns-clause-flows : goal.returns-clause-flows
 returns-clause-flows c walks nets i l =
-    made_all (length c.loop-pair.flows) c.args.nets.now c.args.pairs.now c.loop-pair.pair-index c.loop-pair.flows c.loop-pair-test.false c.loop-pair.invariant walks (rw c.loop-pair.auto.flows nets) i l
+    made_all (length c.loop-pair.flows) c.args.nets.now c.args.pairs.now c.loop-pair.pair-index c.loop-pair.flows
+    c.loop-pair-test.false c.loop-pair.invariant walks (rw c.loop-pair.auto.flows nets) i l
 
 pub returns-clause-small : goal.returns-clause-small
 returns-clause-small c i l =

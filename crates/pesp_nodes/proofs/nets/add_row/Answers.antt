@@ -18,4 +18,7 @@ loop-passage-preserved c =
     let from : length c.args.nets.now.items ≡ c.args.nets.now.len = omega (arith, c.args.nets.now.ok.0) in
     let same = c.loop-passage.invariant.long in
     let inside : e.cycle - 1 < length c.loop-passage.nets.items = omega arith in
-    row_more c.args.place c.args.passages.now c.args.nets.now.items c.loop-passage.nets.items k (e.cycle - 1) none c.index_mut.result.now c.push.new.self _ c.loop-passage-test.true at inside refl (to_z-of_z w64 e.count (search rules)) c.index_mut.ensures.value c.in_ok-push.ensures.more c.loop-passage.invariant
+    row_more c.args.place c.args.passages.now c.args.nets.now.items c.loop-passage.nets.items k
+    (e.cycle - 1) none c.index_mut.result.now c.push.new.self _ c.loop-passage-test.true at inside refl
+    (to_z-of_z w64 e.count (search rules)) c.index_mut.ensures.value c.in_ok-push.ensures.more
+    c.loop-passage.invariant

@@ -15,10 +15,19 @@ none = record { place = 0; count = pos 0 }
 pub loop-net-preserved : goal.loop-net-preserved
 unfolding none
 loop-net-preserved c =
-    let least : to_z w128 (of_z w128 c.plus-least.result) ≡ to_z w128 c.loop-net.least-bits +ℤ c.term_at.result = (let value = c.plus-least.ensures.value in omega (arith, ints)) in
-    let greatest : to_z w128 (of_z w128 c.plus-greatest.result) ≡ to_z w128 c.loop-net.greatest-bits +ℤ c.term_at-in-loop-net.result = (let value = c.plus-greatest.ensures.value in omega (arith, ints)) in (
-      rw least (so_far_more 1030000 (end_term Low c.args.arcs.now c.args.slacks.now) c.args.counts.now c.loop-net.net-index none (to_z w128 c.loop-net.least-bits) c.term_at.result c.loop-net-test.true c.term_at.ensures.value c.term_at.ensures.size c.loop-net.invariant.0),
-      rw greatest (so_far_more 1030000 (end_term High c.args.arcs.now c.args.slacks.now) c.args.counts.now c.loop-net.net-index none (to_z w128 c.loop-net.greatest-bits) c.term_at-in-loop-net.result c.loop-net-test.true c.term_at-in-loop-net.ensures.value c.term_at-in-loop-net.ensures.size c.loop-net.invariant.1),
+    let least : to_z w128 (of_z w128 c.plus-least.result)
+    ≡ to_z w128 c.loop-net.least-bits +ℤ c.term_at.result =
+    (let value = c.plus-least.ensures.value in omega (arith, ints)) in
+    let greatest : to_z w128 (of_z w128 c.plus-greatest.result)
+    ≡ to_z w128 c.loop-net.greatest-bits +ℤ c.term_at-in-loop-net.result =
+    (let value = c.plus-greatest.ensures.value in omega (arith, ints)) in (
+      rw least (so_far_more 1030000 (end_term Low c.args.arcs.now c.args.slacks.now) c.args.counts.now
+          c.loop-net.net-index none (to_z w128 c.loop-net.least-bits) c.term_at.result c.loop-net-test.true
+          c.term_at.ensures.value c.term_at.ensures.size c.loop-net.invariant.0),
+      rw greatest (so_far_more 1030000 (end_term High c.args.arcs.now c.args.slacks.now) c.args.counts.now
+          c.loop-net.net-index none (to_z w128 c.loop-net.greatest-bits) c.term_at-in-loop-net.result
+          c.loop-net-test.true c.term_at-in-loop-net.ensures.value c.term_at-in-loop-net.ensures.size
+          c.loop-net.invariant.1),
     )
 
 pub term_at-requires-clause-small : goal.term_at-requires-clause-small

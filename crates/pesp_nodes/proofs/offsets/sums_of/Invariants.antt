@@ -4,4 +4,5 @@ use Rattle.pesp_nets.proofs.Durations.{SoFar}
 use Rattle.pesp_nodes.proofs.offsets.sums_of.Given as goal
 
 abbrev pub invariant-loop-net : goal.invariant-loop-net
-invariant-loop-net l = SoFar 1030000 (end_term Low l.arcs l.slacks) l.counts l.net-index l.least × SoFar 1030000 (end_term High l.arcs l.slacks) l.counts l.net-index l.greatest
+invariant-loop-net l = SoFar 1030000 (end_term Low l.arcs l.slacks) l.counts l.net-index l.least
+    × SoFar 1030000 (end_term High l.arcs l.slacks) l.counts l.net-index l.greatest

@@ -20,15 +20,18 @@ inside c =
     let same = c.loop-s.invariant.long in
     omega arith
 
-read : (c : goal.After-index_mut) → c.index_mut.result.now ≡ passages_at c.loop-s.by_row.items ((get_or c.args.walk.now c.loop-s.s-index none).row - 1)
+read : (c : goal.After-index_mut) → c.index_mut.result.now
+    ≡ passages_at c.loop-s.by_row.items ((get_or c.args.walk.now c.loop-s.s-index none).row - 1)
 unfolding none
-read c = c.index_mut.ensures.value ∙ get_or_default c.loop-s.by_row.items ((get_or c.args.walk.now c.loop-s.s-index none).row - 1) c.index_mut.result.now [] (inside c)
+read c = c.index_mut.ensures.value ∙ get_or_default c.loop-s.by_row.items
+    ((get_or c.args.walk.now c.loop-s.s-index none).row - 1) c.index_mut.result.now [] (inside c)
 
 pub pass-requires : goal.pass-requires
 unfolding none
 pass-requires c =
     let at = (get_or c.args.walk.now c.loop-s.s-index none).row - 1 in
-    rw (read c) (counts_small c.args.cycle c.args.walk.now c.args.by_row.now.items c.loop-s.by_row.items c.loop-s.s-index at c.requires.short (omega arith) (inside c) c.requires.before c.loop-s.invariant)
+    rw (read c) (counts_small c.args.cycle c.args.walk.now c.args.by_row.now.items c.loop-s.by_row.items
+    c.loop-s.s-index at c.requires.short (omega arith) (inside c) c.requires.before c.loop-s.invariant)
 
 pub loop-s-preserved : goal.loop-s-preserved
 unfolding none
@@ -41,5 +44,8 @@ loop-s-preserved c =
     let l = inside c.before.before.before.before in
     let m : at < length c.args.by_row.now.items = omega (arith, c.loop-s.invariant.long) in
     let before = row_before c.args.cycle c.args.by_row.now.items at m c.requires.before in
-    let passed = c.in_ok-pass.ensures (passages_at c.args.by_row.now.items at) (net_count (take k c.args.walk.now) at) before (rw (read c.before.before.before.before) (c.loop-s.invariant.each at m)) in
-    passed_more c.args.cycle c.args.walk.now c.args.by_row.now.items c.loop-s.by_row.items k at none c.pass.new.self c.loop-s-test.true is l passed c.loop-s.invariant
+    let passed = c.in_ok-pass.ensures (passages_at c.args.by_row.now.items at)
+    (net_count (take k c.args.walk.now) at) before
+    (rw (read c.before.before.before.before) (c.loop-s.invariant.each at m)) in
+    passed_more c.args.cycle c.args.walk.now c.args.by_row.now.items c.loop-s.by_row.items k at none
+    c.pass.new.self c.loop-s-test.true is l passed c.loop-s.invariant

@@ -9,5 +9,7 @@ abbrev pub invariant-loop-counts : goal.invariant-loop-counts
 invariant-loop-counts l = record {
   ends : AreOffsetEnds l.offsets.items;
   small : All (IsSmallRange l.fn.period) l.offsets.items;
-  offsets : (walks : List (List SignedRow)) → AreNets (length l.arcs) walks l.nets → l.offsets.items ≡ map (spec.odijk_range (record { period = l.fn.period; arcs = l.arcs }) l.slacks) (take l.counts-index walks);
+  offsets : (walks : List (List SignedRow)) → AreNets (length l.arcs) walks l.nets
+      → l.offsets.items ≡ map (spec.odijk_range (record { period = l.fn.period; arcs = l.arcs }) l.slacks)
+      (take l.counts-index walks);
 }

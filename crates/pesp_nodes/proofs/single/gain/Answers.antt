@@ -7,5 +7,7 @@ use Rattle.pesp_nodes.proofs.single.gain.Goals as goal
 
 pub returns-clause-size : goal.returns-clause-size
 returns-clause-size c =
-    let whole : to_z w128 (of_z w128 c.minus.result) ≡ row_term c.args.arc.now c.args.range true c.args.flow -ℤ row_term c.args.arc.now c.args.range true (pos 0) = search rules in
+    let whole : to_z w128 (of_z w128 c.minus.result)
+    ≡ row_term c.args.arc.now c.args.range true c.args.flow -ℤ row_term c.args.arc.now c.args.range true
+    (pos 0) = search rules in
     rw whole (gain_small c.args.arc.now c.args.range c.args.flow c.requires.lower c.requires.low c.requires.high)

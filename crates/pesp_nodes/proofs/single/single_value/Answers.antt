@@ -19,12 +19,17 @@ pub plus-requires-2 : goal.plus-requires-2
 plus-requires-2 c =
     let p = c.args.problem.now in
     let P : Option ℤ → Type 0 = λ o. IfSome o (λ v. unsigned_abs v < 10 ^ 26) in
-    let small : unsigned_abs c.args.none < 10 ^ 26 = subst P c.requires.none (value_small p c.args.node.now [] true c.keeps_limits.ensures.network c.keeps_limits.ensures.table c.slacks.ensures.ends c.requires.node (nothing_rises (length p.table))) in
+    let small : unsigned_abs c.args.none < 10 ^ 26 =
+    subst P c.requires.none (value_small p c.args.node.now [] true c.keeps_limits.ensures.network
+    c.keeps_limits.ensures.table c.slacks.ensures.ends c.requires.node (nothing_rises (length p.table))) in
     let offsets = c.offset_term-offsets.ensures.size in
     let rows = c.gains-rows.ensures.size in
     let offsets_fit : FitsSigned w128 c.offset_term-offsets.result = search rules in
     let rows_fit : FitsSigned w128 c.gains-rows.result = search rules in
-    let sum = rw (to_z-of_z w128 c.offset_term-offsets.result offsets_fit, to_z-of_z w128 c.gains-rows.result rows_fit) at c.plus.ensures.size in
+    let sum = rw (
+      to_z-of_z w128 c.offset_term-offsets.result offsets_fit,
+      to_z-of_z w128 c.gains-rows.result rows_fit,
+    ) at c.plus.ensures.size in
     let none_fits : FitsSigned w128 c.args.none = search rules in
     let sum_fits : FitsSigned w128 c.plus.result = search rules in
     rw (to_z-of_z w128 c.args.none none_fits, to_z-of_z w128 c.plus.result sum_fits) (omega (arith, small, offsets, rows, sum))
@@ -42,15 +47,29 @@ returns c =
     let total_fits : FitsSigned w128 c.plus-2.result = search rules in
     let nets = c.nets.ensures.nets in
     let inside : place < length c.nets.result.now = (let long = nets.long in let names = c.requires.cycle in omega (arith, long, names)) in
-    let at : c.counts-counts.result.now ≡ nets_at c.nets.result.now place = c.counts-counts.ensures ∙ c.index-nets-place.is ∙ get_or_default c.nets.result.now place c.index-nets-place.result [] inside in
-    let here : AreNetCounts (length c.arcs.result.now) (cycle_at p.table place) c.counts-counts.result.now = rw (at, c.arcs.ensures.rows) (nets.each place inside) in
-    let rows : c.gains-rows.result ≡ over_arcs (net_of p).arcs (λ i. gain_at (net_of p).arcs c.args.node.now.slacks i (pair.mult *ℤ net_count (cycle_at p.table place) i)) = c.gains-rows.ensures.value (cycle_at p.table place) here ∙ gains_same c.arcs.result.now (net_of p).arcs c.slacks.result.now c.args.node.now.slacks (λ i. pair.mult *ℤ net_count (cycle_at p.table place) i) c.arcs.ensures.arcs c.slacks.ensures.slacks in
-    let offsets : c.offset_term-offsets.result ≡ pos (net_of p).period *ℤ scaled pair.mult c.in_ok-left.left.0 c.in_ok-left.left.1 = rw (to_z-of_z w64 pair.mult mult_fits, c.period.ensures.period) at c.offset_term-offsets.ensures.value in
-    let sum = rw (to_z-of_z w128 c.offset_term-offsets.result offsets_fit, to_z-of_z w128 c.gains-rows.result rows_fit) at c.plus.ensures.value in
+    let at : c.counts-counts.result.now ≡ nets_at c.nets.result.now place = c.counts-counts.ensures
+    ∙ c.index-nets-place.is ∙ get_or_default c.nets.result.now place c.index-nets-place.result [] inside in
+    let here : AreNetCounts (length c.arcs.result.now) (cycle_at p.table place) c.counts-counts.result.now =
+    rw (at, c.arcs.ensures.rows) (nets.each place inside) in
+    let rows : c.gains-rows.result ≡ over_arcs (net_of p).arcs
+    (λ i. gain_at (net_of p).arcs c.args.node.now.slacks i
+    (pair.mult *ℤ net_count (cycle_at p.table place) i)) =
+    c.gains-rows.ensures.value (cycle_at p.table place) here
+    ∙ gains_same c.arcs.result.now (net_of p).arcs c.slacks.result.now c.args.node.now.slacks
+    (λ i. pair.mult *ℤ net_count (cycle_at p.table place) i) c.arcs.ensures.arcs c.slacks.ensures.slacks in
+    let offsets : c.offset_term-offsets.result
+    ≡ pos (net_of p).period *ℤ scaled pair.mult c.in_ok-left.left.0 c.in_ok-left.left.1 =
+    rw (to_z-of_z w64 pair.mult mult_fits, c.period.ensures.period) at c.offset_term-offsets.ensures.value in
+    let sum = rw (
+      to_z-of_z w128 c.offset_term-offsets.result offsets_fit,
+      to_z-of_z w128 c.gains-rows.result rows_fit,
+    ) at c.plus.ensures.value in
     let total = rw (to_z-of_z w128 c.args.none none_fits, to_z-of_z w128 c.plus.result sum_fits) at c.plus-2.ensures.value in
     let add : ℤ → ℤ = λ z. c.args.none +ℤ z in
     ap Some (to_z-of_z w128 c.plus-2.result total_fits)
-    ∙ single_is (net_of p) p.table c.args.node.now pair c.in_ok-left.left c.args.none c.offset_term-offsets.result c.gains-rows.result c.plus-2.result c.requires.none c.in_ok-left.ensures.value offsets rows (total ∙ ap add sum)
+    ∙ single_is (net_of p) p.table c.args.node.now pair c.in_ok-left.left c.args.none c.offset_term-offsets.result
+    c.gains-rows.result c.plus-2.result c.requires.none c.in_ok-left.ensures.value offsets rows
+    (total ∙ ap add sum)
 
 pub returns-in_err-left : goal.returns-in_err-left
 returns-in_err-left c = search rules

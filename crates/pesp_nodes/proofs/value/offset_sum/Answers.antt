@@ -14,7 +14,8 @@ none = record { cycle = 0; mult = pos 0 }
 
 pub plus-sum-requires : goal.plus-sum-requires
 plus-sum-requires c =
-    let few = few_pairs c.args.pairs.now (length c.args.problem.now.table) c.loop-pair.pair-index none c.requires.pairs c.loop-pair-test.true in
+    let few = few_pairs c.args.pairs.now (length c.args.problem.now.table) c.loop-pair.pair-index none
+    c.requires.pairs c.loop-pair-test.true in
     let most = c.requires.few in
     let size = c.loop-pair.invariant.size in
     let here = c.offset_term.ensures.size in
@@ -28,14 +29,22 @@ loop-pair-preserved c =
     let keeps = c.requires.pairs.each c.loop-pair.pair-index none c.loop-pair-test.true in
     let mult_most = keeps.most in
     let mult_fits : FitsSigned w64 p.mult = omega (arith, ints) in
-    let few = few_pairs c.args.pairs.now (length c.args.problem.now.table) c.loop-pair.pair-index none c.requires.pairs c.loop-pair-test.true in
+    let few = few_pairs c.args.pairs.now (length c.args.problem.now.table) c.loop-pair.pair-index none
+    c.requires.pairs c.loop-pair-test.true in
     let most = c.requires.few in
     let size = c.loop-pair.invariant.size in
     let here_size = c.offset_term.ensures.size in
     let fits : FitsSigned w128 c.offset_term.result = search rules in
-    let here : c.offset_term.result ≡ pos c.args.problem.now.network.period *ℤ scaled p.mult c.in_ok-left.left.0 c.in_ok-left.left.1 = rw (to_z-of_z w64 p.mult mult_fits, c.period.ensures.period) at c.offset_term.ensures.value in
-    let sum : to_z w128 (of_z w128 c.plus-sum.result) ≡ to_z w128 c.loop-pair.sum-bits +ℤ c.offset_term.result = (let value = c.plus-sum.ensures.value in omega (arith, ints)) in
-    offset_sum_more (net_of c.args.problem.now) c.args.problem.now.table c.args.node.now c.args.pairs.now c.loop-pair.pair-index none c.in_ok-left.left (to_z w128 c.loop-pair.sum-bits) c.offset_term.result _ c.loop-pair-test.true c.in_ok-left.ensures.value here here_size sum c.loop-pair.invariant
+    let here : c.offset_term.result ≡ pos c.args.problem.now.network.period
+    *ℤ scaled p.mult c.in_ok-left.left.0 c.in_ok-left.left.1 =
+    rw (to_z-of_z w64 p.mult mult_fits, c.period.ensures.period) at c.offset_term.ensures.value in
+    let sum : to_z w128 (of_z w128 c.plus-sum.result)
+    ≡ to_z w128 c.loop-pair.sum-bits +ℤ c.offset_term.result =
+    (let value = c.plus-sum.ensures.value in omega (arith, ints)) in
+    offset_sum_more (net_of c.args.problem.now) c.args.problem.now.table c.args.node.now c.args.pairs.now
+    c.loop-pair.pair-index none c.in_ok-left.left
+    (to_z w128 c.loop-pair.sum-bits) c.offset_term.result _ c.loop-pair-test.true c.in_ok-left.ensures.value
+    here here_size sum c.loop-pair.invariant
 
 pub returns-clause-size : goal.returns-clause-size
 returns-clause-size c =

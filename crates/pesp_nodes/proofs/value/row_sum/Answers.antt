@@ -16,19 +16,30 @@ loop-place-preserved c =
     let few = c.requires.few in
     let size = c.loop-place.invariant.1 in
     let here_size = c.row_term.ensures.size in
-    let sum : to_z w128 (of_z w128 c.plus-sum.result) ≡ to_z w128 c.loop-place.sum-bits +ℤ c.row_term.result = (let value = c.plus-sum.ensures.value in omega (arith, ints)) in
+    let sum : to_z w128 (of_z w128 c.plus-sum.result)
+    ≡ to_z w128 c.loop-place.sum-bits +ℤ c.row_term.result =
+    (let value = c.plus-sum.ensures.value in omega (arith, ints)) in
     let inside : k < length c.args.by_row.now = omega (arith, c.requires.rows) in
-    let at : c.as_slice.result.now ≡ passages_at c.args.by_row.now k = c.as_slice.ensures ∙ c.index-by_row-place.is ∙ get_or_default c.args.by_row.now k c.index-by_row-place.result [] inside in
+    let at : c.as_slice.result.now ≡ passages_at c.args.by_row.now k = c.as_slice.ensures ∙ c.index-by_row-place.is
+    ∙ get_or_default c.args.by_row.now k c.index-by_row-place.result [] inside in
     let flow_fits : FitsSigned w128 c.flow_at-flow.result = search rules in (
       λ walks are names flows.
           (let passages : ArePassagesOf (length walks) walks k c.as_slice.result.now = rw at (are.each k c.loop-place-test.true) in
-          let flow_is : to_z w128 (of_z w128 c.flow_at-flow.result) ≡ flow walks c.args.pairs.now k = to_z-of_z w128 c.flow_at-flow.result flow_fits ∙ c.flow_at-flow.ensures.value walks names passages flows in
-          let here : c.row_term.result ≡ row_term_at c.args.arcs.now c.args.slacks.now c.args.weighted k (flow walks c.args.pairs.now k) = c.row_term.ensures.value ∙ ap (row_term_at c.args.arcs.now c.args.slacks.now c.args.weighted k) flow_is in
-          rows_more (λ i. row_term_at c.args.arcs.now c.args.slacks.now c.args.weighted i (flow walks c.args.pairs.now i)) k (to_z w128 c.loop-place.sum-bits) c.row_term.result _ (c.loop-place.invariant.0 walks are names flows) here sum),
+          let flow_is : to_z w128 (of_z w128 c.flow_at-flow.result)
+          ≡ flow walks c.args.pairs.now k = to_z-of_z w128 c.flow_at-flow.result flow_fits
+          ∙ c.flow_at-flow.ensures.value walks names passages flows in
+          let here : c.row_term.result ≡ row_term_at c.args.arcs.now c.args.slacks.now c.args.weighted k
+          (flow walks c.args.pairs.now k) = c.row_term.ensures.value
+          ∙ ap (row_term_at c.args.arcs.now c.args.slacks.now c.args.weighted k) flow_is in
+          rows_more (λ i. row_term_at c.args.arcs.now c.args.slacks.now c.args.weighted i
+          (flow walks c.args.pairs.now i)) k (to_z w128 c.loop-place.sum-bits) c.row_term.result _
+          (c.loop-place.invariant.0 walks are names flows) here sum),
       rw sum (omega (arith, ints)),
     )
 
 pub returns-clause-value : goal.returns-clause-value
 returns-clause-value c walks are names flows =
     let all : c.loop-place.place ≡ length c.args.arcs.now = omega arith in
-    c.loop-place.invariant.0 walks are names flows ∙ ap (λ (n : ℕ). sum_below n (λ i. row_term_at c.args.arcs.now c.args.slacks.now c.args.weighted i (flow walks c.args.pairs.now i))) all
+    c.loop-place.invariant.0 walks are names flows
+    ∙ ap (λ (n : ℕ). sum_below n (λ i. row_term_at c.args.arcs.now c.args.slacks.now c.args.weighted i
+    (flow walks c.args.pairs.now i))) all

@@ -11,5 +11,7 @@ use Rattle.pesp_nodes.proofs.value.row_sum.Given as goal
 
 abbrev pub invariant-loop-place : goal.invariant-loop-place
 invariant-loop-place l =
-    ((walks : List (List SignedRow)) → ArePassages (length l.arcs) (length walks) walks l.by_row → All (λ p. Names (length walks) p.cycle) l.pairs → AreFlows walks l.pairs l.flows → l.sum ≡ sum_below l.place (λ i. row_term_at l.arcs l.slacks l.fn.weighted i (flow walks l.pairs i)))
+    ((walks : List (List SignedRow)) → ArePassages (length l.arcs) (length walks) walks l.by_row
+    → All (λ p. Names (length walks) p.cycle) l.pairs → AreFlows walks l.pairs l.flows
+    → l.sum ≡ sum_below l.place (λ i. row_term_at l.arcs l.slacks l.fn.weighted i (flow walks l.pairs i)))
     × (unsigned_abs l.sum ≤ l.place * 10 ^ 31)

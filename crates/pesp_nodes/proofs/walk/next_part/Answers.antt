@@ -9,8 +9,10 @@ use Rattle.pesp_nodes.proofs.walk.next_part.Goals as goal
 
 pub returns-in-Low-clause-parts : goal.returns-in-Low-clause-parts
 returns-in-Low-clause-parts c =
-    let top : c.len-top.result - 1 + 1 ≡ length c.loop-path.path.items = grind (arith, nat_tests, c.loop-path.path.ok.0, c.is_empty.ensures, c.len-top.ensures) in
-    turn_parts c.loop-path.node c.put_back.new.self c.cut.new.self c.loop-path.path.items (c.len-top.result - 1) c.index-last.result.now top c.index-last.ensures c.in-Low.is c.put_back.ensures.node
+    let top : c.len-top.result - 1 + 1 ≡ length c.loop-path.path.items =
+    grind (arith, nat_tests, c.loop-path.path.ok.0, c.is_empty.ensures, c.len-top.ensures) in
+    turn_parts c.loop-path.node c.put_back.new.self c.cut.new.self c.loop-path.path.items
+    (c.len-top.result - 1) c.index-last.result.now top c.index-last.ensures c.in-Low.is c.put_back.ensures.node
     (c.cut.ensures.part ∙ ap (λ (cut : Cut). part c.put_back.new.self cut High) c.to_cut.ensures)
     ∙ c.loop-path.invariant.parts
 

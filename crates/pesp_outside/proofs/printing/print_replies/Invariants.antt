@@ -5,4 +5,5 @@ use Rattle.pesp_outside.specs.Texts.{reply_line}
 use Rattle.pesp_outside.proofs.printing.print_replies.Given as goal
 
 abbrev pub invariant-loop-reply : goal.invariant-loop-reply
-invariant-loop-reply g l = Sends (g.O.Output.sending l.initial.out) (g.O.Output.sending l.out) (flat_map reply_line (take l.reply-index l.replies))
+invariant-loop-reply g l = Sends (g.O.Output.sending l.initial.out) (g.O.Output.sending l.out)
+    (flat_map reply_line (take l.reply-index l.replies))

@@ -13,7 +13,15 @@ returns-in_err-works-clause-cause g c =
 
 pub returns-clause-ok : goal.returns-clause-ok
 returns-clause-ok g c =
-    on_ok_weaker c.write_graft.result (λ written. (c.in_ok-instance.instance, c.in_ok-instance.ensures.ok, (c.in_ok-base.base, c.in_ok-base.ensures.ok, (c.in_ok-works.works.items, c.in_ok-works.ensures.ok, written)))) c.write_graft.ensures.ok
+    on_ok_weaker c.write_graft.result (λ written. (
+      c.in_ok-instance.instance,
+      c.in_ok-instance.ensures.ok,
+      (
+        c.in_ok-base.base,
+        c.in_ok-base.ensures.ok,
+        (c.in_ok-works.works.items, c.in_ok-works.ensures.ok, written),
+      ),
+    )) c.write_graft.ensures.ok
 
 pub returns-clause-cause : goal.returns-clause-cause
 returns-clause-cause g c =

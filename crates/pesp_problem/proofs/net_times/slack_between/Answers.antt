@@ -13,4 +13,6 @@ same_remainder r a b m n h e k = cc
 pub returns-clause-value : goal.returns-clause-value
 returns-clause-value c =
     let fits : SFits w64 c.rem_euclid-rest.result = search rules in
-    ap unsigned_abs (to_z-of_z w64 c.rem_euclid-rest.result fits) ∙ same_remainder _ _ (difference c.args.times.now c.args.tail c.args.head -ℤ c.args.lower) _ (pos c.args.period) c.rem_euclid-rest.ensures.value (omega (arith, ints)) (omega (arith, ints))
+    ap unsigned_abs (to_z-of_z w64 c.rem_euclid-rest.result fits)
+    ∙ same_remainder _ _ (difference c.args.times.now c.args.tail c.args.head -ℤ c.args.lower) _
+    (pos c.args.period) c.rem_euclid-rest.ensures.value (omega (arith, ints)) (omega (arith, ints))

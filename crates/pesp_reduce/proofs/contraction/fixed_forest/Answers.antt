@@ -6,4 +6,6 @@ use Rattle.pesp_reduce.proofs.contraction.fixed_forest.Goals as goal
 pub network_of-requires : goal.network_of-requires
 network_of-requires c =
     let n = c.args.whole.now in
-    rw (c.period.ensures.period, c.events.ensures.events) (keeps_fixed n.period n.events n.rows c.in_ok-rows.rows.items n.forest c.period.ensures.limits (c.in_ok-rows.ensures ∙ ap (map fixed_row) c.rows.ensures.rows))
+    rw (c.period.ensures.period, c.events.ensures.events)
+    (keeps_fixed n.period n.events n.rows c.in_ok-rows.rows.items n.forest c.period.ensures.limits
+    (c.in_ok-rows.ensures ∙ ap (map fixed_row) c.rows.ensures.rows))

@@ -9,7 +9,8 @@ loop-row-init c =
     subst P (sym e) (flags_none c.args.count c.args.forest.now)
 
 pub loop-row-preserved : goal.loop-row-preserved
-loop-row-preserved c = flags_more c.args.count c.loop-row.row-index _ c.args.forest.now c.loop-row.flags.items c.loop-row.invariant c.loop-row-test.true refl (c.requires c.loop-row.row-index 0 c.loop-row-test.true)
+loop-row-preserved c = flags_more c.args.count c.loop-row.row-index _ c.args.forest.now c.loop-row.flags.items
+    c.loop-row.invariant c.loop-row-test.true refl (c.requires c.loop-row.row-index 0 c.loop-row-test.true)
 
 pub returns : goal.returns
 returns c = flags_all c.args.count c.loop-row.row-index c.args.forest.now c.loop-row.flags.items c.loop-row.invariant c.loop-row-test.false

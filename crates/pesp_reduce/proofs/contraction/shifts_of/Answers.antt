@@ -9,7 +9,9 @@ unreachable-requires c =
     let n = length c.rows.result.now in
     let e : c.in_ok-zeros.zeros.items ≡ replicate n 0 = search rules in
     let o = rw c.in-None.is at c.in_ok-times.ensures.none in
-    o.open_each o.walk o.fundamental (c.requires (slice_index c.as_slice.result.now) o.walk (λ i. ap (λ (xs : List ℕ). slice_index xs i) (c.as_slice.ensures.value ∙ e) ∙ zeros_index n i) o.fundamental.closes)
+    o.open_each o.walk o.fundamental (c.requires (slice_index c.as_slice.result.now) o.walk
+    (λ i. ap (λ (xs : List ℕ). slice_index xs i) (c.as_slice.ensures.value ∙ e) ∙ zeros_index n i)
+    o.fundamental.closes)
 
 pub timetable_of-requires-clause-count : goal.timetable_of-requires-clause-count
 timetable_of-requires-clause-count c = grind (arith, common_steps)

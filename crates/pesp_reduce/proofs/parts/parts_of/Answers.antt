@@ -16,15 +16,21 @@ use Rattle.pesp_reduce.proofs.Reducing.{matter_lower}
 use Rattle.pesp_reduce.proofs.Results.{is_reduction}
 use Rattle.pesp_reduce.proofs.parts.parts_of.Goals as goal
 
-contraction_at : (period events own own_events : ℕ) (rows : List NetRow) (c : Contraction) → own ≡ period → own_events ≡ events → IsContraction own own_events rows c → IsContraction period events rows c
-contraction_at period events own own_events rows c e f h = subst (λ m. IsContraction period m rows c) f (subst (λ t. IsContraction t own_events rows c) e h)
+contraction_at : (period events own own_events : ℕ) (rows : List NetRow) (c : Contraction) → own ≡ period
+    → own_events ≡ events → IsContraction own own_events rows c → IsContraction period events rows c
+contraction_at period events own own_events rows c e f h =
+    subst (λ m. IsContraction period m rows c) f (subst (λ t. IsContraction t own_events rows c) e h)
 
-whole_is : (p : Pesp) (period : ℕ) (given whole : List NetRow) → period ≡ p.period → whole ≡ map (row_that_matters period) given → whole ≡ map (row_that_matters p.period) given
+whole_is : (p : Pesp) (period : ℕ) (given whole : List NetRow) → period ≡ p.period
+    → whole ≡ map (row_that_matters period) given → whole ≡ map (row_that_matters p.period) given
 whole_is p period given whole e f = f ∙ ap (λ t. map (row_that_matters t) given) e
 
-whole_low : (p : Pesp) (given whole : List NetRow) (i : ℕ) → KeepsLimits p → arcs_of_network given ≡ arcs_of p → whole ≡ map (row_that_matters p.period) given → i < length whole → unsigned_abs (net_row_at whole i).lower ≤ 1000000
+whole_low : (p : Pesp) (given whole : List NetRow) (i : ℕ) → KeepsLimits p → arcs_of_network given ≡ arcs_of p
+    → whole ≡ map (row_that_matters p.period) given → i < length whole
+    → unsigned_abs (net_row_at whole i).lower ≤ 1000000
 whole_low p given whole i limits arcs_are e l =
-    let sizes : length whole ≡ length p.rows = ap length e ∙ length-map given (row_that_matters p.period) ∙ sym (arcs_length given) ∙ ap length arcs_are ∙ length-arcs_of p in
+    let sizes : length whole ≡ length p.rows = ap length e ∙ length-map given (row_that_matters p.period)
+    ∙ sym (arcs_length given) ∙ ap length arcs_are ∙ length-arcs_of p in
     subst (λ rows. unsigned_abs (net_row_at rows i).lower ≤ 1000000) (sym e) (matter_lower p given i limits arcs_are (omega (arith, sizes)))
 
 pub kept_of-requires-clause-count : goal.kept_of-requires-clause-count
@@ -37,7 +43,9 @@ kept_of-requires-clause-lowers c =
     let p = c.args.instance.now in
     let g = c.args.given.now in
     let w = c.in_ok-whole.whole.rows in
-    All-from_get_or (λ (row : NetRow). unsigned_abs row.lower ≤ 1000000) w no_net_row (λ i l. whole_low p g.rows w i c.period-period.ensures.limits c.requires.rows (whole_is p g.period g.rows w c.requires.period c.in_ok-whole.ensures.rows) l)
+    All-from_get_or (λ (row : NetRow). unsigned_abs row.lower ≤ 1000000) w no_net_row
+    (λ i l. whole_low p g.rows w i c.period-period.ensures.limits c.requires.rows
+    (whole_is p g.period g.rows w c.requires.period c.in_ok-whole.ensures.rows) l)
 
 pub returns : goal.returns
 returns c =
@@ -49,5 +57,9 @@ returns c =
     let kept = rw (c.period-period.ensures.period, c.rows.ensures.rows) at c.in_ok-fates.ensures.kept in
     let period_is : w.period ≡ p.period = c.in_ok-whole.ensures.period ∙ c.requires.period in
     let events_are : w.events ≡ length p.events = c.in_ok-whole.ensures.events ∙ c.requires.events in
-    is_reduction p g.rows w made.network k made.fates.items c.period-period.ensures.limits c.requires.rows c.requires.origins period_is events_are (whole_is p g.period g.rows w.rows c.requires.period c.in_ok-whole.ensures.rows)
-    (contraction_at p.period (length p.events) w.period w.events w.rows k period_is events_are c.in_ok-contraction.ensures) kept.count kept.fates (c.in_ok-fates.ensures.period ∙ period_is) c.in_ok-fates.ensures.events kept.rows
+    is_reduction p g.rows w made.network k made.fates.items c.period-period.ensures.limits c.requires.rows
+    c.requires.origins period_is events_are (whole_is p g.period g.rows w.rows c.requires.period
+    c.in_ok-whole.ensures.rows)
+    (contraction_at p.period (length p.events) w.period w.events w.rows k period_is events_are
+    c.in_ok-contraction.ensures) kept.count kept.fates
+    (c.in_ok-fates.ensures.period ∙ period_is) c.in_ok-fates.ensures.events kept.rows

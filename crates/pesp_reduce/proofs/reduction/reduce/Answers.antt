@@ -29,4 +29,5 @@ returns c =
 pub invariant_of-result : goal.invariant_of-result
 invariant_of-result c =
     let parts = c.in_ok-whole.field-0 in
-    subst (λ q. IsReduction q parts.fates.items parts.whole parts.contraction parts.network) (sym c.in_ok-original.ensures) c.in_ok-whole.ensures
+    subst (λ q. IsReduction q parts.fates.items parts.whole parts.contraction parts.network)
+    (sym c.in_ok-original.ensures) c.in_ok-whole.ensures

@@ -7,7 +7,10 @@ use Rattle.pesp_reduce.proofs.Lists.{holds_none, holds_more}
 use Rattle.pesp_reduce.proofs.rows.part_of.Goals as goal
 
 pub loop-i-init : goal.loop-i-init
-loop-i-init c = rw c.new-made.ensures.items (refl, holds_none no_net_row (λ k. part (flag c.args.takes.now k) (net_row_at c.args.rows.now k)))
+loop-i-init c = rw c.new-made.ensures.items (
+  refl,
+  holds_none no_net_row (λ k. part (flag c.args.takes.now k) (net_row_at c.args.rows.now k)),
+)
 
 pub loop-i-preserved : goal.loop-i-preserved
 loop-i-preserved c =
@@ -20,6 +23,7 @@ loop-i-preserved c =
 
 pub returns : goal.returns
 returns c = record {
-  count = let v = c.loop-i.invariant.0 in let k = c.loop-i.made.ok.0 in let t = c.loop-i-test.false in let a = c.loop-i.auto.i-end in omega arith;
+  count = let v = c.loop-i.invariant.0 in let k = c.loop-i.made.ok.0 in let t = c.loop-i-test.false in
+      let a = c.loop-i.auto.i-end in omega arith;
   rows = λ i l. c.loop-i.invariant.1.at i (let v = c.loop-i.invariant.0 in let t = c.loop-i-test.false in omega arith);
 }

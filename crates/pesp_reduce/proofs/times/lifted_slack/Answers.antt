@@ -8,7 +8,9 @@ use Rattle.pesp_reduce.proofs.times.lifted_slack.Goals as goal
 pub returns-clause-value : goal.returns-clause-value
 returns-clause-value c =
     let e : is_bridge c.args.fate ≡ false = sym c.is_bridge.ensures ∙ c.if-is_bridge.false in
-    let y = remainder c.args.period ((shifted c.args.stands.now c.args.shifts.now c.args.times.now c.args.row.now.head -ℤ shifted c.args.stands.now c.args.shifts.now c.args.times.now c.args.row.now.tail) -ℤ c.args.row.now.lower) in
+    let y = remainder c.args.period ((shifted c.args.stands.now c.args.shifts.now c.args.times.now
+    c.args.row.now.head -ℤ shifted c.args.stands.now c.args.shifts.now c.args.times.now c.args.row.now.tail) -ℤ
+    c.args.row.now.lower) in
     let a = c.shifted-head.ensures.size in let b = c.shifted-tail.ensures.size in let l = c.requires.lower in
     let h = c.shifted-head.ensures.value in let t = c.shifted-tail.ensures.value in
     let z : c.wrapped.result ≡ y = c.wrapped.ensures.value ∙ ap (λ (w : ℤ). remainder c.args.period w) (omega (arith, ints, h, t)) in

@@ -7,4 +7,6 @@ use Rattle.pesp_reduce.proofs.Lists.{Holds}
 use Rattle.pesp_reduce.proofs.times.lifted_slacks.Given as goal
 
 abbrev pub invariant-loop-i : goal.invariant-loop-i
-invariant-loop-i l = (length l.slacks.items ≡ l.i) × All (λ y. y < l.period) l.slacks.items × Holds 0 (λ k. lifted_slack l.period l.stands l.shifts l.times (net_row_at l.rows k) (fate_at l.fates k)) l.slacks.items
+invariant-loop-i l = (length l.slacks.items ≡ l.i) × All (λ y. y < l.period) l.slacks.items
+    × Holds 0 (λ k. lifted_slack l.period l.stands l.shifts l.times (net_row_at l.rows k) (fate_at l.fates k))
+    l.slacks.items

@@ -18,7 +18,8 @@ original_row-next-requires c =
     let walk = c.args.walk.now in
     let i = c.loop-i.i in
     let inside : i < length walk = let t = c.loop-i-test.true in let a = c.loop-i.auto.i-end in omega arith in
-    subst (λ (s : SignedRow). Names (length left) s.row) (sym c.row_after.ensures) (named left (row_after walk i) (after_exists (arcs_of_network left) walk i c.requires.walk inside))
+    subst (λ (s : SignedRow). Names (length left) s.row) (sym c.row_after.ensures)
+    (named left (row_after walk i) (after_exists (arcs_of_network left) walk i c.requires.walk inside))
 
 pub finish_of-from-requires : goal.finish_of-from-requires
 finish_of-from-requires c =
@@ -27,7 +28,10 @@ finish_of-from-requires c =
     let i = c.loop-i.i in
     let inside : i < length walk = let t = c.loop-i-test.true in let a = c.loop-i.auto.i-end in omega arith in
     let passed : c.original_row-passed.result ≡ original_row left (passed_at walk i) = c.original_row-passed.ensures in
-    subst (λ (s : SignedRow). Names (length whole) s.row) (sym passed) (named whole (original_row left (passed_at walk i)) (original_exists whole c.args.contraction.now left (passed_at walk i) c.requires.left (passed_exists (arcs_of_network left) walk i c.requires.walk inside)))
+    subst (λ (s : SignedRow). Names (length whole) s.row) (sym passed)
+    (named whole (original_row left (passed_at walk i))
+    (original_exists whole c.args.contraction.now left (passed_at walk i) c.requires.left
+    (passed_exists (arcs_of_network left) walk i c.requires.walk inside)))
 
 pub start_of-to-requires : goal.start_of-to-requires
 start_of-to-requires c =
@@ -35,8 +39,12 @@ start_of-to-requires c =
     let walk = c.args.walk.now in
     let i = c.loop-i.i in
     let inside : i < length walk = let t = c.loop-i-test.true in let a = c.loop-i.auto.i-end in omega arith in
-    let next : c.original_row-next.result ≡ original_row left (row_after walk i) = c.original_row-next.ensures ∙ ap (original_row left) c.row_after.ensures in
-    subst (λ (s : SignedRow). Names (length whole) s.row) (sym next) (named whole (original_row left (row_after walk i)) (original_exists whole c.args.contraction.now left (row_after walk i) c.requires.left (after_exists (arcs_of_network left) walk i c.requires.walk inside)))
+    let next : c.original_row-next.result ≡ original_row left (row_after walk i) = c.original_row-next.ensures
+    ∙ ap (original_row left) c.row_after.ensures in
+    subst (λ (s : SignedRow). Names (length whole) s.row) (sym next)
+    (named whole (original_row left (row_after walk i))
+    (original_exists whole c.args.contraction.now left (row_after walk i) c.requires.left
+    (after_exists (arcs_of_network left) walk i c.requires.walk inside)))
 
 pub between-requires-clause-from : goal.between-requires-clause-from
 between-requires-clause-from c =
@@ -45,8 +53,11 @@ between-requires-clause-from c =
     let walk = c.args.walk.now in
     let i = c.loop-i.i in
     let inside : i < length walk = let t = c.loop-i-test.true in let a = c.loop-i.auto.i-end in omega arith in
-    let from : c.finish_of-from.result ≡ finish (arcs_of_network whole) (original_row left (passed_at walk i)) = c.finish_of-from.ensures ∙ ap (finish (arcs_of_network whole)) c.original_row-passed.ensures in
-    subst (λ n. n < k.tree.events) (sym from) (original_ends whole k left (passed_at walk i) c.requires.contraction c.requires.left (passed_exists (arcs_of_network left) walk i c.requires.walk inside)).1
+    let from : c.finish_of-from.result ≡ finish (arcs_of_network whole) (original_row left (passed_at walk i)) =
+    c.finish_of-from.ensures ∙ ap (finish (arcs_of_network whole)) c.original_row-passed.ensures in
+    subst (λ n. n < k.tree.events) (sym from) (original_ends whole k left
+    (passed_at walk i) c.requires.contraction c.requires.left
+    (passed_exists (arcs_of_network left) walk i c.requires.walk inside)).1
 
 pub between-requires-clause-to : goal.between-requires-clause-to
 between-requires-clause-to c =
@@ -55,8 +66,12 @@ between-requires-clause-to c =
     let walk = c.args.walk.now in
     let i = c.loop-i.i in
     let inside : i < length walk = let t = c.loop-i-test.true in let a = c.loop-i.auto.i-end in omega arith in
-    let to : c.start_of-to.result ≡ start (arcs_of_network whole) (original_row left (row_after walk i)) = c.start_of-to.ensures ∙ ap (start (arcs_of_network whole)) (c.original_row-next.ensures ∙ ap (original_row left) c.row_after.ensures) in
-    subst (λ n. n < k.tree.events) (sym to) (original_ends whole k left (row_after walk i) c.requires.contraction c.requires.left (after_exists (arcs_of_network left) walk i c.requires.walk inside)).0
+    let to : c.start_of-to.result ≡ start (arcs_of_network whole) (original_row left (row_after walk i)) =
+    c.start_of-to.ensures ∙ ap (start (arcs_of_network whole))
+    (c.original_row-next.ensures ∙ ap (original_row left) c.row_after.ensures) in
+    subst (λ n. n < k.tree.events) (sym to) (original_ends whole k left
+    (row_after walk i) c.requires.contraction c.requires.left
+    (after_exists (arcs_of_network left) walk i c.requires.walk inside)).0
 
 pub between-requires-clause-joined : goal.between-requires-clause-joined
 between-requires-clause-joined c =
@@ -65,10 +80,15 @@ between-requires-clause-joined c =
     let walk = c.args.walk.now in
     let i = c.loop-i.i in
     let inside : i < length walk = let t = c.loop-i-test.true in let a = c.loop-i.auto.i-end in omega arith in
-    let from : c.finish_of-from.result ≡ finish (arcs_of_network whole) (original_row left (passed_at walk i)) = c.finish_of-from.ensures ∙ ap (finish (arcs_of_network whole)) c.original_row-passed.ensures in
-    let to : c.start_of-to.result ≡ start (arcs_of_network whole) (original_row left (row_after walk i)) = c.start_of-to.ensures ∙ ap (start (arcs_of_network whole)) (c.original_row-next.ensures ∙ ap (original_row left) c.row_after.ensures) in
+    let from : c.finish_of-from.result ≡ finish (arcs_of_network whole) (original_row left (passed_at walk i)) =
+    c.finish_of-from.ensures ∙ ap (finish (arcs_of_network whole)) c.original_row-passed.ensures in
+    let to : c.start_of-to.result ≡ start (arcs_of_network whole) (original_row left (row_after walk i)) =
+    c.start_of-to.ensures ∙ ap (start (arcs_of_network whole))
+    (c.original_row-next.ensures ∙ ap (original_row left) c.row_after.ensures) in
     subst (λ n. AreJoined (arcs_of_network k.tree.rows) c.finish_of-from.result n) (sym to)
-    (subst (λ n. AreJoined (arcs_of_network k.tree.rows) n (start (arcs_of_network whole) (original_row left (row_after walk i)))) (sym from) (gap_joined whole k left walk i c.requires.contraction c.requires.left c.requires.walk inside))
+    (subst (λ n. AreJoined (arcs_of_network k.tree.rows) n
+    (start (arcs_of_network whole) (original_row left (row_after walk i)))) (sym from)
+    (gap_joined whole k left walk i c.requires.contraction c.requires.left c.requires.walk inside))
 
 pub loop-i-preserved : goal.loop-i-preserved
 loop-i-preserved c =
@@ -81,13 +101,22 @@ loop-i-preserved c =
     let made = c.loop-i.made.items in
     let way = c.in_ok-way.way.items in
     let passed : c.original_row-passed.result ≡ original_row left (passed_at walk i) = c.original_row-passed.ensures in
-    let from : c.finish_of-from.result ≡ finish W (original_row left (passed_at walk i)) = c.finish_of-from.ensures ∙ ap (finish W) passed in
-    let to : c.start_of-to.result ≡ start W (original_row left (row_after walk i)) = c.start_of-to.ensures ∙ ap (start W) (c.original_row-next.ensures ∙ ap (original_row left) c.row_after.ensures) in
-    let own = contracted_way_of whole k.tree.rows k.contracted.items c.finish_of-from.result c.start_of-to.result way c.requires.contraction.tree c.in_ok-way.ensures.rows c.in_ok-way.ensures.leads c.in_ok-way.ensures.simple c.in_ok-way.ensures.end_once in
-    let between = subst (λ n. IsContractedWay whole k.contracted.items (finish W (original_row left (passed_at walk i))) n way) to (subst (λ n. IsContractedWay whole k.contracted.items n c.start_of-to.result way) from own) in
-    let more = lifted_more whole k left walk i made way c.requires.contraction c.requires.left c.requires.walk inside between c.loop-i.invariant in
+    let from : c.finish_of-from.result ≡ finish W (original_row left (passed_at walk i)) = c.finish_of-from.ensures
+    ∙ ap (finish W) passed in
+    let to : c.start_of-to.result ≡ start W (original_row left (row_after walk i)) = c.start_of-to.ensures
+    ∙ ap (start W) (c.original_row-next.ensures ∙ ap (original_row left) c.row_after.ensures) in
+    let own = contracted_way_of whole k.tree.rows k.contracted.items c.finish_of-from.result c.start_of-to.result
+    way c.requires.contraction.tree c.in_ok-way.ensures.rows c.in_ok-way.ensures.leads
+    c.in_ok-way.ensures.simple c.in_ok-way.ensures.end_once in
+    let between = subst (λ n. IsContractedWay whole k.contracted.items
+    (finish W (original_row left (passed_at walk i))) n way) to
+    (subst (λ n. IsContractedWay whole k.contracted.items n c.start_of-to.result way) from own) in
+    let more = lifted_more whole k left walk i made way c.requires.contraction c.requires.left c.requires.walk
+    inside between c.loop-i.invariant in
     let all : c.extend_from_slice.new.self.items ≡ (made ++ original_row left (passed_at walk i) ∷ []) ++ way =
-    c.in_ok-extend_from_slice.ensures.items ∙ ap (λ xs. xs ++ c.as_slice.result.now) (c.in_ok-push.ensures.items ∙ ap (λ s. made ++ s ∷ []) passed) ∙ ap (λ xs. (made ++ original_row left (passed_at walk i) ∷ []) ++ xs) c.as_slice.ensures.value in
+    c.in_ok-extend_from_slice.ensures.items ∙ ap (λ xs. xs ++ c.as_slice.result.now)
+    (c.in_ok-push.ensures.items ∙ ap (λ s. made ++ s ∷ []) passed)
+    ∙ ap (λ xs. (made ++ original_row left (passed_at walk i) ∷ []) ++ xs) c.as_slice.ensures.value in
     subst (λ xs. IsLiftedUpTo whole k left walk (i + 1) xs) (sym all) more
 
 pub returns : goal.returns

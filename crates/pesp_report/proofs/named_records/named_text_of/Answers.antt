@@ -17,4 +17,5 @@ returns-in-Ok c =
     let lines = c.in_ok-write_named_lines.ensures _ head in
     let total = c.in_ok-write_named_total.ensures _ lines in
     let whole = keeps-known _ _ _ _ total.text refl c.in-Ok.ensures.ok in
-    whole ∙ sym (records-whole named_header (named_total c.args.slacks c.args.cost) (map (named_fields (name_of c.args.names.now)) c.args.lines.now))
+    whole ∙ sym (records-whole named_header (named_total c.args.slacks c.args.cost)
+    (map (named_fields (name_of c.args.names.now)) c.args.lines.now))

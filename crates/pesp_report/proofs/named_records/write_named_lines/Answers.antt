@@ -18,7 +18,8 @@ loop-line-preserved c = λ before h.
     let so_far : List ℕ = records_text (map (named_fields (name_of c.args.names.now)) (take i c.args.lines.now)) in
     let next : List ℕ = row_text default_writer ((named_fields (name_of c.args.names.now)) (get_or c.args.lines.now i no_line)) in
     let more = c.in_ok-write_named_line.ensures (before ++ so_far) (c.loop-line.invariant before h) in
-    rw (records-more (named_fields (name_of c.args.names.now)) c.args.lines.now i no_line there) (rw (append_assoc before so_far next) at more)
+    rw (records-more (named_fields (name_of c.args.names.now)) c.args.lines.now i no_line there)
+    (rw (append_assoc before so_far next) at more)
 
 pub returns : goal.returns
 returns c = λ before h.

@@ -4,4 +4,5 @@ use Rattle.pesp_report.specs.Written.{HasWritten}
 use Rattle.pesp_report.proofs.records.write_lines.Given as goal
 
 abbrev pub invariant-loop-line : goal.invariant-loop-line
-invariant-loop-line l = (before : List ℕ) → HasWritten l.fn.writer before → HasWritten l.writer (before ++ records_text (map line_fields (take l.line-index l.lines)))
+invariant-loop-line l = (before : List ℕ) → HasWritten l.fn.writer before
+    → HasWritten l.writer (before ++ records_text (map line_fields (take l.line-index l.lines)))

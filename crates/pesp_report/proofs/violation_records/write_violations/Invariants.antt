@@ -5,4 +5,5 @@ use Rattle.pesp_report.specs.Written.{HasWritten}
 use Rattle.pesp_report.proofs.violation_records.write_violations.Given as goal
 
 abbrev pub invariant-loop-violation : goal.invariant-loop-violation
-invariant-loop-violation l = (before : List ℕ) → HasWritten l.fn.writer before → HasWritten l.writer (before ++ records_text (map violation_fields (take l.violation-index l.violations)))
+invariant-loop-violation l = (before : List ℕ) → HasWritten l.fn.writer before
+    → HasWritten l.writer (before ++ records_text (map violation_fields (take l.violation-index l.violations)))

@@ -12,7 +12,8 @@ returns-in_err-count-clause-cause g c =
       inr (
         c.in_ok-times.times.items,
         c.in_ok-times.ensures.ok,
-        violations_cause _ c.in_ok-instance.instance _ _ _ _ _ c.deref.ensures.value c.in_ok-times.ensures.times out.refused out.fault out.front,
+        violations_cause _ c.in_ok-instance.instance _ _ _ _ _ c.deref.ensures.value c.in_ok-times.ensures.times
+            out.refused out.fault out.front,
       ),
     ))
 

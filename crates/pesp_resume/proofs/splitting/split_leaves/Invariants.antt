@@ -9,6 +9,7 @@ invariant-loop-look g l = record {
   known : IsKnown l.search.board.problem l.search.known;
   watch : g.W.Watcher.may_end l.watcher → g.W.Watcher.may_end l.fn.watcher;
   same : l.search.known ≡ l.fn.search.known;
-  looks : AreLooks l.fn.search.board.problem l.search.board.problem l.fn.search.known.reduced l._look l.fn.search.board.state l.search.board.state;
+  looks : AreLooks l.fn.search.board.problem l.search.board.problem l.fn.search.known.reduced l._look
+      l.fn.search.board.state l.search.board.state;
   split : IsSplitTo l.fn.search.board.problem l.search.board.problem l.steps l.used l.fn.search.board.state l.search.board.state;
 }

@@ -5,7 +5,11 @@ use Rattle.pesp_resume_run.proofs.resume_run.write_resumed.Goals as goal
 pub returns-in_err-print-clause-cause : goal.returns-in_err-print-clause-cause
 returns-in_err-print-clause-cause g c =
     let out = c.in_err-print.ensures in
-    told_as _ _ _ c.from_residual-in_err-print.ensures.1 (out.fault, writes c.in_ok-resumed.resumed.steps_used c.in_ok-resumed.resumed.ending c.in_ok-resumed.ensures out.has_text out.text)
+    told_as _ _ _ c.from_residual-in_err-print.ensures.1 (
+      out.fault,
+      writes c.in_ok-resumed.resumed.steps_used c.in_ok-resumed.resumed.ending
+          c.in_ok-resumed.ensures out.has_text out.text,
+    )
 
 pub returns-clause-ok : goal.returns-clause-ok
 returns-clause-ok g c =

@@ -7,10 +7,17 @@ use Rattle.pesp_search.proofs.preparing.problem_for.Goals as goal
 
 pub returns-clause-searched : goal.returns-clause-searched
 returns-clause-searched c =
-    let lifted = subst (λ (walks : List (List SignedRow)). IfOk c.problem_of.result (λ p. AreLifted c.args.reduced.now walks p.table)) c.deref.ensures.value c.problem_of.ensures.lifted in
-    searched_there c.args.instance.now c.args.reduced.now c.in_ok-walks.walks.items c.problem_of.result c.rows-limits.ensures.limits c.requires.original c.requires.reduced c.in_ok-walks.ensures.fundamental c.problem_of.ensures.of lifted
+    let lifted = subst (λ (walks : List (List SignedRow)).
+    IfOk c.problem_of.result (λ p. AreLifted c.args.reduced.now walks p.table)) c.deref.ensures.value
+    c.problem_of.ensures.lifted in
+    searched_there c.args.instance.now c.args.reduced.now c.in_ok-walks.walks.items c.problem_of.result
+    c.rows-limits.ensures.limits c.requires.original c.requires.reduced c.in_ok-walks.ensures.fundamental
+    c.problem_of.ensures.of lifted
 
 pub returns-clause-few : goal.returns-clause-few
 returns-clause-few c =
-    let lifted = subst (λ (walks : List (List SignedRow)). IfOk c.problem_of.result (λ p. AreLifted c.args.reduced.now walks p.table)) c.deref.ensures.value c.problem_of.ensures.lifted in
-    few_there c.args.instance.now c.args.reduced.now c.in_ok-walks.walks.items c.problem_of.result c.requires.original c.requires.reduced c.in_ok-walks.ensures.fundamental lifted
+    let lifted = subst (λ (walks : List (List SignedRow)).
+    IfOk c.problem_of.result (λ p. AreLifted c.args.reduced.now walks p.table)) c.deref.ensures.value
+    c.problem_of.ensures.lifted in
+    few_there c.args.instance.now c.args.reduced.now c.in_ok-walks.walks.items c.problem_of.result
+    c.requires.original c.requires.reduced c.in_ok-walks.ensures.fundamental lifted

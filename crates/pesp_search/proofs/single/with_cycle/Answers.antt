@@ -10,10 +10,14 @@ use Rattle.pesp_search.proofs.single.with_cycle.Goals as goal
 pub returns-clause-no_less : goal.returns-clause-no_less
 returns-clause-no_less c =
     let better = c.in_ok-better.better.value in
-    if_ok c.with_pair-2.result (λ (b : Valued). better ≤ℤ b.value) (λ (b : Valued). c.args.best.value ≤ℤ b.value) (λ b h. le_chain c.args.best.value better b.value c.in_ok-better.ensures.no_less h) c.with_pair-2.ensures.no_less
+    if_ok c.with_pair-2.result (λ (b : Valued). better ≤ℤ b.value) (λ (b : Valued). c.args.best.value ≤ℤ b.value)
+    (λ b h. le_chain c.args.best.value better b.value c.in_ok-better.ensures.no_less h)
+    c.with_pair-2.ensures.no_less
 
 pub returns-clause-plus : goal.returns-clause-plus
 returns-clause-plus c =
     let better = c.in_ok-better.better.value in
     let value = leaf_value (net_of c.args.problem.now) c.args.problem.now.table c.args.node.now (plus_pair c.args.cycle) true in
-    if_ok c.with_pair-2.result (λ (b : Valued). better ≤ℤ b.value) (λ (b : Valued). IfSome value (λ v. v ≤ℤ b.value)) (λ b h. up_to_trans value better b.value c.in_ok-better.ensures.pair h) c.with_pair-2.ensures.no_less
+    if_ok c.with_pair-2.result (λ (b : Valued). better ≤ℤ b.value)
+    (λ (b : Valued). IfSome value (λ v. v ≤ℤ b.value))
+    (λ b h. up_to_trans value better b.value c.in_ok-better.ensures.pair h) c.with_pair-2.ensures.no_less

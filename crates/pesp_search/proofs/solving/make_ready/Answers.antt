@@ -12,4 +12,6 @@ returns-clause-ready g c =
     let root = c.in_ok-look_at_root.ensures in
     let given = c.in_ok-offer_given.ensures in
     let others = c.in_ok-offer_times.ensures in
-    ready p c.look_at_root.new.board.problem c.offer_given.new.board.problem c.look_at_root.new.board.state c.offer_given.new.board.state c.offer_times.new.board.state c.args.times.now root.problem given.problem limits small root.worked root.least given.offered others.offers others.tree (others.worked 0)
+    ready p c.look_at_root.new.board.problem c.offer_given.new.board.problem c.look_at_root.new.board.state
+    c.offer_given.new.board.state c.offer_times.new.board.state c.args.times.now root.problem given.problem
+    limits small root.worked root.least given.offered others.offers others.tree (others.worked 0)

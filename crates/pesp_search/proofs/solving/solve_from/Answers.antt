@@ -18,7 +18,9 @@ returns-clause-refused g c = c.solve_on.ensures.refused
 
 pub returns-in_err-search-clause-refused : goal.returns-in_err-search-clause-refused
 returns-in_err-search-clause-refused g c =
-    let refused : IsSearchRefusal c.args.instance.now c.args.steps c.in_err-search.field-0.0 = refused_at_once c.args.instance.now c.args.steps c.in_err-search.field-0.0 c.in_err-search.ensures.refused in
+    let refused : IsSearchRefusal c.args.instance.now c.args.steps c.in_err-search.field-0.0 =
+    refused_at_once c.args.instance.now c.args.steps c.in_err-search.field-0.0
+    c.in_err-search.ensures.refused in
     search rules
 
 pub returns-clause-passed : goal.returns-clause-passed
@@ -26,5 +28,6 @@ returns-clause-passed g c = c.solve_on.ensures.passed
 
 pub returns-in_err-search-clause-passed : goal.returns-in_err-search-clause-passed
 returns-in_err-search-clause-passed g c =
-    let passed : MeetsLimit c.args.instance.now c.args.steps c.in_err-search.field-0.0 = meets_at_once c.args.instance.now c.args.steps c.in_err-search.field-0.0 c.in_err-search.ensures.passed in
+    let passed : MeetsLimit c.args.instance.now c.args.steps c.in_err-search.field-0.0 =
+    meets_at_once c.args.instance.now c.args.steps c.in_err-search.field-0.0 c.in_err-search.ensures.passed in
     search rules

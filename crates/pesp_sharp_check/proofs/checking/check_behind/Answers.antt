@@ -5,7 +5,9 @@ use Rattle.pesp_sharp_check.proofs.Fronts.{exactly_with, exactly_without}
 use Rattle.pesp_sharp_check.proofs.checking.check_behind.Goals as goal
 
 pub returns-in-Some-clause-exactly : goal.returns-in-Some-clause-exactly
-returns-in-Some-clause-exactly c = IfOk-weaker c.check_marks.result _ _ (λ (verdict : Verdict) h. exactly_with c.args.instance.now c.args.front.now c.args.certificate.now _ verdict c.in-Some.is h) c.check_marks.ensures.verdict
+returns-in-Some-clause-exactly c = IfOk-weaker c.check_marks.result _ _
+    (λ (verdict : Verdict) h. exactly_with c.args.instance.now c.args.front.now c.args.certificate.now _ verdict
+    c.in-Some.is h) c.check_marks.ensures.verdict
 
 pub returns-in-Some-clause-truth : goal.returns-in-Some-clause-truth
 returns-in-Some-clause-truth c e =
@@ -13,4 +15,6 @@ returns-in-Some-clause-truth c e =
     c.valid_with_is_true.ensures c.args.instance.now _ (omega (arith, c.check_marks.ensures.limits.some_period)) valid
 
 pub returns-in-None-clause-exactly : goal.returns-in-None-clause-exactly
-returns-in-None-clause-exactly c = IfOk-weaker c.check.result _ _ (λ (verdict : Verdict) h. exactly_without c.args.instance.now c.args.front.now c.args.certificate.now verdict c.in-None.is h) c.check.ensures.exactly
+returns-in-None-clause-exactly c = IfOk-weaker c.check.result _ _
+    (λ (verdict : Verdict) h. exactly_without c.args.instance.now c.args.front.now c.args.certificate.now verdict
+    c.in-None.is h) c.check.ensures.exactly

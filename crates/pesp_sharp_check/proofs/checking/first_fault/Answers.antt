@@ -18,7 +18,8 @@ returns-clause-found c =
     let period = sym c.period.ensures.value ∙ c.if-period.false ∙ c.period-2.ensures.period in
     let judged = rw (c.answer.ensures.value, c.times-times.ensures.value) at c.in_ok-found.ensures in
     let answer = match_none c.in_ok-found.found _ _ (sym c.is_some.ensures ∙ c.if-is_some.false) judged in
-    let fault = rw (c.in-Err.is, c.cycles.ensures.value, c.times-times.ensures.value, c.walks.ensures.value) at c.in_ok-table.ensures.verdict in
+    let fault = rw (c.in-Err.is, c.cycles.ensures.value, c.times-times.ensures.value, c.walks.ensures.value) at
+    c.in_ok-table.ensures.verdict in
     inr (period, inr (inl (answer, fault)))
 
 pub returns-in-Ok-clause-found : goal.returns-in-Ok-clause-found
@@ -28,6 +29,13 @@ returns-in-Ok-clause-found c =
     let answer = match_none c.in_ok-found.found _ _ (sym c.is_some.ensures ∙ c.if-is_some.false) judged in
     let cycles = (rw (c.in-Ok.is, c.cycles.ensures.value) at c.in_ok-table.ensures.verdict).0 in
     IfOk-weaker c.marks_fault.result _ _ (λ (found : Option Refusal) h.
-    match_map found _ (IsValidWith c.args.instance.now (record { marks = c.args.marks.now; content = c.args.certificate.now })) _ (λ refusal. IsFirstFaultWith c.args.instance.now c.args.marks.now c.args.certificate.now refusal)
-    (λ sound. valid_is c.args.instance.now c.args.marks.now c.args.certificate.now c.walks.ensures.limits period answer cycles sound.0 sound.1)
-    (λ refusal f. inr (period, inner_fault c.args.instance.now c.args.marks.now c.args.certificate.now refusal c.times-times.ensures.limits.whole answer cycles f)) h) c.marks_fault.ensures
+    match_map found _ (IsValidWith c.args.instance.now
+    (record { marks = c.args.marks.now; content = c.args.certificate.now })) _
+    (λ refusal. IsFirstFaultWith c.args.instance.now c.args.marks.now c.args.certificate.now refusal)
+    (λ sound. valid_is c.args.instance.now c.args.marks.now c.args.certificate.now c.walks.ensures.limits period
+    answer cycles sound.0 sound.1)
+    (λ refusal f. inr (
+      period,
+      inner_fault c.args.instance.now c.args.marks.now c.args.certificate.now refusal
+          c.times-times.ensures.limits.whole answer cycles f,
+    )) h) c.marks_fault.ensures

@@ -13,7 +13,8 @@ use Rattle.pesp_sharp_check.proofs.checking.tree_fault.Goals as goal
 pub new-checker-requires-clause-exist : goal.new-checker-requires-clause-exist
 new-checker-requires-clause-exist c =
     let P : List Arc → Type 0 = λ arcs. All (λ walk. All (λ s. RowExists arcs s.signed) walk) c.args.marks.now.walks in
-    subst P (sym (c.deref.ensures.value ∙ c.in_ok-arcs.ensures)) (rows_exist (arcs_of c.args.instance.now) c.args.marks.now.walks c.requires.closed)
+    subst P (sym (c.deref.ensures.value ∙ c.in_ok-arcs.ensures))
+    (rows_exist (arcs_of c.args.instance.now) c.args.marks.now.walks c.requires.closed)
 
 pub judge_tree-requires-clause-lines : goal.judge_tree-requires-clause-lines
 judge_tree-requires-clause-lines c =
@@ -25,4 +26,14 @@ returns c =
     let instance = c.new-checker.ensures.instance ∙ c.new-plain.ensures.instance in
     let table = c.new-checker.ensures.table ∙ c.new-plain.ensures.table in
     let least = c.new-checker.ensures.least ∙ c.new-plain.ensures.least ∙ c.least_of.ensures ∙ ap least_of c.answer.ensures.value in
-    (rw (instance, table, least, c.new-checker.ensures.marks, c.tree-lines.ensures.value, c.walks.ensures.value, c.times.ensures.value, c.cycles.ensures.value) at (c.in_ok-judge_tree.ensures c.args.certificate.now.cycles)) c.requires.nets
+    (rw (
+      instance,
+      table,
+      least,
+      c.new-checker.ensures.marks,
+      c.tree-lines.ensures.value,
+      c.walks.ensures.value,
+      c.times.ensures.value,
+      c.cycles.ensures.value,
+    ) at
+    (c.in_ok-judge_tree.ensures c.args.certificate.now.cycles)) c.requires.nets

@@ -22,7 +22,11 @@ returns-clause-sum c i flipped l =
     let above : cycles < c.args.pair.cycle = omega (arith, c.if-number-cycles.false) in
     let inside : c.args.pair.cycle - cycles - 1 < length walks = omega (arith, c.requires.named.0, above) in
     let read = rw c.walks.ensures.value at c.index-walks-number.is in
-    let rows : c.rows.result.now ≡ walk_at walks (c.args.pair.cycle - cycles - 1) = c.rows.ensures ∙ read ∙ get_or_default walks (c.args.pair.cycle - cycles - 1) c.index-walks-number.result [] inside in
+    let rows : c.rows.result.now ≡ walk_at walks (c.args.pair.cycle - cycles - 1) = c.rows.ensures ∙ read
+    ∙ get_or_default walks (c.args.pair.cycle - cycles - 1) c.index-walks-number.result [] inside in
     let fits : FitsSigned w64 c.args.pair.mult = omega (arith, ints, c.requires.mult) in
     let added = rw (to_z-of_z w64 c.args.pair.mult fits) at (c.add_walk.ensures.sum i flipped l) in
-    added ∙ ap (λ z. entry flipped (rates_at c.args.rates.now i) +ℤ z) (walk_added c.args.checker.now.plain.instance.now c.args.slacks.now cycles walks c.args.pair c.rows.result.now c.period-period.result c.args.checker.now.arcs.now flipped i above (c.requires.named.1 above) rows c.period-period.ensures.period c.args.checker.now.same)
+    added ∙ ap (λ z. entry flipped (rates_at c.args.rates.now i) +ℤ z)
+    (walk_added c.args.checker.now.plain.instance.now c.args.slacks.now cycles walks c.args.pair
+    c.rows.result.now c.period-period.result c.args.checker.now.arcs.now flipped i above
+    (c.requires.named.1 above) rows c.period-period.ensures.period c.args.checker.now.same)

@@ -13,8 +13,14 @@ loop-pair-preserved g c =
     let cycles = length c.args.checker.now.plain.table.now in
     let walks = c.args.checker.now.marks.now.walks in
     let pair = c.in-Some.pair in
-    let before = gains_small n c.args.slacks.now cycles walks (elements c.args.pairs) (elements c.loop-pair.left) (elements c.take_next.new.self) pair (to_z w128 c.loop-pair.gains-bits) c.loop-pair.rates c.in-Some.ensures c.loop-pair.invariant in
+    let before = gains_small n c.args.slacks.now cycles walks (elements c.args.pairs) (elements c.loop-pair.left)
+    (elements c.take_next.new.self) pair (to_z w128 c.loop-pair.gains-bits) c.loop-pair.rates c.in-Some.ensures
+    c.loop-pair.invariant in
     let size = c.add_pair.ensures.gain_size in
     let plus = c.plus-gains.ensures.value in
-    let e : to_z w128 (of_z w128 c.plus-gains.result) ≡ to_z w128 c.loop-pair.gains-bits +ℤ c.add_pair.result = omega (arith, ints, before, size, plus) in
-    summed_more n c.args.slacks.now cycles walks (elements c.args.pairs) (elements c.loop-pair.left) (elements c.take_next.new.self) pair (to_z w128 c.loop-pair.gains-bits) c.loop-pair.rates c.in-Some.ensures c.loop-pair.invariant _ c.add_pair.result c.add_pair.new.rates c.add_pair.auto.rates e c.add_pair.ensures.gain size c.add_pair.ensures.sum c.add_pair.ensures.size
+    let e : to_z w128 (of_z w128 c.plus-gains.result)
+    ≡ to_z w128 c.loop-pair.gains-bits +ℤ c.add_pair.result = omega (arith, ints, before, size, plus) in
+    summed_more n c.args.slacks.now cycles walks (elements c.args.pairs) (elements c.loop-pair.left)
+    (elements c.take_next.new.self) pair (to_z w128 c.loop-pair.gains-bits) c.loop-pair.rates c.in-Some.ensures
+    c.loop-pair.invariant _ c.add_pair.result c.add_pair.new.rates c.add_pair.auto.rates e
+    c.add_pair.ensures.gain size c.add_pair.ensures.sum c.add_pair.ensures.size

@@ -4,7 +4,9 @@ use Rattle.pesp_sharp_check.proofs.Summing.{AreSummed}
 use Rattle.pesp_sharp_check.proofs.gains.add_walks.Given as goal
 
 abbrev pub invariant-loop-pair : goal.invariant-loop-pair
-invariant-loop-pair g l = AreSummed (net_of l.checker.plain.instance.now) l.slacks (length l.checker.plain.table.now) l.checker.marks.now.walks (g.P.Elements.elements l.fn.pairs) (g.P.Elements.elements l.left) l.gains l.rates
+invariant-loop-pair g l = AreSummed (net_of l.checker.plain.instance.now) l.slacks
+    (length l.checker.plain.table.now) l.checker.marks.now.walks (g.P.Elements.elements l.fn.pairs)
+    (g.P.Elements.elements l.left) l.gains l.rates
 
 abbrev pub decreases-loop-pair : goal.decreases-loop-pair
 decreases-loop-pair g l = length (g.P.Elements.elements l.left)

@@ -11,4 +11,6 @@ pub returns-then-not-names_walk-clause-verdict : goal.returns-then-not-names_wal
 returns-then-not-names_walk-clause-verdict g c walks nets =
     let leaf = leaf_said g.P.Elements.elements c.args.leaf in
     let P : ℕ → Type 0 = λ k. uses_walks k (pairs_of_leaf leaf) ≡ false in
-    leaf_verdict (net_of c.args.checker.now.plain.instance.now) walks c.args.checker.now.marks.now c.args.checker.now.plain.least leaf (node_of c.args.ranges.now) c.args.line c.judge_leaf.result (subst P nets.long (sym c.if-not-names_walk.ensures)) (c.judge_leaf.ensures.verdict walks nets)
+    leaf_verdict (net_of c.args.checker.now.plain.instance.now) walks c.args.checker.now.marks.now
+    c.args.checker.now.plain.least leaf (node_of c.args.ranges.now) c.args.line c.judge_leaf.result
+    (subst P nets.long (sym c.if-not-names_walk.ensures)) (c.judge_leaf.ensures.verdict walks nets)

@@ -25,16 +25,33 @@ loop-place-preserved c =
       problem = c.in_ok-found.ensures.problem;
       cycles = c.in_ok-found.ensures.cycles;
       zeros = c.in_ok-found.ensures.zeros;
-      whole = whole_more c.args.lines.now c.loop-place.place c.index-lines-place.result c.loop-place-test.true c.index-lines-place.is c.loop-place.walk.nodes c.take_line.new.walk.nodes nodes c.loop-place.invariant.whole;
+      whole = whole_more c.args.lines.now c.loop-place.place c.index-lines-place.result c.loop-place-test.true
+          c.index-lines-place.is c.loop-place.walk.nodes c.take_line.new.walk.nodes nodes
+          c.loop-place.invariant.whole;
       judged = λ walks nets.
-          let V : Line → Type 0 = λ l. IsLineVerdictWith (net_of c.args.checker.now.plain.instance.now) walks c.args.checker.now.marks.now c.args.checker.now.plain.least l c.loop-place.walk.nodes c.take_line.new.walk.nodes (c.args.first + c.loop-place.place) c.in_ok-found.found in
-          let sound = match_none c.in_ok-found.found _ _ none (subst V c.said_by-said.ensures.line (c.in_ok-found.ensures.verdict walks nets)) in
-          judged_more c.args.lines.now c.loop-place.place c.index-lines-place.result c.loop-place-test.true c.index-lines-place.is (net_of c.args.checker.now.plain.instance.now) walks c.args.checker.now.marks.now c.args.checker.now.plain.least (root (net_of c.args.checker.now.plain.instance.now) walks) c.args.first c.loop-place.walk.nodes (c.loop-place.invariant.judged walks nets) c.take_line.new.walk.nodes sound.0 nodes;
+          let V : Line → Type 0 = λ l. IsLineVerdictWith
+          (net_of c.args.checker.now.plain.instance.now) walks c.args.checker.now.marks.now
+          c.args.checker.now.plain.least l c.loop-place.walk.nodes c.take_line.new.walk.nodes
+          (c.args.first + c.loop-place.place) c.in_ok-found.found in
+          let sound = match_none c.in_ok-found.found _ _ none
+          (subst V c.said_by-said.ensures.line (c.in_ok-found.ensures.verdict walks nets)) in
+          judged_more c.args.lines.now c.loop-place.place c.index-lines-place.result c.loop-place-test.true
+          c.index-lines-place.is (net_of c.args.checker.now.plain.instance.now) walks
+          c.args.checker.now.marks.now c.args.checker.now.plain.least
+          (root (net_of c.args.checker.now.plain.instance.now) walks) c.args.first c.loop-place.walk.nodes
+          (c.loop-place.invariant.judged walks nets) c.take_line.new.walk.nodes sound.0 nodes;
     }
 
 pub returns-then-is_some : goal.returns-then-is_some
 returns-then-is_some c walks nets =
-    let V : Line → Type 0 = λ l. IsLineVerdictWith (net_of c.args.checker.now.plain.instance.now) walks c.args.checker.now.marks.now c.args.checker.now.plain.least l c.loop-place.walk.nodes c.take_line.new.walk.nodes (c.args.first + c.loop-place.place) c.in_ok-found.found in
+    let V : Line → Type 0 = λ l. IsLineVerdictWith
+    (net_of c.args.checker.now.plain.instance.now) walks c.args.checker.now.marks.now
+    c.args.checker.now.plain.least l c.loop-place.walk.nodes c.take_line.new.walk.nodes
+    (c.args.first + c.loop-place.place) c.in_ok-found.found in
     match_some c.in_ok-found.found _ _ _ _ (sym c.is_some.ensures ∙ c.if-is_some.true)
-    (λ refusal f. fault_here c.args.lines.now c.loop-place.place c.index-lines-place.result c.loop-place-test.true c.index-lines-place.is (net_of c.args.checker.now.plain.instance.now) walks c.args.checker.now.marks.now c.args.checker.now.plain.least (root (net_of c.args.checker.now.plain.instance.now) walks) c.args.first c.loop-place.walk.nodes (c.loop-place.invariant.judged walks nets) (c.args.first + c.loop-place.place) refusal refl f)
+    (λ refusal f. fault_here c.args.lines.now c.loop-place.place c.index-lines-place.result c.loop-place-test.true
+    c.index-lines-place.is (net_of c.args.checker.now.plain.instance.now) walks c.args.checker.now.marks.now
+    c.args.checker.now.plain.least (root (net_of c.args.checker.now.plain.instance.now) walks) c.args.first
+    c.loop-place.walk.nodes (c.loop-place.invariant.judged walks nets)
+    (c.args.first + c.loop-place.place) refusal refl f)
     (subst V c.said_by-said.ensures.line (c.in_ok-found.ensures.verdict walks nets))

@@ -15,5 +15,6 @@ invariant-loop-place l = record {
   zeros : AreZeros l.flows;
   whole : are_trees (length l.walk.nodes) (map line_of (drop l.place l.lines)) ≡ true;
   judged : (walks : List (List SignedRow)) → AreNets (length l.checker.plain.instance.now.rows) walks l.checker.plain.table.now
-      → AreJudgedWith (net_of l.checker.plain.instance.now) walks l.checker.marks.now l.checker.plain.least l.lines (root (net_of l.checker.plain.instance.now) walks) l.fn.first l.walk.nodes l.place;
+      → AreJudgedWith (net_of l.checker.plain.instance.now) walks l.checker.marks.now l.checker.plain.least l.lines
+      (root (net_of l.checker.plain.instance.now) walks) l.fn.first l.walk.nodes l.place;
 }

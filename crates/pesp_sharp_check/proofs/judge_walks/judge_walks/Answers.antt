@@ -8,7 +8,8 @@ returns-in-Err-clause-verdict c =
     let fault = rw (c.in-Err.is, c.rows.ensures) at c.in_ok-_nets.ensures.verdict in
     let is = rw c.walks-walks.ensures.value at c.index-walks-place.is in
     let within = rw c.walks-walks.ensures.value at c.loop-place-test.true in
-    mark_fault (arcs_of c.args.instance.now) c.args.marks.now.walks c.loop-place.place c.index-walks-place.result within is c.args.cycles _ _ c.in-Err.refusal c.loop-place.invariant.closed (omega arith) (omega arith) fault
+    mark_fault (arcs_of c.args.instance.now) c.args.marks.now.walks c.loop-place.place c.index-walks-place.result
+    within is c.args.cycles _ _ c.in-Err.refusal c.loop-place.invariant.closed (omega arith) (omega arith) fault
 
 pub loop-place-preserved : goal.loop-place-preserved
 loop-place-preserved c =
@@ -16,7 +17,8 @@ loop-place-preserved c =
     let is = rw c.walks-walks.ensures.value at c.index-walks-place.is in
     let within = rw c.walks-walks.ensures.value at c.loop-place-test.true in
     record {
-      closed = closed_more (arcs_of c.args.instance.now) c.args.marks.now.walks c.loop-place.place c.index-walks-place.result within is c.loop-place.invariant.closed verdict.0;
+      closed = closed_more (arcs_of c.args.instance.now) c.args.marks.now.walks c.loop-place.place
+          c.index-walks-place.result within is c.loop-place.invariant.closed verdict.0;
       zeros = c.in_ok-_nets.ensures.zeros;
     }
 

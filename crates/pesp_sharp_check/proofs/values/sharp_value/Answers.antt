@@ -13,10 +13,14 @@ use Rattle.pesp_sharp_check.proofs.Worth.{whole_value}
 use Rattle.pesp_sharp_check.proofs.values.sharp_value.Goals as goal
 
 pub offset_sum-requires-clause-pairs : goal.offset_sum-requires-clause-pairs
-offset_sum-requires-clause-pairs g c = are_pairs (length c.args.checker.now.plain.table.now) (length c.args.checker.now.marks.now.walks) (g.P.Elements.elements c.args.pairs) c.requires.named c.requires.limits
+offset_sum-requires-clause-pairs g c = are_pairs (length c.args.checker.now.plain.table.now)
+    (length c.args.checker.now.marks.now.walks) (g.P.Elements.elements c.args.pairs) c.requires.named
+    c.requires.limits
 
 pub add_flows-requires-clause-pairs : goal.add_flows-requires-clause-pairs
-add_flows-requires-clause-pairs g c = are_pairs (length c.args.checker.now.plain.table.now) (length c.args.checker.now.marks.now.walks) (g.P.Elements.elements c.args.pairs) c.requires.named c.requires.limits
+add_flows-requires-clause-pairs g c = are_pairs (length c.args.checker.now.plain.table.now)
+    (length c.args.checker.now.marks.now.walks) (g.P.Elements.elements c.args.pairs) c.requires.named
+    c.requires.limits
 
 pub rows_sum-rows-requires-clause-arcs : goal.rows_sum-rows-requires-clause-arcs
 rows_sum-rows-requires-clause-arcs g c =
@@ -32,9 +36,16 @@ returns-clause-value g c walks nets =
     let r = c.rows_sum-rows.ensures.size in
     let s = c.plus.ensures.value in
     let t = c.plus-2.ensures.value in
-    let e : to_z w128 (of_z w128 c.plus-2.result) ≡ c.in_ok-offsets.offsets +ℤ c.add_walks-gains.result +ℤ c.rows_sum-rows.result = omega (arith, ints, o, a, r, s, t) in
+    let e : to_z w128 (of_z w128 c.plus-2.result)
+    ≡ c.in_ok-offsets.offsets +ℤ c.add_walks-gains.result +ℤ c.rows_sum-rows.result =
+    omega (arith, ints, o, a, r, s, t) in
     let gains = rw c.deref.ensures.value at c.add_walks-gains.ensures.gains in
     let rates = rw c.deref.ensures.value at c.add_walks-gains.ensures.rates in
     let rows = rw (c.args.checker.now.same, c.deref-2.ensures.value, c.scale-scale.ensures.value) at c.rows_sum-rows.ensures.value in
-    whole_value p walks (node_of c.args.ranges.now) c.args.checker.now.marks.now (g.P.Elements.elements c.args.pairs) c.args.weighted (length c.args.checker.now.plain.table.now) c.requires.uses nets.long c.add_flows.new.flows c.add_walks-gains.new.rates c.in_ok-offsets.offsets c.add_walks-gains.result c.rows_sum-rows.result _
-    (λ i l. c.add_flows.ensures.flows walks nets' i (omega (arith, l, arcs_long p, c.requires.long))) (λ i flipped l. rates i flipped (omega (arith, l, arcs_long p, c.requires.wide, c.clear.ensures.long))) (c.in_ok-offsets.ensures.value walks nets) gains rows e
+    whole_value p walks (node_of c.args.ranges.now) c.args.checker.now.marks.now
+    (g.P.Elements.elements c.args.pairs) c.args.weighted
+    (length c.args.checker.now.plain.table.now) c.requires.uses nets.long c.add_flows.new.flows
+    c.add_walks-gains.new.rates c.in_ok-offsets.offsets c.add_walks-gains.result c.rows_sum-rows.result _
+    (λ i l. c.add_flows.ensures.flows walks nets' i (omega (arith, l, arcs_long p, c.requires.long)))
+    (λ i flipped l. rates i flipped (omega (arith, l, arcs_long p, c.requires.wide, c.clear.ensures.long)))
+    (c.in_ok-offsets.ensures.value walks nets) gains rows e

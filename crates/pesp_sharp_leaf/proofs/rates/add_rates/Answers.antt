@@ -18,8 +18,11 @@ more-next-requires-clause-plain c =
     let exists = c.requires.exist c.loop-s.s-index none c.loop-s-test.true in
     let at : s.signed.row - 1 < length c.loop-s.rates = omega (arith, exists, c.loop-s.auto.rates) in
     let first_at : s.signed.row - 1 < length c.args.rates.now = omega (arith, exists) in
-    let old : unsigned_abs (rates_at c.loop-s.rates (s.signed.row - 1)).plain ≤ unsigned_abs (rates_at c.args.rates.now (s.signed.row - 1)).plain + c.loop-s.s-index * 10 ^ 16 = c.loop-s.invariant.size (s.signed.row - 1) false at in
-    let first : unsigned_abs (rates_at c.args.rates.now (s.signed.row - 1)).plain ≤ 99999 * 10 ^ 23 = c.requires.small (s.signed.row - 1) false first_at in
+    let old : unsigned_abs (rates_at c.loop-s.rates (s.signed.row - 1)).plain
+    ≤ unsigned_abs (rates_at c.args.rates.now (s.signed.row - 1)).plain + c.loop-s.s-index * 10 ^ 16 =
+    c.loop-s.invariant.size (s.signed.row - 1) false at in
+    let first : unsigned_abs (rates_at c.args.rates.now (s.signed.row - 1)).plain
+    ≤ 99999 * 10 ^ 23 = c.requires.small (s.signed.row - 1) false first_at in
     let m : unsigned_abs (to_z w128 (of_z w128 c.from.result)) ≤ 1000000000000 = omega (arith, ints) in
     let r : unsigned_abs (to_z w128 (of_z w128 c.rate.result)) ≤ 10000 = omega (arith, ints) in
     let by = c.times-by.ensures.size 1000000000000 10000 m r in
@@ -33,8 +36,11 @@ more-next-requires-clause-flipped c =
     let exists = c.requires.exist c.loop-s.s-index none c.loop-s-test.true in
     let at : s.signed.row - 1 < length c.loop-s.rates = omega (arith, exists, c.loop-s.auto.rates) in
     let first_at : s.signed.row - 1 < length c.args.rates.now = omega (arith, exists) in
-    let old : unsigned_abs (rates_at c.loop-s.rates (s.signed.row - 1)).flipped ≤ unsigned_abs (rates_at c.args.rates.now (s.signed.row - 1)).flipped + c.loop-s.s-index * 10 ^ 16 = c.loop-s.invariant.size (s.signed.row - 1) true at in
-    let first : unsigned_abs (rates_at c.args.rates.now (s.signed.row - 1)).flipped ≤ 99999 * 10 ^ 23 = c.requires.small (s.signed.row - 1) true first_at in
+    let old : unsigned_abs (rates_at c.loop-s.rates (s.signed.row - 1)).flipped
+    ≤ unsigned_abs (rates_at c.args.rates.now (s.signed.row - 1)).flipped + c.loop-s.s-index * 10 ^ 16 =
+    c.loop-s.invariant.size (s.signed.row - 1) true at in
+    let first : unsigned_abs (rates_at c.args.rates.now (s.signed.row - 1)).flipped
+    ≤ 99999 * 10 ^ 23 = c.requires.small (s.signed.row - 1) true first_at in
     let m : unsigned_abs (to_z w128 (of_z w128 c.from.result)) ≤ 1000000000000 = omega (arith, ints) in
     let r : unsigned_abs (to_z w128 (of_z w128 c.rate.result)) ≤ 10000 = omega (arith, ints) in
     let by = c.times-by.ensures.size 1000000000000 10000 m r in
@@ -58,11 +64,18 @@ loop-s-preserved c =
     let product = c.times-by.ensures.value in
     let value = c.rate.ensures.value in
     let e : to_z w128 (of_z w128 c.times-by.result) ≡ to_z w64 (of_z w64 c.args.mult) *ℤ pos (rate c.args.period c.args.alpha s) = cc in
-    rated_more c.args.period c.args.alpha c.args.walk.now (to_z w64 (of_z w64 c.args.mult)) c.args.rates.now c.loop-s.rates c.loop-s.s-index (s.signed.row - 1) none (to_z w128 (of_z w128 c.times-by.result)) c.more-next.result c.loop-s-test.true is at e by_small c.more-next.ensures c.loop-s.invariant
+    rated_more c.args.period c.args.alpha c.args.walk.now
+    (to_z w64 (of_z w64 c.args.mult)) c.args.rates.now c.loop-s.rates c.loop-s.s-index (s.signed.row - 1) none
+    (to_z w128 (of_z w128 c.times-by.result)) c.more-next.result c.loop-s-test.true is at e by_small
+    c.more-next.ensures c.loop-s.invariant
 
 pub returns-clause-sum : goal.returns-clause-sum
 returns-clause-sum c i flipped l =
     let fits : FitsSigned w64 c.args.mult = omega (arith, ints, c.requires.mult) in
     let l' : i < length c.loop-s.rates = omega (arith, c.loop-s.auto.rates) in
-    let P : ℤ → Type 0 = λ z. entry flipped (rates_at c.loop-s.rates i) ≡ entry flipped (rates_at c.args.rates.now i) +ℤ z *ℤ along c.args.walk.now (passed c.args.period c.args.alpha i flipped) in
-    subst P (to_z-of_z w64 c.args.mult fits) (rated_all c.args.period c.args.alpha c.args.walk.now (to_z w64 (of_z w64 c.args.mult)) c.args.rates.now c.loop-s.rates c.loop-s.s-index i flipped c.loop-s-test.false l' c.loop-s.invariant)
+    let P : ℤ → Type 0 = λ z. entry flipped (rates_at c.loop-s.rates i)
+    ≡ entry flipped (rates_at c.args.rates.now i)
+    +ℤ z *ℤ along c.args.walk.now (passed c.args.period c.args.alpha i flipped) in
+    subst P (to_z-of_z w64 c.args.mult fits) (rated_all c.args.period c.args.alpha c.args.walk.now
+    (to_z w64 (of_z w64 c.args.mult)) c.args.rates.now c.loop-s.rates c.loop-s.s-index i flipped
+    c.loop-s-test.false l' c.loop-s.invariant)

@@ -9,6 +9,8 @@ use Rattle.pesp_sharp_leaf.proofs.rates.add_walk.Goals as goal
 pub returns-clause-sum : goal.returns-clause-sum
 returns-clause-sum c i flipped l =
     let fits : FitsSigned w64 c.args.mult = omega (arith, ints, c.requires.mult) in
-    let P : ℕ → Type 0 = λ a. entry flipped (rates_at c.add_rates.new.rates i) ≡ entry flipped (rates_at c.args.rates.now i) +ℤ c.args.mult *ℤ along c.args.walk.now (passed c.args.period a i flipped) in
+    let P : ℕ → Type 0 = λ a. entry flipped (rates_at c.add_rates.new.rates i)
+    ≡ entry flipped (rates_at c.args.rates.now i)
+    +ℤ c.args.mult *ℤ along c.args.walk.now (passed c.args.period a i flipped) in
     let added : P c.rest-alpha.result = rw (to_z-of_z w64 c.args.mult fits) at (c.add_rates.ensures.sum i flipped l) in
     subst P c.rest-alpha.ensures.value added

@@ -16,7 +16,8 @@ returns-clause-value c =
     let high_is = kept c.excess-high.result (2 * 10 ^ 32) c.excess-high.ensures.size (omega arith) in
     let least = c.min.ensures.value in
     let least_is : c.min.result ≡ int_min c.excess-low.result c.excess-high.result = cc in
-    let small = lesser_small c.min.result c.excess-low.result c.excess-high.result (2 * 10 ^ 32) least_is c.excess-low.ensures.size c.excess-high.ensures.size in
+    let small = lesser_small c.min.result c.excess-low.result c.excess-high.result
+    (2 * 10 ^ 32) least_is c.excess-low.ensures.size c.excess-high.ensures.size in
     let all = kept c.min.result (2 * 10 ^ 32) small (omega arith) in
     cc
 
@@ -26,6 +27,7 @@ returns-clause-size c =
     let high_is = kept c.excess-high.result (2 * 10 ^ 32) c.excess-high.ensures.size (omega arith) in
     let least = c.min.ensures.value in
     let least_is : c.min.result ≡ int_min c.excess-low.result c.excess-high.result = cc in
-    let small = lesser_small c.min.result c.excess-low.result c.excess-high.result (2 * 10 ^ 32) least_is c.excess-low.ensures.size c.excess-high.ensures.size in
+    let small = lesser_small c.min.result c.excess-low.result c.excess-high.result
+    (2 * 10 ^ 32) least_is c.excess-low.ensures.size c.excess-high.ensures.size in
     let all = ap unsigned_abs (kept c.min.result (2 * 10 ^ 32) small (omega arith)) in
     omega (arith, all, small)

@@ -27,12 +27,20 @@ loop-i-preserved c =
     let before = c.loop-i.invariant.size in
     let l : c.loop-i.i < length c.args.flows.now = omega (arith, c.loop-i-test.true, c.requires.flows) in
     let small = c.requires.small_flows c.loop-i.i l in
-    let flow : to_z w128 (of_z w128 (number_at c.args.flows.now c.loop-i.i)) ≡ number_at c.args.flows.now c.loop-i.i = omega (arith, ints, small) in
+    let flow : to_z w128 (of_z w128 (number_at c.args.flows.now c.loop-i.i))
+    ≡ number_at c.args.flows.now c.loop-i.i = omega (arith, ints, small) in
     let value = c.row_term-term.ensures.value in
-    let here : c.row_term-term.result ≡ row_term (arc_at c.args.arcs.now c.loop-i.i) (slack_range c.args.slacks.now c.loop-i.i) c.args.weighted c.args.scale (number_at c.args.flows.now c.loop-i.i) (rates_at c.args.rates.now c.loop-i.i) = cc in
+    let here : c.row_term-term.result ≡ row_term (arc_at c.args.arcs.now c.loop-i.i)
+    (slack_range c.args.slacks.now c.loop-i.i) c.args.weighted c.args.scale
+    (number_at c.args.flows.now c.loop-i.i) (rates_at c.args.rates.now c.loop-i.i) = cc in
     let plus = c.plus-sum.ensures.value in
-    let e : to_z w128 (of_z w128 c.plus-sum.result) ≡ to_z w128 c.loop-i.sum-bits +ℤ c.row_term-term.result = omega (arith, ints, before, size, plus, c.loop-i-test.true, c.requires.arcs.most) in
+    let e : to_z w128 (of_z w128 c.plus-sum.result)
+    ≡ to_z w128 c.loop-i.sum-bits +ℤ c.row_term-term.result =
+    omega (arith, ints, before, size, plus, c.loop-i-test.true, c.requires.arcs.most) in
     record {
-      is = sum_more (λ i. row_term (arc_at c.args.arcs.now i) (slack_range c.args.slacks.now i) c.args.weighted c.args.scale (number_at c.args.flows.now i) (rates_at c.args.rates.now i)) c.loop-i.i (to_z w128 c.loop-i.sum-bits) c.row_term-term.result _ c.loop-i.invariant.is here e;
+      is = sum_more (λ i. row_term (arc_at c.args.arcs.now i)
+          (slack_range c.args.slacks.now i) c.args.weighted c.args.scale (number_at c.args.flows.now i)
+          (rates_at c.args.rates.now i)) c.loop-i.i (to_z w128 c.loop-i.sum-bits) c.row_term-term.result _
+          c.loop-i.invariant.is here e;
       size = omega (arith, ints, e, size, before);
     }

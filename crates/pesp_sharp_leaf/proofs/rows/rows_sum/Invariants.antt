@@ -9,6 +9,7 @@ use Rattle.pesp_sharp_leaf.proofs.rows.rows_sum.Given as goal
 
 abbrev pub invariant-loop-i : goal.invariant-loop-i
 invariant-loop-i l = record {
-  is : l.sum ≡ sum_below l.i (λ i. row_term (arc_at l.arcs i) (slack_range l.slacks i) l.weighted l.scale (number_at l.flows i) (rates_at l.rates i));
+  is : l.sum ≡ sum_below l.i (λ i. row_term (arc_at l.arcs i) (slack_range l.slacks i) l.weighted l.scale
+      (number_at l.flows i) (rates_at l.rates i));
   size : unsigned_abs l.sum ≤ l.i * (3 * 10 ^ 32);
 }

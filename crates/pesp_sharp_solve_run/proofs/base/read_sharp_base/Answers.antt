@@ -2,8 +2,10 @@ use Rattle.pesp_sharp_solve_run.proofs.base.read_sharp_base.Goals as goal
 
 pub returns-in-Accepted-clause-ok : goal.returns-in-Accepted-clause-ok
 returns-in-Accepted-clause-ok g c =
-    let is = rw c.deref.ensures.value at c.in_ok-base.ensures.found in
-    (record { text = c.in_ok-text.text.items; read = c.in_ok-text.ensures.ok; holds = is }, c.in_ok-check_sharp.ensures.exactly.0 c.in-Accepted.is)
+    let is = rw c.deref.ensures.value at c.in_ok-base.ensures.found in (
+      record { text = c.in_ok-text.text.items; read = c.in_ok-text.ensures.ok; holds = is },
+      c.in_ok-check_sharp.ensures.exactly.0 c.in-Accepted.is,
+    )
 
 pub returns-clause-cause : goal.returns-clause-cause
 returns-clause-cause g c =

@@ -6,7 +6,8 @@ pub returns-in_err-print_fronted-clause-cause : goal.returns-in_err-print_fronte
 returns-in_err-print_fronted-clause-cause g c =
     let found = c.in_ok-fronted.ensures in
     let out = c.in_err-print_fronted.ensures in
-    told_as _ _ _ c.from_residual-in_err-print_fronted.ensures.1 (out.fault, resumption found.resumed found.is_true c.has_text.ensures out.text)
+    told_as _ _ _ c.from_residual-in_err-print_fronted.ensures.1
+    (out.fault, resumption found.resumed found.is_true c.has_text.ensures out.text)
 
 pub returns-clause-ok : goal.returns-clause-ok
 returns-clause-ok g c =

@@ -5,8 +5,11 @@ use Rattle.pesp_sharp_text.proofs.parsing.behind_header.Goals as goal
 pub returns-then-is_header : goal.returns-then-is_header
 returns-then-is_header c =
     let cut = rw c.in_ok-rest.was at c.split_at_byte.ensures.cut in
-    let shorter = rw c.in_ok-rest.was at c.split_at_byte.ensures.shorter in
-    (first_header c.args.text.now c.split_at_byte.result.0.now c.in_ok-rest.rest.now cut (sym c.is_header.ensures ∙ c.if-is_header.true), shorter)
+    let shorter = rw c.in_ok-rest.was at c.split_at_byte.ensures.shorter in (
+      first_header c.args.text.now c.split_at_byte.result.0.now c.in_ok-rest.rest.now cut
+          (sym c.is_header.ensures ∙ c.if-is_header.true),
+      shorter,
+    )
 
 pub returns-else-is_header : goal.returns-else-is_header
 returns-else-is_header c =

@@ -4,10 +4,19 @@ use Rattle.pesp_sharp_text.proofs.Taking.{taken_bad, taken_more, taken_all, take
 use Rattle.pesp_sharp_text.proofs.rows.take_rows.Goals as goal
 
 pub returns-in_default-marked_at-clause-refused : goal.returns-in_default-marked_at-clause-refused
-returns-in_default-marked_at-clause-refused c = inr (Number, taken_bad c.args.words _ c.in-Some.word.now c.loop-word.within c.loop-word.rows.items c.in_default-marked_at.ensures (rw c.in-Some.ensures.steps at c.loop-word.invariant), c.refusal_at.ensures)
+returns-in_default-marked_at-clause-refused c =
+    inr (
+      Number,
+      taken_bad c.args.words _ c.in-Some.word.now c.loop-word.within c.loop-word.rows.items
+          c.in_default-marked_at.ensures (rw c.in-Some.ensures.steps at c.loop-word.invariant),
+      c.refusal_at.ensures,
+    )
 
 pub loop-word-preserved : goal.loop-word-preserved
-loop-word-preserved c = rw c.is_name-within.ensures (taken_more c.args.words c.next.new.self c.in-Some.word.now c.in-Some-marked_at.row c.in-Some-marked_at.plus c.in-Some-marked_at.flipped c.loop-word.within c.loop-word.rows.items c.push_row.new.rows.items c.in-Some-marked_at.ensures c.in_ok-push_row.ensures (rw c.in-Some.ensures.steps at c.loop-word.invariant))
+loop-word-preserved c = rw c.is_name-within.ensures
+    (taken_more c.args.words c.next.new.self c.in-Some.word.now c.in-Some-marked_at.row c.in-Some-marked_at.plus
+    c.in-Some-marked_at.flipped c.loop-word.within c.loop-word.rows.items c.push_row.new.rows.items
+    c.in-Some-marked_at.ensures c.in_ok-push_row.ensures (rw c.in-Some.ensures.steps at c.loop-word.invariant))
 
 pub returns-then-within-clause-found : goal.returns-then-within-clause-found
 returns-then-within-clause-found c =

@@ -11,4 +11,5 @@ loop-at-init c = record {
 
 pub returns : goal.returns
 returns c done h =
-    met c.args.events c.args.arcs.now (roots_of c.args.rooted.now) c.args.row c.loop-at.at.0 c.loop-at.at.1 c.loop-at.cuts (omega arith) (c.loop-at.invariant.climbed h)
+    met c.args.events c.args.arcs.now (roots_of c.args.rooted.now) c.args.row c.loop-at.at.0 c.loop-at.at.1
+    c.loop-at.cuts (omega arith) (c.loop-at.invariant.climbed h)

@@ -6,7 +6,8 @@ use Rattle.pesp_shifts.proofs.cuts.list_row.Given as goal
 abbrev pub invariant-loop-at : goal.invariant-loop-at
 invariant-loop-at l = record {
   inside : (l.at.0 < l.events) × (l.at.1 < l.events);
-  climbed : AreListed l.events l.arcs (roots_of l.rooted) l.row l.initial.cuts → IsClimbed l.events l.arcs (roots_of l.rooted) l.row l.at.0 l.at.1 l.cuts;
+  climbed : AreListed l.events l.arcs (roots_of l.rooted) l.row l.initial.cuts
+      → IsClimbed l.events l.arcs (roots_of l.rooted) l.row l.at.0 l.at.1 l.cuts;
 }
 
 abbrev pub decreases-loop-at : goal.decreases-loop-at

@@ -3,4 +3,5 @@ use Rattle.pesp_shifts.specs.Lists.{AreListed}
 use Rattle.pesp_shifts.proofs.cuts.list_rows.Given as goal
 
 abbrev pub invariant-loop-row : goal.invariant-loop-row
-invariant-loop-row l = AreListed l.events l.arcs (roots_of l.rooted) 0 l.initial.cuts → AreListed l.events l.arcs (roots_of l.rooted) l.row l.cuts
+invariant-loop-row l = AreListed l.events l.arcs (roots_of l.rooted) 0 l.initial.cuts
+    → AreListed l.events l.arcs (roots_of l.rooted) l.row l.cuts

@@ -11,8 +11,10 @@ returns-then-index c =
     let lt : c.args.at.1 < length depths.items = omega (arith, depths.ok.0) in
     let h = get_or_read depths.items c.args.at.0 c.index.result.now lh c.index.ensures 0 in
     let t = get_or_read depths.items c.args.at.1 c.index-2.result.now lt c.index-2.ensures 0 in
-    step_head c.args.events c.args.arcs.now (roots_of c.args.rooted.now) c.args.row c.args.at.0 c.args.at.1 c.in_ok-up.up c.args.cuts.now c.climb.new.cuts
-    c.requires.trees c.requires.head c.requires.tail c.requires.apart (omega arith) c.in_ok-up.ensures.joined c.in_ok-up.ensures.above c.in_ok-up.ensures.put
+    step_head c.args.events c.args.arcs.now (roots_of c.args.rooted.now) c.args.row c.args.at.0 c.args.at.1
+    c.in_ok-up.up c.args.cuts.now c.climb.new.cuts
+    c.requires.trees c.requires.head c.requires.tail c.requires.apart
+    (omega arith) c.in_ok-up.ensures.joined c.in_ok-up.ensures.above c.in_ok-up.ensures.put
 
 pub returns : goal.returns
 returns c =
@@ -21,5 +23,7 @@ returns c =
     let lt : c.args.at.1 < length depths.items = omega (arith, depths.ok.0) in
     let h = get_or_read depths.items c.args.at.0 c.index.result.now lh c.index.ensures 0 in
     let t = get_or_read depths.items c.args.at.1 c.index-2.result.now lt c.index-2.ensures 0 in
-    step_tail c.args.events c.args.arcs.now (roots_of c.args.rooted.now) c.args.row c.args.at.0 c.args.at.1 c.in_ok-up-2.up c.args.cuts.now c.climb-2.new.cuts
-    c.requires.trees c.requires.head c.requires.tail c.requires.apart (omega arith) c.in_ok-up-2.ensures.joined c.in_ok-up-2.ensures.above c.in_ok-up-2.ensures.put
+    step_tail c.args.events c.args.arcs.now (roots_of c.args.rooted.now) c.args.row c.args.at.0 c.args.at.1
+    c.in_ok-up-2.up c.args.cuts.now c.climb-2.new.cuts
+    c.requires.trees c.requires.head c.requires.tail c.requires.apart
+    (omega arith) c.in_ok-up-2.ensures.joined c.in_ok-up-2.ensures.above c.in_ok-up-2.ensures.put

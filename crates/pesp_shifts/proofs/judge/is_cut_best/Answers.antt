@@ -16,4 +16,6 @@ returns-in-Some-best c times n r done l slacks listed =
     let entries = c.in-Some.entries.now in
     let lists : ℕ → List Entry = λ x. entries_of (below r x) c.args.arcs.now (length c.args.arcs.now) in
     let P : ℕ → Type 0 = IsBestShift c.args.period (crossings_of c.args.arcs.now c.args.slacks.now entries) in
-    cut_is_best (record { period = c.args.period; arcs = c.args.arcs.now }) times r c.args.cut c.args.slacks.now entries c.requires.some slacks (c.in-Some.ensures n lists l listed) (subst P zero c.in-Some-best.ensures.best)
+    cut_is_best (record { period = c.args.period; arcs = c.args.arcs.now }) times r c.args.cut c.args.slacks.now
+    entries c.requires.some slacks (c.in-Some.ensures n lists l listed)
+    (subst P zero c.in-Some-best.ensures.best)

@@ -10,10 +10,16 @@ loop-place-preserved c =
     let arcs = c.args.arcs.now in
     let roots = roots_of c.args.rooted.now in
     elim c.if-is_tree_row.branch [
-      | then-is_tree_row+in_ok-push w ↦ rw (w.rows-is, w.in_ok-push.ensures.items) (tree_rows-more c.loop-place.place arcs roots c.loop-place.rows.items c.loop-place.invariant (joins_here arcs roots c.loop-place.place (w.if-is_tree_row.ensures.0 refl)))
-      | else-is_tree_row w ↦ rw w.rows-is (tree_rows-skip c.loop-place.place arcs roots c.loop-place.rows.items c.loop-place.invariant (λ j. false≢true (w.if-is_tree_row.ensures.1 (joins_there arcs roots c.loop-place.place j))))
+      | then-is_tree_row+in_ok-push w ↦ rw (w.rows-is, w.in_ok-push.ensures.items)
+          (tree_rows-more c.loop-place.place arcs roots c.loop-place.rows.items c.loop-place.invariant
+          (joins_here arcs roots c.loop-place.place (w.if-is_tree_row.ensures.0 refl)))
+      | else-is_tree_row w ↦ rw w.rows-is (tree_rows-skip c.loop-place.place arcs roots c.loop-place.rows.items
+          c.loop-place.invariant (λ j. false≢true (w.if-is_tree_row.ensures.1
+          (joins_there arcs roots c.loop-place.place j))))
     ]
 
 pub returns : goal.returns
 returns c =
-    tree_rows-from_all c.args.events c.args.arcs.now (roots_of c.args.rooted.now) c.loop-place.rows.items c.loop-place.place c.requires.trees (omega arith) (omega arith) c.loop-place.invariant
+    tree_rows-from_all c.args.events c.args.arcs.now
+    (roots_of c.args.rooted.now) c.loop-place.rows.items c.loop-place.place c.requires.trees (omega arith)
+    (omega arith) c.loop-place.invariant

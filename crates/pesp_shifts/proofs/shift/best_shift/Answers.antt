@@ -14,4 +14,5 @@ returns-clause-best c =
     let e = c.if-not-shift_costs.ensures in
     let rows = crossings_of c.args.arcs.now c.args.slacks.now c.args.entries.now in
     let some : 0 < c.args.period = e.some refl in let t = c.loop-i-test.false in let end = c.loop-i.auto.i-end in
-    best_is_best c.args.period rows c.shift_costs.new.costs c.shift_costs.new.bars c.loop-i.best c.loop-i.i (omega (arith, end some)) (e.rows refl) (e.costs refl) (e.bars refl) c.loop-i.invariant
+    best_is_best c.args.period rows c.shift_costs.new.costs c.shift_costs.new.bars c.loop-i.best c.loop-i.i
+    (omega (arith, end some)) (e.rows refl) (e.costs refl) (e.bars refl) c.loop-i.invariant

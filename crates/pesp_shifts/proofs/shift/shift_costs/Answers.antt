@@ -7,7 +7,9 @@ use Rattle.pesp_shifts.proofs.Tallying.{length-crossings_of}
 use Rattle.pesp_shifts.proofs.shift.shift_costs.Goals as goal
 
 pub tally-requires-clause-begin : goal.tally-requires-clause-begin
-tally-requires-clause-begin c = takes_none c.args.period (crossings_of c.args.arcs.now c.args.slacks.now c.args.entries.now) _ _ (omega (arith, c.clear.ensures.long)) (omega (arith, c.clear-2.ensures.long)) c.clear.ensures.zeros c.clear-2.ensures.zeros
+tally-requires-clause-begin c = takes_none c.args.period
+    (crossings_of c.args.arcs.now c.args.slacks.now c.args.entries.now) _ _ (omega (arith, c.clear.ensures.long))
+    (omega (arith, c.clear-2.ensures.long)) c.clear.ensures.zeros c.clear-2.ensures.zeros
 
 pub returns-clause-rows : goal.returns-clause-rows
 returns-clause-rows c e =

@@ -4,9 +4,12 @@ use Rattle.pesp_simplex.specs.Improvements.{IsImproved}
 use Rattle.pesp_simplex.proofs.Networks.{improved_there}
 use Rattle.pesp_simplex.proofs.improvement.improve.Goals as goal
 
-improved : (c : goal.In_ok-improve_times) → IsImproved (net_of_network c.args.network.now) c.args.network.now.events c.args.times.now c.in_ok-improve_times.field-0
+improved : (c : goal.In_ok-improve_times) → IsImproved
+    (net_of_network c.args.network.now) c.args.network.now.events c.args.times.now c.in_ok-improve_times.field-0
 improved c =
-    improved_there c.period.result c.args.network.now.period c.events.result c.args.network.now.events c.arcs.result.now (arcs_of_network c.args.network.now.rows) c.args.times.now c.in_ok-improve_times.field-0 c.period.ensures.period c.events.ensures.events c.arcs.ensures.arcs c.in_ok-improve_times.ensures
+    improved_there c.period.result c.args.network.now.period c.events.result c.args.network.now.events
+    c.arcs.result.now (arcs_of_network c.args.network.now.rows) c.args.times.now c.in_ok-improve_times.field-0
+    c.period.ensures.period c.events.ensures.events c.arcs.ensures.arcs c.in_ok-improve_times.ensures
 
 pub returns-then-not-is_timetable-clause-not_feasible : goal.returns-then-not-is_timetable-clause-not_feasible
 returns-then-not-is_timetable-clause-not_feasible c = search rules

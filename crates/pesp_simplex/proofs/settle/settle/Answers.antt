@@ -31,6 +31,9 @@ returns c =
       timetable = c.requires.times;
       cost = cost;
       never_dearer = omega arith;
-      forest = roots_span c.args.events c.args.arcs.now (roots_of c.args.rooted.now) c.in_ok-forest.forest.items trees c.in_ok-forest.ensures;
-      ended = λ e. (let local = c.in_ok-local.ensures (c.stop_of.ensures.0 e) c.in_ok-forest.forest.items c.in_ok-forest.ensures in rw (sym c.deref-2.ensures.value) local);
+      forest = roots_span c.args.events c.args.arcs.now
+          (roots_of c.args.rooted.now) c.in_ok-forest.forest.items trees c.in_ok-forest.ensures;
+      ended = λ e. (let local = c.in_ok-local.ensures
+          (c.stop_of.ensures.0 e) c.in_ok-forest.forest.items c.in_ok-forest.ensures in
+          rw (sym c.deref-2.ensures.value) local);
     }

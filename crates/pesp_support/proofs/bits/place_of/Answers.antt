@@ -19,4 +19,5 @@ overflow_add-result c =
     omega (arith, c.requires.difference, c.requires.period)
 
 pub returns : goal.returns
-returns c = ap (λ w. c.args.event * w + c.args.difference) (sym (span_is c.args.period c.div_ceil.result (omega (arith, c.div_ceil.ensures))))
+returns c = ap (λ w. c.args.event * w + c.args.difference)
+    (sym (span_is c.args.period c.div_ceil.result (omega (arith, c.div_ceil.ensures))))

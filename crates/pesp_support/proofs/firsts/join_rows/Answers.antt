@@ -14,8 +14,11 @@ loop-place-preserved c = λ event l.
     let e = c.requires.ends k c.loop-place-test.true in
     let long : length c.relabel.new.labels ≡ length c.loop-place.labels = c.relabel.auto.labels in
     let same : length c.loop-place.labels ≡ length c.args.labels.now = c.loop-place.auto.labels in
-    joined_more c.args.arcs.now k event _ _ c.loop-place.labels c.relabel.new.labels (c.loop-place.invariant arc.tail (omega (arith, e.0))) (c.loop-place.invariant arc.head (omega (arith, e.1))) (c.loop-place.invariant event (omega arith))
-    (λ q. c.relabel.ensures.changed event (omega arith) (q ∙ sym c.max.ensures) ∙ c.min.ensures) (λ n. c.relabel.ensures.same event (omega arith) (λ q. n (q ∙ c.max.ensures)))
+    joined_more c.args.arcs.now k event _ _ c.loop-place.labels c.relabel.new.labels
+    (c.loop-place.invariant arc.tail (omega (arith, e.0)))
+    (c.loop-place.invariant arc.head (omega (arith, e.1))) (c.loop-place.invariant event (omega arith))
+    (λ q. c.relabel.ensures.changed event (omega arith) (q ∙ sym c.max.ensures) ∙ c.min.ensures)
+    (λ n. c.relabel.ensures.same event (omega arith) (λ q. n (q ∙ c.max.ensures)))
 
 pub returns : goal.returns
 returns c = λ event l.

@@ -23,5 +23,6 @@ loop-difference-preserved c = λ d l.
       | inr m ↦
           let q : d ≡ e = omega arith in
           let b : e < t = c.loop-difference-test.true in
-          ap (λ (x : ℕ). family_at t c.args.words.now c.args.event x) q ∙ (at_place t c.args.event e c.args.words.now b ∙ (sym c.has.ensures ∙ c.if-has.false))
+          ap (λ (x : ℕ). family_at t c.args.words.now c.args.event x) q
+          ∙ (at_place t c.args.event e c.args.words.now b ∙ (sym c.has.ensures ∙ c.if-has.false))
     ]

@@ -8,6 +8,7 @@ abbrev pub invariant-loop-step : goal.invariant-loop-step
 invariant-loop-step l = record {
   bound : l.gap ≤ l.period + l.step;
   gap : IsGap l.period l.other (family_at l.period l.initial.words) (l.period - l.step) l.gap;
-  partly : Partly l.period l.kept l.other l.window.first l.window.count (l.period - l.step) (family_at l.period l.initial.words) (family_at l.period l.words);
+  partly : Partly l.period l.kept l.other l.window.first l.window.count (l.period - l.step)
+      (family_at l.period l.initial.words) (family_at l.period l.words);
   less : IsLess l.initial.words l.words l.changed;
 }

@@ -6,4 +6,6 @@ loop-event-init c = start_full c.args.period c.args.firsts.now c.fill.new.words 
 
 pub loop-event-preserved : goal.loop-event-preserved
 loop-event-preserved c =
-    start_more c.args.period c.args.firsts.now c.loop-event.words c.start_one.new.words c.loop-event.event c.loop-event-test.true c.loop-event.invariant c.start_one.ensures.alone c.start_one.ensures.whole c.start_one.ensures.zero c.start_one.ensures.others
+    start_more c.args.period c.args.firsts.now c.loop-event.words c.start_one.new.words c.loop-event.event
+    c.loop-event-test.true c.loop-event.invariant c.start_one.ensures.alone c.start_one.ensures.whole
+    c.start_one.ensures.zero c.start_one.ensures.others

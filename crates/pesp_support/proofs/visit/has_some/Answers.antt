@@ -17,6 +17,7 @@ returns c = (
   λ h.
       elim (cases_lt c.least.result c.args.period) [
         | inl l ↦ is_lt _ _ l
-        | inr m ↦ let b = below c.args.period c.args.event h.0 c.args.words.now h.1 in absurd (true_or_false _ h.1 (c.least.ensures.below h.0 (omega arith)))
+        | inr m ↦ let b = below c.args.period c.args.event h.0 c.args.words.now h.1 in
+            absurd (true_or_false _ h.1 (c.least.ensures.below h.0 (omega arith)))
       ],
 )

@@ -11,7 +11,8 @@ of_ne : (n : ℕ) → n ≢ 0 → not (n == 0) ≡ true
 of_ne n h = grind (arith, nat_tests)
 
 pub set_of-requires-clause-event : goal.set_of-requires-clause-event
-set_of-requires-clause-event c = word_within c.args.words.now c.args.period c.args.event c.requires.period.0 c.requires.period.1 c.requires.long
+set_of-requires-clause-event c = word_within c.args.words.now c.args.period c.args.event c.requires.period.0
+    c.requires.period.1 c.requires.long
 
 pub returns : goal.returns
 returns c =

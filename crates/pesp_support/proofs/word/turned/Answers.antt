@@ -5,4 +5,5 @@ pub returns-then-shift-eq0 : goal.returns-then-shift-eq0
 returns-then-shift-eq0 c = turned_none c.args.period c.args.shift c.args.set c.if-shift-eq0.true c.requires.set
 
 pub returns : goal.returns
-returns c = is_turned c.args.period c.args.shift c.args.set c.below-round.result c.requires.period.1 c.requires.shift c.requires.set c.below-round.ensures
+returns c = is_turned c.args.period c.args.shift c.args.set c.below-round.result c.requires.period.1
+    c.requires.shift c.requires.set c.below-round.ensures

@@ -4,4 +4,7 @@ use Rattle.pesp_turns.proofs.settling.is_reached.Goals as goal
 
 pub returns-clause-unreached : goal.returns-clause-unreached
 returns-clause-unreached c more =
-    not_reached c.args.board.now.problem c.args.board.now.state c.args.number c.in-Some.cost c.in-Some-job_leaf.value c.in-Some-job_leaf.field-0-1.now (sym c.in-Some.ensures.cost) c.in-Some-job_leaf.ensures.told (not_at_most c.in-Some.cost c.in-Some-job_leaf.value more)
+    not_reached c.args.board.now.problem c.args.board.now.state c.args.number c.in-Some.cost
+    c.in-Some-job_leaf.value c.in-Some-job_leaf.field-0-1.now
+    (sym c.in-Some.ensures.cost) c.in-Some-job_leaf.ensures.told
+    (not_at_most c.in-Some.cost c.in-Some-job_leaf.value more)

@@ -14,7 +14,8 @@ returns-then-not-is_reached-clause-settles c = inr (record {
     kept = c.offer.result;
     offers = c.offer.ensures.state;
   };
-  unreached = subst (λ (x : ProblemValue). IsReached x c.offer.new.self.state c.args.job.now.number → ⊥) c.offer.ensures.problem (c.is_reached.ensures.unreached c.if-not-is_reached.true);
+  unreached = subst (λ (x : ProblemValue). IsReached x c.offer.new.self.state c.args.job.now.number → ⊥)
+      c.offer.ensures.problem (c.is_reached.ensures.unreached c.if-not-is_reached.true);
 })
 
 pub returns-clause-settles : goal.returns-clause-settles
@@ -26,7 +27,8 @@ returns-clause-settles c = record {
     kept = c.offer.result;
     offers = c.offer.ensures.state;
   };
-  reached = subst (λ (x : ProblemValue). IsReached x c.offer.new.self.state c.args.job.now.number) c.offer.ensures.problem (c.is_reached.ensures.reached c.if-not-is_reached.false);
+  reached = subst (λ (x : ProblemValue). IsReached x c.offer.new.self.state c.args.job.now.number)
+      c.offer.ensures.problem (c.is_reached.ensures.reached c.if-not-is_reached.false);
   back = c.recall.result;
   recalls = c.recall.ensures.state;
 }

@@ -9,13 +9,20 @@ unreachable-requires c =
     never (c.args.job.now.path.items, lent_here c.args.board.now.problem lent.before c.args.board.now.state c.args.job.now lent.lends)
 
 pub expand-requires-clause-cut : goal.expand-requires-clause-cut
-expand-requires-clause-cut c = split_cut c.args.board.now.problem c.args.board.now.state c.args.job.now c.args.choice.cut c.args.node c.requires.node c.requires.split
+expand-requires-clause-cut c = split_cut c.args.board.now.problem c.args.board.now.state c.args.job.now
+    c.args.choice.cut c.args.node c.requires.node c.requires.split
 
 pub expand-requires-clause-start : goal.expand-requires-clause-start
-expand-requires-clause-start c = lent_pairs c.args.board.now.problem c.problem.result.now c.args.board.now.state c.args.job.now c.in-Some.field-0-0 c.in-Some.start.now c.problem.ensures c.requires.split.lent c.in-Some.ensures.told
+expand-requires-clause-start c = lent_pairs c.args.board.now.problem c.problem.result.now c.args.board.now.state
+    c.args.job.now c.in-Some.field-0-0 c.in-Some.start.now c.problem.ensures c.requires.split.lent
+    c.in-Some.ensures.told
 
 pub hand_in-requires : goal.hand_in-requires
-hand_in-requires c = handed_step c.args.board.now.problem c.problem.result.now c.args.board.now.state c.args.job.now c.args.choice.cut c.args.node c.in-Some.field-0-0 c.in-Some.start.now c.in_ok-lines.lines c.problem.ensures c.requires.at c.requires.split c.in-Some.ensures.told c.in_ok-lines.ensures
+hand_in-requires c = handed_step c.args.board.now.problem c.problem.result.now c.args.board.now.state
+    c.args.job.now c.args.choice.cut c.args.node c.in-Some.field-0-0 c.in-Some.start.now c.in_ok-lines.lines
+    c.problem.ensures c.requires.at c.requires.split c.in-Some.ensures.told c.in_ok-lines.ensures
 
 pub returns-clause-given : goal.returns-clause-given
-returns-clause-given c = step_given c.args.board.now.problem c.problem.result.now c.args.board.now.state c.hand_in.new.board.state c.args.job.now c.in-Some.start.now _ c.args.choice.cut c.in_ok-lines.lines c.hand_in.result c.requires.split c.in_ok-lines.ensures c.hand_in.ensures.given
+returns-clause-given c = step_given c.args.board.now.problem c.problem.result.now c.args.board.now.state
+    c.hand_in.new.board.state c.args.job.now c.in-Some.start.now _ c.args.choice.cut c.in_ok-lines.lines
+    c.hand_in.result c.requires.split c.in_ok-lines.ensures c.hand_in.ensures.given

@@ -21,4 +21,6 @@ returns-clause-judged c =
     })
 
 pub returns-clause-others : goal.returns-clause-others
-returns-clause-others c = subst (λ (found : WorkValue). KeepsOthers c.args.board.now.state found.job c.judged_on.new.board.state) c.found.view_is c.in_ok-tree.ensures.others
+returns-clause-others c = subst (λ (found : WorkValue).
+    KeepsOthers c.args.board.now.state found.job c.judged_on.new.board.state) c.found.view_is
+    c.in_ok-tree.ensures.others

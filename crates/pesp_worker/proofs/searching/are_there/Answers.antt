@@ -10,7 +10,9 @@ loop-job-preserved c =
     let long = jobs.ok.0 in
     let here = c.if-job-len.false in
     let len = c.len.ensures in
-    All-more (λ (job : ℕ). job < length jobs.items) c.args.jobs.now c.loop-job.job-index 0 c.loop-job-test.true c.loop-job.invariant (omega (arith, long, here, len))
+    All-more (λ (job : ℕ). job < length jobs.items) c.args.jobs.now c.loop-job.job-index 0 c.loop-job-test.true
+    c.loop-job.invariant (omega (arith, long, here, len))
 
 pub returns-clause-there : goal.returns-clause-there
-returns-clause-there c = λ _. subst (All (λ (job : ℕ). job < length c.args.lent.now.jobs.items)) (take_all c.loop-job.job-index c.args.jobs.now c.loop-job-test.false) c.loop-job.invariant
+returns-clause-there c = λ _. subst (All (λ (job : ℕ). job < length c.args.lent.now.jobs.items))
+    (take_all c.loop-job.job-index c.args.jobs.now c.loop-job-test.false) c.loop-job.invariant

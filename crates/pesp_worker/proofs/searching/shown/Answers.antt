@@ -14,8 +14,12 @@ returns-then-not-costs_less-clause-short c = subst AreShort (sym c.new.ensures.i
 
 pub returns-clause-times : goal.returns-clause-times
 returns-clause-times c instance valid =
-    let less = subst (λ (o : Option ℕ). IfSome o (λ n. IsCheaper n c.args.known)) (c.cost_in-cost.ensures ∙ ap cost_of c.answer.ensures.value) (c.costs_less.ensures c.if-not-costs_less.false) in
-    subst (AreTimesFor instance c.args.known) (sym (c.in_ok-copy.ensures ∙ c.times.ensures.value)) (times_for instance c.args.known c.args.certificate.now less valid)
+    let less = subst (λ (o : Option ℕ). IfSome o (λ n. IsCheaper n c.args.known))
+    (c.cost_in-cost.ensures ∙ ap cost_of c.answer.ensures.value)
+    (c.costs_less.ensures c.if-not-costs_less.false) in
+    subst (AreTimesFor instance c.args.known) (sym (c.in_ok-copy.ensures ∙ c.times.ensures.value))
+    (times_for instance c.args.known c.args.certificate.now less valid)
 
 pub returns-clause-short : goal.returns-clause-short
-returns-clause-short c = subst AreShort (sym (c.in_ok-copy.ensures ∙ c.times.ensures.value)) (c.times.ensures.limits.times, c.times.ensures.limits.each_time)
+returns-clause-short c = subst AreShort (sym (c.in_ok-copy.ensures ∙ c.times.ensures.value))
+    (c.times.ensures.limits.times, c.times.ensures.limits.each_time)

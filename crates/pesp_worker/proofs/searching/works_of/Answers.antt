@@ -16,6 +16,8 @@ loop-job-preserved c =
     let same : times ≡ at.left.items = ap (λ (v : Vec (ℤ × ℕ)). v.items) c.replace-times.ensures.value in
     let left : (times ≡ []) ⊎ (times ≡ shown) = subst (λ (ts : List (ℤ × ℕ)). (ts ≡ []) ⊎ (ts ≡ shown)) (sym same) at.invariant.left in
     record {
-      works = subst (AllZip (HasShown shown) (take (at.job-index + 1) c.args.jobs.now)) (sym c.in_ok-add.ensures) (zip_more (HasShown shown) c.args.jobs.now at.job-index 0 at.works.items work c.loop-job-test.true at.invariant.works (refl, left));
+      works = subst (AllZip (HasShown shown) (take (at.job-index + 1) c.args.jobs.now)) (sym c.in_ok-add.ensures)
+          (zip_more (HasShown shown) c.args.jobs.now at.job-index 0 at.works.items work c.loop-job-test.true
+          at.invariant.works (refl, left));
       left = inl (ap (λ (v : Vec (ℤ × ℕ)). v.items) c.replace-times.ensures.after ∙ c.new.ensures.items);
     }

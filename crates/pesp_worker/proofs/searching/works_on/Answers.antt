@@ -9,5 +9,10 @@ pub returns : goal.returns
 returns c =
     let instance = c.args.instance.now in
     let times = c.in_ok-times.times.items in
-    let are = subst (λ (known : Option ℕ). AreTimesFor instance known times) (c.cost_in.ensures ∙ ap cost_of c.answer.ensures.value) (c.in_ok-times.ensures.times instance c.in_ok-certificate.ensures.valid) in
-    record { found = all_found instance (cost_of c.args.base.now.answer) times c.args.jobs.now c.works_of.result are c.in_ok-times.ensures.short c.works_of.ensures }
+    let are = subst (λ (known : Option ℕ). AreTimesFor instance known times)
+    (c.cost_in.ensures ∙ ap cost_of c.answer.ensures.value)
+    (c.in_ok-times.ensures.times instance c.in_ok-certificate.ensures.valid) in
+    record {
+      found = all_found instance (cost_of c.args.base.now.answer) times c.args.jobs.now c.works_of.result
+          are c.in_ok-times.ensures.short c.works_of.ensures;
+    }

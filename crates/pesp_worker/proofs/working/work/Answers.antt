@@ -12,4 +12,6 @@ unreachable-requires c =
     omega (arith, one, works.ok.0, c.in_default.ensures.cases.0)
 
 pub returns-clause-work : goal.returns-clause-work
-returns-clause-work c = last_work c.args.instance.now c.args.base.now c.args.job c.args.steps None c.pop.new.self.items c.in_ok-works.works.items c.in-Some.work c.in-Some.ensures.items c.in_ok-works.ensures.works
+returns-clause-work c = last_work c.args.instance.now c.args.base.now c.args.job c.args.steps None
+    c.pop.new.self.items c.in_ok-works.works.items c.in-Some.work c.in-Some.ensures.items
+    c.in_ok-works.ensures.works

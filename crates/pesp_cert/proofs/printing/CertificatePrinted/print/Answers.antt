@@ -10,4 +10,5 @@ returns g c =
     let times = rw c.times.ensures.value at c.print_times.ensures in
     let cycles = rw c.cycles.ensures.value at c.print_cycles.ensures in
     let tree = rw c.tree.ensures.value at c.print_tree.ensures in
-    sends_as (spelling c.args.self.now) (certificate_is c.args.self.now) (sends_then (sends_then (sends_then (sends_then (sends_then head answer) times) cycles) tree) c.put.ensures)
+    sends_as (spelling c.args.self.now) (certificate_is c.args.self.now)
+    (sends_then (sends_then (sends_then (sends_then (sends_then head answer) times) cycles) tree) c.put.ensures)

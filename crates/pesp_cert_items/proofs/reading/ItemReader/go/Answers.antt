@@ -15,15 +15,22 @@ pub returns-in-Ok-true-clause-gives : goal.returns-in-Ok-true-clause-gives
 returns-in-Ok-true-clause-gives g c =
     let read = c.in_ok-read_line.ensures in
     let line = of_going _ _ _ _ _ _ _ _ (read.same.0 ∙ c.requires.going) read.line in
-    let word = rw c.line.ensures at (sym c.if-is_word.ensures) in
-    (refl, ends_there _ _ _ _ _ _ _ _ _ _ line (end_whole _ _ c.read_line.new.self.kept c.if-self-ne0.false word) (rw c.in-Ok-true.field-0-test at c.in-Ok-true.ensures.ok))
+    let word = rw c.line.ensures at (sym c.if-is_word.ensures) in (
+      refl,
+      ends_there _ _ _ _ _ _ _ _ _ _ line (end_whole _ _ c.read_line.new.self.kept c.if-self-ne0.false word)
+          (rw c.in-Ok-true.field-0-test at c.in-Ok-true.ensures.ok),
+    )
 
 pub returns-in-Ok-false-clause-gives : goal.returns-in-Ok-false-clause-gives
 returns-in-Ok-false-clause-gives g c =
     let read = c.in_ok-read_line.ensures in
     let line = of_going _ _ _ _ _ _ _ _ (read.same.0 ∙ c.requires.going) read.line in
-    let word = rw c.line.ensures at (sym c.if-is_word.ensures) in
-    (refl, inr (trails _ _ _ _ _ _ _ _ _ _ _ line (end_whole _ _ c.read_line.new.self.kept c.if-self-ne0.false word) (rw c.in-Ok-false.field-0-test at c.in-Ok-false.ensures.ok)))
+    let word = rw c.line.ensures at (sym c.if-is_word.ensures) in (
+      refl,
+      inr (trails _ _ _ _ _ _ _ _ _ _ _ line
+          (end_whole _ _ c.read_line.new.self.kept c.if-self-ne0.false word)
+          (rw c.in-Ok-false.field-0-test at c.in-Ok-false.ensures.ok)),
+    )
 
 pub returns-in-Err-take_line-clause-gives : goal.returns-in-Err-take_line-clause-gives
 returns-in-Err-take_line-clause-gives g c =

@@ -9,4 +9,6 @@ use Rattle.pesp_check.proofs.judge.Judge.end_cycles.Goals as goal
 pub returns-clause-judged : goal.returns-clause-judged
 returns-clause-judged c c' rest whole b before =
     let is : c.args.self.now.stage ≡ stages.Cycles = search rules in
-    cycles_end c.args.self.now.stage c.args.self.now.instance.now c' rest (kept c.args.self.now) c.new.result (node_of c.in_ok-ranges.ranges) is whole b (rw c.deref.ensures.value at c.in_ok-ranges.ensures.node) (ap (λ (s : Standing). s.nodes) c.new.ensures) before
+    cycles_end c.args.self.now.stage c.args.self.now.instance.now c' rest (kept c.args.self.now) c.new.result
+    (node_of c.in_ok-ranges.ranges) is whole b (rw c.deref.ensures.value at c.in_ok-ranges.ensures.node)
+    (ap (λ (s : Standing). s.nodes) c.new.ensures) before

@@ -19,10 +19,16 @@ returns-in-Some-found-clause-judged c c' rest whole before =
     let P : List (List NetCount) → Type 0 = AreNets (length p.rows) c'.cycles in
     let nets = subst P (sym c.deref.ensures.value) (nets_are p c' line rest (kept j) j.stage c.requires.stage before) in
     let walk = c.in-Some.is in
-    let told = rw (c.new-checker.ensures.instance, c.new-checker.ensures.table, c.new-checker.ensures.least) at c.in_ok-found.ensures.verdict in
-    let V : Line → Type 0 = λ l. IsLineVerdict (net_of p) c'.cycles c.least_of-least.result l c.in-Some.walk.nodes c.take_line.new.walk.nodes (j.line + 1) c.in_ok-found.found in
-    let verdict = line_found p c' line rest (kept j) j.stage c.requires.stage before c.in-Some.walk c.take_line.new.walk _ _ c.in_ok-found.found walk c.least_of-least.ensures (subst V (said_is pairs_of c.args.said) (told c'.cycles nets)) in
-    line_refused p c' line rest (kept j) j.stage c.requires.stage before c.in-Some-found.refusal _ _ refl refl whole (rw c.in-Some-found.is at verdict)
+    let told = rw (c.new-checker.ensures.instance, c.new-checker.ensures.table, c.new-checker.ensures.least) at
+    c.in_ok-found.ensures.verdict in
+    let V : Line → Type 0 = λ l. IsLineVerdict
+    (net_of p) c'.cycles c.least_of-least.result l c.in-Some.walk.nodes c.take_line.new.walk.nodes
+    (j.line + 1) c.in_ok-found.found in
+    let verdict = line_found p c' line rest (kept j) j.stage c.requires.stage before c.in-Some.walk
+    c.take_line.new.walk _ _ c.in_ok-found.found walk c.least_of-least.ensures
+    (subst V (said_is pairs_of c.args.said) (told c'.cycles nets)) in
+    line_refused p c' line rest (kept j) j.stage c.requires.stage before c.in-Some-found.refusal _ _ refl refl
+    whole (rw c.in-Some-found.is at verdict)
 
 pub returns-clause-judged : goal.returns-clause-judged
 returns-clause-judged c c' rest whole before =
@@ -32,9 +38,14 @@ returns-clause-judged c c' rest whole before =
     let P : List (List NetCount) → Type 0 = AreNets (length p.rows) c'.cycles in
     let nets = subst P (sym c.deref.ensures.value) (nets_are p c' line rest (kept j) j.stage c.requires.stage before) in
     let walk = c.in-Some.is in
-    let told = rw (c.new-checker.ensures.instance, c.new-checker.ensures.table, c.new-checker.ensures.least) at c.in_ok-found.ensures.verdict in
-    let V : Line → Type 0 = λ l. IsLineVerdict (net_of p) c'.cycles c.least_of-least.result l c.in-Some.walk.nodes c.take_line.new.walk.nodes (j.line + 1) c.in_ok-found.found in
-    let verdict = line_found p c' line rest (kept j) j.stage c.requires.stage before c.in-Some.walk c.take_line.new.walk _ _ c.in_ok-found.found walk c.least_of-least.ensures (subst V (said_is pairs_of c.args.said) (told c'.cycles nets)) in
+    let told = rw (c.new-checker.ensures.instance, c.new-checker.ensures.table, c.new-checker.ensures.least) at
+    c.in_ok-found.ensures.verdict in
+    let V : Line → Type 0 = λ l. IsLineVerdict
+    (net_of p) c'.cycles c.least_of-least.result l c.in-Some.walk.nodes c.take_line.new.walk.nodes
+    (j.line + 1) c.in_ok-found.found in
+    let verdict = line_found p c' line rest (kept j) j.stage c.requires.stage before c.in-Some.walk
+    c.take_line.new.walk _ _ c.in_ok-found.found walk c.least_of-least.ensures
+    (subst V (said_is pairs_of c.args.said) (told c'.cycles nets)) in
     let sound = of_none c.in_ok-found.found _ _ c.in_default-found.not-Some verdict in
     line_taken p c' line rest (kept j) j.stage c.requires.stage before c.take_line.new.walk _ refl sound.0 sound.1
 
@@ -42,4 +53,5 @@ pub returns-then-is_done-clause-judged : goal.returns-then-is_done-clause-judged
 returns-then-is_done-clause-judged c c' rest whole before =
     let j = c.args.self.now in
     let walk = c.in-Some.is in
-    absurd (never_done j.instance.now c' (tree_line pairs_of c.args.said) rest (kept j) j.stage c.requires.stage before c.in-Some.walk walk (c.is_done.ensures.0 c.if-is_done.true))
+    absurd (never_done j.instance.now c' (tree_line pairs_of c.args.said) rest
+    (kept j) j.stage c.requires.stage before c.in-Some.walk walk (c.is_done.ensures.0 c.if-is_done.true))

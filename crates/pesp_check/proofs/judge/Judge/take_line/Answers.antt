@@ -12,4 +12,7 @@ returns-clause-judged c c' rest whole before =
     let front = c.in_ok-end_front.ensures in
     let cycles = c.in_ok-end_cycles.ensures in
     let at_front = front.judged c' _ (line_is_later (tree_line pairs_of c.args.said)) before in
-    line_passed c.end_cycles.new.self.stage c.args.self.now.instance.now c' (tree_line pairs_of c.args.said) rest (kept c.end_cycles.new.self) _ cycles.past other refl (rw front.instance at (cycles.judged c' _ whole (line_is_line (tree_line pairs_of c.args.said)) (rw (sym front.instance) at at_front)))
+    line_passed c.end_cycles.new.self.stage c.args.self.now.instance.now c' (tree_line pairs_of c.args.said) rest
+    (kept c.end_cycles.new.self) _ cycles.past other refl
+    (rw front.instance at (cycles.judged c' _ whole (line_is_line (tree_line pairs_of c.args.said))
+    (rw (sym front.instance) at at_front)))

@@ -23,7 +23,9 @@ loop-row-preserved c =
       grows = grows_more c.args.self.now c.loop-row.self c.if-row-but.self c.loop-row.invariant.grows step.0;
       within = omega arith;
       end = c.next_at-row.ensures.end;
-      woken = woken_more (length c.args.arcs.now) (tail_of c.args.arcs.now) (head_of c.args.arcs.now) c.args.event c.args.but c.loop-row.row c.next_at-row.result c.loop-row.self c.if-row-but.self c.next_at-row.ensures step.0 step.1 c.loop-row.invariant.woken;
+      woken = woken_more (length c.args.arcs.now) (tail_of c.args.arcs.now)
+          (head_of c.args.arcs.now) c.args.event c.args.but c.loop-row.row c.next_at-row.result c.loop-row.self
+          c.if-row-but.self c.next_at-row.ensures step.0 step.1 c.loop-row.invariant.woken;
     }
 
 pub loop-row-init : goal.loop-row-init

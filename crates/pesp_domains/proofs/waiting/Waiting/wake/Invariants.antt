@@ -8,7 +8,8 @@ invariant-loop-row l = record {
   grows : Grows l.initial.self l.self;
   within : l.row ≤ length l.arcs;
   end : 0 < l.row → (tail_of l.arcs l.row ≡ l.event) ⊎ (head_of l.arcs l.row ≡ l.event);
-  woken : (k : ℕ) → l.row < k → k ≤ length l.arcs → (tail_of l.arcs k ≡ l.event) ⊎ (head_of l.arcs k ≡ l.event) → k ≢ l.but → waits_at l.self (k - 1) ≡ true;
+  woken : (k : ℕ) → l.row < k → k ≤ length l.arcs → (tail_of l.arcs k ≡ l.event) ⊎ (head_of l.arcs k ≡ l.event)
+      → k ≢ l.but → waits_at l.self (k - 1) ≡ true;
 }
 
 abbrev pub decreases-loop-row : goal.decreases-loop-row

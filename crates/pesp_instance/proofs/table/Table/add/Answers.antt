@@ -25,7 +25,8 @@ returns-clause-added c = λ before t.
     let m = one-more c.args.self.now.rows.items c.args.self.now.events.keys before c.args.activity t in
     let few : length before < 100000 = omega (arith, length-table _ _ _ t, c.len.ensures, c.if-len-ge-MAX_ROWS.false) in
     let count = ap length (sym m.in_order) in
-    let crowd : length (events_of (before ++ c.args.activity ∷ [])) ≤ 100000 = omega (arith, count, ap length k2, c.len-2.ensures.len, c.if-len-gt-MAX_EVENTS.false) in
+    let crowd : length (events_of (before ++ c.args.activity ∷ []))
+    ≤ 100000 = omega (arith, count, ap length k2, c.len-2.ensures.len, c.if-len-gt-MAX_EVENTS.false) in
     (before ++ c.args.activity ∷ [], admit-ok before c.args.at c.args.activity few crowd, rw (items, k2) m)
 
 pub returns-then-len-gt-MAX_EVENTS-clause-refused : goal.returns-then-len-gt-MAX_EVENTS-clause-refused
@@ -39,7 +40,8 @@ returns-then-len-gt-MAX_EVENTS-clause-refused c = λ before t.
     let m = one-more c.args.self.now.rows.items c.args.self.now.events.keys before c.args.activity t in
     let few : length before < 100000 = omega (arith, length-table _ _ _ t, c.len.ensures, c.if-len-ge-MAX_ROWS.false) in
     let count = ap length (sym m.in_order) in
-    let crowd : 100000 < length (events_of (before ++ c.args.activity ∷ [])) = omega (arith, count, ap length k2, c.len-2.ensures.len, c.if-len-gt-MAX_EVENTS.true) in
+    let crowd : 100000 < length (events_of (before ++ c.args.activity ∷ [])) =
+    omega (arith, count, ap length k2, c.len-2.ensures.len, c.if-len-gt-MAX_EVENTS.true) in
     inr (admit-crowded before c.args.at c.args.activity few crowd)
 
 pub returns-then-len-ge-MAX_ROWS-clause-refused : goal.returns-then-len-ge-MAX_ROWS-clause-refused

@@ -5,7 +5,9 @@ use Rattle.pesp_network.proofs.network.Network.way.Goals as goal
 
 held : (c : goal.In_ok-found) → IfSome c.in_ok-found.found (λ way. IsWayHeld c.args.self.now c.args.from c.args.to way.items)
 held c = IfSome_then c.in_ok-found.found c.in_ok-found.ensures.way
-    (λ way w. way_held _ c.args.self.now c.self.inside.arcs.items c.self.inside.forest c.self.inside.reaches c.as_slice.result.now c.args.from c.args.to way.items c.self.view_is c.self.invariant c.as_slice.ensures.value c.requires.from c.requires.to w)
+    (λ way w. way_held _ c.args.self.now c.self.inside.arcs.items c.self.inside.forest c.self.inside.reaches
+    c.as_slice.result.now c.args.from c.args.to way.items c.self.view_is c.self.invariant
+    c.as_slice.ensures.value c.requires.from c.requires.to w)
 
 pub returns-clause-rows : goal.returns-clause-rows
 returns-clause-rows c = IfSome_then c.in_ok-found.found (held c) (λ way h. h.rows)
@@ -23,4 +25,6 @@ pub returns-clause-end_once : goal.returns-clause-end_once
 returns-clause-end_once c = IfSome_then c.in_ok-found.found (held c) (λ way h. h.end_once)
 
 pub returns-clause-none : goal.returns-clause-none
-returns-clause-none c = none_then c.in_ok-found.found c.in_ok-found.ensures.none (λ ne. apart_held _ c.args.self.now c.self.inside.arcs.items c.self.inside.forest c.self.inside.reaches c.args.from c.args.to c.self.view_is c.self.invariant c.requires.from ne)
+returns-clause-none c = none_then c.in_ok-found.found c.in_ok-found.ensures.none
+    (λ ne. apart_held _ c.args.self.now c.self.inside.arcs.items c.self.inside.forest c.self.inside.reaches
+    c.args.from c.args.to c.self.view_is c.self.invariant c.requires.from ne)

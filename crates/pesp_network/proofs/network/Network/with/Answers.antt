@@ -7,7 +7,13 @@ pub invariant_of-result : goal.invariant_of-result
 invariant_of-result c =
     let r = c.requires in let s = r.sizes in let e = c.in_ok-arcs.ensures in
     record {
-      limits = record { some_period = s.some_period; period_most = s.period_most; events_most = s.events_most; rows_most = r.few; each = r.each };
+      limits = record {
+        some_period = s.some_period;
+        period_most = s.period_most;
+        events_most = s.events_most;
+        rows_most = r.few;
+        each = r.each;
+      };
       rows = rw c.as_slice.ensures.value at e.arcs;
       forest = r.forest;
       reaches = rw c.as_slice.ensures.value at e.reaches;

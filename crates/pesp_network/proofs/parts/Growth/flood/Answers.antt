@@ -10,7 +10,9 @@ pub events-init : goal.events-init
 events-init c =
     let b = c.requires.event in let s = c.args.self.now.sized in let k = c.args.self.now.place.ok.0 in
     let r = get_or_read c.args.self.now.place.items c.args.start _ (omega arith) c.index.ensures 0 in let f = c.if-index-ne0.false in
-    let w = start_flood (arcs_of_network c.args.rows.now) c.args.self.now c.open.new.self c.args.start c.requires.grown c.requires.closed c.requires.event c.requires.before (omega arith) c.in_ok-open.ensures.opens c.open.ensures.events in
+    let w = start_flood (arcs_of_network c.args.rows.now) c.args.self.now c.open.new.self c.args.start
+    c.requires.grown c.requires.closed c.requires.event c.requires.before
+    (omega arith) c.in_ok-open.ensures.opens c.open.ensures.events in
     record { grown = w.0; current = w.1; seen = w.2; started = w.3; events = c.open.ensures.events }
 
 pub returns-then-row_up-eq0-clause-grown : goal.returns-then-row_up-eq0-clause-grown
@@ -18,7 +20,8 @@ returns-then-row_up-eq0-clause-grown c =
     let g = c.events.self in let u = c.events.current in let i = c.events.invariant in
     let l = read_left g u _ (current_below (arcs_of_network c.args.rows.now) g u i.grown i.current) c.index-row_left.ensures in
     let t = c.if-row_left-eq0.true in
-    close_grown (arcs_of_network c.args.rows.now) g c.close.new.self u i.grown i.current (sym l ∙ t) c.close.ensures.closes c.close.ensures.events
+    close_grown (arcs_of_network c.args.rows.now) g c.close.new.self u i.grown i.current
+    (sym l ∙ t) c.close.ensures.closes c.close.ensures.events
 
 pub returns-then-row_up-eq0-clause-closed : goal.returns-then-row_up-eq0-clause-closed
 returns-then-row_up-eq0-clause-closed c =
@@ -33,7 +36,8 @@ returns-then-row_up-eq0-clause-closed c =
 pub events-smaller-then-row_left-eq0 : goal.events-smaller-then-row_left-eq0
 events-smaller-then-row_left-eq0 c =
     let i = c.events.invariant in
-    less_work (arcs_of_network c.args.rows.now) c.events.self c.close.new.self c.events.current i.grown i.current c.close.ensures.lasts c.close.ensures.lefts
+    less_work (arcs_of_network c.args.rows.now) c.events.self c.close.new.self c.events.current i.grown i.current
+    c.close.ensures.lasts c.close.ensures.lefts
 
 pub events-preserved-then-row_left-eq0 : goal.events-preserved-then-row_left-eq0
 events-preserved-then-row_left-eq0 c =
@@ -57,7 +61,13 @@ events-preserved-then-row_left-eq0 c =
 pub events-preserved : goal.events-preserved
 events-preserved c =
     let i = c.events.invariant in let a = c.in_ok-current.ensures in
-    record { grown = a.grown; current = a.current; seen = λ x sx. a.seen x (i.seen x sx); started = a.seen c.args.start i.started; events = a.events ∙ i.events }
+    record {
+      grown = a.grown;
+      current = a.current;
+      seen = λ x sx. a.seen x (i.seen x sx);
+      started = a.seen c.args.start i.started;
+      events = a.events ∙ i.events;
+    }
 
 pub returns-then-index-ne0-clause-start_seen : goal.returns-then-index-ne0-clause-start_seen
 returns-then-index-ne0-clause-start_seen c = grind (arith, common_steps)

@@ -14,12 +14,14 @@ root_bounds-requires c =
     let table = c.args.table.items in
     let count = length c.args.network.rows in
     let by_row = c.in_ok-by_row.by_row.items in
-    let rows : length c.arcs-arcs.result.now ≡ count = omega (arith, ap length c.arcs-arcs.ensures.arcs, length-map c.args.network.rows arc_of_net) in
+    let rows : length c.arcs-arcs.result.now ≡ count =
+    omega (arith, ap length c.arcs-arcs.ensures.arcs, length-map c.args.network.rows arc_of_net) in
     let cycles : c.len.result ≡ length table = omega (arith, c.len.ensures, c.args.table.ok.0) in
     let passages : ArePassages count (length table) table by_row = rw (rows, c.deref-2.ensures.value) at c.in_ok-by_row.ensures.passages in
     let small = rw (c.deref.ensures.value) at c.in_ok-judge.ensures.small in
     let most = small.rows in
-    let short : All (λ walk. length walk ≤ 10000000) table = λ k d l. omega (arith, get_or-le-sum_by {X = List SignedRow} length table k d l) in
+    let short : All (λ walk. length walk ≤ 10000000) table =
+    λ k d l. omega (arith, get_or-le-sum_by {X = List SignedRow} length table k d l) in
     let long : length by_row ≡ count = passages.long in
     let counts = rw (c.deref-3.ensures.value, long, cycles) at c.in_ok-nets.ensures in
     let nets : AreNets count table c.in_ok-nets.nets.items = counts table refl short passages in
@@ -30,12 +32,14 @@ invariant_of-result c =
     let table = c.args.table.items in
     let count = length c.args.network.rows in
     let by_row = c.in_ok-by_row.by_row.items in
-    let rows : length c.arcs-arcs.result.now ≡ count = omega (arith, ap length c.arcs-arcs.ensures.arcs, length-map c.args.network.rows arc_of_net) in
+    let rows : length c.arcs-arcs.result.now ≡ count =
+    omega (arith, ap length c.arcs-arcs.ensures.arcs, length-map c.args.network.rows arc_of_net) in
     let cycles : c.len.result ≡ length table = omega (arith, c.len.ensures, c.args.table.ok.0) in
     let passages : ArePassages count (length table) table by_row = rw (rows, c.deref-2.ensures.value) at c.in_ok-by_row.ensures.passages in
     let small = rw (c.deref.ensures.value) at c.in_ok-judge.ensures.small in
     let most = small.rows in
-    let short : All (λ walk. length walk ≤ 10000000) table = λ k d l. omega (arith, get_or-le-sum_by {X = List SignedRow} length table k d l) in
+    let short : All (λ walk. length walk ≤ 10000000) table =
+    λ k d l. omega (arith, get_or-le-sum_by {X = List SignedRow} length table k d l) in
     let long : length by_row ≡ count = passages.long in
     let counts = rw (c.deref-3.ensures.value, long, cycles) at c.in_ok-nets.ensures in
     let nets : AreNets count table c.in_ok-nets.nets.items = counts table refl short passages in

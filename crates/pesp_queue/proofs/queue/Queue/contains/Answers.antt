@@ -11,7 +11,9 @@ returns-clause-has c =
     let all = ap all_of (sym c.self.view_is) ∙ take-append-drop c.self.inside.waiting c.self.inside.entries.items in
     let h = c.find.ensures in
     let s = c.is_some.ensures in
-    let f = found c.self.inside.entries.items c.args.item c.find.result (subst (λ l. MatchOption c.find.result (¬ HasItem l c.args.item) (λ at. (at < length l) × (item_at l at ≡ c.args.item))) c.deref.ensures.value h) in
+    let f = found c.self.inside.entries.items c.args.item c.find.result
+    (subst (λ l. MatchOption c.find.result (¬ HasItem l c.args.item)
+    (λ at. (at < length l) × (item_at l at ≡ c.args.item))) c.deref.ensures.value h) in
     (λ t. subst (λ l. HasItem l c.args.item) (sym all) (f.0 (sym s ∙ t)), λ has. s ∙ f.1 (subst (λ l. HasItem l c.args.item) all has))
 
 pub returns-clause-limits : goal.returns-clause-limits

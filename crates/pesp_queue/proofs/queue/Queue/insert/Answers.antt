@@ -20,10 +20,15 @@ returns-clause-parked c =
     let all : length (c.deref_mut-2.result.now) ≡ length xs + 1 = ap length before ∙ length-append xs (x ∷ []) in
     let last : c.len-last.result - 1 ≡ length xs = omega (arith, c.len-last.ensures, d.len, all) in
     let long : length c.join.new.entries ≡ c.add.new.entries.len = omega (arith, d.len, c.join.auto.entries) in
-    let after : take c.add.new.entries.len (c.join.new.entries ++ drop (length c.join.new.entries) c.add.new.entries.items) ≡ c.join.new.entries = written c.add.new.entries.len c.join.new.entries _ long in
-    let is : drop (n + 1) c.join.new.entries ≡ drop (n + 1) (swap (xs ++ x ∷ []) n (length xs)) = b ∙ (λ i. drop (n + 1) (swap (before i) n (last i))) in
-    let moved : IsPermutation (drop n xs) (drop (n + 1) c.join.new.entries) = subst (IsPermutation (drop n xs)) (sym is) (rest_kept xs x x n c.self.invariant.within) in
-    subst (λ l. IsPermutation l (drop (n + 1) (take c.add.new.entries.len (c.join.new.entries ++ drop (length c.join.new.entries) c.add.new.entries.items)))) v
+    let after : take c.add.new.entries.len (c.join.new.entries
+    ++ drop (length c.join.new.entries) c.add.new.entries.items)
+    ≡ c.join.new.entries = written c.add.new.entries.len c.join.new.entries _ long in
+    let is : drop (n + 1) c.join.new.entries ≡ drop (n + 1) (swap (xs ++ x ∷ []) n (length xs)) = b
+    ∙ (λ i. drop (n + 1) (swap (before i) n (last i))) in
+    let moved : IsPermutation (drop n xs) (drop (n + 1) c.join.new.entries) =
+    subst (IsPermutation (drop n xs)) (sym is) (rest_kept xs x x n c.self.invariant.within) in
+    subst (λ l. IsPermutation l (drop (n + 1) (take c.add.new.entries.len
+    (c.join.new.entries ++ drop (length c.join.new.entries) c.add.new.entries.items)))) v
     (subst (λ l. IsPermutation (drop n xs) (drop (n + 1) l)) (sym after) moved)
 
 pub returns-clause-waiting : goal.returns-clause-waiting

@@ -8,7 +8,9 @@ pub returns-clause-first : goal.returns-clause-first
 returns-clause-first c =
     let v = c.self.view_is in
     let x = c.index-first.ensures in
-    subst (λ l. IsFirst l c.index-first.result.now) (ap (λ q. q.waiting) v) (root_first c.self.inside.entries.items c.self.inside.waiting c.index-first.result.now (omega arith) c.self.invariant.within x c.self.invariant.heap)
+    subst (λ l. IsFirst l c.index-first.result.now) (ap (λ q. q.waiting) v)
+    (root_first c.self.inside.entries.items c.self.inside.waiting c.index-first.result.now
+    (omega arith) c.self.invariant.within x c.self.invariant.heap)
 
 pub returns-clause-front : goal.returns-clause-front
 returns-clause-front c = grind (arith, common_steps)

@@ -24,7 +24,8 @@ returns-then-at-self-clause-value c = λ has.
     let at = c.in_ok-at.at in
     let h = c.in_ok-at.ensures in
     let d = c.deref.ensures.value in
-    not_behind xs c.self.inside.places.items c.self.invariant.placed c.self.inside.waiting at item c.if-at-self.true (subst (λ l. at < length l) d h.0) (subst (λ l. item_at l at ≡ item) d h.1)
+    not_behind xs c.self.inside.places.items c.self.invariant.placed c.self.inside.waiting at item
+    c.if-at-self.true (subst (λ l. at < length l) d h.0) (subst (λ l. item_at l at ≡ item) d h.1)
     (subst (λ l. HasItem l item) (sym (ap (λ q. q.parked) c.self.view_is)) has)
 
 pub returns-in_err-at-clause-value : goal.returns-in_err-at-clause-value

@@ -12,5 +12,6 @@ returns-clause-parked c =
     let d = c.deref.ensures.value in
     let within : c.place_of-at.result < length xs = subst (λ l. c.place_of-at.result < length l) d e.within in
     let named : item_at xs c.place_of-at.result ≡ c.args.item = subst (λ l. item_at l c.place_of-at.result ≡ c.args.item) d e.item in
-    set_value xs c.self.inside.places.items c.self.invariant.placed c.self.inside.waiting c.place_of-at.result c.args.item c.args.value within named
+    set_value xs c.self.inside.places.items c.self.invariant.placed c.self.inside.waiting c.place_of-at.result
+    c.args.item c.args.value within named
     ∙ ap (revalued c.args.item c.args.value) v

@@ -24,10 +24,21 @@ returns c =
     ∙ ap (map (lowered_time p.period times H)) c.as_slice-firsts.ensures.value in
     let given = subst (λ (r : ReducedValue). IsTimetable r.original times) (sym c.self.view_is) c.requires in
     let P : ReducedValue → List ℕ → Type 0 = λ r xs. IsNetTimetable (net_of_network r.network) r.network.events xs in
-    let Q : ReducedValue → List ℕ → Type 0 = λ r xs. (j : ℕ) → j < length r.network.rows → arc_slack r.network.period xs (arc_of_net (net_row_at r.network.rows j)) ≡ slack r.original.period times (row_at r.original.rows (origin_place r.network j)) in
-    let V : ReducedValue = record { original = p; fates = v.fates.items; stands = v.contraction.stands.items; shifts = H; network = v.network } in
-    let is_timetable : P V made = subst (P V) (sym made_is) (lowered_is_timetable p v.fates.items v.whole v.network v.contraction times k c.self.invariant given) in
-    let are_slacks : Q V made = subst (Q V) (sym made_is) (λ j l. lowered_slacks p v.fates.items v.whole v.network v.contraction times j k c.self.invariant given l) in
+    let Q : ReducedValue → List ℕ → Type 0 = λ r xs. (j : ℕ) → j < length r.network.rows
+    → arc_slack r.network.period xs (arc_of_net (net_row_at r.network.rows j))
+    ≡ slack r.original.period times (row_at r.original.rows (origin_place r.network j)) in
+    let V : ReducedValue = record {
+      original = p;
+      fates = v.fates.items;
+      stands = v.contraction.stands.items;
+      shifts = H;
+      network = v.network;
+    } in
+    let is_timetable : P V made = subst (P V) (sym made_is)
+    (lowered_is_timetable p v.fates.items v.whole v.network v.contraction times k c.self.invariant given) in
+    let are_slacks : Q V made = subst (Q V) (sym made_is)
+    (λ j l. lowered_slacks p v.fates.items v.whole v.network v.contraction times j k c.self.invariant given
+    l) in
     record {
       timetable = subst (λ r. P r made) c.self.view_is is_timetable;
       slacks = subst (λ r. Q r made) c.self.view_is are_slacks;

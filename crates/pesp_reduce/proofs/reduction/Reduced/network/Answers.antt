@@ -17,19 +17,23 @@ returns-clause-period c =
 pub returns-clause-no_bridge : goal.returns-clause-no_bridge
 returns-clause-no_bridge c =
     let v = c.self.inside in
-    let P : ReducedValue → Type 0 = λ r. (row : ℕ) → Names (length r.network.rows) row → IsBridge (arcs_of_network r.network.rows) row → ⊥ in
+    let P : ReducedValue → Type 0 = λ r. (row : ℕ) → Names (length r.network.rows) row
+    → IsBridge (arcs_of_network r.network.rows) row → ⊥ in
     subst P c.self.view_is (c.self.invariant.no_bridge)
 
 pub returns-clause-no_free : goal.returns-clause-no_free
 returns-clause-no_free c =
     let v = c.self.inside in
-    let P : ReducedValue → Type 0 = λ r. (j : ℕ) → j < length r.network.rows → IsFree r.network.period (arc_of_net (net_row_at r.network.rows j)) → ⊥ in
+    let P : ReducedValue → Type 0 = λ r. (j : ℕ) → j < length r.network.rows
+    → IsFree r.network.period (arc_of_net (net_row_at r.network.rows j)) → ⊥ in
     subst P c.self.view_is (λ j l. none_free v.original v.fates.items v.whole v.network v.contraction j c.self.invariant l)
 
 pub returns-clause-no_fixed : goal.returns-clause-no_fixed
 returns-clause-no_fixed c =
     let v = c.self.inside in
-    let P : ReducedValue → Type 0 = λ r. (j : ℕ) → j < length r.network.rows → (net_row_at r.network.rows j).span ≡ 0 → (net_row_at r.network.rows j).tail ≡ (net_row_at r.network.rows j).head in
+    let P : ReducedValue → Type 0 = λ r. (j : ℕ) → j < length r.network.rows
+    → (net_row_at r.network.rows j).span ≡ 0 → (net_row_at r.network.rows j).tail
+    ≡ (net_row_at r.network.rows j).head in
     subst P c.self.view_is (λ j l. none_fixed v.original v.fates.items v.whole v.network v.contraction j c.self.invariant l)
 
 pub returns-clause-rows : goal.returns-clause-rows

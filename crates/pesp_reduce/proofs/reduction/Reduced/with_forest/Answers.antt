@@ -10,7 +10,9 @@ use Rattle.pesp_reduce.specs.Reductions.{IsReduction}
 use Rattle.pesp_reduce.proofs.reduction.Reduced.with_forest.Goals as goal
 
 -- a network that differs in its forest alone
-same_rows : (p : Pesp) (fates : List Fate) (whole n m : NetworkValue) (k : Contraction) → IsReduction p fates whole k n → m.period ≡ n.period → m.events ≡ n.events → m.rows ≡ n.rows → IsReduction p fates whole k m
+same_rows : (p : Pesp) (fates : List Fate) (whole n m : NetworkValue) (k : Contraction)
+    → IsReduction p fates whole k n → m.period ≡ n.period → m.events ≡ n.events → m.rows ≡ n.rows
+    → IsReduction p fates whole k m
 same_rows p fates whole n m k r period events rows =
     let P : List NetRow → Type 0 = λ xs. (row : ℕ) → Names (length xs) row → IsBridge (arcs_of_network xs) row → ⊥ in
     record {

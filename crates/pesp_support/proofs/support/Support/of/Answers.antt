@@ -4,7 +4,9 @@ use Rattle.pesp_support.proofs.support.Support.of.Goals as goal
 
 pub firsts_of-requires : goal.firsts_of-requires
 firsts_of-requires c =
-    ends_of c.args.instance.now c.deref.result.now (length c.events-events.result.now) (c.deref.ensures.value ∙ c.in_ok-arcs.ensures) (ap length c.events-events.ensures.events) c.period-period.ensures.limits
+    ends_of c.args.instance.now c.deref.result.now (length c.events-events.result.now)
+    (c.deref.ensures.value ∙ c.in_ok-arcs.ensures)
+    (ap length c.events-events.ensures.events) c.period-period.ensures.limits
 
 pub invariant_of-result : goal.invariant_of-result
 invariant_of-result c =
@@ -17,7 +19,9 @@ invariant_of-result c =
       events_most = let a = k.events in omega arith;
       ends = ends_of c.args.instance.now c.in_ok-arcs.arcs.items (length c.events-events.result.now) c.in_ok-arcs.ensures e k;
       long = c.in_ok-firsts.ensures.long;
-      first_events = firsts_at c.in_ok-arcs.arcs.items c.deref.result.now (length c.events-events.result.now) c.in_ok-firsts.firsts.items c.deref.ensures.value c.in_ok-firsts.ensures.firsts;
+      first_events = firsts_at c.in_ok-arcs.arcs.items c.deref.result.now
+          (length c.events-events.result.now) c.in_ok-firsts.firsts.items c.deref.ensures.value
+          c.in_ok-firsts.ensures.firsts;
       room = omega (arith, c.in_ok-words.ensures.len, c.in_ok-words.words.ok.0, c.words_for.ensures);
       marks_before = omega (arith, c.in_ok-before.ensures.len, c.in_ok-before.before.ok.0);
       marks_now = omega (arith, c.in_ok-now.ensures.len, c.in_ok-now.now.ok.0);

@@ -14,7 +14,12 @@ invariant_of-self-2 c =
     let a_fits = a.ok in
     let b_len = b.len in
     let b_fits = b.ok in
-    let long : c.nodes.result ≡ length c.self.inside.nodes.items = c.nodes.ensures.count ∙ ap (λ t. length t.leaves) (sym c.self.view_is) ∙ length_leaves c.self.inside.nodes.items in
+    let long : c.nodes.result ≡ length c.self.inside.nodes.items = c.nodes.ensures.count
+    ∙ ap (λ t. length t.leaves) (sym c.self.view_is) ∙ length_leaves c.self.inside.nodes.items in
     let new = c.max-self-inside.ensures in
-    room_is_kept c.self.inside.branchings.items c.reserve.new.self.items c.self.inside.nodes.items c.reserve-2.new.self.items c.self.inside.room c.args.more c.max-self-inside.result (vec_capacity c.self.inside.branchings) (vec_capacity c.self.inside.nodes) (vec_capacity c.reserve.new.self) (vec_capacity c.reserve-2.new.self) c.self.invariant a.items b.items a.capacity b.capacity
+    room_is_kept c.self.inside.branchings.items c.reserve.new.self.items c.self.inside.nodes.items
+    c.reserve-2.new.self.items c.self.inside.room c.args.more c.max-self-inside.result
+    (vec_capacity c.self.inside.branchings) (vec_capacity c.self.inside.nodes)
+    (vec_capacity c.reserve.new.self) (vec_capacity c.reserve-2.new.self) c.self.invariant a.items b.items
+    a.capacity b.capacity
     (omega (arith, bs, a_len, a_fits)) (omega (arith, kept, b_len, b_fits)) (new ∙ ap (λ n. max c.self.inside.room (n + c.args.more)) long)

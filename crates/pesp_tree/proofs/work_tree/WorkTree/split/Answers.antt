@@ -13,7 +13,8 @@ branch_off-requires-clause-few c = few_branchings c.self.inside.branchings.items
 pub branch_off-requires-clause-place : goal.branch_off-requires-clause-place
 branch_off-requires-clause-place c =
     let count = c.self.inside.branchings.ok.0 in
-    let fits = branching_fits c.self.inside.branchings.items c.self.inside.nodes.items c.self.inside.room _ _ c.self.invariant (subst (λ t. length t.leaves + 2 ≤ t.room) (sym c.self.view_is) c.requires.room) in
+    let fits = branching_fits c.self.inside.branchings.items c.self.inside.nodes.items c.self.inside.room _ _
+    c.self.invariant (subst (λ t. length t.leaves + 2 ≤ t.room) (sym c.self.view_is) c.requires.room) in
     omega (arith, count, fits)
 
 abbrev branching : After-branch_off → Branching
@@ -21,7 +22,10 @@ branching c = record { node = c.args.node; cut = c.args.cut }
 
 numbered : (c : After-branch_off) → AreNumbered c.branch_off.new.branchings.items c.branch_off.new.nodes.items
 numbered c =
-    let more = split_numbered c.self.inside.branchings.items c.self.inside.nodes.items (branching c) c.args.low c.args.high c.self.invariant.numbered (subst (λ t. IsSome (leaf_at t c.args.node)) (sym c.self.view_is) c.requires.leaf) (subst (λ t. length t.leaves + 2 ≤ 1000000) (sym c.self.view_is) c.requires.few) in
+    let more = split_numbered c.self.inside.branchings.items c.self.inside.nodes.items
+    (branching c) c.args.low c.args.high c.self.invariant.numbered
+    (subst (λ t. IsSome (leaf_at t c.args.node)) (sym c.self.view_is) c.requires.leaf)
+    (subst (λ t. length t.leaves + 2 ≤ 1000000) (sym c.self.view_is) c.requires.few) in
     rw (c.branch_off.ensures.branchings, c.branch_off.ensures.nodes) more
 
 pub invariant_of-self : goal.invariant_of-self
@@ -33,7 +37,9 @@ invariant_of-self c =
 
 pub returns-clause-tree : goal.returns-clause-tree
 returns-clause-tree c =
-    let is = split_value c.self.inside.branchings.items c.self.inside.nodes.items c.self.inside.room (branching c) c.args.low c.args.high c.self.invariant.numbered (subst (λ t. IsSome (leaf_at t c.args.node)) (sym c.self.view_is) c.requires.leaf) in
+    let is = split_value c.self.inside.branchings.items c.self.inside.nodes.items c.self.inside.room
+    (branching c) c.args.low c.args.high c.self.invariant.numbered
+    (subst (λ t. IsSome (leaf_at t c.args.node)) (sym c.self.view_is) c.requires.leaf) in
     rw (← c.self.view_is) (rw (c.branch_off.ensures.branchings, c.branch_off.ensures.nodes) is)
 
 pub returns-clause-whole : goal.returns-clause-whole

@@ -2,6 +2,7 @@
 use Rattle.std.specs.Prelude.{◌≡◌, ◌<◌, ◌≤◌, ◌+◌, ℕ, ℤ, Bool, List, ◌∷◌, ◌++◌, length, All, sum_by, Some, Result, Ok, Err}
 use Rattle.std.specs.Global.{Vec}
 use Rattle.std.specs.List.Sorted.{IsPermutation}
+use Rattle.pesp_problem.specs.declared.limits.TheConstants.{MOST_LINES, MOST_PAIRS}
 use Rattle.pesp_problem.specs.declared.pair.Pair.{Pair}
 use Rattle.pesp_problem.specs.declared.cut.Cut.{Cut}
 use Rattle.pesp_problem.specs.declared.cut.Side.{Side}
@@ -66,8 +67,8 @@ MakesOf p node old work (Err TooLarge) = ⊥
 
 -- in place of a leaf of a tree with so many lines, and so many pairs beside those of that leaf, these lines keep the limits
 pub record HasRoom (long rest : ℕ) (new : List Line) : Type 0 where
-  pub lines : long + length new ≤ 1000001
-  pub pairs : rest + sum_by pairs_in new ≤ 20000000
+  pub lines : long + length new ≤ MOST_LINES + 1
+  pub pairs : rest + sum_by pairs_in new ≤ MOST_PAIRS
 
 -- the node has a bound leaf, the tree keeps its limits, and it has so many pairs
 pub record IsWorkable (p : ProblemValue) (t : WorkTreeValue) (node n : ℕ) : Type 0 where

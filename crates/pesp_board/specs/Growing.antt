@@ -1,5 +1,6 @@
 -- A tree under work grows at a leaf, part by part.
 use Rattle.std.specs.Prelude.{◌≡◌, ◌≢◌, IsSome, true, ℕ, ◌+◌, ◌≤◌, List, [], ◌∷◌, ◌++◌, length, Option, Some, None}
+use Rattle.pesp_problem.specs.declared.limits.TheConstants.{MOST_LINES}
 use Rattle.pesp_truth.specs.Trees.{Leaf, Gap, are_trees}
 use Rattle.pesp_tree.specs.Leaves.{leaf_of}
 use Rattle.pesp_tree.specs.WorkTrees.{WorkTreeValue, IsWhole, leaf_at, with_leaf, with_branch, with_room}
@@ -37,7 +38,7 @@ part_value (LeafPart part) = part.value
 
 -- there is room for the nodes that a part makes
 abbrev pub Grows : WorkTreeValue → Part → Type 0
-Grows t (CutPart cut) = (length t.leaves + 2 ≤ t.room) × (length t.leaves + 2 ≤ 1000000)
+Grows t (CutPart cut) = (length t.leaves + 2 ≤ t.room) × (length t.leaves + 2 ≤ MOST_LINES)
 Grows t (LeafPart part) = Unit {0}
 
 -- the tree once these nodes have got the parts, in preorder
@@ -77,7 +78,7 @@ pub record AreReady (t : WorkTreeValue) (q : QueueValue) (nodes : List ℕ) (par
   pub fresh : AreUnqueued q nodes
   pub beyond : (node : ℕ) → length t.leaves ≤ node → HasItem (all_of q) node → ⊥
   pub lines : length t.leaves + length parts ≤ t.room + length nodes
-  pub few : length t.leaves + length parts ≤ 1000000 + length nodes
+  pub few : length t.leaves + length parts ≤ MOST_LINES + length nodes
   pub numbers : length t.leaves + length parts ≤ q.numbers + length nodes
   pub room : length (all_of q) + length parts ≤ q.room
 

@@ -1,5 +1,6 @@
 -- A waiting leaf is lent.
 use Rattle.std.specs.Prelude.{◌≡◌, ◌<◌, ◌≤◌, List, [], ◌∷◌, ◌++◌, length, ℤ, Option, Some, None, Result, Ok, Err, ℕ}
+use Rattle.pesp_problem.specs.declared.limits.TheConstants.{MOST_LINES}
 use Rattle.pesp_problem.specs.declared.cut.Cut.{Cut}
 use Rattle.pesp_problem.specs.declared.cut.Side.{Side}
 use Rattle.pesp_nodes.specs.Problems.{ProblemValue}
@@ -28,7 +29,7 @@ pub record IsFirstOpen (p : ProblemValue) (state : State) (path : List (Cut × S
 -- the entry's node is lent under the next number, with the path to it
 pub record LendsNext (t : WorkTreeValue) (best : Option Best) (old : List Slot) (e : Entry) (job : Job) (new : List Slot) : Type 0 where
   pub cheaper : IsCheaper e.value (cost_of best)
-  pub left : length old < 1000000
+  pub left : length old < MOST_LINES
   pub number : job.number ≡ length old
   pub path : job.path.items ≡ path_to t e.item
   pub slots : new ≡ old ++ LentSlot e.item ∷ []
@@ -37,7 +38,7 @@ pub record LendsNext (t : WorkTreeValue) (best : Option Best) (old : List Slot) 
 abbrev pub LendsEntry : WorkTreeValue → Option Best → List Slot → Entry → Result (Option Job) LendRefusal → List Slot → Type 0
 LendsEntry t best old e (Ok None) new = (new ≡ old) × (IsCheaper e.value (cost_of best) → ⊥)
 LendsEntry t best old e (Ok (Some job)) new = LendsNext t best old e job new
-LendsEntry t best old e (Err NumbersSpent) new = (new ≡ old) × IsCheaper e.value (cost_of best) × (1000000 ≤ length old)
+LendsEntry t best old e (Err NumbersSpent) new = (new ≡ old) × IsCheaper e.value (cost_of best) × (MOST_LINES ≤ length old)
 LendsEntry t best old e (Err Memory) new = new ≡ old
 
 -- what is lent is open, and no open leaf has a lesser value

@@ -2,6 +2,7 @@
 use Rattle.std.specs.Prelude.{◌≡◌, ◌⊎◌, ℕ, ◌+◌, ◌<◌, ◌≤◌, List, [], ◌∷◌, ◌++◌, length, map, All, Contains, Option, IsSome, Result, Ok, Err}
 use Rattle.std.specs.Global.{Vec}
 use Rattle.std.specs.List.Sorted.{IsPermutation}
+use Rattle.pesp_problem.specs.declared.limits.TheConstants.{MOST_LINES}
 use Rattle.pesp_truth.specs.Leaves.{leaf_paths}
 use Rattle.pesp_tree.specs.WorkTrees.{WorkTreeValue, path_to, leaf_at}
 use Rattle.pesp_queue.specs.declared.entry.Entry.{Entry}
@@ -37,8 +38,8 @@ pub record AreOpenNodes (t : WorkTreeValue) (q : QueueValue) (best : Option Best
 -- the nodes are lent under the next numbers, in order, or nothing has changed
 abbrev pub LendsNodes : WorkTreeValue → List Slot → List ℕ → Result (Vec Job) LendRefusal → List Slot → Type 0
 LendsNodes t old nodes (Ok jobs) new = (new ≡ old ++ map LentSlot nodes)
-    × AreNumbered (length old) jobs.items (map (path_to t) nodes) × (length old + length nodes ≤ 1000000)
-LendsNodes t old nodes (Err NumbersSpent) new = (new ≡ old) × (1000000 < length old + length nodes)
+    × AreNumbered (length old) jobs.items (map (path_to t) nodes) × (length old + length nodes ≤ MOST_LINES)
+LendsNodes t old nodes (Err NumbersSpent) new = (new ≡ old) × (MOST_LINES < length old + length nodes)
 LendsNodes t old nodes (Err Memory) new = new ≡ old
 
 -- what waited with a value below the best cost is parked, and nothing else changes

@@ -1,6 +1,7 @@
 //! The parts of a board that goes on from a valid certificate.
 
 ghost use Rattle.std.specs.Prelude.{◌≡◌, ◌≤◌, ◌∷◌, [], length, map, sum_by, true, IsSome, IfOk};
+ghost use Rattle.pesp_problem.specs.declared.limits.TheConstants.{MOST_LINES};
 ghost use Rattle.pesp_problem.specs.Limits as instances;
 ghost use Rattle.pesp_problem.specs.Nodes as spec;
 ghost use Rattle.pesp_truth.specs.Trees.{Bound, Nothing, EndLine, are_trees};
@@ -196,7 +197,7 @@ fn parts_of_tree(
         (λ made. AreValued problem.now (root_of problem.now ∷ []) made.0.items) }
     ensures pairs { IfOk result (λ made. made.1 ≡ sum_by pairs_in (lines_of certificate.now)) }
     ensures shape { IfOk result (λ made. are_trees 1 (part_lines made.0.items) ≡ true) }
-    ensures few { IfOk result (λ made. length made.0.items ≤ 1000000) }
+    ensures few { IfOk result (λ made. length made.0.items ≤ MOST_LINES) }
 {
     let mut walk = NodeWalk::new(alloc, problem.root(alloc)?);
     let parts = value_lines(alloc, problem, &mut walk, certificate.tree())?;
@@ -209,7 +210,7 @@ fn parts_of_tree(
 /// The tree of these parts, and the queue of its bound leaves.
 fn plant_alone(alloc: Global, parts: Vec<Part>) -> Result<(WorkTree, Queue), Memory>
     requires shape { are_trees 1 (part_lines parts.items) ≡ true }
-    requires few { length parts.items ≤ 1000000 }
+    requires few { length parts.items ≤ MOST_LINES }
     ensures planted { IfOk result (λ made. IsPlantedAlone parts.items made.0 made.1) }
     ensures whole { IfOk result (λ made. IsWhole made.0) }
 {

@@ -13,6 +13,7 @@ use crate::part::{Part, parts_of};
 use crate::slot::Slot;
 use pesp_machine::{GiveRefusal, Work};
 use pesp_nodes::Problem;
+use pesp_problem::{MOST_LINES, MOST_PAIRS};
 use pesp_tree::{Leaf, WorkTree};
 use std::alloc::Global;
 
@@ -55,12 +56,12 @@ fn count_in(part: &Part) -> u64
 
 /// The count with those of a part; None where that passes the limit.
 fn add_pairs(count: u64, part: &Part) -> Option<u64>
-    requires { count ≤ 20000000 }
-    ensures { MatchOption result (20000000 < count + pairs_in (part_line part.now))
-        (λ n. (n ≡ count + pairs_in (part_line part.now)) × (n ≤ 20000000)) }
+    requires { count ≤ MOST_PAIRS }
+    ensures { MatchOption result (MOST_PAIRS < count + pairs_in (part_line part.now))
+        (λ n. (n ≡ count + pairs_in (part_line part.now)) × (n ≤ MOST_PAIRS)) }
 {
     let own = count_in(part);
-    if own > 20_000_000 - count {
+    if own > MOST_PAIRS as u64 - count {
         return None;
     }
     Some(count + own)
@@ -69,13 +70,13 @@ fn add_pairs(count: u64, part: &Part) -> Option<u64>
 /// How many pairs a tree has with these parts, where it has so many lines, and so many pairs beside those of the leaf that
 /// goes; None where lines or pairs would pass their limits.
 pub(crate) fn size_with(lines: u32, rest: u64, parts: &[Part]) -> Option<u64>
-    requires lines { lines ≤ 1000000 }
-    requires rest { rest ≤ 20000000 }
+    requires lines { lines ≤ MOST_LINES }
+    requires rest { rest ≤ MOST_PAIRS }
     ensures { MatchOption result (HasRoom lines rest (part_lines parts.now) → ⊥)
         (λ n. HasRoom lines rest (part_lines parts.now)
         × (n ≡ rest + sum_by pairs_in (part_lines parts.now))) }
 {
-    if parts.len() > 1_000_001 - lines as usize {
+    if parts.len() > MOST_LINES + 1 - lines as usize {
         return None;
     }
     let mut count = rest;

@@ -8,7 +8,7 @@ ghost use Rattle.pesp_board.specs.Lending.{HasJob, HasPairs, LendsEntry};
 use crate::best::Best;
 use crate::slot::Slot;
 use pesp_machine::{Job, LendRefusal};
-use pesp_problem::Pair;
+use pesp_problem::{MOST_LINES, Pair};
 use pesp_queue::Entry;
 use pesp_tree::{Leaf, WorkTree};
 use std::alloc::Global;
@@ -48,7 +48,7 @@ pub(crate) fn lend_entry(
     if !is_cheaper(entry.value, best) {
         return Ok(None);
     }
-    if slots.len() >= 1_000_000 {
+    if slots.len() >= MOST_LINES {
         return Err(LendRefusal::NumbersSpent);
     }
     slots.reserve(1)?;

@@ -10,7 +10,7 @@ use crate::best::Best;
 use crate::lend::is_cheaper;
 use crate::slot::Slot;
 use pesp_machine::{Job, LendRefusal};
-use pesp_problem::Memory;
+use pesp_problem::{MOST_LINES, Memory};
 use pesp_queue::Queue;
 use pesp_tree::WorkTree;
 use std::alloc::Global;
@@ -61,7 +61,7 @@ pub(crate) fn open_nodes(
 /// The jobs of nodes, numbered from `first` on.
 fn jobs_of(alloc: Global, tree: &WorkTree, nodes: &[u32], first: u64) -> Result<Vec<Job>, Memory>
     requires nodes { All (λ node. node < length tree.now.leaves) nodes.now }
-    requires few { first + length nodes.now ≤ 1000000 }
+    requires few { first + length nodes.now ≤ MOST_LINES }
     ensures { IfOk result
         (λ jobs. AreNumbered first jobs.items (map (path_to tree.now) nodes.now)) }
 {
@@ -97,7 +97,7 @@ pub(crate) fn lend_nodes(
     requires { All (λ node. node < length tree.now.leaves) nodes.now }
     ensures { LendsNodes tree.now slots.old.items nodes.now result slots.new.items }
 {
-    if slots.len() + nodes.len() > 1_000_000 {
+    if slots.len() + nodes.len() > MOST_LINES {
         return Err(LendRefusal::NumbersSpent);
     }
     let jobs = jobs_of(alloc, tree, nodes, slots.len() as u64)?;

@@ -2,6 +2,7 @@
 
 ghost use Rattle.std.specs.Prelude.{◌≡◌, ◌+◌, ◌<◌, ◌≤◌, [], ◌∷◌, ◌++◌, ℕ, List, length, reverse, true, IsSome, OnOk, OnErr, vec_len, vec_capacity};
 ghost use Rattle.std.specs.List.Sorted.{IsPermutation};
+ghost use Rattle.pesp_problem.specs.declared.limits.TheConstants.{MOST_LINES};
 ghost use Rattle.pesp_truth.specs.Trees.{are_trees};
 ghost use Rattle.pesp_tree.specs.WorkTrees.{leaf_at, with_branch, IsWhole};
 ghost use Rattle.pesp_queue.specs.Entries.{HasItem};
@@ -45,7 +46,7 @@ fn note(waiting: &mut Vec<u32>, node: u32)
 fn plant_cut(tree: &mut WorkTree, waiting: &mut Vec<u32>, node: u32, cut: Cut)
     requires leaf { IsSome (leaf_at tree.old node) }
     requires room { length tree.old.leaves + 2 ≤ tree.old.room }
-    requires few { length tree.old.leaves + 2 ≤ 1000000 }
+    requires few { length tree.old.leaves + 2 ≤ MOST_LINES }
     requires memory { vec_len waiting.old + 2 ≤ vec_capacity waiting.old }
     ensures tree { tree.new ≡ with_branch tree.old node cut blank blank }
     ensures whole { IsWhole tree.new }

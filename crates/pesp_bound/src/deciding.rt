@@ -1,6 +1,7 @@
 //! Pairs that show that no slacks of the ranges have offsets of the ranges, where a system of differences shows it.
 
 ghost use Rattle.std.specs.Prelude.{◌≡◌, ℕ, ◌<◌, ◌≤◌, ◌<ℤ◌, length, pos, false, IfOk, IfSome, IsSome, IsSomeAnd, MatchOption};
+ghost use Rattle.pesp_problem.specs.declared.limits.TheConstants.{MOST_EVENTS, MOST_ROWS};
 ghost use Rattle.pesp_problem.specs.Nodes as spec;
 ghost use Rattle.pesp_nodes.specs.Problems.{net_of, IsNodeOf, ArePairs};
 ghost use Rattle.pesp_bound.specs.Settling.{AreWithin, AreSettled, GainsForEver};
@@ -50,9 +51,9 @@ fn closing_way(
     levels: &[usize],
 ) -> Result<Option<Vec<usize>>, AllocError>
     requires within { AreWithin events 10300001030000 edges.now }
-    requires few { events ≤ 100000 }
+    requires few { events ≤ MOST_EVENTS }
     ensures { IfOk result (λ o. MatchOption o ((h : ℕ → ℕ) × AreSettled edges.now h)
-        (λ way. GainsForEver edges.now way.items × (length way.items ≤ 100000))) }
+        (λ way. GainsForEver edges.now way.items × (length way.items ≤ MOST_ROWS))) }
 {
     if are_settled(edges, levels) {
         return Ok(None);

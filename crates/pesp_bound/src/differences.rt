@@ -2,6 +2,7 @@
 //! its slack range allows, less the periods by which the row is shifted.
 
 ghost use Rattle.std.specs.Prelude.{◌≡◌, ℕ, ◌-◌, ◌<◌, ◌≤◌, ◌+ℤ◌, ◌*ℤ◌, length, pos, unsigned_abs, All, IfOk};
+ghost use Rattle.pesp_problem.specs.declared.limits.TheConstants.{MOST_LOWER, MOST_PERIOD, MOST_ROWS};
 ghost use Rattle.pesp_problem.specs.Walks.{Names, start, finish};
 ghost use Rattle.pesp_nets.specs.Ranges.{AreSlackEnds};
 ghost use Rattle.pesp_nodes.specs.Offsets.{AreArcs, IsSmallOffset};
@@ -18,7 +19,7 @@ pub const MOST: usize = 10300001030000;
 
 /// The rows that cycles pass, each under a plus sign and then under a minus sign.
 pub fn passed_rows(alloc: Global, by_row: &[Passages]) -> Result<Vec<SignedRow>, AllocError>
-    requires { length by_row.now ≤ 100000 }
+    requires { length by_row.now ≤ MOST_ROWS }
     ensures { IfOk result (λ v. ArePassed by_row.now (length by_row.now) v.items) }
 {
     let mut rows = Vec::new(alloc);
@@ -35,8 +36,8 @@ pub fn passed_rows(alloc: Global, by_row: &[Passages]) -> Result<Vec<SignedRow>,
 
 /// The duration of a row at a slack.
 fn duration(lower: i64, slack: u32) -> i64
-    requires lower { unsigned_abs lower ≤ 1020000 }
-    requires slack { slack ≤ 10000 }
+    requires lower { unsigned_abs lower ≤ MOST_LOWER }
+    requires slack { slack ≤ MOST_PERIOD }
     ensures value { result ≡ lower +ℤ pos slack }
     ensures size { unsigned_abs result ≤ 1030000 }
 {
@@ -54,9 +55,9 @@ fn periods(period: u32, offset: i64) -> i64
 
 /// The most by which levels may rise along a row.
 fn rise_bound(period: u32, arc: &Arc, slacks: (u32, u32), shift: (i64, i64), plus: bool) -> i64
-    requires lower { unsigned_abs arc.now.lower ≤ 1020000 }
-    requires low { slacks.0 ≤ 10000 }
-    requires high { slacks.1 ≤ 10000 }
+    requires lower { unsigned_abs arc.now.lower ≤ MOST_LOWER }
+    requires low { slacks.0 ≤ MOST_PERIOD }
+    requires high { slacks.1 ≤ MOST_PERIOD }
     requires from { IsSmallOffset period shift.0 }
     requires to { IsSmallOffset period shift.1 }
     ensures value { result ≡ spec.rise_bound period arc.now slacks shift plus }

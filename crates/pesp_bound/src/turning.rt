@@ -1,6 +1,7 @@
 //! The pairs of a closed way: how often it turns each cycle.
 
 ghost use Rattle.std.specs.Prelude.{◌≡◌, ℕ, ◌-◌, ◌<◌, ◌≤◌, length, pos, unsigned_abs, slice_index_or, All, IfOk, MatchBool, ⊤, vec_len};
+ghost use Rattle.pesp_problem.specs.declared.limits.TheConstants.{MOST_CYCLES, MOST_ROWS};
 ghost use Rattle.pesp_problem.specs.Walks.{Names, net_count};
 ghost use Rattle.pesp_problem.specs.Forests.{own_row};
 ghost use Rattle.pesp_nodes.specs.Problems.{ArePairs};
@@ -36,7 +37,7 @@ pub fn flows_along(
 ) -> Result<Vec<i64>, AllocError>
     requires exist { All (λ s. Names count s.row) rows.now }
     requires places { All (λ k. k < length rows.now) way.now }
-    requires short { length way.now ≤ 100000 }
+    requires short { length way.now ≤ MOST_ROWS }
     ensures long { IfOk result (λ v. vec_len v ≡ count) }
     ensures flows { IfOk result (λ v. (i : ℕ) → i < count
         → slice_index_or v.items i (pos 0) ≡ net_count (walk_along rows.now way.now) i) }
@@ -64,7 +65,7 @@ fn is_zero(flow: &i64) -> bool
 
 /// The cycles with the flows on the rows with which they begin, where these are not 0.
 pub fn pairs_of(alloc: Global, table: &[Walk], flows: &[i64]) -> Result<Vec<Pair>, AllocError>
-    requires few { length table.now ≤ 100000 }
+    requires few { length table.now ≤ MOST_CYCLES }
     requires own { All (λ walk. Names (length flows.now) (own_row walk)) table.now }
     requires small { All (λ z. unsigned_abs z ≤ 1000000000000) flows.now }
     ensures pairs { IfOk result (λ v. ArePairs (length table.now) v.items) }

@@ -1,6 +1,7 @@
 //! Where a leaf is split.
 
 ghost use Rattle.std.specs.Prelude.{◌≡◌, ◌<◌, ◌≤◌, ◌≤ℤ◌, ◌+ℤ◌, ◌+◌, ◌-◌, ℕ, ℤ, pos, length, true, false, slice_index_or, IfSome, IfNone, IsTrue};
+ghost use Rattle.pesp_problem.specs.declared.limits.TheConstants.{MOST_CYCLES, MOST_ROWS};
 ghost use Rattle.pesp_problem.specs.Walks.{Names};
 ghost use Rattle.pesp_problem.specs.Nodes.{slack_range, offset_range, LeavesBoth};
 ghost use Rattle.pesp_truth.specs.Trees.{CutExists};
@@ -25,7 +26,7 @@ pub struct Choice {
 
 /// The first range of offsets with two values, and the least of them.
 fn offset_to_cut(offsets: &[(i64, i64)]) -> Option<(u32, i64)>
-    requires { length offsets.now ≤ 100000 }
+    requires { length offsets.now ≤ MOST_CYCLES }
     ensures exists { IfSome result (λ cut. Names (length offsets.now) cut.0) }
     ensures low { IfSome result (λ cut. (offset_range offsets.now (cut.0 - 1)).0 ≤ℤ cut.1) }
     ensures high { IfSome result
@@ -44,7 +45,7 @@ fn offset_to_cut(offsets: &[(i64, i64)]) -> Option<(u32, i64)>
 
 /// The first range of slacks with two values of a row that is passed, and the least of them.
 fn slack_to_cut(slacks: &[(u32, u32)], passed: &[bool]) -> Option<(u32, u32)>
-    requires few { length slacks.now ≤ 100000 }
+    requires few { length slacks.now ≤ MOST_ROWS }
     requires long { length passed.now ≡ length slacks.now }
     ensures exists { IfSome result (λ cut. Names (length slacks.now) cut.0) }
     ensures counts { IfSome result (λ cut. slice_index_or passed.now (cut.0 - 1) false ≡ true) }

@@ -1,6 +1,7 @@
 -- The limits that every certificate keeps.
 use Rattle.std.specs.Prelude.{◌≡◌, ℕ, ◌≤◌, Bool, true, false, ◌&&◌, nat_lt, nat_le, ℤ, nat_abs, Option, Some, None, List, length, map}
 use Rattle.std.specs.List.{list_all, sum_by}
+use Rattle.pesp_problem.specs.declared.limits.TheConstants.{MOST_CYCLES, MOST_EVENTS, MOST_LABEL, MOST_LINES, MOST_OFFSET, MOST_PAIRS, MOST_PERIOD, MOST_SIGNED_ROWS, MOST_SLACK, MOST_TIME}
 use Rattle.pesp_problem.specs.declared.row.SignedRow.{SignedRow}
 use Rattle.pesp_problem.specs.declared.pair.Pair.{Pair}
 use Rattle.pesp_truth.specs.declared.answer.Answer.{Answer}
@@ -24,14 +25,14 @@ has_costs Infeasible = true
 has_costs (Bounded least cost) = nat_lt least NATURALS && is_cost cost
 
 abbrev pub is_period : ℕ → Bool
-is_period period = nat_le 1 period && nat_le period 10000
+is_period period = nat_le 1 period && nat_le period MOST_PERIOD
 
 -- the label of an event, and a time
 abbrev pub is_time : ℤ × ℕ → Bool
-is_time t = nat_le (nat_abs t.0) 1000000000000 && nat_le t.1 9999
+is_time t = nat_le (nat_abs t.0) MOST_LABEL && nat_le t.1 MOST_TIME
 
 abbrev pub are_times : List (ℤ × ℕ) → Bool
-are_times times = nat_le (length times) 100000 && list_all is_time times
+are_times times = nat_le (length times) MOST_EVENTS && list_all is_time times
 
 -- at least one row, each with a number that a row may have
 abbrev pub is_cycle : List SignedRow → Bool
@@ -42,14 +43,14 @@ abbrev pub total_rows : List (List SignedRow) → ℕ
 total_rows cycles = sum_by (λ rows. length rows) cycles
 
 abbrev pub are_cycles : List (List SignedRow) → Bool
-are_cycles cycles = nat_le (length cycles) 100000 && nat_le (total_rows cycles) 10000000 && list_all is_cycle cycles
+are_cycles cycles = nat_le (length cycles) MOST_CYCLES && nat_le (total_rows cycles) MOST_SIGNED_ROWS && list_all is_cycle cycles
 
 abbrev pub are_pairs : List Pair → Bool
 are_pairs ps = rise_from 0 ps && all_within ps
 
 abbrev pub is_line : TreeLine → Bool
-is_line (Slack row k) = is_name row && nat_le k 9999
-is_line (Offset cycle k) = is_name cycle && nat_le (nat_abs k) 100000000000000
+is_line (Slack row k) = is_name row && nat_le k MOST_SLACK
+is_line (Offset cycle k) = is_name cycle && nat_le (nat_abs k) MOST_OFFSET
 is_line (Bound ps) = are_pairs ps
 is_line (Nothing ps) = are_pairs ps
 is_line (Gap cycle) = is_name cycle
@@ -71,7 +72,7 @@ total_pairs lines = sum_by pairs_in lines
 
 -- one whole tree
 abbrev pub are_lines : List TreeLine → Bool
-are_lines lines = nat_le (length lines) 1000000 && nat_le (total_pairs lines) 20000000 && list_all is_line lines
+are_lines lines = nat_le (length lines) MOST_LINES && nat_le (total_pairs lines) MOST_PAIRS && list_all is_line lines
     && are_trees 1 (map line_of lines)
 
 -- whether certificates of this version have such a line
@@ -91,15 +92,15 @@ keeps_limits c = is_period c.period && has_costs c.answer && are_times c.times &
 -- the same as facts
 pub record KeepsLimits (c : Content) : Type 0 where
   pub version : (1 ≤ c.version) × (c.version ≤ 2)
-  pub period : (1 ≤ c.period) × (c.period ≤ 10000)
+  pub period : (1 ≤ c.period) × (c.period ≤ MOST_PERIOD)
   pub answer : has_costs c.answer ≡ true
-  pub times : length c.times ≤ 100000
+  pub times : length c.times ≤ MOST_EVENTS
   pub each_time : list_all is_time c.times ≡ true
-  pub cycles : length c.cycles ≤ 100000
-  pub rows : total_rows c.cycles ≤ 10000000
+  pub cycles : length c.cycles ≤ MOST_CYCLES
+  pub rows : total_rows c.cycles ≤ MOST_SIGNED_ROWS
   pub each_cycle : list_all is_cycle c.cycles ≡ true
-  pub lines : length c.tree ≤ 1000000
-  pub pairs : total_pairs c.tree ≤ 20000000
+  pub lines : length c.tree ≤ MOST_LINES
+  pub pairs : total_pairs c.tree ≤ MOST_PAIRS
   pub each_line : list_all is_line c.tree ≡ true
   pub whole : are_trees 1 (lines_of c) ≡ true
   pub known : list_all (has_line c.version) c.tree ≡ true

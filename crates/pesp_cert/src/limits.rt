@@ -8,7 +8,10 @@ ghost use Rattle.pesp_truth.specs.Certificates.{line_of};
 ghost use Rattle.pesp_cert.specs.Limits.{is_period, has_costs, is_time, are_times, is_cycle, total_rows, are_cycles, are_pairs, is_line, is_branch, pairs_in, total_pairs, are_lines, has_line, has_lines, keeps_limits};
 ghost use Rattle.std.specs.List.{list_all};
 
-use pesp_problem::{Pair, SignedRow, Walk};
+use pesp_problem::{
+    MOST_CYCLES, MOST_EVENTS, MOST_LABEL, MOST_LINES, MOST_MULTIPLIER, MOST_OFFSET, MOST_PAIRS,
+    MOST_PERIOD, MOST_ROWS, MOST_SIGNED_ROWS, MOST_SLACK, MOST_TIME, Pair, SignedRow, Walk,
+};
 use pesp_truth::{Answer, TreeLine};
 
 /// Costs below this number have at most 18 digits.
@@ -31,13 +34,13 @@ fn has_costs(answer: Answer) -> bool
 fn is_period(period: u32) -> bool
     ensures { result ≡ is_period period }
 {
-    1 <= period && period <= 10_000
+    1 <= period && period <= MOST_PERIOD
 }
 
 fn is_time(time: &(i64, u32)) -> bool
     ensures { result ≡ is_time time.now }
 {
-    time.0.unsigned_abs() <= 1_000_000_000_000 && time.1 <= 9_999
+    time.0.unsigned_abs() <= MOST_LABEL && time.1 <= MOST_TIME
 }
 
 fn each_is_time(times: &[(i64, u32)]) -> bool
@@ -49,14 +52,14 @@ fn each_is_time(times: &[(i64, u32)]) -> bool
 fn are_times(times: &[(i64, u32)]) -> bool
     ensures { result ≡ are_times times.now }
 {
-    times.len() <= 100_000 && each_is_time(times)
+    times.len() <= MOST_EVENTS && each_is_time(times)
 }
 
 /// Whether a row or a cycle may have this number.
 fn is_name(number: u32) -> bool
     ensures { result ≡ is_name number }
 {
-    1 <= number && number <= 100_000
+    1 <= number && number as usize <= MOST_ROWS
 }
 
 fn each_is_named(rows: &[SignedRow]) -> bool
@@ -79,9 +82,9 @@ fn each_is_cycle(cycles: &[Walk]) -> bool
 
 /// Whether the table has at most 10,000,000 signed rows.
 fn has_few_rows(cycles: &[Walk]) -> bool
-    ensures { result ≡ nat_le (total_rows cycles.now) 10000000 }
+    ensures { result ≡ nat_le (total_rows cycles.now) MOST_SIGNED_ROWS }
 {
-    let mut left = 10_000_000usize;
+    let mut left = MOST_SIGNED_ROWS;
     for walk in cycles {
         match left.checked_sub(walk.rows().len()) {
             None => return false,
@@ -94,7 +97,7 @@ fn has_few_rows(cycles: &[Walk]) -> bool
 fn are_cycles(cycles: &[Walk]) -> bool
     ensures { result ≡ are_cycles cycles.now }
 {
-    cycles.len() <= 100_000 && has_few_rows(cycles) && each_is_cycle(cycles)
+    cycles.len() <= MOST_CYCLES && has_few_rows(cycles) && each_is_cycle(cycles)
 }
 
 /// Whether the pair has a cycle number of at least `least` and a multiplier other than 0.
@@ -121,7 +124,9 @@ fn rise(pairs: &[Pair]) -> bool
 fn is_pair_within(pair: &Pair) -> bool
     ensures { result ≡ is_pair_within pair.now }
 {
-    1 <= pair.cycle && pair.cycle <= 100_000 && pair.mult.unsigned_abs() <= 1_000_000_000_000
+    1 <= pair.cycle
+        && pair.cycle as usize <= MOST_CYCLES
+        && pair.mult.unsigned_abs() <= MOST_MULTIPLIER
 }
 
 fn each_is_within(pairs: &[Pair]) -> bool
@@ -140,8 +145,8 @@ fn is_line(line: &TreeLine) -> bool
     ensures { result ≡ is_line line.now }
 {
     match line {
-        TreeLine::Slack { row, k } => is_name(*row) && *k <= 9_999,
-        TreeLine::Offset { cycle, k } => is_name(*cycle) && k.unsigned_abs() <= 100_000_000_000_000,
+        TreeLine::Slack { row, k } => is_name(*row) && *k <= MOST_SLACK,
+        TreeLine::Offset { cycle, k } => is_name(*cycle) && k.unsigned_abs() <= MOST_OFFSET,
         TreeLine::Bound(pairs) | TreeLine::Nothing(pairs) => are_pairs(pairs.as_slice()),
         TreeLine::Gap(cycle) => is_name(*cycle),
         TreeLine::Propagated => true,
@@ -162,9 +167,9 @@ fn pairs_in(line: &TreeLine) -> usize
 
 /// Whether the tree has at most 20,000,000 pairs.
 fn has_few_pairs(lines: &[TreeLine]) -> bool
-    ensures { result ≡ nat_le (total_pairs lines.now) 20000000 }
+    ensures { result ≡ nat_le (total_pairs lines.now) MOST_PAIRS }
 {
-    let mut left = 20_000_000usize;
+    let mut left = MOST_PAIRS;
     for line in lines {
         match left.checked_sub(pairs_in(line)) {
             None => return false,
@@ -207,7 +212,7 @@ fn each_is_line(lines: &[TreeLine]) -> bool
 fn are_lines(lines: &[TreeLine]) -> bool
     ensures { result ≡ are_lines lines.now }
 {
-    lines.len() <= 1_000_000 && has_few_pairs(lines) && each_is_line(lines) && are_one_tree(lines)
+    lines.len() <= MOST_LINES && has_few_pairs(lines) && each_is_line(lines) && are_one_tree(lines)
 }
 
 /// Whether certificates of this version have such a line.

@@ -1,5 +1,6 @@
 -- How far a text has come, line by line, and which lines may stand next.
 use Rattle.std.specs.Prelude.{◌≡◌, ℕ, ◌+◌, ◌-◌, ◌≤◌, Bool, true, false, ◌&&◌, ◌||◌, ◌==◌, nat_le, if◌then◌else◌, Option, Some, None, length}
+use Rattle.pesp_problem.specs.declared.limits.TheConstants.{MOST_CYCLES, MOST_EVENTS, MOST_LINES, MOST_PAIRS, MOST_SIGNED_ROWS}
 use Rattle.pesp_cert_lines.specs.declared.kind.Kind.{Kind}
 use Rattle.pesp_cert_lines.specs.declared.kind.Kind.TheVariants as kinds
 use Rattle.pesp_cert_lines.specs.declared.item.Item.{Item}
@@ -87,19 +88,19 @@ after p End = p
 
 -- the limits of the counts
 abbrev pub keeps_counts : Progress → Bool
-keeps_counts p = nat_le p.times 100000 && nat_le p.cycles 100000 && nat_le p.rows 10000000
-    && nat_le p.lines 1000000 && nat_le p.pairs 20000000
+keeps_counts p = nat_le p.times MOST_EVENTS && nat_le p.cycles MOST_CYCLES && nat_le p.rows MOST_SIGNED_ROWS
+    && nat_le p.lines MOST_LINES && nat_le p.pairs MOST_PAIRS
 
 abbrev pub counted_after : Progress → Item → Option Progress
 counted_after p item = if keeps_counts (after p item) then Some (after p item) else None
 
 -- the counts are within their limits, and no more trees are asked for than the lines so far allow
 pub record IsKept (p : Progress) : Type 0 where
-  pub times : p.times ≤ 100000
-  pub cycles : p.cycles ≤ 100000
-  pub rows : p.rows ≤ 10000000
-  pub lines : p.lines ≤ 1000000
-  pub pairs : p.pairs ≤ 20000000
+  pub times : p.times ≤ MOST_EVENTS
+  pub cycles : p.cycles ≤ MOST_CYCLES
+  pub rows : p.rows ≤ MOST_SIGNED_ROWS
+  pub lines : p.lines ≤ MOST_LINES
+  pub pairs : p.pairs ≤ MOST_PAIRS
   pub needs : p.needs ≤ p.lines + 1
 
 -- ---- what may stand next

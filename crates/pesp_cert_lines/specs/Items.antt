@@ -3,6 +3,7 @@ use Rattle.std.specs.Prelude.{◌≡◌, ℕ, ◌<◌, ◌%◌, Bool, true, fals
 use Rattle.std.specs.Option.{option_map}
 use Rattle.std.specs.Str.{bytes_eq}
 use Rattle.std.specs.Fmt.{signed_decimal}
+use Rattle.pesp_problem.specs.declared.limits.TheConstants.{MOST_LABEL, MOST_OFFSET, MOST_PERIOD, MOST_SLACK, MOST_TIME}
 use Rattle.pesp_truth.specs.declared.answer.Answer.{Answer}
 use Rattle.pesp_truth.specs.declared.answer.Answer.TheVariants as answers
 use Rattle.pesp_text.specs.Number.{NATURALS, natural_of, whole_of}
@@ -63,12 +64,12 @@ IsProper _ = Unit {0}
 -- the limits of its numbers
 abbrev pub is_item_within : Item → Bool
 is_item_within (Version n) = nat_le 1 n && nat_le n 2
-is_item_within (Period n) = nat_le 1 n && nat_le n 10000
+is_item_within (Period n) = nat_le 1 n && nat_le n MOST_PERIOD
 is_item_within (Says a) = true
-is_item_within (Time label time) = nat_le (nat_abs label) 1000000000000 && nat_le time 9999
+is_item_within (Time label time) = nat_le (nat_abs label) MOST_LABEL && nat_le time MOST_TIME
 is_item_within (Cycle rows) = rows_are_named rows
-is_item_within (Slack row k) = is_name row && nat_le k 9999
-is_item_within (Offset cycle k) = is_name cycle && nat_le (nat_abs k) 100000000000000
+is_item_within (Slack row k) = is_name row && nat_le k MOST_SLACK
+is_item_within (Offset cycle k) = is_name cycle && nat_le (nat_abs k) MOST_OFFSET
 is_item_within (Bound ps) = all_within ps
 is_item_within (Nothing ps) = all_within ps
 is_item_within (Gap cycle) = is_name cycle

@@ -3,13 +3,14 @@ use Rattle.std.specs.Prelude.{◌≡◌, ℕ, ◌+◌, ◌≤◌, Bool, true, fa
 use Rattle.std.specs.List.{list_all}
 use Rattle.std.specs.Option.{option_and_then, option_map}
 use Rattle.std.specs.Fmt.{signed_decimal}
+use Rattle.pesp_problem.specs.declared.limits.TheConstants.{MOST_CYCLES, MOST_MULTIPLIER}
 use Rattle.pesp_problem.specs.declared.pair.Pair.{Pair}
 use Rattle.pesp_text.specs.Number.{natural_of, whole_of}
 use Rattle.pesp_cert_lines.specs.declared.fault.LineFault.{LineFault}
 use Rattle.pesp_cert_lines.specs.declared.fault.LineFault.TheVariants.{Number, Limit}
 
 abbrev pub is_pair_within : Pair → Bool
-is_pair_within p = nat_le 1 p.cycle && nat_le p.cycle 100000 && nat_le (nat_abs p.mult) 1000000000000
+is_pair_within p = nat_le 1 p.cycle && nat_le p.cycle MOST_CYCLES && nat_le (nat_abs p.mult) MOST_MULTIPLIER
 
 abbrev pub all_within : List Pair → Bool
 all_within ps = list_all is_pair_within ps

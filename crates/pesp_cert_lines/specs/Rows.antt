@@ -1,6 +1,7 @@
 -- The signed rows of a cycle line: how they are spelt, and how they are read.
 use Rattle.std.specs.Prelude.{◌≡◌, ℕ, ◌+◌, ◌≤◌, Bool, true, false, ◌&&◌, ◌==◌, nat_le, if◌then◌else◌, Option, Some, None, MatchOption, Result, Ok, Err, List, [], ◌∷◌, length, drop, slice_index, decimal}
 use Rattle.std.specs.List.{list_all}
+use Rattle.pesp_problem.specs.declared.limits.TheConstants.{MOST_ROWS}
 use Rattle.pesp_problem.specs.declared.row.SignedRow.{SignedRow}
 use Rattle.pesp_text.specs.Number.{natural_of}
 use Rattle.pesp_cert_lines.specs.declared.fault.LineFault.{LineFault}
@@ -8,7 +9,7 @@ use Rattle.pesp_cert_lines.specs.declared.fault.LineFault.TheVariants.{Number, L
 
 -- a number that a row or a cycle may have
 abbrev pub is_name : ℕ → Bool
-is_name n = nat_le 1 n && nat_le n 100000
+is_name n = nat_le 1 n && nat_le n MOST_ROWS
 
 abbrev pub rows_are_named : List SignedRow → Bool
 rows_are_named rs = list_all (λ r. is_name r.row) rs

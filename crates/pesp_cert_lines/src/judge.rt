@@ -8,6 +8,7 @@ use crate::item::Item;
 use crate::kind::Kind;
 use crate::pairs::judge_pairs;
 use crate::rows::{is_name, judge_rows};
+use pesp_problem::{MOST_LABEL, MOST_OFFSET, MOST_PERIOD, MOST_SLACK, MOST_TIME};
 use pesp_text::{Words, is_word, natural, whole};
 use pesp_truth::Answer;
 
@@ -38,7 +39,7 @@ fn period(mut words: Words<'_>) -> Result<Item<'static>, LineFault>
     let Some(number) = natural(word) else {
         return Err(LineFault::Number);
     };
-    if 1 <= number && number <= 10_000 {
+    if 1 <= number && number <= u64::from(MOST_PERIOD) {
         Ok(Item::Period(number as u32))
     } else {
         Err(LineFault::Limit)
@@ -61,7 +62,7 @@ fn time(mut words: Words<'_>) -> Result<Item<'static>, LineFault>
     let Some(time) = natural(second) else {
         return Err(LineFault::Number);
     };
-    if label.unsigned_abs() <= 1_000_000_000_000 && time <= 9_999 {
+    if label.unsigned_abs() <= MOST_LABEL && time <= u64::from(MOST_TIME) {
         Ok(Item::Time(label, time as u32))
     } else {
         Err(LineFault::Limit)
@@ -128,7 +129,7 @@ fn slack(mut words: Words<'_>) -> Result<Item<'static>, LineFault>
     let Some(k) = natural(second) else {
         return Err(LineFault::Number);
     };
-    if is_name(row) && k <= 9_999 {
+    if is_name(row) && k <= u64::from(MOST_SLACK) {
         Ok(Item::Slack {
             row: row as u32,
             k: k as u32,
@@ -154,7 +155,7 @@ fn offset(mut words: Words<'_>) -> Result<Item<'static>, LineFault>
     let Some(k) = whole(second) else {
         return Err(LineFault::Number);
     };
-    if is_name(cycle) && k.unsigned_abs() <= 100_000_000_000_000 {
+    if is_name(cycle) && k.unsigned_abs() <= MOST_OFFSET {
         Ok(Item::Offset {
             cycle: cycle as u32,
             k,

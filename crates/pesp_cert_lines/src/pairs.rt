@@ -7,7 +7,7 @@ ghost use Rattle.pesp_text.specs.Words.{words_of, pieces_left};
 ghost use Rattle.pesp_cert_lines.specs.Pairs.{pair_at, pairs_from, is_pair_within, pairs_within, count_of_pairs, pairs_are_good, BeginsPairs};
 
 use crate::fault::LineFault;
-use pesp_problem::Pair;
+use pesp_problem::{MOST_CYCLES, MOST_MULTIPLIER, Pair};
 use pesp_text::{Words, natural, split_at_byte, whole};
 use std::marker::Model;
 
@@ -79,7 +79,7 @@ fn pair_at(least: u64, first: &[u8], second: &[u8]) -> Option<(u64, i64)>
 fn is_within(cycle: u64, mult: i64) -> bool
     ensures { result ≡ is_pair_within (record { cycle = cycle; mult = mult }) }
 {
-    1 <= cycle && cycle <= 100_000 && mult.unsigned_abs() <= 1_000_000_000_000
+    1 <= cycle && cycle <= MOST_CYCLES as u64 && mult.unsigned_abs() <= MOST_MULTIPLIER
 }
 
 /// How many pairs the words spell, or what is wrong with them.

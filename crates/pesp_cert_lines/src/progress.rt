@@ -5,6 +5,7 @@ ghost use Rattle.pesp_cert_lines.specs.Counts.{after, after_tree, counted_after,
 
 use crate::item::Item;
 use crate::kind::Kind;
+use pesp_problem::{MOST_CYCLES, MOST_EVENTS, MOST_LINES, MOST_PAIRS, MOST_SIGNED_ROWS};
 
 /// Where in a text the last line stood.
 #[derive(Clone, Copy, Debug, PartialEq, Eq)]
@@ -63,11 +64,11 @@ impl Progress {
 fn keeps_counts(progress: &Progress) -> bool
     ensures { result ≡ keeps_counts progress.now }
 {
-    progress.times <= 100_000
-        && progress.cycles <= 100_000
-        && progress.rows <= 10_000_000
-        && progress.lines <= 1_000_000
-        && progress.pairs <= 20_000_000
+    progress.times <= MOST_EVENTS as u64
+        && progress.cycles <= MOST_CYCLES as u64
+        && progress.rows <= MOST_SIGNED_ROWS as u64
+        && progress.lines <= MOST_LINES as u64
+        && progress.pairs <= MOST_PAIRS as u64
 }
 
 /// How far the text has come with a line of the tree that asks for `parts` trees and has so many pairs.

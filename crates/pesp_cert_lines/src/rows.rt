@@ -7,7 +7,7 @@ ghost use Rattle.pesp_text.specs.Words.{words_of, pieces_left};
 ghost use Rattle.pesp_cert_lines.specs.Rows.{is_name, spelt_row, signed, rows_of, rows_within, count_of_rows, rows_are_good, BeginsRows};
 
 use crate::fault::LineFault;
-use pesp_problem::SignedRow;
+use pesp_problem::{MOST_ROWS, SignedRow};
 use pesp_text::{Words, natural, split_at_byte};
 use std::marker::Model;
 
@@ -97,7 +97,7 @@ fn spelt_row(word: &[u8]) -> Option<(u64, bool)>
 pub(crate) fn is_name(number: u64) -> bool
     ensures { result ≡ is_name number }
 {
-    1 <= number && number <= 100_000
+    1 <= number && number <= MOST_ROWS as u64
 }
 
 /// How many rows the words spell, or what is wrong with them.

@@ -1,5 +1,6 @@
 -- Items by their place in a text, and their limits.
 use Rattle.std.specs.Prelude.{◌≤◌, List, [], ◌∷◌, length, Bool, true, false, unsigned_abs}
+use Rattle.pesp_problem.specs.declared.limits.TheConstants.{MOST_OFFSET, MOST_SIGNED_ROWS, MOST_SLACK}
 use Rattle.pesp_cert_lines.specs.declared.item.Item.{Item}
 use Rattle.pesp_cert_lines.specs.declared.item.Item.TheVariants.{Version, Period, Answer as Says, Time, Cycle, Slack, Offset, Bound, Nothing, Gap, Propagated}
 use Rattle.pesp_judges.specs.Lines.{ArePairLimits}
@@ -32,9 +33,9 @@ begins_tree (item ∷ items) = is_line item
 
 -- what the limits of a text say of one item
 abbrev pub KeepsItemLimits : Item → Type 0
-KeepsItemLimits (Cycle rows) = length rows ≤ 10000000
-KeepsItemLimits (Slack row k) = k ≤ 9999
-KeepsItemLimits (Offset cycle k) = unsigned_abs k ≤ 100000000000000
+KeepsItemLimits (Cycle rows) = length rows ≤ MOST_SIGNED_ROWS
+KeepsItemLimits (Slack row k) = k ≤ MOST_SLACK
+KeepsItemLimits (Offset cycle k) = unsigned_abs k ≤ MOST_OFFSET
 KeepsItemLimits (Bound ps) = ArePairLimits ps
 KeepsItemLimits (Nothing ps) = ArePairLimits ps
 KeepsItemLimits _ = Unit {0}

@@ -1,5 +1,6 @@
 -- What a check of a text says of the bytes that a reader gives.
 use Rattle.std.specs.Prelude.{◌≡◌, ◌↔◌, ℕ, List, Option}
+use Rattle.pesp_problem.specs.declared.limits.TheConstants.{MOST_TEXT}
 use Rattle.pesp_stream.specs.Reading.{ReadsText}
 use Rattle.pesp_problem.specs.Timetables.{Pesp}
 use Rattle.pesp_truth.specs.declared.answer.Answer.{Answer}
@@ -18,7 +19,7 @@ use Rattle.pesp_check.specs.declared.fault.CheckFault.TheVariants.{Text, Read, M
 pub record ChecksText (told told' : Option (List ℕ)) (p : Pesp) (verdict : Verdict) (answer : Answer) : Type 0 where
   pub text : List ℕ
   pub content : Content
-  pub read : ReadsText told told' 1073741824 text
+  pub read : ReadsText told told' MOST_TEXT text
   pub spelt : IsTextOf text content
   pub answer_is : answer ≡ content.answer
   pub said : IsVerdict p content verdict
@@ -27,6 +28,6 @@ pub record ChecksText (told told' : Option (List ℕ)) (p : Pesp) (verdict : Ver
 
 -- a text is refused by its first fault, whatever stands behind what was read of it; a device is blamed only where it failed
 abbrev pub Faults : CheckFault → Option (List ℕ) → Option (List ℕ) → Type 0 → Type 0
-Faults (Text r) told told' failed = RefusesText told told' 1073741824 r
+Faults (Text r) told told' failed = RefusesText told told' MOST_TEXT r
 Faults Read told told' failed = failed
 Faults Memory told told' failed = Unit {0}

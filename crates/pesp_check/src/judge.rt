@@ -2,6 +2,7 @@
 
 ghost use Rattle.std.specs.Prelude.{◌≡◌, ℕ, ◌+◌, ◌<◌, ◌≤◌, ◌^◌, List, ◌∷◌, ◌++◌, [], true, false, length, map, All, Option, IfOk, OnOk, MatchOption};
 ghost use Rattle.std.specs.Option.{ForSome, is_some};
+ghost use Rattle.pesp_problem.specs.declared.limits.TheConstants.{MOST_SIGNED_ROWS};
 ghost use Rattle.pesp_truth.specs.Trees.{are_trees};
 ghost use Rattle.pesp_truth.specs.Certificates.{Content, lines_of, ShowsAnswer};
 ghost use Rattle.pesp_cert_lines.specs.declared.item.Item.{Item as LineItem};
@@ -169,7 +170,7 @@ impl<'a> Judge<'a> {
         working: &mut [i128],
     ) -> Result<(), AllocError>
         requires stage { self.old.stage ≡ stages.Cycles }
-        requires short { length (rows_in rows) ≤ 10000000 }
+        requires short { length (rows_in rows) ≤ MOST_SIGNED_ROWS }
         requires few { self.old.line < 2 ^ 31 }
         requires long { length working.old ≡ length self.old.instance.now.rows }
         requires zeros { AreZeros working.old }
@@ -204,7 +205,7 @@ impl<'a> Judge<'a> {
         rows: SignedRows<'_>,
         working: &mut [i128],
     ) -> Result<(), AllocError>
-        requires short { length (rows_in rows) ≤ 10000000 }
+        requires short { length (rows_in rows) ≤ MOST_SIGNED_ROWS }
         requires few { self.old.line < 2 ^ 31 }
         requires long { length working.old ≡ length self.old.instance.now.rows }
         requires zeros { AreZeros working.old }

@@ -1,6 +1,7 @@
 -- What the run of the checker reads and writes, and when it tells which fault.
 use Rattle.std.specs.Prelude.{◌≡◌, ◌⊎◌, ℕ, List, Option, Ok, Err, IfSome}
 use Rattle.std.specs.Io.KnownBytes.{Consumes, IsAtEnd}
+use Rattle.pesp_problem.specs.declared.limits.TheConstants.{MOST_TEXT}
 use Rattle.pesp_stream.specs.Reading.{ReadsText}
 use Rattle.pesp_problem.specs.Timetables.{Pesp}
 use Rattle.pesp_instance.specs.Instance.{instance_of}
@@ -65,7 +66,7 @@ Checks told left told_certificate left_certificate period verdict Gets =
 
 -- why there is no verdict: the certificate's text, whatever stands behind what was read of it, or the reader's device
 abbrev pub CertificateCause : VerdictFault → Device → Type 0
-CertificateCause (Certificate refusal) reader = RefusesText reader.old reader.new 1073741824 refusal
+CertificateCause (Certificate refusal) reader = RefusesText reader.old reader.new MOST_TEXT refusal
 CertificateCause Memory reader = Unit {0}
 CertificateCause Read reader = HasFailed reader
 CertificateCause fault reader = ⊥

@@ -1,6 +1,7 @@
 //! Searches over listed rows.
 
 ghost use Rattle.std.specs.Prelude.{◌≤◌, IfOk, IfErr};
+ghost use Rattle.pesp_problem.specs.declared.limits.TheConstants.{MOST_STEPS};
 ghost use Rattle.pesp_search.specs.Solving.{IsSearchRefusal};
 ghost use Rattle.pesp_conflict.specs.Insides.{IsDecision};
 
@@ -18,7 +19,7 @@ pub fn decide(
     listed: &[u32],
     steps: u32,
 ) -> Result<Decision, SolveRefusal>
-    requires { steps ≤ 100000 }
+    requires { steps ≤ MOST_STEPS }
     ensures decided { IfOk result (IsDecision instance.now listed.now) }
     ensures refused { IfErr result (IsSearchRefusal instance.now steps) }
 {

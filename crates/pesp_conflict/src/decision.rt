@@ -1,6 +1,7 @@
 //! What a certificate says of listed rows.
 
 ghost use Rattle.std.specs.Prelude.{◌≡◌, ◌≤◌, length, IfOk, IfSome, IsTrue};
+ghost use Rattle.pesp_problem.specs.declared.limits.TheConstants.{MOST_ROWS};
 ghost use Rattle.pesp_problem.specs.Timetables.{Pesp};
 ghost use Rattle.pesp_truth.specs.declared.answer.Answer.TheVariants.{Infeasible};
 ghost use Rattle.pesp_conflict.specs.Insides.{IsDecision, IsPart, AreFit, IsToldBy};
@@ -26,7 +27,7 @@ fn used_part(
     listed: &[u32],
     certificate: &Certificate,
 ) -> Result<Option<Vec<u32>>, AllocError>
-    requires { length listed.now ≤ 100000 }
+    requires { length listed.now ≤ MOST_ROWS }
     ensures { (p : Pesp) → IsToldBy p listed.now certificate.now
         → certificate.now.answer ≡ Infeasible
         → IfOk result (λ found. IfSome found (λ rows. IsPart p listed.now rows.items)) }
@@ -43,7 +44,7 @@ fn conflict_of(
     listed: &[u32],
     certificate: &Certificate,
 ) -> Result<Decision, AllocError>
-    requires { length listed.now ≤ 100000 }
+    requires { length listed.now ≤ MOST_ROWS }
     ensures { (p : Pesp) → IsToldBy p listed.now certificate.now
         → certificate.now.answer ≡ Infeasible → IfOk result (IsDecision p listed.now) }
 {
@@ -59,7 +60,7 @@ pub fn told_by(
     listed: &[u32],
     certificate: &Certificate,
 ) -> Result<Decision, AllocError>
-    requires { length listed.now ≤ 100000 }
+    requires { length listed.now ≤ MOST_ROWS }
     ensures { (p : Pesp) → IsToldBy p listed.now certificate.now
         → IfOk result (IsDecision p listed.now) }
 {

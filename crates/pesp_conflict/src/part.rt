@@ -1,6 +1,7 @@
 //! The instance that has listed rows alone.
 
 ghost use Rattle.std.specs.Prelude.{◌≡◌, ◌≤◌, All, IfOk, length};
+ghost use Rattle.pesp_problem.specs.declared.limits.TheConstants.{MOST_ROWS};
 ghost use Rattle.pesp_problem.specs.Walks.{Names};
 ghost use Rattle.pesp_conflict_laws.specs.Conflicts as spec;
 
@@ -29,7 +30,7 @@ fn rows_of(alloc: Global, rows: &[Row], listed: &[u32]) -> Result<Vec<Row>, Allo
 /// The instance that has the listed rows alone, at no cost; its events stay.
 pub fn part_of(alloc: Global, instance: &Instance, listed: &[u32]) -> Result<Instance, Memory>
     requires names { All (Names (length instance.now.rows)) listed.now }
-    requires few { length listed.now ≤ 100000 }
+    requires few { length listed.now ≤ MOST_ROWS }
     ensures { IfOk result (λ part. part ≡ spec.only_rows instance.now listed.now) }
 {
     let rows = rows_of(alloc, instance.rows(), listed)?;

@@ -1,6 +1,7 @@
 //! The conflict of an instance.
 
 ghost use Rattle.std.specs.Prelude.{◌≤◌, IfOk, IfErr};
+ghost use Rattle.pesp_problem.specs.declared.limits.TheConstants.{MOST_STEPS};
 ghost use Rattle.pesp_search.specs.Solving.{IsSearchRefusal};
 ghost use Rattle.pesp_conflict.specs.Findings.{IsConflict, IsFinding};
 ghost use Rattle.pesp_conflict.specs.Insides.{IsFirst, IsShown};
@@ -18,7 +19,7 @@ use std::alloc::Global;
 
 /// Searches over all rows.
 fn decide_all(alloc: Global, instance: &Instance, steps: u32) -> Result<Decision, SolveRefusal>
-    requires { steps ≤ 100000 }
+    requires { steps ≤ MOST_STEPS }
     ensures decided { IfOk result (IsFirst instance.now) }
     ensures refused { IfErr result (IsSearchRefusal instance.now steps) }
 {
@@ -33,7 +34,7 @@ fn narrowed(
     rows: Vec<u32>,
     steps: u32,
 ) -> Result<Conflict, SolveRefusal>
-    requires steps { steps ≤ 100000 }
+    requires steps { steps ≤ MOST_STEPS }
     requires conflict { IsConflict instance.now rows.items }
     ensures shown { IfOk result (IsShown instance.now) }
     ensures refused { IfErr result (IsSearchRefusal instance.now steps) }
@@ -52,7 +53,7 @@ fn narrowed(
 /// Refused as `TableTooLarge` only where the square of the number of activities is above 10000000, as `PairsTooMany` only
 /// where that number times one more than the steps is above 20000000, and else as `Memory`, where a growth was refused.
 pub fn conflict(alloc: Global, instance: &Instance, steps: u32) -> Result<Finding, SolveRefusal>
-    requires { steps ≤ 100000 }
+    requires { steps ≤ MOST_STEPS }
     ensures found { IfOk result (IsFinding instance.now) }
     ensures refused { IfErr result (IsSearchRefusal instance.now steps) }
 {

@@ -1,6 +1,7 @@
 //! Rows are left out, in groups and then one by one.
 
 ghost use Rattle.std.specs.Prelude.{◌≤◌, OnOk, IfErr};
+ghost use Rattle.pesp_problem.specs.declared.limits.TheConstants.{MOST_STEPS};
 ghost use Rattle.pesp_search.specs.Solving.{IsSearchRefusal};
 ghost use Rattle.pesp_conflict.specs.Insides.{IsKnown};
 
@@ -61,7 +62,7 @@ fn try_next(
     size: usize,
     steps: u32,
 ) -> Result<bool, SolveRefusal>
-    requires steps { steps ≤ 100000 }
+    requires steps { steps ≤ MOST_STEPS }
     requires known { IsKnown instance.now known.old }
     ensures known { OnOk result (IsKnown instance.now known.new) }
     ensures refused { IfErr result (IsSearchRefusal instance.now steps) }
@@ -88,7 +89,7 @@ fn sift(
     size: usize,
     steps: u32,
 ) -> Result<(), SolveRefusal>
-    requires steps { steps ≤ 100000 }
+    requires steps { steps ≤ MOST_STEPS }
     requires known { IsKnown instance.now known.old }
     ensures known { OnOk result (IsKnown instance.now known.new) }
     ensures refused { IfErr result (IsSearchRefusal instance.now steps) }
@@ -108,7 +109,7 @@ pub fn sift_all(
     known: &mut Known,
     steps: u32,
 ) -> Result<(), SolveRefusal>
-    requires steps { steps ≤ 100000 }
+    requires steps { steps ≤ MOST_STEPS }
     requires known { IsKnown instance.now known.old }
     ensures known { OnOk result (IsKnown instance.now known.new) }
     ensures refused { IfErr result (IsSearchRefusal instance.now steps) }

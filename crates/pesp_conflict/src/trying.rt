@@ -1,6 +1,7 @@
 //! Searches that leave rows out.
 
 ghost use Rattle.std.specs.Prelude.{◌≤◌, ℕ, List, IfOk, IfErr};
+ghost use Rattle.pesp_problem.specs.declared.limits.TheConstants.{MOST_STEPS};
 ghost use Rattle.pesp_problem.specs.Timetables.{Pesp};
 ghost use Rattle.pesp_search.specs.Solving.{IsSearchRefusal};
 ghost use Rattle.pesp_conflict_laws.specs.Conflicts.{KeepsRows};
@@ -52,7 +53,7 @@ pub fn try_without(
     group: &[u32],
     steps: u32,
 ) -> Result<Trial, SolveRefusal>
-    requires { steps ≤ 100000 }
+    requires { steps ≤ MOST_STEPS }
     ensures tried { IfOk result (IsTrial instance.now listed.now) }
     ensures refused { IfErr result (IsSearchRefusal instance.now steps) }
 {

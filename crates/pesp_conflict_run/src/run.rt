@@ -2,6 +2,7 @@
 
 ghost use Rattle.std.specs.Prelude.{◌≡◌, ◌≢◌, ℕ, ◌<◌, ◌≤◌, ◌^◌, List, length, OnOk, IfOk, IfErr};
 ghost use Rattle.std.specs.Io.KnownBytes.{Appends};
+ghost use Rattle.pesp_problem.specs.declared.limits.TheConstants.{MOST_ROWS, MOST_STEPS};
 ghost use Rattle.pesp_stream.specs.Counts.{FewerThan, HasWorked};
 ghost use Rattle.pesp_conflict.specs.Findings.{IsConflict};
 ghost use Rattle.pesp_check_run.specs.Devices.{over, HasFailed, GetsFront};
@@ -43,7 +44,7 @@ fn write_list<W: Sink>(
 
 /// How many rows are listed.
 fn count_of(rows: &[u32]) -> u32
-    requires { length rows.now ≤ 100000 }
+    requires { length rows.now ≤ MOST_ROWS }
     ensures { result ≡ length rows.now }
 {
     rows.len() as u32
@@ -64,7 +65,7 @@ pub fn run_conflict<R: Source, W: Sink>(
     period: u32,
     steps: u32,
 ) -> Result<Told, Fault>
-    requires steps { steps ≤ 100000 }
+    requires steps { steps ≤ MOST_STEPS }
     requires reads_fit { FewerThan (2 ^ 62) (R.calls reader.old) }
     requires writes_fit { FewerThan (2 ^ 62) (W.calls writer.old) }
     ensures ok { IfOk result (λ told. TellsConflict (R.remaining reader.old)

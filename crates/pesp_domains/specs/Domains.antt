@@ -1,5 +1,6 @@
 -- Domains: what clauses see of them, and what one arc takes from them.
 use Rattle.std.specs.Prelude.{◌≡◌, ℕ, ◌+◌, ◌*◌, ◌/◌, ◌<◌, ◌≤◌, List, length, Bool}
+use Rattle.pesp_problem.specs.declared.limits.TheConstants.{MOST_EVENTS, MOST_PERIOD}
 use Rattle.pesp_problem.specs.declared.arc.Arc.{Arc}
 use Rattle.pesp_problem.specs.Families.{Family}
 use Rattle.pesp_domains.specs.Sets.{family, IsClear, Revises, Changes}
@@ -26,8 +27,8 @@ pub record HaveSizes (t n : ℕ) (sets : SetRows) : Type 0 where
 -- the limits, and no bit from the period on
 pub record AreKept (sets : SetRows) : Type 0 where
   pub some_period : 0 < sets.period
-  pub period_most : sets.period ≤ 10000
-  pub events_most : sets.events ≤ 100000
+  pub period_most : sets.period ≤ MOST_PERIOD
+  pub events_most : sets.events ≤ MOST_EVENTS
   pub long : length sets.words ≡ sets.events * width_of sets.period
   pub clear : IsClear sets.period (width_of sets.period) sets.words
 

@@ -1,6 +1,7 @@
 //! Sets of possible time differences.
 
 ghost use Rattle.std.specs.Prelude.{◌≡◌, ℕ, ◌+◌, ◌-◌, ◌*◌, ◌/◌, ◌<◌, ◌≤◌, ◌≢◌, ◌↔◌, length, true, false, IfOk};
+ghost use Rattle.pesp_problem.specs.declared.limits.TheConstants.{MOST_PERIOD};
 ghost use Rattle.pesp_network.specs.Networks.{net_of_network};
 ghost use Rattle.pesp_domains.specs.Domains.{SetRows, width_of, family_of, HaveSizes, Revised, AreKept};
 ghost use Rattle.pesp_domains.specs.Full.{IsFull};
@@ -44,7 +45,7 @@ impl Model for Domains {
 
 /// How many words a set has.
 fn width_of(period: u32) -> usize
-    requires { period ≤ 10000 }
+    requires { period ≤ MOST_PERIOD }
     ensures { result ≡ width_of period }
 {
     (period as usize).div_ceil(64)

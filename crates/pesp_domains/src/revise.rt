@@ -7,6 +7,7 @@ ghost use Rattle.pesp_domains.specs.Bits.{bit};
 ghost use Rattle.pesp_domains.specs.Sets.{IsClear, Narrows, Revises, Changes, family};
 ghost use Rattle.std.specs.Prelude.{pos};
 ghost use Rattle.std.specs.Int.{int_rem_euclid};
+ghost use Rattle.pesp_problem.specs.declared.limits.TheConstants.{MOST_PERIOD};
 
 use crate::step::{self, Shifts};
 use pesp_problem::Arc;
@@ -21,7 +22,7 @@ fn narrow(
     other: usize,
     shifts: Shifts,
 ) -> bool
-    requires period { (0 < period) × (period ≤ 10000) }
+    requires period { (0 < period) × (period ≤ MOST_PERIOD) }
     requires width { length beside.old ≤ 1000 }
     requires kept { kept * length beside.old + length beside.old ≤ length words.old }
     requires other { other * length beside.old + length beside.old ≤ length words.old }
@@ -49,7 +50,7 @@ fn narrow(
 
 /// A lower bound as a shift round the period.
 fn shift_of(lower: &i64, period: usize) -> usize
-    requires { (0 < period) × (period ≤ 10000) }
+    requires { (0 < period) × (period ≤ MOST_PERIOD) }
     ensures { pos result ≡ int_rem_euclid lower.now (pos period) }
 {
     lower.rem_euclid(period as i64) as usize
@@ -72,7 +73,7 @@ pub fn revise(
     arc: &Arc,
     range: (u32, u32),
 ) -> Changed
-    requires period { (0 < period) × (period ≤ 10000) }
+    requires period { (0 < period) × (period ≤ MOST_PERIOD) }
     requires width { length beside.old ≤ 1000 }
     requires tail { arc.now.tail * length beside.old + length beside.old ≤ length words.old }
     requires head { arc.now.head * length beside.old + length beside.old ≤ length words.old }

@@ -1,6 +1,7 @@
 //! The rows of a network, made ready for propagation.
 
 ghost use Rattle.std.specs.Prelude.{◌≡◌, ℕ, ◌<◌, ◌≤◌, length, IfOk, OnOk};
+ghost use Rattle.pesp_problem.specs.declared.limits.TheConstants.{MOST_ROWS};
 ghost use Rattle.pesp_network.specs.Networks.{KeepsNetLimits};
 ghost use Rattle.pesp_domains.specs.Domains.{HaveSizes};
 ghost use Rattle.pesp_domains.specs.Outcomes.{Shrinks, IsOutcome, LeavesSupported};
@@ -35,7 +36,7 @@ impl Model for Rows {
 
     ghost view = { λ r. record { period = r.period; events = r.events; arcs = r.arcs.items } };
 
-    ghost invariant = { λ r. (length r.arcs.items ≤ 100000) × HaveEnds r.events r.arcs.items
+    ghost invariant = { λ r. (length r.arcs.items ≤ MOST_ROWS) × HaveEnds r.events r.arcs.items
         × AreChains r.arcs.items r.events r.chains };
 }
 

@@ -1,6 +1,7 @@
 //! Differences without partners are taken away until each that is left has one, or a set is empty.
 
 ghost use Rattle.std.specs.Prelude.{◌≡◌, ℕ, ◌+◌, ◌-◌, ◌<◌, ◌≤◌, ◌≢◌, ◌⊎◌, length, true, false, All, Contains, [], IfOk, IfSome, IfNone, OnOk, Ok, Some, None, vec_len};
+ghost use Rattle.pesp_problem.specs.declared.limits.TheConstants.{MOST_ROWS};
 ghost use Rattle.pesp_problem.specs.Arcs.{arc_at, tail_of, head_of};
 ghost use Rattle.pesp_domains.specs.Domains.{family_of, HaveSizes};
 ghost use Rattle.pesp_network.specs.Chains.{AreChains};
@@ -30,7 +31,7 @@ fn pass_on(
 ) -> Result<Option<u32>, Memory>
     requires event { event < domains.now.events }
     requires row { row < length arcs.now }
-    requires count { length arcs.now ≤ 100000 }
+    requires count { length arcs.now ≤ MOST_ROWS }
     requires chains { AreChains arcs.now domains.now.events chains.now }
     requires long { vec_len waiting.old.flags ≡ length arcs.now }
     ensures empty { IfOk result
@@ -61,7 +62,7 @@ fn visit(
     row: u32,
 ) -> Result<Option<u32>, Memory>
     requires row { row < length arcs.now }
-    requires count { length arcs.now ≤ 100000 }
+    requires count { length arcs.now ≤ MOST_ROWS }
     requires ends { HaveEnds domains.old.events arcs.now }
     requires ranges { length ranges.now ≡ length arcs.now }
     requires chains { AreChains arcs.now domains.old.events chains.now }
@@ -93,7 +94,7 @@ fn pass(
     line: &[u32],
 ) -> Result<Option<u32>, Memory>
     requires line { All (λ row. row < length arcs.now) line.now }
-    requires count { length arcs.now ≤ 100000 }
+    requires count { length arcs.now ≤ MOST_ROWS }
     requires ends { HaveEnds domains.old.events arcs.now }
     requires ranges { length ranges.now ≡ length arcs.now }
     requires chains { AreChains arcs.now domains.old.events chains.now }
@@ -138,7 +139,7 @@ pub fn visit_waiting(
     chains: &Chains,
     mut waiting: Waiting,
 ) -> Result<Option<u32>, Memory>
-    requires count { length arcs.now ≤ 100000 }
+    requires count { length arcs.now ≤ MOST_ROWS }
     requires ends { HaveEnds domains.old.events arcs.now }
     requires ranges { length ranges.now ≡ length arcs.now }
     requires chains { AreChains arcs.now domains.old.events chains.now }
@@ -172,7 +173,7 @@ pub fn settle(
     chains: &Chains,
     waiting: Waiting,
 ) -> Result<Outcome, Memory>
-    requires count { length arcs.now ≤ 100000 }
+    requires count { length arcs.now ≤ MOST_ROWS }
     requires ends { HaveEnds domains.old.events arcs.now }
     requires ranges { length ranges.now ≡ length arcs.now }
     requires chains { AreChains arcs.now domains.old.events chains.now }

@@ -2,6 +2,7 @@
 
 ghost use Rattle.std.specs.Prelude.{◌≡◌, ℕ, ◌+◌, ◌-◌, ◌*◌, ◌/◌, ◌%◌, ◌^◌, ◌<◌, ◌≤◌, ◌≢◌, ◌↔◌, ◌⊎◌, length, slice_index, bit_or, bit_and, max, min};
 ghost use Rattle.std.specs.Int.{bit_at};
+ghost use Rattle.pesp_problem.specs.declared.limits.TheConstants.{MOST_PERIOD};
 ghost use Rattle.pesp_problem.specs.Words.{IsLess};
 ghost use Rattle.pesp_domains.specs.Bits.{bit, IsWindow, IsTwice, KeepsSupported, KeepsShifted};
 
@@ -125,7 +126,7 @@ pub fn keep_supported(
     shifts: Shifts,
     room: &mut [u64],
 ) -> bool
-    requires period { (0 < period) × (period ≤ 10000) }
+    requires period { (0 < period) × (period ≤ MOST_PERIOD) }
     requires first { shifts.first < period }
     requires count { shifts.count ≤ period }
     requires room { 2 * period ≤ 64 * length room.old }

@@ -1,6 +1,7 @@
 //! Rows that wait for a visit.
 
 ghost use Rattle.std.specs.Prelude.{◌≡◌, ℕ, ◌+◌, ◌-◌, ◌<◌, ◌≤◌, ◌≢◌, ◌⊎◌, length, IfOk, OnOk, vec_len, true, false, []};
+ghost use Rattle.pesp_problem.specs.declared.limits.TheConstants.{MOST_ROWS};
 ghost use Rattle.pesp_network.specs.Chains.{AreChains};
 ghost use Rattle.pesp_problem.specs.Arcs.{tail_of, head_of};
 ghost use Rattle.pesp_domains.specs.Waiting.{waits_at, Grows, Leaves, AreListed};
@@ -32,7 +33,7 @@ impl Waiting {
 
     /// All of so many rows wait.
     pub fn all(alloc: Global, count: usize) -> Result<Waiting, Memory>
-        requires { count ≤ 100000 }
+        requires { count ≤ MOST_ROWS }
         ensures listed { IfOk result (AreListed count) }
         ensures all { IfOk result (λ w. (row : ℕ) → row < count → waits_at w row ≡ true) }
     {

@@ -1,5 +1,6 @@
 -- What runs read: an instance, and then times for its events or a certificate that is valid for it.
 use Rattle.std.specs.Prelude.{◌≡◌, ℕ, List, Option, Ok}
+use Rattle.pesp_problem.specs.declared.limits.TheConstants.{MOST_TEXT}
 use Rattle.pesp_stream.specs.Reading.{ReadsText}
 use Rattle.pesp_problem.specs.Timetables.{Pesp, IsTimetable}
 use Rattle.pesp_truth.specs.Certificates.{Content, IsValid}
@@ -7,10 +8,10 @@ use Rattle.pesp_cert.specs.Refusals.{IsTextOf}
 use Rattle.pesp_report.specs.TimesText.{times_of}
 pub use Rattle.pesp_check_run.specs.Checking.{ReadsInstance, RefusesInstance}
 
--- the bytes that were read, at most 1073741824, and what holds of them
+-- the bytes that were read, at most MOST_TEXT, and what holds of them
 pub record ReadsNext (told left : Option (List ℕ)) (Holds : List ℕ → Type 0) : Type 0 where
   pub text : List ℕ
-  pub read : ReadsText told left 1073741824 text
+  pub read : ReadsText told left MOST_TEXT text
   pub holds : Holds text
 
 -- ---- times

@@ -3,6 +3,7 @@ use Rattle.std.specs.Prelude.{Bool, ℕ, ◌+◌, ◌==◌, ◌&&◌, ◌||◌, 
 use Rattle.std.specs.Option.{ok_or}
 use Rattle.std.specs.List.{fold, position_or_len}
 use Rattle.std.specs.Ordering.{int_eq}
+use Rattle.pesp_problem.specs.declared.limits.TheConstants.{MOST_BOUND, MOST_EVENTS, MOST_LABEL, MOST_ROWS, MOST_WEIGHT}
 use Rattle.indexmap.specs.IndexSet.{insert_key}
 use Rattle.pesp_problem.specs.declared.row.Row.{Row}
 use Rattle.pesp_instance.specs.Number.{all_blank, number_of}
@@ -32,9 +33,9 @@ is_between least greatest n = int_le least n && int_le n greatest
 -- whether a number keeps the limits of its field: three labels, two bounds and a weight
 abbrev pub is_within : ℕ → ℤ → Bool
 is_within field n =
-    if nat_le field 3 then is_between (neg_ℤ (pos 1000000000000)) (pos 1000000000000) n
-    else if nat_le field 5 then is_between (neg_ℤ (pos 1000000)) (pos 1000000) n
-    else is_between (pos 0) (pos 1000000000) n
+    if nat_le field 3 then is_between (neg_ℤ (pos MOST_LABEL)) (pos MOST_LABEL) n
+    else if nat_le field 5 then is_between (neg_ℤ (pos MOST_BOUND)) (pos MOST_BOUND) n
+    else is_between (pos 0) (pos MOST_WEIGHT) n
 
 -- the first number past its limits, where the first one is of this field
 unfoldable pub out_of_range : ℕ → ℕ → List ℤ → Option ReadRefusal
@@ -97,8 +98,8 @@ row_of events a = record {
 -- one more activity, unless there are too many rows or events
 abbrev pub admit : List Activity → ℕ → Activity → Result (List Activity) ReadRefusal
 admit before at a =
-    if nat_lt (length before) 100000
-    then if nat_le (length (events_of (before ++ a ∷ []))) 100000 then Ok (before ++ a ∷ []) else Err (TooManyEvents at)
+    if nat_lt (length before) MOST_ROWS
+    then if nat_le (length (events_of (before ++ a ∷ []))) MOST_EVENTS then Ok (before ++ a ∷ []) else Err (TooManyEvents at)
     else Err (TooManyRows at)
 
 -- the activities of records, after those before them, or the first fault

@@ -1,6 +1,7 @@
 //! Reading an instance from a text, record by record.
 
 ghost use Rattle.std.specs.Prelude.{◌≡◌, ◌≤◌, ◌⊎◌, [], List, Ok, Err, IfOk, IfErr, length};
+ghost use Rattle.pesp_problem.specs.declared.limits.TheConstants.{MOST_PERIOD};
 ghost use Rattle.pesp_instance.specs.Activities.{activities_after};
 ghost use Rattle.pesp_instance.specs.Tables.{Holds, Refuses};
 ghost use Rattle.pesp_instance.specs.Instance.{instance_of, pesp_of};
@@ -34,12 +35,12 @@ pub fn read_instance(alloc: Global, text: &[u8], period: u32) -> Result<Instance
     // In the words of the records: the instance is that of their activities, and a refusal tells their first fault.
     ensures activities { IfOk result (λ v. (activities : List Activity)
         × AreActivities (records_of text.now) activities × (v ≡ pesp_of period activities)) }
-    ensures first_fault { 1 ≤ period → period ≤ 10000 → length text.now ≤ 16777216
+    ensures first_fault { 1 ≤ period → period ≤ MOST_PERIOD → length text.now ≤ 16777216
         → IfErr result (λ e. (e ≡ Memory) ⊎ IsFirstRefusal (records_of text.now) e) }
 
     // These two take no memory, so no refusal of memory comes in their place.
-    ensures period { ¬ ((1 ≤ period) × (period ≤ 10000)) → result ≡ Err Period }
-    ensures too_long { 1 ≤ period → period ≤ 10000 → ¬ (length text.now ≤ 16777216)
+    ensures period { ¬ ((1 ≤ period) × (period ≤ MOST_PERIOD)) → result ≡ Err Period }
+    ensures too_long { 1 ≤ period → period ≤ MOST_PERIOD → ¬ (length text.now ≤ 16777216)
         → result ≡ Err TextTooLong }
 {
     if period < 1 || period > MAX_PERIOD {

@@ -1,6 +1,7 @@
 //! The rows and the events of the records that were read so far.
 
 ghost use Rattle.std.specs.Prelude.{◌≡◌, ◌≤◌, [], List, IfOk, IfErr, OnOk};
+ghost use Rattle.pesp_problem.specs.declared.limits.TheConstants.{MOST_EVENTS};
 ghost use Rattle.csv.specs.Records.{fields_of};
 ghost use Rattle.indexmap.specs.IndexSet.{index_set_len};
 ghost use Rattle.pesp_instance.specs.Activities.{activity_of, admit, and_then};
@@ -32,7 +33,7 @@ impl Table {
     /// The table of no activities.
     pub fn new(alloc: Global) -> Table
         ensures table { IsTable result.rows.items result.events.keys [] }
-        ensures few { index_set_len result.events ≤ 100000 }
+        ensures few { index_set_len result.events ≤ MOST_EVENTS }
     {
         Table {
             rows: Vec::new(alloc),
@@ -42,8 +43,8 @@ impl Table {
 
     /// Adds the record `at`.
     pub fn read(&mut self, at: u32, line: &ByteRecord) -> Result<(), ReadRefusal>
-        requires { index_set_len self.old.events ≤ 100000 }
-        ensures few { IfOk result (λ _. index_set_len self.new.events ≤ 100000) }
+        requires { index_set_len self.old.events ≤ MOST_EVENTS }
+        ensures few { IfOk result (λ _. index_set_len self.new.events ≤ MOST_EVENTS) }
         ensures added { (before : List Activity)
             → IsTable self.old.rows.items self.old.events.keys before
             → OnOk result (Holds (and_then (activity_of at (fields_of line.now)) (admit before at))
@@ -61,8 +62,8 @@ impl Table {
 
     /// Adds the activity of the record `at`.
     fn add(&mut self, at: u32, activity: Activity) -> Result<(), ReadRefusal>
-        requires { index_set_len self.old.events ≤ 100000 }
-        ensures few { IfOk result (λ _. index_set_len self.new.events ≤ 100000) }
+        requires { index_set_len self.old.events ≤ MOST_EVENTS }
+        ensures few { IfOk result (λ _. index_set_len self.new.events ≤ MOST_EVENTS) }
         ensures added { (before : List Activity) → IsTable self.old.rows.items self.old.events.keys
             before → OnOk result (Holds (admit before at activity) self.new) }
         ensures refused { (before : List Activity) → IsTable self.old.rows.items

@@ -1,5 +1,6 @@
 -- Flows on rows, and what they change of a leaf's value.
 use Rattle.std.specs.Prelude.{ℕ, ◌<◌, ◌≤◌, ◌^◌, List, length, slice_index_or, ℤ, pos, ◌-ℤ◌, ◌*ℤ◌, ◌-◌, unsigned_abs, if◌then◌else◌, ◌==◌, Bool, All, count_by, sum_by}
+use Rattle.pesp_problem.specs.declared.limits.TheConstants.{MOST_CYCLES, MOST_MULTIPLIER}
 use Rattle.pesp_problem.specs.declared.pair.Pair.{Pair}
 use Rattle.pesp_problem.specs.declared.arc.Arc.{Arc}
 use Rattle.pesp_problem.specs.Sums.{sum_below}
@@ -23,7 +24,7 @@ AreSmallFlows flows = (i : ℕ) → i < length flows → unsigned_abs (number_at
 
 -- pairs of so many cycles, with multipliers within their limit
 abbrev pub ArePairs : ℕ → List Pair → Type 0
-ArePairs cycles pairs = All (λ pair. Names cycles pair.cycle × (unsigned_abs pair.mult ≤ 1000000000000)) pairs × (length pairs ≤ 100000)
+ArePairs cycles pairs = All (λ pair. Names cycles pair.cycle × (unsigned_abs pair.mult ≤ MOST_MULTIPLIER)) pairs × (length pairs ≤ MOST_CYCLES)
 
 -- what a flow on the row at place i changes: of what its slack costs at least, and by its lower bound
 abbrev pub flow_term : List Arc → List (ℕ × ℕ) → Bool → ℕ → ℤ → ℤ

@@ -1,5 +1,6 @@
 -- A tree by its lines: each is judged at the first of the nodes that wait.
 use Rattle.std.specs.Prelude.{◌≡◌, ◌⊎◌, ℕ, ◌+◌, ◌≤◌, List, [], ◌∷◌, length, map, drop, unsigned_abs, All, Option, MatchOption}
+use Rattle.pesp_problem.specs.declared.limits.TheConstants.{MOST_CYCLES, MOST_MULTIPLIER, MOST_OFFSET, MOST_SLACK}
 use Rattle.pesp_problem.specs.declared.row.SignedRow.{SignedRow}
 use Rattle.pesp_problem.specs.declared.pair.Pair.{Pair}
 use Rattle.pesp_problem.specs.declared.cut.Cut.{Cut}
@@ -66,12 +67,12 @@ pub record AreJudged (n : Net) (table : List (List SignedRow)) (least : Option �
 
 -- few enough pairs, with multipliers within their limit
 abbrev pub ArePairLimits : List Pair → Type 0
-ArePairLimits pairs = All (λ pair. unsigned_abs pair.mult ≤ 1000000000000) pairs × (length pairs ≤ 100000)
+ArePairLimits pairs = All (λ pair. unsigned_abs pair.mult ≤ MOST_MULTIPLIER) pairs × (length pairs ≤ MOST_CYCLES)
 
 -- the numbers of a line are within their limits
 abbrev pub KeepsLineLimits : TreeLine → Type 0
-KeepsLineLimits (Slack row k) = k ≤ 9999
-KeepsLineLimits (Offset cycle k) = unsigned_abs k ≤ 100000000000000
+KeepsLineLimits (Slack row k) = k ≤ MOST_SLACK
+KeepsLineLimits (Offset cycle k) = unsigned_abs k ≤ MOST_OFFSET
 KeepsLineLimits (Bound pairs) = ArePairLimits pairs
 KeepsLineLimits (Nothing pairs) = ArePairLimits pairs
 KeepsLineLimits (Gap cycle) = Unit {0}
@@ -84,5 +85,5 @@ CutIsNamed rows cycles (OffsetCut cycle k) = Names cycles cycle
 
 -- the number of a cut is within its limit
 abbrev pub IsSmallCut : Cut → Type 0
-IsSmallCut (SlackCut row k) = k ≤ 9999
-IsSmallCut (OffsetCut cycle k) = unsigned_abs k ≤ 100000000000000
+IsSmallCut (SlackCut row k) = k ≤ MOST_SLACK
+IsSmallCut (OffsetCut cycle k) = unsigned_abs k ≤ MOST_OFFSET

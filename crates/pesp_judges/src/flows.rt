@@ -1,6 +1,7 @@
 //! Flows: for each row, the sum over a leaf's pairs of the multiplier times the net count.
 
 ghost use Rattle.std.specs.Prelude.{◌≡◌, ℕ, ◌+◌, ◌*◌, ◌^◌, ◌<◌, ◌≤◌, List, length, pos, ◌+ℤ◌, ◌-ℤ◌, ◌*ℤ◌, unsigned_abs, All, count_by, ◌==◌};
+ghost use Rattle.pesp_problem.specs.declared.limits.TheConstants.{MOST_BOUND, MOST_MULTIPLIER, MOST_PERIOD, MOST_SIGNED_ROWS, MOST_WEIGHT};
 ghost use Rattle.pesp_problem.specs.declared.row.SignedRow.{SignedRow};
 ghost use Rattle.pesp_problem.specs.Arcs.{arcs_of, arc_at};
 ghost use Rattle.pesp_problem.specs.Limits.{KeepsLimits};
@@ -19,8 +20,8 @@ use pesp_problem::{Arc, Instance, Pair};
 
 /// A multiplier times a net count.
 fn product(mult: i64, count: i64) -> i128
-    requires mult { unsigned_abs mult ≤ 1000000000000 }
-    requires count { unsigned_abs count ≤ 10000000 }
+    requires mult { unsigned_abs mult ≤ MOST_MULTIPLIER }
+    requires count { unsigned_abs count ≤ MOST_SIGNED_ROWS }
     ensures value { result ≡ mult *ℤ count }
     ensures size { unsigned_abs result ≤ 10 ^ 19 }
 {
@@ -30,7 +31,7 @@ fn product(mult: i64, count: i64) -> i128
 /// Adds a multiplier times each net count to the flow of its row.
 fn add_flow(flows: &mut [i128], counts: &[NetCount], mult: i64)
     requires counts { AreSmallCounts (length flows.old) counts.now }
-    requires mult { unsigned_abs mult ≤ 1000000000000 }
+    requires mult { unsigned_abs mult ≤ MOST_MULTIPLIER }
     requires small { AreSmallFlows flows.old }
     ensures sum { (i : ℕ) → i < length flows.old
         → number_at flows.new i ≡ number_at flows.old i +ℤ mult *ℤ count_of counts.now i }
@@ -64,8 +65,8 @@ pub fn add_flows<P: Elements<Pair>>(flows: &mut [i128], table: &[Nets], pairs: P
 /// The lesser of a factor times each end of a range.
 fn lesser(factor: i128, range: (u32, u32)) -> i128
     requires factor { unsigned_abs factor ≤ 2 * 10 ^ 24 }
-    requires low { range.0 ≤ 10000 }
-    requires high { range.1 ≤ 10000 }
+    requires low { range.0 ≤ MOST_PERIOD }
+    requires high { range.1 ≤ MOST_PERIOD }
     ensures value { result ≡ lesser factor range }
     ensures size { unsigned_abs result ≤ 2 * 10 ^ 28 }
 {
@@ -74,7 +75,7 @@ fn lesser(factor: i128, range: (u32, u32)) -> i128
 
 /// The weight of a row, or 0 for a leaf without weights.
 fn weight_of(arc: &Arc, weighted: bool) -> i128
-    requires { arc.now.weight ≤ 1000000000 }
+    requires { arc.now.weight ≤ MOST_WEIGHT }
     ensures value { result ≡ weight_of weighted arc.now }
     ensures size { unsigned_abs result ≤ 1000000000 }
 {
@@ -83,10 +84,10 @@ fn weight_of(arc: &Arc, weighted: bool) -> i128
 
 /// What a flow changes of what a slack costs at least.
 fn moved(weight: i128, flow: i128, range: (u32, u32)) -> i128
-    requires weight { unsigned_abs weight ≤ 1000000000 }
+    requires weight { unsigned_abs weight ≤ MOST_WEIGHT }
     requires flow { unsigned_abs flow ≤ 10 ^ 24 }
-    requires low { range.0 ≤ 10000 }
-    requires high { range.1 ≤ 10000 }
+    requires low { range.0 ≤ MOST_PERIOD }
+    requires high { range.1 ≤ MOST_PERIOD }
     ensures value { result ≡ lesser (weight -ℤ flow) range -ℤ lesser weight range }
     ensures size { unsigned_abs result ≤ 4 * 10 ^ 28 }
 {
@@ -97,7 +98,7 @@ fn moved(weight: i128, flow: i128, range: (u32, u32)) -> i128
 /// A flow times a lower bound.
 fn lower_part(flow: i128, lower: i64) -> i128
     requires flow { unsigned_abs flow ≤ 10 ^ 24 }
-    requires lower { unsigned_abs lower ≤ 1000000 }
+    requires lower { unsigned_abs lower ≤ MOST_BOUND }
     ensures value { result ≡ flow *ℤ lower }
     ensures size { unsigned_abs result ≤ 10 ^ 30 }
 {

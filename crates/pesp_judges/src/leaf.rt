@@ -1,6 +1,7 @@
 //! What a leaf is worth at a node.
 
 ghost use Rattle.std.specs.Prelude.{◌≡◌, ◌*◌, ◌^◌, ◌<◌, ◌≤◌, List, length, pos, ◌*ℤ◌, unsigned_abs, IfSome, option_map};
+ghost use Rattle.pesp_problem.specs.declared.limits.TheConstants.{MOST_MULTIPLIER, MOST_PERIOD};
 ghost use Rattle.pesp_problem.specs.declared.row.SignedRow.{SignedRow};
 ghost use Rattle.pesp_problem.specs.Limits.{KeepsLimits};
 ghost use Rattle.pesp_problem.specs.Sums as sums;
@@ -45,7 +46,7 @@ pub fn offsets_left(
 
 /// The period times an offset.
 fn period_times(period: u32, offset: i64) -> i128
-    requires period { period ≤ 10000 }
+    requires period { period ≤ MOST_PERIOD }
     requires small { IsSmallOffset period offset }
     ensures value { result ≡ pos period *ℤ offset }
     ensures size { unsigned_abs result ≤ 10100000000000 }
@@ -55,8 +56,8 @@ fn period_times(period: u32, offset: i64) -> i128
 
 /// The period times the multiplier times the least offset left, or times the greatest where the multiplier is negative.
 fn scaled_offset(period: u32, mult: i64, left: (i64, i64)) -> i128
-    requires period { period ≤ 10000 }
-    requires mult { unsigned_abs mult ≤ 1000000000000 }
+    requires period { period ≤ MOST_PERIOD }
+    requires mult { unsigned_abs mult ≤ MOST_MULTIPLIER }
     requires low { IsSmallOffset period left.0 }
     requires high { IsSmallOffset period left.1 }
     ensures value { result ≡ pos period *ℤ sums.scaled mult left.0 left.1 }

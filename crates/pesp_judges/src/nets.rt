@@ -1,6 +1,7 @@
 //! Working numbers, and the net counts of a walk, each row once.
 
 ghost use Rattle.std.specs.Prelude.{◌≡◌, ℕ, List, ◌-◌, ◌+ℤ◌, ◌<◌, ◌≤◌, pos, length, unsigned_abs, slice_index_or, slice_set, IfOk, OnOk};
+ghost use Rattle.pesp_problem.specs.declared.limits.TheConstants.{MOST_SIGNED_ROWS};
 ghost use Rattle.pesp_problem.specs.declared.row.SignedRow.{SignedRow};
 ghost use Rattle.pesp_problem.specs.Walks.{Names, sign};
 ghost use Rattle.pesp_nets.specs.Nets.{AreZeros, AreNetCounts};
@@ -46,7 +47,7 @@ pub fn count_row(
     s: &SignedRow,
 ) -> Result<(), AllocError>
     requires exists { Names (length working.old) s.now.row }
-    requires small { unsigned_abs (slice_index_or working.old (s.now.row - 1) (pos 0)) ≤ 10000000 }
+    requires small { unsigned_abs (slice_index_or working.old (s.now.row - 1) (pos 0)) ≤ MOST_SIGNED_ROWS }
     ensures counts { OnOk result (working.new
         ≡ slice_set working.old (s.now.row - 1)
         (slice_index_or working.old (s.now.row - 1) (pos 0) +ℤ sign s.now)) }
@@ -81,8 +82,8 @@ fn take_counts(
 ) -> Result<Vec<NetCount>, AllocError>
     requires entered { ArePlaces places.now working.old }
     requires small { (i : ℕ) → i < length working.old
-        → unsigned_abs (slice_index_or working.old i (pos 0)) ≤ 10000000 }
-    ensures counts { IfOk result (λ v. (walk : List SignedRow) → length walk ≤ 10000000
+        → unsigned_abs (slice_index_or working.old i (pos 0)) ≤ MOST_SIGNED_ROWS }
+    ensures counts { IfOk result (λ v. (walk : List SignedRow) → length walk ≤ MOST_SIGNED_ROWS
         → AreCounts walk working.old → AreNetCounts (length working.old) walk v.items) }
     ensures zeros { OnOk result (AreZeros working.new) }
 {
@@ -105,8 +106,8 @@ fn take_counts(
 pub fn take_nets(alloc: Global, places: &[u32], working: &mut [i128]) -> Result<Nets, AllocError>
     requires entered { ArePlaces places.now working.old }
     requires small { (i : ℕ) → i < length working.old
-        → unsigned_abs (slice_index_or working.old i (pos 0)) ≤ 10000000 }
-    ensures counts { IfOk result (λ nets. (walk : List SignedRow) → length walk ≤ 10000000
+        → unsigned_abs (slice_index_or working.old i (pos 0)) ≤ MOST_SIGNED_ROWS }
+    ensures counts { IfOk result (λ nets. (walk : List SignedRow) → length walk ≤ MOST_SIGNED_ROWS
         → AreCounts walk working.old → AreNetCounts (length working.old) walk nets) }
     ensures zeros { OnOk result (AreZeros working.new) }
 {

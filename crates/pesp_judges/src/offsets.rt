@@ -2,6 +2,7 @@
 
 ghost use Rattle.std.specs.Prelude.{◌≡◌, ℕ, ◌*◌, ◌^◌, ◌+ℤ◌, ◌<◌, ◌≤◌, ◌≤ℤ◌, ◌<ℤ◌, List, length, pos, neg_ℤ, unsigned_abs, IfSome, slice_index_or};
 ghost use Rattle.std.specs.Int.{int_min, int_max};
+ghost use Rattle.pesp_problem.specs.declared.limits.TheConstants.{MOST_BOUND, MOST_PERIOD, MOST_SIGNED_ROWS};
 ghost use Rattle.pesp_problem.specs.declared.row.SignedRow.{SignedRow};
 ghost use Rattle.pesp_problem.specs.Sums as sums;
 ghost use Rattle.pesp_problem.specs.Arcs.{arcs_of, net_of};
@@ -32,8 +33,8 @@ pub fn scaled(factor: i128, low: i128, high: i128) -> i128
 
 /// The duration of a row at a slack.
 fn duration(lower: i64, slack: u32) -> i128
-    requires lower { unsigned_abs lower ≤ 1000000 }
-    requires slack { slack ≤ 10000 }
+    requires lower { unsigned_abs lower ≤ MOST_BOUND }
+    requires slack { slack ≤ MOST_PERIOD }
     ensures value { result ≡ lower +ℤ pos slack }
     ensures size { unsigned_abs result ≤ 1010000 }
 {
@@ -44,7 +45,7 @@ fn duration(lower: i64, slack: u32) -> i128
 fn duration_terms(instance: &Instance, net: &NetCount, slacks: &[(u32, u32)]) -> (i128, i128)
     requires slacks { AreSlackRanges (length instance.now.rows) slacks.now }
     requires exists { net.now.place < length instance.now.rows }
-    requires small { unsigned_abs net.now.count ≤ 10000000 }
+    requires small { unsigned_abs net.now.count ≤ MOST_SIGNED_ROWS }
     ensures least { result.0
         ≡ least_term (arcs_of instance.now) slacks.now net.now.place net.now.count }
     ensures greatest { result.1

@@ -2,6 +2,7 @@
 
 ghost use Rattle.std.specs.Prelude.{◌≡◌, ℕ, ◌+◌, ◌-◌, ◌*◌, ◌^◌, ◌<◌, ◌≤◌, length, pos, ◌*ℤ◌, unsigned_abs, slice_set};
 ghost use Rattle.std.specs.Int.{int_min};
+ghost use Rattle.pesp_problem.specs.declared.limits.TheConstants.{MOST_PERIOD, MOST_SLACK};
 ghost use Rattle.pesp_problem.specs.Arcs.{arcs_of, arc_at};
 ghost use Rattle.pesp_problem.specs.Limits.{KeepsLimits};
 ghost use Rattle.pesp_problem.specs.Nodes.{part};
@@ -24,8 +25,8 @@ pub struct Ranges {
 /// The lesser of the weight times each end of a slack range.
 pub fn idle_term(instance: &Instance, place: usize, range: (u32, u32)) -> i128
     requires exists { place < length instance.now.rows }
-    requires low { range.0 ≤ 10000 }
-    requires high { range.1 ≤ 10000 }
+    requires low { range.0 ≤ MOST_PERIOD }
+    requires high { range.1 ≤ MOST_PERIOD }
     ensures value { result
         ≡ int_min (pos (arc_at (arcs_of instance.now) place).weight *ℤ pos range.0)
         (pos (arc_at (arcs_of instance.now) place).weight *ℤ pos range.1) }
@@ -40,8 +41,8 @@ pub fn idle_term(instance: &Instance, place: usize, range: (u32, u32)) -> i128
 pub fn set_slack(instance: &Instance, ranges: &mut Ranges, place: usize, range: (u32, u32))
     requires ranges { AreRanges instance.now ranges.old }
     requires exists { place < length instance.now.rows }
-    requires low { range.0 ≤ 10000 }
-    requires high { range.1 ≤ 10000 }
+    requires low { range.0 ≤ MOST_PERIOD }
+    requires high { range.1 ≤ MOST_PERIOD }
     ensures slacks { ranges.new.slacks.items ≡ slice_set ranges.old.slacks.items place range }
     ensures offsets { ranges.new.offsets.items ≡ ranges.old.offsets.items }
     ensures ranges { AreRanges instance.now ranges.new }
@@ -54,7 +55,7 @@ pub fn set_slack(instance: &Instance, ranges: &mut Ranges, place: usize, range: 
 
 /// A part of a slack range that is cut at `k`.
 fn cut_slack(range: (u32, u32), k: u32, side: Side) -> (u32, u32)
-    requires { k ≤ 9999 }
+    requires { k ≤ MOST_SLACK }
     ensures { result ≡ cut_slack range k side }
 {
     match side {

@@ -1,6 +1,7 @@
 //! Whether the cycles are walks of the instance.
 
 ghost use Rattle.std.specs.Prelude.{◌≡◌, ◌↔◌, ℕ, ◌≤◌, ◌<◌, ◌^◌, IsTrue, [], All, length, sum_by, IfOk, OnOk, MatchResult};
+ghost use Rattle.pesp_problem.specs.declared.limits.TheConstants.{MOST_CYCLES, MOST_SIGNED_ROWS};
 ghost use Rattle.pesp_problem.specs.Arcs.{arcs_of};
 ghost use Rattle.pesp_problem.specs.Walks.{RowExists, IsWalk};
 ghost use Rattle.pesp_problem.specs.Walks as spec;
@@ -57,7 +58,7 @@ fn follow<R: Elements<SignedRow>>(
     working: &mut [i128],
 ) -> Result<Way, AllocError>
     requires none { places.old.items ≡ [] }
-    requires short { length (R.elements rows) ≤ 10000000 }
+    requires short { length (R.elements rows) ≤ MOST_SIGNED_ROWS }
     requires long { length working.old ≡ length instance.now.rows }
     requires zeros { AreZeros working.old }
     ensures way { IfOk result (λ way. IsWay (arcs_of instance.now) (R.elements rows) begin way) }
@@ -93,7 +94,7 @@ fn way_of<R: Elements<SignedRow>>(
     working: &mut [i128],
 ) -> Result<Way, AllocError>
     requires none { places.old.items ≡ [] }
-    requires short { length (R.elements rows) ≤ 10000000 }
+    requires short { length (R.elements rows) ≤ MOST_SIGNED_ROWS }
     requires long { length working.old ≡ length instance.now.rows }
     requires zeros { AreZeros working.old }
     ensures way { IfOk result (λ way. IsWayOf (arcs_of instance.now) (R.elements rows) way) }
@@ -124,7 +125,7 @@ pub fn judge_cycle<R: Elements<SignedRow>>(
     places: &mut Vec<u32>,
     working: &mut [i128],
 ) -> Result<Result<Nets, Refusal>, AllocError>
-    requires short { length (R.elements rows) ≤ 10000000 }
+    requires short { length (R.elements rows) ≤ MOST_SIGNED_ROWS }
     requires long { length working.old ≡ length instance.now.rows }
     requires zeros { AreZeros working.old }
     ensures verdict { IfOk result
@@ -157,8 +158,8 @@ pub fn judge_cycles(
     line: u64,
     working: &mut [i128],
 ) -> Result<Result<Vec<Nets>, Refusal>, AllocError>
-    requires few { length cycles.now ≤ 100000 }
-    requires rows { sum_by (λ walk. length walk) cycles.now ≤ 10000000 }
+    requires few { length cycles.now ≤ MOST_CYCLES }
+    requires rows { sum_by (λ walk. length walk) cycles.now ≤ MOST_SIGNED_ROWS }
     requires line { line < 2 ^ 63 }
     requires long { length working.old ≡ length instance.now.rows }
     requires zeros { AreZeros working.old }

@@ -1,6 +1,7 @@
 //! Whether the lines of a certificate are a tree that is sound at the root.
 
 ghost use Rattle.std.specs.Prelude.{◌≡◌, ◌+◌, ◌≤◌, ◌<◌, ◌^◌, List, [], ◌∷◌, length, true, map, All, IfOk, MatchOption};
+ghost use Rattle.pesp_problem.specs.declared.limits.TheConstants.{MOST_LINES};
 ghost use Rattle.pesp_problem.specs.declared.row.SignedRow.{SignedRow};
 ghost use Rattle.pesp_problem.specs.Arcs.{net_of};
 ghost use Rattle.pesp_problem.specs.Nodes as nodes;
@@ -49,7 +50,7 @@ pub fn judge_tree(
     requires lines { All KeepsLineLimits lines.now }
     requires whole { are_trees 1 (map line_of lines.now) ≡ true }
     requires first { first < 2 ^ 62 }
-    requires few { length lines.now ≤ 1000000 }
+    requires few { length lines.now ≤ MOST_LINES }
     requires long { length working.old ≡ length checker.now.instance.now.rows }
     requires zeros { AreZeros working.old }
     ensures { IfOk result (λ found. (walks : List (List SignedRow))

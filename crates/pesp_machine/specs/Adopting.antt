@@ -1,6 +1,7 @@
 -- A board that takes a certificate up, and all open leaves lent at once.
 use Rattle.std.specs.Prelude.{◌≡◌, ◌⊎◌, ℕ, ◌+◌, ◌≤◌, ◌<◌, List, [], ◌∷◌, ◌++◌, length, map, Option, Some, None, Result, Ok, Err}
 use Rattle.std.specs.Global.{Vec}
+use Rattle.pesp_problem.specs.declared.limits.TheConstants.{MOST_LINES}
 use Rattle.pesp_problem.specs.declared.cut.Cut.{Cut}
 use Rattle.pesp_problem.specs.declared.cut.Side.{Side}
 use Rattle.pesp_truth.specs.declared.answer.Answer.{Answer}
@@ -50,7 +51,7 @@ pub record LendsEach (p : ProblemValue) (old : State) (jobs : List Job) (new : S
   pub paths : List (List (Cut × Side))
   pub opens : AreOpenOf p old (leaf_paths old.tree) paths
   pub numbered : AreNumbered (length old.numbers) jobs paths
-  pub left : length old.numbers + length paths ≤ 1000000
+  pub left : length old.numbers + length paths ≤ MOST_LINES
   pub state : new ≡ record old { numbers = old.numbers ++ map Lent paths }
 
 -- all open leaves are lent; or the numbers wouldn't last, or a growth was refused, and nothing is lent
@@ -58,7 +59,7 @@ abbrev pub LendsAll : ProblemValue → State → Result (Vec Job) LendRefusal �
 LendsAll p old (Ok jobs) new = LendsEach p old jobs.items new
 LendsAll p old (Err lending.NumbersSpent) new = (new ≡ old)
     × ((paths : List (List (Cut × Side))) × AreOpenOf p old (leaf_paths old.tree) paths
-    × (1000000 < length old.numbers + length paths))
+    × (MOST_LINES < length old.numbers + length paths))
 LendsAll p old (Err lending.Memory) new = new ≡ old
 
 -- the same as one lend after the other

@@ -1,5 +1,6 @@
 -- The events of a board, and what each does to its state.
 use Rattle.std.specs.Prelude.{◌≡◌, ℕ, ◌-◌, ◌<◌, ◌≤◌, List, Contains, [], ◌∷◌, ◌++◌, length, map, slice_set, ℤ, ◌≤ℤ◌, int_lt, Option, Some, None, IsNone, IsSome, IsSomeAnd, IfSome, Result, Ok, Err, Bool, true, false, if◌then◌else◌}
+use Rattle.pesp_problem.specs.declared.limits.TheConstants.{MOST_LINES}
 use Rattle.pesp_problem.specs.declared.pair.Pair.{Pair}
 use Rattle.pesp_problem.specs.declared.cut.Cut.{Cut}
 use Rattle.pesp_problem.specs.declared.cut.Side.{Side}
@@ -26,14 +27,14 @@ use Rattle.pesp_machine.specs.States.{State, Lent, Given, Recalled, ticket, IsLe
 pub record LendsLeaf (p : ProblemValue) (old : State) (job : Job) (new : State) : Type 0 where
   pub opens : IsOpen p old job.path.items
   pub number : job.number ≡ length old.numbers
-  pub left : length old.numbers < 1000000
+  pub left : length old.numbers < MOST_LINES
   pub state : new ≡ record old { numbers = old.numbers ++ Lent job.path.items ∷ [] }
 
 -- nothing is lent where no leaf is open; a leaf is open, but 1000000 numbers are gone; or a growth was refused
 abbrev pub Lends : ProblemValue → State → Result (Option Job) LendRefusal → State → Type 0
 Lends p old (Ok None) new = (new ≡ old) × ((path : List (Cut × Side)) → IsOpen p old path → ⊥)
 Lends p old (Ok (Some job)) new = LendsLeaf p old job new
-Lends p old (Err lending.NumbersSpent) new = (new ≡ old) × ((path : List (Cut × Side)) × IsOpen p old path) × (1000000 ≤ length old.numbers)
+Lends p old (Err lending.NumbersSpent) new = (new ≡ old) × ((path : List (Cut × Side)) × IsOpen p old path) × (MOST_LINES ≤ length old.numbers)
 Lends p old (Err lending.Memory) new = new ≡ old
 
 -- ---- give

@@ -1,5 +1,6 @@
 -- The limits of a board's tree, which are those of a certificate's.
 use Rattle.std.specs.Prelude.{ℕ, ◌≤◌, length, All, sum_by}
+use Rattle.pesp_problem.specs.declared.limits.TheConstants.{MOST_LINES, MOST_PAIRS}
 use Rattle.pesp_problem.specs.Walks.{Names}
 use Rattle.pesp_truth.specs.Trees.{Tree, Line, EndLine, CutLine, Bound, Shut, Reason, ByPairs, ByGap, ByPropagation, pairs_of_leaf, preorder}
 use Rattle.pesp_nodes.specs.Problems.{ProblemValue, IsCutOf, ArePairs}
@@ -12,8 +13,8 @@ pairs_in (CutLine cut) = 0
 
 -- at most 1000000 lines, with at most 20000000 pairs in all
 pub record IsSmallTree (tree : Tree) : Type 0 where
-  pub lines : length (preorder tree) ≤ 1000000
-  pub pairs : sum_by pairs_in (preorder tree) ≤ 20000000
+  pub lines : length (preorder tree) ≤ MOST_LINES
+  pub pairs : sum_by pairs_in (preorder tree) ≤ MOST_PAIRS
 
 -- the pairs of a reason rise and keep their limits, and what it names exists
 abbrev pub IsReasonOf : ProblemValue → Reason → Type 0

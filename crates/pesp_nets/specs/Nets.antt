@@ -1,5 +1,6 @@
 -- Net counts of a walk, each row once, and working numbers.
 use Rattle.std.specs.Prelude.{◌≡◌, ℕ, ◌<◌, ◌≤◌, List, [], fold, length, slice_index_or, ℤ, pos, ◌+ℤ◌, unsigned_abs, All, sum_by}
+use Rattle.pesp_problem.specs.declared.limits.TheConstants.{MOST_SIGNED_ROWS}
 use Rattle.pesp_problem.specs.declared.row.SignedRow.{SignedRow}
 use Rattle.pesp_problem.specs.Sums.{sum_below}
 use Rattle.pesp_problem.specs.Walks.{net_count}
@@ -20,7 +21,7 @@ amount counts = sum_by (λ e. unsigned_abs e.count) counts
 
 -- entries of n rows, few enough that sums over them fit
 abbrev pub AreSmallCounts : ℕ → List NetCount → Type 0
-AreSmallCounts n counts = All (λ e. e.place < n) counts × (amount counts ≤ 10000000)
+AreSmallCounts n counts = All (λ e. e.place < n) counts × (amount counts ≤ MOST_SIGNED_ROWS)
 
 -- the net counts of a walk: what is 0 at 0 has the same sum over the entries as over all n rows
 pub record AreNetCounts (n : ℕ) (walk : List SignedRow) (counts : List NetCount) : Type 0 where

@@ -1,6 +1,7 @@
 -- Ranges of slacks and of offsets: their parts, and what they allow along a walk.
 use Rattle.std.specs.Prelude.{ℕ, ◌+◌, ◌≤◌, min, max, List, ℤ, pos, ◌+ℤ◌, ◌*ℤ◌, unsigned_abs, All, Option}
 use Rattle.std.specs.Int.{int_min, int_max}
+use Rattle.pesp_problem.specs.declared.limits.TheConstants.{MOST_OFFSET, MOST_PERIOD, MOST_SLACK}
 use Rattle.pesp_problem.specs.declared.arc.Arc.{Arc}
 use Rattle.pesp_problem.specs.declared.row.SignedRow.{SignedRow}
 use Rattle.pesp_problem.specs.declared.cut.Cut.{Cut}
@@ -14,12 +15,12 @@ use Rattle.pesp_problem.specs.Nodes.{slack_range, odijk_range, range_or_none}
 
 -- slack ranges with ends that a cut can make
 abbrev pub AreSlackEnds : List (ℕ × ℕ) → Type 0
-AreSlackEnds slacks = All (λ range. (range.0 ≤ 10000) × (range.1 ≤ 10000)) slacks
+AreSlackEnds slacks = All (λ range. (range.0 ≤ MOST_PERIOD) × (range.1 ≤ MOST_PERIOD)) slacks
 
 -- the row or the cycle of the cut is one of so many, and the number keeps its limit
 abbrev pub IsCut : ℕ → ℕ → Cut → Type 0
-IsCut rows cycles (Slack row k) = Names rows row × (k ≤ 9999)
-IsCut rows cycles (Offset cycle k) = Names cycles cycle × (unsigned_abs k ≤ 100000000000000)
+IsCut rows cycles (Slack row k) = Names rows row × (k ≤ MOST_SLACK)
+IsCut rows cycles (Offset cycle k) = Names cycles cycle × (unsigned_abs k ≤ MOST_OFFSET)
 
 -- a part of a slack range that is cut at k
 abbrev pub cut_slack : ℕ × ℕ → ℕ → Side → ℕ × ℕ

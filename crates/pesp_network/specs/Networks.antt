@@ -1,5 +1,6 @@
 -- Networks: what clauses see of one, its arcs, its limits, and when its calls refuse.
 use Rattle.std.specs.Prelude.{◌≡◌, ⊤, ℕ, ◌-◌, ◌<◌, ◌≤◌, ◌⊎◌, List, length, map, slice_index_or, pos, unsigned_abs, All, Contains, sum_by}
+use Rattle.pesp_problem.specs.declared.limits.TheConstants.{MOST_EVENTS, MOST_LOWER, MOST_PERIOD, MOST_ROWS, MOST_SIGNED_ROWS, MOST_WEIGHT}
 use Rattle.pesp_problem.specs.declared.row.SignedRow.{SignedRow}
 use Rattle.pesp_problem.specs.declared.arc.Arc.{Arc}
 use Rattle.pesp_problem.specs.Arcs.{Net}
@@ -39,30 +40,30 @@ net_of_network n = record { period = n.period; arcs = arcs_of_network n.rows }
 -- the period and the number of events that a network may have
 pub record KeepsSizes (period events : ℕ) : Type 0 where
   pub some_period : 1 ≤ period
-  pub period_most : period ≤ 10000
-  pub events_most : events ≤ 100000
+  pub period_most : period ≤ MOST_PERIOD
+  pub events_most : events ≤ MOST_EVENTS
 
 -- a row of a network of such a period and so many events
 pub record RowKeepsNetLimits (period events : ℕ) (row : NetRow) : Type 0 where
   pub tail : row.tail < events
   pub head : row.head < events
   pub span : row.span < period
-  pub lower : unsigned_abs row.lower ≤ 1020000
-  pub weight : row.weight ≤ 1000000000
+  pub lower : unsigned_abs row.lower ≤ MOST_LOWER
+  pub weight : row.weight ≤ MOST_WEIGHT
 
 -- the period, the counts and each row
 pub record KeepsNetLimits (n : NetworkValue) : Type 0 where
   pub some_period : 1 ≤ n.period
-  pub period_most : n.period ≤ 10000
-  pub events_most : n.events ≤ 100000
-  pub rows_most : length n.rows ≤ 100000
+  pub period_most : n.period ≤ MOST_PERIOD
+  pub events_most : n.events ≤ MOST_EVENTS
+  pub rows_most : length n.rows ≤ MOST_ROWS
   pub each : All (RowKeepsNetLimits n.period n.events) n.rows
 
 -- ---- refusals
 
 -- the row at a place keeps its limits and is among the first 100000
 pub record IsGoodAt (period events : ℕ) (rows : List NetRow) (i : ℕ) : Type 0 where
-  pub place : i < 100000
+  pub place : i < MOST_ROWS
   pub keeps : RowKeepsNetLimits period events (net_row_at rows i)
 
 -- period and count of events are within their limits, and this row, numbered from 1, is the first that isn't good
@@ -96,7 +97,7 @@ pub record AreTooMany (arcs : List Arc) (forest : List ℕ) : Type 0 where
   pub table : List (List SignedRow)
   pub fundamental : AreFundamental arcs forest table
   pub simple : All (IsSimple arcs) table
-  pub many : 10000000 < signed_rows table
+  pub many : MOST_SIGNED_ROWS < signed_rows table
 
 -- when a table isn't given
 abbrev pub IsTableRefusal : List Arc → List ℕ → NetRefusal → Type 0

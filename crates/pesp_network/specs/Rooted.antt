@@ -1,6 +1,7 @@
 -- Rooted spanning forests, with the events in preorder.
 use Rattle.std.specs.Prelude.{◌≡◌, ◌≢◌, ℕ, ◌+◌, ◌-◌, ◌<◌, ◌≤◌, ◌⊎◌, List, length, vec_len, All, Contains, slice_index, if◌then◌else◌, ◌==◌}
 use Rattle.std.specs.List.{AllPairs}
+use Rattle.pesp_problem.specs.declared.limits.TheConstants.{MOST_ROWS}
 use Rattle.pesp_problem.specs.declared.arc.Arc.{Arc}
 use Rattle.pesp_problem.specs.Walks.{Names}
 use Rattle.pesp_network.specs.declared.parts.Forest.{Forest}
@@ -42,7 +43,7 @@ pub record IsGrown (n : ℕ) (arcs : List Arc) (g : Forest) : Type 0 where
   pub all_seen : (x : ℕ) → x < n → 0 < at g.place.items x
   pub events : vec_len g.up ≡ n
   pub ends : HaveEnds n arcs
-  pub few : length arcs ≤ 100000
+  pub few : length arcs ≤ MOST_ROWS
 
 -- both ends of the row are in one tree
 abbrev pub IsMetBy : List Arc → Forest → ℕ → Type 0
@@ -54,7 +55,7 @@ pub record IsForest (n : ℕ) (arcs : List Arc) (g : Forest) : Type 0 where
   pub all_seen : (x : ℕ) → x < n → 0 < at g.place.items x
   pub events : vec_len g.up ≡ n
   pub ends : HaveEnds n arcs
-  pub few : length arcs ≤ 100000
+  pub few : length arcs ≤ MOST_ROWS
   pub met : (k : ℕ) → Names (length arcs) k → IsMetBy arcs g k
 
 -- the row joins some event to the one above it

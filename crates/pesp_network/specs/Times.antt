@@ -1,5 +1,6 @@
 -- Durations along a way, and times that fit a forest.
 use Rattle.std.specs.Prelude.{◌≡◌, ℕ, ◌-◌, ◌<◌, ◌≤◌, List, [], ◌∷◌, ℤ, pos, neg_ℤ, ◌+ℤ◌, ◌-ℤ◌, ◌*ℤ◌, if◌then◌else◌, length, slice_index, unsigned_abs}
+use Rattle.pesp_problem.specs.declared.limits.TheConstants.{MOST_LOWER, MOST_PERIOD}
 use Rattle.pesp_problem.specs.declared.row.SignedRow.{SignedRow}
 use Rattle.pesp_problem.specs.declared.arc.Arc.{Arc}
 use Rattle.pesp_problem.specs.Arcs.{arc_at, tail_of, head_of}
@@ -25,10 +26,10 @@ duration arcs slacks k = (arc_at arcs (k - 1)).lower +ℤ pos (slice_index slack
 -- one slack below the period for each row, in ranges in which no sum overflows
 pub record AreSlacks (period : ℕ) (arcs : List Arc) (slacks : List ℕ) : Type 0 where
   pub period_some : 0 < period
-  pub period_most : period ≤ 10000
+  pub period_most : period ≤ MOST_PERIOD
   pub count : length slacks ≡ length arcs
   pub small : (i : ℕ) → i < length slacks → slice_index slacks i < period
-  pub lowers : (i : ℕ) → unsigned_abs (arc_at arcs i).lower ≤ 1020000
+  pub lowers : (i : ℕ) → unsigned_abs (arc_at arcs i).lower ≤ MOST_LOWER
 
 -- each event up to a place that is joined upwards has its row's slack
 abbrev pub FitsForest : ℕ → List Arc → Forest → List ℕ → List ℕ → ℕ → Type 0

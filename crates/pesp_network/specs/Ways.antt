@@ -1,5 +1,6 @@
 -- The fundamental walks of a rooted forest, as functions of it.
 use Rattle.std.specs.Prelude.{◌≡◌, ⊤, ◌<◌, ℕ, zero, suc, List, [], ◌∷◌, ◌++◌, map, Bool, ◌&&◌, ◌||◌, ◌==◌, nat_le, true, if◌then◌else◌}
+use Rattle.pesp_problem.specs.declared.limits.TheConstants.{MOST_SIGNED_ROWS}
 use Rattle.pesp_problem.specs.declared.row.SignedRow.{SignedRow}
 use Rattle.pesp_problem.specs.declared.arc.Arc.{Arc}
 use Rattle.pesp_network.specs.declared.parts.Forest.{Forest}
@@ -63,5 +64,5 @@ walks_of arcs g i = map (walk_of arcs g) (outside arcs g i)
 -- when these walks aren't given
 abbrev pub IsTooMany : List Arc → Forest → ℕ → NetRefusal → Type 0
 IsTooMany arcs g i Memory = ⊤
-IsTooMany arcs g i TableTooLarge = 10000000 < signed_rows (walks_of arcs g i)
+IsTooMany arcs g i TableTooLarge = MOST_SIGNED_ROWS < signed_rows (walks_of arcs g i)
 IsTooMany arcs g i (BadRow row) = ⊥

@@ -1,6 +1,7 @@
 //! The rows at each event.
 
 ghost use Rattle.std.specs.Prelude.{◌≡◌, ℕ, ◌+◌, ◌-◌, ◌<◌, ◌≤◌, ◌⊎◌, length, slice_index, slice_set, replicate, IfOk, vec_len};
+ghost use Rattle.pesp_problem.specs.declared.limits.TheConstants.{MOST_ROWS};
 ghost use Rattle.pesp_network.specs.Networks.{arcs_of_network};
 ghost use Rattle.pesp_problem.specs.Arcs.{tail_of, head_of};
 ghost use Rattle.pesp_problem.specs.ArcLimits.{HaveEnds};
@@ -22,7 +23,7 @@ pub struct Chains {
 impl Chains {
     /// Chains without a row, with room for so many rows between so many events.
     fn none(alloc: Global, events: usize, rows: usize) -> Result<Chains, AllocError>
-        requires { rows ≤ 100000 }
+        requires { rows ≤ MOST_ROWS }
         ensures first { IfOk result (λ chains. chains.first.items ≡ replicate events 0) }
         ensures firsts { IfOk result (λ chains. vec_len chains.first ≡ events) }
         ensures tails { IfOk result (λ chains. vec_len chains.at_tail ≡ rows + 1) }
@@ -40,7 +41,7 @@ impl Chains {
 
     /// Puts the row at a place, from 0, before the rows at its ends.
     fn add(&mut self, place: usize, row: &NetRow)
-        requires place { place < 100000 }
+        requires place { place < MOST_ROWS }
         requires tail { row.now.tail < vec_len self.old.first }
         requires head { row.now.head < vec_len self.old.first }
         requires tails { place + 1 < vec_len self.old.at_tail }
@@ -82,7 +83,7 @@ impl Chains {
 /// The chains of the rows between so many events.
 pub fn chain_rows(alloc: Global, events: usize, rows: &[NetRow]) -> Result<Chains, AllocError>
     requires ends { HaveEnds events (arcs_of_network rows.now) }
-    requires count { length rows.now ≤ 100000 }
+    requires count { length rows.now ≤ MOST_ROWS }
     ensures { IfOk result (AreChains (arcs_of_network rows.now) events) }
 {
     let mut chains = Chains::none(alloc, events, rows.len())?;

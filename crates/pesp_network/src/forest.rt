@@ -1,6 +1,7 @@
 //! Spanning forests of rows.
 
 ghost use Rattle.std.specs.Prelude.{◌≡◌, ℕ, ◌+◌, ◌-◌, ◌<◌, ◌≤◌, length, map, slice_index, slice_index_or, IfOk, IsTrue, All, vec_len};
+ghost use Rattle.pesp_problem.specs.declared.limits.TheConstants.{MOST_ROWS};
 ghost use Rattle.pesp_problem.specs.Walks.{Names};
 ghost use Rattle.pesp_network.specs.Networks.{arcs_of_network, net_row_at};
 ghost use Rattle.pesp_problem.specs.ArcLimits.{HaveEnds};
@@ -51,8 +52,8 @@ fn grow_over(
     numbers: &[u32],
 ) -> Result<Forest, AllocError>
     requires ends { HaveEnds events (arcs_of_network rows.now) }
-    requires rows { length rows.now ≤ 100000 }
-    requires few { length numbers.now ≤ 100000 }
+    requires rows { length rows.now ≤ MOST_ROWS }
+    requires few { length numbers.now ≤ MOST_ROWS }
     requires names { All (Names (length rows.now)) numbers.now }
     ensures grown { IfOk result (IsGrown events (arcs_of_network rows.now)) }
     ensures met { IfOk result (λ f. (i : ℕ) → i < length numbers.now
@@ -95,7 +96,7 @@ fn meets_all(events: usize, rows: &[NetRow], forest: &Forest) -> bool
 
 /// The numbers of so many rows.
 fn all_numbers(alloc: Global, count: usize) -> Result<Vec<u32>, AllocError>
-    requires { count ≤ 100000 }
+    requires { count ≤ MOST_ROWS }
     ensures len { IfOk result (λ numbers. vec_len numbers ≡ count) }
     ensures each { IfOk result
         (λ numbers. (i : ℕ) → i < count → slice_index numbers.items i ≡ i + 1) }
@@ -116,8 +117,8 @@ pub fn forest_from(
     proposed: &[u32],
 ) -> Result<Forest, AllocError>
     requires ends { HaveEnds events (arcs_of_network rows.now) }
-    requires few { length rows.now ≤ 100000 }
-    requires few_proposed { length proposed.now ≤ 100000 }
+    requires few { length rows.now ≤ MOST_ROWS }
+    requires few_proposed { length proposed.now ≤ MOST_ROWS }
     requires names { All (Names (length rows.now)) proposed.now }
     ensures { IfOk result (IsForest events (arcs_of_network rows.now)) }
 {
@@ -133,7 +134,7 @@ pub fn forest_from(
 /// A spanning forest of the rows between so many events, of the rows that are proposed for any network.
 pub fn forest_of(alloc: Global, events: usize, rows: &[NetRow]) -> Result<Forest, AllocError>
     requires ends { HaveEnds events (arcs_of_network rows.now) }
-    requires few { length rows.now ≤ 100000 }
+    requires few { length rows.now ≤ MOST_ROWS }
     ensures { IfOk result (IsForest events (arcs_of_network rows.now)) }
 {
     let proposed = propose(alloc, events, rows)?;

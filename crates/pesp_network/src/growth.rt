@@ -1,6 +1,7 @@
 //! A forest that is grown depth first.
 
 ghost use Rattle.std.specs.Prelude.{◌≡◌, ℕ, ◌+◌, ◌-◌, ◌<◌, ◌≤◌, ◌⊎◌, length, sum, slice_set, replicate, [], OnOk, IfOk, vec_len};
+ghost use Rattle.pesp_problem.specs.declared.limits.TheConstants.{MOST_ROWS};
 ghost use Rattle.pesp_network.specs.Networks.{arcs_of_network};
 ghost use Rattle.pesp_problem.specs.ArcLimits.{HaveEnds};
 ghost use Rattle.pesp_network.specs.Growing.{Opens, Closes, Looks, at};
@@ -156,7 +157,7 @@ impl Growth {
 /// A spanning forest of the rows between so many events.
 pub fn grow(alloc: Global, events: usize, rows: &[NetRow]) -> Result<Growth, AllocError>
     requires ends { HaveEnds events (arcs_of_network rows.now) }
-    requires count { length rows.now ≤ 100000 }
+    requires count { length rows.now ≤ MOST_ROWS }
     ensures grown { IfOk result (λ g. GrownOver (arcs_of_network rows.now) g) }
     ensures closed { IfOk result (λ g. AllClosed g) }
     ensures all_seen { IfOk result (λ g. (x : ℕ) → x < events → 0 < at g.place.items x) }

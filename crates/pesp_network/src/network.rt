@@ -1,6 +1,7 @@
 //! Networks.
 
 ghost use Rattle.std.specs.Prelude.{◌≡◌, ◌≢◌, ℕ, ◌+◌, ◌<◌, ◌≤◌, ◌↔◌, length, slice_index, IsTrue, IfOk, IfErr, IfSome, IfNone, All, vec_len};
+ghost use Rattle.pesp_problem.specs.declared.limits.TheConstants.{MOST_ROWS, MOST_SIGNED_ROWS};
 ghost use Rattle.pesp_problem.specs.Arcs.{arcs_of, slacks_at};
 ghost use Rattle.pesp_problem.specs.ArcLimits.{KeepArcLimits};
 ghost use Rattle.pesp_problem.specs.NetTimetables.{IsNetTimetable, net_cost};
@@ -91,7 +92,7 @@ impl Network {
     /// The network of these parts, which keep the limits.
     fn make(alloc: Global, period: u32, events: u32, rows: Vec<NetRow>) -> Result<Network, Memory>
         requires sizes { KeepsSizes period events }
-        requires few { length rows.items ≤ 100000 }
+        requires few { length rows.items ≤ MOST_ROWS }
         requires each { All (RowKeepsNetLimits period events) rows.items }
         ensures period { IfOk result (λ n. n.period ≡ period) }
         ensures events { IfOk result (λ n. n.events ≡ events) }
@@ -111,7 +112,7 @@ impl Network {
         forest: Forest,
     ) -> Result<Network, Memory>
         requires sizes { KeepsSizes period events }
-        requires few { length rows.items ≤ 100000 }
+        requires few { length rows.items ≤ MOST_ROWS }
         requires each { All (RowKeepsNetLimits period events) rows.items }
         requires forest { IsForest events (arcs_of_network rows.items) forest }
         ensures period { IfOk result (λ n. n.period ≡ period) }
@@ -272,7 +273,7 @@ impl Network {
             (λ table. AreFundamental (arcs_of_network self.now.rows) self.now.forest table.items) }
         ensures simple { IfOk result
             (λ table. All (IsSimple (arcs_of_network self.now.rows)) table.items) }
-        ensures small { IfOk result (λ table. signed_rows table.items ≤ 10000000) }
+        ensures small { IfOk result (λ table. signed_rows table.items ≤ MOST_SIGNED_ROWS) }
         ensures refused { IfErr result
             (IsTableRefusal (arcs_of_network self.now.rows) self.now.forest) }
     {

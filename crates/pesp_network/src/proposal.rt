@@ -5,6 +5,7 @@ ghost use Rattle.std.specs.Prelude.{◌≡◌, ◌<◌, ◌≤◌, length, IfOk,
 ghost use Rattle.pesp_problem.specs.Walks.{Names};
 
 use crate::row::NetRow;
+use pesp_problem::MOST_ROWS;
 use std::alloc::{AllocError, Global};
 use std::cmp::Ordering;
 
@@ -102,7 +103,7 @@ fn taken(
     candidates: &[Candidate],
     groups: &mut Groups,
 ) -> Result<Vec<u32>, AllocError>
-    requires few { length rows.now ≤ 100000 }
+    requires few { length rows.now ≤ MOST_ROWS }
     requires each_once { length candidates.now ≡ length rows.now }
     ensures names { IfOk result (λ numbers. All (Names (length rows.now)) numbers.items) }
     ensures few { IfOk result (λ numbers. vec_len numbers ≤ length rows.now) }
@@ -119,7 +120,7 @@ fn taken(
 /// The rows of a spanning forest, by their numbers from 1: each row in turn, of least span / (weight + 1) first, that
 /// closes no cycle with those taken before it (Kruskal 1956).
 pub fn propose(alloc: Global, events: usize, rows: &[NetRow]) -> Result<Vec<u32>, AllocError>
-    requires { length rows.now ≤ 100000 }
+    requires { length rows.now ≤ MOST_ROWS }
     ensures names { IfOk result (λ numbers. All (Names (length rows.now)) numbers.items) }
     ensures few { IfOk result (λ numbers. vec_len numbers ≤ length rows.now) }
 {
@@ -131,9 +132,9 @@ pub fn propose(alloc: Global, events: usize, rows: &[NetRow]) -> Result<Vec<u32>
 /// Whether these are numbers of rows, no more than a network can have.
 fn are_numbers(count: usize, numbers: &[u32]) -> bool
     ensures names { IsTrue result → All (Names count) numbers.now }
-    ensures few { IsTrue result → length numbers.now ≤ 100000 }
+    ensures few { IsTrue result → length numbers.now ≤ MOST_ROWS }
 {
-    if numbers.len() > 100_000 {
+    if numbers.len() > MOST_ROWS {
         return false;
     }
     numbers
@@ -144,7 +145,7 @@ fn are_numbers(count: usize, numbers: &[u32]) -> bool
 /// These numbers, or none where they aren't numbers of so many rows, or are more than a network can have rows.
 pub fn numbers_or_none(count: usize, numbers: &[u32]) -> &[u32]
     ensures names { All (Names count) result.now }
-    ensures few { length result.now ≤ 100000 }
+    ensures few { length result.now ≤ MOST_ROWS }
 {
     if are_numbers(count, numbers) {
         return numbers;

@@ -2,6 +2,7 @@
 
 ghost use Rattle.std.specs.Prelude.{◌≡◌, ℕ, ◌+◌, ◌-◌, ◌*◌, ◌<◌, ◌≤◌, ◌≢◌, ◌-ℤ◌, ◌+ℤ◌, pos, unsigned_abs, length, slice_index, IfOk, IfSome, IfNone, IsTrue, All, false, vec_len};
 ghost use Rattle.std.specs.Int.{int_rem_euclid};
+ghost use Rattle.pesp_problem.specs.declared.limits.TheConstants.{MOST_LOWER, MOST_PERIOD};
 ghost use Rattle.pesp_problem.specs.Arcs as spec;
 ghost use Rattle.pesp_network.specs.Networks.{arcs_of_network};
 ghost use Rattle.pesp_network.specs.Growing.{at};
@@ -19,7 +20,7 @@ use std::alloc::{AllocError, Global};
 /// The remainder by the period.
 fn wrapped(period: u32, z: i64) -> u32
     requires some { 0 < period }
-    requires most { period ≤ 10000 }
+    requires most { period ≤ MOST_PERIOD }
     requires small { unsigned_abs z ≤ 10000000 }
     ensures value { pos result ≡ int_rem_euclid z (pos period) }
     ensures less { result < period }
@@ -30,8 +31,8 @@ fn wrapped(period: u32, z: i64) -> u32
 /// A duration later.
 fn later(period: u32, time: u32, row: &NetRow, slack: u32) -> u32
     requires some { 0 < period }
-    requires most { period ≤ 10000 }
-    requires lower { unsigned_abs row.now.lower ≤ 1020000 }
+    requires most { period ≤ MOST_PERIOD }
+    requires lower { unsigned_abs row.now.lower ≤ MOST_LOWER }
     requires slack { slack < period }
     requires time { time < period }
     ensures less { result < period }
@@ -43,8 +44,8 @@ fn later(period: u32, time: u32, row: &NetRow, slack: u32) -> u32
 /// A duration earlier.
 fn earlier(period: u32, time: u32, row: &NetRow, slack: u32) -> u32
     requires some { 0 < period }
-    requires most { period ≤ 10000 }
-    requires lower { unsigned_abs row.now.lower ≤ 1020000 }
+    requires most { period ≤ MOST_PERIOD }
+    requires lower { unsigned_abs row.now.lower ≤ MOST_LOWER }
     requires slack { slack < period }
     requires time { time < period }
     ensures less { result < period }

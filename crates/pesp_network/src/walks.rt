@@ -1,6 +1,7 @@
 //! Fundamental walks.
 
 ghost use Rattle.std.specs.Prelude.{◌≡◌, ◌≢◌, ℕ, ◌+◌, ◌-◌, ◌<◌, ◌≤◌, ◌++◌, ◌==◌, ◌||◌, length, reverse, IfOk, IfErr, IfSome, IfNone, OnOk, All, vec_len};
+ghost use Rattle.pesp_problem.specs.declared.limits.TheConstants.{MOST_ROWS};
 ghost use Rattle.pesp_problem.specs.Walks.{Names};
 ghost use Rattle.pesp_network.specs.Networks.{arcs_of_network, signed_rows};
 ghost use Rattle.pesp_network.specs.Growing.{at};
@@ -10,17 +11,14 @@ ghost use Rattle.pesp_network.specs.Ways.{step_up, step_down, is_under, up_way, 
 use crate::parts::Forest;
 use crate::refusal::NetRefusal;
 use crate::row::NetRow;
-use pesp_problem::{SignedRow, Walk};
+use pesp_problem::{MOST_SIGNED_ROWS, SignedRow, Walk};
 use std::alloc::{AllocError, Global};
-
-/// How many signed rows a table of walks may have in all.
-const MOST_SIGNED_ROWS: usize = 10_000_000;
 
 /// The row that joins an event to the one above it, from the event upwards.
 fn upward(rows: &[NetRow], forest: &Forest, event: usize) -> SignedRow
     requires event { event < vec_len forest.now.up }
     requires row { Names (length rows.now) (at forest.now.by.items event) }
-    requires few { length rows.now ≤ 100000 }
+    requires few { length rows.now ≤ MOST_ROWS }
     ensures { result ≡ step_up (arcs_of_network rows.now) forest.now event }
 {
     let by = forest.by[event];
@@ -34,7 +32,7 @@ fn upward(rows: &[NetRow], forest: &Forest, event: usize) -> SignedRow
 fn downward(rows: &[NetRow], forest: &Forest, event: usize) -> SignedRow
     requires event { event < vec_len forest.now.up }
     requires row { Names (length rows.now) (at forest.now.by.items event) }
-    requires few { length rows.now ≤ 100000 }
+    requires few { length rows.now ≤ MOST_ROWS }
     ensures { result ≡ step_down (arcs_of_network rows.now) forest.now event }
 {
     let by = forest.by[event];
@@ -198,7 +196,7 @@ pub fn walks(
     requires { IsForest events (arcs_of_network rows.now) forest.now }
     ensures table { IfOk result
         (λ table. table.items ≡ walks_of (arcs_of_network rows.now) forest.now (length rows.now)) }
-    ensures small { IfOk result (λ table. signed_rows table.items ≤ 10000000) }
+    ensures small { IfOk result (λ table. signed_rows table.items ≤ MOST_SIGNED_ROWS) }
     ensures refused { IfErr result
         (IsTooMany (arcs_of_network rows.now) forest.now (length rows.now)) }
 {

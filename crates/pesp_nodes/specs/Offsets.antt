@@ -1,5 +1,6 @@
 -- What slack ranges allow of sums along a walk, by its net counts.
 use Rattle.std.specs.Prelude.{ℕ, ◌≤◌, List, ℤ, pos, neg_ℤ, ◌+ℤ◌, ◌*ℤ◌, ◌≤ℤ◌, unsigned_abs, All}
+use Rattle.pesp_problem.specs.declared.limits.TheConstants.{MOST_LOWER, MOST_OFFSET, MOST_SLACK, MOST_WEIGHT}
 use Rattle.pesp_problem.specs.declared.arc.Arc.{Arc}
 use Rattle.pesp_problem.specs.declared.row.SignedRow.{SignedRow}
 use Rattle.pesp_problem.specs.Sums.{scaled}
@@ -10,11 +11,11 @@ use Rattle.pesp_nodes.specs.declared.ends.End.TheVariants.{Low, High}
 
 -- arcs of a network: bounds, spans and weights are within their limits
 abbrev pub AreArcs : List Arc → Type 0
-AreArcs arcs = All (λ arc. (unsigned_abs arc.lower ≤ 1020000) × (arc.span ≤ 9999) × (arc.weight ≤ 1000000000)) arcs
+AreArcs arcs = All (λ arc. (unsigned_abs arc.lower ≤ MOST_LOWER) × (arc.span ≤ MOST_SLACK) × (arc.weight ≤ MOST_WEIGHT)) arcs
 
 -- an offset range within the limits of the number of a cut
 abbrev pub IsOffsetEnds : ℤ × ℤ → Type 0
-IsOffsetEnds range = (neg_ℤ (pos 100000000000000) ≤ℤ range.0) × (range.1 ≤ℤ pos 100000000000000)
+IsOffsetEnds range = (neg_ℤ (pos MOST_OFFSET) ≤ℤ range.0) × (range.1 ≤ℤ pos MOST_OFFSET)
 
 abbrev pub AreOffsetEnds : List (ℤ × ℤ) → Type 0
 AreOffsetEnds offsets = All IsOffsetEnds offsets

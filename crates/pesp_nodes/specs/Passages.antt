@@ -1,5 +1,6 @@
 -- How the cycles of a table pass a row, and the multipliers of pairs by cycle.
 use Rattle.std.specs.Prelude.{◌≡◌, ℕ, ◌+◌, ◌<◌, ◌≤◌, ◌⊎◌, List, [], ◌∷◌, ◌++◌, fold, length, slice_index_or, ℤ, pos, ◌+ℤ◌, unsigned_abs, All, if◌then◌else◌, ◌==◌}
+use Rattle.pesp_problem.specs.declared.limits.TheConstants.{MOST_SIGNED_ROWS}
 use Rattle.pesp_problem.specs.declared.row.SignedRow.{SignedRow}
 use Rattle.pesp_problem.specs.declared.pair.Pair.{Pair}
 use Rattle.pesp_problem.specs.Sums.{sum_below}
@@ -21,7 +22,7 @@ ArePassagesOf m walks i passages = (term : ℕ → ℤ → ℤ) → ((c : ℕ) �
 
 -- passages of cycles before this one, with small counts
 abbrev pub AreBefore : ℕ → List Passage → Type 0
-AreBefore cycle passages = All (λ e. (1 ≤ e.cycle) × (e.cycle < cycle) × (unsigned_abs e.count ≤ 10000000)) passages
+AreBefore cycle passages = All (λ e. (1 ≤ e.cycle) × (e.cycle < cycle) × (unsigned_abs e.count ≤ MOST_SIGNED_ROWS)) passages
 
 -- a cycle passes the row so often: one passage more, or none where the count is 0
 abbrev pub IsPassed : ℕ → ℤ → List Passage → List Passage → Type 0

@@ -1,5 +1,6 @@
 -- What a walk over the nodes of a tree keeps of its way, and what it may cut.
 use Rattle.std.specs.Prelude.{ℕ, ◌≤◌, List, [], ◌∷◌, All}
+use Rattle.pesp_problem.specs.declared.limits.TheConstants.{MOST_PERIOD}
 use Rattle.pesp_problem.specs.declared.cut.Cut.{Cut}
 use Rattle.pesp_problem.specs.declared.cut.Cut.TheVariants.{Slack, Offset}
 use Rattle.pesp_problem.specs.Nodes.{Node}
@@ -12,7 +13,7 @@ use Rattle.pesp_nets.specs.Ranges.{IsCut}
 
 -- a change that a cut can make among so many rows and cycles
 abbrev pub IsChange : ℕ → ℕ → Change → Type 0
-IsChange rows cycles (SlackChange row k was) = IsCut rows cycles (Slack row k) × (was.0 ≤ 10000) × (was.1 ≤ 10000)
+IsChange rows cycles (SlackChange row k was) = IsCut rows cycles (Slack row k) × (was.0 ≤ MOST_PERIOD) × (was.1 ≤ MOST_PERIOD)
 IsChange rows cycles (OffsetChange cycle k was) = IsCut rows cycles (Offset cycle k) × IsOffsetEnds was
 
 abbrev pub AreChanges : ℕ → ℕ → List Branch → Type 0

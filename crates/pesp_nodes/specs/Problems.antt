@@ -1,5 +1,6 @@
 -- Problems: a network with a table of closed walks, its nodes, and the pairs of its leaves.
 use Rattle.std.specs.Prelude.{◌≡◌, ⊤, ℕ, ◌-◌, ◌<◌, ◌≤◌, List, length, slice_index_or, unsigned_abs, All}
+use Rattle.pesp_problem.specs.declared.limits.TheConstants.{MOST_CYCLES, MOST_MULTIPLIER, MOST_SIGNED_ROWS}
 use Rattle.pesp_problem.specs.declared.row.SignedRow.{SignedRow}
 use Rattle.pesp_problem.specs.declared.arc.Arc.{Arc}
 use Rattle.pesp_problem.specs.declared.pair.Pair.{Pair}
@@ -23,8 +24,8 @@ net_of p = net_of_network p.network
 
 -- at most 100000 cycles with at most 10000000 signed rows
 pub record IsSmallTable (table : List (List SignedRow)) : Type 0 where
-  pub cycles : length table ≤ 100000
-  pub rows : signed_rows table ≤ 10000000
+  pub cycles : length table ≤ MOST_CYCLES
+  pub rows : signed_rows table ≤ MOST_SIGNED_ROWS
 
 -- the walk of this number, from 1, is no closed walk, and each walk before it is one
 pub record IsFirstOpen (arcs : List Arc) (table : List (List SignedRow)) (cycle : ℕ) : Type 0 where
@@ -60,7 +61,7 @@ Rise pairs = (i j : ℕ) (d : Pair) → i < j → j < length pairs → (slice_in
 pub record IsPairOf (cycles : ℕ) (pair : Pair) : Type 0 where
   pub names : Names cycles pair.cycle
   pub some : 1 ≤ unsigned_abs pair.mult
-  pub most : unsigned_abs pair.mult ≤ 1000000000000
+  pub most : unsigned_abs pair.mult ≤ MOST_MULTIPLIER
 
 -- pairs that rise and keep their limits
 pub record ArePairs (cycles : ℕ) (pairs : List Pair) : Type 0 where

@@ -1,6 +1,7 @@
 //! Flows: for a row, the sum over a leaf's pairs of the multiplier times the net count.
 
 ghost use Rattle.std.specs.Prelude.{◌≡◌, ℕ, ◌+◌, ◌*◌, ◌^◌, ◌<◌, ◌≤◌, List, length, ◌+ℤ◌, ◌*ℤ◌, unsigned_abs, All, sum_by, IfOk};
+ghost use Rattle.pesp_problem.specs.declared.limits.TheConstants.{MOST_MULTIPLIER, MOST_ROWS, MOST_SIGNED_ROWS};
 ghost use Rattle.pesp_problem.specs.declared.row.SignedRow.{SignedRow};
 ghost use Rattle.pesp_problem.specs.Walks.{Names};
 ghost use Rattle.pesp_problem.specs.Nodes.{flow};
@@ -18,7 +19,7 @@ use std::alloc::{AllocError, Global};
 /// The multiplier of a cycle, 0 where no pair has it.
 fn mult_of(pairs: &[Pair], cycle: u32) -> i64
     requires rise { Rise pairs.now }
-    requires mults { All (λ p. unsigned_abs p.mult ≤ 1000000000000) pairs.now }
+    requires mults { All (λ p. unsigned_abs p.mult ≤ MOST_MULTIPLIER) pairs.now }
     ensures value { result ≡ mult_of pairs.now cycle }
     ensures size { unsigned_abs result ≤ 1000000000000 }
 {
@@ -49,8 +50,8 @@ fn no_flows(alloc: Global, rows: usize) -> Result<Vec<i128>, AllocError>
 
 /// A multiplier times a net count.
 fn product(mult: i64, count: i64) -> i128
-    requires mult { unsigned_abs mult ≤ 1000000000000 }
-    requires count { unsigned_abs count ≤ 10000000 }
+    requires mult { unsigned_abs mult ≤ MOST_MULTIPLIER }
+    requires count { unsigned_abs count ≤ MOST_SIGNED_ROWS }
     ensures value { result ≡ mult *ℤ count }
     ensures size { unsigned_abs result ≤ 10 ^ 19 }
 {
@@ -60,7 +61,7 @@ fn product(mult: i64, count: i64) -> i128
 /// Adds a multiplier times each net count to the flow of its row.
 fn add_flow(flows: &mut [i128], counts: &[NetCount], mult: i64)
     requires counts { AreSmallCounts (length flows.old) counts.now }
-    requires mult { unsigned_abs mult ≤ 1000000000000 }
+    requires mult { unsigned_abs mult ≤ MOST_MULTIPLIER }
     requires small { AreSmallFlows flows.old }
     ensures sum { (i : ℕ) → i < length flows.old
         → number_at flows.new i ≡ number_at flows.old i +ℤ mult *ℤ count_of counts.now i }
@@ -78,7 +79,7 @@ fn add_flow(flows: &mut [i128], counts: &[NetCount], mult: i64)
 fn add_flows(flows: &mut [i128], nets: &[Nets], pairs: &[Pair])
     requires nets { All (AreSmallCounts (length flows.old)) nets.now }
     requires pairs { ArePairs (length nets.now) pairs.now }
-    requires few { length nets.now ≤ 100000 }
+    requires few { length nets.now ≤ MOST_ROWS }
     requires zeros { AreZeros flows.old }
     ensures flows { (walks : List (List SignedRow)) → AreNets (length flows.old) walks nets.now
         → AreFlows walks pairs.now flows.new }
@@ -93,7 +94,7 @@ fn add_flows(flows: &mut [i128], nets: &[Nets], pairs: &[Pair])
 pub(crate) fn flows_of(alloc: Global, nets: &[Nets], rows: usize, pairs: &[Pair]) -> Vec<i128>
     requires nets { All (AreSmallCounts rows) nets.now }
     requires pairs { ArePairs (length nets.now) pairs.now }
-    requires few { length nets.now ≤ 100000 }
+    requires few { length nets.now ≤ MOST_ROWS }
     ensures flows { (walks : List (List SignedRow)) → AreNets rows walks nets.now
         → AreFlows walks pairs.now result.items }
     ensures small { AreSmallFlows result.items }
@@ -109,8 +110,8 @@ pub(crate) fn flows_of(alloc: Global, nets: &[Nets], rows: usize, pairs: &[Pair]
 /// The flow on a row by its passages.
 fn flow_on(passages: &[Passage], pairs: &[Pair]) -> i128
     requires rise { Rise pairs.now }
-    requires most { All (λ p. unsigned_abs p.mult ≤ 1000000000000) pairs.now }
-    requires small { sum_by (λ e. unsigned_abs e.count) passages.now ≤ 10000000 }
+    requires most { All (λ p. unsigned_abs p.mult ≤ MOST_MULTIPLIER) pairs.now }
+    requires small { sum_by (λ e. unsigned_abs e.count) passages.now ≤ MOST_SIGNED_ROWS }
     ensures value { result ≡ sum_over (λ c n. mult_of pairs.now c *ℤ n) passages.now }
     ensures size { unsigned_abs result ≤ 10 ^ 19 }
 {
@@ -125,8 +126,8 @@ fn flow_on(passages: &[Passage], pairs: &[Pair]) -> i128
 /// The flow on the row at a place: as it is listed where the list is long enough, else by the row's passages.
 pub(crate) fn flow_at(flows: &[i128], place: usize, passages: &[Passage], pairs: &[Pair]) -> i128
     requires rise { Rise pairs.now }
-    requires most { All (λ p. unsigned_abs p.mult ≤ 1000000000000) pairs.now }
-    requires small { sum_by (λ e. unsigned_abs e.count) passages.now ≤ 10000000 }
+    requires most { All (λ p. unsigned_abs p.mult ≤ MOST_MULTIPLIER) pairs.now }
+    requires small { sum_by (λ e. unsigned_abs e.count) passages.now ≤ MOST_SIGNED_ROWS }
     requires flows { AreSmallFlows flows.now }
     ensures value { (walks : List (List SignedRow)) → All (λ p. Names (length walks) p.cycle) pairs.now
         → ArePassagesOf (length walks) walks place passages.now → AreFlows walks pairs.now flows.now

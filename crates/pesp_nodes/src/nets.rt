@@ -1,6 +1,7 @@
 //! Net counts of a walk, each row once.
 
 ghost use Rattle.std.specs.Prelude.{◌≡◌, ℕ, ◌+ℤ◌, ◌<◌, ◌≤◌, pos, length, vec_len, unsigned_abs, All, OnOk, slice_index_or};
+ghost use Rattle.pesp_problem.specs.declared.limits.TheConstants.{MOST_SIGNED_ROWS};
 ghost use Rattle.pesp_problem.specs.Walks.{Names, sign, net_count};
 ghost use Rattle.pesp_nets.specs.Nets.{AreZeros};
 ghost use Rattle.pesp_nodes.specs.Nets.{IsRowAdded};
@@ -12,7 +13,7 @@ use std::alloc::AllocError;
 
 /// A count after one signed row more.
 pub fn with_sign(count: i64, s: &SignedRow) -> i64
-    requires { unsigned_abs count ≤ 10000000 }
+    requires { unsigned_abs count ≤ MOST_SIGNED_ROWS }
     ensures { result ≡ count +ℤ sign s.now }
 {
     if s.plus { count + 1 } else { count - 1 }
@@ -21,7 +22,7 @@ pub fn with_sign(count: i64, s: &SignedRow) -> i64
 /// Adds the signs of a walk to working numbers, one a row, that are 0: 1 for each plus sign, -1 for each minus sign.
 pub fn count_rows(walk: &[SignedRow], working: &mut [i64])
     requires exist { All (λ s. Names (length working.old) s.row) walk.now }
-    requires short { length walk.now ≤ 10000000 }
+    requires short { length walk.now ≤ MOST_SIGNED_ROWS }
     requires zeros { AreZeros working.old }
     ensures { (i : ℕ) → i < length working.old
         → slice_index_or working.new i (pos 0) ≡ net_count walk.now i }

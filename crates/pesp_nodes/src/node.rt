@@ -1,6 +1,7 @@
 //! Nodes: the slacks and offsets that are still allowed.
 
 ghost use Rattle.std.specs.Prelude.{◌≡◌, ℕ, ◌-◌, ◌≤◌, List, length, unsigned_abs, IfOk};
+ghost use Rattle.pesp_problem.specs.declared.limits.TheConstants.{MOST_OFFSET, MOST_SLACK};
 ghost use Rattle.pesp_problem.specs.Nodes as spec;
 ghost use Rattle.pesp_problem.specs.Nodes.{part};
 ghost use Rattle.pesp_nets.specs.Ranges.{AreSlackEnds, cut_slack, cut_offset};
@@ -36,7 +37,7 @@ impl Model for Node {
 
 /// A part of a slack range that is cut at k.
 fn cut_slack(slacks: (u32, u32), k: u32, side: Side) -> (u32, u32)
-    requires { k ≤ 9999 }
+    requires { k ≤ MOST_SLACK }
     ensures { result ≡ cut_slack slacks k side }
 {
     match side {
@@ -47,7 +48,7 @@ fn cut_slack(slacks: (u32, u32), k: u32, side: Side) -> (u32, u32)
 
 /// A part of an offset range that is cut at k.
 fn cut_offset(offsets: (i64, i64), k: i64, side: Side) -> (i64, i64)
-    requires { unsigned_abs k ≤ 100000000000000 }
+    requires { unsigned_abs k ≤ MOST_OFFSET }
     ensures part { result ≡ cut_offset offsets k side }
     ensures ends { IsOffsetEnds offsets → IsOffsetEnds result }
 {

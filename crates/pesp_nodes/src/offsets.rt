@@ -2,6 +2,7 @@
 
 ghost use Rattle.std.specs.Prelude.{◌≡◌, ℕ, ℤ, ◌*◌, ◌+ℤ◌, ◌<◌, ◌≤◌, ◌≤ℤ◌, List, length, pos, unsigned_abs, IfSome};
 ghost use Rattle.std.specs.Int.{int_min, int_max};
+ghost use Rattle.pesp_problem.specs.declared.limits.TheConstants.{MOST_SIGNED_ROWS};
 ghost use Rattle.pesp_problem.specs.declared.row.SignedRow.{SignedRow};
 ghost use Rattle.pesp_problem.specs.Sums as sums;
 ghost use Rattle.pesp_problem.specs.Arcs.{arc_at};
@@ -41,7 +42,7 @@ fn term_at(arcs: &[Arc], slacks: &[(u32, u32)], net: &NetCount, end: End) -> i12
     requires slacks { AreSlackEnds slacks.now }
     requires long { length slacks.now ≡ length arcs.now }
     requires exists { net.now.place < length arcs.now }
-    requires small { unsigned_abs net.now.count ≤ 10000000 }
+    requires small { unsigned_abs net.now.count ≤ MOST_SIGNED_ROWS }
     ensures value { result ≡ end_term end arcs.now slacks.now net.now.place net.now.count }
     ensures size { unsigned_abs result ≤ unsigned_abs net.now.count * 1030000 }
 {

@@ -3,7 +3,7 @@
 ghost use Rattle.std.specs.Prelude.{ℕ, ◌↔◌, length, IsTrue};
 ghost use Rattle.pesp_nodes.specs.Problems.{IsPairOf, ArePairs};
 
-use pesp_problem::Pair;
+use pesp_problem::{MOST_MULTIPLIER, Pair};
 
 /// Whether a pair names one of so many cycles and keeps its limit.
 fn is_pair(pair: &Pair, cycles: usize) -> bool
@@ -13,7 +13,7 @@ fn is_pair(pair: &Pair, cycles: usize) -> bool
         return false;
     }
     let amount = pair.mult.unsigned_abs();
-    1 <= amount && amount <= 1000000000000
+    1 <= amount && amount <= MOST_MULTIPLIER
 }
 
 /// Whether pairs can stand at a leaf: they rise, each names one of so many cycles, from 1, and its multiplier is from 1 to

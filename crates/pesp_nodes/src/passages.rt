@@ -1,6 +1,7 @@
 //! The rows of a table: which cycles pass a row, and how often.
 
 ghost use Rattle.std.specs.Prelude.{◌≡◌, ℕ, ℤ, ◌+ℤ◌, ◌<◌, ◌≤◌, [], List, All, OnOk, length, vec_len, unsigned_abs};
+ghost use Rattle.pesp_problem.specs.declared.limits.TheConstants.{MOST_SIGNED_ROWS};
 ghost use Rattle.pesp_problem.specs.Walks.{Names, sign, net_count};
 ghost use Rattle.pesp_nodes.specs.declared.passages.Passage as declared;
 ghost use Rattle.pesp_nodes.specs.Passages.{AreBefore, IsPassed, passages_at};
@@ -51,7 +52,7 @@ impl Passages {
 
     /// One signed row more of a cycle; no passage but the last is of it.
     pub(crate) fn pass(&mut self, cycle: u32, s: &SignedRow) -> Result<(), AllocError>
-        requires { All (λ e. unsigned_abs e.count ≤ 10000000) self.old }
+        requires { All (λ e. unsigned_abs e.count ≤ MOST_SIGNED_ROWS) self.old }
         ensures { (before : List declared.Passage) (count : ℤ) → AreBefore cycle before
             → IsPassed cycle count before self.old
             → OnOk result (IsPassed cycle (count +ℤ sign s.now) before self.new) }
@@ -66,12 +67,12 @@ impl Passages {
 
 /// Takes off the last passage where it is of this cycle; its count, or 0.
 fn take_last(passages: &mut Vec<Passage>, cycle: u32) -> i64
-    requires { All (λ e. unsigned_abs e.count ≤ 10000000) passages.old.items }
+    requires { All (λ e. unsigned_abs e.count ≤ MOST_SIGNED_ROWS) passages.old.items }
     ensures value { (before : List declared.Passage) (count : ℤ) → AreBefore cycle before
         → IsPassed cycle count before passages.old.items → result ≡ count }
     ensures rest { (before : List declared.Passage) (count : ℤ) → AreBefore cycle before
         → IsPassed cycle count before passages.old.items → passages.new.items ≡ before }
-    ensures size { unsigned_abs result ≤ 10000000 }
+    ensures size { unsigned_abs result ≤ MOST_SIGNED_ROWS }
 {
     if passages.is_empty() {
         return 0;
@@ -92,7 +93,7 @@ pub fn add_walk(
     walk: &[SignedRow],
 ) -> Result<(), AllocError>
     requires exist { All (λ s. Names (vec_len by_row.old) s.row) walk.now }
-    requires short { length walk.now ≤ 10000000 }
+    requires short { length walk.now ≤ MOST_SIGNED_ROWS }
     requires before { All (AreBefore cycle) by_row.old.items }
     ensures long { OnOk result (length by_row.new.items ≡ length by_row.old.items) }
     ensures passed { OnOk result ((i : ℕ) → i < length by_row.old.items

@@ -1,6 +1,7 @@
 //! Problems: a network and a table of walks.
 
 ghost use Rattle.std.specs.Prelude.{◌≡◌, ℕ, ◌-◌, ◌<◌, ◌≤◌, List, map, length, unsigned_abs, All, IfOk, IfErr, OnOk, sum_by};
+ghost use Rattle.pesp_problem.specs.declared.limits.TheConstants.{MOST_CYCLES, MOST_ROWS, MOST_SIGNED_ROWS};
 ghost use Rattle.pesp_problem.specs.Nodes as spec;
 ghost use Rattle.pesp_problem.specs.Walks.{IsWalk};
 ghost use Rattle.pesp_network.specs.Networks.{arcs_of_network, net_of_network, KeepsNetLimits};
@@ -187,9 +188,9 @@ impl Problem {
     pub fn arcs(&self) -> &[Arc]
         ensures arcs { result.now ≡ (net_of self.now).arcs }
         ensures limits { AreArcs result.now }
-        ensures few { length result.now ≤ 100000 }
+        ensures few { length result.now ≤ MOST_ROWS }
         ensures rows { length result.now ≡ length self.now.network.rows }
-        ensures table { length self.now.table ≤ 100000 }
+        ensures table { length self.now.table ≤ MOST_CYCLES }
     {
         self.network.arcs()
     }
@@ -224,7 +225,7 @@ impl Problem {
     pub fn passages(&self) -> &[Passages]
         ensures passages { ArePassages (length self.now.network.rows) (length self.now.table)
             self.now.table result.now }
-        ensures short { All (λ ps. sum_by (λ e. unsigned_abs e.count) ps ≤ 10000000) result.now }
+        ensures short { All (λ ps. sum_by (λ e. unsigned_abs e.count) ps ≤ MOST_SIGNED_ROWS) result.now }
     {
         &self.by_row
     }

@@ -1,6 +1,7 @@
 //! What a leaf of one pair is worth, in the time that its cycle takes.
 
 ghost use Rattle.std.specs.Prelude.{◌≡◌, ℕ, [], ◌∷◌, ◌*◌, ◌<◌, ◌≤◌, List, length, pos, ◌*ℤ◌, ◌-ℤ◌, unsigned_abs, true, Some};
+ghost use Rattle.pesp_problem.specs.declared.limits.TheConstants.{MOST_LOWER, MOST_PERIOD, MOST_SIGNED_ROWS, MOST_WEIGHT};
 ghost use Rattle.pesp_problem.specs.declared.row.SignedRow.{SignedRow};
 ghost use Rattle.pesp_problem.specs.Arcs.{over_arcs};
 ghost use Rattle.pesp_problem.specs.Walks.{Names, net_count};
@@ -21,7 +22,7 @@ use pesp_problem::{Arc, Pair};
 /// The flow of one pair on a row of its cycle.
 fn flow_of(pair: &Pair, net: &NetCount) -> i128
     requires one { unsigned_abs pair.now.mult ≡ 1 }
-    requires small { unsigned_abs net.now.count ≤ 10000000 }
+    requires small { unsigned_abs net.now.count ≤ MOST_SIGNED_ROWS }
     ensures value { result ≡ pair.now.mult *ℤ net.now.count }
     ensures size { unsigned_abs result ≤ unsigned_abs net.now.count }
 {
@@ -30,11 +31,11 @@ fn flow_of(pair: &Pair, net: &NetCount) -> i128
 
 /// What a row adds to the value with this flow beyond what it adds with none.
 fn gain(arc: &Arc, range: (u32, u32), flow: i128) -> i128
-    requires weight { arc.now.weight ≤ 1000000000 }
-    requires lower { unsigned_abs arc.now.lower ≤ 1020000 }
-    requires low { range.0 ≤ 10000 }
-    requires high { range.1 ≤ 10000 }
-    requires flow { unsigned_abs flow ≤ 10000000 }
+    requires weight { arc.now.weight ≤ MOST_WEIGHT }
+    requires lower { unsigned_abs arc.now.lower ≤ MOST_LOWER }
+    requires low { range.0 ≤ MOST_PERIOD }
+    requires high { range.1 ≤ MOST_PERIOD }
+    requires flow { unsigned_abs flow ≤ MOST_SIGNED_ROWS }
     ensures value { result
         ≡ row_term arc.now range true flow -ℤ row_term arc.now range true (pos 0) }
     ensures size { unsigned_abs result ≤ unsigned_abs flow * 1030000 }
@@ -52,7 +53,7 @@ fn gain_at(arcs: &[Arc], slacks: &[(u32, u32)], pair: &Pair, net: &NetCount) -> 
     requires long { length slacks.now ≡ length arcs.now }
     requires one { unsigned_abs pair.now.mult ≡ 1 }
     requires exists { net.now.place < length arcs.now }
-    requires small { unsigned_abs net.now.count ≤ 10000000 }
+    requires small { unsigned_abs net.now.count ≤ MOST_SIGNED_ROWS }
     ensures value { result
         ≡ gain_at arcs.now slacks.now net.now.place (pair.now.mult *ℤ net.now.count) }
     ensures size { unsigned_abs result ≤ unsigned_abs net.now.count * 1030000 }

@@ -1,6 +1,7 @@
 //! Tables of walks: their limits, their passages by row, and their net counts by cycle.
 
 ghost use Rattle.std.specs.Prelude.{◌≡◌, ℕ, ◌+◌, ◌<◌, ◌≤◌, ◌↔◌, List, [], length, replicate, All, IsTrue, IfOk};
+ghost use Rattle.pesp_problem.specs.declared.limits.TheConstants.{MOST_ROWS};
 ghost use Rattle.pesp_problem.specs.declared.row.SignedRow.{SignedRow};
 ghost use Rattle.pesp_problem.specs.Walks.{Names};
 ghost use Rattle.pesp_nets.specs.Nets.{AreNets};
@@ -10,20 +11,20 @@ ghost use Rattle.pesp_nodes.specs.Problems.{IsSmallTable};
 use crate::nets::add_row;
 use crate::passages::{Passages, add_walk};
 use pesp_nets::Nets;
-use pesp_problem::Walk;
+use pesp_problem::{MOST_CYCLES, MOST_SIGNED_ROWS, Walk};
 use std::alloc::{AllocError, Global};
 
 /// Whether a table has at most 100000 cycles and at most 10000000 signed rows.
 pub fn is_small(table: &[Walk]) -> bool
     ensures { IsTrue result ↔ IsSmallTable table.now }
 {
-    if table.len() > 100000 {
+    if table.len() > MOST_CYCLES {
         return false;
     }
     let mut rows: usize = 0;
     for walk in table {
         rows += walk.rows().len();
-        if rows > 10000000 {
+        if rows > MOST_SIGNED_ROWS {
             return false;
         }
     }
@@ -48,8 +49,8 @@ pub fn passages_of_table(
     table: &[Walk],
 ) -> Result<Vec<Passages>, AllocError>
     requires exist { All (λ walk. All (λ s. Names rows s.row) walk) table.now }
-    requires short { All (λ walk. length walk ≤ 10000000) table.now }
-    requires few { length table.now ≤ 100000 }
+    requires short { All (λ walk. length walk ≤ MOST_SIGNED_ROWS) table.now }
+    requires few { length table.now ≤ MOST_CYCLES }
     ensures passages { IfOk result (λ v. ArePassages rows (length table.now) table.now v.items) }
     ensures before { IfOk result (λ v. All (AreBefore (length table.now + 1)) v.items) }
 {
@@ -78,9 +79,9 @@ pub fn nets_of_passages(
     by_row: &[Passages],
 ) -> Result<Vec<Nets>, AllocError>
     requires before { All (AreBefore (cycles + 1)) by_row.now }
-    requires few { length by_row.now ≤ 100000 }
+    requires few { length by_row.now ≤ MOST_ROWS }
     ensures { (walks : List (List SignedRow)) → length walks ≡ cycles
-        → All (λ walk. length walk ≤ 10000000) walks → ArePassages (length by_row.now) cycles walks
+        → All (λ walk. length walk ≤ MOST_SIGNED_ROWS) walks → ArePassages (length by_row.now) cycles walks
         by_row.now → IfOk result (λ v. AreNets (length by_row.now) walks v.items) }
 {
     let mut nets = no_nets(alloc, cycles)?;

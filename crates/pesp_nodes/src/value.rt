@@ -1,6 +1,7 @@
 //! What leaves are worth.
 
 ghost use Rattle.std.specs.Prelude.{◌≡◌, ℕ, ◌+◌, ◌-◌, ◌*◌, ◌^◌, ◌<◌, ◌≤◌, List, length, pos, ◌*ℤ◌, ◌-ℤ◌, unsigned_abs, All, IfSome, option_map, sum_by};
+ghost use Rattle.pesp_problem.specs.declared.limits.TheConstants.{MOST_CYCLES, MOST_LOWER, MOST_MULTIPLIER, MOST_PERIOD, MOST_ROWS, MOST_SIGNED_ROWS, MOST_WEIGHT};
 ghost use Rattle.pesp_problem.specs.declared.row.SignedRow.{SignedRow};
 ghost use Rattle.pesp_problem.specs.Sums as sums;
 ghost use Rattle.pesp_problem.specs.Arcs.{over_arcs};
@@ -67,7 +68,7 @@ fn period_times(period: u32, offset: i64) -> i128
 
 /// The period times a multiplier times the least offset left, or the greatest where the multiplier is negative.
 pub(crate) fn offset_term(period: u32, mult: i64, left: (i64, i64)) -> i128
-    requires mult { unsigned_abs mult ≤ 1000000000000 }
+    requires mult { unsigned_abs mult ≤ MOST_MULTIPLIER }
     requires low { IsSmallOffset period left.0 }
     requires high { IsSmallOffset period left.1 }
     ensures value { result ≡ pos period *ℤ sums.scaled mult left.0 left.1 }
@@ -81,7 +82,7 @@ pub(crate) fn offset_term(period: u32, mult: i64, left: (i64, i64)) -> i128
 fn offset_sum(problem: &Problem, node: &Node, pairs: &[Pair]) -> Option<i128>
     requires node { IsNodeOf problem.now node.now }
     requires pairs { ArePairs (length problem.now.table) pairs.now }
-    requires few { length problem.now.table ≤ 100000 }
+    requires few { length problem.now.table ≤ MOST_CYCLES }
     ensures value { result ≡ option_map (λ z. pos problem.now.network.period *ℤ z)
         (offset_part (net_of problem.now) problem.now.table node.now pairs.now) }
     ensures size { IfSome result (λ z. unsigned_abs z ≤ 100000 * (1000000000000 * 10300000000000)) }
@@ -97,7 +98,7 @@ fn offset_sum(problem: &Problem, node: &Node, pairs: &[Pair]) -> Option<i128>
 
 /// The weight of a row, or 0 for a leaf without weights.
 fn weight_of(arc: &Arc, weighted: bool) -> i128
-    requires { arc.now.weight ≤ 1000000000 }
+    requires { arc.now.weight ≤ MOST_WEIGHT }
     ensures value { result ≡ weight_of weighted arc.now }
     ensures size { unsigned_abs result ≤ 1000000000 }
 {
@@ -107,8 +108,8 @@ fn weight_of(arc: &Arc, weighted: bool) -> i128
 /// The lesser of a factor times each end of a range.
 fn lesser(factor: i128, range: (u32, u32)) -> i128
     requires factor { unsigned_abs factor ≤ 2 * 10 ^ 24 }
-    requires low { range.0 ≤ 10000 }
-    requires high { range.1 ≤ 10000 }
+    requires low { range.0 ≤ MOST_PERIOD }
+    requires high { range.1 ≤ MOST_PERIOD }
     ensures value { result ≡ lesser factor range }
     ensures size { unsigned_abs result ≤ 2 * 10 ^ 28 }
 {
@@ -120,7 +121,7 @@ fn lesser(factor: i128, range: (u32, u32)) -> i128
 /// A flow times a lower bound.
 fn lower_part(flow: i128, lower: i64) -> i128
     requires flow { unsigned_abs flow ≤ 10 ^ 24 }
-    requires lower { unsigned_abs lower ≤ 1020000 }
+    requires lower { unsigned_abs lower ≤ MOST_LOWER }
     ensures value { result ≡ flow *ℤ lower }
     ensures size { unsigned_abs result ≤ 2 * 10 ^ 30 }
 {
@@ -129,10 +130,10 @@ fn lower_part(flow: i128, lower: i64) -> i128
 
 /// What a row adds to the value.
 pub(crate) fn row_term(arc: &Arc, range: (u32, u32), weighted: bool, flow: i128) -> i128
-    requires weight { arc.now.weight ≤ 1000000000 }
-    requires lower { unsigned_abs arc.now.lower ≤ 1020000 }
-    requires low { range.0 ≤ 10000 }
-    requires high { range.1 ≤ 10000 }
+    requires weight { arc.now.weight ≤ MOST_WEIGHT }
+    requires lower { unsigned_abs arc.now.lower ≤ MOST_LOWER }
+    requires low { range.0 ≤ MOST_PERIOD }
+    requires high { range.1 ≤ MOST_PERIOD }
     requires flow { unsigned_abs flow ≤ 10 ^ 24 }
     ensures value { result ≡ row_term arc.now range weighted flow }
     ensures size { unsigned_abs result ≤ 10 ^ 31 }
@@ -151,13 +152,13 @@ fn row_sum(
     weighted: bool,
 ) -> i128
     requires arcs { AreArcs arcs.now }
-    requires few { length arcs.now ≤ 100000 }
+    requires few { length arcs.now ≤ MOST_ROWS }
     requires slacks { AreSlackEnds slacks.now }
     requires long { length slacks.now ≡ length arcs.now }
     requires rows { length by_row.now ≡ length arcs.now }
-    requires short { All (λ ps. sum_by (λ e. unsigned_abs e.count) ps ≤ 10000000) by_row.now }
+    requires short { All (λ ps. sum_by (λ e. unsigned_abs e.count) ps ≤ MOST_SIGNED_ROWS) by_row.now }
     requires rise { Rise pairs.now }
-    requires mults { All (λ p. unsigned_abs p.mult ≤ 1000000000000) pairs.now }
+    requires mults { All (λ p. unsigned_abs p.mult ≤ MOST_MULTIPLIER) pairs.now }
     requires flows { AreSmallFlows flows.now }
     ensures value { (walks : List (List SignedRow)) → ArePassages (length arcs.now) (length walks)
         walks by_row.now → All (λ p. Names (length walks) p.cycle) pairs.now

@@ -3,6 +3,7 @@
 ghost use Rattle.std.specs.Prelude.{◌≡◌, ◌≢◌, ◌⊎◌, ◌<◌, ◌≤◌, ◌^◌, OnOk, IfOk, IfErr};
 ghost use Rattle.std.specs.Io.KnownBytes.{Appends};
 ghost use Rattle.std.specs.List.Sorted.{IsStrictlyIncreasing};
+ghost use Rattle.pesp_problem.specs.declared.limits.TheConstants.{MOST_STEPS};
 ghost use Rattle.pesp_stream.specs.Counts.{FewerThan, HasWorked};
 ghost use Rattle.pesp_truth.specs.Certificates.{IsValid};
 ghost use Rattle.pesp_worker.specs.HandingIn.{AreWorksOn};
@@ -133,7 +134,7 @@ fn found_works(
     until: Option<u64>,
     jobs: &[u64],
 ) -> Result<Vec<WorkText>, Fault>
-    requires steps { steps ≤ 100000 }
+    requires steps { steps ≤ MOST_STEPS }
     requires rise { IsStrictlyIncreasing jobs.now }
     requires valid { IsValid instance.now base.now }
     ensures works { IfOk result
@@ -156,7 +157,7 @@ fn write_works<W: Sink>(
     until: Option<u64>,
     jobs: &[u64],
 ) -> Result<(), Fault>
-    requires steps { steps ≤ 100000 }
+    requires steps { steps ≤ MOST_STEPS }
     requires rise { IsStrictlyIncreasing jobs.now }
     requires valid { IsValid instance.now base.now }
     requires fits { FewerThan (2 ^ 63) (W.calls writer.old) }
@@ -190,7 +191,7 @@ pub fn run_work<R: Source, B: Source, W: Sink>(
     until: Option<u64>,
     jobs: &[u64],
 ) -> Result<(), Fault>
-    requires steps { steps ≤ 100000 }
+    requires steps { steps ≤ MOST_STEPS }
     requires rise { IsStrictlyIncreasing jobs.now }
     requires reads_fit { FewerThan (2 ^ 62) (R.calls instance_reader.old) }
     requires base_reads_fit { FewerThan (2 ^ 62) (B.calls base_reader.old) }

@@ -1,6 +1,7 @@
 //! What walks, nodes and leaf values see of a row.
 
 ghost use Rattle.std.specs.Prelude.{◌≡◌, ◌<◌, ◌≤◌, ◌≤ℤ◌, pos, neg_ℤ};
+ghost use Rattle.pesp_problem.specs.declared.limits.TheConstants.{MOST_BOUND};
 ghost use Rattle.pesp_problem.specs.Arcs as spec;
 
 use crate::row::Row;
@@ -18,9 +19,9 @@ pub struct Arc {
 /// The arc of a row: its span is the lesser of `upper - lower` and the greatest slack, `period - 1`.
 pub fn arc_of(period: u32, row: &Row) -> Arc
     requires period { 0 < period }
-    requires lower { neg_ℤ (pos 1000000) ≤ℤ row.now.lower }
+    requires lower { neg_ℤ (pos MOST_BOUND) ≤ℤ row.now.lower }
     requires bounds { row.now.lower ≤ℤ row.now.upper }
-    requires upper { row.now.upper ≤ℤ pos 1000000 }
+    requires upper { row.now.upper ≤ℤ pos MOST_BOUND }
     ensures { result ≡ spec.arc_of period row.now }
 {
     let width = (row.upper - row.lower) as u32;

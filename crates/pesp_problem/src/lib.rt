@@ -7,6 +7,7 @@ pub mod exact;
 mod grade;
 mod instance;
 pub mod laws;
+mod limits;
 mod memory;
 pub mod net_times;
 mod pair;
@@ -18,6 +19,11 @@ pub use arc::{Arc, arc_of};
 pub use cut::{Cut, Side};
 pub use grade::Score;
 pub use instance::Instance;
+pub use limits::{
+    MOST_BOUND, MOST_CYCLES, MOST_EVENTS, MOST_LABEL, MOST_LINES, MOST_LOWER, MOST_MULTIPLIER,
+    MOST_OFFSET, MOST_PAIRS, MOST_PERIOD, MOST_ROWS, MOST_SCALE, MOST_SIGNED_ROWS, MOST_SLACK,
+    MOST_STEPS, MOST_TEXT, MOST_TIME, MOST_WEIGHT,
+};
 pub use memory::Memory;
 pub use pair::{Pair, Pairs};
 pub use row::{Row, SignedRow};

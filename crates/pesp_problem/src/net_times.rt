@@ -1,6 +1,7 @@
 //! Times of a net's events: slacks, timetables and costs. The arcs keep the limits that every network keeps.
 
 ghost use Rattle.std.specs.Prelude.{◌≡◌, ◌<◌, ◌≤◌, ◌↔◌, ◌-ℤ◌, IsTrue, All, length, unsigned_abs};
+ghost use Rattle.pesp_problem.specs.declared.limits.TheConstants.{MOST_LOWER};
 ghost use Rattle.pesp_problem.specs.Arcs as spec;
 ghost use Rattle.pesp_problem.specs.ArcLimits.{KeepArcLimits};
 ghost use Rattle.pesp_problem.specs.NetTimetables.{IsNetTimetable, net_cost};
@@ -13,7 +14,7 @@ pub(crate) fn slack_between(period: u32, times: &[u32], tail: u32, head: u32, lo
     requires some { 0 < period }
     requires tail { tail < length times.now }
     requires head { head < length times.now }
-    requires lower { unsigned_abs lower ≤ 1020000 }
+    requires lower { unsigned_abs lower ≤ MOST_LOWER }
     ensures value { result ≡ remainder period (difference times.now tail head -ℤ lower) }
     ensures below { result < period }
 {
@@ -29,7 +30,7 @@ pub fn arc_slack(period: u32, times: &[u32], arc: &Arc) -> u32
     requires some { 0 < period }
     requires tail { arc.now.tail < length times.now }
     requires head { arc.now.head < length times.now }
-    requires lower { unsigned_abs arc.now.lower ≤ 1020000 }
+    requires lower { unsigned_abs arc.now.lower ≤ MOST_LOWER }
     ensures value { result ≡ spec.arc_slack period times.now arc.now }
     ensures below { result < period }
 {

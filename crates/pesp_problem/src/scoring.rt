@@ -1,6 +1,7 @@
 //! What times are worth.
 
 ghost use Rattle.std.specs.Prelude.{◌≡◌, ℕ, ◌≤◌, ◌<◌, ◌≤ℤ◌, ◌↔◌, IsTrue, pos, neg_ℤ, ◌-ℤ◌, length};
+ghost use Rattle.pesp_problem.specs.declared.limits.TheConstants.{MOST_BOUND};
 ghost use Rattle.pesp_problem.specs.Timetables.{slack, AreTimes, IsTimetableOfCost};
 ghost use Rattle.pesp_problem.specs.Scores.{IsScore};
 
@@ -15,8 +16,8 @@ pub fn slack_of(period: u32, times: &[u32], row: &Row) -> u32
     requires some_period { 1 ≤ period }
     requires tail { row.now.tail < length times.now }
     requires head { row.now.head < length times.now }
-    requires lower { neg_ℤ (pos 1000000) ≤ℤ row.now.lower }
-    requires upper { row.now.lower ≤ℤ pos 1000000 }
+    requires lower { neg_ℤ (pos MOST_BOUND) ≤ℤ row.now.lower }
+    requires upper { row.now.lower ≤ℤ pos MOST_BOUND }
     ensures value { result ≡ slack period times.now row.now }
     ensures below { result < period }
 {
@@ -25,9 +26,9 @@ pub fn slack_of(period: u32, times: &[u32], row: &Row) -> u32
 
 /// Whether a row with this slack is satisfied.
 fn is_satisfied(slack: u32, row: &Row) -> bool
-    requires lower { neg_ℤ (pos 1000000) ≤ℤ row.now.lower }
+    requires lower { neg_ℤ (pos MOST_BOUND) ≤ℤ row.now.lower }
     requires bounds { row.now.lower ≤ℤ row.now.upper }
-    requires upper { row.now.upper ≤ℤ pos 1000000 }
+    requires upper { row.now.upper ≤ℤ pos MOST_BOUND }
     ensures { IsTrue result ↔ (pos slack ≤ℤ (row.now.upper -ℤ row.now.lower)) }
 {
     i64::from(slack) <= row.upper - row.lower

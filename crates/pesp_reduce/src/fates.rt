@@ -1,6 +1,7 @@
 //! What is left of the rows.
 
 ghost use Rattle.std.specs.Prelude.{◌≡◌, ℕ, ◌+◌, ◌<◌, ◌≤◌, length, map, IfOk, All, vec_len, unsigned_abs};
+ghost use Rattle.pesp_problem.specs.declared.limits.TheConstants.{MOST_LOWER, MOST_ROWS};
 ghost use Rattle.pesp_problem.specs.Walks.{Names};
 ghost use Rattle.pesp_network.specs.Networks.{net_row_at, arcs_of_network};
 ghost use Rattle.pesp_reduce.specs.Rows.{flag};
@@ -15,7 +16,7 @@ use std::alloc::{AllocError, Global};
 fn mapped_row(stands: &[u32], shifts: &[u32], row: &NetRow) -> NetRow
     requires tail { row.now.tail < length stands.now }
     requires head { row.now.head < length stands.now }
-    requires lower { unsigned_abs row.now.lower ≤ 1020000 }
+    requires lower { unsigned_abs row.now.lower ≤ MOST_LOWER }
     requires shifts { length shifts.now ≡ length stands.now }
     ensures { result ≡ spec.mapped_row stands.now shifts.now row.now }
 {
@@ -40,7 +41,7 @@ pub fn mapped_rows(
 ) -> Result<Vec<NetRow>, AllocError>
     requires tails { All (λ row. row.tail < length stands.now) rows.now }
     requires heads { All (λ row. row.head < length stands.now) rows.now }
-    requires lowers { All (λ row. unsigned_abs row.lower ≤ 1020000) rows.now }
+    requires lowers { All (λ row. unsigned_abs row.lower ≤ MOST_LOWER) rows.now }
     requires shifts { length shifts.now ≡ length stands.now }
     ensures { IfOk result
         (λ made. made.items ≡ map (spec.mapped_row stands.now shifts.now) rows.now) }
@@ -79,7 +80,7 @@ pub fn fates_of(
     left: &Network,
 ) -> Result<Vec<Fate>, AllocError>
     requires period { 0 < period }
-    requires few { length rows.now ≤ 100000 }
+    requires few { length rows.now ≤ MOST_ROWS }
     requires flags { length contracted.now ≡ length rows.now }
     requires left { length left.now.rows ≡ length rows.now }
     ensures count { IfOk result (λ fates. vec_len fates ≡ length rows.now) }

@@ -2,6 +2,7 @@
 
 ghost use Rattle.std.specs.Prelude.{◌≡◌, ℕ, ◌<◌, ◌≤◌, length, slice_index, map, unsigned_abs, pos, IfOk, All, vec_len};
 ghost use Rattle.std.specs.Int.{int_rem_euclid};
+ghost use Rattle.pesp_problem.specs.declared.limits.TheConstants.{MOST_LOWER, MOST_PERIOD};
 ghost use Rattle.pesp_problem.specs.Timetables.{remainder};
 ghost use Rattle.pesp_network.specs.Networks.{net_row_at};
 ghost use Rattle.pesp_reduce.specs.Fates.{fate_at};
@@ -14,7 +15,7 @@ use std::alloc::{AllocError, Global};
 /// The time that an event's shift leads back to.
 fn lowered_time(period: u32, times: &[u32], shifts: &[u32], event: u32) -> u32
     requires some { 0 < period }
-    requires most { period ≤ 10000 }
+    requires most { period ≤ MOST_PERIOD }
     requires times { All (λ t. t < period) times.now }
     requires shifts { All (λ t. t < period) shifts.now }
     requires time { event < length times.now }
@@ -33,7 +34,7 @@ pub fn lowered_times(
     firsts: &[u32],
 ) -> Result<Vec<u32>, AllocError>
     requires some { 0 < period }
-    requires most { period ≤ 10000 }
+    requires most { period ≤ MOST_PERIOD }
     requires times { All (λ t. t < period) times.now }
     requires shifts { All (λ t. t < period) shifts.now }
     requires count { length times.now ≡ length shifts.now }
@@ -51,7 +52,7 @@ pub fn lowered_times(
 /// The remainder by the period.
 fn wrapped(period: u32, z: &i64) -> u32
     requires some { 0 < period }
-    requires most { period ≤ 10000 }
+    requires most { period ≤ MOST_PERIOD }
     requires small { unsigned_abs z.now ≤ 10000000 }
     ensures value { result ≡ remainder period z.now }
     ensures below { result < period }
@@ -72,7 +73,7 @@ fn is_bridge(fate: Fate) -> bool
 
 /// The time of the event that an event becomes, and the shift.
 fn shifted(period: u32, stands: &[u32], shifts: &[u32], times: &[u32], event: u32) -> i64
-    requires most { period ≤ 10000 }
+    requires most { period ≤ MOST_PERIOD }
     requires stand { event < length stands.now }
     requires shift { event < length shifts.now }
     requires time { slice_index stands.now event < length times.now }
@@ -95,14 +96,14 @@ fn lifted_slack(
     fate: Fate,
 ) -> u32
     requires some { 0 < period }
-    requires most { period ≤ 10000 }
+    requires most { period ≤ MOST_PERIOD }
     requires count { length shifts.now ≡ length stands.now }
     requires tail { row.now.tail < length stands.now }
     requires head { row.now.head < length stands.now }
     requires stands { All (λ c. c < length times.now) stands.now }
     requires times { All (λ t. t < period) times.now }
     requires shifts { All (λ t. t < period) shifts.now }
-    requires lower { unsigned_abs row.now.lower ≤ 1020000 }
+    requires lower { unsigned_abs row.now.lower ≤ MOST_LOWER }
     ensures value { result ≡ spec.lifted_slack period stands.now shifts.now times.now row.now fate }
     ensures below { result < period }
 {
@@ -126,7 +127,7 @@ pub fn lifted_slacks(
     fates: &[Fate],
 ) -> Result<Vec<u32>, AllocError>
     requires some { 0 < period }
-    requires most { period ≤ 10000 }
+    requires most { period ≤ MOST_PERIOD }
     requires count { length shifts.now ≡ length stands.now }
     requires fates { length fates.now ≡ length rows.now }
     requires tails { All (λ row. row.tail < length stands.now) rows.now }
@@ -134,7 +135,7 @@ pub fn lifted_slacks(
     requires stands { All (λ c. c < length times.now) stands.now }
     requires times { All (λ t. t < period) times.now }
     requires shifts { All (λ t. t < period) shifts.now }
-    requires lowers { All (λ row. unsigned_abs row.lower ≤ 1020000) rows.now }
+    requires lowers { All (λ row. unsigned_abs row.lower ≤ MOST_LOWER) rows.now }
     ensures count { IfOk result (λ slacks. vec_len slacks ≡ length rows.now) }
     ensures below { IfOk result (λ slacks. All (λ y. y < period) slacks.items) }
     ensures each { IfOk result (λ slacks. (i : ℕ) → i < length rows.now

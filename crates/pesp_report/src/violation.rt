@@ -2,6 +2,7 @@
 
 ghost use Rattle.std.specs.Prelude.{◌≡◌, ◌+◌, ◌<◌, ◌≤ℤ◌, ◌-ℤ◌, ◌++◌, [], int_lt, length, neg_ℤ, pos, IfOk, OnOk};
 ghost use Rattle.std.specs.List.{cons_option};
+ghost use Rattle.pesp_problem.specs.declared.limits.TheConstants.{MOST_BOUND};
 ghost use Rattle.pesp_problem.specs.Timetables.{AreTimes, row_at};
 ghost use Rattle.pesp_report.specs.Violations as spec;
 
@@ -25,9 +26,9 @@ pub struct Violation {
 
 /// By how much a slack is above what the bounds of a row allow.
 fn excess_of(slack: u32, row: &Row) -> i64
-    requires lower { neg_ℤ (pos 1000000) ≤ℤ row.now.lower }
+    requires lower { neg_ℤ (pos MOST_BOUND) ≤ℤ row.now.lower }
     requires bounds { row.now.lower ≤ℤ row.now.upper }
-    requires upper { row.now.upper ≤ℤ pos 1000000 }
+    requires upper { row.now.upper ≤ℤ pos MOST_BOUND }
     ensures { result ≡ pos slack -ℤ (row.now.upper -ℤ row.now.lower) }
 {
     i64::from(slack) - (row.upper - row.lower)
@@ -35,9 +36,9 @@ fn excess_of(slack: u32, row: &Row) -> i64
 
 /// Whether a slack is above what the bounds of a row allow.
 fn is_above(slack: u32, row: &Row) -> bool
-    requires lower { neg_ℤ (pos 1000000) ≤ℤ row.now.lower }
+    requires lower { neg_ℤ (pos MOST_BOUND) ≤ℤ row.now.lower }
     requires bounds { row.now.lower ≤ℤ row.now.upper }
-    requires upper { row.now.upper ≤ℤ pos 1000000 }
+    requires upper { row.now.upper ≤ℤ pos MOST_BOUND }
     ensures { result ≡ int_lt (row.now.upper -ℤ row.now.lower) (pos slack) }
 {
     i64::from(slack) > row.upper - row.lower

@@ -1,5 +1,6 @@
 -- How a search that goes on from a certificate ends.
 use Rattle.std.specs.Prelude.{◌≡◌, ◌⊎◌, ℕ, ◌≤◌, List, length, Option, Some, None}
+use Rattle.pesp_problem.specs.declared.limits.TheConstants.{MOST_LINES}
 use Rattle.pesp_problem.specs.declared.cut.Cut.{Cut}
 use Rattle.pesp_problem.specs.declared.cut.Side.{Side}
 use Rattle.pesp_nodes.specs.Problems.{ProblemValue}
@@ -23,7 +24,7 @@ ending_of turns.TurnsUsed = None
 -- to cut at one; without a split they are spent by looks
 abbrev pub IsFull : ProblemValue → ℕ → State → State → Type 0
 IsFull p steps opening state = IsTreeFull p state
-    ⊎ (((r : ReducedValue) × SpendsNumbers p r opening state) ⊎ ((steps ≡ 0) × (1000000 ≤ length state.numbers)))
+    ⊎ (((r : ReducedValue) × SpendsNumbers p r opening state) ⊎ ((steps ≡ 0) × (MOST_LINES ≤ length state.numbers)))
 
 -- no open leaf waits: each is lent, and was looked at
 abbrev pub IsNoneWaiting : ProblemValue → State → Type 0

@@ -1,5 +1,6 @@
 -- Which limit was met where nothing is answered.
 use Rattle.std.specs.Prelude.{◌≡◌, ◌⊎◌, ⊤, ℕ, ◌+◌, ◌*◌, ◌<◌, ◌≤◌, List, length, All}
+use Rattle.pesp_problem.specs.declared.limits.TheConstants.{MOST_PAIRS}
 use Rattle.pesp_problem.specs.declared.row.SignedRow.{SignedRow}
 use Rattle.pesp_problem.specs.Timetables.{Pesp}
 use Rattle.pesp_problem.specs.Forests.{IsSpanningForest, AreFundamental, IsSimple}
@@ -32,7 +33,7 @@ pub record HasLargeTable (p : Pesp) : Type 0 where
 
 -- a tree without a branch grew by at most so many, and with one branch more, or none, at a leaf that is lent it would pass a limit
 pub record FillsTree (p : ProblemValue) (steps : ℕ) : Type 0 where
-  pub many : 20000000 < (steps + 1) * length p.table
+  pub many : MOST_PAIRS < (steps + 1) * length p.table
   pub first : State
   pub worked : IsWorked p 0 first
   pub used : ℕ

@@ -1,5 +1,6 @@
 -- What the solver answers.
 use Rattle.std.specs.Prelude.{◌≡◌, ⊤, ℕ, ◌+◌, ◌*◌, ◌<◌, ◌≤◌, List, length, Option, IsSomeAnd}
+use Rattle.pesp_problem.specs.declared.limits.TheConstants.{MOST_PAIRS, MOST_SIGNED_ROWS}
 use Rattle.pesp_problem.specs.Timetables.{Pesp, IsTimetable, cost}
 use Rattle.pesp_problem.specs.Arcs.{net_of}
 use Rattle.pesp_problem.specs.Nodes.{root}
@@ -31,5 +32,5 @@ CostsNoMore p times content = IsTimetable p times → IsSomeAnd (cost_of content
 -- when nothing is answered
 abbrev pub IsSearchRefusal : Pesp → ℕ → SolveRefusal → Type 0
 IsSearchRefusal p steps Memory = ⊤
-IsSearchRefusal p steps TableTooLarge = 10000000 < length p.rows * length p.rows
-IsSearchRefusal p steps PairsTooMany = 20000000 < (steps + 1) * length p.rows
+IsSearchRefusal p steps TableTooLarge = MOST_SIGNED_ROWS < length p.rows * length p.rows
+IsSearchRefusal p steps PairsTooMany = MOST_PAIRS < (steps + 1) * length p.rows

@@ -1,6 +1,7 @@
 //! Solutions.
 
 ghost use Rattle.std.specs.Prelude.{◌≡◌, ℕ, ◌≤◌, List, IfOk, IfErr, OnOk};
+ghost use Rattle.pesp_problem.specs.declared.limits.TheConstants.{MOST_STEPS};
 ghost use Rattle.pesp_machine.specs.States.{State, opening};
 ghost use Rattle.pesp_machine.specs.Certificates.{IsProblemOf};
 ghost use Rattle.pesp_search_laws.specs.Lifted.{IsFrugal};
@@ -75,7 +76,7 @@ fn take_turns<O: Observer>(
     requires known { IsKnown search.old.board.problem search.old.known }
     requires searched { IsSearched search.old.board.problem search.old.known.reduced }
     requires worked { IsWorked search.old.board.problem 0 search.old.board.state }
-    requires most { steps ≤ 100000 }
+    requires most { steps ≤ MOST_STEPS }
     ensures problem { search.new.board.problem ≡ search.old.board.problem }
     ensures turns { IfOk result (λ used. AreAllTurns search.old.board.problem steps
         search.old.board.state used search.new.board.state) }
@@ -126,7 +127,7 @@ pub(crate) fn solve_on<O: Observer>(
     observer: &mut O,
 ) -> Result<Solved, SolveRefusal>
     requires begun { IsBegun instance.now search.old }
-    requires most { steps ≤ 100000 }
+    requires most { steps ≤ MOST_STEPS }
     ensures solved { IfOk result (λ s. IsSolved instance.now steps s.steps_used s.certificate) }
     ensures improved { IfOk result (λ s. CostsNoMore instance.now times.now s.certificate) }
     ensures refused { IfErr result (IsSearchRefusal instance.now steps) }
@@ -148,7 +149,7 @@ pub(crate) fn solve_on<O: Observer>(
 /// cycles, at most that of activities, times one more than the steps is above 20000000 and a tree that so many steps may lead
 /// to would pass a limit; and else as `Memory`, where a growth was refused.
 pub fn solve(alloc: Global, instance: &Instance, steps: u32) -> Result<Solved, SolveRefusal>
-    requires { steps ≤ 100000 }
+    requires { steps ≤ MOST_STEPS }
     ensures solved { IfOk result (λ s. IsSolved instance.now steps s.steps_used s.certificate) }
     ensures refused { IfErr result (IsSearchRefusal instance.now steps) }
     ensures passed { IfErr result (MeetsLimit instance.now steps) }
@@ -163,7 +164,7 @@ pub fn solve_watched<O: Observer>(
     steps: u32,
     observer: &mut O,
 ) -> Result<Solved, SolveRefusal>
-    requires { steps ≤ 100000 }
+    requires { steps ≤ MOST_STEPS }
     ensures solved { IfOk result (λ s. IsSolved instance.now steps s.steps_used s.certificate) }
     ensures refused { IfErr result (IsSearchRefusal instance.now steps) }
     ensures passed { IfErr result (MeetsLimit instance.now steps) }
@@ -182,7 +183,7 @@ pub fn solve_from<O: Observer>(
     steps: u32,
     observer: &mut O,
 ) -> Result<Solved, SolveRefusal>
-    requires { steps ≤ 100000 }
+    requires { steps ≤ MOST_STEPS }
     ensures solved { IfOk result (λ s. IsSolved instance.now steps s.steps_used s.certificate) }
     ensures improved { IfOk result (λ s. CostsNoMore instance.now times.now s.certificate) }
     ensures refused { IfErr result (IsSearchRefusal instance.now steps) }

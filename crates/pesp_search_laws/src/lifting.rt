@@ -2,6 +2,7 @@
 //! within reach.
 
 ghost use Rattle.std.specs.Prelude.{◌≡◌, ◌≤◌, ℕ, ◌*◌, ◌<◌, ◌≤ℤ◌, List, length, slice_index, All, pos};
+ghost use Rattle.pesp_problem.specs.declared.limits.TheConstants.{MOST_SIGNED_ROWS};
 ghost use Rattle.pesp_problem.specs.declared.arc.Arc.{Arc};
 ghost use Rattle.pesp_problem.specs.declared.row.SignedRow.{SignedRow};
 ghost use Rattle.pesp_problem.specs.Arcs.{net_of, slacks_at};
@@ -54,7 +55,7 @@ pub fn tables_are_small()
     ensures rows { (arcs : List Arc) (table : List (List SignedRow)) → All (IsWalk arcs) table
         → All HasNoRowTwice table → signed_rows table ≤ length table * length arcs }
     ensures many { (r : ReducedValue) → IsReduced r → AreTooMany (arcs_of_network r.network.rows)
-        r.network.forest → 10000000 < length r.original.rows * length r.original.rows }
+        r.network.forest → MOST_SIGNED_ROWS < length r.original.rows * length r.original.rows }
     ensures fewer { (r : ReducedValue) → IsReduced r
         → length r.network.rows ≤ length r.original.rows }
 {}

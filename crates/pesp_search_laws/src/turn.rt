@@ -2,6 +2,7 @@
 
 ghost use Rattle.std.specs.Prelude.{◌≡◌, ◌≤◌, ℕ, ◌+◌, ◌*◌, ◌<◌, ◌≤ℤ◌, ℤ, ◌⊎◌, unsigned_abs, [], ◌∷◌, List, length, pos, Bool, true, IsSomeAnd, All, Option, Result, Ok, Err, Some};
 ghost use Rattle.std.specs.Global.{Vec};
+ghost use Rattle.pesp_problem.specs.declared.limits.TheConstants.{MOST_PAIRS};
 ghost use Rattle.pesp_problem.specs.declared.cut.Cut.{Cut};
 ghost use Rattle.pesp_problem.specs.declared.pair.Pair.{Pair};
 ghost use Rattle.pesp_problem.specs.NetTimetables.{IsNetTimetable, net_cost};
@@ -110,7 +111,7 @@ pub fn large_trees_have_many_pairs()
     ensures { (p : ProblemValue) (state : State) (number used : ℕ) (work : Work)
         → KeepsNetLimits p.network → IsSmallTable p.table → IsOrderly p state
         → branches state.tree ≡ used → used + splits_of work ≤ 400000 → MakesTooMuch p state number
-        work → 20000000 < (used + splits_of work + 1) * length p.table }
+        work → MOST_PAIRS < (used + splits_of work + 1) * length p.table }
 {}
 
 /// The cuts of the path to a leaf keep their limits, and so do the pairs of a bound leaf.

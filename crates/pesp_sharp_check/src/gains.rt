@@ -1,6 +1,7 @@
 //! What the marked walks that a leaf names add to it.
 
 ghost use Rattle.std.specs.Prelude.{◌≡◌, ℕ, ◌+◌, ◌*◌, ◌^◌, ◌<◌, ◌≤◌, [], ◌∷◌, length, ◌+ℤ◌, unsigned_abs, Bool};
+ghost use Rattle.pesp_problem.specs.declared.limits.TheConstants.{MOST_MULTIPLIER};
 ghost use Rattle.pesp_problem.specs.Arcs.{net_of};
 ghost use Rattle.pesp_judges.specs.Offsets.{AreSlackRanges};
 ghost use Rattle.pesp_judges.specs.Lines.{ArePairLimits};
@@ -25,7 +26,7 @@ fn add_pair(
     requires slacks { AreSlackRanges (length checker.now.plain.instance.now.rows) slacks.now }
     requires named { IsNamed (length checker.now.plain.table.now)
         (length checker.now.marks.now.walks) pair }
-    requires mult { unsigned_abs pair.mult ≤ 1000000000000 }
+    requires mult { unsigned_abs pair.mult ≤ MOST_MULTIPLIER }
     requires long { length rates.old ≡ length checker.now.plain.instance.now.rows }
     requires small { AreSmallRates 99999 rates.old }
     ensures gain { result ≡ gains_of (net_of checker.now.plain.instance.now) slacks.now

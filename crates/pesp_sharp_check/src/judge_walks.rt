@@ -1,6 +1,7 @@
 //! Whether the marked walks are closed.
 
 ghost use Rattle.std.specs.Prelude.{◌≡◌, ◌≤◌, length, All, IfOk, OnOk, MatchOption};
+ghost use Rattle.pesp_problem.specs.declared.limits.TheConstants.{MOST_CYCLES};
 ghost use Rattle.pesp_problem.specs.Arcs.{arcs_of};
 ghost use Rattle.pesp_nets.specs.Nets.{AreZeros};
 ghost use Rattle.pesp_sharp.specs.Marked.{IsMarkedWalk};
@@ -21,7 +22,7 @@ pub fn judge_walks(
     marks: &Marks,
     working: &mut [i128],
 ) -> Result<Option<Refusal>, AllocError>
-    requires few { cycles ≤ 100000 }
+    requires few { cycles ≤ MOST_CYCLES }
     requires long { length working.old ≡ length instance.now.rows }
     requires zeros { AreZeros working.old }
     ensures verdict { IfOk result (λ found. MatchOption found

@@ -1,6 +1,7 @@
 -- What a row adds to the value of a leaf, by its flow and its rates.
 use Rattle.std.specs.Prelude.{ℕ, ◌<◌, ◌≤◌, ◌^◌, List, length, slice_index_or, ℤ, pos, ◌-ℤ◌, ◌*ℤ◌, unsigned_abs, Bool, All}
 use Rattle.std.specs.Int.{int_min}
+use Rattle.pesp_problem.specs.declared.limits.TheConstants.{MOST_LOWER, MOST_ROWS, MOST_WEIGHT}
 use Rattle.pesp_problem.specs.declared.arc.Arc.{Arc}
 use Rattle.pesp_problem.specs.Sums.{sum_below}
 use Rattle.pesp_problem.specs.Arcs.{arc_at}
@@ -13,8 +14,8 @@ number_at numbers i = slice_index_or numbers i (pos 0)
 
 -- arcs of an instance, with bounds and weights within its limits
 pub record AreSmallArcs (arcs : List Arc) : Type 0 where
-  pub most : length arcs ≤ 100000
-  pub each : All (λ arc. (unsigned_abs arc.lower ≤ 1020000) × (arc.weight ≤ 1000000000)) arcs
+  pub most : length arcs ≤ MOST_ROWS
+  pub each : All (λ arc. (unsigned_abs arc.lower ≤ MOST_LOWER) × (arc.weight ≤ MOST_WEIGHT)) arcs
 
 -- flows that a leaf can have
 abbrev pub AreSmallFlows : List ℤ → Type 0

@@ -1,6 +1,7 @@
 //! The rest that the bases of a marked walk leave.
 
 ghost use Rattle.std.specs.Prelude.{◌≡◌, ◌*◌, ◌<◌, ◌≤◌, length, neg_ℤ, ◌+ℤ◌, ◌*ℤ◌, unsigned_abs, All};
+ghost use Rattle.pesp_problem.specs.declared.limits.TheConstants.{MOST_SIGNED_ROWS};
 ghost use Rattle.pesp_problem.specs.Timetables.{remainder};
 ghost use Rattle.pesp_problem.specs.Walks.{RowExists, sign};
 ghost use Rattle.pesp_nets.specs.Ranges.{AreSlackEnds};
@@ -42,9 +43,9 @@ fn bases(arcs: &[Arc], slacks: &[(u32, u32)], walk: &[MarkedRow]) -> i128
     requires slacks { AreSlackEnds slacks.now }
     requires long { length slacks.now ≡ length arcs.now }
     requires exist { All (λ s. RowExists arcs.now s.signed) walk.now }
-    requires short { length walk.now ≤ 10000000 }
+    requires short { length walk.now ≤ MOST_SIGNED_ROWS }
     ensures value { result ≡ along walk.now (λ s. sign s.signed *ℤ base arcs.now slacks.now s) }
-    ensures size { unsigned_abs result ≤ 10000000 * 1030000 }
+    ensures size { unsigned_abs result ≤ MOST_SIGNED_ROWS * 1030000 }
 {
     let mut sum = 0;
     for s in walk {
@@ -70,7 +71,7 @@ pub fn rest(period: u32, arcs: &[Arc], slacks: &[(u32, u32)], walk: &[MarkedRow]
     requires slacks { AreSlackEnds slacks.now }
     requires long { length slacks.now ≡ length arcs.now }
     requires exist { All (λ s. RowExists arcs.now s.signed) walk.now }
-    requires short { length walk.now ≤ 10000000 }
+    requires short { length walk.now ≤ MOST_SIGNED_ROWS }
     ensures value { result ≡ marked.rest (record {
       period = period;
       arcs = arcs.now;

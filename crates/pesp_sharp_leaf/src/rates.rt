@@ -1,6 +1,7 @@
 //! The rates of a marked walk, added row by row.
 
 ghost use Rattle.std.specs.Prelude.{◌≡◌, ℕ, ◌+◌, ◌-◌, ◌*◌, ◌^◌, ◌<◌, ◌≤◌, length, pos, ◌+ℤ◌, ◌*ℤ◌, unsigned_abs, Bool, true, false, All, IfOk};
+ghost use Rattle.pesp_problem.specs.declared.limits.TheConstants.{MOST_MULTIPLIER, MOST_PERIOD, MOST_SIGNED_ROWS};
 ghost use Rattle.pesp_problem.specs.Walks.{Names, RowExists};
 ghost use Rattle.pesp_nets.specs.Ranges.{AreSlackEnds};
 ghost use Rattle.pesp_sharp.specs.Marked.{rate, along};
@@ -46,7 +47,7 @@ pub fn clear(rates: &mut [Rates])
 /// What a unit of distance counts along a marked row: the period less the rest where its direction is plus, the rest where
 /// it is minus.
 fn rate(period: u32, alpha: u32, s: MarkedRow) -> i128
-    requires period { period ≤ 10000 }
+    requires period { period ≤ MOST_PERIOD }
     requires rest { alpha < period }
     ensures value { result ≡ pos (rate period alpha s) }
     ensures size { unsigned_abs result ≤ 10000 }
@@ -84,11 +85,11 @@ fn more(rates: Rates, flipped: bool, by: i128) -> Rates
 
 /// Adds the rates of a marked walk, each times a multiplier.
 fn add_rates(period: u32, alpha: u32, walk: &[MarkedRow], mult: i64, rates: &mut [Rates])
-    requires period { period ≤ 10000 }
+    requires period { period ≤ MOST_PERIOD }
     requires rest { alpha < period }
-    requires mult { unsigned_abs mult ≤ 1000000000000 }
+    requires mult { unsigned_abs mult ≤ MOST_MULTIPLIER }
     requires exist { All (λ s. Names (length rates.old) s.signed.row) walk.now }
-    requires short { length walk.now ≤ 10000000 }
+    requires short { length walk.now ≤ MOST_SIGNED_ROWS }
     requires small { AreSmallRates 99999 rates.old }
     ensures sum { (i : ℕ) (flipped : Bool) → i < length rates.old
         → entry flipped (rates_at rates.new i) ≡ entry flipped (rates_at rates.old i)
@@ -107,9 +108,9 @@ fn add_rates(period: u32, alpha: u32, walk: &[MarkedRow], mult: i64, rates: &mut
 
 /// The multiplier times what the gain is at least.
 fn least_gain(period: u32, alpha: u32, mult: i64) -> i128
-    requires period { period ≤ 10000 }
+    requires period { period ≤ MOST_PERIOD }
     requires rest { alpha < period }
-    requires mult { unsigned_abs mult ≤ 1000000000000 }
+    requires mult { unsigned_abs mult ≤ MOST_MULTIPLIER }
     ensures value { result ≡ mult *ℤ pos (alpha * (period - alpha)) }
     ensures size { unsigned_abs result ≤ 1000000000000 * 100000000 }
 {
@@ -130,13 +131,13 @@ pub fn add_walk(
     rates: &mut [Rates],
 ) -> i128
     requires some { 0 < period }
-    requires period { period ≤ 10000 }
+    requires period { period ≤ MOST_PERIOD }
     requires arcs { AreSmallArcs arcs.now }
     requires slacks { AreSlackEnds slacks.now }
     requires long { length slacks.now ≡ length arcs.now }
     requires exist { All (λ s. RowExists arcs.now s.signed) walk.now }
-    requires short { length walk.now ≤ 10000000 }
-    requires mult { unsigned_abs mult ≤ 1000000000000 }
+    requires short { length walk.now ≤ MOST_SIGNED_ROWS }
+    requires mult { unsigned_abs mult ≤ MOST_MULTIPLIER }
     requires all { length rates.old ≡ length arcs.now }
     requires small { AreSmallRates 99999 rates.old }
     ensures gain { result ≡ mult *ℤ pos (marked.least_gain (record {

@@ -1,6 +1,7 @@
 //! What the rows of a leaf add to its value, by their flows and their rates.
 
 ghost use Rattle.std.specs.Prelude.{◌≡◌, ℕ, ◌*◌, ◌^◌, ◌<◌, ◌≤◌, length, pos, ◌-ℤ◌, ◌*ℤ◌, unsigned_abs, if◌then◌else◌};
+ghost use Rattle.pesp_problem.specs.declared.limits.TheConstants.{MOST_LOWER, MOST_PERIOD, MOST_WEIGHT};
 ghost use Rattle.pesp_nets.specs.Ranges.{AreSlackEnds};
 ghost use Rattle.pesp_sharp_leaf.specs.Rates.{AreSmallRates};
 ghost use Rattle.pesp_sharp_leaf.specs.Terms.{lesser_excess, row_term, rows_sum, AreSmallArcs, AreSmallFlows};
@@ -11,7 +12,7 @@ use pesp_problem::exact::{minus, plus, times};
 
 /// The weight of a row under a scale, or 0 for a leaf without weights.
 fn scaled_weight(weight: u64, weighted: bool, scale: u32) -> i128
-    requires weight { weight ≤ 1000000000 }
+    requires weight { weight ≤ MOST_WEIGHT }
     requires scale { scale ≤ 1000000 }
     ensures value { result ≡ pos scale *ℤ (if weighted then pos weight else pos 0) }
     ensures size { unsigned_abs result ≤ 10 ^ 15 }
@@ -26,7 +27,7 @@ fn scaled_weight(weight: u64, weighted: bool, scale: u32) -> i128
 /// What a slack at one end of its range costs beyond the flow and the gains.
 fn excess(left: i128, slack: u32, rate: i128, width: i128) -> i128
     requires left { unsigned_abs left ≤ 2 * 10 ^ 24 }
-    requires slack { slack ≤ 10000 }
+    requires slack { slack ≤ MOST_PERIOD }
     requires rate { unsigned_abs rate ≤ 10 ^ 28 }
     requires width { unsigned_abs width ≤ 10000 }
     ensures value { result ≡ left *ℤ pos slack -ℤ rate *ℤ width }
@@ -37,8 +38,8 @@ fn excess(left: i128, slack: u32, rate: i128, width: i128) -> i128
 
 /// How wide a slack range is.
 fn range_width(range: (u32, u32)) -> i128
-    requires low { range.0 ≤ 10000 }
-    requires high { range.1 ≤ 10000 }
+    requires low { range.0 ≤ MOST_PERIOD }
+    requires high { range.1 ≤ MOST_PERIOD }
     ensures value { result ≡ pos range.1 -ℤ pos range.0 }
     ensures size { unsigned_abs result ≤ 10000 }
 {
@@ -49,8 +50,8 @@ fn range_width(range: (u32, u32)) -> i128
 /// the low end, and only plain ones at the high end.
 fn lesser_excess(left: i128, range: (u32, u32), rates: Rates) -> i128
     requires left { unsigned_abs left ≤ 2 * 10 ^ 24 }
-    requires low { range.0 ≤ 10000 }
-    requires high { range.1 ≤ 10000 }
+    requires low { range.0 ≤ MOST_PERIOD }
+    requires high { range.1 ≤ MOST_PERIOD }
     requires plain { unsigned_abs rates.plain ≤ 10 ^ 28 }
     requires flipped { unsigned_abs rates.flipped ≤ 10 ^ 28 }
     ensures value { result ≡ lesser_excess left range rates }
@@ -65,7 +66,7 @@ fn lesser_excess(left: i128, range: (u32, u32), rates: Rates) -> i128
 /// A flow times a lower bound.
 fn lower_part(flow: i128, lower: i64) -> i128
     requires flow { unsigned_abs flow ≤ 10 ^ 24 }
-    requires lower { unsigned_abs lower ≤ 1020000 }
+    requires lower { unsigned_abs lower ≤ MOST_LOWER }
     ensures value { result ≡ flow *ℤ lower }
     ensures size { unsigned_abs result ≤ 2 * 10 ^ 30 }
 {
@@ -81,10 +82,10 @@ fn row_term(
     flow: i128,
     rates: Rates,
 ) -> i128
-    requires lower { unsigned_abs arc.now.lower ≤ 1020000 }
-    requires weight { arc.now.weight ≤ 1000000000 }
-    requires low { range.0 ≤ 10000 }
-    requires high { range.1 ≤ 10000 }
+    requires lower { unsigned_abs arc.now.lower ≤ MOST_LOWER }
+    requires weight { arc.now.weight ≤ MOST_WEIGHT }
+    requires low { range.0 ≤ MOST_PERIOD }
+    requires high { range.1 ≤ MOST_PERIOD }
     requires scale { scale ≤ 1000000 }
     requires flow { unsigned_abs flow ≤ 10 ^ 24 }
     requires plain { unsigned_abs rates.plain ≤ 10 ^ 28 }

@@ -1,5 +1,6 @@
 -- What the checker says of a certificate's text, which may have a front.
 use Rattle.std.specs.Prelude.{◌≡◌, ◌↔◌, ℕ, List, Option, Err}
+use Rattle.pesp_problem.specs.declared.limits.TheConstants.{MOST_TEXT}
 use Rattle.pesp_stream.specs.Reading.{ReadsText}
 use Rattle.pesp_problem.specs.Timetables.{Pesp}
 use Rattle.pesp_truth.specs.declared.answer.Answer.{Answer}
@@ -39,13 +40,13 @@ TextCause fault text = ⊥
 -- the bytes that were read are judged so
 pub record ChecksFronted (told left : Option (List ℕ)) (p : Pesp) (verdict : Verdict) (answer : Answer) : Type 0 where
   pub text : List ℕ
-  pub read : ReadsText told left 1073741824 text
+  pub read : ReadsText told left MOST_TEXT text
   pub judged : Judges text p verdict answer
 
 -- the bytes that were read are refused by their first fault
 pub record RefusesFronted (told left : Option (List ℕ)) (refusal : CertRefusal) : Type 0 where
   pub text : List ℕ
-  pub read : ReadsText told left 1073741824 text
+  pub read : ReadsText told left MOST_TEXT text
   pub refused : said_of_text text ≡ Err refusal
 
 -- why what a reader has is not judged: its text, memory, or its device, of which this is said

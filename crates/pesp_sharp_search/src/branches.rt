@@ -1,6 +1,7 @@
 //! Branches of a tree.
 
 ghost use Rattle.std.specs.Prelude.{◌≡◌, ◌∷◌, [], ◌≤◌, length, map};
+ghost use Rattle.pesp_problem.specs.declared.limits.TheConstants.{MOST_LINES};
 ghost use Rattle.pesp_truth.specs.Certificates.{line_of};
 ghost use Rattle.pesp_search_laws.specs.Rooms.{branch_lines};
 
@@ -19,7 +20,7 @@ fn branches_in(line: &TreeLine) -> u32
 
 /// How many branches lines have.
 pub(crate) fn count_branches(lines: &[TreeLine]) -> u32
-    requires { length lines.now ≤ 1000000 }
+    requires { length lines.now ≤ MOST_LINES }
     ensures { result ≡ branch_lines (map line_of lines.now) }
 {
     let mut count = 0u32;

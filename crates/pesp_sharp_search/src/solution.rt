@@ -1,6 +1,7 @@
 //! Solutions with marked walks.
 
 ghost use Rattle.std.specs.Prelude.{◌≤◌, IfOk, IfErr};
+ghost use Rattle.pesp_problem.specs.declared.limits.TheConstants.{MOST_STEPS};
 ghost use Rattle.pesp_search.specs.Refusals.{MeetsLimit};
 ghost use Rattle.pesp_search.specs.Solving.{CostsNoMore, IsSearchRefusal};
 ghost use Rattle.pesp_sharp_search.specs.Solving.{IsSharpSolved};
@@ -51,7 +52,7 @@ pub fn solve_sharp<O: SharpObserver>(
     steps: u32,
     observer: &mut O,
 ) -> Result<SharpSolved, SolveRefusal>
-    requires { steps ≤ 100000 }
+    requires { steps ≤ MOST_STEPS }
     ensures solved { IfOk result
         (λ sharp. IsSharpSolved instance.now steps sharp.steps_used sharp.fronted) }
     ensures improved { IfOk result (λ sharp. CostsNoMore instance.now times.now sharp.fronted.content) }

@@ -2,6 +2,7 @@
 
 ghost use Rattle.std.specs.Prelude.{◌≡◌, ◌≢◌, ℕ, ◌<◌, ◌≤◌, ◌^◌, OnOk, IfOk, IfErr};
 ghost use Rattle.std.specs.Io.KnownBytes.{Appends};
+ghost use Rattle.pesp_problem.specs.declared.limits.TheConstants.{MOST_STEPS};
 ghost use Rattle.pesp_stream.specs.Counts.{FewerThan, HasWorked};
 ghost use Rattle.pesp_truth.specs.Truth.{IsTrueAnswer};
 ghost use Rattle.pesp_truth.specs.Certificates.{shown_times};
@@ -28,7 +29,7 @@ fn solved<O: SharpObserver>(
     steps: u32,
     observer: &mut O,
 ) -> Result<Fronted, SolveRefusal>
-    requires { steps ≤ 100000 }
+    requires { steps ≤ MOST_STEPS }
     ensures solved { IfOk result
         (λ fronted. (used : ℕ) × IsSharpSolved instance.now steps used fronted) }
     ensures improved { IfOk result (λ fronted. CostsNoMore instance.now times.now fronted.content) }
@@ -52,7 +53,7 @@ fn write_solution<W: Sink, O: SharpObserver>(
     steps: u32,
     observer: &mut O,
 ) -> Result<(), Fault>
-    requires steps { steps ≤ 100000 }
+    requires steps { steps ≤ MOST_STEPS }
     requires fits { FewerThan (2 ^ 63) (W.calls writer.old) }
     ensures ok { OnOk result (WritesSharpSolution instance.now times.now steps
         (Appends (W.contents writer.old) (W.contents writer.new))) }
@@ -84,7 +85,7 @@ pub fn run_solve_sharp<R: Source, W: Sink, O: SharpObserver>(
     steps: u32,
     observer: &mut O,
 ) -> Result<(), Fault>
-    requires steps { steps ≤ 100000 }
+    requires steps { steps ≤ MOST_STEPS }
     requires reads_fit { FewerThan (2 ^ 62) (R.calls reader.old) }
     requires writes_fit { FewerThan (2 ^ 62) (W.calls writer.old) }
     ensures ok { OnOk result
@@ -118,7 +119,7 @@ pub fn run_solve_sharp_from<R: Source, T: Source, W: Sink, O: SharpObserver>(
     steps: u32,
     observer: &mut O,
 ) -> Result<(), Fault>
-    requires steps { steps ≤ 100000 }
+    requires steps { steps ≤ MOST_STEPS }
     requires reads_fit { FewerThan (2 ^ 62) (R.calls instance_reader.old) }
     requires times_reads_fit { FewerThan (2 ^ 62) (T.calls times_reader.old) }
     requires writes_fit { FewerThan (2 ^ 62) (W.calls writer.old) }

@@ -1,12 +1,13 @@
 -- The limits of a front.
 use Rattle.std.specs.Prelude.{◌≡◌, ℕ, ◌≤◌, Bool, ◌&&◌, true, nat_le, List, length}
 use Rattle.std.specs.List.{list_all, sum_by}
+use Rattle.pesp_problem.specs.declared.limits.TheConstants.{MOST_CYCLES, MOST_SCALE, MOST_SIGNED_ROWS}
 use Rattle.pesp_sharp.specs.declared.marked.MarkedRow.{MarkedRow}
 use Rattle.pesp_sharp_truth.specs.Marks.{Marks}
 use Rattle.pesp_sharp_text.specs.Rows.{are_named}
 
 abbrev pub is_scale : ℕ → Bool
-is_scale scale = nat_le 1 scale && nat_le scale 1000000
+is_scale scale = nat_le 1 scale && nat_le scale MOST_SCALE
 
 -- at least one row, each with a number that a row may have
 abbrev pub is_walk : List MarkedRow → Bool
@@ -18,7 +19,7 @@ total_rows walks = sum_by (λ walk. length walk) walks
 
 -- so many walks with so many marked rows are within the limits
 abbrev pub are_few : ℕ → ℕ → Bool
-are_few walks rows = nat_le walks 100000 && nat_le rows 10000000
+are_few walks rows = nat_le walks MOST_CYCLES && nat_le rows MOST_SIGNED_ROWS
 
 -- what a front may hold
 abbrev pub keeps_limits : Marks → Bool
@@ -26,7 +27,7 @@ keeps_limits marks = is_scale marks.scale && are_few (length marks.walks) (total
 
 -- the same as facts
 pub record KeepsLimits (marks : Marks) : Type 0 where
-  pub scale : (1 ≤ marks.scale) × (marks.scale ≤ 1000000)
-  pub walks : length marks.walks ≤ 100000
-  pub rows : total_rows marks.walks ≤ 10000000
+  pub scale : (1 ≤ marks.scale) × (marks.scale ≤ MOST_SCALE)
+  pub walks : length marks.walks ≤ MOST_CYCLES
+  pub rows : total_rows marks.walks ≤ MOST_SIGNED_ROWS
   pub each : list_all is_walk marks.walks ≡ true

@@ -9,7 +9,7 @@ ghost use Rattle.pesp_sharp_text.specs.Fronts.{walks_from, behind_header};
 use crate::lines::{LONGEST, is_walk_line, judge_walk, scale_at};
 use crate::marks::Marks;
 use pesp_cert::{CertRefusal, refusal_at};
-use pesp_problem::Memory;
+use pesp_problem::{MOST_CYCLES, MOST_SIGNED_ROWS, Memory};
 use pesp_sharp::{MarkedRow, MarkedWalk};
 use pesp_text::split_at_byte;
 use std::alloc::Global;
@@ -18,7 +18,7 @@ use std::alloc::Global;
 fn are_few(walks: usize, rows: usize) -> bool
     ensures { result ≡ are_few walks rows }
 {
-    walks <= 100_000 && rows <= 10_000_000
+    walks <= MOST_CYCLES && rows <= MOST_SIGNED_ROWS
 }
 
 /// Adds a walk along these rows.

@@ -6,6 +6,7 @@ ghost use Rattle.pesp_cert_lines.specs.Rows.{is_name};
 ghost use Rattle.pesp_sharp_text.specs.Rows.{are_named};
 ghost use Rattle.pesp_sharp_text.specs.Limits.{is_scale, is_walk, total_rows, keeps_limits, KeepsLimits};
 
+use pesp_problem::{MOST_CYCLES, MOST_ROWS, MOST_SCALE, MOST_SIGNED_ROWS};
 use pesp_sharp::{MarkedRow, MarkedWalk};
 use std::marker::Model;
 
@@ -38,7 +39,7 @@ pub struct NotMarks;
 pub(crate) fn is_name(number: u64) -> bool
     ensures { result ≡ is_name number }
 {
-    1 <= number && number <= 100_000
+    1 <= number && number <= MOST_ROWS as u64
 }
 
 fn are_named(walk: &[MarkedRow]) -> bool
@@ -61,9 +62,9 @@ fn each_is_walk(walks: &[MarkedWalk]) -> bool
 
 /// Whether the walks have at most 10,000,000 marked rows.
 fn has_few_rows(walks: &[MarkedWalk]) -> bool
-    ensures { result ≡ nat_le (total_rows walks.now) 10000000 }
+    ensures { result ≡ nat_le (total_rows walks.now) MOST_SIGNED_ROWS }
 {
-    let mut left = 10_000_000usize;
+    let mut left = MOST_SIGNED_ROWS;
     for walk in walks {
         match left.checked_sub(walk.rows().len()) {
             None => return false,
@@ -77,7 +78,7 @@ fn has_few_rows(walks: &[MarkedWalk]) -> bool
 pub(crate) fn is_scale(scale: u64) -> bool
     ensures { result ≡ is_scale scale }
 {
-    1 <= scale && scale <= 1_000_000
+    1 <= scale && scale <= u64::from(MOST_SCALE)
 }
 
 /// Whether these parts may be a front's.
@@ -85,7 +86,7 @@ fn keep_limits(scale: u32, walks: &[MarkedWalk]) -> bool
     ensures { result ≡ keeps_limits (record { scale = scale; walks = walks.now }) }
 {
     is_scale(u64::from(scale))
-        && (walks.len() <= 100_000 && has_few_rows(walks))
+        && (walks.len() <= MOST_CYCLES && has_few_rows(walks))
         && each_is_walk(walks)
 }
 

@@ -1,5 +1,6 @@
 -- The rows that cross a cut, as entries of its list.
 use Rattle.std.specs.Prelude.{◌≡◌, ℕ, zero, suc, ◌+◌, ◌<◌, ◌≤◌, List, [], ◌∷◌, ◌++◌, length, map, slice_index, slice_index_or, ℤ, All, Bool, true, false}
+use Rattle.pesp_problem.specs.declared.limits.TheConstants.{MOST_PERIOD, MOST_ROWS}
 use Rattle.pesp_problem.specs.declared.arc.Arc.{Arc}
 use Rattle.pesp_problem.specs.Arcs.{arc_at}
 use Rattle.pesp_shifts.specs.declared.crossing.Crossing.{Crossing}
@@ -27,8 +28,8 @@ crossings_of arcs slacks entries = map (crossing_of arcs slacks) entries
 -- the period, the entries and the working numbers keep the limits under which the costs of all shifts are told
 pub record AreForShifts (period : ℕ) (arcs : List Arc) (slacks : List ℕ) (entries : List Entry) (costs bars : List ℤ) : Type 0 where
   pub some : 0 < period
-  pub most : period ≤ 10000
-  pub few : length entries ≤ 100000
+  pub most : period ≤ MOST_PERIOD
+  pub few : length entries ≤ MOST_ROWS
   pub costs_long : length costs ≡ period + 1
   pub bars_long : length bars ≡ period + 1
   pub each : All (IsEntry period arcs slacks) entries

@@ -1,5 +1,6 @@
 -- Shifts of one side of a cut: what becomes of the slack of a row that crosses it, and of the cost.
 use Rattle.std.specs.Prelude.{◌≡◌, ℕ, ◌<◌, ◌≤◌, List, length, slice_index_or, ℤ, pos, neg_ℤ, ◌+ℤ◌, ◌-ℤ◌, ◌*ℤ◌, if◌then◌else◌, nat_le, false, ◌≤ℤ◌, ◌<ℤ◌}
+use Rattle.pesp_problem.specs.declared.limits.TheConstants.{MOST_WEIGHT}
 use Rattle.pesp_problem.specs.Sums.{sum_below}
 use Rattle.pesp_problem.specs.Timetables.{remainder}
 use Rattle.pesp_shifts.specs.declared.crossing.Crossing.{Crossing}
@@ -46,7 +47,7 @@ bars_of period rows d = sum_below (length rows) (λ i. barred period (crossing_a
 pub record IsCrossing (period : ℕ) (row : Crossing) : Type 0 where
   pub slack : row.slack ≤ row.span
   pub span : row.span < period
-  pub weight : row.weight ≤ 1000000000
+  pub weight : row.weight ≤ MOST_WEIGHT
 
 -- the first n numbers are what the function says
 abbrev pub Became : ℕ → (ℕ → ℤ) → List ℤ → Type 0

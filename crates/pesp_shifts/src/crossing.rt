@@ -4,7 +4,7 @@ ghost use Rattle.std.specs.Prelude.{◌≡◌, ◌<◌, IfSome, IsSome};
 ghost use Rattle.pesp_shifts.specs.Shifts.{IsCrossing};
 ghost use Rattle.pesp_shifts.specs.Entries as spec;
 
-use pesp_problem::Arc;
+use pesp_problem::{Arc, MOST_WEIGHT};
 
 /// A row that crosses a cut, with its slack. Its head is on the side that is shifted (`inward`), or else its tail.
 #[derive(Clone, Copy)]
@@ -34,7 +34,7 @@ pub fn crossing_of(period: u32, arcs: &[Arc], slacks: &[u32], entry: Entry) -> O
     }
     let arc = arcs[at];
     let slack = slacks[at];
-    if slack > arc.span || arc.span >= period || arc.weight > 1_000_000_000 {
+    if slack > arc.span || arc.span >= period || arc.weight > MOST_WEIGHT {
         return None;
     }
     Some(Crossing {

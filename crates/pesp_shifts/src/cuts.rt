@@ -1,6 +1,7 @@
 //! The rows that cross each cut of a rooted forest.
 
 ghost use Rattle.std.specs.Prelude.{◌≡◌, ◌≢◌, ℕ, ◌+◌, ◌<◌, ◌≤◌, ◌↔◌, List, [], IsTrue, IfSome, OnSome, length, vec_len, slice_index};
+ghost use Rattle.pesp_problem.specs.declared.limits.TheConstants.{MOST_ROWS};
 ghost use Rattle.pesp_problem.specs.Roots.{AreRoots};
 ghost use Rattle.pesp_shifts.specs.Rooted.{roots_of, IsFor};
 ghost use Rattle.pesp_shifts.specs.declared.crossing.Entry.{Entry};
@@ -101,7 +102,7 @@ fn list_row(events: u32, arcs: &[Arc], rooted: &Rooted, cuts: &mut Cuts, row: u3
 pub fn list_rows(events: u32, arcs: &[Arc], rooted: &Rooted, cuts: &mut Cuts) -> bool
     requires lists { IsFor events rooted.now }
     requires trees { AreRoots events arcs.now (roots_of rooted.now) }
-    requires few { length arcs.now ≤ 100000 }
+    requires few { length arcs.now ≤ MOST_ROWS }
     ensures { IsTrue result → AreListed events arcs.now (roots_of rooted.now) 0 cuts.old
         → AreListed events arcs.now (roots_of rooted.now) (length arcs.now) cuts.new }
 {

@@ -1,6 +1,7 @@
 //! Whether no shift of a fundamental cut is cheaper.
 
 ghost use Rattle.std.specs.Prelude.{◌≡◌, ℕ, ◌<◌, ◌≤◌, List, IsTrue, length, vec_len};
+ghost use Rattle.pesp_problem.specs.declared.limits.TheConstants.{MOST_ROWS};
 ghost use Rattle.pesp_shifts.specs.Slacks.{AreSlacks};
 ghost use Rattle.pesp_shifts.specs.Cuts.{IsCutBest, AreCutsBest};
 ghost use Rattle.pesp_problem.specs.Roots.{Roots, AreRoots};
@@ -54,7 +55,7 @@ pub fn are_cuts_best(
     numbers: &mut Numbers,
 ) -> bool
     requires some { 0 < period }
-    requires few { vec_len rooted.now.by ≤ 100000 }
+    requires few { vec_len rooted.now.by ≤ MOST_ROWS }
     ensures { (times : List ℕ) (n : ℕ) → IsTrue result → IsFor n rooted.now
         → AreSlacks period times arcs.now slacks.now
         → AreListed n arcs.now (roots_of rooted.now) (length arcs.now) cuts.now

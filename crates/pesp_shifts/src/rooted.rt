@@ -1,6 +1,7 @@
 //! Forests with roots.
 
 ghost use Rattle.std.specs.Prelude.{◌≡◌, ℕ, ◌<◌, ◌≤◌, ◌⊎◌, ◌↔◌, IsTrue, IfOk, length, slice_index, vec_len};
+ghost use Rattle.pesp_problem.specs.declared.limits.TheConstants.{MOST_ROWS};
 ghost use Rattle.pesp_problem.specs.Arcs.{arc_at, HasEnds};
 ghost use Rattle.pesp_problem.specs.Roots.{AreRoots, AreTreeRows};
 ghost use Rattle.pesp_shifts.specs.Rooted.{roots_of, IsFor, IsJoined, IsSpanned};
@@ -124,7 +125,7 @@ pub fn tree_rows(
 ) -> Result<Vec<u32>, Memory>
     requires lists { IsFor events rooted.now }
     requires trees { AreRoots events arcs.now (roots_of rooted.now) }
-    requires few { length arcs.now ≤ 100000 }
+    requires few { length arcs.now ≤ MOST_ROWS }
     ensures { IfOk result (λ rows. AreTreeRows events (roots_of rooted.now) rows.items) }
 {
     let mut rows = Vec::new(alloc);

@@ -1,18 +1,19 @@
 //! Shifts of one side of a cut, all amounts at once.
 
 ghost use Rattle.std.specs.Prelude.{◌≡◌, ℕ, ◌+◌, ◌*◌, ◌<◌, ◌≤◌, ◌+ℤ◌, ◌*ℤ◌, ◌≤ℤ◌, pos, length, unsigned_abs, All, IsTrue, IfSome, IsSome};
+ghost use Rattle.pesp_problem.specs.declared.limits.TheConstants.{MOST_WEIGHT};
 ghost use Rattle.pesp_shifts.specs.Shifts.{number_at, change, growth, Became, bars_of, IsCrossing, IsBestShift};
 ghost use Rattle.pesp_shifts.specs.Entries.{crossings_of, IsEntry, AreForShifts};
 ghost use Rattle.pesp_shifts.specs.Tallies.{TakesRow, TakesRows};
 
 use crate::crossing::{Crossing, Entry, crossing_of};
 use crate::numbers::{clear, lower, raise, slant, sum_up};
-use pesp_problem::Arc;
+use pesp_problem::{Arc, MOST_PERIOD, MOST_ROWS};
 
 /// What a row costs that goes once round the period.
 fn lap(period: u32, weight: u64) -> u64
-    requires most { period ≤ 10000 }
-    requires weight { weight ≤ 1000000000 }
+    requires most { period ≤ MOST_PERIOD }
+    requires weight { weight ≤ MOST_WEIGHT }
     ensures value { result ≡ weight * period }
     ensures most { result ≤ 10000000000000 }
 {
@@ -21,7 +22,7 @@ fn lap(period: u32, weight: u64) -> u64
 
 /// Notes where a row's cost wraps around, and where it isn't satisfied.
 fn take_row(period: u32, row: Crossing, costs: &mut [i64], bars: &mut [i64])
-    requires most { period ≤ 10000 }
+    requires most { period ≤ MOST_PERIOD }
     requires row { IsCrossing period row }
     requires costs_long { length costs.old ≡ period + 1 }
     requires bars_long { length bars.old ≡ period + 1 }
@@ -44,7 +45,7 @@ fn take_row(period: u32, row: Crossing, costs: &mut [i64], bars: &mut [i64])
 
 /// Adds a row's weight to the slope under the sign with which its slack grows.
 fn tilt(slope: &mut i64, row: Crossing)
-    requires weight { row.weight ≤ 1000000000 }
+    requires weight { row.weight ≤ MOST_WEIGHT }
     requires room { unsigned_abs slope.old ≤ 1000000000000000 }
     ensures { slope.new ≡ slope.old +ℤ pos row.weight *ℤ growth row 1 }
 {
@@ -65,8 +66,8 @@ fn tally(
     costs: &mut [i64],
     bars: &mut [i64],
 ) -> bool
-    requires most { period ≤ 10000 }
-    requires few { length entries.now ≤ 100000 }
+    requires most { period ≤ MOST_PERIOD }
+    requires few { length entries.now ≤ MOST_ROWS }
     requires begin { TakesRows period (crossings_of arcs.now slacks.now entries.now) 0 slope.old
         costs.old bars.old }
     ensures takes { IsTrue result → TakesRows period (crossings_of arcs.now slacks.now entries.now)
@@ -106,7 +107,7 @@ pub fn shift_costs(
         → IsTrue result }
 {
     let count = period as usize;
-    if count == 0 || count > 10000 || entries.len() > 100_000 {
+    if count == 0 || count > MOST_PERIOD as usize || entries.len() > MOST_ROWS {
         return false;
     }
     if costs.len() != count + 1 || bars.len() != count + 1 {

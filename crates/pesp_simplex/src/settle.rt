@@ -1,6 +1,7 @@
 //! Times and a forest that were found are judged.
 
 ghost use Rattle.std.specs.Prelude.{◌≡◌, ℕ, ◌<◌, ◌≤◌, ◌↔◌, List, IsTrue, IfOk, IfSome, IfErr, length, vec_len};
+ghost use Rattle.pesp_problem.specs.declared.limits.TheConstants.{MOST_ROWS};
 ghost use Rattle.pesp_problem.specs.Forests.{IsSpanningForest};
 ghost use Rattle.pesp_problem.specs.ArcLimits.{KeepArcLimits};
 ghost use Rattle.pesp_problem.specs.NetTimetables.{IsNetTimetable, net_cost};
@@ -25,7 +26,7 @@ use std::alloc::Global;
 fn list_cuts(events: u32, arcs: &[Arc], rooted: &Rooted, counts: &[u32], cuts: &mut Cuts) -> bool
     requires lists { IsFor events rooted.now }
     requires trees { AreRoots events arcs.now (roots_of rooted.now) }
-    requires few { length arcs.now ≤ 100000 }
+    requires few { length arcs.now ≤ MOST_ROWS }
     requires counts { length counts.now ≡ events }
     ensures { IsTrue result
         → AreListed events arcs.now (roots_of rooted.now) (length arcs.now) cuts.new }
@@ -42,7 +43,7 @@ fn cuts_of(
 ) -> Result<Option<Cuts>, Memory>
     requires lists { IsFor events rooted.now }
     requires trees { AreRoots events arcs.now (roots_of rooted.now) }
-    requires few { length arcs.now ≤ 100000 }
+    requires few { length arcs.now ≤ MOST_ROWS }
     ensures { IfOk result
         (λ o. IfSome o (AreListed events arcs.now (roots_of rooted.now) (length arcs.now))) }
 {

@@ -2,6 +2,7 @@
 
 ghost use Rattle.std.specs.Prelude.{◌≡◌, ◌≢◌, ℕ, ◌<◌, ◌≤◌, ◌^◌, OnOk, IfOk, IfErr};
 ghost use Rattle.std.specs.Io.KnownBytes.{Appends};
+ghost use Rattle.pesp_problem.specs.declared.limits.TheConstants.{MOST_STEPS};
 ghost use Rattle.pesp_stream.specs.Counts.{FewerThan, HasWorked};
 ghost use Rattle.pesp_truth.specs.Truth.{IsTrueAnswer};
 ghost use Rattle.pesp_truth.specs.Certificates.{shown_times};
@@ -26,7 +27,7 @@ fn solved<O: Observer>(
     steps: u32,
     observer: &mut O,
 ) -> Result<Certificate, SolveRefusal>
-    requires { steps ≤ 100000 }
+    requires { steps ≤ MOST_STEPS }
     ensures solved { IfOk result
         (λ certificate. (used : ℕ) × IsSolved instance.now steps used certificate) }
     ensures improved { IfOk result (CostsNoMore instance.now times.now) }
@@ -50,7 +51,7 @@ fn write_solution<W: Sink, O: Observer>(
     steps: u32,
     observer: &mut O,
 ) -> Result<(), Fault>
-    requires steps { steps ≤ 100000 }
+    requires steps { steps ≤ MOST_STEPS }
     requires fits { FewerThan (2 ^ 63) (W.calls writer.old) }
     ensures ok { OnOk result (WritesSolution instance.now times.now steps
         (Appends (W.contents writer.old) (W.contents writer.new))) }
@@ -79,7 +80,7 @@ pub fn run_solve<R: Source, W: Sink>(
     period: u32,
     steps: u32,
 ) -> Result<(), Fault>
-    requires steps { steps ≤ 100000 }
+    requires steps { steps ≤ MOST_STEPS }
     requires reads_fit { FewerThan (2 ^ 62) (R.calls reader.old) }
     requires writes_fit { FewerThan (2 ^ 62) (W.calls writer.old) }
     ensures ok { OnOk result (Solves (R.remaining reader.old) (R.remaining reader.new) period steps
@@ -109,7 +110,7 @@ pub fn run_solve_watched<R: Source, W: Sink, O: Observer>(
     steps: u32,
     observer: &mut O,
 ) -> Result<(), Fault>
-    requires steps { steps ≤ 100000 }
+    requires steps { steps ≤ MOST_STEPS }
     requires reads_fit { FewerThan (2 ^ 62) (R.calls reader.old) }
     requires writes_fit { FewerThan (2 ^ 62) (W.calls writer.old) }
     ensures ok { OnOk result (Solves (R.remaining reader.old) (R.remaining reader.new) period steps
@@ -141,7 +142,7 @@ pub fn run_solve_from<R: Source, T: Source, W: Sink, O: Observer>(
     steps: u32,
     observer: &mut O,
 ) -> Result<(), Fault>
-    requires steps { steps ≤ 100000 }
+    requires steps { steps ≤ MOST_STEPS }
     requires reads_fit { FewerThan (2 ^ 62) (R.calls instance_reader.old) }
     requires times_reads_fit { FewerThan (2 ^ 62) (T.calls times_reader.old) }
     requires writes_fit { FewerThan (2 ^ 62) (W.calls writer.old) }

@@ -1,5 +1,6 @@
 -- The rows for which the question is asked, what stands ready for it, and the sets at the start.
 use Rattle.std.specs.Prelude.{◌≡◌, ◌≢◌, ℕ, ◌*◌, ◌<◌, ◌≤◌, List, length, slice_index, true}
+use Rattle.pesp_problem.specs.declared.limits.TheConstants.{MOST_EVENTS, MOST_PERIOD}
 use Rattle.pesp_problem.specs.Arcs.{Net}
 use Rattle.pesp_problem.specs.Families.{Family}
 use Rattle.pesp_problem.specs.Forests.{IsFirstOf}
@@ -14,8 +15,8 @@ pub record Rows : Type 0 where
 -- the limits; the first event of each event's component; and room for the sets and for two marks of each event
 pub record AreReady (rows : Rows) (firsts : List ℕ) (words before now : ℕ) : Type 0 where
   pub some_period : 0 < rows.net.period
-  pub period_most : rows.net.period ≤ 10000
-  pub events_most : rows.events ≤ 100000
+  pub period_most : rows.net.period ≤ MOST_PERIOD
+  pub events_most : rows.events ≤ MOST_EVENTS
   pub ends : HaveEnds rows.events rows.net.arcs
   pub long : length firsts ≡ rows.events
   pub first_events : (event : ℕ) → event < rows.events → IsFirstOf rows.net.arcs event (slice_index firsts event)

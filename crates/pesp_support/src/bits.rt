@@ -1,13 +1,14 @@
 //! Many small sets as the bits of 64-bit words, each from a word's first bit on.
 
 ghost use Rattle.std.specs.Prelude.{◌≡◌, ◌≢◌, ℕ, ◌+◌, ◌*◌, ◌<◌, ◌≤◌, length, false};
+ghost use Rattle.pesp_problem.specs.declared.limits.TheConstants.{MOST_EVENTS, MOST_PERIOD};
 ghost use Rattle.pesp_problem.specs.Words.{IsLess};
 ghost use Rattle.pesp_support.specs.Sets.{is_set, span};
 
 /// How many words the sets of so many events take.
 pub fn words_for(period: usize, events: usize) -> usize
-    requires period { period ≤ 10000 }
-    requires events { events ≤ 100000 }
+    requires period { period ≤ MOST_PERIOD }
+    requires events { events ≤ MOST_EVENTS }
     ensures { events * span period ≡ 64 * result }
 {
     events * period.div_ceil(64)
@@ -15,8 +16,8 @@ pub fn words_for(period: usize, events: usize) -> usize
 
 /// Where the bit of an event's difference is.
 fn place_of(period: usize, event: usize, difference: usize) -> usize
-    requires period { period ≤ 10000 }
-    requires event { event ≤ 100000 }
+    requires period { period ≤ MOST_PERIOD }
+    requires event { event ≤ MOST_EVENTS }
     requires difference { difference < period }
     ensures { result ≡ event * span period + difference }
 {
@@ -25,8 +26,8 @@ fn place_of(period: usize, event: usize, difference: usize) -> usize
 
 /// Whether an event has a difference.
 pub fn has(words: &[u64], period: usize, event: usize, difference: usize) -> bool
-    requires period { period ≤ 10000 }
-    requires event { event ≤ 100000 }
+    requires period { period ≤ MOST_PERIOD }
+    requires event { event ≤ MOST_EVENTS }
     requires difference { difference < period }
     requires long { event * span period + span period ≤ 64 * length words.now }
     ensures { result ≡ is_set words.now (event * span period + difference) }
@@ -37,8 +38,8 @@ pub fn has(words: &[u64], period: usize, event: usize, difference: usize) -> boo
 
 /// Takes a difference from an event, and says whether the event had it.
 pub fn remove(words: &mut [u64], period: usize, event: usize, difference: usize) -> bool
-    requires period { period ≤ 10000 }
-    requires event { event ≤ 100000 }
+    requires period { period ≤ MOST_PERIOD }
+    requires event { event ≤ MOST_EVENTS }
     requires difference { difference < period }
     requires long { event * span period + span period ≤ 64 * length words.old }
     ensures gone { is_set words.new (event * span period + difference) ≡ false }

@@ -1,6 +1,7 @@
 //! One set is narrowed to the differences that have a partner in another.
 
 ghost use Rattle.std.specs.Prelude.{◌≡◌, ◌≢◌, ℕ, ◌+◌, ◌*◌, ◌%◌, ◌^◌, ◌<◌, ◌≤◌, length, true, false};
+ghost use Rattle.pesp_problem.specs.declared.limits.TheConstants.{MOST_EVENTS, MOST_PERIOD};
 ghost use Rattle.pesp_problem.specs.Words.{IsLess};
 ghost use Rattle.pesp_support.specs.Sets.{is_set, span, family_at};
 ghost use Rattle.pesp_support.specs.Windows.{IsLeast, IsTaken, Narrows};
@@ -17,8 +18,8 @@ pub struct Window {
 
 /// The least difference of an event, the period where there is none.
 pub fn least(words: &[u64], period: usize, event: usize) -> usize
-    requires period { period ≤ 10000 }
-    requires event { event ≤ 100000 }
+    requires period { period ≤ MOST_PERIOD }
+    requires event { event ≤ MOST_EVENTS }
     requires long { event * span period + span period ≤ 64 * length words.now }
     ensures { IsLeast period event (family_at period words.now) result }
 {
@@ -32,7 +33,7 @@ pub fn least(words: &[u64], period: usize, event: usize) -> usize
 
 /// The difference from which a shift leads to a place.
 fn before(place: usize, shift: usize, period: usize) -> usize
-    requires period { period ≤ 10000 }
+    requires period { period ≤ MOST_PERIOD }
     requires place { place < period }
     requires shift { shift < period }
     ensures below { result < period }
@@ -47,8 +48,8 @@ fn before(place: usize, shift: usize, period: usize) -> usize
 
 /// How far the next difference of an event is from a place, round the period, where it is so far from the next place.
 fn gap_at(words: &[u64], period: usize, other: usize, place: usize, gap: usize) -> usize
-    requires period { period ≤ 10000 }
-    requires other { other ≤ 100000 }
+    requires period { period ≤ MOST_PERIOD }
+    requires other { other ≤ MOST_EVENTS }
     requires place { place < period }
     requires long { other * span period + span period ≤ 64 * length words.now }
     requires gap { gap < 2 ^ 32 }
@@ -74,8 +75,8 @@ fn take_lonely(
     gap: usize,
     window: Window,
 ) -> bool
-    requires period { period ≤ 10000 }
-    requires event { kept ≤ 100000 }
+    requires period { period ≤ MOST_PERIOD }
+    requires event { kept ≤ MOST_EVENTS }
     requires long { kept * span period + span period ≤ 64 * length words.old }
     requires place { place < period }
     requires first { window.first < period }
@@ -94,9 +95,9 @@ fn take_lonely(
 /// Keeps those differences of one event from which a shift of the window leads to one of the other event, of which there
 /// is at least one, and says whether something was taken away.
 pub fn narrow(words: &mut [u64], period: usize, kept: usize, other: usize, window: Window) -> bool
-    requires period { (0 < period) × (period ≤ 10000) }
-    requires kept { kept ≤ 100000 }
-    requires other { other ≤ 100000 }
+    requires period { (0 < period) × (period ≤ MOST_PERIOD) }
+    requires kept { kept ≤ MOST_EVENTS }
+    requires other { other ≤ MOST_EVENTS }
     requires long_kept { kept * span period + span period ≤ 64 * length words.old }
     requires long_other { other * span period + span period ≤ 64 * length words.old }
     requires apart { kept ≢ other }

@@ -1,6 +1,7 @@
 //! Rows are visited in rounds until no set becomes smaller.
 
 ghost use Rattle.std.specs.Prelude.{◌≡◌, ℕ, ◌+◌, ◌*◌, ◌<◌, ◌≤◌, ◌↔◌, length, true, false, Bool, IsTrue};
+ghost use Rattle.pesp_problem.specs.declared.limits.TheConstants.{MOST_EVENTS, MOST_PERIOD};
 ghost use Rattle.pesp_problem.specs.Arcs.{arc_at};
 ghost use Rattle.pesp_problem.specs.Families.{NoFamilyIsSupported};
 ghost use Rattle.pesp_support.specs.Sets.{span, family_at};
@@ -65,8 +66,8 @@ fn visit_at(
     now: &mut [bool],
     place: usize,
 ) -> Option<bool>
-    requires period { (0 < period) × (period ≤ 10000) }
-    requires events { length before.now ≤ 100000 }
+    requires period { (0 < period) × (period ≤ MOST_PERIOD) }
+    requires events { length before.now ≤ MOST_EVENTS }
     requires ends { HaveEnds (length before.now) arcs.now }
     requires ranges { length ranges.now ≡ length arcs.now }
     requires long { length before.now * span period ≤ 64 * length words.old }
@@ -99,8 +100,8 @@ fn visit_rows(
     before: &[bool],
     now: &mut [bool],
 ) -> Round
-    requires period { (0 < period) × (period ≤ 10000) }
-    requires events { length before.now ≤ 100000 }
+    requires period { (0 < period) × (period ≤ MOST_PERIOD) }
+    requires events { length before.now ≤ MOST_EVENTS }
     requires ends { HaveEnds (length before.now) arcs.now }
     requires ranges { length ranges.now ≡ length arcs.now }
     requires long { length before.now * span period ≤ 64 * length words.old }
@@ -136,8 +137,8 @@ pub fn is_emptied(
     before: &mut [bool],
     now: &mut [bool],
 ) -> bool
-    requires period { (0 < period) × (period ≤ 10000) }
-    requires events { length before.old ≤ 100000 }
+    requires period { (0 < period) × (period ≤ MOST_PERIOD) }
+    requires events { length before.old ≤ MOST_EVENTS }
     requires ends { HaveEnds (length before.old) arcs.now }
     requires ranges { length ranges.now ≡ length arcs.now }
     requires long { length before.old * span period ≤ 64 * length words.old }

@@ -1,6 +1,7 @@
 //! The question of the pass.
 
 ghost use Rattle.std.specs.Prelude.{◌≡◌, ◌≢◌, ℕ, ◌+◌, ◌*◌, ◌<◌, ◌≤◌, ◌↔◌, length, true, All, IfOk, IsTrue};
+ghost use Rattle.pesp_problem.specs.declared.limits.TheConstants.{MOST_EVENTS, MOST_PERIOD};
 ghost use Rattle.pesp_problem.specs.Arcs.{net_of};
 ghost use Rattle.pesp_problem.specs.Limits.{KeepsLimits};
 ghost use Rattle.pesp_problem.specs.Families.{NoFamilyIsSupported};
@@ -55,8 +56,8 @@ fn fill(words: &mut [u64])
 
 /// Takes from an event every difference but 0, where it is the first of its component.
 fn start_one(words: &mut [u64], period: usize, event: usize, first: usize)
-    requires period { period ≤ 10000 }
-    requires event { event ≤ 100000 }
+    requires period { period ≤ MOST_PERIOD }
+    requires event { event ≤ MOST_EVENTS }
     requires long { event * span period + span period ≤ 64 * length words.old }
     ensures alone { first ≡ event → (d : ℕ) → family_at period words.new event d ≡ true → d ≡ 0 }
     ensures whole { first ≢ event → words.new ≡ words.old }
@@ -74,8 +75,8 @@ fn start_one(words: &mut [u64], period: usize, event: usize, first: usize)
 
 /// The sets at the start: 0 alone for a component's first event, every difference for the others.
 fn start(words: &mut [u64], period: usize, firsts: &[u32])
-    requires period { (0 < period) × (period ≤ 10000) }
-    requires events { length firsts.now ≤ 100000 }
+    requires period { (0 < period) × (period ≤ MOST_PERIOD) }
+    requires events { length firsts.now ≤ MOST_EVENTS }
     requires long { length firsts.now * span period ≤ 64 * length words.old }
     ensures { IsStart period firsts.now (length firsts.now) (family_at period words.new) }
 {

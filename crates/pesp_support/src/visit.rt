@@ -2,6 +2,7 @@
 
 ghost use Rattle.std.specs.Prelude.{◌≡◌, ◌≢◌, ◌↔◌, ℕ, ◌+◌, ◌-◌, ◌*◌, ◌%◌, ◌<◌, ◌≤◌, length, pos, min, true, false, IsTrue};
 ghost use Rattle.std.specs.Int.{int_rem_euclid};
+ghost use Rattle.pesp_problem.specs.declared.limits.TheConstants.{MOST_EVENTS, MOST_PERIOD};
 ghost use Rattle.pesp_support.specs.Sets.{span, family_at};
 ghost use Rattle.pesp_support.specs.Windows.{Narrows};
 ghost use Rattle.pesp_support.specs.Visits.{HasSome, IsVisit};
@@ -19,7 +20,7 @@ pub struct Narrowed {
 
 /// A lower bound as a shift round the period.
 fn shift_of(lower: &i64, period: usize) -> usize
-    requires { (0 < period) × (period ≤ 10000) }
+    requires { (0 < period) × (period ≤ MOST_PERIOD) }
     ensures { pos result ≡ int_rem_euclid lower.now (pos period) }
 {
     lower.rem_euclid(period as i64) as usize
@@ -38,8 +39,8 @@ fn loop_holds(period: usize, shift: usize, range: (u32, u32)) -> bool
 
 /// Whether an event has a difference left.
 fn has_some(words: &[u64], period: usize, event: usize) -> bool
-    requires period { (0 < period) × (period ≤ 10000) }
-    requires event { event ≤ 100000 }
+    requires period { (0 < period) × (period ≤ MOST_PERIOD) }
+    requires event { event ≤ MOST_EVENTS }
     requires long { event * span period + span period ≤ 64 * length words.now }
     ensures { IsTrue result ↔ HasSome (family_at period words.now) event }
 {
@@ -51,7 +52,7 @@ fn has_some(words: &[u64], period: usize, event: usize) -> bool
 
 /// The shifts from the tail to its partners at the head, and from the head to those at the tail.
 fn windows(period: usize, shift: usize, range: (u32, u32)) -> (Window, Window)
-    requires period { (0 < period) × (period ≤ 10000) }
+    requires period { (0 < period) × (period ≤ MOST_PERIOD) }
     requires shift { shift ≤ period }
     ensures ahead { result.0.first ≡ (shift + range.0) % period }
     ensures back { result.1.first ≡ (2 * period - shift - min range.1 (period - 1)) % period }
@@ -80,11 +81,11 @@ fn revise(
     shift: usize,
     range: (u32, u32),
 ) -> Option<Narrowed>
-    requires period { (0 < period) × (period ≤ 10000) }
+    requires period { (0 < period) × (period ≤ MOST_PERIOD) }
     requires apart { arc.now.tail ≢ arc.now.head }
     requires tail { arc.now.tail * span period + span period ≤ 64 * length words.old }
     requires head { arc.now.head * span period + span period ≤ 64 * length words.old }
-    requires ends { (arc.now.tail ≤ 100000) × (arc.now.head ≤ 100000) }
+    requires ends { (arc.now.tail ≤ MOST_EVENTS) × (arc.now.head ≤ MOST_EVENTS) }
     requires some_head { HasSome (family_at period words.old) arc.now.head }
     requires shift { pos shift ≡ int_rem_euclid arc.now.lower (pos period) }
     ensures { IsVisit period arc.now range words.old words.new result }
@@ -104,10 +105,10 @@ fn revise(
 /// Takes from the sets at both ends of a row each difference without a partner; None where no family within them that the
 /// row supports has a difference at both ends.
 pub fn visit(words: &mut [u64], period: usize, arc: &Arc, range: (u32, u32)) -> Option<Narrowed>
-    requires period { (0 < period) × (period ≤ 10000) }
+    requires period { (0 < period) × (period ≤ MOST_PERIOD) }
     requires tail { arc.now.tail * span period + span period ≤ 64 * length words.old }
     requires head { arc.now.head * span period + span period ≤ 64 * length words.old }
-    requires ends { (arc.now.tail ≤ 100000) × (arc.now.head ≤ 100000) }
+    requires ends { (arc.now.tail ≤ MOST_EVENTS) × (arc.now.head ≤ MOST_EVENTS) }
     requires some_tail { HasSome (family_at period words.old) arc.now.tail }
     requires some_head { HasSome (family_at period words.old) arc.now.head }
     ensures { IsVisit period arc.now range words.old words.new result }

@@ -1,5 +1,6 @@
 -- Trees whose leaves are numbers, grown a branching at a time: what the lists that are kept mean.
 use Rattle.std.specs.Prelude.{◌≡◌, ◌≢◌, ◌<◌, ◌≤◌, ◌%◌, ℕ, ◌+◌, ◌*◌, List, [], ◌∷◌, ◌++◌, length, map, slice_index_or, slice_set, if◌then◌else◌, ◌==◌, Option, Some, None}
+use Rattle.pesp_problem.specs.declared.limits.TheConstants.{MOST_LINES}
 use Rattle.pesp_problem.specs.declared.cut.Cut.{Cut}
 use Rattle.pesp_problem.specs.declared.cut.Cut.TheVariants.{Slack}
 use Rattle.pesp_problem.specs.declared.cut.Side.{Side}
@@ -129,7 +130,7 @@ pub record AreNumbered (bs : List Branching) (kept : List Kept) : Type 0 where
   pub below : AreBelow 1 bs
   pub stands : Stands bs kept (grown bs).tree 0
   pub lines : length (preorder (tree_of bs (map kept_leaf kept))) ≡ length kept
-  pub within : length kept ≤ 1000000
+  pub within : length kept ≤ MOST_LINES
 
 -- the lists are those of a tree, with memory for so many branchings and so many nodes, of which this many make the room
 pub record AreKept (bs : List Branching) (kept : List Kept) (room branchings nodes : ℕ) : Type 0 where

@@ -1,5 +1,6 @@
 -- Trees whose nodes have numbers: for each node the path to it and, until it is split, its leaf.
 use Rattle.std.specs.Prelude.{◌≡◌, ◌≤◌, ℕ, List, [], ◌∷◌, ◌++◌, length, slice_index_or, slice_set, Option, Some, None, IsSome}
+use Rattle.pesp_problem.specs.declared.limits.TheConstants.{MOST_LINES}
 use Rattle.pesp_problem.specs.declared.cut.Cut.{Cut}
 use Rattle.pesp_problem.specs.declared.cut.Side.{Side}
 use Rattle.pesp_problem.specs.declared.cut.Side.TheVariants.{Low, High}
@@ -52,7 +53,7 @@ with_room t room = record { tree = t.tree; paths = t.paths; leaves = t.leaves; r
 pub record IsWhole (t : WorkTreeValue) : Type 0 where
   pub counted : length t.paths ≡ length t.leaves
   pub lines : length (preorder t.tree) ≡ length t.leaves
-  pub within : length t.leaves ≤ 1000000
+  pub within : length t.leaves ≤ MOST_LINES
   pub stands : (node : ℕ) (leaf : Leaf) → leaf_at t node ≡ Some leaf → IsLeafAt t.tree (path_to t node) leaf
   pub found : (path : List (Cut × Side)) (leaf : Leaf) → IsLeafAt t.tree path leaf
       → (node : ℕ) × (path_to t node ≡ path) × (leaf_at t node ≡ Some leaf)

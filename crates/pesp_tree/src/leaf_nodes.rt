@@ -1,6 +1,7 @@
 //! The nodes that have leaves, in the order of the tree's lines, without a call for each of its levels.
 
 ghost use Rattle.std.specs.Prelude.{◌≡◌, ℕ, ◌<◌, ◌++◌, length, map, slice_index_or, All, None, IsSome, IfOk, OnOk};
+ghost use Rattle.pesp_problem.specs.declared.limits.TheConstants.{MOST_LINES};
 ghost use Rattle.pesp_truth.specs.Leaves.{leaf_paths};
 ghost use Rattle.pesp_tree.specs.declared.node.Kept.TheVariants.{Branched};
 ghost use Rattle.pesp_tree.specs.Numbered.{grown, path_in, kept_leaf, tree_of, no_node, AreNumbered};
@@ -19,7 +20,7 @@ fn note(
 ) -> Result<(), Memory>
     requires node { node < length nodes.now }
     requires places { (place : ℕ) → slice_index_or nodes.now node no_node ≡ Branched place
-        → place < 1000000 }
+        → place < MOST_LINES }
     ensures leaves { OnOk result (leaves.new.items ≡ leaves.old.items ++ own_at nodes.now node) }
     ensures waiting { OnOk result
         (waiting.new.items ≡ waiting.old.items ++ parts_at nodes.now node) }

@@ -1,6 +1,7 @@
 //! How a tree under work is kept: its nodes by number, and its branchings in the order in which they were made.
 
 ghost use Rattle.std.specs.Prelude.{◌≡◌, ◌<◌, ◌≤◌, ◌+◌, ◌*◌, [], ◌∷◌, ◌++◌, length, IfOk, vec_len, vec_capacity};
+ghost use Rattle.pesp_problem.specs.declared.limits.TheConstants.{MOST_LINES};
 ghost use Rattle.pesp_tree.specs.Numbered.{grown, path_in, AreBelow, IsSide, after_split};
 ghost use Rattle.pesp_tree.specs.declared.node.Kept.TheVariants.{Leaf as KeptLeaf};
 
@@ -71,7 +72,7 @@ pub(crate) fn branch_off(
     high: Leaf,
 )
     requires node { branching.node < length nodes.old.items }
-    requires few { length branchings.old.items < 1000000 }
+    requires few { length branchings.old.items < MOST_LINES }
     requires place { vec_len branchings.old < vec_capacity branchings.old }
     requires places { vec_len nodes.old + 2 ≤ vec_capacity nodes.old }
     ensures branchings { branchings.new.items ≡ branchings.old.items ++ branching ∷ [] }

@@ -1,6 +1,7 @@
 //! The lines of a tree under work, without a call for each of its levels.
 
 ghost use Rattle.std.specs.Prelude.{◌≡◌, ◌<◌, [], ◌∷◌, ◌++◌, length, map, IfOk, OnOk};
+ghost use Rattle.pesp_problem.specs.declared.limits.TheConstants.{MOST_LINES};
 ghost use Rattle.pesp_truth.specs.Trees.{CutLine, preorder};
 ghost use Rattle.pesp_truth.specs.Certificates.{line_of};
 ghost use Rattle.pesp_tree.specs.Numbered.{kept_leaf, tree_of, AreNumbered};
@@ -32,7 +33,7 @@ fn visit(
     waiting: &mut Vec<u32>,
 ) -> Result<(), Memory>
     requires node { IsKnown branchings.now nodes.now node }
-    requires few { length branchings.now < 1000000 }
+    requires few { length branchings.now < MOST_LINES }
     ensures lines { OnOk result (map line_of lines.new.items
         ≡ map line_of lines.old.items ++ line_at branchings.now nodes.now node ∷ []) }
     ensures waiting { OnOk result

@@ -1,6 +1,7 @@
 //! Trees under work.
 
 ghost use Rattle.std.specs.Prelude.{◌≡◌, ◌<◌, ◌≤◌, ◌+◌, length, map, option_map, option_copied, All, IsSome, IfOk, OnOk, OnErr};
+ghost use Rattle.pesp_problem.specs.declared.limits.TheConstants.{MOST_LINES};
 ghost use Rattle.pesp_truth.specs.Trees.{preorder};
 ghost use Rattle.pesp_truth.specs.Certificates.{line_of};
 ghost use Rattle.pesp_truth.specs.Leaves.{leaf_paths};
@@ -100,7 +101,7 @@ impl WorkTree {
 
     /// Makes room for so many more nodes than there are. The one refusal is of memory, after which nothing has changed.
     pub fn reserve(&mut self, more: u32) -> Result<(), Memory>
-        requires { length self.old.leaves + more ≤ 1000000 }
+        requires { length self.old.leaves + more ≤ MOST_LINES }
         ensures room { OnOk result (length self.old.leaves + more ≤ self.new.room) }
         ensures tree { self.new ≡ with_room self.old self.new.room }
         ensures same { OnErr result (self.new ≡ self.old) }
@@ -117,7 +118,7 @@ impl WorkTree {
     pub fn split(&mut self, node: u32, cut: Cut, low: Leaf, high: Leaf)
         requires leaf { IsSome (leaf_at self.old node) }
         requires room { length self.old.leaves + 2 ≤ self.old.room }
-        requires few { length self.old.leaves + 2 ≤ 1000000 }
+        requires few { length self.old.leaves + 2 ≤ MOST_LINES }
         ensures tree { self.new ≡ with_branch self.old node cut (leaf_of low) (leaf_of high) }
         ensures whole { IsWhole self.new }
     {

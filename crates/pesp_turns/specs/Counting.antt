@@ -1,5 +1,6 @@
 -- Turns on a board that was worked on from its opening, or from its root's first look, by turns alone.
 use Rattle.std.specs.Prelude.{◌≡◌, ℕ, ◌+◌, ◌*◌, ◌<◌, List, length}
+use Rattle.pesp_problem.specs.declared.limits.TheConstants.{MOST_PAIRS}
 use Rattle.pesp_problem.specs.declared.cut.Cut.{Cut}
 use Rattle.pesp_problem.specs.declared.cut.Side.{Side}
 use Rattle.pesp_nodes.specs.Problems.{ProblemValue}
@@ -18,5 +19,5 @@ abbrev pub AreTurns : ProblemValue → ℕ → State → ℕ → Ending → Stat
 AreTurns p steps old used StepsUsed new = IsWorkedFrom p used old new × (used ≡ steps)
 AreTurns p steps old used NoneOpen new = IsWorkedFrom p used old new × ((path : List (Cut × Side)) → IsOpen p new path → ⊥)
 AreTurns p steps old used NumbersSpent new = ⊥
-AreTurns p steps old used TreeTooLarge new = 20000000 < (steps + 1) * length p.table
+AreTurns p steps old used TreeTooLarge new = MOST_PAIRS < (steps + 1) * length p.table
 AreTurns p steps old used TurnsUsed new = ⊥

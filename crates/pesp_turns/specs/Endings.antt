@@ -1,5 +1,6 @@
 -- How turns end on a board in any state.
 use Rattle.std.specs.Prelude.{◌≡◌, ◌⊎◌, ℕ, zero, suc, ◌+◌, ◌*◌, ◌≤◌, List, length, Bool}
+use Rattle.pesp_problem.specs.declared.limits.TheConstants.{MOST_LINES}
 use Rattle.pesp_problem.specs.declared.pair.Pair.{Pair}
 use Rattle.pesp_problem.specs.declared.cut.Cut.{Cut}
 use Rattle.pesp_problem.specs.declared.cut.Side.{Side}
@@ -57,7 +58,7 @@ pub record TakesTurns (p : ProblemValue) (r : ReducedValue) (least : ℕ) (old n
 pub record SpendsNumbers (p : ProblemValue) (r : ReducedValue) (old new : State) : Type 0 where
   pub count : ℕ
   pub lead : TurnsLead p r count old new
-  pub spent : 1000000 ≤ length new.numbers
+  pub spent : MOST_LINES ≤ length new.numbers
 
 -- how turns of at most so many splits end: all splits are used up, nothing is left to split, a limit is met, or all turns are taken
 abbrev pub EndsAs : ProblemValue → ReducedValue → ℕ → State → ℕ → Ending → State → Type 0

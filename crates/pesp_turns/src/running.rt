@@ -1,6 +1,7 @@
 //! Turns, until all splits are used up or no leaf can be split or closed.
 
 ghost use Rattle.std.specs.Prelude.{◌≡◌, ◌≤◌, IfOk};
+ghost use Rattle.pesp_problem.specs.declared.limits.TheConstants.{MOST_STEPS};
 ghost use Rattle.pesp_turns.specs.Knowing.{IsKnown};
 ghost use Rattle.pesp_search_laws.specs.Turns.{IsWorked};
 ghost use Rattle.pesp_turns.specs.Settling.{IsSearched};
@@ -28,7 +29,7 @@ pub(crate) fn run_turns<O: Observer>(
     observer: &mut O,
 ) -> Result<Ended, Memory>
     requires known { IsKnown board.old.problem known.now }
-    requires few { steps ≤ 100000 }
+    requires few { steps ≤ MOST_STEPS }
     ensures problem { board.new.problem ≡ board.old.problem }
     ensures few { IfOk result (λ ended. ended.used ≤ steps) }
     ensures grows { IfOk result

@@ -1,6 +1,7 @@
 //! Searches.
 
 ghost use Rattle.std.specs.Prelude.{◌≡◌, ◌≤◌, IfOk};
+ghost use Rattle.pesp_problem.specs.declared.limits.TheConstants.{MOST_STEPS};
 ghost use Rattle.pesp_turns.specs.Knowing.{IsKnown};
 ghost use Rattle.pesp_search_laws.specs.Turns.{IsWorked};
 ghost use Rattle.pesp_turns.specs.Settling.{IsSearched};
@@ -90,7 +91,7 @@ impl Search {
         observer: &mut O,
     ) -> Result<Ended, Memory>
         requires known { IsKnown self.old.board.problem self.old.known }
-        requires few { steps ≤ 100000 }
+        requires few { steps ≤ MOST_STEPS }
         ensures problem { self.new.board.problem ≡ self.old.board.problem }
         ensures known { self.new.known ≡ self.old.known }
         ensures few { IfOk result (λ ended. ended.used ≤ steps) }

@@ -2,6 +2,7 @@
 use Rattle.std.specs.Prelude.{◌≡◌, ◌⊎◌, ⊤, ℕ, ℤ, ◌≤◌, List, [], length, map, sum_by, Contains, Option, Some, true}
 use Rattle.std.specs.List.{list_all, AllZip}
 use Rattle.std.specs.Global.{Vec}
+use Rattle.pesp_problem.specs.declared.limits.TheConstants.{MOST_EVENTS}
 use Rattle.pesp_problem.specs.declared.pair.Pair.{Pair}
 use Rattle.pesp_problem.specs.declared.cut.Cut.{Cut}
 use Rattle.pesp_problem.specs.declared.cut.Side.{Side}
@@ -103,7 +104,7 @@ AreWorkRefusal instance base jobs NoSuchJob = (job : ℕ) × Contains jobs job �
 
 -- so many times, with such labels, as a text may have
 abbrev pub AreShort : List (ℤ × ℕ) → Type 0
-AreShort times = (length times ≤ 100000) × (list_all is_time times ≡ true)
+AreShort times = (length times ≤ MOST_EVENTS) × (list_all is_time times ≡ true)
 
 -- a work without times
 abbrev pub without_times : ℕ → List TreeLine → WorkValue

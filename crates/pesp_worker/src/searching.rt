@@ -2,6 +2,7 @@
 
 ghost use Rattle.std.specs.Prelude.{◌≡◌, ◌⊎◌, ◌≤◌, ◌<◌, ◌++◌, ◌∷◌, [], ℕ, length, All, Contains, IfOk, IfErr, IfSome, OnOk, IsTrue, false};
 ghost use Rattle.std.specs.List.{AllZip};
+ghost use Rattle.pesp_problem.specs.declared.limits.TheConstants.{MOST_STEPS};
 ghost use Rattle.pesp_problem.specs.Timetables.{Pesp};
 ghost use Rattle.pesp_truth.specs.Certificates.{IsValid, cost_of};
 ghost use Rattle.pesp_machine.specs.Events.{IsCheaper};
@@ -116,7 +117,7 @@ fn work_on(
     jobs: &[u64],
     range: Range,
 ) -> Result<Board, Memory>
-    requires { range.steps ≤ 100000 }
+    requires { range.steps ≤ MOST_STEPS }
     ensures { IfOk result (λ worked. worked.problem ≡ board.problem) }
 {
     let mut board = board;
@@ -204,7 +205,7 @@ fn found_for(
     range: Range,
 ) -> Result<Vec<WorkText>, Memory>
     requires of { IsProblemOf instance.now lent.board.problem }
-    requires few { range.steps ≤ 100000 }
+    requires few { range.steps ≤ MOST_STEPS }
     ensures found { IfOk result (λ works. AllZip (IsFound instance.now (cost_of base.now.answer)) jobs.now works.items) }
 {
     let Lent {
@@ -225,7 +226,7 @@ pub(crate) fn search_below(
     range: Range,
 ) -> Result<Vec<WorkText>, WorkRefusal>
     requires valid { IsValid instance.now base.now }
-    requires few { range.steps ≤ 100000 }
+    requires few { range.steps ≤ MOST_STEPS }
     ensures found { IfOk result (λ works. AllZip (IsFound instance.now (cost_of base.now.answer)) jobs.now works.items) }
     ensures refused { IfErr result (AreWorkRefusal instance.now base.now jobs.now) }
 {

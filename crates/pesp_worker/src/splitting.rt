@@ -1,6 +1,7 @@
 //! Leaves that are split on a board where some are open.
 
 ghost use Rattle.std.specs.Prelude.{◌≡◌, ◌≤◌, IfOk};
+ghost use Rattle.pesp_problem.specs.declared.limits.TheConstants.{MOST_STEPS};
 ghost use Rattle.pesp_turns.specs.Knowing.{IsKnown};
 
 use crate::holding::lend_next;
@@ -64,7 +65,7 @@ fn split_below(alloc: Global, search: &mut Search, steps: u32, bound: u64) -> Re
 /// Splits open leaves, that of least value first, at most so many: those that are worth less than a bound, where one is given.
 fn split(alloc: Global, search: &mut Search, steps: u32, until: Option<u64>) -> Result<(), Memory>
     requires known { IsKnown search.old.board.problem search.old.known }
-    requires few { steps ≤ 100000 }
+    requires few { steps ≤ MOST_STEPS }
     ensures { search.new.board.problem ≡ search.old.board.problem }
 {
     match until {
@@ -85,7 +86,7 @@ pub(crate) fn split_on(
     steps: u32,
     until: Option<u64>,
 ) -> Result<Board, Memory>
-    requires { steps ≤ 100000 }
+    requires { steps ≤ MOST_STEPS }
     ensures { IfOk result (λ worked. worked.problem ≡ board.problem) }
 {
     let mut search = Search::on(alloc, instance, board)?;

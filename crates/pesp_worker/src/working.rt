@@ -2,6 +2,7 @@
 
 ghost use Rattle.std.specs.Prelude.{◌≡◌, ◌∷◌, [], ◌≤◌, None, IfOk, IfErr};
 ghost use Rattle.std.specs.List.Sorted.{IsStrictlyIncreasing};
+ghost use Rattle.pesp_problem.specs.declared.limits.TheConstants.{MOST_STEPS};
 ghost use Rattle.pesp_truth.specs.Certificates.{IsValid};
 ghost use Rattle.pesp_worker.specs.HandingIn.{IsWorkOn, IsWorkRefusal, AreWorksOn, AreWorkRefusal};
 
@@ -33,7 +34,7 @@ pub fn work_on_all(
 ) -> Result<Vec<WorkText>, WorkRefusal>
     requires valid { IsValid instance.now base.now }
     requires rise { IsStrictlyIncreasing jobs.now }
-    requires few { steps ≤ 100000 }
+    requires few { steps ≤ MOST_STEPS }
     ensures works { IfOk result
         (λ works. AreWorksOn instance.now base.now jobs.now steps until works.items) }
     ensures refused { IfErr result (AreWorkRefusal instance.now base.now jobs.now) }
@@ -57,7 +58,7 @@ pub fn work(
     steps: u32,
 ) -> Result<WorkText, WorkRefusal>
     requires valid { IsValid instance.now base.now }
-    requires few { steps ≤ 100000 }
+    requires few { steps ≤ MOST_STEPS }
     ensures work { IfOk result (λ work. IsWorkOn instance.now base.now job steps work) }
     ensures refused { IfErr result (IsWorkRefusal instance.now base.now job) }
 {

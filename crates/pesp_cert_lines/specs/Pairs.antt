@@ -6,6 +6,7 @@ use Rattle.std.specs.Fmt.{signed_decimal}
 use Rattle.pesp_problem.specs.declared.limits.TheConstants.{MOST_CYCLES, MOST_MULTIPLIER}
 use Rattle.pesp_problem.specs.declared.pair.Pair.{Pair}
 use Rattle.pesp_text.specs.Number.{natural_of, whole_of}
+use Rattle.pesp_cert_lines.specs.declared.rows.TheConstants.{MOST_WORDS}
 use Rattle.pesp_cert_lines.specs.declared.fault.LineFault.{LineFault}
 use Rattle.pesp_cert_lines.specs.declared.fault.LineFault.TheVariants.{Number, Limit}
 
@@ -71,7 +72,7 @@ pairs_are_good (Some ps) = all_within ps
 pub record PairsAreGood (pairs : Option (List Pair)) (number : ℕ) : Type 0 where
   pub good : pairs_are_good pairs ≡ true
   pub count : number ≡ length (pairs_left pairs)
-  pub short : number ≤ 100000001
+  pub short : number ≤ MOST_WORDS
 
 -- the first pair of the words and the words of the others, or there is none
 abbrev pub BeginsPairs : Option Pair → ℕ → List (List ℕ) → List (List ℕ) → Type 0

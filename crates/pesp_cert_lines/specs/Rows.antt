@@ -4,6 +4,7 @@ use Rattle.std.specs.List.{list_all}
 use Rattle.pesp_problem.specs.declared.limits.TheConstants.{MOST_ROWS}
 use Rattle.pesp_problem.specs.declared.row.SignedRow.{SignedRow}
 use Rattle.pesp_text.specs.Number.{natural_of}
+use Rattle.pesp_cert_lines.specs.declared.rows.TheConstants.{MOST_WORDS}
 use Rattle.pesp_cert_lines.specs.declared.fault.LineFault.{LineFault}
 use Rattle.pesp_cert_lines.specs.declared.fault.LineFault.TheVariants.{Number, Limit}
 
@@ -75,7 +76,7 @@ rows_are_good (Some rs) = rows_are_named rs
 pub record RowsAreGood (rows : Option (List SignedRow)) (number : ℕ) : Type 0 where
   pub good : rows_are_good rows ≡ true
   pub count : number ≡ length (rows_left rows)
-  pub short : number ≤ 100000001
+  pub short : number ≤ MOST_WORDS
 
 -- the first of the rows and the others, or there is none
 abbrev pub BeginsRows : Option SignedRow → Option (List SignedRow) → Option (List SignedRow) → Type 0

@@ -7,7 +7,7 @@ use crate::fault::LineFault;
 use crate::item::Item;
 use crate::kind::Kind;
 use crate::pairs::judge_pairs;
-use crate::rows::{is_name, judge_rows};
+use crate::rows::{MOST_WORDS, is_name, judge_rows};
 use pesp_problem::{MOST_LABEL, MOST_OFFSET, MOST_PERIOD, MOST_SLACK, MOST_TIME};
 use pesp_text::{Words, is_word, natural, whole};
 use pesp_truth::Answer;
@@ -71,7 +71,7 @@ fn time(mut words: Words<'_>) -> Result<Item<'static>, LineFault>
 
 #[tactic(auto, unfolding(crate::specs::Items::item_of))]
 fn bound(words: Words<'_>) -> Result<Item<'_>, LineFault>
-    requires { length words ≤ 100000001 }
+    requires { length words ≤ MOST_WORDS }
     ensures { result ≡ checked (item_of Kind.Bound words.entry) }
 {
     let pairs = judge_pairs(words)?;
@@ -80,7 +80,7 @@ fn bound(words: Words<'_>) -> Result<Item<'_>, LineFault>
 
 #[tactic(auto, unfolding(crate::specs::Items::item_of))]
 fn nothing(words: Words<'_>) -> Result<Item<'_>, LineFault>
-    requires { length words ≤ 100000001 }
+    requires { length words ≤ MOST_WORDS }
     ensures { result ≡ checked (item_of Kind.Nothing words.entry) }
 {
     let pairs = judge_pairs(words)?;
@@ -89,7 +89,7 @@ fn nothing(words: Words<'_>) -> Result<Item<'_>, LineFault>
 
 #[tactic(auto, unfolding(crate::specs::Items::item_of))]
 fn cycle(words: Words<'_>) -> Result<Item<'_>, LineFault>
-    requires { length words ≤ 100000001 }
+    requires { length words ≤ MOST_WORDS }
     ensures { result ≡ checked (item_of Kind.Cycle words.entry) }
 {
     let rows = judge_rows(words)?;
@@ -209,7 +209,7 @@ fn answer(words: Words<'_>) -> Result<Item<'static>, LineFault>
 /// What the words behind the first say, where they have the form of their kind.
 #[tactic(auto, unfolding(crate::specs::Items::item_of))]
 pub(crate) fn judge_numbers(kind: Kind, words: Words<'_>) -> Result<Item<'_>, LineFault>
-    requires { length words ≤ 100000001 }
+    requires { length words ≤ MOST_WORDS }
     ensures { result ≡ checked (item_of kind words.entry) }
 {
     match kind {

@@ -7,6 +7,7 @@ ghost use Rattle.pesp_text.specs.Words.{words_of, pieces_left};
 ghost use Rattle.pesp_cert_lines.specs.Pairs.{pair_at, pairs_from, is_pair_within, pairs_within, count_of_pairs, pairs_are_good, BeginsPairs};
 
 use crate::fault::LineFault;
+use crate::rows::MOST_WORDS;
 use pesp_problem::{MOST_CYCLES, MOST_MULTIPLIER, Pair};
 use pesp_text::{Words, natural, split_at_byte, whole};
 use std::marker::Model;
@@ -36,7 +37,7 @@ impl<'a> LinePairs<'a> {
     /// How many pairs are left.
     pub fn left(&self) -> u64
         ensures count { result ≡ length self.now }
-        ensures short { result ≤ 100000001 }
+        ensures short { result ≤ MOST_WORDS }
     {
         self.count
     }
@@ -84,9 +85,9 @@ fn is_within(cycle: u64, mult: i64) -> bool
 
 /// How many pairs the words spell, or what is wrong with them.
 fn count_pairs(words: Words<'_>) -> Result<u64, LineFault>
-    requires { length words ≤ 100000001 }
+    requires { length words ≤ MOST_WORDS }
     ensures exact { result ≡ count_of_pairs (pairs_from 0 words.entry) }
-    ensures short { IfOk result (λ n. n ≤ 100000001) }
+    ensures short { IfOk result (λ n. n ≤ MOST_WORDS) }
 {
     let mut words = words;
     let mut least = 0u64;
@@ -112,7 +113,7 @@ fn count_pairs(words: Words<'_>) -> Result<u64, LineFault>
 
 /// The pairs that the words spell, or what is wrong with them.
 pub(crate) fn judge_pairs(words: Words<'_>) -> Result<LinePairs<'_>, LineFault>
-    requires { length words ≤ 100000001 }
+    requires { length words ≤ MOST_WORDS }
     ensures { result ≡ pairs_within (pairs_from 0 words.entry) }
 {
     let count = count_pairs(words.again())?;

@@ -5,6 +5,7 @@ ghost use Rattle.pesp_cert_lines.specs.Counts.{after, after_tree, counted_after,
 
 use crate::item::Item;
 use crate::kind::Kind;
+use crate::rows::MOST_WORDS;
 use pesp_problem::{MOST_CYCLES, MOST_EVENTS, MOST_LINES, MOST_PAIRS, MOST_SIGNED_ROWS};
 
 /// Where in a text the last line stood.
@@ -74,7 +75,7 @@ fn keeps_counts(progress: &Progress) -> bool
 /// How far the text has come with a line of the tree that asks for `parts` trees and has so many pairs.
 fn after_tree(progress: &Progress, parts: u64, pairs: u64) -> Progress
     requires kept { IsKept progress.now }
-    requires few { (parts ≤ 2) × (pairs ≤ 100000001) }
+    requires few { (parts ≤ 2) × (pairs ≤ MOST_WORDS) }
     ensures { result ≡ after_tree progress.now parts pairs }
 {
     Progress {

@@ -11,6 +11,9 @@ use pesp_problem::{MOST_ROWS, SignedRow};
 use pesp_text::{Words, natural, split_at_byte};
 use std::marker::Model;
 
+/// The most words of a line: it has at most 100,000,000 bytes.
+pub(crate) const MOST_WORDS: usize = 100_000_001;
+
 /// The signed rows of a walk that are left in a line that was judged.
 #[derive(Debug, Drop)]
 pub struct SignedRows<'a> {
@@ -35,7 +38,7 @@ impl<'a> SignedRows<'a> {
     /// How many rows are left.
     pub fn left(&self) -> u64
         ensures count { result ≡ length self.now }
-        ensures short { result ≤ 100000001 }
+        ensures short { result ≤ MOST_WORDS }
     {
         self.count
     }
@@ -102,9 +105,9 @@ pub(crate) fn is_name(number: u64) -> bool
 
 /// How many rows the words spell, or what is wrong with them.
 fn count_rows(words: Words<'_>) -> Result<u64, LineFault>
-    requires { length words ≤ 100000001 }
+    requires { length words ≤ MOST_WORDS }
     ensures exact { result ≡ count_of_rows (rows_of words.entry) }
-    ensures short { IfOk result (λ n. n ≤ 100000001) }
+    ensures short { IfOk result (λ n. n ≤ MOST_WORDS) }
 {
     let mut words = words;
     let mut within = true;
@@ -125,7 +128,7 @@ fn count_rows(words: Words<'_>) -> Result<u64, LineFault>
 
 /// The rows that the words spell, or what is wrong with them.
 pub(crate) fn judge_rows(words: Words<'_>) -> Result<SignedRows<'_>, LineFault>
-    requires { length words ≤ 100000001 }
+    requires { length words ≤ MOST_WORDS }
     ensures { result ≡ rows_within (rows_of words.entry) }
 {
     let count = count_rows(words.again())?;

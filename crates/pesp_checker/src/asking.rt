@@ -2,6 +2,8 @@
 
 ghost use Rattle.std.specs.Prelude.{◌≤◌, IfSome};
 
+use pesp_problem::MOST_PERIOD;
+
 /// What is told where the words ask for nothing.
 pub(crate) const USAGE: &str = "\
 usage: pesp_checker [--period N] FILE < CERTIFICATE
@@ -19,10 +21,10 @@ pub(crate) struct Request<'a> {
 
 /// The period that a word spells, where it is one.
 fn period_of(word: &str) -> Option<u32>
-    ensures { IfSome result (λ period. (1 ≤ period) × (period ≤ 10000)) }
+    ensures { IfSome result (λ period. (1 ≤ period) × (period ≤ MOST_PERIOD)) }
 {
     let period: u32 = word.parse().ok()?;
-    if period == 0 || period > 10000 {
+    if period == 0 || period > MOST_PERIOD {
         return None;
     }
     Some(period)
@@ -30,7 +32,7 @@ fn period_of(word: &str) -> Option<u32>
 
 /// What the words ask for, the program's name first: `FILE`, or `--period N FILE`.
 pub(crate) fn request_of(words: &[String]) -> Option<Request<'_>>
-    ensures { IfSome result (λ request. (1 ≤ request.period) × (request.period ≤ 10000)) }
+    ensures { IfSome result (λ request. (1 ≤ request.period) × (request.period ≤ MOST_PERIOD)) }
 {
     match words {
         [_, file] if !file.as_str().starts_with("-") => Some(Request {

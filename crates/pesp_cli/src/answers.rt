@@ -3,6 +3,7 @@
 ghost use Rattle.std.specs.Prelude.{◌≡◌, ◌<◌, ◌≤◌, ◌^◌, Ok, Err, IfOk, OnOk, IsSome, MatchResult};
 ghost use Rattle.std.specs.Io.KnownBytes.{Appends};
 ghost use Rattle.std.specs.List.Sorted.{IsStrictlyIncreasing};
+ghost use Rattle.pesp_problem.specs.declared.limits.TheConstants.{MOST_STEPS};
 ghost use Rattle.pesp_stream.specs.Counts.{FewerThan};
 ghost use Rattle.pesp_check_run.specs.Devices.{over};
 ghost use Rattle.pesp_faults.specs.Reading.{HasBase};
@@ -55,7 +56,7 @@ fn solve<R: AllocGlobal + Eprint + Files, I: Source, W: Sink, O: Observer>(
     from: Option<&str>,
     observer: &mut O,
 ) -> Result<u8, Fault>
-    requires steps { steps ≤ 100000 }
+    requires steps { steps ≤ MOST_STEPS }
     requires reads_fit { FewerThan (2 ^ 62) (I.calls reader.old) }
     requires writes_fit { FewerThan (2 ^ 62) (W.calls writer.old) }
     ensures { IfOk result (AnswersSolve from.entry steps period
@@ -87,7 +88,7 @@ fn solve_with_marks<R: AllocGlobal + Eprint + Files, I: Source, W: Sink, O: Shar
     from: Option<&str>,
     observer: &mut O,
 ) -> Result<u8, Fault>
-    requires steps { steps ≤ 100000 }
+    requires steps { steps ≤ MOST_STEPS }
     requires reads_fit { FewerThan (2 ^ 62) (I.calls reader.old) }
     requires writes_fit { FewerThan (2 ^ 62) (W.calls writer.old) }
     ensures { IfOk result (AnswersSolveSharp from.entry steps period
@@ -281,7 +282,7 @@ pub(crate) fn of_leaves<R: AllocGlobal, I: Source, S: Source, W: Sink>(
     until: Option<u64>,
     jobs: &[u64],
 ) -> Result<u8, Fault>
-    requires steps { steps ≤ 100000 }
+    requires steps { steps ≤ MOST_STEPS }
     requires rise { IsStrictlyIncreasing jobs.now }
     requires instance_fits { FewerThan (2 ^ 62) (I.calls instance.old) }
     requires reads_fit { FewerThan (2 ^ 62) (S.calls reader.old) }

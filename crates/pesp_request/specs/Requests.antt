@@ -1,6 +1,7 @@
 -- What holds of what a command line asks for.
 use Rattle.std.specs.Prelude.{ℕ, ◌≤◌}
 use Rattle.std.specs.List.Sorted.{IsStrictlyIncreasing}
+use Rattle.pesp_problem.specs.declared.limits.TheConstants.{MOST_PERIOD, MOST_STEPS}
 use Rattle.pesp_request.specs.declared.request.OfInstance.{OfInstance}
 use Rattle.pesp_request.specs.declared.request.OfInstance.TheVariants.{Solve, SolveSharp, Conflict}
 use Rattle.pesp_request.specs.declared.request.OfCertificate.{OfCertificate}
@@ -11,20 +12,20 @@ use Rattle.pesp_request.specs.declared.request.Request.{Request}
 use Rattle.pesp_request.specs.declared.request.Request.TheVariants.{Instance, Certificate, Work, Times, Works}
 
 abbrev pub IsPeriod : ℕ → Type 0
-IsPeriod period = (1 ≤ period) × (period ≤ 10000)
+IsPeriod period = (1 ≤ period) × (period ≤ MOST_PERIOD)
 
 -- the numbers are within the limits of the runs
 abbrev pub InstanceWithin : OfInstance → Type 0
-InstanceWithin (Solve steps from progress) = steps ≤ 100000
-InstanceWithin (SolveSharp steps from progress) = steps ≤ 100000
-InstanceWithin (Conflict steps) = steps ≤ 100000
+InstanceWithin (Solve steps from progress) = steps ≤ MOST_STEPS
+InstanceWithin (SolveSharp steps from progress) = steps ≤ MOST_STEPS
+InstanceWithin (Conflict steps) = steps ≤ MOST_STEPS
 
 abbrev pub CertificateWithin : OfCertificate → Type 0
 CertificateWithin Check = Unit {0}
 CertificateWithin CheckSharp = Unit {0}
 CertificateWithin Gap = Unit {0}
-CertificateWithin (Resume steps seconds progress) = steps ≤ 100000
-CertificateWithin (ResumeSharp steps seconds progress) = steps ≤ 100000
+CertificateWithin (Resume steps seconds progress) = steps ≤ MOST_STEPS
+CertificateWithin (ResumeSharp steps seconds progress) = steps ≤ MOST_STEPS
 CertificateWithin Split = Unit {0}
 
 abbrev pub TimesWithin : OfTimes → Type 0
@@ -36,6 +37,6 @@ TimesWithin (Diagrams names) = Unit {0}
 abbrev pub IsWithinLimits : Request → Type 0
 IsWithinLimits (Instance period file asked) = IsPeriod period × InstanceWithin asked
 IsWithinLimits (Certificate period file asked) = IsPeriod period × CertificateWithin asked
-IsWithinLimits (Work period file steps until jobs) = IsPeriod period × (steps ≤ 100000) × IsStrictlyIncreasing jobs.items
+IsWithinLimits (Work period file steps until jobs) = IsPeriod period × (steps ≤ MOST_STEPS) × IsStrictlyIncreasing jobs.items
 IsWithinLimits (Times period file asked) = IsPeriod period × TimesWithin asked
 IsWithinLimits (Works period file base) = IsPeriod period

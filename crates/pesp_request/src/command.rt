@@ -12,6 +12,7 @@ use crate::options::{
 use crate::request::{OfCertificate, OfInstance, OfTimes, Request};
 use clap::error::ErrorKind;
 use clap::{ArgMatches, Command, Error};
+use pesp_problem::{MOST_PERIOD, MOST_STEPS};
 use std::alloc::{AllocError, Global};
 
 /// The program's version, and the versions of certificates that it writes and reads.
@@ -249,25 +250,31 @@ fn pesp<'a>(alloc: Global) -> Result<Command<'a>, AllocError> {
 
 fn period_of(matches: &ArgMatches<'_>) -> u32
     ensures least { 1 ≤ result }
-    ensures greatest { result ≤ 10000 }
+    ensures greatest { result ≤ MOST_PERIOD }
 {
     matches
         .get_one::<u32>("period")
         .unwrap_or(60)
-        .clamp(1, 10000)
+        .clamp(1, MOST_PERIOD)
 }
 
 fn steps_of(matches: &ArgMatches<'_>) -> u32
-    ensures { result ≤ 100000 }
+    ensures { result ≤ MOST_STEPS }
 {
-    matches.get_one::<u32>("steps").unwrap_or(1000).min(100000)
+    matches
+        .get_one::<u32>("steps")
+        .unwrap_or(1000)
+        .min(MOST_STEPS)
 }
 
 /// The steps of a search that sharpens, each of which takes longer.
 fn sharp_steps_of(matches: &ArgMatches<'_>) -> u32
-    ensures { result ≤ 100000 }
+    ensures { result ≤ MOST_STEPS }
 {
-    matches.get_one::<u32>("steps").unwrap_or(100).min(100000)
+    matches
+        .get_one::<u32>("steps")
+        .unwrap_or(100)
+        .min(MOST_STEPS)
 }
 
 fn rows_of(matches: &ArgMatches<'_>) -> u32

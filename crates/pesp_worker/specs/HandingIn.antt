@@ -16,6 +16,7 @@ use Rattle.pesp_machine.specs.declared.work.Work.TheVariants.{Tree}
 use Rattle.pesp_machine.specs.States.{State, HasLeaf, IsJobLeaf, node_at}
 use Rattle.pesp_machine.specs.Events.{IsValidAt, IsCheaper}
 use Rattle.pesp_search_laws.specs.Rooms.{branch_lines}
+use Rattle.pesp_works.specs.declared.job.TheConstants.{MOST_JOB}
 use Rattle.pesp_works.specs.Works.{WorkValue, HasText}
 use Rattle.pesp_outside.specs.Lent.{IsLentFrom}
 use Rattle.pesp_worker.specs.declared.refusal.WorkRefusal.{WorkRefusal}
@@ -113,7 +114,7 @@ without_times job tree = record { job = job; times = []; tree = tree }
 -- the lines may stand there, and with a number that a text may have they have a text
 pub record Fits (p : ProblemValue) (state : State) (number : ℕ) (tree : List TreeLine) : Type 0 where
   pub stands : StandsFor p state number tree
-  pub text : number ≤ 999999 → HasText (without_times number tree)
+  pub text : number ≤ MOST_JOB → HasText (without_times number tree)
 
 -- what was found for a job: of this number, with no times or a timetable that costs less than so much, and as many as a text may have
 pub record IsFound (instance : Pesp) (known : Option ℕ) (job : ℕ) (work : WorkValue) : Type 0 where

@@ -8,11 +8,12 @@ use Rattle.pesp_cert_lines.specs.declared.fault.LineFault.TheVariants as faults
 use Rattle.pesp_cert_lines.specs.declared.item.Item.{Item}
 use Rattle.pesp_cert_lines.specs.declared.progress.Progress.{Progress}
 use Rattle.pesp_cert_lines.specs.Lines.{line_at}
+use Rattle.pesp_works.specs.declared.job.TheConstants.{MOST_JOB}
 
 -- the spelling first, then the limit
 abbrev pub job_of : Option ℕ → Result ℕ LineFault
 job_of None = Err faults.Number
-job_of (Some n) = if nat_le n 999999 then Ok n else Err faults.Limit
+job_of (Some n) = if nat_le n MOST_JOB then Ok n else Err faults.Limit
 
 -- two words, `job` and a natural
 abbrev pub job_said : List (List ℕ) → Result ℕ LineFault

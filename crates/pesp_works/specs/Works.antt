@@ -13,6 +13,7 @@ use Rattle.pesp_cert_lines.specs.Items.{item_line}
 use Rattle.pesp_cert_lines.specs.Counts.{beginning}
 use Rattle.pesp_cert.specs.Limits.{KeepsLimits}
 use Rattle.pesp_cert.specs.Texts.{IsRun, time_item, tree_item}
+use Rattle.pesp_works.specs.declared.job.TheConstants.{MOST_JOB}
 
 -- what a work says: the number of its job, labels with times, and the lines of a tree
 pub record WorkValue : Type 0 where
@@ -45,7 +46,7 @@ spellings ws = flat_map spelling ws
 
 -- what has a text
 pub record HasText (w : WorkValue) : Type 0 where
-  pub job : w.job ≤ 999999
+  pub job : w.job ≤ MOST_JOB
   pub run : IsRun opening (items_of w)
 
 -- a certificate of version 2 without cycles that shows the work's times and tree
@@ -54,7 +55,7 @@ certificate_of w = record { version = 2; period = 1; answer = Infeasible; times 
 
 -- the limits of a work: the job's, and a certificate's on its times and its tree
 pub record KeepsWorkLimits (w : WorkValue) : Type 0 where
-  pub job : w.job ≤ 999999
+  pub job : w.job ≤ MOST_JOB
   pub parts : KeepsLimits (certificate_of w)
 
 -- no work's text begins another's, and each has one meaning

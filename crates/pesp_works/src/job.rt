@@ -7,6 +7,9 @@ ghost use Rattle.pesp_works.specs.Lines as spec;
 use pesp_cert_lines::LineFault;
 use pesp_text::{Words, is_word, natural};
 
+/// The greatest number of a job.
+pub const MOST_JOB: u64 = 999_999;
+
 /// The number that a word spells, at most 999999.
 fn number_of(word: &[u8]) -> Result<u64, LineFault>
     ensures { result ≡ spec.job_of (natural_of word.now) }
@@ -14,7 +17,7 @@ fn number_of(word: &[u8]) -> Result<u64, LineFault>
     let Some(number) = natural(word) else {
         return Err(LineFault::Number);
     };
-    if number <= 999_999 {
+    if number <= MOST_JOB {
         Ok(number)
     } else {
         Err(LineFault::Limit)

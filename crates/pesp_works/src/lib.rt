@@ -9,6 +9,7 @@ mod printing;
 mod work_line;
 mod work_text;
 
+pub use job::MOST_JOB;
 pub use parsing::parse_works;
 pub use pesp_cert::CertRefusal;
 pub use pesp_truth::TreeLine;

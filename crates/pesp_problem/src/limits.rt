@@ -16,13 +16,13 @@ pub const MOST_ROWS: usize = 100_000;
 pub const MOST_EVENTS: usize = 100_000;
 
 /// The greatest bound on a duration, by amount.
-pub const MOST_BOUND: u32 = 1_000_000;
+pub const MOST_BOUND: u64 = 1_000_000;
 
 /// The greatest lower bound of a row of a network, by amount: rows that were joined add up.
-pub const MOST_LOWER: u32 = 1_020_000;
+pub const MOST_LOWER: u64 = 1_020_000;
 
 /// The greatest weight.
-pub const MOST_WEIGHT: u32 = 1_000_000_000;
+pub const MOST_WEIGHT: u64 = 1_000_000_000;
 
 /// The greatest label, by amount.
 pub const MOST_LABEL: u64 = 1_000_000_000_000;

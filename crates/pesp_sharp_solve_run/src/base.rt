@@ -1,6 +1,6 @@
 //! The certificate from which a search goes on.
 
-ghost use Rattle.std.specs.Prelude.{◌<◌, ◌^◌, OnOk, IfOk, IfErr};
+ghost use Rattle.std.specs.Prelude.{◌≢◌, ◌<◌, ◌^◌, OnOk, IfOk, IfErr};
 ghost use Rattle.pesp_stream.specs.Counts.{FewerThan, HasWorked};
 ghost use Rattle.pesp_check_run.specs.Devices.{over};
 ghost use Rattle.pesp_sharp_solve_run.specs.Resuming.{ReadsSharpBase, SharpBaseCause};
@@ -24,6 +24,7 @@ pub(crate) fn read_sharp_base<R: Source>(
     ensures ok { IfOk result
         (ReadsSharpBase (R.remaining reader.old) (R.remaining reader.new) instance.now) }
     ensures counts { OnOk result (HasWorked (R.calls reader.old) (R.calls reader.new)) }
+    ensures counts_else { IfErr result (λ fault. fault ≢ Fault.Read → HasWorked (R.calls reader.old) (R.calls reader.new)) }
     ensures cause { IfErr result
         (λ fault. SharpBaseCause fault
         (over (R.remaining reader.old) (R.remaining reader.new)

@@ -94,8 +94,10 @@ pub fn run_resume_sharp<R: Source, B: Source, W: Sink, T: SharpWatcher>(
         (Appends (W.contents writer.old) (W.contents writer.new))) }
     ensures reads { OnOk result
         (HasWorked (R.calls instance_reader.old) (R.calls instance_reader.new)) }
+    ensures reads_else { IfErr result (λ fault. fault ≢ Fault.Read → HasWorked (R.calls instance_reader.old) (R.calls instance_reader.new)) }
     ensures base_reads { OnOk result
         (HasWorked (B.calls base_reader.old) (B.calls base_reader.new)) }
+    ensures base_reads_else { IfErr result (λ fault. fault ≢ Fault.Read → HasWorked (B.calls base_reader.old) (B.calls base_reader.new)) }
     ensures writes { OnOk result (HasWorked (W.calls writer.old) (W.calls writer.new)) }
     ensures cause { IfErr result (λ fault. ResumeSharpCause fault
         (over (R.remaining instance_reader.old) (R.remaining instance_reader.new)

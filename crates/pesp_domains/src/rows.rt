@@ -1,7 +1,6 @@
 //! The rows of a network, made ready for propagation.
 
 ghost use Rattle.std.specs.Prelude.{◌≡◌, ℕ, ◌<◌, ◌≤◌, length, IfOk, OnOk};
-ghost use Rattle.pesp_problem.specs.declared.limits.TheConstants.{MOST_ROWS};
 ghost use Rattle.pesp_network.specs.Networks.{KeepsNetLimits};
 ghost use Rattle.pesp_domains.specs.Domains.{HaveSizes};
 ghost use Rattle.pesp_domains.specs.Outcomes.{Shrinks, IsOutcome, LeavesSupported};
@@ -29,6 +28,7 @@ pub struct Rows {
 impl Model for Rows {
     ghost use Rattle.std.specs.Prelude.{ℕ, ◌<◌, ◌≤◌, length};
     ghost use Rattle.pesp_network.specs.Chains.{AreChains};
+    ghost use Rattle.pesp_problem.specs.declared.limits.TheConstants.{MOST_ROWS};
     ghost use Rattle.pesp_problem.specs.ArcLimits.{HaveEnds};
     ghost use Rattle.pesp_domains.specs.Rows.{RowsValue};
 

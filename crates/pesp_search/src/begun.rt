@@ -57,7 +57,11 @@ fn known_and_proposer(
 }
 
 /// Begins the search over what is left of an instance.
-fn begin_over(alloc: Global, instance: &Instance, reduced: Reduced) -> Result<Search, SolveRefusal>
+pub(crate) fn begin_over(
+    alloc: Global,
+    instance: &Instance,
+    reduced: Reduced,
+) -> Result<Search, SolveRefusal>
     requires original { reduced.original ≡ instance.now }
     requires reduced { IsReduced reduced }
     ensures begun { IfOk result (IsBegun instance.now) }

@@ -7,6 +7,7 @@ mod look;
 mod offering;
 mod planting;
 mod preparing;
+mod racing;
 mod refusal;
 mod rooting;
 mod single;

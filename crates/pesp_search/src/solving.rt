@@ -33,6 +33,18 @@ pub struct Solved {
     pub steps_used: u32,
 }
 
+/// From more steps on two forests are compared.
+const STEPS_OF_ONE: u32 = 1_024;
+
+/// How a forest is looked for, for a search of so many steps.
+fn planting_for(steps: u32) -> Planting {
+    if steps > STEPS_OF_ONE {
+        Planting::Raced
+    } else {
+        Planting::Whole
+    }
+}
+
 /// Looks at the root of a new board, and offers times, first those that are given.
 fn make_ready<O: Observer>(
     alloc: Global,
@@ -189,6 +201,6 @@ pub fn solve_from<O: Observer>(
     ensures refused { IfErr result (IsSearchRefusal instance.now steps) }
     ensures passed { IfErr result (MeetsLimit instance.now steps) }
 {
-    let mut search = begin(alloc, instance, Planting::Whole, observer)?;
+    let mut search = begin(alloc, instance, planting_for(steps), observer)?;
     solve_on(alloc, instance, &mut search, times, steps, observer)
 }

@@ -34,7 +34,7 @@ pub struct Solved {
 }
 
 /// From more steps on two forests are compared.
-const STEPS_OF_ONE: u32 = 1_024;
+const STEPS_OF_ONE: u32 = 64;
 
 /// How a forest is looked for, for a search of so many steps.
 fn planting_for(steps: u32) -> Planting {

@@ -8,3 +8,6 @@ returns-in_err-solved-clause-refused g c =
 pub returns-in_err-solved-clause-passed : goal.returns-in_err-solved-clause-passed
 returns-in_err-solved-clause-passed g c =
     told_as _ _ _ c.from_residual-in_err-solved.ensures.1 c.in_err-solved.ensures.passed
+
+pub returns-clause-improved : goal.returns-clause-improved
+returns-clause-improved g c = c.in_ok-solved.ensures.improved

@@ -1,4 +1,4 @@
-use Rattle.std.proofs.Common.{length, subst, ap, ◌∙◌}
+use Rattle.std.proofs.Common.{length, refl, subst, ap, ◌∙◌}
 use Rattle.pesp_conflict.specs.Findings.{IsFinding}
 use Rattle.pesp_conflict_run.proofs.Short.{conflict_is_short}
 use Rattle.pesp_conflict_run.proofs.Telling.{told_of_list}
@@ -18,3 +18,6 @@ returns-in-Conflict-clause-ok g c =
     let told = told_of_list p _ _ _ _ _ _ c.in-Conflict.found.rows.items written found.1
     (c.count_of-listed.ensures ∙ ap length c.deref-in-Conflict.ensures.value) (ap length c.rows.ensures.rows) in
     (p, c.in_ok-instance.ensures.ok, rw (c.told_of.ensures) told)
+
+pub returns-clause-ok : goal.returns-clause-ok
+returns-clause-ok g c = (c.in_ok-instance.instance, c.in_ok-instance.ensures.ok, (refl, refl))

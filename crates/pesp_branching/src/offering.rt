@@ -6,7 +6,7 @@ ghost use Rattle.pesp_network.specs.Networks.{net_of_network};
 ghost use Rattle.pesp_search_laws.specs.Turns.{IsWorked};
 ghost use Rattle.pesp_branching.specs.Offering.{OffersSome, MayOffer, OffersFirst};
 
-use crate::settings::{FIRST_BATCH_AFTER, MET_ROUNDS};
+use crate::settings::{FEW_ROWS, FIRST_BATCH_AFTER, FIRST_BATCH_OF_MANY_ROWS, MET_ROUNDS};
 use pesp_board::Board;
 use pesp_network::Network;
 use pesp_problem::Memory;
@@ -16,9 +16,14 @@ use pesp_simplex::{Improved, SimplexRefusal, improve};
 use pesp_times::TimesSearch;
 use std::alloc::Global;
 
-/// Whether times are looked for after so many splits.
-fn is_due(used: u32) -> bool {
-    used >= FIRST_BATCH_AFTER && used & (used - 1) == 0
+/// Whether times are looked for after so many splits, where so many rows are left.
+fn is_due(rows: usize, used: u32) -> bool {
+    let first = if rows > FEW_ROWS {
+        FIRST_BATCH_OF_MANY_ROWS
+    } else {
+        FIRST_BATCH_AFTER
+    };
+    used >= first && used & used.wrapping_sub(1) == 0
 }
 
 /// Offers times.
@@ -129,11 +134,12 @@ fn searched_times(
     met: Option<Vec<u32>>,
     used: u32,
 ) -> Result<Option<Vec<u32>>, Memory> {
-    let is_new = met.is_some() || is_due(used);
+    let is_due = is_due(reduced.network().rows().len(), used);
+    let is_new = met.is_some() || is_due;
     if let Some(times) = met {
         search.take(reduced.network(), times)?;
     }
-    if is_due(used) {
+    if is_due {
         search.go_on(reduced.network(), used)?;
     }
     if !is_new {
@@ -161,7 +167,8 @@ fn later_times(
 }
 
 /// Offers times after so many splits: those that were met with, made cheaper and lifted to the instance, where they are a
-/// timetable of what is left of it; and those that a search for times finds with them, after 128, 256, 512 splits and so on.
+/// timetable of what is left of it; and those that a search for times finds with them, after 128, 256, 512 splits and so on, or from
+/// 512 on where many rows are left.
 pub fn offer_met(
     alloc: Global,
     board: &mut Board,

@@ -33,7 +33,7 @@ const FEW_EXCHANGES: usize = 1_000;
 const EXCHANGES_A_CYCLE: usize = 30;
 
 /// With more rows left two forests aren't compared: that would cost more than it brings.
-const MOST_RACED: usize = 1_000;
+const MOST_RACED: usize = 2_500;
 
 /// How many exchanges times rows there are at most.
 const EXCHANGED_ROWS: usize = 64_000_000;

@@ -23,7 +23,7 @@ fn is_due(rows: usize, used: u32) -> bool {
     } else {
         FIRST_BATCH_AFTER
     };
-    used >= first && used.is_power_of_two() && used.trailing_zeros() % 2 == 1
+    used >= first && used & used.wrapping_sub(1) == 0
 }
 
 /// Offers times.
@@ -167,7 +167,7 @@ fn later_times(
 }
 
 /// Offers times after so many splits: those that were met with, made cheaper and lifted to the instance, where they are a
-/// timetable of what is left of it; and those that a search for times finds with them, after 128, 512, 2,048 splits and so on, or from
+/// timetable of what is left of it; and those that a search for times finds with them, after 128, 256, 512 splits and so on, or from
 /// 512 on where many rows are left.
 pub fn offer_met(
     alloc: Global,

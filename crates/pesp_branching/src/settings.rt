@@ -3,7 +3,7 @@
 /// How many jobs are lent before slacks aren't cut any more by choice.
 pub(crate) const NARROWED_JOBS: u64 = 64;
 
-/// After how many splits times are looked for again; then whenever the number is four times as great. An odd power of 2.
+/// After how many splits times are looked for again; then whenever the number has doubled.
 pub(crate) const FIRST_BATCH_AFTER: u32 = 128;
 
 /// The same with many rows, where one search for times takes as long as hundreds of steps.

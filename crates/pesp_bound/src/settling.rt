@@ -15,25 +15,20 @@ fn zeros(alloc: Global, count: usize) -> Result<Vec<usize>, AllocError>
 }
 
 /// Lifts the start of one edge, where the edge demands it.
-fn lift(
-    edges: &[Edge],
-    k: usize,
-    level: &mut [usize],
-    by: &mut [usize],
-    limit: usize,
-    most: usize,
-) -> bool
+fn lift(edges: &[Edge], k: usize, level: &mut [usize], by: &mut [usize]) -> bool
     requires edge { k < length edges.now }
-    requires within { AreWithin (length level.old) most edges.now }
+    requires start { (edge_at edges.now k).start < length level.old }
+    requires finish { (edge_at edges.now k).finish < length level.old }
     requires events { length by.old ≡ length level.old }
-    requires low { (x : ℕ) → at level.old x ≤ limit }
-    requires small { limit + most < 2 ^ 64 }
+    requires small { at level.old (edge_at edges.now k).finish + (edge_at edges.now k).gain < 2 ^ 64 }
     requires grown { IsGrown edges.now level.old by.old }
     ensures grown { IsGrown edges.now level.new by.new }
     ensures cases { MatchBool result (sum level.old < sum level.new)
         ((level.new ≡ level.old) × Settles edges.now (at level.old) k) }
     ensures others { (x : ℕ) → x ≢ (edge_at edges.now k).start → at level.new x ≡ at level.old x }
-    ensures here { at level.new (edge_at edges.now k).start ≤ limit + most }
+    ensures here { (most : ℕ) → at level.old (edge_at edges.now k).start ≤ most
+        → at level.old (edge_at edges.now k).finish + (edge_at edges.now k).gain ≤ most
+        → at level.new (edge_at edges.now k).start ≤ most }
     ensures events { length level.new ≡ length level.old }
     ensures events_by { length by.new ≡ length level.old }
 {
@@ -48,17 +43,11 @@ fn lift(
 }
 
 /// Goes over all edges, up to the first event that comes above the limit; the event that was lifted last.
-fn pass(
-    edges: &[Edge],
-    level: &mut [usize],
-    by: &mut [usize],
-    limit: usize,
-    most: usize,
-) -> Option<usize>
-    requires within { AreWithin (length level.old) most edges.now }
+fn pass(edges: &[Edge], level: &mut [usize], by: &mut [usize], limit: usize) -> Option<usize>
+    requires within { (most : ℕ) × (limit + most < 2 ^ 64)
+        × AreWithin (length level.old) most edges.now }
     requires events { length by.old ≡ length level.old }
     requires low { (x : ℕ) → at level.old x ≤ limit }
-    requires small { limit + most < 2 ^ 64 }
     requires grown { IsGrown edges.now level.old by.old }
     ensures grown { IsGrown edges.now level.new by.new }
     ensures cases { MatchOption result (AreSettled edges.now (at level.new))
@@ -70,7 +59,7 @@ fn pass(
     let mut last = None;
     for k in 0..edges.len() {
         let start = edges[k].start;
-        if lift(edges, k, level, by, limit, most) {
+        if lift(edges, k, level, by) {
             last = Some(start);
             if level[start] > limit {
                 return last;
@@ -131,7 +120,7 @@ fn settle_in(
     ensures events { IfOk result (λ o. length level.new ≡ length level.old) }
 {
     let limit = level.len() * most;
-    while let Some(event) = pass(edges, level, by, limit, most) {
+    while let Some(event) = pass(edges, level, by, limit) {
         let found = climb(alloc, edges, level, by, event, most)?;
         if found.is_some() {
             return Ok(found);

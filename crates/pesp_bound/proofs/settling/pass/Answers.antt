@@ -1,9 +1,28 @@
-use Rattle.std.proofs.Common.{ℕ, ◌+◌, ◌≤◌, sym, ◌∙◌, subst, List}
+use Rattle.std.proofs.Common.{ℕ, ◌+◌, ◌≤◌, arith, sym, ◌∙◌, subst, List}
 use Rattle.std.specs.Prelude.{Option}
 use Rattle.pesp_bound.specs.Settling.{edge_at, at}
 use Rattle.pesp_bound.proofs.Lifting.{when_true, when_false, SoFar, so_far_lifts, so_far_stays, low_but}
 use Rattle.pesp_bound.proofs.settling.pass.Goals as goal
 use Rattle.pesp_bound.proofs.settling.pass.Goals.{then-lift+else-level-start, else-lift}
+
+pub lift-requires-clause-start : goal.lift-requires-clause-start
+lift-requires-clause-start c =
+    let within = (c.requires.within.2 c.loop-k.k c.loop-k-test.true).0 in
+    let size = c.loop-k.invariant.size in
+    omega (arith, within, size)
+
+pub lift-requires-clause-finish : goal.lift-requires-clause-finish
+lift-requires-clause-finish c =
+    let within = (c.requires.within.2 c.loop-k.k c.loop-k-test.true).1 in
+    let size = c.loop-k.invariant.size in
+    omega (arith, within, size)
+
+pub lift-requires-clause-small : goal.lift-requires-clause-small
+lift-requires-clause-small c =
+    let gain = (c.requires.within.2 c.loop-k.k c.loop-k-test.true).2 in
+    let low = c.loop-k.invariant.low (edge_at c.args.edges.now c.loop-k.k).finish in
+    let small = c.requires.within.1 in
+    omega (arith, gain, low, small)
 
 pub loop-k-preserved : goal.loop-k-preserved
 loop-k-preserved c =

@@ -1,7 +1,13 @@
-use Rattle.std.proofs.Common.{◌≡◌, ℕ, ◌*◌, length, arith, sym, ◌∙◌, ap}
-use Rattle.pesp_bound.specs.Settling.{at}
+use Rattle.std.proofs.Common.{◌≡◌, ℕ, ◌*◌, length, arith, sym, ◌∙◌, ap, subst}
+use Rattle.pesp_bound.specs.Settling.{at, AreWithin}
 use Rattle.pesp_bound.proofs.Lifting.{not_found, less_left}
 use Rattle.pesp_bound.proofs.settling.settle_in.Goals as goal
+
+pub pass-requires-clause-within : goal.pass-requires-clause-within
+pass-requires-clause-within c =
+    let small = c.requires.small in
+    (c.args.most, omega (arith, small), subst (λ (k : ℕ). AreWithin k c.args.most c.args.edges.now)
+    (sym c.loop-event.invariant.size) c.requires.within)
 
 pub loop-event-smaller : goal.loop-event-smaller
 loop-event-smaller c =

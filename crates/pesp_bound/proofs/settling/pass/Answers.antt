@@ -33,7 +33,7 @@ loop-k-preserved c =
     let new = c.lift.new.level in
     let start = (edge_at edges k).start in
     let e = c.lift.ensures in
-    let w = c.requires.within k c.loop-k-test.true in
+    let w = c.requires.within.2 k c.loop-k-test.true in
     record {
       size = e.events ∙ i.size;
       size_by = e.events_by ∙ i.size;

@@ -76,15 +76,15 @@ fn climb(
     level: &[usize],
     by: &[usize],
     event: usize,
-    most: usize,
 ) -> Result<Option<Vec<usize>>, AllocError>
-    requires within { AreWithin (length level.now) most edges.now }
+    requires within { (most : ℕ) × AreWithin (length level.now) most edges.now }
     requires events { length by.now ≡ length level.now }
     requires grown { IsGrown edges.now level.now by.now }
     requires event { event < length level.now }
     ensures gains { IfOk result (λ o. IfSome o (λ w. GainsForEver edges.now w.items)) }
     ensures short { IfOk result (λ o. IfSome o (λ w. length w.items ≤ length level.now)) }
-    ensures found { length level.now * most < at level.now event → IfOk result (λ o. IsSome o) }
+    ensures found { (most : ℕ) → AreWithin (length level.now) most edges.now
+        → length level.now * most < at level.now event → IfOk result (λ o. IsSome o) }
 {
     let mut place = zeros(alloc, level.len())?;
     let mut way = Vec::new(alloc);
@@ -121,7 +121,7 @@ fn settle_in(
 {
     let limit = level.len() * most;
     while let Some(event) = pass(edges, level, by, limit) {
-        let found = climb(alloc, edges, level, by, event, most)?;
+        let found = climb(alloc, edges, level, by, event)?;
         if found.is_some() {
             return Ok(found);
         }

@@ -12,7 +12,7 @@ loop-k-init c =
           omega (arith, l, z);
       here = c.requires.event;
       climbed = starts_as c.args.edges.now c.args.level.now c.args.by.now c.in_ok-place.place.items
-          c.new-way.result.items c.args.event c.args.most c.requires.grown c.in_ok-place.ensures
+          c.new-way.result.items c.args.event c.requires.grown c.in_ok-place.ensures
           c.new-way.ensures.items;
     }
 
@@ -22,16 +22,16 @@ loop-k-preserved c =
     let cur = c.loop-k.current in
     let some = c.if-k-eq0.false in
     let row = i.climbed.grown.row cur in
-    let w = c.requires.within (at c.args.by.now cur - 1) (omega (arith, row, some)) in
+    let w = c.requires.within.1 (at c.args.by.now cur - 1) (omega (arith, row, some)) in
     let in_place : cur < length c.loop-k.place.items = let l = c.loop-k.place.ok.0 in let s = i.size in
     let h = i.here in omega (arith, l, s, h) in
     record {
       size = i.size;
       here = w.1;
       climbed = climbs_on_as c.args.edges.now c.args.level.now c.args.by.now c.loop-k.place.items
-          c.loop-k.way.items c.push.new.self.items cur c.args.event c.args.most c.len.result i.climbed in_place
+          c.loop-k.way.items c.push.new.self.items cur c.args.event c.len.result i.climbed in_place
           (sym (get_or_read c.loop-k.place.items cur _ in_place c.index.ensures 0) ∙ c.loop-k-test.true)
-          (omega (arith, some)) w.2 (let l = c.loop-k.way.ok.0 in let n = c.in_ok-push.ensures.len in
+          (omega (arith, some)) (let l = c.loop-k.way.ok.0 in let n = c.in_ok-push.ensures.len in
           let e = c.len.ensures in omega (arith, l, n, e)) c.in_ok-push.ensures.items;
     }
 
@@ -50,3 +50,10 @@ returns-clause-gains c =
     subst (λ (w : List ℕ). GainsForEver c.args.edges.now w) (sym tail)
     (closes c.args.edges.now (at c.args.level.now) i.climbed.t cur (drop (at items cur - 1) c.loop-k.way.items)
     (i.climbed.comes cur some))
+
+pub returns-then-k-eq0-clause-found : goal.returns-then-k-eq0-clause-found
+returns-then-k-eq0-clause-found c most within above =
+    let climbed = c.loop-k.invariant.climbed in
+    let high = climbed.high most within above in
+    let low = climbed.grown.root c.loop-k.current c.if-k-eq0.true in
+    absurd (omega (arith, high, low))

@@ -66,11 +66,7 @@ impl Reaches {
 }
 
 /// What is reached from each event itself.
-fn reach_rows(
-    alloc: Global,
-    rows: &[NetRow],
-    forest: &Forest,
-) -> Result<Reaches, AllocError>
+fn reach_rows(alloc: Global, rows: &[NetRow], forest: &Forest) -> Result<Reaches, AllocError>
     requires { IsForest (vec_len forest.now.up) (arcs_of_network rows.now) forest.now }
     ensures takes { IfOk result (λ r. TakesRows (vec_len forest.now.up) (arcs_of_network rows.now) forest.now
         (length (arcs_of_network rows.now)) r.low.items r.high.items) }
@@ -89,11 +85,7 @@ fn reach_rows(
 }
 
 /// The first and the last place that are reached from each event or below it.
-pub fn reach(
-    alloc: Global,
-    rows: &[NetRow],
-    forest: &Forest,
-) -> Result<Reaches, AllocError>
+pub fn reach(alloc: Global, rows: &[NetRow], forest: &Forest) -> Result<Reaches, AllocError>
     requires { IsForest (vec_len forest.now.up) (arcs_of_network rows.now) forest.now }
     ensures reaches { IfOk result
         (λ r. AreReaches (vec_len forest.now.up) (arcs_of_network rows.now) forest.now r.low.items r.high.items) }
@@ -121,12 +113,7 @@ fn is_cut(forest: &Forest, reaches: &Reaches, event: usize) -> bool
 
 /// Whether every walk passes the row k as often one way as the other: it joins an event to the one above it, and nothing
 /// else leads out from below it.
-pub fn is_bridge(
-    rows: &[NetRow],
-    forest: &Forest,
-    reaches: &Reaches,
-    k: usize,
-) -> bool
+pub fn is_bridge(rows: &[NetRow], forest: &Forest, reaches: &Reaches, k: usize) -> bool
     requires forest { IsForest (vec_len forest.now.up) (arcs_of_network rows.now) forest.now }
     requires reaches { AreReaches (vec_len forest.now.up) (arcs_of_network rows.now) forest.now reaches.now.low.items
         reaches.now.high.items }

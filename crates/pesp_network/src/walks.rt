@@ -183,11 +183,7 @@ fn is_kept(forest: &Forest, row: &NetRow, k: usize) -> bool
 }
 
 /// The walks of the rows outside the forest, by rising row.
-pub fn walks(
-    alloc: Global,
-    rows: &[NetRow],
-    forest: &Forest,
-) -> Result<Vec<Walk>, NetRefusal>
+pub fn walks(alloc: Global, rows: &[NetRow], forest: &Forest) -> Result<Vec<Walk>, NetRefusal>
     requires { IsForest (vec_len forest.now.up) (arcs_of_network rows.now) forest.now }
     ensures table { IfOk result
         (λ table. table.items ≡ walks_of (arcs_of_network rows.now) forest.now (length rows.now)) }
@@ -212,11 +208,7 @@ pub fn walks(
 }
 
 /// The rows of the forest.
-pub fn forest_rows(
-    alloc: Global,
-    events: usize,
-    forest: &Forest,
-) -> Result<Vec<u32>, AllocError>
+pub fn forest_rows(alloc: Global, events: usize, forest: &Forest) -> Result<Vec<u32>, AllocError>
     requires { (arcs : List Arc) × IsForest events arcs forest.now }
     ensures { IfOk result (λ found. AreTreeRows events forest.now found.items) }
 {

@@ -9,8 +9,8 @@ pass-requires-clause-within c =
     (c.args.most, omega (arith, small), subst (λ (k : ℕ). AreWithin k c.args.most c.args.edges.now)
     (sym c.loop-event.invariant.size) c.requires.within)
 
-pub climb-found-requires-clause-within : goal.climb-found-requires-clause-within
-climb-found-requires-clause-within c = (c.args.most, subst (λ (k : ℕ). AreWithin k c.args.most c.args.edges.now)
+pub climb-requires-clause-within : goal.climb-requires-clause-within
+climb-requires-clause-within c = (c.args.most, subst (λ (k : ℕ). AreWithin k c.args.most c.args.edges.now)
     (sym (c.in-Some.ensures.events ∙ c.loop-event.invariant.size)) c.requires.within)
 
 pub loop-event-smaller : goal.loop-event-smaller

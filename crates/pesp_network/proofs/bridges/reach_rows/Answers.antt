@@ -27,7 +27,7 @@ loop-i-preserved c =
     let rows = c.args.rows.now in let i = c.loop-i.i in let g = c.args.forest.now in
     let a = c.take_row.ensures in let b = c.take_row-in-loop-i.ensures in
     record {
-      takes = taken_more (vec_len c.args.forest.now.up) (arcs_of_network rows) g i _ _ c.loop-i.reaches.low.items
+      takes = taken_more (vec_len g.up) (arcs_of_network rows) g i _ _ c.loop-i.reaches.low.items
           c.loop-i.reaches.high.items c.take_row.new.self.low.items c.take_row.new.self.high.items
           c.take_row-in-loop-i.new.self.low.items c.take_row-in-loop-i.new.self.high.items
           c.requires c.loop-i.invariant.takes (let n = count rows in let t = c.loop-i-test.true in omega arith)

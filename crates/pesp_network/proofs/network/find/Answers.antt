@@ -4,11 +4,11 @@ use Rattle.pesp_network.specs.Rooted.{AreReaches}
 use Rattle.pesp_network.proofs.Holding.{own_forest}
 use Rattle.pesp_network.proofs.network.find.Goals as goal
 
-pub forest_rows-kept-requires : goal.forest_rows-kept-requires
-forest_rows-kept-requires c = (arcs_of_network c.args.rows.now, c.requires)
+pub forest_rows-requires : goal.forest_rows-requires
+forest_rows-requires c = (arcs_of_network c.args.rows.now, c.requires)
 
-pub reach-reaches-requires : goal.reach-reaches-requires
-reach-reaches-requires c = own_forest c.args.events (arcs_of_network c.args.rows.now) c.args.forest.now c.requires
+pub reach-requires : goal.reach-requires
+reach-requires c = own_forest c.args.events (arcs_of_network c.args.rows.now) c.args.forest.now c.requires
 
 pub returns-clause-reaches : goal.returns-clause-reaches
 returns-clause-reaches c =

@@ -22,7 +22,7 @@ climb-smaller c =
     let f = c.requires.forest in let g = c.args.forest.now in let u = c.climb.upper in let i = c.climb.invariant in
     let l = g.up.ok.0 in let n = f.events in let below = i.below in
     let p = get_or_read g.up.items u _ (omega arith) c.index-upper.ensures 0 in
-    let j = joined_up (vec_len c.args.forest.now.up) (arcs_of_network c.args.rows.now) g c.args.to c.args.from _ _ u f c.requires.to
+    let j = joined_up (vec_len g.up) (arcs_of_network c.args.rows.now) g c.args.to c.args.from _ _ u f c.requires.to
     i (sym c.is_above.ensures ∙ c.climb-test.true) in
     let q = ap (at g.place.items) p in let w = f.grown.climbs u j in omega arith
 
@@ -31,8 +31,8 @@ climb-preserved c =
     let f = c.requires.forest in let g = c.args.forest.now in let u = c.climb.upper in let i = c.climb.invariant in
     let l = g.up.ok.0 in let n = f.events in let below = i.below in
     let p = get_or_read g.up.items u _ (omega arith) c.index-upper.ensures 0 in
-    moved_up (vec_len c.args.forest.now.up) (arcs_of_network c.args.rows.now) g c.args.to c.args.from _ _ _ c.index-upper.result.now p
-    (climbs_more (vec_len c.args.forest.now.up) (arcs_of_network c.args.rows.now) g c.args.to c.args.from _ _ _ u f c.requires.to i
+    moved_up (vec_len g.up) (arcs_of_network c.args.rows.now) g c.args.to c.args.from _ _ _ c.index-upper.result.now p
+    (climbs_more (vec_len g.up) (arcs_of_network c.args.rows.now) g c.args.to c.args.from _ _ _ u f c.requires.to i
     (sym c.is_above.ensures ∙ c.climb-test.true)
     (c.in_ok-push.ensures.items ∙ ap (λ s. c.climb.walk.items ++ s ∷ []) c.upward.ensures))
 

@@ -22,7 +22,7 @@ descent-smaller c =
     let f = c.requires.forest in let g = c.args.forest.now in let v = c.descent.lower in let i = c.descent.invariant in
     let l = g.up.ok.0 in let n = f.events in let below = i.below in
     let p = get_or_read g.up.items v _ (omega arith) c.index-lower.ensures 0 in
-    let j = joined_down (vec_len c.args.forest.now.up) (arcs_of_network c.args.rows.now) g c.args.from c.args.to _ v f
+    let j = joined_down (vec_len g.up) (arcs_of_network c.args.rows.now) g c.args.from c.args.to _ v f
     c.requires.from i c.descent-test.true in
     let q = ap (at g.place.items) p in let w = f.grown.climbs v j in omega arith
 
@@ -31,8 +31,8 @@ descent-preserved c =
     let f = c.requires.forest in let g = c.args.forest.now in let v = c.descent.lower in let i = c.descent.invariant in
     let l = g.up.ok.0 in let n = f.events in let below = i.below in
     let p = get_or_read g.up.items v _ (omega arith) c.index-lower.ensures 0 in
-    moved_down (vec_len c.args.forest.now.up) (arcs_of_network c.args.rows.now) g c.args.from c.args.to _ _ c.index-lower.result.now p
-    (descends_more (vec_len c.args.forest.now.up) (arcs_of_network c.args.rows.now) g c.args.from c.args.to _ _ v f c.requires.from
+    moved_down (vec_len g.up) (arcs_of_network c.args.rows.now) g c.args.from c.args.to _ _ c.index-lower.result.now p
+    (descends_more (vec_len g.up) (arcs_of_network c.args.rows.now) g c.args.from c.args.to _ _ v f c.requires.from
     i c.descent-test.true (c.in_ok-push.ensures.items
     ∙ ap (λ s. c.descent.way.items ++ s ∷ []) c.downward.ensures))
 

@@ -31,20 +31,20 @@ returns-clause-none c = none_then c.in_ok-found.found c.in_ok-found.ensures.none
     (λ ne. apart_held _ c.args.self.now c.self.inside.arcs.items c.self.inside.forest c.self.inside.reaches
     c.args.from c.args.to c.self.view_is c.self.invariant c.requires.from ne)
 
-pub way-found-requires-clause-forest : goal.way-found-requires-clause-forest
-way-found-requires-clause-forest c =
+pub way-requires-clause-forest : goal.way-requires-clause-forest
+way-requires-clause-forest c =
     let n = c.self.inside in
     rw c.as_slice.ensures.value
     (own_forest n.events (arcs_of_network n.rows.items) n.forest c.self.invariant.forest)
 
-pub way-found-requires-clause-from : goal.way-found-requires-clause-from
-way-found-requires-clause-from c =
+pub way-requires-clause-from : goal.way-requires-clause-from
+way-requires-clause-from c =
     let same = ap (λ (x : NetworkValue). x.events) c.self.view_is in let events = c.self.invariant.forest.events in
     let below = c.requires.from in
     omega (arith, same, events, below)
 
-pub way-found-requires-clause-to : goal.way-found-requires-clause-to
-way-found-requires-clause-to c =
+pub way-requires-clause-to : goal.way-requires-clause-to
+way-requires-clause-to c =
     let same = ap (λ (x : NetworkValue). x.events) c.self.view_is in let events = c.self.invariant.forest.events in
     let below = c.requires.to in
     omega (arith, same, events, below)

@@ -81,7 +81,10 @@ pub fn proposed_lines(
     ensures { IfOk result
         (λ found. IfSome found (λ lines. IsStepOf choice.now.cut lines.items)) }
 {
-    let (Some(low), Some(high)) = (&choice.low, &choice.high) else {
+    let Some(low) = &choice.low else {
+        return Ok(None);
+    };
+    let Some(high) = &choice.high else {
         return Ok(None);
     };
     if !leaves_offsets(problem, node, choice.cut) {

@@ -346,16 +346,21 @@ impl Basis {
         Some(())
     }
 
+    /// Puts right the price of an event, from that of the event above it; a root has 0.
+    pub(crate) fn price_below(&mut self, event: u32) -> Option<()> {
+        let price = if self.tree.is_root(event) {
+            0
+        } else {
+            self.price_by_row(event)?
+        };
+        set_amount(&mut self.prices, event, price)
+    }
+
     /// Puts right the prices of the part below a root.
     fn reprice_below(&mut self, root: u32) -> Option<()> {
         let mut event = root;
         for _ in 0..self.prices.len() {
-            let price = if event == root {
-                0
-            } else {
-                self.price_by_row(event)?
-            };
-            set_amount(&mut self.prices, event, price)?;
+            self.price_below(event)?;
             event = self.tree.following(event, root);
             if event == NONE {
                 return Some(());

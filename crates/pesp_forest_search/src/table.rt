@@ -1,6 +1,7 @@
 //! A forest with the relaxation of its root, and exchanges of rows.
 
 use crate::goal::openness;
+use crate::settings::FEW_ROWS;
 use pesp_forest::{Forest, Frame, NONE, Spans};
 use pesp_relaxation::{Basis, Ended, MOST_PIVOTS, Root, Slopes, slopes_of};
 use std::alloc::{AllocError, Global};
@@ -194,12 +195,31 @@ impl Table {
         self.spare.cost.saturating_sub(self.basis.fall())
     }
 
-    /// Goes on to a best basis after an exchange; None where the root of the forest has no timetable.
-    pub(crate) fn solve(&mut self, frame: &Frame) -> Option<()> {
+    /// Changes what flow costs on the rows that lead out of the marked part, and all prices.
+    fn change_all(&mut self) -> Option<()> {
         for priced in &self.spare.crossing {
             self.basis.exchange_slopes(priced.row, priced.slopes)?;
         }
-        self.basis.reprice()?;
+        self.basis.reprice()
+    }
+
+    /// Changes what flow costs on those of these rows on which it costs something else, with the prices that depend on each.
+    fn change_each(&mut self, frame: &Frame) -> Option<()> {
+        for priced in &self.spare.crossing {
+            if self.basis.slopes(priced.row) != Some(priced.slopes) {
+                self.basis.change_slopes(frame, priced.row, priced.slopes)?;
+            }
+        }
+        Some(())
+    }
+
+    /// Goes on to a best basis after an exchange; None where the root of the forest has no timetable.
+    pub(crate) fn solve(&mut self, frame: &Frame) -> Option<()> {
+        if frame.rows().len() > FEW_ROWS {
+            self.change_each(frame)?;
+        } else {
+            self.change_all()?;
+        }
         match self.basis.solve(frame, MOST_PIVOTS) {
             Ended::Best => Some(()),
             _ => None,

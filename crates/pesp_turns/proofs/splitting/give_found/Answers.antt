@@ -1,6 +1,6 @@
 use Rattle.pesp_search_laws.proofs.Replies.{lent_here}
 use Rattle.pesp_turns.proofs.Lent.{lent_pairs, split_cut, handed_step, step_given}
-use Rattle.pesp_turns.proofs.splitting.split_leaf.Goals as goal
+use Rattle.pesp_turns.proofs.splitting.give_found.Goals as goal
 
 pub unreachable-requires : goal.unreachable-requires
 unreachable-requires c =

@@ -1,0 +1,3 @@
+pub mod Jobs
+pub mod Paths
+pub mod Grafts

@@ -6,10 +6,10 @@ ghost use Rattle.pesp_request.specs.Requests.{InstanceWithin, CertificateWithin,
 
 use crate::jobs::jobs_of;
 use crate::options::{
-    base_argument, file_argument, from_option, jobs_argument, names_argument, names_option,
-    optional_file, period_option, progress_option, rows_option, seconds_option, sharp_option,
-    sharpen_option, solve_steps_option, steps_option, until_option, violations_option,
-    work_sharpen_option,
+    base_argument, file_argument, from_option, graft_sharp_option, jobs_argument, names_argument,
+    names_option, optional_file, period_option, progress_option, rows_option, seconds_option,
+    sharp_option, sharpen_option, solve_steps_option, steps_option, until_option,
+    violations_option, work_sharpen_option,
 };
 use crate::request::{OfCertificate, OfInstance, OfTimes, Request};
 use clap::error::ErrorKind;

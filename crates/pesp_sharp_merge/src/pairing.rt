@@ -1,7 +1,7 @@
 //! Two certificates whose trees are walked through together, as one.
 
 use crate::answers::{answer_of, copied_times, cost_of, lesser};
-use crate::factors::Factors;
+use crate::factors::{Factors, factors_of};
 use crate::fronts::{joined_cycles, joined_walks, walks_of};
 use crate::lines::Retelling;
 use crate::names::{Named, Numbering};

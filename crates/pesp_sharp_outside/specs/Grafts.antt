@@ -47,7 +47,7 @@ TakesSharpWork p old text TooLarge new = (new ≡ old) × SaysWork text (λ work
 abbrev pub TakesSharpWorks : Pesp → Fronted → List ℕ → List SharpReply → Fronted → Type 0
 TakesSharpWorks p old text [] new = (text ≡ []) × (new ≡ old)
 TakesSharpWorks p old text (reply ∷ replies) new =
-    (work rest : List ℕ) (between : Fronted) × IsCut text work rest
+    (work rest : List ℕ) × (between : Fronted) × IsCut text work rest
     × TakesSharpWork p old work reply between × TakesSharpWorks p between rest replies new
 
 -- what a certificate becomes by works: it is valid with its marked walks, its bound isn't below the base's, and its cost isn't above it

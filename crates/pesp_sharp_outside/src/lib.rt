@@ -9,7 +9,7 @@ mod paths;
 mod working;
 
 pub use grafting::{SharpGraft, SharpReply, graft_sharp};
-pub use jobs::{open_count, sharp_jobs};
+pub use jobs::sharp_jobs;
 pub use pesp_outside::{JobsText, OpenJob};
 pub use pesp_sharp_search::{SharpWatcher, Unwatched};
 pub use working::work_sharp;

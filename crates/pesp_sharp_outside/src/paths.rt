@@ -50,7 +50,7 @@ fn enter(path: &mut Vec<(Cut, Side)>, cut: Cut) -> Result<(), Memory>
 
 /// The path to the next line, from that to a line; false where no line waits.
 pub(crate) fn pass(path: &mut Vec<(Cut, Side)>, line: &TreeLine) -> Result<bool, Memory>
-    ensures { IfOk result (λ open. waiting open path.new.items
+    ensures { IfOk result (λ more. waiting more path.new.items
         ≡ after (line_of line.now) (waiting true path.old.items)) }
 {
     match cut_of(line) {

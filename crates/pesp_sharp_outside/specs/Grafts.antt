@@ -1,33 +1,20 @@
 -- Works that are grafted onto a certificate, one after the other.
-use Rattle.std.specs.Prelude.{◌≡◌, ℕ, List, [], ◌∷◌, ◌++◌, codes, Err, if◌then◌else◌}
-use Rattle.std.specs.Str.{bytes_eq}
+use Rattle.std.specs.Prelude.{◌≡◌, ℕ, List, [], ◌∷◌, Err}
 use Rattle.pesp_problem.specs.Timetables.{Pesp}
-use Rattle.pesp_text.specs.Words.{pieces}
 use Rattle.pesp_judges.specs.declared.refusal.Verdict.TheVariants.{Refused}
 use Rattle.pesp_sharp_truth.specs.Certificates.{IsValidWith}
 use Rattle.pesp_sharp_text.specs.Texts.{Fronted, IsFrontedText, content_of, said_of_text}
 use Rattle.pesp_sharp_check.specs.Verdicts.{IsVerdictWith}
 use Rattle.pesp_sharp_search.specs.Solving.{IsNoWorse}
+use Rattle.pesp_sharp_outside.specs.Cutting.{IsCut}
 use Rattle.pesp_sharp_outside.specs.declared.grafting.SharpReply.{SharpReply}
 use Rattle.pesp_sharp_outside.specs.declared.grafting.SharpReply.TheVariants.{Taken, AddsNothing, Unread, NotValid, TooLarge}
 
--- ---- texts
-
--- what stands behind the first line `end`, by the pieces between line feeds; the last piece has no line feed and is no line
-abbrev pub behind_end : List (List ℕ) → List (List ℕ)
-behind_end [] = []
-behind_end (piece ∷ []) = [] ∷ []
-behind_end (line ∷ next ∷ more) = if bytes_eq line (codes "end") then next ∷ more else behind_end (next ∷ more)
-
--- a text is a work and a rest, which is what stands behind its first line `end`
-abbrev pub IsCut : List ℕ → List ℕ → List ℕ → Type 0
-IsCut text work rest = (text ≡ work ++ rest) × (pieces 10 rest ≡ behind_end (pieces 10 text))
+-- ---- one work
 
 -- the text is that of a certificate, of which this is said
 abbrev pub SaysWork : List ℕ → (Fronted → Type 0) → Type 0
 SaysWork text Holds = (work : Fronted) × IsFrontedText text work × Holds work
-
--- ---- one work
 
 -- what is said of a text of a work, of what stood and of what stands then, where this is the reply
 abbrev pub TakesSharpWork : Pesp → Fronted → List ℕ → SharpReply → Fronted → Type 0

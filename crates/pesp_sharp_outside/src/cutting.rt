@@ -1,12 +1,23 @@
 //! Texts of works that stand one behind the other.
 
 ghost use Rattle.std.specs.Prelude.{◌≡◌, ◌<◌, ◌≢◌, [], List, ℕ, length};
-ghost use Rattle.pesp_sharp_outside.specs.Grafts.{IsCut};
+ghost use Rattle.pesp_text.specs.Words.{pieces};
+ghost use Rattle.pesp_sharp_outside.specs.Cutting as spec;
+ghost use Rattle.pesp_sharp_outside.specs.Cutting.{IsCut};
 
 use pesp_text::{is_word, split_at_byte};
 
-/// What stands behind the first line `end`; nothing where there is no such line.
-fn behind_end(text: &[u8]) -> &[u8]
+/// Whether a text begins with the first line of a front.
+fn begins_with_front(text: &[u8]) -> bool
+    ensures { result ≡ spec.begins_with_front (pieces 10 text.now) }
+{
+    let (line, _) = split_at_byte(b'\n', text);
+    is_word(line, "pesp-certificate 3")
+}
+
+/// What stands behind the first line `end`, or from a line on further down with which a front begins; nothing where there is
+/// neither.
+fn behind_work(text: &[u8]) -> &[u8]
     ensures { (work : List ℕ) × IsCut text.now work result.now }
 {
     let mut rest = text;
@@ -16,18 +27,18 @@ fn behind_end(text: &[u8]) -> &[u8]
             return &[];
         };
         rest = more;
-        if is_word(line, "end") {
+        if is_word(line, "end") || begins_with_front(rest) {
             return rest;
         }
     }
 }
 
-/// The first work of a text, up to its first line `end` with that line, and what stands behind it.
+/// The first work of a text, up to its first line `end` with that line, or to where the next front begins, and what stands behind it.
 pub(crate) fn cut_work(text: &[u8]) -> (&[u8], &[u8])
     requires { text.now ≢ [] }
     ensures cut { IsCut text.now result.0.now result.1.now }
     ensures shorter { length result.1.now < length text.now }
 {
-    let rest = behind_end(text);
+    let rest = behind_work(text);
     text.split_at(text.len() - rest.len())
 }

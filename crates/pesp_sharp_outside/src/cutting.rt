@@ -1,6 +1,6 @@
 //! Texts of works that stand one behind the other.
 
-ghost use Rattle.std.specs.Prelude.{◌≡◌, ◌<◌, ◌≢◌, [], List, ℕ, length};
+ghost use Rattle.std.specs.Prelude.{◌≡◌, ◌<◌, List, ℕ, length};
 ghost use Rattle.pesp_text.specs.Words.{pieces};
 ghost use Rattle.pesp_sharp_outside.specs.Cutting as spec;
 ghost use Rattle.pesp_sharp_outside.specs.Cutting.{IsCut};
@@ -18,7 +18,9 @@ fn begins_with_front(text: &[u8]) -> bool
 /// What stands behind the first line `end`, or from a line on further down with which a front begins; nothing where there is
 /// neither.
 fn behind_work(text: &[u8]) -> &[u8]
-    ensures { (work : List ℕ) × IsCut text.now work result.now }
+    requires { 0 < length text.now }
+    ensures cut { (work : List ℕ) × IsCut text.now work result.now }
+    ensures shorter { length result.now < length text.now }
 {
     let mut rest = text;
     loop {
@@ -35,7 +37,7 @@ fn behind_work(text: &[u8]) -> &[u8]
 
 /// The first work of a text, up to its first line `end` with that line, or to where the next front begins, and what stands behind it.
 pub(crate) fn cut_work(text: &[u8]) -> (&[u8], &[u8])
-    requires { text.now ≢ [] }
+    requires { 0 < length text.now }
     ensures cut { IsCut text.now result.0.now result.1.now }
     ensures shorter { length result.1.now < length text.now }
 {

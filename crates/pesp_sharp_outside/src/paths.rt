@@ -28,11 +28,11 @@ fn turn(path: &mut Vec<(Cut, Side)>) -> bool
 {
     while !path.is_empty() {
         let top = path.len() - 1;
-        let (cut, side) = path[top];
-        match side {
+        let last = path[top];
+        match last.1 {
             Side::High => path.truncate(top),
             Side::Low => {
-                path[top] = (cut, Side::High);
+                path[top] = (last.0, Side::High);
                 return true;
             }
         }

@@ -1,5 +1,8 @@
 //! What is told of works.
 
+ghost use Rattle.std.specs.Prelude.{◌≡◌, ◌+◌, ◌++◌, OnOk, IfOk};
+ghost use Rattle.pesp_sharp_outside_run.specs.Replies.{reply_text, reply_line, lines_from};
+
 use pesp_check_run::RefusalText;
 use pesp_problem::Memory;
 use pesp_sharp_outside::SharpReply;
@@ -11,6 +14,11 @@ use std::fmt;
 struct ReplyText(SharpReply);
 
 impl fmt::Display for ReplyText {
+    ghost use Rattle.std.specs.Prelude.{Some};
+    ghost use Rattle.pesp_sharp_outside_run.specs.Replies.{reply_text};
+
+    ghost output = { λ text. Some (reply_text text.0) };
+
     fn fmt<W: fmt::Write>(&self, f: &mut fmt::Formatter<W>) -> fmt::Result {
         match self.0 {
             SharpReply::Taken => f.write_str("taken"),
@@ -25,18 +33,30 @@ impl fmt::Display for ReplyText {
     }
 }
 
-/// The line of a work, by its number from 1.
-fn line_of(alloc: Global, number: usize, reply: SharpReply) -> Result<String, Memory> {
+/// The line of a work, by its number.
+fn line_of(alloc: Global, number: u64, reply: SharpReply) -> Result<String, Memory>
+    ensures { IfOk result (λ line. line ≡ reply_line number reply) }
+{
     let text = ReplyText(reply);
     Ok(format!(in alloc; "work {number} {text}\n")?)
 }
 
+/// Puts a line behind those before it.
+fn add(lines: &mut String, line: &str) -> Result<(), Memory>
+    ensures { OnOk result (lines.new ≡ lines.old ++ line.now) }
+{
+    lines.push_str(line)?;
+    Ok(())
+}
+
 /// A line for each work.
-pub(crate) fn lines_of(alloc: Global, replies: &[SharpReply]) -> Result<String, Memory> {
+pub(crate) fn lines_of(alloc: Global, replies: &[SharpReply]) -> Result<String, Memory>
+    ensures { IfOk result (λ lines. lines ≡ lines_from 1 replies.now) }
+{
     let mut lines = String::new(alloc);
     for (place, reply) in replies.iter().enumerate() {
-        let line = line_of(alloc, place.saturating_add(1), *reply)?;
-        lines.push_str(line.as_str())?;
+        let line = line_of(alloc, place as u64 + 1, *reply)?;
+        add(&mut lines, line.as_str())?;
     }
     Ok(lines)
 }

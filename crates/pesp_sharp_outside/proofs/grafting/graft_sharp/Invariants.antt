@@ -1,0 +1,9 @@
+use Rattle.std.proofs.Common.{length}
+use Rattle.pesp_sharp_outside.proofs.Grafting.{AreTaken}
+use Rattle.pesp_sharp_outside.proofs.grafting.graft_sharp.Given as goal
+
+abbrev pub invariant-loop-rest : goal.invariant-loop-rest
+invariant-loop-rest l = AreTaken l.instance.now l.fn.base l.works l.rest l.stood l.replies.items
+
+abbrev pub decreases-loop-rest : goal.decreases-loop-rest
+decreases-loop-rest l = length l.rest

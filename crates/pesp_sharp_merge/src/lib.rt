@@ -14,5 +14,5 @@ mod pairing;
 mod runs;
 mod shape;
 
-pub use merging::{Merged, merged};
+pub use merging::{Merged, merge};
 pub use pairing::Shown;

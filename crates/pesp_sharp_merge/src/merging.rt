@@ -36,8 +36,8 @@ fn common_walks(
     own: Shown<'_>,
     other: Shown<'_>,
 ) -> Result<Vec<Option<u32>>, Memory> {
-    let ours = codes_of_marks(alloc, walks_of(&own.fronted.front))?;
-    let theirs = codes_of_marks(alloc, walks_of(&other.fronted.front))?;
+    let ours = codes_of_marks(alloc, walks_of(own.front()))?;
+    let theirs = codes_of_marks(alloc, walks_of(other.front()))?;
     matched(alloc, &ours, &theirs)
 }
 
@@ -71,7 +71,7 @@ fn joined(
 /// subtree is taken that shows more, or as much where it goes on from an open leaf. Cycles and marked walks are the same where they
 /// pass the same rows; those that are new are put behind the others. Leaves keep what they show: where the scales differ, their
 /// multipliers are told by a multiple of both. The times are the cheaper ones.
-pub fn merged(alloc: Global, own: Shown<'_>, other: Shown<'_>) -> Result<Merged, Memory> {
+pub fn merge(alloc: Global, own: Shown<'_>, other: Shown<'_>) -> Result<Merged, Memory> {
     let cycles = common_cycles(alloc, own, other)?;
     let (tree, others) = (own.certificate().tree(), other.certificate().tree());
     let shape = Shape::of(alloc, tree, own.costs)?;

@@ -33,7 +33,14 @@ pub(crate) struct Pairing<'a> {
 impl<'a> Shown<'a> {
     /// The certificate behind the front.
     pub(crate) fn certificate(&self) -> &'a Certificate {
-        &self.fronted.certificate
+        let fronted = self.fronted;
+        &fronted.certificate
+    }
+
+    /// The front.
+    pub(crate) fn front(&self) -> &'a Option<Marks> {
+        let fronted = self.fronted;
+        &fronted.front
     }
 
     /// The cost of its times.
@@ -47,7 +54,7 @@ impl Pairing<'_> {
     fn named(&self, alloc: Global, of_other: bool) -> Result<Named, Memory> {
         let from = if of_other { self.other } else { self.own };
         let cycles = from.certificate().cycles().len();
-        let walks = walks_of(&from.fronted.front).len();
+        let walks = walks_of(from.front()).len();
         let mut named = Named::none(alloc, cycles, walks)?;
         for run in self.runs {
             if run.is_other == of_other {
@@ -151,15 +158,15 @@ impl Pairing<'_> {
         numbering: &Numbering,
         factors: Factors,
     ) -> Result<Option<Marks>, Memory> {
-        let own = walks_of(&self.own.fronted.front);
-        let other = walks_of(&self.other.fronted.front);
+        let own = walks_of(self.own.front());
+        let other = walks_of(self.other.front());
         let walks = joined_walks(alloc, own, other, numbering)?;
         Ok(Marks::new(factors.scale, walks).ok())
     }
 
     /// The certificate with its front, where it has a walk; None where a part would pass a limit.
     pub(crate) fn fronted(&self, alloc: Global) -> Result<Option<Fronted>, Memory> {
-        let factors = factors_of(&self.own.fronted.front, &self.other.fronted.front);
+        let factors = factors_of(self.own.front(), self.other.front());
         let numbering = self.numbering(alloc)?;
         let Some(certificate) = self.certificate(alloc, &numbering, factors)? else {
             return Ok(None);

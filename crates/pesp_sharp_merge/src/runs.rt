@@ -24,7 +24,7 @@ pub(crate) struct Trees<'a> {
     pub(crate) cost: u64,
 }
 
-impl Trees<'_> {
+impl<'a> Trees<'a> {
     /// The number among the first tree's cycles of one of the other tree's; None where it isn't one of them.
     fn number(&self, cycle: u32) -> Option<u32> {
         let place = (cycle as usize).checked_sub(1)?;
@@ -113,7 +113,7 @@ impl Trees<'_> {
     }
 
     /// The lines of a run.
-    pub(crate) fn lines(&self, run: &Run) -> &[TreeLine] {
+    pub(crate) fn lines(&self, run: &Run) -> &'a [TreeLine] {
         let lines = if run.is_other { self.other } else { self.own };
         let end = run.first.saturating_add(run.count);
         lines.get(run.first..end).unwrap_or(&[])

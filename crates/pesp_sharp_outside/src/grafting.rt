@@ -11,7 +11,7 @@ use pesp_cert::CertRefusal;
 use pesp_judges::{Refusal, Verdict};
 use pesp_problem::{Instance, Memory};
 use pesp_sharp_check::{check_sharp, costs_shown};
-use pesp_sharp_merge::{Merged, Shown, merged};
+use pesp_sharp_merge::{Merged, Shown, merge};
 use pesp_sharp_search::is_no_worse;
 use pesp_sharp_text::{Fronted, parse_fronted};
 use std::alloc::Global;
@@ -58,7 +58,7 @@ fn joined(
         fronted: work,
         costs: &other,
     };
-    merged(alloc, own, other)
+    merge(alloc, own, other)
 }
 
 /// Whether what comes of two certificates is valid and no worse than either.

@@ -7,7 +7,7 @@ use Rattle.std.proofs.lemmas.List.{length-replicate, drop-append-le, length-appe
 use Rattle.std.proofs.Math.Nat.{mul-le-mul_left}
 use Rattle.std.proofs.lemmas.Bool.Decides.{nat_tests}
 use Rattle.pesp_bound.specs.declared.edge.Edge.{Edge}
-use Rattle.pesp_bound.specs.Settling.{edge_at, at, Settles, GainsForEver, IsWay, gains, losses}
+use Rattle.pesp_bound.specs.Settling.{edge_at, at, AreWithin, Settles, GainsForEver, IsWay, gains, losses}
 use Rattle.pesp_bound.specs.Growing.{Grown, IsGrown}
 
 eq-true : (a b : ℕ) → a ≡ b → (a == b) ≡ true
@@ -167,14 +167,15 @@ abbrev pub unmarked : List ℕ → ℕ
 unmarked place = count_by (λ x. x == 0) place
 
 -- place has where an event stands on the way, from 1, or 0; the way leads from the first event to the current one
-pub record Climbed (edges : List Edge) (level by place way : List ℕ) (cur event most : ℕ) : Type 0 where
+pub record Climbed (edges : List Edge) (level by place way : List ℕ) (cur event : ℕ) : Type 0 where
   pub t : ℕ → ℕ
   pub now : ℕ
   pub grown : Grown edges (at level) (at by) t now
   pub few : length way + unmarked place ≤ length level
   pub marked : (y : ℕ) → 0 < at place y → at place y ≤ length way
   pub comes : (y : ℕ) → 0 < at place y → Comes edges (at level) t y (drop (at place y - 1) way) cur
-  pub high : length level * most < at level event → unmarked place * most < at level cur
+  pub high : (most : ℕ) → AreWithin (length level) most edges → length level * most < at level event
+      → unmarked place * most < at level cur
 
 pub IsWay-snoc : (edges : List Edge) (way : List ℕ) (a b k : ℕ) → IsWay edges a way b → k < length edges
     → (edge_at edges k).start ≡ b → IsWay edges a (way ++ k ∷ []) (edge_at edges k).finish
@@ -242,12 +243,11 @@ drop_past way i k l = drop-append-le i way (k ∷ []) l
 drop_all : (way : List ℕ) (k : ℕ) → drop (length way) (way ++ k ∷ []) ≡ k ∷ []
 drop_all way k = drop-append_seam way (k ∷ [])
 
-pub climbs_on : (edges : List Edge) (level by place way : List ℕ) (cur event most : ℕ)
-    → Climbed edges level by place way cur event most → cur < length place → at place cur ≡ 0 → 0 < at by cur
-    → (edge_at edges (at by cur - 1)).gain ≤ most
+pub climbs_on : (edges : List Edge) (level by place way : List ℕ) (cur event : ℕ)
+    → Climbed edges level by place way cur event → cur < length place → at place cur ≡ 0 → 0 < at by cur
     → Climbed edges level by (set place cur (length way + 1)) (way ++ (at by cur - 1) ∷ [])
-    (edge_at edges (at by cur - 1)).finish event most
-climbs_on edges level by place way cur event most c l e b gain =
+    (edge_at edges (at by cur - 1)).finish event
+climbs_on edges level by place way cur event c l e b =
     let k = at by cur - 1 in
     let next = (edge_at edges k).finish in
     let here : at (set place cur (length way + 1)) cur ≡ length way + 1 = get_or-set_same place cur (length way + 1) 0 l in
@@ -286,18 +286,20 @@ climbs_on edges level by place way cur event most c l e b gain =
             (comes_on edges (at level) (at by) c.t c.now y cur (drop (at place y - 1) way) c.grown b
             (c.comes y was))
       ];
-      high = λ h.
+      high = λ most within h.
+          let row = c.grown.row cur in
+          let gain = (within k (omega (arith, row, b))).2 in
           let less = one_less place cur (length way + 1) l e (omega arith) in
           let times : unmarked place * most ≡ (unmarked (set place cur (length way + 1)) + 1) * most =
           ap (λ (x : ℕ). x * most) (sym less) in
-          let before = c.high h in
+          let before = c.high most within h in
           let step = c.grown.holds cur b in
           omega (arith, times, before, step, gain);
     }
 
-pub starts : (edges : List Edge) (level by place : List ℕ) (event most : ℕ) → IsGrown edges level by
-    → ((y : ℕ) → at place y ≡ 0) → unmarked place ≤ length level → Climbed edges level by place [] event event most
-starts edges level by place event most g none few =
+pub starts : (edges : List Edge) (level by place : List ℕ) (event : ℕ) → IsGrown edges level by
+    → ((y : ℕ) → at place y ≡ 0) → unmarked place ≤ length level → Climbed edges level by place [] event event
+starts edges level by place event g none few =
     record {
       t = g.0;
       now = g.1;
@@ -305,33 +307,33 @@ starts edges level by place event most g none few =
       few = omega (arith, few);
       marked = λ y m. let z = none y in absurd (omega arith);
       comes = λ y m. let z = none y in absurd (omega arith);
-      high = λ h. let more = mul-le-mul_left most few in omega (arith, more, h);
+      high = λ most within h. let more = mul-le-mul_left most few in omega (arith, more, h);
     }
 
 pub sum-le : (xs : List ℕ) (m : ℕ) → ((x : ℕ) → at xs x ≤ m) → sum xs ≤ length xs * m
 sum-le xs m h = sum_by-le (λ (x : ℕ). x) m xs (λ k d l. let e = get_or_default xs k d 0 l in let b = h k in omega arith)
 
-pub climbs_on_as : (edges : List Edge) (level by place way way2 : List ℕ) (cur event most m : ℕ)
-    → Climbed edges level by place way cur event most → cur < length place → at place cur ≡ 0 → 0 < at by cur
-    → (edge_at edges (at by cur - 1)).gain ≤ most → m ≡ length way + 1 → way2 ≡ way ++ (at by cur - 1) ∷ []
-    → Climbed edges level by (set place cur m) way2 (edge_at edges (at by cur - 1)).finish event most
-climbs_on_as edges level by place way way2 cur event most m c l e b gain s w =
+pub climbs_on_as : (edges : List Edge) (level by place way way2 : List ℕ) (cur event m : ℕ)
+    → Climbed edges level by place way cur event → cur < length place → at place cur ≡ 0 → 0 < at by cur
+    → m ≡ length way + 1 → way2 ≡ way ++ (at by cur - 1) ∷ []
+    → Climbed edges level by (set place cur m) way2 (edge_at edges (at by cur - 1)).finish event
+climbs_on_as edges level by place way way2 cur event m c l e b s w =
     subst (λ (x : ℕ). Climbed edges level by (set place cur x) way2
-    (edge_at edges (at by cur - 1)).finish event most) (sym s)
+    (edge_at edges (at by cur - 1)).finish event) (sym s)
     (subst (λ (z : List ℕ). Climbed edges level by (set place cur (length way + 1)) z
-    (edge_at edges (at by cur - 1)).finish event most) (sym w)
-    (climbs_on edges level by place way cur event most c l e b gain))
+    (edge_at edges (at by cur - 1)).finish event) (sym w)
+    (climbs_on edges level by place way cur event c l e b))
 
 replicate_zero : (n y : ℕ) → at (replicate n 0) y ≡ 0
 replicate_zero zero y = refl
 replicate_zero (suc n) zero = refl
 replicate_zero (suc n) (suc y) = replicate_zero n y
 
-pub starts_as : (edges : List Edge) (level by place way : List ℕ) (event most : ℕ) → IsGrown edges level by
-    → place ≡ replicate (length level) 0 → way ≡ [] → Climbed edges level by place way event event most
-starts_as edges level by place way event most g p w =
-    subst (λ (z : List ℕ). Climbed edges level by place z event event most) (sym w)
-    (starts edges level by place event most g (λ y. ap (λ (z : List ℕ). at z y) p
+pub starts_as : (edges : List Edge) (level by place way : List ℕ) (event : ℕ) → IsGrown edges level by
+    → place ≡ replicate (length level) 0 → way ≡ [] → Climbed edges level by place way event event
+starts_as edges level by place way event g p w =
+    subst (λ (z : List ℕ). Climbed edges level by place z event event) (sym w)
+    (starts edges level by place event g (λ y. ap (λ (z : List ℕ). at z y) p
     ∙ replicate_zero (length level) y) (let few = count_by-le-length (λ (x : ℕ). x == 0) place in
     let size = ap length p ∙ length-replicate (length level) 0 in omega (arith, few, size)))
 

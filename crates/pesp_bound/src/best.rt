@@ -1,34 +1,17 @@
 //! The best leaf that is found at a node.
 
 ghost use Rattle.std.specs.Prelude.{◌≡◌, ℕ, ◌⊎◌, ◌-◌, ◌<◌, ◌≤◌, [], List, length, pos, ◌≤ℤ◌, ◌<ℤ◌, true, false, Some, None, unsigned_abs, All, IsTrue, IfOk, IfSome, IsSome, IsSomeAnd, MatchOption};
-ghost use Rattle.pesp_problem.specs.Walks.{Names};
 ghost use Rattle.pesp_problem.specs.Nodes as spec;
-ghost use Rattle.pesp_bound.specs.Leaves.{IsGapAt, HasNoGap, IsLeafOf, IsNoLess};
+ghost use Rattle.pesp_bound.specs.Leaves.{HasNoGap, IsLeafOf, IsNoLess};
 ghost use Rattle.pesp_bound.specs.Decided.{IsDecided, IsNothing};
 ghost use Rattle.pesp_nodes.specs.Problems.{net_of, IsNodeOf, ArePairs, Rise};
 
-use crate::deciding::closing_pairs;
+use crate::system::closing_pairs;
 use crate::leaf::Leaf;
-use crate::proposing::{Proposal, propose};
-use pesp_nodes::{Node, Problem, are_pairs, leaf_value, offset_range};
+use crate::proposal::{Proposal, propose};
+use pesp_nodes::{Node, Problem, are_pairs, first_gap, leaf_value};
 use pesp_problem::{Memory, Pair, Pairs};
 use std::alloc::Global;
-
-/// The first cycle that has no offset left.
-fn first_gap(problem: &Problem, node: &Node) -> Option<u32>
-    requires { IsNodeOf problem.now node.now }
-    ensures { MatchOption result (HasNoGap problem.now node.now)
-        (λ cycle. Names (length problem.now.table) cycle
-        × IsGapAt problem.now node.now (cycle - 1)) }
-{
-    for place in 0..problem.table().len() {
-        let cycle = place as u32 + 1;
-        if offset_range(problem, node, cycle).is_none() {
-            return Some(cycle);
-        }
-    }
-    None
-}
 
 /// The value of pairs, where they are pairs of the problem and have one.
 fn judged(problem: &Problem, node: &Node, pairs: &[Pair], weighted: bool) -> Option<i128>

@@ -3,14 +3,14 @@
 #![tactic(auto)]
 
 mod best;
-mod deciding;
+mod system;
 mod differences;
 mod edge;
 mod leaf;
-mod proposing;
-mod settling;
+mod proposal;
+mod passes;
 mod shifts;
-mod turning;
+mod closed_way;
 
 pub use best::{best_leaf, best_leaf_from};
 pub use edge::{Edge, Outcome, are_settled};
@@ -18,4 +18,4 @@ pub use leaf::Leaf;
 pub use pesp_nodes::{
     Cut, Node, Pair, Pairs, Problem, ProblemRefusal, Side, leaf_value, offset_range,
 };
-pub use settling::settle;
+pub use passes::settle;

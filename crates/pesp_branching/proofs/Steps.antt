@@ -16,7 +16,7 @@ use Rattle.pesp_bound.specs.Leaves.{IsLeafOf, IsNoLess}
 use Rattle.pesp_machine.specs.Events.{MayShut}
 use Rattle.pesp_machine.proofs.Works.{pairs_exist}
 use Rattle.pesp_search_laws.specs.Turns.{IsFoundAt}
-use Rattle.pesp_branching.specs.Expanding.{leaf_of, IsFoundLine, IsExpanded}
+use Rattle.pesp_branching.specs.Expanding.{leaf_of, IsLeafLine, IsStepOf, IsFoundLine, IsExpanded}
 
 is_none : {A : Type 0} (o : Option A) → o ≡ None → IsNone o
 is_none None e = refl
@@ -65,3 +65,8 @@ expanded p start node cut first low high lines e l h same = record {
   found_low = l.found;
   found_high = h.found;
 }
+
+pub step_of : (cut : Cut) (first low high : TreeLine) (lines : List TreeLine) → line_of first ≡ CutLine cut
+    → IsLeafLine low → IsLeafLine high → lines ≡ first ∷ low ∷ high ∷ [] → IsStepOf cut lines
+step_of cut first low high lines e l h same =
+    record { low = l.leaf; high = h.leaf; step = ap (map line_of) same ∙ rw (e, l.says, h.says) refl }

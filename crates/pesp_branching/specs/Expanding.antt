@@ -19,6 +19,17 @@ leaf_of (Gap cycle) = trees.Gap cycle
 leaf_of (Nothing pairs) = trees.Nothing pairs
 leaf_of (Bound pairs value) = trees.Bound pairs
 
+-- the line of a leaf
+pub record IsLeafLine (line : TreeLine) : Type 0 where
+  pub leaf : Leaf
+  pub says : line_of line ≡ EndLine leaf
+
+-- the lines of a cut with a leaf on either side
+pub record IsStepOf (cut : Cut) (lines : List TreeLine) : Type 0 where
+  pub low : Leaf
+  pub high : Leaf
+  pub step : AreStep lines cut low high
+
 -- the line of a leaf that is found at a node for these pairs
 pub record IsFoundLine (p : ProblemValue) (start : List Pair) (node : Node) (line : TreeLine) : Type 0 where
   pub leaf : Leaf

@@ -1,18 +1,18 @@
 //! A cut with the best leaf that is found on either side.
 
-ghost use Rattle.std.specs.Prelude.{◌≡◌, length, IfOk};
+ghost use Rattle.std.specs.Prelude.{◌≡◌, length, IfOk, IfSome};
 ghost use Rattle.pesp_problem.specs.Nodes.{part};
 ghost use Rattle.pesp_truth.specs.Trees.{EndLine, CutLine, CutExists};
 ghost use Rattle.pesp_truth.specs.Certificates.{line_of};
 ghost use Rattle.pesp_nodes.specs.Problems.{net_of, IsNodeOf, IsCutOf, ArePairs};
 ghost use Rattle.pesp_bound.specs.Leaves.{IsLeafOf, IsNoLess};
-ghost use Rattle.pesp_branching.specs.Expanding.{leaf_of, IsFoundLine, IsExpanded};
+ghost use Rattle.pesp_branching.specs.Expanding.{leaf_of, IsLeafLine, IsStepOf, IsFoundLine, IsExpanded};
 
 use crate::choosing::Choice;
 use crate::judging::leaf_of_part;
 use pesp_board::is_shut_by_propagation;
 use pesp_bound::{Leaf, best_leaf_from};
-use pesp_nodes::{Node, Problem};
+use pesp_nodes::{Node, Pairs, Problem, offset_range};
 use pesp_problem::{Cut, Memory, Pair, Side};
 use pesp_strategy::Part;
 use pesp_truth::TreeLine;
@@ -40,6 +40,61 @@ fn cut_line(cut: Cut) -> TreeLine
         Cut::Slack { row, k } => TreeLine::Slack { row, k },
         Cut::Offset { cycle, k } => TreeLine::Offset { cycle, k },
     }
+}
+
+/// Whether a cut of offsets leaves its cycle an offset in both parts; never so for a cut of slacks.
+fn leaves_offsets(problem: &Problem, node: &Node, cut: Cut) -> bool
+    requires node { IsNodeOf problem.now node.now }
+    requires cut { IsCutOf node.now cut }
+{
+    let Cut::Offset { cycle, k } = cut else {
+        return false;
+    };
+    match offset_range(problem, node, cycle) {
+        Some((low, high)) => low <= k && k < high,
+        None => false,
+    }
+}
+
+/// The line of what is proposed for a part.
+fn part_line(alloc: Global, part: &Part) -> Result<TreeLine, Memory>
+    ensures { IfOk result IsLeafLine }
+{
+    let pairs = Pairs::new(part.pairs.to_vec(alloc)?);
+    if part.is_endless {
+        Ok(TreeLine::Nothing(pairs))
+    } else {
+        Ok(TreeLine::Bound(pairs))
+    }
+}
+
+/// The lines of a cut with what is proposed for either side, which aren't judged yet. None where something isn't proposed for
+/// both sides, or one of them is closed by the cycle that is cut.
+pub fn proposed_lines(
+    alloc: Global,
+    problem: &Problem,
+    node: &Node,
+    choice: &Choice,
+) -> Result<Option<Vec<TreeLine>>, Memory>
+    requires node { IsNodeOf problem.now node.now }
+    requires cut { IsCutOf node.now choice.now.cut }
+    ensures { IfOk result
+        (λ found. IfSome found (λ lines. IsStepOf choice.now.cut lines.items)) }
+{
+    let Some(low) = &choice.low else {
+        return Ok(None);
+    };
+    let Some(high) = &choice.high else {
+        return Ok(None);
+    };
+    if !leaves_offsets(problem, node, choice.cut) {
+        return Ok(None);
+    }
+    let mut lines = Vec::new(alloc);
+    lines.push(cut_line(choice.cut))?;
+    lines.push(part_line(alloc, low)?)?;
+    lines.push(part_line(alloc, high)?)?;
+    Ok(Some(lines))
 }
 
 /// The leaf of a part: the one that is proposed for it where it is one, else the best that is found.

@@ -14,7 +14,7 @@ mod settings;
 
 pub use advising::{Advised, Proposal, ask};
 pub use choosing::{Choice, choose};
-pub use expanding::{expand, leaf_line};
+pub use expanding::{expand, leaf_line, proposed_lines};
 pub use judging::gap_at;
 pub use narrowing::Narrowing;
 pub use offering::{offer_met, offer_times};

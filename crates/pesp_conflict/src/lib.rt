@@ -10,8 +10,8 @@ mod lists;
 mod part;
 mod seeking;
 mod settings;
-mod sifting;
-mod trying;
+mod sieve;
+mod trial;
 mod used;
 
 pub use finding::{Conflict, Finding};

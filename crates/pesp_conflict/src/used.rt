@@ -115,10 +115,10 @@ fn pairs_are_listed(listed: &[u32], cycles: &[Walk], pairs: &[Pair]) -> bool
     true
 }
 
-/// Whether the rows that a line uses are listed; `whole` where all of so many rows are.
-fn line_is_listed(listed: &[u32], whole: bool, rows: u32, cycles: &[Walk], line: &TreeLine) -> bool
-    requires { whole ≡ true → (row : ℕ) → Names rows row → Contains listed.now row }
-    ensures { IsTrue result → LineUsesOnly rows cycles.now listed.now line.now }
+/// Whether the rows that a line uses are listed; `whole` says whether all rows are.
+fn line_is_listed(listed: &[u32], whole: bool, cycles: &[Walk], line: &TreeLine) -> bool
+    ensures { (rows : ℕ) → (whole ≡ true → (row : ℕ) → Names rows row → Contains listed.now row)
+        → IsTrue result → LineUsesOnly rows cycles.now listed.now line.now }
 {
     match line {
         TreeLine::Slack { .. } => true,
@@ -137,7 +137,7 @@ fn uses_only(listed: &[u32], certificate: &Certificate, rows: u32) -> bool
     let whole = is_whole(listed, rows);
     let cycles = certificate.cycles();
     for line in certificate.tree() {
-        if !line_is_listed(listed, whole, rows, cycles, line) {
+        if !line_is_listed(listed, whole, cycles, line) {
             return false;
         }
     }

@@ -47,8 +47,12 @@ fn grow(frame: &Frame, chosen: &[bool], tree: &mut Tree, root: u32) -> Option<()
     None
 }
 
-/// Makes trees of the chosen rows, which close no cycle, from roots alone; the first event of each tree is its root.
+/// Makes trees of the chosen rows, which close no cycle, from roots alone; the root of each tree is the event in the middle of
+/// the network, or else the first event of the tree.
 pub fn grow_all(frame: &Frame, chosen: &[bool], tree: &mut Tree) -> Option<()> {
+    if let Some(middle) = frame.middle() {
+        grow(frame, chosen, tree, middle)?;
+    }
     for place in 0..tree.events() {
         let root = u32::try_from(place).ok()?;
         if tree.is_root(root) {

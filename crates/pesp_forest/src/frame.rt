@@ -1,5 +1,6 @@
 //! A network's rows, and the rows at each event.
 
+use crate::middle::middle_of;
 use pesp_network::{NetRow, Network};
 use std::alloc::{AllocError, Global};
 
@@ -11,12 +12,13 @@ pub struct Link {
 }
 
 /// What a relaxation reads of a network: its period, its rows, named by their places from 0, and for each event the rows at
-/// it, without loops.
+/// it, without loops; and an event in the middle, where there are many.
 #[derive(Debug, Drop)]
 pub struct Frame {
     period: u32,
     rows: Vec<NetRow>,
     stars: Vec<Vec<Link>>,
+    middle: Option<u32>,
 }
 
 /// A list without a row for each event.
@@ -58,6 +60,7 @@ impl Frame {
         Ok(Frame {
             period: network.period(),
             rows,
+            middle: middle_of(alloc, &stars)?,
             stars,
         })
     }
@@ -70,6 +73,11 @@ impl Frame {
     /// How many events there are.
     pub fn events(&self) -> usize {
         self.stars.len()
+    }
+
+    /// An event in the middle, where there are many: trees that hang from it are shallow.
+    pub(crate) fn middle(&self) -> Option<u32> {
+        self.middle
     }
 
     /// The rows in order.

@@ -6,6 +6,7 @@
 mod cycles;
 mod forest;
 mod frame;
+mod middle;
 mod spans;
 mod tree;
 

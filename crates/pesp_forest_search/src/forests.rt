@@ -48,7 +48,7 @@ impl Search {
         let outside = table.forest.rows(alloc, false)?;
         let goal = Goal::new(outside.len());
         let open = open_in_all(frame, &table.basis);
-        let worth = goal.worth(frame, &table.basis, open);
+        let worth = goal.worth(frame, table.cost(), open);
         Ok(Search {
             heat: Heat::new(frame, goal, outside.len(), most),
             rows: Vec::new(alloc),
@@ -100,13 +100,17 @@ impl Search {
             self.keep_rows(alloc)?;
             return Ok(None);
         }
-        let worth = self.goal.worth(frame, &self.table.basis, open);
+        let worth = self.goal.worth(frame, self.table.cost(), open);
         let loss = self.worth.saturating_sub(worth);
-        if self.heat.takes(&mut self.random, self.count, loss) {
-            self.open = open;
-            return self.keep(alloc, exchange, worth);
+        if !self.heat.takes(&mut self.random, self.count, loss) {
+            return Ok(self.table.restore(frame, exchange.enters, exchange.leaves));
         }
-        Ok(self.table.restore(frame, exchange.enters, exchange.leaves))
+        self.open = open;
+        if self.table.settle().is_none() {
+            self.keep_rows(alloc)?;
+            return Ok(None);
+        }
+        self.keep(alloc, exchange, worth)
     }
 
     /// Tries an exchange, and takes it back at once where it leaves many more offsets open; None where the search ends, with

@@ -72,10 +72,10 @@ impl Goal {
         scaled / 524_288
     }
 
-    /// What a forest is worth by the basis of its root, where its cycles are so open.
-    pub(crate) fn worth(self, frame: &Frame, basis: &Basis, open: i64) -> i128 {
+    /// What a forest is worth whose root has a circulation of this cost, where its cycles are so open.
+    pub(crate) fn worth(self, frame: &Frame, cost: i128, open: i64) -> i128 {
         0i128
-            .saturating_sub(basis.cost())
+            .saturating_sub(cost)
             .saturating_sub(self.penalty(frame, open))
     }
 }

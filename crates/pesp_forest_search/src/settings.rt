@@ -23,3 +23,6 @@ pub(crate) const OPEN_SHARE: u64 = 32_768;
 
 /// How much it counts at most, in the same units.
 pub(crate) const MOST_OPEN_SHARE: u64 = 409;
+
+/// With more rows, prices are changed part by part behind an exchange, and not all at once.
+pub(crate) const FEW_ROWS: usize = 2_500;

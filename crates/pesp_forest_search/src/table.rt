@@ -1,6 +1,7 @@
 //! A forest with the relaxation of its root, and exchanges of rows.
 
 use crate::goal::openness;
+use crate::settings::FEW_ROWS;
 use pesp_forest::{Forest, Frame, NONE, Spans};
 use pesp_relaxation::{Basis, Ended, MOST_PIVOTS, Root, Slopes, slopes_of};
 use std::alloc::{AllocError, Global};
@@ -12,11 +13,13 @@ struct Priced {
     slopes: Slopes,
 }
 
-/// The basis before the last exchange, the events beyond the row that is exchanged, and what flow costs after the exchange on
-/// the rows that lead there.
+/// The basis before the last exchange and what its circulation costs, the events beyond the row that is exchanged, and what
+/// flow costs after the exchange on the rows that lead there.
 #[derive(Drop)]
 struct Spare {
     before: Basis,
+    cost: i128,
+    beyond: Vec<u32>,
     is_beyond: Vec<bool>,
     crossing: Vec<Priced>,
 }
@@ -31,15 +34,19 @@ pub(crate) struct Table {
 }
 
 impl Spare {
-    /// No flows, and no events.
-    fn new(alloc: Global, frame: &Frame) -> Result<Spare, AllocError> {
-        let is_beyond = vec![in alloc; false; frame.events()]?;
-        let before = Basis::idle(alloc, frame)?;
-        Ok(Spare {
+    /// The same basis once more, and no events; None where it can't be.
+    fn new(alloc: Global, frame: &Frame, basis: &mut Basis) -> Result<Option<Spare>, AllocError> {
+        let mut before = Basis::idle(alloc, frame)?;
+        if before.copy_from(basis).is_none() || basis.copy_from(&before).is_none() {
+            return Ok(None);
+        }
+        Ok(Some(Spare {
+            cost: before.cost(),
             before,
-            is_beyond,
+            beyond: Vec::new(alloc),
+            is_beyond: vec![in alloc; false; frame.events()]?,
             crossing: Vec::new(alloc),
-        })
+        }))
     }
 }
 
@@ -53,10 +60,12 @@ impl Table {
         let Some(root) = Root::new(alloc, frame, numbers)? else {
             return Ok(None);
         };
-        let Some(basis) = root.best_basis(alloc, frame)? else {
+        let Some(mut basis) = root.best_basis(alloc, frame)? else {
             return Ok(None);
         };
-        let spare = Spare::new(alloc, frame)?;
+        let Some(spare) = Spare::new(alloc, frame, &mut basis)? else {
+            return Ok(None);
+        };
         let Root { cycles, spans, .. } = root;
         Ok(Some(Table {
             forest: cycles.into_forest(),
@@ -66,18 +75,30 @@ impl Table {
         }))
     }
 
-    /// Marks an event and what is below it, or takes the marks off.
-    fn mark(&mut self, top: u32, is_beyond: bool) {
+    /// Lists and marks an event and what is below it.
+    fn mark(&mut self, top: u32) -> Result<(), AllocError> {
         let mut event = top;
         for _ in 0..self.spare.is_beyond.len() {
+            self.spare.beyond.push(event)?;
             if let Some(slot) = self.spare.is_beyond.get_mut(event as usize) {
-                *slot = is_beyond;
+                *slot = true;
             }
             event = self.forest.tree().following(event, top);
             if event == NONE {
-                return;
+                break;
             }
         }
+        Ok(())
+    }
+
+    /// Takes all marks off.
+    fn unmark(&mut self) {
+        for event in &self.spare.beyond {
+            if let Some(slot) = self.spare.is_beyond.get_mut(*event as usize) {
+                *slot = false;
+            }
+        }
+        self.spare.beyond.clear();
     }
 
     /// Whether an event is beyond the row that is exchanged.
@@ -113,27 +134,22 @@ impl Table {
         Ok(Some(()))
     }
 
-    /// Lists what flow costs on the rows that lead out of the part below an event; None where a cycle has no offset.
-    fn list_crossing(&mut self, frame: &Frame, top: u32) -> Result<Option<()>, AllocError> {
+    /// Lists what flow costs on the rows that lead out of the marked part; None where a cycle has no offset.
+    fn list_crossing(&mut self, frame: &Frame) -> Result<Option<()>, AllocError> {
         self.spare.crossing.clear();
-        let mut event = top;
-        for _ in 0..frame.events() {
+        for place in 0..self.spare.beyond.len() {
+            let event = self.spare.beyond.get(place).copied().unwrap_or(NONE);
             if self.list_at(frame, event)?.is_none() {
                 return Ok(None);
-            }
-            event = self.forest.tree().following(event, top);
-            if event == NONE {
-                break;
             }
         }
         Ok(Some(()))
     }
 
     /// Takes a row in and another one out.
-    fn swap(&mut self, frame: &Frame, enters: u32, leaves: u32) -> Option<u32> {
+    fn swap(&mut self, frame: &Frame, enters: u32, leaves: u32) -> Option<()> {
         let inner = self.forest.exchange(frame, enters, leaves)?;
-        self.spans.settle(frame, &mut self.forest, inner)?;
-        Some(inner)
+        self.spans.settle(frame, &mut self.forest, inner)
     }
 
     /// Takes a row in whose way along the forest passes another one, which goes out; the basis stays as it is. None where a
@@ -147,12 +163,12 @@ impl Table {
         let Some(top) = self.forest.lower_end(frame, leaves) else {
             return Ok(None);
         };
-        self.mark(top, true);
-        let Some(inner) = self.swap(frame, enters, leaves) else {
+        self.mark(top)?;
+        if self.swap(frame, enters, leaves).is_none() {
             return Ok(None);
-        };
-        let found = self.list_crossing(frame, inner);
-        self.mark(inner, false);
+        }
+        let found = self.list_crossing(frame);
+        self.unmark();
         found
     }
 
@@ -171,26 +187,54 @@ impl Table {
 
     /// Takes back an exchange behind which the basis was left as it was.
     pub(crate) fn take_back(&mut self, frame: &Frame, entered: u32, left: u32) -> Option<()> {
-        self.swap(frame, left, entered)?;
+        self.swap(frame, left, entered)
+    }
+
+    /// What the circulation of the basis costs.
+    pub(crate) fn cost(&self) -> i128 {
+        self.spare.cost.saturating_sub(self.basis.fall())
+    }
+
+    /// Changes what flow costs on the rows that lead out of the marked part, and all prices.
+    fn change_all(&mut self) -> Option<()> {
+        for priced in &self.spare.crossing {
+            self.basis.exchange_slopes(priced.row, priced.slopes)?;
+        }
+        self.basis.reprice()
+    }
+
+    /// Changes what flow costs on those of these rows on which it costs something else, with the prices that depend on each.
+    fn change_each(&mut self, frame: &Frame) -> Option<()> {
+        for priced in &self.spare.crossing {
+            if self.basis.slopes(priced.row) != Some(priced.slopes) {
+                self.basis.change_slopes(frame, priced.row, priced.slopes)?;
+            }
+        }
         Some(())
     }
 
     /// Goes on to a best basis after an exchange; None where the root of the forest has no timetable.
     pub(crate) fn solve(&mut self, frame: &Frame) -> Option<()> {
-        self.spare.before.copy_from(&self.basis)?;
-        for priced in &self.spare.crossing {
-            self.basis.set_slopes(priced.row, priced.slopes)?;
+        if frame.rows().len() > FEW_ROWS {
+            self.change_each(frame)?;
+        } else {
+            self.change_all()?;
         }
-        self.basis.reprice()?;
         match self.basis.solve(frame, MOST_PIVOTS) {
             Ended::Best => Some(()),
             _ => None,
         }
     }
 
+    /// Lets an exchange stand behind which the basis was solved.
+    pub(crate) fn settle(&mut self) -> Option<()> {
+        self.spare.cost = self.cost();
+        self.spare.before.follow(&mut self.basis)
+    }
+
     /// Takes back an exchange behind which the basis was solved.
     pub(crate) fn restore(&mut self, frame: &Frame, entered: u32, left: u32) -> Option<()> {
         self.swap(frame, left, entered)?;
-        self.basis.copy_from(&self.spare.before)
+        self.basis.go_back(&self.spare.before)
     }
 }

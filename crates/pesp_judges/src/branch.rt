@@ -1,7 +1,7 @@
 //! What a cut changes of the ranges, and how it is taken back.
 
 ghost use Rattle.std.specs.Prelude.{◌≡◌, ◌-◌, length};
-ghost use Rattle.pesp_nets.specs.Ranges.{IsCut};
+ghost use Rattle.pesp_nets.specs.Ranges.{AreSlackEnds, IsCut};
 ghost use Rattle.pesp_judges.specs.Ranges.{node_of, AreRanges};
 ghost use Rattle.pesp_nets.specs.Pending.{change_of, restored};
 ghost use Rattle.pesp_judges.specs.Pending.{IsChange};
@@ -11,11 +11,12 @@ use pesp_nets::Change;
 use pesp_problem::{Cut, Instance};
 
 /// What a cut is going to change.
-pub fn change_of(instance: &Instance, ranges: &Ranges, cut: Cut) -> Change
-    requires ranges { AreRanges instance.now ranges.now }
-    requires cut { IsCut (length instance.now.rows) (length ranges.now.offsets.items) cut }
+pub fn change_of(ranges: &Ranges, cut: Cut) -> Change
+    requires ends { AreSlackEnds ranges.now.slacks.items }
+    requires cut { IsCut (length ranges.now.slacks.items) (length ranges.now.offsets.items) cut }
     ensures change { result ≡ change_of (node_of ranges.now) cut }
-    ensures limits { IsChange (length instance.now.rows) (length ranges.now.offsets.items) result }
+    ensures limits { IsChange (length ranges.now.slacks.items) (length ranges.now.offsets.items)
+        result }
 {
     match cut {
         Cut::Slack { row, k } => Change::Slack {

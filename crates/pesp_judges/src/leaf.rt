@@ -4,6 +4,7 @@ ghost use Rattle.std.specs.Prelude.{◌≡◌, ◌*◌, ◌^◌, ◌<◌, ◌≤
 ghost use Rattle.pesp_problem.specs.declared.limits.TheConstants.{MOST_MULTIPLIER, MOST_PERIOD};
 ghost use Rattle.pesp_problem.specs.declared.row.SignedRow.{SignedRow};
 ghost use Rattle.pesp_problem.specs.Limits.{KeepsLimits};
+ghost use Rattle.pesp_problem.specs.Timetables.{Pesp};
 ghost use Rattle.pesp_problem.specs.Sums as sums;
 ghost use Rattle.pesp_problem.specs.Arcs.{net_of};
 ghost use Rattle.pesp_problem.specs.Nodes as nodes;
@@ -103,11 +104,11 @@ pub fn offset_sum<P: Elements<Pair>>(
 }
 
 /// What the slacks cost at least where no flow passes them: 0 without weights.
-fn idle_part(instance: &Instance, ranges: &Ranges, weighted: bool) -> i128
-    requires limits { KeepsLimits instance.now }
-    requires ranges { AreRanges instance.now ranges.now }
-    ensures value { result ≡ idle_part instance.now ranges.now.slacks.items weighted }
-    ensures size { unsigned_abs result ≤ 10 ^ 18 }
+fn idle_part(ranges: &Ranges, weighted: bool) -> i128
+    ensures value { (p : Pesp) → AreRanges p ranges.now
+        → result ≡ idle_part p ranges.now.slacks.items weighted }
+    ensures size { (p : Pesp) → KeepsLimits p → AreRanges p ranges.now
+        → unsigned_abs result ≤ 10 ^ 18 }
 {
     if weighted { ranges.idle } else { 0 }
 }
@@ -140,6 +141,6 @@ pub fn leaf_value<P: Elements<Pair>>(
     } = *checker;
     add_flows(working, table, pairs);
     let moved = take_flows(instance, &ranges.slacks, weighted, table, pairs, working);
-    let idle = idle_part(instance, ranges, weighted);
+    let idle = idle_part(ranges, weighted);
     Some(plus(offsets, plus(moved, idle)))
 }

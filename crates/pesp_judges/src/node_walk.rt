@@ -41,7 +41,7 @@ fn enter(
         ≡ waiting true (node_of ranges.old) path.old.items) }
 {
     path.push(Branch {
-        change: change_of(instance, ranges, cut),
+        change: change_of(ranges, cut),
         side: Side::Low,
     })?;
     take_part(instance, ranges, cut, Side::Low);

@@ -1,5 +1,5 @@
 -- What a network holds, in the words of its value.
-use Rattle.std.proofs.Common.{◌≡◌, ◌≢◌, ℕ, ◌<◌, inl, inr, sym, ◌∙◌, ap, arith, subst, List, length, All}
+use Rattle.std.proofs.Common.{◌≡◌, ◌≢◌, ℕ, ◌<◌, inl, inr, sym, ◌∙◌, ap, arith, subst, List, length, vec_len, All}
 use Rattle.std.specs.Prelude.{◌≤◌, unsigned_abs, slice_index, Option, Some, None, IfSome, IfNone}
 use Rattle.std.proofs.lemmas.Bool.{cases_lt}
 use Rattle.std.proofs.lemmas.List.{get_or_past, get_or-map, length-map}
@@ -19,7 +19,7 @@ use Rattle.pesp_network.specs.declared.parts.Reaches.{Reaches}
 use Rattle.pesp_network.specs.Held.{IsHeld}
 use Rattle.pesp_network.specs.Networks.{NetworkValue, arc_of_net, arcs_of_network, net_of_network, net_row_at, no_net_row, RowKeepsNetLimits, AreGood, KeepsNetLimits, IsTableRefusal, signed_rows}
 use Rattle.pesp_network.specs.Growing.{at}
-use Rattle.pesp_network.specs.Rooted.{IsForest, IsTreeRow, AreTreeRows}
+use Rattle.pesp_network.specs.Rooted.{IsForest, IsTreeRow, AreTreeRows, AreReaches}
 use Rattle.pesp_network.specs.Ways.{way_between, IsForestWay, walks_of, IsTooMany}
 use Rattle.pesp_network.specs.Times.{AreSlacks}
 use Rattle.pesp_network.proofs.Places.{count, arc_is, lower_at}
@@ -169,3 +169,11 @@ arcs_keep_limits n h = record {
   arcs_most = (let e = length-map n.rows arc_of_net in let m = h.rows_most in omega arith);
   each = All-map (ArcKeepsLimits n.period n.events) arc_of_net n.rows (λ i d l. row_limits n.period n.events _ (h.each i d l));
 }
+
+-- a forest counts its events itself, and so do the places that are reached in it
+pub own_forest : (n : ℕ) (arcs : List Arc) (g : Forest) → IsForest n arcs g → IsForest (vec_len g.up) arcs g
+own_forest n arcs g f = subst (λ (k : ℕ). IsForest k arcs g) (sym f.events) f
+
+pub own_reaches : (n : ℕ) (arcs : List Arc) (g : Forest) (low high : List ℕ) → IsForest n arcs g
+    → AreReaches n arcs g low high → AreReaches (vec_len g.up) arcs g low high
+own_reaches n arcs g low high f r = subst (λ (k : ℕ). AreReaches k arcs g low high) (sym f.events) r

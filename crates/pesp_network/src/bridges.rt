@@ -66,14 +66,9 @@ impl Reaches {
 }
 
 /// What is reached from each event itself.
-fn reach_rows(
-    alloc: Global,
-    events: usize,
-    rows: &[NetRow],
-    forest: &Forest,
-) -> Result<Reaches, AllocError>
-    requires { IsForest events (arcs_of_network rows.now) forest.now }
-    ensures takes { IfOk result (λ r. TakesRows events (arcs_of_network rows.now) forest.now
+fn reach_rows(alloc: Global, rows: &[NetRow], forest: &Forest) -> Result<Reaches, AllocError>
+    requires { IsForest (vec_len forest.now.up) (arcs_of_network rows.now) forest.now }
+    ensures takes { IfOk result (λ r. TakesRows (vec_len forest.now.up) (arcs_of_network rows.now) forest.now
         (length (arcs_of_network rows.now)) r.low.items r.high.items) }
     ensures events { IfOk result (λ r. vec_len r.low ≡ vec_len forest.now.up) }
 {
@@ -90,18 +85,13 @@ fn reach_rows(
 }
 
 /// The first and the last place that are reached from each event or below it.
-pub fn reach(
-    alloc: Global,
-    events: usize,
-    rows: &[NetRow],
-    forest: &Forest,
-) -> Result<Reaches, AllocError>
-    requires { IsForest events (arcs_of_network rows.now) forest.now }
+pub fn reach(alloc: Global, rows: &[NetRow], forest: &Forest) -> Result<Reaches, AllocError>
+    requires { IsForest (vec_len forest.now.up) (arcs_of_network rows.now) forest.now }
     ensures reaches { IfOk result
-        (λ r. AreReaches events (arcs_of_network rows.now) forest.now r.low.items r.high.items) }
+        (λ r. AreReaches (vec_len forest.now.up) (arcs_of_network rows.now) forest.now r.low.items r.high.items) }
     ensures events { IfOk result (λ r. vec_len r.low ≡ vec_len forest.now.up) }
 {
-    let mut reaches = reach_rows(alloc, events, rows, forest)?;
+    let mut reaches = reach_rows(alloc, rows, forest)?;
     let mut count = forest.order.len();
     while count > 0 {
         count -= 1;
@@ -123,15 +113,9 @@ fn is_cut(forest: &Forest, reaches: &Reaches, event: usize) -> bool
 
 /// Whether every walk passes the row k as often one way as the other: it joins an event to the one above it, and nothing
 /// else leads out from below it.
-pub fn is_bridge(
-    events: usize,
-    rows: &[NetRow],
-    forest: &Forest,
-    reaches: &Reaches,
-    k: usize,
-) -> bool
-    requires forest { IsForest events (arcs_of_network rows.now) forest.now }
-    requires reaches { AreReaches events (arcs_of_network rows.now) forest.now reaches.now.low.items
+pub fn is_bridge(rows: &[NetRow], forest: &Forest, reaches: &Reaches, k: usize) -> bool
+    requires forest { IsForest (vec_len forest.now.up) (arcs_of_network rows.now) forest.now }
+    requires reaches { AreReaches (vec_len forest.now.up) (arcs_of_network rows.now) forest.now reaches.now.low.items
         reaches.now.high.items }
     requires sized { vec_len reaches.now.low ≡ vec_len forest.now.up }
     requires row { Names (length rows.now) k }

@@ -94,17 +94,11 @@ pub fn chain_rows(alloc: Global, events: usize, rows: &[NetRow]) -> Result<Chain
 }
 
 /// Which row comes next after the row k at an event, and the event at the other end of the row k.
-pub fn beyond(
-    rows: &[NetRow],
-    chains: &Chains,
-    events: usize,
-    event: usize,
-    k: usize,
-) -> (usize, usize)
+pub fn beyond(rows: &[NetRow], chains: &Chains, event: usize, k: usize) -> (usize, usize)
     requires row { (1 ≤ k) × (k ≤ length rows.now) }
     requires at_event { (tail_of (arcs_of_network rows.now) k ≡ event)
         ⊎ (head_of (arcs_of_network rows.now) k ≡ event) }
-    requires chains { AreChains (arcs_of_network rows.now) events chains.now }
+    requires chains { (events : ℕ) × AreChains (arcs_of_network rows.now) events chains.now }
     ensures next { IsNext (tail_of (arcs_of_network rows.now)) (head_of (arcs_of_network rows.now))
         event k result.0 }
     ensures ends { ((tail_of (arcs_of_network rows.now) k ≡ result.1)

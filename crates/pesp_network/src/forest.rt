@@ -81,8 +81,8 @@ fn grow_over(
 }
 
 /// Whether both ends of each row are in one tree.
-fn meets_all(events: usize, rows: &[NetRow], forest: &Forest) -> bool
-    requires { IsGrown events (arcs_of_network rows.now) forest.now }
+fn meets_all(rows: &[NetRow], forest: &Forest) -> bool
+    requires { IsGrown (vec_len forest.now.up) (arcs_of_network rows.now) forest.now }
     ensures { IsTrue result → (k : ℕ) → Names (length (arcs_of_network rows.now)) k
         → IsMetBy (arcs_of_network rows.now) forest.now k }
 {
@@ -123,7 +123,7 @@ pub fn forest_from(
     ensures { IfOk result (IsForest events (arcs_of_network rows.now)) }
 {
     let forest = grow_over(alloc, events, rows, proposed)?;
-    if meets_all(events, rows, &forest) {
+    if meets_all(rows, &forest) {
         return Ok(forest);
     }
     let all = all_numbers(alloc, rows.len())?;

@@ -108,7 +108,7 @@ impl Growth {
         ensures events { vec_len self.new.up ≡ vec_len self.old.up }
     {
         let k = self.left[current];
-        let (next, other) = beyond(rows, chains, self.up.len(), current, k);
+        let (next, other) = beyond(rows, chains, current, k);
         if self.place[other] != 0 {
             self.look(current, next);
             return Ok(current);

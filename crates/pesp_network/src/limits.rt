@@ -38,21 +38,17 @@ pub fn bad_row(period: u32, events: u32, rows: &[NetRow]) -> Option<u32>
 }
 
 /// The rows of an instance, each with its span and its number.
-pub fn rows_of(
-    alloc: Global,
-    period: u32,
-    events: u32,
-    rows: &[Row],
-) -> Result<Vec<NetRow>, AllocError>
+pub fn rows_of(alloc: Global, period: u32, rows: &[Row]) -> Result<Vec<NetRow>, AllocError>
     requires period { 1 ≤ period }
     requires few { length rows.now ≤ MOST_ROWS }
-    requires each { All (RowKeepsLimits events) rows.now }
+    requires each { (events : ℕ) × All (RowKeepsLimits events) rows.now }
     ensures arcs { IfOk result
         (λ made. arcs_of_network made.items ≡ map (spec.arc_of period) rows.now) }
     ensures origins { IfOk result
         (λ made. (i : ℕ) → i < length made.items → (net_row_at made.items i).origin ≡ i + 1) }
     ensures few { IfOk result (λ made. length made.items ≤ MOST_ROWS) }
-    ensures each { IfOk result (λ made. All (RowKeepsNetLimits period events) made.items) }
+    ensures each { (events : ℕ) → All (RowKeepsLimits events) rows.now
+        → IfOk result (λ made. All (RowKeepsNetLimits period events) made.items) }
 {
     let mut made = Vec::with_capacity(alloc, rows.len())?;
     for (i, row) in rows.iter().enumerate() {

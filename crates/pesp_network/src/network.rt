@@ -45,9 +45,9 @@ fn find(
     ensures sized { IfOk result (λ found. vec_len found.reaches.low ≡ vec_len forest.now.up) }
     ensures kept { IfOk result (λ found. AreTreeRows events forest.now found.kept.items) }
 {
-    let kept = walks::forest_rows(alloc, events, rows, forest)?;
+    let kept = walks::forest_rows(alloc, events, forest)?;
     let arcs = without_origins(alloc, rows)?;
-    let reaches = bridges::reach(alloc, events, rows, forest)?;
+    let reaches = bridges::reach(alloc, rows, forest)?;
     Ok(Findings {
         arcs,
         reaches,
@@ -146,7 +146,7 @@ impl Network {
     {
         let period = instance.period();
         let events = instance.events().len() as u32;
-        let rows = rows_of(alloc, period, events, instance.rows())?;
+        let rows = rows_of(alloc, period, instance.rows())?;
         let network = Network::make(alloc, period, events, rows)?;
         Ok(network)
     }
@@ -249,7 +249,6 @@ impl Network {
         ensures { IsTrue result ↔ IsBridge (arcs_of_network self.now.rows) row }
     {
         bridges::is_bridge(
-            self.events,
             self.rows.as_slice(),
             &self.forest,
             &self.reaches,
@@ -277,7 +276,7 @@ impl Network {
         ensures refused { IfErr result
             (IsTableRefusal (arcs_of_network self.now.rows) self.now.forest) }
     {
-        walks::walks(alloc, self.events, self.rows.as_slice(), &self.forest)
+        walks::walks(alloc, self.rows.as_slice(), &self.forest)
     }
 
     /// A way through rows of the forest alone that leads from one event to another, without an event or a row twice;
@@ -299,7 +298,6 @@ impl Network {
     {
         let found = walks::way(
             alloc,
-            self.events,
             self.rows.as_slice(),
             &self.forest,
             from as usize,

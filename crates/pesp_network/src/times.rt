@@ -57,18 +57,16 @@ fn earlier(period: u32, time: u32, row: &NetRow, slack: u32) -> u32
 /// The time of an event that is joined upwards, from the time of the event above it.
 fn time_of(
     period: u32,
-    events: usize,
     rows: &[NetRow],
     forest: &Forest,
     slacks: &[u32],
     times: &[u32],
     event: usize,
 ) -> u32
-    requires forest { IsForest events (arcs_of_network rows.now) forest.now }
+    requires forest { IsForest (length times.now) (arcs_of_network rows.now) forest.now }
     requires slacks { AreSlacks period (arcs_of_network rows.now) slacks.now }
     requires times { (x : ℕ) → at times.now x < period }
-    requires count { length times.now ≡ events }
-    requires event { event < events }
+    requires event { event < length times.now }
     requires joined { 0 < at forest.now.by.items event }
     ensures less { result < period }
     ensures as_head { tail_of (arcs_of_network rows.now) (at forest.now.by.items event)
@@ -114,15 +112,7 @@ fn spread(
         if forest.by[event] == 0 {
             continue;
         }
-        let time = time_of(
-            period,
-            events,
-            rows,
-            forest,
-            slacks,
-            times.as_slice(),
-            event,
-        );
+        let time = time_of(period, rows, forest, slacks, times.as_slice(), event);
         times[event] = time;
     }
     Ok(times)

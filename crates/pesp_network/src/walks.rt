@@ -1,7 +1,8 @@
 //! Fundamental walks.
 
-ghost use Rattle.std.specs.Prelude.{◌≡◌, ◌≢◌, ℕ, ◌+◌, ◌-◌, ◌<◌, ◌≤◌, ◌++◌, ◌==◌, ◌||◌, length, reverse, IfOk, IfErr, IfSome, IfNone, OnOk, All, vec_len};
+ghost use Rattle.std.specs.Prelude.{◌≡◌, ◌≢◌, ℕ, ◌+◌, ◌-◌, ◌<◌, ◌≤◌, ◌++◌, ◌==◌, ◌||◌, List, length, reverse, IfOk, IfErr, IfSome, IfNone, OnOk, All, vec_len};
 ghost use Rattle.pesp_problem.specs.declared.limits.TheConstants.{MOST_ROWS};
+ghost use Rattle.pesp_problem.specs.declared.arc.Arc.{Arc};
 ghost use Rattle.pesp_problem.specs.Walks.{Names};
 ghost use Rattle.pesp_network.specs.Networks.{arcs_of_network, signed_rows};
 ghost use Rattle.pesp_network.specs.Growing.{at};
@@ -54,16 +55,15 @@ fn is_above(forest: &Forest, upper: usize, lower: usize) -> bool
 
 /// Goes up from an event until it is above another one of its tree, and gives the event where it stops.
 fn climb(
-    events: usize,
     rows: &[NetRow],
     forest: &Forest,
     walk: &mut Vec<SignedRow>,
     from: usize,
     to: usize,
 ) -> Result<usize, AllocError>
-    requires forest { IsForest events (arcs_of_network rows.now) forest.now }
-    requires from { from < events }
-    requires to { to < events }
+    requires forest { IsForest (vec_len forest.now.up) (arcs_of_network rows.now) forest.now }
+    requires from { from < vec_len forest.now.up }
+    requires to { to < vec_len forest.now.up }
     requires one_tree { at forest.now.root.items from ≡ at forest.now.root.items to }
     ensures walk { OnOk result (walk.new.items
         ≡ walk.old.items ++ up_way (arcs_of_network rows.now) forest.now to
@@ -81,15 +81,14 @@ fn climb(
 /// The way from an event up to one above it, each row signed as the way down passes it.
 fn descend(
     alloc: Global,
-    events: usize,
     rows: &[NetRow],
     forest: &Forest,
     from: usize,
     to: usize,
 ) -> Result<Vec<SignedRow>, AllocError>
-    requires forest { IsForest events (arcs_of_network rows.now) forest.now }
-    requires from { from < events }
-    requires to { to < events }
+    requires forest { IsForest (vec_len forest.now.up) (arcs_of_network rows.now) forest.now }
+    requires from { from < vec_len forest.now.up }
+    requires to { to < vec_len forest.now.up }
     requires above { Under forest.now from to }
     ensures { IfOk result (λ way. reverse way.items
         ≡ down_way (arcs_of_network rows.now) forest.now from (at forest.now.place.items to) to) }
@@ -106,22 +105,21 @@ fn descend(
 /// Goes on along the forest from an event to another one of its tree.
 fn go_on(
     alloc: Global,
-    events: usize,
     rows: &[NetRow],
     forest: &Forest,
     walk: &mut Vec<SignedRow>,
     from: usize,
     to: usize,
 ) -> Result<(), AllocError>
-    requires forest { IsForest events (arcs_of_network rows.now) forest.now }
-    requires from { from < events }
-    requires to { to < events }
+    requires forest { IsForest (vec_len forest.now.up) (arcs_of_network rows.now) forest.now }
+    requires from { from < vec_len forest.now.up }
+    requires to { to < vec_len forest.now.up }
     requires one_tree { at forest.now.root.items from ≡ at forest.now.root.items to }
     ensures { OnOk result (walk.new.items ≡ walk.old.items
         ++ way_between (arcs_of_network rows.now) forest.now from to) }
 {
-    let upper = climb(events, rows, forest, walk, from, to)?;
-    let mut down = descend(alloc, events, rows, forest, upper, to)?;
+    let upper = climb(rows, forest, walk, from, to)?;
+    let mut down = descend(alloc, rows, forest, upper, to)?;
     down.reverse();
     walk.extend_from_slice(down.as_slice())?;
     Ok(())
@@ -130,15 +128,14 @@ fn go_on(
 /// The way along the forest from one event to another, or None where they are in two trees.
 pub fn way(
     alloc: Global,
-    events: usize,
     rows: &[NetRow],
     forest: &Forest,
     from: usize,
     to: usize,
 ) -> Result<Option<Vec<SignedRow>>, AllocError>
-    requires forest { IsForest events (arcs_of_network rows.now) forest.now }
-    requires from { from < events }
-    requires to { to < events }
+    requires forest { IsForest (vec_len forest.now.up) (arcs_of_network rows.now) forest.now }
+    requires from { from < vec_len forest.now.up }
+    requires to { to < vec_len forest.now.up }
     ensures way { IfOk result (λ found. IfSome found
         (λ way. IsForestWay (arcs_of_network rows.now) forest.now from to way.items)) }
     ensures none { IfOk result
@@ -148,19 +145,18 @@ pub fn way(
         return Ok(None);
     }
     let mut way = Vec::new(alloc);
-    go_on(alloc, events, rows, forest, &mut way, from, to)?;
+    go_on(alloc, rows, forest, &mut way, from, to)?;
     Ok(Some(way))
 }
 
 /// The walk that begins with the row k and goes back through rows of the forest.
 pub fn walk_back(
     alloc: Global,
-    events: usize,
     rows: &[NetRow],
     forest: &Forest,
     k: usize,
 ) -> Result<Vec<SignedRow>, AllocError>
-    requires forest { IsForest events (arcs_of_network rows.now) forest.now }
+    requires forest { IsForest (vec_len forest.now.up) (arcs_of_network rows.now) forest.now }
     requires row { Names (length rows.now) k }
     ensures { IfOk result (λ walk. walk.items ≡ walk_of (arcs_of_network rows.now) forest.now k) }
 {
@@ -172,7 +168,7 @@ pub fn walk_back(
     })?;
     let tail = row.tail as usize;
     let head = row.head as usize;
-    go_on(alloc, events, rows, forest, &mut walk, head, tail)?;
+    go_on(alloc, rows, forest, &mut walk, head, tail)?;
     Ok(walk)
 }
 
@@ -187,13 +183,8 @@ fn is_kept(forest: &Forest, row: &NetRow, k: usize) -> bool
 }
 
 /// The walks of the rows outside the forest, by rising row.
-pub fn walks(
-    alloc: Global,
-    events: usize,
-    rows: &[NetRow],
-    forest: &Forest,
-) -> Result<Vec<Walk>, NetRefusal>
-    requires { IsForest events (arcs_of_network rows.now) forest.now }
+pub fn walks(alloc: Global, rows: &[NetRow], forest: &Forest) -> Result<Vec<Walk>, NetRefusal>
+    requires { IsForest (vec_len forest.now.up) (arcs_of_network rows.now) forest.now }
     ensures table { IfOk result
         (λ table. table.items ≡ walks_of (arcs_of_network rows.now) forest.now (length rows.now)) }
     ensures small { IfOk result (λ table. signed_rows table.items ≤ MOST_SIGNED_ROWS) }
@@ -206,7 +197,7 @@ pub fn walks(
         if is_kept(forest, row, i + 1) {
             continue;
         }
-        let walk = walk_back(alloc, events, rows, forest, i + 1)?;
+        let walk = walk_back(alloc, rows, forest, i + 1)?;
         total += walk.len();
         if total > MOST_SIGNED_ROWS {
             return Err(NetRefusal::TableTooLarge);
@@ -217,13 +208,8 @@ pub fn walks(
 }
 
 /// The rows of the forest.
-pub fn forest_rows(
-    alloc: Global,
-    events: usize,
-    rows: &[NetRow],
-    forest: &Forest,
-) -> Result<Vec<u32>, AllocError>
-    requires { IsForest events (arcs_of_network rows.now) forest.now }
+pub fn forest_rows(alloc: Global, events: usize, forest: &Forest) -> Result<Vec<u32>, AllocError>
+    requires { (arcs : List Arc) × IsForest events arcs forest.now }
     ensures { IfOk result (λ found. AreTreeRows events forest.now found.items) }
 {
     let mut found = Vec::new(alloc);

@@ -7,38 +7,10 @@ ghost use Rattle.pesp_outside.specs.Texts.{cut_words, side_word, step_words, job
 
 use crate::grafting::Reply;
 use crate::jobs::OpenJob;
-use itoa::{Buffer, Integer};
 use pesp_board::GiveRefusal;
+use pesp_cert::{Number, Whole};
 use pesp_problem::{Cut, Side};
 use pesp_stream::{Output, Printed};
-
-/// An unsigned number in plain digits.
-#[derive(Clone, Copy)]
-struct Number<I: Integer>(I);
-
-impl<I: Integer> Printed for Number<I> {
-    ghost text = { λ n. I.text n.0 };
-
-    fn print<O: Output>(&self, out: &mut O) {
-        let mut buffer = Buffer::new();
-        out.put(buffer.format(self.0).as_bytes());
-    }
-}
-
-/// A whole number in plain digits, a negative one behind `-`.
-#[derive(Clone, Copy)]
-struct Whole<'a>(&'a i64);
-
-impl Printed for Whole<'_> {
-    ghost use Rattle.std.specs.Fmt.{signed_decimal};
-
-    ghost text = { λ n. signed_decimal n.0.now };
-
-    fn print<O: Output>(&self, out: &mut O) {
-        let mut buffer = Buffer::new();
-        out.put(buffer.format(*self.0).as_bytes());
-    }
-}
 
 fn print_cut<O: Output>(cut: &Cut, out: &mut O)
     ensures { Sends (O.sending out.old) (O.sending out.new) (cut_words cut.now) }

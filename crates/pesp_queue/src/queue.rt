@@ -205,7 +205,7 @@ impl Queue {
     {
         let at = place_of(&self.entries, &self.places, self.waiting, item);
         let value = self.entries[at].value;
-        take_out(&mut self.entries, &mut self.places, self.waiting, at);
+        take_out(&mut self.entries, &mut self.places, at);
         value
     }
 

@@ -72,13 +72,12 @@ fn is_bridge(fate: Fate) -> bool
 }
 
 /// The time of the event that an event becomes, and the shift.
-fn shifted(period: u32, stands: &[u32], shifts: &[u32], times: &[u32], event: u32) -> i64
-    requires most { period ≤ MOST_PERIOD }
+fn shifted(stands: &[u32], shifts: &[u32], times: &[u32], event: u32) -> i64
     requires stand { event < length stands.now }
     requires shift { event < length shifts.now }
     requires time { slice_index stands.now event < length times.now }
-    requires times { All (λ t. t < period) times.now }
-    requires shifts { All (λ t. t < period) shifts.now }
+    requires times { All (λ t. t < MOST_PERIOD) times.now }
+    requires shifts { All (λ t. t < MOST_PERIOD) shifts.now }
     ensures value { result ≡ spec.shifted stands.now shifts.now times.now event }
     ensures size { unsigned_abs result ≤ 20000 }
 {
@@ -110,8 +109,8 @@ fn lifted_slack(
     if is_bridge(fate) {
         return 0;
     }
-    let head = shifted(period, stands, shifts, times, row.head);
-    let tail = shifted(period, stands, shifts, times, row.tail);
+    let head = shifted(stands, shifts, times, row.head);
+    let tail = shifted(stands, shifts, times, row.tail);
     let rest = head - tail - row.lower;
     wrapped(period, &rest)
 }

@@ -22,10 +22,10 @@ pub enum Ended {
 }
 
 /// A circulation. The price of an event is the time at which it would be, were offsets no whole numbers: along a row of the
-/// tree prices rise by the cost of one more unit of flow. Moves of parts of the tree are numbered, and each event has the number
-/// of the last one that changed its price. Rows along which a step may pay are listed, with the place in the list that is
-/// looked at next. Rows that have changed since it was the same as another basis are listed too, with by how much the
-/// circulation has become cheaper since then.
+/// tree prices rise by the cost of one more unit of flow. Moves of parts of the tree are numbered, each event has the number
+/// of the last one that changed its price, and the events of the last one are listed. Rows along which a step may pay are
+/// listed, with the place in the list that is looked at next. Rows that have changed since it was the same as another basis
+/// are listed too, with by how much the circulation has become cheaper since then.
 #[derive(Debug, Drop)]
 pub struct Basis {
     pub(crate) rows: Vec<Row>,
@@ -33,10 +33,11 @@ pub struct Basis {
     prices: Vec<i64>,
     moved: Vec<u32>,
     moves: u32,
+    last: Vec<u32>,
     violated: Listed,
     next: u32,
     is_stale: bool,
-    changed: Listed,
+    pub(crate) changed: Listed,
     pub(crate) fall: i128,
 }
 
@@ -73,6 +74,7 @@ impl Basis {
             prices: vec![in alloc; 0i64; events]?,
             moved: vec![in alloc; 0u32; events]?,
             moves: 0,
+            last: vec![in alloc; 0u32; events]?,
             next: 0,
             is_stale: true,
             changed: Listed::none(alloc, frame.rows().len())?,
@@ -114,6 +116,28 @@ impl Basis {
         self.forget_violated()?;
         self.is_stale = false;
         self.fall = 0;
+        Some(())
+    }
+
+    /// Becomes the same as another basis, which was the same as this one and has changed since. From then on that one counts
+    /// as unchanged. Both are best ones.
+    pub fn follow(&mut self, other: &mut Basis) -> Option<()> {
+        if self.prices.len() != other.prices.len() {
+            return None;
+        }
+        self.prices.copy_from_slice(&other.prices);
+        self.tree.copy_from(&other.tree)?;
+        other.write_changes(&mut self.rows)?;
+        other.fall = 0;
+        other.changed.clear()
+    }
+
+    /// Sets the rows that have changed in these as they are here.
+    fn write_changes(&self, rows: &mut [Row]) -> Option<()> {
+        for place in 0..self.changed.count() {
+            let row = self.changed.at(place)?;
+            *rows.get_mut(row as usize)? = self.rows.get(row as usize).copied()?;
+        }
         Some(())
     }
 
@@ -219,14 +243,11 @@ impl Basis {
         }
     }
 
-    /// Lists such rows at the events of the part below one, which moved last.
-    fn note_below(&mut self, frame: &Frame, top: u32) {
-        let mut event = top;
-        for _ in 0..self.prices.len() {
-            self.note_star(frame, event);
-            event = self.tree.following(event, top);
-            if event == NONE {
-                return;
+    /// Lists such rows at so many events, those that moved last.
+    fn note_moved(&mut self, frame: &Frame, count: u32) {
+        for place in 0..count {
+            if let Some(event) = number(&self.last, place) {
+                self.note_star(frame, event);
             }
         }
     }
@@ -303,6 +324,7 @@ impl Basis {
             let price = self.price(event)?.checked_add(change)?;
             set_amount(&mut self.prices, event, price)?;
             set_number(&mut self.moved, event, self.moves)?;
+            set_number(&mut self.last, count, event)?;
             count = count.checked_add(1)?;
             event = self.tree.following(event, top);
             if event == NONE {
@@ -319,21 +341,26 @@ impl Basis {
         if (count as usize).saturating_mul(3) > self.prices.len().saturating_mul(2) {
             self.is_stale = true;
         } else {
-            self.note_below(frame, top);
+            self.note_moved(frame, count);
         }
         Some(())
+    }
+
+    /// Puts right the price of an event, from that of the event above it; a root has 0.
+    pub(crate) fn price_below(&mut self, event: u32) -> Option<()> {
+        let price = if self.tree.is_root(event) {
+            0
+        } else {
+            self.price_by_row(event)?
+        };
+        set_amount(&mut self.prices, event, price)
     }
 
     /// Puts right the prices of the part below a root.
     fn reprice_below(&mut self, root: u32) -> Option<()> {
         let mut event = root;
         for _ in 0..self.prices.len() {
-            let price = if event == root {
-                0
-            } else {
-                self.price_by_row(event)?
-            };
-            set_amount(&mut self.prices, event, price)?;
+            self.price_below(event)?;
             event = self.tree.following(event, root);
             if event == NONE {
                 return Some(());
@@ -370,8 +397,14 @@ impl Basis {
         Some(())
     }
 
-    /// Changes what flow on a row costs; by how much the flow that is there becomes cheaper.
-    fn exchange_slopes(&mut self, place: u32, slopes: Slopes) -> Option<Row> {
+    /// Changes what flow on a row costs, and notes by how much the flow that is there becomes cheaper; prices stay as they are.
+    pub fn exchange_slopes(&mut self, place: u32, slopes: Slopes) -> Option<()> {
+        self.exchanged(place, slopes)?;
+        Some(())
+    }
+
+    /// The same, and the row as it is then.
+    fn exchanged(&mut self, place: u32, slopes: Slopes) -> Option<Row> {
         let before = self.rows.get(place as usize)?.cost();
         let row = self.row_mut(place)?;
         row.slopes = slopes;
@@ -383,7 +416,7 @@ impl Basis {
 
     /// Changes what flow on a row costs, and the prices that depend on it.
     pub fn change_slopes(&mut self, frame: &Frame, place: u32, slopes: Slopes) -> Option<()> {
-        let row = self.exchange_slopes(place, slopes)?;
+        let row = self.exchanged(place, slopes)?;
         if !row.is_basic {
             self.note(place);
             return Some(());

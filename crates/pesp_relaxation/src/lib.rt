@@ -3,6 +3,7 @@
 #![tactic(auto)]
 
 mod basis;
+mod changes;
 mod listed;
 mod pivots;
 mod rebuilding;
@@ -13,6 +14,7 @@ mod settling;
 mod starting;
 
 pub use basis::{Basis, Ended};
+pub use changes::Change;
 pub use root::{Root, root_slacks};
 pub use row::{Slopes, slopes_of};
 pub use settling::{MOST_PIVOTS, settle};

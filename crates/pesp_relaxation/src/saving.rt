@@ -47,6 +47,15 @@ fn arrive(arriving: &mut [i64], event: u32, units: i64) -> Option<()> {
     set_amount(arriving, event, sum)
 }
 
+/// Adds what the flow on a row brings to its ends.
+fn bring(arriving: &mut [i64], row: &Row) -> Option<()> {
+    if row.flow == 0 {
+        return Some(());
+    }
+    arrive(arriving, row.head, row.flow)?;
+    arrive(arriving, row.tail, row.flow.checked_neg()?)
+}
+
 impl Basis {
     /// Writes the basis down, where each row outside the tree has its flow at a bend; whether it was written.
     pub fn save(&self, codes: &mut Vec<u8>) -> Result<bool, AllocError> {
@@ -66,33 +75,33 @@ impl Basis {
         Ok(true)
     }
 
-    /// Sets a row as it was written, with the flow of its bend.
-    fn set_row(&mut self, chosen: &mut [bool], place: usize, code: u8) -> Option<()> {
+    /// Sets a row as it was written, with the flow of its bend, which arrives at its ends.
+    fn set_row(
+        &mut self,
+        chosen: &mut [bool],
+        arriving: &mut [i64],
+        place: usize,
+        code: u8,
+    ) -> Option<()> {
         let row = self.row_mut(u32::try_from(place).ok()?)?;
         row.is_basic = code < 3;
         row.flow = if code == 4 { row.weight } else { 0 };
         row.bend = if code == 4 { Bend::Weight } else { Bend::Zero };
         row.part = part_of(code);
         *chosen.get_mut(place)? = code < 3;
-        Some(())
+        bring(arriving, row)
     }
 
     /// Sets all rows as they were written.
-    fn set_rows(&mut self, chosen: &mut [bool], codes: &[u8]) -> Option<()> {
+    fn set_rows(
+        &mut self,
+        chosen: &mut [bool],
+        arriving: &mut [i64],
+        codes: &[u8],
+    ) -> Option<()> {
         for place in 0..self.rows.len() {
             let code = code_at(codes, place)?;
-            self.set_row(chosen, place, code)?;
-        }
-        Some(())
-    }
-
-    /// What the flows at bends bring to each event.
-    fn gather(&self, arriving: &mut [i64]) -> Option<()> {
-        for row in &self.rows {
-            if row.flow != 0 {
-                arrive(arriving, row.head, row.flow)?;
-                arrive(arriving, row.tail, row.flow.checked_neg()?)?;
-            }
+            self.set_row(chosen, arriving, place, code)?;
         }
         Some(())
     }
@@ -140,10 +149,19 @@ impl Basis {
 
     /// The flows on the rows of the tree, from those at bends.
     fn send_all(&mut self, arriving: &mut [i64], downwards: &[u32]) -> Option<()> {
-        self.gather(arriving)?;
         for event in downwards.iter().rev() {
             self.send_up(arriving, *event)?;
         }
+        Some(())
+    }
+
+    /// The prices of all events, each listed behind the one above it, where no step along any row pays.
+    fn price_all(&mut self, downwards: &[u32]) -> Option<()> {
+        for event in downwards {
+            self.price_below(*event)?;
+        }
+        self.forget_violated()?;
+        self.set_fresh();
         Some(())
     }
 
@@ -162,22 +180,15 @@ impl Basis {
         codes: &[u8],
     ) -> Result<Option<()>, AllocError> {
         let mut chosen = vec![in alloc; false; self.rows.len()]?;
-        if self.set_rows(&mut chosen, codes).is_none() || self.grow(frame, &chosen).is_none() {
+        let mut arriving = vec![in alloc; 0i64; frame.events()]?;
+        let rows = self.set_rows(&mut chosen, &mut arriving, codes);
+        if rows.is_none() || self.grow(frame, &chosen).is_none() {
             return Ok(None);
         }
         let downwards = self.list_down(alloc)?;
-        let mut arriving = vec![in alloc; 0i64; frame.events()]?;
         if self.send_all(&mut arriving, &downwards).is_none() {
             return Ok(None);
         }
-        Ok(self.settled())
-    }
-
-    /// Prices where no step along any row pays.
-    fn settled(&mut self) -> Option<()> {
-        self.reprice()?;
-        self.forget_violated()?;
-        self.set_fresh();
-        Some(())
+        Ok(self.price_all(&downwards))
     }
 }

@@ -36,7 +36,7 @@ const EXCHANGES_A_CYCLE: usize = 30;
 const MOST_RACED: usize = 2_500;
 
 /// How many exchanges times rows there are at most.
-const EXCHANGED_ROWS: usize = 64_000_000;
+const EXCHANGED_ROWS: usize = 128_000_000;
 
 /// How many exchanges of a row the search for a forest tries: fewer where few cycles need them, or where many rows make each
 /// dear.

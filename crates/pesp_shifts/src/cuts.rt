@@ -2,6 +2,7 @@
 
 ghost use Rattle.std.specs.Prelude.{◌≡◌, ◌≢◌, ℕ, ◌+◌, ◌<◌, ◌≤◌, ◌↔◌, List, [], IsTrue, IfSome, OnSome, length, vec_len, slice_index};
 ghost use Rattle.pesp_problem.specs.declared.limits.TheConstants.{MOST_ROWS};
+ghost use Rattle.pesp_problem.specs.declared.arc.Arc.{Arc};
 ghost use Rattle.pesp_problem.specs.Roots.{AreRoots};
 ghost use Rattle.pesp_shifts.specs.Rooted.{roots_of, IsFor};
 ghost use Rattle.pesp_shifts.specs.declared.crossing.Entry.{Entry};
@@ -53,22 +54,14 @@ fn climb(rooted: &Rooted, cuts: &mut Cuts, event: u32, entry: Entry) -> Option<u
 }
 
 /// Takes the deeper of two events, met from the head and from the tail of the row at a place, one row up.
-fn step(
-    events: u32,
-    arcs: &[Arc],
-    rooted: &Rooted,
-    cuts: &mut Cuts,
-    row: u32,
-    at: (u32, u32),
-) -> Option<(u32, u32)>
-    requires lists { IsFor events rooted.now }
-    requires trees { AreRoots events arcs.now (roots_of rooted.now) }
-    requires row { row < length arcs.now }
-    requires head { at.0 < events }
-    requires tail { at.1 < events }
+fn step(rooted: &Rooted, cuts: &mut Cuts, row: u32, at: (u32, u32)) -> Option<(u32, u32)>
+    requires lists { IsFor (vec_len rooted.now.by) rooted.now }
+    requires head { at.0 < vec_len rooted.now.by }
+    requires tail { at.1 < vec_len rooted.now.by }
     requires apart { at.0 ≢ at.1 }
-    ensures { IfSome result
-        (IsStep events arcs.now (roots_of rooted.now) row at.0 at.1 cuts.old cuts.new) }
+    ensures { (arcs : List Arc) → AreRoots (vec_len rooted.now.by) arcs (roots_of rooted.now)
+        → IfSome result (IsStep (vec_len rooted.now.by) arcs (roots_of rooted.now) row at.0 at.1
+        cuts.old cuts.new) }
 {
     let (head, tail) = at;
     if rooted.depth[head as usize] >= rooted.depth[tail as usize] {
@@ -80,17 +73,18 @@ fn step(
 }
 
 /// Puts the row at a place into the lists of all cuts that it crosses; false where a list has no room.
-fn list_row(events: u32, arcs: &[Arc], rooted: &Rooted, cuts: &mut Cuts, row: u32) -> bool
-    requires lists { IsFor events rooted.now }
-    requires trees { AreRoots events arcs.now (roots_of rooted.now) }
+fn list_row(arcs: &[Arc], rooted: &Rooted, cuts: &mut Cuts, row: u32) -> bool
+    requires lists { IsFor (vec_len rooted.now.by) rooted.now }
+    requires trees { AreRoots (vec_len rooted.now.by) arcs.now (roots_of rooted.now) }
     requires row { row < length arcs.now }
-    ensures { IsTrue result → AreListed events arcs.now (roots_of rooted.now) row cuts.old
-        → AreListed events arcs.now (roots_of rooted.now) (row + 1) cuts.new }
+    ensures { IsTrue result
+        → AreListed (vec_len rooted.now.by) arcs.now (roots_of rooted.now) row cuts.old
+        → AreListed (vec_len rooted.now.by) arcs.now (roots_of rooted.now) (row + 1) cuts.new }
 {
     let arc = arcs[row as usize];
     let mut at = (arc.head, arc.tail);
     while at.0 != at.1 {
-        let Some(next) = step(events, arcs, rooted, cuts, row, at) else {
+        let Some(next) = step(rooted, cuts, row, at) else {
             return false;
         };
         at = next;
@@ -99,16 +93,18 @@ fn list_row(events: u32, arcs: &[Arc], rooted: &Rooted, cuts: &mut Cuts, row: u3
 }
 
 /// Puts all rows into the lists of the cuts that they cross; false where a list has no room.
-pub fn list_rows(events: u32, arcs: &[Arc], rooted: &Rooted, cuts: &mut Cuts) -> bool
-    requires lists { IsFor events rooted.now }
-    requires trees { AreRoots events arcs.now (roots_of rooted.now) }
+pub fn list_rows(arcs: &[Arc], rooted: &Rooted, cuts: &mut Cuts) -> bool
+    requires lists { IsFor (vec_len rooted.now.by) rooted.now }
+    requires trees { AreRoots (vec_len rooted.now.by) arcs.now (roots_of rooted.now) }
     requires few { length arcs.now ≤ MOST_ROWS }
-    ensures { IsTrue result → AreListed events arcs.now (roots_of rooted.now) 0 cuts.old
-        → AreListed events arcs.now (roots_of rooted.now) (length arcs.now) cuts.new }
+    ensures { IsTrue result
+        → AreListed (vec_len rooted.now.by) arcs.now (roots_of rooted.now) 0 cuts.old
+        → AreListed (vec_len rooted.now.by) arcs.now (roots_of rooted.now) (length arcs.now)
+        cuts.new }
 {
     let count = arcs.len() as u32;
     for row in 0..count {
-        if !list_row(events, arcs, rooted, cuts, row) {
+        if !list_row(arcs, rooted, cuts, row) {
             return false;
         }
     }

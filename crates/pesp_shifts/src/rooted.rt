@@ -3,6 +3,7 @@
 ghost use Rattle.std.specs.Prelude.{◌≡◌, ℕ, ◌<◌, ◌≤◌, ◌⊎◌, ◌↔◌, IsTrue, IfOk, length, slice_index, vec_len};
 ghost use Rattle.pesp_problem.specs.declared.limits.TheConstants.{MOST_ROWS};
 ghost use Rattle.pesp_problem.specs.Arcs.{arc_at, HasEnds};
+ghost use Rattle.pesp_problem.specs.ArcLimits.{HaveEnds};
 ghost use Rattle.pesp_problem.specs.Roots.{AreRoots, AreTreeRows};
 ghost use Rattle.pesp_shifts.specs.Rooted.{roots_of, IsFor, IsJoined, IsSpanned};
 
@@ -117,16 +118,11 @@ fn is_tree_row(rooted: &Rooted, arc: &Arc, number: u32) -> bool
 }
 
 /// The rows that join events upwards, by rising number.
-pub fn tree_rows(
-    alloc: Global,
-    events: u32,
-    arcs: &[Arc],
-    rooted: &Rooted,
-) -> Result<Vec<u32>, Memory>
-    requires lists { IsFor events rooted.now }
-    requires trees { AreRoots events arcs.now (roots_of rooted.now) }
+pub fn tree_rows(alloc: Global, arcs: &[Arc], rooted: &Rooted) -> Result<Vec<u32>, Memory>
+    requires ends { HaveEnds (vec_len rooted.now.by) arcs.now }
     requires few { length arcs.now ≤ MOST_ROWS }
-    ensures { IfOk result (λ rows. AreTreeRows events (roots_of rooted.now) rows.items) }
+    ensures { (events : ℕ) → AreRoots events arcs.now (roots_of rooted.now)
+        → IfOk result (λ rows. AreTreeRows events (roots_of rooted.now) rows.items) }
 {
     let mut rows = Vec::new(alloc);
     for (place, arc) in arcs.iter().enumerate() {

@@ -12,12 +12,10 @@ use std::alloc::Global;
 pub fn slacks_of(
     alloc: Global,
     period: u32,
-    events: u32,
     arcs: &[Arc],
     times: &[u32],
 ) -> Result<Vec<u32>, Memory>
-    requires limits { KeepArcLimits period events arcs.now }
-    requires count { length times.now ≡ events }
+    requires { KeepArcLimits period (length times.now) arcs.now }
     ensures { IfOk result (λ slacks. AreSlacks period times.now arcs.now slacks.items) }
 {
     let mut slacks = Vec::new(alloc);

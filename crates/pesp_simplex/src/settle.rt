@@ -23,15 +23,15 @@ use pesp_shifts::{
 use std::alloc::Global;
 
 /// Lists the rows of all cuts of a rooted forest, of which so many cross each; false where the lists have too little room.
-fn list_cuts(events: u32, arcs: &[Arc], rooted: &Rooted, counts: &[u32], cuts: &mut Cuts) -> bool
-    requires lists { IsFor events rooted.now }
-    requires trees { AreRoots events arcs.now (roots_of rooted.now) }
+fn list_cuts(arcs: &[Arc], rooted: &Rooted, counts: &[u32], cuts: &mut Cuts) -> bool
+    requires lists { IsFor (vec_len rooted.now.by) rooted.now }
+    requires trees { AreRoots (vec_len rooted.now.by) arcs.now (roots_of rooted.now) }
     requires few { length arcs.now ≤ MOST_ROWS }
-    requires counts { length counts.now ≡ events }
-    ensures { IsTrue result
-        → AreListed events arcs.now (roots_of rooted.now) (length arcs.now) cuts.new }
+    requires counts { length counts.now ≡ vec_len rooted.now.by }
+    ensures { IsTrue result → AreListed (vec_len rooted.now.by) arcs.now (roots_of rooted.now)
+        (length arcs.now) cuts.new }
 {
-    lay_out(cuts, counts) && list_rows(events, arcs, rooted, cuts)
+    lay_out(cuts, counts) && list_rows(arcs, rooted, cuts)
 }
 
 /// The lists of all cuts of a rooted forest; None where they have more than `MOST_ENTRIES` entries.
@@ -56,7 +56,7 @@ fn cuts_of(
         return Ok(None);
     };
     let mut cuts = empty_lists(alloc, events as usize, total)?;
-    if !list_cuts(events, arcs, rooted, &counts, &mut cuts) {
+    if !list_cuts(arcs, rooted, &counts, &mut cuts) {
         return Ok(None);
     }
     Ok(Some(cuts))
@@ -80,7 +80,7 @@ fn is_local(
         → AreTreeRows events (roots_of rooted.now) forest
         → IsLocal (record { period = period; arcs = arcs.now }) events forest times.now) }
 {
-    let slacks = slacks_of(alloc, period, events, arcs, times)?;
+    let slacks = slacks_of(alloc, period, arcs, times)?;
     let Some(cuts) = cuts_of(alloc, events, arcs, rooted)? else {
         return Ok(false);
     };
@@ -121,7 +121,7 @@ pub(crate) fn settle(
             stop: Stop::Rounds,
         });
     }
-    let forest = tree_rows(alloc, events, arcs, rooted)?;
+    let forest = tree_rows(alloc, arcs, rooted)?;
     let local = is_local(alloc, period, events, arcs, &times, rooted)?;
     Ok(Improved {
         times,
@@ -167,7 +167,7 @@ fn descent_from(
     requires limits { KeepArcLimits period events arcs.now }
     requires times { IsNetTimetable (record { period = period; arcs = arcs.now }) events times.now }
 {
-    let slacks = slacks_of(alloc, period, events, arcs, times)?;
+    let slacks = slacks_of(alloc, period, arcs, times)?;
     let cost = i64::try_from(cost_of(period, events, arcs, times)).unwrap_or(i64::MAX);
     Descent::new(alloc, period, events, arcs, slacks, cost, rounds)
 }

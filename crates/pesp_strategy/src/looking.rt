@@ -5,15 +5,18 @@ use crate::candidates::Candidate;
 use crate::experience::Side;
 use crate::kept::Kept;
 use crate::weighing::{Leaf, Weight, score};
-use pesp_forest::Frame;
+use pesp_forest::{Cycles, Frame};
 use pesp_problem::Pair;
-use pesp_relaxation::{Basis, Ended};
+use pesp_relaxation::{Basis, Change, Ended};
 use std::alloc::{AllocError, Global};
 use std::mem::swap;
 
-/// What was found for a part of a cut: pairs; and the basis as it is written down, where it is a best one.
+/// What was found for a part of a cut: the rows that differ from the leaf's, and whether the basis is a best one. Of the best cut
+/// also pairs, and the basis as it is written down, where it is a best one.
 #[derive(Drop)]
 pub(crate) struct Found {
+    changes: Vec<Change>,
+    is_best: bool,
     pub(crate) pairs: Vec<Pair>,
     codes: Vec<u8>,
     is_written: bool,
@@ -55,6 +58,8 @@ impl Found {
     /// Nothing yet.
     fn nothing(alloc: Global) -> Found {
         Found {
+            changes: Vec::new(alloc),
+            is_best: false,
             pairs: Vec::new(alloc),
             codes: Vec::new(alloc),
             is_written: false,
@@ -73,14 +78,21 @@ impl Found {
         }
     }
 
-    /// Notes the pairs of a basis, and the basis where it is a best one.
-    fn note(&mut self, leaf: &Leaf<'_>, basis: &Basis, ended: Ended) -> Result<(), AllocError> {
-        basis.put_pairs(leaf.cycles, &mut self.pairs)?;
-        self.is_written = false;
-        if ended == Ended::Best {
-            self.is_written = basis.save(&mut self.codes)?;
+    /// Notes how a basis differs from the leaf's.
+    fn note(&mut self, basis: &Basis, ended: Ended) -> Result<(), AllocError> {
+        self.is_best = ended == Ended::Best;
+        basis.put_changes(&mut self.changes)
+    }
+
+    /// Writes down the pairs, and the basis where it is a best one, from the leaf's basis, which becomes this one; None where it
+    /// can't.
+    fn write(&mut self, cycles: &Cycles, basis: &mut Basis) -> Result<Option<()>, AllocError> {
+        if basis.change_rows(&self.changes).is_none() {
+            return Ok(None);
         }
-        Ok(())
+        basis.put_pairs(cycles, &mut self.pairs)?;
+        self.is_written = self.is_best && basis.save(&mut self.codes)?;
+        Ok(Some(()))
     }
 }
 
@@ -118,10 +130,20 @@ impl Bases {
             kept.offer(alloc, leaf.frame, &self.tried)?;
         }
         if is_high {
-            self.looked_at.high.note(leaf, &self.tried, weight.ended)
+            self.looked_at.high.note(&self.tried, weight.ended)
         } else {
-            self.looked_at.low.note(leaf, &self.tried, weight.ended)
+            self.looked_at.low.note(&self.tried, weight.ended)
         }
+    }
+
+    /// Writes down what was found for the parts of the best cut; None where it can't.
+    fn write_best(&mut self, cycles: &Cycles) -> Result<Option<()>, AllocError> {
+        let Parts { low, high } = &mut self.best;
+        let is_low_written = low.write(cycles, &mut self.tried)?.is_some();
+        if !is_low_written || self.tried.go_back(&self.leaf).is_none() {
+            return Ok(None);
+        }
+        high.write(cycles, &mut self.tried)
     }
 
     /// Looks at a part of a cut, and goes back to the leaf.
@@ -182,9 +204,9 @@ impl Experience {
     }
 }
 
-/// The best of these cuts, or the first that closes both parts. What was found for its parts is kept, and so is what was
+/// The best of these cuts, or the first that closes both parts. How its parts differ from the leaf is kept, and so is what was
 /// gained and a timetable that costs less, where one was met with.
-pub(crate) fn best_cut(
+fn best_of(
     alloc: Global,
     leaf: &Leaf<'_>,
     kept: &mut Kept,
@@ -194,9 +216,6 @@ pub(crate) fn best_cut(
 ) -> Result<Option<Looked>, AllocError> {
     let mut best = None;
     let mut greatest = 0;
-    if bases.tried.copy_from(&bases.leaf).is_none() {
-        return Ok(None);
-    }
     for cut in cuts {
         let Some(looked) = bases.look_at(alloc, leaf, kept, cut)? else {
             continue;
@@ -211,6 +230,25 @@ pub(crate) fn best_cut(
         if looked.low.is_closed(kept) && looked.high.is_closed(kept) {
             return Ok(best);
         }
+    }
+    Ok(best)
+}
+
+/// The best of these cuts, with what was found for its parts.
+pub(crate) fn best_cut(
+    alloc: Global,
+    leaf: &Leaf<'_>,
+    kept: &mut Kept,
+    bases: &mut Bases,
+    experience: &mut Experience,
+    cuts: &[Candidate],
+) -> Result<Option<Looked>, AllocError> {
+    if bases.tried.copy_from(&bases.leaf).is_none() {
+        return Ok(None);
+    }
+    let best = best_of(alloc, leaf, kept, bases, experience, cuts)?;
+    if best.is_some() && bases.write_best(leaf.cycles)?.is_none() {
+        return Ok(None);
     }
     Ok(best)
 }

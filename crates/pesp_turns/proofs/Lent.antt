@@ -15,7 +15,7 @@ use Rattle.pesp_machine.specs.declared.job.Job.{Job}
 use Rattle.pesp_machine.specs.declared.work.Work.{Work}
 use Rattle.pesp_machine.specs.declared.work.Work.TheVariants as works
 use Rattle.pesp_machine.specs.States.{State, IsJobLeaf, root_of, node_at}
-use Rattle.pesp_machine.specs.Events.{IsValidAt}
+use Rattle.pesp_machine.specs.Events.{IsValidAt, Takes, MakesTooMuch}
 use Rattle.pesp_machine.proofs.Ranges.{cut_keeps_limits}
 use Rattle.pesp_machine.proofs.OneSize.{same_pairs}
 use Rattle.pesp_board.specs.Giving.{AreCuts}
@@ -23,7 +23,7 @@ use Rattle.pesp_board.proofs.Paths.{cut_of_node}
 use Rattle.pesp_search_laws.proofs.Replies.{lent_leaf}
 use Rattle.pesp_search_laws.proofs.Sizes.{path_cuts, leaf_pairs}
 use Rattle.pesp_search_laws.proofs.Found.{found_is_valid}
-use Rattle.pesp_branching.specs.Expanding.{IsExpanded}
+use Rattle.pesp_branching.specs.Expanding.{IsExpanded, IsStepOf}
 use Rattle.pesp_turns.specs.Handing.{IsJustLent, IsHandedIn, IsSplitAt, IsGiven, IsStepGiven}
 
 some_period : (p : ProblemValue) → KeepsNetLimits p.network → 0 < p.network.period
@@ -100,3 +100,25 @@ pub step_given : {E : Type 0} (p q : ProblemValue) (old new : State) (job : Job)
 step_given p q old new job start node cut lines (Ok taken) s x h =
     record { cut = cut; counted = s.counted; lines = lines; low = x.low; high = x.high; step = x.step; given = h }
 step_given p q old new job start node cut lines (Err e) s x h = tt
+
+-- ---- what is proposed
+
+pub step_taken : (p : ProblemValue) (old new : State) (job : Job) (cut : Cut) (lines : Vec TreeLine)
+    → IsSplitAt p old job cut → IsStepOf cut lines.items → Takes p old job.number (works.Tree lines) new
+    → IsStepGiven p old job.number true new
+step_taken p old new job cut lines s x h =
+    record { cut = cut; counted = s.counted; lines = lines; low = x.low; high = x.high; step = x.step; given = h }
+
+pub step_too_large : (p : ProblemValue) (old new : State) (job : Job) (cut : Cut) (lines : Vec TreeLine)
+    → IsSplitAt p old job cut → IsStepOf cut lines.items → new ≡ old
+    → MakesTooMuch p old job.number (works.Tree lines) → IsStepGiven p old job.number false new
+step_too_large p old new job cut lines s x e h =
+    record { cut = cut; counted = s.counted; lines = lines; low = x.low; high = x.high; step = x.step; given = (e, h) }
+
+pub split_still : (p q : ProblemValue) (s t : State) (job : Job) (cut : Cut) → q ≡ p → t ≡ s
+    → IsSplitAt p s job cut → IsSplitAt q t job cut
+split_still p q s t job cut e f h = rw (e, f) h
+
+pub given_still : {E : Type 0} (p q : ProblemValue) (s t new : State) (number : ℕ) (r : Result Bool E) → q ≡ p → t ≡ s
+    → IfOk r (λ taken. IsStepGiven q t number taken new) → IfOk r (λ taken. IsStepGiven p s number taken new)
+given_still p q s t new number r e f h = rw (sym e, sym f) h

@@ -1,5 +1,5 @@
 -- What a turn does with the leaf that was lent.
-use Rattle.std.proofs.Common.{◌≡◌, ℕ, inl, inr, Bool, true, false, arith, sym, ap, subst}
+use Rattle.std.proofs.Common.{◌≡◌, ℕ, refl, inl, inr, Bool, true, false, arith, sym, ap, subst}
 use Rattle.std.specs.Prelude.{Result, IfOk}
 use Rattle.pesp_problem.specs.Nodes.{Node}
 use Rattle.pesp_network.specs.Networks.{KeepsNetLimits}
@@ -13,11 +13,12 @@ use Rattle.pesp_reduce.specs.Reductions.{ReducedValue}
 use Rattle.pesp_branching.specs.Offering.{MayOffer}
 use Rattle.pesp_search_laws.specs.Rooms.{branch_lines}
 use Rattle.pesp_search_laws.specs.Settled.{IsSettled, HaveOffsetsLeft}
-use Rattle.pesp_turns.specs.declared.ending.Ending.TheVariants.{TreeTooLarge}
+use Rattle.pesp_turns.specs.declared.ending.Ending.{Ending}
+use Rattle.pesp_turns.specs.declared.ending.Ending.TheVariants.{StepsUsed, NoneOpen, NumbersSpent, TreeTooLarge, TurnsUsed}
 use Rattle.pesp_turns.specs.declared.turning.Turn.{Turn}
-use Rattle.pesp_turns.specs.declared.turning.Turn.TheVariants.{Split, Over}
+use Rattle.pesp_turns.specs.declared.turning.Turn.TheVariants.{Split, Closed, GivenUp, Over}
 use Rattle.pesp_turns.specs.Handing.{IsJustLent, IsGiven, IsStepGiven}
-use Rattle.pesp_turns.specs.Turning.{IsSettling, IsSettledTurn, IsTurn, turn_given, turn_found}
+use Rattle.pesp_turns.specs.Turning.{IsSettling, IsSettledTurn, IsOver, IsTurn, IsTold, turn_given, turn_found, splits_in, ending_after}
 
 -- a leaf was lent, on the way to a turn
 pub record IsLentFrom (p : ProblemValue) (old mid : State) (job : Job) : Type 0 where
@@ -109,3 +110,21 @@ split_turn p q r mid split new job l g e o = record {
   gives = g;
   offers = subst (λ (x : ProblemValue). MayOffer x split new) e o;
 }
+
+-- how a turn that is over is told
+over_told : (p : ProblemValue) (r : ReducedValue) (ending : Ending) (old new : State) → IsOver p old ending new
+    → IsTold p r old 0 ending new
+over_told p r StepsUsed old new o = absurd o
+over_told p r NoneOpen old new o = (refl, o)
+over_told p r NumbersSpent old new o = (refl, o)
+over_told p r TreeTooLarge old new o = (refl, o)
+over_told p r TurnsUsed old new o = absurd o
+
+-- how a turn is told
+pub turn_told : (p : ProblemValue) (r : ReducedValue) (turn : Turn) (old new : State) → IsTurn p r old turn new
+    → IsTold p r old (splits_in turn) (ending_after turn) new
+turn_told p r Split old new t = (refl, t)
+turn_told p r Closed old new (inl c) = (refl, inl c)
+turn_told p r Closed old new (inr s) = (refl, inr (true, s))
+turn_told p r GivenUp old new s = (refl, inr (false, s))
+turn_told p r (Over ending) old new o = over_told p r ending old new o

@@ -119,3 +119,18 @@ splits_in Split = 1
 splits_in Closed = 0
 splits_in GivenUp = 0
 splits_in (Over ending) = 0
+
+-- why no other turn is taken with it
+abbrev pub ending_after : Turn → Ending
+ending_after Split = StepsUsed
+ending_after Closed = TurnsUsed
+ending_after GivenUp = TurnsUsed
+ending_after (Over ending) = ending
+
+-- what a turn does, as it is told: where it tells that a split was used, one leaf is split, and no other turn splits one
+abbrev pub IsTold : ProblemValue → ReducedValue → State → ℕ → Ending → State → Type 0
+IsTold p r old used StepsUsed new = (used ≡ 1) × IsSplit p old new
+IsTold p r old used TurnsUsed new = (used ≡ 0) × (IsClosed p old new ⊎ ((closed : Bool) × IsSettledTurn p r old closed new))
+IsTold p r old used NoneOpen new = (used ≡ 0) × IsOver p old NoneOpen new
+IsTold p r old used NumbersSpent new = (used ≡ 0) × IsOver p old NumbersSpent new
+IsTold p r old used TreeTooLarge new = (used ≡ 0) × IsOver p old TreeTooLarge new

@@ -6,7 +6,7 @@ ghost use Rattle.pesp_turns.specs.Knowing.{IsKnown};
 ghost use Rattle.pesp_search_laws.specs.Turns.{IsWorked};
 ghost use Rattle.pesp_turns.specs.Settling.{IsSearched};
 ghost use Rattle.pesp_turns.specs.Growing.{Grows};
-ghost use Rattle.pesp_turns.specs.Turning.{splits_in};
+ghost use Rattle.pesp_turns.specs.Turning.{splits_in, ending_after, IsTold};
 ghost use Rattle.pesp_turns.specs.Counting.{AreTurns};
 ghost use Rattle.pesp_turns.specs.Endings.{AreLentSettled, EndsAs};
 
@@ -47,7 +47,8 @@ fn known_and_proposer(
 
 /// How many leaves a turn split, and why no other is taken with it.
 fn ended_by(turn: Turn) -> Ended
-    ensures { result.used ≡ splits_in turn }
+    ensures used { result.used ≡ splits_in turn }
+    ensures ending { result.ending ≡ ending_after turn }
 {
     match turn {
         Turn::Split => Ended {
@@ -123,6 +124,8 @@ impl Search {
         requires { IsKnown self.old.board.problem self.old.known }
         ensures problem { self.new.board.problem ≡ self.old.board.problem }
         ensures known { self.new.known ≡ self.old.known }
+        ensures told { IfOk result (λ ended. IsTold self.old.board.problem self.old.known.reduced
+            self.old.board.state ended.used ended.ending self.new.board.state) }
         ensures grows { IfOk result (λ ended. Grows self.old.board.problem ended.used
             self.old.board.state self.new.board.state) }
     {

@@ -4,7 +4,7 @@ use Rattle.pesp_judges.proofs.Idle.{idle_sum_small}
 use Rattle.pesp_judges.proofs.leaf.idle_part.Goals as goal
 
 pub returns-then-weighted-clause-size : goal.returns-then-weighted-clause-size
-returns-then-weighted-clause-size c =
-    let small = idle_sum_small c.args.instance.now c.args.ranges.now.slacks.items c.requires.limits c.requires.ranges.slacks in
-    let is : unsigned_abs c.args.ranges.now.idle ≤ 10 ^ 18 = omega (arith, small, ap unsigned_abs c.requires.ranges.idle) in
+returns-then-weighted-clause-size c p limits ranges =
+    let small = idle_sum_small p c.args.ranges.now.slacks.items limits ranges.slacks in
+    let is : unsigned_abs c.args.ranges.now.idle ≤ 10 ^ 18 = omega (arith, small, ap unsigned_abs ranges.idle) in
     omega (arith, ints)

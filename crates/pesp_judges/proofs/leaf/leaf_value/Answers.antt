@@ -12,13 +12,13 @@ use Rattle.pesp_judges.proofs.leaf.leaf_value.Goals as goal
 pub plus-requires : goal.plus-requires
 plus-requires g c =
     let a = c.take_flows-moved.ensures.size in
-    let b = c.idle_part-idle.ensures.size in
+    let b = c.idle_part-idle.ensures.size c.args.checker.now.instance.now c.in_ok-offsets.ensures.limits c.requires.ranges in
     omega (arith, ints)
 
 pub plus-requires-2 : goal.plus-requires-2
 plus-requires-2 g c =
     let a = c.take_flows-moved.ensures.size in
-    let b = c.idle_part-idle.ensures.size in
+    let b = c.idle_part-idle.ensures.size c.args.checker.now.instance.now c.in_ok-offsets.ensures.limits c.requires.ranges in
     let o = c.in_ok-offsets.ensures.size in
     let s = c.plus.ensures.size in
     omega (arith, ints)
@@ -26,7 +26,7 @@ plus-requires-2 g c =
 pub returns-clause-value : goal.returns-clause-value
 returns-clause-value g c walks nets =
     let a = c.take_flows-moved.ensures.size in
-    let b = c.idle_part-idle.ensures.size in
+    let b = c.idle_part-idle.ensures.size c.args.checker.now.instance.now c.in_ok-offsets.ensures.limits c.requires.ranges in
     let o = c.in_ok-offsets.ensures.size in
     let s = c.plus.ensures.value in
     let t = c.plus-2.ensures.value in
@@ -40,4 +40,5 @@ returns-clause-value g c walks nets =
     (λ i l. c.add_flows.ensures.flows walks nets' i (omega (arith, c.add_flows.auto.flows)))
     (c.in_ok-offsets.ensures.value walks nets) (c.take_flows-moved.ensures.sum
     ∙ ap (λ (x : List (ℕ × ℕ)). flow_sum (arcs_of c.args.checker.now.instance.now) x c.args.weighted
-    c.add_flows.new.flows) c.deref.ensures.value) c.idle_part-idle.ensures.value e
+    c.add_flows.new.flows) c.deref.ensures.value)
+    (c.idle_part-idle.ensures.value c.args.checker.now.instance.now c.requires.ranges) e

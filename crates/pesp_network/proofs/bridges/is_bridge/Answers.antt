@@ -38,22 +38,22 @@ pub returns-then-tail_row-k : goal.returns-then-tail_row-k
 returns-then-tail_row-k c =
     let g = c.args.forest.now in let rows = c.args.rows.now in let k = c.args.k in let f = c.requires.forest in
     let row = named rows k c.requires.row in let t = (slice_index_or rows (k - 1) no_net_row).tail in
-    let e = ends_of c.args.events (arcs_of_network rows) k f.ends row in let q = tail_at rows k c.requires.row in
+    let e = ends_of (vec_len g.up) (arcs_of_network rows) k f.ends row in let q = tail_at rows k c.requires.row in
     let n = f.events in let s = g.sized in let l = g.by.ok.0 in let e0 = e.0 in
-    let b : t < c.args.events = omega arith in
+    let b : t < (vec_len g.up) = omega arith in
     let r = get_or_read g.by.items t _ (omega arith) c.index-tail_row.ensures 0 in
-    tells c.args.events (arcs_of_network rows) g _ _ t k c.is_cut.result f c.requires.reaches b
+    tells (vec_len g.up) (arcs_of_network rows) g _ _ t k c.is_cut.result f c.requires.reaches b
     (sym r ∙ c.if-tail_row-k.true) row c.is_cut.ensures
 
 pub returns-then-head_row-k : goal.returns-then-head_row-k
 returns-then-head_row-k c =
     let g = c.args.forest.now in let rows = c.args.rows.now in let k = c.args.k in let f = c.requires.forest in
     let row = named rows k c.requires.row in let t = (slice_index_or rows (k - 1) no_net_row).head in
-    let e = ends_of c.args.events (arcs_of_network rows) k f.ends row in let q = head_at rows k c.requires.row in
+    let e = ends_of (vec_len g.up) (arcs_of_network rows) k f.ends row in let q = head_at rows k c.requires.row in
     let n = f.events in let s = g.sized in let l = g.by.ok.0 in let e1 = e.1 in
-    let b : t < c.args.events = omega arith in
+    let b : t < (vec_len g.up) = omega arith in
     let r = get_or_read g.by.items t _ (omega arith) c.index-head_row.ensures 0 in
-    tells c.args.events (arcs_of_network rows) g _ _ t k c.is_cut-then-head_row-k.result f c.requires.reaches b
+    tells (vec_len g.up) (arcs_of_network rows) g _ _ t k c.is_cut-then-head_row-k.result f c.requires.reaches b
     (sym r ∙ c.if-head_row-k.true) row c.is_cut-then-head_row-k.ensures
 
 pub returns : goal.returns
@@ -61,13 +61,13 @@ returns c =
     let g = c.args.forest.now in let rows = c.args.rows.now in let k = c.args.k in let f = c.requires.forest in
     let row = named rows k c.requires.row in let t = (slice_index_or rows (k - 1) no_net_row).tail in
     let h = (slice_index_or rows (k - 1) no_net_row).head in
-    let e = ends_of c.args.events (arcs_of_network rows) k f.ends row in let qt = tail_at rows k c.requires.row in
+    let e = ends_of (vec_len g.up) (arcs_of_network rows) k f.ends row in let qt = tail_at rows k c.requires.row in
     let qh = head_at rows k c.requires.row in let n = f.events in let s = g.sized in let l = g.by.ok.0 in
     let e0 = e.0 in let e1 = e.1 in
     let r = get_or_read g.by.items t _ (omega arith) c.index-tail_row.ensures 0 in
     let q = get_or_read g.by.items h _ (omega arith) c.index-head_row.ensures 0 in (
       (λ z. absurd (false≢true z)),
-      (λ b. absurd (tells_outside c.args.events (arcs_of_network rows) g k f row
+      (λ b. absurd (tells_outside (vec_len g.up) (arcs_of_network rows) g k f row
           (λ w. c.if-tail_row-k.false (r ∙ ap (at g.by.items) qt ∙ w))
           (λ w. c.if-head_row-k.false (q ∙ ap (at g.by.items) qh ∙ w)) b)),
     )

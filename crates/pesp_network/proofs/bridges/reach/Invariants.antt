@@ -5,7 +5,7 @@ use Rattle.pesp_network.proofs.bridges.reach.Given as goal
 
 abbrev pub invariant-loop-count : goal.invariant-loop-count
 invariant-loop-count l = record {
-  takes : TakesUp l.events (arcs_of_network l.rows) l.forest l.count l.reaches.low.items l.reaches.high.items;
+  takes : TakesUp (vec_len l.forest.up) (arcs_of_network l.rows) l.forest l.count l.reaches.low.items l.reaches.high.items;
   most : l.count ≤ vec_len l.forest.order;
   events : vec_len l.reaches.low ≡ vec_len l.forest.up;
 }

@@ -5,6 +5,6 @@ use Rattle.pesp_network.proofs.bridges.reach_rows.Given as goal
 
 abbrev pub invariant-loop-i : goal.invariant-loop-i
 invariant-loop-i l = record {
-  takes : TakesRows l.events (arcs_of_network l.rows) l.forest l.i l.reaches.low.items l.reaches.high.items;
+  takes : TakesRows (vec_len l.forest.up) (arcs_of_network l.rows) l.forest l.i l.reaches.low.items l.reaches.high.items;
   events : vec_len l.reaches.low ≡ vec_len l.forest.up;
 }

@@ -1,8 +1,9 @@
-use Rattle.std.proofs.Common.{◌≡◌, ℕ, ◌+◌, ◌<◌, List, length, arith, ◌∙◌, ap}
+use Rattle.std.proofs.Common.{◌≡◌, ℕ, ◌+◌, ◌<◌, List, length, arith, ◌∙◌, ap, sym, subst}
 use Rattle.std.specs.Prelude.{slice_index}
 use Rattle.std.proofs.lemmas.List.Elements.{All-from_get_or}
 use Rattle.pesp_problem.specs.Walks.{Names}
 use Rattle.pesp_network.specs.Networks.{arcs_of_network}
+use Rattle.pesp_network.specs.Rooted.{IsGrown}
 use Rattle.pesp_network.proofs.Picking.{met_forest, all_met}
 use Rattle.pesp_network.proofs.forest.forest_from.Goals as goal
 
@@ -10,6 +11,11 @@ use Rattle.pesp_network.proofs.forest.forest_from.Goals as goal
 lent : (n : ℕ) (numbers view : List ℕ) → view ≡ numbers → ((i : ℕ) → i < n → slice_index numbers i ≡ i + 1)
     → (i : ℕ) → i < n → slice_index view i ≡ i + 1
 lent n numbers view e each i h = ap (λ xs. slice_index xs i) e ∙ each i h
+
+pub meets_all-requires : goal.meets_all-requires
+meets_all-requires c =
+    let grown = c.in_ok-forest.ensures.grown in
+    subst (λ (k : ℕ). IsGrown k (arcs_of_network c.args.rows.now) c.in_ok-forest.forest) (sym grown.events) grown
 
 pub grow_over-requires-2-clause-names : goal.grow_over-requires-2-clause-names
 grow_over-requires-2-clause-names c =

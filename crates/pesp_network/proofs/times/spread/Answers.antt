@@ -1,6 +1,7 @@
-use Rattle.std.proofs.Common.{rules, ◌≡◌, arith, replicate, sym, ◌∙◌}
+use Rattle.std.proofs.Common.{rules, ◌≡◌, ℕ, arith, replicate, sym, subst, ◌∙◌}
 use Rattle.std.proofs.lemmas.List.{get_or_read}
 use Rattle.pesp_network.specs.Networks.{arcs_of_network}
+use Rattle.pesp_network.specs.Rooted.{IsForest}
 use Rattle.pesp_network.proofs.Flooding.{at_zeros}
 use Rattle.pesp_network.proofs.Reaching.{event_below}
 use Rattle.pesp_network.proofs.Fitting.{fits_none, fits_root, fits_view, less_more, fits_all}
@@ -31,6 +32,19 @@ loop-i-preserved-then-index-eq0 c =
           fits_root c.args.events c.args.period (arcs_of_network c.args.rows.now) g c.args.slacks.now _ c.loop-i.i
           c.index-event.result.now f i.fits q (sym b ∙ c.if-index-eq0.true);
     }
+
+pub time_of-time-requires-clause-forest : goal.time_of-time-requires-clause-forest
+time_of-time-requires-clause-forest c =
+    subst (λ (k : ℕ). IsForest k (arcs_of_network c.args.rows.now) c.args.forest.now)
+    (sym (c.as_slice.ensures.len ∙ c.loop-i.invariant.count)) c.requires.forest
+
+pub time_of-time-requires-clause-event : goal.time_of-time-requires-clause-event
+time_of-time-requires-clause-event c =
+    let g = c.args.forest.now in let lo = g.order.ok.0 in
+    let q = get_or_read g.order.items c.loop-i.i _ (omega arith) c.index-event.ensures 0 in
+    let below = event_below c.args.events (arcs_of_network c.args.rows.now) g c.loop-i.i _ c.requires.forest (omega arith) q in
+    let l = c.as_slice.ensures.len in let n = c.loop-i.invariant.count in
+    omega (arith, below, l, n)
 
 pub time_of-time-requires-clause-joined : goal.time_of-time-requires-clause-joined
 time_of-time-requires-clause-joined c =

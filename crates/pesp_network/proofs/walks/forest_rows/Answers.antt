@@ -20,15 +20,15 @@ wider g m rows h = All-weaker (JoinsBefore g m) (JoinsBefore g (m + 1)) (λ k w.
 
 pub overflow_cast-row : goal.overflow_cast-row
 overflow_cast-row c =
-    let g = c.args.forest.now in let n = c.requires.events in let s = g.sized in let l = g.by.ok.0 in let lt = c.loop-event-test.true in
+    let g = c.args.forest.now in let n = c.requires.1.events in let s = g.sized in let l = g.by.ok.0 in let lt = c.loop-event-test.true in
     let b = get_or_read g.by.items c.loop-event.event _ (omega arith) c.index-row.ensures 0 in
-    let most = c.requires.grown.by_row c.loop-event.event in
-    let few = c.requires.few in
+    let most = c.requires.1.grown.by_row c.loop-event.event in
+    let few = c.requires.1.few in
     omega (arith, b, most, few)
 
 pub loop-event-preserved-then-row-eq0 : goal.loop-event-preserved-then-row-eq0
 loop-event-preserved-then-row-eq0 c =
-    let g = c.args.forest.now in let i = c.loop-event.invariant in let n = c.requires.events in let s = g.sized in
+    let g = c.args.forest.now in let i = c.loop-event.invariant in let n = c.requires.1.events in let s = g.sized in
     let l = g.by.ok.0 in let lt = c.loop-event-test.true in
     let x = c.loop-event.event in
     let b = get_or_read g.by.items x _ (omega arith) c.index-row.ensures 0 in
@@ -44,7 +44,7 @@ loop-event-preserved-then-row-eq0 c =
 
 pub loop-event-preserved : goal.loop-event-preserved
 loop-event-preserved c =
-    let g = c.args.forest.now in let i = c.loop-event.invariant in let n = c.requires.events in let s = g.sized in
+    let g = c.args.forest.now in let i = c.loop-event.invariant in let n = c.requires.1.events in let s = g.sized in
     let l = g.by.ok.0 in let lt = c.loop-event-test.true in
     let x = c.loop-event.event in
     let row = c.index-row.result.now in
@@ -55,7 +55,7 @@ loop-event-preserved c =
     let other : (k : ℕ) (d : ℕ) → k < length old → get_or old k d ≢ row = λ k d m q.
     let w = i.before k d m in
     let first = w.1 in
-    let same = one_below _ _ _ _ g w.0 x c.requires.grown w.2 (w.3 ∙ q ∙ b) in
+    let same = one_below _ _ _ _ g w.0 x c.requires.1.grown w.2 (w.3 ∙ q ∙ b) in
     omega (arith, first, same) in
     let here : Contains c.push.new.self.items (at g.by.items x) =
     let Q : ℕ → Type 0 = λ v. Contains c.push.new.self.items v in

@@ -1,4 +1,4 @@
-use Rattle.std.proofs.Common.{◌≡◌, ◌++◌, ◌∷◌, [], arith, ap, ◌∙◌, sym, true, List}
+use Rattle.std.proofs.Common.{vec_len, ◌≡◌, ◌++◌, ◌∷◌, [], arith, ap, ◌∙◌, sym, true, List}
 use Rattle.pesp_problem.specs.declared.row.SignedRow.{SignedRow}
 use Rattle.pesp_network.specs.Networks.{arcs_of_network}
 use Rattle.pesp_network.specs.Growing.{at}
@@ -10,20 +10,20 @@ use Rattle.pesp_network.proofs.walks.walk_back.Goals as goal
 pub go_on-requires-clause-from : goal.go_on-requires-clause-from
 go_on-requires-clause-from c =
     let rows = c.args.rows.now in let k = c.args.k in let f = c.requires.forest in
-    let e = ends_of c.args.events (arcs_of_network rows) k f.ends (named rows k c.requires.row) in let e1 = e.1 in
+    let e = ends_of (vec_len c.args.forest.now.up) (arcs_of_network rows) k f.ends (named rows k c.requires.row) in let e1 = e.1 in
     let q = head_at rows k c.requires.row in omega arith
 
 pub go_on-requires-clause-to : goal.go_on-requires-clause-to
 go_on-requires-clause-to c =
     let rows = c.args.rows.now in let k = c.args.k in let f = c.requires.forest in
-    let e = ends_of c.args.events (arcs_of_network rows) k f.ends (named rows k c.requires.row) in let e0 = e.0 in
+    let e = ends_of (vec_len c.args.forest.now.up) (arcs_of_network rows) k f.ends (named rows k c.requires.row) in let e0 = e.0 in
     let q = tail_at rows k c.requires.row in omega arith
 
 pub go_on-requires-clause-one_tree : goal.go_on-requires-clause-one_tree
 go_on-requires-clause-one_tree c =
     let rows = c.args.rows.now in let k = c.args.k in let f = c.requires.forest in let root = c.args.forest.now.root.items in
     ap (at root) (head_at rows k c.requires.row)
-    ∙ one_tree c.args.events (arcs_of_network rows) c.args.forest.now k f (named rows k c.requires.row)
+    ∙ one_tree (vec_len c.args.forest.now.up) (arcs_of_network rows) c.args.forest.now k f (named rows k c.requires.row)
     ∙ ap (at root) (sym (tail_at rows k c.requires.row))
 
 pub returns : goal.returns

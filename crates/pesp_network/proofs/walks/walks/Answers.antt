@@ -1,4 +1,4 @@
-use Rattle.std.proofs.Common.{◌≡◌, ◌+◌, ◌++◌, ◌∷◌, [], length, arith, ap, ◌∙◌, sym, true, false, List}
+use Rattle.std.proofs.Common.{vec_len, ◌≡◌, ◌+◌, ◌++◌, ◌∷◌, [], length, arith, ap, ◌∙◌, sym, true, false, List}
 use Rattle.pesp_problem.specs.declared.row.SignedRow.{SignedRow}
 use Rattle.pesp_network.specs.Networks.{arcs_of_network, signed_rows}
 use Rattle.pesp_network.specs.Ways.{is_kept, walks_of, walk_of}
@@ -7,11 +7,11 @@ use Rattle.pesp_network.proofs.Tables.{kept_is, kept_next, free_next, total_more
 use Rattle.pesp_network.proofs.walks.walks.Goals as goal
 
 pub is_kept-requires-clause-tail : goal.is_kept-requires-clause-tail
-is_kept-requires-clause-tail c = let b = tail_below c.args.events c.args.rows.now c.loop-i.i c.requires.ends
+is_kept-requires-clause-tail c = let b = tail_below (vec_len c.args.forest.now.up) c.args.rows.now c.loop-i.i c.requires.ends
     c.loop-i-test.true in let n = c.requires.events in omega arith
 
 pub is_kept-requires-clause-head : goal.is_kept-requires-clause-head
-is_kept-requires-clause-head c = let b = head_below c.args.events c.args.rows.now c.loop-i.i c.requires.ends
+is_kept-requires-clause-head c = let b = head_below (vec_len c.args.forest.now.up) c.args.rows.now c.loop-i.i c.requires.ends
     c.loop-i-test.true in let n = c.requires.events in omega arith
 
 pub loop-i-preserved-then-is_kept : goal.loop-i-preserved-then-is_kept

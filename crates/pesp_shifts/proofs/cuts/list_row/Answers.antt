@@ -1,4 +1,4 @@
-use Rattle.std.proofs.Common.{arith}
+use Rattle.std.proofs.Common.{arith, vec_len}
 use Rattle.pesp_shifts.specs.Rooted.{roots_of}
 use Rattle.pesp_shifts.proofs.Climbing.{begins, met}
 use Rattle.pesp_shifts.proofs.cuts.list_row.Goals as goal
@@ -6,10 +6,10 @@ use Rattle.pesp_shifts.proofs.cuts.list_row.Goals as goal
 pub loop-at-init : goal.loop-at-init
 loop-at-init c = record {
   inside = (let e = c.requires.trees.inside c.args.row c.requires.row in (e.1, e.0));
-  climbed = λ h. begins c.args.events c.args.arcs.now (roots_of c.args.rooted.now) c.args.row c.args.cuts.now h;
+  climbed = λ h. begins (vec_len c.args.rooted.now.by) c.args.arcs.now (roots_of c.args.rooted.now) c.args.row c.args.cuts.now h;
 }
 
 pub returns : goal.returns
 returns c done h =
-    met c.args.events c.args.arcs.now (roots_of c.args.rooted.now) c.args.row c.loop-at.at.0 c.loop-at.at.1
+    met (vec_len c.args.rooted.now.by) c.args.arcs.now (roots_of c.args.rooted.now) c.args.row c.loop-at.at.0 c.loop-at.at.1
     c.loop-at.cuts (omega arith) (c.loop-at.invariant.climbed h)

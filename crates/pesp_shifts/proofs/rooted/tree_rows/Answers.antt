@@ -19,7 +19,7 @@ loop-place-preserved c =
     ]
 
 pub returns : goal.returns
-returns c =
-    tree_rows-from_all c.args.events c.args.arcs.now
-    (roots_of c.args.rooted.now) c.loop-place.rows.items c.loop-place.place c.requires.trees (omega arith)
+returns c events trees =
+    tree_rows-from_all events c.args.arcs.now
+    (roots_of c.args.rooted.now) c.loop-place.rows.items c.loop-place.place trees (omega arith)
     (omega arith) c.loop-place.invariant

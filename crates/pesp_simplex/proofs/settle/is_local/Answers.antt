@@ -1,6 +1,12 @@
+use Rattle.std.proofs.Common.{ℕ, subst, sym}
+use Rattle.pesp_problem.specs.ArcLimits.{KeepArcLimits}
 use Rattle.pesp_shifts.specs.Rooted.{roots_of}
 use Rattle.pesp_shifts.proofs.Locals.{cuts_are_local}
 use Rattle.pesp_simplex.proofs.settle.is_local.Goals as goal
+
+pub slacks_of-requires : goal.slacks_of-requires
+slacks_of-requires c =
+    subst (λ (k : ℕ). KeepArcLimits c.args.period k c.args.arcs.now) (sym c.requires.count) c.requires.limits
 
 pub returns : goal.returns
 returns c done forest tree =

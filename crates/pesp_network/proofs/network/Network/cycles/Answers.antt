@@ -5,7 +5,7 @@ use Rattle.pesp_problem.specs.declared.row.SignedRow.{SignedRow}
 use Rattle.pesp_problem.specs.Forests.{AreFundamental, IsSimple}
 use Rattle.pesp_network.specs.Networks.{NetworkValue, arcs_of_network, IsTableRefusal}
 use Rattle.pesp_network.proofs.Tables.{table_fundamental, table_simple}
-use Rattle.pesp_network.proofs.Holding.{table_is, refusal_is}
+use Rattle.pesp_network.proofs.Holding.{table_is, refusal_is, own_forest}
 use Rattle.pesp_network.proofs.network.Network.cycles.Goals as goal
 
 pub returns-clause-fundamental : goal.returns-clause-fundamental
@@ -34,3 +34,9 @@ returns-clause-refused c =
     subst P c.self.view_is (MatchResult-weaker c.walks.result c.walks.ensures.refused (λ x h. h)
     (λ e h. refusal_is n.events n.rows.items c.as_slice.result.now n.forest n.kept.items v.forest v.kept
     c.as_slice.ensures.value e h))
+
+pub walks-requires : goal.walks-requires
+walks-requires c =
+    let n = c.self.inside in
+    rw c.as_slice.ensures.value
+    (own_forest n.events (arcs_of_network n.rows.items) n.forest c.self.invariant.forest)

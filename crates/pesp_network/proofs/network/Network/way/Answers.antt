@@ -1,6 +1,8 @@
+use Rattle.std.proofs.Common.{arith, ap}
 use Rattle.std.specs.Option.{IfSome}
 use Rattle.std.proofs.lemmas.Option.{IfSome_then}
-use Rattle.pesp_network.proofs.Holding.{IsWayHeld, way_held, apart_held, none_then}
+use Rattle.pesp_network.specs.Networks.{NetworkValue, arcs_of_network}
+use Rattle.pesp_network.proofs.Holding.{IsWayHeld, way_held, apart_held, none_then, own_forest}
 use Rattle.pesp_network.proofs.network.Network.way.Goals as goal
 
 held : (c : goal.In_ok-found) → IfSome c.in_ok-found.found (λ way. IsWayHeld c.args.self.now c.args.from c.args.to way.items)
@@ -28,3 +30,21 @@ pub returns-clause-none : goal.returns-clause-none
 returns-clause-none c = none_then c.in_ok-found.found c.in_ok-found.ensures.none
     (λ ne. apart_held _ c.args.self.now c.self.inside.arcs.items c.self.inside.forest c.self.inside.reaches
     c.args.from c.args.to c.self.view_is c.self.invariant c.requires.from ne)
+
+pub way-requires-clause-forest : goal.way-requires-clause-forest
+way-requires-clause-forest c =
+    let n = c.self.inside in
+    rw c.as_slice.ensures.value
+    (own_forest n.events (arcs_of_network n.rows.items) n.forest c.self.invariant.forest)
+
+pub way-requires-clause-from : goal.way-requires-clause-from
+way-requires-clause-from c =
+    let same = ap (λ (x : NetworkValue). x.events) c.self.view_is in let events = c.self.invariant.forest.events in
+    let below = c.requires.from in
+    omega (arith, same, events, below)
+
+pub way-requires-clause-to : goal.way-requires-clause-to
+way-requires-clause-to c =
+    let same = ap (λ (x : NetworkValue). x.events) c.self.view_is in let events = c.self.invariant.forest.events in
+    let below = c.requires.to in
+    omega (arith, same, events, below)

@@ -1,4 +1,4 @@
-use Rattle.std.proofs.Common.{◌≡◌, ◌⊎◌, ◌∙◌, ℕ, ap, arith, set, subst, sym}
+use Rattle.std.proofs.Common.{◌≡◌, ◌⊎◌, ◌∙◌, ℕ, ap, arith, set, subst, sym, vec_len}
 use Rattle.pesp_network.specs.Networks.{arcs_of_network}
 use Rattle.pesp_problem.specs.Arcs.{tail_of, head_of}
 use Rattle.pesp_network.proofs.Places.{count}
@@ -107,3 +107,6 @@ beyond-next-requires-clause-at_event c =
     let l = read_left g u _ (current_below arcs g u c.requires.grown c.requires.current) c.index-k.ensures in
     let P : ℕ → Type 0 = λ k. (tail_of arcs k ≡ u) ⊎ (head_of arcs k ≡ u) in
     subst P (sym l) (c.requires.grown.left_end u c.requires.some_left)
+
+pub beyond-next-requires-clause-chains : goal.beyond-next-requires-clause-chains
+beyond-next-requires-clause-chains c = (vec_len c.args.self.now.up, c.requires.chains)

@@ -1,0 +1,5 @@
+use Rattle.pesp_sharp_outside_run.proofs.Telling.{AreTold}
+use Rattle.pesp_sharp_outside_run.proofs.replies.lines_of.Given as goal
+
+abbrev pub invariant-loop-place : goal.invariant-loop-place
+invariant-loop-place l = AreTold l.replies l.place l.lines

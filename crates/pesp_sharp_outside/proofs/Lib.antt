@@ -1,5 +1,5 @@
 mod Waiting
 mod Listing
 mod Counting
-mod Cutting
-mod Grafting
+mod Passed
+mod Taking

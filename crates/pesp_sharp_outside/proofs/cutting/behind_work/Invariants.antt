@@ -1,5 +1,5 @@
 use Rattle.std.proofs.Common.{length}
-use Rattle.pesp_sharp_outside.proofs.Cutting.{IsPassed}
+use Rattle.pesp_sharp_outside.proofs.Passed.{IsPassed}
 use Rattle.pesp_sharp_outside.proofs.cutting.behind_work.Given as goal
 
 abbrev pub invariant-loop-more : goal.invariant-loop-more

@@ -1,5 +1,5 @@
 use Rattle.std.proofs.Common.{length}
-use Rattle.pesp_sharp_outside.proofs.Grafting.{AreTaken}
+use Rattle.pesp_sharp_outside.proofs.Taking.{AreTaken}
 use Rattle.pesp_sharp_outside.proofs.grafting.graft_sharp.Given as goal
 
 abbrev pub invariant-loop-rest : goal.invariant-loop-rest

@@ -28,7 +28,7 @@ behind_line : (line : List ℕ) (ps : List (List ℕ)) (w : List ℕ) (ws : List
 behind_line line ps w ws e = rw e refl
 
 -- some bytes were passed, and the work doesn't end among them
-pub IsPassed : List ℕ → List ℕ → Type 0
+abbrev pub IsPassed : List ℕ → List ℕ → Type 0
 IsPassed text rest = (before : List ℕ) × (text ≡ before ++ rest) × (behind_work (pieces 10 rest) ≡ behind_work (pieces 10 text))
 
 pub none_passed : (text : List ℕ) → IsPassed text text
@@ -37,7 +37,7 @@ none_passed text = ([], refl, refl)
 module _ (text rest line : List ℕ) (h : IsPassed text rest) where
   -- no line is left
   pub at_end : (none : List ℕ) → none ≡ [] → pieces 10 rest ≡ line ∷ [] → (work : List ℕ) × IsCut text work none
-  at_end none is e = rw is (text, sym (append-nil text), sym (ap behind_work e) ∙ h.2)
+  at_end none is e = rw is (text, (sym (append-nil text), sym (ap behind_work e) ∙ h.2))
 
   module _ (more : List ℕ) (e : pieces 10 rest ≡ line ∷ pieces 10 more) where
     longer : text ≡ (h.0 ++ (line ++ 10 ∷ [])) ++ more
@@ -52,7 +52,7 @@ module _ (text rest line : List ℕ) (h : IsPassed text rest) where
         ∙ ap (λ (x : Bool). if x then pieces 10 more else behind_work (pieces 10 more)) is
 
     pub ends_here : (bytes_eq line (codes "end") || begins_with_front (pieces 10 more)) ≡ true → (work : List ℕ) × IsCut text work more
-    ends_here is = (h.0 ++ (line ++ 10 ∷ []), longer, sym (step true is))
+    ends_here is = (h.0 ++ (line ++ 10 ∷ []), (longer, sym (step true is)))
 
     pub shorter : length more < length text
     shorter = let whole = ap length longer in omega (

@@ -1,5 +1,5 @@
 -- Works taken one after the other.
-use Rattle.std.proofs.Common.{◌≡◌, ℕ, ◌≤◌, arith, ap, sym, subst, ◌∙◌, refl, List, [], ◌∷◌, ◌++◌, append_assoc, append-nil}
+use Rattle.std.proofs.Common.{◌≡◌, ℕ, ◌≤◌, arith, ap, sym, subst, ◌∙◌, refl, List, [], ◌∷◌, ◌++◌, length, append_assoc, append-nil}
 use Rattle.std.specs.Prelude.{Option, Some, None}
 use Rattle.pesp_problem.specs.Timetables.{Pesp}
 use Rattle.pesp_truth.specs.declared.answer.Answer.{Answer}
@@ -47,6 +47,10 @@ module _ (p : Pesp) (old new : Fronted) (text : List ℕ) where
   after_work (Unread refusal) valid h = kept h.0 valid
   after_work (NotValid refusal) valid h = kept h.0 valid
   after_work TooLarge valid h = kept h.0 valid
+
+pub nothing_left : (xs : List ℕ) → length xs ≡ 0 → xs ≡ []
+nothing_left [] e = refl
+nothing_left (x ∷ xs) e = cc
 
 -- some works were taken, and this is left of the text
 pub record AreTaken (p : Pesp) (base : Fronted) (text rest : List ℕ) (stood : Fronted) (replies : List SharpReply) : Type 0 where

@@ -1,6 +1,7 @@
 //! Texts of works that stand one behind the other.
 
-ghost use Rattle.std.specs.Prelude.{◌≡◌, ◌<◌, List, ℕ, length};
+ghost use Rattle.std.specs.Prelude.{◌≡◌, ◌<◌, ◌||◌, List, ℕ, length, codes};
+ghost use Rattle.std.specs.Str.{bytes_eq};
 ghost use Rattle.pesp_text.specs.Words.{pieces};
 ghost use Rattle.pesp_sharp_outside.specs.Cutting as spec;
 ghost use Rattle.pesp_sharp_outside.specs.Cutting.{IsCut};
@@ -13,6 +14,13 @@ fn begins_with_front(text: &[u8]) -> bool
 {
     let (line, _) = split_at_byte(b'\n', text);
     is_word(line, "pesp-certificate 3")
+}
+
+/// Whether a work ends with a line, behind which this stands.
+fn ends_with(line: &[u8], rest: &[u8]) -> bool
+    ensures { result ≡ (bytes_eq line.now (codes "end") || spec.begins_with_front (pieces 10 rest.now)) }
+{
+    is_word(line, "end") || begins_with_front(rest)
 }
 
 /// What stands behind the first line `end`, or from a line on further down with which a front begins; nothing where there is
@@ -29,7 +37,7 @@ fn behind_work(text: &[u8]) -> &[u8]
             return &[];
         };
         rest = more;
-        if is_word(line, "end") || begins_with_front(rest) {
+        if ends_with(line, rest) {
             return rest;
         }
     }

@@ -86,6 +86,13 @@ fn is_better(
     }
 }
 
+/// Whether what stands is no worse than a work.
+fn shows_as_much(stood: &Fronted, work: &Fronted) -> bool
+    ensures { IsTrue result ↔ IsNoWorse work.now.content.answer stood.now.content.answer }
+{
+    is_no_worse(work.certificate.answer(), stood.certificate.answer())
+}
+
 /// Grafts a valid certificate onto another one.
 fn take_valid(
     alloc: Global,
@@ -101,19 +108,17 @@ fn take_valid(
 {
     match joined(alloc, instance, stood, work)? {
         Merged::Better(joined) => {
-            if is_better(alloc, instance, stood, work, &joined)? {
-                *stood = joined;
-                Ok(SharpReply::Taken)
-            } else {
-                Ok(SharpReply::TooLarge)
+            if !is_better(alloc, instance, stood, work, &joined)? {
+                return Ok(SharpReply::TooLarge);
             }
+            *stood = joined;
+            Ok(SharpReply::Taken)
         }
         Merged::NothingNew => {
-            if is_no_worse(work.certificate.answer(), stood.certificate.answer()) {
-                Ok(SharpReply::AddsNothing)
-            } else {
-                Ok(SharpReply::TooLarge)
+            if !shows_as_much(stood, work) {
+                return Ok(SharpReply::TooLarge);
             }
+            Ok(SharpReply::AddsNothing)
         }
         Merged::TooLarge => Ok(SharpReply::TooLarge),
     }

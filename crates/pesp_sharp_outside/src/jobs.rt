@@ -115,8 +115,10 @@ fn jobs_in(
         if place >= shown.len() {
             return Ok(opens);
         }
-        add_if_open(alloc, &mut opens, &path, shown[place], cost)?;
-        if !pass(&mut path, line)? {
+        let value = shown[place];
+        add_if_open(alloc, &mut opens, &path, value, cost)?;
+        let waits = pass(&mut path, line)?;
+        if !waits {
             return Ok(opens);
         }
     }

@@ -1,6 +1,6 @@
 //! Work on open leaves of a certificate.
 
-ghost use Rattle.std.specs.Prelude.{◌<◌, ◌↔◌, ⊥, All, IfOk, IsTrue, MatchOption};
+ghost use Rattle.std.specs.Prelude.{◌<◌, ◌↔◌, All, IfOk, IsTrue, MatchOption};
 ghost use Rattle.pesp_sharp_truth.specs.Certificates.{IsValidWith};
 ghost use Rattle.pesp_sharp_text.specs.Texts.{content_of};
 ghost use Rattle.pesp_sharp_search.specs.Solving.{IsSharpResumed};
@@ -17,12 +17,7 @@ use std::alloc::Global;
 fn are_jobs(jobs: &[u64], count: u64) -> bool
     ensures { IsTrue result ↔ All (λ job. job < count) jobs.now }
 {
-    for job in jobs {
-        if *job >= count {
-            return false;
-        }
-    }
-    true
+    jobs.iter().all(|job| *job < count)
 }
 
 /// What the lines show that are open leaves but none of these jobs, of which the numbers rise; None for every other line.

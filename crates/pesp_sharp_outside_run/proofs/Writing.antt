@@ -1,5 +1,5 @@
 -- What is written of a certificate.
-use Rattle.std.proofs.Common.{ℕ, List}
+use Rattle.std.proofs.Common.{◌≡◌, ℕ, List, subst}
 use Rattle.pesp_problem.specs.Timetables.{Pesp}
 use Rattle.pesp_truth.specs.Truth.{IsTrueAnswer}
 use Rattle.pesp_truth.specs.Certificates.{shown_times}
@@ -23,12 +23,13 @@ written {certificate = certificate} holds is_true has_text gets = record {
 
 -- works were grafted, and the writers got what is said of the certificate's text and of the works' lines
 pub graft : {p : Pesp} {base certificate : Fronted} {works : List ℕ} {Gets Tells : List ℕ → Type 0}
-    (replies : List SharpReply) → IsSharpGrafted p base works replies certificate
+    (replies : List SharpReply) (lines : List ℕ) → lines ≡ lines_from 1 replies
+    → IsSharpGrafted p base works replies certificate
     → IsTrueAnswer p certificate.content.answer (shown_times certificate.content)
     → IsFrontedText (fronted_text certificate) certificate → Gets (fronted_text certificate)
-    → Tells (lines_from 1 replies) → WritesSharpGraft p base works Gets Tells
-graft replies grafted is_true has_text gets tells = record {
+    → Tells lines → WritesSharpGraft p base works Gets Tells
+graft {Tells = Tells} replies lines are grafted is_true has_text gets tells = record {
   replies = replies;
   grafted = written grafted is_true has_text gets;
-  told = tells;
+  told = subst Tells are tells;
 }

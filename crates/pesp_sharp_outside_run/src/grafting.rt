@@ -8,7 +8,8 @@ ghost use Rattle.pesp_truth.specs.Certificates.{shown_times};
 ghost use Rattle.pesp_sharp_truth.specs.Certificates.{IsValidWith};
 ghost use Rattle.pesp_sharp_text.specs.Texts.{content_of};
 ghost use Rattle.pesp_check_run.specs.Devices.{over};
-ghost use Rattle.pesp_faults.specs.Reading.{ReadsNext};
+ghost use Rattle.pesp_problem.specs.declared.limits.TheConstants.{MOST_TEXT};
+ghost use Rattle.pesp_stream.specs.Reading.{ReadsText};
 ghost use Rattle.pesp_faults.specs.Causes.{OutCause};
 ghost use Rattle.pesp_sharp_solve_run.specs.Resuming.{HasSharpBase};
 ghost use Rattle.pesp_sharp_outside.specs.Grafts.{IsSharpGrafted};
@@ -27,8 +28,8 @@ use std::alloc::Global;
 /// Reads works: at most 1,073,741,824 bytes.
 fn read_works<T: Source>(alloc: Global, reader: &mut T) -> Result<Vec<u8>, Fault>
     requires fits { FewerThan (2 ^ 63) (T.calls reader.old) }
-    ensures ok { IfOk result (λ works. ReadsNext (T.remaining reader.old) (T.remaining reader.new)
-        (λ text. text ≡ works.items)) }
+    ensures ok { IfOk result
+        (λ works. ReadsText (T.remaining reader.old) (T.remaining reader.new) MOST_TEXT works.items) }
     ensures short { IfOk result (λ works. length works.items ≤ 2 ^ 62) }
     ensures counts { OnOk result (HasWorked (T.calls reader.old) (T.calls reader.new)) }
     ensures counts_else { IfErr result (λ fault. fault ≢ Fault.Read → HasWorked (T.calls reader.old) (T.calls reader.new)) }

@@ -1,7 +1,7 @@
 //! What is told of works.
 
-ghost use Rattle.std.specs.Prelude.{◌≡◌, ◌+◌, ◌++◌, OnOk, IfOk};
-ghost use Rattle.pesp_sharp_outside_run.specs.Replies.{reply_text, reply_line, lines_from};
+ghost use Rattle.std.specs.Prelude.{◌≡◌, ◌++◌, OnOk, IfOk, string_bytes};
+ghost use Rattle.pesp_sharp_outside_run.specs.Replies.{reply_line, lines_from};
 
 use pesp_check_run::RefusalText;
 use pesp_problem::Memory;
@@ -35,7 +35,7 @@ impl fmt::Display for ReplyText {
 
 /// The line of a work, by its number.
 fn line_of(alloc: Global, number: u64, reply: SharpReply) -> Result<String, Memory>
-    ensures { IfOk result (λ line. line ≡ reply_line number reply) }
+    ensures { IfOk result (λ line. string_bytes line ≡ reply_line number reply) }
 {
     let text = ReplyText(reply);
     Ok(format!(in alloc; "work {number} {text}\n")?)
@@ -43,7 +43,7 @@ fn line_of(alloc: Global, number: u64, reply: SharpReply) -> Result<String, Memo
 
 /// Puts a line behind those before it.
 fn add(lines: &mut String, line: &str) -> Result<(), Memory>
-    ensures { OnOk result (lines.new ≡ lines.old ++ line.now) }
+    ensures { OnOk result (string_bytes lines.new ≡ string_bytes lines.old ++ line.now) }
 {
     lines.push_str(line)?;
     Ok(())
@@ -51,7 +51,7 @@ fn add(lines: &mut String, line: &str) -> Result<(), Memory>
 
 /// A line for each work.
 pub(crate) fn lines_of(alloc: Global, replies: &[SharpReply]) -> Result<String, Memory>
-    ensures { IfOk result (λ lines. lines ≡ lines_from 1 replies.now) }
+    ensures { IfOk result (λ lines. string_bytes lines ≡ lines_from 1 replies.now) }
 {
     let mut lines = String::new(alloc);
     for (place, reply) in replies.iter().enumerate() {

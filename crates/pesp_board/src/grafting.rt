@@ -1,6 +1,6 @@
 //! Whether the lines of a tree may stand in the place of a bound leaf.
 
-ghost use Rattle.std.specs.Prelude.{◌≡◌, ◌↔◌, ℤ, ◌≤ℤ◌, map, Option, IsTrue, IfSome, OnOk};
+ghost use Rattle.std.specs.Prelude.{◌≡◌, ◌↔◌, ◌≤ℤ◌, map, IsTrue, IfSome, OnOk};
 ghost use Rattle.pesp_truth.specs.Trees.{Bound, Shut, Nothing, Gap, ByPropagation, EndLine, CutLine};
 ghost use Rattle.pesp_truth.specs.Certificates.{line_of};
 ghost use Rattle.pesp_nodes.specs.Problems.{IsNodeOf};
@@ -52,11 +52,11 @@ fn graft_nothing(
     alloc: Global,
     problem: &Problem,
     node: &Node,
+    worth: Option<i128>,
     pairs: &[Pair],
 ) -> Result<Part, GiveRefusal>
     requires { IsNodeOf problem.now node.now }
-    ensures { (worth : Option ℤ)
-        → MakesPartOf problem.now worth node.now (EndLine (Nothing pairs.now)) result }
+    ensures { MakesPartOf problem.now worth node.now (EndLine (Nothing pairs.now)) result }
 {
     match judged(problem, node, pairs, false) {
         Some(value) if value > 0 => {
@@ -68,10 +68,14 @@ fn graft_nothing(
 }
 
 /// A leaf of a cycle that has no offset left.
-fn graft_gap(problem: &Problem, node: &Node, cycle: u32) -> Result<Part, GiveRefusal>
+fn graft_gap(
+    problem: &Problem,
+    node: &Node,
+    worth: Option<i128>,
+    cycle: u32,
+) -> Result<Part, GiveRefusal>
     requires { IsNodeOf problem.now node.now }
-    ensures { (worth : Option ℤ)
-        → MakesPartOf problem.now worth node.now (EndLine (Gap cycle)) result }
+    ensures { MakesPartOf problem.now worth node.now (EndLine (Gap cycle)) result }
 {
     if !is_gap(problem, node, cycle) {
         return Err(GiveRefusal::NotValid);
@@ -80,10 +84,14 @@ fn graft_gap(problem: &Problem, node: &Node, cycle: u32) -> Result<Part, GiveRef
 }
 
 /// A leaf at a node that propagation shuts.
-fn graft_propagated(alloc: Global, problem: &Problem, node: &Node) -> Result<Part, GiveRefusal>
+fn graft_propagated(
+    alloc: Global,
+    problem: &Problem,
+    node: &Node,
+    worth: Option<i128>,
+) -> Result<Part, GiveRefusal>
     requires { IsNodeOf problem.now node.now }
-    ensures { (worth : Option ℤ)
-        → MakesPartOf problem.now worth node.now (EndLine (Shut ByPropagation)) result }
+    ensures { MakesPartOf problem.now worth node.now (EndLine (Shut ByPropagation)) result }
 {
     if !is_shut_by_propagation(alloc, problem, node)? {
         return Err(GiveRefusal::NotValid);
@@ -92,9 +100,14 @@ fn graft_propagated(alloc: Global, problem: &Problem, node: &Node) -> Result<Par
 }
 
 /// A cut that leaves both sides of its range a value.
-fn graft_cut(problem: &Problem, node: &Node, cut: Cut) -> Result<Part, GiveRefusal>
+fn graft_cut(
+    problem: &Problem,
+    node: &Node,
+    worth: Option<i128>,
+    cut: Cut,
+) -> Result<Part, GiveRefusal>
     requires { IsNodeOf problem.now node.now }
-    ensures { (worth : Option ℤ) → MakesPartOf problem.now worth node.now (CutLine cut) result }
+    ensures { MakesPartOf problem.now worth node.now (CutLine cut) result }
 {
     if !leaves_both(problem, node, cut) {
         return Err(GiveRefusal::NotValid);
@@ -114,18 +127,20 @@ fn graft_line(
     ensures { MakesPartOf problem.now worth node.now (line_of line.now) result }
 {
     match line {
-        TreeLine::Slack { row, k } => graft_cut(problem, node, Cut::Slack { row: *row, k: *k }),
+        TreeLine::Slack { row, k } => {
+            graft_cut(problem, node, worth, Cut::Slack { row: *row, k: *k })
+        }
         TreeLine::Offset { cycle, k } => {
             let cut = Cut::Offset {
                 cycle: *cycle,
                 k: *k,
             };
-            graft_cut(problem, node, cut)
+            graft_cut(problem, node, worth, cut)
         }
         TreeLine::Bound(pairs) => graft_bound(alloc, problem, node, worth, pairs.as_slice()),
-        TreeLine::Nothing(pairs) => graft_nothing(alloc, problem, node, pairs.as_slice()),
-        TreeLine::Gap(cycle) => graft_gap(problem, node, *cycle),
-        TreeLine::Propagated => graft_propagated(alloc, problem, node),
+        TreeLine::Nothing(pairs) => graft_nothing(alloc, problem, node, worth, pairs.as_slice()),
+        TreeLine::Gap(cycle) => graft_gap(problem, node, worth, *cycle),
+        TreeLine::Propagated => graft_propagated(alloc, problem, node, worth),
     }
 }
 

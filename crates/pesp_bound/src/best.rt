@@ -6,9 +6,9 @@ ghost use Rattle.pesp_bound.specs.Leaves.{HasNoGap, IsLeafOf, IsNoLess};
 ghost use Rattle.pesp_bound.specs.Decided.{IsDecided, IsNothing};
 ghost use Rattle.pesp_nodes.specs.Problems.{net_of, IsNodeOf, ArePairs, Rise};
 
-use crate::system::closing_pairs;
 use crate::leaf::Leaf;
 use crate::proposal::{Proposal, propose};
+use crate::system::closing_pairs;
 use pesp_nodes::{Node, Problem, are_pairs, first_gap, leaf_value};
 use pesp_problem::{Memory, Pair, Pairs};
 use std::alloc::Global;

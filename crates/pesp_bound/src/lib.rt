@@ -3,19 +3,19 @@
 #![tactic(auto)]
 
 mod best;
-mod system;
+mod closed_way;
 mod differences;
 mod edge;
 mod leaf;
-mod proposal;
 mod passes;
+mod proposal;
 mod shifts;
-mod closed_way;
+mod system;
 
 pub use best::{best_leaf, best_leaf_from};
 pub use edge::{Edge, Outcome, are_settled};
 pub use leaf::Leaf;
+pub use passes::settle;
 pub use pesp_nodes::{
     Cut, Node, Pair, Pairs, Problem, ProblemRefusal, Side, leaf_value, offset_range,
 };
-pub use passes::settle;

@@ -9,11 +9,11 @@ ghost use Rattle.pesp_bound.specs.Leaves.{HasNoGap};
 ghost use Rattle.pesp_bound.specs.Decided.{IsDecided};
 ghost use Rattle.pesp_bound.specs.Differences.{IsSystem};
 
+use crate::closed_way::{flows_along, pairs_of};
 use crate::differences::{MOST, edges_along, passed_rows};
 use crate::edge::{Edge, Outcome, are_settled};
 use crate::passes::settle;
 use crate::shifts::shifts_of;
-use crate::closed_way::{flows_along, pairs_of};
 use pesp_nodes::{Node, Problem};
 use pesp_problem::{Pair, SignedRow};
 use std::alloc::{AllocError, Global};

@@ -168,7 +168,7 @@ fn later_times(
 
 /// Offers times after so many splits: those that were met with, made cheaper and lifted to the instance, where they are a
 /// timetable of what is left of it; and those that a search for times finds with them, after 128, 256, 512 splits and so on, or from
-/// 256 on where many rows are left.
+/// 512 on where many rows are left.
 pub fn offer_met(
     alloc: Global,
     board: &mut Board,

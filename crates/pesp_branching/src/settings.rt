@@ -7,7 +7,7 @@ pub(crate) const NARROWED_JOBS: u64 = 64;
 pub(crate) const FIRST_BATCH_AFTER: u32 = 128;
 
 /// The same with many rows, where one search for times takes as long as hundreds of steps.
-pub(crate) const FIRST_BATCH_OF_MANY_ROWS: u32 = 256;
+pub(crate) const FIRST_BATCH_OF_MANY_ROWS: u32 = 512;
 
 /// With more rows they are many.
 pub(crate) const FEW_ROWS: usize = 2_500;

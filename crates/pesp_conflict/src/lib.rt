@@ -10,8 +10,8 @@ mod lists;
 mod part;
 mod seeking;
 mod settings;
-mod sieve;
-mod trial;
+mod sifting;
+mod trying;
 mod used;
 
 pub use finding::{Conflict, Finding};

@@ -12,7 +12,7 @@ use crate::finding::{Conflict, Finding};
 use crate::known::{conflict_of, known_of};
 use crate::lists::all_rows;
 use crate::settings::TRIAL_STEPS;
-use crate::sieve::sift_all;
+use crate::sifting::sift_all;
 use pesp_problem::Instance;
 use pesp_search::SolveRefusal;
 use std::alloc::Global;

@@ -62,7 +62,11 @@ impl Spread {
     fn back(&self, event: u32, steps: usize) -> u32 {
         let mut current = event;
         for _ in 0..steps {
-            current = self.before.get(current as usize).copied().unwrap_or(current);
+            current = self
+                .before
+                .get(current as usize)
+                .copied()
+                .unwrap_or(current);
         }
         current
     }

@@ -93,12 +93,7 @@ impl Basis {
     }
 
     /// Sets all rows as they were written.
-    fn set_rows(
-        &mut self,
-        chosen: &mut [bool],
-        arriving: &mut [i64],
-        codes: &[u8],
-    ) -> Option<()> {
+    fn set_rows(&mut self, chosen: &mut [bool], arriving: &mut [i64], codes: &[u8]) -> Option<()> {
         for place in 0..self.rows.len() {
             let code = code_at(codes, place)?;
             self.set_row(chosen, arriving, place, code)?;

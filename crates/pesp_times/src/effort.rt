@@ -43,15 +43,10 @@ impl Effort {
     }
 
     /// The work after so many steps: little beside what the steps took, from a few thousand steps on.
-    pub(crate) fn after(rows: usize, steps: u32) -> Effort {
-        let rounds = if rows > FEW {
-            (steps / 16).clamp(24, 100)
-        } else {
-            (steps / 8).clamp(20, 100)
-        };
+    pub(crate) fn after(steps: u32) -> Effort {
         Effort {
             fours: 1,
-            rounds,
+            rounds: (steps / 8).clamp(20, 100),
             balls: (steps / 512).saturating_add(3).min(40),
         }
     }

@@ -115,7 +115,7 @@ impl TimesSearch {
             return Ok(());
         }
         let before = self.least();
-        self.batch(network, Effort::after(network.rows().len(), steps))?;
+        self.batch(network, Effort::after(steps))?;
         let is_cheaper = self.least() != before;
         self.rest.note(is_cheaper);
         Ok(())

@@ -5,13 +5,19 @@ use Rattle.pesp_bound.proofs.passes.settle_in.Goals as goal
 
 pub pass-requires-clause-within : goal.pass-requires-clause-within
 pass-requires-clause-within c =
-    let small = c.requires.small in
-    (c.args.most, omega (arith, small), subst (λ (k : ℕ). AreWithin k c.args.most c.args.edges.now)
-    (sym c.loop-event.invariant.size) c.requires.within)
+    let small = c.requires.small in (
+      c.args.most,
+      omega (arith, small),
+      subst (λ (k : ℕ). AreWithin k c.args.most c.args.edges.now)
+          (sym c.loop-event.invariant.size) c.requires.within,
+    )
 
 pub climb-requires-clause-within : goal.climb-requires-clause-within
-climb-requires-clause-within c = (c.args.most, subst (λ (k : ℕ). AreWithin k c.args.most c.args.edges.now)
-    (sym (c.in-Some.ensures.events ∙ c.loop-event.invariant.size)) c.requires.within)
+climb-requires-clause-within c = (
+  c.args.most,
+  subst (λ (k : ℕ). AreWithin k c.args.most c.args.edges.now)
+      (sym (c.in-Some.ensures.events ∙ c.loop-event.invariant.size)) c.requires.within,
+)
 
 pub loop-event-smaller : goal.loop-event-smaller
 loop-event-smaller c =

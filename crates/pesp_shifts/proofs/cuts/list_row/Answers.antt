@@ -9,6 +9,14 @@ loop-at-init c = record {
   climbed = λ h. begins (vec_len c.args.rooted.now.by) c.args.arcs.now (roots_of c.args.rooted.now) c.args.row c.args.cuts.now h;
 }
 
+pub loop-at-smaller : goal.loop-at-smaller
+loop-at-smaller c = (c.in-Some.ensures c.args.arcs.now c.requires.trees).nearer
+
+pub loop-at-preserved : goal.loop-at-preserved
+loop-at-preserved c =
+    let step = c.in-Some.ensures c.args.arcs.now c.requires.trees in
+    record { inside = step.inside; climbed = λ h. step.climbed (c.loop-at.invariant.climbed h) }
+
 pub returns : goal.returns
 returns c done h =
     met (vec_len c.args.rooted.now.by) c.args.arcs.now (roots_of c.args.rooted.now) c.args.row c.loop-at.at.0 c.loop-at.at.1

@@ -1,4 +1,4 @@
-use Rattle.pesp_conflict.proofs.sieve.try_next.Goals as goal
+use Rattle.pesp_conflict.proofs.sifting.try_next.Goals as goal
 
 pub returns-clause-known : goal.returns-clause-known
 returns-clause-known c =

@@ -7,7 +7,7 @@ ghost use Rattle.pesp_conflict.specs.Insides.{IsKnown};
 
 use crate::known::{Known, mark, take};
 use crate::settings::{FIRST_GROUPS, HALVINGS};
-use crate::trial::try_without;
+use crate::trying::try_without;
 use pesp_problem::Instance;
 use pesp_search::SolveRefusal;
 use std::alloc::{AllocError, Global};

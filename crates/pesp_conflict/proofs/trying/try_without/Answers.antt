@@ -1,6 +1,6 @@
 use Rattle.std.proofs.Common.{subst}
 use Rattle.pesp_conflict.specs.Insides.{IsDecision}
-use Rattle.pesp_conflict.proofs.trial.try_without.Goals as goal
+use Rattle.pesp_conflict.proofs.trying.try_without.Goals as goal
 
 pub returns-in-Conflict-clause-tried : goal.returns-in-Conflict-clause-tried
 returns-in-Conflict-clause-tried c = c.fewer_of.ensures c.args.instance.now

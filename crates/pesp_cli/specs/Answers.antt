@@ -15,7 +15,8 @@ use Rattle.pesp_faults.specs.declared.fault.Fault.{Fault}
 use Rattle.pesp_faults.specs.declared.fault.Fault.TheVariants.{Memory}
 use Rattle.pesp_solve_run.specs.Solving.{Solves, SolvesFrom}
 use Rattle.pesp_sharp_solve_run.specs.Solving.{SolvesSharp, SolvesSharpFrom}
-use Rattle.pesp_sharp_solve_run.specs.Resuming.{ResumesSharp}
+use Rattle.pesp_sharp_solve_run.specs.Resuming.{ResumesSharp, HasSharpBase}
+use Rattle.pesp_sharp_outside_run.specs.Outside.{WritesSharpJobs, WritesSharpWork, GraftsSharp}
 use Rattle.pesp_report_run.specs.Reporting.{WritesSheet}
 use Rattle.pesp_report_run.specs.Violating.{ReadsForEvents, WritesViolations}
 use Rattle.pesp_outside_run.specs.Outside.{WritesJobs, WritesWorks, Grafts}
@@ -26,11 +27,11 @@ use Rattle.pesp_conflict_run.specs.declared.told.Told.{Told}
 use Rattle.pesp_request.specs.declared.request.OfInstance.{OfInstance}
 use Rattle.pesp_request.specs.declared.request.OfInstance.TheVariants.{Solve, SolveSharp, Conflict}
 use Rattle.pesp_request.specs.declared.request.OfCertificate.{OfCertificate}
-use Rattle.pesp_request.specs.declared.request.OfCertificate.TheVariants.{Check, CheckSharp, Gap, Resume, ResumeSharp, Split}
+use Rattle.pesp_request.specs.declared.request.OfCertificate.TheVariants.{Check, CheckSharp, Gap, Resume, ResumeSharp, Split, SplitSharp}
 use Rattle.pesp_request.specs.declared.request.OfTimes.{OfTimes}
 use Rattle.pesp_request.specs.declared.request.OfTimes.TheVariants.{Report, Violations, Picture, Diagrams}
 use Rattle.pesp_request.specs.declared.request.Request.{Request}
-use Rattle.pesp_request.specs.declared.request.Request.TheVariants.{Instance, Certificate, Work, Times, Works}
+use Rattle.pesp_request.specs.declared.request.Request.TheVariants.{Instance, Certificate, Work, WorkSharp, Times, Works, WorksSharp}
 
 -- ---- writers
 
@@ -89,12 +90,20 @@ AnswersCertificate (ResumeSharp steps seconds progress) period instance reader w
     ResumesSharp instance.old instance.new reader.old reader.new period steps (Gets writer) × (status ≡ 0)
 AnswersCertificate Split period instance reader writer status =
     HasBase instance.old instance.new reader.old reader.new period (λ p base. WritesJobs p base (Gets writer)) × (status ≡ 0)
+AnswersCertificate SplitSharp period instance reader writer status =
+    HasSharpBase instance.old instance.new reader.old reader.new period (λ p base. WritesSharpJobs p base (Gets writer)) × (status ≡ 0)
 
 -- the same of work on open leaves of a certificate
 abbrev pub AnswersWork : ℕ → ℕ → Option ℕ → List ℕ → Device → Device → Device → ℕ → Type 0
 AnswersWork period steps until jobs instance reader writer status =
     HasBase instance.old instance.new reader.old reader.new period
     (λ p base. WritesWorks p base jobs steps until (Gets writer)) × (status ≡ 0)
+
+-- the same with leaves that marked walks sharpen
+abbrev pub AnswersWorkSharp : ℕ → ℕ → Option ℕ → List ℕ → Device → Device → Device → ℕ → Type 0
+AnswersWorkSharp period steps until jobs instance reader writer status =
+    HasSharpBase instance.old instance.new reader.old reader.new period
+    (λ p base. WritesSharpWork p base jobs steps (Gets writer)) × (status ≡ 0)
 
 -- 1 where any activity is violated
 abbrev pub violations_status : ℕ → ℕ
@@ -126,6 +135,12 @@ AnswersWorks period instance base reader writer teller status =
     HasBase instance.old instance.new base.old base.new period
     (λ p base. Grafts reader.old reader.new p base (Gets writer) (Gets teller)) × (status ≡ 0)
 
+-- the same with leaves that marked walks sharpen
+abbrev pub AnswersWorksSharp : ℕ → Device → Device → Device → Device → Device → ℕ → Type 0
+AnswersWorksSharp period instance base reader writer teller status =
+    HasSharpBase instance.old instance.new base.old base.new period
+    (λ p base. GraftsSharp reader.old reader.new p base (Gets writer) (Gets teller)) × (status ≡ 0)
+
 -- what the program does for a request, from the reader of standard input to the writers of standard output and standard
 -- error; what stands in a file that is named is some text
 abbrev pub Answers : Request → Device → Device → Device → Type 0 → ℕ → Type 0
@@ -136,7 +151,11 @@ Answers (Certificate period file asked) reader writer teller silent status =
     (instance : Device) × AnswersCertificate asked period instance reader writer status
 Answers (Work period file steps until jobs) reader writer teller silent status =
     (instance : Device) × AnswersWork period steps until jobs.items instance reader writer status
+Answers (WorkSharp period file steps until jobs) reader writer teller silent status =
+    (instance : Device) × AnswersWorkSharp period steps until jobs.items instance reader writer status
 Answers (Times period file asked) reader writer teller silent status =
     (instance : Device) × AnswersTimes asked period instance reader writer status
 Answers (Works period file base) reader writer teller silent status =
     (instance base : Device) × AnswersWorks period instance base reader writer teller status
+Answers (WorksSharp period file base) reader writer teller silent status =
+    (instance base : Device) × AnswersWorksSharp period instance base reader writer teller status

@@ -10,7 +10,7 @@ ghost use Rattle.pesp_faults.specs.Reading.{HasBase};
 ghost use Rattle.pesp_resume_run.specs.Resuming.{WritesResumed};
 ghost use Rattle.pesp_sharp_solve_run.specs.Resuming.{ResumesSharp};
 ghost use Rattle.pesp_request.specs.Requests.{InstanceWithin, CertificateWithin};
-ghost use Rattle.pesp_cli.specs.Answers.{AnswersSolve, AnswersSolveSharp, AnswersInstance, AnswersCertificate, AnswersWork, AnswersTimes, AnswersWorks, violations_status};
+ghost use Rattle.pesp_cli.specs.Answers.{AnswersSolve, AnswersSolveSharp, AnswersInstance, AnswersCertificate, AnswersWork, AnswersWorkSharp, AnswersTimes, AnswersWorks, AnswersWorksSharp, violations_status};
 
 use crate::input::{Beginning, warn_of_period};
 use crate::telling::told_conflict;
@@ -26,6 +26,7 @@ use pesp_report_run::{
 use pesp_request::{OfCertificate, OfInstance, OfTimes};
 use pesp_resume_run::{run_gap, run_resume};
 use pesp_search::{Nobody, Observer};
+use pesp_sharp_outside_run::{run_graft_sharp, run_split_sharp, run_work_sharp};
 use pesp_sharp_run::run_check_sharp;
 use pesp_sharp_search::SharpObserver;
 use pesp_sharp_solve_run::{run_resume_sharp, run_solve_sharp, run_solve_sharp_from};
@@ -267,6 +268,9 @@ pub(crate) fn of_certificate<R: AllocGlobal + Eprint + Clock, I: Source, S: Sour
             done(resume_with_marks(alloc, instance, reader, writer, period, steps, watch))
         }
         OfCertificate::Split => done(run_split(alloc, instance, reader, writer, period)),
+        OfCertificate::SplitSharp => {
+            done(run_split_sharp(alloc, instance, reader, writer, period))
+        }
     }
 }
 
@@ -296,6 +300,43 @@ pub(crate) fn of_leaves<R: AllocGlobal, I: Source, S: Source, W: Sink>(
         (W.calls writer.old) (W.calls writer.new))) }
 {
     done(run_work(
+        rt.alloc(),
+        instance,
+        reader,
+        writer,
+        period,
+        steps,
+        until,
+        jobs,
+    ))
+}
+
+/// The same with leaves that marked walks sharpen.
+#[tactic(auto, using(crate::proofs::Ends::finished))]
+pub(crate) fn of_sharp_leaves<R: AllocGlobal, I: Source, S: Source, W: Sink>(
+    rt: &R,
+    instance: &mut I,
+    reader: &mut S,
+    writer: &mut W,
+    period: u32,
+    steps: u32,
+    until: Option<u64>,
+    jobs: &[u64],
+) -> Result<u8, Fault>
+    requires steps { steps ≤ MOST_STEPS }
+    requires rise { IsStrictlyIncreasing jobs.now }
+    requires instance_fits { FewerThan (2 ^ 62) (I.calls instance.old) }
+    requires reads_fit { FewerThan (2 ^ 62) (S.calls reader.old) }
+    requires writes_fit { FewerThan (2 ^ 62) (W.calls writer.old) }
+    ensures { IfOk result (AnswersWorkSharp period steps until jobs.now
+        (over (I.remaining instance.old) (I.remaining instance.new)
+        (I.calls instance.old) (I.calls instance.new))
+        (over (S.remaining reader.old) (S.remaining reader.new)
+        (S.calls reader.old) (S.calls reader.new))
+        (over (W.contents writer.old) (W.contents writer.new)
+        (W.calls writer.old) (W.calls writer.new))) }
+{
+    done(run_work_sharp(
         rt.alloc(),
         instance,
         reader,
@@ -406,6 +447,37 @@ pub(crate) fn of_works<R: AllocGlobal, I: Source, B: Source, S: Source, W: Sink,
         (E.calls teller.old) (E.calls teller.new))) }
 {
     done(run_graft(rt.alloc(), instance, base, reader, writer, teller, period))
+}
+
+/// The same with leaves that marked walks sharpen; each work is a whole certificate.
+#[tactic(auto, using(crate::proofs::Ends::finished))]
+pub(crate) fn of_sharp_works<R: AllocGlobal, I: Source, B: Source, S: Source, W: Sink, E: Sink>(
+    rt: &R,
+    instance: &mut I,
+    base: &mut B,
+    reader: &mut S,
+    writer: &mut W,
+    teller: &mut E,
+    period: u32,
+) -> Result<u8, Fault>
+    requires instance_fits { FewerThan (2 ^ 62) (I.calls instance.old) }
+    requires base_fits { FewerThan (2 ^ 62) (B.calls base.old) }
+    requires reads_fit { FewerThan (2 ^ 62) (S.calls reader.old) }
+    requires writes_fit { FewerThan (2 ^ 62) (W.calls writer.old) }
+    requires tellings_fit { FewerThan (2 ^ 62) (E.calls teller.old) }
+    ensures { IfOk result (AnswersWorksSharp period
+        (over (I.remaining instance.old) (I.remaining instance.new)
+        (I.calls instance.old) (I.calls instance.new))
+        (over (B.remaining base.old) (B.remaining base.new)
+        (B.calls base.old) (B.calls base.new))
+        (over (S.remaining reader.old) (S.remaining reader.new)
+        (S.calls reader.old) (S.calls reader.new))
+        (over (W.contents writer.old) (W.contents writer.new)
+        (W.calls writer.old) (W.calls writer.new))
+        (over (E.contents teller.old) (E.contents teller.new)
+        (E.calls teller.old) (E.calls teller.new))) }
+{
+    done(run_graft_sharp(rt.alloc(), instance, base, reader, writer, teller, period))
 }
 
 /// Opens a file; where it can't be opened for any cause, that is told.

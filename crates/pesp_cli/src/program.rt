@@ -6,7 +6,10 @@ ghost use Rattle.pesp_check_run.specs.Devices.{over};
 ghost use Rattle.pesp_request.specs.Requests.{IsWithinLimits};
 ghost use Rattle.pesp_cli.specs.Answers.{Answers};
 
-use crate::answers::{of_certificate, of_instance, of_leaves, of_times, of_works, opened};
+use crate::answers::{
+    of_certificate, of_instance, of_leaves, of_sharp_leaves, of_sharp_works, of_times, of_works,
+    opened,
+};
 use crate::input::{Beginning, warn_of_period};
 use crate::output::writer_of;
 use crate::telling::{teller_of, told};
@@ -158,6 +161,25 @@ fn answer<R: AllocGlobal + Eprint + Files + Clock, S: Source, W: Sink, E: Sink>(
                 &jobs,
             )
         }
+        Request::WorkSharp {
+            period,
+            file,
+            steps,
+            until,
+            jobs,
+        } => {
+            let mut instance = opened(rt, file)?;
+            of_sharp_leaves(
+                rt,
+                &mut instance,
+                reader,
+                writer,
+                period,
+                steps,
+                until,
+                &jobs,
+            )
+        }
         Request::Times {
             period,
             file,
@@ -170,6 +192,11 @@ fn answer<R: AllocGlobal + Eprint + Files + Clock, S: Source, W: Sink, E: Sink>(
             let mut instance = opened(rt, file)?;
             let mut base = opened(rt, base)?;
             of_works(rt, &mut instance, &mut base, reader, writer, teller, period)
+        }
+        Request::WorksSharp { period, file, base } => {
+            let mut instance = opened(rt, file)?;
+            let mut base = opened(rt, base)?;
+            of_sharp_works(rt, &mut instance, &mut base, reader, writer, teller, period)
         }
     }
 }

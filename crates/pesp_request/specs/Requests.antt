@@ -5,11 +5,11 @@ use Rattle.pesp_problem.specs.declared.limits.TheConstants.{MOST_PERIOD, MOST_ST
 use Rattle.pesp_request.specs.declared.request.OfInstance.{OfInstance}
 use Rattle.pesp_request.specs.declared.request.OfInstance.TheVariants.{Solve, SolveSharp, Conflict}
 use Rattle.pesp_request.specs.declared.request.OfCertificate.{OfCertificate}
-use Rattle.pesp_request.specs.declared.request.OfCertificate.TheVariants.{Check, CheckSharp, Gap, Resume, ResumeSharp, Split}
+use Rattle.pesp_request.specs.declared.request.OfCertificate.TheVariants.{Check, CheckSharp, Gap, Resume, ResumeSharp, Split, SplitSharp}
 use Rattle.pesp_request.specs.declared.request.OfTimes.{OfTimes}
 use Rattle.pesp_request.specs.declared.request.OfTimes.TheVariants.{Report, Violations, Picture, Diagrams}
 use Rattle.pesp_request.specs.declared.request.Request.{Request}
-use Rattle.pesp_request.specs.declared.request.Request.TheVariants.{Instance, Certificate, Work, Times, Works}
+use Rattle.pesp_request.specs.declared.request.Request.TheVariants.{Instance, Certificate, Work, WorkSharp, Times, Works, WorksSharp}
 
 abbrev pub IsPeriod : ℕ → Type 0
 IsPeriod period = (1 ≤ period) × (period ≤ MOST_PERIOD)
@@ -27,6 +27,7 @@ CertificateWithin Gap = Unit {0}
 CertificateWithin (Resume steps seconds progress) = steps ≤ MOST_STEPS
 CertificateWithin (ResumeSharp steps seconds progress) = steps ≤ MOST_STEPS
 CertificateWithin Split = Unit {0}
+CertificateWithin SplitSharp = Unit {0}
 
 abbrev pub TimesWithin : OfTimes → Type 0
 TimesWithin (Report names) = Unit {0}
@@ -38,5 +39,7 @@ abbrev pub IsWithinLimits : Request → Type 0
 IsWithinLimits (Instance period file asked) = IsPeriod period × InstanceWithin asked
 IsWithinLimits (Certificate period file asked) = IsPeriod period × CertificateWithin asked
 IsWithinLimits (Work period file steps until jobs) = IsPeriod period × (steps ≤ MOST_STEPS) × IsStrictlyIncreasing jobs.items
+IsWithinLimits (WorkSharp period file steps until jobs) = IsPeriod period × (steps ≤ MOST_STEPS) × IsStrictlyIncreasing jobs.items
 IsWithinLimits (Times period file asked) = IsPeriod period × TimesWithin asked
 IsWithinLimits (Works period file base) = IsPeriod period
+IsWithinLimits (WorksSharp period file base) = IsPeriod period

@@ -1,13 +1,15 @@
 //! The command line.
 
 ghost use Rattle.std.specs.Prelude.{◌≤◌, IfOk, IfSome};
+ghost use Rattle.std.specs.List.Sorted.{IsStrictlyIncreasing};
 ghost use Rattle.pesp_request.specs.Requests.{InstanceWithin, CertificateWithin, TimesWithin, IsWithinLimits};
 
 use crate::jobs::jobs_of;
 use crate::options::{
-    base_argument, file_argument, from_option, jobs_argument, names_argument, names_option,
-    optional_file, period_option, progress_option, rows_option, seconds_option, sharp_option,
-    sharpen_option, solve_steps_option, steps_option, until_option, violations_option,
+    base_argument, file_argument, from_option, graft_sharp_option, jobs_argument, names_argument,
+    names_option, optional_file, period_option, progress_option, rows_option, seconds_option,
+    sharp_option, sharpen_option, solve_steps_option, steps_option, until_option,
+    violations_option, work_sharpen_option,
 };
 use crate::request::{OfCertificate, OfInstance, OfTimes, Request};
 use clap::error::ErrorKind;
@@ -17,7 +19,7 @@ use std::alloc::{AllocError, Global};
 
 /// The program's version, and the versions of certificates that it writes and reads.
 const VERSION: &str =
-    "0.1.0\ncertificates: versions 1 and 2; solve --sharp and resume --sharp write version 3 too, which check --sharp and resume --sharp read";
+    "0.1.0\ncertificates: versions 1 and 2; with --sharp solve, resume, work and graft write version 3 too, and check, resume, split, work and graft read it";
 
 /// What is said of a word that names no open leaf.
 const NO_JOB: &str =
@@ -126,7 +128,8 @@ fn split_command<'a>(alloc: Global) -> Result<Command<'a>, AllocError> {
         "split",
         "pesp split [OPTIONS] <FILE> < CERTIFICATE",
         "Reads a certificate from standard input and lists its open leaves as jobs",
-    )
+    )?
+    .arg(sharp_option(alloc))
 }
 
 fn work_command<'a>(alloc: Global) -> Result<Command<'a>, AllocError> {
@@ -136,7 +139,8 @@ fn work_command<'a>(alloc: Global) -> Result<Command<'a>, AllocError> {
         "pesp work [OPTIONS] <FILE> <JOB>... < CERTIFICATE",
         "Reads a certificate from standard input, works on its open leaves JOB.. and writes a work for each",
     )?
-    .arg(steps_option(alloc))?
+    .arg(work_sharpen_option(alloc))?
+    .arg(solve_steps_option(alloc))?
     .arg(until_option(alloc))?
     .arg(jobs_argument(alloc))
 }
@@ -148,6 +152,7 @@ fn graft_command<'a>(alloc: Global) -> Result<Command<'a>, AllocError> {
         "pesp graft [OPTIONS] <FILE> <BASE> < WORKS",
         "Reads works from standard input and grafts them onto the certificate in BASE",
     )?
+    .arg(graft_sharp_option(alloc))?
     .arg(base_argument(alloc))
 }
 
@@ -419,14 +424,28 @@ fn check_of(matches: &ArgMatches<'_>) -> OfCertificate
     }
 }
 
+/// What the words behind `split` ask for.
+fn split_of(matches: &ArgMatches<'_>) -> OfCertificate
+    ensures { CertificateWithin result }
+{
+    if matches.get_flag("sharp") {
+        OfCertificate::SplitSharp
+    } else {
+        OfCertificate::Split
+    }
+}
+
 /// What the words behind `graft` ask for.
 fn graft_of<'a>(matches: &ArgMatches<'a>) -> Request<'a>
     ensures { IsWithinLimits result }
 {
-    Request::Works {
-        period: period_of(matches),
-        file: file_of(matches),
-        base: matches.get_str("base").unwrap_or(""),
+    let period = period_of(matches);
+    let file = file_of(matches);
+    let base = matches.get_str("base").unwrap_or("");
+    if matches.get_flag("sharp") {
+        Request::WorksSharp { period, file, base }
+    } else {
+        Request::Works { period, file, base }
     }
 }
 
@@ -440,7 +459,7 @@ fn request_in<'a>(matches: &ArgMatches<'a>) -> Request<'a>
         Some(("check", found)) => certificate_of(found, check_of(found)),
         Some(("gap", found)) => certificate_of(found, OfCertificate::Gap),
         Some(("resume", found)) => certificate_of(found, resume_of(found)),
-        Some(("split", found)) => certificate_of(found, OfCertificate::Split),
+        Some(("split", found)) => certificate_of(found, split_of(found)),
         Some(("report", found)) => times_of(found, report_of(found)),
         Some(("draw", found)) => times_of(found, picture_of(found)),
         Some(("diagram", found)) => times_of(found, diagrams_of(found)),
@@ -457,6 +476,33 @@ fn request_in<'a>(matches: &ArgMatches<'a>) -> Request<'a>
     }
 }
 
+/// What the words behind `work` ask for, where these are the numbers of the leaves.
+fn work_on<'a>(matches: &ArgMatches<'a>, jobs: Vec<u64>) -> Request<'a>
+    requires { IsStrictlyIncreasing jobs.items }
+    ensures { IsWithinLimits result }
+{
+    let period = period_of(matches);
+    let file = file_of(matches);
+    let until = matches.get_one::<u64>("until");
+    if matches.get_flag("sharp") {
+        Request::WorkSharp {
+            period,
+            file,
+            steps: sharp_steps_of(matches),
+            until,
+            jobs,
+        }
+    } else {
+        Request::Work {
+            period,
+            file,
+            steps: steps_of(matches),
+            until,
+            jobs,
+        }
+    }
+}
+
 /// What the words behind `work` ask for; None where one of them names no job.
 fn work_of<'a>(alloc: Global, matches: &ArgMatches<'a>) -> Result<Option<Request<'a>>, AllocError>
     ensures { IfOk result (λ asked. IfSome asked IsWithinLimits) }
@@ -467,13 +513,7 @@ fn work_of<'a>(alloc: Global, matches: &ArgMatches<'a>) -> Result<Option<Request
     let Some(jobs) = jobs_of(alloc, words)? else {
         return Ok(None);
     };
-    Ok(Some(Request::Work {
-        period: period_of(matches),
-        file: file_of(matches),
-        steps: steps_of(matches),
-        until: matches.get_one::<u64>("until"),
-        jobs,
-    }))
+    Ok(Some(work_on(matches, jobs)))
 }
 
 /// What the words ask for, the program's name first; or clap's error, with the text that it prints.

@@ -75,6 +75,24 @@ pub(crate) fn sharp_option<'a>(alloc: Global) -> Arg<'a> {
         )
 }
 
+pub(crate) fn work_sharpen_option<'a>(alloc: Global) -> Arg<'a> {
+    Arg::new(alloc, "sharp")
+        .long("sharp")
+        .action(ArgAction::SetTrue)
+        .help(
+            "Takes a certificate of version 3 too, and sharpens the leaves by marked walks; the work is the whole certificate, for graft --sharp",
+        )
+}
+
+pub(crate) fn graft_sharp_option<'a>(alloc: Global) -> Arg<'a> {
+    Arg::new(alloc, "sharp")
+        .long("sharp")
+        .action(ArgAction::SetTrue)
+        .help(
+            "Takes a certificate of version 3 too, and works of work --sharp, each a whole certificate",
+        )
+}
+
 pub(crate) fn violations_option<'a>(alloc: Global) -> Result<Arg<'a>, AllocError> {
     Arg::new(alloc, "violations")
         .long("violations")

@@ -25,6 +25,16 @@ pub enum Request<'a> {
         /// The numbers of the leaves, which rise.
         jobs: Vec<u64>,
     },
+    /// The same with leaves that marked walks sharpen.
+    WorkSharp {
+        period: u32,
+        file: &'a str,
+        steps: u32,
+        /// From which value on no leaf is split, where one is named.
+        until: Option<u64>,
+        /// The numbers of the leaves, which rise.
+        jobs: Vec<u64>,
+    },
     /// What is asked of the times on standard input, and the file with their instance.
     Times {
         period: u32,
@@ -33,6 +43,12 @@ pub enum Request<'a> {
     },
     /// The works on standard input, grafted onto the certificate in a file.
     Works {
+        period: u32,
+        file: &'a str,
+        base: &'a str,
+    },
+    /// The same with leaves that marked walks sharpen; works are whole certificates.
+    WorksSharp {
         period: u32,
         file: &'a str,
         base: &'a str,
@@ -89,6 +105,8 @@ pub enum OfCertificate {
     },
     /// Its open leaves, as jobs.
     Split,
+    /// The same, where it may have a front of marked walks.
+    SplitSharp,
 }
 
 /// What is asked of times. Names are those of a file.

@@ -7,3 +7,4 @@ pub mod Judged
 pub mod Closing
 pub mod Faults
 pub mod Fronts
+pub mod Shown

@@ -14,31 +14,25 @@ use Rattle.pesp_sharp_leaf.specs.Terms.{number_at, rows_sum}
 use Rattle.pesp_sharp_leaf.proofs.Values.{AreOf, value_is}
 use Rattle.pesp_sharp_check.specs.Gains.{gains_of, rates_of}
 
--- the multipliers of a leaf that names marked walks
-abbrev with_scale : ℕ → Marks → List Pair → Multipliers
-with_scale cycles marks pairs = record {
-  scale = marks.scale;
-  pairs = of_cycles cycles pairs;
-  multiples = of_walks cycles marks.walks pairs;
-}
-
+-- the multipliers of a leaf of this scale
 abbrev at_scale : ℕ → Marks → List Pair → ℕ → Multipliers
 at_scale cycles marks pairs scale = record { scale = scale; pairs = of_cycles cycles pairs; multiples = of_walks cycles marks.walks pairs }
 
-scaled : (cycles : ℕ) (marks : Marks) (pairs : List Pair) → uses_walks cycles pairs ≡ true
-    → multipliers cycles marks pairs ≡ with_scale cycles marks pairs
-scaled cycles marks pairs uses = ap (λ (b : Bool). at_scale cycles marks pairs (scale_of marks b)) uses
+scaled : (cycles : ℕ) (marks : Marks) (pairs : List Pair) (scale : ℕ) → scale ≡ scale_of marks (uses_walks cycles pairs)
+    → at_scale cycles marks pairs scale ≡ multipliers cycles marks pairs
+scaled cycles marks pairs scale is = ap (at_scale cycles marks pairs) is
 
 pub scale_is : (cycles : ℕ) (marks : Marks) (pairs : List Pair) → uses_walks cycles pairs ≡ true
     → (multipliers cycles marks pairs).scale ≡ marks.scale
 scale_is cycles marks pairs uses = ap (scale_of marks) uses
 
 module _ (p : Pesp) (table : List (List SignedRow)) (node : Node) (marks : Marks) (pairs : List Pair)
-    (weighted : Bool) (cycles : ℕ) (uses : uses_walks cycles pairs ≡ true) (long : cycles ≡ length table) where
-  there : sharp_value (net_of p) table node (with_scale cycles marks pairs) weighted
+    (weighted : Bool) (cycles scale : ℕ) (is_scale : scale ≡ scale_of marks (uses_walks cycles pairs))
+    (long : cycles ≡ length table) where
+  there : sharp_value (net_of p) table node (at_scale cycles marks pairs scale) weighted
       ≡ sharp_value (net_of p) table node (multipliers (length table) marks pairs) weighted
   there = ap (λ (m : Multipliers). sharp_value (net_of p) table node m weighted)
-      (sym (scaled cycles marks pairs uses) ∙ ap (λ (k : ℕ). multipliers k marks pairs) long)
+      (scaled cycles marks pairs scale is_scale ∙ ap (λ (k : ℕ). multipliers k marks pairs) long)
 
   -- a cycle of a pair has no offset left
   pub no_value : ◌≡◌ {A = Option ℤ} None (option_map (λ z. pos p.period *ℤ z)
@@ -59,23 +53,23 @@ module _ (p : Pesp) (table : List (List SignedRow)) (node : Node) (marks : Marks
       → ◌≡◌ {A = Option ℤ} (Some offsets) (option_map (λ z. pos p.period *ℤ z)
       (offset_part (net_of p) table node (of_cycles cycles pairs)))
       → gains ≡ gains_of (net_of p) node.slacks cycles marks.walks pairs
-      → rows ≡ rows_sum (arcs_of p) node.slacks weighted marks.scale flows rates → value ≡ offsets +ℤ gains +ℤ rows
+      → rows ≡ rows_sum (arcs_of p) node.slacks weighted scale flows rates → value ≡ offsets +ℤ gains +ℤ rows
       → ◌≡◌ {A = Option ℤ} (Some value) (sharp_value (net_of p) table node
       (multipliers (length table) marks pairs) weighted)
   whole_value flows rates offsets gains rows value flows_are rates_are part g r v =
       go (offset_part (net_of p) table node (of_cycles cycles pairs)) refl part ∙ there
     where
-      are : AreOf (net_of p) table node (with_scale cycles marks pairs) flows rates
+      are : AreOf (net_of p) table node (at_scale cycles marks pairs scale) flows rates
       are = record { flows = flows_are; rates = rates_are }
 
       go : (o : Option ℤ) → offset_part (net_of p) table node (of_cycles cycles pairs) ≡ o
           → ◌≡◌ {A = Option ℤ} (Some offsets) (option_map (λ z. pos p.period *ℤ z) o)
           → ◌≡◌ {A = Option ℤ} (Some value) (sharp_value (net_of p) table node
-          (with_scale cycles marks pairs) weighted)
+          (at_scale cycles marks pairs scale) weighted)
       go None is e = cc
       go (Some z) is e =
           let same : offsets ≡ pos p.period *ℤ z = cc in
           let sum : value ≡ pos p.period *ℤ z +ℤ gains
-          +ℤ rows_sum (arcs_of p) node.slacks weighted marks.scale flows rates = v
+          +ℤ rows_sum (arcs_of p) node.slacks weighted scale flows rates = v
           ∙ ap (λ x. x +ℤ gains +ℤ rows) same ∙ ap (λ x. pos p.period *ℤ z +ℤ gains +ℤ x) r in
-          ap Some sum ∙ sym (value_is (net_of p) table node (with_scale cycles marks pairs) weighted flows rates are z gains is g)
+          ap Some sum ∙ sym (value_is (net_of p) table node (at_scale cycles marks pairs scale) weighted flows rates are z gains is g)

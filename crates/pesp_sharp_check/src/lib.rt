@@ -4,6 +4,7 @@
 
 mod checker;
 mod checking;
+mod costs;
 mod elements;
 mod gains;
 mod judge_leaf;
@@ -14,3 +15,4 @@ mod tree;
 mod values;
 
 pub use checking::check_sharp;
+pub use costs::costs_shown;

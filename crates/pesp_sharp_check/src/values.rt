@@ -8,7 +8,7 @@ ghost use Rattle.pesp_nets.specs.Nets.{AreZeros, AreNets};
 ghost use Rattle.pesp_judges.specs.Ranges.{node_of, AreRanges};
 ghost use Rattle.pesp_judges.specs.Lines.{ArePairLimits};
 ghost use Rattle.pesp_sharp.specs.Sharp as sharp;
-ghost use Rattle.pesp_sharp_truth.specs.Marks.{AreNamed, uses_walks, multipliers};
+ghost use Rattle.pesp_sharp_truth.specs.Marks.{AreNamed, uses_walks, scale_of, multipliers};
 
 use crate::checker::MarksChecker;
 use crate::elements::CyclePairs;
@@ -17,6 +17,49 @@ use pesp_judges::{Elements, Ranges, add_flows, offset_sum};
 use pesp_problem::Pair;
 use pesp_problem::exact::{plus, times};
 use pesp_sharp_leaf::{Rates, clear, rows_sum};
+
+/// The value of a leaf with these pairs by its scale; none where a cycle of a pair has no offset left. The flows, one a row, are 0
+/// before and after; the rates, one a row, are those of the leaf afterwards.
+pub fn value_by_scale<P: Elements<Pair>>(
+    checker: &MarksChecker<'_>,
+    ranges: &Ranges,
+    pairs: P,
+    weighted: bool,
+    scale: u32,
+    flows: &mut [i128],
+    rates: &mut [Rates],
+) -> Option<i128>
+    requires ranges { AreRanges checker.now.plain.instance.now ranges.now }
+    requires cycles { length ranges.now.offsets.items ≡ length checker.now.plain.table.now }
+    requires named { AreNamed (length checker.now.plain.table.now)
+        (length checker.now.marks.now.walks) (P.elements pairs) }
+    requires limits { ArePairLimits (P.elements pairs) }
+    requires scale { scale ≡ scale_of checker.now.marks.now
+        (uses_walks (length checker.now.plain.table.now) (P.elements pairs)) }
+    requires most { scale ≤ 1000000 }
+    requires long { length flows.old ≡ length checker.now.plain.instance.now.rows }
+    requires wide { length rates.old ≡ length checker.now.plain.instance.now.rows }
+    requires zeros { AreZeros flows.old }
+    ensures value { (walks : List (List SignedRow))
+        → AreNets (length checker.now.plain.instance.now.rows) walks checker.now.plain.table.now
+        → result ≡ sharp.sharp_value (net_of checker.now.plain.instance.now) walks
+        (node_of ranges.now)
+        (multipliers (length walks) checker.now.marks.now (P.elements pairs)) weighted }
+    ensures size { IfSome result (λ v. unsigned_abs v ≤ 4 * 10 ^ 37) }
+    ensures zeros { AreZeros flows.new }
+{
+    let of_cycles = CyclePairs {
+        cycles: checker.plain.table.len(),
+        pairs,
+    };
+    let offsets = offset_sum(&checker.plain, ranges, of_cycles)?;
+    clear(rates);
+    let gains = add_walks(checker, &ranges.slacks, pairs, rates);
+    add_flows(flows, checker.plain.table, of_cycles);
+    let rows = rows_sum(checker.arcs, &ranges.slacks, weighted, scale, flows, rates);
+    flows.fill(0);
+    Some(plus(plus(offsets, gains), rows))
+}
 
 /// The value of a leaf with these pairs, some of which name marked walks; none where a cycle of a pair has no offset left.
 /// The flows, one a row, are 0 before and after; the rates, one a row, are those of the leaf afterwards.
@@ -45,18 +88,8 @@ pub fn sharp_value<P: Elements<Pair>>(
     ensures size { IfSome result (λ v. unsigned_abs v ≤ 10 ^ 38) }
     ensures zeros { AreZeros flows.new }
 {
-    let of_cycles = CyclePairs {
-        cycles: checker.plain.table.len(),
-        pairs,
-    };
-    let offsets = offset_sum(&checker.plain, ranges, of_cycles)?;
-    clear(rates);
-    let gains = add_walks(checker, &ranges.slacks, pairs, rates);
-    add_flows(flows, checker.plain.table, of_cycles);
     let scale = checker.marks.scale();
-    let rows = rows_sum(checker.arcs, &ranges.slacks, weighted, scale, flows, rates);
-    flows.fill(0);
-    Some(plus(plus(offsets, gains), rows))
+    value_by_scale(checker, ranges, pairs, weighted, scale, flows, rates)
 }
 
 /// The scale times the least cost.

@@ -143,6 +143,24 @@ impl Base {
         }
     }
 
+    /// A line that may be taken up. A leaf that is to be kept as it is shows the cost that is told of it.
+    fn line_at(
+        &self,
+        alloc: Global,
+        line: &TreeLine,
+        place: usize,
+        cost: Option<u64>,
+    ) -> Result<Option<Line>, Memory> {
+        match cost {
+            Some(bound) => Ok(Some(Line::Kept {
+                first: u32::try_from(place).unwrap_or(u32::MAX),
+                count: 1,
+                bound,
+            })),
+            None => self.line(alloc, line),
+        }
+    }
+
     /// Lines that are kept as they are.
     fn kept(&self, lines: &[TreeLine], place: usize, count: usize) -> Line {
         let end = place.saturating_add(count);
@@ -155,8 +173,13 @@ impl Base {
         }
     }
 
-    /// The lines of the tree; below a branch that can't be taken up all are kept.
-    fn lines(&self, alloc: Global, tree: &[TreeLine]) -> Result<Vec<Line>, Memory> {
+    /// The lines of the tree; below a branch that can't be taken up all are kept, and so is each leaf of which a cost is told.
+    fn lines(
+        &self,
+        alloc: Global,
+        tree: &[TreeLine],
+        spared: &[Option<u64>],
+    ) -> Result<Vec<Line>, Memory> {
         let sizes = sizes_of(alloc, tree)?;
         let mut lines = Vec::new(alloc);
         let mut next = 0usize;
@@ -164,7 +187,8 @@ impl Base {
             if place < next {
                 continue;
             }
-            let (taken, count) = match self.line(alloc, line)? {
+            let cost = spared.get(place).copied().unwrap_or(None);
+            let (taken, count) = match self.line_at(alloc, line, place, cost)? {
                 Some(taken) => (taken, 1),
                 None => {
                     let count = sizes.get(place).copied().unwrap_or(1);
@@ -190,12 +214,14 @@ fn walks_of(
     }
 }
 
-/// The tree of a base as one over what is left of the instance, to be taken up. What isn't one is kept as it is.
+/// The tree of a base as one over what is left of the instance, to be taken up. What isn't one is kept as it is, and so is each
+/// line for which the cost is told that it shows.
 pub(crate) fn given_of(
     alloc: Global,
     instance: &Instance,
     reduced: &Reduced,
     base: &Fronted,
+    spared: &[Option<u64>],
 ) -> Result<Sharpened, Memory> {
     let lowering = Lowering::of(alloc, instance, reduced)?;
     let certificate = &base.certificate;
@@ -213,7 +239,7 @@ pub(crate) fn given_of(
     };
     Ok(Sharpened {
         bound: 0,
-        lines: base_tree.lines(alloc, certificate.tree())?,
+        lines: base_tree.lines(alloc, certificate.tree(), spared)?,
         cycles,
         walks: or_empty(alloc, lowered)?,
         steps_used: 0,

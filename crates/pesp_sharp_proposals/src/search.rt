@@ -39,6 +39,7 @@ pub struct SharpSearch {
     pub(crate) has_taken_up: bool,
     times: Option<TimesSearch>,
     before: u32,
+    until: Option<u64>,
 }
 
 /// Whether times are looked for after so many steps.
@@ -115,6 +116,7 @@ impl SharpSearch {
             has_taken_up: false,
             times,
             before: 0,
+            until: None,
         })
     }
 
@@ -140,12 +142,21 @@ impl SharpSearch {
             has_taken_up: false,
             times: Some(times),
             before: branches,
+            until: None,
         })
     }
 
     /// The cost of the best timetable so far.
     fn cost(&self) -> Option<u64> {
         Some(self.best.as_ref()?.cost)
+    }
+
+    /// From which cost on no leaf is split.
+    fn limit(&self) -> Option<u64> {
+        match (self.cost(), self.until) {
+            (Some(cost), Some(until)) => Some(cost.min(until)),
+            (cost, until) => cost.or(until),
+        }
     }
 
     /// How far the search is after so many steps.
@@ -207,8 +218,8 @@ impl SharpSearch {
     /// Splits the open leaf of least bound, where there is one below the best cost; or finds the slacks of that leaf, where it
     /// was taken up.
     fn step(&mut self, alloc: Global, instance: &Instance, used: u32) -> Result<Step, Memory> {
-        let cost = self.cost();
-        let step = self.sharpening.step(cost)?;
+        let limit = self.limit();
+        let step = self.sharpening.step(limit)?;
         if step != Step::Over {
             self.take_met(alloc, instance)?;
         }
@@ -218,17 +229,20 @@ impl SharpSearch {
         Ok(step)
     }
 
-    /// Takes up the tree of a certificate.
+    /// Takes up the tree of a certificate, but for the leaves of which a cost is told. Where none can be taken up the root is
+    /// sharpened.
     fn take_up(
         &mut self,
         alloc: Global,
         instance: &Instance,
         base: &Fronted,
+        spared: &[Option<u64>],
     ) -> Result<(), Memory> {
-        let given = given_of(alloc, instance, &self.reduced, base)?;
-        let cost = self.cost();
-        self.has_taken_up = self.sharpening.take_up(&given, cost)?;
-        Ok(())
+        let given = given_of(alloc, instance, &self.reduced, base, spared)?;
+        let limit = self.limit();
+        self.has_taken_up = self.sharpening.take_up(&given, limit)?;
+        // Nothing more is done where the tree was taken up.
+        self.look_at_root(alloc, instance)
     }
 
     /// Begins with a certificate: where it has no marked walks, the root is sharpened first.
@@ -245,9 +259,31 @@ impl SharpSearch {
                 return Ok(());
             }
         }
-        self.take_up(alloc, instance, base)?;
-        // Nothing more is done where the tree was taken up.
-        self.look_at_root(alloc, instance)
+        self.take_up(alloc, instance, base, &[])
+    }
+
+    /// Begins with some leaves of a certificate's tree: those of which a cost is told are kept as they are. Where it has no marked
+    /// walks, the root is sharpened first, so that these leaves get its inequalities.
+    fn begin_at_leaves(
+        &mut self,
+        alloc: Global,
+        instance: &Instance,
+        base: &Fronted,
+        spared: &[Option<u64>],
+    ) -> Result<(), Memory> {
+        self.look_for_times(alloc, instance, 0)?;
+        if base.front.is_none() {
+            self.look_at_root(alloc, instance)?;
+            if self.is_closed() {
+                return Ok(());
+            }
+        }
+        self.take_up(alloc, instance, base, spared)
+    }
+
+    /// Whether nothing is left to be found.
+    fn is_closed(&self) -> bool {
+        self.sharpening.bound() >= self.cost().unwrap_or(u64::MAX)
     }
 
     /// Whether the root shows at least as much as a certificate.
@@ -304,6 +340,23 @@ impl SharpSearch {
         watcher: &mut W,
     ) -> Result<(), Memory> {
         self.begin_from(alloc, instance, base)?;
+        self.split(alloc, instance, steps, watcher)
+    }
+
+    /// Goes on from some leaves of a certificate's tree in the same way: those of which a cost is told are kept as they are. No leaf
+    /// is split that shows as much as the bound, where one is named.
+    pub fn work_on<W: SharpWatcher>(
+        &mut self,
+        alloc: Global,
+        instance: &Instance,
+        base: &Fronted,
+        spared: &[Option<u64>],
+        steps: u32,
+        until: Option<u64>,
+        watcher: &mut W,
+    ) -> Result<(), Memory> {
+        self.until = until;
+        self.begin_at_leaves(alloc, instance, base, spared)?;
         self.split(alloc, instance, steps, watcher)
     }
 }

@@ -13,5 +13,6 @@ pub use choice::SharpSolved;
 pub use observer::SharpObserver;
 pub use pesp_search::{Nobody, Observer, Part, SolveRefusal};
 pub use pesp_sharp_proposals::{SharpWatcher, Standing, Unwatched};
-pub use resumption::resume_sharp;
+pub use ranks::{cost_of, is_no_worse};
+pub use resumption::{Leaves, resume_leaves, resume_sharp};
 pub use solution::solve_sharp;

@@ -9,7 +9,7 @@ use pesp_judges::least_of;
 use pesp_truth::Answer;
 
 /// The cost of the times that an answer shows; None where it shows none.
-fn cost_of(answer: Answer) -> Option<u64>
+pub fn cost_of(answer: Answer) -> Option<u64>
     ensures { result ≡ spec.cost_of answer }
 {
     match answer {
@@ -31,7 +31,7 @@ fn is_at_most(a: Option<u64>, b: Option<u64>) -> bool
 }
 
 /// Whether the bound of an answer is no less than another one's, and its cost no more.
-pub(crate) fn is_no_worse(old: Answer, new: Answer) -> bool
+pub fn is_no_worse(old: Answer, new: Answer) -> bool
     ensures { IsTrue result ↔ IsNoWorse old new }
 {
     is_at_most(least_of(old), least_of(new)) && is_at_most(cost_of(new), cost_of(old))

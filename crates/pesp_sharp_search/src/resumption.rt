@@ -12,11 +12,20 @@ use pesp_sharp_proposals::{Proposals, SharpSearch, SharpWatcher, is_open, propos
 use pesp_sharp_text::Fronted;
 use std::alloc::Global;
 
-/// What a search that goes on from a certificate proposes in its place, where its answer is open.
+/// Some leaves of a certificate's tree: all but those of which the cost is told that they show; and the bound from which on none is
+/// split, where one is named.
+#[derive(Clone, Copy)]
+pub struct Leaves<'a> {
+    pub spared: &'a [Option<u64>],
+    pub until: Option<u64>,
+}
+
+/// What a search that goes on from a certificate, or from some of its leaves, proposes in its place, where its answer is open.
 fn proposed<W: SharpWatcher>(
     alloc: Global,
     instance: &Instance,
     base: &Fronted,
+    leaves: Option<Leaves<'_>>,
     steps: u32,
     watcher: &mut W,
 ) -> Result<Proposals, Memory> {
@@ -27,7 +36,12 @@ fn proposed<W: SharpWatcher>(
     let reduced = reduce(alloc, instance)?;
     let branches = branches_of(certificate);
     let mut search = SharpSearch::going_on(alloc, instance, reduced, base, branches)?;
-    search.go_on(alloc, instance, base, steps, watcher)?;
+    match leaves {
+        None => search.go_on(alloc, instance, base, steps, watcher)?,
+        Some(Leaves { spared, until }) => {
+            search.work_on(alloc, instance, base, spared, steps, until, watcher)?
+        }
+    }
     proposals_of(
         alloc,
         instance,
@@ -57,8 +71,31 @@ pub fn resume_sharp<W: SharpWatcher>(
 {
     let answer = base.certificate.answer();
     let most = branches_of(&base.certificate).saturating_add(steps);
-    let proposals = proposed(alloc, instance, &base, steps, watcher)?;
+    let proposals = proposed(alloc, instance, &base, None, steps, watcher)?;
     match first_standing(alloc, instance, answer, proposals, most)? {
+        Some(found) => Ok(found),
+        None => Ok(base),
+    }
+}
+
+/// Goes on from some leaves of a valid certificate's tree in the same way; the others are kept as they are. What comes of it is what
+/// `resume_sharp` promises, but the tree isn't begun anew.
+pub fn resume_leaves<W: SharpWatcher>(
+    alloc: Global,
+    instance: &Instance,
+    base: Fronted,
+    leaves: Leaves<'_>,
+    steps: u32,
+    watcher: &mut W,
+) -> Result<Fronted, Memory>
+    requires { IsValidWith instance.now (content_of base) }
+    ensures { IfOk result (IsSharpResumed instance.now base steps) }
+{
+    let answer = base.certificate.answer();
+    let most = branches_of(&base.certificate).saturating_add(steps);
+    let proposals = proposed(alloc, instance, &base, Some(leaves), steps, watcher)?;
+    let found = first_standing(alloc, instance, answer, proposals, most)?;
+    match found {
         Some(found) => Ok(found),
         None => Ok(base),
     }

@@ -15,7 +15,7 @@ use std::alloc::Global;
 
 /// Reads a certificate, with a front or without, and judges it: `Base` with what is wrong where it isn't valid for the instance.
 /// At most 1,073,741,824 bytes are read and judged.
-pub(crate) fn read_sharp_base<R: Source>(
+pub fn read_sharp_base<R: Source>(
     alloc: Global,
     instance: &Instance,
     reader: &mut R,

@@ -8,5 +8,7 @@ mod resumption;
 mod solving;
 mod texts;
 
+pub use base::read_sharp_base;
 pub use resumption::run_resume_sharp;
 pub use solving::{run_solve_sharp, run_solve_sharp_from};
+pub use texts::has_text;

@@ -17,7 +17,7 @@ fn keeps_limits(front: &Option<Marks>)
 }
 
 /// Every certificate has a text with its front.
-pub(crate) fn has_text(fronted: &Fronted)
+pub fn has_text(fronted: &Fronted)
     ensures { IsFrontedText (fronted_text fronted.now) fronted.now }
 {
     limits_are_those_of_texts();

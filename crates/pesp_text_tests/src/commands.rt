@@ -133,6 +133,13 @@ fn tell_graft(alloc: Global, period: u32, file: &str, base: &str) -> Option<Stri
     format!(in alloc; "graft {file} onto {base} at period {period}").ok()
 }
 
+/// The same with marked walks.
+fn with_walks(told: String) -> Option<String> {
+    let mut told = told;
+    told.push_str(", with marked walks").ok()?;
+    Some(told)
+}
+
 /// What is asked of an instance.
 fn tell_of_instance(
     alloc: Global,
@@ -150,11 +157,7 @@ fn tell_of_instance(
             steps,
             from,
             progress,
-        } => {
-            let mut told = tell_solve(alloc, period, steps, from, progress, file)?;
-            told.push_str(", with marked walks").ok()?;
-            Some(told)
-        }
+        } => { with_walks(tell_solve(alloc, period, steps, from, progress, file)?) }
         OfInstance::Conflict { steps } => tell_conflict(alloc, period, steps, file),
     }
 }
@@ -179,12 +182,9 @@ fn tell_of_certificate(
             steps,
             seconds,
             progress,
-        } => {
-            let mut told = tell_resume(alloc, period, steps, seconds, progress, file)?;
-            told.push_str(", with marked walks").ok()?;
-            Some(told)
-        }
+        } => { with_walks(tell_resume(alloc, period, steps, seconds, progress, file)?) }
         OfCertificate::Split => tell_file(alloc, "split", period, file),
+        OfCertificate::SplitSharp => tell_file(alloc, "split with a front", period, file),
     }
 }
 
@@ -219,12 +219,25 @@ fn tell_request(alloc: Global, request: Request<'_>) -> Option<String> {
             until,
             jobs,
         } => tell_work(alloc, period, steps, until, file, &jobs),
+        Request::WorkSharp {
+            period,
+            file,
+            steps,
+            until,
+            jobs,
+        } => {
+            let told = tell_work(alloc, period, steps, until, file, &jobs)?;
+            with_walks(told)
+        }
         Request::Times {
             period,
             file,
             asked,
         } => tell_of_times(alloc, period, file, asked),
         Request::Works { period, file, base } => tell_graft(alloc, period, file, base),
+        Request::WorksSharp { period, file, base } => {
+            with_walks(tell_graft(alloc, period, file, base)?)
+        }
     }
 }
 

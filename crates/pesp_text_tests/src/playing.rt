@@ -13,7 +13,7 @@ use crate::resuming::{ask_gap, ask_resume, ask_resumed};
 use crate::runs::{
     ask_check, ask_progress, ask_run_report, ask_solve, ask_solved, ask_solved_from, ask_violations,
 };
-use crate::sharpened::{ask_resharpened, ask_sharpened};
+use crate::sharpened::{ask_resharpened, ask_sharp_worked, ask_sharpened};
 use crate::spellings::{ask_lines, ask_number, ask_words};
 use crate::statuses::{ask_program, ask_status};
 use crate::streams::{ask_bytes, ask_pages};
@@ -29,6 +29,7 @@ enum Question {
     Solved,
     Sharpened,
     Resharpened,
+    SharpWorked,
     SolvedFrom,
     Progress,
     Check,
@@ -64,11 +65,12 @@ enum Question {
 }
 
 /// The first word of each question.
-const QUESTIONS: [(&str, Question); 36] = [
+const QUESTIONS: [(&str, Question); 37] = [
     ("solve", Question::Solve),
     ("solved", Question::Solved),
     ("sharpened", Question::Sharpened),
     ("resharpened", Question::Resharpened),
+    ("sharp_worked", Question::SharpWorked),
     ("solved_from", Question::SolvedFrom),
     ("progress", Question::Progress),
     ("check", Question::Check),
@@ -177,6 +179,7 @@ fn answer_of(alloc: Global, lines: &[&str], word: &str, rest: &str) -> Option<St
         Question::Solved => ask_solved(alloc, lines, rest),
         Question::Sharpened => ask_sharpened(alloc, lines, rest),
         Question::Resharpened => ask_resharpened(alloc, lines, rest),
+        Question::SharpWorked => ask_sharp_worked(alloc, lines, rest),
         Question::SolvedFrom => ask_solved_from(alloc, lines, rest),
         Question::Progress => ask_progress(alloc, lines, rest),
         Question::Check => ask_check(alloc, lines, rest),

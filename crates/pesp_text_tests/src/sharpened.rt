@@ -5,9 +5,10 @@ use crate::drain::drain_of;
 use crate::feed::feed_of;
 use crate::given::{Given, given_by, period_of, text_of};
 use crate::telling::{tell_fault, tell_verdict};
-use pesp_cases::words_of;
+use pesp_cases::{small, words_of};
 use pesp_faults::Fault;
 use pesp_search::Nobody;
+use pesp_sharp_outside_run::{run_graft_sharp, run_work_sharp};
 use pesp_sharp_run::run_check_sharp;
 use pesp_sharp_search::Unwatched;
 use pesp_sharp_solve_run::{run_resume_sharp, run_solve_sharp};
@@ -91,4 +92,68 @@ pub(crate) fn ask_resharpened(alloc: Global, lines: &[&str], rest: &str) -> Opti
         Ok(certificate) => tell_check(alloc, &given.instance, &certificate, given.period),
         Err(fault) => tell_fault(alloc, &fault, &[]),
     }
+}
+
+/// The work that `work --sharp` writes for these jobs of the input in so many steps.
+fn worked(alloc: Global, given: &Given, steps: u32, jobs: &[u64]) -> Option<Vec<u8>> {
+    let mut first = feed_of(&given.instance, given.first);
+    let mut second = feed_of(&given.input, given.second);
+    let mut writer = drain_of(alloc, given.output);
+    let period = given.period;
+    run_work_sharp(
+        alloc,
+        &mut first,
+        &mut second,
+        &mut writer,
+        period,
+        steps,
+        None,
+        jobs,
+    )
+    .ok()?;
+    Some(writer.into_inner().taken)
+}
+
+/// The certificate of the input once `graft --sharp` has grafted works onto it.
+fn grafted(alloc: Global, given: &Given, works: &[u8]) -> Option<Vec<u8>> {
+    let mut first = feed_of(&given.instance, Device::whole());
+    let mut second = feed_of(&given.input, Device::whole());
+    let mut third = feed_of(works, given.second);
+    let mut writer = drain_of(alloc, given.output);
+    let mut teller = drain_of(alloc, Device::whole());
+    let period = given.period;
+    run_graft_sharp(
+        alloc,
+        &mut first,
+        &mut second,
+        &mut third,
+        &mut writer,
+        &mut teller,
+        period,
+    )
+    .ok()?;
+    Some(writer.into_inner().taken)
+}
+
+/// The numbers behind the first word.
+fn jobs_in(alloc: Global, words: &[&str]) -> Option<Vec<u64>> {
+    let mut jobs = Vec::new(alloc);
+    for word in words.get(1..)? {
+        jobs.push(word.parse().ok()?).ok()?;
+    }
+    Some(jobs)
+}
+
+/// What `check --sharp` says once the work for some jobs is grafted.
+fn check_worked(alloc: Global, given: &Given, words: &[&str]) -> Option<String> {
+    let jobs = jobs_in(alloc, words)?;
+    let work = worked(alloc, given, small(words, 0)?, &jobs)?;
+    let certificate = grafted(alloc, given, &work)?;
+    tell_check(alloc, &given.instance, &certificate, given.period)
+}
+
+/// What `check --sharp` says of the certificate of the input, once the work that `work --sharp` writes for these jobs is grafted onto
+/// it.
+pub(crate) fn ask_sharp_worked(alloc: Global, lines: &[&str], rest: &str) -> Option<String> {
+    check_worked(alloc, &given_by(alloc, lines)?, &words_of(alloc, rest)?)
 }

@@ -10,7 +10,7 @@ use Rattle.pesp_sharp_leaf.specs.Terms.{AreSmallArcs}
 use Rattle.pesp_sharp_check.proofs.Naming.{are_pairs}
 use Rattle.pesp_sharp_check.proofs.Summing.{small_arcs}
 use Rattle.pesp_sharp_check.proofs.Worth.{whole_value}
-use Rattle.pesp_sharp_check.proofs.values.sharp_value.Goals as goal
+use Rattle.pesp_sharp_check.proofs.values.value_by_scale.Goals as goal
 
 pub offset_sum-requires-clause-pairs : goal.offset_sum-requires-clause-pairs
 offset_sum-requires-clause-pairs g c = are_pairs (length c.args.checker.now.plain.table.now)
@@ -41,10 +41,10 @@ returns-clause-value g c walks nets =
     omega (arith, ints, o, a, r, s, t) in
     let gains = rw c.deref.ensures.value at c.add_walks-gains.ensures.gains in
     let rates = rw c.deref.ensures.value at c.add_walks-gains.ensures.rates in
-    let rows = rw (c.args.checker.now.same, c.deref-2.ensures.value, c.scale-scale.ensures.value) at c.rows_sum-rows.ensures.value in
+    let rows = rw (c.args.checker.now.same, c.deref-2.ensures.value) at c.rows_sum-rows.ensures.value in
     whole_value p walks (node_of c.args.ranges.now) c.args.checker.now.marks.now
     (g.P.Elements.elements c.args.pairs) c.args.weighted
-    (length c.args.checker.now.plain.table.now) c.requires.uses nets.long c.add_flows.new.flows
+    (length c.args.checker.now.plain.table.now) c.args.scale c.requires.scale nets.long c.add_flows.new.flows
     c.add_walks-gains.new.rates c.in_ok-offsets.offsets c.add_walks-gains.result c.rows_sum-rows.result _
     (λ i l. c.add_flows.ensures.flows walks nets' i (omega (arith, l, arcs_long p, c.requires.long)))
     (λ i flipped l. rates i flipped (omega (arith, l, arcs_long p, c.requires.wide, c.clear.ensures.long)))

@@ -1,0 +1,196 @@
+//! The numbers of what two certificates name, in the one that comes of both.
+
+use pesp_problem::{Memory, Pair};
+use pesp_truth::TreeLine;
+use std::alloc::Global;
+
+/// Which of a certificate's cycles and marked walks are named.
+#[derive(Drop)]
+pub(crate) struct Named {
+    cycles: Vec<bool>,
+    walks: Vec<bool>,
+}
+
+/// The pairs of a line.
+fn pairs_of(line: &TreeLine) -> &[Pair] {
+    match line {
+        TreeLine::Bound(pairs) | TreeLine::Nothing(pairs) => pairs.as_slice(),
+        _ => &[],
+    }
+}
+
+/// Marks a place.
+fn mark_at(marks: &mut [bool], place: usize) {
+    if let Some(slot) = marks.get_mut(place) {
+        *slot = true;
+    }
+}
+
+impl Named {
+    /// None of so many cycles and marked walks is named.
+    pub(crate) fn none(alloc: Global, cycles: usize, walks: usize) -> Result<Named, Memory> {
+        Ok(Named {
+            cycles: vec![in alloc; false; cycles]?,
+            walks: vec![in alloc; false; walks]?,
+        })
+    }
+
+    /// Marks what has a number: cycles are numbered from 1, and marked walks on from them.
+    fn mark(&mut self, number: u32) {
+        let place = (number as usize).wrapping_sub(1);
+        match place.checked_sub(self.cycles.len()) {
+            Some(walk) => mark_at(&mut self.walks, walk),
+            None => mark_at(&mut self.cycles, place),
+        }
+    }
+
+    /// Marks what a line names.
+    fn mark_line(&mut self, line: &TreeLine) {
+        if let TreeLine::Offset { cycle, .. } | TreeLine::Gap(cycle) = line {
+            self.mark(*cycle);
+        }
+        for pair in pairs_of(line) {
+            self.mark(pair.cycle);
+        }
+    }
+
+    /// Marks what lines name.
+    pub(crate) fn mark_lines(&mut self, lines: &[TreeLine]) {
+        for line in lines {
+            self.mark_line(line);
+        }
+    }
+
+    /// Marks our walks that are among the others' named ones.
+    fn mark_matched(&mut self, others: &Named, matched: &[Option<u32>]) {
+        for (is_named, place) in others.walks.iter().zip(matched.iter()) {
+            if let Some(place) = place
+                && *is_named
+            {
+                mark_at(&mut self.walks, *place as usize);
+            }
+        }
+    }
+}
+
+/// The number of each cycle and each marked walk of both certificates, `u32::MAX` where it is left out; and which of the other
+/// one's cycles stand behind ours, which of our walks are kept, and which of the other one's stand behind them.
+#[derive(Drop)]
+pub(crate) struct Numbering {
+    pub(crate) own: Vec<u32>,
+    pub(crate) other: Vec<u32>,
+    pub(crate) new_cycles: Vec<u32>,
+    pub(crate) kept_walks: Vec<u32>,
+    pub(crate) new_walks: Vec<u32>,
+}
+
+/// A place as a number.
+fn number_of(place: usize) -> u32 {
+    u32::try_from(place).unwrap_or(u32::MAX)
+}
+
+impl Numbering {
+    /// Nothing is numbered yet.
+    fn empty(alloc: Global) -> Numbering {
+        Numbering {
+            own: Vec::new(alloc),
+            other: Vec::new(alloc),
+            new_cycles: Vec::new(alloc),
+            kept_walks: Vec::new(alloc),
+            new_walks: Vec::new(alloc),
+        }
+    }
+
+    /// Our cycles keep their numbers.
+    fn number_our_cycles(&mut self, cycles: usize) -> Result<(), Memory> {
+        for place in 0..cycles {
+            self.own.push(number_of(place).saturating_add(1))?;
+        }
+        Ok(())
+    }
+
+    /// Those of the other certificate that are named and aren't ours come behind them.
+    fn number_their_cycles(
+        &mut self,
+        named: &[bool],
+        matched: &[Option<u32>],
+    ) -> Result<(), Memory> {
+        let first = number_of(self.own.len()).saturating_add(1);
+        for (place, (is_named, ours)) in named.iter().zip(matched.iter()).enumerate() {
+            let number = match ours {
+                Some(ours) => ours.saturating_add(1),
+                None if *is_named => {
+                    self.new_cycles.push(number_of(place))?;
+                    first.saturating_add(number_of(self.new_cycles.len().wrapping_sub(1)))
+                }
+                None => u32::MAX,
+            };
+            self.other.push(number)?;
+        }
+        Ok(())
+    }
+
+    /// Our walks that are named are numbered on from all cycles.
+    fn number_our_walks(&mut self, first: u32, named: &[bool]) -> Result<(), Memory> {
+        for (place, is_named) in named.iter().enumerate() {
+            if *is_named {
+                let rank = number_of(self.kept_walks.len());
+                self.own.push(first.saturating_add(rank))?;
+                self.kept_walks.push(number_of(place))?;
+            } else {
+                self.own.push(u32::MAX)?;
+            }
+        }
+        Ok(())
+    }
+
+    /// The others' walks that are named and aren't ours come behind them; `cycles` is how many cycles are ours.
+    fn number_their_walks(
+        &mut self,
+        first: u32,
+        cycles: usize,
+        named: &[bool],
+        matched: &[Option<u32>],
+    ) -> Result<(), Memory> {
+        for (place, (is_named, ours)) in named.iter().zip(matched.iter()).enumerate() {
+            let number = match ours {
+                Some(ours) => self.our_walk(cycles, *ours),
+                None if *is_named => {
+                    let rank = number_of(self.new_walks.len());
+                    self.new_walks.push(number_of(place))?;
+                    first.saturating_add(rank)
+                }
+                None => u32::MAX,
+            };
+            self.other.push(number)?;
+        }
+        Ok(())
+    }
+
+    /// The number of a walk of ours, where so many cycles are ours.
+    fn our_walk(&self, cycles: usize, place: u32) -> u32 {
+        let at = cycles.saturating_add(place as usize);
+        self.own.get(at).copied().unwrap_or(u32::MAX)
+    }
+
+    /// The numbers of what is named, where these of the other certificate's cycles and walks are ours.
+    pub(crate) fn of(
+        alloc: Global,
+        own: &mut Named,
+        other: &Named,
+        cycles: &[Option<u32>],
+        walks: &[Option<u32>],
+    ) -> Result<Numbering, Memory> {
+        own.mark_matched(other, walks);
+        let count = own.cycles.len();
+        let mut numbering = Numbering::empty(alloc);
+        numbering.number_our_cycles(count)?;
+        numbering.number_their_cycles(&other.cycles, cycles)?;
+        let all = number_of(count.saturating_add(numbering.new_cycles.len()));
+        let first = all.saturating_add(1);
+        numbering.number_our_walks(first, &own.walks)?;
+        let behind = first.saturating_add(number_of(numbering.kept_walks.len()));
+        numbering.number_their_walks(behind, count, &other.walks, walks)?;
+        Ok(numbering)
+    }
+}

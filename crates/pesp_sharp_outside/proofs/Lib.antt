@@ -1,0 +1,5 @@
+mod Waiting
+mod Listing
+mod Counting
+mod Passed
+mod Taking

@@ -1,0 +1,4 @@
+pub mod Jobs
+pub mod Paths
+pub mod Cutting
+pub mod Grafts

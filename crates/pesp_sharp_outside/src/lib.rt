@@ -1,0 +1,15 @@
+//! Work from outside on certificates whose leaves may name marked walks: open leaves are told as jobs, some of them are worked on,
+//! and what comes of it is grafted onto the certificate. A work is a whole certificate; the checker judges what is proposed.
+#![tactic(auto)]
+
+mod cutting;
+mod grafting;
+mod jobs;
+mod paths;
+mod working;
+
+pub use grafting::{SharpGraft, SharpReply, graft_sharp};
+pub use jobs::sharp_jobs;
+pub use pesp_outside::{JobsText, OpenJob};
+pub use pesp_sharp_search::{SharpWatcher, Unwatched};
+pub use working::work_sharp;

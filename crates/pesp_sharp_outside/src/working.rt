@@ -1,0 +1,79 @@
+//! Work on open leaves of a certificate.
+
+ghost use Rattle.std.specs.Prelude.{◌<◌, ◌↔◌, All, IfOk, IsTrue, MatchOption};
+ghost use Rattle.pesp_sharp_truth.specs.Certificates.{IsValidWith};
+ghost use Rattle.pesp_sharp_text.specs.Texts.{content_of};
+ghost use Rattle.pesp_sharp_search.specs.Solving.{IsSharpResumed};
+ghost use Rattle.pesp_sharp_outside.specs.Jobs.{AreJobsOf};
+
+use crate::jobs::{is_open, open_count};
+use pesp_problem::{Instance, Memory};
+use pesp_sharp_check::costs_shown;
+use pesp_sharp_search::{Leaves, SharpWatcher, cost_of, resume_leaves};
+use pesp_sharp_text::Fronted;
+use std::alloc::Global;
+
+/// Whether there are jobs of all these numbers, where there are so many.
+fn are_jobs(jobs: &[u64], count: u64) -> bool
+    ensures { IsTrue result ↔ All (λ job. job < count) jobs.now }
+{
+    jobs.iter().all(|job| *job < count)
+}
+
+/// What the lines show that are open leaves but none of these jobs, of which the numbers rise; None for every other line.
+fn spared(
+    alloc: Global,
+    shown: &[Option<u64>],
+    cost: Option<u64>,
+    jobs: &[u64],
+) -> Result<Vec<Option<u64>>, Memory> {
+    let mut spared = Vec::with_capacity(alloc, shown.len())?;
+    let mut number = 0u64;
+    let mut next = 0usize;
+    for line_shows in shown {
+        if !is_open(*line_shows, cost) {
+            spared.push(None)?;
+            continue;
+        }
+        if jobs.get(next).copied() == Some(number) {
+            spared.push(None)?;
+            next = next.saturating_add(1);
+        } else {
+            spared.push(*line_shows)?;
+        }
+        number = number.saturating_add(1);
+    }
+    Ok(spared)
+}
+
+/// Works on open leaves of a valid certificate, by their numbers as jobs, which rise: they are split, that of least value first, and
+/// sharpened by marked walks, by at most so many splits of leaves below the bound, where one is named. The other leaves are kept as
+/// they are. What comes of it is the whole certificate, and what `resume_sharp` promises of it. None where no more leaves than one of
+/// the numbers are open. The one refusal is of memory.
+pub fn work_sharp<W: SharpWatcher>(
+    alloc: Global,
+    instance: &Instance,
+    base: Fronted,
+    jobs: &[u64],
+    steps: u32,
+    until: Option<u64>,
+    watcher: &mut W,
+) -> Result<Option<Fronted>, Memory>
+    requires { IsValidWith instance.now (content_of base) }
+    ensures { IfOk result (λ found. MatchOption found
+        (AreJobsOf instance.now base jobs.now → ⊥)
+        (λ c. AreJobsOf instance.now base jobs.now × IsSharpResumed instance.now base steps c)) }
+{
+    let shown = costs_shown(alloc, instance, &base)?;
+    let cost = cost_of(base.certificate.answer());
+    if !are_jobs(jobs, open_count(&shown, cost)) {
+        return Ok(None);
+    }
+    let spared = spared(alloc, &shown, cost, jobs)?;
+    let leaves = Leaves {
+        spared: &spared,
+        until,
+    };
+    let worked = resume_leaves(alloc, instance, base, leaves, steps, watcher)?;
+    Ok(Some(worked))
+}

@@ -24,4 +24,4 @@ pub returns-in_ok-instance-in-WorkSharp : goal.returns-in_ok-instance-in-WorkSha
 returns-in_ok-instance-in-WorkSharp g c =
     let instance = c.in_ok-instance-in-WorkSharp.instance in
     rw c.in-WorkSharp.is
-    (of_some_file _ _ (over _ _ instance.calls instance.calls) (rw c.deref.ensures.value at c.of_sharp_leaves.ensures))
+    (of_some_file _ _ (over _ _ instance.calls instance.calls) (rw c.deref-in-WorkSharp.ensures.value at c.of_sharp_leaves.ensures))

@@ -14,14 +14,14 @@ ghost use Rattle.pesp_truth.specs.Certificates.{IsValid, least_of, cost_of};
 ghost use Rattle.pesp_board.specs.Lending.{LendsCuts, LendsFirst};
 ghost use Rattle.pesp_board.specs.OpenLeaves.{AreOpen};
 
-use crate::adopting::{keep_limits, kept_of, problem_of};
+use crate::adoption::{keep_limits, kept_of, problem_of};
 use crate::best;
 use crate::best::Best;
-use crate::certifying::{answer_of, copy_table, shown_times, version_of};
+use crate::certification::{answer_of, copy_table, shown_times, version_of};
 use crate::give::{lent_with, make_at};
 use crate::lend::{bound_pairs, is_cheaper, is_lent, lend_entry};
 use crate::lending_all::{lend_nodes, open_nodes, park_open};
-use crate::planting::take;
+use crate::replacement::take;
 use crate::slot::{Slot, lent_node};
 use crate::timetable::judge;
 use pesp_cert::Certificate;

@@ -8,7 +8,7 @@ ghost use Rattle.pesp_board.specs.Parts.{part_line, part_lines};
 ghost use Rattle.pesp_board.specs.Giving.{LendsOrRefuses, HasRoom, IsWorkable, MakesAt};
 
 use crate::lend::bound_pairs;
-use crate::making::make;
+use crate::made_parts::make;
 use crate::part::{Part, parts_of};
 use crate::slot::Slot;
 use pesp_machine::{GiveRefusal, Work};

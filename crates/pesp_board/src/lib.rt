@@ -1,23 +1,23 @@
 //! The tree under work, for solvers that nobody has to trust: leaves that are lent, and what is given for them.
 #![tactic(auto)]
 
-mod adopting;
+mod adoption;
 mod along;
 mod best;
 mod board;
-mod certifying;
+mod certification;
 mod give;
-mod grafting;
+mod grafts;
 mod lend;
 mod lending_all;
-mod making;
+mod made_parts;
 mod part;
-mod planting;
-mod shutting;
+mod replacement;
+mod shut_node;
 mod slot;
 mod timetable;
 
 pub use along::node_along;
 pub use board::Board;
 pub use pesp_machine::{GiveRefusal, Job, LendRefusal, Work};
-pub use shutting::is_shut_by_propagation;
+pub use shut_node::is_shut_by_propagation;

@@ -2,14 +2,14 @@
 //! these with its answer.
 #![tactic(auto)]
 
-mod asking;
 mod board;
-mod changing;
+mod changes;
 mod lent;
-mod playing;
+mod played;
+mod questions;
 
 use pesp_cases::cases_of;
-use playing::play;
+use played::play;
 use std::alloc::Global;
 use std::io;
 use std::process::ExitCode;

@@ -2,21 +2,21 @@
 //! that are found on the way (Applegate et al. 1995; Nachtigall and Opitz 2008).
 #![tactic(auto)]
 
-mod advising;
-mod choosing;
-mod expanding;
-mod judging;
-mod narrowing;
-mod offering;
-mod passing;
+mod advice;
+mod choice;
+mod expansion;
+mod offers;
+mod part_leaf;
+mod passes;
 mod proposer;
 mod settings;
+mod slack_cut;
 
-pub use advising::{Advised, Proposal, ask};
-pub use choosing::{Choice, choose};
-pub use expanding::{expand, leaf_line, proposed_lines};
-pub use judging::gap_at;
-pub use narrowing::Narrowing;
-pub use offering::{offer_met, offer_times};
-pub use passing::passed_rows;
+pub use advice::{Advised, Proposal, ask};
+pub use choice::{Choice, choose};
+pub use expansion::{expand, leaf_line, proposed_lines};
+pub use offers::{offer_met, offer_times};
+pub use part_leaf::gap_at;
+pub use passes::passed_rows;
 pub use proposer::Proposer;
+pub use slack_cut::Narrowing;

@@ -1,6 +1,6 @@
 -- A reader of items as a place in its text.
 use Rattle.std.specs.Prelude.{ℕ, ◌+◌, List, Option}
-use Rattle.pesp_cert_items.specs.declared.reading.ItemReader.{ItemReader}
+use Rattle.pesp_cert_items.specs.declared.item_reader.ItemReader.{ItemReader}
 use Rattle.pesp_cert_items.specs.Readings.{Reading}
 
 abbrev pub reading : Option (List ℕ) → ItemReader → Reading

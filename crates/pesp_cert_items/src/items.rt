@@ -11,7 +11,7 @@ ghost use Rattle.pesp_cert_items.specs.Readings.{is_open};
 
 use crate::fault::ItemFault;
 use crate::item::Item;
-use crate::reading::ItemReader;
+use crate::item_reader::ItemReader;
 use pesp_stream::{MOST_INTERRUPTED, Source};
 use std::alloc::Global;
 

@@ -4,17 +4,17 @@
 mod chunk;
 mod fault;
 mod item;
+mod item_reader;
 mod items;
-mod lending;
+mod lent_item;
 mod lines;
 mod pairs;
-mod reading;
 mod rows;
 mod stage;
 
 pub use fault::ItemFault;
 pub use item::Item;
+pub use item_reader::ItemReader;
 pub use items::Items;
 pub use pairs::LinePairs;
-pub use reading::ItemReader;
 pub use rows::SignedRows;

@@ -6,8 +6,8 @@ use Rattle.pesp_instance.specs.RefusalLines.{instance_line}
 use Rattle.pesp_cert.specs.RefusalLines.{certificate_line}
 use Rattle.pesp_check.specs.declared.fault.CheckFault.{CheckFault}
 use Rattle.pesp_check.specs.declared.fault.CheckFault.TheVariants.{Text, Read as CheckRead, Memory as CheckMemory}
-use Rattle.pesp_stream.specs.declared.reading.ReadFault.{ReadFault}
-use Rattle.pesp_stream.specs.declared.reading.ReadFault.TheVariants.{Memory as ReadMemory, Device}
+use Rattle.pesp_stream.specs.declared.read_loop.ReadFault.{ReadFault}
+use Rattle.pesp_stream.specs.declared.read_loop.ReadFault.TheVariants.{Memory as ReadMemory, Device}
 use Rattle.pesp_check_run.specs.declared.fault.VerdictFault.{VerdictFault}
 use Rattle.pesp_check_run.specs.declared.fault.VerdictFault.TheVariants.{Instance, Certificate, Memory, Read, Write, NoFile}
 

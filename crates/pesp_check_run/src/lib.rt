@@ -2,12 +2,12 @@
 //! out; the lines of its faults, and the exit statuses.
 #![tactic(auto)]
 
-mod checking;
+mod checker_run;
 mod fault;
-mod reading;
 mod verdict;
+mod whole_instance;
 
-pub use checking::run_check;
+pub use checker_run::run_check;
 pub use fault::{VerdictFault, status_of};
-pub use reading::read_whole_instance;
 pub use verdict::{RefusalText, status_of_verdict, write_verdict};
+pub use whole_instance::read_whole_instance;

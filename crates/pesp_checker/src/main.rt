@@ -2,8 +2,8 @@
 //! output. It stands on nothing of the solver.
 #![tactic(auto)]
 
-mod asking;
 mod program;
+mod request;
 
 use program::exit_of_program;
 use std::process::ExitCode;

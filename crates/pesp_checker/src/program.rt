@@ -4,7 +4,7 @@ ghost use Rattle.std.specs.Prelude.{◌≡◌, ◌<◌, ◌≤◌, ◌^◌, IfOk
 ghost use Rattle.pesp_stream.specs.Counts.{FewerThan};
 ghost use Rattle.pesp_checker.specs.Statuses.{TellsVerdict};
 
-use crate::asking::{Request, USAGE, request_of};
+use crate::request::{Request, USAGE, request_of};
 use pesp_check_run::{VerdictFault, run_check, status_of, status_of_verdict};
 use pesp_stream::{Counted, Source};
 use std::fs::File;

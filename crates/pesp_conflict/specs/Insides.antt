@@ -9,8 +9,8 @@ use Rattle.pesp_conflict.specs.Findings.{IsConflict}
 use Rattle.pesp_conflict.specs.declared.finding.Conflict.{Conflict}
 use Rattle.pesp_conflict.specs.declared.decision.Decision.{Decision}
 use Rattle.pesp_conflict.specs.declared.decision.Decision.TheVariants as decisions
-use Rattle.pesp_conflict.specs.declared.trying.Trial.{Trial}
-use Rattle.pesp_conflict.specs.declared.trying.Trial.TheVariants as trials
+use Rattle.pesp_conflict.specs.declared.attempts.Trial.{Trial}
+use Rattle.pesp_conflict.specs.declared.attempts.Trial.TheVariants as trials
 use Rattle.pesp_conflict.specs.declared.known.Known.{Known}
 
 -- the numbers rise and name rows

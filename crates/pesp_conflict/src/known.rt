@@ -5,10 +5,10 @@ ghost use Rattle.pesp_problem.specs.Timetables.{Pesp};
 ghost use Rattle.pesp_conflict.specs.Findings.{IsConflict};
 ghost use Rattle.pesp_conflict.specs.Insides.{IsKnown, IsShown, IsTrial};
 
+use crate::attempts::Trial;
 use crate::finding::Conflict;
 use crate::lists::are_found;
 use crate::settings::TRIED_ROWS;
-use crate::trying::Trial;
 use std::alloc::{AllocError, Global};
 
 /// Rows that are in conflict, and those of them that are known to be needed; rows that need no further trial; and how many

@@ -2,17 +2,17 @@
 //! 2008).
 #![tactic(auto)]
 
-mod deciding;
+mod attempts;
+mod decided_rows;
 mod decision;
+mod deletion_filter;
 mod finding;
 mod known;
 mod lists;
 mod part;
-mod seeking;
+mod search;
 mod settings;
-mod sifting;
-mod trying;
 mod used;
 
 pub use finding::{Conflict, Finding};
-pub use seeking::conflict;
+pub use search::conflict;

@@ -5,17 +5,17 @@
 mod activities;
 mod choice;
 mod columns;
-mod drawing;
 mod escaped;
 mod events;
 mod frame;
 mod labels;
+mod picture;
 mod pixels;
 mod rows;
 mod scale;
 mod stretch;
 
 pub use choice::Choice;
-pub use drawing::draw;
 pub use escaped::Escaped;
+pub use picture::draw;
 pub use scale::step_for;

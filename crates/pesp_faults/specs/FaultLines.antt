@@ -1,7 +1,7 @@
 -- Each fault's line and exit status.
 use Rattle.std.specs.Prelude.{ℕ, List, ◌++◌, codes}
-use Rattle.pesp_stream.specs.declared.reading.ReadFault.{ReadFault}
-use Rattle.pesp_stream.specs.declared.reading.ReadFault.TheVariants.{Memory as ReadMemory, Device}
+use Rattle.pesp_stream.specs.declared.read_loop.ReadFault.{ReadFault}
+use Rattle.pesp_stream.specs.declared.read_loop.ReadFault.TheVariants.{Memory as ReadMemory, Device}
 use Rattle.pesp_cert.specs.declared.refusal.CertRefusal.{CertRefusal}
 use Rattle.pesp_cert.specs.declared.refusal.CertRefusal.TheVariants.{Memory as CertMemory}
 use Rattle.pesp_search.specs.declared.refusal.SolveRefusal.{SolveRefusal}

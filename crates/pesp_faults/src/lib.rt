@@ -3,7 +3,7 @@
 #![tactic(auto)]
 
 mod fault;
-mod reading;
+mod texts;
 
 pub use fault::{Fault, status_of};
-pub use reading::{MOST_TEXT, read_base, read_timetable, read_whole_instance, read_whole_times};
+pub use texts::{MOST_TEXT, read_base, read_timetable, read_whole_instance, read_whole_times};

@@ -1,8 +1,8 @@
 //! How good an answer is: what it costs, its bound, and what might still be saved.
 #![tactic(auto)]
 
-mod saving;
+mod savings;
 mod text;
 
-pub use saving::gap;
+pub use savings::gap;
 pub use text::GapText;

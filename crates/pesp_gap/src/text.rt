@@ -4,7 +4,7 @@ ghost use Rattle.std.specs.Prelude.{◌≡◌};
 ghost use Rattle.pesp_stream.specs.Printing.{Sending, Sends};
 ghost use Rattle.pesp_gap.specs.Gaps.{gap_words};
 
-use crate::saving::gap;
+use crate::savings::gap;
 use itoa::Buffer;
 use pesp_stream::{Output, Printed};
 use pesp_truth::Answer;

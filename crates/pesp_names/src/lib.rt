@@ -2,9 +2,9 @@
 #![tactic(auto)]
 
 mod names;
-mod reading;
+mod records;
 mod refusal;
 
 pub use names::{Name, Names};
-pub use reading::read_names;
+pub use records::read_names;
 pub use refusal::NamesRefusal;

@@ -3,19 +3,19 @@
 #![tactic(auto)]
 
 mod circulations;
-mod finding;
+mod found;
 mod given;
 mod leaves;
 mod levels;
 mod networks;
 mod nodes;
 mod plain;
-mod playing;
+mod played;
 mod proposals;
-mod reducing;
+mod reductions;
 
 use pesp_cases::cases_of;
-use playing::play;
+use played::play;
 use std::alloc::Global;
 use std::io;
 use std::process::ExitCode;

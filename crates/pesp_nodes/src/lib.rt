@@ -1,7 +1,7 @@
 //! Problems, a network with a table of closed walks, their nodes, and what the pairs of a leaf are worth at a node.
 #![tactic(auto)]
 
-mod closing;
+mod closed_walks;
 mod ends;
 mod flow;
 pub mod laws;

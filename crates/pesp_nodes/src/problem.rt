@@ -12,7 +12,7 @@ ghost use Rattle.pesp_nets.specs.Ranges.{AreSlackEnds};
 ghost use Rattle.pesp_nodes.specs.Offsets.{AreArcs, AreOffsetEnds, IsSmallRange};
 ghost use Rattle.pesp_nodes.specs.Problems.{net_of, IsNodeOf, IsProblemRefusal, IsSmallTable};
 
-use crate::closing::first_open;
+use crate::closed_walks::first_open;
 use crate::node::Node;
 use crate::offsets::bounds_of;
 use crate::passages::Passages;

@@ -20,8 +20,8 @@ use Rattle.pesp_machine.proofs.Tightening.{later_is_not_below, later_is_not_abov
 use Rattle.pesp_cert.specs.Limits.{has_costs}
 use Rattle.pesp_board.proofs.Adopted.{bound_is_short}
 use Rattle.pesp_works.specs.Works.{WorkValue}
-use Rattle.pesp_outside.specs.declared.grafting.Reply.{Reply}
-use Rattle.pesp_outside.specs.declared.grafting.Grafted.{Grafted}
+use Rattle.pesp_outside.specs.declared.grafted.Reply.{Reply}
+use Rattle.pesp_outside.specs.declared.grafted.Grafted.{Grafted}
 use Rattle.pesp_outside.specs.Lent.{IsLentFrom}
 use Rattle.pesp_outside.specs.Grafts.{TakesWork, TakesWorks, IsGrafted}
 

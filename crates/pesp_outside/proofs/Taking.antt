@@ -10,7 +10,7 @@ use Rattle.pesp_machine.specs.Events.{Gives}
 use Rattle.pesp_nodes.specs.Problems.{ProblemValue}
 use Rattle.pesp_machine.specs.States.{State}
 use Rattle.pesp_works.specs.Works.{WorkValue}
-use Rattle.pesp_outside.specs.declared.grafting.Reply.{Reply}
+use Rattle.pesp_outside.specs.declared.grafted.Reply.{Reply}
 use Rattle.pesp_outside.specs.Grafts.{OffersShown, TakesWork, TakesWorks}
 
 -- one more work

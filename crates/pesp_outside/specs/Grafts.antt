@@ -12,7 +12,7 @@ use Rattle.pesp_machine.specs.States.{State, IsAtMost}
 use Rattle.pesp_machine.specs.Events.{Gives, Offers}
 use Rattle.pesp_machine.specs.Certificates.{IsCertificateOf}
 use Rattle.pesp_works.specs.Works.{WorkValue}
-use Rattle.pesp_outside.specs.declared.grafting.Reply.{Reply}
+use Rattle.pesp_outside.specs.declared.grafted.Reply.{Reply}
 use Rattle.pesp_outside.specs.Lent.{IsLentFrom}
 
 -- times are offered where their labels are the events in order, and passed over where they aren't

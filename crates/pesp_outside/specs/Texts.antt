@@ -9,7 +9,7 @@ use Rattle.pesp_problem.specs.declared.cut.Side.TheVariants.{Low, High}
 use Rattle.pesp_machine.specs.declared.refusal.GiveRefusal.{GiveRefusal}
 use Rattle.pesp_machine.specs.declared.refusal.GiveRefusal.TheVariants.{UnknownJob, AlreadyGiven, NotValid, Memory, TooLarge}
 use Rattle.pesp_outside.specs.declared.jobs.OpenJob.{OpenJob}
-use Rattle.pesp_outside.specs.declared.grafting.Reply.{Reply}
+use Rattle.pesp_outside.specs.declared.grafted.Reply.{Reply}
 
 -- a cut in a row's slack range or a cycle's offset range
 abbrev pub cut_words : Cut → List ℕ

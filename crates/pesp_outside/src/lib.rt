@@ -2,13 +2,13 @@
 //! them, are grafted onto the certificate.
 #![tactic(auto)]
 
-mod grafting;
+mod grafted;
 mod jobs;
 pub mod laws;
 mod lent;
-mod printing;
+mod printer;
 
-pub use grafting::{Grafted, Reply, graft};
+pub use grafted::{Grafted, Reply, graft};
 pub use jobs::{OpenJob, open_jobs};
 pub use lent::{Lent, lend_base};
-pub use printing::{JobsText, RepliesText};
+pub use printer::{JobsText, RepliesText};

@@ -11,7 +11,7 @@ use Rattle.pesp_works.specs.Works.{WorkValue, spellings}
 use Rattle.pesp_works.specs.Refusals.{works_of_text}
 use Rattle.pesp_works.specs.Refusals as works_texts
 use Rattle.pesp_outside.specs.declared.jobs.OpenJob.{OpenJob}
-use Rattle.pesp_outside.specs.declared.grafting.Reply.{Reply}
+use Rattle.pesp_outside.specs.declared.grafted.Reply.{Reply}
 use Rattle.pesp_outside.specs.Jobs.{AreOpenJobs}
 use Rattle.pesp_outside.specs.Grafts.{IsGrafted}
 use Rattle.pesp_outside.specs.Texts.{jobs_text, reply_line}

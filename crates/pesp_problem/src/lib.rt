@@ -12,8 +12,8 @@ mod memory;
 pub mod net_times;
 mod pair;
 mod row;
-mod scoring;
 mod walk;
+mod worth;
 
 pub use arc::{Arc, arc_of};
 pub use cut::{Cut, Side};
@@ -27,5 +27,5 @@ pub use limits::{
 pub use memory::Memory;
 pub use pair::{Pair, Pairs};
 pub use row::{Row, SignedRow};
-pub use scoring::{score, slack_of};
 pub use walk::Walk;
+pub use worth::{score, slack_of};

@@ -3,18 +3,18 @@
 #![tactic(auto)]
 
 mod basis;
+mod best_leaf;
 mod changes;
+mod given_flows;
 mod listed;
 mod pivots;
-mod rebuilding;
+mod rebuilt_basis;
 mod root;
 mod row;
-mod saving;
-mod settling;
-mod starting;
+mod saved_basis;
 
 pub use basis::{Basis, Ended};
+pub use best_leaf::{MOST_PIVOTS, settle};
 pub use changes::Change;
 pub use root::{Root, root_slacks};
 pub use row::{Slopes, slopes_of};
-pub use settling::{MOST_PIVOTS, settle};

@@ -1,7 +1,7 @@
 //! The ranges of a network's root.
 
 use crate::basis::{Basis, Ended};
-use crate::settling::settle;
+use crate::best_leaf::settle;
 use pesp_forest::{Cycles, Forest, Frame, Spans};
 use std::alloc::{AllocError, Global};
 

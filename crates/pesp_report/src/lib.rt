@@ -3,18 +3,18 @@
 
 mod line;
 mod named_records;
-mod named_reporting;
+mod named_report;
 mod records;
 mod refusal;
-mod reporting;
 mod times;
-mod violating;
+mod violated;
 mod violation;
 mod violation_records;
+mod whole_report;
 
 pub use line::{Line, lines_by_cost};
-pub use named_reporting::report_named;
+pub use named_report::report_named;
 pub use refusal::{ReportRefusal, TimesRefusal, ViolationsRefusal};
-pub use reporting::report;
 pub use times::read_times;
-pub use violating::violations;
+pub use violated::violations;
+pub use whole_report::report;

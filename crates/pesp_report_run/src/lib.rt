@@ -3,11 +3,11 @@
 #![tactic(auto)]
 
 mod names;
-mod reporting;
 mod sheet;
-mod violating;
+mod sheets;
+mod violated;
 
 pub use names::read_whole_names;
-pub use reporting::{run_report, run_sheet};
 pub use sheet::{Diagrams, NamedReport, Picture, Report, Sheet};
-pub use violating::run_violations;
+pub use sheets::{run_report, run_sheet};
+pub use violated::run_violations;

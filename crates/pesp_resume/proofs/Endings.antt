@@ -20,8 +20,8 @@ use Rattle.pesp_turns.specs.Endings.{AreLentSettled, TakesTurns, SpendsNumbers, 
 use Rattle.pesp_turns.proofs.Endings.{turns_join, turns_spend}
 use Rattle.pesp_resume.specs.declared.ending.Ending.{Ending}
 use Rattle.pesp_resume.specs.declared.ending.Ending.TheVariants.{StepsUsed, NoneOpen, Full, Stopped}
-use Rattle.pesp_resume.specs.declared.splitting.Done.{Done}
-use Rattle.pesp_resume.specs.declared.resuming.Resumed.{Resumed}
+use Rattle.pesp_resume.specs.declared.splits.Done.{Done}
+use Rattle.pesp_resume.specs.declared.resumption.Resumed.{Resumed}
 use Rattle.pesp_resume.specs.Endings.{ending_of, IsNoneWaiting, IsEndedAs}
 use Rattle.pesp_resume.specs.Looking.{IsLook}
 

@@ -18,7 +18,7 @@ use Rattle.pesp_search_laws.proofs.Branches.{as_lines}
 use Rattle.pesp_turns.specs.Growing.{Grows}
 use Rattle.pesp_resume.specs.declared.ending.Ending.{Ending}
 use Rattle.pesp_resume.specs.declared.ending.Ending.TheVariants.{StepsUsed, NoneOpen, Full, Stopped}
-use Rattle.pesp_resume.specs.declared.resuming.Resumed.{Resumed}
+use Rattle.pesp_resume.specs.declared.resumption.Resumed.{Resumed}
 use Rattle.pesp_resume.specs.Endings.{IsEndedAs}
 use Rattle.pesp_resume.specs.Resuming.{IsBegun, IsCertified, IsResumed}
 

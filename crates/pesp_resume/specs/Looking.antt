@@ -8,8 +8,8 @@ use Rattle.pesp_machine.specs.States.{State, HasLeaf}
 use Rattle.pesp_machine.specs.Reached.{IsOrderly}
 use Rattle.pesp_machine.specs.Events.{LendsLeaf}
 use Rattle.pesp_resume.specs.declared.ending.Ending.{Ending}
-use Rattle.pesp_resume.specs.declared.looking.Next.{Next}
-use Rattle.pesp_resume.specs.declared.looking.Next.TheVariants.{Lent, Over}
+use Rattle.pesp_resume.specs.declared.second_look.Next.{Next}
+use Rattle.pesp_resume.specs.declared.second_look.Next.TheVariants.{Lent, Over}
 use Rattle.pesp_resume.specs.Endings.{IsEndedAs}
 
 -- the job's number is lent with the leaf at its path, on a board that keeps its limits

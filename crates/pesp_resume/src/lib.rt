@@ -2,11 +2,11 @@
 #![tactic(auto)]
 
 mod ending;
-mod looking;
-mod resuming;
-mod splitting;
-mod watching;
+mod resumption;
+mod second_look;
+mod splits;
+mod watcher;
 
 pub use ending::Ending;
-pub use resuming::{Resumed, resume};
-pub use watching::{Nobody, Watcher};
+pub use resumption::{Resumed, resume};
+pub use watcher::{Nobody, Watcher};

@@ -7,8 +7,8 @@ ghost use Rattle.pesp_search.specs.Beginning.{IsNewBoard, IsBegun};
 ghost use Rattle.pesp_search.specs.Refusals.{MeetsLimit};
 ghost use Rattle.pesp_search.specs.Solving.{IsSearchRefusal};
 
-use crate::planting::{Planting, planted};
-use crate::preparing::problem_for;
+use crate::lifted_problem::problem_for;
+use crate::planted_forest::{Planting, planted};
 use crate::refusal::SolveRefusal;
 use pesp_board::Board;
 use pesp_branching::Proposer;

@@ -3,17 +3,17 @@
 #![tactic(auto)]
 
 mod begun;
+mod given_times;
+mod lifted_problem;
 mod look;
-mod offering;
-mod planting;
-mod preparing;
-mod racing;
+mod planted_forest;
+mod race;
 mod refusal;
-mod rooting;
+mod root;
 mod single;
-mod solving;
+mod solution;
 
 pub use look::{FirstLook, look_first};
 pub use pesp_turns::{Nobody, Observer, Part};
 pub use refusal::SolveRefusal;
-pub use solving::{Solved, solve, solve_from, solve_watched};
+pub use solution::{Solved, solve, solve_from, solve_watched};

@@ -5,9 +5,9 @@ ghost use Rattle.pesp_search.specs.Refusals.{MeetsLimit};
 ghost use Rattle.pesp_search.specs.Solving.{IsSolved, CostsNoMore, IsSearchRefusal};
 
 use crate::begun::begin;
-use crate::planting::Planting;
+use crate::planted_forest::Planting;
 use crate::refusal::SolveRefusal;
-use crate::solving::{Solved, solve_on};
+use crate::solution::{Solved, solve_on};
 use pesp_problem::Instance;
 use pesp_reduce::Reduced;
 use pesp_times::TimesSearch;

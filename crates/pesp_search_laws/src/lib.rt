@@ -2,6 +2,6 @@
 //! what a search on the instance's network may take from a search on what is left of it.
 #![tactic(auto)]
 
-pub mod lifting;
+pub mod lifts;
 pub mod room;
 pub mod turn;

@@ -3,7 +3,6 @@
 #![tactic(auto)]
 
 mod checker;
-mod checking;
 mod costs;
 mod elements;
 mod gains;
@@ -13,6 +12,7 @@ mod judge_walks;
 mod pairs;
 mod tree;
 mod values;
+mod whole_check;
 
-pub use checking::check_sharp;
 pub use costs::costs_shown;
+pub use whole_check::check_sharp;

@@ -4,15 +4,15 @@
 
 mod answers;
 mod codes;
+mod common;
 mod factors;
 mod fronts;
 mod lines;
-mod matching;
-mod merging;
+mod merged;
 mod names;
 mod pairing;
 mod runs;
 mod shape;
 
-pub use merging::{Merged, merge};
+pub use merged::{Merged, merge};
 pub use pairing::Shown;

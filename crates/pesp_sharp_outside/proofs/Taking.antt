@@ -9,8 +9,8 @@ use Rattle.pesp_sharp_truth.specs.Certificates.{IsValidWith}
 use Rattle.pesp_sharp_text.specs.Texts.{Fronted, content_of}
 use Rattle.pesp_sharp_search.specs.Solving.{IsNoWorse}
 use Rattle.pesp_sharp_outside.specs.Cutting.{IsCut}
-use Rattle.pesp_sharp_outside.specs.declared.grafting.SharpReply.{SharpReply}
-use Rattle.pesp_sharp_outside.specs.declared.grafting.SharpReply.TheVariants.{Taken, AddsNothing, Unread, NotValid, TooLarge}
+use Rattle.pesp_sharp_outside.specs.declared.sharp_graft.SharpReply.{SharpReply}
+use Rattle.pesp_sharp_outside.specs.declared.sharp_graft.SharpReply.TheVariants.{Taken, AddsNothing, Unread, NotValid, TooLarge}
 use Rattle.pesp_sharp_outside.specs.Grafts.{TakesSharpWork, TakesSharpWorks, IsSharpGrafted}
 
 at_most_itself : (a : Option ℕ) → IsAtMost a a

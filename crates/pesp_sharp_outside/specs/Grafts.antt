@@ -7,8 +7,8 @@ use Rattle.pesp_sharp_text.specs.Texts.{Fronted, IsFrontedText, content_of, said
 use Rattle.pesp_sharp_check.specs.Verdicts.{IsVerdictWith}
 use Rattle.pesp_sharp_search.specs.Solving.{IsNoWorse}
 use Rattle.pesp_sharp_outside.specs.Cutting.{IsCut}
-use Rattle.pesp_sharp_outside.specs.declared.grafting.SharpReply.{SharpReply}
-use Rattle.pesp_sharp_outside.specs.declared.grafting.SharpReply.TheVariants.{Taken, AddsNothing, Unread, NotValid, TooLarge}
+use Rattle.pesp_sharp_outside.specs.declared.sharp_graft.SharpReply.{SharpReply}
+use Rattle.pesp_sharp_outside.specs.declared.sharp_graft.SharpReply.TheVariants.{Taken, AddsNothing, Unread, NotValid, TooLarge}
 
 -- ---- one work
 

@@ -2,14 +2,14 @@
 //! and what comes of it is grafted onto the certificate. A work is a whole certificate; the checker judges what is proposed.
 #![tactic(auto)]
 
-mod cutting;
-mod grafting;
 mod jobs;
+mod joined_texts;
+mod open_work;
 mod paths;
-mod working;
+mod sharp_graft;
 
-pub use grafting::{SharpGraft, SharpReply, graft_sharp};
 pub use jobs::sharp_jobs;
+pub use open_work::work_sharp;
 pub use pesp_outside::{JobsText, OpenJob};
 pub use pesp_sharp_search::{SharpWatcher, Unwatched};
-pub use working::work_sharp;
+pub use sharp_graft::{SharpGraft, SharpReply, graft_sharp};

@@ -5,7 +5,7 @@ use Rattle.pesp_truth.specs.Truth.{IsTrueAnswer}
 use Rattle.pesp_truth.specs.Certificates.{shown_times}
 use Rattle.pesp_sharp_text.specs.Texts.{Fronted, IsFrontedText, fronted_text}
 use Rattle.pesp_sharp_outside.specs.Grafts.{IsSharpGrafted}
-use Rattle.pesp_sharp_outside.specs.declared.grafting.SharpReply.{SharpReply}
+use Rattle.pesp_sharp_outside.specs.declared.sharp_graft.SharpReply.{SharpReply}
 use Rattle.pesp_sharp_outside_run.specs.Replies.{lines_from}
 use Rattle.pesp_sharp_outside_run.specs.Outside.{WritesFronted, WritesSharpGraft}
 

@@ -10,7 +10,7 @@ use Rattle.pesp_outside.specs.Texts.{jobs_text}
 use Rattle.pesp_sharp_search.specs.Solving.{IsSharpResumed}
 use Rattle.pesp_sharp_outside.specs.Jobs.{AreSharpJobs, AreJobsOf}
 use Rattle.pesp_sharp_outside.specs.Grafts.{IsSharpGrafted}
-use Rattle.pesp_sharp_outside.specs.declared.grafting.SharpReply.{SharpReply}
+use Rattle.pesp_sharp_outside.specs.declared.sharp_graft.SharpReply.{SharpReply}
 use Rattle.pesp_sharp_solve_run.specs.Resuming.{ReadsSharpBase, SharpBaseCause}
 use Rattle.pesp_check_run.specs.Devices.{Device, HasFailed, GetsFront}
 use Rattle.pesp_faults.specs.Reading.{ReadsInstance, ReadsNext}

@@ -1,11 +1,11 @@
 //! The runs for work from outside on certificates whose leaves may name marked walks, over any readers and writers.
 #![tactic(auto)]
 
-mod grafting;
+mod graft_run;
 mod replies;
-mod splitting;
-mod working;
+mod split_run;
+mod work_run;
 
-pub use grafting::run_graft_sharp;
-pub use splitting::run_split_sharp;
-pub use working::run_work_sharp;
+pub use graft_run::run_graft_sharp;
+pub use split_run::run_split_sharp;
+pub use work_run::run_work_sharp;

@@ -2,7 +2,7 @@
 //! the text of a certificate, with a front or without, in, the line of a verdict out.
 #![tactic(auto)]
 
-mod checking;
-mod judging;
+mod checker_run;
+mod judged_text;
 
-pub use checking::run_check_sharp;
+pub use checker_run::run_check_sharp;

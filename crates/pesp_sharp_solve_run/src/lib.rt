@@ -5,10 +5,10 @@
 mod base;
 pub mod laws;
 mod resumption;
-mod solving;
+mod solver_runs;
 mod texts;
 
 pub use base::read_sharp_base;
 pub use resumption::run_resume_sharp;
-pub use solving::{run_solve_sharp, run_solve_sharp_from};
+pub use solver_runs::{run_solve_sharp, run_solve_sharp_from};
 pub use texts::has_text;

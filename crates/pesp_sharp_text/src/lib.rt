@@ -6,11 +6,11 @@ mod fronts;
 pub mod laws;
 mod lines;
 mod marks;
-mod parsing;
-mod printing;
+mod printer;
+mod reader;
 mod rows;
 
 pub use fronted::Fronted;
 pub use marks::{Marks, NotMarks};
-pub use parsing::parse_fronted;
-pub use printing::print_fronted;
+pub use printer::print_fronted;
+pub use reader::parse_fronted;

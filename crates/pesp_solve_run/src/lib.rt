@@ -3,6 +3,6 @@
 #![tactic(auto)]
 
 pub mod laws;
-mod solving;
+mod solver_runs;
 
-pub use solving::{run_solve, run_solve_from, run_solve_watched};
+pub use solver_runs::{run_solve, run_solve_from, run_solve_watched};

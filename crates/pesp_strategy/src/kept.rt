@@ -1,6 +1,6 @@
 //! The best timetable that is met with.
 
-use crate::rounding::{rounded_cost, rounded_times};
+use crate::rounded::{rounded_cost, rounded_times};
 use pesp_forest::Frame;
 use pesp_relaxation::Basis;
 use std::alloc::{AllocError, Global};

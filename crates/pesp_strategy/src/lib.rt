@@ -6,10 +6,10 @@ mod branchings;
 mod candidates;
 mod experience;
 mod kept;
-mod looking;
-mod rounding;
+mod looks;
+mod rounded;
 mod settings;
 mod strategy;
-mod weighing;
+mod weights;
 
 pub use strategy::{Advice, Part, Split, Strategy};

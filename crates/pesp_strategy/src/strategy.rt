@@ -3,11 +3,11 @@
 use crate::branchings::{Branchings, Written};
 use crate::candidates::{Candidate, Judges, candidates};
 use crate::kept::Kept;
-use crate::looking::{Bases, Experience, Found, Looked, best_cut};
+use crate::looks::{Bases, Experience, Found, Looked, best_cut};
 use crate::settings::{
     CUTS, CUTS_NEAR_ROOT, CUTS_OF_MANY_ROWS, FEW_ROWS, FIRST_CUTS, KEPT_BYTES, SHALLOW,
 };
-use crate::weighing::{Leaf, Weight};
+use crate::weights::{Leaf, Weight};
 use pesp_forest::{Cycles, Frame};
 use pesp_network::Network;
 use pesp_problem::{Cut, Memory, Pair, Side};

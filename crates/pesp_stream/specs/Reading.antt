@@ -2,8 +2,8 @@
 use Rattle.std.specs.Prelude.{◌≡◌, ℕ, ◌<◌, ◌≤◌, List, Option, length, take, IfSome}
 use Rattle.std.specs.Io.KnownBytes.{Consumes, IsAtEnd}
 use Rattle.pesp_stream.specs.Counts.{Calls, HasWorked, DeviceFailed}
-use Rattle.pesp_stream.specs.declared.reading.ReadFault.{ReadFault}
-use Rattle.pesp_stream.specs.declared.reading.ReadFault.TheVariants.{Memory, Device}
+use Rattle.pesp_stream.specs.declared.read_loop.ReadFault.{ReadFault}
+use Rattle.pesp_stream.specs.declared.read_loop.ReadFault.TheVariants.{Memory, Device}
 
 -- the bytes that were read, of a reader's told bytes before and after
 pub record ReadsText (old new : Option (List ℕ)) (limit : ℕ) (bytes : List ℕ) : Type 0 where

@@ -4,7 +4,7 @@ ghost use Rattle.pesp_stream.specs.Counts.{Worked, Failed};
 ghost use Rattle.pesp_stream.specs.Writing.{Writes, AppendsFront, Moves};
 
 use crate::sink::Sink;
-use crate::writing::{WriteFault, write_all};
+use crate::write_loop::{WriteFault, write_all};
 use std::marker::Model;
 
 const SIZE: usize = 16384;

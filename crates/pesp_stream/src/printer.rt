@@ -8,9 +8,9 @@ ghost use Rattle.std.below.core.specs.declared.int.u64.TheConstants.{MAX};
 use crate::output::Output;
 use crate::page::Page;
 use crate::printed::Printed;
-use crate::reading::MOST_INTERRUPTED;
+use crate::read_loop::MOST_INTERRUPTED;
 use crate::sink::Sink;
-use crate::writing::WriteFault;
+use crate::write_loop::WriteFault;
 
 /// A writer, the page before it, and whether it failed.
 #[derive(Drop)]

@@ -2,7 +2,7 @@
 
 use crate::given::given_by;
 use crate::named::written;
-use crate::telling::tell_fault;
+use crate::told_lines::tell_fault;
 use pesp_faults::Fault;
 use pesp_report_run::Picture;
 use std::alloc::Global;

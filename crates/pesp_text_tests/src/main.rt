@@ -4,7 +4,7 @@
 
 mod certificates;
 mod commands;
-mod conflicting;
+mod conflicts;
 mod desk;
 mod devices;
 mod drain;
@@ -15,19 +15,19 @@ mod instances;
 mod named;
 mod outside;
 mod pieces;
-mod playing;
+mod played;
 mod reports;
-mod resuming;
+mod resumed;
 mod runs;
 mod sharpened;
 mod spellings;
 mod statuses;
 mod streams;
-mod telling;
+mod told_lines;
 mod works;
 
 use pesp_cases::cases_of;
-use playing::play;
+use played::play;
 use std::io;
 use std::process::ExitCode;
 use std::rt::{Clock, Files};

@@ -4,7 +4,7 @@ use crate::devices::Device;
 use crate::drain::drain_of;
 use crate::feed::feed_of;
 use crate::given::{Given, given_by, text_of};
-use crate::telling::{joined, tell_check, tell_fault, tell_run, tell_written};
+use crate::told_lines::{joined, tell_check, tell_fault, tell_run, tell_written};
 use pesp_cases::{small, split_word, words_of};
 use pesp_faults::Fault;
 use pesp_outside_run::{run_graft, run_split, run_work};

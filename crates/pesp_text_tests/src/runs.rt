@@ -4,7 +4,7 @@ use crate::devices::Device;
 use crate::drain::drain_of;
 use crate::feed::feed_of;
 use crate::given::{Given, given_by, period_of, text_of};
-use crate::telling::{tell_check, tell_count, tell_run, tell_verdict};
+use crate::told_lines::{tell_check, tell_count, tell_run, tell_verdict};
 use pesp_board::Board;
 use pesp_check_run::run_check;
 use pesp_faults::Fault;

@@ -4,7 +4,7 @@ use crate::devices::Device;
 use crate::drain::drain_of;
 use crate::feed::feed_of;
 use crate::given::{Given, given_by, period_of, text_of};
-use crate::telling::{tell_fault, tell_verdict};
+use crate::told_lines::{tell_fault, tell_verdict};
 use pesp_cases::{small, words_of};
 use pesp_faults::Fault;
 use pesp_search::Nobody;

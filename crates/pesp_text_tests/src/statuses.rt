@@ -3,7 +3,7 @@
 use crate::commands::words_with_name;
 use crate::desk::{Desk, Pages};
 use crate::given::text_of;
-use crate::telling::{joined, tell_written};
+use crate::told_lines::{joined, tell_written};
 use pesp_cli::status_of_words;
 use std::alloc::Global;
 use std::rt::{Clock, Files};

@@ -5,7 +5,7 @@ use crate::contraction::Contraction;
 use crate::effort::FEW;
 use crate::forests::Keys;
 use crate::found::{Found, cost_of};
-use crate::relaxing::Relaxation;
+use crate::relaxation::Relaxation;
 use crate::search::TimesSearch;
 use pesp_forest::Frame;
 use pesp_network::Network;

@@ -4,7 +4,7 @@ use crate::effort::{FEW, GREEDY, MOST_DIVED};
 use crate::forests::Keys;
 use crate::found::{Found, slacks_of};
 use crate::kinds::Start;
-use crate::relaxing::Relaxation;
+use crate::relaxation::Relaxation;
 use crate::search::{Known, TimesSearch};
 use pesp_annealing::Annealer;
 use pesp_network::Network;

@@ -1,10 +1,10 @@
 //! The search for timetables of one network, and the best that it found.
 
 use crate::effort::Effort;
+use crate::fixed_offsets::reoptimised;
 use crate::found::{Found, slacks_of, times_of};
 use crate::kinds::Kinds;
-use crate::relaxing::Relaxation;
-use crate::reoptimising::reoptimised;
+use crate::relaxation::Relaxation;
 use pesp_forest::Frame;
 use pesp_network::Network;
 use pesp_problem::Memory;

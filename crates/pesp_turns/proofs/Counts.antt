@@ -21,8 +21,8 @@ use Rattle.pesp_search_laws.proofs.Spent.{given_one, offers_none, recalled_one}
 use Rattle.pesp_search_laws.proofs.Turns.{steps, closes_by_gap, offers, numbers_are_few}
 use Rattle.pesp_turns.specs.declared.ending.Ending.{Ending}
 use Rattle.pesp_turns.specs.declared.ending.Ending.TheVariants.{StepsUsed, NoneOpen, NumbersSpent, TreeTooLarge, TurnsUsed}
-use Rattle.pesp_turns.specs.declared.turning.Turn.{Turn}
-use Rattle.pesp_turns.specs.declared.turning.Turn.TheVariants.{Split, Closed, GivenUp, Over}
+use Rattle.pesp_turns.specs.declared.turn.Turn.{Turn}
+use Rattle.pesp_turns.specs.declared.turn.Turn.TheVariants.{Split, Closed, GivenUp, Over}
 use Rattle.pesp_turns.specs.Settling.{IsSearched, Settles}
 use Rattle.pesp_turns.specs.Turning.{IsSplit, IsClosed, IsSettling, IsSettledTurn, IsTooLarge, IsTurn, splits_in}
 use Rattle.pesp_turns.specs.Growing.{Grows}

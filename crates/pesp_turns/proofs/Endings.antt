@@ -17,7 +17,7 @@ use Rattle.pesp_branching.specs.Offering.{MayOffer}
 use Rattle.pesp_search_laws.proofs.Spent.{given_one, recalled_one}
 use Rattle.pesp_turns.specs.declared.ending.Ending.{Ending}
 use Rattle.pesp_turns.specs.declared.ending.Ending.TheVariants.{StepsUsed, NoneOpen, NumbersSpent, TreeTooLarge, TurnsUsed}
-use Rattle.pesp_turns.specs.declared.turning.Turn.TheVariants.{Split, Closed, GivenUp, Over}
+use Rattle.pesp_turns.specs.declared.turn.Turn.TheVariants.{Split, Closed, GivenUp, Over}
 use Rattle.pesp_turns.specs.Turning.{OffersTimes, IsSettling, IsSettledTurn, IsOver, IsTurn}
 use Rattle.pesp_turns.specs.Endings.{IsSettledAt, AreLentSettled, IsNoneLeft, IsTurnOn, TurnsLead, EndsAs}
 

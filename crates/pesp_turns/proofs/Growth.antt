@@ -16,8 +16,8 @@ use Rattle.pesp_search_laws.proofs.Branches.{as_lines, put_branches}
 use Rattle.pesp_search_laws.proofs.Spent.{offered_tree, recalled_tree}
 use Rattle.pesp_turns.specs.declared.ending.Ending.{Ending}
 use Rattle.pesp_turns.specs.declared.ending.Ending.TheVariants.{StepsUsed, NoneOpen, NumbersSpent, TreeTooLarge, TurnsUsed}
-use Rattle.pesp_turns.specs.declared.turning.Turn.{Turn}
-use Rattle.pesp_turns.specs.declared.turning.Turn.TheVariants.{Split, Closed, GivenUp, Over}
+use Rattle.pesp_turns.specs.declared.turn.Turn.{Turn}
+use Rattle.pesp_turns.specs.declared.turn.Turn.TheVariants.{Split, Closed, GivenUp, Over}
 use Rattle.pesp_turns.specs.Turning.{IsSplit, IsSettling, IsSettledTurn, OffersAndRecalls, IsOver, IsTurn, splits_in}
 use Rattle.pesp_turns.specs.Growing.{Grows}
 

@@ -15,8 +15,8 @@ use Rattle.pesp_search_laws.specs.Rooms.{branch_lines}
 use Rattle.pesp_search_laws.specs.Settled.{IsSettled, HaveOffsetsLeft}
 use Rattle.pesp_turns.specs.declared.ending.Ending.{Ending}
 use Rattle.pesp_turns.specs.declared.ending.Ending.TheVariants.{StepsUsed, NoneOpen, NumbersSpent, TreeTooLarge, TurnsUsed}
-use Rattle.pesp_turns.specs.declared.turning.Turn.{Turn}
-use Rattle.pesp_turns.specs.declared.turning.Turn.TheVariants.{Split, Closed, GivenUp, Over}
+use Rattle.pesp_turns.specs.declared.turn.Turn.{Turn}
+use Rattle.pesp_turns.specs.declared.turn.Turn.TheVariants.{Split, Closed, GivenUp, Over}
 use Rattle.pesp_turns.specs.Handing.{IsJustLent, IsGiven, IsStepGiven}
 use Rattle.pesp_turns.specs.Turning.{IsSettling, IsSettledTurn, IsOver, IsTurn, IsTold, turn_given, turn_found, splits_in, ending_after}
 

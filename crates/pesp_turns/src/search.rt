@@ -10,13 +10,13 @@ ghost use Rattle.pesp_turns.specs.Turning.{splits_in, ending_after, IsTold};
 ghost use Rattle.pesp_turns.specs.Counting.{AreTurns};
 ghost use Rattle.pesp_turns.specs.Endings.{AreLentSettled, EndsAs};
 
+use crate::all_turns::run_turns;
 use crate::ending::{Ended, Ending};
 use crate::known::{Known, known_of};
 use crate::observer::Observer;
-use crate::replanting::replanted;
-use crate::running::run_turns;
-use crate::steering::proposer_for;
-use crate::turning::{Turn, take_turn};
+use crate::original_forest::replanted;
+use crate::proposers::proposer_for;
+use crate::turn::{Turn, take_turn};
 use pesp_board::Board;
 use pesp_branching::Proposer;
 use pesp_problem::{Instance, Memory};

@@ -13,7 +13,7 @@ use Rattle.pesp_machine.specs.Events.{LendsLeaf}
 use Rattle.pesp_board.specs.Giving.{AreCuts}
 use Rattle.pesp_search_laws.proofs.Replies.{lent_leaf}
 use Rattle.pesp_search_laws.proofs.Sizes.{path_cuts, leaf_pairs}
-use Rattle.pesp_worker.specs.declared.holding.Held.{Held}
+use Rattle.pesp_worker.specs.declared.held_leaves.Held.{Held}
 use Rattle.pesp_worker.specs.Holding.{IsHeld}
 
 -- the cuts of the path to a leaf that was just lent exist

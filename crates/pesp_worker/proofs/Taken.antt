@@ -26,7 +26,7 @@ use Rattle.pesp_machine.proofs.Certified.{same_net}
 use Rattle.pesp_works.specs.Works.{WorkValue}
 use Rattle.pesp_outside.specs.Lent.{IsLentFrom}
 use Rattle.pesp_outside.specs.Grafts.{TakesWork}
-use Rattle.pesp_outside.specs.declared.grafting.Reply.{Reply}
+use Rattle.pesp_outside.specs.declared.grafted.Reply.{Reply}
 use Rattle.pesp_worker.specs.HandingIn.{IsWorkOn}
 use Rattle.pesp_worker.specs.Taken.{IsTakenOrLarge}
 use Rattle.pesp_outside.proofs.OneLending.{one_lending}

@@ -6,7 +6,7 @@ use Rattle.pesp_problem.specs.declared.cut.Side.{Side}
 use Rattle.pesp_machine.specs.States.{State, HasLeaf}
 use Rattle.pesp_nodes.specs.Problems.{ProblemValue, ArePairs}
 use Rattle.pesp_board.specs.Grafting.{IsReached}
-use Rattle.pesp_worker.specs.declared.holding.Held.{Held}
+use Rattle.pesp_worker.specs.declared.held_leaves.Held.{Held}
 
 -- a path leads to the leaf's node, and its pairs rise and keep their limits
 pub record IsHeld (p : ProblemValue) (held : Held) : Type 0 where

@@ -4,7 +4,7 @@ ghost use Rattle.std.specs.Prelude.{◌≡◌, ◌∷◌, []};
 ghost use Rattle.pesp_truth.specs.Certificates.{line_of};
 ghost use Rattle.pesp_search_laws.specs.Rooms.{branch_lines};
 
-use crate::copying::copy_lines;
+use crate::copies::copy_lines;
 use pesp_problem::{Cut, Memory, Side};
 use pesp_truth::TreeLine;
 use std::alloc::Global;

@@ -1,16 +1,16 @@
 //! Work on open leaves of a certificate, handed in as a text that nobody has to trust.
 #![tactic(auto)]
 
-mod copying;
+mod copies;
 mod cutting_out;
-mod holding;
-mod improving;
-mod judging;
+mod held_leaves;
+mod improved_leaf;
+mod judged_trees;
 pub mod laws;
+mod open_work;
 mod refusal;
-mod searching;
-mod splitting;
-mod working;
+mod shared_search;
+mod splits;
 
+pub use open_work::{work, work_on_all};
 pub use refusal::WorkRefusal;
-pub use working::{work, work_on_all};

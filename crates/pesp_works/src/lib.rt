@@ -4,14 +4,14 @@
 mod cursor;
 mod job;
 pub mod laws;
-mod parsing;
-mod printing;
+mod printer;
+mod reader;
 mod work_line;
 mod work_text;
 
 pub use job::MOST_JOB;
-pub use parsing::parse_works;
 pub use pesp_cert::CertRefusal;
 pub use pesp_truth::TreeLine;
-pub use printing::print_work;
+pub use printer::print_work;
+pub use reader::parse_works;
 pub use work_text::WorkText;

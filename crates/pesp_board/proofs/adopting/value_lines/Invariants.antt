@@ -1,7 +1,0 @@
-use Rattle.std.proofs.Common.{map, drop}
-use Rattle.pesp_truth.specs.Certificates.{line_of}
-use Rattle.pesp_board.proofs.Taken.{AreTaken}
-use Rattle.pesp_board.proofs.adopting.value_lines.Given as goal
-
-abbrev pub invariant-loop-line : goal.invariant-loop-line
-invariant-loop-line l = AreTaken l.problem l.fn.walk (map line_of l.lines) (map line_of (drop l.line-index l.lines)) l.walk l.parts.items

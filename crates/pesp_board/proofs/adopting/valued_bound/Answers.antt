@@ -1,5 +1,0 @@
-use Rattle.std.proofs.Common.{rules}
-use Rattle.pesp_board.proofs.adopting.valued_bound.Goals as goal
-
-pub returns-clause-valued : goal.returns-clause-valued
-returns-clause-valued c = search rules

@@ -1,5 +1,0 @@
-use Rattle.std.proofs.Common.{◌≡◌, take}
-use Rattle.pesp_board.proofs.certifying.copy_table.Given as goal
-
-abbrev pub invariant-loop-walk : goal.invariant-loop-walk
-invariant-loop-walk l = l.copies.items ≡ take l.walk-index l.table

@@ -1,5 +1,0 @@
-use Rattle.std.proofs.Common.{rules}
-use Rattle.pesp_board.proofs.making.make_nothing.Goals as goal
-
-pub returns-in_ok-copy-in-Some : goal.returns-in_ok-copy-in-Some
-returns-in_ok-copy-in-Some c = search rules

@@ -1,5 +1,0 @@
-use Rattle.std.proofs.Common.{rules}
-use Rattle.pesp_board.proofs.making.splits.Goals as goal
-
-pub returns-then-range-k : goal.returns-then-range-k
-returns-then-range-k c = search rules

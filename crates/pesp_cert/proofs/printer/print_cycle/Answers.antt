@@ -1,0 +1,5 @@
+use Rattle.pesp_stream.proofs.Printing.{sends_then}
+use Rattle.pesp_cert.proofs.printer.print_cycle.Goals as goal
+
+pub returns : goal.returns
+returns g c = sends_then (sends_then c.put.ensures (rw c.rows.ensures at c.print_rows.ensures)) c.put-2.ensures

@@ -1,0 +1,5 @@
+use Rattle.pesp_conflict.specs.Insides.{IsKnown}
+use Rattle.pesp_conflict.proofs.deletion_filter.sift.Given as goal
+
+abbrev pub invariant-loop : goal.invariant-loop
+invariant-loop l = IsKnown l.instance l.known

@@ -1,5 +1,0 @@
-use Rattle.pesp_conflict.specs.Insides.{IsKnown}
-use Rattle.pesp_conflict.proofs.sifting.sift.Given as goal
-
-abbrev pub invariant-loop : goal.invariant-loop
-invariant-loop l = IsKnown l.instance l.known

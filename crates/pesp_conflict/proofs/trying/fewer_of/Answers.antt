@@ -1,4 +1,0 @@
-use Rattle.pesp_conflict.proofs.trying.fewer_of.Goals as goal
-
-pub returns-then-are_among : goal.returns-then-are_among
-returns-then-are_among c p conflict = (conflict, rw (c.deref.ensures.value) at (c.are_among.ensures c.if-are_among.true))

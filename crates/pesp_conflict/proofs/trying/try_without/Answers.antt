@@ -1,7 +1,0 @@
-use Rattle.std.proofs.Common.{subst}
-use Rattle.pesp_conflict.specs.Insides.{IsDecision}
-use Rattle.pesp_conflict.proofs.trying.try_without.Goals as goal
-
-pub returns-in-Conflict-clause-tried : goal.returns-in-Conflict-clause-tried
-returns-in-Conflict-clause-tried c = c.fewer_of.ensures c.args.instance.now
-    ((subst (IsDecision c.args.instance.now c.deref.result.now) c.in-Conflict.is c.in_ok-decide.ensures.decided).0)

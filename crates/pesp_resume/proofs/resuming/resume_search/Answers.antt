@@ -1,7 +1,0 @@
-use Rattle.pesp_resume.proofs.Endings.{certified_ends}
-use Rattle.pesp_resume.proofs.resuming.resume_search.Goals as goal
-
-pub returns-clause-ends : goal.returns-clause-ends
-returns-clause-ends g c settled = certified_ends c.args.search.now.board c.look_for_times.new.search.board
-    c.args.steps _ c.go_on.new.search.board.state c.in_ok-done.done c.certify.result c.look_for_times.ensures.board
-    c.in_ok-done.ensures.ends c.certify.ensures.used c.certify.ensures.ending settled

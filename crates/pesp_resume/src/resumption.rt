@@ -1,0 +1,176 @@
+//! Searches that go on from a certificate.
+
+ghost use Rattle.std.specs.Prelude.{◌≡◌, ◌≤◌, IfOk, OnOk};
+ghost use Rattle.pesp_truth.specs.Certificates.{IsValid};
+ghost use Rattle.pesp_machine.specs.Certificates.{IsProblemOf};
+ghost use Rattle.pesp_turns.specs.Knowing.{IsKnown};
+ghost use Rattle.pesp_turns.specs.Growing.{Grows};
+ghost use Rattle.pesp_turns.specs.Endings.{AreLentSettled};
+ghost use Rattle.pesp_resume.specs.Endings.{IsEndedAs};
+ghost use Rattle.pesp_resume.specs.Resuming.{IsBegun, IsCertified, IsResumed};
+
+use crate::ending::Ending;
+use crate::second_look::look_again;
+use crate::splits::{Done, split_leaves};
+use crate::watcher::Watcher;
+use pesp_board::Board;
+use pesp_branching::offer_times;
+use pesp_cert::Certificate;
+use pesp_problem::{Instance, Memory};
+use pesp_times::TimesSearch;
+use pesp_turns::Search;
+use std::alloc::Global;
+
+/// What is known of an instance after a search that went on, how many leaves were split, and why no more were.
+#[derive(Debug, Drop)]
+pub struct Resumed {
+    pub certificate: Certificate,
+    pub steps_used: u32,
+    pub ending: Ending,
+}
+
+/// Offers times that are found for what is left of the instance.
+fn offer_anew(alloc: Global, search: &mut Search) -> Result<(), Memory>
+    ensures problem { search.new.board.problem ≡ search.old.board.problem }
+    ensures grows { OnOk result (Grows search.old.board.problem 0
+        search.old.board.state search.new.board.state) }
+{
+    let Search {
+        board,
+        known,
+        proposer,
+        ..
+    } = search;
+    offer_times(alloc, board, &known.reduced, &mut proposer.times)
+}
+
+/// Offers times, and looks at the open leaves anew.
+fn look_anew<W: Watcher>(
+    alloc: Global,
+    search: &mut Search,
+    watcher: &mut W,
+) -> Result<Done, Memory>
+    ensures problem { search.new.board.problem ≡ search.old.board.problem }
+    ensures none { IfOk result (λ done. done.used ≡ 0) }
+    ensures ended { IfOk result (λ done. IsEndedAs search.old.board.problem 0
+        (W.may_end watcher.old × W.has_ended watcher.new) search.old.board.state
+        search.new.board.state 0 done.ending) }
+    ensures grows { IfOk result (λ done. Grows search.old.board.problem 0
+        search.old.board.state search.new.board.state) }
+{
+    offer_anew(alloc, search)?;
+    let ending = look_again(alloc, &mut search.board, watcher)?;
+    Ok(Done { used: 0, ending })
+}
+
+/// Goes on, by at most so many splits.
+fn go_on<W: Watcher>(
+    alloc: Global,
+    search: &mut Search,
+    steps: u32,
+    watcher: &mut W,
+) -> Result<Done, Memory>
+    requires { IsKnown search.old.board.problem search.old.known }
+    ensures problem { search.new.board.problem ≡ search.old.board.problem }
+    ensures few { IfOk result (λ done. done.used ≤ steps) }
+    ensures grows { IfOk result (λ done. Grows search.old.board.problem done.used
+        search.old.board.state search.new.board.state) }
+    ensures ends { AreLentSettled search.old.board.problem search.old.board.state → IfOk result
+        (λ done. IsEndedAs search.old.board.problem steps
+        (W.may_end watcher.old × W.has_ended watcher.new) search.old.board.state
+        search.new.board.state done.used done.ending) }
+{
+    if steps == 0 {
+        return look_anew(alloc, search, watcher);
+    }
+    split_leaves(alloc, search, steps, watcher)
+}
+
+/// What the board certifies then.
+fn certify(alloc: Global, instance: &Instance, board: &Board, done: Done) -> Result<Resumed, Memory>
+    requires { IsProblemOf instance.now board.now.problem }
+    ensures certified { IfOk result
+        (λ r. IsCertified instance.now board.now.problem board.now.state r.certificate) }
+    ensures used { IfOk result (λ r. r.steps_used ≡ done.used) }
+    ensures ending { IfOk result (λ r. r.ending ≡ done.ending) }
+{
+    let certificate = board.certificate(alloc, instance)?;
+    Ok(Resumed {
+        certificate,
+        steps_used: done.used,
+        ending: done.ending,
+    })
+}
+
+/// Has times looked for, also where the board has some.
+fn look_for_times(alloc: Global, search: &mut Search) -> Result<(), Memory>
+    ensures board { search.new.board ≡ search.old.board }
+    ensures known { search.new.known ≡ search.old.known }
+{
+    let times = TimesSearch::new(alloc, search.known.reduced.network())?;
+    search.proposer.times = Some(times);
+    Ok(())
+}
+
+/// Goes on with a search, and certifies what is known then.
+fn resume_search<W: Watcher>(
+    alloc: Global,
+    instance: &Instance,
+    search: &mut Search,
+    steps: u32,
+    watcher: &mut W,
+) -> Result<Resumed, Memory>
+    requires known { IsKnown search.old.board.problem search.old.known }
+    requires of { IsProblemOf instance.now search.old.board.problem }
+    ensures grows { IfOk result (λ r. Grows search.old.board.problem r.steps_used
+        search.old.board.state search.new.board.state) }
+    ensures few { IfOk result (λ r. r.steps_used ≤ steps) }
+    ensures certified { IfOk result (λ r. IsCertified instance.now search.old.board.problem
+        search.new.board.state r.certificate) }
+    ensures ends { AreLentSettled search.old.board.problem search.old.board.state → IfOk result
+        (λ r. IsEndedAs search.old.board.problem steps
+        (W.may_end watcher.old × W.has_ended watcher.new) search.old.board.state
+        search.new.board.state r.steps_used r.ending) }
+{
+    look_for_times(alloc, search)?;
+    let done = go_on(alloc, search, steps, watcher)?;
+    certify(alloc, instance, &search.board, done)
+}
+
+/// A search that goes on from a valid certificate.
+fn search_from(alloc: Global, instance: &Instance, base: &Certificate) -> Result<Search, Memory>
+    requires { IsValid instance.now base.now }
+    ensures begun { IfOk result (λ search. IsBegun instance.now base.now search.board.problem
+        search.board.state) }
+    ensures known { IfOk result (λ search. IsKnown search.board.problem search.known) }
+{
+    let board = Board::adopt(alloc, instance, base)?;
+    Search::on(alloc, instance, board)
+}
+
+/// Goes on from a valid certificate of an instance: its open leaves are split, that of least value first, until so many were
+/// split, no leaf is open, the tree would pass a limit, or the watcher ends it. With no step the open leaves are looked at
+/// anew, and times are offered. The watcher is asked after each leaf.
+///
+/// What comes of it is a valid certificate. Its bound isn't below the base's, and its cost isn't above the base's; none counts as
+/// above every number. Its tree has as many branches more as leaves were split. It ends before all splits are used only where
+/// nothing is left to split at a leaf that is worth less than the best times, where a limit is met, or where the watcher ended
+/// it. The one refusal is of memory.
+pub fn resume<W: Watcher>(
+    alloc: Global,
+    instance: &Instance,
+    base: &Certificate,
+    steps: u32,
+    watcher: &mut W,
+) -> Result<Resumed, Memory>
+    requires { IsValid instance.now base.now }
+    ensures { IfOk result
+        (λ r. IsResumed instance.now base.now steps
+        (W.may_end watcher.old × W.has_ended watcher.new) r.steps_used r.ending r.certificate) }
+{
+    // Both keep their limits.
+    instance.events();
+    base.answer();
+    let mut search = search_from(alloc, instance, base)?;
+    resume_search(alloc, instance, &mut search, steps, watcher)
+}

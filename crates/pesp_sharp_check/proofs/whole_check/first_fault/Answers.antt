@@ -1,0 +1,41 @@
+use Rattle.std.proofs.Common.{◌∙◌, inl, inr, sym, Option}
+use Rattle.std.proofs.lemmas.Result.{IfOk-weaker}
+use Rattle.pesp_sharp_truth.specs.Certificates.{IsValidWith}
+use Rattle.pesp_judges.specs.declared.refusal.Refusal.{Refusal}
+use Rattle.pesp_judges.proofs.Options.{match_map, match_some, match_none}
+use Rattle.pesp_sharp_check.specs.Verdicts.{IsFirstFaultWith}
+use Rattle.pesp_sharp_check.proofs.Faults.{inner_fault, valid_is}
+use Rattle.pesp_sharp_check.proofs.whole_check.first_fault.Goals as goal
+
+pub returns-then-is_some-clause-found : goal.returns-then-is_some-clause-found
+returns-then-is_some-clause-found c =
+    let period = sym c.period.ensures.value ∙ c.if-period.false ∙ c.period-2.ensures.period in
+    let judged = rw (c.answer.ensures.value, c.times-times.ensures.value) at c.in_ok-found.ensures in
+    match_some c.in_ok-found.found _ _ _ _ (sym c.is_some.ensures ∙ c.if-is_some.true) (λ refusal f. inr (period, inl f)) judged
+
+pub returns-clause-found : goal.returns-clause-found
+returns-clause-found c =
+    let period = sym c.period.ensures.value ∙ c.if-period.false ∙ c.period-2.ensures.period in
+    let judged = rw (c.answer.ensures.value, c.times-times.ensures.value) at c.in_ok-found.ensures in
+    let answer = match_none c.in_ok-found.found _ _ (sym c.is_some.ensures ∙ c.if-is_some.false) judged in
+    let fault = rw (c.in-Err.is, c.cycles.ensures.value, c.times-times.ensures.value, c.walks.ensures.value) at
+    c.in_ok-table.ensures.verdict in
+    inr (period, inr (inl (answer, fault)))
+
+pub returns-in-Ok-clause-found : goal.returns-in-Ok-clause-found
+returns-in-Ok-clause-found c =
+    let period = sym c.period.ensures.value ∙ c.if-period.false ∙ c.period-2.ensures.period in
+    let judged = rw (c.answer.ensures.value, c.times-times.ensures.value) at c.in_ok-found.ensures in
+    let answer = match_none c.in_ok-found.found _ _ (sym c.is_some.ensures ∙ c.if-is_some.false) judged in
+    let cycles = (rw (c.in-Ok.is, c.cycles.ensures.value) at c.in_ok-table.ensures.verdict).0 in
+    IfOk-weaker c.marks_fault.result _ _ (λ (found : Option Refusal) h.
+    match_map found _ (IsValidWith c.args.instance.now
+    (record { marks = c.args.marks.now; content = c.args.certificate.now })) _
+    (λ refusal. IsFirstFaultWith c.args.instance.now c.args.marks.now c.args.certificate.now refusal)
+    (λ sound. valid_is c.args.instance.now c.args.marks.now c.args.certificate.now c.walks.ensures.limits period
+    answer cycles sound.0 sound.1)
+    (λ refusal f. inr (
+      period,
+      inner_fault c.args.instance.now c.args.marks.now c.args.certificate.now refusal
+          c.times-times.ensures.limits.whole answer cycles f,
+    )) h) c.marks_fault.ensures

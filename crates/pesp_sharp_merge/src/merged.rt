@@ -1,0 +1,89 @@
+//! The certificate that comes of two.
+
+use crate::answers::lesser;
+use crate::codes::{codes_of_marks, codes_of_walks};
+use crate::common::matched;
+use crate::fronts::walks_of;
+use crate::pairing::{Pairing, Shown};
+use crate::runs::{Run, Trees};
+use crate::shape::Shape;
+use pesp_problem::Memory;
+use pesp_sharp_text::Fronted;
+use std::alloc::Global;
+
+/// What comes of two certificates: one that shows more than the first, nothing new, or nothing since a part would pass a limit.
+#[derive(Drop)]
+pub enum Merged {
+    Better(Fronted),
+    NothingNew,
+    TooLarge,
+}
+
+/// The places of the other certificate's cycles among the first one's.
+fn common_cycles(
+    alloc: Global,
+    own: Shown<'_>,
+    other: Shown<'_>,
+) -> Result<Vec<Option<u32>>, Memory> {
+    let ours = codes_of_walks(alloc, own.certificate().cycles())?;
+    let theirs = codes_of_walks(alloc, other.certificate().cycles())?;
+    matched(alloc, &ours, &theirs)
+}
+
+/// The places of the other certificate's marked walks among the first one's.
+fn common_walks(
+    alloc: Global,
+    own: Shown<'_>,
+    other: Shown<'_>,
+) -> Result<Vec<Option<u32>>, Memory> {
+    let ours = codes_of_marks(alloc, walks_of(own.front()))?;
+    let theirs = codes_of_marks(alloc, walks_of(other.front()))?;
+    matched(alloc, &ours, &theirs)
+}
+
+/// What comes of both, once their trees were walked through.
+fn joined(
+    alloc: Global,
+    own: Shown<'_>,
+    other: Shown<'_>,
+    trees: Trees<'_>,
+    runs: &[Run],
+) -> Result<Merged, Memory> {
+    let walks = common_walks(alloc, own, other)?;
+    let pairing = Pairing {
+        own,
+        other,
+        trees,
+        runs,
+        cycles: trees.cycles,
+        walks: &walks,
+    };
+    if pairing.is_nothing_new() {
+        return Ok(Merged::NothingNew);
+    }
+    match pairing.fronted(alloc)? {
+        Some(fronted) => Ok(Merged::Better(fronted)),
+        None => Ok(Merged::TooLarge),
+    }
+}
+
+/// Two certificates of one instance as one. Where both have the same branch both of its parts are walked through; elsewhere the
+/// subtree is taken that shows more, or as much where it goes on from an open leaf. Cycles and marked walks are the same where they
+/// pass the same rows; those that are new are put behind the others. Leaves keep what they show: where the scales differ, their
+/// multipliers are told by a multiple of both. The times are the cheaper ones.
+pub fn merge(alloc: Global, own: Shown<'_>, other: Shown<'_>) -> Result<Merged, Memory> {
+    let cycles = common_cycles(alloc, own, other)?;
+    let (tree, others) = (own.certificate().tree(), other.certificate().tree());
+    let shape = Shape::of(alloc, tree, own.costs)?;
+    let others_shape = Shape::of(alloc, others, other.costs)?;
+    let trees = Trees {
+        own: tree,
+        own_shape: &shape,
+        other: others,
+        other_shape: &others_shape,
+        cycles: &cycles,
+        cost: lesser(own.cost(), other.cost()).unwrap_or(u64::MAX),
+    };
+    let runs = trees.runs(alloc)?;
+    joined(alloc, own, other, trees, &runs)
+}

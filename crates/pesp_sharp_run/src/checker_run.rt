@@ -1,0 +1,55 @@
+//! The run of the checker where leaves may name marked walks.
+
+ghost use Rattle.std.specs.Prelude.{◌≡◌, ◌≢◌, ◌<◌, ◌^◌, OnOk, IfOk, IfErr};
+ghost use Rattle.std.specs.Io.KnownBytes.{Appends};
+ghost use Rattle.pesp_stream.specs.Counts.{FewerThan, HasWorked};
+ghost use Rattle.pesp_check_run.specs.Devices.{over};
+ghost use Rattle.pesp_sharp_run.specs.Checking.{ChecksWith, CheckCauseWith};
+
+use crate::judged_text::judge_source;
+use pesp_check::Verdict;
+use pesp_check_run::{VerdictFault, read_whole_instance, write_verdict};
+use pesp_stream::{Sink, Source};
+use std::alloc::Global;
+
+/// Reads an instance and then a certificate, with a front or without, and writes the line of the checker's verdict; the
+/// instance is judged before the certificate is read. At most 1,073,741,824 bytes of the certificate are read, and it is held
+/// as a whole while it is judged. `Certificate` is the first fault of its text, also where an item before it is wrong.
+/// `Accepted` says that the certificate is valid for the instance of the bytes read, and that its answer is true of it.
+pub fn run_check_sharp<R: Source, C: Source, W: Sink>(
+    alloc: Global,
+    instance_reader: &mut R,
+    certificate_reader: &mut C,
+    writer: &mut W,
+    period: u32,
+) -> Result<Verdict, VerdictFault>
+    requires reads_fit { FewerThan (2 ^ 62) (R.calls instance_reader.old) }
+    requires certificate_reads_fit { FewerThan (2 ^ 62) (C.calls certificate_reader.old) }
+    requires writes_fit { FewerThan (2 ^ 62) (W.calls writer.old) }
+    ensures ok { IfOk result
+        (λ verdict. ChecksWith (R.remaining instance_reader.old) (R.remaining instance_reader.new)
+        (C.remaining certificate_reader.old) (C.remaining certificate_reader.new) period verdict
+        (Appends (W.contents writer.old) (W.contents writer.new))) }
+    ensures reads { OnOk result
+        (HasWorked (R.calls instance_reader.old) (R.calls instance_reader.new)) }
+    ensures reads_else { IfErr result (λ fault. fault ≢ VerdictFault.Read → HasWorked (R.calls instance_reader.old) (R.calls instance_reader.new)) }
+    ensures certificate_reads { OnOk result
+        (HasWorked (C.calls certificate_reader.old) (C.calls certificate_reader.new)) }
+    ensures certificate_reads_else { IfErr result (λ fault. fault ≢ VerdictFault.Read → HasWorked (C.calls certificate_reader.old) (C.calls certificate_reader.new)) }
+    ensures writes { OnOk result (HasWorked (W.calls writer.old) (W.calls writer.new)) }
+    ensures cause { IfErr result (λ fault. CheckCauseWith fault
+        (over (R.remaining instance_reader.old) (R.remaining instance_reader.new)
+        (R.calls instance_reader.old) (R.calls instance_reader.new))
+        (over (C.remaining certificate_reader.old) (C.remaining certificate_reader.new)
+        (C.calls certificate_reader.old) (C.calls certificate_reader.new))
+        (over (W.contents writer.old) (W.contents writer.new)
+        (W.calls writer.old) (W.calls writer.new))
+        period (certificate_reader.new ≡ certificate_reader.old)) }
+    ensures silent { IfErr result (λ fault. fault ≢ VerdictFault.Write → writer.new ≡ writer.old) }
+{
+    // The instance is judged before the certificate is read.
+    let instance = read_whole_instance(alloc, instance_reader, period)?;
+    let (verdict, answer) = judge_source(alloc, &instance, certificate_reader)?;
+    write_verdict(alloc, writer, answer, verdict)?;
+    Ok(verdict)
+}

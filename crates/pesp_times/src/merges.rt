@@ -1,0 +1,144 @@
+//! Merges: what timetables have in common is contracted, and the rest is searched anew.
+
+use crate::clusters::{Clusters, common_clusters};
+use crate::contraction::Contraction;
+use crate::effort::{MOST_DIVED, is_near};
+use crate::forests::Keys;
+use crate::found::{Found, cost_of};
+use crate::relaxation::Relaxation;
+use crate::search::TimesSearch;
+use pesp_annealing::Annealer;
+use pesp_network::Network;
+use pesp_problem::Memory;
+
+/// How many timetables of the pool are annealed between clusters, and how many dives of the relaxation there.
+const TRIES: usize = 2;
+
+/// A merge: the network between clusters, its cheapest slacks so far, and what they cost.
+#[derive(Drop)]
+struct Merge {
+    contraction: Contraction,
+    slacks: Vec<u32>,
+    cost: u64,
+}
+
+impl Merge {
+    /// Keeps what an annealer found if it is cheaper.
+    fn note(&mut self, annealer: &Annealer) {
+        let slacks = annealer.slacks();
+        if annealer.cost() < self.cost && slacks.len() == self.slacks.len() {
+            self.cost = annealer.cost();
+            self.slacks.copy_from_slice(slacks);
+        }
+    }
+}
+
+/// How many timetables of a pool, the cheapest in front, are near the first.
+fn count_near(rows: usize, pool: &[Found]) -> usize {
+    let least = pool.first().map_or(0, |found| found.cost);
+    pool.iter()
+        .filter(|found| is_near(rows, found.cost, least))
+        .count()
+}
+
+impl TimesSearch {
+    /// The clusters of what timetables have in common.
+    fn clusters_of(&self, network: &Network, pool: &[Found]) -> Result<Clusters, Memory> {
+        let mut slacks = Vec::with_capacity(self.alloc, pool.len())?;
+        for found in pool {
+            slacks.push(found.slacks.as_slice())?;
+        }
+        Ok(common_clusters(self.alloc, network, &slacks)?)
+    }
+
+    /// The network between clusters of a pool, with the slacks of its cheapest timetable; None where there is nothing to search.
+    fn opened(&self, network: &Network, pool: &[Found]) -> Result<Option<Merge>, Memory> {
+        let Some(first) = pool.first() else {
+            return Ok(None);
+        };
+        let clusters = self.clusters_of(network, pool)?;
+        if clusters.count <= 1 {
+            return Ok(None);
+        }
+        let made = Contraction::new(self.alloc, network, &first.slacks, &clusters)?;
+        let Some(contraction) = made else {
+            return Ok(None);
+        };
+        Ok(Some(Merge {
+            slacks: contraction.taken_from(self.alloc, &first.slacks)?,
+            cost: contraction.cost,
+            contraction,
+        }))
+    }
+
+    /// The heat at which an anneal between clusters begins.
+    fn heat(&self) -> u64 {
+        self.mean.saturating_mul(2).max(1)
+    }
+
+    /// Anneals timetables of the pool between clusters.
+    fn anneal_pool(
+        &mut self,
+        merge: &mut Merge,
+        pool: &[Found],
+        rounds: u32,
+    ) -> Result<(), Memory> {
+        for found in pool.iter().take(TRIES) {
+            let slacks = merge.contraction.taken_from(self.alloc, &found.slacks)?;
+            let network = &merge.contraction.network;
+            if let Some(mut annealer) = self.descended(network, slacks, 0)? {
+                annealer.anneal(network, rounds, self.heat())?;
+                merge.note(&annealer);
+            }
+        }
+        Ok(())
+    }
+
+    /// Dives into the relaxation of the network between clusters, and anneals what is found.
+    fn dive_between(&mut self, merge: &mut Merge, rounds: u32) -> Result<(), Memory> {
+        let network = &merge.contraction.network;
+        let found = Relaxation::new(self.alloc, network, Keys::Plain, &mut self.random)?;
+        let Some(mut relaxation) = found else {
+            return Ok(());
+        };
+        relaxation.is_drawn = true;
+        for _ in 0..TRIES {
+            let network = &merge.contraction.network;
+            if let Some(mut annealer) = self.dived(network, &mut relaxation)? {
+                annealer.anneal(network, rounds, self.heat())?;
+                merge.note(&annealer);
+            }
+        }
+        Ok(())
+    }
+
+    /// The cheapest timetable of a pool, or a cheaper one that agrees with all of it where they agree.
+    pub(crate) fn merged(
+        &mut self,
+        network: &Network,
+        mut pool: Vec<Found>,
+        rounds: u32,
+    ) -> Result<Option<Found>, Memory> {
+        pool.sort_unstable_by_key(|found| found.cost);
+        pool.truncate(count_near(network.rows().len(), &pool));
+        let opened = self.opened(network, &pool)?;
+        if let Some(mut merge) = opened {
+            self.anneal_pool(&mut merge, &pool, rounds)?;
+            if merge.contraction.network.rows().len() <= MOST_DIVED {
+                self.dive_between(&mut merge, rounds)?;
+            }
+            if merge.cost < merge.contraction.cost
+                && let Some(first) = pool.first_mut()
+            {
+                merge.contraction.put_into(&mut first.slacks, &merge.slacks);
+                first.cost = cost_of(network, &first.slacks);
+            }
+        }
+        pool.truncate(1);
+        let Some(best) = pool.pop() else {
+            return Ok(None);
+        };
+        self.note(network, &best)?;
+        Ok(Some(best))
+    }
+}

@@ -1,5 +1,0 @@
-use Rattle.pesp_turns.proofs.PathNodes.{IsAlong}
-use Rattle.pesp_turns.proofs.walking.node_from.Given as goal
-
-abbrev pub invariant-loop-step : goal.invariant-loop-step
-invariant-loop-step l = IsAlong l.root l.path l.step-index l.node

@@ -1,5 +1,0 @@
-use Rattle.pesp_worker.proofs.Counting.{AreCounted}
-use Rattle.pesp_worker.proofs.judging.branches_among.Given as goal
-
-abbrev pub invariant-loop-line : goal.invariant-loop-line
-invariant-loop-line l = AreCounted l.most l.lines l.line-index l.count

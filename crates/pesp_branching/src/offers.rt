@@ -6,7 +6,9 @@ ghost use Rattle.pesp_network.specs.Networks.{net_of_network};
 ghost use Rattle.pesp_search_laws.specs.Turns.{IsWorked};
 ghost use Rattle.pesp_branching.specs.Offering.{OffersSome, MayOffer, OffersFirst};
 
-use crate::settings::{FEW_ROWS, FIRST_BATCH_AFTER, FIRST_BATCH_OF_MANY_ROWS, MET_ROUNDS};
+use crate::settings::{
+    BATCHES, BATCHES_OF_MANY_ROWS, BATCHES_OF_MORE_ROWS, FEW_ROWS, MET_ROUNDS, MORE_ROWS,
+};
 use pesp_board::Board;
 use pesp_network::Network;
 use pesp_problem::Memory;
@@ -18,12 +20,13 @@ use std::alloc::Global;
 
 /// Whether times are looked for after so many splits, where so many rows are left.
 fn is_due(rows: usize, used: u32) -> bool {
-    let first = if rows > FEW_ROWS {
-        FIRST_BATCH_OF_MANY_ROWS
+    if rows > MORE_ROWS {
+        BATCHES_OF_MANY_ROWS.contains(&used)
+    } else if rows > FEW_ROWS {
+        BATCHES_OF_MORE_ROWS.contains(&used)
     } else {
-        FIRST_BATCH_AFTER
-    };
-    used >= first && used & used.wrapping_sub(1) == 0
+        BATCHES.contains(&used)
+    }
 }
 
 /// Offers times.
@@ -167,8 +170,8 @@ fn later_times(
 }
 
 /// Offers times after so many splits: those that were met with, made cheaper and lifted to the instance, where they are a
-/// timetable of what is left of it; and those that a search for times finds with them, after 128, 256, 512 splits and so on, or from
-/// 512 on where many rows are left.
+/// timetable of what is left of it; and those that a search for times finds with them, after 128, 256, 512 splits and so on, the
+/// more seldom the more rows are left.
 pub fn offer_met(
     alloc: Global,
     board: &mut Board,

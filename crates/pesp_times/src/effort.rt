@@ -43,11 +43,12 @@ impl Effort {
     }
 
     /// The work after so many steps: little beside what the steps took, from a few thousand steps on.
-    pub(crate) fn after(steps: u32) -> Effort {
+    pub(crate) fn after(rows: usize, steps: u32) -> Effort {
+        let least = if rows > 2_500 { 15 } else { 3 };
         Effort {
             fours: 1,
             rounds: (steps / 8).clamp(20, 100),
-            balls: (steps / 512).saturating_add(3).min(40),
+            balls: (steps / 512).saturating_add(least).min(40),
         }
     }
 }

@@ -115,7 +115,8 @@ impl TimesSearch {
             return Ok(());
         }
         let before = self.least();
-        self.batch(network, Effort::after(steps))?;
+        let effort = Effort::after(network.rows().len(), steps);
+        self.batch(network, effort)?;
         let is_cheaper = self.least() != before;
         self.rest.note(is_cheaper);
         Ok(())

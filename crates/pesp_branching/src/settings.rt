@@ -9,13 +9,13 @@ pub(crate) const BATCHES: [u32; 14] = [
     1_048_576,
 ];
 
-/// With more rows than this they are more.
+/// Up to how many rows they are few.
 pub(crate) const FEW_ROWS: usize = 700;
 
 /// The same with more rows, where one search for times takes as long as hundreds of steps.
 pub(crate) const BATCHES_OF_MORE_ROWS: [u32; 6] = [128, 256, 512, 4_096, 32_768, 262_144];
 
-/// With more rows than this they are many.
+/// Up to how many rows they aren't many.
 pub(crate) const MORE_ROWS: usize = 2_500;
 
 /// The same with many rows.

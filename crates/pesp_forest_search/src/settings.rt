@@ -13,7 +13,7 @@ pub(crate) const WIDE: u128 = 8;
 pub(crate) const FEWEST_HEATED: usize = 15;
 
 /// With fewer exchanges for each cycle more of them are looked at that leave more offsets open.
-pub(crate) const FEWEST_CHOSEN: usize = 5;
+pub(crate) const FEWEST_CHOSEN: usize = 25;
 
 /// Over how many halvings the heat falls.
 pub(crate) const COOLINGS: u64 = 7;

@@ -17,8 +17,8 @@ use pesp_problem::Memory;
 use pesp_turns::hand_in;
 use std::alloc::Global;
 
-/// How many pivots look for the leaf of the root.
-const ROUNDS: u32 = 1_000;
+/// How many pivots look for the leaf of the root at most: more than some 6,000 rows need.
+const ROUNDS: u32 = 100_000;
 
 /// The work that a leaf is; where propagation shuts a bound, that it does.
 fn work_of(leaf: Leaf, shut: bool) -> Work

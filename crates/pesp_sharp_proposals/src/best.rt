@@ -8,9 +8,9 @@ use std::alloc::Global;
 
 /// The times of a timetable of the instance, one for each event, and their cost.
 #[derive(Drop)]
-pub struct Best {
-    pub times: Vec<u32>,
-    pub cost: u64,
+pub(crate) struct Best {
+    pub(crate) times: Vec<u32>,
+    pub(crate) cost: u64,
 }
 
 /// The timetable of an instance that has these times; None where they are none.
@@ -22,7 +22,7 @@ fn timetable_of(instance: &Instance, times: Vec<u32>) -> Option<Best> {
 }
 
 /// The timetable that a certificate shows, where it shows one.
-pub fn shown_by(
+pub(crate) fn shown_by(
     alloc: Global,
     instance: &Instance,
     certificate: &Certificate,
@@ -35,7 +35,7 @@ pub fn shown_by(
 }
 
 /// Whether an answer leaves something to be found.
-pub fn is_open(answer: Answer) -> bool {
+pub(crate) fn is_open(answer: Answer) -> bool {
     matches!(answer, Answer::Bounded { .. })
 }
 

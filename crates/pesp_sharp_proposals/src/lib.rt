@@ -14,8 +14,8 @@ mod proposal;
 mod scales;
 mod search;
 mod standing;
+mod whole_search;
 
-pub use best::{Best, is_open, shown_by};
-pub use proposal::{Proposals, proposals_of};
-pub use search::SharpSearch;
+pub use proposal::Proposals;
 pub use standing::{SharpWatcher, Standing, Unwatched};
+pub use whole_search::{Leaves, propose, propose_from};

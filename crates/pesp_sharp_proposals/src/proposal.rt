@@ -258,8 +258,16 @@ fn timed_of(
     }))
 }
 
+/// No proposals.
+pub(crate) fn no_proposals() -> Proposals {
+    Proposals {
+        sharp: None,
+        timed: None,
+    }
+}
+
 /// What a search proposes in the place of an answer; where it has taken up the tree of a certificate, that is named.
-pub fn proposals_of(
+pub(crate) fn proposals_of(
     alloc: Global,
     instance: &Instance,
     front: &Option<Marks>,

@@ -31,7 +31,7 @@ const SEED: u64 = 1;
 /// A search that sharpens what is left of an instance: by which scale, whether it has taken up a tree, and after how many steps
 /// it begins.
 #[derive(Drop)]
-pub struct SharpSearch {
+pub(crate) struct SharpSearch {
     pub(crate) reduced: Reduced,
     pub(crate) sharpening: Sharpening,
     pub(crate) best: Option<Best>,
@@ -100,7 +100,7 @@ fn times_from(
 
 impl SharpSearch {
     /// A search that begins with the best timetable of a first look.
-    pub fn new(
+    pub(crate) fn new(
         alloc: Global,
         reduced: Reduced,
         times: Option<TimesSearch>,
@@ -121,7 +121,7 @@ impl SharpSearch {
     }
 
     /// A search that goes on from a certificate of an instance, whose tree has so many branches.
-    pub fn going_on(
+    pub(crate) fn going_on(
         alloc: Global,
         instance: &Instance,
         reduced: Reduced,
@@ -319,7 +319,7 @@ impl SharpSearch {
     }
 
     /// Sharpens the root, and then splits leaves: so many, unless none is open below the best cost before, or the watcher ends it.
-    pub fn run<W: SharpWatcher>(
+    pub(crate) fn run<W: SharpWatcher>(
         &mut self,
         alloc: Global,
         instance: &Instance,
@@ -331,7 +331,7 @@ impl SharpSearch {
     }
 
     /// Goes on from a certificate in the same way.
-    pub fn go_on<W: SharpWatcher>(
+    pub(crate) fn go_on<W: SharpWatcher>(
         &mut self,
         alloc: Global,
         instance: &Instance,
@@ -345,7 +345,7 @@ impl SharpSearch {
 
     /// Goes on from some leaves of a certificate's tree in the same way: those of which a cost is told are kept as they are. No leaf
     /// is split that shows as much as the bound, where one is named.
-    pub fn work_on<W: SharpWatcher>(
+    pub(crate) fn work_on<W: SharpWatcher>(
         &mut self,
         alloc: Global,
         instance: &Instance,

@@ -98,14 +98,6 @@ pub(crate) fn first_standing(
     standing(alloc, instance, answer, timed, steps)
 }
 
-/// No proposals.
-pub(crate) fn no_proposals() -> Proposals {
-    Proposals {
-        sharp: None,
-        timed: None,
-    }
-}
-
 /// An answer without a front.
 fn without_front(plain: Certificate) -> Fronted
     ensures { result ≡ record { front = None; content = plain } }

@@ -5,52 +5,11 @@ ghost use Rattle.pesp_sharp_truth.specs.Certificates.{IsValidWith};
 ghost use Rattle.pesp_sharp_text.specs.Texts.{content_of};
 ghost use Rattle.pesp_sharp_search.specs.Solving.{IsSharpResumed};
 
-use crate::choice::{branches_of, first_standing, no_proposals};
+use crate::choice::{branches_of, first_standing};
 use pesp_problem::{Instance, Memory};
-use pesp_reduce::reduce;
-use pesp_sharp_proposals::{Proposals, SharpSearch, SharpWatcher, is_open, proposals_of};
+use pesp_sharp_proposals::{Leaves, SharpWatcher, propose_from};
 use pesp_sharp_text::Fronted;
 use std::alloc::Global;
-
-/// Some leaves of a certificate's tree: all but those of which the cost is told that they show; and the bound from which on none is
-/// split, where one is named.
-#[derive(Clone, Copy)]
-pub struct Leaves<'a> {
-    pub spared: &'a [Option<u64>],
-    pub until: Option<u64>,
-}
-
-/// What a search that goes on from a certificate, or from some of its leaves, proposes in its place, where its answer is open.
-fn proposed<W: SharpWatcher>(
-    alloc: Global,
-    instance: &Instance,
-    base: &Fronted,
-    leaves: Option<Leaves<'_>>,
-    steps: u32,
-    watcher: &mut W,
-) -> Result<Proposals, Memory> {
-    let certificate = &base.certificate;
-    if !is_open(certificate.answer()) {
-        return Ok(no_proposals());
-    }
-    let reduced = reduce(alloc, instance)?;
-    let branches = branches_of(certificate);
-    let mut search = SharpSearch::going_on(alloc, instance, reduced, base, branches)?;
-    match leaves {
-        None => search.go_on(alloc, instance, base, steps, watcher)?,
-        Some(Leaves { spared, until }) => {
-            search.work_on(alloc, instance, base, spared, steps, until, watcher)?
-        }
-    }
-    proposals_of(
-        alloc,
-        instance,
-        &base.front,
-        certificate,
-        &search,
-        Some(base),
-    )
-}
 
 /// Goes on from a valid certificate of an instance, with or without marked walks: its open leaves are split, that of least value
 /// first, and sharpened by marked walks, until so many were split, none is open below the best cost, or the watcher ends it.
@@ -70,8 +29,9 @@ pub fn resume_sharp<W: SharpWatcher>(
     ensures { IfOk result (IsSharpResumed instance.now base steps) }
 {
     let answer = base.certificate.answer();
-    let most = branches_of(&base.certificate).saturating_add(steps);
-    let proposals = proposed(alloc, instance, &base, None, steps, watcher)?;
+    let branches = branches_of(&base.certificate);
+    let most = branches.saturating_add(steps);
+    let proposals = propose_from(alloc, instance, &base, branches, None, steps, watcher)?;
     match first_standing(alloc, instance, answer, proposals, most)? {
         Some(found) => Ok(found),
         None => Ok(base),
@@ -92,8 +52,10 @@ pub fn resume_leaves<W: SharpWatcher>(
     ensures { IfOk result (IsSharpResumed instance.now base steps) }
 {
     let answer = base.certificate.answer();
-    let most = branches_of(&base.certificate).saturating_add(steps);
-    let proposals = proposed(alloc, instance, &base, Some(leaves), steps, watcher)?;
+    let branches = branches_of(&base.certificate);
+    let most = branches.saturating_add(steps);
+    let chosen = Some(leaves);
+    let proposals = propose_from(alloc, instance, &base, branches, chosen, steps, watcher)?;
     let found = first_standing(alloc, instance, answer, proposals, most)?;
     match found {
         Some(found) => Ok(found),

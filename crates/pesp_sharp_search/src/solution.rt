@@ -6,34 +6,12 @@ ghost use Rattle.pesp_search.specs.Refusals.{MeetsLimit};
 ghost use Rattle.pesp_search.specs.Solving.{CostsNoMore, IsSearchRefusal};
 ghost use Rattle.pesp_sharp_search.specs.Solving.{IsSharpSolved};
 
-use crate::choice::{SharpSolved, no_proposals, settled};
+use crate::choice::{SharpSolved, settled};
 use crate::observer::{Observing, SharpObserver};
-use pesp_cert::Certificate;
-use pesp_problem::{Instance, Memory};
-use pesp_reduce::Reduced;
+use pesp_problem::Instance;
 use pesp_search::{FirstLook, SolveRefusal, look_first};
-use pesp_sharp_proposals::{Proposals, SharpSearch, is_open, proposals_of, shown_by};
-use pesp_times::TimesSearch;
+use pesp_sharp_proposals::propose;
 use std::alloc::Global;
-
-/// What a search that sharpens proposes in the place of a plain answer, where that is open.
-fn proposed<O: SharpObserver>(
-    alloc: Global,
-    instance: &Instance,
-    plain: &Certificate,
-    reduced: Reduced,
-    times: Option<TimesSearch>,
-    steps: u32,
-    observer: &mut O,
-) -> Result<Proposals, Memory> {
-    if !is_open(plain.answer()) {
-        return Ok(no_proposals());
-    }
-    let best = shown_by(alloc, instance, plain)?;
-    let mut search = SharpSearch::new(alloc, reduced, times, best)?;
-    search.run(alloc, instance, steps, &mut Observing { observer })?;
-    proposals_of(alloc, instance, &None, plain, &search, None)
-}
 
 /// Searches for a best timetable by at most so many splits of a leaf, with leaves that marked walks sharpen, from times that are
 /// given: one for each event of the instance, in the instance's order, from 0 to one less than the period. An observer looks
@@ -65,7 +43,8 @@ pub fn solve_sharp<O: SharpObserver>(
         times: search,
     } = look_first(alloc, instance, times, observer)?;
     let plain = solved.certificate;
-    let proposals = proposed(alloc, instance, &plain, reduced, search, steps, observer)?;
+    let watcher = &mut Observing { observer };
+    let proposals = propose(alloc, instance, &plain, reduced, search, steps, watcher)?;
     let sharp = settled(alloc, instance, plain, proposals, steps)?;
     Ok(sharp)
 }

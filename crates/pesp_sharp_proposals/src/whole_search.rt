@@ -93,13 +93,5 @@ pub fn propose_from<W: SharpWatcher>(
     }
     let reduced = reduce(alloc, instance)?;
     let mut search = SharpSearch::going_on(alloc, instance, reduced, base, branches)?;
-    gone_on(
-        alloc,
-        instance,
-        base,
-        leaves,
-        &mut search,
-        steps,
-        watcher,
-    )
+    gone_on(alloc, instance, base, leaves, &mut search, steps, watcher)
 }

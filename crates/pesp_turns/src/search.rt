@@ -1,6 +1,6 @@
 //! Searches.
 
-ghost use Rattle.std.specs.Prelude.{◌≡◌, ◌≤◌, IfOk};
+ghost use Rattle.std.specs.Prelude.{◌+◌, ◌-◌, ◌^◌, min, ◌≡◌, ◌≤◌, IfOk};
 ghost use Rattle.pesp_problem.specs.declared.limits.TheConstants.{MOST_STEPS};
 ghost use Rattle.pesp_turns.specs.Knowing.{IsKnown};
 ghost use Rattle.pesp_search_laws.specs.Turns.{IsWorked};
@@ -71,6 +71,7 @@ impl Search {
     pub fn on(alloc: Global, instance: &Instance, board: Board) -> Result<Search, Memory>
         ensures board { IfOk result (λ search. search.board ≡ board) }
         ensures known { IfOk result (λ search. IsKnown board.problem search.known) }
+        ensures used { IfOk result (λ search. search.used ≡ 0) }
     {
         let (known, proposer) = known_and_proposer(alloc, instance, &board)?;
         Ok(Search {
@@ -105,6 +106,8 @@ impl Search {
         ensures ends { AreLentSettled self.old.board.problem self.old.board.state → IfOk result
             (λ ended. EndsAs self.old.board.problem self.old.known.reduced steps self.old.board.state ended.used
             ended.ending self.new.board.state) }
+        ensures used { IfOk result
+            (λ ended. self.new.used ≡ min (self.old.used + ended.used) (2 ^ 32 - 1)) }
     {
         let Search {
             board,
@@ -128,6 +131,8 @@ impl Search {
             self.old.board.state ended.used ended.ending self.new.board.state) }
         ensures grows { IfOk result (λ ended. Grows self.old.board.problem ended.used
             self.old.board.state self.new.board.state) }
+        ensures used { IfOk result
+            (λ ended. self.new.used ≡ min (self.old.used + ended.used) (2 ^ 32 - 1)) }
     {
         let Search {
             board,

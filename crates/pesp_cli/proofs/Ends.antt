@@ -22,19 +22,7 @@ pub got_line : {A E : Type 0} (r : Result A E) (old new : Option (List ℕ)) (ca
 got_line (Ok a) old new calls after line written fault = inl written
 got_line (Err e) old new calls after line written fault = inr (fault, written)
 
--- what holds of the text of a file holds of some text
-pub of_some_file : (r : Result ℕ Fault) (P : Device → ℕ → Type 0) (instance : Device) → IfOk r (P instance)
-    → IfOk r (λ status. (instance : Device) × P instance status)
-of_some_file (Ok status) P instance holds = (instance, holds)
-of_some_file (Err fault) P instance holds = tt
-
--- the same of two files
-pub of_some_files : (r : Result ℕ Fault) (P : Device → Device → ℕ → Type 0) (instance base : Device)
-    → IfOk r (P instance base) → IfOk r (λ status. (instance base : Device) × P instance base status)
-of_some_files (Ok status) P instance base holds = (instance, base, holds)
-of_some_files (Err fault) P instance base holds = tt
-
--- the same of a run over the times of a file
+-- what holds of a run over the times of a file holds of some times
 pub from_some_times : {A : Type 0} (run : Result A Fault) (r : Result ℕ Fault) (P : Device → Type 0)
     (times : Device) → OnOk run (P times) → MatchResult run (λ _. r ≡ Ok 0) (λ fault. r ≡ Err fault)
     → IfOk r (λ status. ((times : Device) × P times) × (status ≡ 0))

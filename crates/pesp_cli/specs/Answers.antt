@@ -30,8 +30,13 @@ use Rattle.pesp_request.specs.declared.request.OfCertificate.{OfCertificate}
 use Rattle.pesp_request.specs.declared.request.OfCertificate.TheVariants.{Check, CheckSharp, Gap, Resume, ResumeSharp, Split, SplitSharp}
 use Rattle.pesp_request.specs.declared.request.OfTimes.{OfTimes}
 use Rattle.pesp_request.specs.declared.request.OfTimes.TheVariants.{Report, Violations, Picture, Diagrams}
+use Rattle.pesp_request.specs.declared.request.OfLeaves.{OfLeaves}
+use Rattle.pesp_request.specs.declared.request.OfLeaves.TheVariants.{Work, WorkSharp}
+use Rattle.pesp_request.specs.declared.request.OfWorks.{OfWorks}
+use Rattle.pesp_request.specs.declared.request.OfWorks.TheVariants.{Graft, GraftSharp}
+use Rattle.pesp_request.specs.declared.request.Asked.{Asked}
+use Rattle.pesp_request.specs.declared.request.Asked.TheVariants.{Instance, Certificate, Leaves, Times, Works}
 use Rattle.pesp_request.specs.declared.request.Request.{Request}
-use Rattle.pesp_request.specs.declared.request.Request.TheVariants.{Instance, Certificate, Work, WorkSharp, Times, Works, WorksSharp}
 
 -- ---- writers
 
@@ -93,17 +98,14 @@ AnswersCertificate Split period instance reader writer status =
 AnswersCertificate SplitSharp period instance reader writer status =
     HasSharpBase instance.old instance.new reader.old reader.new period (λ p base. WritesSharpJobs p base (Gets writer)) × (status ≡ 0)
 
--- the same of work on open leaves of a certificate
-abbrev pub AnswersWork : ℕ → ℕ → Option ℕ → List ℕ → Device → Device → Device → ℕ → Type 0
-AnswersWork period steps until jobs instance reader writer status =
+-- the same of open leaves of a certificate
+abbrev pub AnswersLeaves : OfLeaves → ℕ → Device → Device → Device → ℕ → Type 0
+AnswersLeaves (Work steps until jobs) period instance reader writer status =
     HasBase instance.old instance.new reader.old reader.new period
-    (λ p base. WritesWorks p base jobs steps until (Gets writer)) × (status ≡ 0)
-
--- the same with leaves that marked walks sharpen
-abbrev pub AnswersWorkSharp : ℕ → ℕ → Option ℕ → List ℕ → Device → Device → Device → ℕ → Type 0
-AnswersWorkSharp period steps until jobs instance reader writer status =
+    (λ p base. WritesWorks p base jobs.items steps until (Gets writer)) × (status ≡ 0)
+AnswersLeaves (WorkSharp steps until jobs) period instance reader writer status =
     HasSharpBase instance.old instance.new reader.old reader.new period
-    (λ p base. WritesSharpWork p base jobs steps (Gets writer)) × (status ≡ 0)
+    (λ p base. WritesSharpWork p base jobs.items steps (Gets writer)) × (status ≡ 0)
 
 -- 1 where any activity is violated
 abbrev pub violations_status : ℕ → ℕ
@@ -130,32 +132,30 @@ AnswersTimes (Diagrams names) period instance reader writer status =
     ReadsTimetable instance.old instance.new reader.old reader.new period (λ p times. WritesSheet (λ text. ⊤) (Gets writer)) × (status ≡ 0)
 
 -- the same of works, from the readers that have the instance, the base and the works
-abbrev pub AnswersWorks : ℕ → Device → Device → Device → Device → Device → ℕ → Type 0
-AnswersWorks period instance base reader writer teller status =
+abbrev pub AnswersWorks : OfWorks → ℕ → Device → Device → Device → Device → Device → ℕ → Type 0
+AnswersWorks Graft period instance base reader writer teller status =
     HasBase instance.old instance.new base.old base.new period
     (λ p base. Grafts reader.old reader.new p base (Gets writer) (Gets teller)) × (status ≡ 0)
-
--- the same with leaves that marked walks sharpen
-abbrev pub AnswersWorksSharp : ℕ → Device → Device → Device → Device → Device → ℕ → Type 0
-AnswersWorksSharp period instance base reader writer teller status =
+AnswersWorks GraftSharp period instance base reader writer teller status =
     HasSharpBase instance.old instance.new base.old base.new period
     (λ p base. GraftsSharp reader.old reader.new p base (Gets writer) (Gets teller)) × (status ≡ 0)
 
--- what the program does for a request, from the reader of standard input to the writers of standard output and standard
--- error; what stands in a file that is named is some text
-abbrev pub Answers : Request → Device → Device → Device → Type 0 → ℕ → Type 0
-Answers (Instance period None asked) reader writer teller silent status = AnswersInstance asked period reader writer teller silent status
-Answers (Instance period (Some file) asked) reader writer teller silent status =
+-- what the program does for what is asked, from the reader of standard input to the writers of standard output and
+-- standard error; what stands in a file that is named is some text
+abbrev pub AnswersAsked : Asked → ℕ → Device → Device → Device → Type 0 → ℕ → Type 0
+AnswersAsked (Instance None asked) period reader writer teller silent status =
+    AnswersInstance asked period reader writer teller silent status
+AnswersAsked (Instance (Some file) asked) period reader writer teller silent status =
     (instance : Device) × AnswersInstance asked period instance writer teller silent status
-Answers (Certificate period file asked) reader writer teller silent status =
+AnswersAsked (Certificate file asked) period reader writer teller silent status =
     (instance : Device) × AnswersCertificate asked period instance reader writer status
-Answers (Work period file steps until jobs) reader writer teller silent status =
-    (instance : Device) × AnswersWork period steps until jobs.items instance reader writer status
-Answers (WorkSharp period file steps until jobs) reader writer teller silent status =
-    (instance : Device) × AnswersWorkSharp period steps until jobs.items instance reader writer status
-Answers (Times period file asked) reader writer teller silent status =
+AnswersAsked (Leaves file asked) period reader writer teller silent status =
+    (instance : Device) × AnswersLeaves asked period instance reader writer status
+AnswersAsked (Times file asked) period reader writer teller silent status =
     (instance : Device) × AnswersTimes asked period instance reader writer status
-Answers (Works period file base) reader writer teller silent status =
-    (instance base : Device) × AnswersWorks period instance base reader writer teller status
-Answers (WorksSharp period file base) reader writer teller silent status =
-    (instance base : Device) × AnswersWorksSharp period instance base reader writer teller status
+AnswersAsked (Works file base asked) period reader writer teller silent status =
+    (instance base : Device) × AnswersWorks asked period instance base reader writer teller status
+
+abbrev pub Answers : Request → Device → Device → Device → Type 0 → ℕ → Type 0
+Answers request reader writer teller silent status =
+    AnswersAsked request.asked request.period reader writer teller silent status

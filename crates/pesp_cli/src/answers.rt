@@ -2,15 +2,14 @@
 
 ghost use Rattle.std.specs.Prelude.{◌≡◌, ◌<◌, ◌≤◌, ◌^◌, Ok, Err, IfOk, OnOk, IsSome, MatchResult};
 ghost use Rattle.std.specs.Io.KnownBytes.{Appends};
-ghost use Rattle.std.specs.List.Sorted.{IsStrictlyIncreasing};
 ghost use Rattle.pesp_problem.specs.declared.limits.TheConstants.{MOST_STEPS};
 ghost use Rattle.pesp_stream.specs.Counts.{FewerThan};
 ghost use Rattle.pesp_check_run.specs.Devices.{over};
 ghost use Rattle.pesp_faults.specs.Reading.{HasBase};
 ghost use Rattle.pesp_resume_run.specs.Resuming.{WritesResumed};
 ghost use Rattle.pesp_sharp_solve_run.specs.Resuming.{ResumesSharp};
-ghost use Rattle.pesp_request.specs.Requests.{InstanceWithin, CertificateWithin};
-ghost use Rattle.pesp_cli.specs.Answers.{AnswersSolve, AnswersSolveSharp, AnswersInstance, AnswersCertificate, AnswersWork, AnswersWorkSharp, AnswersTimes, AnswersWorks, AnswersWorksSharp, violations_status};
+ghost use Rattle.pesp_request.specs.Requests.{InstanceWithin, CertificateWithin, LeavesWithin};
+ghost use Rattle.pesp_cli.specs.Answers.{AnswersSolve, AnswersSolveSharp, AnswersInstance, AnswersCertificate, AnswersLeaves, AnswersTimes, AnswersWorks, violations_status};
 
 use crate::input::{Beginning, warn_of_period};
 use crate::telling::told_conflict;
@@ -23,7 +22,7 @@ use pesp_progress::{Teller, Watch};
 use pesp_report_run::{
     Diagrams, NamedReport, Picture, Report, read_whole_names, run_sheet, run_violations,
 };
-use pesp_request::{OfCertificate, OfInstance, OfTimes};
+use pesp_request::{OfCertificate, OfInstance, OfLeaves, OfTimes, OfWorks};
 use pesp_resume_run::{run_gap, run_resume};
 use pesp_search::{Nobody, Observer};
 use pesp_sharp_outside_run::{run_graft_sharp, run_split_sharp, run_work_sharp};
@@ -274,7 +273,7 @@ pub(crate) fn of_certificate<R: AllocGlobal + Eprint + Clock, I: Source, S: Sour
     }
 }
 
-/// Works on open leaves of the certificate that the reader gives, for the instance of the other reader.
+/// Does what is asked of open leaves of the certificate that the reader gives, for the instance of the other reader.
 #[tactic(auto, using(crate::proofs::Ends::finished))]
 pub(crate) fn of_leaves<R: AllocGlobal, I: Source, S: Source, W: Sink>(
     rt: &R,
@@ -282,16 +281,13 @@ pub(crate) fn of_leaves<R: AllocGlobal, I: Source, S: Source, W: Sink>(
     reader: &mut S,
     writer: &mut W,
     period: u32,
-    steps: u32,
-    until: Option<u64>,
-    jobs: &[u64],
+    asked: OfLeaves,
 ) -> Result<u8, Fault>
-    requires steps { steps ≤ MOST_STEPS }
-    requires rise { IsStrictlyIncreasing jobs.now }
+    requires within { LeavesWithin asked }
     requires instance_fits { FewerThan (2 ^ 62) (I.calls instance.old) }
     requires reads_fit { FewerThan (2 ^ 62) (S.calls reader.old) }
     requires writes_fit { FewerThan (2 ^ 62) (W.calls writer.old) }
-    ensures { IfOk result (AnswersWork period steps until jobs.now
+    ensures { IfOk result (AnswersLeaves asked period
         (over (I.remaining instance.old) (I.remaining instance.new)
         (I.calls instance.old) (I.calls instance.new))
         (over (S.remaining reader.old) (S.remaining reader.new)
@@ -299,53 +295,15 @@ pub(crate) fn of_leaves<R: AllocGlobal, I: Source, S: Source, W: Sink>(
         (over (W.contents writer.old) (W.contents writer.new)
         (W.calls writer.old) (W.calls writer.new))) }
 {
-    done(run_work(
-        rt.alloc(),
-        instance,
-        reader,
-        writer,
-        period,
-        steps,
-        until,
-        jobs,
-    ))
-}
-
-/// The same with leaves that marked walks sharpen.
-#[tactic(auto, using(crate::proofs::Ends::finished))]
-pub(crate) fn of_sharp_leaves<R: AllocGlobal, I: Source, S: Source, W: Sink>(
-    rt: &R,
-    instance: &mut I,
-    reader: &mut S,
-    writer: &mut W,
-    period: u32,
-    steps: u32,
-    until: Option<u64>,
-    jobs: &[u64],
-) -> Result<u8, Fault>
-    requires steps { steps ≤ MOST_STEPS }
-    requires rise { IsStrictlyIncreasing jobs.now }
-    requires instance_fits { FewerThan (2 ^ 62) (I.calls instance.old) }
-    requires reads_fit { FewerThan (2 ^ 62) (S.calls reader.old) }
-    requires writes_fit { FewerThan (2 ^ 62) (W.calls writer.old) }
-    ensures { IfOk result (AnswersWorkSharp period steps until jobs.now
-        (over (I.remaining instance.old) (I.remaining instance.new)
-        (I.calls instance.old) (I.calls instance.new))
-        (over (S.remaining reader.old) (S.remaining reader.new)
-        (S.calls reader.old) (S.calls reader.new))
-        (over (W.contents writer.old) (W.contents writer.new)
-        (W.calls writer.old) (W.calls writer.new))) }
-{
-    done(run_work_sharp(
-        rt.alloc(),
-        instance,
-        reader,
-        writer,
-        period,
-        steps,
-        until,
-        jobs,
-    ))
+    let alloc = rt.alloc();
+    match asked {
+        OfLeaves::Work { steps, until, jobs } => {
+            done(run_work(alloc, instance, reader, writer, period, steps, until, &jobs))
+        }
+        OfLeaves::WorkSharp { steps, until, jobs } => {
+            done(run_work_sharp(alloc, instance, reader, writer, period, steps, until, &jobs))
+        }
+    }
 }
 
 /// Does what is asked of the times that the reader gives, for the instance of the other reader.
@@ -418,7 +376,8 @@ fn status_of_violations(count: usize) -> u8
     if count == 0 { 0 } else { 1 }
 }
 
-/// Grafts the works that the reader gives onto the certificate of the second reader, for the instance of the first one.
+/// Does what is asked of the works that the reader gives, which belong to the certificate of the second reader, for the
+/// instance of the first one.
 #[tactic(auto, using(crate::proofs::Ends::finished))]
 pub(crate) fn of_works<R: AllocGlobal, I: Source, B: Source, S: Source, W: Sink, E: Sink>(
     rt: &R,
@@ -428,13 +387,14 @@ pub(crate) fn of_works<R: AllocGlobal, I: Source, B: Source, S: Source, W: Sink,
     writer: &mut W,
     teller: &mut E,
     period: u32,
+    asked: OfWorks,
 ) -> Result<u8, Fault>
     requires instance_fits { FewerThan (2 ^ 62) (I.calls instance.old) }
     requires base_fits { FewerThan (2 ^ 62) (B.calls base.old) }
     requires reads_fit { FewerThan (2 ^ 62) (S.calls reader.old) }
     requires writes_fit { FewerThan (2 ^ 62) (W.calls writer.old) }
     requires tellings_fit { FewerThan (2 ^ 62) (E.calls teller.old) }
-    ensures { IfOk result (AnswersWorks period
+    ensures { IfOk result (AnswersWorks asked period
         (over (I.remaining instance.old) (I.remaining instance.new)
         (I.calls instance.old) (I.calls instance.new))
         (over (B.remaining base.old) (B.remaining base.new)
@@ -446,38 +406,13 @@ pub(crate) fn of_works<R: AllocGlobal, I: Source, B: Source, S: Source, W: Sink,
         (over (E.contents teller.old) (E.contents teller.new)
         (E.calls teller.old) (E.calls teller.new))) }
 {
-    done(run_graft(rt.alloc(), instance, base, reader, writer, teller, period))
-}
-
-/// The same with leaves that marked walks sharpen; each work is a whole certificate.
-#[tactic(auto, using(crate::proofs::Ends::finished))]
-pub(crate) fn of_sharp_works<R: AllocGlobal, I: Source, B: Source, S: Source, W: Sink, E: Sink>(
-    rt: &R,
-    instance: &mut I,
-    base: &mut B,
-    reader: &mut S,
-    writer: &mut W,
-    teller: &mut E,
-    period: u32,
-) -> Result<u8, Fault>
-    requires instance_fits { FewerThan (2 ^ 62) (I.calls instance.old) }
-    requires base_fits { FewerThan (2 ^ 62) (B.calls base.old) }
-    requires reads_fit { FewerThan (2 ^ 62) (S.calls reader.old) }
-    requires writes_fit { FewerThan (2 ^ 62) (W.calls writer.old) }
-    requires tellings_fit { FewerThan (2 ^ 62) (E.calls teller.old) }
-    ensures { IfOk result (AnswersWorksSharp period
-        (over (I.remaining instance.old) (I.remaining instance.new)
-        (I.calls instance.old) (I.calls instance.new))
-        (over (B.remaining base.old) (B.remaining base.new)
-        (B.calls base.old) (B.calls base.new))
-        (over (S.remaining reader.old) (S.remaining reader.new)
-        (S.calls reader.old) (S.calls reader.new))
-        (over (W.contents writer.old) (W.contents writer.new)
-        (W.calls writer.old) (W.calls writer.new))
-        (over (E.contents teller.old) (E.contents teller.new)
-        (E.calls teller.old) (E.calls teller.new))) }
-{
-    done(run_graft_sharp(rt.alloc(), instance, base, reader, writer, teller, period))
+    let alloc = rt.alloc();
+    match asked {
+        OfWorks::Graft => done(run_graft(alloc, instance, base, reader, writer, teller, period)),
+        OfWorks::GraftSharp => done(run_graft_sharp(
+            alloc, instance, base, reader, writer, teller, period,
+        )),
+    }
 }
 
 /// Opens a file; where it can't be opened for any cause, that is told.

@@ -6,17 +6,14 @@ ghost use Rattle.pesp_check_run.specs.Devices.{over};
 ghost use Rattle.pesp_request.specs.Requests.{IsWithinLimits};
 ghost use Rattle.pesp_cli.specs.Answers.{Answers};
 
-use crate::answers::{
-    of_certificate, of_instance, of_leaves, of_sharp_leaves, of_sharp_works, of_times, of_works,
-    opened,
-};
+use crate::answers::{of_certificate, of_instance, of_leaves, of_times, of_works, opened};
 use crate::input::{Beginning, warn_of_period};
 use crate::output::writer_of;
 use crate::telling::{teller_of, told};
 use clap::Error;
 use clap::error::ErrorKind;
 use pesp_faults::{Fault, status_of};
-use pesp_request::{Request, request_of};
+use pesp_request::{Asked, Request, request_of};
 use pesp_stream::{Counted, Sink, Source};
 use std::process::ExitCode;
 use std::rt::{Clock, Env, Files};
@@ -120,83 +117,43 @@ fn answer<R: AllocGlobal + Eprint + Files + Clock, S: Source, W: Sink, E: Sink>(
         (E.calls teller.old) (E.calls teller.new))
         (writer.new ≡ writer.old)) }
 {
-    match request {
-        Request::Instance {
-            period,
-            file: None,
-            asked,
-        } => { of_instance(rt, reader, writer, teller, period, asked) }
-        Request::Instance {
-            period,
+    let Request { period, asked } = request;
+    match asked {
+        Asked::Instance { file: None, asked } => {
+            of_instance(rt, reader, writer, teller, period, asked)
+        }
+        Asked::Instance {
             file: Some(file),
             asked,
         } => {
             let mut instance = opened(rt, file)?;
             of_instance(rt, &mut instance, writer, teller, period, asked)
         }
-        Request::Certificate {
-            period,
-            file,
-            asked,
-        } => {
+        Asked::Certificate { file, asked } => {
             let mut instance = opened(rt, file)?;
             of_certificate(rt, &mut instance, reader, writer, period, asked)
         }
-        Request::Work {
-            period,
-            file,
-            steps,
-            until,
-            jobs,
-        } => {
+        Asked::Leaves { file, asked } => {
             let mut instance = opened(rt, file)?;
-            of_leaves(
-                rt,
-                &mut instance,
-                reader,
-                writer,
-                period,
-                steps,
-                until,
-                &jobs,
-            )
+            of_leaves(rt, &mut instance, reader, writer, period, asked)
         }
-        Request::WorkSharp {
-            period,
-            file,
-            steps,
-            until,
-            jobs,
-        } => {
-            let mut instance = opened(rt, file)?;
-            of_sharp_leaves(
-                rt,
-                &mut instance,
-                reader,
-                writer,
-                period,
-                steps,
-                until,
-                &jobs,
-            )
-        }
-        Request::Times {
-            period,
-            file,
-            asked,
-        } => {
+        Asked::Times { file, asked } => {
             let mut instance = opened(rt, file)?;
             of_times(rt, &mut instance, reader, writer, period, asked)
         }
-        Request::Works { period, file, base } => {
+        Asked::Works { file, base, asked } => {
             let mut instance = opened(rt, file)?;
             let mut base = opened(rt, base)?;
-            of_works(rt, &mut instance, &mut base, reader, writer, teller, period)
-        }
-        Request::WorksSharp { period, file, base } => {
-            let mut instance = opened(rt, file)?;
-            let mut base = opened(rt, base)?;
-            of_sharp_works(rt, &mut instance, &mut base, reader, writer, teller, period)
+            of_works(
+                rt,
+                &mut instance,
+                &mut base,
+                reader,
+                writer,
+                teller,
+                period,
+                asked,
+            )
         }
     }
 }

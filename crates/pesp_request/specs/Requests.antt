@@ -8,8 +8,11 @@ use Rattle.pesp_request.specs.declared.request.OfCertificate.{OfCertificate}
 use Rattle.pesp_request.specs.declared.request.OfCertificate.TheVariants.{Check, CheckSharp, Gap, Resume, ResumeSharp, Split, SplitSharp}
 use Rattle.pesp_request.specs.declared.request.OfTimes.{OfTimes}
 use Rattle.pesp_request.specs.declared.request.OfTimes.TheVariants.{Report, Violations, Picture, Diagrams}
+use Rattle.pesp_request.specs.declared.request.OfLeaves.{OfLeaves}
+use Rattle.pesp_request.specs.declared.request.OfLeaves.TheVariants.{Work, WorkSharp}
+use Rattle.pesp_request.specs.declared.request.Asked.{Asked}
+use Rattle.pesp_request.specs.declared.request.Asked.TheVariants.{Instance, Certificate, Leaves, Times, Works}
 use Rattle.pesp_request.specs.declared.request.Request.{Request}
-use Rattle.pesp_request.specs.declared.request.Request.TheVariants.{Instance, Certificate, Work, WorkSharp, Times, Works, WorksSharp}
 
 abbrev pub IsPeriod : ℕ → Type 0
 IsPeriod period = (1 ≤ period) × (period ≤ MOST_PERIOD)
@@ -29,17 +32,22 @@ CertificateWithin (ResumeSharp steps seconds progress) = steps ≤ MOST_STEPS
 CertificateWithin Split = Unit {0}
 CertificateWithin SplitSharp = Unit {0}
 
+abbrev pub LeavesWithin : OfLeaves → Type 0
+LeavesWithin (Work steps until jobs) = (steps ≤ MOST_STEPS) × IsStrictlyIncreasing jobs.items
+LeavesWithin (WorkSharp steps until jobs) = (steps ≤ MOST_STEPS) × IsStrictlyIncreasing jobs.items
+
 abbrev pub TimesWithin : OfTimes → Type 0
 TimesWithin (Report names) = Unit {0}
 TimesWithin Violations = Unit {0}
 TimesWithin (Picture rows names) = (1 ≤ rows) × (rows ≤ 1000)
 TimesWithin (Diagrams names) = Unit {0}
 
+abbrev pub AskedWithin : Asked → Type 0
+AskedWithin (Instance file asked) = InstanceWithin asked
+AskedWithin (Certificate file asked) = CertificateWithin asked
+AskedWithin (Leaves file asked) = LeavesWithin asked
+AskedWithin (Times file asked) = TimesWithin asked
+AskedWithin (Works file base asked) = Unit {0}
+
 abbrev pub IsWithinLimits : Request → Type 0
-IsWithinLimits (Instance period file asked) = IsPeriod period × InstanceWithin asked
-IsWithinLimits (Certificate period file asked) = IsPeriod period × CertificateWithin asked
-IsWithinLimits (Work period file steps until jobs) = IsPeriod period × (steps ≤ MOST_STEPS) × IsStrictlyIncreasing jobs.items
-IsWithinLimits (WorkSharp period file steps until jobs) = IsPeriod period × (steps ≤ MOST_STEPS) × IsStrictlyIncreasing jobs.items
-IsWithinLimits (Times period file asked) = IsPeriod period × TimesWithin asked
-IsWithinLimits (Works period file base) = IsPeriod period
-IsWithinLimits (WorksSharp period file base) = IsPeriod period
+IsWithinLimits request = IsPeriod request.period × AskedWithin request.asked

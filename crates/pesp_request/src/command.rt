@@ -2,7 +2,7 @@
 
 ghost use Rattle.std.specs.Prelude.{◌≤◌, IfOk, IfSome};
 ghost use Rattle.std.specs.List.Sorted.{IsStrictlyIncreasing};
-ghost use Rattle.pesp_request.specs.Requests.{InstanceWithin, CertificateWithin, TimesWithin, IsWithinLimits};
+ghost use Rattle.pesp_request.specs.Requests.{InstanceWithin, CertificateWithin, LeavesWithin, TimesWithin, AskedWithin, IsWithinLimits};
 
 use crate::jobs::jobs_of;
 use crate::options::{
@@ -11,7 +11,7 @@ use crate::options::{
     sharp_option, sharpen_option, solve_steps_option, steps_option, until_option,
     violations_option, work_sharpen_option,
 };
-use crate::request::{OfCertificate, OfInstance, OfTimes, Request};
+use crate::request::{Asked, OfCertificate, OfInstance, OfLeaves, OfTimes, OfWorks, Request};
 use clap::error::ErrorKind;
 use clap::{ArgMatches, Command, Error};
 use pesp_problem::{MOST_PERIOD, MOST_STEPS};
@@ -295,36 +295,33 @@ fn file_of<'a>(matches: &ArgMatches<'a>) -> &'a str {
 }
 
 /// What is asked of an instance, as the words behind a command say.
-fn instance_of<'a>(matches: &ArgMatches<'a>, asked: OfInstance<'a>) -> Request<'a>
+fn instance_of<'a>(matches: &ArgMatches<'a>, asked: OfInstance<'a>) -> Asked<'a>
     requires { InstanceWithin asked }
-    ensures { IsWithinLimits result }
+    ensures { AskedWithin result }
 {
-    Request::Instance {
-        period: period_of(matches),
+    Asked::Instance {
         file: matches.get_str("file"),
         asked,
     }
 }
 
 /// What is asked of a certificate, as the words behind a command say.
-fn certificate_of<'a>(matches: &ArgMatches<'a>, asked: OfCertificate) -> Request<'a>
+fn certificate_of<'a>(matches: &ArgMatches<'a>, asked: OfCertificate) -> Asked<'a>
     requires { CertificateWithin asked }
-    ensures { IsWithinLimits result }
+    ensures { AskedWithin result }
 {
-    Request::Certificate {
-        period: period_of(matches),
+    Asked::Certificate {
         file: file_of(matches),
         asked,
     }
 }
 
 /// What is asked of times, as the words behind a command say.
-fn times_of<'a>(matches: &ArgMatches<'a>, asked: OfTimes<'a>) -> Request<'a>
+fn times_of<'a>(matches: &ArgMatches<'a>, asked: OfTimes<'a>) -> Asked<'a>
     requires { TimesWithin asked }
-    ensures { IsWithinLimits result }
+    ensures { AskedWithin result }
 {
-    Request::Times {
-        period: period_of(matches),
+    Asked::Times {
         file: file_of(matches),
         asked,
     }
@@ -436,66 +433,53 @@ fn split_of(matches: &ArgMatches<'_>) -> OfCertificate
 }
 
 /// What the words behind `graft` ask for.
-fn graft_of<'a>(matches: &ArgMatches<'a>) -> Request<'a>
-    ensures { IsWithinLimits result }
+fn graft_of<'a>(matches: &ArgMatches<'a>) -> Asked<'a>
+    ensures { AskedWithin result }
 {
-    let period = period_of(matches);
-    let file = file_of(matches);
-    let base = matches.get_str("base").unwrap_or("");
-    if matches.get_flag("sharp") {
-        Request::WorksSharp { period, file, base }
+    let asked = if matches.get_flag("sharp") {
+        OfWorks::GraftSharp
     } else {
-        Request::Works { period, file, base }
+        OfWorks::Graft
+    };
+    Asked::Works {
+        file: file_of(matches),
+        base: matches.get_str("base").unwrap_or(""),
+        asked,
     }
 }
 
-/// What the words ask for, as clap found them.
-fn request_in<'a>(matches: &ArgMatches<'a>) -> Request<'a>
-    ensures { IsWithinLimits result }
+/// What is asked by the words behind a command, other than `work`.
+fn asked_by<'a>(command: &str, matches: &ArgMatches<'a>) -> Asked<'a>
+    ensures { AskedWithin result }
 {
-    match matches.subcommand() {
-        Some(("solve", found)) => instance_of(found, solve_of(found)),
-        Some(("conflict", found)) => instance_of(found, conflict_of(found)),
-        Some(("check", found)) => certificate_of(found, check_of(found)),
-        Some(("gap", found)) => certificate_of(found, OfCertificate::Gap),
-        Some(("resume", found)) => certificate_of(found, resume_of(found)),
-        Some(("split", found)) => certificate_of(found, split_of(found)),
-        Some(("report", found)) => times_of(found, report_of(found)),
-        Some(("draw", found)) => times_of(found, picture_of(found)),
-        Some(("diagram", found)) => times_of(found, diagrams_of(found)),
-        Some(("graft", found)) => graft_of(found),
-        _ => Request::Instance {
-            period: 60,
-            file: None,
-            asked: OfInstance::Solve {
-                steps: 1000,
-                from: None,
-                progress: false,
-            },
-        },
+    match command {
+        "conflict" => instance_of(matches, conflict_of(matches)),
+        "check" => certificate_of(matches, check_of(matches)),
+        "gap" => certificate_of(matches, OfCertificate::Gap),
+        "resume" => certificate_of(matches, resume_of(matches)),
+        "split" => certificate_of(matches, split_of(matches)),
+        "report" => times_of(matches, report_of(matches)),
+        "draw" => times_of(matches, picture_of(matches)),
+        "diagram" => times_of(matches, diagrams_of(matches)),
+        "graft" => graft_of(matches),
+        _ => instance_of(matches, solve_of(matches)),
     }
 }
 
-/// What the words behind `work` ask for, where these are the numbers of the leaves.
-fn work_on<'a>(matches: &ArgMatches<'a>, jobs: Vec<u64>) -> Request<'a>
+/// What is asked of leaves by the words behind `work`, where these are the numbers of the leaves.
+fn leaves_of(matches: &ArgMatches<'_>, jobs: Vec<u64>) -> OfLeaves
     requires { IsStrictlyIncreasing jobs.items }
-    ensures { IsWithinLimits result }
+    ensures { LeavesWithin result }
 {
-    let period = period_of(matches);
-    let file = file_of(matches);
     let until = matches.get_one::<u64>("until");
     if matches.get_flag("sharp") {
-        Request::WorkSharp {
-            period,
-            file,
+        OfLeaves::WorkSharp {
             steps: sharp_steps_of(matches),
             until,
             jobs,
         }
     } else {
-        Request::Work {
-            period,
-            file,
+        OfLeaves::Work {
             steps: steps_of(matches),
             until,
             jobs,
@@ -503,9 +487,9 @@ fn work_on<'a>(matches: &ArgMatches<'a>, jobs: Vec<u64>) -> Request<'a>
     }
 }
 
-/// What the words behind `work` ask for; None where one of them names no job.
-fn work_of<'a>(alloc: Global, matches: &ArgMatches<'a>) -> Result<Option<Request<'a>>, AllocError>
-    ensures { IfOk result (λ asked. IfSome asked IsWithinLimits) }
+/// What is asked by the words behind `work`; None where one of them names no job.
+fn work_of<'a>(alloc: Global, matches: &ArgMatches<'a>) -> Result<Option<Asked<'a>>, AllocError>
+    ensures { IfOk result (λ found. IfSome found AskedWithin) }
 {
     let Some(words) = matches.get_strs("job") else {
         return Ok(None);
@@ -513,7 +497,10 @@ fn work_of<'a>(alloc: Global, matches: &ArgMatches<'a>) -> Result<Option<Request
     let Some(jobs) = jobs_of(alloc, words)? else {
         return Ok(None);
     };
-    Ok(Some(work_on(matches, jobs)))
+    Ok(Some(Asked::Leaves {
+        file: file_of(matches),
+        asked: leaves_of(matches, jobs),
+    }))
 }
 
 /// What the words ask for, the program's name first; or clap's error, with the text that it prints.
@@ -522,11 +509,16 @@ pub fn request_of<'a>(alloc: Global, words: &'a [String]) -> Result<Request<'a>,
 {
     let mut command = pesp(alloc)?;
     let matches = command.try_get_matches_from_mut(words)?;
-    let Some(("work", found)) = matches.subcommand() else {
-        return Ok(request_in(&matches));
+    let (name, found) = matches.subcommand().unwrap_or(("solve", &matches));
+    let asked = match name {
+        "work" => work_of(alloc, found)?,
+        _ => Some(asked_by(name, found)),
     };
-    match work_of(alloc, found)? {
-        Some(request) => Ok(request),
+    match asked {
+        Some(asked) => Ok(Request {
+            period: period_of(found),
+            asked,
+        }),
         None => Err(command.error(ErrorKind::ValueValidation, NO_JOB)?),
     }
 }

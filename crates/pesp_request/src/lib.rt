@@ -7,4 +7,4 @@ mod options;
 mod request;
 
 pub use command::request_of;
-pub use request::{OfCertificate, OfInstance, OfTimes, Request};
+pub use request::{Asked, OfCertificate, OfInstance, OfLeaves, OfTimes, OfWorks, Request};

@@ -3,41 +3,41 @@
 use clap::{Arg, ArgAction, value_parser};
 use std::alloc::{AllocError, Global};
 
-pub(crate) fn period_option<'a>(alloc: Global) -> Arg<'a> {
-    Arg::new(alloc, "period")
-        .long("period")
+/// An option whose value is a whole number from the least to the greatest.
+fn number_option<'a>(alloc: Global, name: &'a str, least: i64, greatest: i64) -> Arg<'a> {
+    Arg::new(alloc, name)
+        .long(name)
         .value_name("N")
-        .value_parser(value_parser!(u32).range(1..=10000))
+        .value_parser(value_parser!(u32).range(least..=greatest))
+}
+
+/// An option that is there or not.
+fn flag<'a>(alloc: Global, name: &'a str) -> Arg<'a> {
+    Arg::new(alloc, name).long(name).action(ArgAction::SetTrue)
+}
+
+pub(crate) fn period_option<'a>(alloc: Global) -> Arg<'a> {
+    number_option(alloc, "period", 1, 10000)
         .default_value("60")
         .help("The period, 1 to 10000, in the unit of the durations")
 }
 
 pub(crate) fn steps_option<'a>(alloc: Global) -> Arg<'a> {
-    Arg::new(alloc, "steps")
-        .long("steps")
-        .value_name("N")
-        .value_parser(value_parser!(u32).range(0..=100000))
+    number_option(alloc, "steps", 0, 100000)
         .default_value("1000")
         .help("How many leaves of the search are split at most, 0 to 100000")
 }
 
 pub(crate) fn solve_steps_option<'a>(alloc: Global) -> Arg<'a> {
-    Arg::new(alloc, "steps")
-        .long("steps")
-        .value_name("N")
-        .value_parser(value_parser!(u32).range(0..=100000))
-        .help(
-            "How many leaves of the search are split at most, 0 to 100000 [default: 1000, with --sharp 100]",
-        )
+    number_option(alloc, "steps", 0, 100000).help(
+        "How many leaves of the search are split at most, 0 to 100000 [default: 1000, with --sharp 100]",
+    )
 }
 
 pub(crate) fn sharpen_option<'a>(alloc: Global) -> Arg<'a> {
-    Arg::new(alloc, "sharp")
-        .long("sharp")
-        .action(ArgAction::SetTrue)
-        .help(
-            "Sharpens the leaves by marked walks: better bounds within fewer steps, each of which takes longer; the certificate has version 3, which check --sharp takes",
-        )
+    flag(alloc, "sharp").help(
+        "Sharpens the leaves by marked walks: better bounds within fewer steps, each of which takes longer; the certificate has version 3, which check --sharp takes",
+    )
 }
 
 pub(crate) fn from_option<'a>(alloc: Global) -> Arg<'a> {
@@ -50,53 +50,37 @@ pub(crate) fn from_option<'a>(alloc: Global) -> Arg<'a> {
 }
 
 pub(crate) fn seconds_option<'a>(alloc: Global) -> Arg<'a> {
-    Arg::new(alloc, "seconds")
-        .long("seconds")
-        .value_name("N")
-        .value_parser(value_parser!(u32).range(1..=10000000))
-        .help("For about how many seconds the search goes on at most, 1 to 10000000")
+    number_option(alloc, "seconds", 1, 10000000).help(
+        "For about how many seconds the search goes on at most, 1 to 10000000",
+    )
 }
 
 pub(crate) fn progress_option<'a>(alloc: Global) -> Arg<'a> {
-    Arg::new(alloc, "progress")
-        .long("progress")
-        .action(ArgAction::SetTrue)
-        .help(
-            "Tells on standard error how far the search is: at its beginning, at each doubling of the steps and at each better timetable",
-        )
+    flag(alloc, "progress").help(
+        "Tells on standard error how far the search is: at its beginning, at each doubling of the steps and at each better timetable",
+    )
 }
 
 pub(crate) fn sharp_option<'a>(alloc: Global) -> Arg<'a> {
-    Arg::new(alloc, "sharp")
-        .long("sharp")
-        .action(ArgAction::SetTrue)
-        .help(
-            "Takes a certificate of version 3 too, whose leaves may name marked walks; it is read whole before it is judged",
-        )
+    flag(alloc, "sharp").help(
+        "Takes a certificate of version 3 too, whose leaves may name marked walks; it is read whole before it is judged",
+    )
 }
 
 pub(crate) fn work_sharpen_option<'a>(alloc: Global) -> Arg<'a> {
-    Arg::new(alloc, "sharp")
-        .long("sharp")
-        .action(ArgAction::SetTrue)
-        .help(
-            "Takes a certificate of version 3 too, and sharpens the leaves by marked walks; the work is the whole certificate, for graft --sharp",
-        )
+    flag(alloc, "sharp").help(
+        "Takes a certificate of version 3 too, and sharpens the leaves by marked walks; the work is the whole certificate, for graft --sharp",
+    )
 }
 
 pub(crate) fn graft_sharp_option<'a>(alloc: Global) -> Arg<'a> {
-    Arg::new(alloc, "sharp")
-        .long("sharp")
-        .action(ArgAction::SetTrue)
-        .help(
-            "Takes a certificate of version 3 too, and works of work --sharp, each a whole certificate",
-        )
+    flag(alloc, "sharp").help(
+        "Takes a certificate of version 3 too, and works of work --sharp, each a whole certificate",
+    )
 }
 
 pub(crate) fn violations_option<'a>(alloc: Global) -> Result<Arg<'a>, AllocError> {
-    Arg::new(alloc, "violations")
-        .long("violations")
-        .action(ArgAction::SetTrue)
+    flag(alloc, "violations")
         .help(
             "Lists the activities that the times violate instead, each with its bounds and the excess; the exit status is 1 where there are any",
         )
@@ -120,10 +104,7 @@ pub(crate) fn names_argument<'a>(alloc: Global) -> Arg<'a> {
 }
 
 pub(crate) fn rows_option<'a>(alloc: Global) -> Arg<'a> {
-    Arg::new(alloc, "rows")
-        .long("rows")
-        .value_name("N")
-        .value_parser(value_parser!(u32).range(1..=1000))
+    number_option(alloc, "rows", 1, 1000)
         .default_value("100")
         .help(
             "How many activities, the dearest ones, and how many events are drawn at most, 1 to 1000",

@@ -1,57 +1,41 @@
 //! What a command line asks for.
 
-/// What the words of a command line ask for. Periods are in the unit of the instance's durations.
+/// What the words of a command line ask for. The period is in the unit of the instance's durations.
 #[derive(Debug, Drop)]
-pub enum Request<'a> {
-    /// What is asked of an instance alone; it is on standard input where no file is named.
+pub struct Request<'a> {
+    pub period: u32,
+    pub asked: Asked<'a>,
+}
+
+/// What is asked, and of what.
+#[derive(Debug, Drop)]
+pub enum Asked<'a> {
+    /// Something of an instance alone; it is on standard input where no file is named.
     Instance {
-        period: u32,
         file: Option<&'a str>,
         asked: OfInstance<'a>,
     },
-    /// What is asked of the certificate on standard input, and the file with its instance.
+    /// Something of the certificate on standard input; the file has its instance.
     Certificate {
-        period: u32,
         file: &'a str,
         asked: OfCertificate,
     },
-    /// Work of at most so many steps on open leaves of the certificate on standard input, and the file with its instance.
-    Work {
-        period: u32,
+    /// Work on open leaves of the certificate on standard input; the file has its instance.
+    Leaves {
         file: &'a str,
-        steps: u32,
-        /// From which value on no leaf is split, where one is named.
-        until: Option<u64>,
-        /// The numbers of the leaves, which rise.
-        jobs: Vec<u64>,
+        asked: OfLeaves,
     },
-    /// The same with leaves that marked walks sharpen.
-    WorkSharp {
-        period: u32,
-        file: &'a str,
-        steps: u32,
-        /// From which value on no leaf is split, where one is named.
-        until: Option<u64>,
-        /// The numbers of the leaves, which rise.
-        jobs: Vec<u64>,
-    },
-    /// What is asked of the times on standard input, and the file with their instance.
+    /// Something of the times on standard input; the file has their instance.
     Times {
-        period: u32,
         file: &'a str,
         asked: OfTimes<'a>,
     },
-    /// The works on standard input, grafted onto the certificate in a file.
+    /// Something of the works on standard input, which belong to the certificate in the file `base`; the other file has the
+    /// instance.
     Works {
-        period: u32,
         file: &'a str,
         base: &'a str,
-    },
-    /// The same with leaves that marked walks sharpen; works are whole certificates.
-    WorksSharp {
-        period: u32,
-        file: &'a str,
-        base: &'a str,
+        asked: OfWorks,
     },
 }
 
@@ -109,6 +93,36 @@ pub enum OfCertificate {
     SplitSharp,
 }
 
+/// What is asked of open leaves of a certificate.
+#[derive(Debug, Drop)]
+pub enum OfLeaves {
+    /// Work of at most so many steps.
+    Work {
+        steps: u32,
+        /// From which value on no leaf is split, where one is named.
+        until: Option<u64>,
+        /// The numbers of the leaves, which rise.
+        jobs: Vec<u64>,
+    },
+    /// The same with leaves that marked walks sharpen.
+    WorkSharp {
+        steps: u32,
+        /// From which value on no leaf is split, where one is named.
+        until: Option<u64>,
+        /// The numbers of the leaves, which rise.
+        jobs: Vec<u64>,
+    },
+}
+
+/// What is asked of works.
+#[derive(Clone, Copy, Debug, Drop)]
+pub enum OfWorks {
+    /// To be grafted onto their base.
+    Graft,
+    /// The same with leaves that marked walks sharpen; works are whole certificates.
+    GraftSharp,
+}
+
 /// What is asked of times. Names are those of a file.
 #[derive(Clone, Copy, Debug, Drop)]
 pub enum OfTimes<'a> {
@@ -125,13 +139,13 @@ pub enum OfTimes<'a> {
 impl Request<'_> {
     /// Whether something is read from standard input.
     pub fn reads_input(&self) -> bool {
-        !matches!(self, Request::Instance { file: Some(_), .. })
+        !matches!(self.asked, Asked::Instance { file: Some(_), .. })
     }
 
     /// The period for which times are taken, where times are read.
     pub fn period_of_times(&self) -> Option<u32> {
-        match self {
-            Request::Times { period, .. } => Some(*period),
+        match self.asked {
+            Asked::Times { .. } => Some(self.period),
             _ => None,
         }
     }

@@ -2,7 +2,9 @@
 
 use clap::Error;
 use pesp_cases::words_of;
-use pesp_request::{OfCertificate, OfInstance, OfTimes, Request, request_of};
+use pesp_request::{
+    Asked, OfCertificate, OfInstance, OfLeaves, OfTimes, OfWorks, Request, request_of,
+};
 use std::alloc::Global;
 
 fn add_word(alloc: Global, words: &mut Vec<String>, word: &str) -> Option<()> {
@@ -199,45 +201,42 @@ fn tell_of_times(alloc: Global, period: u32, file: &str, asked: OfTimes<'_>) -> 
     }
 }
 
+/// What is asked of open leaves.
+fn tell_of_leaves(alloc: Global, period: u32, file: &str, asked: OfLeaves) -> Option<String> {
+    match asked {
+        OfLeaves::Work { steps, until, jobs } => {
+            tell_work(alloc, period, steps, until, file, &jobs)
+        }
+        OfLeaves::WorkSharp { steps, until, jobs } => {
+            with_walks(tell_work(alloc, period, steps, until, file, &jobs)?)
+        }
+    }
+}
+
+/// What is asked of works.
+fn tell_of_works(
+    alloc: Global,
+    period: u32,
+    file: &str,
+    base: &str,
+    asked: OfWorks,
+) -> Option<String> {
+    let told = tell_graft(alloc, period, file, base)?;
+    match asked {
+        OfWorks::Graft => Some(told),
+        OfWorks::GraftSharp => with_walks(told),
+    }
+}
+
 /// What is asked for.
 fn tell_request(alloc: Global, request: Request<'_>) -> Option<String> {
-    match request {
-        Request::Instance {
-            period,
-            file,
-            asked,
-        } => tell_of_instance(alloc, period, file, asked),
-        Request::Certificate {
-            period,
-            file,
-            asked,
-        } => tell_of_certificate(alloc, period, file, asked),
-        Request::Work {
-            period,
-            file,
-            steps,
-            until,
-            jobs,
-        } => tell_work(alloc, period, steps, until, file, &jobs),
-        Request::WorkSharp {
-            period,
-            file,
-            steps,
-            until,
-            jobs,
-        } => {
-            let told = tell_work(alloc, period, steps, until, file, &jobs)?;
-            with_walks(told)
-        }
-        Request::Times {
-            period,
-            file,
-            asked,
-        } => tell_of_times(alloc, period, file, asked),
-        Request::Works { period, file, base } => tell_graft(alloc, period, file, base),
-        Request::WorksSharp { period, file, base } => {
-            with_walks(tell_graft(alloc, period, file, base)?)
-        }
+    let Request { period, asked } = request;
+    match asked {
+        Asked::Instance { file, asked } => tell_of_instance(alloc, period, file, asked),
+        Asked::Certificate { file, asked } => tell_of_certificate(alloc, period, file, asked),
+        Asked::Leaves { file, asked } => tell_of_leaves(alloc, period, file, asked),
+        Asked::Times { file, asked } => tell_of_times(alloc, period, file, asked),
+        Asked::Works { file, base, asked } => tell_of_works(alloc, period, file, base, asked),
     }
 }
 

@@ -50,11 +50,12 @@ fn begin_trial(alloc: Global, search: &mut Search, times: &[u32]) -> Result<(), 
 }
 
 /// The least value of a leaf after a few steps from a new board; the greatest number where none is left.
-fn bound_of(alloc: Global, search: &mut Search, times: &[u32]) -> Result<u64, SolveRefusal>
+fn bound_of(alloc: Global, search: &mut Search) -> Result<u64, SolveRefusal>
     requires known { IsKnown search.old.board.problem search.old.known }
     requires opening { search.old.board.state ≡ opening }
 {
-    begin_trial(alloc, search, times)?;
+    let times = dived_times(alloc, &search.known.reduced)?;
+    begin_trial(alloc, search, &times)?;
     search.run(alloc, RACED_STEPS, &mut Nobody)?;
     Ok(search.board.least().unwrap_or(u64::MAX))
 }
@@ -62,9 +63,8 @@ fn bound_of(alloc: Global, search: &mut Search, times: &[u32]) -> Result<u64, So
 /// How far a tree over a forest gets within a few steps.
 fn reach(alloc: Global, instance: &Instance, forest: &[u32]) -> Result<u64, SolveRefusal> {
     let reduced = planted_over(alloc, instance, forest)?;
-    let times = dived_times(alloc, &reduced)?;
     let mut search = begin_over(alloc, instance, reduced)?;
-    bound_of(alloc, &mut search, &times)
+    bound_of(alloc, &mut search)
 }
 
 /// How far it gets; nowhere where it is refused for another reason than memory.

@@ -17,7 +17,8 @@ use pesp_problem::Memory;
 use pesp_turns::hand_in;
 use std::alloc::Global;
 
-/// How many pivots look for the leaf of the root at most: more than some 6,000 rows need.
+/// How many pivots look for the leaf of the root at most. With 1,000 the bound of a railway of 20,000 activities was a quarter of
+/// what it is with so many, in no less time.
 const ROUNDS: u32 = 100_000;
 
 /// The work that a leaf is; where propagation shuts a bound, that it does.

@@ -1,12 +1,12 @@
 //! The tree of a certificate as one over what is left of the instance.
 
+use crate::left::Left;
 use crate::lifted::offset_shifts;
 use crate::lowered::Lowering;
 use crate::scales::{growth_of, scale_over};
 use pesp_inequalities::Pass;
 use pesp_judges::least_of;
-use pesp_problem::{Instance, Memory, Pair};
-use pesp_reduce::Reduced;
+use pesp_problem::{Memory, Pair};
 use pesp_sharp_text::Fronted;
 use pesp_sharpening::{Leaf, Line, Sharpened};
 use pesp_truth::TreeLine;
@@ -217,13 +217,12 @@ fn walks_of(
 /// The tree of a base as one over what is left of the instance, to be taken up. What isn't one is kept as it is, and so is each
 /// line for which the cost is told that it shows.
 pub(crate) fn given_of(
-    alloc: Global,
-    instance: &Instance,
-    reduced: &Reduced,
+    left: Left<'_>,
     base: &Fronted,
     spared: &[Option<u64>],
 ) -> Result<Sharpened, Memory> {
-    let lowering = Lowering::of(alloc, instance, reduced)?;
+    let alloc = left.alloc;
+    let lowering = Lowering::of(left)?;
     let certificate = &base.certificate;
     let lowered = lowering.cycles(alloc, certificate.cycles())?;
     let are_cycles = are_there(alloc, &lowered)?;
@@ -232,9 +231,9 @@ pub(crate) fn given_of(
     let base_tree = Base {
         cycles: are_cycles,
         walks: are_there(alloc, &lowered)?,
-        shifts: offset_shifts(alloc, instance, reduced, &cycles, certificate.cycles())?,
-        sharp_factor: growth_of(base, reduced.network()),
-        plain_factor: i64::from(scale_over(base, reduced.network())),
+        shifts: offset_shifts(left, &cycles, certificate.cycles())?,
+        sharp_factor: growth_of(base, left.network),
+        plain_factor: i64::from(scale_over(base, left.network)),
         least: least_of(certificate.answer()).unwrap_or(u64::MAX),
     };
     Ok(Sharpened {

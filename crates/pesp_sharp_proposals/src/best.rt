@@ -1,8 +1,8 @@
 //! The best timetable so far.
 
+use crate::left::Left;
 use pesp_cert::Certificate;
 use pesp_problem::{Instance, Memory, Score, score};
-use pesp_reduce::Reduced;
 use pesp_truth::Answer;
 use std::alloc::Global;
 
@@ -48,19 +48,13 @@ fn is_cheaper(cost: u64, best: &Option<Best>) -> bool {
 }
 
 /// Takes times of what is left of the instance, where they are a timetable that is cheaper than the best one so far.
-pub(crate) fn offer(
-    alloc: Global,
-    instance: &Instance,
-    reduced: &Reduced,
-    times: &[u32],
-    best: &mut Option<Best>,
-) -> Result<(), Memory> {
-    let network = reduced.network();
+pub(crate) fn offer(left: Left<'_>, times: &[u32], best: &mut Option<Best>) -> Result<(), Memory> {
+    let network = left.reduced.network();
     if !network.is_timetable(times) || !is_cheaper(network.cost_of(times), best) {
         return Ok(());
     }
-    let lifted = reduced.lift_times(alloc, times)?;
-    if let Some(found) = timetable_of(instance, lifted) {
+    let lifted = left.reduced.lift_times(left.alloc, times)?;
+    if let Some(found) = timetable_of(left.instance, lifted) {
         *best = Some(found);
     }
     Ok(())

@@ -6,6 +6,7 @@ mod base;
 mod best;
 mod copies;
 mod kept;
+mod left;
 mod lifted;
 mod lines;
 mod lowered;

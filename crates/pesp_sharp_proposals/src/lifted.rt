@@ -4,9 +4,10 @@ ghost use Rattle.std.specs.Prelude.{All, IfOk, IfSome};
 ghost use Rattle.pesp_problem.specs.Walks.{IsWalk};
 ghost use Rattle.pesp_network.specs.Networks.{arcs_of_network};
 
+use crate::left::Left;
 use pesp_inequalities::Pass;
 use pesp_nodes::{Problem, ProblemRefusal};
-use pesp_problem::{Arc, Instance, Memory, SignedRow, Walk};
+use pesp_problem::{Arc, Memory, SignedRow, Walk};
 use pesp_reduce::Reduced;
 use std::alloc::Global;
 
@@ -97,17 +98,15 @@ fn sum_of_rows(arcs: &[Arc], rows: &[SignedRow]) -> i64 {
 
 /// For each list of passes, by how much the offset of the lifted walk is above its own, where rows have the same slack.
 pub(crate) fn offset_shifts(
-    alloc: Global,
-    instance: &Instance,
-    reduced: &Reduced,
+    left: Left<'_>,
     lists: &[Vec<Pass>],
     lifted: &[Walk],
 ) -> Result<Vec<i64>, Memory> {
-    let arcs = instance.arcs(alloc)?;
-    let period = i64::from(instance.period());
-    let mut shifts = Vec::new(alloc);
+    let arcs = left.instance.arcs(left.alloc)?;
+    let period = i64::from(left.instance.period());
+    let mut shifts = Vec::new(left.alloc);
     for (passes, walk) in lists.iter().zip(lifted.iter()) {
-        let own = sum_of_passes(reduced.network().arcs(), passes);
+        let own = sum_of_passes(left.network.arcs(), passes);
         let more = sum_of_rows(&arcs, walk.rows()).wrapping_sub(own);
         shifts.push(more.checked_div_euclid(period).unwrap_or(0))?;
     }

@@ -1,9 +1,9 @@
 //! Walks of the instance as walks of what is left of it.
 
+use crate::left::Left;
 use pesp_inequalities::Pass;
 use pesp_network::NetRow;
-use pesp_problem::{Arc, Instance, Memory, SignedRow, Walk};
-use pesp_reduce::Reduced;
+use pesp_problem::{Arc, Memory, SignedRow, Walk};
 use pesp_sharp::{MarkedRow, MarkedWalk};
 use std::alloc::Global;
 
@@ -75,14 +75,10 @@ fn plain_rows(alloc: Global, walk: &[SignedRow]) -> Result<Vec<MarkedRow>, Memor
 
 impl Lowering {
     /// What becomes of the rows of an instance.
-    pub(crate) fn of(
-        alloc: Global,
-        instance: &Instance,
-        reduced: &Reduced,
-    ) -> Result<Lowering, Memory> {
-        let arcs = instance.arcs(alloc)?;
-        let rows = reduced.network().rows();
-        let mut lowered = if_not_left(alloc, &arcs)?;
+    pub(crate) fn of(left: Left<'_>) -> Result<Lowering, Memory> {
+        let arcs = left.instance.arcs(left.alloc)?;
+        let rows = left.network.rows();
+        let mut lowered = if_not_left(left.alloc, &arcs)?;
         for (place, row) in rows.iter().enumerate() {
             let number = u32::try_from(place).unwrap_or(u32::MAX);
             if let Some(slot) = lowered.get_mut((row.origin as usize).wrapping_sub(1)) {
@@ -91,7 +87,7 @@ impl Lowering {
         }
         Ok(Lowering {
             lowered,
-            left: Vec::from_slice(alloc, rows)?,
+            left: Vec::from_slice(left.alloc, rows)?,
         })
     }
 

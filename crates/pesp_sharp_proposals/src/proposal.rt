@@ -3,6 +3,7 @@
 use crate::best::Best;
 use crate::copies::{copied_lines, copied_marked, copied_walks};
 use crate::kept::Kept;
+use crate::left::Left;
 use crate::lifted::{lifted_of, offset_shifts};
 use crate::lines::{Numbers, lines_of, some_wants_scale};
 use crate::marked::{marked_of, scale_walk};
@@ -10,7 +11,6 @@ use crate::search::SharpSearch;
 use pesp_cert::Certificate;
 use pesp_judges::least_of;
 use pesp_problem::{Instance, Memory, Walk};
-use pesp_reduce::Reduced;
 use pesp_sharp_text::{Fronted, Marks};
 use pesp_sharpening::{Line, Sharpened};
 use pesp_truth::{Answer, TreeLine};
@@ -31,8 +31,7 @@ pub struct Proposals {
 /// certificate whose tree was taken up, where one was.
 #[derive(Clone, Copy)]
 struct Parts<'a> {
-    instance: &'a Instance,
-    reduced: &'a Reduced,
+    left: Left<'a>,
     sharpened: &'a Sharpened,
     scale: u32,
     best: &'a Option<Best>,
@@ -97,11 +96,11 @@ impl<'a> Parts<'a> {
     /// would pass a limit.
     fn cycles(&self, alloc: Global) -> Result<Option<Vec<Walk>>, Memory> {
         let Some(base) = self.base else {
-            return lifted_of(alloc, self.reduced, &self.sharpened.cycles);
+            return lifted_of(alloc, self.left.reduced, &self.sharpened.cycles);
         };
         let given = base.certificate.cycles();
         let own = self.sharpened.cycles.get(given.len()..).unwrap_or(&[]);
-        let Some(lifted) = lifted_of(alloc, self.reduced, own)? else {
+        let Some(lifted) = lifted_of(alloc, self.left.reduced, own)? else {
             return Ok(None);
         };
         let mut cycles = copied_walks(alloc, given)?;
@@ -114,7 +113,7 @@ impl<'a> Parts<'a> {
         match self.base {
             Some(base) => {
                 let lines = &self.sharpened.lines;
-                Ok(Some(Kept::of(alloc, self.reduced.network(), base, lines)?))
+                Ok(Some(Kept::of(alloc, self.left.network, base, lines)?))
             }
             None => Ok(None),
         }
@@ -128,7 +127,7 @@ impl<'a> Parts<'a> {
         kept: &Option<Kept<'a>>,
     ) -> Result<Vec<TreeLine>, Memory> {
         let own = &self.sharpened.cycles;
-        let shifts = offset_shifts(alloc, self.instance, self.reduced, own, cycles)?;
+        let shifts = offset_shifts(self.left, own, cycles)?;
         let numbers = Numbers {
             cycles: u32::try_from(cycles.len()).unwrap_or(u32::MAX),
             walks: u32::try_from(self.sharpened.walks.len()).unwrap_or(u32::MAX),
@@ -155,15 +154,15 @@ impl<'a> Parts<'a> {
             return Ok(None);
         };
         let tree = self.tree(alloc, &cycles, kept)?;
-        let times = labelled(alloc, self.instance, self.best)?;
+        let times = labelled(alloc, self.left.instance, self.best)?;
         let answer = answer_of(self.sharpened, self.best);
-        let period = self.instance.period();
+        let period = self.left.instance.period();
         Ok(Certificate::new(self.version(), period, answer, times, cycles, tree).ok())
     }
 
     /// The front; None where it would pass a limit.
     fn front(&self, alloc: Global, kept: &Option<Kept<'a>>) -> Result<Option<Marks>, Memory> {
-        let Some(mut walks) = marked_of(alloc, self.reduced, &self.sharpened.walks)? else {
+        let Some(mut walks) = marked_of(alloc, self.left.reduced, &self.sharpened.walks)? else {
             return Ok(None);
         };
         if some_wants_scale(&self.sharpened.lines) {
@@ -268,8 +267,7 @@ pub(crate) fn no_proposals() -> Proposals {
 
 /// What a search proposes in the place of an answer; where it has taken up the tree of a certificate, that is named.
 pub(crate) fn proposals_of(
-    alloc: Global,
-    instance: &Instance,
+    left: Left<'_>,
     front: &Option<Marks>,
     old: &Certificate,
     search: &SharpSearch,
@@ -277,15 +275,14 @@ pub(crate) fn proposals_of(
 ) -> Result<Proposals, Memory> {
     let sharpened = search.sharpening.sharpened()?;
     let parts = Parts {
-        instance,
-        reduced: &search.reduced,
+        left,
         sharpened: &sharpened,
         scale: search.scale,
         best: &search.best,
         base: if search.has_taken_up { base } else { None },
     };
     Ok(Proposals {
-        sharp: parts.fronted(alloc)?,
-        timed: timed_of(alloc, instance, front, old, &search.best)?,
+        sharp: parts.fronted(left.alloc)?,
+        timed: timed_of(left.alloc, left.instance, front, old, &search.best)?,
     })
 }

@@ -1,7 +1,11 @@
 //! Whole searches, from their beginning to what they propose in the place of an answer.
 
-use crate::best::{is_open, shown_by};
+ghost use Rattle.std.specs.Prelude.{◌≡◌};
+
+use crate::best::is_open;
+use crate::left::Left;
 use crate::proposal::{Proposals, no_proposals, proposals_of};
+use crate::scales::{scale_for, scale_over};
 use crate::search::SharpSearch;
 use crate::standing::SharpWatcher;
 use pesp_cert::Certificate;
@@ -21,41 +25,78 @@ pub struct Leaves<'a> {
 
 /// Searches from the root, and tells what is proposed.
 fn searched<W: SharpWatcher>(
-    alloc: Global,
-    instance: &Instance,
+    left: Left<'_>,
     plain: &Certificate,
     search: &mut SharpSearch,
     steps: u32,
     watcher: &mut W,
 ) -> Result<Proposals, Memory> {
-    search.run(alloc, instance, steps, watcher)?;
-    proposals_of(alloc, instance, &None, plain, search, None)
+    search.begin_with(left, plain)?;
+    search.run(left, steps, watcher)?;
+    proposals_of(left, &None, plain, search, None)
 }
 
-/// Goes on from a certificate, or from some of its leaves, and tells what is proposed.
+/// What a search from the root proposes that goes on with what looked for times.
+fn proposed<W: SharpWatcher>(
+    left: Left<'_>,
+    plain: &Certificate,
+    times: &mut Option<TimesSearch>,
+    steps: u32,
+    watcher: &mut W,
+) -> Result<Proposals, Memory> {
+    let mut search = SharpSearch::new(left, scale_for(left.network), 0)?;
+    search.take_search(times);
+    searched(left, plain, &mut search, steps, watcher)
+}
+
+/// Goes on from a certificate, or from some of its leaves.
 fn gone_on<W: SharpWatcher>(
-    alloc: Global,
-    instance: &Instance,
+    left: Left<'_>,
     base: &Fronted,
     leaves: Option<Leaves<'_>>,
     search: &mut SharpSearch,
     steps: u32,
     watcher: &mut W,
-) -> Result<Proposals, Memory> {
+) -> Result<(), Memory> {
     match leaves {
-        None => search.go_on(alloc, instance, base, steps, watcher)?,
+        None => search.go_on(left, base, steps, watcher),
         Some(Leaves { spared, until }) => {
-            search.work_on(alloc, instance, base, spared, steps, until, watcher)?
+            search.work_on(left, base, spared, steps, until, watcher)
         }
     }
-    proposals_of(
-        alloc,
-        instance,
-        &base.front,
-        &base.certificate,
-        search,
-        Some(base),
-    )
+}
+
+/// Looks for times, goes on from a certificate, or from some of its leaves, and tells what is proposed.
+fn searched_from<W: SharpWatcher>(
+    left: Left<'_>,
+    base: &Fronted,
+    leaves: Option<Leaves<'_>>,
+    search: &mut SharpSearch,
+    steps: u32,
+    watcher: &mut W,
+) -> Result<Proposals, Memory>
+    requires { left.reduced.now.original ≡ left.instance.now }
+{
+    search.begin_with(left, &base.certificate)?;
+    search.begin_times(left)?;
+    gone_on(left, base, leaves, search, steps, watcher)?;
+    proposals_of(left, &base.front, &base.certificate, search, Some(base))
+}
+
+/// What a search proposes that goes on from a certificate, or from some of its leaves.
+fn proposed_from<W: SharpWatcher>(
+    left: Left<'_>,
+    base: &Fronted,
+    branches: u32,
+    leaves: Option<Leaves<'_>>,
+    steps: u32,
+    watcher: &mut W,
+) -> Result<Proposals, Memory>
+    requires { left.reduced.now.original ≡ left.instance.now }
+{
+    let scale = scale_over(base, left.network);
+    let mut search = SharpSearch::new(left, scale, branches)?;
+    searched_from(left, base, leaves, &mut search, steps, watcher)
 }
 
 /// What a search proposes that begins at the root, in the place of a plain answer: none where that isn't open. What is left of the
@@ -65,16 +106,15 @@ pub fn propose<W: SharpWatcher>(
     instance: &Instance,
     plain: &Certificate,
     reduced: Reduced,
-    times: Option<TimesSearch>,
+    mut times: Option<TimesSearch>,
     steps: u32,
     watcher: &mut W,
 ) -> Result<Proposals, Memory> {
     if !is_open(plain.answer()) {
         return Ok(no_proposals());
     }
-    let best = shown_by(alloc, instance, plain)?;
-    let mut search = SharpSearch::new(alloc, reduced, times, best)?;
-    searched(alloc, instance, plain, &mut search, steps, watcher)
+    let left = Left::of(alloc, instance, &reduced);
+    proposed(left, plain, &mut times, steps, watcher)
 }
 
 /// What a search proposes that goes on from a certificate, or from some of its leaves, in its place: none where its answer isn't
@@ -92,6 +132,6 @@ pub fn propose_from<W: SharpWatcher>(
         return Ok(no_proposals());
     }
     let reduced = reduce(alloc, instance)?;
-    let mut search = SharpSearch::going_on(alloc, instance, reduced, base, branches)?;
-    gone_on(alloc, instance, base, leaves, &mut search, steps, watcher)
+    let left = Left::of(alloc, instance, &reduced);
+    proposed_from(left, base, branches, leaves, steps, watcher)
 }

@@ -16,41 +16,64 @@ use std::alloc::Global;
 pub(crate) enum Planting {
     /// As long as a search that rests on its cycles is worth it.
     Whole,
-    /// As long, twice, for a search that is long enough: it takes the forest whose tree gets further.
-    Raced,
+    /// For a search of many steps: longer where many rows are left, and else as long, twice, for the forest whose tree gets
+    /// further.
+    Long,
     /// For a first look, whose cycles no later bound rests on.
     Short,
 }
 
-/// How many exchanges of a row the search for a forest tries at most. It doesn't depend on the steps: a search of more steps is
-/// the same search, longer.
-const MOST_EXCHANGES: usize = 20_000;
-
-/// How many it tries at most for a first look.
-const FEW_EXCHANGES: usize = 1_000;
-
-/// How many exchanges each cycle allows.
-const EXCHANGES_A_CYCLE: usize = 30;
-
-/// With more rows left two forests aren't compared: that would cost more than it brings.
+/// Up to how many rows left two forests are compared: with more that costs more than it brings.
 const MOST_RACED: usize = 2_500;
 
-/// How many exchanges times rows there are at most.
-const EXCHANGED_ROWS: usize = 128_000_000;
+/// How many exchanges the search for a forest tries at most: in all, for each cycle, and times rows.
+#[derive(Clone, Copy)]
+struct Exchanges {
+    in_all: usize,
+    a_cycle: usize,
+    times_rows: usize,
+}
 
-/// How many exchanges of a row the search for a forest tries: fewer where few cycles need them, or where many rows make each
-/// dear.
-fn exchanges_for(rows: usize, cycles: usize, planting: Planting) -> u32 {
-    let most = match planting {
-        Planting::Whole | Planting::Raced => MOST_EXCHANGES,
-        Planting::Short => FEW_EXCHANGES,
-    };
-    let by_rows = EXCHANGED_ROWS / rows.max(1);
-    cycles
-        .min(100_000)
-        .saturating_mul(EXCHANGES_A_CYCLE)
-        .min(most)
-        .min(by_rows) as u32
+/// For a search that rests on its cycles.
+const MANY: Exchanges = Exchanges {
+    in_all: 20_000,
+    a_cycle: 30,
+    times_rows: 128_000_000,
+};
+
+/// For one of many steps with many rows left.
+const MOST: Exchanges = Exchanges {
+    in_all: 120_000,
+    a_cycle: 45,
+    times_rows: 640_000_000,
+};
+
+/// For a first look.
+const FEW: Exchanges = Exchanges {
+    in_all: 1_000,
+    a_cycle: 30,
+    times_rows: 128_000_000,
+};
+
+impl Exchanges {
+    /// How many are tried with so many rows and cycles: fewer where few cycles need them, or where many rows make each dear.
+    fn for_network(self, rows: usize, cycles: usize) -> u32 {
+        let by_rows = self.times_rows / rows.max(1);
+        cycles
+            .min(100_000)
+            .saturating_mul(self.a_cycle)
+            .min(self.in_all)
+            .min(by_rows) as u32
+    }
+}
+
+/// How many exchanges are tried where so many rows are left.
+fn exchanges_for(rows: usize, planting: Planting) -> Exchanges {
+    match planting {
+        Planting::Short => FEW,
+        Planting::Long if rows > MOST_RACED => MOST,
+        Planting::Whole | Planting::Long => MANY,
+    }
 }
 
 /// The rows of a forest, by their numbers from 1, whose cycles promise a strong bound.
@@ -62,10 +85,10 @@ fn forest_for(
 ) -> Result<Vec<u32>, Memory> {
     let rows = network.rows().len();
     let cycles = rows.saturating_sub(network.forest(alloc)?.len());
-    let exchanges = exchanges_for(rows, cycles, planting);
+    let exchanges = exchanges_for(rows, planting).for_network(rows, cycles);
     let first = search_forest(alloc, network, 1, exchanges)?;
     match planting {
-        Planting::Raced if rows <= MOST_RACED => {
+        Planting::Long if rows <= MOST_RACED => {
             let second = search_forest(alloc, network, 2, exchanges)?;
             further(alloc, instance, first, second)
         }

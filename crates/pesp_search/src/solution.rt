@@ -23,7 +23,8 @@ use pesp_board::Board;
 use pesp_branching::offer_times;
 use pesp_cert::Certificate;
 use pesp_problem::{Instance, Memory};
-use pesp_turns::{Ending, Nobody, Observer, Part, Search};
+use pesp_times::TimesSearch;
+use pesp_turns::{Ending, Known, Nobody, Observer, Part, Search};
 use std::alloc::Global;
 
 /// What is known of an instance, and how many leaves were split to find it.
@@ -33,19 +34,47 @@ pub struct Solved {
     pub steps_used: u32,
 }
 
-/// From more steps on two forests are compared.
+/// From more steps on a forest is looked for longer, or two are compared.
 const STEPS_OF_ONE: u32 = 64;
 
 /// How a forest is looked for, for a search of so many steps.
 fn planting_for(steps: u32) -> Planting {
     if steps > STEPS_OF_ONE {
-        Planting::Raced
+        Planting::Long
     } else {
         Planting::Whole
     }
 }
 
-/// Looks at the root of a new board, and offers times, first those that are given.
+/// Looks at the root of a new board, and offers times, first those that are given, then those that are found.
+fn look_and_offer<O: Observer>(
+    alloc: Global,
+    instance: &Instance,
+    board: &mut Board,
+    known: &Known,
+    search: &mut Option<TimesSearch>,
+    times: &[u32],
+    observer: &mut O,
+) -> Result<(), SolveRefusal>
+    requires known { IsKnown board.old.problem known.now }
+    requires opening { board.old.state ≡ opening }
+    requires original { known.now.reduced.original ≡ instance.now }
+    ensures problem { board.new.problem ≡ board.old.problem }
+    ensures ready { OnOk result
+        (IsReady board.old.problem times.now board.new.state) }
+    ensures refused { IfErr result (AreTurnsRefused board.old.problem 0) }
+{
+    board.problem().keeps_limits();
+    observer.at(Part::Root);
+    look_at_root(alloc, board, &known.root)?;
+    observer.at(Part::Times);
+    offer_given(alloc, board, times)?;
+    begin_with(alloc, instance, &known.reduced, search, times)?;
+    offer_times(alloc, board, &known.reduced, search)?;
+    Ok(())
+}
+
+/// Looks at the root of what was begun, and offers times, first those that are given.
 fn make_ready<O: Observer>(
     alloc: Global,
     instance: &Instance,
@@ -68,14 +97,8 @@ fn make_ready<O: Observer>(
         proposer,
         ..
     } = search;
-    board.problem().keeps_limits();
-    observer.at(Part::Root);
-    look_at_root(alloc, board, &known.root)?;
-    observer.at(Part::Times);
-    offer_given(alloc, board, times)?;
-    begin_with(alloc, instance, &known.reduced, &mut proposer.times, times)?;
-    offer_times(alloc, board, &known.reduced, &mut proposer.times)?;
-    Ok(())
+    let search = &mut proposer.times;
+    look_and_offer(alloc, instance, board, known, search, times, observer)
 }
 
 /// Takes turns until so many leaves were split or no leaf is open; says how many were split. An observer looks on.

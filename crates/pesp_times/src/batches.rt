@@ -74,16 +74,22 @@ impl TimesSearch {
         Ok(())
     }
 
-    /// Fours of new individuals, merged with those that wait and with the best of before.
-    pub(crate) fn batch(&mut self, network: &Network, effort: Effort) -> Result<(), Memory> {
+    /// Fours of new individuals, merged with those that wait and with the best of before. Ends where a four costs exactly what
+    /// the cheapest timetable of before does, and says whether it did.
+    pub(crate) fn batch(&mut self, network: &Network, effort: Effort) -> Result<bool, Memory> {
         let mut pool = self.adopt_waiting(network, effort)?;
         for _ in 0..effort.fours {
-            if let Some(found) = self.four(network, effort)? {
-                pool.push(found)?;
+            let before = self.least();
+            let Some(found) = self.four(network, effort)? else {
+                continue;
+            };
+            if before == Some(found.cost) {
+                return Ok(true);
             }
+            pool.push(found)?;
         }
         self.add_best(&mut pool)?;
         self.merged_with_balls(network, pool, effort)?;
-        Ok(())
+        Ok(false)
     }
 }

@@ -29,7 +29,8 @@ impl Effort {
     /// The work before the first step.
     pub(crate) fn first(rows: usize) -> Effort {
         let (fours, rounds, balls) = match rows {
-            0..=700 => (4, 20, 3),
+            0..=300 => (8, 20, 3),
+            301..=700 => (4, 20, 3),
             701..=2_500 => (2, 20, 3),
             2_501..=8_000 => (1, 24, 6),
             8_001..=30_000 => (1, 24, 20),

@@ -11,6 +11,9 @@ use pesp_problem::Memory;
 use pesp_search_tools::Random;
 use std::alloc::Global;
 
+/// How many batches are left out where the first one ended early.
+const LONG_REST: u32 = 3;
+
 /// How many timetables that were met elsewhere wait for a batch at most.
 const MOST_WAITING: usize = 3;
 
@@ -54,6 +57,14 @@ impl Rest {
     /// No batch so far.
     fn none() -> Rest {
         Rest { misses: 0, left: 0 }
+    }
+
+    /// As after several batches that found nothing.
+    fn long() -> Rest {
+        Rest {
+            misses: LONG_REST,
+            left: LONG_REST,
+        }
     }
 
     /// Whether the next batch is left out.
@@ -101,11 +112,15 @@ impl TimesSearch {
 
     /// What is found before the first step of a search. It doesn't depend on any step limit.
     pub fn begin(&mut self, network: &Network) -> Result<(), Memory> {
-        self.batch(network, Effort::first(network.rows().len()))
+        let ended_early = self.batch(network, Effort::first(network.rows().len()))?;
+        if ended_early {
+            self.rest = Rest::long();
+        }
+        Ok(())
     }
 
     /// What the cheapest timetable costs.
-    fn least(&self) -> Option<u64> {
+    pub(crate) fn least(&self) -> Option<u64> {
         Some(self.cheapest()?.cost)
     }
 

@@ -2,11 +2,11 @@ use Rattle.std.proofs.Common.{subst}
 use Rattle.pesp_network.specs.Networks.{KeepsNetLimits}
 use Rattle.pesp_nodes.specs.Problems.{ProblemValue, IsSmallTable}
 use Rattle.pesp_search.proofs.Costs.{ready}
-use Rattle.pesp_search.proofs.solution.make_ready.Goals as goal
+use Rattle.pesp_search.proofs.solution.look_and_offer.Goals as goal
 
 pub returns-clause-ready : goal.returns-clause-ready
 returns-clause-ready g c =
-    let p = c.args.search.now.board.problem in
+    let p = c.args.board.now.problem in
     let limits = subst (λ (x : ProblemValue). KeepsNetLimits x.network) c.problem.ensures c.keeps_limits.ensures.network in
     let small = subst (λ (x : ProblemValue). IsSmallTable x.table) c.problem.ensures c.keeps_limits.ensures.table in
     let root = c.in_ok-look_at_root.ensures in

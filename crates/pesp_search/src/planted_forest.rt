@@ -26,54 +26,60 @@ pub(crate) enum Planting {
 /// Up to how many rows left two forests are compared: with more that costs more than it brings.
 const MOST_RACED: usize = 2_500;
 
-/// How many exchanges the search for a forest tries at most: in all, for each cycle, and times rows.
+/// How many exchanges the search for a forest tries: so many for each cycle, and at most so many in all and times rows.
 #[derive(Clone, Copy)]
 struct Exchanges {
-    in_all: usize,
     a_cycle: usize,
+    in_all: usize,
     times_rows: usize,
 }
 
 /// For a search that rests on its cycles.
 const MANY: Exchanges = Exchanges {
-    in_all: 20_000,
     a_cycle: 30,
+    in_all: 20_000,
     times_rows: 128_000_000,
 };
 
-/// For one of many steps with many rows left.
+/// For one of many steps with many rows left, where that is enough for each cycle.
 const MOST: Exchanges = Exchanges {
-    in_all: 120_000,
-    a_cycle: 45,
+    a_cycle: 50,
+    in_all: 100_000,
     times_rows: 640_000_000,
 };
 
 /// For a first look.
 const FEW: Exchanges = Exchanges {
-    in_all: 1_000,
     a_cycle: 30,
+    in_all: 1_000,
     times_rows: 128_000_000,
 };
 
 impl Exchanges {
-    /// How many are tried with so many rows and cycles: fewer where few cycles need them, or where many rows make each dear.
-    fn for_network(self, rows: usize, cycles: usize) -> u32 {
-        let by_rows = self.times_rows / rows.max(1);
-        cycles
-            .min(100_000)
-            .saturating_mul(self.a_cycle)
-            .min(self.in_all)
-            .min(by_rows) as u32
+    /// How many would be tried with so many cycles, were there no limit.
+    fn for_cycles(self, cycles: usize) -> usize {
+        cycles.min(100_000).saturating_mul(self.a_cycle)
+    }
+
+    /// How many there are at most with so many rows.
+    fn limit(self, rows: usize) -> usize {
+        self.in_all.min(self.times_rows / rows.max(1))
+    }
+
+    /// Whether the limit leaves each cycle its exchanges.
+    fn is_enough(self, rows: usize, cycles: usize) -> bool {
+        self.for_cycles(cycles) <= self.limit(rows)
     }
 }
 
-/// How many exchanges are tried where so many rows are left.
-fn exchanges_for(rows: usize, planting: Planting) -> Exchanges {
-    match planting {
+/// How many exchanges of a row the search for a forest tries, with so many rows and cycles left.
+fn exchanges_for(rows: usize, cycles: usize, planting: Planting) -> u32 {
+    let exchanges = match planting {
         Planting::Short => FEW,
-        Planting::Long if rows > MOST_RACED => MOST,
+        Planting::Long if rows > MOST_RACED && MOST.is_enough(rows, cycles) => MOST,
         Planting::Whole | Planting::Long => MANY,
-    }
+    };
+    exchanges.for_cycles(cycles).min(exchanges.limit(rows)) as u32
 }
 
 /// The rows of a forest, by their numbers from 1, whose cycles promise a strong bound.
@@ -85,7 +91,7 @@ fn forest_for(
 ) -> Result<Vec<u32>, Memory> {
     let rows = network.rows().len();
     let cycles = rows.saturating_sub(network.forest(alloc)?.len());
-    let exchanges = exchanges_for(rows, planting).for_network(rows, cycles);
+    let exchanges = exchanges_for(rows, cycles, planting);
     let first = search_forest(alloc, network, 1, exchanges)?;
     match planting {
         Planting::Long if rows <= MOST_RACED => {

@@ -79,7 +79,8 @@ fn exchanges_for(rows: usize, cycles: usize, planting: Planting) -> u32 {
         Planting::Long if rows > MOST_RACED && MOST.is_enough(rows, cycles) => MOST,
         Planting::Whole | Planting::Long => MANY,
     };
-    exchanges.for_cycles(cycles).min(exchanges.limit(rows)) as u32
+    let count = exchanges.for_cycles(cycles).min(exchanges.limit(rows));
+    u32::try_from(count).unwrap_or(u32::MAX)
 }
 
 /// The rows of a forest, by their numbers from 1, whose cycles promise a strong bound.

@@ -1,6 +1,6 @@
 //! Batches: individuals are merged by fours, and these with the best of before.
 
-use crate::effort::{Effort, MOST_REOPTIMISED, is_near};
+use crate::effort::{Effort, MAY_END_EARLY, MOST_REOPTIMISED, is_near};
 use crate::found::Found;
 use crate::search::TimesSearch;
 use pesp_network::Network;
@@ -74,8 +74,8 @@ impl TimesSearch {
         Ok(())
     }
 
-    /// Fours of new individuals, merged with those that wait and with the best of before. Ends where a four costs exactly what
-    /// the cheapest timetable of before does, and says whether it did.
+    /// Fours of new individuals, merged with those that wait and with the best of before. Where there aren't very few rows it
+    /// ends once a four costs exactly what the cheapest timetable of before does, and says whether it did.
     pub(crate) fn batch(&mut self, network: &Network, effort: Effort) -> Result<bool, Memory> {
         let mut pool = self.adopt_waiting(network, effort)?;
         for _ in 0..effort.fours {
@@ -83,7 +83,7 @@ impl TimesSearch {
             let Some(found) = self.four(network, effort)? else {
                 continue;
             };
-            if before == Some(found.cost) {
+            if network.rows().len() > MAY_END_EARLY && before == Some(found.cost) {
                 return Ok(true);
             }
             pool.push(found)?;

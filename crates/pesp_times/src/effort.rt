@@ -17,6 +17,9 @@ pub(crate) const MOST_DIVED: usize = 8_000;
 /// Up to how many rows timetables are made cheaper under their offsets.
 pub(crate) const MOST_REOPTIMISED: usize = 8_000;
 
+/// Up to how many rows no batch ends early: all of it takes little time there.
+pub(crate) const MAY_END_EARLY: usize = 150;
+
 /// Up to how many rows there is more work for each row.
 pub(crate) const FEW: usize = 2_500;
 

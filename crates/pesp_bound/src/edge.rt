@@ -4,7 +4,7 @@ ghost use Rattle.std.specs.Prelude.{◌≡◌, ℕ, ◌<◌, ◌↔◌, length, 
 ghost use Rattle.pesp_bound.specs.Settling.{at, Settles, AreSettled};
 
 /// A demand on two events: the level at the start is to be at least the level at the finish, plus the gain, less the loss.
-#[derive(Clone, Copy, Debug, PartialEq, Eq)]
+#[derive(Clone, Copy, PartialEq, Eq)]
 pub struct Edge {
     pub start: usize,
     pub finish: usize,
@@ -14,7 +14,7 @@ pub struct Edge {
 
 /// Levels that meet the demands of all edges, one for each event; or places of edges that lead one after the other back to
 /// where they begin and gain more than they lose, so that no levels meet their demands.
-#[derive(Debug, Drop)]
+#[derive(Drop)]
 pub enum Outcome {
     Levels(Vec<usize>),
     Gains(Vec<usize>),

@@ -11,14 +11,14 @@ use pesp_strategy::{Advice, Split, Strategy};
 use std::alloc::Global;
 
 /// A cut that is proposed: of a cycle's offsets, with pairs for both parts, or of a row's slacks.
-#[derive(Debug, Drop)]
+#[derive(Drop)]
 pub enum Proposal {
     Split(Split),
     Narrowing(Narrowing),
 }
 
 /// What is proposed for a leaf: a cut, and times of what is left of the instance that were met with on the way.
-#[derive(Debug, Drop)]
+#[derive(Drop)]
 pub struct Advised {
     pub cut: Option<Proposal>,
     pub met: Option<Vec<u32>>,

@@ -17,7 +17,7 @@ use pesp_problem::Cut;
 use pesp_strategy::{Part, Split};
 
 /// A cut, and what is proposed for both its parts.
-#[derive(Debug, Drop)]
+#[derive(Drop)]
 pub struct Choice {
     pub cut: Cut,
     pub low: Option<Part>,

@@ -11,7 +11,7 @@ use std::alloc::Global;
 const LOOKS: u32 = 16;
 
 /// A cut of the slacks of a row, numbered from 1, at a number.
-#[derive(Clone, Copy, Debug)]
+#[derive(Clone, Copy)]
 pub struct Narrowing {
     pub row: u32,
     pub k: u32,

@@ -13,7 +13,7 @@ use std::marker::Model;
 
 /// An answer for an instance, with what shows that it is true: the times of the events with their labels, in the
 /// instance's unit, a table of closed walks, and a tree in preorder. Every certificate has one text.
-#[derive(Debug, Drop)]
+#[derive(Drop)]
 pub struct Certificate {
     version: u32,
     period: u32,
@@ -52,7 +52,7 @@ impl Model for Certificate {
 
 /// The parts are no certificate's: the version is another than 1 and 2, a leaf is closed by propagation in version 1, a limit
 /// is broken, a walk is empty, a pair list does not rise or has a multiplier 0, or the lines are not one whole tree.
-#[derive(Clone, Copy, Debug, PartialEq, Eq)]
+#[derive(Clone, Copy, PartialEq, Eq)]
 pub struct NotACertificate;
 
 impl Certificate {

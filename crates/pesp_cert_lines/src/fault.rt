@@ -1,7 +1,7 @@
 //! What is wrong with a line.
 
 /// What is wrong with one line, from the first fault looked for to the last.
-#[derive(Clone, Copy, Debug, PartialEq, Eq)]
+#[derive(Clone, Copy, PartialEq, Eq)]
 pub enum LineFault {
     /// The line ends the text before the tree is whole.
     Truncated,

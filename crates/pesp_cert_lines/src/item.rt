@@ -8,7 +8,7 @@ use pesp_truth::Answer;
 ///
 /// `Version` is the first line's. `Time` has an event's label and its time. `Slack` and `Offset` are branches of the tree,
 /// with the part of 'at most `k`' first; `Bound`, `Nothing`, `Gap` and `Propagated` are its leaves.
-#[derive(Debug, Drop)]
+#[derive(Drop)]
 pub enum Item<'a> {
     Version(u32),
     Period(u32),

@@ -13,7 +13,7 @@ use pesp_text::{Words, natural, split_at_byte, whole};
 use std::marker::Model;
 
 /// The pairs of a leaf that are left in a line that was judged.
-#[derive(Debug, Drop)]
+#[derive(Drop)]
 pub struct LinePairs<'a> {
     words: Words<'a>,
     least: u64,

@@ -9,7 +9,7 @@ use crate::rows::MOST_WORDS;
 use pesp_problem::{MOST_CYCLES, MOST_EVENTS, MOST_LINES, MOST_PAIRS, MOST_SIGNED_ROWS};
 
 /// Where in a text the last line stood.
-#[derive(Clone, Copy, Debug, PartialEq, Eq)]
+#[derive(Clone, Copy, PartialEq, Eq)]
 pub enum Place {
     /// Before the first line.
     Front,
@@ -27,7 +27,7 @@ pub enum Place {
 
 /// How far a text has come: the version that its first line says, 0 before it, how many trees are still to come, and how many
 /// lines, signed rows and pairs came.
-#[derive(Clone, Copy, Debug)]
+#[derive(Clone, Copy)]
 pub struct Progress {
     pub place: Place,
     pub version: u32,

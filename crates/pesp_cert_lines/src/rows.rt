@@ -15,7 +15,7 @@ use std::marker::Model;
 pub(crate) const MOST_WORDS: usize = 100_000_001;
 
 /// The signed rows of a walk that are left in a line that was judged.
-#[derive(Debug, Drop)]
+#[derive(Drop)]
 pub struct SignedRows<'a> {
     words: Words<'a>,
     count: u64,

@@ -5,7 +5,7 @@ use pesp_cert_items::ItemFault;
 use std::alloc::AllocError;
 
 /// Why a text has no verdict: it is no certificate's, the reader failed, or a growth was refused.
-#[derive(Clone, Copy, Debug, PartialEq, Eq)]
+#[derive(Clone, Copy, PartialEq, Eq)]
 pub enum CheckFault {
     /// The text is no certificate's, by this first fault; it is never `Memory`.
     Text(CertRefusal),

@@ -11,7 +11,7 @@ use std::alloc::AllocError;
 use std::fmt;
 
 /// Why there is no verdict. A refusal of memory is told as `Memory`, whatever asked for it.
-#[derive(Debug, Drop)]
+#[derive(Drop)]
 pub enum VerdictFault {
     /// The text of the instance is refused.
     Instance(ReadRefusal),

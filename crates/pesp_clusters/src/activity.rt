@@ -3,7 +3,7 @@
 use pesp_network::NetRow;
 
 /// A row with its slack.
-#[derive(Clone, Copy, Debug)]
+#[derive(Clone, Copy)]
 pub struct Activity {
     pub tail: u32,
     pub head: u32,
@@ -13,7 +13,7 @@ pub struct Activity {
 }
 
 /// A row that crosses between a set of events and the rest: its slack grows or falls as the set is shifted.
-#[derive(Clone, Copy, Debug)]
+#[derive(Clone, Copy)]
 pub struct Crossing {
     pub row: u32,
     pub grows: bool,

@@ -7,7 +7,7 @@ use pesp_search_tools::guarded::{number, set_number};
 use std::alloc::{AllocError, Global};
 
 /// The clusters of a row's tail and head.
-#[derive(Clone, Copy, Debug)]
+#[derive(Clone, Copy)]
 pub struct Ends {
     pub tail: u32,
     pub head: u32,
@@ -15,7 +15,7 @@ pub struct Ends {
 
 /// Clusters, into which the first rows of a forest join events: how many of these rows, how many clusters, the cluster of
 /// each event, those of each row's ends, and the rows between two clusters at each of the two.
-#[derive(Debug, Drop)]
+#[derive(Drop)]
 pub struct Clusters {
     groups: Groups,
     joined: usize,

@@ -10,7 +10,7 @@ use std::alloc::{AllocError, Global};
 const MOST_CROSSINGS: u32 = 8_000_000;
 
 /// The rows that cross the cut at each place of a forest, and an order of these places.
-#[derive(Debug, Drop)]
+#[derive(Drop)]
 pub struct Cuts {
     rooted: Rooted,
     lists: Lists,

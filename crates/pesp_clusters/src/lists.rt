@@ -5,7 +5,7 @@ use pesp_search_tools::guarded::{count_one, fill, number, set_number};
 use std::alloc::{AllocError, Global};
 
 /// Where each place's crossings stand among all of them. While they are counted, `ends` has how many each place has.
-#[derive(Debug, Drop)]
+#[derive(Drop)]
 pub(crate) struct Lists {
     starts: Vec<u32>,
     ends: Vec<u32>,

@@ -11,7 +11,7 @@ pub const NONE: u32 = u32::MAX;
 
 /// A forest with its events in order from the roots down: each event has a place, from 1, and each place the one above it,
 /// or 0 at a root. `height` is by how many rows the longest way down from a place goes.
-#[derive(Debug, Drop)]
+#[derive(Drop)]
 pub(crate) struct Rooted {
     star: Lists,
     place: Vec<u32>,

@@ -3,7 +3,7 @@
 use std::alloc::{AllocError, Global};
 
 /// A list within a room.
-#[derive(Debug, Drop)]
+#[derive(Drop)]
 pub(crate) struct Series<T> {
     items: Vec<T>,
     count: usize,

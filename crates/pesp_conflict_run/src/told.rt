@@ -7,7 +7,7 @@ use std::fmt;
 
 /// What was found: a list was written, of so many activities of so many, each of which is needed, or perhaps not; the instance
 /// has a timetable; or so many steps decided nothing.
-#[derive(Clone, Copy, Debug, PartialEq, Eq)]
+#[derive(Clone, Copy, PartialEq, Eq)]
 pub enum Told {
     /// The listed activities have no timetable together, and without any one of them the others have one.
     Irreducible { listed: u32, of: u32 },

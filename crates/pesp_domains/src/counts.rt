@@ -7,7 +7,7 @@ use std::alloc::Global;
 pub const BLOCK: usize = 128;
 
 /// A number for each event, and for each block of events whether a number of it was set since this was asked of it.
-#[derive(Debug, Drop)]
+#[derive(Drop)]
 pub(crate) struct Counts {
     numbers: Vec<u32>,
     changed: Vec<bool>,

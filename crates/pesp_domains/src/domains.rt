@@ -17,7 +17,7 @@ use std::marker::Model;
 
 /// For each event the set of its possible time differences to the first event of its component, as one row of 64-bit
 /// words, and beside it how many there are.
-#[derive(Debug, Drop)]
+#[derive(Drop)]
 pub struct Domains {
     period: u32,
     events: u32,

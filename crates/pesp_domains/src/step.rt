@@ -9,7 +9,7 @@ ghost use Rattle.pesp_domains.specs.Bits.{bit, IsWindow, IsTwice, KeepsSupported
 use crate::lanes;
 
 /// So many shifts round a period, from the first on.
-#[derive(Clone, Copy, Debug, PartialEq, Eq)]
+#[derive(Clone, Copy, PartialEq, Eq)]
 pub struct Shifts {
     pub first: usize,
     pub count: usize,

@@ -4,7 +4,7 @@ use pesp_report::Line;
 
 /// Which activities are drawn: at most `most`, the dearest first, and those that cost nothing only where `costless` says so.
 /// At most `most` events are drawn as well.
-#[derive(Clone, Copy, Debug)]
+#[derive(Clone, Copy)]
 pub struct Choice {
     pub most: u32,
     pub costless: bool,

@@ -7,14 +7,14 @@ const MOST_TOLD: i64 = 1_000_000_000_000;
 const MOST_PRODUCT: i64 = 1 << 62;
 
 /// The coefficient of a row's slack in an inequality; the row is named by its place from 0.
-#[derive(Clone, Copy, Debug, PartialEq, Eq)]
+#[derive(Clone, Copy, PartialEq, Eq)]
 pub struct Term {
     pub row: u32,
     pub coefficient: i32,
 }
 
 /// What is known of the multiplier of an inequality: the one in use and that of the best multipliers, in 1/2^20.
-#[derive(Clone, Copy, Debug, PartialEq, Eq)]
+#[derive(Clone, Copy, PartialEq, Eq)]
 pub struct Multiplier {
     pub current: i64,
     pub best: i64,
@@ -30,7 +30,7 @@ pub(crate) fn most_multiplier(scale: u32, greatest: u32) -> i64 {
 
 /// Where the terms of an inequality stand, the least that their sum may be, in whole units, and the inequality's multiplier
 /// among the best ones.
-#[derive(Clone, Copy, Debug)]
+#[derive(Clone, Copy)]
 pub(crate) struct Inequality {
     pub(crate) start: usize,
     pub(crate) end: usize,

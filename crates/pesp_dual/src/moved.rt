@@ -8,7 +8,7 @@ const FAR: u64 = 1 << 40;
 
 /// A number from 0 to `most` that steps move: where it is, where the last step proper led, and where it was at the last
 /// restart. A step proper goes by `step` times what it is drawn by, and the square of a distance counts `norm` times.
-#[derive(Clone, Copy, Debug)]
+#[derive(Clone, Copy)]
 pub(crate) struct Moved {
     pub(crate) at: i64,
     pub(crate) next: i64,

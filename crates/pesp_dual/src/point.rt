@@ -6,14 +6,14 @@ use std::alloc::{AllocError, Global};
 
 /// Slacks, in 1/65536, and the weight of the multipliers' side against theirs, in 1/65536 (the primal weight: Applegate and
 /// others 2021): where steps go on.
-#[derive(Debug, Drop)]
+#[derive(Drop)]
 pub struct Point {
     pub slacks: Vec<i64>,
     pub balance: i64,
 }
 
 /// Multipliers and a point to go back to.
-#[derive(Debug, Drop)]
+#[derive(Drop)]
 pub struct Save {
     multipliers: Vec<Multiplier>,
     point: Point,

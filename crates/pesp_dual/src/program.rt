@@ -16,7 +16,7 @@ const MOST_BALANCE: i64 = 1 << 40;
 /// The linear program that minimises weight times slack, with each slack from 0 to its row's span, under inequalities; and
 /// where the search for the best multipliers of these stands. Slacks are in 1/65536, multipliers in 1/2^20; these are told in
 /// units of which the scale makes up one.
-#[derive(Debug, Drop)]
+#[derive(Drop)]
 pub struct Program {
     pub(crate) scale: u32,
     pub(crate) rows: Vec<Row>,

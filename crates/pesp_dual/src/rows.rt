@@ -3,7 +3,7 @@
 use pesp_network::NetRow;
 
 /// A row: what a unit of its slack costs, the greatest slack, and the root of that in 1/16, by which slacks are scaled.
-#[derive(Clone, Copy, Debug)]
+#[derive(Clone, Copy)]
 pub(crate) struct Row {
     pub(crate) weight: i64,
     pub(crate) span: i64,

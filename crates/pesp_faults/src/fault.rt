@@ -17,7 +17,7 @@ use std::fmt;
 
 /// Why a run didn't write its whole answer. A lower layer's refusal of memory is told as `Memory`, and its fault of a
 /// writer as `Write`.
-#[derive(Debug, Drop)]
+#[derive(Drop)]
 pub enum Fault {
     /// The text of the instance is refused.
     Instance(ReadRefusal),

@@ -5,7 +5,7 @@ use std::alloc::{AllocError, Global};
 
 /// A spanning forest as leaves read it: the rows outside it by rising place, one for each cycle, all rows with those of the
 /// forest first, and the events, each before those below it.
-#[derive(Debug, Drop)]
+#[derive(Drop)]
 pub struct Cycles {
     forest: Forest,
     outside: Vec<u32>,

@@ -5,7 +5,7 @@ use crate::tree::{NONE, Tree};
 use std::alloc::{AllocError, Global};
 
 /// A forest of rows with its trees.
-#[derive(Debug, Drop)]
+#[derive(Drop)]
 pub struct Forest {
     is_in: Vec<bool>,
     tree: Tree,

@@ -5,7 +5,7 @@ use pesp_network::{NetRow, Network};
 use std::alloc::{AllocError, Global};
 
 /// A row at an event, and the event at its other end.
-#[derive(Clone, Copy, Debug, PartialEq, Eq)]
+#[derive(Clone, Copy, PartialEq, Eq)]
 pub struct Link {
     pub row: u32,
     pub other: u32,
@@ -13,7 +13,7 @@ pub struct Link {
 
 /// What a relaxation reads of a network: its period, its rows, named by their places from 0, and for each event the rows at
 /// it, without loops; and an event in the middle, where there are many.
-#[derive(Debug, Drop)]
+#[derive(Drop)]
 pub struct Frame {
     period: u32,
     rows: Vec<NetRow>,

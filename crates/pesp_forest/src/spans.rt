@@ -7,7 +7,7 @@ use pesp_network::NetRow;
 use std::alloc::{AllocError, Global};
 
 /// The least and the greatest of some sums of durations.
-#[derive(Clone, Copy, Debug)]
+#[derive(Clone, Copy)]
 struct Span {
     least: i64,
     greatest: i64,
@@ -19,7 +19,7 @@ const NO_SPAN: Span = Span {
 };
 
 /// The least and the greatest sum of durations from the root of its tree down to each event.
-#[derive(Debug, Drop)]
+#[derive(Drop)]
 pub struct Spans {
     sums: Vec<Span>,
 }

@@ -8,7 +8,7 @@ pub const NONE: u32 = u32::MAX;
 /// An event of a tree: the event above it and the row that joins the two, and how many rows lead up to the root; and the
 /// first event that hangs below it, and the events before and after it among those that hang where it hangs. `NONE` where
 /// there is none.
-#[derive(Clone, Copy, Debug, PartialEq, Eq)]
+#[derive(Clone, Copy, PartialEq, Eq)]
 pub struct Place {
     pub up: u32,
     pub by: u32,
@@ -29,7 +29,7 @@ const ROOT: Place = Place {
 };
 
 /// Trees over events.
-#[derive(Debug, Drop)]
+#[derive(Drop)]
 pub struct Tree {
     places: Vec<Place>,
 }

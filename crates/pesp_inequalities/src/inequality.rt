@@ -8,7 +8,7 @@ use std::alloc::{AllocError, Global};
 /// A cycle inequality (Nachtigall 1998; with flipped rows Lindner and others 2020): along a closed walk the sum of rate times
 /// distance is at least `rest * (period - rest)`. The terms say the same of slacks, which are 0 to the span of each row: the
 /// sum of coefficient times slack is at least `least`.
-#[derive(Debug, Drop)]
+#[derive(Drop)]
 pub struct Inequality {
     pub passes: Vec<Pass>,
     pub terms: Vec<Term>,

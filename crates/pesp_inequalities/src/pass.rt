@@ -4,7 +4,7 @@ use pesp_network::NetRow;
 
 /// A row that a walk passes, by its place from 0: forwards, from tail to head, or backwards; and whether it is flipped, so
 /// that its slack is measured from the high end of its range.
-#[derive(Clone, Copy, Debug, PartialEq, Eq)]
+#[derive(Clone, Copy, PartialEq, Eq)]
 pub struct Pass {
     pub row: u32,
     pub forwards: bool,

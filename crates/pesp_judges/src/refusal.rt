@@ -1,7 +1,7 @@
 //! What the checker says.
 
 /// What the checker says of a certificate: it is valid for the instance, or the first thing that is wrong with it.
-#[derive(Clone, Copy, Debug, PartialEq, Eq)]
+#[derive(Clone, Copy, PartialEq, Eq)]
 pub enum Verdict {
     Accepted,
     Refused(Refusal),

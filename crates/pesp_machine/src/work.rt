@@ -10,7 +10,7 @@ use pesp_truth::TreeLine;
 /// `Propagated`: no family of time differences is supported there (`pesp_propagate::propagate` tells so).
 /// `Split`: a cut that makes two leaves of it, which keep its pairs, or are gaps where one of their cycles has no offset left.
 /// `Tree`: the lines of a whole tree that takes the leaf's place; its bound leaves have at least the value of that leaf.
-#[derive(Debug, Drop)]
+#[derive(Drop)]
 pub enum Work {
     Leaf(Pairs),
     Nothing(Pairs),

@@ -2,7 +2,7 @@
 
 use crate::names::{Name, Names};
 use crate::refusal::NamesRefusal;
-use csv::{ByteRecord, ReaderBuilder};
+use csv::{ByteRecord, Reader, ReaderBuilder};
 use pesp_instance::{delimiter_of, is_skipped, names_columns, parse_number};
 use std::alloc::Global;
 
@@ -26,6 +26,33 @@ pub fn read_names(alloc: Global, text: &[u8]) -> Result<Names, NamesRefusal> {
     Ok(Names::of(alloc, entries)?)
 }
 
+/// Adds what the records of a text tell, from the reader on.
+fn add_records(
+    alloc: Global,
+    reader: &mut Reader<&[u8]>,
+    line: &mut ByteRecord,
+    entries: &mut Vec<Name>,
+) -> Result<(), NamesRefusal> {
+    let mut may_be_header = true;
+    for at in 1..u32::MAX {
+        match reader.read_byte_record(line) {
+            Ok(true) => {}
+            Ok(false) => return Ok(()),
+            Err(_) => return Err(NamesRefusal::Memory),
+        }
+        if is_skipped(line) {
+            continue;
+        }
+        if names_columns(may_be_header, line) {
+            may_be_header = false;
+            continue;
+        }
+        may_be_header = false;
+        entries.push(read_name(alloc, at, line)?)?;
+    }
+    Ok(())
+}
+
 /// What the records of a text tell.
 fn read_records(alloc: Global, text: &[u8]) -> Result<Vec<Name>, NamesRefusal> {
     let mut reader = ReaderBuilder::new()
@@ -35,23 +62,7 @@ fn read_records(alloc: Global, text: &[u8]) -> Result<Vec<Name>, NamesRefusal> {
         .from_reader(alloc, text);
     let mut line = ByteRecord::new(alloc);
     let mut entries = Vec::new(alloc);
-    let mut may_be_header = true;
-    for at in 1..u32::MAX {
-        match reader.read_byte_record(&mut line) {
-            Ok(true) => {}
-            Ok(false) => return Ok(entries),
-            Err(_) => return Err(NamesRefusal::Memory),
-        }
-        if is_skipped(&line) {
-            continue;
-        }
-        if names_columns(may_be_header, &line) {
-            may_be_header = false;
-            continue;
-        }
-        may_be_header = false;
-        entries.push(read_name(alloc, at, &line)?)?;
-    }
+    add_records(alloc, &mut reader, &mut line, &mut entries)?;
     Ok(entries)
 }
 

@@ -7,14 +7,14 @@ use std::marker::Model;
 
 /// The net count of the row at a place, from 0: how often a walk passes it under a plus sign, less how often under a minus
 /// sign.
-#[derive(Clone, Copy, Debug, PartialEq, Eq)]
+#[derive(Clone, Copy, PartialEq, Eq)]
 pub struct NetCount {
     pub place: u32,
     pub count: i64,
 }
 
 /// The net counts of a walk's rows, each row once.
-#[derive(Debug, Drop)]
+#[derive(Drop)]
 pub struct Nets {
     counts: Vec<NetCount>,
 }

@@ -6,7 +6,7 @@ ghost use Rattle.pesp_nets.specs.Pending.{cut_of};
 use pesp_problem::{Cut, Side};
 
 /// A cut, and the range that it cuts as it was.
-#[derive(Clone, Copy, Debug, PartialEq, Eq)]
+#[derive(Clone, Copy, PartialEq, Eq)]
 pub enum Change {
     Slack { row: u32, k: u32, was: (u32, u32) },
     Offset { cycle: u32, k: i64, was: (i64, i64) },
@@ -25,7 +25,7 @@ impl Change {
 }
 
 /// A cut on the way to a node, and the part that the way goes through.
-#[derive(Clone, Copy, Debug, PartialEq, Eq)]
+#[derive(Clone, Copy, PartialEq, Eq)]
 pub struct Branch {
     pub change: Change,
     pub side: Side,

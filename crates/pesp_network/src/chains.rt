@@ -13,7 +13,7 @@ use std::alloc::{AllocError, Global};
 
 /// The rows at each event, as chains by falling number: an event's last row, and the row that comes next at a row's
 /// tail and at its head. Rows are numbered from 1; 0 ends a chain.
-#[derive(Debug, Drop)]
+#[derive(Drop)]
 pub struct Chains {
     pub first: Vec<u32>,
     pub at_tail: Vec<u32>,

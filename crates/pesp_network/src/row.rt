@@ -8,7 +8,7 @@ use std::alloc::{AllocError, Global};
 
 /// A row between two events, which are named by their places, from 0. Its slack may be 0 to `span`, its duration is
 /// `lower` and its slack, and `origin` is the number of the instance's row that it comes from, from 1.
-#[derive(Clone, Copy, Debug, PartialEq, Eq)]
+#[derive(Clone, Copy, PartialEq, Eq)]
 pub struct NetRow {
     pub tail: u32,
     pub head: u32,

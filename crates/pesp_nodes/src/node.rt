@@ -17,7 +17,7 @@ use std::marker::Model;
 
 /// A range of slacks for each row, modulo the period, and a range of offsets for each cycle, with both ends in them. A range
 /// whose low end is above its high end is empty.
-#[derive(Debug, Drop)]
+#[derive(Drop)]
 pub struct Node {
     slacks: Vec<(u32, u32)>,
     offsets: Vec<(i64, i64)>,

@@ -12,14 +12,14 @@ use std::alloc::{AllocError, Global};
 use std::marker::Model;
 
 /// How often a cycle, numbered from 1, passes a row: plus signs less minus signs.
-#[derive(Clone, Copy, Debug, PartialEq, Eq)]
+#[derive(Clone, Copy, PartialEq, Eq)]
 pub struct Passage {
     pub cycle: u32,
     pub count: i64,
 }
 
 /// The passages of one row, by rising cycle.
-#[derive(Debug, Drop)]
+#[derive(Drop)]
 pub struct Passages {
     passages: Vec<Passage>,
 }

@@ -58,7 +58,7 @@ fn next_part(node: &mut Node, path: &mut Vec<Branch>) -> bool
 
 /// A walk over the nodes of a tree in the order of its lines: it keeps the present node and, for each branch on the way to it,
 /// the one range that the branch changed. It is seen as the nodes that wait, the present one first.
-#[derive(Debug, Drop)]
+#[derive(Drop)]
 pub struct NodeWalk {
     node: Node,
     path: Vec<Branch>,

@@ -14,14 +14,14 @@ use pesp_works::WorkText;
 use std::alloc::Global;
 
 /// What became of a work: it was taken for its job, or why not.
-#[derive(Clone, Copy, Debug, PartialEq, Eq)]
+#[derive(Clone, Copy, PartialEq, Eq)]
 pub struct Reply {
     pub job: u64,
     pub given: Result<(), GiveRefusal>,
 }
 
 /// A certificate with works grafted onto it, and what became of each of them.
-#[derive(Debug, Drop)]
+#[derive(Drop)]
 pub struct Grafted {
     pub certificate: Certificate,
     pub replies: Vec<Reply>,

@@ -15,7 +15,7 @@ use std::mem;
 
 /// An open leaf as a job: its number, the path to it from the root, and its value, one above 999999999999999999 told as that
 /// number.
-#[derive(Debug, Drop)]
+#[derive(Drop)]
 pub struct OpenJob {
     pub job: Job,
     pub value: u64,

@@ -7,7 +7,7 @@ ghost use Rattle.pesp_problem.specs.Arcs as spec;
 use crate::row::Row;
 
 /// A row without its label and its upper bound: its slack may be 0 to `span`.
-#[derive(Clone, Copy, Debug, PartialEq, Eq)]
+#[derive(Clone, Copy, PartialEq, Eq)]
 pub struct Arc {
     pub tail: u32,
     pub head: u32,

@@ -14,7 +14,7 @@ use std::marker::Model;
 
 /// A periodic event scheduling problem (Serafini and Ukovich 1989) within its limits: a period, rows, and the labels of
 /// the events that the rows name by place.
-#[derive(Debug, Drop)]
+#[derive(Drop)]
 pub struct Instance {
     period: u32,
     events: Vec<i64>,

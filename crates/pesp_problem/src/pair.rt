@@ -5,14 +5,14 @@ ghost use Rattle.std.specs.Prelude.{◌≡◌};
 use std::marker::Model;
 
 /// A cycle of a table, numbered from 1, and its multiplier.
-#[derive(Clone, Copy, Debug, PartialEq, Eq)]
+#[derive(Clone, Copy, PartialEq, Eq)]
 pub struct Pair {
     pub cycle: u32,
     pub mult: i64,
 }
 
 /// The pairs of a leaf, in order.
-#[derive(Debug, Drop)]
+#[derive(Drop)]
 pub struct Pairs {
     pairs: Vec<Pair>,
 }

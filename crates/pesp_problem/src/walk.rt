@@ -6,7 +6,7 @@ use crate::row::SignedRow;
 use std::marker::Model;
 
 /// Signed rows in the order in which they are passed.
-#[derive(Debug, Drop)]
+#[derive(Drop)]
 pub struct Walk {
     rows: Vec<SignedRow>,
 }

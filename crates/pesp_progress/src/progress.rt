@@ -8,7 +8,7 @@ use std::rt::Clock;
 use std::time::{Duration, Instant};
 
 /// How far a search is.
-#[derive(Clone, Copy, Debug, PartialEq, Eq, Drop)]
+#[derive(Clone, Copy, PartialEq, Eq, Drop)]
 pub struct Progress {
     /// How many leaves were split.
     pub steps: u32,
@@ -94,7 +94,7 @@ impl fmt::Display for Progress {
 }
 
 /// Which looks at a search are told: the first one, that at each doubling of the steps, and that at each better timetable.
-#[derive(Clone, Copy, Debug, Drop)]
+#[derive(Clone, Copy, Drop)]
 pub struct Milestones {
     due: u32,
     cost: Option<u64>,
@@ -143,7 +143,7 @@ impl Milestones {
 const SECONDS: u64 = 5;
 
 /// How long a search has gone on, and how many leaves were split meanwhile.
-#[derive(Clone, Copy, Debug, Drop)]
+#[derive(Clone, Copy, Drop)]
 struct Pace {
     steps: u32,
     gone: Duration,

@@ -1,7 +1,7 @@
 //! What a queue holds.
 
 /// An item by its number, with its value.
-#[derive(Clone, Copy, Debug, PartialEq, Eq)]
+#[derive(Clone, Copy, PartialEq, Eq)]
 pub struct Entry {
     pub item: u32,
     pub value: u64,

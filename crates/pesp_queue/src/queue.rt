@@ -18,7 +18,7 @@ use std::marker::Model;
 /// The first entries are a binary heap of the items that wait, and the others are parked, so an item that waits again
 /// needs no more memory. A place is kept for each item's number (Briggs and Torczon 1993), so a parked item is found at
 /// once.
-#[derive(Debug, Drop)]
+#[derive(Drop)]
 pub struct Queue {
     entries: Vec<Entry>,
     waiting: usize,

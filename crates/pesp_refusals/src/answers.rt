@@ -1,7 +1,7 @@
 //! What becomes of calls.
 
 /// The call answers what it should, is refused for want of memory, or does anything else.
-#[derive(Clone, Copy)]
+#[derive(Clone, Copy, Debug)]
 pub(crate) enum Answer {
     Right,
     Memory,

@@ -14,7 +14,7 @@ const FEW: u32 = 8192;
 const BLOCK: u32 = 1024;
 
 /// Where pivots end: nothing is cheaper; along some closed way more flow costs less without end; or there are to be no more.
-#[derive(Clone, Copy, Debug, PartialEq, Eq)]
+#[derive(Clone, Copy, PartialEq, Eq)]
 pub enum Ended {
     Best,
     Endless,
@@ -26,7 +26,7 @@ pub enum Ended {
 /// of the last one that changed its price, and the events of the last one are listed. Rows along which a step may pay are
 /// listed, with the place in the list that is looked at next. Rows that have changed since it was the same as another basis
 /// are listed too, with by how much the circulation has become cheaper since then.
-#[derive(Debug, Drop)]
+#[derive(Drop)]
 pub struct Basis {
     pub(crate) rows: Vec<Row>,
     pub(crate) tree: Tree,

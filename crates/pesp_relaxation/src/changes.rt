@@ -5,7 +5,7 @@ use crate::row::Row;
 use std::alloc::AllocError;
 
 /// A row as it was changed.
-#[derive(Clone, Copy, Debug)]
+#[derive(Clone, Copy)]
 pub struct Change {
     place: u32,
     row: Row,

@@ -4,7 +4,7 @@ use pesp_search_tools::guarded::{number, set_number};
 use std::alloc::{AllocError, Global};
 
 /// Some of so many rows.
-#[derive(Debug, Drop)]
+#[derive(Drop)]
 pub(crate) struct Listed {
     list: Vec<u32>,
     count: u32,

@@ -6,7 +6,7 @@ use pesp_forest::{Cycles, Forest, Frame, Spans};
 use std::alloc::{AllocError, Global};
 
 /// A forest's cycles with sums of durations along it, and the offsets that the root leaves to each cycle.
-#[derive(Debug, Drop)]
+#[derive(Drop)]
 pub struct Root {
     pub cycles: Cycles,
     pub spans: Spans,

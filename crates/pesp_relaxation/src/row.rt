@@ -3,7 +3,7 @@
 use pesp_network::NetRow;
 
 /// What a unit of flow on a row costs: below 0, from 0 to the row's weight, and above it.
-#[derive(Clone, Copy, Debug, PartialEq, Eq)]
+#[derive(Clone, Copy, PartialEq, Eq)]
 pub struct Slopes {
     pub below: i64,
     pub between: i64,
@@ -35,7 +35,7 @@ pub fn slopes_of(
 pub(crate) const FREE: i64 = i64::MAX;
 
 /// A part of a row's cost between its bends.
-#[derive(Clone, Copy, Debug)]
+#[derive(Clone, Copy)]
 pub(crate) enum Part {
     Below,
     Between,
@@ -43,7 +43,7 @@ pub(crate) enum Part {
 }
 
 /// The bend of a row's cost at which its flow is; neither where it lies between bends.
-#[derive(Clone, Copy, Debug)]
+#[derive(Clone, Copy)]
 pub(crate) enum Bend {
     Zero,
     Weight,
@@ -52,7 +52,7 @@ pub(crate) enum Bend {
 
 /// A row with its flow from tail to head. A row of the basis has the part that its flow lies in, another one the bend at
 /// which its flow is, or, where that is neither, the part too.
-#[derive(Clone, Copy, Debug)]
+#[derive(Clone, Copy)]
 pub(crate) struct Row {
     pub(crate) slopes: Slopes,
     pub(crate) weight: i64,

@@ -89,7 +89,7 @@ impl From<Memory> for ReportRefusal {
 }
 
 /// Why the violated activities aren't told.
-#[derive(Clone, Copy, Debug, PartialEq, Eq)]
+#[derive(Clone, Copy, PartialEq, Eq)]
 pub enum ViolationsRefusal {
     /// There isn't one time below the period for each event.
     NotTimes,

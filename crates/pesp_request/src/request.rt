@@ -1,14 +1,14 @@
 //! What a command line asks for.
 
 /// What the words of a command line ask for. The period is in the unit of the instance's durations.
-#[derive(Debug, Drop)]
+#[derive(Drop)]
 pub struct Request<'a> {
     pub period: u32,
     pub asked: Asked<'a>,
 }
 
 /// What is asked, and of what.
-#[derive(Debug, Drop)]
+#[derive(Drop)]
 pub enum Asked<'a> {
     /// Something of an instance alone; it is on standard input where no file is named.
     Instance {
@@ -40,7 +40,7 @@ pub enum Asked<'a> {
 }
 
 /// What is asked of an instance.
-#[derive(Clone, Copy, Debug, Drop)]
+#[derive(Clone, Copy, Drop)]
 pub enum OfInstance<'a> {
     /// A search of at most so many steps.
     Solve {
@@ -65,7 +65,7 @@ pub enum OfInstance<'a> {
 }
 
 /// What is asked of a certificate.
-#[derive(Clone, Copy, Debug, Drop)]
+#[derive(Clone, Copy, Drop)]
 pub enum OfCertificate {
     /// A verdict on it.
     Check,
@@ -94,7 +94,7 @@ pub enum OfCertificate {
 }
 
 /// What is asked of open leaves of a certificate.
-#[derive(Debug, Drop)]
+#[derive(Drop)]
 pub enum OfLeaves {
     /// Work of at most so many steps.
     Work {
@@ -115,7 +115,7 @@ pub enum OfLeaves {
 }
 
 /// What is asked of works.
-#[derive(Clone, Copy, Debug, Drop)]
+#[derive(Clone, Copy, Drop)]
 pub enum OfWorks {
     /// To be grafted onto their base.
     Graft,
@@ -124,7 +124,7 @@ pub enum OfWorks {
 }
 
 /// What is asked of times. Names are those of a file.
-#[derive(Clone, Copy, Debug, Drop)]
+#[derive(Clone, Copy, Drop)]
 pub enum OfTimes<'a> {
     /// Their report, with names where a file is named.
     Report { names: Option<&'a str> },

@@ -1,7 +1,7 @@
 //! Why a search ends.
 
 /// Why no more leaves are split.
-#[derive(Clone, Copy, Debug, PartialEq, Eq)]
+#[derive(Clone, Copy, PartialEq, Eq)]
 pub enum Ending {
     /// As many leaves were split as may be.
     StepsUsed,

@@ -22,7 +22,7 @@ use pesp_turns::Search;
 use std::alloc::Global;
 
 /// What is known of an instance after a search that went on, how many leaves were split, and why no more were.
-#[derive(Debug, Drop)]
+#[derive(Drop)]
 pub struct Resumed {
     pub certificate: Certificate,
     pub steps_used: u32,

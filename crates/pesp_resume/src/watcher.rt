@@ -21,7 +21,7 @@ pub trait Watcher {
 }
 
 /// A watcher that looks at nothing, and ends nothing.
-#[derive(Clone, Copy, Debug, PartialEq, Eq)]
+#[derive(Clone, Copy, PartialEq, Eq)]
 pub struct Nobody;
 
 impl Watcher for Nobody {

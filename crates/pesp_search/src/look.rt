@@ -8,10 +8,11 @@ use crate::begun::begin;
 use crate::planted_forest::Planting;
 use crate::refusal::SolveRefusal;
 use crate::solution::{Solved, solve_on};
+use pesp_branching::Proposer;
 use pesp_problem::Instance;
 use pesp_reduce::Reduced;
 use pesp_times::TimesSearch;
-use pesp_turns::{Observer, Search};
+use pesp_turns::{Known, Observer, Search};
 use std::alloc::Global;
 
 /// What is known of an instance after a first look, what is left of the instance, and what has looked for times of that.
@@ -38,15 +39,33 @@ pub fn look_first<O: Observer>(
     ensures passed { IfErr result (MeetsLimit instance.now 0) }
 {
     let mut search = begin(alloc, instance, Planting::Short, observer)?;
-    let solved = solve_on(alloc, instance, &mut search, times, 0, observer)?;
-    let Search {
-        known,
-        proposer,
-        ..
-    } = search;
-    Ok(FirstLook {
-        solved,
-        reduced: known.reduced,
-        times: proposer.times,
-    })
+    match solve_on(alloc, instance, &mut search, times, 0, observer) {
+        Ok(solved) => {
+            let Search {
+                board,
+                known,
+                proposer,
+                ..
+            } = search;
+            drop(board);
+            let Known {
+                reduced,
+                passed,
+                root,
+            } = known;
+            drop(passed);
+            drop(root);
+            let Proposer { strategy, times } = proposer;
+            drop(strategy);
+            Ok(FirstLook {
+                solved,
+                reduced,
+                times,
+            })
+        }
+        Err(refusal) => {
+            drop(search);
+            Err(refusal)
+        }
+    }
 }

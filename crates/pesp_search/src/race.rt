@@ -64,7 +64,9 @@ fn bound_of(alloc: Global, search: &mut Search) -> Result<u64, SolveRefusal>
 fn reach(alloc: Global, instance: &Instance, forest: &[u32]) -> Result<u64, SolveRefusal> {
     let reduced = planted_over(alloc, instance, forest)?;
     let mut search = begin_over(alloc, instance, reduced)?;
-    bound_of(alloc, &mut search)
+    let bound = bound_of(alloc, &mut search);
+    drop(search);
+    bound
 }
 
 /// How far it gets; nowhere where it is refused for another reason than memory.

@@ -28,7 +28,7 @@ use pesp_turns::{Ending, Known, Nobody, Observer, Part, Search};
 use std::alloc::Global;
 
 /// What is known of an instance, and how many leaves were split to find it.
-#[derive(Debug, Drop)]
+#[derive(Drop)]
 pub struct Solved {
     pub certificate: Certificate,
     pub steps_used: u32,
@@ -225,5 +225,7 @@ pub fn solve_from<O: Observer>(
     ensures passed { IfErr result (MeetsLimit instance.now steps) }
 {
     let mut search = begin(alloc, instance, planting_for(steps), observer)?;
-    solve_on(alloc, instance, &mut search, times, steps, observer)
+    let solved = solve_on(alloc, instance, &mut search, times, steps, observer);
+    drop(search);
+    solved
 }

@@ -4,7 +4,7 @@ use crate::guarded::{count_up, number, set_number};
 use std::alloc::{AllocError, Global};
 
 /// Each event leads to another event of its group, and the group's last one to itself (Tarjan 1975).
-#[derive(Debug, Drop)]
+#[derive(Drop)]
 pub struct Groups {
     next: Vec<u32>,
 }

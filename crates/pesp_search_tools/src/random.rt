@@ -1,7 +1,7 @@
 //! Numbers that look random, the same in each run.
 
 /// A xorshift generator (Marsaglia 2003).
-#[derive(Debug, Drop)]
+#[derive(Drop)]
 pub struct Random {
     state: u64,
 }

@@ -7,14 +7,14 @@ use std::marker::Model;
 
 /// A signed row, and the end of its slack range from which its slack is measured: the low end where it is plain, the high
 /// end where it is flipped.
-#[derive(Clone, Copy, Debug, PartialEq, Eq)]
+#[derive(Clone, Copy, PartialEq, Eq)]
 pub struct MarkedRow {
     pub signed: SignedRow,
     pub flipped: bool,
 }
 
 /// Marked rows in the order in which they are passed.
-#[derive(Debug, Drop)]
+#[derive(Drop)]
 pub struct MarkedWalk {
     rows: Vec<MarkedRow>,
 }

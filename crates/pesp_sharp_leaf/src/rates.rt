@@ -16,7 +16,7 @@ use pesp_sharp::MarkedRow;
 use std::alloc::{AllocError, Global};
 
 /// What passes a row: the sum of multiplier times rate over its plain passes, and over its flipped ones.
-#[derive(Clone, Copy, Debug)]
+#[derive(Clone, Copy)]
 pub struct Rates {
     pub plain: i128,
     pub flipped: i128,

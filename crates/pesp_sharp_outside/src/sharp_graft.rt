@@ -17,7 +17,7 @@ use pesp_sharp_text::{Fronted, parse_fronted};
 use std::alloc::Global;
 
 /// What became of a work.
-#[derive(Clone, Copy, Debug, PartialEq, Eq)]
+#[derive(Clone, Copy, PartialEq, Eq)]
 pub enum SharpReply {
     /// What it shows was taken.
     Taken,
@@ -32,7 +32,7 @@ pub enum SharpReply {
 }
 
 /// A certificate with works grafted onto it, and what became of each of them.
-#[derive(Debug, Drop)]
+#[derive(Drop)]
 pub struct SharpGraft {
     pub fronted: Fronted,
     pub replies: Vec<SharpReply>,

@@ -1,7 +1,7 @@
 //! How far a search that sharpens is, and who looks on.
 
 /// How far a search that sharpens is.
-#[derive(Clone, Copy, Debug, PartialEq, Eq)]
+#[derive(Clone, Copy, PartialEq, Eq)]
 pub struct Standing {
     /// How many leaves were split.
     pub steps_used: u32,
@@ -19,7 +19,7 @@ pub trait SharpWatcher {
 }
 
 /// A watcher that looks at nothing, and ends nothing.
-#[derive(Clone, Copy, Debug, PartialEq, Eq)]
+#[derive(Clone, Copy, PartialEq, Eq)]
 pub struct Unwatched;
 
 impl SharpWatcher for Unwatched {

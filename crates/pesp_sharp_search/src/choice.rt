@@ -20,7 +20,7 @@ use pesp_truth::Answer;
 use std::alloc::Global;
 
 /// What is known of an instance, and how many branches the tree has that shows it.
-#[derive(Debug, Drop)]
+#[derive(Drop)]
 pub struct SharpSolved {
     pub fronted: Fronted,
     pub steps_used: u32,

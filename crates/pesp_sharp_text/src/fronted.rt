@@ -5,7 +5,7 @@ use pesp_cert::Certificate;
 use std::marker::Model;
 
 /// A certificate, and the front of its text where it has one.
-#[derive(Debug, Drop)]
+#[derive(Drop)]
 pub struct Fronted {
     pub front: Option<Marks>,
     pub certificate: Certificate,

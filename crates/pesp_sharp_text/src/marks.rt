@@ -12,7 +12,7 @@ use std::marker::Model;
 
 /// The scale of the leaves that name marked walks, and these walks. A leaf names them by numbers that go on from those of
 /// the cycles.
-#[derive(Debug, Drop)]
+#[derive(Drop)]
 pub struct Marks {
     scale: u32,
     walks: Vec<MarkedWalk>,
@@ -32,7 +32,7 @@ impl Model for Marks {
 
 /// The parts are no front's: the scale is not 1 to 1,000,000, there are more than 100,000 walks or 10,000,000 marked rows, a
 /// walk has none, or a row's number is not 1 to 100,000.
-#[derive(Clone, Copy, Debug, PartialEq, Eq)]
+#[derive(Clone, Copy, PartialEq, Eq)]
 pub struct NotMarks;
 
 /// Whether a row may have this number.

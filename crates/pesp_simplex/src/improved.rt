@@ -10,7 +10,7 @@ pub enum Stop {
 }
 
 /// Times with their cost, the rows of a spanning forest by their numbers from 1, and why the improvement ended.
-#[derive(Debug, Drop)]
+#[derive(Drop)]
 pub struct Improved {
     pub times: Vec<u32>,
     pub cost: u64,

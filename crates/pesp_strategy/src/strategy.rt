@@ -17,7 +17,7 @@ use std::mem::swap;
 
 /// Pairs for a leaf, with the value that they should have there; or, where it is endless, pairs whose value with all weights 0
 /// should be above 0, so that no timetable is there.
-#[derive(Debug, Drop)]
+#[derive(Drop)]
 pub struct Part {
     pub pairs: Vec<Pair>,
     pub value: i128,
@@ -25,7 +25,7 @@ pub struct Part {
 }
 
 /// A cut of the offsets of a cycle, numbered from 1, into those up to `k` and those above, with pairs for both parts.
-#[derive(Debug, Drop)]
+#[derive(Drop)]
 pub struct Split {
     pub cycle: u32,
     pub k: i64,
@@ -35,7 +35,7 @@ pub struct Split {
 
 /// What is proposed for a leaf: pairs for the leaf itself; a cut, where one is to be found by its prices; and times of the
 /// network's events that may be a timetable which costs less than the best so far, where such were met with.
-#[derive(Debug, Drop)]
+#[derive(Drop)]
 pub struct Advice {
     pub leaf: Part,
     pub cut: Option<Split>,

@@ -24,7 +24,7 @@ pub enum ReadFault {
 }
 
 /// The reader failed, or was interrupted once too often.
-#[derive(Debug, Drop)]
+#[derive(Drop)]
 pub struct Unread;
 
 /// One read, repeated while it is interrupted and no more than `most` calls of the reader were. It gives how many bytes were

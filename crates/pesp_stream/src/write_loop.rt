@@ -7,7 +7,7 @@ use crate::sink::Sink;
 use std::io::ErrorKind;
 
 /// The writer failed.
-#[derive(Clone, Copy, Debug, PartialEq, Eq)]
+#[derive(Clone, Copy, PartialEq, Eq)]
 pub struct WriteFault;
 
 /// Writes all bytes. A write that is interrupted is repeated, while no more than `most` calls of the writer were; so

@@ -16,7 +16,7 @@ use std::alloc::Global;
 use std::marker::Model;
 
 /// The rows of an instance, with room for one set of time differences for each event: a bit for each difference.
-#[derive(Debug, Drop)]
+#[derive(Drop)]
 pub struct Support {
     period: u32,
     events: u32,

@@ -7,7 +7,7 @@ use crate::split::split_at_byte;
 use std::marker::Model;
 
 /// The lines of a text that are still to come, each without its LF. A last line without LF counts as a line.
-#[derive(Debug, Drop)]
+#[derive(Drop)]
 pub struct Lines<'a> {
     rest: &'a [u8],
 }

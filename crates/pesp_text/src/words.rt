@@ -9,7 +9,7 @@ use std::marker::Model;
 
 /// The words of a line that are still to come. Single spaces stand between them, so a doubled space, and one at either
 /// end of the line, gives an empty word; an empty line is one empty word.
-#[derive(Debug, Drop)]
+#[derive(Drop)]
 pub struct Words<'a> {
     rest: Option<&'a [u8]>,
 }

@@ -7,6 +7,7 @@ use crate::forests::Keys;
 use crate::found::{Found, cost_of};
 use crate::relaxation::Relaxation;
 use crate::search::TimesSearch;
+use pesp_annealing::Annealer;
 use pesp_forest::Frame;
 use pesp_network::Network;
 use pesp_problem::Memory;
@@ -144,6 +145,33 @@ impl TimesSearch {
         Ok(Some(ball.clusters))
     }
 
+    /// What a low anneal finds.
+    fn low_annealed(
+        &mut self,
+        network: &Network,
+        annealer: &mut Annealer,
+        rounds: u32,
+    ) -> Result<Option<Found>, Memory> {
+        annealer.anneal(network, rounds, self.mean.max(1))?;
+        let slacks = Vec::from_slice(self.alloc, annealer.slacks())?;
+        Ok(Some(Found::of_slacks(network, slacks)))
+    }
+
+    /// What a dive of a relaxation and a low anneal find.
+    fn dived_low(
+        &mut self,
+        network: &Network,
+        relaxation: &mut Relaxation,
+        rounds: u32,
+    ) -> Result<Option<Found>, Memory> {
+        let Some(mut annealer) = self.dived(network, relaxation)? else {
+            return Ok(None);
+        };
+        let found = self.low_annealed(network, &mut annealer, rounds);
+        drop(annealer);
+        found
+    }
+
     /// Slacks that a dive of the relaxation and a low anneal find in a ball, with their cost.
     fn solved(&mut self, network: &Network, rounds: u32) -> Result<Option<Found>, Memory> {
         let relaxed = Relaxation::new(self.alloc, network, Keys::Plain, &mut self.random)?;
@@ -151,12 +179,9 @@ impl TimesSearch {
             return Ok(None);
         };
         relaxation.is_drawn = true;
-        let Some(mut annealer) = self.dived(network, &mut relaxation)? else {
-            return Ok(None);
-        };
-        annealer.anneal(network, rounds, self.mean.max(1))?;
-        let slacks = Vec::from_slice(self.alloc, annealer.slacks())?;
-        Ok(Some(Found::of_slacks(network, slacks)))
+        let found = self.dived_low(network, &mut relaxation, rounds);
+        drop(relaxation);
+        found
     }
 
     /// Frees a ball, and takes what is found if it isn't dearer.

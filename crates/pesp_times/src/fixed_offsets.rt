@@ -53,6 +53,55 @@ fn best_prices(alloc: Global, frame: &Frame, forest: Forest) -> Result<Option<Ba
     Ok(Some(basis))
 }
 
+/// The best times over a contraction's frame.
+fn times_in(
+    alloc: Global,
+    network: &Network,
+    slacks: &[u32],
+    moved: &Contraction,
+    frame: &Frame,
+) -> Result<Option<Vec<u32>>, Memory> {
+    let taken = moved.taken_from(alloc, slacks)?;
+    let Some(forest) = forest_of(alloc, &moved.network, frame, &taken)? else {
+        return Ok(None);
+    };
+    let Some(basis) = best_prices(alloc, frame, forest)? else {
+        return Ok(None);
+    };
+    let times = times_at(alloc, network.period(), basis.prices());
+    drop(basis);
+    Ok(Some(times?))
+}
+
+/// The best times over a contraction.
+fn times_over(
+    alloc: Global,
+    network: &Network,
+    slacks: &[u32],
+    moved: &Contraction,
+) -> Result<Option<Vec<u32>>, Memory> {
+    let frame = Frame::new(alloc, &moved.network)?;
+    let times = times_in(alloc, network, slacks, moved, &frame);
+    drop(frame);
+    times
+}
+
+/// The cheapest timetable over a contraction.
+fn found_over(
+    alloc: Global,
+    network: &Network,
+    slacks: &[u32],
+    moved: &Contraction,
+) -> Result<Option<Found>, Memory> {
+    let Some(times) = times_over(alloc, network, slacks, moved)? else {
+        return Ok(None);
+    };
+    let better = slacks_of(alloc, &moved.network, &times)?;
+    let mut all = Vec::from_slice(alloc, slacks)?;
+    moved.put_into(&mut all, &better);
+    Ok(Some(Found::of_slacks(network, all)))
+}
+
 /// The cheapest timetable with the offsets of another; None where it isn't found.
 pub(crate) fn reoptimised(
     alloc: Global,
@@ -60,20 +109,12 @@ pub(crate) fn reoptimised(
     slacks: &[u32],
 ) -> Result<Option<Found>, Memory> {
     let clusters = Clusters::apart(alloc, network.events())?;
-    let Some(moved) = Contraction::new(alloc, network, slacks, &clusters)? else {
+    let made = Contraction::new(alloc, network, slacks, &clusters);
+    drop(clusters);
+    let Some(moved) = made? else {
         return Ok(None);
     };
-    let frame = Frame::new(alloc, &moved.network)?;
-    let taken = moved.taken_from(alloc, slacks)?;
-    let Some(forest) = forest_of(alloc, &moved.network, &frame, &taken)? else {
-        return Ok(None);
-    };
-    let Some(basis) = best_prices(alloc, &frame, forest)? else {
-        return Ok(None);
-    };
-    let times = times_at(alloc, network.period(), basis.prices())?;
-    let better = slacks_of(alloc, &moved.network, &times)?;
-    let mut all = Vec::from_slice(alloc, slacks)?;
-    moved.put_into(&mut all, &better);
-    Ok(Some(Found::of_slacks(network, all)))
+    let found = found_over(alloc, network, slacks, &moved);
+    drop(moved);
+    found
 }

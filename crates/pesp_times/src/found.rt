@@ -5,7 +5,7 @@ use pesp_problem::Memory;
 use std::alloc::{AllocError, Global};
 
 /// The slacks of a timetable, one for each row of a network in order, and what they cost.
-#[derive(Debug, Drop)]
+#[derive(Drop)]
 pub(crate) struct Found {
     pub(crate) slacks: Vec<u32>,
     pub(crate) cost: u64,

@@ -4,7 +4,7 @@ use std::alloc::{AllocError, Global};
 
 /// Where an individual begins: at a dive of the relaxation over the forest of smallest spans by weight, or over one that is
 /// drawn; near the prices of the root; or at a dive that looks at no prices.
-#[derive(Clone, Copy, Debug, PartialEq, Eq)]
+#[derive(Clone, Copy, PartialEq, Eq)]
 pub(crate) enum Start {
     Relaxed,
     Elsewhere,

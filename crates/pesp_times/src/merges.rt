@@ -94,6 +94,35 @@ impl TimesSearch {
         Ok(())
     }
 
+    /// Anneals, and notes what is found.
+    fn anneal_between(
+        &mut self,
+        merge: &mut Merge,
+        annealer: &mut Annealer,
+        rounds: u32,
+    ) -> Result<(), Memory> {
+        annealer.anneal(&merge.contraction.network, rounds, self.heat())?;
+        merge.note(annealer);
+        Ok(())
+    }
+
+    /// Dives into a relaxation, and anneals what is found.
+    fn dive_often(
+        &mut self,
+        merge: &mut Merge,
+        relaxation: &mut Relaxation,
+        rounds: u32,
+    ) -> Result<(), Memory> {
+        for _ in 0..TRIES {
+            if let Some(mut annealer) = self.dived(&merge.contraction.network, relaxation)? {
+                let done = self.anneal_between(merge, &mut annealer, rounds);
+                drop(annealer);
+                done?;
+            }
+        }
+        Ok(())
+    }
+
     /// Dives into the relaxation of the network between clusters, and anneals what is found.
     fn dive_between(&mut self, merge: &mut Merge, rounds: u32) -> Result<(), Memory> {
         let network = &merge.contraction.network;
@@ -102,14 +131,9 @@ impl TimesSearch {
             return Ok(());
         };
         relaxation.is_drawn = true;
-        for _ in 0..TRIES {
-            let network = &merge.contraction.network;
-            if let Some(mut annealer) = self.dived(network, &mut relaxation)? {
-                annealer.anneal(network, rounds, self.heat())?;
-                merge.note(&annealer);
-            }
-        }
-        Ok(())
+        let done = self.dive_often(merge, &mut relaxation, rounds);
+        drop(relaxation);
+        done
     }
 
     /// The cheapest timetable of a pool, or a cheaper one that agrees with all of it where they agree.

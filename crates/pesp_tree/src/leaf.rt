@@ -11,7 +11,7 @@ use std::alloc::Global;
 
 /// A leaf of a tree under work: a bound by its pairs, pairs that show that no timetable lies there, a cycle, numbered from 1,
 /// that has no offset left there, or a node whose slack ranges support no family of time differences.
-#[derive(Debug, Drop)]
+#[derive(Drop)]
 pub enum Leaf {
     Bound(Pairs),
     Nothing(Pairs),

@@ -8,7 +8,7 @@ use pesp_problem::Pairs;
 /// by its pairs that each timetable there costs enough, `Nothing` that none lies there, `Gap` names a cycle that has no
 /// offset left, and `Propagated` says that propagation of the slack ranges finds no possible time differences. `Propagated`
 /// stands in certificates of version 2 alone.
-#[derive(Debug, Drop)]
+#[derive(Drop)]
 pub enum TreeLine {
     Slack { row: u32, k: u32 },
     Offset { cycle: u32, k: i64 },

@@ -1,7 +1,7 @@
 //! How turns end.
 
 /// Why no turn is taken any more.
-#[derive(Clone, Copy, Debug, PartialEq, Eq)]
+#[derive(Clone, Copy, PartialEq, Eq)]
 pub enum Ending {
     /// As many leaves were split as may be.
     StepsUsed,
@@ -16,7 +16,7 @@ pub enum Ending {
 }
 
 /// How turns ended: how many leaves they split, and why no other is taken.
-#[derive(Clone, Copy, Debug, PartialEq, Eq)]
+#[derive(Clone, Copy, PartialEq, Eq)]
 pub struct Ended {
     pub used: u32,
     pub ending: Ending,

@@ -3,7 +3,7 @@
 use pesp_board::Board;
 
 /// A part of a search that comes before its first turn.
-#[derive(Clone, Copy, Debug, PartialEq, Eq)]
+#[derive(Clone, Copy, PartialEq, Eq)]
 pub enum Part {
     /// What is left of the instance is found.
     Reduction,
@@ -27,7 +27,7 @@ pub trait Observer {
 }
 
 /// An observer that looks at nothing.
-#[derive(Clone, Copy, Debug, PartialEq, Eq)]
+#[derive(Clone, Copy, PartialEq, Eq)]
 pub struct Nobody;
 
 impl Observer for Nobody {

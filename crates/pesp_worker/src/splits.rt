@@ -91,7 +91,20 @@ pub(crate) fn split_on(
 {
     let mut search = Search::on(alloc, instance, board)?;
     search.used = before;
-    split(alloc, &mut search, steps, until)?;
-    let Search { board, .. } = search;
-    Ok(board)
+    let done = split(alloc, &mut search, steps, until);
+    let Search {
+        board,
+        known,
+        proposer,
+        ..
+    } = search;
+    drop(known);
+    drop(proposer);
+    match done {
+        Ok(()) => Ok(board),
+        Err(refused) => {
+            drop(board);
+            Err(refused)
+        }
+    }
 }

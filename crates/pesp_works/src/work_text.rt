@@ -5,7 +5,7 @@ use std::marker::Model;
 
 /// Work on the leaf that was lent under the number `job`, at most 999999 in a text: labels of events with times in the
 /// instance's unit, which may be a timetable, and the lines of a tree in preorder that is to stand in the leaf's place.
-#[derive(Debug, Drop)]
+#[derive(Drop)]
 pub struct WorkText {
     pub job: u64,
     pub times: Vec<(i64, u32)>,

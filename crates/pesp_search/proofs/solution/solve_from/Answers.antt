@@ -4,17 +4,17 @@ use Rattle.pesp_search.specs.Refusals.{MeetsLimit}
 use Rattle.pesp_search.proofs.Solutions.{refused_at_once, meets_at_once}
 use Rattle.pesp_search.proofs.solution.solve_from.Goals as goal
 
-pub solve_on-requires-clause-begun : goal.solve_on-requires-clause-begun
-solve_on-requires-clause-begun g c = c.in_ok-search.ensures.begun
+pub solve_on-solved-requires-clause-begun : goal.solve_on-solved-requires-clause-begun
+solve_on-solved-requires-clause-begun g c = c.in_ok-search.ensures.begun
 
 pub returns-clause-solved : goal.returns-clause-solved
-returns-clause-solved g c = c.solve_on.ensures.solved
+returns-clause-solved g c = c.solve_on-solved.ensures.solved
 
 pub returns-clause-improved : goal.returns-clause-improved
-returns-clause-improved g c = c.solve_on.ensures.improved
+returns-clause-improved g c = c.solve_on-solved.ensures.improved
 
 pub returns-clause-refused : goal.returns-clause-refused
-returns-clause-refused g c = c.solve_on.ensures.refused
+returns-clause-refused g c = c.solve_on-solved.ensures.refused
 
 pub returns-in_err-search-clause-refused : goal.returns-in_err-search-clause-refused
 returns-in_err-search-clause-refused g c =
@@ -24,7 +24,7 @@ returns-in_err-search-clause-refused g c =
     search rules
 
 pub returns-clause-passed : goal.returns-clause-passed
-returns-clause-passed g c = c.solve_on.ensures.passed
+returns-clause-passed g c = c.solve_on-solved.ensures.passed
 
 pub returns-in_err-search-clause-passed : goal.returns-in_err-search-clause-passed
 returns-in_err-search-clause-passed g c =

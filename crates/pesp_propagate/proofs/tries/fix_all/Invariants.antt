@@ -1,5 +1,5 @@
 use Rattle.pesp_domains.specs.Domains.{HaveSizes}
-use Rattle.pesp_dive.proofs.tries.fix_all.Given as goal
+use Rattle.pesp_propagate.proofs.tries.fix_all.Given as goal
 
 abbrev pub invariant-turns : goal.invariant-turns
 invariant-turns l = record {

@@ -35,11 +35,16 @@ fn board_of(alloc: Global, instance: &Instance, reduced: &Reduced) -> Result<Boa
 /// What proposes cuts and times for the network of what is left.
 fn proposer_for(alloc: Global, known: &Known) -> Result<Proposer, Memory> {
     let strategy = strategy_of(alloc, known)?;
-    let times = TimesSearch::new(alloc, known.reduced.network())?;
-    Ok(Proposer {
-        strategy,
-        times: Some(times),
-    })
+    match TimesSearch::new(alloc, known.reduced.network()) {
+        Ok(times) => Ok(Proposer {
+            strategy,
+            times: Some(times),
+        }),
+        Err(refused) => {
+            drop(strategy);
+            Err(refused)
+        }
+    }
 }
 
 /// What is known of a problem with what is left of its instance, and what proposes cuts and times for it.
@@ -52,8 +57,13 @@ fn known_and_proposer(
     ensures reduced { IfOk result (λ made. made.0.reduced ≡ reduced) }
 {
     let known = known_of(alloc, problem, reduced)?;
-    let proposer = proposer_for(alloc, &known)?;
-    Ok((known, proposer))
+    match proposer_for(alloc, &known) {
+        Ok(proposer) => Ok((known, proposer)),
+        Err(refused) => {
+            drop(known);
+            Err(refused)
+        }
+    }
 }
 
 /// Begins the search over what is left of an instance.
@@ -68,14 +78,24 @@ pub(crate) fn begin_over(
     ensures refused { IfErr result (IsSearchRefusal instance.now 0) }
     ensures passed { IfErr result (MeetsLimit instance.now 0) }
 {
-    let board = board_of(alloc, instance, &reduced)?;
-    let (known, proposer) = known_and_proposer(alloc, board.problem(), reduced)?;
-    Ok(Search {
-        board,
-        known,
-        proposer,
-        used: 0,
-    })
+    match board_of(alloc, instance, &reduced) {
+        Ok(board) => match known_and_proposer(alloc, board.problem(), reduced) {
+            Ok((known, proposer)) => Ok(Search {
+                board,
+                known,
+                proposer,
+                used: 0,
+            }),
+            Err(_) => {
+                drop(board);
+                Err(SolveRefusal::Memory)
+            }
+        },
+        Err(refusal) => {
+            drop(reduced);
+            Err(refusal)
+        }
+    }
 }
 
 /// Begins the search for an instance: the board's problem is its network with the lifted walks of what is left of it. An

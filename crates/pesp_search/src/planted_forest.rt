@@ -129,6 +129,11 @@ pub(crate) fn planted<O: Observer>(
     observer.at(Part::Reduction);
     let reduced = reduce(alloc, instance)?;
     observer.at(Part::Forest);
-    let forest = forest_for(alloc, instance, reduced.network(), planting)?;
-    reduced.with_forest(alloc, &forest)
+    match forest_for(alloc, instance, reduced.network(), planting) {
+        Ok(forest) => reduced.with_forest(alloc, &forest),
+        Err(refused) => {
+            drop(reduced);
+            Err(refused)
+        }
+    }
 }

@@ -42,7 +42,7 @@ fn begin_trial(alloc: Global, search: &mut Search, times: &[u32]) -> Result<(), 
         proposer,
         ..
     } = search;
-    proposer.times = None;
+    drop(proposer.times.take());
     board.problem().keeps_limits();
     look_at_root(alloc, board, &known.root)?;
     offer_given(alloc, board, times)?;

@@ -37,10 +37,15 @@ pub fn known_of(alloc: Global, problem: &Problem, reduced: Reduced) -> Result<Kn
     ensures known { IfOk result (IsKnown problem.now) }
     ensures reduced { IfOk result (λ known. known.reduced ≡ reduced) }
 {
-    let (passed, root) = rows_and_root(alloc, problem)?;
-    Ok(Known {
-        reduced,
-        passed,
-        root,
-    })
+    match rows_and_root(alloc, problem) {
+        Ok((passed, root)) => Ok(Known {
+            reduced,
+            passed,
+            root,
+        }),
+        Err(refused) => {
+            drop(reduced);
+            Err(refused)
+        }
+    }
 }

@@ -73,6 +73,11 @@ pub(crate) fn replanted(
     table: &[Walk],
 ) -> Result<Reduced, Memory> {
     let reduced = reduce(alloc, instance)?;
-    let forest = forest_of(alloc, instance, &reduced, table)?;
-    reduced.with_forest(alloc, &forest)
+    match forest_of(alloc, instance, &reduced, table) {
+        Ok(forest) => reduced.with_forest(alloc, &forest),
+        Err(refused) => {
+            drop(reduced);
+            Err(refused)
+        }
+    }
 }

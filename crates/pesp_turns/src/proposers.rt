@@ -87,18 +87,26 @@ fn strategy_for(
     strategy_of(alloc, known)
 }
 
+/// What looks for times, where the board has none.
+fn times_for(alloc: Global, known: &Known, board: &Board) -> Result<Option<TimesSearch>, Memory> {
+    match board.best() {
+        Some(_) => Ok(None),
+        None => Ok(Some(TimesSearch::new(alloc, known.reduced.network())?)),
+    }
+}
+
 /// What proposes cuts and times; times are looked for where the board has none.
 pub(crate) fn proposer_for(
     alloc: Global,
     known: &Known,
     board: &Board,
 ) -> Result<Proposer, Memory> {
-    let times = match board.best() {
-        Some(_) => None,
-        None => Some(TimesSearch::new(alloc, known.reduced.network())?),
-    };
-    Ok(Proposer {
-        strategy: strategy_for(alloc, known, board.problem())?,
-        times,
-    })
+    let times = times_for(alloc, known, board)?;
+    match strategy_for(alloc, known, board.problem()) {
+        Ok(strategy) => Ok(Proposer { strategy, times }),
+        Err(refused) => {
+            drop(times);
+            Err(refused)
+        }
+    }
 }

@@ -41,8 +41,13 @@ fn known_and_proposer(
 {
     let reduced = replanted(alloc, instance, board.problem().table())?;
     let known = known_of(alloc, board.problem(), reduced)?;
-    let proposer = proposer_for(alloc, &known, board)?;
-    Ok((known, proposer))
+    match proposer_for(alloc, &known, board) {
+        Ok(proposer) => Ok((known, proposer)),
+        Err(refused) => {
+            drop(known);
+            Err(refused)
+        }
+    }
 }
 
 /// How many leaves a turn split, and why no other is taken with it.
@@ -73,13 +78,18 @@ impl Search {
         ensures known { IfOk result (λ search. IsKnown board.problem search.known) }
         ensures used { IfOk result (λ search. search.used ≡ 0) }
     {
-        let (known, proposer) = known_and_proposer(alloc, instance, &board)?;
-        Ok(Search {
-            board,
-            known,
-            proposer,
-            used: 0,
-        })
+        match known_and_proposer(alloc, instance, &board) {
+            Ok((known, proposer)) => Ok(Search {
+                board,
+                known,
+                proposer,
+                used: 0,
+            }),
+            Err(refused) => {
+                drop(board);
+                Err(refused)
+            }
+        }
     }
 
     /// Takes turns on the open leaves, of least value first, until so many were split, or none can be lent any more. An

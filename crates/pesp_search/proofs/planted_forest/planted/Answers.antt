@@ -4,12 +4,12 @@ use Rattle.pesp_problem.specs.Timetables.{Pesp}
 use Rattle.pesp_search.proofs.Lifting.{reduced_over}
 use Rattle.pesp_search.proofs.planted_forest.planted.Goals as goal
 
-pub returns-clause-original : goal.returns-clause-original
-returns-clause-original g c = subst (λ (i : Pesp). IfOk c.with_forest.result (λ r. r.original ≡ i))
+pub returns-in-Ok-clause-original : goal.returns-in-Ok-clause-original
+returns-in-Ok-clause-original g c = subst (λ (i : Pesp). IfOk c.with_forest.result (λ r. r.original ≡ i))
     c.in_ok-reduced.ensures.original c.with_forest.ensures.original
 
-pub returns-clause-reduced : goal.returns-clause-reduced
-returns-clause-reduced g c =
+pub returns-in-Ok-clause-reduced : goal.returns-in-Ok-clause-reduced
+returns-in-Ok-clause-reduced g c =
     let r = c.in_ok-reduced.ensures in
     let s = c.with_forest.ensures in
     reduced_over c.in_ok-reduced.reduced c.with_forest.result s.original s.fates s.stands s.shifts s.period s.rows

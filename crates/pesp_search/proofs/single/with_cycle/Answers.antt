@@ -21,3 +21,6 @@ returns-clause-plus c =
     if_ok c.with_pair-2.result (λ (b : Valued). better ≤ℤ b.value)
     (λ (b : Valued). IfSome value (λ v. v ≤ℤ b.value))
     (λ b h. up_to_trans value better b.value c.in_ok-better.ensures.pair h) c.with_pair-2.ensures.no_less
+
+pub returns-clause-minus : goal.returns-clause-minus
+returns-clause-minus c = c.with_pair-2.ensures.pair

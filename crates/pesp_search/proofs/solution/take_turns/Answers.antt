@@ -1,4 +1,4 @@
-use Rattle.std.proofs.Common.{subst}
+use Rattle.std.proofs.Common.{subst, rules}
 use Rattle.pesp_network.specs.Networks.{KeepsNetLimits}
 use Rattle.pesp_nodes.specs.Problems.{ProblemValue}
 use Rattle.pesp_search.proofs.Turns.{all_used, none_open, fills_tree}
@@ -12,6 +12,9 @@ returns-in-StepsUsed-clause-turns g c =
     all_used p c.args.steps c.in_ok-ended.ended.used c.args.search.now.board.state c.run.new.self.board.state
     (subst (λ (x : ProblemValue). KeepsNetLimits x.network) c.problem.ensures c.keeps_limits.ensures.network)
     done.few done.grows c.requires.worked turns
+
+pub returns-in-StepsUsed-clause-refused : goal.returns-in-StepsUsed-clause-refused
+returns-in-StepsUsed-clause-refused g c = search rules
 
 pub returns-in-NoneOpen-clause-turns : goal.returns-in-NoneOpen-clause-turns
 returns-in-NoneOpen-clause-turns g c =

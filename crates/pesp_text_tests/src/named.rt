@@ -7,7 +7,7 @@ use crate::feed::feed_of;
 use crate::given::{Given, given_by, text_of};
 use crate::told_lines::{tell_fault, tell_run};
 use pesp_faults::Fault;
-use pesp_names::Names;
+use pesp_report::Names;
 use pesp_report_run::{Diagrams, NamedReport, Picture, Sheet, read_whole_names, run_sheet};
 use std::alloc::Global;
 

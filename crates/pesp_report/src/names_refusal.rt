@@ -1,7 +1,7 @@
 //! Why a text tells no names.
 
 ghost use Rattle.std.specs.Prelude.{◌≡◌};
-ghost use Rattle.pesp_names.specs.declared.refusal.NamesRefusal.TheVariants.{Memory};
+ghost use Rattle.pesp_report.specs.declared.names_refusal.NamesRefusal.TheVariants.{Memory};
 
 use std::alloc::{AllocError, AllocFailed};
 use std::error::Error;
@@ -25,7 +25,7 @@ pub enum NamesRefusal {
 /// A refusal of a text of names: its number, its name and its record.
 impl fmt::Display for NamesRefusal {
     ghost use Rattle.std.specs.Prelude.{Some};
-    ghost use Rattle.pesp_names.specs.RefusalLines.{names_line};
+    ghost use Rattle.pesp_report.specs.NamesRefusalLines.{names_line};
 
     ghost output = { λ refusal. Some (names_line refusal) };
 

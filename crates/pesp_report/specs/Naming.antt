@@ -2,8 +2,8 @@
 use Rattle.std.specs.Prelude.{ℕ, ℤ, List, [], Option, Some, None, slice_get, string_bytes}
 use Rattle.std.specs.Ordering.{int_eq}
 use Rattle.indexmap.specs.IndexMap.{get}
-use Rattle.pesp_names.specs.declared.names.Name.{Name}
-use Rattle.pesp_names.specs.declared.names.Names.{Names}
+use Rattle.pesp_report.specs.declared.names.Name.{Name}
+use Rattle.pesp_report.specs.declared.names.Names.{Names}
 
 -- what stands at a place, if there is one
 abbrev pub told_at : List Name → Option ℕ → Option Name

@@ -1,8 +1,8 @@
 -- The line of a refusal.
 use Rattle.std.specs.Prelude.{ℕ, List, ◌++◌, codes}
 use Rattle.pesp_instance.specs.RefusalLines.{at_record}
-use Rattle.pesp_names.specs.declared.refusal.NamesRefusal.{NamesRefusal}
-use Rattle.pesp_names.specs.declared.refusal.NamesRefusal.TheVariants.{TextTooLong, FieldCount, NotANumber, NotText, Memory}
+use Rattle.pesp_report.specs.declared.names_refusal.NamesRefusal.{NamesRefusal}
+use Rattle.pesp_report.specs.declared.names_refusal.NamesRefusal.TheVariants.{TextTooLong, FieldCount, NotANumber, NotText, Memory}
 
 -- number, name and record of a refusal of a text of names
 abbrev pub names_line : NamesRefusal → List ℕ

@@ -1,8 +1,8 @@
 //! The names of events.
 
 ghost use Rattle.std.specs.Prelude.{◌≡◌, option_copied};
-ghost use Rattle.pesp_names.specs.Naming.{told_of};
-ghost use Rattle.pesp_names.specs.Naming as spec;
+ghost use Rattle.pesp_report.specs.Naming.{told_of};
+ghost use Rattle.pesp_report.specs.Naming as spec;
 
 use indexmap::IndexMap;
 use std::alloc::{AllocError, Global};

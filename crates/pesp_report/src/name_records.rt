@@ -1,7 +1,7 @@
 //! Reading names from a text, record by record.
 
 use crate::names::{Name, Names};
-use crate::refusal::NamesRefusal;
+use crate::names_refusal::NamesRefusal;
 use csv::{ByteRecord, Reader, ReaderBuilder};
 use pesp_instance::{delimiter_of, is_skipped, names_columns, parse_number};
 use std::alloc::Global;

@@ -51,7 +51,7 @@ fn numbers_of(alloc: Global, words: &[&str]) -> Result<Option<Vec<u64>>, AllocEr
 }
 
 /// The numbers that words name, which rise: one that is named twice stands there once. None where a word names none.
-pub(crate) fn jobs_of(alloc: Global, words: &[&str]) -> Result<Option<Vec<u64>>, AllocError>
+pub fn jobs_of(alloc: Global, words: &[&str]) -> Result<Option<Vec<u64>>, AllocError>
     ensures { IfOk result (λ found. IfSome found (λ jobs. IsStrictlyIncreasing jobs.items)) }
 {
     let Some(mut jobs) = numbers_of(alloc, words)? else {

@@ -17,8 +17,14 @@ proved() {
     echo "$top/crates/$1/out/$1"
 }
 
-# Where the program lies that is compiled without its proofs.
-unproved=$top/out/unproved/pesp
+# Where a crate's program lies that is compiled without its proofs: quickly, or optimised as the proved one is.
+unproved() {
+    echo "$top/out/unproved/$1"
+}
+
+fast() {
+    echo "$top/out/fast/$1"
+}
 
 # The crates that a program is made of, itself among them.
 crates_of() {
@@ -52,6 +58,21 @@ side_by_side() {
     ' /proc/meminfo
 }
 
+# What a crate's program prints in its stored run: with the words of `args`, over the bytes of `stdin`, in the folder `data`,
+# each where there is one.
+stored_run() {
+    (
+        stored=$top/crates/$2
+        set -- "$1"
+        [ ! -e "$stored/args" ] || while IFS= read -r word; do
+            set -- "$@" "$word"
+        done <"$stored/args"
+        [ ! -e "$stored/stdin" ] || exec <"$stored/stdin"
+        [ ! -d "$stored/data" ] || cd "$stored/data" || exit
+        exec "$@"
+    )
+}
+
 # The folder beside the kit in which its gate keeps what it passes; nothing where the kit's scripts name none.
 kept_folder() {
     command -v rt >/dev/null || return 0
@@ -77,14 +98,15 @@ minutes() {
     echo "$((halves + $(crates_of "$1" | wc -l) * halves / 2 / $(side_by_side MemTotal)))"
 }
 
-# The program to be handed on: the proved one, or the one without proofs where that is asked for.
+# The program to be handed on: the proved one, or one without proofs where that is asked for.
 chosen() {
     case $1 in
     proved) ! is_stale "$(proved pesp)" pesp || fail "no program of these sources is proved here: ./pesp --prove makes one; BUILD=unproved hands on one whose proofs were not checked" ;;
-    unproved) ! is_stale "$unproved" pesp || fail "no program of these sources is there: ./pesp --help makes one" ;;
-    *) fail "a build is proved or unproved, not $1" ;;
+    fast) ! is_stale "$(fast pesp)" pesp || fail "no such program of these sources is there: ./pesp --fast makes one" ;;
+    unproved) ! is_stale "$(unproved pesp)" pesp || fail "no program of these sources is there: ./pesp --help makes one" ;;
+    *) fail "a build is proved, fast or unproved, not $1" ;;
     esac
-    [ "$1" = proved ] && proved pesp || echo "$unproved"
+    "$1" pesp
 }
 
 # One name for the sources as they stand: git's tree of crates/ and crates.txt; nothing where git can't tell.

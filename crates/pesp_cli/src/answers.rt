@@ -16,9 +16,9 @@ use crate::telling::told_conflict;
 use pesp_check_run::{run_check, status_of_verdict};
 use pesp_conflict_run::{run_conflict, status_of_told};
 use pesp_faults::Fault;
-use pesp_names::Names;
 use pesp_outside_run::{run_graft, run_split, run_work};
 use pesp_progress::{Teller, Watch};
+use pesp_report::Names;
 use pesp_report_run::{
     Diagrams, NamedReport, Picture, Report, read_whole_names, run_sheet, run_violations,
 };

@@ -12,9 +12,8 @@ use crate::frame::{
 };
 use crate::network::Network;
 use crate::pieces::{Piece, write_piece};
-use pesp_names::Names;
-use pesp_problem::{Instance, Score, score};
-use pesp_report::ReportRefusal;
+use pesp_problem::Instance;
+use pesp_report::{Names, ReportRefusal, cost_of};
 use pesp_stream::{Bytes, Sink, print_to};
 use std::alloc::{AllocError, Global};
 
@@ -47,18 +46,13 @@ pub fn diagram<W: Sink>(
         (DeviceFailed (W.calls sink.old) (W.calls sink.new))) }
     ensures silent { IfErr result (λ e. UnlessBlamed e (sink.new ≡ sink.old)) }
 {
-    match score(instance, times) {
-        Score::NotTimes => Err(ReportRefusal::NotTimes),
-        Score::Violates { row, .. } => Err(ReportRefusal::Violates { row }),
-        Score::Feasible { cost } => {
-            let Ok(text) = picture_of(alloc, instance, times, names, cost) else {
-                return Err(ReportRefusal::Memory);
-            };
-            match print_to(sink, &Bytes(text.as_bytes())) {
-                Ok(()) => Ok(()),
-                Err(_) => Err(ReportRefusal::Write),
-            }
-        }
+    let cost = cost_of(instance, times)?;
+    let Ok(text) = picture_of(alloc, instance, times, names, cost) else {
+        return Err(ReportRefusal::Memory);
+    };
+    match print_to(sink, &Bytes(text.as_bytes())) {
+        Ok(()) => Ok(()),
+        Err(_) => Err(ReportRefusal::Write),
     }
 }
 

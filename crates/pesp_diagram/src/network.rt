@@ -1,7 +1,7 @@
 //! The lines of an instance, their stations, and where its events stand.
 
-use pesp_names::{Name, Names};
 use pesp_problem::Instance;
+use pesp_report::{Name, Names};
 use std::alloc::{AllocError, Global};
 
 /// The most lines that are drawn, and the most stations of a line.

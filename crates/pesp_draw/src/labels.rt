@@ -1,7 +1,7 @@
 //! How events are called in a picture.
 
 use crate::escaped::{Escaped, write_escaped};
-use pesp_names::Names;
+use pesp_report::Names;
 use std::fmt;
 
 /// The most characters of a name that stand in a column.

@@ -16,9 +16,8 @@ use crate::frame::{
 use crate::labels::Labels;
 use crate::rows::{Heights, write_activities};
 use crate::scale::write_scale;
-use pesp_names::Names;
-use pesp_problem::{Instance, Score, score};
-use pesp_report::{Line, ReportRefusal, lines_by_cost};
+use pesp_problem::Instance;
+use pesp_report::{Line, Names, ReportRefusal, cost_of, lines_by_cost};
 use pesp_stream::{Bytes, Sink, print_to};
 use std::alloc::{AllocError, Global};
 
@@ -53,19 +52,13 @@ pub fn draw<W: Sink>(
         (DeviceFailed (W.calls sink.old) (W.calls sink.new))) }
     ensures silent { IfErr result (λ e. UnlessBlamed e (sink.new ≡ sink.old)) }
 {
-    match score(instance, times) {
-        Score::NotTimes => Err(ReportRefusal::NotTimes),
-        Score::Violates { row, .. } => Err(ReportRefusal::Violates { row }),
-        Score::Feasible { cost } => {
-            let Ok(text) = picture_of(alloc, instance, times, choice, Labels::of(names), cost)
-            else {
-                return Err(ReportRefusal::Memory);
-            };
-            match print_to(sink, &Bytes(text.as_bytes())) {
-                Ok(()) => Ok(()),
-                Err(_) => Err(ReportRefusal::Write),
-            }
-        }
+    let cost = cost_of(instance, times)?;
+    let Ok(text) = picture_of(alloc, instance, times, choice, Labels::of(names), cost) else {
+        return Err(ReportRefusal::Memory);
+    };
+    match print_to(sink, &Bytes(text.as_bytes())) {
+        Ok(()) => Ok(()),
+        Err(_) => Err(ReportRefusal::Write),
     }
 }
 

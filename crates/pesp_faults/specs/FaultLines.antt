@@ -6,8 +6,8 @@ use Rattle.pesp_cert.specs.declared.refusal.CertRefusal.{CertRefusal}
 use Rattle.pesp_cert.specs.declared.refusal.CertRefusal.TheVariants.{Memory as CertMemory}
 use Rattle.pesp_search.specs.declared.refusal.SolveRefusal.{SolveRefusal}
 use Rattle.pesp_search.specs.declared.refusal.SolveRefusal.TheVariants.{Memory as SearchMemory, TableTooLarge, PairsTooMany}
-use Rattle.pesp_names.specs.declared.refusal.NamesRefusal.{NamesRefusal}
-use Rattle.pesp_names.specs.declared.refusal.NamesRefusal.TheVariants.{Memory as NamesMemory}
+use Rattle.pesp_report.specs.declared.names_refusal.NamesRefusal.{NamesRefusal}
+use Rattle.pesp_report.specs.declared.names_refusal.NamesRefusal.TheVariants.{Memory as NamesMemory}
 use Rattle.pesp_report.specs.declared.refusal.TimesRefusal.{TimesRefusal}
 use Rattle.pesp_report.specs.declared.refusal.TimesRefusal.TheVariants.{Memory as TimesMemory}
 use Rattle.pesp_report.specs.declared.refusal.ReportRefusal.{ReportRefusal}
@@ -15,7 +15,7 @@ use Rattle.pesp_report.specs.declared.refusal.ReportRefusal.TheVariants.{NotTime
 use Rattle.pesp_check_run.specs.Verdicts.{refusal_text}
 use Rattle.pesp_instance.specs.RefusalLines.{instance_line}
 use Rattle.pesp_cert.specs.RefusalLines.{certificate_line}
-use Rattle.pesp_names.specs.RefusalLines.{names_line}
+use Rattle.pesp_report.specs.NamesRefusalLines.{names_line}
 use Rattle.pesp_report.specs.RefusalLines.{times_line, report_line}
 use Rattle.pesp_check_run.specs.declared.fault.VerdictFault.{VerdictFault}
 use Rattle.pesp_check_run.specs.declared.fault.VerdictFault.TheVariants.{Instance as OfInstance, Certificate as OfCertificate, Memory as OfMemory, Read as OfRead, Write as OfWrite, NoFile as OfNoFile}

@@ -5,3 +5,5 @@ pub mod Reporting
 pub mod Violations
 pub mod Named
 pub mod RefusalLines
+pub mod Naming
+pub mod NamesRefusalLines

@@ -12,6 +12,13 @@ Refuses p times NotTimes = AreTimes p times → ⊥
 Refuses p times Memory = IsTimetable p times
 Refuses p times Write = IsTimetable p times
 
+-- what a refusal says of the times where neither memory nor a writer is asked for
+abbrev pub RefusesTimes : Pesp → List ℕ → ReportRefusal → Type 0
+RefusesTimes p times (Violates row) = AreTimes p times × IsFirstViolated p times row
+RefusesTimes p times NotTimes = AreTimes p times → ⊥
+RefusesTimes p times Memory = ⊥
+RefusesTimes p times Write = ⊥
+
 -- a fact that holds where the writer is blamed
 abbrev pub IfBlamed : ReportRefusal → Type 0 → Type 0
 IfBlamed (Violates row) fact = Unit {0}

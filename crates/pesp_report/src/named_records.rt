@@ -3,15 +3,15 @@
 ghost use Rattle.std.specs.Prelude.{◌≡◌, ◌++◌, List, ℕ, map, IfOk, OnOk};
 ghost use Rattle.csv.specs.Writing.{default_writer, row_text};
 ghost use Rattle.pesp_report.specs.Report.{records_text};
-ghost use Rattle.pesp_names.specs.Naming.{name_of};
+ghost use Rattle.pesp_report.specs.Naming.{name_of};
 ghost use Rattle.pesp_report.specs.Named.{named_fields, named_header, named_text, named_total};
 ghost use Rattle.pesp_report.specs.Written.{HasWritten};
 
 use crate::line::Line;
+use crate::names::Names;
 use crate::records::write_fields;
 use csv::Writer;
 use itoa::Buffer;
-use pesp_names::Names;
 use pesp_problem::Memory;
 use std::alloc::Global;
 

@@ -5,15 +5,16 @@ ghost use Rattle.std.specs.Io.KnownBytes.{Appends};
 ghost use Rattle.pesp_stream.specs.Counts.{FewerThan, HasWorked, DeviceFailed};
 ghost use Rattle.pesp_stream.specs.Writing.{AppendsFront};
 ghost use Rattle.pesp_problem.specs.Timetables.{AreTimes, IsTimetable, IsTimetableOfCost};
-ghost use Rattle.pesp_names.specs.Naming.{name_of};
+ghost use Rattle.pesp_report.specs.Naming.{name_of};
 ghost use Rattle.pesp_report.specs.Named.{IsNamedReport};
 ghost use Rattle.pesp_report.specs.Reporting.{IfBlamed, Refuses, UnlessBlamed};
 
 use crate::line::{lines_by_cost, slack_sum};
 use crate::named_records::named_text_of;
+use crate::names::Names;
 use crate::refusal::ReportRefusal;
-use pesp_names::Names;
-use pesp_problem::{Instance, Memory, Score, score};
+use crate::timetable_cost::cost_of;
+use pesp_problem::{Instance, Memory};
 use pesp_stream::{Bytes, Sink, print_to};
 use std::alloc::Global;
 
@@ -41,16 +42,11 @@ pub fn report_named<W: Sink>(
         (DeviceFailed (W.calls sink.old) (W.calls sink.new))) }
     ensures silent { IfErr result (λ e. UnlessBlamed e (sink.new ≡ sink.old)) }
 {
-    match score(instance, times) {
-        Score::NotTimes => Err(ReportRefusal::NotTimes),
-        Score::Violates { row, .. } => Err(ReportRefusal::Violates { row }),
-        Score::Feasible { cost } => {
-            let text = named_text_for(alloc, instance, times, names, cost)?;
-            match print_to(sink, &Bytes(text.as_slice())) {
-                Ok(()) => Ok(()),
-                Err(_) => Err(ReportRefusal::Write),
-            }
-        }
+    let cost = cost_of(instance, times)?;
+    let text = named_text_for(alloc, instance, times, names, cost)?;
+    match print_to(sink, &Bytes(text.as_slice())) {
+        Ok(()) => Ok(()),
+        Err(_) => Err(ReportRefusal::Write),
     }
 }
 

@@ -11,7 +11,8 @@ ghost use Rattle.pesp_report.specs.Reporting.{IfBlamed, Refuses, UnlessBlamed};
 use crate::line::{lines_by_cost, slack_sum};
 use crate::records::text_of;
 use crate::refusal::ReportRefusal;
-use pesp_problem::{Instance, Memory, Score, score};
+use crate::timetable_cost::cost_of;
+use pesp_problem::{Instance, Memory};
 use pesp_stream::{Bytes, Sink, print_to};
 use std::alloc::Global;
 
@@ -42,16 +43,11 @@ pub fn report<W: Sink>(
         (DeviceFailed (W.calls sink.old) (W.calls sink.new))) }
     ensures silent { IfErr result (λ e. UnlessBlamed e (sink.new ≡ sink.old)) }
 {
-    match score(instance, times) {
-        Score::NotTimes => Err(ReportRefusal::NotTimes),
-        Score::Violates { row, .. } => Err(ReportRefusal::Violates { row }),
-        Score::Feasible { cost } => {
-            let text = text_for(alloc, instance, times, cost)?;
-            match print_to(sink, &Bytes(text.as_slice())) {
-                Ok(()) => Ok(()),
-                Err(_) => Err(ReportRefusal::Write),
-            }
-        }
+    let cost = cost_of(instance, times)?;
+    let text = text_for(alloc, instance, times, cost)?;
+    match print_to(sink, &Bytes(text.as_slice())) {
+        Ok(()) => Ok(()),
+        Err(_) => Err(ReportRefusal::Write),
     }
 }
 

@@ -5,8 +5,8 @@ use Rattle.std.specs.Io.KnownBytes.{Appends}
 use Rattle.pesp_stream.specs.Counts.{Calls}
 use Rattle.pesp_stream.specs.Writing.{AppendsFront}
 use Rattle.pesp_problem.specs.Timetables.{Pesp, AreTimes, IsTimetable}
-use Rattle.pesp_names.specs.declared.refusal.NamesRefusal.{NamesRefusal}
-use Rattle.pesp_names.specs.declared.refusal.NamesRefusal.TheVariants.{TextTooLong as NamesTooLong, FieldCount as NamesFieldCount, NotANumber as NamesNotANumber, NotText, Memory as NamesMemory}
+use Rattle.pesp_report.specs.declared.names_refusal.NamesRefusal.{NamesRefusal}
+use Rattle.pesp_report.specs.declared.names_refusal.NamesRefusal.TheVariants.{TextTooLong as NamesTooLong, FieldCount as NamesFieldCount, NotANumber as NamesNotANumber, NotText, Memory as NamesMemory}
 use Rattle.pesp_report.specs.Reporting.{Refuses, IfBlamed}
 use Rattle.pesp_report.specs.declared.refusal.ReportRefusal.{ReportRefusal}
 use Rattle.pesp_report.specs.declared.refusal.ReportRefusal.TheVariants.{Violates, NotTimes, Memory as ReportMemory, Write as ReportWrite}

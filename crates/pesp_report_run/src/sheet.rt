@@ -9,9 +9,8 @@ ghost use Rattle.pesp_report.specs.Reporting.{IfBlamed, Refuses, UnlessBlamed};
 
 use pesp_diagram::diagram;
 use pesp_draw::{Choice, draw};
-use pesp_names::Names;
 use pesp_problem::Instance;
-use pesp_report::{ReportRefusal, report, report_named};
+use pesp_report::{Names, ReportRefusal, report, report_named};
 use pesp_stream::Sink;
 use std::alloc::Global;
 
@@ -69,7 +68,7 @@ impl Sheet for Report {
 pub struct NamedReport<'a>(pub &'a Names);
 
 impl Sheet for NamedReport<'_> {
-    ghost use Rattle.pesp_names.specs.Naming.{name_of};
+    ghost use Rattle.pesp_report.specs.Naming.{name_of};
     ghost use Rattle.pesp_report.specs.Named.{IsNamedReport};
 
     ghost shows = { λ s p times text. IsNamedReport p times (name_of s.0.now) text };

@@ -4,7 +4,6 @@ ghost use Rattle.std.specs.Prelude.{◌≤◌, IfOk, IfSome};
 ghost use Rattle.std.specs.List.Sorted.{IsStrictlyIncreasing};
 ghost use Rattle.pesp_request.specs.Requests.{InstanceWithin, CertificateWithin, LeavesWithin, TimesWithin, AskedWithin, IsWithinLimits};
 
-use crate::jobs::jobs_of;
 use crate::options::{
     base_argument, file_argument, from_option, graft_sharp_option, jobs_argument, names_argument,
     names_option, optional_file, period_option, progress_option, rows_option, seconds_option,
@@ -14,6 +13,7 @@ use crate::options::{
 use crate::request::{Asked, OfCertificate, OfInstance, OfLeaves, OfTimes, OfWorks, Request};
 use clap::error::ErrorKind;
 use clap::{ArgMatches, Command, Error};
+use pesp_limits::{jobs_of, period_within};
 use pesp_problem::{MOST_PERIOD, MOST_STEPS};
 use std::alloc::{AllocError, Global};
 
@@ -257,10 +257,7 @@ fn period_of(matches: &ArgMatches<'_>) -> u32
     ensures least { 1 ≤ result }
     ensures greatest { result ≤ MOST_PERIOD }
 {
-    matches
-        .get_one::<u32>("period")
-        .unwrap_or(60)
-        .clamp(1, MOST_PERIOD)
+    period_within(matches.get_one::<u32>("period"))
 }
 
 fn steps_of(matches: &ArgMatches<'_>) -> u32

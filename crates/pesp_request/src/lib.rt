@@ -2,7 +2,6 @@
 #![tactic(auto)]
 
 mod command;
-mod jobs;
 mod options;
 mod request;
 

@@ -1,22 +1,29 @@
-//! A desk at which the program runs: its standard input is a text, and what it writes and tells is kept. Files and the clock are
-//! the test's own.
+//! A desk at which the program runs: its standard input is a text, its files are those of a case, and what it writes and tells is
+//! kept. There is no clock.
 
+use crate::devices::Device;
+use crate::drain::Drain;
+use crate::feed::Feed;
+use crate::given::{device_of, has_file, text_of};
+use crate::page::{Page, refused};
 use std::alloc::{Allocator, Global};
 use std::cell::RefCell;
 use std::fmt::Display;
 use std::fs::{Metadata, OpenOptions};
 use std::io;
-use std::io::{BufRead, Error, ErrorKind, Lines};
+use std::io::{BufRead, Error, ErrorKind, Lines, Write};
 use std::rt::{Clock, Files};
 use std::time::Duration;
 
-/// The text of standard input, and what went to standard output and to standard error.
+/// The lines of a case, standard input, and what went to standard output and to standard error.
 #[derive(Drop)]
-pub(crate) struct Desk<'a, R> {
-    rt: &'a R,
+pub(crate) struct Desk<'a> {
+    alloc: Global,
+    lines: &'a [&'a str],
     input: &'a [u8],
-    written: RefCell<Vec<u8>>,
-    told: RefCell<Vec<u8>>,
+    device: Device,
+    written: RefCell<Drain>,
+    told: RefCell<Drain>,
 }
 
 /// What went out.
@@ -26,19 +33,28 @@ pub(crate) struct Pages {
     pub(crate) told: Vec<u8>,
 }
 
-/// Adds bytes to what went out.
-fn keep(page: &RefCell<Vec<u8>>, bytes: &[u8]) -> io::Result<()> {
+/// Writes some bytes.
+fn write_some(page: &RefCell<Drain>, bytes: &[u8]) -> io::Result<usize> {
     let Ok(mut page) = page.try_borrow_mut() else {
         return Err(Error::from(ErrorKind::Other));
     };
-    page.extend_from_slice(bytes)?;
+    let count = page.write(bytes)?;
+    Ok(count.min(bytes.len()))
+}
+
+/// Adds bytes to what went out, whatever the device.
+fn keep(page: &RefCell<Drain>, bytes: &[u8]) -> io::Result<()> {
+    let Ok(mut page) = page.try_borrow_mut() else {
+        return Err(Error::from(ErrorKind::Other));
+    };
+    page.taken.extend_from_slice(bytes)?;
     Ok(())
 }
 
 /// Adds a value's text and an end to what went out.
 fn keep_text<D: Display + Drop>(
     alloc: Global,
-    page: &RefCell<Vec<u8>>,
+    page: &RefCell<Drain>,
     value: D,
     end: &str,
 ) -> io::Result<()> {
@@ -48,128 +64,149 @@ fn keep_text<D: Display + Drop>(
     keep(page, text.as_bytes())
 }
 
-impl<'a, R: AllocGlobal> Desk<'a, R> {
-    /// A desk where nothing went out yet.
-    pub(crate) fn new(rt: &'a R, input: &'a [u8]) -> Desk<'a, R> {
-        Desk {
-            rt,
+impl<'a> Desk<'a> {
+    /// The desk of a case where nothing went out yet, with standard input and its device.
+    pub(crate) fn new(
+        alloc: Global,
+        lines: &'a [&'a str],
+        input: &'a [u8],
+        device: Device,
+    ) -> Option<Desk<'a>> {
+        let output = device_of(alloc, lines, "output")?;
+        Some(Desk {
+            alloc,
+            lines,
             input,
-            written: RefCell::new(Vec::new(rt.alloc())),
-            told: RefCell::new(Vec::new(rt.alloc())),
-        }
+            device,
+            written: RefCell::new(Drain::new(alloc, output)),
+            told: RefCell::new(Drain::new(alloc, Device::whole())),
+        })
     }
 
     /// What went out.
     pub(crate) fn pages(self) -> Pages {
         let Desk { written, told, .. } = self;
         Pages {
-            written: written.into_inner(),
-            told: told.into_inner(),
+            written: written.into_inner().taken,
+            told: told.into_inner().taken,
         }
     }
 }
 
-impl<R: AllocGlobal> Alloc for Desk<'_, R> {
+impl Alloc for Desk<'_> {
     type A = Global;
 
     fn alloc(&self) -> Global {
-        self.rt.alloc()
+        self.alloc
     }
 }
 
-impl<R: AllocGlobal> Print for Desk<'_, R> {
+impl Print for Desk<'_> {
     fn print<D: Display + Drop>(&self, value: D) -> io::Result<()> {
-        keep_text(self.rt.alloc(), &self.written, value, "")
+        keep_text(self.alloc, &self.written, value, "")
     }
 
     fn println<D: Display + Drop>(&self, value: D) -> io::Result<()> {
-        keep_text(self.rt.alloc(), &self.written, value, "\n")
+        keep_text(self.alloc, &self.written, value, "\n")
     }
 
     fn write_all(&self, bytes: &[u8]) -> io::Result<()> {
         keep(&self.written, bytes)
     }
+
+    fn write_some(&self, bytes: &[u8]) -> io::Result<usize> {
+        write_some(&self.written, bytes)
+    }
 }
 
-impl<R: AllocGlobal> Eprint for Desk<'_, R> {
+impl Eprint for Desk<'_> {
     fn eprint<D: Display + Drop>(&self, value: D) -> io::Result<()> {
-        keep_text(self.rt.alloc(), &self.told, value, "")
+        keep_text(self.alloc, &self.told, value, "")
     }
 
     fn eprintln<D: Display + Drop>(&self, value: D) -> io::Result<()> {
-        keep_text(self.rt.alloc(), &self.told, value, "\n")
+        keep_text(self.alloc, &self.told, value, "\n")
     }
 }
 
-impl<'a, R> Input for Desk<'a, R> {
-    type Reader = &'a [u8];
+impl<'a> Input for Desk<'a> {
+    type Reader = Feed<'a>;
 
     fn read_line<A: Allocator + Clone>(&self, buf: &mut String<A>) -> io::Result<usize> {
         let mut rest = self.input;
         rest.read_line(buf)
     }
 
-    fn lines<A: Allocator>(&self, alloc: A) -> Lines<&'a [u8], A> {
-        self.input.lines(alloc)
+    fn lines<A: Allocator>(&self, alloc: A) -> Lines<Feed<'a>, A> {
+        self.reader().lines(alloc)
     }
 
-    fn reader(&self) -> &'a [u8] {
-        self.input
+    fn reader(&self) -> Feed<'a> {
+        Feed::new(self.input, self.device)
     }
 }
 
-impl<R: Clock> Clock for Desk<'_, R> {
+impl Clock for Desk<'_> {
     fn monotonic(&self) -> io::Result<Duration> {
-        self.rt.monotonic()
+        Err(refused())
     }
 
     fn since_1970(&self) -> io::Result<Duration> {
-        self.rt.since_1970()
+        Err(refused())
     }
 }
 
-impl<R: Files> Files for Desk<'_, R> {
-    type File = R::File;
+impl Files for Desk<'_> {
+    type File = Page;
 
-    type Dir = R::Dir;
+    type Dir = Page;
 
-    fn open_file(&self, how: &OpenOptions, path: &str) -> io::Result<R::File> {
-        self.rt.open_file(how, path)
+    fn open_file(&self, _how: &OpenOptions, path: &str) -> io::Result<Page> {
+        if !has_file(self.lines, path) {
+            return Err(Error::from(ErrorKind::NotFound));
+        }
+        let Some(text) = text_of(self.alloc, self.lines, path) else {
+            return Err(Error::from(ErrorKind::OutOfMemory));
+        };
+        match device_of(self.alloc, self.lines, path) {
+            Some(device) => Ok(Page::new(text, device)),
+            None => Err(Error::from(ErrorKind::Other)),
+        }
     }
 
-    fn open_dir(&self, path: &str) -> io::Result<R::Dir> {
-        self.rt.open_dir(path)
+    fn open_dir(&self, _path: &str) -> io::Result<Page> {
+        Err(refused())
     }
 
-    fn metadata(&self, path: &str) -> io::Result<Metadata> {
-        self.rt.metadata(path)
+    fn metadata(&self, _path: &str) -> io::Result<Metadata> {
+        Err(refused())
     }
 
-    fn symlink_metadata(&self, path: &str) -> io::Result<Metadata> {
-        self.rt.symlink_metadata(path)
+    fn symlink_metadata(&self, _path: &str) -> io::Result<Metadata> {
+        Err(refused())
     }
 
-    fn copy(&self, from: &str, to: &str) -> io::Result<u64> {
-        self.rt.copy(from, to)
+    fn copy(&self, _from: &str, _to: &str) -> io::Result<u64> {
+        Err(refused())
     }
 
-    fn rename(&self, from: &str, to: &str) -> io::Result<()> {
-        self.rt.rename(from, to)
+    fn rename(&self, _from: &str, _to: &str) -> io::Result<()> {
+        Err(refused())
     }
 
-    fn remove_file(&self, path: &str) -> io::Result<()> {
-        self.rt.remove_file(path)
+    fn remove_file(&self, _path: &str) -> io::Result<()> {
+        Err(refused())
     }
 
-    fn create_dir(&self, path: &str) -> io::Result<()> {
-        self.rt.create_dir(path)
+    fn create_dir(&self, _path: &str) -> io::Result<()> {
+        Err(refused())
     }
 
-    fn remove_dir(&self, path: &str) -> io::Result<()> {
-        self.rt.remove_dir(path)
+    fn remove_dir(&self, _path: &str) -> io::Result<()> {
+        Err(refused())
     }
 
-    fn remove_dir_all<B: Allocator>(&self, alloc: B, path: &str) -> io::Result<()> {
-        self.rt.remove_dir_all(alloc, path)
+    fn remove_dir_all<B: Allocator>(&self, _alloc: B, _path: &str) -> io::Result<()> {
+        Err(refused())
     }
 }

@@ -25,7 +25,7 @@ impl Write for Drain {
             return if self.device.takes_none {
                 Ok(0)
             } else {
-                Err(Error::from(ErrorKind::BrokenPipe))
+                Err(Error::from(ErrorKind::Other))
             };
         }
         self.device.calls -= 1;
@@ -39,13 +39,20 @@ impl Write for Drain {
     }
 }
 
-/// The writer on a device.
+impl Drain {
+    /// The writer on a device.
+    pub(crate) fn new(alloc: Global, device: Device) -> Drain {
+        Drain {
+            taken: Vec::new(alloc),
+            device,
+        }
+    }
+}
+
+/// The same writer, counted.
 pub(crate) fn drain_of(alloc: Global, device: Device) -> Counted<Drain>
     ensures failed { result.calls.failed ≡ 0 }
     ensures interrupted { result.calls.interrupted ≡ 0 }
 {
-    Counted::new(Drain {
-        taken: Vec::new(alloc),
-        device,
-    })
+    Counted::new(Drain::new(alloc, device))
 }

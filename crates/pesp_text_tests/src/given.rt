@@ -5,13 +5,23 @@ use crate::pieces::{add_piece, is_piece};
 use pesp_cases::{small, split_word, words_of};
 use std::alloc::Global;
 
-/// The text whose pieces stand behind the line of this name, `instance`, `base` or `input`.
+/// Whether a line is the head of a file of this name: `instance`, `base`, `names` and `input` alone, others behind `file`.
+fn is_head(line: &str, name: &str) -> bool {
+    line == name || split_word(line) == ("file", name)
+}
+
+/// Whether a case has a file of this name.
+pub(crate) fn has_file(lines: &[&str], name: &str) -> bool {
+    lines.iter().any(|line| is_head(line, name))
+}
+
+/// The text whose pieces stand behind the head of this name.
 pub(crate) fn text_of(alloc: Global, lines: &[&str], name: &str) -> Option<Vec<u8>> {
     let mut bytes = Vec::new(alloc);
     let mut within = false;
     for line in lines {
         if !is_piece(line) {
-            within = *line == name;
+            within = is_head(line, name);
         } else if within {
             add_piece(alloc, &mut bytes, line)?;
         }
@@ -58,28 +68,4 @@ pub(crate) fn device_of(alloc: Global, lines: &[&str], name: &str) -> Option<Dev
         Some(numbers) => read_device(&words_of(alloc, numbers)?),
         None => Some(Device::whole()),
     }
-}
-
-/// What a run over two texts is given: an instance and what stands behind the line `input`, the devices of both and of the
-/// output, and the period.
-#[derive(Drop)]
-pub(crate) struct Given {
-    pub(crate) first: Device,
-    pub(crate) second: Device,
-    pub(crate) output: Device,
-    pub(crate) period: u32,
-    pub(crate) instance: Vec<u8>,
-    pub(crate) input: Vec<u8>,
-}
-
-/// What the lines of a case give to a run over two texts.
-pub(crate) fn given_by(alloc: Global, lines: &[&str]) -> Option<Given> {
-    Some(Given {
-        first: device_of(alloc, lines, "instance")?,
-        second: device_of(alloc, lines, "input")?,
-        output: device_of(alloc, lines, "output")?,
-        period: period_of(lines)?,
-        instance: text_of(alloc, lines, "instance")?,
-        input: text_of(alloc, lines, "input")?,
-    })
 }

@@ -4,7 +4,7 @@ use crate::devices::Device;
 use crate::drain::drain_of;
 use crate::given::{device_of, text_of};
 use crate::instances::{instance_of, times_of};
-use crate::told_lines::joined;
+use crate::programs::joined;
 use pesp_cases::spell_list;
 use pesp_instance::Instance;
 use pesp_report::{ReportRefusal, read_times, report};

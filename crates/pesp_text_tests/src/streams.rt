@@ -4,7 +4,7 @@ use crate::devices::Device;
 use crate::drain::{Drain, drain_of};
 use crate::feed::feed_of;
 use crate::given::{device_of, text_of};
-use crate::told_lines::joined;
+use crate::programs::joined;
 use pesp_stream::{Bytes, print_to, read_all};
 use pesp_text::Lines;
 use std::alloc::Global;

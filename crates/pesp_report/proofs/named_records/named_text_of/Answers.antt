@@ -1,5 +1,5 @@
 use Rattle.std.proofs.Common.{◌∙◌, sym, refl, [], map}
-use Rattle.pesp_names.specs.Naming.{name_of}
+use Rattle.pesp_report.specs.Naming.{name_of}
 use Rattle.pesp_report.specs.Named.{named_header, named_fields, named_total}
 use Rattle.pesp_report.specs.Written.{HasWritten}
 use Rattle.pesp_report.proofs.Order.{keeps-known, records-whole}

@@ -1,7 +1,7 @@
 use Rattle.std.proofs.Common.{◌++◌, ◌<◌, arith, take, map, length, get_or, append_assoc, List, ℕ, pos}
 use Rattle.std.proofs.lemmas.List.{take_all}
 use Rattle.csv.specs.Writing.{default_writer, row_text}
-use Rattle.pesp_names.specs.Naming.{name_of}
+use Rattle.pesp_report.specs.Naming.{name_of}
 use Rattle.pesp_report.specs.Named.{named_fields}
 use Rattle.pesp_report.specs.Report.{records_text}
 use Rattle.pesp_report.specs.declared.line.Line.{Line}

@@ -1,5 +1,5 @@
 use Rattle.std.proofs.Common.{ℕ, List, ◌++◌, map, take}
-use Rattle.pesp_names.specs.Naming.{name_of}
+use Rattle.pesp_report.specs.Naming.{name_of}
 use Rattle.pesp_report.specs.Named.{named_fields}
 use Rattle.pesp_report.specs.Report.{records_text}
 use Rattle.pesp_report.specs.Written.{HasWritten}

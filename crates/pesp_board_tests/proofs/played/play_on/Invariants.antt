@@ -1,5 +1,0 @@
-use Rattle.pesp_machine.specs.Certificates.{IsProblemOf}
-use Rattle.pesp_board_tests.proofs.played.play_on.Given as goal
-
-abbrev pub invariant-loop-line : goal.invariant-loop-line
-invariant-loop-line l = IsProblemOf l.instance l.board.problem

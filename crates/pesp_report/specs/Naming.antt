@@ -1,0 +1,24 @@
+-- The names of events.
+use Rattle.std.specs.Prelude.{ℕ, ℤ, List, [], Option, Some, None, slice_get, string_bytes}
+use Rattle.std.specs.Ordering.{int_eq}
+use Rattle.indexmap.specs.IndexMap.{get}
+use Rattle.pesp_report.specs.declared.names.Name.{Name}
+use Rattle.pesp_report.specs.declared.names.Names.{Names}
+
+-- what stands at a place, if there is one
+abbrev pub told_at : List Name → Option ℕ → Option Name
+told_at entries None = None
+told_at entries (Some place) = slice_get entries place
+
+-- what is told of the event with this label, if something is
+abbrev pub told_of : Names → ℤ → Option Name
+told_of names event = told_at names.entries.items (get int_eq names.places event)
+
+-- a name as bytes; none where nothing is told
+abbrev pub bytes_of : Option Name → List ℕ
+bytes_of None = []
+bytes_of (Some name) = string_bytes name.name
+
+-- the name of the event with this label, as bytes
+abbrev pub name_of : Names → ℤ → List ℕ
+name_of names event = bytes_of (told_of names event)

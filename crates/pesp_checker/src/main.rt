@@ -4,6 +4,7 @@
 
 mod program;
 mod request;
+mod telling;
 
 use program::exit_of_program;
 use std::process::ExitCode;

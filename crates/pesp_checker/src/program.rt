@@ -1,12 +1,15 @@
 //! The program, over any runtime.
 
-ghost use Rattle.std.specs.Prelude.{◌≡◌, ◌<◌, ◌≤◌, ◌^◌, IfOk};
+ghost use Rattle.std.specs.Prelude.{◌≡◌, ◌≢◌, ◌<◌, ◌^◌, IfOk, IfErr};
 ghost use Rattle.pesp_stream.specs.Counts.{FewerThan};
-ghost use Rattle.pesp_checker.specs.Statuses.{TellsVerdict};
+ghost use Rattle.pesp_check_run.specs.Devices.{over};
+ghost use Rattle.pesp_checker.specs.Statuses.{Answers, AnswersRequest, GivesVerdict, NoVerdictCause};
 
 use crate::request::{Request, USAGE, request_of};
-use pesp_check_run::{VerdictFault, run_check, status_of, status_of_verdict};
-use pesp_stream::{Counted, Source};
+use crate::telling::told;
+use pesp_check_run::{VerdictFault, run_check, status_of_verdict};
+use pesp_stream::{Counted, Sink, Source};
+use pesp_telling::{tell, teller_of};
 use std::fs::File;
 use std::process::ExitCode;
 use std::rt::{Env, Files};
@@ -20,58 +23,119 @@ pub(crate) fn exit_of_program<R: AllocGlobal + Env + Input + Print + Eprint + Fi
     let words = match env::args(rt) {
         Ok(args) => args.collect::<Vec<String>>(rt.alloc()),
         Err(error) if error.kind() == io::ErrorKind::OutOfMemory => {
-            return ExitCode::from(told(rt, &VerdictFault::Memory));
+            return ExitCode::from(stopped(rt));
         }
         // A word that is no text.
         Err(_) => return ExitCode::from(2),
     };
     match words {
-        Ok(words) => ExitCode::from(status_of_words(rt, words.as_slice())),
-        Err(_) => ExitCode::from(told(rt, &VerdictFault::Memory)),
+        Ok(words) => ExitCode::from(status_over_devices(rt, words.as_slice())),
+        Err(_) => ExitCode::from(stopped(rt)),
     }
 }
 
-/// Does what the words ask for, the program's name first, and gives the exit status.
-fn status_of_words<R: AllocGlobal + Input + Print + Eprint + Files>(
+/// Tells that memory was refused, and gives the exit status.
+fn stopped<R: AllocGlobal + Eprint>(rt: &R) -> u8 {
+    told(rt.alloc(), &mut teller_of(rt), &VerdictFault::Memory)
+}
+
+/// Does what the words ask for over standard input, standard output and standard error.
+fn status_over_devices<R: AllocGlobal + Input + Print + Eprint + Files>(
     rt: &R,
     words: &[String],
 ) -> u8 {
-    let Some(Request { period, file }) = request_of(words) else {
-        let _ = rt.eprintln(USAGE);
-        return 2;
-    };
     let mut reader = Counted::new(rt.reader());
-    match check(rt, &mut reader, period, file) {
-        Ok(status) => status,
-        Err(fault) => told(rt, &fault),
+    let mut writer = Counted::new(io::writer(rt));
+    status_of_words(rt, &mut reader, &mut writer, &mut teller_of(rt), words)
+}
+
+/// Does what the words ask for, the program's name first, and gives the exit status: 2 where they ask for nothing.
+fn status_of_words<R: AllocGlobal + Files, S: Source, W: Sink, E: Sink>(
+    rt: &R,
+    reader: &mut S,
+    writer: &mut W,
+    teller: &mut E,
+    words: &[String],
+) -> u8
+    requires reads_fit { FewerThan (2 ^ 62) (S.calls reader.old) }
+    requires writes_fit { FewerThan (2 ^ 62) (W.calls writer.old) }
+    requires tellings_fit { FewerThan (2 ^ 62) (E.calls teller.old) }
+    ensures { Answers
+        (over (S.remaining reader.old) (S.remaining reader.new)
+        (S.calls reader.old) (S.calls reader.new))
+        (over (W.contents writer.old) (W.contents writer.new)
+        (W.calls writer.old) (W.calls writer.new))
+        (over (E.contents teller.old) (E.contents teller.new)
+        (E.calls teller.old) (E.calls teller.new))
+        (reader.new ≡ reader.old) (writer.new ≡ writer.old) result }
+{
+    match request_of(words) {
+        Some(request) => status_of_request(rt, reader, writer, teller, request),
+        None => {
+            tell(teller, &USAGE);
+            2
+        }
     }
 }
 
-/// Prints the fault's line, and gives its exit status whether or not the line went out.
-fn told<R: Eprint>(rt: &R, fault: &VerdictFault) -> u8 {
-    let _ = rt.eprintln(fault);
-    status_of(fault)
-}
-
-/// Judges the certificate that the reader gives, for the instance in the file: the status is the verdict's.
-fn check<R: AllocGlobal + Print + Files, S: Source>(
+/// Judges the certificate that the reader gives, for the instance in a file, tells the fault that stops it, and gives the exit
+/// status.
+fn status_of_request<R: AllocGlobal + Files, S: Source, W: Sink, E: Sink>(
     rt: &R,
     reader: &mut S,
-    period: u32,
-    file: &str,
-) -> Result<u8, VerdictFault>
-    requires fits { FewerThan (2 ^ 62) (S.calls reader.old) }
-    ensures verdict { IfOk result
-        (TellsVerdict (S.remaining reader.old) (S.remaining reader.new) period) }
+    writer: &mut W,
+    teller: &mut E,
+    request: Request<'_>,
+) -> u8
+    requires reads_fit { FewerThan (2 ^ 62) (S.calls reader.old) }
+    requires writes_fit { FewerThan (2 ^ 62) (W.calls writer.old) }
+    requires tellings_fit { FewerThan (2 ^ 62) (E.calls teller.old) }
+    ensures { AnswersRequest request.entry.period
+        (over (S.remaining reader.old) (S.remaining reader.new)
+        (S.calls reader.old) (S.calls reader.new))
+        (over (W.contents writer.old) (W.contents writer.new)
+        (W.calls writer.old) (W.calls writer.new))
+        (over (E.contents teller.old) (E.contents teller.new)
+        (E.calls teller.old) (E.calls teller.new))
+        (reader.new ≡ reader.old) (writer.new ≡ writer.old) result }
 {
-    let mut instance = Counted::new(opened(rt, file)?);
-    let mut writer = Counted::new(io::writer(rt));
-    let verdict = run_check(rt.alloc(), &mut instance, reader, &mut writer, period)?;
+    match check(rt, reader, writer, request) {
+        Ok(status) => status,
+        Err(fault) => told(rt.alloc(), teller, &fault),
+    }
+}
+
+/// Judges the certificate that the reader gives, for the instance in a file: the status is the verdict's.
+fn check<R: AllocGlobal + Files, S: Source, W: Sink>(
+    rt: &R,
+    reader: &mut S,
+    writer: &mut W,
+    request: Request<'_>,
+) -> Result<u8, VerdictFault>
+    requires reads_fit { FewerThan (2 ^ 62) (S.calls reader.old) }
+    requires writes_fit { FewerThan (2 ^ 62) (W.calls writer.old) }
+    ensures verdict { IfOk result (GivesVerdict request.entry.period
+        (over (S.remaining reader.old) (S.remaining reader.new)
+        (S.calls reader.old) (S.calls reader.new))
+        (over (W.contents writer.old) (W.contents writer.new)
+        (W.calls writer.old) (W.calls writer.new))) }
+    ensures cause { IfErr result (λ fault. NoVerdictCause fault request.entry.period
+        (over (S.remaining reader.old) (S.remaining reader.new)
+        (S.calls reader.old) (S.calls reader.new))
+        (over (W.contents writer.old) (W.contents writer.new)
+        (W.calls writer.old) (W.calls writer.new))
+        (reader.new ≡ reader.old)) }
+    ensures silent { IfErr result (λ fault. fault ≢ VerdictFault.Write → writer.new ≡ writer.old) }
+{
+    let mut instance = Counted::new(opened(rt, request.file)?);
+    let verdict = run_check(rt.alloc(), &mut instance, reader, writer, request.period)?;
     Ok(status_of_verdict(verdict))
 }
 
 /// Opens a file; where it can't be opened for any cause, that is told.
-fn opened<R: Files>(rt: &R, file: &str) -> Result<R::File, VerdictFault> {
+fn opened<R: Files>(rt: &R, file: &str) -> Result<R::File, VerdictFault>
+    ensures { IfErr result (λ fault. fault ≡ VerdictFault.NoFile) }
+{
     match File::open(rt, file) {
         Ok(opened) => Ok(opened),
         Err(_) => Err(VerdictFault::NoFile),

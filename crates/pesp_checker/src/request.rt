@@ -10,7 +10,8 @@ usage: pesp_checker [--period N] FILE < CERTIFICATE
 Says whether the certificate is valid for the instance in FILE, as `pesp check` does.
 N is the period, 1 to 10000, in the unit of the durations; 60 where none is given.
 Exit status: 0 accepted; 1 refused; 2 the command line; 3 a text is refused; 4 memory
-or a device";
+or a device
+";
 
 /// The period, in the unit of the instance's durations, and the file with the instance.
 #[derive(Drop)]

@@ -9,14 +9,17 @@ use Rattle.pesp_problem.specs.Walks.{Names}
 use Rattle.pesp_truth.specs.declared.answer.Answer.{Answer}
 use Rattle.pesp_truth.specs.declared.answer.Answer.TheVariants.{Optimal, Infeasible, Bounded}
 use Rattle.pesp_truth.specs.Truth.{IsTrueAnswer, HasNoTimetable}
-use Rattle.pesp_truth.specs.Certificates.{Content, ShowsAnswer, cost_of, shown_times, shown_labels}
+use Rattle.pesp_truth.specs.Certificates.{Content, IsValid, ShowsAnswer, cost_of, shown_times, shown_labels}
 use Rattle.pesp_truth.proofs.Certificates.{valid_is_true}
 use Rattle.pesp_conflict_laws.specs.Conflicts.{KeepsRows, only_rows, unweighted, chosen}
 use Rattle.pesp_conflict_laws.specs.Used.{UsesOnly}
 use Rattle.pesp_conflict_laws.proofs.Choosing.{only_rows_are_kept, conflict_is_none, chosen_conflict}
 use Rattle.pesp_conflict_laws.proofs.Using.{used_rows_conflict}
-use Rattle.pesp_conflict.specs.Findings.{IsConflict}
-use Rattle.pesp_conflict.specs.Insides.{IsToldBy, IsPart, AreFit}
+use Rattle.pesp_search.specs.Solving.{IsSolved}
+use Rattle.pesp_conflict.specs.Findings.{IsConflict, IsOpenOver, AreFit}
+use Rattle.pesp_conflict.specs.Insides.{IsToldBy, IsPart, IsDecision, IsOpenWithout}
+use Rattle.pesp_conflict.specs.declared.decision.Decision.{Decision}
+use Rattle.pesp_conflict.specs.declared.decision.Decision.TheVariants as decisions
 
 -- ---- the listed rows that are used
 
@@ -78,3 +81,28 @@ kept_by_shown p listed content c told e = (
   shown_times content,
   shown_keep p listed content.answer c (shown_labels content) (shown_times content) e told.valid.answer,
 )
+
+-- ---- what a search over the listed rows decides
+
+open_over : (p part : Pesp) (listed : List ℕ) (steps used : ℕ) (content : Content) → part ≡ only_rows p listed
+    → IsSolved part steps used content → IsOpenWithout content → IsOpenOver p steps listed
+open_over p part listed steps used content is solved without =
+    let all = solved.finished (rw (without.1) tt) in record {
+      content = content;
+      solved = subst (λ (n : ℕ). IsSolved (only_rows p listed) steps n content) all
+          (subst (λ (q : Pesp). IsSolved q steps used content) is solved);
+      least = without.0;
+      answer = without.1;
+    }
+
+pub decided_over : (p part : Pesp) (listed : List ℕ) (steps used : ℕ) (content : Content) (d : Decision)
+    → part ≡ only_rows p listed → IsSolved part steps used content → IsDecision p listed (IsOpenWithout content) d
+    → IsDecision p listed (IsOpenOver p steps listed) d
+decided_over p part listed steps used content (decisions.Conflict rows) is solved d = d
+decided_over p part listed steps used content decisions.Timetable is solved d = d
+decided_over p part listed steps used content decisions.Undecided is solved d = open_over p part listed steps used content is solved d
+
+pub told_of_part : (p part : Pesp) (listed : List ℕ) (content : Content) → 0 < p.period → AreFit p listed
+    → part ≡ only_rows p listed → IsValid part content → IsToldBy p listed content
+told_of_part p part listed content some fit is valid =
+    record { some_period = some; fit = fit; valid = subst (λ (q : Pesp). IsValid q content) is valid }

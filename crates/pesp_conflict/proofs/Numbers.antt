@@ -1,10 +1,14 @@
 -- Lists that have all numbers from 1 up to some number.
-use Rattle.std.proofs.Common.{◌≡◌, ℕ, ◌+◌, ◌≤◌, ◌<◌, ◌⊎◌, inl, inr, List, [], ◌∷◌, ◌++◌, length, get_or, refl, subst, sym, ap, ◌∙◌, arith}
+use Rattle.std.proofs.Common.{◌≡◌, ℕ, ◌+◌, ◌≤◌, ◌<◌, ◌⊎◌, inl, inr, ◌-◌, List, [], ◌∷◌, ◌++◌, length, get_or, refl, subst, sym, ap, ◌∙◌, arith}
 use Rattle.std.specs.Prelude.{Contains, All, slice_index}
-use Rattle.std.proofs.lemmas.List.{get_or_push, get_or_default, length_push}
-use Rattle.std.proofs.lemmas.List.Elements.{Contains-append_left, All-from_get_or}
+use Rattle.std.proofs.lemmas.Bool.{cases_lt}
+use Rattle.std.proofs.lemmas.Grind.{common_steps}
+use Rattle.std.proofs.lemmas.List.{get_or_push, get_or_default, get_or-append_right, length_push}
+use Rattle.std.proofs.lemmas.List.Elements.{Contains-append_left, All-from_get_or, All-nil, All-push, All-weaker, All-get_or}
+use Rattle.std.specs.List.Sorted.{IsStrictlyIncreasing}
 use Rattle.pesp_problem.specs.Walks.{Names}
 use Rattle.pesp_problem.proofs.Integers.{lt-or-same}
+use Rattle.pesp_conflict.specs.Findings.{AreAll}
 
 -- all numbers from 1 to n
 abbrev pub HasFirst : List ℕ → ℕ → Type 0
@@ -36,6 +40,38 @@ pub has_pushed : (xs : List ℕ) (n : ℕ) → HasFirst xs n → HasFirst (xs ++
 has_pushed xs n h = has_more (xs ++ (n + 1) ∷ []) n
     (λ row names. Contains-append_left xs ((n + 1) ∷ []) row (h row names))
     (length xs, omega (arith, length_push xs (n + 1)), get_or_push xs (n + 1) (n + 1) (length xs) refl)
+
+-- ---- all numbers from 1 up to some number, which rise
+
+get_or-append_left : (xs ys : List ℕ) (i : ℕ) → i < length xs → get_or (xs ++ ys) i 0 ≡ get_or xs i 0
+get_or-append_left xs ys i h = grind (arith, common_steps)
+
+rising_push : (xs : List ℕ) (v : ℕ) → IsStrictlyIncreasing xs → All (λ x. x < v) xs → IsStrictlyIncreasing (xs ++ v ∷ [])
+rising_push xs v r a k h =
+    let l = length_push xs v in
+    let here = get_or-append_left xs (v ∷ []) k (omega arith) in
+    elim (cases_lt (k + 1) (length xs)) [
+      | inl w ↦ let next = get_or-append_left xs (v ∷ []) (k + 1) w in let q = r k w in omega arith
+      | inr w ↦
+          let e : k + 1 - length xs ≡ 0 = omega arith in
+          let next = get_or-append_right xs (v ∷ []) (length xs) (k + 1) 0 refl (omega arith) ∙ ap (λ i. get_or (v ∷ []) i 0) e in
+          let q = All-get_or (λ x. x < v) xs k 0 (omega arith) a in omega arith
+    ]
+
+pub none_are_all : AreAll 0 []
+none_are_all = record { rising = λ k h. absurd (omega arith); named = All-nil (Names 0); all = has_none [] }
+
+pub more_are_all : (xs : List ℕ) (n : ℕ) → AreAll n xs → AreAll (n + 1) (xs ++ (n + 1) ∷ [])
+more_are_all xs n h = record {
+  rising = rising_push xs (n + 1) h.rising
+      (All-weaker (Names n) (λ x. x < n + 1) (λ x names. (omega (arith, names))) xs h.named);
+  named = All-push (Names (n + 1)) xs (n + 1)
+      (All-weaker (Names n) (Names (n + 1)) (λ x names. (names.0, omega (arith, names))) xs h.named)
+      (omega arith, omega arith);
+  all = has_pushed xs n h.all;
+}
+
+-- ---- numbers that are among others
 
 -- the first numbers of some are in a list
 abbrev pub AreAmong : List ℕ → List ℕ → ℕ → Type 0

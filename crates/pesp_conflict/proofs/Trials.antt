@@ -6,6 +6,7 @@ use Rattle.std.proofs.lemmas.List.Elements.{All-contains, All-append, All-cons, 
 use Rattle.pesp_problem.specs.declared.row.Row.{Row}
 use Rattle.pesp_problem.specs.Timetables.{Pesp, no_row, row_at, IsSatisfied, IsTimetable}
 use Rattle.pesp_conflict_laws.specs.Conflicts.{KeepsRow, KeepsRows, IsNeeded}
+use Rattle.pesp_conflict.specs.Findings.{AreAll, IsOpenOver}
 use Rattle.pesp_conflict.specs.Insides.{IsDecision, IsFirst}
 use Rattle.pesp_conflict.specs.declared.decision.Decision.{Decision}
 use Rattle.pesp_conflict.specs.declared.decision.Decision.TheVariants as decisions
@@ -55,10 +56,11 @@ one_more_needed p listed needed row all one = All-append (IsNeeded p listed) nee
     (All-cons (IsNeeded p listed) row [] one (All-nil (IsNeeded p listed)))
 
 -- what is decided of all rows is decided of the instance
-pub first_is : (p : Pesp) (rows : List ℕ) (d : Decision) → HasFirst rows (length p.rows) → IsDecision p rows d → IsFirst p d
-first_is p rows (decisions.Conflict listed) has is = is.0
-first_is p rows decisions.Timetable has is = (is.0, keeps_all p rows is.0 has is.1)
-first_is p rows decisions.Undecided has is = tt
+pub first_is : (p : Pesp) (steps : ℕ) (rows : List ℕ) (d : Decision) → AreAll (length p.rows) rows
+    → IsDecision p rows (IsOpenOver p steps rows) d → IsFirst p steps d
+first_is p steps rows (decisions.Conflict listed) all is = is.0
+first_is p steps rows decisions.Timetable all is = (is.0, keeps_all p rows is.0 all.all is.1)
+first_is p steps rows decisions.Undecided all is = record { rows = rows; all = all; searched = is }
 
 pub if_ok : {A E : Type 0} (r : Result A E) (P Q : A → Type 0) → IfOk r P → ((a : A) → P a → Q a) → IfOk r Q
 if_ok (Ok a) P Q h f = f a h

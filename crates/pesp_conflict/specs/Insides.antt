@@ -1,21 +1,16 @@
 -- What is known while rows are left out.
-use Rattle.std.specs.Prelude.{◌≡◌, ⊤, ℕ, ◌<◌, List, length, All, Contains, true}
-use Rattle.std.specs.List.Sorted.{IsStrictlyIncreasing}
+use Rattle.std.specs.Prelude.{◌≡◌, ⊤, ℕ, ◌<◌, List, All, Contains, true, None}
 use Rattle.pesp_problem.specs.Timetables.{Pesp, IsTimetable}
-use Rattle.pesp_problem.specs.Walks.{Names}
+use Rattle.pesp_truth.specs.declared.answer.Answer.TheVariants.{Bounded}
 use Rattle.pesp_truth.specs.Certificates.{Content, IsValid}
 use Rattle.pesp_conflict_laws.specs.Conflicts.{KeepsRows, AreInConflict, IsNeeded, only_rows}
-use Rattle.pesp_conflict.specs.Findings.{IsConflict}
+use Rattle.pesp_conflict.specs.Findings.{IsConflict, IsUndecided, AreFit}
 use Rattle.pesp_conflict.specs.declared.finding.Conflict.{Conflict}
 use Rattle.pesp_conflict.specs.declared.decision.Decision.{Decision}
 use Rattle.pesp_conflict.specs.declared.decision.Decision.TheVariants as decisions
 use Rattle.pesp_conflict.specs.declared.attempts.Trial.{Trial}
 use Rattle.pesp_conflict.specs.declared.attempts.Trial.TheVariants as trials
 use Rattle.pesp_conflict.specs.declared.known.Known.{Known}
-
--- the numbers rise and name rows
-abbrev pub AreFit : Pesp → List ℕ → Type 0
-AreFit p listed = IsStrictlyIncreasing listed × All (Names (length p.rows)) listed
 
 -- the certificate is valid for the instance that has the listed rows alone
 pub record IsToldBy (p : Pesp) (listed : List ℕ) (content : Content) : Type 0 where
@@ -27,11 +22,15 @@ pub record IsToldBy (p : Pesp) (listed : List ℕ) (content : Content) : Type 0 
 abbrev pub IsPart : Pesp → List ℕ → List ℕ → Type 0
 IsPart p listed rows = AreInConflict p rows × All (Contains listed) rows
 
--- some of the listed rows that are in conflict, or times that keep the listed rows
-abbrev pub IsDecision : Pesp → List ℕ → Decision → Type 0
-IsDecision p listed (decisions.Conflict rows) = IsConflict p rows.items × All (Contains listed) rows.items
-IsDecision p listed decisions.Timetable = (times : List ℕ) × KeepsRows p listed times
-IsDecision p listed decisions.Undecided = ⊤
+-- the answer is open without a cost
+abbrev pub IsOpenWithout : Content → Type 0
+IsOpenWithout content = (least : ℕ) × (content.answer ≡ Bounded least None)
+
+-- some of the listed rows that are in conflict, or times that keep the listed rows; else this is said
+abbrev pub IsDecision : Pesp → List ℕ → Type 0 → Decision → Type 0
+IsDecision p listed unknown (decisions.Conflict rows) = IsConflict p rows.items × All (Contains listed) rows.items
+IsDecision p listed unknown decisions.Timetable = (times : List ℕ) × KeepsRows p listed times
+IsDecision p listed unknown decisions.Undecided = unknown
 
 -- a listed row that is needed, or some of the listed rows that are in conflict
 abbrev pub IsTrial : Pesp → List ℕ → Trial → Type 0
@@ -47,8 +46,8 @@ IsKnown p known = IsConflict p known.listed.items × All (IsNeeded p known.liste
 abbrev pub IsShown : Pesp → Conflict → Type 0
 IsShown p found = IsConflict p found.rows.items × (found.each_needed ≡ true → All (IsNeeded p found.rows.items) found.rows.items)
 
--- rows that are in conflict, or a timetable of the instance
-abbrev pub IsFirst : Pesp → Decision → Type 0
-IsFirst p (decisions.Conflict rows) = IsConflict p rows.items
-IsFirst p decisions.Timetable = (times : List ℕ) × IsTimetable p times
-IsFirst p decisions.Undecided = ⊤
+-- rows that are in conflict, or a timetable of the instance, or a search that used all its steps
+abbrev pub IsFirst : Pesp → ℕ → Decision → Type 0
+IsFirst p steps (decisions.Conflict rows) = IsConflict p rows.items
+IsFirst p steps decisions.Timetable = (times : List ℕ) × IsTimetable p times
+IsFirst p steps decisions.Undecided = IsUndecided p steps

@@ -3,13 +3,13 @@
 ghost use Rattle.std.specs.Prelude.{◌≤◌, ℕ, List, IfOk, IfErr};
 ghost use Rattle.pesp_problem.specs.declared.limits.TheConstants.{MOST_STEPS};
 ghost use Rattle.pesp_problem.specs.Timetables.{Pesp};
-ghost use Rattle.pesp_search.specs.Solving.{IsSearchRefusal};
 ghost use Rattle.pesp_conflict_laws.specs.Conflicts.{KeepsRows};
+ghost use Rattle.pesp_conflict.specs.Refusals.{IsConflictRefusal};
 ghost use Rattle.pesp_conflict.specs.Findings.{IsConflict};
 ghost use Rattle.pesp_conflict.specs.Insides.{IsTrial};
 
 use crate::decided_rows::decide;
-use crate::decision::Decision;
+use crate::decision::{Decision, are_fit};
 use crate::lists::{are_among, has_others, without};
 use pesp_problem::Instance;
 use pesp_search::SolveRefusal;
@@ -55,9 +55,12 @@ pub fn try_without(
 ) -> Result<Trial, SolveRefusal>
     requires { steps ≤ MOST_STEPS }
     ensures tried { IfOk result (IsTrial instance.now listed.now) }
-    ensures refused { IfErr result (IsSearchRefusal instance.now steps) }
+    ensures refused { IfErr result (IsConflictRefusal instance.now steps) }
 {
     let rest = without(alloc, listed, group)?;
+    if !are_fit(instance, &rest) {
+        return Ok(Trial::Unknown);
+    }
     match decide(alloc, instance, &rest, steps)? {
         Decision::Timetable => Ok(needed_in(listed, group, &rest)),
         Decision::Conflict(rows) => Ok(fewer_of(listed, rows)),

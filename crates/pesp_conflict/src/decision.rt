@@ -4,7 +4,8 @@ ghost use Rattle.std.specs.Prelude.{◌≡◌, ◌≤◌, length, IfOk, IfSome, 
 ghost use Rattle.pesp_problem.specs.declared.limits.TheConstants.{MOST_ROWS};
 ghost use Rattle.pesp_problem.specs.Timetables.{Pesp};
 ghost use Rattle.pesp_truth.specs.declared.answer.Answer.TheVariants.{Infeasible};
-ghost use Rattle.pesp_conflict.specs.Insides.{IsDecision, IsPart, AreFit, IsToldBy};
+ghost use Rattle.pesp_conflict.specs.Findings.{AreFit};
+ghost use Rattle.pesp_conflict.specs.Insides.{IsDecision, IsOpenWithout, IsPart, IsToldBy};
 
 use crate::lists::{are_named, are_rising, chosen};
 use crate::used::used_rows;
@@ -46,7 +47,7 @@ fn conflict_of(
 ) -> Result<Decision, AllocError>
     requires { length listed.now ≤ MOST_ROWS }
     ensures { (p : Pesp) → IsToldBy p listed.now certificate.now
-        → certificate.now.answer ≡ Infeasible → IfOk result (IsDecision p listed.now) }
+        → certificate.now.answer ≡ Infeasible → IfOk result (IsDecision p listed.now (IsOpenWithout certificate.now)) }
 {
     match used_part(alloc, listed, certificate)? {
         Some(rows) if are_rising(&rows) => Ok(Decision::Conflict(rows)),
@@ -62,7 +63,7 @@ pub fn told_by(
 ) -> Result<Decision, AllocError>
     requires { length listed.now ≤ MOST_ROWS }
     ensures { (p : Pesp) → IsToldBy p listed.now certificate.now
-        → IfOk result (IsDecision p listed.now) }
+        → IfOk result (IsDecision p listed.now (IsOpenWithout certificate.now)) }
 {
     match certificate.answer() {
         Answer::Infeasible => conflict_of(alloc, listed, certificate),

@@ -2,7 +2,7 @@
 
 ghost use Rattle.std.specs.Prelude.{◌≤◌, OnOk, IfErr};
 ghost use Rattle.pesp_problem.specs.declared.limits.TheConstants.{MOST_STEPS};
-ghost use Rattle.pesp_search.specs.Solving.{IsSearchRefusal};
+ghost use Rattle.pesp_conflict.specs.Refusals.{IsConflictRefusal};
 ghost use Rattle.pesp_conflict.specs.Insides.{IsKnown};
 
 use crate::attempts::try_without;
@@ -65,7 +65,7 @@ fn try_next(
     requires steps { steps ≤ MOST_STEPS }
     requires known { IsKnown instance.now known.old }
     ensures known { OnOk result (IsKnown instance.now known.new) }
-    ensures refused { IfErr result (IsSearchRefusal instance.now steps) }
+    ensures refused { IfErr result (IsConflictRefusal instance.now steps) }
 {
     let group = next_group(alloc, instance, known, size)?;
     let Some(left) = left_after(known) else {
@@ -92,7 +92,7 @@ fn sift(
     requires steps { steps ≤ MOST_STEPS }
     requires known { IsKnown instance.now known.old }
     ensures known { OnOk result (IsKnown instance.now known.new) }
-    ensures refused { IfErr result (IsSearchRefusal instance.now steps) }
+    ensures refused { IfErr result (IsConflictRefusal instance.now steps) }
 {
     for _ in 0..known.listed.len() {
         if !try_next(alloc, instance, known, size, steps)? {
@@ -112,7 +112,7 @@ pub fn sift_all(
     requires steps { steps ≤ MOST_STEPS }
     requires known { IsKnown instance.now known.old }
     ensures known { OnOk result (IsKnown instance.now known.new) }
-    ensures refused { IfErr result (IsSearchRefusal instance.now steps) }
+    ensures refused { IfErr result (IsConflictRefusal instance.now steps) }
 {
     let mut size = known.listed.len() / FIRST_GROUPS;
     for _ in 0..HALVINGS {

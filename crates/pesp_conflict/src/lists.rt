@@ -4,6 +4,7 @@ ghost use Rattle.std.specs.Prelude.{◌≡◌, ◌≢◌, ℕ, All, Contains, Is
 ghost use Rattle.std.specs.List.Sorted.{IsStrictlyIncreasing};
 ghost use Rattle.pesp_problem.specs.Walks.{Names};
 ghost use Rattle.pesp_conflict_laws.specs.Conflicts as spec;
+ghost use Rattle.pesp_conflict.specs.Findings.{AreAll};
 
 use std::alloc::{AllocError, Global};
 
@@ -92,7 +93,7 @@ pub fn is_whole(listed: &[u32], count: u32) -> bool
 
 /// The numbers of so many rows.
 pub fn all_rows(alloc: Global, count: u32) -> Result<Vec<u32>, AllocError>
-    ensures { IfOk result (λ rows. (row : ℕ) → Names count row → Contains rows.items row) }
+    ensures { IfOk result (λ rows. AreAll count rows.items) }
 {
     let mut rows = Vec::new(alloc);
     for place in 0..count {

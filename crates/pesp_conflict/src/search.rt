@@ -2,7 +2,7 @@
 
 ghost use Rattle.std.specs.Prelude.{◌≤◌, IfOk, IfErr};
 ghost use Rattle.pesp_problem.specs.declared.limits.TheConstants.{MOST_STEPS};
-ghost use Rattle.pesp_search.specs.Solving.{IsSearchRefusal};
+ghost use Rattle.pesp_conflict.specs.Refusals.{IsConflictRefusal};
 ghost use Rattle.pesp_conflict.specs.Findings.{IsConflict, IsFinding};
 ghost use Rattle.pesp_conflict.specs.Insides.{IsFirst, IsShown};
 
@@ -20,8 +20,8 @@ use std::alloc::Global;
 /// Searches over all rows.
 fn decide_all(alloc: Global, instance: &Instance, steps: u32) -> Result<Decision, SolveRefusal>
     requires { steps ≤ MOST_STEPS }
-    ensures decided { IfOk result (IsFirst instance.now) }
-    ensures refused { IfErr result (IsSearchRefusal instance.now steps) }
+    ensures decided { IfOk result (IsFirst instance.now steps) }
+    ensures refused { IfErr result (IsConflictRefusal instance.now steps) }
 {
     let rows = all_rows(alloc, instance.rows().len() as u32)?;
     decide(alloc, instance, &rows, steps)
@@ -37,7 +37,7 @@ fn narrowed(
     requires steps { steps ≤ MOST_STEPS }
     requires conflict { IsConflict instance.now rows.items }
     ensures shown { IfOk result (IsShown instance.now) }
-    ensures refused { IfErr result (IsSearchRefusal instance.now steps) }
+    ensures refused { IfErr result (IsConflictRefusal instance.now steps) }
 {
     let mut known = known_of(alloc, rows);
     sift_all(alloc, instance, &mut known, steps.min(TRIAL_STEPS))?;
@@ -48,14 +48,15 @@ fn narrowed(
 /// rising number, of which every list of times violates one; where it says that each is needed, there are for each listed row
 /// times that keep all other listed rows. Each is listed that could not be left out within a fixed amount of search; rows of
 /// the greatest span are left out first (the deletion filter, Chinneck 2008). `Timetable` says that the instance has a
-/// timetable, and `Undecided` that neither was found.
+/// timetable, and `Undecided` that a search over all rows used all its steps and found neither.
 ///
 /// Refused as `TableTooLarge` only where the square of the number of activities is above 10000000, as `PairsTooMany` only
-/// where that number times one more than the steps is above 20000000, and else as `Memory`, where a growth was refused.
+/// where that number times one more than the steps is above 20000000, and where a search over some rows meets that limit; and
+/// else as `Memory`, where a growth was refused.
 pub fn conflict(alloc: Global, instance: &Instance, steps: u32) -> Result<Finding, SolveRefusal>
     requires { steps ≤ MOST_STEPS }
-    ensures found { IfOk result (IsFinding instance.now) }
-    ensures refused { IfErr result (IsSearchRefusal instance.now steps) }
+    ensures found { IfOk result (IsFinding instance.now steps) }
+    ensures refused { IfErr result (IsConflictRefusal instance.now steps) }
 {
     match decide_all(alloc, instance, steps)? {
         Decision::Conflict(rows) => Ok(Finding::Conflict(narrowed(alloc, instance, rows, steps)?)),

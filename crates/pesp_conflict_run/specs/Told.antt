@@ -10,8 +10,8 @@ told_of listed of false = Conflict listed of
 
 -- the line without the line feed at its end
 abbrev pub told_text : Told → List ℕ
-told_text (Irreducible listed of) = decimal listed ++ (codes " of " ++ (decimal of ++ codes " activities conflict; each is needed"))
-told_text (Conflict listed of) = decimal listed ++ (codes " of " ++ (decimal of ++ codes " activities conflict; perhaps fewer do"))
+told_text (Irreducible listed of) = decimal listed ++ codes " of " ++ decimal of ++ codes " activities conflict; each is needed"
+told_text (Conflict listed of) = decimal listed ++ codes " of " ++ decimal of ++ codes " activities conflict; perhaps fewer do"
 told_text Timetable = codes "no conflict was found: the instance has a timetable"
 told_text (Undecided steps) = codes "no conflict was found within " ++ decimal steps ++ codes " steps"
 

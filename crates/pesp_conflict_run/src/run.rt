@@ -55,9 +55,10 @@ fn count_of(rows: &[u32]) -> u32
 /// number. Nothing is written where there is no list.
 ///
 /// Where it tells a conflict, every list of times violates one of the rows that are listed; where it tells that each is
-/// needed, there are for each listed row times that keep all other listed rows. Where it tells a timetable, there is one.
-/// `Search` where the instance's cycles or the search's tree pass their limits, which they can only where the square of the
-/// number of rows is above 10000000, or the number of rows times one more than the steps above 20000000.
+/// needed, there are for each listed row times that keep all other listed rows. Where it tells a timetable, there is one; where
+/// it tells that so many steps decided nothing, a search over all rows used them and found neither.
+/// `Search` where the cycles or the tree of a search over some rows pass their limits, which they can only where the square of
+/// the number of rows is above 10000000, or the number of rows times one more than the steps above 20000000.
 pub fn run_conflict<R: Source, W: Sink>(
     alloc: Global,
     reader: &mut R,

@@ -3,7 +3,8 @@
 ghost use Rattle.std.specs.Prelude.{◌≡◌};
 ghost use Rattle.pesp_conflict_run.specs.Told.{told_of, told_status};
 
-use std::fmt;
+use itoa::Buffer;
+use pesp_stream::{Output, Printed};
 
 /// What was found: a list was written, of so many activities of so many, each of which is needed, or perhaps not; the instance
 /// has a timetable; or so many steps decided nothing.
@@ -30,23 +31,51 @@ pub(crate) fn told_of(listed: u32, of: u32, each_needed: bool) -> Told
     }
 }
 
-/// What is told as a line, without the line feed at its end.
-impl fmt::Display for Told {
-    ghost use Rattle.std.specs.Prelude.{Some};
+/// A number in plain digits.
+#[derive(Clone, Copy)]
+struct Number(u32);
+
+impl Printed for Number {
+    ghost use Rattle.std.specs.Prelude.{decimal};
+
+    ghost text = { λ n. decimal n.0 };
+
+    fn print<O: Output>(&self, out: &mut O) {
+        let mut buffer = Buffer::new();
+        out.put(buffer.format(self.0).as_bytes());
+    }
+}
+
+/// What is told as a line, without the line feed at its end. It needs no memory, so that it can't be missing behind a list.
+impl Printed for Told {
     ghost use Rattle.pesp_conflict_run.specs.Told.{told_text};
 
-    ghost output = { λ told. Some (told_text told) };
+    ghost text = { λ told. told_text told };
 
-    fn fmt<W: fmt::Write>(&self, f: &mut fmt::Formatter<W>) -> fmt::Result {
-        match self {
+    fn print<O: Output>(&self, out: &mut O) {
+        match *self {
             Told::Irreducible { listed, of } => {
-                write!(f, "{listed} of {of} activities conflict; each is needed")
+                (
+                    Number(listed),
+                    " of ",
+                    Number(of),
+                    " activities conflict; each is needed",
+                )
+                    .print(out);
             }
             Told::Conflict { listed, of } => {
-                write!(f, "{listed} of {of} activities conflict; perhaps fewer do")
+                (
+                    Number(listed),
+                    " of ",
+                    Number(of),
+                    " activities conflict; perhaps fewer do",
+                )
+                    .print(out);
             }
-            Told::Timetable => f.write_str("no conflict was found: the instance has a timetable"),
-            Told::Undecided { steps } => write!(f, "no conflict was found within {steps} steps"),
+            Told::Timetable => out.put(b"no conflict was found: the instance has a timetable"),
+            Told::Undecided { steps } => {
+                ("no conflict was found within ", Number(steps), " steps").print(out);
+            }
         }
     }
 }

@@ -1,5 +1,8 @@
 //! How far a search is, told while it works. No promise of an answer speaks of it.
 
+ghost use Rattle.std.specs.Prelude.{◌≡◌, ◌⊎◌, ◌↔◌, ◌<◌, ◌≤◌, IsTrue};
+ghost use Rattle.pesp_progress.specs.Looks.{IsMilestone};
+
 use pesp_board::Board;
 use pesp_search::{Observer, Part};
 use pesp_sharp_search::{SharpObserver, Standing};
@@ -107,7 +110,12 @@ impl Milestones {
     }
 
     /// Whether a look is told after so many steps, at which the best timetable costs so much.
-    fn is_told(&mut self, steps: u32, cost: Option<u64>) -> bool {
+    fn is_told(&mut self, steps: u32, cost: Option<u64>) -> bool
+        ensures told { IsTrue result ↔ IsMilestone self.old steps cost }
+        ensures cost { self.new.cost ≡ cost }
+        ensures due { self.old.due ≤ steps → (steps < self.new.due) ⊎ (self.new.due ≡ u32.MAX) }
+        ensures later { steps < self.old.due → self.new.due ≡ self.old.due }
+    {
         if steps < self.due && cost == self.cost {
             return false;
         }

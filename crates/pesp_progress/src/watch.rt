@@ -1,6 +1,7 @@
 //! Who looks on while a search goes on from a certificate: it is told how far it is, and the search ends when its time is over.
 
-ghost use Rattle.std.specs.Prelude.{◌≡◌, true, IsSome};
+ghost use Rattle.std.specs.Prelude.{◌≡◌, ◌↔◌, true, IsSome, IsTrue};
+ghost use Rattle.pesp_progress.specs.Looks.{AreOver};
 
 use crate::progress::Milestones;
 use pesp_board::Board;
@@ -17,6 +18,8 @@ pub struct Watch<'a, R> {
     /// For how many seconds the search may go on, where they are counted.
     pub seconds: Option<u32>,
     start: Option<Instant>,
+    /// How many seconds have gone by the last reading of the clock, where it could be read.
+    gone: Option<u64>,
     /// Whether the search was ended.
     ended: bool,
 }
@@ -35,21 +38,35 @@ impl<'a, R: Eprint + Clock> Watch<'a, R> {
             },
             seconds,
             start: Instant::now(rt).ok(),
+            gone: None,
             ended: false,
         }
     }
 
-    /// Whether the time is over.
-    fn is_over(&self) -> bool
-        ensures { result ≡ true → IsSome self.now.seconds }
+    /// How many seconds have gone, where the clock can be read.
+    fn seconds_gone(&self) -> Option<u64> {
+        let gone = self.start?.elapsed(self.rt).ok()?;
+        Some(gone.as_secs())
+    }
+
+    /// Reads the clock, and says whether the time is over by what it tells.
+    fn is_over(&mut self) -> bool
+        ensures over { IsTrue result ↔ AreOver self.new.seconds self.new.gone }
+        ensures seconds { self.new.seconds ≡ self.old.seconds }
     {
-        let (Some(most), Some(start)) = (self.seconds, self.start) else {
-            return false;
-        };
-        match start.elapsed(self.rt) {
-            Ok(gone) => gone.as_secs() >= u64::from(most),
-            Err(_) => false,
-        }
+        self.gone = self.seconds_gone();
+        are_over(self.seconds, self.gone)
+    }
+}
+
+/// Whether so many seconds are over, where they are counted, when so many have gone.
+fn are_over(most: Option<u32>, gone: Option<u64>) -> bool
+    ensures { IsTrue result ↔ AreOver most gone }
+{
+    match (most, gone) {
+        (Some(most), Some(gone)) => u64::from(most) <= gone,
+        (Some(_), None) => false,
+        (None, _) => false,
     }
 }
 

@@ -40,6 +40,7 @@ fn write_resumed<W: Sink, T: Watcher>(
         (W.calls writer.old) (W.calls writer.new))))) }
     ensures silent { IfErr result (λ fault. fault ≢ Fault.Write → writer.new ≡ writer.old) }
 {
+    instance.period();
     let resumed = resume(alloc, instance, base, steps, watcher)?;
     print(&resumed.certificate, writer)?;
     Ok(())
@@ -49,8 +50,8 @@ fn write_resumed<W: Sink, T: Watcher>(
 /// long as the watcher lets it, and writes the certificate that comes of it; nothing is written before the whole certificate
 /// stands.
 ///
-/// What is written is the text of a valid certificate, whose bound isn't below that of the certificate read, and whose cost isn't
-/// above it; none counts as above every number. Its tree has at most so many branches more, and fewer only where nothing is left
+/// What is written is the text of a valid certificate, whose answer is true. Its bound isn't below that of the certificate read,
+/// and its cost isn't above it; none counts as above every number. Its tree has at most so many branches more, and fewer only where nothing is left
 /// to split at a leaf that is worth less than the best times, where a limit is met, or where the watcher ended it. No limit of
 /// a search refuses the run: where the tree would pass one, what stands by then is written.
 pub fn run_resume<R: Source, B: Source, W: Sink, T: Watcher>(

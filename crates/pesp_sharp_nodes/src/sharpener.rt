@@ -78,6 +78,22 @@ impl Sharpener {
         Ok(is_new)
     }
 
+    /// The most violated new inequalities at slacks in 1/65536, one of a walk, by their numbers in the pool. New is one whose key
+    /// isn't in `seen`, into which it is put.
+    pub fn find(
+        &mut self,
+        slacks: &[i64],
+        most: usize,
+        seen: &mut Seen,
+    ) -> Result<Vec<u32>, AllocError> {
+        let found = self.separator.look(slacks, false, EACH, most, seen)?;
+        let mut numbers = Vec::new(self.alloc);
+        for inequality in found {
+            numbers.push(self.pool.put(self.alloc, inequality)?)?;
+        }
+        Ok(numbers)
+    }
+
     /// The keys of a program's inequalities.
     pub(crate) fn seen_in(&self, relaxation: &Relaxation) -> Result<Seen, AllocError> {
         let mut seen = Seen::new(self.alloc);

@@ -3,10 +3,9 @@
 //! judged by others.
 #![tactic(auto)]
 
-mod candidates;
-mod experience;
 mod given;
 mod leaves;
+mod opens;
 mod lines;
 mod proposals;
 mod shape;
@@ -14,6 +13,7 @@ mod sharpened;
 mod sharpening;
 mod tree;
 mod trials;
+mod warm;
 
 pub use sharpened::{Leaf, Line, Sharpened};
 pub use sharpening::{Sharpening, Step};

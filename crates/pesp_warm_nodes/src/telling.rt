@@ -1,0 +1,210 @@
+//! What multipliers show, in whole numbers.
+
+use crate::basis::Name;
+use crate::shared::Shared;
+use pesp_dual_simplex::rounded;
+use pesp_sharp_nodes::{Branch, Setting, Side, cost_shown};
+use std::alloc::AllocError;
+
+/// What a leaf shows: a cost, by multipliers of cycles and of inequalities of the pool, in units of the scale.
+#[derive(Drop)]
+pub struct Shown {
+    pub bound: u64,
+    pub pairs: Vec<(u32, i64)>,
+    pub walks: Vec<(u32, i64)>,
+}
+
+/// The bound on an offset that a multiplier of a cycle is of.
+fn end_of(shared: &Shared, cycle: u32, multiplier: i64) -> Option<Branch> {
+    let range = shared.ranges.get(cycle as usize).copied()?;
+    let (side, offset) = if multiplier < 0 {
+        (Side::AtMost, range.most)
+    } else {
+        (Side::AtLeast, range.least)
+    };
+    Some(Branch {
+        cycle,
+        side,
+        offset,
+    })
+}
+
+impl Shared {
+    /// The weights of rows times a factor.
+    fn weigh(&mut self, setting: &Setting, factor: i128) -> Result<(), AllocError> {
+        self.weights.clear();
+        for row in setting.frame.rows() {
+            self.weights
+                .push(i128::from(row.weight).wrapping_mul(factor))?;
+        }
+        Ok(())
+    }
+
+    /// Takes a line times a multiplier away from the weights.
+    fn take(&mut self, line: u32, multiplier: i64) {
+        for term in self.simplex.terms(line) {
+            if let Some(weight) = self.weights.get_mut(term.row as usize) {
+                let part = i128::from(term.coefficient).wrapping_mul(i128::from(multiplier));
+                *weight = weight.wrapping_sub(part);
+            }
+        }
+    }
+
+    /// What weights below 0 take from the value.
+    fn loss(&self, setting: &Setting) -> i128 {
+        let mut sum = 0i128;
+        for (weight, row) in self.weights.iter().zip(setting.frame.rows().iter()) {
+            if *weight < 0 {
+                sum = sum.wrapping_add(weight.wrapping_mul(i128::from(row.span)));
+            }
+        }
+        sum
+    }
+
+    /// What a unit of a line's multiplier adds to the value, where its multiplier may have this sign.
+    fn worth(&self, setting: &Setting, line: u32, multiplier: i64) -> Option<i128> {
+        match self.names.get(line as usize).copied()? {
+            Name::Pooled(_) if multiplier < 0 => None,
+            Name::Pooled(number) => Some(i128::from(self.least_of(number)?)),
+            Name::Offset(number) => {
+                let end = end_of(self, number, multiplier)?;
+                let cycle = setting.cycle(number)?;
+                let least = cycle.least(setting.period(), end);
+                Some(i128::from(end.side.signed(least)))
+            }
+        }
+    }
+
+    /// The value of a list of multipliers, by line, in units of the scale. Those that may not be told are left out.
+    fn sum_up(&mut self, setting: &Setting, list: &[(u32, i64)]) -> i128 {
+        let mut value = 0i128;
+        for (line, multiplier) in list {
+            if let Some(worth) = self.worth(setting, *line, *multiplier) {
+                self.take(*line, *multiplier);
+                let part = worth.wrapping_mul(i128::from(*multiplier));
+                value = value.wrapping_add(part);
+            }
+        }
+        value.wrapping_add(self.loss(setting))
+    }
+
+    /// The multipliers of tight lines, in units of the scale.
+    fn list_multipliers(&mut self, setting: &Setting) -> Result<Vec<(u32, i64)>, AllocError> {
+        let scale = i64::from(setting.scale);
+        let mut list = Vec::new(self.alloc);
+        for line in self.simplex.tight() {
+            let multiplier = rounded(self.simplex.multiplier(*line), scale);
+            if multiplier != 0 {
+                list.push((*line, multiplier))?;
+            }
+        }
+        Ok(list)
+    }
+
+    /// The multipliers of the last ray, in units of the scale.
+    fn list_ray(&self, setting: &Setting) -> Result<Vec<(u32, i64)>, AllocError> {
+        let scale = i64::from(setting.scale);
+        let mut list = Vec::new(self.alloc);
+        for (line, multiplier) in self.simplex.ray() {
+            let multiplier = rounded(*multiplier, scale);
+            if multiplier != 0 {
+                list.push((*line, multiplier))?;
+            }
+        }
+        Ok(list)
+    }
+
+    /// The value that the multipliers show, in units of the scale; 0 where memory is short.
+    fn value_shown(&mut self, setting: &Setting) -> i128 {
+        let factor = i128::from(setting.scale);
+        if self.weigh(setting, factor).is_err() {
+            return 0;
+        }
+        match self.list_multipliers(setting) {
+            Ok(list) => self.sum_up(setting, &list),
+            Err(_) => 0,
+        }
+    }
+
+    /// The whole cost that the multipliers show.
+    pub(crate) fn cost_shown(&mut self, setting: &Setting) -> u64 {
+        let value = self.value_shown(setting);
+        cost_shown(value, setting.scale)
+    }
+
+    /// What the last ray is worth with weights 0: nothing is left where that is above 0.
+    pub(crate) fn ray_value(&mut self, setting: &Setting) -> i128 {
+        if self.weigh(setting, 0).is_err() {
+            return 0;
+        }
+        match self.list_ray(setting) {
+            Ok(list) => self.sum_up(setting, &list),
+            Err(_) => 0,
+        }
+    }
+
+    /// Notes which lines were tight now.
+    pub(crate) fn note_tight(&mut self) {
+        for line in self.simplex.tight() {
+            if let Some(slot) = self.tight_at.get_mut(*line as usize) {
+                *slot = self.solves;
+            }
+        }
+    }
+
+    /// A leaf of a list of multipliers.
+    fn leaf(
+        &self,
+        setting: &Setting,
+        list: &[(u32, i64)],
+        bound: u64,
+    ) -> Result<Shown, AllocError> {
+        let mut shown = Shown {
+            bound,
+            pairs: Vec::new(self.alloc),
+            walks: Vec::new(self.alloc),
+        };
+        let mut written = Ok(());
+        for (line, multiplier) in list {
+            if written.is_ok() && self.worth(setting, *line, *multiplier).is_some() {
+                written = self.tell(&mut shown, *line, *multiplier);
+            }
+        }
+        if written.is_err() {
+            drop(shown);
+            return Err(AllocError);
+        }
+        shown.pairs.sort_unstable_by_key(|pair| pair.0);
+        shown.walks.sort_unstable_by_key(|walk| walk.0);
+        Ok(shown)
+    }
+
+    /// Puts a multiplier into a leaf.
+    fn tell(&self, shown: &mut Shown, line: u32, multiplier: i64) -> Result<(), AllocError> {
+        match self.names.get(line as usize).copied() {
+            Some(Name::Pooled(number)) => shown.walks.push((number, multiplier))?,
+            Some(Name::Offset(number)) => shown.pairs.push((number, multiplier))?,
+            None => {}
+        }
+        Ok(())
+    }
+
+    /// What the multipliers show.
+    pub fn shown(&mut self, setting: &Setting) -> Result<Shown, AllocError> {
+        self.note_tight();
+        self.weigh(setting, i128::from(setting.scale))?;
+        let list = self.list_multipliers(setting)?;
+        let value = self.sum_up(setting, &list);
+        self.leaf(setting, &list, cost_shown(value, setting.scale))
+    }
+
+    /// What the last ray shows: that nothing is left; None where it doesn't in whole numbers.
+    pub fn shown_by_ray(&mut self, setting: &Setting) -> Result<Option<Shown>, AllocError> {
+        self.weigh(setting, 0)?;
+        let list = self.list_ray(setting)?;
+        if self.sum_up(setting, &list) <= 0 {
+            return Ok(None);
+        }
+        Ok(Some(self.leaf(setting, &list, u64::MAX)?))
+    }
+}

@@ -1,9 +1,7 @@
 //! The four cases of an exchange: what the inverse becomes, each time by one outer product.
 
 use crate::fixed::{ONE, over};
-use crate::inverse::{
-    drop_column, list_numbers, read_column, scale_all, take_outer, write_column,
-};
+use crate::inverse::{drop_column, list_numbers, read_column, scale_all, take_outer, write_column};
 use crate::members::{Entering, Leaving, Member};
 use crate::simplex::Simplex;
 use std::alloc::AllocError;

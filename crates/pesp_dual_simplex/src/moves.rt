@@ -32,11 +32,7 @@ impl Simplex {
     fn move_multipliers(&mut self, step: i64) {
         for (place, weight) in &self.listed {
             let number = self.state.tight.get(*place as usize).copied();
-            if let Some(sum) = self
-                .state
-                .sums
-                .get_mut(number.unwrap_or(u32::MAX) as usize)
-            {
+            if let Some(sum) = self.state.sums.get_mut(number.unwrap_or(u32::MAX) as usize) {
                 sum.multiplier = sum.multiplier.wrapping_sub(times(step, *weight));
             }
         }

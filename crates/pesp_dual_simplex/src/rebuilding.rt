@@ -52,8 +52,7 @@ impl Simplex {
                 best = match best {
                     Some(other)
                         if (other.lines, pivot.size) < (pivot.lines, other.size)
-                            || (other.lines == pivot.lines && other.size >= pivot.size) =>
-                    {
+                            || (other.lines == pivot.lines && other.size >= pivot.size) => {
                         Some(other)
                     }
                     _ => Some(pivot),
@@ -132,8 +131,7 @@ impl Simplex {
 
     /// The inverse anew, of the basis that is named; nothing is tight where it comes out bad.
     pub fn rebuild(&mut self) -> Result<(), AllocError> {
-        self.order
-            .begin(&self.columns, &self.lines, &self.state)?;
+        self.order.begin(&self.columns, &self.lines, &self.state)?;
         let mut basic = Vec::new(self.alloc);
         swap(&mut basic, &mut self.state.basic);
         self.state.tight.clear();

@@ -174,7 +174,9 @@ impl Simplex {
         self.set_sums();
         self.set_value();
         let rows = self.state.inverse.len() as u64;
-        self.work = self.work.wrapping_add(rows.wrapping_mul(rows).wrapping_mul(2));
+        self.work = self
+            .work
+            .wrapping_add(rows.wrapping_mul(rows).wrapping_mul(2));
         Ok(())
     }
 

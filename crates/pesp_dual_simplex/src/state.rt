@@ -43,11 +43,7 @@ pub(crate) const NO_SLACK: Slack = Slack {
 };
 
 /// Copies rows into others, in their place.
-fn copy_rows(
-    alloc: Global,
-    into: &mut Vec<Vec<i64>>,
-    rows: &[Vec<i64>],
-) -> Result<(), AllocError> {
+fn copy_rows(alloc: Global, into: &mut Vec<Vec<i64>>, rows: &[Vec<i64>]) -> Result<(), AllocError> {
     into.truncate(rows.len());
     for (slot, row) in into.iter_mut().zip(rows.iter()) {
         slot.clear();

@@ -14,9 +14,7 @@ impl Simplex {
             return Ok(());
         };
         let Some(place) = slack.place else {
-            return self
-                .alpha
-                .add(term.row, whole(i64::from(term.coefficient)));
+            return self.alpha.add(term.row, whole(i64::from(term.coefficient)));
         };
         if let Some(row) = self.state.inverse.get(place as usize) {
             add_row(&mut self.weights, row, term.coefficient);

@@ -117,16 +117,17 @@ impl Experience {
     fn expected(&self, gains: &Gains, weight: u64) -> u128 {
         let by_weight = self.by_weight.mean().unwrap_or(1 << 16);
         let heavy = u128::from(weight).saturating_add(1);
-        gains
-            .mean()
-            .unwrap_or(by_weight.saturating_mul(heavy))
+        gains.mean().unwrap_or(by_weight.saturating_mul(heavy))
     }
 
     /// How well a cut is thought of by what is expected of its sides.
     pub fn expected_score(&self, cycle: u32, weight: u64, fraction: i64) -> u128 {
         let record = self.records.get(cycle as usize).copied();
         let Record { low, high } = record.unwrap_or(NO_RECORD);
-        let below = self.expected(&low, weight).saturating_mul(natural(fraction)) >> 16;
+        let below = self
+            .expected(&low, weight)
+            .saturating_mul(natural(fraction))
+            >> 16;
         let rest = UNIT.saturating_sub(fraction);
         let above = self.expected(&high, weight).saturating_mul(natural(rest)) >> 16;
         below

@@ -1,8 +1,8 @@
 //! Trees that are given, and taken up.
 
+use crate::opens::{Open, Start};
 use crate::shape::Shape;
 use crate::sharpened::{Leaf, Line, Sharpened};
-use crate::opens::{Open, Start};
 use crate::sharpening::Sharpening;
 use crate::tree::Knot;
 use pesp_inequalities::Pass;
@@ -194,6 +194,7 @@ impl Sharpening {
             Some(open) => open.pooled(self.alloc)?,
             None => Vec::new(self.alloc),
         };
+        self.leave_shared();
         self.begin_with(given)?;
         let walks = self.take_walks(&given.walks)?;
         let limit = self.sharpener.setting.limit(best);
@@ -208,6 +209,13 @@ impl Sharpening {
         self.leave(&old)?;
         self.sharpener.let_go(&walks)?;
         Ok(true)
+    }
+
+    /// Leaves go on by primal-dual steps, and multipliers are told as at first.
+    fn leave_shared(&mut self) {
+        self.shared = None;
+        self.carried = None;
+        self.sharpener.setting.scale = self.first_scale;
     }
 
     /// Cycles that are given stand before the others, and no cut has gained anything.

@@ -5,8 +5,8 @@
 
 mod given;
 mod leaves;
-mod opens;
 mod lines;
+mod opens;
 mod proposals;
 mod shape;
 mod sharpened;

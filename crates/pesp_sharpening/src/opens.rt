@@ -40,7 +40,7 @@ impl Open {
     pub(crate) fn pooled(&self, alloc: Global) -> Result<Vec<u32>, AllocError> {
         match &self.start {
             Start::Steps(node) => node.pooled(alloc),
-            Start::Exchanges(_) => Ok(Vec::new(alloc)),
+            Start::Exchanges(basis) => basis.pooled(alloc),
         }
     }
 

@@ -86,7 +86,7 @@ impl Sharpening {
         }
         self.refine();
         shared.look_at_root(&mut self.sharpener, limit)?;
-        self.renew_warm(shared, 0, 0, limit)?;
+        self.renew_warm(shared, 0, 0)?;
         let basis = shared.basis(0)?;
         self.open_warm(0, self.bound_at(0), basis, limit)?;
         self.meet_slacks(shared)?;
@@ -117,7 +117,6 @@ impl Sharpening {
         shared: &mut Shared,
         place: u32,
         bound: u64,
-        limit: Limit,
     ) -> Result<u64, AllocError> {
         let shown = shared.shown(&self.sharpener.setting)?;
         if shown.bound < bound {
@@ -210,7 +209,7 @@ impl Sharpening {
         if end == End::Ray && self.shut_warm(shared, open.place)? {
             return Ok(Step::Readied);
         }
-        let bound = self.renew_warm(shared, open.place, open.bound, limit)?;
+        let bound = self.renew_warm(shared, open.place, open.bound)?;
         if bound >= limit.cost {
             return Ok(Step::Readied);
         }
@@ -257,7 +256,7 @@ impl Sharpening {
         limit: Limit,
     ) -> Result<Step, AllocError> {
         shared.solve_anew(&self.sharpener.setting, limit)?;
-        let bound = self.renew_warm(shared, place, bound, limit)?;
+        let bound = self.renew_warm(shared, place, bound)?;
         self.meet_slacks(shared)?;
         let mut basis = shared.basis(basis.depth)?;
         basis.is_solved_out = true;
@@ -367,7 +366,10 @@ impl Sharpening {
     /// Whether a part of this bound is gone on with at once.
     fn is_next(&self, bound: u64, above: Above, limit: Limit) -> bool {
         let least = self.least_bound(above);
-        let left = limit.cost.min(least.saturating_mul(2)).saturating_sub(least);
+        let left = limit
+            .cost
+            .min(least.saturating_mul(2))
+            .saturating_sub(least);
         let within = least.saturating_add(left / WINDOW);
         let is_less = match &self.next {
             Some(open) => bound < open.bound,

@@ -47,6 +47,17 @@ impl Basis {
         self.tight.len()
     }
 
+    /// The inequalities of the pool that are tight.
+    pub fn pooled(&self, alloc: Global) -> Result<Vec<u32>, AllocError> {
+        let mut numbers = Vec::new(alloc);
+        for (name, _) in &self.tight {
+            if let Name::Pooled(number) = *name {
+                numbers.push(number)?;
+            }
+        }
+        Ok(numbers)
+    }
+
     /// The leaf keeps its inequalities in the pool.
     pub fn keep_in(&self, pool: &mut Pool) {
         for (name, _) in &self.tight {

@@ -89,11 +89,7 @@ impl Shared {
     }
 
     /// Lines go to their new numbers.
-    fn renumber_all(
-        &mut self,
-        pool: &mut Pool,
-        numbers: &[Option<u32>],
-    ) -> Result<(), AllocError> {
+    fn renumber_all(&mut self, pool: &mut Pool, numbers: &[Option<u32>]) -> Result<(), AllocError> {
         let mut kept = 0usize;
         for place in 0..numbers.len() {
             let (Some(name), Some(tight_at)) = (

@@ -3,10 +3,11 @@
 use crate::basis::{Basis, Name};
 use pesp_dual_simplex::{MOST, Names, Simplex, State, whole};
 use pesp_inequalities::Seen;
-use pesp_sharp_nodes::{
-    Branch, Cycle, Origin, Pool, Range, Relaxation, Setting, Sharpener, Side,
-};
+use pesp_sharp_nodes::{Branch, Cycle, Origin, Pool, Range, Relaxation, Setting, Sharpener, Side};
 use std::alloc::{AllocError, Global};
+
+/// With fewer rows primal-dual steps are soon done.
+const LEAST_ROWS: usize = 100;
 
 /// The greatest cost of all slacks at their spans for which numbers are long enough.
 const MOST_DEAREST: u64 = 1 << 26;
@@ -44,9 +45,10 @@ pub struct Shared {
     pub(crate) weights: Vec<i128>,
 }
 
-/// Whether numbers are long enough for a setting.
-fn has_room(setting: &Setting) -> bool {
-    setting.dearest <= MOST_DEAREST && setting.period() <= MOST_PERIOD
+/// Whether a setting has many rows, and numbers are long enough for it.
+fn is_fit(setting: &Setting) -> bool {
+    let rows = setting.frame.rows().len();
+    rows >= LEAST_ROWS && setting.dearest <= MOST_DEAREST && setting.period() <= MOST_PERIOD
 }
 
 /// Whether something comes of the inequality of a program at a place.
@@ -80,14 +82,14 @@ pub(crate) fn ends_of(cycle: &Cycle, number: u32, period: i64, range: Range) -> 
 }
 
 impl Shared {
-    /// The program of a root after its rounds; None where a dual simplex isn't for it: where numbers would be too great, or lines
-    /// too many.
+    /// The program of a root after its rounds; None where a dual simplex isn't for it: where rows are few, numbers too great
+    /// or lines too many.
     pub fn of(
         sharpener: &mut Sharpener,
         relaxation: &Relaxation,
     ) -> Result<Option<Shared>, AllocError> {
         let setting = &sharpener.setting;
-        if !has_room(setting) || used_count(relaxation) > MOST_TIGHT {
+        if !is_fit(setting) || used_count(relaxation) > MOST_TIGHT {
             return Ok(None);
         }
         let mut shared = Shared::empty(sharpener.alloc, setting)?;

@@ -11,11 +11,13 @@ const MOST_EXCHANGES: u32 = 20_000;
 /// How many a part has at once; the others follow when it is its turn.
 const FEW_EXCHANGES: u32 = 40;
 
-/// How many the root has at most before it is known whether exchanges are for it.
-const FIRST_EXCHANGES: u32 = 3_000;
+/// How many are made before an inverse is looked at, and how often at most.
+const FIRST_EXCHANGES: u32 = 100;
 
-/// The share of numbers of an inverse, in 1/1024, up to which it counts as sparse.
-const SPARSE: u64 = 460;
+const MOST_LOOKS: u32 = 30;
+
+/// The share of numbers of an inverse that aren't 0, in 1/1024, up to which it counts as sparse.
+const SPARSE: u64 = 512;
 
 /// The value at which a leaf is closed.
 fn stop_at(limit: Limit) -> i64 {
@@ -55,10 +57,18 @@ impl Shared {
         self.solve(limit, FEW_EXCHANGES)
     }
 
-    /// Solves the root; whether exchanges are for it: it is solved by not too many, and the inverse is sparse.
+    /// Solves the root; whether exchanges are for it: it is solved by not too many, and the inverse stays sparse.
     pub fn suits(&mut self, limit: Limit) -> Result<bool, AllocError> {
-        let end = self.solve(limit, FIRST_EXCHANGES)?;
-        Ok(end != End::Limit && self.simplex.density() <= SPARSE)
+        for _ in 0..MOST_LOOKS {
+            let end = self.solve(limit, FIRST_EXCHANGES)?;
+            if self.simplex.density() > SPARSE {
+                return Ok(false);
+            }
+            if end != End::Limit {
+                return Ok(true);
+            }
+        }
+        Ok(false)
     }
 
     /// Solves the node from an inverse that is built anew.

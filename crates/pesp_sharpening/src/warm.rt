@@ -72,7 +72,10 @@ impl Sharpening {
             let begun = self.begin_shared(&mut shared, limit);
             match begun {
                 Ok(true) => self.shared = Some(shared),
-                _ => drop(shared),
+                _ => {
+                    shared.leave(&mut self.sharpener.pool);
+                    drop(shared);
+                }
             }
             return begun;
         }

@@ -141,6 +141,15 @@ impl Shared {
         Ok(())
     }
 
+    /// The pool keeps its inequalities no longer.
+    pub fn leave(&self, pool: &mut Pool) {
+        for name in &self.names {
+            if let Name::Pooled(number) = *name {
+                pool.leave(number);
+            }
+        }
+    }
+
     /// Room for the number of an inequality of the pool.
     fn make_room(&mut self, number: u32) -> Result<(), AllocError> {
         let count = (number as usize).saturating_add(1);

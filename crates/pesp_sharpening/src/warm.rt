@@ -89,7 +89,7 @@ impl Sharpening {
         }
         self.refine();
         shared.look_at_root(&mut self.sharpener, limit)?;
-        self.renew_warm(shared, 0, 0)?;
+        self.renew_warm(shared, 0, 0, limit)?;
         let basis = shared.basis(0)?;
         self.open_warm(0, self.bound_at(0), basis, limit)?;
         self.meet_slacks(shared)?;
@@ -120,8 +120,9 @@ impl Sharpening {
         shared: &mut Shared,
         place: u32,
         bound: u64,
+        limit: Limit,
     ) -> Result<u64, AllocError> {
-        let shown = shared.shown(&self.sharpener.setting)?;
+        let shown = shared.shown(&self.sharpener.setting, limit)?;
         if shown.bound < bound {
             return Ok(bound);
         }
@@ -212,7 +213,7 @@ impl Sharpening {
         if end == End::Ray && self.shut_warm(shared, open.place)? {
             return Ok(Step::Readied);
         }
-        let bound = self.renew_warm(shared, open.place, open.bound)?;
+        let bound = self.renew_warm(shared, open.place, open.bound, limit)?;
         if bound >= limit.cost {
             return Ok(Step::Readied);
         }
@@ -259,7 +260,7 @@ impl Sharpening {
         limit: Limit,
     ) -> Result<Step, AllocError> {
         shared.solve_anew(&self.sharpener.setting, limit)?;
-        let bound = self.renew_warm(shared, place, bound)?;
+        let bound = self.renew_warm(shared, place, bound, limit)?;
         self.meet_slacks(shared)?;
         let mut basis = shared.basis(basis.depth)?;
         basis.is_solved_out = true;
@@ -336,7 +337,7 @@ impl Sharpening {
             let (leaf, _) = leaf_of(shown);
             return self.tree.add_shut(&mut self.sharpener.pool, leaf);
         }
-        let shown = shared.shown(&self.sharpener.setting)?;
+        let shown = shared.shown(&self.sharpener.setting, limit)?;
         let (leaf, bound) = if shown.bound < above.bound {
             drop(shown);
             (self.tree.copied(self.alloc, above.place)?, above.bound)

@@ -3,7 +3,7 @@
 use crate::basis::Name;
 use crate::shared::Shared;
 use pesp_dual_simplex::rounded;
-use pesp_sharp_nodes::{Branch, Setting, Side, cost_shown};
+use pesp_sharp_nodes::{Branch, Limit, Setting, Side, cost_shown};
 use std::alloc::AllocError;
 
 /// What a leaf shows: a cost, by multipliers of cycles and of inequalities of the pool, in units of the scale.
@@ -166,7 +166,8 @@ impl Shared {
         };
         let mut written = Ok(());
         for (line, multiplier) in list {
-            if written.is_ok() && self.worth(setting, *line, *multiplier).is_some() {
+            let is_told = *multiplier != 0 && self.worth(setting, *line, *multiplier).is_some();
+            if written.is_ok() && is_told {
                 written = self.tell(&mut shown, *line, *multiplier);
             }
         }
@@ -189,12 +190,53 @@ impl Shared {
         Ok(())
     }
 
-    /// What the multipliers show.
-    pub fn shown(&mut self, setting: &Setting) -> Result<Shown, AllocError> {
+    /// What the value changes by where a multiplier goes.
+    fn change_without(&self, setting: &Setting, line: u32, multiplier: i64) -> i128 {
+        let worth = self.worth(setting, line, multiplier).unwrap_or(0);
+        let mut change = worth.wrapping_mul(i128::from(multiplier)).wrapping_neg();
+        for term in self.simplex.terms(line) {
+            let weight = self.weights.get(term.row as usize).copied().unwrap_or(0);
+            let part = i128::from(term.coefficient).wrapping_mul(i128::from(multiplier));
+            let span = setting.frame.row(term.row).map_or(0, |row| row.span);
+            let fall = weight.wrapping_add(part).min(0).wrapping_sub(weight.min(0));
+            change = change.wrapping_add(fall.wrapping_mul(i128::from(span)));
+        }
+        change
+    }
+
+    /// Leaves out multipliers that a value doesn't need to stay above another one, the least first; what is left of the value.
+    fn thin_out(
+        &mut self,
+        setting: &Setting,
+        list: &mut [(u32, i64)],
+        value: i128,
+        least: i128,
+    ) -> i128 {
+        list.sort_unstable_by_key(|pair| pair.1.unsigned_abs());
+        let mut left = value;
+        for pair in list.iter_mut() {
+            let (line, multiplier) = *pair;
+            let change = self.change_without(setting, line, multiplier);
+            if left.wrapping_add(change) > least {
+                self.take(line, multiplier.wrapping_neg());
+                left = left.wrapping_add(change);
+                *pair = (line, 0);
+            }
+        }
+        left
+    }
+
+    /// What the multipliers show. Where that closes a leaf, it has none that this doesn't need.
+    pub fn shown(&mut self, setting: &Setting, limit: Limit) -> Result<Shown, AllocError> {
         self.note_tight();
         self.weigh(setting, i128::from(setting.scale))?;
-        let list = self.list_multipliers(setting)?;
-        let value = self.sum_up(setting, &list);
+        let mut list = self.list_multipliers(setting)?;
+        let mut value = self.sum_up(setting, &list);
+        let below = i128::from(limit.cost.saturating_sub(1));
+        let least = below.saturating_mul(i128::from(setting.scale));
+        if value > least {
+            value = self.thin_out(setting, &mut list, value, least);
+        }
         self.leaf(setting, &list, cost_shown(value, setting.scale))
     }
 

@@ -178,6 +178,7 @@ impl Sharpening {
         limit: Limit,
     ) -> Result<End, AllocError> {
         if self.carried == Some(place) {
+            self.carried = None;
             shared.enter_carried(&self.sharpener.setting, basis)?;
         } else {
             shared.drop_old(&mut self.sharpener.pool)?;

@@ -34,18 +34,19 @@ impl Shared {
     }
 
     /// Whether what was found doesn't hold in whole numbers.
-    fn is_off(&mut self, setting: &Setting, end: End) -> bool {
+    fn is_off(&mut self, setting: &Setting, end: End) -> Result<bool, AllocError> {
         if end == End::Ray {
-            return self.ray_value(setting) <= 0;
+            return Ok(self.ray_value(setting)? <= 0);
         }
         let cost = rounded(self.simplex.value(), 1).saturating_sub(2);
-        i64::try_from(self.cost_shown(setting)).unwrap_or(i64::MAX) < cost
+        let shown = i64::try_from(self.cost_shown(setting)?).unwrap_or(i64::MAX);
+        Ok(shown < cost)
     }
 
     /// Solves a node; from nothing where what was found doesn't hold in whole numbers.
     pub fn solve_out(&mut self, setting: &Setting, limit: Limit) -> Result<End, AllocError> {
         let end = self.solve(limit, MOST_EXCHANGES)?;
-        if !self.is_off(setting, end) {
+        if !self.is_off(setting, end)? {
             return Ok(end);
         }
         self.simplex.reset()?;

@@ -114,33 +114,19 @@ impl Shared {
         Ok(list)
     }
 
-    /// The value that the multipliers show, in units of the scale; 0 where memory is short.
-    fn value_shown(&mut self, setting: &Setting) -> i128 {
-        let factor = i128::from(setting.scale);
-        if self.weigh(setting, factor).is_err() {
-            return 0;
-        }
-        match self.list_multipliers(setting) {
-            Ok(list) => self.sum_up(setting, &list),
-            Err(_) => 0,
-        }
-    }
-
     /// The whole cost that the multipliers show.
-    pub(crate) fn cost_shown(&mut self, setting: &Setting) -> u64 {
-        let value = self.value_shown(setting);
-        cost_shown(value, setting.scale)
+    pub(crate) fn cost_shown(&mut self, setting: &Setting) -> Result<u64, AllocError> {
+        self.weigh(setting, i128::from(setting.scale))?;
+        let list = self.list_multipliers(setting)?;
+        let value = self.sum_up(setting, &list);
+        Ok(cost_shown(value, setting.scale))
     }
 
     /// What the last ray is worth with weights 0: nothing is left where that is above 0.
-    pub(crate) fn ray_value(&mut self, setting: &Setting) -> i128 {
-        if self.weigh(setting, 0).is_err() {
-            return 0;
-        }
-        match self.list_ray(setting) {
-            Ok(list) => self.sum_up(setting, &list),
-            Err(_) => 0,
-        }
+    pub(crate) fn ray_value(&mut self, setting: &Setting) -> Result<i128, AllocError> {
+        self.weigh(setting, 0)?;
+        let list = self.list_ray(setting)?;
+        Ok(self.sum_up(setting, &list))
     }
 
     /// Notes which lines were tight now.

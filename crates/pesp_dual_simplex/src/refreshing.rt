@@ -109,20 +109,26 @@ impl Simplex {
         }
     }
 
-    /// What basic slacks have to make up for in each tight line, into `numbers`.
+    /// What basic slacks have to make up for in a tight line.
+    fn need_of(&self, number: u32) -> i64 {
+        match (
+            self.lines.get(number as usize),
+            self.state.sums.get(number as usize),
+        ) {
+            (Some(line), Some(sum)) => {
+                let end = if sum.is_up { line.most } else { line.least };
+                end.wrapping_sub(sum_along(&line.terms, &self.state))
+            }
+            _ => 0,
+        }
+    }
+
+    /// What they have to make up for in each tight line, into `numbers`.
     fn read_needs(&mut self) -> Result<(), AllocError> {
         self.numbers.clear();
-        for number in &self.state.tight {
-            let need = match (
-                self.lines.get(*number as usize),
-                self.state.sums.get(*number as usize),
-            ) {
-                (Some(line), Some(sum)) => {
-                    let end = if sum.is_up { line.most } else { line.least };
-                    end.wrapping_sub(sum_along(&line.terms, &self.state))
-                }
-                _ => 0,
-            };
+        for at in 0..self.state.tight.len() {
+            let number = self.state.tight.get(at).copied().unwrap_or(0);
+            let need = self.need_of(number);
             self.numbers.push(need)?;
         }
         Ok(())

@@ -89,7 +89,7 @@ impl Shared {
     }
 
     /// The multipliers of tight lines, in units of the scale.
-    fn list_multipliers(&mut self, setting: &Setting) -> Result<Vec<(u32, i64)>, AllocError> {
+    fn list_multipliers(&self, setting: &Setting) -> Result<Vec<(u32, i64)>, AllocError> {
         let scale = i64::from(setting.scale);
         let mut list = Vec::new(self.alloc);
         for line in self.simplex.tight() {

@@ -79,7 +79,10 @@ impl Simplex {
                 self.moves.add(number, step)?;
                 self.spread(number, step);
             }
-            Member::Line(_) => self.add_number(self.state.place_of(member), step),
+            Member::Line(_) => {
+                let place = self.state.place_of(member);
+                self.add_number(place, step);
+            }
         }
         Ok(())
     }
@@ -143,7 +146,8 @@ impl Simplex {
     fn move_listed(&mut self) {
         for at in 0..self.moves.places().len() {
             if let Some(number) = self.moves.places().get(at).copied() {
-                self.move_slack(number, self.moves.get(number));
+                let step = self.moves.get(number);
+                self.move_slack(number, step);
             }
         }
         self.moves.clear();

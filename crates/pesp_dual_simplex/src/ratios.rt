@@ -54,8 +54,10 @@ impl Simplex {
     /// Lists the slacks that may enter.
     fn list_slacks(&mut self, leaving: Leaving) -> Result<(), AllocError> {
         self.candidates.clear();
-        for number in self.alpha.places() {
-            if let Some(found) = self.slack_candidate(leaving, *number) {
+        for at in 0..self.alpha.places().len() {
+            let number = self.alpha.places().get(at).copied().unwrap_or(0);
+            let found = self.slack_candidate(leaving, number);
+            if let Some(found) = found {
                 self.candidates.push(found)?;
             }
         }
@@ -65,8 +67,10 @@ impl Simplex {
     /// Lists what may enter.
     pub(crate) fn list_candidates(&mut self, leaving: Leaving) -> Result<(), AllocError> {
         self.list_slacks(leaving)?;
-        for (place, weight) in &self.listed {
-            if let Some(found) = self.line_candidate(leaving, *place, *weight) {
+        for at in 0..self.listed.len() {
+            let (place, weight) = self.listed.get(at).copied().unwrap_or((u32::MAX, 0));
+            let found = self.line_candidate(leaving, place, weight);
+            if let Some(found) = found {
                 self.candidates.push(found)?;
             }
         }

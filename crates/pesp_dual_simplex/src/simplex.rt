@@ -294,8 +294,12 @@ impl Simplex {
         into.copy(self.alloc, &self.state)
     }
 
-    /// Goes back to where it stood.
+    /// Goes back to where it stood; nothing is tight where the lines aren't those of then.
     pub fn load(&mut self, from: &State) -> Result<(), AllocError> {
-        self.state.copy(self.alloc, from)
+        if from.sums.len() == self.lines.len() {
+            self.state.copy(self.alloc, from)
+        } else {
+            self.reset()
+        }
     }
 }

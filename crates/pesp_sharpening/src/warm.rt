@@ -91,7 +91,8 @@ impl Sharpening {
         shared.look_at_root(&mut self.sharpener, limit)?;
         self.renew_warm(shared, 0, 0, limit)?;
         let basis = shared.basis(0)?;
-        self.open_warm(0, self.bound_at(0), basis, limit)?;
+        let bound = self.bound_at(0);
+        self.open_warm(0, bound, basis, limit)?;
         self.meet_slacks(shared)?;
         Ok(true)
     }

@@ -66,20 +66,25 @@ impl Sharpening {
         relaxation: &Relaxation,
         limit: Limit,
     ) -> Result<bool, AllocError> {
-        if let Some(Knot::Leaf { .. }) = self.tree.knots.first()
-            && let Some(mut shared) = Shared::of(&mut self.sharpener, relaxation)?
-        {
-            let begun = self.begin_shared(&mut shared, limit);
-            match begun {
-                Ok(true) => self.shared = Some(shared),
-                _ => {
-                    shared.leave(&mut self.sharpener.pool);
-                    drop(shared);
-                }
-            }
-            return begun;
+        if !self.is_leaf() {
+            return Ok(false);
         }
-        Ok(false)
+        let Some(mut shared) = Shared::of(&mut self.sharpener, relaxation)? else {
+            return Ok(false);
+        };
+        let begun = self.begin_shared(&mut shared, limit);
+        if let Ok(true) = begun {
+            self.shared = Some(shared);
+        } else {
+            shared.leave(&mut self.sharpener.pool);
+            drop(shared);
+        }
+        begun
+    }
+
+    /// Whether the tree is one leaf.
+    fn is_leaf(&self) -> bool {
+        matches!(self.tree.knots.first(), Some(Knot::Leaf { .. }))
     }
 
     /// Solves the root, and makes it the leaf of the tree.
@@ -225,6 +230,18 @@ impl Sharpening {
         self.split_warm(shared, open.place, bound, basis, limit)
     }
 
+    /// The cut by which a leaf is split; None where all its offsets look whole.
+    fn choose_warm(
+        &mut self,
+        shared: &mut Shared,
+        basis: &Basis,
+        limit: Limit,
+    ) -> Result<Option<Candidate>, AllocError> {
+        let setting = &self.sharpener.setting;
+        let experience = &mut self.experience;
+        shared.choose(setting, experience, basis.depth, limit)
+    }
+
     /// Splits a leaf by the cut that is chosen. Where all offsets look whole, it is solved from an inverse that is built anew
     /// first, and times near the slacks are met; then any range is cut that is open.
     fn split_warm(
@@ -235,9 +252,8 @@ impl Sharpening {
         basis: &Basis,
         limit: Limit,
     ) -> Result<Step, AllocError> {
-        let setting = &self.sharpener.setting;
-        let experience = &mut self.experience;
-        if let Some(found) = shared.choose(setting, experience, basis.depth, limit)? {
+        let found = self.choose_warm(shared, basis, limit)?;
+        if let Some(found) = found {
             return self.split_by(shared, place, bound, basis, found, limit);
         }
         if !basis.is_solved_out {
@@ -246,7 +262,7 @@ impl Sharpening {
         let Some(cut) = open_cut(shared.ranges()) else {
             return Ok(Step::Readied);
         };
-        shared.keep_line(setting, cut.cycle)?;
+        shared.keep_line(&self.sharpener.setting, cut.cycle)?;
         shared.keep_here()?;
         let found = Candidate::of(cut, UNIT / 2);
         self.split_by(shared, place, bound, basis, found, limit)
@@ -306,12 +322,13 @@ impl Sharpening {
         limit: Limit,
     ) -> Result<u32, AllocError> {
         let before = shared.value();
-        let setting = &self.sharpener.setting;
-        let Some(old) = shared.enter_part(setting, found.cut, side)? else {
+        let entered = shared.enter_part(&self.sharpener.setting, found.cut, side)?;
+        let Some(old) = entered else {
             return self.add_copy(above);
         };
         let end = shared.solve_part(limit)?;
         let gain = shared.gain_since(before, end, limit);
+        let setting = &self.sharpener.setting;
         note(setting, &mut self.experience, found, side, gain);
         let number = self.tell_part(shared, above, end, limit)?;
         shared.leave_part(&self.sharpener.setting, found.cut, old)?;

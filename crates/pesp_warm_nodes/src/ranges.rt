@@ -104,9 +104,8 @@ impl Shared {
 
     /// Goes to a node.
     pub fn enter(&mut self, sharpener: &mut Sharpener, basis: &Basis) -> Result<(), AllocError> {
-        let Sharpener { setting, pool, .. } = sharpener;
-        self.place(setting, basis)?;
-        self.read(setting, pool, basis)?;
+        self.place(&sharpener.setting, basis)?;
+        self.read(&sharpener.setting, &mut sharpener.pool, basis)?;
         self.simplex.take_names(&self.basis)
     }
 

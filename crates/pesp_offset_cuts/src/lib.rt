@@ -2,8 +2,8 @@
 //! of them but that all is found safely.
 #![tactic(auto)]
 
-mod candidates;
+mod cuts;
 mod experience;
 
-pub use candidates::{Candidate, candidates, open_cut, tried, widest, worth_trying};
+pub use cuts::{Candidate, candidates, open_cut, tried, widest, worth_trying};
 pub use experience::Experience;

@@ -143,7 +143,7 @@ impl Cycle {
     }
 
     /// The coefficients of slacks in a bound on its offset.
-    pub(crate) fn terms(&self, alloc: Global, side: Side) -> Result<Vec<Term>, AllocError> {
+    pub fn terms(&self, alloc: Global, side: Side) -> Result<Vec<Term>, AllocError> {
         let mut terms = Vec::with_capacity(alloc, self.passes.len())?;
         for pass in &self.passes {
             let rises = pass.forwards == (side == Side::AtLeast);
@@ -156,7 +156,7 @@ impl Cycle {
     }
 
     /// What these terms are at least by a bound on its offset.
-    pub(crate) fn least(&self, period: i64, branch: Branch) -> i64 {
+    pub fn least(&self, period: i64, branch: Branch) -> i64 {
         let slack = period.wrapping_mul(branch.offset).wrapping_sub(self.lower);
         branch.side.signed(slack)
     }

@@ -14,7 +14,7 @@ mod sharpener;
 
 pub use branch::{Branch, Cut, Side};
 pub use cycles::{Cycle, Range};
-pub use limit::{Limit, UNIT};
+pub use limit::{Limit, UNIT, cost_shown};
 pub use node::Node;
 pub use pool::Pool;
 pub use relaxation::{Member, NO_MULTIPLIER, Origin, Relaxation};

@@ -21,7 +21,7 @@ impl Limit {
 }
 
 /// The whole cost that a value in units of a scale shows.
-pub(crate) fn cost_shown(value: i128, scale: u32) -> u64 {
+pub fn cost_shown(value: i128, scale: u32) -> u64 {
     let unit = i128::from(scale).max(1);
     let raised = value.saturating_add(unit.wrapping_sub(1)).max(0);
     u64::try_from(raised / unit).unwrap_or(u64::MAX)

@@ -3,7 +3,7 @@
 use crate::branch::Branch;
 use crate::cycles::Range;
 use crate::pool::Pool;
-use crate::relaxation::{NO_MULTIPLIER, Origin, Relaxation};
+use crate::relaxation::{NO_MULTIPLIER, Origin, Relaxation, filled};
 use crate::setting::Setting;
 use pesp_dual::{Multiplier, Point};
 use std::alloc::{AllocError, Global};
@@ -173,12 +173,29 @@ impl Node {
         pool: &Pool,
     ) -> Result<Relaxation, AllocError> {
         let mut relaxation = Relaxation::new(alloc, setting)?;
+        let outcome = self.load(alloc, setting, pool, &mut relaxation);
+        filled(relaxation, outcome)
+    }
+
+    /// Puts the inequalities into a program, and its slacks.
+    fn load(
+        &self,
+        alloc: Global,
+        setting: &Setting,
+        pool: &Pool,
+        relaxation: &mut Relaxation,
+    ) -> Result<(), AllocError> {
         for held in &self.held {
             relaxation.add(alloc, setting, pool, held.origin, held.multiplier)?;
         }
+        self.place(alloc, relaxation)
+    }
+
+    /// Puts the slacks into a program.
+    fn place(&self, alloc: Global, relaxation: &mut Relaxation) -> Result<(), AllocError> {
         relaxation.program.set_point(&self.point(alloc)?);
         relaxation.program.settle_counts();
-        Ok(relaxation)
+        Ok(())
     }
 
     /// The program of a part of the node. A weaker bound of the same side goes, and leaves its multiplier.
@@ -190,6 +207,19 @@ impl Node {
         branch: Branch,
     ) -> Result<Relaxation, AllocError> {
         let mut relaxation = Relaxation::new(alloc, setting)?;
+        let outcome = self.load_part(alloc, setting, pool, branch, &mut relaxation);
+        filled(relaxation, outcome)
+    }
+
+    /// Puts the inequalities of a part into a program, and its slacks.
+    fn load_part(
+        &self,
+        alloc: Global,
+        setting: &Setting,
+        pool: &Pool,
+        branch: Branch,
+        relaxation: &mut Relaxation,
+    ) -> Result<(), AllocError> {
         let mut left = NO_MULTIPLIER;
         for held in &self.held {
             if held.is_weaker(branch) {
@@ -199,9 +229,7 @@ impl Node {
             }
         }
         relaxation.add_offset(alloc, setting, branch, left)?;
-        relaxation.program.set_point(&self.point(alloc)?);
-        relaxation.program.settle_counts();
-        Ok(relaxation)
+        self.place(alloc, relaxation)
     }
 
     /// The offsets that are left to each cycle.

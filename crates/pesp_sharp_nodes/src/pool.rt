@@ -83,12 +83,12 @@ impl Pool {
     }
 
     /// The key of an inequality.
-    pub(crate) fn key(&self, number: u32) -> Option<u64> {
+    pub fn key(&self, number: u32) -> Option<u64> {
         Some(self.entry(number)?.key)
     }
 
     /// The terms of an inequality.
-    pub(crate) fn terms(&self, number: u32) -> &[Term] {
+    pub fn terms(&self, number: u32) -> &[Term] {
         match self.entry(number) {
             Some(entry) => entry.inequality.terms.as_slice(),
             None => &[],
@@ -96,19 +96,19 @@ impl Pool {
     }
 
     /// What the terms of an inequality are at least.
-    pub(crate) fn least(&self, number: u32) -> i64 {
+    pub fn least(&self, number: u32) -> i64 {
         self.entry(number).map_or(0, |entry| entry.inequality.least)
     }
 
     /// A node keeps an inequality.
-    pub(crate) fn keep(&mut self, number: u32) {
+    pub fn keep(&mut self, number: u32) {
         if let Some(entry) = self.entries.get_mut(number as usize) {
             entry.kept = entry.kept.saturating_add(1);
         }
     }
 
     /// A node keeps an inequality no longer.
-    pub(crate) fn leave(&mut self, number: u32) {
+    pub fn leave(&mut self, number: u32) {
         if let Some(entry) = self.entries.get_mut(number as usize) {
             entry.kept = entry.kept.saturating_sub(1);
         }

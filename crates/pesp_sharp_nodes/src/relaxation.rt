@@ -52,6 +52,20 @@ pub const NO_MULTIPLIER: Multiplier = Multiplier {
     best: 0,
 };
 
+/// A program where it was filled; else it goes.
+pub(crate) fn filled(
+    relaxation: Relaxation,
+    outcome: Result<(), AllocError>,
+) -> Result<Relaxation, AllocError> {
+    match outcome {
+        Ok(()) => Ok(relaxation),
+        Err(error) => {
+            drop(relaxation);
+            Err(error)
+        }
+    }
+}
+
 impl Relaxation {
     /// The program without an inequality.
     pub fn new(alloc: Global, setting: &Setting) -> Result<Relaxation, AllocError> {

@@ -1,7 +1,7 @@
 //! The rounds at the root: inequalities are sought, and those of which nothing comes go.
 
 use crate::limit::Limit;
-use crate::relaxation::{Member, Origin, Relaxation};
+use crate::relaxation::{Member, Origin, Relaxation, filled};
 use crate::sharpener::Sharpener;
 use pesp_inequalities::Seen;
 use std::alloc::{AllocError, Global};
@@ -152,7 +152,7 @@ impl Sharpener {
     /// The program of the root after all rounds.
     pub fn root(&mut self, limit: Limit) -> Result<Relaxation, AllocError> {
         let mut relaxation = Relaxation::new(self.alloc, &self.setting)?;
-        self.look_long(&mut relaxation, limit)?;
-        Ok(relaxation)
+        let outcome = self.look_long(&mut relaxation, limit);
+        filled(relaxation, outcome)
     }
 }

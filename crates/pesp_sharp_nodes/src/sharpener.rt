@@ -4,7 +4,7 @@ use crate::branch::Branch;
 use crate::limit::Limit;
 use crate::node::Node;
 use crate::pool::Pool;
-use crate::relaxation::{NO_MULTIPLIER, Origin, Relaxation};
+use crate::relaxation::{NO_MULTIPLIER, Origin, Relaxation, filled};
 use crate::setting::Setting;
 use pesp_dual::Multiplier;
 use pesp_forest::Frame;
@@ -78,6 +78,22 @@ impl Sharpener {
         Ok(is_new)
     }
 
+    /// The most violated new inequalities at slacks in 1/65536, one of a walk, by their numbers in the pool. New is one whose key
+    /// isn't in `seen`, into which it is put.
+    pub fn find(
+        &mut self,
+        slacks: &[i64],
+        most: usize,
+        seen: &mut Seen,
+    ) -> Result<Vec<u32>, AllocError> {
+        let found = self.separator.look(slacks, false, EACH, most, seen)?;
+        let mut numbers = Vec::new(self.alloc);
+        for inequality in found {
+            numbers.push(self.pool.put(self.alloc, inequality)?)?;
+        }
+        Ok(numbers)
+    }
+
     /// The keys of a program's inequalities.
     pub(crate) fn seen_in(&self, relaxation: &Relaxation) -> Result<Seen, AllocError> {
         let mut seen = Seen::new(self.alloc);
@@ -141,8 +157,19 @@ impl Sharpener {
         offsets: &[(Branch, i64)],
         walks: &[(u32, i64)],
     ) -> Result<Relaxation, AllocError> {
-        let scale = self.setting.scale;
         let mut relaxation = Relaxation::new(self.alloc, &self.setting)?;
+        let outcome = self.tell(offsets, walks, &mut relaxation);
+        filled(relaxation, outcome)
+    }
+
+    /// Puts bounds on offsets and inequalities into a program, with their multipliers.
+    fn tell(
+        &self,
+        offsets: &[(Branch, i64)],
+        walks: &[(u32, i64)],
+        relaxation: &mut Relaxation,
+    ) -> Result<(), AllocError> {
+        let scale = self.setting.scale;
         for (branch, told) in offsets {
             let multiplier = multiplier_of(*told, scale);
             relaxation.add_offset(self.alloc, &self.setting, *branch, multiplier)?;
@@ -150,19 +177,24 @@ impl Sharpener {
         for (number, told) in walks {
             relaxation.add_pooled(&self.pool, *number, multiplier_of(*told, scale))?;
         }
-        Ok(relaxation)
+        Ok(())
+    }
+
+    /// Takes some steps and rounds over a program: all rounds at the root.
+    fn warm(&mut self, relaxation: &mut Relaxation, limit: Limit) -> Result<(), AllocError> {
+        if relaxation.has_offset() {
+            relaxation.settle(limit);
+            self.sharpen(relaxation, limit)
+        } else {
+            self.look_long(relaxation, limit)
+        }
     }
 
     /// The program of a node whose slacks are still to be found, after some steps and rounds: all rounds at the root.
     pub fn warmed(&mut self, node: &Node, limit: Limit) -> Result<Relaxation, AllocError> {
         let mut relaxation = self.loaded(node)?;
-        if relaxation.has_offset() {
-            relaxation.settle(limit);
-            self.sharpen(&mut relaxation, limit)?;
-        } else {
-            self.look_long(&mut relaxation, limit)?;
-        }
-        Ok(relaxation)
+        let outcome = self.warm(&mut relaxation, limit);
+        filled(relaxation, outcome)
     }
 
     /// The program of a part of a node, after some steps and rounds.
@@ -174,8 +206,8 @@ impl Sharpener {
     ) -> Result<Relaxation, AllocError> {
         let mut relaxation = node.part(self.alloc, &self.setting, &self.pool, branch)?;
         relaxation.settle(limit);
-        self.sharpen(&mut relaxation, limit)?;
-        Ok(relaxation)
+        let outcome = self.sharpen(&mut relaxation, limit);
+        filled(relaxation, outcome)
     }
 
     /// The inequalities of a program that nothing keeps go.

@@ -277,7 +277,7 @@ pub(crate) fn proposals_of(
     let parts = Parts {
         left,
         sharpened: &sharpened,
-        scale: search.scale,
+        scale: search.sharpening.scale(),
         best: &search.best,
         base: if search.has_taken_up { base } else { None },
     };

@@ -27,13 +27,11 @@ const MOST_TURNS: u32 = 10_000_000;
 /// By what the choices of the search are drawn.
 const SEED: u64 = 1;
 
-/// A search that sharpens what is left of an instance: by which scale, whether it has taken up a tree, and after how many steps
-/// it begins.
+/// A search that sharpens what is left of an instance: whether it has taken up a tree, and after how many steps it begins.
 #[derive(Drop)]
 pub(crate) struct SharpSearch {
     pub(crate) sharpening: Sharpening,
     pub(crate) best: Option<Best>,
-    pub(crate) scale: u32,
     pub(crate) has_taken_up: bool,
     times: Option<TimesSearch>,
     before: u32,
@@ -74,7 +72,6 @@ impl SharpSearch {
         Ok(SharpSearch {
             sharpening,
             best: None,
-            scale,
             has_taken_up: false,
             times: None,
             before,

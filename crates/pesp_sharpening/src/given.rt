@@ -1,11 +1,12 @@
 //! Trees that are given, and taken up.
 
-use crate::experience::Experience;
+use crate::opens::{Open, Start};
 use crate::shape::Shape;
 use crate::sharpened::{Leaf, Line, Sharpened};
-use crate::sharpening::{Open, Sharpening};
+use crate::sharpening::Sharpening;
 use crate::tree::Knot;
 use pesp_inequalities::Pass;
+use pesp_offset_cuts::Experience;
 use pesp_problem::Memory;
 use pesp_sharp_nodes::{Branch, Cut, Limit, Node, Range, Side};
 use std::alloc::{AllocError, Global};
@@ -112,7 +113,11 @@ impl Sharpening {
         if bound < given.limit.cost {
             let node = Node::cold(self.alloc, &relaxation, given.common)?;
             node.keep_in(&mut self.sharpener.pool);
-            self.leaves.push(Open { place, bound, node })?;
+            self.leaves.push(Open {
+                place,
+                bound,
+                start: Start::Steps(node),
+            })?;
         }
         let pairs = Vec::from_slice(self.alloc, &leaf.pairs)?;
         Ok(Knot::Leaf {
@@ -186,9 +191,10 @@ impl Sharpening {
         let mut old = Vec::new(self.alloc);
         swap(&mut old, &mut self.leaves);
         let common = match old.first() {
-            Some(open) => open.node.pooled(self.alloc)?,
+            Some(open) => open.pooled(self.alloc)?,
             None => Vec::new(self.alloc),
         };
+        self.leave_shared();
         self.begin_with(given)?;
         let walks = self.take_walks(&given.walks)?;
         let limit = self.sharpener.setting.limit(best);
@@ -205,6 +211,13 @@ impl Sharpening {
         Ok(true)
     }
 
+    /// Leaves go on by primal-dual steps, and multipliers are told as at first.
+    fn leave_shared(&mut self) {
+        self.shared = None;
+        self.carried = None;
+        self.sharpener.setting.scale = self.first_scale;
+    }
+
     /// Cycles that are given stand before the others, and no cut has gained anything.
     fn begin_with(&mut self, given: &Sharpened) -> Result<(), AllocError> {
         let setting = &mut self.sharpener.setting;
@@ -218,7 +231,7 @@ impl Sharpening {
     /// Leaves are open no longer.
     fn leave(&mut self, leaves: &[Open]) -> Result<(), AllocError> {
         for open in leaves {
-            open.node.leave(self.alloc, &mut self.sharpener.pool)?;
+            open.leave(self.alloc, &mut self.sharpener.pool)?;
         }
         Ok(())
     }

@@ -3,17 +3,17 @@
 //! judged by others.
 #![tactic(auto)]
 
-mod candidates;
-mod experience;
 mod given;
 mod leaves;
 mod lines;
+mod opens;
 mod proposals;
 mod shape;
 mod sharpened;
 mod sharpening;
 mod tree;
 mod trials;
+mod warm;
 
 pub use sharpened::{Leaf, Line, Sharpened};
 pub use sharpening::{Sharpening, Step};

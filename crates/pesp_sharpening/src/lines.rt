@@ -13,6 +13,27 @@ struct Numbers {
     walks: Vec<u32>,
 }
 
+/// Marks a cycle.
+fn mark(marks: &mut [bool], cycle: u32) {
+    if let Some(slot) = marks.get_mut(cycle as usize) {
+        *slot = true;
+    }
+}
+
+/// Marks the cycles that a place of the tree names.
+fn mark_named(marks: &mut [bool], knot: &Knot) {
+    match knot {
+        Knot::Split { cut, .. } => mark(marks, cut.cycle),
+        Knot::Gap { cycle } => mark(marks, *cycle),
+        Knot::Leaf { leaf, .. } | Knot::Shut { leaf } => {
+            for (cycle, _) in &leaf.pairs {
+                mark(marks, *cycle);
+            }
+        }
+        Knot::Kept { .. } => {}
+    }
+}
+
 /// Whether each cycle was given, or is named by the tree.
 fn named_cycles(
     alloc: Global,
@@ -25,14 +46,7 @@ fn named_cycles(
         is_named.push(place < given)?;
     }
     for knot in &tree.knots {
-        let cycle = match knot {
-            Knot::Split { cut, .. } => cut.cycle,
-            Knot::Gap { cycle } => *cycle,
-            _ => continue,
-        };
-        if let Some(slot) = is_named.get_mut(cycle as usize) {
-            *slot = true;
-        }
+        mark_named(&mut is_named, knot);
     }
     Ok(is_named)
 }

@@ -121,7 +121,7 @@ impl Tree {
         if let Some(slot) = self.knots.get_mut(place as usize) {
             swap(slot, &mut other);
         }
-        if let Knot::Leaf { leaf, .. } = &other {
+        if let Knot::Leaf { leaf, .. } | Knot::Shut { leaf } = &other {
             self.pairs = self.pairs.saturating_sub(pairs_of(leaf));
             untell(alloc, pool, leaf)?;
         }
@@ -139,6 +139,38 @@ impl Tree {
     ) -> Result<(), AllocError> {
         self.told_leaf(pool, &leaf);
         self.replace(alloc, pool, place, Knot::Leaf { leaf, bound })
+    }
+
+    /// Puts a leaf in the place of one that shows that no timetable is there.
+    pub(crate) fn shut(
+        &mut self,
+        alloc: Global,
+        pool: &mut Pool,
+        place: u32,
+        leaf: Leaf,
+    ) -> Result<(), AllocError> {
+        self.told_leaf(pool, &leaf);
+        self.replace(alloc, pool, place, Knot::Shut { leaf })
+    }
+
+    /// A leaf more that shows that no timetable is there; its place.
+    pub(crate) fn add_shut(&mut self, pool: &mut Pool, leaf: Leaf) -> Result<u32, AllocError> {
+        self.told_leaf(pool, &leaf);
+        self.add(Knot::Shut { leaf })
+    }
+
+    /// A copy of the leaf at a place; one without multipliers where there is none.
+    pub(crate) fn copied(&self, alloc: Global, place: u32) -> Result<Leaf, AllocError> {
+        match self.knots.get(place as usize) {
+            Some(Knot::Leaf { leaf, .. }) => Ok(Leaf {
+                pairs: Vec::from_slice(alloc, &leaf.pairs)?,
+                walks: Vec::from_slice(alloc, &leaf.walks)?,
+            }),
+            _ => Ok(Leaf {
+                pairs: Vec::new(alloc),
+                walks: Vec::new(alloc),
+            }),
+        }
     }
 
     /// How many walks the leaf at a place has multipliers of.

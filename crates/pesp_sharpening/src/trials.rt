@@ -1,8 +1,7 @@
 //! Trials of cuts: a few steps in both parts (strong branching: Applegate et al. 1995).
 
-use crate::candidates::Candidate;
-use crate::experience::Experience;
 use pesp_dual::Save;
+use pesp_offset_cuts::{Candidate, Experience};
 use pesp_sharp_nodes::{Cut, Limit, NO_MULTIPLIER, Relaxation, Setting, Side, UNIT};
 use std::alloc::{AllocError, Global};
 

@@ -6,6 +6,9 @@ use std::alloc::{AllocError, Global};
 /// A fraction below which a gain counts as over this fraction.
 const LEAST_FRACTION: i64 = UNIT / 64;
 
+/// What is added to each gain before they are multiplied, in 1/65536.
+const LEAST_GAIN: u128 = 64;
+
 /// Gains over a fraction of 1, in 1/65536, summed up, and how many there were.
 #[derive(Clone, Copy)]
 struct Gains {
@@ -31,8 +34,9 @@ const NO_RECORD: Record = Record {
 
 /// What the cuts of each cycle have gained so far.
 #[derive(Drop)]
-pub(crate) struct Experience {
+pub struct Experience {
     records: Vec<Record>,
+    by_weight: Gains,
 }
 
 /// A number without its sign; 0 where it is below 0.
@@ -76,15 +80,16 @@ fn first_score(weight: u64, fraction: i64) -> u128 {
 
 impl Experience {
     /// No gains for so many cycles.
-    pub(crate) fn new(alloc: Global, cycles: usize) -> Result<Experience, AllocError> {
+    pub fn new(alloc: Global, cycles: usize) -> Result<Experience, AllocError> {
         Ok(Experience {
             records: vec![in alloc; NO_RECORD; cycles]?,
+            by_weight: NO_GAINS,
         })
     }
 
     /// How well a cut is thought of, of a cycle of such a weight, whose offset is by a fraction, in 1/65536, above the lower
     /// part: the product of the gains to be expected.
-    pub(crate) fn score(&self, cycle: u32, weight: u64, fraction: i64) -> u128 {
+    pub fn score(&self, cycle: u32, weight: u64, fraction: i64) -> u128 {
         let record = self.records.get(cycle as usize).copied();
         let Record { low, high } = record.unwrap_or(NO_RECORD);
         if low.count == 0 && high.count == 0 {
@@ -97,7 +102,7 @@ impl Experience {
     }
 
     /// Notes what a part of a cut gained, in 1/2^20, where the offset was by a fraction, in 1/65536, outside it.
-    pub(crate) fn note(&mut self, cycle: u32, side: Side, gain: i128, fraction: i64) {
+    pub fn note(&mut self, cycle: u32, side: Side, gain: i128, fraction: i64) {
         let Some(record) = self.records.get_mut(cycle as usize) else {
             return;
         };
@@ -105,5 +110,41 @@ impl Experience {
             Side::AtMost => record.low.note(gain, fraction),
             Side::AtLeast => record.high.note(gain, fraction),
         }
+    }
+
+    /// The gain over a fraction of 1 that is to be expected of a side of a cut of a cycle of such a weight: the mean of what there
+    /// was, and else as much by weight as cuts of all cycles gained.
+    fn expected(&self, gains: &Gains, weight: u64) -> u128 {
+        let by_weight = self.by_weight.mean().unwrap_or(1 << 16);
+        let heavy = u128::from(weight).saturating_add(1);
+        gains.mean().unwrap_or(by_weight.saturating_mul(heavy))
+    }
+
+    /// How well a cut is thought of by what is expected of its sides.
+    pub fn expected_score(&self, cycle: u32, weight: u64, fraction: i64) -> u128 {
+        let record = self.records.get(cycle as usize).copied();
+        let Record { low, high } = record.unwrap_or(NO_RECORD);
+        let below = self
+            .expected(&low, weight)
+            .saturating_mul(natural(fraction))
+            >> 16;
+        let rest = UNIT.saturating_sub(fraction);
+        let above = self.expected(&high, weight).saturating_mul(natural(rest)) >> 16;
+        below
+            .saturating_add(LEAST_GAIN)
+            .saturating_mul(above.saturating_add(LEAST_GAIN))
+    }
+
+    /// How often both sides of a cycle's cuts were tried.
+    pub fn times_tried(&self, cycle: u32) -> u64 {
+        let record = self.records.get(cycle as usize).copied();
+        let Record { low, high } = record.unwrap_or(NO_RECORD);
+        low.count.min(high.count)
+    }
+
+    /// Notes also what was gained by the weight of the cycle.
+    pub fn note_by_weight(&mut self, gain: i128, fraction: i64, weight: u64) {
+        let heavy = i128::from(weight).saturating_add(1);
+        self.by_weight.note(gain / heavy.max(1), fraction);
     }
 }

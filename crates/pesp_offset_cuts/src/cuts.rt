@@ -11,20 +11,33 @@ const FAR: i64 = UNIT / 50;
 /// How far they are where none is as far as that.
 const NEAR: i64 = UNIT / 1000;
 
+/// How far they are at least where exchanges found the slacks.
+const NEARLY_WHOLE: i64 = UNIT / 8192;
+
 /// How many cuts are tried.
 const MOST_TRIED: usize = 8;
 
 /// A cut of the offsets that are left to a cycle: by what fraction, in 1/65536, the offset at the point is above the lower
 /// part, how many offsets there are beyond the least one, and how well it is thought of.
 #[derive(Clone, Copy)]
-pub(crate) struct Candidate {
-    pub(crate) cut: Cut,
-    pub(crate) fraction: i64,
+pub struct Candidate {
+    pub cut: Cut,
+    pub fraction: i64,
     width: i64,
-    score: u128,
+    pub score: u128,
 }
 
 impl Candidate {
+    /// A cut at such a fraction, of which nothing else is known.
+    pub fn of(cut: Cut, fraction: i64) -> Candidate {
+        Candidate {
+            cut,
+            fraction,
+            width: 0,
+            score: 0,
+        }
+    }
+
     /// How far the offset is from both parts, in 1/65536.
     fn distance(&self) -> i64 {
         self.fraction.min(UNIT.saturating_sub(self.fraction))
@@ -60,7 +73,7 @@ fn cut_at(
 }
 
 /// For each cycle to which two offsets are left at least its cut at a point.
-pub(crate) fn candidates(
+pub fn candidates(
     alloc: Global,
     setting: &Setting,
     experience: &Experience,
@@ -94,7 +107,7 @@ fn further(alloc: Global, list: &[Candidate], distance: i64) -> Result<Vec<Candi
 }
 
 /// The cuts that are tried, the best of them first; none where all offsets look whole.
-pub(crate) fn tried(alloc: Global, list: &[Candidate]) -> Result<Vec<Candidate>, AllocError> {
+pub fn tried(alloc: Global, list: &[Candidate]) -> Result<Vec<Candidate>, AllocError> {
     let mut found = further(alloc, list, FAR)?;
     if found.is_empty() {
         found = further(alloc, list, NEAR)?;
@@ -105,8 +118,39 @@ pub(crate) fn tried(alloc: Global, list: &[Candidate]) -> Result<Vec<Candidate>,
 }
 
 /// The cut where the offset is furthest from whole, and of these the one of most offsets: what is cut where all look whole.
-pub(crate) fn widest(list: &[Candidate]) -> Option<Candidate> {
+pub fn widest(list: &[Candidate]) -> Option<Candidate> {
     list.iter()
         .copied()
         .max_by_key(|candidate| (candidate.distance(), candidate.width))
+}
+
+/// The cuts whose offsets aren't whole at a point, the best of them first, by what cuts of their cycles gained; at most so many.
+pub fn worth_trying(
+    alloc: Global,
+    setting: &Setting,
+    experience: &Experience,
+    ranges: &[Range],
+    slacks: &[i64],
+    most: usize,
+) -> Result<Vec<Candidate>, AllocError> {
+    let list = candidates(alloc, setting, experience, ranges, slacks)?;
+    let mut found = further(alloc, &list, NEARLY_WHOLE)?;
+    for candidate in found.iter_mut() {
+        let weight = setting.cycle(candidate.cut.cycle).map_or(0, |it| it.weight);
+        let Cut { cycle, .. } = candidate.cut;
+        candidate.score = experience.expected_score(cycle, weight, candidate.fraction);
+    }
+    found.sort_unstable_by_key(|candidate| (Reverse(candidate.score), candidate.cut.cycle));
+    found.truncate(most);
+    Ok(found)
+}
+
+/// A cut in the middle of the first range that leaves two offsets at least; None where no range does.
+pub fn open_cut(ranges: &[Range]) -> Option<Cut> {
+    let place = ranges.iter().position(|range| range.width() > 0)?;
+    let range = ranges.get(place).copied()?;
+    Some(Cut {
+        cycle: u32::try_from(place).ok()?,
+        most: range.least.saturating_add(range.width() / 2),
+    })
 }

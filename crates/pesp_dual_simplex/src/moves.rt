@@ -1,0 +1,174 @@
+//! How multipliers and slacks move at an exchange.
+
+use crate::fixed::{by_whole, over, times};
+use crate::inverse::{list_numbers, make_zeros, products};
+use crate::members::{Entering, Leaving, Member};
+use crate::simplex::Simplex;
+use std::alloc::AllocError;
+
+impl Simplex {
+    /// The coefficient of a slack at an end, or of a tight line, in the row of the tableau.
+    pub(crate) fn coefficient_of(&self, member: Member) -> i64 {
+        match member {
+            Member::Slack(number) => self.alpha.get(number),
+            Member::Line(_) => match self.state.place_of(member) {
+                Some(place) => self.weights.get(place as usize).copied().unwrap_or(0),
+                None => 0,
+            },
+        }
+    }
+
+    /// Reduced costs fall by a step times the row of the tableau.
+    fn move_reduced(&mut self, step: i64) {
+        for number in self.alpha.places() {
+            let part = times(step, self.alpha.get(*number));
+            if let Some(slack) = self.state.slacks.get_mut(*number as usize) {
+                slack.reduced = slack.reduced.wrapping_sub(part);
+            }
+        }
+    }
+
+    /// Multipliers fall by a step times the row of the tableau.
+    fn move_multipliers(&mut self, step: i64) {
+        for (place, weight) in &self.listed {
+            let number = self.state.tight.get(*place as usize).copied();
+            if let Some(sum) = self.state.sums.get_mut(number.unwrap_or(u32::MAX) as usize) {
+                sum.multiplier = sum.multiplier.wrapping_sub(times(step, *weight));
+            }
+        }
+    }
+
+    /// Multipliers and reduced costs move until that of what enters is 0.
+    pub(crate) fn move_prices(&mut self, leaving: Leaving, entering: Entering) {
+        let step = leaving.signed(entering.ratio);
+        self.move_reduced(step);
+        self.move_multipliers(step);
+        self.state.set_price(leaving.member, step);
+        self.state.set_price(entering.member, 0);
+        self.state.value = self.state.value.saturating_add(entering.gain);
+    }
+
+    /// Adds to what the tight line at a place has to be made up for.
+    fn add_number(&mut self, place: Option<u32>, number: i64) {
+        if let Some(place) = place
+            && let Some(slot) = self.numbers.get_mut(place as usize)
+        {
+            *slot = slot.wrapping_add(number);
+        }
+    }
+
+    /// What a slack that moves takes from tight lines.
+    fn spread(&mut self, number: u32, step: i64) {
+        let Some(column) = self.columns.get(number as usize) else {
+            return;
+        };
+        for entry in &column.entries {
+            if let Some(sum) = self.state.sums.get(entry.line as usize)
+                && let Some(place) = sum.place
+                && let Some(slot) = self.numbers.get_mut(place as usize)
+            {
+                *slot = slot.wrapping_sub(by_whole(step, entry.coefficient));
+            }
+        }
+    }
+
+    /// Moves a slack at an end, or the bound of a tight line.
+    fn push_member(&mut self, member: Member, step: i64) -> Result<(), AllocError> {
+        match member {
+            Member::Slack(number) => {
+                self.moves.add(number, step)?;
+                self.spread(number, step);
+            }
+            Member::Line(_) => {
+                let place = self.state.place_of(member);
+                self.add_number(place, step);
+            }
+        }
+        Ok(())
+    }
+
+    /// Whether a slack or a tight line is at its upper end.
+    fn is_up(&self, member: Member) -> bool {
+        let is_up = match member {
+            Member::Slack(number) => self.state.slacks.get(number as usize).map(|it| it.is_up),
+            Member::Line(number) => self.state.sums.get(number as usize).map(|it| it.is_up),
+        };
+        is_up.unwrap_or(false)
+    }
+
+    /// A candidate goes to its other end; what that adds to what leaves.
+    fn flip(&mut self, at: usize) -> Result<i64, AllocError> {
+        let Some(candidate) = self.candidates.get(at).copied() else {
+            return Ok(0);
+        };
+        let member = candidate.member;
+        let is_up = self.is_up(member);
+        let range = self.range_of(member);
+        let step = if is_up { range.wrapping_neg() } else { range };
+        self.state.set_end(member, !is_up);
+        self.push_member(member, step)?;
+        Ok(times(self.coefficient_of(member), step))
+    }
+
+    /// Moves the basic slacks so that tight lines stay tight.
+    fn move_basic(&mut self) -> Result<(), AllocError> {
+        list_numbers(&mut self.numbers, &mut self.others)?;
+        products(&self.state.inverse, &self.others, &mut self.factors)?;
+        let rows = self.state.inverse.len() as u64;
+        self.work = self
+            .work
+            .wrapping_add(rows.wrapping_mul(self.others.len() as u64));
+        for (number, step) in self.state.basic.iter().zip(self.factors.iter()) {
+            if *step != 0 {
+                self.moves.add(*number, *step)?;
+            }
+        }
+        Ok(())
+    }
+
+    /// A slack moves, and all sums that it is in.
+    fn move_slack(&mut self, number: u32, step: i64) {
+        let Some(column) = self.columns.get(number as usize) else {
+            return;
+        };
+        if let Some(slack) = self.state.slacks.get_mut(number as usize) {
+            slack.value = slack.value.wrapping_add(step);
+        }
+        for entry in &column.entries {
+            if let Some(sum) = self.state.sums.get_mut(entry.line as usize) {
+                sum.value = sum.value.wrapping_add(by_whole(step, entry.coefficient));
+            }
+        }
+        self.work = self.work.wrapping_add(column.entries.len() as u64);
+    }
+
+    /// Slacks move as they are listed.
+    fn move_listed(&mut self) {
+        for at in 0..self.moves.places().len() {
+            if let Some(number) = self.moves.places().get(at).copied() {
+                let step = self.moves.get(number);
+                self.move_slack(number, step);
+            }
+        }
+        self.moves.clear();
+    }
+
+    /// Slacks move: those that go to their other end, what enters, and the basic ones.
+    pub(crate) fn move_slacks(
+        &mut self,
+        leaving: Leaving,
+        entering: Entering,
+    ) -> Result<(), AllocError> {
+        make_zeros(&mut self.numbers, self.state.tight.len())?;
+        self.moves.clear();
+        let mut need = leaving.missing;
+        for at in 0..entering.flips {
+            need = need.wrapping_sub(self.flip(at)?);
+        }
+        let step = over(need, self.coefficient_of(entering.member));
+        self.push_member(entering.member, step)?;
+        self.move_basic()?;
+        self.move_listed();
+        Ok(())
+    }
+}

@@ -1,0 +1,132 @@
+//! Where a simplex stands.
+
+use crate::members::Member;
+use std::alloc::{AllocError, Global};
+
+/// A slack: its value, its reduced cost, its place among the basic ones, and otherwise whether it is at its span.
+#[derive(Clone, Copy)]
+pub(crate) struct Slack {
+    pub(crate) value: i64,
+    pub(crate) reduced: i64,
+    pub(crate) place: Option<u32>,
+    pub(crate) is_up: bool,
+}
+
+/// A line: its sum, its multiplier, its place among the tight ones, and then whether it is at its greatest value.
+#[derive(Clone, Copy)]
+pub(crate) struct Sum {
+    pub(crate) value: i64,
+    pub(crate) multiplier: i64,
+    pub(crate) place: Option<u32>,
+    pub(crate) is_up: bool,
+}
+
+/// Where a simplex stands: the basic slacks and the tight lines, which are as many; the inverse of the coefficients of the ones
+/// in the others, by basic slack; all slacks and lines; the value; and how many exchanges were made since the inverse was built.
+#[derive(Drop)]
+pub struct State {
+    pub(crate) basic: Vec<u32>,
+    pub(crate) tight: Vec<u32>,
+    pub(crate) inverse: Vec<Vec<i64>>,
+    pub(crate) slacks: Vec<Slack>,
+    pub(crate) sums: Vec<Sum>,
+    pub(crate) value: i64,
+    pub(crate) since: u32,
+}
+
+/// A slack at 0.
+pub(crate) const NO_SLACK: Slack = Slack {
+    value: 0,
+    reduced: 0,
+    place: None,
+    is_up: false,
+};
+
+/// Copies rows into others, in their place.
+fn copy_rows(alloc: Global, into: &mut Vec<Vec<i64>>, rows: &[Vec<i64>]) -> Result<(), AllocError> {
+    into.truncate(rows.len());
+    for (slot, row) in into.iter_mut().zip(rows.iter()) {
+        slot.clear();
+        slot.extend_from_slice(row)?;
+    }
+    let left = rows.get(into.len()..).unwrap_or(&[]);
+    for row in left {
+        into.push(Vec::from_slice(alloc, row)?)?;
+    }
+    Ok(())
+}
+
+impl State {
+    /// Where nothing is.
+    pub fn new(alloc: Global) -> State {
+        State {
+            basic: Vec::new(alloc),
+            tight: Vec::new(alloc),
+            inverse: Vec::new(alloc),
+            slacks: Vec::new(alloc),
+            sums: Vec::new(alloc),
+            value: 0,
+            since: 0,
+        }
+    }
+
+    /// Copies another one into its place.
+    pub fn copy(&mut self, alloc: Global, other: &State) -> Result<(), AllocError> {
+        self.basic.clear();
+        self.basic.extend_from_slice(&other.basic)?;
+        self.tight.clear();
+        self.tight.extend_from_slice(&other.tight)?;
+        copy_rows(alloc, &mut self.inverse, &other.inverse)?;
+        self.slacks.clear();
+        self.slacks.extend_from_slice(&other.slacks)?;
+        self.sums.clear();
+        self.sums.extend_from_slice(&other.sums)?;
+        self.value = other.value;
+        self.since = other.since;
+        Ok(())
+    }
+
+    /// The place of a slack among the basic ones, or of a line among the tight ones.
+    pub(crate) fn place_of(&self, member: Member) -> Option<u32> {
+        match member {
+            Member::Slack(number) => self.slacks.get(number as usize)?.place,
+            Member::Line(number) => self.sums.get(number as usize)?.place,
+        }
+    }
+
+    /// Sets the place of a slack, or of a line.
+    pub(crate) fn set_place(&mut self, member: Member, place: Option<u32>) -> Option<()> {
+        match member {
+            Member::Slack(number) => self.slacks.get_mut(number as usize)?.place = place,
+            Member::Line(number) => self.sums.get_mut(number as usize)?.place = place,
+        }
+        Some(())
+    }
+
+    /// Sets at which end a slack or a line is.
+    pub(crate) fn set_end(&mut self, member: Member, is_up: bool) -> Option<()> {
+        match member {
+            Member::Slack(number) => self.slacks.get_mut(number as usize)?.is_up = is_up,
+            Member::Line(number) => self.sums.get_mut(number as usize)?.is_up = is_up,
+        }
+        Some(())
+    }
+
+    /// The reduced cost of a slack, or the multiplier of a line.
+    pub(crate) fn price(&self, member: Member) -> i64 {
+        let price = match member {
+            Member::Slack(number) => self.slacks.get(number as usize).map(|it| it.reduced),
+            Member::Line(number) => self.sums.get(number as usize).map(|it| it.multiplier),
+        };
+        price.unwrap_or(0)
+    }
+
+    /// Sets the reduced cost of a slack, or the multiplier of a line.
+    pub(crate) fn set_price(&mut self, member: Member, price: i64) -> Option<()> {
+        match member {
+            Member::Slack(number) => self.slacks.get_mut(number as usize)?.reduced = price,
+            Member::Line(number) => self.sums.get_mut(number as usize)?.multiplier = price,
+        }
+        Some(())
+    }
+}

@@ -8,7 +8,7 @@ use pesp_search_tools::Random;
 
 /// Which shifts of a set of events are allowed, and by how much each of these is dearer than to leave it.
 #[derive(Drop)]
-pub(crate) struct Choices {
+pub struct Choices {
     pub(crate) allowed: u64,
     costs: [i64; 64],
     leaps: [i64; 64],
@@ -37,7 +37,7 @@ impl Line {
 
 impl Choices {
     /// No choice.
-    pub(crate) fn none() -> Choices {
+    pub fn none() -> Choices {
         Choices {
             allowed: 0,
             costs: [0; 64],
@@ -112,12 +112,7 @@ impl Choices {
     }
 
     /// Finds out which shifts these rows allow, and what they cost.
-    pub(crate) fn find(
-        &mut self,
-        steps: &Steps,
-        rows: &[Activity],
-        crossings: &[Crossing],
-    ) -> Option<()> {
+    pub fn find(&mut self, steps: &Steps, rows: &[Activity], crossings: &[Crossing]) -> Option<()> {
         self.allow(steps, rows, crossings)?;
         if self.allowed & !steps.still() == 0 {
             return self.cost_nothing();
@@ -130,8 +125,13 @@ impl Choices {
         }
     }
 
+    /// Whether another shift than the one by nothing is allowed.
+    pub fn are_several(&self, steps: &Steps) -> bool {
+        self.allowed & !steps.still() != 0
+    }
+
     /// What an allowed shift costs more.
-    pub(crate) fn cost(&self, place: u32) -> i64 {
+    pub fn cost(&self, place: u32) -> i64 {
         self.costs.get(place as usize).copied().unwrap_or(0)
     }
 
@@ -177,7 +177,7 @@ impl Choices {
     }
 
     /// The cheapest allowed shift, where it is cheaper than none.
-    pub(crate) fn cheapest(&self, steps: &Steps) -> u32 {
+    pub fn cheapest(&self, steps: &Steps) -> u32 {
         let mut best = steps.idle();
         let mut least = 0;
         for place in Places(self.allowed) {
@@ -191,7 +191,7 @@ impl Choices {
     }
 
     /// An allowed shift, drawn by weight.
-    pub(crate) fn drawn(&self, steps: &Steps, heat: &Heat, random: &mut Random) -> u32 {
+    pub fn drawn(&self, steps: &Steps, heat: &Heat, random: &mut Random) -> u32 {
         let mut weights = [0u64; 64];
         let set = self.write_weights(self.least(), heat, 0, &mut weights);
         draw(&weights, set, random).unwrap_or(steps.idle())

@@ -15,3 +15,6 @@ mod steps;
 mod trees;
 
 pub use annealer::Annealer;
+pub use choices::Choices;
+pub use heat::{Heat, halved};
+pub use steps::Steps;

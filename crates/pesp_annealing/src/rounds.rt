@@ -3,7 +3,7 @@
 use crate::heat::Heat;
 use crate::slacks::Slacks;
 use crate::trees::Trees;
-use pesp_clusters::{Clusters, Cuts, Forest};
+use pesp_clusters::{Bent, Clusters, Cuts, Forest};
 use std::alloc::{AllocError, Global};
 
 /// The slacks that are being changed, and what rounds are made with.
@@ -39,7 +39,7 @@ impl Rounds {
     /// Draws a forest.
     fn draw_forest(&mut self) -> Option<()> {
         let (rows, random) = self.slacks.rows_and_random();
-        self.forest.draw(rows, random)
+        self.forest.draw(rows, Bent::Balanced, random)
     }
 
     /// Draws a forest and roots it.

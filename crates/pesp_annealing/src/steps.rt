@@ -7,7 +7,7 @@ use pesp_search_tools::Random;
 /// At most 64 shifts: the first one, and each further one larger by two to the power of `doublings`, modulo the period. In
 /// a period up to 64 they are all shifts from 0. `still` has the place of the shift by nothing, where that is one of them.
 #[derive(Clone, Copy)]
-pub(crate) struct Steps {
+pub struct Steps {
     period: u32,
     first: u32,
     doublings: u32,
@@ -34,7 +34,7 @@ fn divided_up(number: u32, doublings: u32) -> u32 {
 impl Steps {
     /// The shifts of a period: all where it is at most 64, else every second, fourth or so on, drawn at random, up to as many
     /// forwards as backwards.
-    pub(crate) fn draw(period: u32, random: &mut Random) -> Steps {
+    pub fn draw(period: u32, random: &mut Random) -> Steps {
         if period <= 64 {
             return Steps {
                 period,
@@ -62,7 +62,7 @@ impl Steps {
     }
 
     /// How many shifts there are.
-    pub(crate) fn count(&self) -> u32 {
+    pub fn count(&self) -> u32 {
         self.count
     }
 
@@ -72,12 +72,12 @@ impl Steps {
     }
 
     /// The place of the shift by nothing.
-    pub(crate) fn idle(&self) -> u32 {
+    pub fn idle(&self) -> u32 {
         self.still.trailing_zeros()
     }
 
     /// The shift at a place.
-    pub(crate) fn amount(&self, place: u32) -> u32 {
+    pub fn amount(&self, place: u32) -> u32 {
         sum_within(self.period, self.first, place.wrapping_shl(self.doublings))
     }
 
@@ -98,6 +98,16 @@ impl Steps {
             still: 0,
             ..*self
         }
+    }
+
+    /// How often the difference of two shifts in turn is doubled: 0 where these are all shifts.
+    pub fn doublings(&self) -> u32 {
+        self.doublings
+    }
+
+    /// A row's slack under the first shift.
+    pub fn first_slack(&self, row: &Activity, grows: bool) -> u32 {
+        row.shifted(self.period, self.first, grows)
     }
 
     /// A row's slack under the first shift, and the place of the shift at which it begins anew.

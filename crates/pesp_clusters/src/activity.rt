@@ -55,6 +55,11 @@ impl Activity {
         self.weight.wrapping_mul(i64::from(self.slack))
     }
 
+    /// Whether no slack would break it.
+    pub fn is_wide(&self, period: u32) -> bool {
+        self.span.wrapping_add(1) >= period
+    }
+
     /// The slack after a shift.
     pub fn shifted(&self, period: u32, amount: u32, grows: bool) -> u32 {
         if grows {

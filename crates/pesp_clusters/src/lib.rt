@@ -14,6 +14,6 @@ mod series;
 pub use activity::{Activity, Crossing, difference_within, sum_within};
 pub use clusters::{Clusters, Ends};
 pub use cuts::Cuts;
-pub use forest::Forest;
+pub use forest::{Bent, Forest};
 pub use induced::{Induced, Placed};
 pub use rooted::NONE;

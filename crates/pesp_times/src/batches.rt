@@ -1,10 +1,18 @@
 //! Batches: individuals are merged by fours, and these with the best of before.
 
-use crate::effort::{Effort, MAY_END_EARLY, MOST_REOPTIMISED, is_near};
+use crate::effort::{Effort, MAY_END_EARLY, MOST_REOPTIMISED, SoftEffort, is_near};
 use crate::found::Found;
 use crate::search::TimesSearch;
 use pesp_network::Network;
 use pesp_problem::Memory;
+
+/// How a batch ended: with all fours, with one that costs what the cheapest timetable of before does, or as none would win.
+#[derive(Clone, Copy, PartialEq, Eq)]
+pub(crate) enum Ended {
+    Whole,
+    Same,
+    Worthless,
+}
 
 impl TimesSearch {
     /// A merge of a pool, and balls behind it.
@@ -74,22 +82,62 @@ impl TimesSearch {
         Ok(())
     }
 
-    /// Fours of new individuals, merged with those that wait and with the best of before. Where there aren't very few rows it
-    /// ends once a four costs exactly what the cheapest timetable of before does, and says whether it did.
-    pub(crate) fn batch(&mut self, network: &Network, effort: Effort) -> Result<bool, Memory> {
-        let mut pool = self.adopt_waiting(network, effort)?;
-        for _ in 0..effort.fours {
-            let before = self.least();
-            let Some(found) = self.four(network, effort)? else {
-                continue;
-            };
-            if network.rows().len() > MAY_END_EARLY && before == Some(found.cost) {
-                return Ok(true);
+    /// Makes a four, and says whether it costs exactly what the cheapest timetable of before does.
+    fn add_four(
+        &mut self,
+        network: &Network,
+        pool: &mut Vec<Found>,
+        effort: Effort,
+    ) -> Result<bool, Memory> {
+        let before = self.least();
+        let Some(found) = self.four(network, effort)? else {
+            return Ok(false);
+        };
+        let is_same = before == Some(found.cost);
+        pool.push(found)?;
+        Ok(is_same)
+    }
+
+    /// Fours of new individuals. In the middle of them the search in which spans may be broken begins, if there is one.
+    fn add_fours(
+        &mut self,
+        network: &Network,
+        pool: &mut Vec<Found>,
+        effort: Effort,
+        soft: Option<SoftEffort>,
+    ) -> Result<Ended, Memory> {
+        for number in 0..effort.fours {
+            if let Some(soft) = soft
+                && number == effort.fours / 2
+            {
+                self.begin_softly(network, &soft)?;
             }
-            pool.push(found)?;
+            if !self.is_worth_a_batch() {
+                return Ok(Ended::Worthless);
+            }
+            let is_same = self.add_four(network, pool, effort)?;
+            if is_same && network.rows().len() > MAY_END_EARLY {
+                return Ok(Ended::Same);
+            }
         }
-        self.add_best(&mut pool)?;
-        self.merged_with_balls(network, pool, effort)?;
-        Ok(false)
+        Ok(Ended::Whole)
+    }
+
+    /// Fours of new individuals, merged with those that wait and with the best of before. Where there aren't very few rows it
+    /// ends once a four costs exactly what the cheapest timetable of before does; and once the search in which spans may be
+    /// broken is far ahead. It says how it ended.
+    pub(crate) fn batch(
+        &mut self,
+        network: &Network,
+        effort: Effort,
+        soft: Option<SoftEffort>,
+    ) -> Result<Ended, Memory> {
+        let mut pool = self.adopt_waiting(network, effort)?;
+        let ended = self.add_fours(network, &mut pool, effort, soft)?;
+        if ended == Ended::Whole {
+            self.add_best(&mut pool)?;
+            self.merged_with_balls(network, pool, effort)?;
+        }
+        Ok(ended)
     }
 }

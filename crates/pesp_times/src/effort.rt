@@ -56,3 +56,77 @@ impl Effort {
         }
     }
 }
+
+/// Up to how many rows there is no search in which spans may be broken: batches find the best there.
+const FEWEST_SOFT: usize = 120;
+
+/// How many groups of how many individuals have anneals in which spans may be broken, and with how many sweeps; how many sweeps an anneal between
+/// clusters has; how many reheats there are at most, with how many sweeps, and after how many in turn that found nothing they end.
+#[derive(Clone, Copy)]
+pub(crate) struct SoftEffort {
+    pub(crate) groups: u32,
+    pub(crate) individuals: u32,
+    pub(crate) sweeps: u32,
+    pub(crate) between: u32,
+    pub(crate) reheats: u32,
+    pub(crate) again: u32,
+    pub(crate) quiet: u32,
+}
+
+/// Whether a batch may still lead to the cheapest timetable, by what its cheapest and that of the other search cost.
+pub(crate) fn may_win(hard: u64, soft: u64) -> bool {
+    hard <= soft.saturating_add(soft / 16)
+}
+
+impl SoftEffort {
+    /// The work before the first step; None where there is none.
+    pub(crate) fn first(rows: usize) -> Option<SoftEffort> {
+        if rows <= FEWEST_SOFT {
+            return None;
+        }
+        let (groups, individuals, sweeps, reheats, quiet) = match rows {
+            0..=700 => (1, 4, 1_000, 8, 5),
+            701..=2_500 => (2, 4, 1_000, 12, 6),
+            2_501..=8_000 => (1, 1, 2_000, 8, 4),
+            8_001..=30_000 => (1, 1, 600, 2, 1),
+            _ => (1, 1, 200, 1, 1),
+        };
+        let between = sweeps.min(1_000);
+        Some(SoftEffort {
+            groups,
+            individuals,
+            sweeps,
+            between,
+            reheats,
+            again: between / 2,
+            quiet,
+        })
+    }
+
+    /// The same with one individual.
+    pub(crate) fn once(&self) -> SoftEffort {
+        SoftEffort {
+            groups: 1,
+            individuals: 1,
+            ..*self
+        }
+    }
+
+    /// The work after so many steps.
+    pub(crate) fn after(rows: usize, steps: u32) -> SoftEffort {
+        let between = match rows {
+            0..=8_000 => 1_000,
+            8_001..=30_000 => 600,
+            _ => 200,
+        };
+        SoftEffort {
+            groups: 0,
+            individuals: 0,
+            sweeps: 0,
+            between,
+            reheats: (steps / 128).clamp(4, 16),
+            again: between / 2,
+            quiet: 3,
+        }
+    }
+}

@@ -68,6 +68,14 @@ pub(crate) fn times_of(
     network.timetable_of(alloc, slacks)
 }
 
+/// The cheaper of two timetables.
+pub(crate) fn cheaper(one: Found, other: Option<Found>) -> Found {
+    let Some(other) = other else {
+        return one;
+    };
+    if other.cost < one.cost { other } else { one }
+}
+
 impl Found {
     /// The timetable of these slacks.
     pub(crate) fn of_slacks(network: &Network, slacks: Vec<u32>) -> Found {

@@ -86,7 +86,7 @@ impl TimesSearch {
     }
 
     /// Times that a dive finds without prices; it is made once.
-    fn plain_times(&mut self, network: &Network) -> Result<Option<Vec<u32>>, Memory> {
+    pub(crate) fn plain_times(&mut self, network: &Network) -> Result<Option<Vec<u32>>, Memory> {
         if let Known::NotYet = self.plain {
             let tries = tries_for(network.rows().len());
             self.plain = Known::Sought(dive(self.alloc, network, tries)?);

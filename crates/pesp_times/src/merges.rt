@@ -10,25 +10,66 @@ use crate::search::TimesSearch;
 use pesp_annealing::Annealer;
 use pesp_network::Network;
 use pesp_problem::Memory;
+use std::alloc::Global;
 
 /// How many timetables of the pool are annealed between clusters, and how many dives of the relaxation there.
 const TRIES: usize = 2;
 
 /// A merge: the network between clusters, its cheapest slacks so far, and what they cost.
 #[derive(Drop)]
-struct Merge {
-    contraction: Contraction,
-    slacks: Vec<u32>,
+pub(crate) struct Merge {
+    pub(crate) contraction: Contraction,
+    pub(crate) slacks: Vec<u32>,
     cost: u64,
 }
 
+/// The clusters of what timetables have in common.
+fn clusters_of(alloc: Global, network: &Network, pool: &[Found]) -> Result<Clusters, Memory> {
+    let mut slacks = Vec::with_capacity(alloc, pool.len())?;
+    for found in pool {
+        slacks.push(found.slacks.as_slice())?;
+    }
+    Ok(common_clusters(alloc, network, &slacks)?)
+}
+
 impl Merge {
-    /// Keeps what an annealer found if it is cheaper.
-    fn note(&mut self, annealer: &Annealer) {
-        let slacks = annealer.slacks();
-        if annealer.cost() < self.cost && slacks.len() == self.slacks.len() {
-            self.cost = annealer.cost();
+    /// The network between clusters of a pool, with the slacks of its cheapest timetable; None where there is nothing to search.
+    pub(crate) fn of(
+        alloc: Global,
+        network: &Network,
+        pool: &[Found],
+    ) -> Result<Option<Merge>, Memory> {
+        let Some(first) = pool.first() else {
+            return Ok(None);
+        };
+        let clusters = clusters_of(alloc, network, pool)?;
+        if clusters.count <= 1 {
+            return Ok(None);
+        }
+        let made = Contraction::new(alloc, network, &first.slacks, &clusters)?;
+        let Some(contraction) = made else {
+            return Ok(None);
+        };
+        Ok(Some(Merge {
+            slacks: contraction.taken_from(alloc, &first.slacks)?,
+            cost: contraction.cost,
+            contraction,
+        }))
+    }
+
+    /// Keeps slacks if they are cheaper.
+    pub(crate) fn note(&mut self, cost: u64, slacks: &[u32]) {
+        if cost < self.cost && slacks.len() == self.slacks.len() {
+            self.cost = cost;
             self.slacks.copy_from_slice(slacks);
+        }
+    }
+
+    /// Puts what was found into the timetable that it was opened with, if it is cheaper.
+    pub(crate) fn put_into(&self, network: &Network, first: &mut Found) {
+        if self.cost < self.contraction.cost {
+            self.contraction.put_into(&mut first.slacks, &self.slacks);
+            first.cost = cost_of(network, &first.slacks);
         }
     }
 }
@@ -42,35 +83,6 @@ fn count_near(rows: usize, pool: &[Found]) -> usize {
 }
 
 impl TimesSearch {
-    /// The clusters of what timetables have in common.
-    fn clusters_of(&self, network: &Network, pool: &[Found]) -> Result<Clusters, Memory> {
-        let mut slacks = Vec::with_capacity(self.alloc, pool.len())?;
-        for found in pool {
-            slacks.push(found.slacks.as_slice())?;
-        }
-        Ok(common_clusters(self.alloc, network, &slacks)?)
-    }
-
-    /// The network between clusters of a pool, with the slacks of its cheapest timetable; None where there is nothing to search.
-    fn opened(&self, network: &Network, pool: &[Found]) -> Result<Option<Merge>, Memory> {
-        let Some(first) = pool.first() else {
-            return Ok(None);
-        };
-        let clusters = self.clusters_of(network, pool)?;
-        if clusters.count <= 1 {
-            return Ok(None);
-        }
-        let made = Contraction::new(self.alloc, network, &first.slacks, &clusters)?;
-        let Some(contraction) = made else {
-            return Ok(None);
-        };
-        Ok(Some(Merge {
-            slacks: contraction.taken_from(self.alloc, &first.slacks)?,
-            cost: contraction.cost,
-            contraction,
-        }))
-    }
-
     /// The heat at which an anneal between clusters begins.
     fn heat(&self) -> u64 {
         self.mean.saturating_mul(2).max(1)
@@ -88,7 +100,7 @@ impl TimesSearch {
             let network = &merge.contraction.network;
             if let Some(mut annealer) = self.descended(network, slacks, 0)? {
                 annealer.anneal(network, rounds, self.heat())?;
-                merge.note(&annealer);
+                merge.note(annealer.cost(), annealer.slacks());
             }
         }
         Ok(())
@@ -102,7 +114,7 @@ impl TimesSearch {
         rounds: u32,
     ) -> Result<(), Memory> {
         annealer.anneal(&merge.contraction.network, rounds, self.heat())?;
-        merge.note(annealer);
+        merge.note(annealer.cost(), annealer.slacks());
         Ok(())
     }
 
@@ -145,17 +157,14 @@ impl TimesSearch {
     ) -> Result<Option<Found>, Memory> {
         pool.sort_unstable_by_key(|found| found.cost);
         pool.truncate(count_near(network.rows().len(), &pool));
-        let opened = self.opened(network, &pool)?;
+        let opened = Merge::of(self.alloc, network, &pool)?;
         if let Some(mut merge) = opened {
             self.anneal_pool(&mut merge, &pool, rounds)?;
             if merge.contraction.network.rows().len() <= MOST_DIVED {
                 self.dive_between(&mut merge, rounds)?;
             }
-            if merge.cost < merge.contraction.cost
-                && let Some(first) = pool.first_mut()
-            {
-                merge.contraction.put_into(&mut first.slacks, &merge.slacks);
-                first.cost = cost_of(network, &first.slacks);
+            if let Some(first) = pool.first_mut() {
+                merge.put_into(network, first);
             }
         }
         pool.truncate(1);

@@ -1,10 +1,13 @@
 //! The search for timetables of one network, and the best that it found.
 
-use crate::effort::Effort;
+use crate::batches::Ended;
+use crate::cheapest::Cheapest;
+use crate::effort::{Effort, SoftEffort, may_win};
 use crate::fixed_offsets::reoptimised;
-use crate::found::{Found, slacks_of, times_of};
+use crate::found::{Found, cheaper, slacks_of};
 use crate::kinds::Kinds;
 use crate::relaxation::Relaxation;
+use crate::soft::SoftSearch;
 use pesp_forest::Frame;
 use pesp_network::Network;
 use pesp_problem::Memory;
@@ -17,13 +20,6 @@ const LONG_REST: u32 = 3;
 /// How many timetables that were met elsewhere wait for a batch at most.
 const MOST_WAITING: usize = 3;
 
-/// The times of a timetable, its slacks, and what it costs.
-#[derive(Drop)]
-struct Best {
-    times: Vec<u32>,
-    found: Found,
-}
-
 /// What is looked for once.
 #[derive(Drop)]
 pub(crate) enum Known<T> {
@@ -31,7 +27,8 @@ pub(crate) enum Known<T> {
     Sought(Option<T>),
 }
 
-/// The search for timetables of one network: the best that was found, and what later batches go on from.
+/// The search for timetables of one network: the cheapest of all batches, what later batches go on from, and the search in which
+/// spans may be broken.
 #[derive(Drop)]
 pub struct TimesSearch {
     pub(crate) alloc: Global,
@@ -43,7 +40,8 @@ pub struct TimesSearch {
     pub(crate) kinds: Kinds,
     pub(crate) waiting: Vec<Found>,
     rest: Rest,
-    best: Option<Best>,
+    hard: Cheapest,
+    soft: SoftSearch,
 }
 
 /// How many batches in turn found nothing cheaper, and how many are left out for it.
@@ -85,14 +83,6 @@ impl Rest {
     }
 }
 
-/// The cheaper of two timetables.
-fn cheaper(one: Found, other: Option<Found>) -> Found {
-    let Some(other) = other else {
-        return one;
-    };
-    if other.cost < one.cost { other } else { one }
-}
-
 impl TimesSearch {
     /// A search that has found nothing yet.
     pub fn new(alloc: Global, network: &Network) -> Result<TimesSearch, Memory> {
@@ -106,35 +96,95 @@ impl TimesSearch {
             kinds: Kinds::new(alloc)?,
             waiting: Vec::new(alloc),
             rest: Rest::none(),
-            best: None,
+            hard: Cheapest::none(),
+            soft: SoftSearch::new(alloc),
         })
     }
 
     /// What is found before the first step of a search. It doesn't depend on any step limit.
     pub fn begin(&mut self, network: &Network) -> Result<(), Memory> {
-        let ended_early = self.batch(network, Effort::first(network.rows().len()))?;
-        if ended_early {
+        let rows = network.rows().len();
+        let soft = SoftEffort::first(rows);
+        let ended = self.batch(network, Effort::first(rows), soft)?;
+        if ended == Ended::Same {
             self.rest = Rest::long();
         }
-        Ok(())
+        match soft {
+            Some(effort) => self.end_softly(network, ended, &effort),
+            None => Ok(()),
+        }
     }
 
-    /// What the cheapest timetable costs.
+    /// Timetables by the search in which spans may be broken, from a plain dive.
+    pub(crate) fn begin_softly(
+        &mut self,
+        network: &Network,
+        effort: &SoftEffort,
+    ) -> Result<(), Memory> {
+        let Some(times) = self.plain_times(network)? else {
+            return Ok(());
+        };
+        let slacks = slacks_of(self.alloc, network, &times)?;
+        self.soft.begin(network, &slacks, effort)
+    }
+
+    /// Whether the search in which spans may be broken has the cheapest timetable.
+    fn soft_is_ahead(&self) -> bool {
+        match (self.hard.cost(), self.soft.cheapest.cost()) {
+            (Some(hard), Some(soft)) => soft < hard,
+            _ => false,
+        }
+    }
+
+    /// Merges the best of both searches, and makes it cheaper; one try is enough where the batch found the same twice.
+    fn end_softly(
+        &mut self,
+        network: &Network,
+        ended: Ended,
+        effort: &SoftEffort,
+    ) -> Result<(), Memory> {
+        if ended == Ended::Same {
+            if self.soft.cheapest.cost().is_none() {
+                self.begin_softly(network, &effort.once())?;
+            }
+            if !self.soft_is_ahead() {
+                return Ok(());
+            }
+        }
+        self.soft.go_on(network, self.hard.found(), effort)
+    }
+
+    /// What the cheapest timetable of all batches costs.
     pub(crate) fn least(&self) -> Option<u64> {
-        Some(self.cheapest()?.cost)
+        self.hard.cost()
     }
 
-    /// A batch after so many steps (128, 256, 512 and so on), unless batches before it found nothing.
-    pub fn go_on(&mut self, network: &Network, steps: u32) -> Result<(), Memory> {
-        if self.rest.takes_next() {
+    /// Whether a batch may lead to the cheapest timetable: it does with spans held what the other search does without.
+    pub(crate) fn is_worth_a_batch(&self) -> bool {
+        match (self.hard.cost(), self.soft.cheapest.cost()) {
+            (Some(hard), Some(soft)) => may_win(hard, soft),
+            _ => true,
+        }
+    }
+
+    /// A batch after so many steps, unless batches before it found nothing.
+    fn next_batch(&mut self, network: &Network, steps: u32) -> Result<(), Memory> {
+        if self.rest.takes_next() || !self.is_worth_a_batch() {
             return Ok(());
         }
         let before = self.least();
         let effort = Effort::after(network.rows().len(), steps);
-        self.batch(network, effort)?;
+        self.batch(network, effort, None)?;
         let is_cheaper = self.least() != before;
         self.rest.note(is_cheaper);
         Ok(())
+    }
+
+    /// What is found after so many steps (128, 256, 512 and so on).
+    pub fn go_on(&mut self, network: &Network, steps: u32) -> Result<(), Memory> {
+        self.next_batch(network, steps)?;
+        let effort = SoftEffort::after(network.rows().len(), steps);
+        self.soft.go_on(network, self.hard.found(), &effort)
     }
 
     /// Takes times that were met elsewhere as an individual of the next batch; does nothing where they are no timetable.
@@ -153,31 +203,24 @@ impl TimesSearch {
 
     /// The cheapest times that were found, and their cost over the network's rows.
     pub fn best(&self) -> Option<(&[u32], u64)> {
-        let best = self.best.as_ref()?;
-        Some((&best.times, best.found.cost))
+        match (self.hard.times(), self.soft.cheapest.times()) {
+            (Some(hard), Some(soft)) if soft.1 < hard.1 => Some(soft),
+            (None, soft) => soft,
+            (hard, _) => hard,
+        }
     }
 
-    /// The cheapest timetable.
+    /// The cheapest timetable of all batches.
     pub(crate) fn cheapest(&self) -> Option<&Found> {
-        Some(&self.best.as_ref()?.found)
+        self.hard.found()
     }
 
-    /// Keeps a timetable if it is the cheapest so far.
+    /// Keeps a timetable if it is the cheapest of all batches.
     pub(crate) fn note(&mut self, network: &Network, found: &Found) -> Result<(), Memory> {
-        if self.cheapest().is_some_and(|best| best.cost <= found.cost) {
-            return Ok(());
-        }
-        let Some(times) = times_of(self.alloc, network, &found.slacks)? else {
-            return Ok(());
-        };
-        if network.is_timetable(&times) && network.cost_of(&times) == found.cost {
-            let found = found.copy(self.alloc)?;
-            self.best = Some(Best { times, found });
-        }
-        Ok(())
+        self.hard.note(self.alloc, network, found)
     }
 
-    /// The cheapest timetable with the offsets of another, kept where it is the cheapest of all.
+    /// The cheapest timetable with the offsets of another, kept where it is the cheapest of all batches.
     pub(crate) fn reoptimised(&mut self, network: &Network, found: Found) -> Result<Found, Memory> {
         let better = reoptimised(self.alloc, network, &found.slacks)?;
         let best = cheaper(found, better);

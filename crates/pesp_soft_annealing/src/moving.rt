@@ -1,0 +1,158 @@
+//! The slacks that are being changed.
+
+use crate::curve::Curve;
+use crate::shifts::Shifts;
+use crate::tent::Tent;
+use pesp_annealing::{Choices, Heat, Steps};
+use pesp_clusters::{Activity, Crossing};
+use pesp_network::Network;
+use pesp_search_tools::Random;
+use std::alloc::{AllocError, Global};
+
+/// The rows with their slacks and tents, what the slacks cost while none is above its span, and what shifts are chosen with.
+#[derive(Drop)]
+pub(crate) struct Moving {
+    period: u32,
+    rows: Vec<Activity>,
+    tents: Vec<Tent>,
+    cost: i64,
+    random: Random,
+    choices: Choices,
+    curve: Curve,
+    shifts: Shifts,
+}
+
+impl Moving {
+    /// The rows of a network with these slacks, one for each.
+    pub(crate) fn new(
+        alloc: Global,
+        network: &Network,
+        slacks: &[u32],
+        seed: u64,
+    ) -> Result<Moving, AllocError> {
+        let period = network.period();
+        let mut rows = Vec::with_capacity(alloc, slacks.len())?;
+        let mut tents = Vec::with_capacity(alloc, slacks.len())?;
+        for (row, slack) in network.rows().iter().zip(slacks.iter()) {
+            let row = Activity::of(row, *slack);
+            rows.push(row)?;
+            tents.push(Tent::of(period, &row))?;
+        }
+        let mut made = Moving {
+            period,
+            rows,
+            tents,
+            cost: 0,
+            random: Random::new(seed),
+            choices: Choices::none(),
+            curve: Curve::new(period),
+            shifts: Shifts::new(),
+        };
+        made.count_cost();
+        Ok(made)
+    }
+
+    /// Adds up what the slacks cost.
+    pub(crate) fn count_cost(&mut self) {
+        self.cost = 0;
+        for row in self.rows.iter() {
+            self.cost = self.cost.wrapping_add(row.cost());
+        }
+    }
+
+    /// What the slacks cost.
+    pub(crate) fn cost(&self) -> u64 {
+        u64::try_from(self.cost).unwrap_or(u64::MAX)
+    }
+
+    /// The rows.
+    pub(crate) fn rows(&self) -> &[Activity] {
+        &self.rows
+    }
+
+    /// The random numbers.
+    pub(crate) fn random(&mut self) -> &mut Random {
+        &mut self.random
+    }
+
+    /// The rows and the random numbers.
+    pub(crate) fn rows_and_random(&mut self) -> (&[Activity], &mut Random) {
+        (&self.rows, &mut self.random)
+    }
+
+    /// Makes a shift of what these rows cross.
+    fn make(&mut self, crossings: &[Crossing], steps: &Steps, place: u32) -> Option<()> {
+        if place == steps.idle() {
+            return Some(());
+        }
+        let amount = steps.amount(place);
+        for crossing in crossings {
+            let row = self.rows.get_mut(crossing.row as usize)?;
+            row.slack = row.shifted(self.period, amount, crossing.grows);
+        }
+        Some(())
+    }
+
+    /// Draws one of all shifts, by weight.
+    pub(crate) fn visit_softly(&mut self, crossings: &[Crossing], heat: &Heat) -> Option<()> {
+        let steps = Steps::draw(self.period, &mut self.random);
+        self.curve.find(&steps, &self.rows, &self.tents, crossings)?;
+        self.curve.write(&mut self.shifts.costs);
+        let place = self.shifts.draw(steps.count(), heat, &mut self.random)?;
+        self.make(crossings, &steps, place)
+    }
+
+    /// Draws one of the shifts that keep all spans, by weight, or takes the cheapest.
+    pub(crate) fn visit_hard(&mut self, crossings: &[Crossing], heat: Option<Heat>) -> Option<()> {
+        let steps = Steps::draw(self.period, &mut self.random);
+        self.choices.find(&steps, &self.rows, crossings)?;
+        if !self.choices.are_several(&steps) {
+            return Some(());
+        }
+        let place = match heat {
+            Some(heat) => self.choices.drawn(&steps, &heat, &mut self.random),
+            None => self.choices.cheapest(&steps),
+        };
+        self.cost = self.cost.wrapping_add(self.choices.cost(place));
+        self.make(crossings, &steps, place)
+    }
+
+    /// Sets the price of all rows.
+    pub(crate) fn set_price(&mut self, price: u64) {
+        for tent in self.tents.iter_mut() {
+            tent.set_price(price);
+        }
+    }
+
+    /// Doubles the prices of the rows that are broken; whether there are some.
+    pub(crate) fn double_broken(&mut self) -> bool {
+        let mut are_broken = false;
+        for (row, tent) in self.rows.iter().zip(self.tents.iter_mut()) {
+            if row.slack > row.span {
+                tent.double_price();
+                are_broken = true;
+            }
+        }
+        are_broken
+    }
+
+    /// Whether no row is broken.
+    pub(crate) fn is_whole(&self) -> bool {
+        self.rows.iter().all(|row| row.slack <= row.span)
+    }
+
+    /// Writes the slacks.
+    pub(crate) fn write(&self, slacks: &mut [u32]) {
+        for (slack, row) in slacks.iter_mut().zip(self.rows.iter()) {
+            *slack = row.slack;
+        }
+    }
+
+    /// Reads the slacks.
+    pub(crate) fn read(&mut self, slacks: &[u32]) {
+        for (slack, row) in slacks.iter().zip(self.rows.iter_mut()) {
+            row.slack = *slack;
+        }
+        self.count_cost();
+    }
+}

@@ -1,0 +1,173 @@
+//! Slacks that are made cheaper, softly and then hard.
+
+use crate::components::Components;
+use crate::moving::Moving;
+use crate::plan::{Cooling, Plan};
+use crate::settings::{
+    LAST_FORESTS, LAST_SWEEPS, MENDING_SWEEPS, MENDING_SWEEPS_OF_A_FOREST, SWEEPS_OF_A_FOREST,
+};
+use pesp_annealing::Heat;
+use pesp_clusters::{Bent, Forest};
+use pesp_network::Network;
+use pesp_problem::Memory;
+use std::alloc::{AllocError, Global};
+
+/// Slacks that are being made cheaper: those that stand, what they cost, and those that are being changed.
+#[derive(Drop)]
+pub struct SoftAnnealer {
+    slacks: Vec<u32>,
+    cost: u64,
+    moving: Moving,
+    forest: Forest,
+    components: Components,
+}
+
+/// Whether there is one slack below the period for each row of a network.
+fn are_slacks(network: &Network, slacks: &[u32]) -> bool {
+    network.rows().len() == slacks.len() && slacks.iter().all(|slack| *slack < network.period())
+}
+
+impl SoftAnnealer {
+    /// Slacks of times of a network, one a row; None where there isn't one below the period for each row.
+    pub fn new(
+        alloc: Global,
+        network: &Network,
+        slacks: &[u32],
+        seed: u64,
+    ) -> Result<Option<SoftAnnealer>, Memory> {
+        if !are_slacks(network, slacks) {
+            return Ok(None);
+        }
+        let moving = Moving::new(alloc, network, slacks, seed)?;
+        let events = network.events();
+        let rows = slacks.len();
+        Ok(Some(SoftAnnealer {
+            slacks: Vec::from_slice(alloc, slacks)?,
+            cost: moving.cost(),
+            components: Components::new(alloc, moving.rows(), network.period(), events)?,
+            forest: Forest::new(alloc, events, rows)?,
+            moving,
+        }))
+    }
+
+    /// Goes on from other slacks, if there are as many.
+    pub fn set(&mut self, slacks: &[u32]) {
+        if slacks.len() == self.slacks.len() {
+            self.moving.read(slacks);
+            self.keep();
+        }
+    }
+
+    /// Takes the slacks in use.
+    fn keep(&mut self) {
+        self.moving.write(&mut self.slacks);
+        self.cost = self.moving.cost();
+    }
+
+    /// Draws a forest of a bent that is drawn, and lists its components.
+    fn draw_forest(&mut self) -> Result<(), AllocError> {
+        let (rows, random) = self.moving.rows_and_random();
+        let bent = match random.below(3) {
+            0 => Bent::Balanced,
+            1 => Bent::Span,
+            _ => Bent::Slack,
+        };
+        self.forest.draw(rows, bent, random);
+        self.components
+            .list(self.moving.rows(), self.forest.rows())?;
+        self.components.shuffle(self.moving.random());
+        Ok(())
+    }
+
+    /// Visits all components softly.
+    fn sweep_softly(&mut self, heat: &Heat) {
+        for part in self.components.parts() {
+            if let Some(crossings) = self.components.of(part) {
+                self.moving.visit_softly(crossings, heat);
+            }
+        }
+    }
+
+    /// Visits all components, with spans held.
+    fn sweep_hard(&mut self, heat: Option<Heat>) {
+        for part in self.components.parts() {
+            if let Some(crossings) = self.components.of(part) {
+                self.moving.visit_hard(crossings, heat);
+            }
+        }
+    }
+
+    /// Sweeps until no row is broken, at prices that are doubled for those that are.
+    fn mend(&mut self, heat: &Heat) -> Result<(), AllocError> {
+        for sweep in 0..MENDING_SWEEPS {
+            if !self.moving.double_broken() {
+                break;
+            }
+            if sweep % MENDING_SWEEPS_OF_A_FOREST == 0 {
+                self.draw_forest()?;
+            }
+            self.sweep_softly(heat);
+        }
+        Ok(())
+    }
+
+    /// An anneal in which rows may be broken, and sweeps that mend them; whether no row stays broken. `mean` is the mean cost of a
+    /// row.
+    pub fn soften(&mut self, mean: u64, plan: &Plan) -> Result<bool, Memory> {
+        for sweep in 0..plan.soft.sweeps {
+            if sweep % SWEEPS_OF_A_FOREST == 0 {
+                self.draw_forest()?;
+                self.moving.set_price(plan.price(mean, sweep));
+            }
+            self.sweep_softly(&plan.soft.heat(mean, sweep));
+        }
+        self.mend(&plan.soft.heat(mean, plan.soft.sweeps))?;
+        self.moving.count_cost();
+        self.keep();
+        Ok(self.moving.is_whole())
+    }
+
+    /// Takes the slacks in use where they are cheaper.
+    fn keep_cheaper(&mut self) {
+        if self.moving.cost() < self.cost {
+            self.keep();
+        }
+    }
+
+    /// Sweeps in which only shifts that cost no more are made.
+    pub fn descend(&mut self) -> Result<(), Memory> {
+        for sweep in 0..LAST_FORESTS.saturating_mul(LAST_SWEEPS) {
+            if sweep % LAST_SWEEPS == 0 {
+                self.draw_forest()?;
+            }
+            self.sweep_hard(None);
+        }
+        self.keep_cheaper();
+        Ok(())
+    }
+
+    /// An anneal in which spans hold, and sweeps in which only shifts that cost no more are made. The cheapest slacks of the last
+    /// quarter or of the end stand.
+    pub fn harden(&mut self, mean: u64, cooling: &Cooling) -> Result<(), Memory> {
+        for sweep in 0..cooling.sweeps {
+            if sweep % SWEEPS_OF_A_FOREST == 0 {
+                self.draw_forest()?;
+            }
+            self.sweep_hard(Some(cooling.heat(mean, sweep)));
+            if sweep >= cooling.sweeps - cooling.sweeps / 4 {
+                self.keep_cheaper();
+            }
+        }
+        self.descend()
+    }
+
+    /// What the slacks cost: the sum of weight times slack.
+    pub fn cost(&self) -> u64 {
+        self.cost
+    }
+
+    /// The slacks, one a row.
+    pub fn slacks(&self) -> &[u32] {
+        &self.slacks
+    }
+}

@@ -1,0 +1,329 @@
+//! Timetables by anneals in which spans may be broken: individuals that are merged, and reheats of the best.
+
+use crate::cheapest::Cheapest;
+use crate::effort::{MOST_REOPTIMISED, SoftEffort};
+use crate::fixed_offsets::reoptimised;
+use crate::found::{Found, cheaper, slacks_of, times_of};
+use crate::merges::Merge;
+use crate::soft_plans::{between, individual, reheat};
+use pesp_network::Network;
+use pesp_problem::Memory;
+use pesp_propagate::dive_to;
+use pesp_search_tools::Random;
+use pesp_soft_annealing::{Plan, SoftAnnealer};
+use std::alloc::{AllocError, Global};
+use std::mem;
+
+/// How many tries a dive has towards the times of what wasn't mended.
+const TRIES: u32 = 50;
+
+/// How many anneals there are between the clusters of a merge.
+const BETWEEN: usize = 3;
+
+/// The search, with the mean cost of a row after a descent, what the timetable of others cost that was merged last, the best of
+/// each group until it is merged, and the cheapest timetable that it found.
+#[derive(Drop)]
+pub(crate) struct SoftSearch {
+    alloc: Global,
+    random: Random,
+    mean: u64,
+    joined: Option<u64>,
+    tops: Vec<Found>,
+    pub(crate) cheapest: Cheapest,
+}
+
+/// Times as prices.
+fn prices_of(alloc: Global, times: &[u32]) -> Result<Vec<i64>, AllocError> {
+    let mut prices = Vec::with_capacity(alloc, times.len())?;
+    for time in times {
+        prices.push(i64::from(*time))?;
+    }
+    Ok(prices)
+}
+
+impl SoftSearch {
+    /// A search that has found nothing yet.
+    pub(crate) fn new(alloc: Global) -> SoftSearch {
+        SoftSearch {
+            alloc,
+            random: Random::new(1),
+            mean: 1,
+            joined: None,
+            tops: Vec::new(alloc),
+            cheapest: Cheapest::none(),
+        }
+    }
+
+    /// An annealer from these slacks.
+    fn annealer(
+        &mut self,
+        network: &Network,
+        slacks: &[u32],
+    ) -> Result<Option<SoftAnnealer>, Memory> {
+        let seed = self.random.next() >> 40;
+        SoftAnnealer::new(self.alloc, network, slacks, seed)
+    }
+
+    /// Times near those of an annealer, which break nothing; None where none are found.
+    fn whole_times(
+        &self,
+        network: &Network,
+        annealer: &SoftAnnealer,
+    ) -> Result<Option<Vec<u32>>, Memory> {
+        let Some(times) = times_of(self.alloc, network, annealer.slacks())? else {
+            return Ok(None);
+        };
+        let prices = prices_of(self.alloc, &times)?;
+        dive_to(self.alloc, network, &prices, TRIES)
+    }
+
+    /// Lets an annealer go on from times near its own that break nothing; whether there are some.
+    fn make_whole(&self, network: &Network, annealer: &mut SoftAnnealer) -> Result<bool, Memory> {
+        let Some(times) = self.whole_times(network, annealer)? else {
+            return Ok(false);
+        };
+        let slacks = slacks_of(self.alloc, network, &times)?;
+        annealer.set(&slacks);
+        Ok(true)
+    }
+
+    /// The timetable of an annealer, made cheaper under its offsets unless there are very many rows.
+    fn found_by(&self, network: &Network, annealer: &SoftAnnealer) -> Result<Found, Memory> {
+        let slacks = Vec::from_slice(self.alloc, annealer.slacks())?;
+        let found = Found::of_slacks(network, slacks);
+        if network.rows().len() > MOST_REOPTIMISED {
+            return Ok(found);
+        }
+        let better = reoptimised(self.alloc, network, &found.slacks)?;
+        Ok(cheaper(found, better))
+    }
+
+    /// What an annealer finds by a plan.
+    fn anneal(
+        &self,
+        network: &Network,
+        annealer: &mut SoftAnnealer,
+        plan: &Plan,
+    ) -> Result<Option<Found>, Memory> {
+        if !annealer.soften(self.mean, plan)? && !self.make_whole(network, annealer)? {
+            return Ok(None);
+        }
+        annealer.harden(self.mean, &plan.hard)?;
+        Ok(Some(self.found_by(network, annealer)?))
+    }
+
+    /// What is found from these slacks by a plan.
+    fn annealed(
+        &mut self,
+        network: &Network,
+        slacks: &[u32],
+        plan: &Plan,
+    ) -> Result<Option<Found>, Memory> {
+        let Some(mut annealer) = self.annealer(network, slacks)? else {
+            return Ok(None);
+        };
+        let found = self.anneal(network, &mut annealer, plan);
+        drop(annealer);
+        found
+    }
+
+    /// Keeps a timetable if it is the cheapest so far.
+    fn note(&mut self, network: &Network, found: &Found) -> Result<(), Memory> {
+        self.cheapest.note(self.alloc, network, found)
+    }
+
+    /// Anneals between the clusters of a merge, in turn from the best and the second of the pool.
+    fn search_between(
+        &mut self,
+        merge: &mut Merge,
+        pool: &[Found],
+        sweeps: u32,
+    ) -> Result<(), Memory> {
+        for number in 0..BETWEEN {
+            let from = (number % 2).min(pool.len().saturating_sub(1));
+            let Some(parent) = pool.get(from) else {
+                return Ok(());
+            };
+            let slacks = merge.contraction.taken_from(self.alloc, &parent.slacks)?;
+            let network = &merge.contraction.network;
+            let found = self.annealed(network, &slacks, &between(sweeps, number))?;
+            if let Some(found) = found {
+                merge.note(found.cost, &found.slacks);
+            }
+        }
+        Ok(())
+    }
+
+    /// Makes the first of a pool, the cheapest one, cheaper where not all agree.
+    fn merge(
+        &mut self,
+        network: &Network,
+        pool: &mut Vec<Found>,
+        sweeps: u32,
+    ) -> Result<(), Memory> {
+        pool.sort_unstable_by_key(|found| found.cost);
+        let Some(mut merge) = Merge::of(self.alloc, network, pool)? else {
+            return Ok(());
+        };
+        let done = self.search_between(&mut merge, pool, sweeps);
+        if let Some(first) = pool.first_mut() {
+            merge.put_into(network, first);
+        }
+        drop(merge);
+        done
+    }
+
+    /// The cheapest of a pool, merged.
+    fn merged(
+        &mut self,
+        network: &Network,
+        pool: Vec<Found>,
+        sweeps: u32,
+    ) -> Result<Option<Found>, Memory> {
+        let mut pool = pool;
+        if pool.len() > 1 {
+            self.merge(network, &mut pool, sweeps)?;
+        }
+        pool.truncate(1);
+        let Some(best) = pool.pop() else {
+            return Ok(None);
+        };
+        self.note(network, &best)?;
+        Ok(Some(best))
+    }
+
+    /// New individuals from these slacks, merged.
+    fn group(
+        &mut self,
+        network: &Network,
+        slacks: &[u32],
+        effort: &SoftEffort,
+    ) -> Result<Option<Found>, Memory> {
+        let mut pool = Vec::new(self.alloc);
+        for _ in 0..effort.individuals {
+            if let Some(found) = self.annealed(network, slacks, &individual(effort.sweeps))? {
+                self.note(network, &found)?;
+                pool.push(found)?;
+            }
+        }
+        self.merged(network, pool, effort.between)
+    }
+
+    /// What is merged with another timetable: the best of each group, once, or the cheapest one.
+    fn parents(&mut self, other: &Found) -> Result<Vec<Found>, Memory> {
+        let mut pool = mem::replace(&mut self.tops, Vec::new(self.alloc));
+        if pool.is_empty()
+            && let Some(best) = self.cheapest.found()
+        {
+            pool.push(best.copy(self.alloc)?)?;
+        }
+        pool.push(other.copy(self.alloc)?)?;
+        Ok(pool)
+    }
+
+    /// Merges what was found with another timetable.
+    fn join(&mut self, network: &Network, other: &Found, sweeps: u32) -> Result<(), Memory> {
+        let pool = self.parents(other)?;
+        self.merged(network, pool, sweeps)?;
+        Ok(())
+    }
+
+    /// Anneals a timetable again, and takes what isn't dearer; whether it is cheaper.
+    fn reheat(
+        &mut self,
+        network: &Network,
+        current: &mut Found,
+        sweeps: u32,
+    ) -> Result<bool, Memory> {
+        let Some(found) = self.annealed(network, &current.slacks, &reheat(sweeps))? else {
+            return Ok(false);
+        };
+        let is_cheaper = found.cost < current.cost;
+        if found.cost <= current.cost {
+            *current = found;
+        }
+        self.note(network, current)?;
+        Ok(is_cheaper)
+    }
+
+    /// Reheats a timetable at most so often, and no more after so many in turn that found nothing cheaper.
+    fn reheat_often(
+        &mut self,
+        network: &Network,
+        current: &mut Found,
+        effort: &SoftEffort,
+    ) -> Result<(), Memory> {
+        let mut quiet = 0u32;
+        for _ in 0..effort.reheats {
+            quiet = if self.reheat(network, current, effort.again)? {
+                0
+            } else {
+                quiet.saturating_add(1)
+            };
+            if quiet >= effort.quiet {
+                break;
+            }
+        }
+        Ok(())
+    }
+
+    /// Reheats the cheapest timetable.
+    fn reheat_best(&mut self, network: &Network, effort: &SoftEffort) -> Result<(), Memory> {
+        let Some(best) = self.cheapest.found() else {
+            return Ok(());
+        };
+        let mut current = best.copy(self.alloc)?;
+        self.reheat_often(network, &mut current, effort)
+    }
+
+    /// Makes slacks cheaper by a descent; sets the mean cost of a row.
+    fn descend(&mut self, network: &Network, slacks: &[u32]) -> Result<Option<Vec<u32>>, Memory> {
+        let Some(mut annealer) = self.annealer(network, slacks)? else {
+            return Ok(None);
+        };
+        let done = annealer.descend();
+        let rows = u64::try_from(slacks.len()).unwrap_or(1).max(1);
+        self.mean = (annealer.cost() / rows).max(1);
+        let lower = Vec::from_slice(self.alloc, annealer.slacks());
+        drop(annealer);
+        done?;
+        Ok(Some(lower?))
+    }
+
+    /// Groups of new individuals from the slacks of a timetable, each merged.
+    pub(crate) fn begin(
+        &mut self,
+        network: &Network,
+        slacks: &[u32],
+        effort: &SoftEffort,
+    ) -> Result<(), Memory> {
+        let Some(lower) = self.descend(network, slacks)? else {
+            return Ok(());
+        };
+        for _ in 0..effort.groups {
+            if let Some(top) = self.group(network, &lower, effort)? {
+                self.tops.push(top)?;
+            }
+        }
+        Ok(())
+    }
+
+    /// A merge with the cheapest timetable of others, where it isn't known, and reheats of the best.
+    pub(crate) fn go_on(
+        &mut self,
+        network: &Network,
+        other: Option<&Found>,
+        effort: &SoftEffort,
+    ) -> Result<(), Memory> {
+        if self.cheapest.found().is_none() {
+            return Ok(());
+        }
+        if let Some(found) = other
+            && self.joined != Some(found.cost)
+        {
+            self.joined = Some(found.cost);
+            self.join(network, found, effort.between)?;
+        }
+        self.reheat_best(network, effort)
+    }
+}

@@ -20,6 +20,7 @@ use pesp_problem::{Instance, Memory};
 use pesp_times::TimesSearch;
 use pesp_turns::Search;
 use std::alloc::Global;
+use std::mem::replace;
 
 /// What is known of an instance after a search that went on, how many leaves were split, and why no more were.
 #[derive(Drop)]
@@ -108,7 +109,7 @@ fn look_for_times(alloc: Global, search: &mut Search) -> Result<(), Memory>
     ensures known { search.new.known ≡ search.old.known }
 {
     let times = TimesSearch::new(alloc, search.known.reduced.network())?;
-    search.proposer.times = Some(times);
+    drop(replace(&mut search.proposer.times, Some(times)));
     Ok(())
 }
 
@@ -172,5 +173,7 @@ pub fn resume<W: Watcher>(
     instance.events();
     base.answer();
     let mut search = search_from(alloc, instance, base)?;
-    resume_search(alloc, instance, &mut search, steps, watcher)
+    let resumed = resume_search(alloc, instance, &mut search, steps, watcher);
+    drop(search);
+    resumed
 }

@@ -18,14 +18,21 @@ const MOST_MULTIPLIER: i64 = 1_000_000_000_000;
 /// A certificate whose tree is taken up: which of its cycles and marked walks are walks of what is left, by how much the
 /// offsets of these cycles are above those of what is left, and by what the multipliers grow of leaves that name marked walks
 /// and of leaves that name none.
-#[derive(Drop)]
-struct Base {
-    cycles: Vec<bool>,
-    walks: Vec<bool>,
-    shifts: Vec<i64>,
+#[derive(Clone, Copy)]
+struct Base<'a> {
+    cycles: &'a [bool],
+    walks: &'a [bool],
+    shifts: &'a [i64],
     sharp_factor: i64,
     plain_factor: i64,
     least: u64,
+}
+
+/// Walks of a base: which are walks of what is left, and the rows of these.
+#[derive(Drop)]
+struct LoweredWalks {
+    are_there: Vec<bool>,
+    passes: Vec<Vec<Pass>>,
 }
 
 /// Which walks are there.
@@ -62,7 +69,16 @@ fn sizes_of(alloc: Global, lines: &[TreeLine]) -> Result<Vec<usize>, Memory> {
     Ok(sizes)
 }
 
-impl Base {
+impl LoweredWalks {
+    /// Walks of which some aren't there.
+    fn of(alloc: Global, lowered: Vec<Option<Vec<Pass>>>) -> Result<LoweredWalks, Memory> {
+        let are_there = are_there(alloc, &lowered)?;
+        let passes = or_empty(alloc, lowered)?;
+        Ok(LoweredWalks { are_there, passes })
+    }
+}
+
+impl Base<'_> {
     /// Whether a place is marked.
     fn has(marks: &[bool], place: u32) -> bool {
         marks.get(place as usize).copied().unwrap_or(false)
@@ -90,10 +106,10 @@ impl Base {
         let walk = cycle.wrapping_sub(self.count());
         if cycle < self.count() {
             leaf.pairs.push((cycle, multiplier))?;
-            Ok(Base::has(&self.cycles, cycle).then_some(()))
+            Ok(Base::has(self.cycles, cycle).then_some(()))
         } else {
             leaf.walks.push((walk, multiplier))?;
-            Ok(Base::has(&self.walks, walk).then_some(()))
+            Ok(Base::has(self.walks, walk).then_some(()))
         }
     }
 
@@ -121,7 +137,7 @@ impl Base {
         let cycle = number.wrapping_sub(1);
         let shift = self.shifts.get(cycle as usize).copied()?;
         let most = k.checked_sub(shift)?;
-        Base::has(&self.cycles, cycle).then_some(Line::Branch { cycle, most })
+        Base::has(self.cycles, cycle).then_some(Line::Branch { cycle, most })
     }
 
     /// A line; None where it can't be taken up.
@@ -214,6 +230,45 @@ fn walks_of(
     }
 }
 
+/// The cycles and the marked walks of a base along the rows that are left.
+fn lowered_walks(
+    alloc: Global,
+    lowering: &Lowering,
+    base: &Fronted,
+) -> Result<(LoweredWalks, LoweredWalks), Memory> {
+    let cycles = lowering.cycles(alloc, base.certificate.cycles())?;
+    let walks = walks_of(alloc, lowering, base)?;
+    let cycles = LoweredWalks::of(alloc, cycles)?;
+    match LoweredWalks::of(alloc, walks) {
+        Ok(walks) => Ok((cycles, walks)),
+        Err(refused) => {
+            drop(cycles);
+            Err(refused)
+        }
+    }
+}
+
+/// The lines of a base's tree, with these cycles and marked walks.
+fn lines_over(
+    left: Left<'_>,
+    base: &Fronted,
+    cycles: &LoweredWalks,
+    walks: &LoweredWalks,
+    spared: &[Option<u64>],
+) -> Result<Vec<Line>, Memory> {
+    let certificate = &base.certificate;
+    let shifts = offset_shifts(left, &cycles.passes, certificate.cycles())?;
+    let base_tree = Base {
+        cycles: &cycles.are_there,
+        walks: &walks.are_there,
+        shifts: &shifts,
+        sharp_factor: growth_of(base, left.network),
+        plain_factor: i64::from(scale_over(base, left.network)),
+        least: least_of(certificate.answer()).unwrap_or(u64::MAX),
+    };
+    base_tree.lines(left.alloc, certificate.tree(), spared)
+}
+
 /// The tree of a base as one over what is left of the instance, to be taken up. What isn't one is kept as it is, and so is each
 /// line for which the cost is told that it shows.
 pub(crate) fn given_of(
@@ -221,26 +276,22 @@ pub(crate) fn given_of(
     base: &Fronted,
     spared: &[Option<u64>],
 ) -> Result<Sharpened, Memory> {
-    let alloc = left.alloc;
     let lowering = Lowering::of(left)?;
-    let certificate = &base.certificate;
-    let lowered = lowering.cycles(alloc, certificate.cycles())?;
-    let are_cycles = are_there(alloc, &lowered)?;
-    let cycles = or_empty(alloc, lowered)?;
-    let lowered = walks_of(alloc, &lowering, base)?;
-    let base_tree = Base {
-        cycles: are_cycles,
-        walks: are_there(alloc, &lowered)?,
-        shifts: offset_shifts(left, &cycles, certificate.cycles())?,
-        sharp_factor: growth_of(base, left.network),
-        plain_factor: i64::from(scale_over(base, left.network)),
-        least: least_of(certificate.answer()).unwrap_or(u64::MAX),
-    };
-    Ok(Sharpened {
-        bound: 0,
-        lines: base_tree.lines(alloc, certificate.tree(), spared)?,
-        cycles,
-        walks: or_empty(alloc, lowered)?,
-        steps_used: 0,
-    })
+    let lowered = lowered_walks(left.alloc, &lowering, base);
+    drop(lowering);
+    let (cycles, walks) = lowered?;
+    match lines_over(left, base, &cycles, &walks, spared) {
+        Ok(lines) => Ok(Sharpened {
+            bound: 0,
+            lines,
+            cycles: cycles.passes,
+            walks: walks.passes,
+            steps_used: 0,
+        }),
+        Err(refused) => {
+            drop(cycles);
+            drop(walks);
+            Err(refused)
+        }
+    }
 }

@@ -66,7 +66,9 @@ pub(crate) fn lifted_of(
     let Some(table) = table_of(alloc, reduced, walks)? else {
         return Ok(None);
     };
-    Ok(Some(lifted_walks(alloc, reduced, table.table())?))
+    let lifted = lifted_walks(alloc, reduced, table.table());
+    drop(table);
+    Ok(Some(lifted?))
 }
 
 /// A number, or less it.

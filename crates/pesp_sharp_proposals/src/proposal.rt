@@ -180,13 +180,20 @@ impl<'a> Parts<'a> {
         let Some(certificate) = self.certificate(alloc, &kept)? else {
             return Ok(None);
         };
-        let Some(marks) = self.front(alloc, &kept)? else {
-            return Ok(None);
-        };
-        Ok(Some(Fronted {
-            front: with_walks(marks),
-            certificate,
-        }))
+        match self.front(alloc, &kept) {
+            Ok(Some(marks)) => Ok(Some(Fronted {
+                front: with_walks(marks),
+                certificate,
+            })),
+            Ok(None) => {
+                drop(certificate);
+                Ok(None)
+            }
+            Err(refused) => {
+                drop(certificate);
+                Err(refused)
+            }
+        }
     }
 }
 
@@ -251,10 +258,13 @@ fn timed_of(
     let Some(certificate) = with_times(alloc, instance, old, best)? else {
         return Ok(None);
     };
-    Ok(Some(Fronted {
-        front: copied_front(alloc, front)?,
-        certificate,
-    }))
+    match copied_front(alloc, front) {
+        Ok(front) => Ok(Some(Fronted { front, certificate })),
+        Err(refused) => {
+            drop(certificate);
+            Err(refused)
+        }
+    }
 }
 
 /// No proposals.
@@ -281,8 +291,14 @@ pub(crate) fn proposals_of(
         best: &search.best,
         base: if search.has_taken_up { base } else { None },
     };
-    Ok(Proposals {
-        sharp: parts.fronted(left.alloc)?,
-        timed: timed_of(left.alloc, left.instance, front, old, &search.best)?,
-    })
+    let sharp = parts.fronted(left.alloc);
+    drop(sharpened);
+    let sharp = sharp?;
+    match timed_of(left.alloc, left.instance, front, old, &search.best) {
+        Ok(timed) => Ok(Proposals { sharp, timed }),
+        Err(refused) => {
+            drop(sharp);
+            Err(refused)
+        }
+    }
 }

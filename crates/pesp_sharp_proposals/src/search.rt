@@ -98,7 +98,9 @@ impl SharpSearch {
     pub(crate) fn begin_times(&mut self, left: Left<'_>) -> Result<(), Memory>
         requires { left.reduced.now.original ≡ left.instance.now }
     {
-        self.times = Some(TimesSearch::new(left.alloc, left.network)?);
+        let mut times = Some(TimesSearch::new(left.alloc, left.network)?);
+        self.take_search(&mut times);
+        drop(times);
         let Some(search) = &mut self.times else {
             return Ok(());
         };

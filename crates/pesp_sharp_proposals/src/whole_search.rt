@@ -36,7 +36,7 @@ fn searched<W: SharpWatcher>(
     proposals_of(left, &None, plain, search, None)
 }
 
-/// What a search from the root proposes that goes on with what looked for times.
+/// What a search from the root proposes that goes on with what looked for times: none where the answer isn't open.
 fn proposed<W: SharpWatcher>(
     left: Left<'_>,
     plain: &Certificate,
@@ -44,9 +44,14 @@ fn proposed<W: SharpWatcher>(
     steps: u32,
     watcher: &mut W,
 ) -> Result<Proposals, Memory> {
+    if !is_open(plain.answer()) {
+        return Ok(no_proposals());
+    }
     let mut search = SharpSearch::new(left, scale_for(left.network), 0)?;
     search.take_search(times);
-    searched(left, plain, &mut search, steps, watcher)
+    let proposals = searched(left, plain, &mut search, steps, watcher);
+    drop(search);
+    proposals
 }
 
 /// Goes on from a certificate, or from some of its leaves.
@@ -96,7 +101,9 @@ fn proposed_from<W: SharpWatcher>(
 {
     let scale = scale_over(base, left.network);
     let mut search = SharpSearch::new(left, scale, branches)?;
-    searched_from(left, base, leaves, &mut search, steps, watcher)
+    let proposals = searched_from(left, base, leaves, &mut search, steps, watcher);
+    drop(search);
+    proposals
 }
 
 /// What a search proposes that begins at the root, in the place of a plain answer: none where that isn't open. What is left of the
@@ -110,11 +117,11 @@ pub fn propose<W: SharpWatcher>(
     steps: u32,
     watcher: &mut W,
 ) -> Result<Proposals, Memory> {
-    if !is_open(plain.answer()) {
-        return Ok(no_proposals());
-    }
     let left = Left::of(alloc, instance, &reduced);
-    proposed(left, plain, &mut times, steps, watcher)
+    let proposals = proposed(left, plain, &mut times, steps, watcher);
+    drop(times);
+    drop(reduced);
+    proposals
 }
 
 /// What a search proposes that goes on from a certificate, or from some of its leaves, in its place: none where its answer isn't
@@ -133,5 +140,7 @@ pub fn propose_from<W: SharpWatcher>(
     }
     let reduced = reduce(alloc, instance)?;
     let left = Left::of(alloc, instance, &reduced);
-    proposed_from(left, base, branches, leaves, steps, watcher)
+    let proposals = proposed_from(left, base, branches, leaves, steps, watcher);
+    drop(reduced);
+    proposals
 }

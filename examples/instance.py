@@ -13,6 +13,20 @@ def text_of(path):
     return data_of(path).removeprefix(b"\xef\xbb\xbf").decode("latin-1")
 
 
+def readable(text):
+    """A text as it is to be shown: in UTF-8, or as it stands where it isn't in UTF-8."""
+    data = text.encode("latin-1")
+    try:
+        return data.decode("utf-8")
+    except UnicodeDecodeError:
+        return text
+
+
+def lines_of(text):
+    """The lines of a text, which end as records do: with a CR, an LF, or both."""
+    return re.split("\r\n|\r|\n", text)
+
+
 def delimiter_of(text):
     """`;` where there is one anywhere, else tab where there is one, else `,`."""
     return next((mark for mark in ";\t" if mark in text), ",")

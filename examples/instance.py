@@ -1,13 +1,30 @@
 """Reads the text of an instance as docs/READING.md says, for the scripts beside this file."""
 import csv
 import io
-import sys
+import re
+
+from program import data_of, fail
+
+csv.field_size_limit(1 << 24)
 
 
 def text_of(path):
     """The text of a file, or of standard input where the path is `-`, without a byte order mark."""
-    data = sys.stdin.buffer.read() if path == "-" else open(path, "rb").read()
-    return data.removeprefix(b"\xef\xbb\xbf").decode("latin-1")
+    return data_of(path).removeprefix(b"\xef\xbb\xbf").decode("latin-1")
+
+
+def readable(text):
+    """A text as it is to be shown: in UTF-8, or as it stands where it isn't in UTF-8."""
+    data = text.encode("latin-1")
+    try:
+        return data.decode("utf-8")
+    except UnicodeDecodeError:
+        return text
+
+
+def lines_of(text):
+    """The lines of a text, which end as records do: with a CR, an LF, or both."""
+    return re.split("\r\n|\r|\n", text)
 
 
 def delimiter_of(text):
@@ -26,25 +43,37 @@ def records(text):
 
 
 def rows(text):
-    """The fields of each record that is neither blank, a comment nor the header."""
+    """The line and the fields of each record that is neither blank, a comment nor the header."""
     first = True
-    for _, _, fields in records(text):
+    for _, line, fields in records(text):
         start = fields[0].lstrip(" \t\r")
         if start.startswith("#") or not any(field.strip(" \t\r") for field in fields):
             continue
         if not (first and start[:1].isascii() and start[:1].isalpha()):
-            yield [field.strip(" \t\r") for field in fields]
+            yield line, [field.strip(" \t\r") for field in fields]
         first = False
 
 
 def whole(word):
     """The whole number that a field tells: `12`, `+12`, `12.` and `12.0` are 12."""
-    number, _, fraction = word.partition(".")
-    if fraction.strip("0"):
-        raise ValueError(f"{word} is no whole number")
-    return int(number)
+    if not re.fullmatch(r"[+-]?[0-9]+(\.0*)?", word):
+        raise ValueError(f"{word or 'nothing'} is no whole number")
+    return int(word.partition(".")[0])
 
 
-def events(text):
+def activities(path):
+    """The six numbers of each row of an instance: label, tail, head, lower, upper and weight."""
+    found = []
+    for line, fields in rows(text_of(path)):
+        try:
+            found.append([whole(field) for field in fields[:6]])
+        except ValueError as fault:
+            fail(f"{path}, line {line}: {fault}")
+        if len(fields) < 6 or len(fields) > 7 or any(fields[6:]):
+            fail(f"{path}, line {line}: {len(fields)} fields in place of six")
+    return found
+
+
+def events(path):
     """The labels of the events in the order in which they first appear, the tail of a row before its head."""
-    return list(dict.fromkeys(whole(word) for row in rows(text) for word in row[1:3]))
+    return list(dict.fromkeys(event for row in activities(path) for event in row[1:3]))

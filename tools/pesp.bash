@@ -11,14 +11,15 @@ _pesp() {
         return
         ;;
     solve) options="--period --steps --sharp --from --progress" ;;
-    check) options="--period --sharp" ;;
-    resume) options="--period --steps --seconds --progress" ;;
-    work | conflict) options="--period --steps" ;;
+    resume) options="--period --steps --sharp --seconds --progress" ;;
+    conflict) options="--period --steps" ;;
+    check | split | graft) options="--period --sharp" ;;
     report) options="--period --violations --names" ;;
     draw) options="--period --rows --names" ;;
+    work) options="--period --steps --sharp --until" ;;
     esac
     case $before in
-    --period | --steps | --seconds | --rows) return ;;
+    --period | --steps | --seconds | --rows | --until) return ;;
     esac
     case $word in
     -*) mapfile -t COMPREPLY < <(compgen -W "$options --help" -- "$word") ;;

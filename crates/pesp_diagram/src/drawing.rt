@@ -10,6 +10,7 @@ ghost use Rattle.pesp_report.specs.Reporting.{IfBlamed, Refuses, UnlessBlamed};
 use crate::frame::{
     Frame, line_height, open_plot, write_front, write_left, write_scale, write_stations,
 };
+use crate::marks::Marks;
 use crate::network::Network;
 use crate::pieces::{Piece, write_piece};
 use pesp_problem::Instance;
@@ -19,7 +20,8 @@ use std::alloc::{AllocError, Global};
 
 /// Writes time-distance diagrams of a timetable in SVG: for each line that the names tell, its stations below each other in the
 /// order in which the names first name them, the time across one period, its trains as lines between stations, what stands at
-/// a station as a line along it, and a mark at each change from or to another line. What lies behind the period's end goes
+/// a station as a line along it, and a mark at each change from or to another line, marks of one time and station above each
+/// other. What lies behind the period's end goes
 /// on from 0. What weighs nothing at a station isn't drawn; how many events have no line or no station is said in words.
 ///
 /// `NotTimes` where there isn't one time below the period for each event, and `Violates` with the first row that isn't
@@ -68,7 +70,7 @@ fn picture_of(
     let frame = Frame::of(&network.lines);
     let mut text = String::new(alloc);
     write_front(&mut text, &frame, instance.period(), cost)?;
-    let end = write_lines(&mut text, &frame, &network, instance, times)?;
+    let end = write_lines(alloc, &mut text, &frame, &network, instance, times)?;
     write_left(&mut text, &network, end)?;
     text.push_str("</svg>\n")?;
     Ok(text)
@@ -76,6 +78,7 @@ fn picture_of(
 
 /// Writes the diagrams of all lines, and tells the height below them.
 fn write_lines(
+    alloc: Global,
     text: &mut String,
     frame: &Frame,
     network: &Network<'_>,
@@ -87,7 +90,8 @@ fn write_lines(
         write_stations(text, frame, line, y)?;
         write_scale(text, frame, line, instance.period(), y)?;
         open_plot(text, frame, line, y)?;
-        write_pieces(text, network, count, instance, times)?;
+        let mut marks = Marks::none(alloc, line.stations.len())?;
+        write_pieces(text, network, count, instance, times, &mut marks)?;
         text.push_str("</svg>\n")?;
         y = y.saturating_add(line_height(line));
     }
@@ -101,10 +105,11 @@ fn write_pieces(
     line: usize,
     instance: &Instance,
     times: &[u32],
+    marks: &mut Marks,
 ) -> Result<(), AllocError> {
     for row in instance.rows() {
         if let Some(piece) = Piece::of(network, line, instance, times, row) {
-            write_piece(text, network, instance, &piece)?;
+            write_piece(text, network, instance, marks, &piece)?;
         }
     }
     Ok(())

@@ -2,11 +2,11 @@
 
 use crate::network::{Line, Network};
 use crate::places::{Across, PLOT, STATION, height_of};
-use pesp_draw::{Escaped, step_for};
+use pesp_draw::{Escaped, Shortened, step_for};
 use std::alloc::AllocError;
 
-/// How many pixels a character takes at most.
-const CHARACTER: u32 = 8;
+/// The fewest pixels for the names of stations.
+const LEAST_NAMES: u32 = 64;
 
 /// How many pixels stand round the picture.
 const MARGIN: u32 = 14;
@@ -41,16 +41,31 @@ pub struct Frame {
     height: u32,
 }
 
-/// How many characters a text has.
-fn characters(text: &str) -> u32 {
-    u32::try_from(text.chars().count()).unwrap_or(u32::MAX)
+/// How many pixels a character takes at most.
+fn width_of(sign: char) -> u32 {
+    match sign {
+        'm' | 'w' | 'M' | 'W' | '@' | '%' => 12,
+        'A'..='Z' => 10,
+        ' '..='~' => 8,
+        _ => 12,
+    }
 }
 
-/// The most characters of a line's stations.
-fn longest_of(line: &Line<'_>) -> u32 {
+/// How many pixels the name of a station takes at most.
+fn width_of_name(name: &str) -> u32 {
+    let shown = Shortened(name).characters() as usize;
+    let mut width: u32 = 0;
+    for sign in name.chars().take(shown) {
+        width = width.saturating_add(width_of(sign));
+    }
+    width
+}
+
+/// The most pixels of a line's stations.
+fn widest_of(line: &Line<'_>) -> u32 {
     let mut most: u32 = 0;
     for station in &line.stations {
-        most = most.max(characters(station));
+        most = most.max(width_of_name(station));
     }
     most
 }
@@ -69,16 +84,16 @@ pub fn line_height(line: &Line<'_>) -> u32 {
 impl Frame {
     /// The frame of a picture of these lines.
     pub fn of(lines: &[Line<'_>]) -> Frame {
-        let mut longest: u32 = 8;
+        let mut widest = LEAST_NAMES;
         let mut height = FRONT + BELOW;
         for line in lines {
-            longest = longest.max(longest_of(line));
+            widest = widest.max(widest_of(line));
             height = height.saturating_add(line_height(line));
         }
-        let left = longest.min(60) * CHARACTER + 2 * MARGIN;
+        let left = widest.saturating_add(2 * MARGIN);
         Frame {
             left,
-            width: left + PLOT + 3 * MARGIN,
+            width: left.saturating_add(PLOT + 3 * MARGIN),
             height,
         }
     }
@@ -125,6 +140,15 @@ pub fn write_left(text: &mut String, network: &Network<'_>, y: u32) -> Result<()
     )
 }
 
+/// Writes the whole name of a station whose name is cut, for where the pointer rests on it.
+fn write_whole_name(text: &mut String, station: &str) -> Result<(), AllocError> {
+    if !Shortened(station).is_cut() {
+        return Ok(());
+    }
+    let name = Escaped(station);
+    write!(text, "<title>{name}</title>")
+}
+
 /// Writes the name of a line and its stations, from a height on.
 pub fn write_stations(
     text: &mut String,
@@ -145,11 +169,13 @@ pub fn write_stations(
     for (count, station) in line.stations.iter().enumerate() {
         let at = top.saturating_add(height_of(count));
         let below = at.saturating_add(4);
-        let name = Escaped(station);
-        writeln!(
+        let name = Shortened(station);
+        write!(
             text,
-            "<line class=\"station\" x1=\"{left}\" y1=\"{at}\" x2=\"{right}\" y2=\"{at}\"/><text class=\"end\" x=\"{before}\" y=\"{below}\">{name}</text>"
+            "<line class=\"station\" x1=\"{left}\" y1=\"{at}\" x2=\"{right}\" y2=\"{at}\"/><text class=\"end\" x=\"{before}\" y=\"{below}\">{name}"
         )?;
+        write_whole_name(text, station)?;
+        text.push_str("</text>\n")?;
     }
     Ok(())
 }

@@ -4,6 +4,7 @@
 
 mod drawing;
 mod frame;
+mod marks;
 mod network;
 mod pieces;
 mod places;

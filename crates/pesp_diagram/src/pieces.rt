@@ -1,5 +1,6 @@
 //! What is drawn of an activity.
 
+use crate::marks::{Marks, Spot};
 use crate::network::{Network, Place};
 use crate::places::{Across, height_of};
 use pesp_draw::Escaped;
@@ -176,7 +177,12 @@ fn write_train(text: &mut String, period: u32, piece: &Piece<'_>) -> Result<(), 
 }
 
 /// Writes a mark where passengers leave the line or join it.
-fn write_mark(text: &mut String, period: u32, piece: &Piece<'_>) -> Result<(), AllocError> {
+fn write_mark(
+    text: &mut String,
+    period: u32,
+    marks: &mut Marks,
+    piece: &Piece<'_>,
+) -> Result<(), AllocError> {
     let length = i64::from(period.max(1));
     let end = piece.time.saturating_add(piece.duration).rem_euclid(length);
     let (class, time, place) = if piece.kind == Kind::Leave {
@@ -184,8 +190,7 @@ fn write_mark(text: &mut String, period: u32, piece: &Piece<'_>) -> Result<(), A
     } else {
         ("join", end, piece.head)
     };
-    let x = Across::of(period, time);
-    let y = height_of(place.station);
+    let Spot { x, y } = marks.next_spot(place.station, Across::of(period, time));
     write!(
         text,
         "<circle class=\"{class}\" cx=\"{x}\" cy=\"{y}\" r=\"4\"/>"
@@ -197,12 +202,13 @@ pub fn write_piece(
     text: &mut String,
     network: &Network<'_>,
     instance: &Instance,
+    marks: &mut Marks,
     piece: &Piece<'_>,
 ) -> Result<(), AllocError> {
     text.push_str("<g>")?;
     write_title(text, network, instance, piece)?;
     if piece.is_mark() {
-        write_mark(text, instance.period(), piece)?;
+        write_mark(text, instance.period(), marks, piece)?;
     } else {
         write_train(text, instance.period(), piece)?;
     }

@@ -22,6 +22,17 @@ impl Across {
             tenths: wide.checked_div(i64::from(period)).unwrap_or(0),
         }
     }
+
+    /// How many whole pixels it is from the plot's left; 0 for what lies before it.
+    pub fn pixels(self) -> u32 {
+        u32::try_from(self.tenths / 10).unwrap_or(0)
+    }
+
+    /// The place so many pixels to the right.
+    pub fn beside(self, pixels: u32) -> Across {
+        let tenths = self.tenths.saturating_add(i64::from(pixels) * 10);
+        Across { tenths }
+    }
 }
 
 impl fmt::Display for Across {

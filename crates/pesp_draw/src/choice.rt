@@ -3,7 +3,6 @@
 use pesp_report::Line;
 
 /// Which activities are drawn: at most `most`, the dearest first, and those that cost nothing only where `costless` says so.
-/// At most `most` events are drawn as well.
 #[derive(Clone, Copy)]
 pub struct Choice {
     pub most: u32,
@@ -18,13 +17,8 @@ impl Choice {
         } else {
             costly(lines)
         };
-        self.of_first(lines, kept)
-    }
-
-    /// At most so many of the first of these, and not more than are drawn.
-    pub fn of_first<T>(self, items: &[T], kept: usize) -> &[T] {
-        let count = items.len().min(kept).min(self.most as usize);
-        &items[..count]
+        let count = lines.len().min(kept).min(self.most as usize);
+        &lines[..count]
     }
 }
 

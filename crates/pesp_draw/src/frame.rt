@@ -131,21 +131,3 @@ pub fn write_activities_left(
     }
     Ok(())
 }
-
-/// Writes how many events aren't in the table.
-pub fn write_events_left(
-    text: &mut String,
-    events: usize,
-    shown: usize,
-    end: u32,
-) -> Result<(), AllocError> {
-    let count = events.saturating_sub(shown);
-    if count == 0 {
-        return Ok(());
-    }
-    let y = end.saturating_add(18);
-    writeln!(
-        text,
-        "<text x=\"14\" y=\"{y}\">Events not shown: {count}</text>"
-    )
-}

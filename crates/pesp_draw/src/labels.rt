@@ -1,11 +1,9 @@
 //! How events are called in a picture.
 
-use crate::escaped::{Escaped, write_escaped};
+use crate::escaped::Escaped;
+use crate::shortened::Shortened;
 use pesp_report::Names;
 use std::fmt;
-
-/// The most characters of a name that stand in a column.
-const MOST: usize = 60;
 
 /// How events are called: by their names where these are known, and else by their labels.
 #[derive(Clone, Copy)]
@@ -63,8 +61,7 @@ impl Called<'_> {
         if self.name.is_empty() {
             return label;
         }
-        let count = self.name.chars().take(MOST).count();
-        u32::try_from(count).unwrap_or(u32::MAX)
+        Shortened(self.name).characters()
     }
 }
 
@@ -74,10 +71,8 @@ impl fmt::Display for Called<'_> {
         if name.is_empty() {
             return write!(f, "{label}");
         }
-        for sign in name.chars().take(MOST) {
-            write_escaped(f, sign)?;
-        }
-        Ok(())
+        let name = Shortened(name);
+        write!(f, "{name}")
     }
 }
 

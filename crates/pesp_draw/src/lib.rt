@@ -13,9 +13,11 @@ mod picture;
 mod pixels;
 mod rows;
 mod scale;
+mod shortened;
 mod stretch;
 
 pub use choice::Choice;
 pub use escaped::Escaped;
 pub use picture::draw;
 pub use scale::step_for;
+pub use shortened::Shortened;

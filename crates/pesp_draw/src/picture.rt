@@ -10,9 +10,7 @@ ghost use Rattle.pesp_report.specs.Reporting.{IfBlamed, Refuses, UnlessBlamed};
 use crate::choice::Choice;
 use crate::columns::Columns;
 use crate::events::{Table, events_by_label, write_events};
-use crate::frame::{
-    write_activities_left, write_event_heading, write_events_left, write_front, write_headings,
-};
+use crate::frame::{write_activities_left, write_event_heading, write_front, write_headings};
 use crate::labels::Labels;
 use crate::rows::{Heights, write_activities};
 use crate::scale::write_scale;
@@ -23,8 +21,8 @@ use std::alloc::{AllocError, Global};
 
 /// Writes a picture of a timetable in SVG: over one period, a row for each activity with a bar from its tail's time over
 /// its least duration and on over its slack, and a thin line to its greatest duration, the dearest activity first; and a
-/// table of the events by label, with their times. A bar that reaches the period's end goes on from 0, behind an arrow. What
-/// is drawn is chosen; how many activities and events are not is said in words. Events are called by their names where
+/// table of all events by label, with their times. A bar that reaches the period's end goes on from 0, behind an arrow. Which
+/// activities are drawn is chosen; how many are not is said in words. Events are called by their names where
 /// these are given, and else by their labels.
 ///
 /// `NotTimes` where there isn't one time below the period for each event, and `Violates` with the first row that isn't
@@ -76,9 +74,8 @@ fn picture_of(
     let lines = lines_by_cost(alloc, instance, times)?;
     let drawn = choice.of_lines(&lines);
     let events = events_by_label(alloc, instance, times)?;
-    let shown = choice.of_first(&events, events.len());
     let columns = Columns::of(drawn, instance.events(), labels);
-    let table = Table::of(&columns, shown.len());
+    let table = Table::of(&columns, events.len());
     let heights = Heights::of(drawn.len(), table.rows);
     let mut text = String::new(alloc);
     write_front(
@@ -93,8 +90,7 @@ fn picture_of(
     )?;
     write_activities_left(&mut text, &lines, drawn.len(), heights.activities_end)?;
     write_event_heading(&mut text, heights.events)?;
-    write_events(&mut text, &columns, labels, &table, shown, heights.events)?;
-    write_events_left(&mut text, events.len(), shown.len(), heights.events_end)?;
+    write_events(&mut text, &columns, labels, &table, &events, heights.events)?;
     text.push_str("</svg>\n")?;
     Ok(text)
 }

@@ -1,5 +1,5 @@
 -- The violated rows, one after the other.
-use Rattle.std.proofs.Common.{Some, None, ◌≡◌, ◌∙◌, refl, ap, Bool, true, false, ℕ, ◌+◌, ◌<◌, arith, ℤ, pos, List, [], ◌∷◌, ◌++◌, length, take}
+use Rattle.std.proofs.Common.{Some, None, ◌≡◌, ◌∙◌, refl, ap, Bool, true, false, ℕ, ◌+◌, ◌-◌, ◌<◌, arith, ℤ, pos, List, [], ◌∷◌, ◌++◌, length, take}
 use Rattle.std.specs.Prelude.{All, ◌↔◌, ◌+ℤ◌, ◌-ℤ◌}
 use Rattle.std.specs.List.{cons_option, enumerate_from, filter_map}
 use Rattle.std.proofs.lemmas.Int.{ints}
@@ -47,6 +47,7 @@ pub violation-is : (p : Pesp) (times : List ℕ) (place : ℕ) → KeepsLimits p
       upper = to_z w64 (of_z w64 (row_at p.rows place).upper);
       excess = to_z w64 (of_z w64 (pos (slack p.period times (row_at p.rows place)) -ℤ
           ((row_at p.rows place).upper -ℤ (row_at p.rows place).lower)));
+      short = p.period - slack p.period times (row_at p.rows place);
     })
     (violation_of p times (place + 1, row_at p.rows place))
 violation-is p times place limits there =

@@ -1,5 +1,5 @@
 -- The activities that times violate, as they are told.
-use Rattle.std.specs.Prelude.{ℕ, Bool, pos, ◌+ℤ◌, ◌-ℤ◌, int_lt, List, [], ◌∷◌, Option, Some, None, map, codes, if◌then◌else◌}
+use Rattle.std.specs.Prelude.{ℕ, ◌-◌, Bool, pos, ◌+ℤ◌, ◌-ℤ◌, int_lt, List, [], ◌∷◌, Option, Some, None, map, codes, if◌then◌else◌}
 use Rattle.std.specs.List.{enumerate_from, filter_map}
 use Rattle.std.specs.Fmt.{decimal, signed_decimal}
 use Rattle.pesp_problem.specs.Timetables.{Pesp, AreTimes, slack}
@@ -13,7 +13,8 @@ use Rattle.pesp_report.specs.declared.refusal.ViolationsRefusal.TheVariants.{Not
 abbrev pub is_violated : Pesp → List ℕ → Row → Bool
 is_violated p times row = int_lt (row.upper -ℤ row.lower) (pos (slack p.period times row))
 
--- what is told of a row and its number; the excess is what the slack is above the span
+-- what is told of a row and its number; the excess is what the slack is above the span. Taken for a period less the duration is
+-- below the least one, by what the slack lacks of a period
 abbrev pub violation_of : Pesp → List ℕ → ℕ × Row → Violation
 violation_of p times (number, row) = record {
   row = number;
@@ -24,6 +25,7 @@ violation_of p times (number, row) = record {
   lower = row.lower;
   upper = row.upper;
   excess = pos (slack p.period times row) -ℤ (row.upper -ℤ row.lower);
+  short = p.period - slack p.period times row;
 }
 
 -- what is told of a row and its number where it is violated
@@ -34,16 +36,24 @@ violation_at p times (number, row) = if is_violated p times row then Some (viola
 abbrev pub violations_of : Pesp → List ℕ → List Violation
 violations_of p times = filter_map (violation_at p times) (enumerate_from 1 p.rows)
 
+-- by how much a row is too short or too long, whichever is less; the field of the other one is empty
+abbrev pub short_field : Violation → List ℕ
+short_field v = if int_lt v.excess (pos v.short) then [] else decimal v.short
+
+abbrev pub long_field : Violation → List ℕ
+long_field v = if int_lt (pos v.short) v.excess then [] else signed_decimal v.excess
+
 -- the fields of the header and of a violated row
 abbrev pub violation_header : List (List ℕ)
 violation_header =
-    codes "row" ∷ codes "label" ∷ codes "tail" ∷ codes "head" ∷ codes "duration" ∷ codes "lower" ∷ codes "upper" ∷ codes "excess" ∷ []
+    codes "row" ∷ codes "label" ∷ codes "tail" ∷ codes "head" ∷ codes "duration" ∷ codes "lower" ∷ codes "upper" ∷ codes "excess" ∷ codes "short"
+    ∷ codes "long" ∷ []
 
 abbrev pub violation_fields : Violation → List (List ℕ)
 violation_fields v =
     decimal v.row ∷ signed_decimal v.label ∷ signed_decimal v.tail ∷ signed_decimal v.head
     ∷ signed_decimal v.duration ∷ signed_decimal v.lower
-    ∷ signed_decimal v.upper ∷ signed_decimal v.excess ∷ []
+    ∷ signed_decimal v.upper ∷ signed_decimal v.excess ∷ short_field v ∷ long_field v ∷ []
 
 -- the header and these records
 abbrev pub violations_text : List Violation → List ℕ

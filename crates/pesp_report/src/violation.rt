@@ -1,6 +1,6 @@
 //! The activities that times violate.
 
-ghost use Rattle.std.specs.Prelude.{◌≡◌, ◌+◌, ◌<◌, ◌≤ℤ◌, ◌-ℤ◌, ◌++◌, [], int_lt, length, neg_ℤ, pos, IfOk, OnOk};
+ghost use Rattle.std.specs.Prelude.{◌≡◌, ◌+◌, ◌-◌, ◌<◌, ◌≤ℤ◌, ◌-ℤ◌, ◌++◌, [], int_lt, length, neg_ℤ, pos, IfOk, OnOk};
 ghost use Rattle.std.specs.List.{cons_option};
 ghost use Rattle.pesp_problem.specs.declared.limits.TheConstants.{MOST_BOUND};
 ghost use Rattle.pesp_problem.specs.Timetables.{AreTimes, row_at};
@@ -11,7 +11,8 @@ use pesp_problem::{Instance, Row};
 use std::alloc::{AllocError, Global};
 
 /// What is told of an activity that times violate: its number from 1 on and its label, the labels of its events, its
-/// duration and its bounds in the instance's own unit, and by how much its slack is above its span.
+/// duration and its bounds in the instance's own unit, by how much its slack is above its span, and how much is missing to
+/// its least duration, where it is taken for a period less.
 #[derive(Clone, Copy)]
 pub struct Violation {
     pub row: u32,
@@ -22,6 +23,14 @@ pub struct Violation {
     pub lower: i64,
     pub upper: i64,
     pub excess: i64,
+    pub short: u32,
+}
+
+/// How much a slack lacks of a period.
+fn short_of(period: u32, slack: u32) -> u32
+    ensures { result ≡ period - slack }
+{
+    period.saturating_sub(slack)
 }
 
 /// By how much a slack is above what the bounds of a row allow.
@@ -65,6 +74,7 @@ fn violation_at(instance: &Instance, times: &[u32], place: usize) -> Option<Viol
         lower: row.lower,
         upper: row.upper,
         excess: excess_of(line.slack, row),
+        short: short_of(instance.period(), line.slack),
     })
 }
 

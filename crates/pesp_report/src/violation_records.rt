@@ -1,6 +1,6 @@
 //! The records of violated activities, in memory.
 
-ghost use Rattle.std.specs.Prelude.{◌≡◌, ◌++◌, ℕ, List, map, IfOk, OnOk};
+ghost use Rattle.std.specs.Prelude.{◌≡◌, ◌++◌, [], ℕ, List, map, int_lt, pos, if◌then◌else◌, IfOk, OnOk};
 ghost use Rattle.csv.specs.Writing.{default_writer, row_text};
 ghost use Rattle.pesp_report.specs.Report.{records_text};
 ghost use Rattle.pesp_report.specs.Violations.{violation_fields, violation_header, violations_text};
@@ -29,8 +29,32 @@ fn write_violation_header(writer: &mut Writer<Vec<u8>>) -> Result<(), Memory>
             b"lower",
             b"upper",
             b"excess",
+            b"short",
+            b"long",
         ],
     )
+}
+
+/// The digits of how much an activity is too short, or nothing where it is less too long.
+fn short_field<'a>(violation: &Violation, digits: &'a [u8]) -> &'a [u8]
+    ensures { result.now ≡ (if int_lt violation.now.excess (pos violation.now.short) then [] else digits.now) }
+{
+    if violation.excess < i64::from(violation.short) {
+        b""
+    } else {
+        digits
+    }
+}
+
+/// The digits of how much an activity is too long, or nothing where it is less too short.
+fn long_field<'a>(violation: &Violation, digits: &'a [u8]) -> &'a [u8]
+    ensures { result.now ≡ (if int_lt (pos violation.now.short) violation.now.excess then [] else digits.now) }
+{
+    if i64::from(violation.short) < violation.excess {
+        b""
+    } else {
+        digits
+    }
 }
 
 /// Writes a violated activity.
@@ -41,7 +65,8 @@ fn write_violation(writer: &mut Writer<Vec<u8>>, violation: &Violation) -> Resul
 {
     let (mut row, mut label, mut tail) = (Buffer::new(), Buffer::new(), Buffer::new());
     let (mut head, mut duration, mut lower) = (Buffer::new(), Buffer::new(), Buffer::new());
-    let (mut upper, mut excess) = (Buffer::new(), Buffer::new());
+    let (mut upper, mut excess, mut short) = (Buffer::new(), Buffer::new(), Buffer::new());
+    let excess = excess.format(violation.excess).as_bytes();
     write_fields(
         writer,
         &[
@@ -52,7 +77,9 @@ fn write_violation(writer: &mut Writer<Vec<u8>>, violation: &Violation) -> Resul
             duration.format(violation.duration).as_bytes(),
             lower.format(violation.lower).as_bytes(),
             upper.format(violation.upper).as_bytes(),
-            excess.format(violation.excess).as_bytes(),
+            excess,
+            short_field(violation, short.format(violation.short).as_bytes()),
+            long_field(violation, excess),
         ],
     )
 }

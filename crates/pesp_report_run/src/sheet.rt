@@ -84,8 +84,8 @@ impl Sheet for NamedReport<'_> {
     }
 }
 
-/// A picture in SVG with at most `rows` activities, the dearest ones that cost something, and at most `rows` events, called by
-/// these names where there are any. What it shows is not promised.
+/// A picture in SVG with at most `rows` activities, the dearest ones that cost something, and all events, called by these names
+/// where there are any. What it shows is not promised.
 #[derive(Clone, Copy)]
 pub struct Picture<'a> {
     pub rows: u32,

@@ -106,9 +106,7 @@ pub(crate) fn names_argument<'a>(alloc: Global) -> Arg<'a> {
 pub(crate) fn rows_option<'a>(alloc: Global) -> Arg<'a> {
     number_option(alloc, "rows", 1, 1000)
         .default_value("100")
-        .help(
-            "How many activities, the dearest ones, and how many events are drawn at most, 1 to 1000",
-        )
+        .help("How many activities, the dearest ones, are drawn at most, 1 to 1000")
 }
 
 pub(crate) fn file_argument<'a>(alloc: Global) -> Arg<'a> {

@@ -8,7 +8,7 @@ use Rattle.pesp_report.proofs.Order.{records-more}
 use Rattle.pesp_report.proofs.violation_records.write_violations.Goals as goal
 
 abbrev no_violation : Violation
-no_violation = record { row = 0; label = pos 0; tail = pos 0; head = pos 0; duration = pos 0; lower = pos 0; upper = pos 0; excess = pos 0 }
+no_violation = record { row = 0; label = pos 0; tail = pos 0; head = pos 0; duration = pos 0; lower = pos 0; upper = pos 0; excess = pos 0; short = 0 }
 
 pub loop-violation-preserved : goal.loop-violation-preserved
 loop-violation-preserved c = λ before h.

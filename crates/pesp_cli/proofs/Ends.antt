@@ -1,26 +1,17 @@
--- How a run without a status of its own ends, and what a writer got of a line.
-use Rattle.std.proofs.Common.{◌≡◌, ◌⊎◌, inl, inr, ℕ, List, ◌++◌, refl, Ok, Err}
-use Rattle.std.specs.Prelude.{Result, Option, MatchResult, OnOk, OnErr, IfOk, codes}
-use Rattle.pesp_stream.specs.Counts.{Calls, DeviceFailed}
-use Rattle.pesp_stream.specs.Writing.{Writes}
-use Rattle.pesp_check_run.specs.Devices.{Device, over}
+-- How a run without a status of its own ends.
+use Rattle.std.proofs.Common.{◌≡◌, ℕ, List, refl, Ok, Err}
+use Rattle.std.specs.Prelude.{Result, Option, MatchResult, OnOk, IfOk}
+use Rattle.pesp_check_run.specs.Devices.{Device}
 use Rattle.pesp_faults.specs.declared.fault.Fault.{Fault}
 use Rattle.pesp_faults.specs.Reading.{HasBase}
 use Rattle.pesp_resume_run.specs.Resuming.{WritesResumed}
 use Rattle.pesp_resume_run.proofs.Writing.{written_weaker}
-use Rattle.pesp_cli.specs.Answers.{GetsLine}
 
 -- the run's clause, and the status 0
 pub finished : {A E : Type 0} (run : Result A E) (r : Result ℕ E) (P : Type 0) → OnOk run P
     → MatchResult run (λ _. r ≡ Ok 0) (λ fault. r ≡ Err fault) → IfOk r (λ status. P × (status ≡ 0))
 finished (Ok a) r P holds is = rw is (holds, refl)
 finished (Err e) r P holds is = rw is tt
-
--- all of it, or a front where the writer failed
-pub got_line : {A E : Type 0} (r : Result A E) (old new : Option (List ℕ)) (calls after : Calls) (line : List ℕ)
-    → Writes old new (line ++ codes "\n") r → OnErr r (DeviceFailed calls after) → GetsLine (over old new calls after) line
-got_line (Ok a) old new calls after line written fault = inl written
-got_line (Err e) old new calls after line written fault = inr (fault, written)
 
 -- what holds of a run over the times of a file holds of some times
 pub from_some_times : {A : Type 0} (run : Result A Fault) (r : Result ℕ Fault) (P : Device → Type 0)

@@ -24,6 +24,7 @@ use Rattle.pesp_resume_run.specs.Resuming.{WritesResumed}
 use Rattle.pesp_conflict_run.specs.Runs.{TellsConflict}
 use Rattle.pesp_conflict_run.specs.Told.{told_text, told_status}
 use Rattle.pesp_conflict_run.specs.declared.told.Told.{Told}
+use Rattle.pesp_telling.specs.Lines.{Gets, GetsLine}
 use Rattle.pesp_request.specs.declared.request.OfInstance.{OfInstance}
 use Rattle.pesp_request.specs.declared.request.OfInstance.TheVariants.{Solve, SolveSharp, Conflict}
 use Rattle.pesp_request.specs.declared.request.OfCertificate.{OfCertificate}
@@ -37,16 +38,6 @@ use Rattle.pesp_request.specs.declared.request.OfWorks.TheVariants.{Graft, Graft
 use Rattle.pesp_request.specs.declared.request.Asked.{Asked}
 use Rattle.pesp_request.specs.declared.request.Asked.TheVariants.{Instance, Certificate, Leaves, Times, Works}
 use Rattle.pesp_request.specs.declared.request.Request.{Request}
-
--- ---- writers
-
--- the writer got this text
-abbrev pub Gets : Device → List ℕ → Type 0
-Gets writer text = Appends writer.old writer.new text
-
--- the writer got this line, or the front of it behind which it failed
-abbrev pub GetsLine : Device → List ℕ → Type 0
-GetsLine writer line = Gets writer (line ++ codes "\n") ⊎ (HasFailed writer × GetsFront writer (line ++ codes "\n"))
 
 -- a fault is told, or that its line found no memory; the status is that of what is told
 abbrev pub TellsFault : Device → Fault → ℕ → Type 0

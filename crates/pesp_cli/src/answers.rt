@@ -165,7 +165,7 @@ pub(crate) fn of_instance<R: AllocGlobal + Eprint + Files + Clock, I: Source, W:
         }
         OfInstance::Conflict { steps } => {
             let told = run_conflict(alloc, reader, writer, period, steps)?;
-            told_conflict(alloc, teller, told)?;
+            told_conflict(teller, told);
             Ok(status_of_told(told))
         }
     }

@@ -3,40 +3,85 @@
 use std::io::{ErrorKind, Read};
 use std::{fmt, io};
 
-/// How many bytes of the beginning are kept: more than the first two lines of a certificate have.
-const KEPT: usize = 48;
+/// How many bytes of a line are kept: more than a line with a period has.
+const KEPT: usize = 24;
 
-/// The first bytes of a text.
+/// Which line of a certificate comes next: its first one, one at which its period may stand, or one that is passed over.
+#[derive(Clone, Copy, PartialEq, Eq, Drop)]
+enum Next {
+    First,
+    Period,
+    Other,
+}
+
+/// The period of a certificate, looked for line by line. In version 3 marked walks stand before it.
 #[derive(Drop)]
 struct Kept {
-    bytes: [u8; KEPT],
+    line: [u8; KEPT],
     count: usize,
+    next: Next,
+    period: Option<u32>,
 }
 
 impl Kept {
-    /// Adds what comes next, where there is room.
-    fn add(&mut self, bytes: &[u8]) {
-        for byte in bytes {
-            if let Some(place) = self.bytes.get_mut(self.count) {
-                *place = *byte;
-                self.count = self.count.saturating_add(1);
-            }
+    /// Nothing is read yet.
+    fn new() -> Kept {
+        Kept {
+            line: [0; KEPT],
+            count: 0,
+            next: Next::First,
+            period: None,
         }
     }
 
-    /// The period that stands in the second line, where a certificate begins so.
-    fn period(&self) -> Option<u32> {
-        let text = str::from_utf8(self.bytes.get(..self.count)?).ok()?;
-        let (first, rest) = text.split_once("\n")?;
-        if !first.starts_with("pesp-certificate ") {
-            return None;
+    /// Takes what comes next, until the period is found or can't stand there any more.
+    fn add(&mut self, bytes: &[u8]) {
+        for byte in bytes {
+            if self.next == Next::Other {
+                return;
+            }
+            self.add_byte(*byte);
         }
-        let (second, _) = rest.split_once("\n")?;
-        second.strip_prefix("period ")?.parse().ok()
+    }
+
+    /// Takes a byte; of a longer line the beginning is kept.
+    fn add_byte(&mut self, byte: u8) {
+        if byte == b'\n' {
+            self.end_line();
+        } else if let Some(place) = self.line.get_mut(self.count) {
+            *place = byte;
+            self.count = self.count.saturating_add(1);
+        }
+    }
+
+    /// Takes the line that is read.
+    fn end_line(&mut self) {
+        let line = str::from_utf8(self.line.get(..self.count).unwrap_or(b"")).unwrap_or("");
+        if self.next == Next::Period {
+            self.period = period_in(line);
+        }
+        self.next = next_behind(self.next, line);
+        self.count = 0;
     }
 }
 
-/// A reader that keeps the beginning of what it has given.
+/// The period that a line of a certificate tells, where it tells one.
+fn period_in(line: &str) -> Option<u32> {
+    line.strip_prefix("period ")?.parse().ok()
+}
+
+/// What comes behind a line of a certificate.
+fn next_behind(next: Next, line: &str) -> Next {
+    let is_first = line.starts_with("pesp-certificate ");
+    let is_front = line.starts_with("scale ") || line.starts_with("walk ");
+    match next {
+        Next::First if is_first => Next::Period,
+        Next::Period if is_first || is_front => Next::Period,
+        _ => Next::Other,
+    }
+}
+
+/// A reader that looks for the period of the certificate that it gives.
 #[derive(Drop)]
 pub(crate) struct Beginning<S> {
     inner: S,
@@ -48,10 +93,7 @@ impl<S: Read> Beginning<S> {
     pub(crate) fn of(inner: S) -> Beginning<S> {
         Beginning {
             inner,
-            kept: Kept {
-                bytes: [0; KEPT],
-                count: 0,
-            },
+            kept: Kept::new(),
         }
     }
 
@@ -65,9 +107,9 @@ impl<S: Read> Beginning<S> {
         }
     }
 
-    /// The period that stands in the second line, where a certificate begins so.
+    /// The period of the certificate, where one was given.
     pub(crate) fn period(&self) -> Option<u32> {
-        self.kept.period()
+        self.kept.period
     }
 }
 

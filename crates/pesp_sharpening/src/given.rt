@@ -213,6 +213,9 @@ impl Sharpening {
 
     /// Leaves go on by primal-dual steps, and multipliers are told as at first.
     fn leave_shared(&mut self) {
+        if let Some(shared) = &self.shared {
+            shared.leave(&mut self.sharpener.pool);
+        }
         self.shared = None;
         self.carried = None;
         self.sharpener.setting.scale = self.first_scale;

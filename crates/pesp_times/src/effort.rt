@@ -60,14 +60,19 @@ impl Effort {
 /// Up to how many rows there is no search in which spans may be broken: batches find the best there.
 const FEWEST_SOFT: usize = 120;
 
-/// How many groups of how many individuals have anneals in which spans may be broken, and with how many sweeps; how many sweeps an anneal between
-/// clusters has; how many reheats there are at most, with how many sweeps, and after how many in turn that found nothing they end.
+/// How many reheats of a timetable are merged with it.
+const REHEATS: u32 = 3;
+
+/// How many groups of how many individuals have anneals in which spans may be broken, and with how many sweeps; how many sweeps
+/// an anneal between clusters has; how many rounds there are of how many reheats, with how many sweeps, and after how many rounds
+/// in turn that found nothing they end.
 #[derive(Clone, Copy)]
 pub(crate) struct SoftEffort {
     pub(crate) groups: u32,
     pub(crate) individuals: u32,
     pub(crate) sweeps: u32,
     pub(crate) between: u32,
+    pub(crate) rounds: u32,
     pub(crate) reheats: u32,
     pub(crate) again: u32,
     pub(crate) quiet: u32,
@@ -84,12 +89,12 @@ impl SoftEffort {
         if rows <= FEWEST_SOFT {
             return None;
         }
-        let (groups, individuals, sweeps, reheats, quiet) = match rows {
-            0..=700 => (1, 4, 1_000, 8, 5),
-            701..=2_500 => (2, 4, 1_000, 12, 6),
-            2_501..=8_000 => (1, 1, 2_000, 8, 4),
-            8_001..=30_000 => (1, 1, 600, 2, 1),
-            _ => (1, 1, 200, 1, 1),
+        let (groups, individuals, sweeps, rounds, quiet) = match rows {
+            0..=700 => (2, 3, 800, 2, 1),
+            701..=2_500 => (2, 3, 1_000, 6, 3),
+            2_501..=8_000 => (1, 1, 2_000, 3, 1),
+            8_001..=30_000 => (1, 1, 600, 1, 1),
+            _ => (1, 1, 200, 0, 1),
         };
         let between = sweeps.min(1_000);
         Some(SoftEffort {
@@ -97,7 +102,8 @@ impl SoftEffort {
             individuals,
             sweeps,
             between,
-            reheats,
+            rounds,
+            reheats: REHEATS,
             again: between / 2,
             quiet,
         })
@@ -124,9 +130,10 @@ impl SoftEffort {
             individuals: 0,
             sweeps: 0,
             between,
-            reheats: (steps / 128).clamp(4, 16),
+            rounds: (steps / 512).clamp(1, 4),
+            reheats: REHEATS,
             again: between / 2,
-            quiet: 3,
+            quiet: 2,
         }
     }
 }

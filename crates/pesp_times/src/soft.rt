@@ -18,7 +18,7 @@ use std::mem;
 const TRIES: u32 = 50;
 
 /// How many anneals there are between the clusters of a merge.
-const BETWEEN: usize = 3;
+const BETWEEN: u32 = 3;
 
 /// The search, with the mean cost of a row after a descent, what the timetable of others cost that was merged last, the best of
 /// each group until it is merged, and the cheapest timetable that it found.
@@ -140,7 +140,7 @@ impl SoftSearch {
         sweeps: u32,
     ) -> Result<(), Memory> {
         for number in 0..BETWEEN {
-            let from = (number % 2).min(pool.len().saturating_sub(1));
+            let from = (number as usize % 2).min(pool.len().saturating_sub(1));
             let Some(parent) = pool.get(from) else {
                 return Ok(());
             };
@@ -228,25 +228,27 @@ impl SoftSearch {
         Ok(())
     }
 
-    /// Anneals a timetable again, and takes what isn't dearer; whether it is cheaper.
-    fn reheat(
+    /// What a timetable leads to when it is annealed again, a few times.
+    fn reheated(
         &mut self,
         network: &Network,
-        current: &mut Found,
-        sweeps: u32,
-    ) -> Result<bool, Memory> {
-        let Some(found) = self.annealed(network, &current.slacks, &reheat(sweeps))? else {
-            return Ok(false);
-        };
-        let is_cheaper = found.cost < current.cost;
-        if found.cost <= current.cost {
-            *current = found;
+        current: &Found,
+        effort: &SoftEffort,
+    ) -> Result<Vec<Found>, Memory> {
+        let mut pool = Vec::new(self.alloc);
+        for number in 0..effort.reheats {
+            let plan = reheat(effort.again, number);
+            if let Some(found) = self.annealed(network, &current.slacks, &plan)? {
+                self.note(network, &found)?;
+                pool.push(found)?;
+            }
         }
-        self.note(network, current)?;
-        Ok(is_cheaper)
+        pool.push(current.copy(self.alloc)?)?;
+        Ok(pool)
     }
 
-    /// Reheats a timetable at most so often, and no more after so many in turn that found nothing cheaper.
+    /// Reheats a timetable and merges it with what it led to, at most so often, and no more after so many times in turn that
+    /// found nothing cheaper.
     fn reheat_often(
         &mut self,
         network: &Network,
@@ -254,12 +256,17 @@ impl SoftSearch {
         effort: &SoftEffort,
     ) -> Result<(), Memory> {
         let mut quiet = 0u32;
-        for _ in 0..effort.reheats {
-            quiet = if self.reheat(network, current, effort.again)? {
+        for _ in 0..effort.rounds {
+            let pool = self.reheated(network, current, effort)?;
+            let Some(found) = self.merged(network, pool, effort.between)? else {
+                return Ok(());
+            };
+            quiet = if found.cost < current.cost {
                 0
             } else {
                 quiet.saturating_add(1)
             };
+            *current = found;
             if quiet >= effort.quiet {
                 break;
             }

@@ -30,16 +30,21 @@ pub(crate) fn individual(sweeps: u32) -> Plan {
     plan(sweeps, 128, 48, 300)
 }
 
-/// A try between the clusters of a merge, from the mean, or the second time from one and a half times that.
-pub(crate) fn between(sweeps: u32, number: usize) -> Plan {
+/// A search from good timetables, from the mean, or the second one from one and a half times that, to a half of it.
+fn from_good(sweeps: u32, number: u32, hard_sweeps: u32) -> Plan {
     if number == 1 {
-        plan(sweeps, 48, 25, 200)
+        plan(sweeps, 48, 25, hard_sweeps)
     } else {
-        plan(sweeps, 32, 16, 200)
+        plan(sweeps, 32, 16, hard_sweeps)
     }
 }
 
-/// A reheat of a good timetable, from the mean.
-pub(crate) fn reheat(sweeps: u32) -> Plan {
-    plan(sweeps, 32, 16, 100)
+/// A search between the clusters of a merge.
+pub(crate) fn between(sweeps: u32, number: u32) -> Plan {
+    from_good(sweeps, number, 200)
+}
+
+/// A reheat of a good timetable.
+pub(crate) fn reheat(sweeps: u32, number: u32) -> Plan {
+    from_good(sweeps, number, 100)
 }

@@ -57,11 +57,17 @@ fn summed(
     let Some(forest) = Forest::new(alloc, frame, numbers)? else {
         return Ok(None);
     };
-    let Some(spans) = Spans::new(alloc, frame, &forest)? else {
-        return Ok(None);
-    };
-    let cycles = Cycles::new(alloc, forest)?;
-    Ok(Some((cycles, spans)))
+    match Spans::new(alloc, frame, &forest) {
+        Ok(Some(spans)) => Ok(Some((Cycles::new(alloc, forest)?, spans))),
+        Ok(None) => {
+            drop(forest);
+            Ok(None)
+        }
+        Err(refused) => {
+            drop(forest);
+            Err(refused)
+        }
+    }
 }
 
 impl Root {
@@ -70,14 +76,21 @@ impl Root {
         let Some((cycles, spans)) = summed(alloc, frame, numbers)? else {
             return Ok(None);
         };
-        let Some(offsets) = root_offsets(alloc, frame, &cycles, &spans)? else {
-            return Ok(None);
-        };
-        Ok(Some(Root {
-            cycles,
-            spans,
-            offsets,
-        }))
+        match root_offsets(alloc, frame, &cycles, &spans) {
+            Ok(Some(offsets)) => Ok(Some(Root {
+                cycles,
+                spans,
+                offsets,
+            })),
+            Ok(None) => {
+                drop(cycles);
+                Ok(None)
+            }
+            Err(refused) => {
+                drop(cycles);
+                Err(refused)
+            }
+        }
     }
 
     /// The best basis of the root; None where the root has no timetable, or where it wasn't found.
@@ -89,10 +102,16 @@ impl Root {
             offsets,
             ..
         } = self;
-        let ended = settle(alloc, frame, cycles, &mut basis, &slacks, offsets, &[])?;
-        if ended != Some(Ended::Best) {
-            return Ok(None);
+        match settle(alloc, frame, cycles, &mut basis, &slacks, offsets, &[]) {
+            Ok(Some(Ended::Best)) => Ok(Some(basis)),
+            Ok(_) => {
+                drop(basis);
+                Ok(None)
+            }
+            Err(refused) => {
+                drop(basis);
+                Err(refused)
+            }
         }
-        Ok(Some(basis))
     }
 }

@@ -67,23 +67,47 @@ fn joined(
     }
 }
 
+/// What comes of both, where the trees have these shapes and the certificates share these cycles.
+fn walked(
+    alloc: Global,
+    own: Shown<'_>,
+    other: Shown<'_>,
+    shapes: (&Shape, &Shape),
+    cycles: &[Option<u32>],
+) -> Result<Merged, Memory> {
+    let trees = Trees {
+        own: own.certificate().tree(),
+        own_shape: shapes.0,
+        other: other.certificate().tree(),
+        other_shape: shapes.1,
+        cycles,
+        cost: lesser(own.cost(), other.cost()).unwrap_or(u64::MAX),
+    };
+    let runs = trees.runs(alloc)?;
+    joined(alloc, own, other, trees, &runs)
+}
+
+/// What comes of both, where our tree has this shape.
+fn shaped(
+    alloc: Global,
+    own: Shown<'_>,
+    other: Shown<'_>,
+    shape: &Shape,
+) -> Result<Merged, Memory> {
+    let cycles = common_cycles(alloc, own, other)?;
+    let others_shape = Shape::of(alloc, other.certificate().tree(), other.costs)?;
+    let merged = walked(alloc, own, other, (shape, &others_shape), &cycles);
+    drop(others_shape);
+    merged
+}
+
 /// Two certificates of one instance as one. Where both have the same branch both of its parts are walked through; elsewhere the
 /// subtree is taken that shows more, or as much where it goes on from an open leaf. Cycles and marked walks are the same where they
 /// pass the same rows; those that are new are put behind the others. Leaves keep what they show: where the scales differ, their
 /// multipliers are told by a multiple of both. The times are the cheaper ones.
 pub fn merge(alloc: Global, own: Shown<'_>, other: Shown<'_>) -> Result<Merged, Memory> {
-    let cycles = common_cycles(alloc, own, other)?;
-    let (tree, others) = (own.certificate().tree(), other.certificate().tree());
-    let shape = Shape::of(alloc, tree, own.costs)?;
-    let others_shape = Shape::of(alloc, others, other.costs)?;
-    let trees = Trees {
-        own: tree,
-        own_shape: &shape,
-        other: others,
-        other_shape: &others_shape,
-        cycles: &cycles,
-        cost: lesser(own.cost(), other.cost()).unwrap_or(u64::MAX),
-    };
-    let runs = trees.runs(alloc)?;
-    joined(alloc, own, other, trees, &runs)
+    let shape = Shape::of(alloc, own.certificate().tree(), own.costs)?;
+    let merged = shaped(alloc, own, other, &shape);
+    drop(shape);
+    merged
 }

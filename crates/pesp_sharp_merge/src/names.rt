@@ -173,6 +173,24 @@ impl Numbering {
         self.own.get(at).copied().unwrap_or(u32::MAX)
     }
 
+    /// Numbers what is named.
+    fn number_all(
+        &mut self,
+        own: &Named,
+        other: &Named,
+        cycles: &[Option<u32>],
+        walks: &[Option<u32>],
+    ) -> Result<(), Memory> {
+        let count = own.cycles.len();
+        self.number_our_cycles(count)?;
+        self.number_their_cycles(&other.cycles, cycles)?;
+        let all = number_of(count.saturating_add(self.new_cycles.len()));
+        let first = all.saturating_add(1);
+        self.number_our_walks(first, &own.walks)?;
+        let behind = first.saturating_add(number_of(self.kept_walks.len()));
+        self.number_their_walks(behind, count, &other.walks, walks)
+    }
+
     /// The numbers of what is named, where these of the other certificate's cycles and walks are ours.
     pub(crate) fn of(
         alloc: Global,
@@ -182,15 +200,13 @@ impl Numbering {
         walks: &[Option<u32>],
     ) -> Result<Numbering, Memory> {
         own.mark_matched(other, walks);
-        let count = own.cycles.len();
         let mut numbering = Numbering::empty(alloc);
-        numbering.number_our_cycles(count)?;
-        numbering.number_their_cycles(&other.cycles, cycles)?;
-        let all = number_of(count.saturating_add(numbering.new_cycles.len()));
-        let first = all.saturating_add(1);
-        numbering.number_our_walks(first, &own.walks)?;
-        let behind = first.saturating_add(number_of(numbering.kept_walks.len()));
-        numbering.number_their_walks(behind, count, &other.walks, walks)?;
-        Ok(numbering)
+        match numbering.number_all(own, other, cycles, walks) {
+            Ok(()) => Ok(numbering),
+            Err(refused) => {
+                drop(numbering);
+                Err(refused)
+            }
+        }
     }
 }

@@ -67,8 +67,18 @@ impl Pairing<'_> {
     /// The numbers of what is named.
     fn numbering(&self, alloc: Global) -> Result<Numbering, Memory> {
         let mut own = self.named(alloc, false)?;
-        let other = self.named(alloc, true)?;
-        Numbering::of(alloc, &mut own, &other, self.cycles, self.walks)
+        match self.named(alloc, true) {
+            Ok(other) => {
+                let numbering = Numbering::of(alloc, &mut own, &other, self.cycles, self.walks);
+                drop(own);
+                drop(other);
+                numbering
+            }
+            Err(refused) => {
+                drop(own);
+                Err(refused)
+            }
+        }
     }
 
     /// Adds the lines of a run; false where one can't be told.
@@ -164,20 +174,34 @@ impl Pairing<'_> {
         Ok(Marks::new(factors.scale, walks).ok())
     }
 
+    /// The certificate by these numbers, with its front.
+    fn numbered(&self, alloc: Global, numbering: &Numbering) -> Result<Option<Fronted>, Memory> {
+        let factors = factors_of(self.own.front(), self.other.front());
+        let Some(certificate) = self.certificate(alloc, numbering, factors)? else {
+            return Ok(None);
+        };
+        match self.marks(alloc, numbering, factors) {
+            Ok(Some(marks)) => Ok(Some(Fronted {
+                front: with_walks(marks),
+                certificate,
+            })),
+            Ok(None) => {
+                drop(certificate);
+                Ok(None)
+            }
+            Err(refused) => {
+                drop(certificate);
+                Err(refused)
+            }
+        }
+    }
+
     /// The certificate with its front, where it has a walk; None where a part would pass a limit.
     pub(crate) fn fronted(&self, alloc: Global) -> Result<Option<Fronted>, Memory> {
-        let factors = factors_of(self.own.front(), self.other.front());
         let numbering = self.numbering(alloc)?;
-        let Some(certificate) = self.certificate(alloc, &numbering, factors)? else {
-            return Ok(None);
-        };
-        let Some(marks) = self.marks(alloc, &numbering, factors)? else {
-            return Ok(None);
-        };
-        Ok(Some(Fronted {
-            front: with_walks(marks),
-            certificate,
-        }))
+        let fronted = self.numbered(alloc, &numbering);
+        drop(numbering);
+        fronted
     }
 
     /// What the tree shows beside the cheaper times.

@@ -44,7 +44,11 @@ pub fn solve_sharp<O: SharpObserver>(
     } = look_first(alloc, instance, times, observer)?;
     let plain = solved.certificate;
     let watcher = &mut Observing { observer };
-    let proposals = propose(alloc, instance, &plain, reduced, search, steps, watcher)?;
-    let sharp = settled(alloc, instance, plain, proposals, steps)?;
-    Ok(sharp)
+    match propose(alloc, instance, &plain, reduced, search, steps, watcher) {
+        Ok(proposals) => Ok(settled(alloc, instance, plain, proposals, steps)?),
+        Err(_) => {
+            drop(plain);
+            Err(SolveRefusal::Memory)
+        }
+    }
 }

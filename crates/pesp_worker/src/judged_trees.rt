@@ -213,6 +213,7 @@ pub(crate) fn judged(
 {
     let mut lent = lend_base(alloc, instance, base)?;
     if !are_there(jobs, &lent) {
+        drop(lent);
         return Err(WorkRefusal::NoSuchJob);
     }
     let works = judge_each(alloc, &mut lent.board, found, range.steps, range.until)?;

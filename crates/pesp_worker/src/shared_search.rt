@@ -108,6 +108,17 @@ fn recall_all(board: &mut Board, jobs: &[u64])
     }
 }
 
+/// Opens the leaves of jobs, and looks at one that is worked on alone anew: whether they are to be split.
+fn open_jobs(alloc: Global, board: &mut Board, jobs: &[u64], steps: u32) -> Result<bool, Memory>
+    ensures { board.new.problem ≡ board.old.problem }
+{
+    recall_all(board, jobs);
+    if jobs.len() == 1 && !improve_leaf(alloc, board)? {
+        return Ok(false);
+    }
+    Ok(steps > 0)
+}
+
 /// Works on the leaves of jobs; a leaf that is worked on alone is looked at anew first.
 fn work_on(
     alloc: Global,
@@ -121,15 +132,17 @@ fn work_on(
     ensures { IfOk result (λ worked. worked.problem ≡ board.problem) }
 {
     let mut board = board;
-    recall_all(&mut board, jobs);
-    if jobs.len() == 1 && !improve_leaf(alloc, &mut board)? {
-        return Ok(board);
+    match open_jobs(alloc, &mut board, jobs, range.steps) {
+        Ok(true) => {
+            let before = count_branches(base.tree());
+            split_on(alloc, instance, board, before, range.steps, range.until)
+        }
+        Ok(false) => Ok(board),
+        Err(refused) => {
+            drop(board);
+            Err(refused)
+        }
     }
-    if range.steps == 0 {
-        return Ok(board);
-    }
-    let before = count_branches(base.tree());
-    split_on(alloc, instance, board, before, range.steps, range.until)
 }
 
 /// The tree in the place of the leaf of a job.
@@ -212,8 +225,18 @@ fn found_for(
         board,
         jobs: leaves,
     } = lent;
-    let worked = work_on(alloc, instance, board, base, jobs, range)?;
-    works_on(alloc, instance, &worked, base, &leaves, jobs)
+    match work_on(alloc, instance, board, base, jobs, range) {
+        Ok(worked) => {
+            let works = works_on(alloc, instance, &worked, base, &leaves, jobs);
+            drop(worked);
+            drop(leaves);
+            works
+        }
+        Err(refused) => {
+            drop(leaves);
+            Err(refused)
+        }
+    }
 }
 
 /// Searches below the leaves of jobs for a tree in the place of each, and for times that are cheaper than those of the base. The
@@ -232,6 +255,7 @@ pub(crate) fn search_below(
 {
     let lent = lend_base(alloc, instance, base)?;
     if !are_there(jobs, &lent) {
+        drop(lent);
         return Err(WorkRefusal::NoSuchJob);
     }
     let works = found_for(alloc, instance, lent, base, jobs, range)?;

@@ -45,7 +45,13 @@ impl Search {
         seed: u32,
         most: u32,
     ) -> Result<Search, AllocError> {
-        let outside = table.forest.rows(alloc, false)?;
+        let outside = match table.forest.rows(alloc, false) {
+            Ok(outside) => outside,
+            Err(refused) => {
+                drop(table);
+                return Err(refused);
+            }
+        };
         let goal = Goal::new(outside.len());
         let open = open_in_all(frame, &table.basis);
         let worth = goal.worth(frame, table.cost(), open);
@@ -172,7 +178,22 @@ fn found_from(
         return Ok(None);
     };
     let mut search = Search::new(alloc, frame, table, seed, exchanges)?;
-    Ok(Some(search.found(alloc, frame, exchanges)?))
+    let found = search.found(alloc, frame, exchanges);
+    drop(search);
+    Ok(Some(found?))
+}
+
+/// The rows that are found from those of the network's own forest, numbered from 1; that forest where its root has no timetable.
+fn found_over(
+    alloc: Global,
+    network: &Network,
+    frame: &Frame,
+    seed: u32,
+    exchanges: u32,
+) -> Result<Vec<u32>, Memory> {
+    let numbers = network.forest(alloc)?;
+    let found = found_from(alloc, frame, &numbers, seed, exchanges)?;
+    Ok(found.unwrap_or(numbers))
 }
 
 /// The rows of a spanning forest, by their numbers from 1, whose cycles promise a strong bound: found from the network's own
@@ -185,7 +206,7 @@ pub fn search_forest(
     exchanges: u32,
 ) -> Result<Vec<u32>, Memory> {
     let frame = Frame::new(alloc, network)?;
-    let numbers = network.forest(alloc)?;
-    let found = found_from(alloc, &frame, &numbers, seed, exchanges)?;
-    Ok(found.unwrap_or(numbers))
+    let found = found_over(alloc, network, &frame, seed, exchanges);
+    drop(frame);
+    found
 }

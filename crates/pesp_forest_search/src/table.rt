@@ -36,17 +36,41 @@ pub(crate) struct Table {
 impl Spare {
     /// The same basis once more, and no events; None where it can't be.
     fn new(alloc: Global, frame: &Frame, basis: &mut Basis) -> Result<Option<Spare>, AllocError> {
+        let is_beyond = vec![in alloc; false; frame.events()]?;
         let mut before = Basis::idle(alloc, frame)?;
         if before.copy_from(basis).is_none() || basis.copy_from(&before).is_none() {
+            drop(before);
             return Ok(None);
         }
         Ok(Some(Spare {
             cost: before.cost(),
             before,
             beyond: Vec::new(alloc),
-            is_beyond: vec![in alloc; false; frame.events()]?,
+            is_beyond,
             crossing: Vec::new(alloc),
         }))
+    }
+}
+
+/// The best basis of a root, and what an exchange needs; None where the root has no timetable.
+fn basis_and_spare(
+    alloc: Global,
+    frame: &Frame,
+    root: &Root,
+) -> Result<Option<(Basis, Spare)>, AllocError> {
+    let Some(mut basis) = root.best_basis(alloc, frame)? else {
+        return Ok(None);
+    };
+    match Spare::new(alloc, frame, &mut basis) {
+        Ok(Some(spare)) => Ok(Some((basis, spare))),
+        Ok(None) => {
+            drop(basis);
+            Ok(None)
+        }
+        Err(refused) => {
+            drop(basis);
+            Err(refused)
+        }
     }
 }
 
@@ -60,19 +84,25 @@ impl Table {
         let Some(root) = Root::new(alloc, frame, numbers)? else {
             return Ok(None);
         };
-        let Some(mut basis) = root.best_basis(alloc, frame)? else {
-            return Ok(None);
-        };
-        let Some(spare) = Spare::new(alloc, frame, &mut basis)? else {
-            return Ok(None);
-        };
-        let Root { cycles, spans, .. } = root;
-        Ok(Some(Table {
-            forest: cycles.into_forest(),
-            basis,
-            spans,
-            spare,
-        }))
+        match basis_and_spare(alloc, frame, &root) {
+            Ok(Some((basis, spare))) => {
+                let Root { cycles, spans, .. } = root;
+                Ok(Some(Table {
+                    forest: cycles.into_forest(),
+                    basis,
+                    spans,
+                    spare,
+                }))
+            }
+            Ok(None) => {
+                drop(root);
+                Ok(None)
+            }
+            Err(refused) => {
+                drop(root);
+                Err(refused)
+            }
+        }
     }
 
     /// Lists and marks an event and what is below it.

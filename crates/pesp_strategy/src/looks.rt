@@ -109,12 +109,19 @@ impl Parts {
 impl Bases {
     /// Without flows.
     pub(crate) fn idle(alloc: Global, frame: &Frame) -> Result<Bases, AllocError> {
-        Ok(Bases {
-            leaf: Basis::idle(alloc, frame)?,
-            tried: Basis::idle(alloc, frame)?,
-            looked_at: Parts::nothing(alloc),
-            best: Parts::nothing(alloc),
-        })
+        let leaf = Basis::idle(alloc, frame)?;
+        match Basis::idle(alloc, frame) {
+            Ok(tried) => Ok(Bases {
+                leaf,
+                tried,
+                looked_at: Parts::nothing(alloc),
+                best: Parts::nothing(alloc),
+            }),
+            Err(refused) => {
+                drop(leaf);
+                Err(refused)
+            }
+        }
     }
 
     /// Notes what was found for a part, and offers its prices as times where it doesn't close.

@@ -208,8 +208,13 @@ fn proposed(
     };
     let low = bases.best.low.basis(looked.low.value);
     let high = bases.best.high.basis(looked.high.value);
-    branchings.keep(alloc, place, cut, low, high)?;
-    Ok(split)
+    match branchings.keep(alloc, place, cut, low, high) {
+        Ok(()) => Ok(split),
+        Err(refused) => {
+            drop(split);
+            Err(refused)
+        }
+    }
 }
 
 /// The best cut of a leaf of this value, whose basis is a best one.
@@ -276,6 +281,27 @@ fn settle(
     }))
 }
 
+/// The value of a leaf whose search for a best basis ended so, and its best cut, where that basis was found.
+fn value_and_cut(
+    alloc: Global,
+    setting: &Setting,
+    work: &mut Work,
+    looking: &Looking<'_>,
+    kept: &mut Kept,
+    settled: Settled,
+) -> Result<(i128, Option<Split>), AllocError> {
+    if settled.ended != Ended::Best {
+        return Ok((0, None));
+    }
+    kept.offer(alloc, &setting.frame, &work.bases.leaf)?;
+    let value = match settled.value {
+        Some(value) => value,
+        None => value_of(setting, work, looking),
+    };
+    let cut = choose(alloc, setting, work, looking, kept, value)?;
+    Ok((value, cut))
+}
+
 /// What is proposed for a leaf whose search for a best basis ended so.
 fn advise(
     alloc: Global,
@@ -285,28 +311,23 @@ fn advise(
     settled: Settled,
     best: Option<i128>,
 ) -> Result<Advice, AllocError> {
-    let Settled {
-        ended,
-        value: known,
-    } = settled;
     let mut kept = Kept::new(&setting.frame, best);
-    let mut cut = None;
-    let mut value = 0;
-    if ended == Ended::Best {
-        kept.offer(alloc, &setting.frame, &work.bases.leaf)?;
-        value = match known {
-            Some(value) => value,
-            None => value_of(setting, work, looking),
-        };
-        cut = choose(alloc, setting, work, looking, &mut kept, value)?;
+    let (value, cut) = value_and_cut(alloc, setting, work, looking, &mut kept, settled)?;
+    match work.bases.leaf.pairs(alloc, &setting.cycles) {
+        Ok(pairs) => {
+            let leaf = Part {
+                pairs,
+                value,
+                is_endless: settled.ended == Ended::Endless,
+            };
+            let Kept { times, .. } = kept;
+            Ok(Advice { leaf, cut, times })
+        }
+        Err(refused) => {
+            drop(cut);
+            Err(refused)
+        }
     }
-    let leaf = Part {
-        pairs: work.bases.leaf.pairs(alloc, &setting.cycles)?,
-        value,
-        is_endless: ended == Ended::Endless,
-    };
-    let Kept { times, .. } = kept;
-    Ok(Advice { leaf, cut, times })
 }
 
 /// The root of a network by its own forest; None where it has a cycle without an offset.
@@ -314,6 +335,34 @@ fn root_of(alloc: Global, network: &Network, frame: &Frame) -> Result<Option<Roo
     let numbers = network.forest(alloc)?;
     let root = Root::new(alloc, frame, &numbers)?;
     Ok(root)
+}
+
+/// The cycles of a network's own forest, and by how much their offsets are named above those of its root. None where the root
+/// has a cycle without an offset.
+fn cycles_and_shifts(
+    alloc: Global,
+    network: &Network,
+    frame: &Frame,
+    named: &[(i64, i64)],
+) -> Result<Option<(Cycles, Vec<i64>)>, Memory> {
+    let Some(root) = root_of(alloc, network, frame)? else {
+        return Ok(None);
+    };
+    let shifts = shifts_of(alloc, &root.offsets, named);
+    let Root {
+        cycles,
+        spans,
+        offsets,
+    } = root;
+    drop(spans);
+    drop(offsets);
+    match shifts {
+        Ok(shifts) => Ok(Some((cycles, shifts))),
+        Err(_) => {
+            drop(cycles);
+            Err(Memory)
+        }
+    }
 }
 
 impl Setting {
@@ -324,30 +373,52 @@ impl Setting {
         named: &[(i64, i64)],
     ) -> Result<Option<Setting>, Memory> {
         let frame = Frame::new(alloc, network)?;
-        let Some(root) = root_of(alloc, network, &frame)? else {
-            return Ok(None);
-        };
-        let shifts = shifts_of(alloc, &root.offsets, named)?;
-        let Root { cycles, .. } = root;
-        Ok(Some(Setting {
-            frame,
-            cycles,
-            shifts,
-        }))
+        match cycles_and_shifts(alloc, network, &frame, named) {
+            Ok(Some((cycles, shifts))) => Ok(Some(Setting {
+                frame,
+                cycles,
+                shifts,
+            })),
+            Ok(None) => {
+                drop(frame);
+                Ok(None)
+            }
+            Err(refused) => {
+                drop(frame);
+                Err(refused)
+            }
+        }
+    }
+}
+
+/// No gains for so many cycles, and no leaves but the root.
+fn nothing_learned(alloc: Global, cycles: usize) -> Result<(Experience, Branchings), AllocError> {
+    let experience = Experience::new(alloc, cycles)?;
+    match Branchings::new(alloc, KEPT_BYTES) {
+        Ok(branchings) => Ok((experience, branchings)),
+        Err(refused) => {
+            drop(experience);
+            Err(refused)
+        }
     }
 }
 
 impl Work {
     /// No flows, and no gains.
     fn new(alloc: Global, setting: &Setting) -> Result<Work, AllocError> {
-        let experience = Experience::new(alloc, setting.cycles.count())?;
-        let bases = Bases::idle(alloc, &setting.frame)?;
-        let branchings = Branchings::new(alloc, KEPT_BYTES)?;
-        Ok(Work {
-            bases,
-            experience,
-            branchings,
-        })
+        let (experience, branchings) = nothing_learned(alloc, setting.cycles.count())?;
+        match Bases::idle(alloc, &setting.frame) {
+            Ok(bases) => Ok(Work {
+                bases,
+                experience,
+                branchings,
+            }),
+            Err(refused) => {
+                drop(experience);
+                drop(branchings);
+                Err(refused)
+            }
+        }
     }
 }
 
@@ -362,8 +433,13 @@ impl Strategy {
         let Some(setting) = Setting::new(alloc, network, root)? else {
             return Ok(None);
         };
-        let work = Work::new(alloc, &setting)?;
-        Ok(Some(Strategy { setting, work }))
+        match Work::new(alloc, &setting) {
+            Ok(work) => Ok(Some(Strategy { setting, work })),
+            Err(_) => {
+                drop(setting);
+                Err(Memory)
+            }
+        }
     }
 
     /// A price for each event of the network, from the last leaf that was looked at: along each row of a spanning tree prices

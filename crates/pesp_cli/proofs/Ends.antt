@@ -1,17 +1,71 @@
 -- How a run without a status of its own ends.
-use Rattle.std.proofs.Common.{◌≡◌, ℕ, List, refl, Ok, Err}
-use Rattle.std.specs.Prelude.{Result, Option, MatchResult, OnOk, IfOk}
+use Rattle.std.proofs.Common.{◌≡◌, ◌⊎◌, inl, inr, ℕ, List, refl, ap, Ok, Err}
+use Rattle.std.specs.Prelude.{Result, Option, MatchResult, OnOk, IfOk, IfErr, ⊤, ◌≢◌}
 use Rattle.pesp_check_run.specs.Devices.{Device}
 use Rattle.pesp_faults.specs.declared.fault.Fault.{Fault}
+use Rattle.pesp_faults.specs.declared.fault.Fault.TheVariants.{Write}
 use Rattle.pesp_faults.specs.Reading.{HasBase}
 use Rattle.pesp_resume_run.specs.Resuming.{WritesResumed}
 use Rattle.pesp_resume_run.proofs.Writing.{written_weaker}
+use Rattle.pesp_check_run.specs.declared.fault.VerdictFault.{VerdictFault}
+use Rattle.pesp_check_run.specs.declared.fault.VerdictFault.TheVariants.{Write as OfWrite}
+use Rattle.pesp_faults.specs.FaultLines.{verdict_fault}
+use Rattle.pesp_report_run.specs.Naming.{NamesCause}
+use Rattle.pesp_request.specs.declared.request.OfWorks.{OfWorks}
+use Rattle.pesp_request.specs.declared.request.OfWorks.TheVariants.{Graft, GraftSharp}
+use Rattle.pesp_cli.specs.Stops.{OrNoNames, StopsWorks}
 
 -- the run's clause, and the status 0
 pub finished : {A E : Type 0} (run : Result A E) (r : Result ℕ E) (P : Type 0) → OnOk run P
     → MatchResult run (λ _. r ≡ Ok 0) (λ fault. r ≡ Err fault) → IfOk r (λ status. P × (status ≡ 0))
 finished (Ok a) r P holds is = rw is (holds, refl)
 finished (Err e) r P holds is = rw is tt
+
+-- what holds of the run's fault holds of what is told
+pub stopped : {A : Type 0} (run : Result A Fault) (r : Result ℕ Fault) (P : Fault → Type 0) → IfErr run P
+    → MatchResult run (λ _. r ≡ Ok 0) (λ fault. r ≡ Err fault) → IfErr r P
+stopped (Ok a) r P holds is = rw is tt
+stopped (Err e) r P holds is = rw is holds
+
+-- the same of some device that the claim speaks of
+pub stopped_from : {A : Type 0} (run : Result A Fault) (r : Result ℕ Fault) (P Q : Fault → Type 0) → IfErr run P
+    → ((fault : Fault) → P fault → Q fault) → MatchResult run (λ _. r ≡ Ok 0) (λ fault. r ≡ Err fault) → IfErr r Q
+stopped_from (Ok a) r P Q holds f is = rw is tt
+stopped_from (Err e) r P Q holds f is = rw is (f e holds)
+
+-- a reader of which nothing is said any more
+pub reader_left : {A B C : Type 0} → (A × B) ⊎ C → (A × ⊤) ⊎ C
+reader_left (inl h) = inl (h.0, tt)
+reader_left (inr h) = inr h
+
+-- the same where a second reader is behind it
+pub reader_left_before : {A B C D : Type 0} → (A × B × C) ⊎ D → (A × ⊤ × C) ⊎ D
+reader_left_before (inl h) = inl (h.0, tt, h.2)
+reader_left_before (inr h) = inr h
+
+pub works_stopped : (asked : OfWorks) (fault : Fault) (period : ℕ) (instance base reader writer teller : Device) (A B : Type 0)
+    → StopsWorks asked fault period instance base reader writer teller A B
+    → StopsWorks asked fault period instance base reader writer teller ⊤ B
+works_stopped Graft fault period instance base reader writer teller A B h = reader_left_before h
+works_stopped GraftSharp fault period instance base reader writer teller A B h = reader_left_before h
+
+-- ---- names
+
+pub names_stopped : {A : Type 0} (run : Result A Fault) (names : Device) → IfErr run (λ fault. NamesCause fault names)
+    → IfErr run (λ fault. OrNoNames fault ⊥)
+names_stopped (Ok a) names holds = tt
+names_stopped (Err e) names holds = inr (inl (names, holds))
+
+pub without_names : (fault : Fault) (C : Type 0) → OrNoNames fault ⊥ → OrNoNames fault C
+without_names fault C (inl h) = inl h
+without_names fault C (inr (inl h)) = inr (inl h)
+without_names fault C (inr (inr h)) = absurd h
+
+-- a verdict's fault that isn't told as one of writing isn't one
+pub verdict_writes : (found : VerdictFault) (A : Type 0) → (found ≢ OfWrite → A) → verdict_fault found ≢ Write → A
+verdict_writes found A f told = f (λ is. told (ap verdict_fault is))
+
+-- ---- what holds of some device
 
 -- what holds of a run over the times of a file holds of some times
 pub from_some_times : {A : Type 0} (run : Result A Fault) (r : Result ℕ Fault) (P : Device → Type 0)

@@ -1,15 +1,16 @@
 //! What the program does for each request, over any readers and writers.
 
-ghost use Rattle.std.specs.Prelude.{◌≡◌, ◌<◌, ◌≤◌, ◌^◌, Ok, Err, IfOk, OnOk, IsSome, MatchResult};
+ghost use Rattle.std.specs.Prelude.{◌≡◌, ◌≢◌, ◌<◌, ◌≤◌, ◌^◌, Ok, Err, IfOk, IfErr, OnOk, IsSome, MatchResult};
 ghost use Rattle.std.specs.Io.KnownBytes.{Appends};
 ghost use Rattle.pesp_problem.specs.declared.limits.TheConstants.{MOST_STEPS};
 ghost use Rattle.pesp_stream.specs.Counts.{FewerThan};
 ghost use Rattle.pesp_check_run.specs.Devices.{over};
 ghost use Rattle.pesp_faults.specs.Reading.{HasBase};
-ghost use Rattle.pesp_resume_run.specs.Resuming.{WritesResumed};
-ghost use Rattle.pesp_sharp_solve_run.specs.Resuming.{ResumesSharp};
+ghost use Rattle.pesp_resume_run.specs.Resuming.{WritesResumed, ResumeCause};
+ghost use Rattle.pesp_sharp_solve_run.specs.Resuming.{ResumesSharp, ResumeSharpCause};
 ghost use Rattle.pesp_request.specs.Requests.{InstanceWithin, CertificateWithin, LeavesWithin};
 ghost use Rattle.pesp_cli.specs.Answers.{AnswersSolve, AnswersSolveSharp, AnswersInstance, AnswersCertificate, AnswersLeaves, AnswersTimes, AnswersWorks, violations_status};
+ghost use Rattle.pesp_cli.specs.Stops.{OrNoNames, StopsSolve, StopsSolveSharp, StopsInstance, StopsCertificate, StopsLeaves, StopsTimes, StopsWorks};
 
 use crate::input::{Beginning, warn_of_period};
 use crate::telling::told_conflict;
@@ -59,11 +60,17 @@ fn solve<R: AllocGlobal + Eprint + Files, I: Source, W: Sink, O: Observer>(
     requires steps { steps ≤ MOST_STEPS }
     requires reads_fit { FewerThan (2 ^ 62) (I.calls reader.old) }
     requires writes_fit { FewerThan (2 ^ 62) (W.calls writer.old) }
-    ensures { IfOk result (AnswersSolve from.entry steps period
+    ensures answered { IfOk result (AnswersSolve from.entry steps period
         (over (I.remaining reader.old) (I.remaining reader.new)
         (I.calls reader.old) (I.calls reader.new))
         (over (W.contents writer.old) (W.contents writer.new)
         (W.calls writer.old) (W.calls writer.new))) }
+    ensures stopped { IfErr result (λ fault. StopsSolve from.entry fault steps period
+        (over (I.remaining reader.old) (I.remaining reader.new)
+        (I.calls reader.old) (I.calls reader.new))
+        (over (W.contents writer.old) (W.contents writer.new)
+        (W.calls writer.old) (W.calls writer.new))) }
+    ensures silent { IfErr result (λ fault. fault ≢ Fault.Write → writer.new ≡ writer.old) }
 {
     let alloc = rt.alloc();
     match from {
@@ -91,11 +98,17 @@ fn solve_with_marks<R: AllocGlobal + Eprint + Files, I: Source, W: Sink, O: Shar
     requires steps { steps ≤ MOST_STEPS }
     requires reads_fit { FewerThan (2 ^ 62) (I.calls reader.old) }
     requires writes_fit { FewerThan (2 ^ 62) (W.calls writer.old) }
-    ensures { IfOk result (AnswersSolveSharp from.entry steps period
+    ensures answered { IfOk result (AnswersSolveSharp from.entry steps period
         (over (I.remaining reader.old) (I.remaining reader.new)
         (I.calls reader.old) (I.calls reader.new))
         (over (W.contents writer.old) (W.contents writer.new)
         (W.calls writer.old) (W.calls writer.new))) }
+    ensures stopped { IfErr result (λ fault. StopsSolveSharp from.entry fault steps period
+        (over (I.remaining reader.old) (I.remaining reader.new)
+        (I.calls reader.old) (I.calls reader.new))
+        (over (W.contents writer.old) (W.contents writer.new)
+        (W.calls writer.old) (W.calls writer.new))) }
+    ensures silent { IfErr result (λ fault. fault ≢ Fault.Write → writer.new ≡ writer.old) }
 {
     let alloc = rt.alloc();
     match from {
@@ -124,7 +137,7 @@ pub(crate) fn of_instance<R: AllocGlobal + Eprint + Files + Clock, I: Source, W:
     requires reads_fit { FewerThan (2 ^ 62) (I.calls reader.old) }
     requires writes_fit { FewerThan (2 ^ 62) (W.calls writer.old) }
     requires tellings_fit { FewerThan (2 ^ 62) (E.calls teller.old) }
-    ensures { IfOk result (AnswersInstance asked.entry period
+    ensures answered { IfOk result (AnswersInstance asked.entry period
         (over (I.remaining reader.old) (I.remaining reader.new)
         (I.calls reader.old) (I.calls reader.new))
         (over (W.contents writer.old) (W.contents writer.new)
@@ -132,6 +145,12 @@ pub(crate) fn of_instance<R: AllocGlobal + Eprint + Files + Clock, I: Source, W:
         (over (E.contents teller.old) (E.contents teller.new)
         (E.calls teller.old) (E.calls teller.new))
         (writer.new ≡ writer.old)) }
+    ensures stopped { IfErr result (λ fault. StopsInstance asked.entry fault period
+        (over (I.remaining reader.old) (I.remaining reader.new)
+        (I.calls reader.old) (I.calls reader.new))
+        (over (W.contents writer.old) (W.contents writer.new)
+        (W.calls writer.old) (W.calls writer.new))) }
+    ensures silent { IfErr result (λ fault. fault ≢ Fault.Write → writer.new ≡ writer.old) }
 {
     let alloc = rt.alloc();
     match asked {
@@ -185,11 +204,20 @@ fn resume<R: Eprint + Clock, I: Source, S: Source, W: Sink>(
     requires instance_fits { FewerThan (2 ^ 62) (I.calls instance.old) }
     requires reads_fit { FewerThan (2 ^ 62) (S.calls reader.old) }
     requires writes_fit { FewerThan (2 ^ 62) (W.calls writer.old) }
-    ensures { OnOk result
+    ensures answered { OnOk result
         (HasBase (I.remaining instance.old) (I.remaining instance.new)
         (S.remaining reader.old) (S.remaining reader.new) period
         (λ p base. WritesResumed p base steps (IsSome watch.entry.seconds)
         (Appends (W.contents writer.old) (W.contents writer.new)))) }
+    ensures stopped { IfErr result (λ fault. ResumeCause fault
+        (over (I.remaining instance.old) (I.remaining instance.new)
+        (I.calls instance.old) (I.calls instance.new))
+        (over (S.remaining reader.old) (S.remaining reader.new)
+        (S.calls reader.old) (S.calls reader.new))
+        (over (W.contents writer.old) (W.contents writer.new)
+        (W.calls writer.old) (W.calls writer.new))
+        period steps (IsSome watch.entry.seconds) (reader.new ≡ reader.old)) }
+    ensures silent { IfErr result (λ fault. fault ≢ Fault.Write → writer.new ≡ writer.old) }
 {
     let mut watch = watch;
     run_resume(alloc, instance, reader, writer, period, steps, &mut watch)
@@ -208,10 +236,19 @@ fn resume_with_marks<R: Eprint + Clock, I: Source, S: Source, W: Sink>(
     requires instance_fits { FewerThan (2 ^ 62) (I.calls instance.old) }
     requires reads_fit { FewerThan (2 ^ 62) (S.calls reader.old) }
     requires writes_fit { FewerThan (2 ^ 62) (W.calls writer.old) }
-    ensures { OnOk result
+    ensures answered { OnOk result
         (ResumesSharp (I.remaining instance.old) (I.remaining instance.new)
         (S.remaining reader.old) (S.remaining reader.new) period steps
         (Appends (W.contents writer.old) (W.contents writer.new))) }
+    ensures stopped { IfErr result (λ fault. ResumeSharpCause fault
+        (over (I.remaining instance.old) (I.remaining instance.new)
+        (I.calls instance.old) (I.calls instance.new))
+        (over (S.remaining reader.old) (S.remaining reader.new)
+        (S.calls reader.old) (S.calls reader.new))
+        (over (W.contents writer.old) (W.contents writer.new)
+        (W.calls writer.old) (W.calls writer.new))
+        period steps (reader.new ≡ reader.old)) }
+    ensures silent { IfErr result (λ fault. fault ≢ Fault.Write → writer.new ≡ writer.old) }
 {
     let mut watch = watch;
     run_resume_sharp(alloc, instance, reader, writer, period, steps, &mut watch)
@@ -231,13 +268,22 @@ pub(crate) fn of_certificate<R: AllocGlobal + Eprint + Clock, I: Source, S: Sour
     requires instance_fits { FewerThan (2 ^ 62) (I.calls instance.old) }
     requires reads_fit { FewerThan (2 ^ 62) (S.calls reader.old) }
     requires writes_fit { FewerThan (2 ^ 62) (W.calls writer.old) }
-    ensures { IfOk result (AnswersCertificate asked period
+    ensures answered { IfOk result (AnswersCertificate asked period
         (over (I.remaining instance.old) (I.remaining instance.new)
         (I.calls instance.old) (I.calls instance.new))
         (over (S.remaining reader.old) (S.remaining reader.new)
         (S.calls reader.old) (S.calls reader.new))
         (over (W.contents writer.old) (W.contents writer.new)
         (W.calls writer.old) (W.calls writer.new))) }
+    ensures stopped { IfErr result (λ fault. StopsCertificate asked fault period
+        (over (I.remaining instance.old) (I.remaining instance.new)
+        (I.calls instance.old) (I.calls instance.new))
+        (over (S.remaining reader.old) (S.remaining reader.new)
+        (S.calls reader.old) (S.calls reader.new))
+        (over (W.contents writer.old) (W.contents writer.new)
+        (W.calls writer.old) (W.calls writer.new))
+        (reader.new ≡ reader.old)) }
+    ensures silent { IfErr result (λ fault. fault ≢ Fault.Write → writer.new ≡ writer.old) }
 {
     let alloc = rt.alloc();
     match asked {
@@ -287,13 +333,22 @@ pub(crate) fn of_leaves<R: AllocGlobal, I: Source, S: Source, W: Sink>(
     requires instance_fits { FewerThan (2 ^ 62) (I.calls instance.old) }
     requires reads_fit { FewerThan (2 ^ 62) (S.calls reader.old) }
     requires writes_fit { FewerThan (2 ^ 62) (W.calls writer.old) }
-    ensures { IfOk result (AnswersLeaves asked period
+    ensures answered { IfOk result (AnswersLeaves asked period
         (over (I.remaining instance.old) (I.remaining instance.new)
         (I.calls instance.old) (I.calls instance.new))
         (over (S.remaining reader.old) (S.remaining reader.new)
         (S.calls reader.old) (S.calls reader.new))
         (over (W.contents writer.old) (W.contents writer.new)
         (W.calls writer.old) (W.calls writer.new))) }
+    ensures stopped { IfErr result (λ fault. StopsLeaves asked fault period
+        (over (I.remaining instance.old) (I.remaining instance.new)
+        (I.calls instance.old) (I.calls instance.new))
+        (over (S.remaining reader.old) (S.remaining reader.new)
+        (S.calls reader.old) (S.calls reader.new))
+        (over (W.contents writer.old) (W.contents writer.new)
+        (W.calls writer.old) (W.calls writer.new))
+        (reader.new ≡ reader.old)) }
+    ensures silent { IfErr result (λ fault. fault ≢ Fault.Write → writer.new ≡ writer.old) }
 {
     let alloc = rt.alloc();
     match asked {
@@ -319,13 +374,22 @@ pub(crate) fn of_times<R: AllocGlobal + Files, I: Source, S: Source, W: Sink>(
     requires instance_fits { FewerThan (2 ^ 62) (I.calls instance.old) }
     requires reads_fit { FewerThan (2 ^ 62) (S.calls reader.old) }
     requires writes_fit { FewerThan (2 ^ 62) (W.calls writer.old) }
-    ensures { IfOk result (AnswersTimes asked.entry period
+    ensures answered { IfOk result (AnswersTimes asked.entry period
         (over (I.remaining instance.old) (I.remaining instance.new)
         (I.calls instance.old) (I.calls instance.new))
         (over (S.remaining reader.old) (S.remaining reader.new)
         (S.calls reader.old) (S.calls reader.new))
         (over (W.contents writer.old) (W.contents writer.new)
         (W.calls writer.old) (W.calls writer.new))) }
+    ensures stopped { IfErr result (λ fault. StopsTimes asked.entry fault period
+        (over (I.remaining instance.old) (I.remaining instance.new)
+        (I.calls instance.old) (I.calls instance.new))
+        (over (S.remaining reader.old) (S.remaining reader.new)
+        (S.calls reader.old) (S.calls reader.new))
+        (over (W.contents writer.old) (W.contents writer.new)
+        (W.calls writer.old) (W.calls writer.new))
+        (reader.new ≡ reader.old)) }
+    ensures silent { IfErr result (λ fault. fault ≢ Fault.Write → writer.new ≡ writer.old) }
 {
     let alloc = rt.alloc();
     match asked {
@@ -394,7 +458,7 @@ pub(crate) fn of_works<R: AllocGlobal, I: Source, B: Source, S: Source, W: Sink,
     requires reads_fit { FewerThan (2 ^ 62) (S.calls reader.old) }
     requires writes_fit { FewerThan (2 ^ 62) (W.calls writer.old) }
     requires tellings_fit { FewerThan (2 ^ 62) (E.calls teller.old) }
-    ensures { IfOk result (AnswersWorks asked period
+    ensures answered { IfOk result (AnswersWorks asked period
         (over (I.remaining instance.old) (I.remaining instance.new)
         (I.calls instance.old) (I.calls instance.new))
         (over (B.remaining base.old) (B.remaining base.new)
@@ -405,6 +469,19 @@ pub(crate) fn of_works<R: AllocGlobal, I: Source, B: Source, S: Source, W: Sink,
         (W.calls writer.old) (W.calls writer.new))
         (over (E.contents teller.old) (E.contents teller.new)
         (E.calls teller.old) (E.calls teller.new))) }
+    ensures stopped { IfErr result (λ fault. StopsWorks asked fault period
+        (over (I.remaining instance.old) (I.remaining instance.new)
+        (I.calls instance.old) (I.calls instance.new))
+        (over (B.remaining base.old) (B.remaining base.new)
+        (B.calls base.old) (B.calls base.new))
+        (over (S.remaining reader.old) (S.remaining reader.new)
+        (S.calls reader.old) (S.calls reader.new))
+        (over (W.contents writer.old) (W.contents writer.new)
+        (W.calls writer.old) (W.calls writer.new))
+        (over (E.contents teller.old) (E.contents teller.new)
+        (E.calls teller.old) (E.calls teller.new))
+        (base.new ≡ base.old) (reader.new ≡ reader.old)) }
+    ensures silent { IfErr result (λ fault. fault ≢ Fault.Write → writer.new ≡ writer.old) }
 {
     let alloc = rt.alloc();
     match asked {
@@ -419,6 +496,7 @@ pub(crate) fn of_works<R: AllocGlobal, I: Source, B: Source, S: Source, W: Sink,
 pub(crate) fn opened<R: Files>(rt: &R, file: &str) -> Result<Counted<R::File>, Fault>
     ensures failed { IfOk result (λ file. file.calls.failed ≡ 0) }
     ensures interrupted { IfOk result (λ file. file.calls.interrupted ≡ 0) }
+    ensures stopped { IfErr result (λ fault. fault ≡ Fault.NoFile) }
 {
     match File::open(rt, file) {
         Ok(opened) => Ok(Counted::new(opened)),
@@ -430,13 +508,16 @@ pub(crate) fn opened<R: Files>(rt: &R, file: &str) -> Result<Counted<R::File>, F
 fn opened_times<R: Files>(rt: &R, file: &str) -> Result<Counted<Beginning<R::File>>, Fault>
     ensures failed { IfOk result (λ file. file.calls.failed ≡ 0) }
     ensures interrupted { IfOk result (λ file. file.calls.interrupted ≡ 0) }
+    ensures stopped { IfErr result (λ fault. fault ≡ Fault.NoFile) }
 {
     let times = opened(rt, file)?;
     Ok(Counted::new(Beginning::of(times.into_inner())))
 }
 
 /// The names that a file tells.
-fn names_in<R: AllocGlobal + Files>(rt: &R, file: &str) -> Result<Names, Fault> {
+fn names_in<R: AllocGlobal + Files>(rt: &R, file: &str) -> Result<Names, Fault>
+    ensures { IfErr result (λ fault. OrNoNames fault ⊥) }
+{
     let mut reader = opened(rt, file)?;
     read_whole_names(rt.alloc(), &mut reader)
 }

@@ -1,10 +1,11 @@
 //! The program, over any runtime.
 
-ghost use Rattle.std.specs.Prelude.{◌≡◌, ◌<◌, ◌≤◌, ◌^◌, IfOk};
+ghost use Rattle.std.specs.Prelude.{◌≡◌, ◌≢◌, ◌<◌, ◌≤◌, ◌^◌, IfOk, IfErr};
 ghost use Rattle.pesp_stream.specs.Counts.{FewerThan};
 ghost use Rattle.pesp_check_run.specs.Devices.{over};
 ghost use Rattle.pesp_request.specs.Requests.{IsWithinLimits};
 ghost use Rattle.pesp_cli.specs.Answers.{Answers};
+ghost use Rattle.pesp_cli.specs.Stops.{Stops};
 
 use crate::answers::{of_certificate, of_instance, of_leaves, of_times, of_works, opened};
 use crate::input::{Beginning, warn_of_period};
@@ -109,7 +110,7 @@ fn answer<R: AllocGlobal + Eprint + Files + Clock, S: Source, W: Sink, E: Sink>(
     requires reads_fit { FewerThan (2 ^ 62) (S.calls reader.old) }
     requires writes_fit { FewerThan (2 ^ 62) (W.calls writer.old) }
     requires tellings_fit { FewerThan (2 ^ 62) (E.calls teller.old) }
-    ensures { IfOk result (Answers request.entry
+    ensures answered { IfOk result (Answers request.entry
         (over (S.remaining reader.old) (S.remaining reader.new)
         (S.calls reader.old) (S.calls reader.new))
         (over (W.contents writer.old) (W.contents writer.new)
@@ -117,6 +118,15 @@ fn answer<R: AllocGlobal + Eprint + Files + Clock, S: Source, W: Sink, E: Sink>(
         (over (E.contents teller.old) (E.contents teller.new)
         (E.calls teller.old) (E.calls teller.new))
         (writer.new ≡ writer.old)) }
+    ensures stopped { IfErr result (λ fault. Stops request.entry fault
+        (over (S.remaining reader.old) (S.remaining reader.new)
+        (S.calls reader.old) (S.calls reader.new))
+        (over (W.contents writer.old) (W.contents writer.new)
+        (W.calls writer.old) (W.calls writer.new))
+        (over (E.contents teller.old) (E.contents teller.new)
+        (E.calls teller.old) (E.calls teller.new))
+        (reader.new ≡ reader.old)) }
+    ensures silent { IfErr result (λ fault. fault ≢ Fault.Write → writer.new ≡ writer.old) }
 {
     let Request { period, asked } = request;
     match asked {

@@ -1,0 +1,122 @@
+-- Why the program stops without an answer.
+use Rattle.std.specs.Prelude.{◌≡◌, ◌⊎◌, ⊤, ℕ, ℤ, List, Option, Some, None, IsSome}
+use Rattle.pesp_report.specs.Report.{IsReport}
+use Rattle.pesp_report.specs.Named.{IsNamedReport}
+use Rattle.pesp_check_run.specs.Devices.{Device}
+use Rattle.pesp_check_run.specs.Checking.{CheckCause}
+use Rattle.pesp_check_run.specs.declared.fault.VerdictFault.{VerdictFault}
+use Rattle.pesp_sharp_run.specs.Checking.{CheckCauseWith}
+use Rattle.pesp_faults.specs.FaultLines.{verdict_fault}
+use Rattle.pesp_faults.specs.declared.fault.Fault.{Fault}
+use Rattle.pesp_faults.specs.declared.fault.Fault.TheVariants.{NoFile}
+use Rattle.pesp_solve_run.specs.Solving.{SolveCause, SolveFromCause}
+use Rattle.pesp_sharp_solve_run.specs.Solving.{SolveSharpCause, SolveSharpFromCause}
+use Rattle.pesp_sharp_solve_run.specs.Resuming.{ResumeSharpCause}
+use Rattle.pesp_sharp_outside_run.specs.Outside.{SplitSharpCause, WorkSharpCause, GraftSharpCause}
+use Rattle.pesp_report_run.specs.Naming.{NamesCause}
+use Rattle.pesp_report_run.specs.Reporting.{SheetCause}
+use Rattle.pesp_report_run.specs.Violating.{ViolationsCause}
+use Rattle.pesp_outside_run.specs.Outside.{SplitCause, WorkCause, GraftCause}
+use Rattle.pesp_resume_run.specs.Gaps.{GapCause}
+use Rattle.pesp_resume_run.specs.Resuming.{ResumeCause}
+use Rattle.pesp_conflict_run.specs.Runs.{ConflictCause}
+use Rattle.pesp_request.specs.declared.request.OfInstance.{OfInstance}
+use Rattle.pesp_request.specs.declared.request.OfInstance.TheVariants.{Solve, SolveSharp, Conflict}
+use Rattle.pesp_request.specs.declared.request.OfCertificate.{OfCertificate}
+use Rattle.pesp_request.specs.declared.request.OfCertificate.TheVariants.{Check, CheckSharp, Gap, Resume, ResumeSharp, Split, SplitSharp}
+use Rattle.pesp_request.specs.declared.request.OfTimes.{OfTimes}
+use Rattle.pesp_request.specs.declared.request.OfTimes.TheVariants.{Report, Violations, Picture, Diagrams}
+use Rattle.pesp_request.specs.declared.request.OfLeaves.{OfLeaves}
+use Rattle.pesp_request.specs.declared.request.OfLeaves.TheVariants.{Work, WorkSharp}
+use Rattle.pesp_request.specs.declared.request.OfWorks.{OfWorks}
+use Rattle.pesp_request.specs.declared.request.OfWorks.TheVariants.{Graft, GraftSharp}
+use Rattle.pesp_request.specs.declared.request.Asked.{Asked}
+use Rattle.pesp_request.specs.declared.request.Asked.TheVariants.{Instance, Certificate, Leaves, Times, Works}
+use Rattle.pesp_request.specs.declared.request.Request.{Request}
+
+-- a file that is named can't be opened, or this is so
+abbrev pub OrNoFile : Fault → Type 0 → Type 0
+OrNoFile fault Cause = (fault ≡ NoFile) ⊎ Cause
+
+-- names can't be read from some file, or this is so
+abbrev pub OrNoNames : Fault → Type 0 → Type 0
+OrNoNames fault Cause = OrNoFile fault (((names : Device) × NamesCause fault names) ⊎ Cause)
+
+-- a search, from the times in a file where one is named
+abbrev pub StopsSolve : {A : Type 0} → Option A → Fault → ℕ → ℕ → Device → Device → Type 0
+StopsSolve None fault steps period reader writer = SolveCause fault reader writer period steps
+StopsSolve (Some file) fault steps period reader writer =
+    OrNoFile fault ((times : Device) × SolveFromCause fault reader times writer period steps ⊤)
+
+-- the same with leaves that marked walks sharpen
+abbrev pub StopsSolveSharp : {A : Type 0} → Option A → Fault → ℕ → ℕ → Device → Device → Type 0
+StopsSolveSharp None fault steps period reader writer = SolveSharpCause fault reader writer period steps
+StopsSolveSharp (Some file) fault steps period reader writer =
+    OrNoFile fault ((times : Device) × SolveSharpFromCause fault reader times writer period steps ⊤)
+
+-- what is asked of an instance
+abbrev pub StopsInstance : OfInstance → Fault → ℕ → Device → Device → Type 0
+StopsInstance (Solve steps from progress) fault period reader writer = StopsSolve from fault steps period reader writer
+StopsInstance (SolveSharp steps from progress) fault period reader writer = StopsSolveSharp from fault steps period reader writer
+StopsInstance (Conflict steps) fault period reader writer = ConflictCause fault reader writer period steps
+
+-- what is asked of a certificate; `uncalled` says that its reader was not called
+abbrev pub StopsCertificate : OfCertificate → Fault → ℕ → Device → Device → Device → Type 0 → Type 0
+StopsCertificate Check fault period instance reader writer uncalled =
+    (found : VerdictFault) × (fault ≡ verdict_fault found) × CheckCause found instance reader writer period uncalled
+StopsCertificate CheckSharp fault period instance reader writer uncalled =
+    (found : VerdictFault) × (fault ≡ verdict_fault found) × CheckCauseWith found instance reader writer period uncalled
+StopsCertificate Gap fault period instance reader writer uncalled = GapCause fault instance reader writer period uncalled
+StopsCertificate (Resume steps seconds progress) fault period instance reader writer uncalled =
+    ResumeCause fault instance reader writer period steps (IsSome seconds) uncalled
+StopsCertificate (ResumeSharp steps seconds progress) fault period instance reader writer uncalled =
+    ResumeSharpCause fault instance reader writer period steps uncalled
+StopsCertificate Split fault period instance reader writer uncalled = SplitCause fault instance reader writer period uncalled
+StopsCertificate SplitSharp fault period instance reader writer uncalled = SplitSharpCause fault instance reader writer period uncalled
+
+-- what is asked of open leaves
+abbrev pub StopsLeaves : OfLeaves → Fault → ℕ → Device → Device → Device → Type 0 → Type 0
+StopsLeaves (Work steps until jobs) fault period instance reader writer uncalled =
+    WorkCause fault instance reader writer period jobs.items steps until uncalled
+StopsLeaves (WorkSharp steps until jobs) fault period instance reader writer uncalled =
+    WorkSharpCause fault instance reader writer period jobs.items steps uncalled
+
+-- what is asked of times
+abbrev pub StopsTimes : OfTimes → Fault → ℕ → Device → Device → Device → Type 0 → Type 0
+StopsTimes (Report None) fault period instance reader writer uncalled =
+    SheetCause fault instance reader writer period uncalled IsReport
+StopsTimes (Report (Some names)) fault period instance reader writer uncalled =
+    OrNoNames fault ((name : ℤ → List ℕ)
+    × SheetCause fault instance reader writer period uncalled (λ p times text. IsNamedReport p times name text))
+StopsTimes Violations fault period instance reader writer uncalled = ViolationsCause fault instance reader writer period uncalled
+StopsTimes (Picture rows None) fault period instance reader writer uncalled =
+    SheetCause fault instance reader writer period uncalled (λ p times text. ⊤)
+StopsTimes (Picture rows (Some names)) fault period instance reader writer uncalled =
+    OrNoNames fault (SheetCause fault instance reader writer period uncalled (λ p times text. ⊤))
+StopsTimes (Diagrams names) fault period instance reader writer uncalled =
+    OrNoNames fault (SheetCause fault instance reader writer period uncalled (λ p times text. ⊤))
+
+-- what is asked of works; `base_uncalled` says that the base's reader was not called
+abbrev pub StopsWorks : OfWorks → Fault → ℕ → Device → Device → Device → Device → Device → Type 0 → Type 0 → Type 0
+StopsWorks Graft fault period instance base reader writer teller base_uncalled uncalled =
+    GraftCause fault instance base reader writer teller period base_uncalled uncalled
+StopsWorks GraftSharp fault period instance base reader writer teller base_uncalled uncalled =
+    GraftSharpCause fault instance base reader writer teller period base_uncalled uncalled
+
+-- what is asked, from the reader of standard input; `uncalled` says that it was not called
+abbrev pub StopsAsked : Asked → Fault → ℕ → Device → Device → Device → Type 0 → Type 0
+StopsAsked (Instance None asked) fault period reader writer teller uncalled = StopsInstance asked fault period reader writer
+StopsAsked (Instance (Some file) asked) fault period reader writer teller uncalled =
+    OrNoFile fault ((instance : Device) × StopsInstance asked fault period instance writer)
+StopsAsked (Certificate file asked) fault period reader writer teller uncalled =
+    OrNoFile fault ((instance : Device) × StopsCertificate asked fault period instance reader writer uncalled)
+StopsAsked (Leaves file asked) fault period reader writer teller uncalled =
+    OrNoFile fault ((instance : Device) × StopsLeaves asked fault period instance reader writer uncalled)
+StopsAsked (Times file asked) fault period reader writer teller uncalled =
+    OrNoFile fault ((instance : Device) × StopsTimes asked fault period instance reader writer uncalled)
+StopsAsked (Works file base asked) fault period reader writer teller uncalled =
+    OrNoFile fault ((instance base : Device) × StopsWorks asked fault period instance base reader writer teller ⊤ uncalled)
+
+abbrev pub Stops : Request → Fault → Device → Device → Device → Type 0 → Type 0
+Stops request fault reader writer teller uncalled =
+    StopsAsked request.asked fault request.period reader writer teller uncalled

@@ -14,7 +14,7 @@ use pesp_problem::Memory;
 use pesp_search_tools::Random;
 use std::alloc::Global;
 
-/// How many batches are left out where the first one ended early.
+/// How many batches, and how many reheats after steps, are left out where the first batch ended early.
 const LONG_REST: u32 = 3;
 
 /// How many timetables that were met elsewhere wait for a batch at most.
@@ -40,11 +40,12 @@ pub struct TimesSearch {
     pub(crate) kinds: Kinds,
     pub(crate) waiting: Vec<Found>,
     rest: Rest,
+    soft_rest: Rest,
     hard: Cheapest,
     soft: SoftSearch,
 }
 
-/// How many batches in turn found nothing cheaper, and how many are left out for it.
+/// How many batches, or how many reheats, in turn found nothing cheaper, and how many are left out for it.
 #[derive(Clone, Copy)]
 struct Rest {
     misses: u32,
@@ -96,6 +97,7 @@ impl TimesSearch {
             kinds: Kinds::new(alloc)?,
             waiting: Vec::new(alloc),
             rest: Rest::none(),
+            soft_rest: Rest::none(),
             hard: Cheapest::none(),
             soft: SoftSearch::new(alloc),
         })
@@ -108,6 +110,7 @@ impl TimesSearch {
         let ended = self.batch(network, Effort::first(rows), soft)?;
         if ended == Ended::Same {
             self.rest = Rest::long();
+            self.soft_rest = Rest::long();
         }
         match soft {
             Some(effort) => self.end_softly(network, ended, &effort),
@@ -180,11 +183,23 @@ impl TimesSearch {
         Ok(())
     }
 
+    /// Reheats after so many steps, unless those before them found nothing.
+    fn next_reheats(&mut self, network: &Network, steps: u32) -> Result<(), Memory> {
+        if self.soft_rest.takes_next() {
+            return Ok(());
+        }
+        let before = self.soft.cheapest.cost();
+        let effort = SoftEffort::after(network.rows().len(), steps);
+        self.soft.go_on(network, self.hard.found(), &effort)?;
+        let is_cheaper = self.soft.cheapest.cost() != before;
+        self.soft_rest.note(is_cheaper);
+        Ok(())
+    }
+
     /// What is found after so many steps (128, 256, 512 and so on).
     pub fn go_on(&mut self, network: &Network, steps: u32) -> Result<(), Memory> {
         self.next_batch(network, steps)?;
-        let effort = SoftEffort::after(network.rows().len(), steps);
-        self.soft.go_on(network, self.hard.found(), &effort)
+        self.next_reheats(network, steps)
     }
 
     /// Takes times that were met elsewhere as an individual of the next batch; does nothing where they are no timetable.

@@ -90,9 +90,9 @@ impl SoftEffort {
             return None;
         }
         let (groups, individuals, sweeps, rounds, quiet) = match rows {
-            0..=700 => (2, 3, 800, 2, 1),
-            701..=2_500 => (2, 3, 1_000, 6, 3),
-            2_501..=8_000 => (1, 1, 2_000, 3, 1),
+            0..=700 => (1, 3, 600, 1, 1),
+            701..=2_500 => (1, 3, 800, 2, 1),
+            2_501..=8_000 => (1, 1, 1_500, 1, 1),
             8_001..=30_000 => (1, 1, 600, 1, 1),
             _ => (1, 1, 200, 0, 1),
         };
@@ -109,11 +109,12 @@ impl SoftEffort {
         })
     }
 
-    /// The same with one individual.
+    /// One individual, in half the sweeps.
     pub(crate) fn once(&self) -> SoftEffort {
         SoftEffort {
             groups: 1,
             individuals: 1,
+            sweeps: self.sweeps / 2,
             ..*self
         }
     }

@@ -1,6 +1,8 @@
 //! A desk at which the program runs: its standard input is a text, its files are those of a case, and what it writes and tells is
 //! kept. There is no clock.
 
+ghost use Rattle.std.specs.Prelude.{◌≤◌, length, IfOk};
+
 use crate::devices::Device;
 use crate::drain::Drain;
 use crate::feed::Feed;
@@ -33,8 +35,10 @@ pub(crate) struct Pages {
     pub(crate) told: Vec<u8>,
 }
 
-/// Writes some bytes.
-fn write_some(page: &RefCell<Drain>, bytes: &[u8]) -> io::Result<usize> {
+/// Writes some bytes, no more than there are.
+fn write_some(page: &RefCell<Drain>, bytes: &[u8]) -> io::Result<usize>
+    ensures { IfOk result (λ n. n ≤ length bytes.now) }
+{
     let Ok(mut page) = page.try_borrow_mut() else {
         return Err(Error::from(ErrorKind::Other));
     };

@@ -1,6 +1,6 @@
 -- A board that goes on from a valid certificate.
 use Rattle.std.proofs.Common.{◌≡◌, ℕ, ◌<◌, ◌≤◌, List, [], ◌∷◌, ◌++◌, length, map, refl, sym, ap, ◌∙◌, arith, subst, append-nil, true, inl, inr}
-use Rattle.std.specs.Prelude.{Option, IfSome, Contains, sum_by, nat_lt}
+use Rattle.std.specs.Prelude.{Option, IfSome, Contains, sum_by, nat_lt, None}
 use Rattle.std.specs.List.Sorted.{IsPermutation}
 use Rattle.std.proofs.lemmas.Bool.Decides.{nat_tests}
 use Rattle.std.proofs.lemmas.List.{length-map}
@@ -53,17 +53,17 @@ use Rattle.pesp_board.proofs.Taken.{sound_lines_keep}
 
 -- its lines are a sound tree of the problem's root
 pub certificate_sound : (i : Pesp) (p : ProblemValue) (content : Content) → IsProblemOf i p
-    → p.table ≡ content.cycles → IsValid i content → AreSoundLines p (lines_of content) (root_of p ∷ [])
+    → p.table ≡ content.cycles → IsValid None i content → AreSoundLines p (lines_of content) (root_of p ∷ [])
 certificate_sound i p content o cycles v =
     let n : Net = nets.net_of i in
     let bound = least_of content.answer in
     let lines = lines_of content in
-    let sound : AreSound n content.cycles bound lines (root n content.cycles ∷ []) =
-    sound_as_lines n content.cycles bound lines (root n content.cycles) v.tree in
-    let on_table : AreSound n p.table bound lines (root n p.table ∷ []) =
-    subst (λ (table : List (List SignedRow)). AreSound n table bound lines (root n table ∷ []))
+    let sound : AreSound None n content.cycles bound lines (root n content.cycles ∷ []) =
+    sound_as_lines None n content.cycles bound lines (root n content.cycles) v.tree in
+    let on_table : AreSound None n p.table bound lines (root n p.table ∷ []) =
+    subst (λ (table : List (List SignedRow)). AreSound None n table bound lines (root n table ∷ []))
     (sym cycles) sound in
-    (bound, subst (λ (m : Net). AreSound m p.table bound lines (root m p.table ∷ [])) (sym (same_net i p o)) on_table)
+    (bound, subst (λ (m : Net). AreSound None m p.table bound lines (root m p.table ∷ [])) (sym (same_net i p o)) on_table)
 
 short : (n : ℕ) → nat_lt n NATURALS ≡ true → n ≤ 999999999999999999
 short n e = grind (arith, nat_tests, e)
@@ -136,7 +136,7 @@ pub record IsMadeOf (i : Pesp) (p : ProblemValue) (content : Content) (pairs : �
     (r : QueueValue) (slots : List Slot) (best : Option Best) : Type 0 where
   pub instance : instances.KeepsLimits i
   pub certificate : KeepsLimits content
-  pub valid : IsValid i content
+  pub valid : IsValid None i content
   pub of : IsProblemOf i p
   pub cycles : p.table ≡ content.cycles
   pub grown : IsGrownOf p content u r pairs

@@ -1,6 +1,6 @@
 -- Propagation from full sets tells whether a node is shut.
 use Rattle.std.proofs.Common.{◌≡◌, ℕ, ◌<◌, List, arith, subst, Bool}
-use Rattle.std.specs.Prelude.{◌↔◌, IsTrue, IfOk, Result, Ok, Err}
+use Rattle.std.specs.Prelude.{◌↔◌, IsTrue, IfOk, Result, Ok, Err, None}
 use Rattle.std.proofs.lemmas.List.Elements.{All-map}
 use Rattle.pesp_problem.specs.Nodes.{Node}
 use Rattle.pesp_problem.specs.Families.{NoFamilyIsSupported}
@@ -20,7 +20,7 @@ pub may_shut : (p : ProblemValue) (node : Node) → KeepsNetLimits p.network
     → MayShut p node ByPropagation ↔ NoFamilyIsSupported (net_of p) node.slacks p.network.events
 may_shut p node limits =
     let some : 0 < p.network.period = let least = limits.some_period in omega arith in
-    let counted = any_count (net_of p) p.table node p.network.events some
+    let counted = any_count None (net_of p) p.table node p.network.events some
     (All-map (λ arc. (arc.tail < p.network.events) × (arc.head < p.network.events)) arc_of_net p.network.rows
     (λ i d l. ends_exist p.network.events p.network.period _ (limits.each i d l))) in
     (λ shut. counted.0 shut.1, λ none. (tt, counted.1 none))

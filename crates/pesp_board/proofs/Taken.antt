@@ -1,6 +1,6 @@
 -- The lines of a valid certificate's tree keep their limits, and the parts that they make are valued rightly.
 use Rattle.std.proofs.Common.{◌≡◌, ◌≢◌, ℕ, zero, suc, ◌+◌, ◌<◌, ◌≤◌, List, [], ◌∷◌, ◌++◌, length, get_or, drop, map, refl, sym, ap, ◌∙◌, arith, subst, append_assoc, append-nil, true}
-use Rattle.std.specs.Prelude.{ℤ, unsigned_abs, All, Option, nat_le}
+use Rattle.std.specs.Prelude.{ℤ, unsigned_abs, All, Option, nat_le, None}
 use Rattle.std.specs.List.{list_all}
 use Rattle.std.proofs.lemmas.Bool.Decides.{nat_tests}
 use Rattle.std.proofs.lemmas.List.{drop_all, drop_more, length-map}
@@ -98,7 +98,7 @@ offset_is p cycle k e names =
     ((names.0, omega (arith, wide, most)), small)
 
 lines_keep : (p : ProblemValue) (least : Option ℕ) (lines : List TreeLine) (nodes : List Node)
-    → list_all is_line lines ≡ true → AreSound (net_of p) p.table least (map line_of lines) nodes
+    → list_all is_line lines ≡ true → AreSound None (net_of p) p.table least (map line_of lines) nodes
     → AreLinesOf p (map line_of lines)
 lines_keep p least [] nodes e s = All-nil (IsLineOf p)
 lines_keep p least (line ∷ lines) [] e s = absurd s

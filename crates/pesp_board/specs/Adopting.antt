@@ -1,5 +1,5 @@
 -- The lines of a valid certificate's tree, and the tree and the queue that are made of them.
-use Rattle.std.specs.Prelude.{◌≡◌, ℕ, List, [], ◌∷◌, All, Option, sum_by, true}
+use Rattle.std.specs.Prelude.{◌≡◌, ℕ, List, [], ◌∷◌, All, Option, sum_by, true, None}
 use Rattle.std.specs.List.Sorted.{IsPermutation}
 use Rattle.pesp_problem.specs.Nodes.{Node}
 use Rattle.pesp_truth.specs.Trees.{Line, EndLine, CutLine, CutExists, IsSoundLeaf, AreSound, are_trees}
@@ -15,12 +15,12 @@ use Rattle.pesp_board.specs.Growing.{grown, news}
 
 -- the line is sound at a node, for a least cost or for none
 abbrev pub IsSoundLine : ProblemValue → Node → Line → Type 0
-IsSoundLine p node (EndLine leaf) = (least : Option ℕ) × IsSoundLeaf (net_of p) p.table least leaf node
+IsSoundLine p node (EndLine leaf) = (least : Option ℕ) × IsSoundLeaf None (net_of p) p.table least leaf node
 IsSoundLine p node (CutLine cut) = CutExists (net_of p) p.table cut
 
 -- the lines are sound trees for a least cost or for none, one for each of the nodes, in order
 abbrev pub AreSoundLines : ProblemValue → List Line → List Node → Type 0
-AreSoundLines p lines nodes = (least : Option ℕ) × AreSound (net_of p) p.table least lines nodes
+AreSoundLines p lines nodes = (least : Option ℕ) × AreSound None (net_of p) p.table least lines nodes
 
 -- each of them is a node of the problem
 abbrev pub AreNodesOf : ProblemValue → List Node → Type 0

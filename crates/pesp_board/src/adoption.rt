@@ -1,6 +1,6 @@
 //! The parts of a board that goes on from a valid certificate.
 
-ghost use Rattle.std.specs.Prelude.{◌≡◌, ◌≤◌, ◌∷◌, [], length, map, sum_by, true, IsSome, IfOk};
+ghost use Rattle.std.specs.Prelude.{◌≡◌, ◌≤◌, ◌∷◌, [], length, map, sum_by, true, IsSome, IfOk, None};
 ghost use Rattle.pesp_problem.specs.declared.limits.TheConstants.{MOST_LINES};
 ghost use Rattle.pesp_problem.specs.Limits as instances;
 ghost use Rattle.pesp_problem.specs.Nodes as spec;
@@ -60,7 +60,7 @@ pub(crate) fn problem_of(
     instance: &Instance,
     certificate: &Certificate,
 ) -> Result<Problem, Memory>
-    requires { IsValid instance.now certificate.now }
+    requires { IsValid None instance.now certificate.now }
     ensures problem { IfOk result (IsProblemOf instance.now) }
     ensures cycles { IfOk result (λ problem. problem.table ≡ certificate.now.cycles) }
 {

@@ -1,6 +1,6 @@
 //! Boards.
 
-ghost use Rattle.std.specs.Prelude.{◌≡◌, length, IfOk, IfSome, option_map};
+ghost use Rattle.std.specs.Prelude.{◌≡◌, length, IfOk, IfSome, option_map, None};
 ghost use Rattle.pesp_nodes.specs.Problems.{ArePairs};
 ghost use Rattle.pesp_queue.specs.Entries.{ItemsDiffer};
 ghost use Rattle.pesp_queue.specs.Queues.{all_of};
@@ -95,7 +95,7 @@ impl Board {
         instance: &Instance,
         certificate: &Certificate,
     ) -> Result<Board, Memory>
-        requires { IsValid instance.now certificate.now }
+        requires { IsValid None instance.now certificate.now }
         ensures adopts { IfOk result (λ board. Adopts certificate.now board.state) }
         ensures problem { IfOk result (λ board. IsProblemOf instance.now board.problem) }
         ensures cycles { IfOk result (λ board. board.problem.table ≡ certificate.now.cycles) }
@@ -274,7 +274,7 @@ impl Board {
         requires { IsProblemOf instance.now self.now.problem }
         ensures content { IfOk result
             (IsCertificateOf self.now.problem instance.now.events self.now.state) }
-        ensures valid { IfOk result (IsValid instance.now) }
+        ensures valid { IfOk result (IsValid None instance.now) }
     {
         let answer = answer_of(self.least(), self.best());
         let times = shown_times(alloc, instance.events(), &self.best)?;

@@ -27,7 +27,7 @@ none_is None e = refl
 none_is (Some x) e = cc
 
 pub gap_leaf : (p : ProblemValue) (node : Node) (cycle : ℕ)
-    → IsSoundLeaf (net_of p) p.table None (trees.Gap cycle) node → IsLeafOf p node (Gap cycle)
+    → IsSoundLeaf None (net_of p) p.table None (trees.Gap cycle) node → IsLeafOf p node (Gap cycle)
 gap_leaf p node cycle l = (l.0, none_is (offsets_left (net_of p) p.table node (cycle - 1)) l.1)
 
 and_some : (o : Option ℤ) (P : ℤ → Type 0) (v : ℤ) → o ≡ Some v → P v → IsSomeAnd o P

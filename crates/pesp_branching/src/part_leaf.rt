@@ -16,7 +16,7 @@ use pesp_strategy::Part;
 pub fn gap_at(problem: &Problem, node: &Node) -> Option<u32>
     requires { IsNodeOf problem.now node.now }
     ensures { MatchOption result (HaveOffsetsLeft (net_of problem.now) problem.now.table node.now)
-        (λ cycle. IsSoundLeaf (net_of problem.now) problem.now.table None (Gap cycle) node.now) }
+        (λ cycle. IsSoundLeaf None (net_of problem.now) problem.now.table None (Gap cycle) node.now) }
 {
     first_gap(problem, node)
 }

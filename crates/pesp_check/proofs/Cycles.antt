@@ -1,4 +1,5 @@
 -- The cycles as they come.
+use Rattle.std.specs.Prelude.{None}
 use Rattle.std.proofs.Common.{◌≡◌, inl, inr, ℕ, ◌+◌, arith, false, List, [], ◌∷◌, ◌++◌, length, get_or, refl, sym, ap, subst, ◌∙◌}
 use Rattle.std.specs.List.{list_all}
 use Rattle.std.proofs.lemmas.List.{get_or_default, length-take}
@@ -77,7 +78,7 @@ module _ (p : Pesp) (c : Content) (rows : List SignedRow) (rest : List Item) (ke
       → JudgedAt (stages.Refused refusal) p c rest kept'
   walk_refused refusal number line kept' e f a fault =
       let n : number ≡ k + 1 = omega (arith, e, cycles.nets.long, length-take k c.cycles, next.1.within) in
-      let l : line ≡ line_before_cycles c + (k + 1) = omega (arith, f, cycles.line) in
+      let l : line ≡ line_before_cycles None c + (k + 1) = omega (arith, f, cycles.line) in
       record {
         answer = a ∙ cycles.shown.answer;
         later = ap (list_all is_later) next.1.left ∙ all_cycles c (k + 1);
@@ -86,7 +87,7 @@ module _ (p : Pesp) (c : Content) (rows : List SignedRow) (rest : List Item) (ke
           inr (inl (
             cycles.shown.shows,
             walk_fault (arcs_of p) c.cycles
-                (line_before_cycles c) k rows rows next.1.within read refl cycles.walks refusal number line n l
+                (line_before_cycles None c) k rows rows next.1.within read refl cycles.walks refusal number line n l
                 fault,
           )),
         );

@@ -54,8 +54,8 @@ cycles_end stage p c rest kept standing node is whole b roots nodes before =
     subst (λ (ws : List (List SignedRow)). AreNets (length p.rows) ws kept.table)
     (take_all k c.cycles done.all) h.nets in
     let at : standing.nodes ≡ root (net_of p) c.cycles ∷ [] = nodes ∙ ap (λ (n : Node). n ∷ []) (roots c.cycles nets) in
-    let P : List Node → Type 0 = λ ns. AreJudged (net_of p) c.cycles (least_of c.answer) c.tree
-    (root (net_of p) c.cycles) (first_tree_line c) ns 0 in
+    let P : List Node → Type 0 = λ ns. AreJudged None (net_of p) c.cycles (least_of c.answer) c.tree
+    (root (net_of p) c.cycles) (first_tree_line None c) ns 0 in
     let Q : List Node → Type 0 = λ ns. are_trees (length ns) (lines_of c) ≡ true in (
       0,
       standing,
@@ -65,8 +65,8 @@ cycles_end stage p c rest kept standing node is whole b roots nodes before =
         nets = nets;
         walk = refl;
         whole = subst Q (sym at) whole;
-        judged = subst P (sym at) (judged_none (net_of p) c.cycles (least_of c.answer) c.tree
-            (root (net_of p) c.cycles) (first_tree_line c));
+        judged = subst P (sym at) (judged_none None (net_of p) c.cycles (least_of c.answer) c.tree
+            (root (net_of p) c.cycles) (first_tree_line None c));
         line = omega (arith, h.line, h.within, done.all);
         left = done.left;
       },
@@ -112,14 +112,14 @@ module _ (p : Pesp) (c : Content) (line : TreeLine) (rest : List Item) (kept : K
   -- what is said at the node where the walk stands is said for the certificate's answer
   pub line_found : (walk walk' : Standing) (least : Option ℕ) (at : ℕ) (found : Option Refusal)
       → kept.walk ≡ Some walk → least ≡ least_of kept.answer
-      → IsLineVerdict (net_of p) c.cycles least (line_of line) walk.nodes walk'.nodes at found
-      → IsLineVerdict (net_of p) c.cycles (least_of c.answer) (line_of line) standing.nodes walk'.nodes at found
+      → IsLineVerdict None (net_of p) c.cycles least (line_of line) walk.nodes walk'.nodes at found
+      → IsLineVerdict None (net_of p) c.cycles (least_of c.answer) (line_of line) standing.nodes walk'.nodes at found
   line_found walk walk' least at found e l v =
       let same : Some standing ≡ Some walk = sym stands ∙ e in
       let s : standing ≡ walk = cc in
-      let P : Standing → Type 0 = λ st. IsLineVerdict (net_of p) c.cycles (least_of c.answer)
+      let P : Standing → Type 0 = λ st. IsLineVerdict None (net_of p) c.cycles (least_of c.answer)
       (line_of line) st.nodes walk'.nodes at found in
-      let Q : Option ℕ → Type 0 = λ m. IsLineVerdict (net_of p) c.cycles m (line_of line) walk.nodes walk'.nodes at found in
+      let Q : Option ℕ → Type 0 = λ m. IsLineVerdict None (net_of p) c.cycles m (line_of line) walk.nodes walk'.nodes at found in
       subst P (sym s) (subst Q (l ∙ ap least_of answer_is) v)
 
   pub never_done : (walk : Standing) → kept.walk ≡ Some walk → walk.nodes ≡ [] → ⊥
@@ -133,7 +133,7 @@ module _ (p : Pesp) (c : Content) (line : TreeLine) (rest : List Item) (kept : K
 
   pub line_taken : (standing' : Standing) (kept' : Kept)
       → kept' ≡ record kept { line = kept.line + 1; walk = Some standing' }
-      → IsSoundLine (net_of p) c.cycles (least_of c.answer) (line_of line) standing.nodes
+      → IsSoundLine None (net_of p) c.cycles (least_of c.answer) (line_of line) standing.nodes
       → standing'.nodes ≡ after (line_of line) standing.nodes
       → JudgedAt stage p c rest kept'
   line_taken standing' kept' e sound nodes =
@@ -148,25 +148,25 @@ module _ (p : Pesp) (c : Content) (line : TreeLine) (rest : List Item) (kept : K
           nets = tree.nets;
           walk = refl;
           whole = whole_more c.tree k line next.1.within read standing.nodes standing'.nodes nodes tree.whole;
-          judged = judged_more c.tree k line next.1.within read (net_of p) c.cycles (least_of c.answer)
-              (root (net_of p) c.cycles) (first_tree_line c) standing.nodes tree.judged standing'.nodes sound nodes;
+          judged = judged_more c.tree k line next.1.within read None (net_of p) c.cycles (least_of c.answer)
+              (root (net_of p) c.cycles) (first_tree_line None c) standing.nodes tree.judged standing'.nodes sound nodes;
           line = omega (arith, tree.line);
           left = next.1.left;
         },
       ))
 
   pub line_refused : (refusal : Refusal) (at : ℕ) (kept' : Kept) → at ≡ kept.line + 1 → kept'.answer ≡ kept.answer
-      → are_trees 1 (lines_of c) ≡ true → IsLineFault (net_of p) c.cycles (least_of c.answer)
+      → are_trees 1 (lines_of c) ≡ true → IsLineFault None (net_of p) c.cycles (least_of c.answer)
       (line_of line) standing.nodes at refusal
       → JudgedAt (stages.Refused refusal) p c rest kept'
   line_refused refusal at kept' e a whole fault =
-      let number : at ≡ first_tree_line c + k = omega (arith, e, tree.line) in
-      let faults = fault_here c.tree k line next.1.within read (net_of p) c.cycles (least_of c.answer)
-      (root (net_of p) c.cycles) (first_tree_line c) standing.nodes tree.judged at refusal number fault in
+      let number : at ≡ first_tree_line None c + k = omega (arith, e, tree.line) in
+      let faults = fault_here c.tree k line next.1.within read None (net_of p) c.cycles (least_of c.answer)
+      (root (net_of p) c.cycles) (first_tree_line None c) standing.nodes tree.judged at refusal number fault in
       record {
         answer = a ∙ tree.shown.answer;
         later = ap (list_all is_later) next.1.left ∙ all_tree c (k + 1);
-        first = inr (tree.shown.period, later_tree_fault p c refusal whole tree.shown.shows tree.walks faults);
+        first = inr (tree.shown.period, later_tree_fault None p c refusal whole tree.shown.shows tree.walks tt faults);
       }
 
 -- a line of the tree behind a refusal
@@ -206,15 +206,15 @@ end_answer (stages.Refused r) p c kept whole h = h.answer
 
 pub end_valid : (stage : Stage) (p : Pesp) (c : Content) (kept : Kept)
     → (stage ≡ stages.Front) ⊎ ((stage ≡ stages.Cycles) ⊎ (stage ≡ stages.Tree)) → are_trees 1 (lines_of c) ≡ true
-    → JudgedAt stage p c (End ∷ []) kept → IsValid p c
-end_valid stages.Front p c kept is whole h = front_open stages.Front p c kept (IsValid p c) refl whole h
-end_valid stages.Cycles p c kept is whole h = front_open stages.Cycles p c kept (IsValid p c) refl whole h
+    → JudgedAt stage p c (End ∷ []) kept → IsValid None p c
+end_valid stages.Front p c kept is whole h = front_open stages.Front p c kept (IsValid None p c) refl whole h
+end_valid stages.Cycles p c kept is whole h = front_open stages.Cycles p c kept (IsValid None p c) refl whole h
 end_valid stages.Tree p c kept is whole h =
     let t = h.2 in
     let done = tree_ended c h.0 t.left in
-    valid_is p c t.shown.period t.shown.shows t.walks
-    (judged_all (net_of p) c.cycles (least_of c.answer) c.tree (root (net_of p) c.cycles)
-    (first_tree_line c) h.1.nodes h.0 done t.whole t.judged)
+    valid_is None p c t.shown.period t.shown.shows t.walks tt
+    (judged_all None (net_of p) c.cycles (least_of c.answer) c.tree (root (net_of p) c.cycles)
+    (first_tree_line None c) h.1.nodes h.0 done t.whole t.judged)
 end_valid (stages.Refused r) p c kept (inl e) whole h = absurd cc
 end_valid (stages.Refused r) p c kept (inr (inl e)) whole h = absurd cc
 end_valid (stages.Refused r) p c kept (inr (inr e)) whole h = absurd cc

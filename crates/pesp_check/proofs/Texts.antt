@@ -23,9 +23,8 @@ use Rattle.pesp_cert_items.specs.Texts.{RefusesText}
 use Rattle.pesp_cert_items.proofs.Running.{Runs, runs_none, runs_more, runs_all, runs_refused}
 use Rattle.pesp_cert_items.proofs.Telling.{at_first, ran_text, refused_text}
 use Rattle.pesp_judges.specs.declared.refusal.Verdict.{Verdict}
-use Rattle.pesp_judges.specs.declared.refusal.Verdict.TheVariants.{Accepted, Refused}
 use Rattle.pesp_judges.specs.Faults.{IsVerdict}
-use Rattle.pesp_judges.proofs.Faults.{fault_is_not_valid}
+use Rattle.pesp_judges.proofs.Faults.{accepts_valid}
 use Rattle.pesp_check.specs.declared.stage.Stage.{Stage}
 use Rattle.pesp_check.specs.declared.fault.CheckFault.TheVariants.{Read}
 use Rattle.pesp_check.specs.CheckFaults.{fault_of}
@@ -65,16 +64,12 @@ behind_is : (c : Content) → items_of c ≡ behind c
 behind_is c = ap (λ is. Version c.version ∷ Period c.period ∷ Says c.answer ∷ is)
     (items_shape (map time_item c.times) (map Cycle c.cycles) (map tree_item c.tree) (End ∷ []))
 
-verdict_is : (p : Pesp) (content : Content) (verdict : Verdict) → IsVerdict p content verdict → (verdict ≡ Accepted) ↔ IsValid p content
-verdict_is p content Accepted h = (λ e. h, λ v. refl)
-verdict_is p content (Refused refusal) h = (λ e. cc, λ valid. absurd (fault_is_not_valid p content refusal h valid))
-
 pub checked_all : (p : Pesp) (told : Option (List ℕ)) (b c : Reading) (stage : Stage) (kept : Kept)
     (verdict : Verdict) (answer : Answer) → IsCheckedTo p (at_first told 1073741824) b stage kept
     → Gives b c (Ok None)
-    → ((c : Content) → are_trees 1 (lines_of c) ≡ true → JudgedAt stage p c (End ∷ []) kept → IsVerdict p c verdict)
+    → ((c : Content) → are_trees 1 (lines_of c) ≡ true → JudgedAt stage p c (End ∷ []) kept → IsVerdict None p c verdict)
     → ((c : Content) → are_trees 1 (lines_of c) ≡ true → JudgedAt stage p c (End ∷ []) kept → answer ≡ c.answer)
-    → ((c : Content) → IsValid p c → IsTrueAnswer p c.answer (shown_times c))
+    → ((c : Content) → IsValid None p c → IsTrueAnswer p c.answer (shown_times c))
     → ChecksText told c.told p verdict answer
 checked_all p told b c stage kept verdict answer h g says is true_then =
     let ran = runs_all (at_first told 1073741824) b c h.so_far h.runs g.1 in
@@ -92,9 +87,9 @@ checked_all p told b c stage kept verdict answer h g says is true_then =
       spelt = found.2;
       answer_is = same;
       said = said;
-      exactly = verdict_is p content verdict said;
+      exactly = accepts_valid None p content verdict said;
       truth = λ e. subst (λ (a : Answer). IsTrueAnswer p a (shown_times content)) (sym same)
-          (true_then content ((verdict_is p content verdict said).0 e));
+          (true_then content ((accepts_valid None p content verdict said).0 e));
     }
 
 -- ---- a fault

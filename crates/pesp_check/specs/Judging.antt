@@ -1,5 +1,5 @@
 -- What the items of a certificate's text that came say of the certificate, while others are still to come.
-use Rattle.std.specs.Prelude.{◌≡◌, ◌⊎◌, ℕ, ◌+◌, ◌<◌, ◌≤◌, Bool, true, false, List, [], ◌∷◌, ◌++◌, length, map, take, drop, ℤ, Option, Some, All}
+use Rattle.std.specs.Prelude.{◌≡◌, ◌⊎◌, ℕ, ◌+◌, ◌<◌, ◌≤◌, Bool, true, false, List, [], ◌∷◌, ◌++◌, length, map, take, drop, ℤ, Option, Some, All, None}
 use Rattle.std.specs.List.{list_all}
 use Rattle.pesp_problem.specs.Timetables.{Pesp}
 use Rattle.pesp_problem.specs.Arcs.{arcs_of, net_of}
@@ -108,7 +108,7 @@ pub record TreeTo (p : Pesp) (c : Content) (rest : List Item) (kept : Kept) (k :
   pub nets : AreNets (length p.rows) c.cycles kept.table
   pub walk : kept.walk ≡ Some standing
   pub whole : are_trees (length standing.nodes) (map line_of (drop k c.tree)) ≡ true
-  pub judged : AreJudged (net_of p) c.cycles (least_of c.answer) c.tree (root (net_of p) c.cycles) (first_tree_line c) standing.nodes k
+  pub judged : AreJudged None (net_of p) c.cycles (least_of c.answer) c.tree (root (net_of p) c.cycles) (first_tree_line None c) standing.nodes k
   pub line : kept.line ≡ 3 + length c.times + length c.cycles + k
   pub left : rest ≡ tree_from c k
 
@@ -116,7 +116,7 @@ pub record TreeTo (p : Pesp) (c : Content) (rest : List Item) (kept : Kept) (k :
 pub record RefusedTo (p : Pesp) (c : Content) (rest : List Item) (kept : Kept) (refusal : Refusal) : Type 0 where
   pub answer : kept.answer ≡ c.answer
   pub later : list_all is_later rest ≡ true
-  pub first : IsFirstFault p c refusal
+  pub first : IsFirstFault None p c refusal
 
 abbrev pub JudgedAt : Stage → Pesp → Content → List Item → Kept → Type 0
 JudgedAt stages.Front p c rest kept = (kept.table ≡ []) × FrontTo c rest kept

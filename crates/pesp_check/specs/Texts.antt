@@ -1,5 +1,5 @@
 -- What a check of a text says of the bytes that a reader gives.
-use Rattle.std.specs.Prelude.{◌≡◌, ◌↔◌, ℕ, List, Option}
+use Rattle.std.specs.Prelude.{◌≡◌, ◌↔◌, ℕ, List, Option, None}
 use Rattle.pesp_problem.specs.declared.limits.TheConstants.{MOST_TEXT}
 use Rattle.pesp_stream.specs.Reading.{ReadsText}
 use Rattle.pesp_problem.specs.Timetables.{Pesp}
@@ -22,8 +22,8 @@ pub record ChecksText (told told' : Option (List ℕ)) (p : Pesp) (verdict : Ver
   pub read : ReadsText told told' MOST_TEXT text
   pub spelt : IsTextOf text content
   pub answer_is : answer ≡ content.answer
-  pub said : IsVerdict p content verdict
-  pub exactly : (verdict ≡ Accepted) ↔ IsValid p content
+  pub said : IsVerdict None p content verdict
+  pub exactly : (verdict ≡ Accepted) ↔ IsValid None p content
   pub truth : verdict ≡ Accepted → IsTrueAnswer p answer (shown_times content)
 
 -- a text is refused by its first fault, whatever stands behind what was read of it; a device is blamed only where it failed

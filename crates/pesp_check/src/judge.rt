@@ -1,6 +1,6 @@
 //! The judge of a text's items, one after another.
 
-ghost use Rattle.std.specs.Prelude.{◌≡◌, ℕ, ◌+◌, ◌<◌, ◌≤◌, ◌^◌, List, ◌∷◌, ◌++◌, [], true, false, length, map, All, Option, IfOk, OnOk, MatchOption};
+ghost use Rattle.std.specs.Prelude.{◌≡◌, ℕ, ◌+◌, ◌<◌, ◌≤◌, ◌^◌, List, ◌∷◌, ◌++◌, [], true, false, length, map, All, Option, IfOk, OnOk, MatchOption, None};
 ghost use Rattle.std.specs.Option.{ForSome, is_some};
 ghost use Rattle.pesp_problem.specs.declared.limits.TheConstants.{MOST_SIGNED_ROWS};
 ghost use Rattle.pesp_truth.specs.Trees.{are_trees};
@@ -350,7 +350,7 @@ impl<'a> Judge<'a> {
     pub fn verdict(&self) -> Verdict
         ensures { (c : Content) → are_trees 1 (lines_of c) ≡ true
             → JudgedAt self.now.stage self.now.instance.now c (items.End ∷ []) (kept self.now)
-            → IsVerdict self.now.instance.now c result }
+            → IsVerdict None self.now.instance.now c result }
     {
         match self.stage {
             Stage::Refused(refusal) => Verdict::Refused(refusal),

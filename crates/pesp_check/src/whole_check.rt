@@ -1,6 +1,6 @@
 //! The check of a certificate as a whole.
 
-ghost use Rattle.std.specs.Prelude.{◌≡◌, ◌↔◌, ◌+◌, [], ◌∷◌, length, Ok, IfOk, MatchOption};
+ghost use Rattle.std.specs.Prelude.{◌≡◌, ◌↔◌, ◌+◌, [], ◌∷◌, length, Ok, IfOk, MatchOption, None};
 ghost use Rattle.pesp_problem.specs.Arcs.{net_of};
 ghost use Rattle.pesp_problem.specs.Limits.{KeepsLimits};
 ghost use Rattle.pesp_problem.specs.Nodes as nodes;
@@ -32,13 +32,13 @@ fn tree_fault(
     requires long { length working.old ≡ length instance.now.rows }
     requires zeros { AreZeros working.old }
     ensures { IfOk result (λ found. MatchOption found
-        (AreSound (net_of instance.now) certificate.now.cycles
+        (AreSound None (net_of instance.now) certificate.now.cycles
         (spec.least_of certificate.now.answer) (lines_of certificate.now)
         (nodes.root (net_of instance.now) certificate.now.cycles ∷ []))
-        (λ refusal. IsLinesFault (net_of instance.now) certificate.now.cycles
+        (λ refusal. IsLinesFault None (net_of instance.now) certificate.now.cycles
         (spec.least_of certificate.now.answer) (lines_of certificate.now)
         (nodes.root (net_of instance.now) certificate.now.cycles ∷ [])
-        (first_tree_line certificate.now) refusal)) }
+        (first_tree_line None certificate.now) refusal)) }
 {
     let first = 4 + certificate.times().len() as u64 + certificate.cycles().len() as u64;
     let checker = Checker::new(instance, table, least_of(certificate.answer()));
@@ -51,8 +51,8 @@ fn first_fault(
     instance: &Instance,
     certificate: &Certificate,
 ) -> Result<Option<Refusal>, AllocError>
-    ensures found { IfOk result (λ found. MatchOption found (IsValid instance.now certificate.now)
-        (λ refusal. IsFirstFault instance.now certificate.now refusal)) }
+    ensures found { IfOk result (λ found. MatchOption found (IsValid None instance.now certificate.now)
+        (λ refusal. IsFirstFault None instance.now certificate.now refusal)) }
     ensures limits { KeepsLimits instance.now }
 {
     if certificate.period() != instance.period() {
@@ -83,9 +83,9 @@ pub fn check(
     instance: &Instance,
     certificate: &Certificate,
 ) -> Result<Verdict, Memory>
-    ensures verdict { IfOk result (λ verdict. IsVerdict instance.now certificate.now verdict) }
+    ensures verdict { IfOk result (λ verdict. IsVerdict None instance.now certificate.now verdict) }
     ensures exactly { IfOk result
-        (λ verdict. (verdict ≡ Verdict.Accepted) ↔ IsValid instance.now certificate.now) }
+        (λ verdict. (verdict ≡ Verdict.Accepted) ↔ IsValid None instance.now certificate.now) }
     ensures truth { result ≡ Ok Verdict.Accepted
         → IsTrueAnswer instance.now certificate.now.answer (shown_times certificate.now) }
 {

@@ -11,10 +11,10 @@ use Rattle.pesp_truth.specs.declared.answer.Answer.TheVariants.{Optimal, Infeasi
 use Rattle.pesp_truth.specs.Truth.{IsTrueAnswer, HasNoTimetable}
 use Rattle.pesp_truth.specs.Certificates.{Content, IsValid, ShowsAnswer, cost_of, shown_times, shown_labels}
 use Rattle.pesp_truth.proofs.Certificates.{valid_is_true}
-use Rattle.pesp_conflict_laws.specs.Conflicts.{KeepsRows, only_rows, unweighted, chosen}
-use Rattle.pesp_conflict_laws.specs.Used.{UsesOnly}
-use Rattle.pesp_conflict_laws.proofs.Choosing.{only_rows_are_kept, conflict_is_none, chosen_conflict}
-use Rattle.pesp_conflict_laws.proofs.Using.{used_rows_conflict}
+use Rattle.pesp_truth.specs.Conflicts.{KeepsRows, only_rows, unweighted, chosen}
+use Rattle.pesp_truth.specs.Used.{UsesOnly}
+use Rattle.pesp_truth.proofs.Choosing.{only_rows_are_kept, conflict_is_none, chosen_conflict}
+use Rattle.pesp_truth.proofs.Using.{used_rows_conflict}
 use Rattle.pesp_search.specs.Solving.{IsSolved}
 use Rattle.pesp_conflict.specs.Findings.{IsConflict, IsOpenOver, AreFit}
 use Rattle.pesp_conflict.specs.Insides.{IsToldBy, IsPart, IsDecision, IsOpenWithout}
@@ -61,7 +61,7 @@ each_listed listed i d l = (i, l, get_or_default listed i (get_or listed i d) d 
 pub whole_conflict : (p : Pesp) (listed : List ℕ) (content : Content) → IsToldBy p listed content
     → content.answer ≡ Infeasible → IsConflict p listed × All (Contains listed) listed
 whole_conflict p listed content told answer =
-    let true_answer = valid_is_true (only_rows p listed) content told.some_period told.valid in
+    let true_answer = valid_is_true None (only_rows p listed) content told.some_period told.valid in
     let none : HasNoTimetable (only_rows p listed) =
     subst (λ (a : Answer). IsTrueAnswer (only_rows p listed) a (shown_times content)) answer true_answer in
     (record { exist = told.fit.1; rising = told.fit.0; none_keep = (conflict_is_none p listed).1 none }, each_listed listed)
@@ -103,6 +103,6 @@ decided_over p part listed steps used content decisions.Timetable is solved d = 
 decided_over p part listed steps used content decisions.Undecided is solved d = open_over p part listed steps used content is solved d
 
 pub told_of_part : (p part : Pesp) (listed : List ℕ) (content : Content) → 0 < p.period → AreFit p listed
-    → part ≡ only_rows p listed → IsValid part content → IsToldBy p listed content
+    → part ≡ only_rows p listed → IsValid None part content → IsToldBy p listed content
 told_of_part p part listed content some fit is valid =
-    record { some_period = some; fit = fit; valid = subst (λ (q : Pesp). IsValid q content) is valid }
+    record { some_period = some; fit = fit; valid = subst (λ (q : Pesp). IsValid None q content) is valid }

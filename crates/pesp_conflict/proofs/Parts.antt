@@ -7,7 +7,7 @@ use Rattle.pesp_problem.specs.declared.row.Row.{Row}
 use Rattle.pesp_problem.specs.Limits.{KeepsLimits, RowKeepsLimits}
 use Rattle.pesp_problem.specs.Timetables.{Pesp, row_at, no_row}
 use Rattle.pesp_problem.specs.Walks.{Names}
-use Rattle.pesp_conflict_laws.specs.Conflicts.{only_rows, unweighted}
+use Rattle.pesp_truth.specs.Conflicts.{only_rows, unweighted}
 
 unweighted_keeps : (events : ℕ) (row : Row) → RowKeepsLimits events row → RowKeepsLimits events (unweighted row)
 unweighted_keeps events row k = record {

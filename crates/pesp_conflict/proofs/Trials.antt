@@ -5,7 +5,7 @@ use Rattle.std.proofs.lemmas.List.{get_or_default}
 use Rattle.std.proofs.lemmas.List.Elements.{All-contains, All-append, All-cons, All-nil}
 use Rattle.pesp_problem.specs.declared.row.Row.{Row}
 use Rattle.pesp_problem.specs.Timetables.{Pesp, no_row, row_at, IsSatisfied, IsTimetable}
-use Rattle.pesp_conflict_laws.specs.Conflicts.{KeepsRow, KeepsRows, IsNeeded}
+use Rattle.pesp_truth.specs.Conflicts.{KeepsRow, KeepsRows, IsNeeded}
 use Rattle.pesp_conflict.specs.Findings.{AreAll, IsOpenOver}
 use Rattle.pesp_conflict.specs.Insides.{IsDecision, IsFirst}
 use Rattle.pesp_conflict.specs.declared.decision.Decision.{Decision}

@@ -6,7 +6,7 @@ use Rattle.pesp_problem.specs.Walks.{Names}
 use Rattle.pesp_truth.specs.Certificates.{Content}
 use Rattle.pesp_truth.specs.declared.answer.Answer.TheVariants.{Bounded}
 use Rattle.pesp_search.specs.Solving.{IsSolved}
-use Rattle.pesp_conflict_laws.specs.Conflicts.{AreInConflict, IsNeeded, only_rows}
+use Rattle.pesp_truth.specs.Conflicts.{AreInConflict, IsNeeded, only_rows}
 use Rattle.pesp_conflict.specs.declared.finding.Finding.{Finding}
 use Rattle.pesp_conflict.specs.declared.finding.Finding.TheVariants.{Conflict, Timetable, Undecided}
 

@@ -3,7 +3,7 @@ use Rattle.std.specs.Prelude.{◌≡◌, ⊤, ℕ, ◌<◌, List, All, Contains,
 use Rattle.pesp_problem.specs.Timetables.{Pesp, IsTimetable}
 use Rattle.pesp_truth.specs.declared.answer.Answer.TheVariants.{Bounded}
 use Rattle.pesp_truth.specs.Certificates.{Content, IsValid}
-use Rattle.pesp_conflict_laws.specs.Conflicts.{KeepsRows, AreInConflict, IsNeeded, only_rows}
+use Rattle.pesp_truth.specs.Conflicts.{KeepsRows, AreInConflict, IsNeeded, only_rows}
 use Rattle.pesp_conflict.specs.Findings.{IsConflict, IsUndecided, AreFit}
 use Rattle.pesp_conflict.specs.declared.finding.Conflict.{Conflict}
 use Rattle.pesp_conflict.specs.declared.decision.Decision.{Decision}
@@ -16,7 +16,7 @@ use Rattle.pesp_conflict.specs.declared.known.Known.{Known}
 pub record IsToldBy (p : Pesp) (listed : List ℕ) (content : Content) : Type 0 where
   pub some_period : 0 < p.period
   pub fit : AreFit p listed
-  pub valid : IsValid (only_rows p listed) content
+  pub valid : IsValid None (only_rows p listed) content
 
 -- some of the listed rows, which are in conflict
 abbrev pub IsPart : Pesp → List ℕ → List ℕ → Type 0

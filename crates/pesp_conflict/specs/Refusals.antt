@@ -5,7 +5,7 @@ use Rattle.pesp_search.specs.Refusals.{MeetsLimit}
 use Rattle.pesp_search.specs.Solving.{IsSearchRefusal}
 use Rattle.pesp_search.specs.declared.refusal.SolveRefusal.{SolveRefusal}
 use Rattle.pesp_search.specs.declared.refusal.SolveRefusal.TheVariants.{Memory, TableTooLarge, PairsTooMany}
-use Rattle.pesp_conflict_laws.specs.Conflicts.{only_rows}
+use Rattle.pesp_truth.specs.Conflicts.{only_rows}
 use Rattle.pesp_conflict.specs.Findings.{AreFit}
 
 -- a search over listed rows alone, of at most so many steps, met the limit of this refusal

@@ -3,7 +3,7 @@
 ghost use Rattle.std.specs.Prelude.{◌≤◌, ℕ, List, IfOk, IfErr};
 ghost use Rattle.pesp_problem.specs.declared.limits.TheConstants.{MOST_STEPS};
 ghost use Rattle.pesp_problem.specs.Timetables.{Pesp};
-ghost use Rattle.pesp_conflict_laws.specs.Conflicts.{KeepsRows};
+ghost use Rattle.pesp_truth.specs.Conflicts.{KeepsRows};
 ghost use Rattle.pesp_conflict.specs.Refusals.{IsConflictRefusal};
 ghost use Rattle.pesp_conflict.specs.Findings.{IsConflict};
 ghost use Rattle.pesp_conflict.specs.Insides.{IsTrial};

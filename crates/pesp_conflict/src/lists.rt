@@ -3,7 +3,7 @@
 ghost use Rattle.std.specs.Prelude.{◌≡◌, ◌≢◌, ℕ, All, Contains, IsTrue, IfOk, length};
 ghost use Rattle.std.specs.List.Sorted.{IsStrictlyIncreasing};
 ghost use Rattle.pesp_problem.specs.Walks.{Names};
-ghost use Rattle.pesp_conflict_laws.specs.Conflicts as spec;
+ghost use Rattle.pesp_truth.specs.Conflicts as spec;
 ghost use Rattle.pesp_conflict.specs.Findings.{AreAll};
 
 use std::alloc::{AllocError, Global};

@@ -3,7 +3,7 @@
 ghost use Rattle.std.specs.Prelude.{◌≡◌, ◌≤◌, All, IfOk, length};
 ghost use Rattle.pesp_problem.specs.declared.limits.TheConstants.{MOST_ROWS};
 ghost use Rattle.pesp_problem.specs.Walks.{Names};
-ghost use Rattle.pesp_conflict_laws.specs.Conflicts as spec;
+ghost use Rattle.pesp_truth.specs.Conflicts as spec;
 
 use pesp_problem::{Instance, Memory, Row};
 use std::alloc::{AllocError, Global};

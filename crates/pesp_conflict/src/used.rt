@@ -3,7 +3,7 @@
 ghost use Rattle.std.specs.Prelude.{◌≡◌, ℕ, ◌-◌, ◌<◌, List, All, Contains, IsTrue, IfOk, IfSome, true, length};
 ghost use Rattle.pesp_problem.specs.Walks.{Names};
 ghost use Rattle.pesp_problem.specs.Forests.{KeepsTo};
-ghost use Rattle.pesp_conflict_laws.specs.Used.{CycleIsListed, LineUsesOnly, UsesOnly};
+ghost use Rattle.pesp_truth.specs.Used.{CycleIsListed, LineUsesOnly, UsesOnly};
 
 use crate::lists::{are_named, is_listed, is_whole};
 use pesp_cert::Certificate;

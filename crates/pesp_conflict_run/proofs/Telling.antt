@@ -2,7 +2,7 @@
 use Rattle.std.proofs.Common.{◌≡◌, ℕ, List, length, Bool, true, false, refl}
 use Rattle.std.specs.Prelude.{All}
 use Rattle.pesp_problem.specs.Timetables.{Pesp}
-use Rattle.pesp_conflict_laws.specs.Conflicts.{IsNeeded}
+use Rattle.pesp_truth.specs.Conflicts.{IsNeeded}
 use Rattle.pesp_conflict_run.specs.Told.{told_of}
 use Rattle.pesp_conflict_run.specs.Runs.{WritesList, Tells}
 

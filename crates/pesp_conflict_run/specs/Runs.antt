@@ -1,7 +1,7 @@
 -- What the run reads, writes and tells, and when it tells which fault.
 use Rattle.std.specs.Prelude.{◌≡◌, ◌⊎◌, ℕ, List, length, Option, All}
 use Rattle.pesp_problem.specs.Timetables.{Pesp, IsTimetable}
-use Rattle.pesp_conflict_laws.specs.Conflicts.{IsNeeded}
+use Rattle.pesp_truth.specs.Conflicts.{IsNeeded}
 use Rattle.pesp_search.specs.declared.refusal.SolveRefusal.TheVariants.{Memory as SearchMemory}
 use Rattle.pesp_conflict.specs.Findings.{IsConflict, IsUndecided}
 use Rattle.pesp_conflict.specs.Refusals.{IsConflictRefusal}

@@ -1,5 +1,5 @@
 -- When runs tell which fault. What memory is refused is the runtime's matter, so nothing is said of `Memory`.
-use Rattle.std.specs.Prelude.{◌≡◌, ◌⊎◌, ℕ, List, Err}
+use Rattle.std.specs.Prelude.{◌≡◌, ◌⊎◌, ℕ, List, Err, None}
 use Rattle.pesp_problem.specs.Timetables.{Pesp}
 use Rattle.pesp_problem.specs.Scores.{IsFirstViolated}
 use Rattle.pesp_truth.specs.Certificates.{Content}
@@ -44,7 +44,7 @@ TimetableCause fault reader p =
 abbrev pub BaseCause : Fault → Device → Pesp → Type 0
 BaseCause (Certificate refusal) reader p = ReadsNext reader.old reader.new (λ bytes. items_of_text bytes ≡ Err refusal)
 BaseCause (Base refusal) reader p =
-    (base : Content) × ReadsCertificate reader.old reader.new base × IsVerdict p base (Refused refusal)
+    (base : Content) × ReadsCertificate reader.old reader.new base × IsVerdict None p base (Refused refusal)
 BaseCause Memory reader p = Unit {0}
 BaseCause Read reader p = HasFailed reader
 BaseCause fault reader p = ⊥

@@ -1,5 +1,5 @@
 -- What runs read: an instance, and then times for its events or a certificate that is valid for it.
-use Rattle.std.specs.Prelude.{◌≡◌, ℕ, List, Option, Ok}
+use Rattle.std.specs.Prelude.{◌≡◌, ℕ, List, Option, Ok, None}
 use Rattle.pesp_problem.specs.declared.limits.TheConstants.{MOST_TEXT}
 use Rattle.pesp_stream.specs.Reading.{ReadsText}
 use Rattle.pesp_problem.specs.Timetables.{Pesp, IsTimetable}
@@ -34,7 +34,7 @@ ReadsCertificate told left certificate = ReadsNext told left (λ text. IsTextOf 
 
 -- they are, and it is valid for the instance
 abbrev pub ReadsBase : Option (List ℕ) → Option (List ℕ) → Pesp → Content → Type 0
-ReadsBase told left p base = ReadsCertificate told left base × IsValid p base
+ReadsBase told left p base = ReadsCertificate told left base × IsValid None p base
 
 -- the first text has an instance and the second one a base of it, of which this is said
 abbrev pub HasBase : Option (List ℕ) → Option (List ℕ) → Option (List ℕ) → Option (List ℕ) → ℕ → (Pesp → Content → Type 0) → Type 0

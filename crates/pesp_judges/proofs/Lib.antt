@@ -1,11 +1,4 @@
 pub mod Reading
-pub mod Sums
-pub mod Collecting
-pub mod Arcs
-pub mod Idle
-pub mod Flowing
-pub mod Taking
-pub mod Leaves
 pub mod Closing
 pub mod Following
 pub mod Tables

@@ -16,9 +16,9 @@ use Rattle.pesp_problem.specs.Nodes.{cycle_at, root_slacks, slack_range, odijk_r
 use Rattle.pesp_problem.proofs.Integers.{sum_below-zero}
 use Rattle.pesp_nets.specs.declared.nets.NetCount.{NetCount}
 use Rattle.pesp_nets.specs.Nets.{AreNetCounts, AreNets, nets_at}
-use Rattle.pesp_judges.specs.Offsets.{AreSlackRanges}
-use Rattle.pesp_judges.specs.Ranges.{idle_sum, idle_term}
-use Rattle.pesp_judges.proofs.Arcs.{arcs_long}
+use Rattle.pesp_leaves.specs.Offsets.{AreSlackRanges}
+use Rattle.pesp_leaves.specs.Ranges.{idle_sum, idle_term}
+use Rattle.pesp_leaves.proofs.Arcs.{arcs_long}
 
 nets_push : (n : ℕ) (walks : List (List SignedRow)) (table : List (List NetCount)) (walk : List SignedRow)
     (counts : List NetCount) → AreNets n walks table → AreNetCounts n walk counts

@@ -1,9 +1,5 @@
-pub mod Nets
-pub mod Offsets
-pub mod Ranges
 pub mod Propagations
 pub mod Pending
-pub mod Flows
 pub mod Faults
 pub mod Lines
 pub mod LeafLines

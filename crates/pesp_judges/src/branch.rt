@@ -2,11 +2,11 @@
 
 ghost use Rattle.std.specs.Prelude.{◌≡◌, ◌-◌, length};
 ghost use Rattle.pesp_nets.specs.Ranges.{AreSlackEnds, IsCut};
-ghost use Rattle.pesp_judges.specs.Ranges.{node_of, AreRanges};
+ghost use Rattle.pesp_leaves.specs.Ranges.{node_of, AreRanges};
 ghost use Rattle.pesp_nets.specs.Pending.{change_of, restored};
 ghost use Rattle.pesp_judges.specs.Pending.{IsChange};
 
-use crate::ranges::{Ranges, set_slack};
+use pesp_leaves::{Ranges, set_slack};
 use pesp_nets::Change;
 use pesp_problem::{Cut, Instance};
 

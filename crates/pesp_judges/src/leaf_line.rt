@@ -1,20 +1,17 @@
 //! Whether a leaf is sound at a node.
 
-ghost use Rattle.std.specs.Prelude.{◌≡◌, ◌↔◌, ◌≤◌, ◌≤ℤ◌, ◌<ℤ◌, IsTrue, List, length, pos, All, IsSomeAnd};
+ghost use Rattle.std.specs.Prelude.{◌≡◌, ◌↔◌, ◌≤◌, ◌≤ℤ◌, ◌<ℤ◌, IsTrue, List, length, pos, All, IsSomeAnd, None};
 ghost use Rattle.pesp_problem.specs.declared.row.SignedRow.{SignedRow};
 ghost use Rattle.pesp_problem.specs.Arcs.{net_of};
 ghost use Rattle.pesp_problem.specs.Walks.{Names};
 ghost use Rattle.pesp_truth.specs.Trees as trees;
 ghost use Rattle.pesp_nets.specs.Nets.{AreZeros, AreNets};
-ghost use Rattle.pesp_judges.specs.Ranges.{node_of, AreRanges};
+ghost use Rattle.pesp_leaves.specs.Ranges.{node_of, AreRanges};
 ghost use Rattle.pesp_judges.specs.Lines.{IsLeafVerdict, IsReasonVerdict, ArePairLimits};
 ghost use Rattle.pesp_judges.specs.LeafLines.{leaf_said, KeepsLeafLimits};
 
-use crate::checker::Checker;
-use crate::elements::Elements;
-use crate::leaf::{leaf_value, offsets_left};
-use crate::ranges::Ranges;
 use crate::refusal::Refusal;
+use pesp_leaves::{Checker, Elements, Ranges, leaf_value, offsets_left};
 use pesp_problem::Pair;
 
 /// A leaf as a line says it: pairs for a bound, pairs that show that no timetable lies there, or a cycle with no offset left.
@@ -80,7 +77,7 @@ fn judge_bound<P: Elements<Pair>>(
     requires zeros { AreZeros working.old }
     ensures verdict { (walks : List (List SignedRow))
         → AreNets (length checker.now.instance.now.rows) walks checker.now.table.now
-        → IsLeafVerdict (net_of checker.now.instance.now) walks checker.now.least
+        → IsLeafVerdict None (net_of checker.now.instance.now) walks checker.now.least
         (trees.Bound (P.elements pairs)) (node_of ranges.now) line result }
     ensures zeros { AreZeros working.new }
 {
@@ -111,7 +108,7 @@ fn judge_nothing<P: Elements<Pair>>(
     requires zeros { AreZeros working.old }
     ensures verdict { (walks : List (List SignedRow))
         → AreNets (length checker.now.instance.now.rows) walks checker.now.table.now
-        → IsReasonVerdict (net_of checker.now.instance.now) walks (trees.ByPairs (P.elements pairs))
+        → IsReasonVerdict None (net_of checker.now.instance.now) walks (trees.ByPairs (P.elements pairs))
         (node_of ranges.now) line result }
     ensures zeros { AreZeros working.new }
 {
@@ -130,7 +127,7 @@ fn judge_gap(checker: &Checker<'_>, ranges: &Ranges, cycle: u32, line: u64) -> O
     requires cycles { length ranges.now.offsets.items ≡ length checker.now.table.now }
     ensures { (walks : List (List SignedRow))
         → AreNets (length checker.now.instance.now.rows) walks checker.now.table.now
-        → IsReasonVerdict (net_of checker.now.instance.now) walks (trees.ByGap cycle)
+        → IsReasonVerdict None (net_of checker.now.instance.now) walks (trees.ByGap cycle)
         (node_of ranges.now) line result }
 {
     if !names(checker.table.len(), cycle) {
@@ -164,7 +161,7 @@ pub fn judge_leaf<P: Elements<Pair>>(
     requires zeros { AreZeros working.old }
     ensures verdict { (walks : List (List SignedRow))
         → AreNets (length checker.now.instance.now.rows) walks checker.now.table.now
-        → IsLeafVerdict (net_of checker.now.instance.now) walks checker.now.least
+        → IsLeafVerdict None (net_of checker.now.instance.now) walks checker.now.least
         (leaf_said P.elements leaf) (node_of ranges.now) line result }
     ensures zeros { AreZeros working.new }
 {

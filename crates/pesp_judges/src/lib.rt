@@ -4,33 +4,20 @@
 
 mod answer;
 mod branch;
-mod checker;
-mod elements;
-mod flows;
-mod leaf;
 mod leaf_line;
-mod nets;
 mod node_walk;
-mod offsets;
 mod propagation;
-mod ranges;
 mod refusal;
-mod rows;
 mod table;
 mod tree;
 mod walks;
 mod whole_tree;
 
 pub use answer::{judge_answer, least_of};
-pub use checker::Checker;
-pub use elements::Elements;
-pub use flows::add_flows;
-pub use leaf::offset_sum;
 pub use leaf_line::{LeafLine, judge_leaf, names};
-pub use nets::zeros;
 pub use node_walk::NodeWalk;
+pub use pesp_leaves::{Checker, Elements, Ranges, add_flows, offset_sum, zeros};
 pub use pesp_nets::Nets;
-pub use ranges::Ranges;
 pub use refusal::{Refusal, Verdict};
 pub use table::root;
 pub use tree::{SaidLine, take_line};

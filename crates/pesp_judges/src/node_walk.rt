@@ -1,19 +1,19 @@
 //! A walk over the nodes of a tree that is told by its lines in preorder.
 
-ghost use Rattle.std.specs.Prelude.{◌≡◌, ◌≢◌, ◌↔◌, IsTrue, List, [], ◌∷◌, true, length, reverse, drop, IfOk, OnOk, OnErr};
+ghost use Rattle.std.specs.Prelude.{◌≡◌, ◌≢◌, ◌↔◌, IsTrue, List, [], ◌∷◌, true, length, reverse, drop, IfOk, OnOk, OnErr, None};
 ghost use Rattle.pesp_problem.specs.declared.row.SignedRow.{SignedRow};
 ghost use Rattle.pesp_problem.specs.Arcs.{net_of};
 ghost use Rattle.pesp_truth.specs.Trees.{IsShut, ByPropagation};
 ghost use Rattle.pesp_judges.specs.Propagations.{rows_of};
 ghost use Rattle.pesp_problem.specs.Nodes.{Node};
 ghost use Rattle.pesp_nets.specs.Ranges.{IsCut};
-ghost use Rattle.pesp_judges.specs.Ranges.{node_of, AreRanges};
+ghost use Rattle.pesp_leaves.specs.Ranges.{node_of, AreRanges};
 ghost use Rattle.pesp_nets.specs.Pending.{pending, waiting, branched};
 ghost use Rattle.pesp_judges.specs.Pending.{AreChanges, Standing};
 
 use crate::branch::{change_of, put_back};
 use crate::propagation::shuts;
-use crate::ranges::{Ranges, take_part};
+use pesp_leaves::{Ranges, take_part};
 use pesp_nets::Branch;
 use pesp_problem::{Cut, Instance, Side};
 use pesp_support::Support;
@@ -102,7 +102,7 @@ pub struct NodeWalk<'a> {
 
 impl<'a> Model for NodeWalk<'a> {
     ghost use Rattle.std.specs.Prelude.{length};
-    ghost use Rattle.pesp_judges.specs.Ranges.{node_of, AreRanges};
+    ghost use Rattle.pesp_leaves.specs.Ranges.{node_of, AreRanges};
     ghost use Rattle.std.specs.Prelude.{◌≡◌};
     ghost use Rattle.std.specs.Option.{ForSome};
     ghost use Rattle.pesp_nets.specs.Pending.{waiting};
@@ -180,7 +180,7 @@ impl<'a> NodeWalk<'a> {
         ensures shut { IfOk result
             (λ shut. (node : Node) × (rest : List Node) × (self.old.nodes ≡ node ∷ rest)
             × ((walks : List (List SignedRow))
-            → IsTrue shut ↔ IsShut (net_of self.old.problem) walks ByPropagation node)) }
+            → IsTrue shut ↔ IsShut None (net_of self.old.problem) walks ByPropagation node)) }
     {
         let mut pass = match self.pass.take() {
             Some(pass) => pass,

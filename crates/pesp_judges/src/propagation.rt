@@ -1,13 +1,13 @@
 //! Whether propagation shuts a node.
 
-ghost use Rattle.std.specs.Prelude.{◌≡◌, ◌↔◌, IsTrue, List, length};
+ghost use Rattle.std.specs.Prelude.{◌≡◌, ◌↔◌, IsTrue, List, length, None};
 ghost use Rattle.pesp_problem.specs.declared.row.SignedRow.{SignedRow};
 ghost use Rattle.pesp_problem.specs.Arcs.{net_of};
 ghost use Rattle.pesp_truth.specs.Trees.{IsShut, ByPropagation};
-ghost use Rattle.pesp_judges.specs.Ranges.{node_of, AreRanges};
+ghost use Rattle.pesp_leaves.specs.Ranges.{node_of, AreRanges};
 ghost use Rattle.pesp_judges.specs.Propagations.{rows_of};
 
-use crate::ranges::Ranges;
+use pesp_leaves::Ranges;
 use pesp_problem::Instance;
 use pesp_support::Support;
 
@@ -17,7 +17,7 @@ pub fn shuts(instance: &Instance, pass: &mut Support, ranges: &Ranges) -> bool
     requires ranges { AreRanges instance.now ranges.now }
     ensures same { pass.new ≡ pass.old }
     ensures shut { (walks : List (List SignedRow))
-        → IsTrue result ↔ IsShut (net_of instance.now) walks ByPropagation (node_of ranges.now) }
+        → IsTrue result ↔ IsShut None (net_of instance.now) walks ByPropagation (node_of ranges.now) }
 {
     let _period = instance.period();
     pass.supports_none(&ranges.slacks)

@@ -6,11 +6,10 @@ ghost use Rattle.pesp_problem.specs.Arcs.{net_of};
 ghost use Rattle.pesp_problem.specs.Limits.{KeepsLimits};
 ghost use Rattle.pesp_problem.specs.Nodes as nodes;
 ghost use Rattle.pesp_nets.specs.Nets.{AreSmallCounts, AreNets};
-ghost use Rattle.pesp_judges.specs.Offsets.{AreSlackRanges};
-ghost use Rattle.pesp_judges.specs.Ranges.{node_of, AreRanges};
+ghost use Rattle.pesp_leaves.specs.Offsets.{AreSlackRanges};
+ghost use Rattle.pesp_leaves.specs.Ranges.{node_of, AreRanges};
 
-use crate::offsets::{duration_sums, odijk_range};
-use crate::ranges::Ranges;
+use pesp_leaves::{Ranges, duration_sums, odijk_range};
 use pesp_nets::Nets;
 use pesp_problem::{Instance, arc_of};
 use std::alloc::{AllocError, Global};

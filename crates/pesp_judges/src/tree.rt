@@ -1,6 +1,6 @@
 //! The tree of a certificate, line by line.
 
-ghost use Rattle.std.specs.Prelude.{◌≡◌, ◌≢◌, ◌↔◌, ℕ, ◌<◌, IsTrue, List, [], length, IfOk, IfNone, Option};
+ghost use Rattle.std.specs.Prelude.{◌≡◌, ◌≢◌, ◌↔◌, ℕ, ◌<◌, IsTrue, List, [], length, IfOk, IfNone, Option, None};
 ghost use Rattle.pesp_problem.specs.declared.row.SignedRow.{SignedRow};
 ghost use Rattle.pesp_problem.specs.Arcs.{net_of};
 ghost use Rattle.pesp_truth.specs.Trees.{CutLine, EndLine, Shut, ByPropagation};
@@ -9,11 +9,10 @@ ghost use Rattle.pesp_judges.specs.Lines.{after, IsLineVerdict, CutIsNamed, IsSm
 ghost use Rattle.pesp_judges.specs.LeafLines.{leaf_said, KeepsLeafLimits};
 ghost use Rattle.pesp_judges.specs.SaidLines.{line_said, KeepsSaidLimits};
 
-use crate::checker::Checker;
-use crate::elements::Elements;
 use crate::leaf_line::{LeafLine, judge_leaf, names};
 use crate::node_walk::NodeWalk;
 use crate::refusal::Refusal;
+use pesp_leaves::{Checker, Elements};
 use pesp_problem::{Cut, Instance, Pair};
 use std::alloc::{AllocError, Global};
 
@@ -50,7 +49,7 @@ fn take_branch(
     ensures cycles { walk.new.cycles ≡ length checker.now.table.now }
     ensures verdict { IfOk result (λ found. (walks : List (List SignedRow)) (least : Option ℕ)
         → AreNets (length checker.now.instance.now.rows) walks checker.now.table.now
-        → IsLineVerdict (net_of checker.now.instance.now) walks least (CutLine cut) walk.old.nodes
+        → IsLineVerdict None (net_of checker.now.instance.now) walks least (CutLine cut) walk.old.nodes
         walk.new.nodes line found) }
     ensures nodes { IfOk result
         (λ found. IfNone found (walk.new.nodes ≡ after (CutLine cut) walk.old.nodes)) }
@@ -80,7 +79,7 @@ fn take_leaf<P: Elements<Pair>>(
     ensures cycles { walk.new.cycles ≡ length checker.now.table.now }
     ensures verdict { (walks : List (List SignedRow))
         → AreNets (length checker.now.instance.now.rows) walks checker.now.table.now
-        → IsLineVerdict (net_of checker.now.instance.now) walks checker.now.least
+        → IsLineVerdict None (net_of checker.now.instance.now) walks checker.now.least
         (EndLine (leaf_said P.elements leaf)) walk.old.nodes walk.new.nodes line result }
     ensures nodes { IfNone result
         (walk.new.nodes ≡ after (EndLine (leaf_said P.elements leaf)) walk.old.nodes) }
@@ -102,7 +101,7 @@ fn take_propagated(
     ensures problem { walk.new.problem ≡ walk.old.problem }
     ensures cycles { walk.new.cycles ≡ walk.old.cycles }
     ensures verdict { IfOk result (λ found. (walks : List (List SignedRow)) (least : Option ℕ)
-        → IsLineVerdict (net_of walk.old.problem) walks least (EndLine (Shut ByPropagation))
+        → IsLineVerdict None (net_of walk.old.problem) walks least (EndLine (Shut ByPropagation))
         walk.old.nodes walk.new.nodes line found) }
     ensures nodes { IfOk result (λ found. IfNone found
         (walk.new.nodes ≡ after (EndLine (Shut ByPropagation)) walk.old.nodes)) }
@@ -134,7 +133,7 @@ pub fn take_line<P: Elements<Pair>>(
     ensures cycles { walk.new.cycles ≡ length checker.now.table.now }
     ensures verdict { IfOk result (λ found. (walks : List (List SignedRow))
         → AreNets (length checker.now.instance.now.rows) walks checker.now.table.now
-        → IsLineVerdict (net_of checker.now.instance.now) walks checker.now.least
+        → IsLineVerdict None (net_of checker.now.instance.now) walks checker.now.least
         (line_said P.elements said) walk.old.nodes walk.new.nodes line found) }
     ensures nodes { IfOk result (λ found. IfNone found
         (walk.new.nodes ≡ after (line_said P.elements said) walk.old.nodes)) }

@@ -6,14 +6,12 @@ ghost use Rattle.pesp_problem.specs.Arcs.{arcs_of};
 ghost use Rattle.pesp_problem.specs.Walks.{RowExists, IsWalk};
 ghost use Rattle.pesp_problem.specs.Walks as spec;
 ghost use Rattle.pesp_nets.specs.Nets.{AreZeros, AreNets};
-ghost use Rattle.pesp_judges.specs.Nets.{AreCounts, ArePlaces};
+ghost use Rattle.pesp_leaves.specs.Nets.{AreCounts, ArePlaces};
 ghost use Rattle.pesp_judges.specs.Faults.{IsCycleFault};
 ghost use Rattle.pesp_judges.specs.Ways.{IsWay, IsWayOf, IsCycleVerdict};
 
-use crate::elements::Elements;
-use crate::nets::{count_row, take_nets};
 use crate::refusal::Refusal;
-use crate::rows::arc_at;
+use pesp_leaves::{Elements, arc_at, count_row, take_nets};
 use pesp_nets::Nets;
 use pesp_problem::{Instance, SignedRow, Walk};
 use std::alloc::{AllocError, Global};

@@ -1,6 +1,6 @@
 //! Whether the lines of a certificate are a tree that is sound at the root.
 
-ghost use Rattle.std.specs.Prelude.{◌≡◌, ◌+◌, ◌≤◌, ◌<◌, ◌^◌, List, [], ◌∷◌, length, true, map, All, IfOk, MatchOption};
+ghost use Rattle.std.specs.Prelude.{◌≡◌, ◌+◌, ◌≤◌, ◌<◌, ◌^◌, List, [], ◌∷◌, length, true, map, All, IfOk, MatchOption, None};
 ghost use Rattle.pesp_problem.specs.declared.limits.TheConstants.{MOST_LINES};
 ghost use Rattle.pesp_problem.specs.declared.row.SignedRow.{SignedRow};
 ghost use Rattle.pesp_problem.specs.Arcs.{net_of};
@@ -11,12 +11,12 @@ ghost use Rattle.pesp_nets.specs.Nets.{AreZeros, AreNets};
 ghost use Rattle.pesp_judges.specs.Lines.{IsLinesFault, KeepsLineLimits};
 ghost use Rattle.pesp_judges.specs.SaidLines.{line_said, KeepsSaidLimits};
 
-use crate::checker::Checker;
 use crate::leaf_line::LeafLine;
 use crate::node_walk::NodeWalk;
 use crate::refusal::Refusal;
 use crate::table::root;
 use crate::tree::{SaidLine, take_line};
+use pesp_leaves::Checker;
 use pesp_problem::{Cut, Pair};
 use pesp_truth::TreeLine;
 use std::alloc::{AllocError, Global};
@@ -56,9 +56,9 @@ pub fn judge_tree(
     ensures { IfOk result (λ found. (walks : List (List SignedRow))
         → AreNets (length checker.now.instance.now.rows) walks checker.now.table.now
         → MatchOption found
-        (AreSound (net_of checker.now.instance.now) walks checker.now.least
+        (AreSound None (net_of checker.now.instance.now) walks checker.now.least
         (map line_of lines.now) (nodes.root (net_of checker.now.instance.now) walks ∷ []))
-        (λ refusal. IsLinesFault (net_of checker.now.instance.now) walks checker.now.least
+        (λ refusal. IsLinesFault None (net_of checker.now.instance.now) walks checker.now.least
         (map line_of lines.now) (nodes.root (net_of checker.now.instance.now) walks ∷ []) first
         refusal)) }
 {

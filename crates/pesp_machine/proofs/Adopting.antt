@@ -37,7 +37,7 @@ use Rattle.pesp_machine.proofs.Lending.{ticket_in, none_is_lent, lent_more}
 
 -- what is sound for a least cost, or for none, is sound for 0
 sound_for_nothing : (n : Net) (table : List (List SignedRow)) (least : Option ℕ) (tree : Tree) (node : Node)
-    → IsSound n table least tree node → IsSound n table (Some 0) tree node
+    → IsSound None n table least tree node → IsSound None n table (Some 0) tree node
 sound_for_nothing n table None (Ends (Bound pairs)) node s = absurd (s.1)
 sound_for_nothing n table (Some l) (Ends (Bound pairs)) node s =
     let value = and_is (leaf_value n table node pairs true) (λ v. pos l ≤ℤ v) (s.1) in
@@ -64,20 +64,20 @@ shown_is_timetable i (Bounded least (Some c)) labels times k s = to_net i times 
 
 -- the tree is sound for the certificate's bound
 pub adopted_sound : (i : Pesp) (p : ProblemValue) (content : Content) (state : State) → IsProblemOf i p
-    → content.cycles ≡ p.table → IsValid i content → Adopts content state
-    → IsSound (net_of p) p.table (least_of content.answer) state.tree (root (net_of p) p.table)
+    → content.cycles ≡ p.table → IsValid None i content → Adopts content state
+    → IsSound None (net_of p) p.table (least_of content.answer) state.tree (root (net_of p) p.table)
 adopted_sound i p content state o cycles v a =
     let n : Net = instances.net_of i in
     let bound = least_of content.answer in
     let same : state.tree ≡ v.tree.0 = one_tree state.tree v.tree.0 (a.tree ∙ sym v.tree.1) in
-    let on_table : IsSound n p.table bound v.tree.0 (root n p.table) =
-    subst (λ (table : List (List SignedRow)). IsSound n table bound v.tree.0 (root n table)) cycles v.tree.2 in
-    let on_tree : IsSound n p.table bound state.tree (root n p.table) =
-    subst (λ (tree : Tree). IsSound n p.table bound tree (root n p.table)) (sym same) on_table in
-    subst (λ (m : Net). IsSound m p.table bound state.tree (root m p.table)) (sym (same_net i p o)) on_tree
+    let on_table : IsSound None n p.table bound v.tree.0 (root n p.table) =
+    subst (λ (table : List (List SignedRow)). IsSound None n table bound v.tree.0 (root n table)) cycles v.tree.2 in
+    let on_tree : IsSound None n p.table bound state.tree (root n p.table) =
+    subst (λ (tree : Tree). IsSound None n p.table bound tree (root n p.table)) (sym same) on_table in
+    subst (λ (m : Net). IsSound None m p.table bound state.tree (root m p.table)) (sym (same_net i p o)) on_tree
 
 pub adopted_is_kept : (i : Pesp) (p : ProblemValue) (content : Content) (state : State) → KeepsLimits i
-    → IsProblemOf i p → content.cycles ≡ p.table → IsValid i content → Adopts content state → IsKept p state
+    → IsProblemOf i p → content.cycles ≡ p.table → IsValid None i content → Adopts content state → IsKept p state
 adopted_is_kept i p content state l o cycles v a =
     let n : Net = instances.net_of i in
     let net : n ≡ net_of p = sym (same_net i p o) in
@@ -99,7 +99,7 @@ none_apart state none = record {
 }
 
 pub adopted_is_orderly : (i : Pesp) (p : ProblemValue) (content : Content) (state : State) → KeepsLimits i
-    → IsProblemOf i p → content.cycles ≡ p.table → IsValid i content → KeepsTreeLimits p state.tree
+    → IsProblemOf i p → content.cycles ≡ p.table → IsValid None i content → KeepsTreeLimits p state.tree
     → Adopts content state → IsOrderly p state
 adopted_is_orderly i p content state l o cycles v limits a =
     record {
@@ -110,7 +110,7 @@ adopted_is_orderly i p content state l o cycles v limits a =
 
 pub later_is_valid : (i : Pesp) (p : ProblemValue) (events : List Event) (old new : State) (content : Content)
     → KeepsLimits i → IsProblemOf i p → All (IsWalk (net_of p).arcs) p.table → IsKept p old → Run p old events new
-    → IsCertificateOf p i.events new content → IsValid i content
+    → IsCertificateOf p i.events new content → IsValid None i content
 later_is_valid i p events old new content l o w k r c =
     let some_period : 0 < p.network.period = (let e : p.network.period ≡ i.period = o.period in let some = l.some_period in omega arith) in
     kept_is_valid i p new content l o w (run_goes_on p events old new some_period k r).kept c

@@ -30,8 +30,8 @@ use Rattle.pesp_machine.proofs.Trees.{sound_for, sound_without, not_negative}
 
 -- sound for every cost that the told value reaches
 sound_to : (n : Net) (table : List (List SignedRow)) (tree : Tree) (v : ℤ) (c : ℕ)
-    → IsSound n table (Some 0) tree (root n table) → least_value n table tree (root n table) ≡ Some v → c ≤ told v
-    → IsSound n table (Some c) tree (root n table)
+    → IsSound None n table (Some 0) tree (root n table) → least_value n table tree (root n table) ≡ Some v → c ≤ told v
+    → IsSound None n table (Some c) tree (root n table)
 sound_to n table tree v c s is h =
     let zero_under : pos 0 ≤ℤ v = (let under = not_negative n table tree (root n table) s in rw is at under) in
     let under : pos c ≤ℤ v = omega (arith, ints, told-le v zero_under, h) in
@@ -40,14 +40,14 @@ sound_to n table tree v c s is h =
 -- what an answer with these times shows, and the tree for it
 record Shows (i : Pesp) (table : List (List SignedRow)) (tree : Tree) (labels : List ℤ) (times : List ℕ) (answer : Answer) : Type 0 where
   shows : ShowsAnswer i answer labels times
-  sound : IsSound (instances.net_of i) table (least_of answer) tree (root (instances.net_of i) table)
+  sound : IsSound None (instances.net_of i) table (least_of answer) tree (root (instances.net_of i) table)
 
 -- a board of an instance, whose tree is sound for 0, whose least value is this one, and which shows these times
 record IsBoardOf (i : Pesp) (table : List (List SignedRow)) (tree : Tree) (best : Option (List ℕ))
     (value : Option ℤ) (labels : List ℤ) (times : List ℕ) : Type 0 where
   some_period : 0 < i.period
   walks : All (IsWalk (arcs_of i)) table
-  sound : IsSound (instances.net_of i) table (Some 0) tree (root (instances.net_of i) table)
+  sound : IsSound None (instances.net_of i) table (Some 0) tree (root (instances.net_of i) table)
   least : least_value (instances.net_of i) table tree (root (instances.net_of i) table) ≡ value
   timetable : IfSome best (IsTimetable i)
   shows : ShowsBest i.events best labels times
@@ -73,7 +73,7 @@ shows_answer : (i : Pesp) (table : List (List SignedRow)) (tree : Tree) (best : 
 shows_answer i table tree None None labels times k =
     record { shows = k.shows; sound = sound_without (instances.net_of i) table tree _ k.sound k.least }
 shows_answer i table tree (Some best) None labels times k =
-    absurd (root_is_right i table best None tree k.some_period k.walks
+    absurd (root_is_right None i table best None tree k.some_period k.walks tt
     (sound_without (instances.net_of i) table tree _ k.sound k.least) k.timetable)
 shows_answer i table tree None (Some v) labels times k =
     record {
@@ -107,7 +107,7 @@ answer_over n table tree best = answer_of (option_map told (least_value n table 
 
 pub kept_is_valid : (i : Pesp) (p : ProblemValue) (state : State) (content : Content) → KeepsLimits i
     → IsProblemOf i p → All (IsWalk (net_of p).arcs) p.table → IsKept p state
-    → IsCertificateOf p i.events state content → IsValid i content
+    → IsCertificateOf p i.events state content → IsValid None i content
 kept_is_valid i p state content l o w k c =
     let n = instances.net_of i in
     let tree = state.tree in
@@ -117,7 +117,7 @@ kept_is_valid i p state content l o w k c =
     (shown_labels content) (shown_times content) = record {
       some_period = (let some = l.some_period in omega arith);
       walks = walks;
-      sound = subst (λ (m : Net). IsSound m p.table (Some 0) tree (root m p.table)) e k.tree;
+      sound = subst (λ (m : Net). IsSound None m p.table (Some 0) tree (root m p.table)) e k.tree;
       least = refl;
       timetable = is_timetable i p.network.events state.best l o.events
           (subst (λ (m : Net). IfSome state.best (IsNetTimetable m p.network.events)) e k.best);
@@ -133,10 +133,11 @@ kept_is_valid i p state content l o w k c =
       period = c.period ∙ o.period;
       answer = told_so.shows;
       cycles = subst (λ cycles. All (IsWalk (arcs_of i)) cycles) (sym c.cycles) walks;
+      marks = tt;
       tree = (
         tree,
         sym c.tree,
-        subst (λ cycles. IsSound n cycles (least_of content.answer) tree (root n cycles))
+        subst (λ cycles. IsSound None n cycles (least_of content.answer) tree (root n cycles))
             (sym c.cycles) told_so.sound,
       );
     }

@@ -1,6 +1,6 @@
 -- What holds after any list of events.
 use Rattle.std.proofs.Common.{◌<◌, ◌≡◌, List, arith}
-use Rattle.std.specs.Prelude.{All}
+use Rattle.std.specs.Prelude.{All, None}
 use Rattle.pesp_problem.specs.Limits.{KeepsLimits}
 use Rattle.pesp_problem.specs.Timetables.{Pesp}
 use Rattle.pesp_problem.specs.Walks.{IsWalk}
@@ -23,7 +23,7 @@ states_are_kept p events state h r = (run_goes_on p events opening state h (open
 
 pub runs_are_valid : (i : Pesp) (p : ProblemValue) (events : List Event) (state : State) (content : Content)
     → KeepsLimits i → IsProblemOf i p → All (IsWalk (net_of p).arcs) p.table → Run p opening events state
-    → IsCertificateOf p i.events state content → IsValid i content
+    → IsCertificateOf p i.events state content → IsValid None i content
 runs_are_valid i p events state content l o w r c =
     kept_is_valid i p state content l o w (states_are_kept p events state
     (let e : p.network.period ≡ i.period = o.period in let some = l.some_period in omega arith) r) c

@@ -39,7 +39,7 @@ IsShort o = IfSome o (λ n. n ≤ 999999999999999999)
 
 -- a tree that is sound for a least cost has no lesser value
 sound_is_under : (n : Net) (table : List (List SignedRow)) (l : ℕ) (tree : Tree) (node : Node)
-    → IsSound n table (Some l) tree node → IsUnder (Some (pos l)) (least_value n table tree node)
+    → IsSound None n table (Some l) tree node → IsUnder (Some (pos l)) (least_value n table tree node)
 sound_is_under n table l (Ends (Bound pairs)) node s = let value =
     and_is (leaf_value n table node pairs true) (λ v. pos l ≤ℤ v) (s.1) in rw (value.1) (value.2)
 sound_is_under n table l (Ends (Shut reason)) node s = tt
@@ -49,7 +49,7 @@ sound_is_under n table l (Branch cut low high) node s =
 
 -- one that is sound without a least cost has none
 sound_has_none : (n : Net) (table : List (List SignedRow)) (tree : Tree) (node : Node)
-    → IsSound n table None tree node → least_value n table tree node ≡ None
+    → IsSound None n table None tree node → least_value n table tree node ≡ None
 sound_has_none n table (Ends (Bound pairs)) node s = absurd (s.1)
 sound_has_none n table (Ends (Shut reason)) node s = refl
 sound_has_none n table (Branch cut low high) node s =
@@ -62,12 +62,12 @@ told_reaches l None short u = tt
 told_reaches l (Some v) short u = let above : pos l ≤ℤ v = u in (told_alike v l (omega (arith, ints, above)) short).0 above
 
 bound_of : (n : Net) (table : List (List SignedRow)) (bound : Option ℕ) (tree : Tree) (node : Node) → IsShort bound
-    → IsSound n table bound tree node → IsAtMost bound (option_map told (least_value n table tree node))
+    → IsSound None n table bound tree node → IsAtMost bound (option_map told (least_value n table tree node))
 bound_of n table None tree node short s = rw (sound_has_none n table tree node s) tt
 bound_of n table (Some l) tree node short s = told_reaches l (least_value n table tree node) short (sound_is_under n table l tree node s)
 
 pub adopted_bound : (i : Pesp) (p : ProblemValue) (content : Content) (state : State) → IsProblemOf i p
-    → content.cycles ≡ p.table → IsValid i content → IsShort (least_of content.answer) → Adopts content state
+    → content.cycles ≡ p.table → IsValid None i content → IsShort (least_of content.answer) → Adopts content state
     → IsAtMost (least_of content.answer) (least p state)
 adopted_bound i p content state o cycles v short a =
     bound_of (net_of p) p.table (least_of content.answer) state.tree (root_of p) short
@@ -88,7 +88,7 @@ shown_cost i p (Bounded l None) labels times o s = refl
 shown_cost i p (Bounded l (Some c)) labels times o s = ap Some (net_costs i p times c o s.1.1)
 
 pub adopted_cost : (i : Pesp) (p : ProblemValue) (content : Content) (state : State) → IsProblemOf i p
-    → IsValid i content → Adopts content state → best_cost p state ≡ cost_of content.answer
+    → IsValid None i content → Adopts content state → best_cost p state ≡ cost_of content.answer
 adopted_cost i p content state o v a = ap (option_map (net_cost (net_of p))) a.best
     ∙ shown_cost i p content.answer (shown_labels content) (shown_times content) o v.answer
 
@@ -145,7 +145,7 @@ from_net i p (Some times) k o t =
 
 module _ (i : Pesp) (p : ProblemValue) (events : List Event) (base : Content) (old new : State) (content : Content)
     (limits : KeepsLimits i) (o : IsProblemOf i p) (walks : All (IsWalk (net_of p).arcs) p.table)
-    (cycles : base.cycles ≡ p.table) (v : IsValid i base) (a : Adopts base old) (r : Run p old events new)
+    (cycles : base.cycles ≡ p.table) (v : IsValid None i base) (a : Adopts base old) (r : Run p old events new)
     (c : IsCertificateOf p i.events new content) where
   some_period : 0 < p.network.period
   some_period = (let e : p.network.period ≡ i.period = o.period in let some = limits.some_period in omega arith)
@@ -153,7 +153,7 @@ module _ (i : Pesp) (p : ProblemValue) (events : List Event) (base : Content) (o
   kept : IsKept p old
   kept = adopted_is_kept i p base old limits o cycles v a
 
-  valid : IsValid i content
+  valid : IsValid None i content
   valid = later_is_valid i p events old new content limits o walks kept r c
 
   positive : 0 < i.period
@@ -166,13 +166,13 @@ module _ (i : Pesp) (p : ProblemValue) (events : List Event) (base : Content) (o
       let shows = subst (λ (answer : Answer). ShowsAnswer i answer (shown_labels content) (shown_times content)) c.answer valid.answer in
       subst (λ (answer : Answer). IsAtMost (least_of base.answer) (least_of answer)) (sym c.answer)
       (later_bound i base.answer (shown_times base) (shown_times content) (shown_labels content) (least p new)
-      (best_cost p new) (valid_is_true i base positive v) reaches shows)
+      (best_cost p new) (valid_is_true None i base positive v) reaches shows)
 
   pub later_is_not_above : IsAtMost (cost_of content.answer) (cost_of base.answer)
   later_is_not_above =
       let fits = (run_goes_on p events old new some_period kept r).kept.best in
       let is_true = subst (λ (answer : Answer). IsTrueAnswer i answer (shown_times content)) c.answer
-      (valid_is_true i content positive valid) in
+      (valid_is_true None i content positive valid) in
       let told_so = later_cost i (shown_times content) new.best (least p new) (best_cost p new) is_true
       (from_net i p new.best limits o fits) (net_cost (net_of p)) refl in
       let cost : cost_of content.answer ≡ best_cost p new = ap cost_of c.answer ∙ told_so in

@@ -18,8 +18,8 @@ use Rattle.pesp_machine.specs.Leaves.{lesser, least_value}
 
 pub sound_leaf : (n : Net) (table : List (List SignedRow)) (least : Option ℕ) (tree : Tree)
     (path : List (Cut × Side)) (leaf : Leaf) (node : Node) → IsLeafAt tree path leaf
-    → IsSound n table least tree node → IsSoundLeaf n table least leaf (along node path)
-sound_leaf n table least (Ends other) [] leaf node h s = subst (λ x. IsSoundLeaf n table least x node) h s
+    → IsSound None n table least tree node → IsSoundLeaf None n table least leaf (along node path)
+sound_leaf n table least (Ends other) [] leaf node h s = subst (λ x. IsSoundLeaf None n table least x node) h s
 sound_leaf n table least (Ends other) (step ∷ path) leaf node h s = absurd h
 sound_leaf n table least (Branch cut low high) [] leaf node h s = absurd h
 sound_leaf n table least (Branch cut low high) ((c, Low) ∷ path) leaf node h s =
@@ -29,22 +29,22 @@ sound_leaf n table least (Branch cut low high) ((c, High) ∷ path) leaf node h 
 
 pub put_sound : (n : Net) (table : List (List SignedRow)) (least : Option ℕ) (tree : Tree)
     (path : List (Cut × Side)) (leaf : Leaf) (new : Tree) (node : Node) → IsLeafAt tree path leaf
-    → IsSound n table least tree node → IsSound n table least new (along node path)
-    → IsSound n table least (put tree path new) node
+    → IsSound None n table least tree node → IsSound None n table least new (along node path)
+    → IsSound None n table least (put tree path new) node
 put_sound n table least (Ends other) [] leaf new node h s sound = sound
 put_sound n table least (Ends other) (step ∷ path) leaf new node h s sound = absurd h
 put_sound n table least (Branch cut low high) [] leaf new node h s sound = absurd h
 put_sound n table least (Branch cut low high) ((c, Low) ∷ path) leaf new node h s sound = (
   s.0,
   put_sound n table least low path leaf new (low_part node cut) h.1 s.1
-      (subst (λ x. IsSound n table least new (along (low_part node x) path)) h.0 sound),
+      (subst (λ x. IsSound None n table least new (along (low_part node x) path)) h.0 sound),
   s.2,
 )
 put_sound n table least (Branch cut low high) ((c, High) ∷ path) leaf new node h s sound = (
   s.0,
   s.1,
   put_sound n table least high path leaf new (high_part node cut) h.1 s.2
-      (subst (λ x. IsSound n table least new (along (high_part node x) path)) h.0 sound),
+      (subst (λ x. IsSound None n table least new (along (high_part node x) path)) h.0 sound),
 )
 
 -- ---- least values; None stands above every value
@@ -111,12 +111,12 @@ and_is None P h = absurd h
 and_is (Some v) P h = (v, refl, h)
 
 pub value_of : (n : Net) (table : List (List SignedRow)) (node : Node) (pairs : List Pair)
-    → IsSoundLeaf n table (Some 0) (Bound pairs) node
+    → IsSoundLeaf None n table (Some 0) (Bound pairs) node
     → (v : ℤ) × (leaf_value n table node pairs true ≡ Some v) × (pos 0 ≤ℤ v)
 value_of n table node pairs s = and_is (leaf_value n table node pairs true) (λ v. pos 0 ≤ℤ v) (s.1)
 
 pub not_negative : (n : Net) (table : List (List SignedRow)) (tree : Tree) (node : Node)
-    → IsSound n table (Some 0) tree node → IsUnder (Some (pos 0)) (least_value n table tree node)
+    → IsSound None n table (Some 0) tree node → IsUnder (Some (pos 0)) (least_value n table tree node)
 not_negative n table (Ends (Bound pairs)) node s = let value = value_of n table node pairs s in rw (value.1) (value.2)
 not_negative n table (Ends (Shut reason)) node s = tt
 not_negative n table (Branch cut low high) node s =
@@ -124,8 +124,8 @@ not_negative n table (Branch cut low high) node s =
     (not_negative n table high (high_part node cut) s.2)
 
 pub sound_for : (n : Net) (table : List (List SignedRow)) (least : ℕ) (tree : Tree) (node : Node)
-    → IsSound n table (Some 0) tree node → IsUnder (Some (pos least)) (least_value n table tree node)
-    → IsSound n table (Some least) tree node
+    → IsSound None n table (Some 0) tree node → IsUnder (Some (pos least)) (least_value n table tree node)
+    → IsSound None n table (Some least) tree node
 sound_for n table least (Ends (Bound pairs)) node s u =
     let value = value_of n table node pairs s in
     (s.0, rw (value.1) (let under : pos least ≤ℤ value.0 = rw (value.1) at u in under))
@@ -140,7 +140,7 @@ no_lesser (Some a) None h = cc
 no_lesser (Some a) (Some b) h = cc
 
 pub sound_without : (n : Net) (table : List (List SignedRow)) (tree : Tree) (node : Node)
-    → IsSound n table (Some 0) tree node → least_value n table tree node ≡ None → IsSound n table None tree node
+    → IsSound None n table (Some 0) tree node → least_value n table tree node ≡ None → IsSound None n table None tree node
 sound_without n table (Ends (Bound pairs)) node s e = let value = value_of n table node pairs s in cc
 sound_without n table (Ends (Shut reason)) node s e = s
 sound_without n table (Branch cut low high) node s e =

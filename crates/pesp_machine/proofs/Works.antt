@@ -21,7 +21,7 @@ use Rattle.pesp_machine.proofs.Trees.{IsUnder, under_lesser, value_of, and_is}
 
 -- the tree is sound at the node, and its least value isn't below this one
 pub record Follows (p : ProblemValue) (node : Node) (value : Option ℤ) (new : Tree) : Type 0 where
-  pub sound : IsSound (net_of p) p.table (Some 0) new node
+  pub sound : IsSound None (net_of p) p.table (Some 0) new node
   pub under : IsUnder value (least_value (net_of p) p.table new node)
 
 pub some_is : (o : Option ℤ) → IsSome o → (v : ℤ) × (o ≡ Some v)
@@ -29,7 +29,7 @@ some_is None h = cc
 some_is (Some v) h = (v, refl)
 
 -- pairs whose value is at least one that isn't negative
-bound_follows : (p : ProblemValue) (node : Node) (pairs : List Pair) (v w : ℤ) → PairsExist p.table pairs
+bound_follows : (p : ProblemValue) (node : Node) (pairs : List Pair) (v w : ℤ) → PairsExist None p.table pairs
     → leaf_value (net_of p) p.table node pairs true ≡ Some v → pos 0 ≤ℤ w → w ≤ℤ v
     → Follows p node (Some w) (Ends (Bound pairs))
 bound_follows p node pairs v w e is h k = record {
@@ -37,16 +37,16 @@ bound_follows p node pairs v w e is h k = record {
   under = rw is k;
 }
 
-pub pairs_exist : (table : List (List SignedRow)) (pairs : List Pair) → ArePairs (length table) pairs → PairsExist table pairs
+pub pairs_exist : (table : List (List SignedRow)) (pairs : List Pair) → ArePairs (length table) pairs → PairsExist None table pairs
 pairs_exist table pairs h i d l = (h.each i d l).names
 
-cycle_exists : (table : List (List SignedRow)) (pairs : List Pair) (cycle : ℕ) → PairsExist table pairs
+cycle_exists : (table : List (List SignedRow)) (pairs : List Pair) (cycle : ℕ) → PairsExist None table pairs
     → Uses pairs cycle → Names (length table) cycle
 cycle_exists table pairs cycle e used = subst (λ c. Names (length table) c) (used.2)
     (All-contains (λ (x : Pair). Names (length table) x.cycle) pairs used.0 e used.1)
 
 keeps_follows : (p : ProblemValue) (node : Node) (old : List Pair) (leaf : Leaf) (w : ℤ) → 0 < (net_of p).period
-    → PairsExist p.table old → leaf_value (net_of p) p.table node old true ≡ Some w → pos 0 ≤ℤ w
+    → PairsExist None p.table old → leaf_value (net_of p) p.table node old true ≡ Some w → pos 0 ≤ℤ w
     → (cut : Cut) (side : Side) → LeavesBoth node cut → Keeps p old (part node cut side) leaf
     → Follows p (part node cut side) (Some w) (Ends leaf)
 keeps_follows p node old (Bound kept) w h e is k cut side both keeps =
@@ -58,7 +58,7 @@ keeps_follows p node old (Bound kept) w h e is k cut side both keeps =
     (bound_follows p (part node cut side) old value.0 w e value.1 k (rw same (was.2)))
 keeps_follows p node old (Shut reason) w h e is k cut side both keeps =
     record {
-      sound = subst (λ (r : Reason). IsShut (net_of p) p.table r (part node cut side)) (sym keeps.1)
+      sound = subst (λ (r : Reason). IsShut None (net_of p) p.table r (part node cut side)) (sym keeps.1)
           (cycle_exists p.table old keeps.0 e keeps.2, keeps.3);
       under = tt;
     }
@@ -66,8 +66,8 @@ keeps_follows p node old (Shut reason) w h e is k cut side both keeps =
 better_is : (a b : Option ℤ) (w v : ℤ) → a ≡ Some w → b ≡ Some v → is_better a b ≡ int_lt w v
 better_is a b w v e f = rw (e, f) refl
 
-better_follows : (p : ProblemValue) (node : Node) (old pairs : List Pair) (w v : ℤ) → PairsExist p.table old
-    → PairsExist p.table pairs → leaf_value (net_of p) p.table node old true ≡ Some w → pos 0 ≤ℤ w
+better_follows : (p : ProblemValue) (node : Node) (old pairs : List Pair) (w v : ℤ) → PairsExist None p.table old
+    → PairsExist None p.table pairs → leaf_value (net_of p) p.table node old true ≡ Some w → pos 0 ≤ℤ w
     → leaf_value (net_of p) p.table node pairs true ≡ Some v → (b : Bool) → int_lt w v ≡ b
     → Follows p node (Some w) (Ends (Bound (if b then pairs else old)))
 better_follows p node old pairs w v e f is k is_new true h =
@@ -79,7 +79,7 @@ as_made : (p : ProblemValue) (node : Node) (value : Option ℤ) (made new : Tree
 as_made p node value made new e f = subst (λ t. Follows p node value t) (sym e) f
 
 splits_follow : (p : ProblemValue) (node : Node) (old : List Pair) (cut : Cut) (new : Tree) (w : ℤ)
-    → 0 < (net_of p).period → Splits p node old cut new → PairsExist p.table old
+    → 0 < (net_of p).period → Splits p node old cut new → PairsExist None p.table old
     → leaf_value (net_of p) p.table node old true ≡ Some w → pos 0 ≤ℤ w → Follows p node (Some w) new
 splits_follow p node old cut new w h s e is k =
     let first = keeps_follows p node old s.low w h e is k cut Low s.both s.keeps_low in
@@ -109,7 +109,7 @@ shut_follows : (p : ProblemValue) (node : Node) (w : ℤ) (reason : Reason) (new
 shut_follows p node w reason new m = as_made p node (Some w) (Ends (Shut reason)) new m.1 (record { sound = m.0.1; under = tt })
 
 made_follows : (p : ProblemValue) (node : Node) (old : List Pair) (work : Work) (new : Tree) (w : ℤ)
-    → 0 < (net_of p).period → Makes p node old work new → PairsExist p.table old
+    → 0 < (net_of p).period → Makes p node old work new → PairsExist None p.table old
     → leaf_value (net_of p) p.table node old true ≡ Some w → pos 0 ≤ℤ w → Follows p node (Some w) new
 made_follows p node old (works.Leaf pairs) new w h m e is k =
     let value = some_is (leaf_value (net_of p) p.table node pairs true) (m.1) in
@@ -126,7 +126,7 @@ made_follows p node old (works.Tree lines) new w h m e is k =
     graft_follows p w new node k (subst (λ worth. IsGraft p worth node new) is m.1)
 
 pub makes_follows : (p : ProblemValue) (node : Node) (old : List Pair) (work : Work) (new : Tree)
-    → 0 < (net_of p).period → Makes p node old work new → IsSoundLeaf (net_of p) p.table (Some 0) (Bound old) node
+    → 0 < (net_of p).period → Makes p node old work new → IsSoundLeaf None (net_of p) p.table (Some 0) (Bound old) node
     → Follows p node (leaf_value (net_of p) p.table node old true) new
 makes_follows p node old work new h m s =
     let was = value_of (net_of p) p.table node old s in

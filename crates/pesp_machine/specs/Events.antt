@@ -72,7 +72,7 @@ pub record Splits (p : ProblemValue) (node : Node) (pairs : List Pair) (cut : Cu
 
 -- a reason may shut a node: its pairs rise and keep their limits, what it names exists, and it holds there
 abbrev pub MayShut : ProblemValue → Node → Reason → Type 0
-MayShut p node reason = IsReasonOf p reason × IsShut (net_of p) p.table reason node
+MayShut p node reason = IsReasonOf p reason × IsShut None (net_of p) p.table reason node
 
 -- a tree may stand at a node in the place of a bound leaf that is worth so much: its cuts leave both sides a value, its leaves
 -- that are shut are so at their nodes, and its bound leaves have a value there that isn't below that worth

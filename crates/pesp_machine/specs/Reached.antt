@@ -1,5 +1,5 @@
 -- What holds of every state that events lead to.
-use Rattle.std.specs.Prelude.{◌≡◌, ℕ, List, Some, IfSome}
+use Rattle.std.specs.Prelude.{◌≡◌, ℕ, List, Some, IfSome, None}
 use Rattle.pesp_problem.specs.declared.pair.Pair.{Pair}
 use Rattle.pesp_problem.specs.declared.cut.Cut.{Cut}
 use Rattle.pesp_problem.specs.declared.cut.Side.{Side}
@@ -12,7 +12,7 @@ use Rattle.pesp_machine.specs.Limits.{KeepsTreeLimits}
 
 -- the tree is sound for a least cost of 0, and the best times are a timetable
 pub record IsKept (p : ProblemValue) (state : State) : Type 0 where
-  pub tree : IsSound (net_of p) p.table (Some 0) state.tree (root_of p)
+  pub tree : IsSound None (net_of p) p.table (Some 0) state.tree (root_of p)
   pub best : IfSome state.best (IsNetTimetable (net_of p) p.network.events)
 
 -- each number that is lent has a bound leaf, and no two numbers have the same one

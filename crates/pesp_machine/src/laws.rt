@@ -36,7 +36,7 @@ pub fn runs_are_valid()
     ensures { (instance : Pesp) (p : ProblemValue) (events : List Event) (state : State)
         (content : Content) → KeepsLimits instance → IsProblemOf instance p
         → All (IsWalk (net_of p).arcs) p.table → Run p opening events state
-        → IsCertificateOf p instance.events state content → IsValid instance content }
+        → IsCertificateOf p instance.events state content → IsValid None instance content }
 {}
 
 /// From any state whose tree is sound for a least cost of 0 and whose best times are a timetable, however the events go on:
@@ -75,7 +75,7 @@ pub fn kept_states_are_valid()
     ensures { (instance : Pesp) (p : ProblemValue) (state : State) (content : Content)
         → KeepsLimits instance → IsProblemOf instance p → All (IsWalk (net_of p).arcs) p.table
         → IsKept p state → IsCertificateOf p instance.events state content
-        → IsValid instance content }
+        → IsValid None instance content }
 {}
 
 /// No cost within the limits is above 999900000000000000, and to be at most a value is to be at most what is told of it for
@@ -170,25 +170,25 @@ pub fn sizes_add_up()
 pub fn adopted_certificates_are_kept()
     ensures kept { (instance : Pesp) (p : ProblemValue) (content : Content) (state : State)
         → KeepsLimits instance → IsProblemOf instance p → content.cycles ≡ p.table
-        → IsValid instance content → Adopts content state → IsKept p state }
+        → IsValid None instance content → Adopts content state → IsKept p state }
     ensures orderly { (instance : Pesp) (p : ProblemValue) (content : Content) (state : State)
-        → KeepsLimits instance → IsProblemOf instance p → content.cycles ≡ p.table → IsValid
+        → KeepsLimits instance → IsProblemOf instance p → content.cycles ≡ p.table → IsValid None
         instance content → KeepsTreeLimits p state.tree → Adopts content state → IsOrderly p state }
     ensures valid { (instance : Pesp) (p : ProblemValue) (events : List Event) (old new : State)
         (content : Content) → KeepsLimits instance → IsProblemOf instance p
         → All (IsWalk (net_of p).arcs) p.table → IsKept p old → Run p old events new
-        → IsCertificateOf p instance.events new content → IsValid instance content }
+        → IsCertificateOf p instance.events new content → IsValid None instance content }
 {}
 
 /// A board that takes a valid certificate up has the certificate's cost, and its least value isn't below the certificate's bound,
 /// which is at most 999999999999999999 in every text; no bound leaf counts as above every number.
 pub fn adopted_bounds_are_kept()
     ensures bound { (instance : Pesp) (p : ProblemValue) (base : Content) (state : State)
-        → IsProblemOf instance p → base.cycles ≡ p.table → IsValid instance base
+        → IsProblemOf instance p → base.cycles ≡ p.table → IsValid None instance base
         → IfSome (least_of base.answer) (λ l. l ≤ 999999999999999999) → Adopts base state
         → IsAtMost (least_of base.answer) (least p state) }
     ensures cost { (instance : Pesp) (p : ProblemValue) (base : Content) (state : State)
-        → IsProblemOf instance p → IsValid instance base → Adopts base state
+        → IsProblemOf instance p → IsValid None instance base → Adopts base state
         → best_cost p state ≡ cost_of base.answer }
 {}
 
@@ -197,13 +197,13 @@ pub fn adopted_bounds_are_kept()
 pub fn later_certificates_are_tighter()
     ensures bound { (instance : Pesp) (p : ProblemValue) (events : List Event) (base : Content)
         (old new : State) (content : Content) → KeepsLimits instance → IsProblemOf instance p
-        → All (IsWalk (net_of p).arcs) p.table → base.cycles ≡ p.table → IsValid instance base
+        → All (IsWalk (net_of p).arcs) p.table → base.cycles ≡ p.table → IsValid None instance base
         → IfSome (least_of base.answer) (λ l. l ≤ 999999999999999999) → Adopts base old
         → Run p old events new → IsCertificateOf p instance.events new content
         → IsAtMost (least_of base.answer) (least_of content.answer) }
     ensures cost { (instance : Pesp) (p : ProblemValue) (events : List Event) (base : Content)
         (old new : State) (content : Content) → KeepsLimits instance → IsProblemOf instance p
-        → All (IsWalk (net_of p).arcs) p.table → base.cycles ≡ p.table → IsValid instance base
+        → All (IsWalk (net_of p).arcs) p.table → base.cycles ≡ p.table → IsValid None instance base
         → Adopts base old → Run p old events new → IsCertificateOf p instance.events new content
         → IsAtMost (cost_of content.answer) (cost_of base.answer) }
 {}

@@ -1,6 +1,6 @@
 -- Works that are taken are a run of gives and offers, so what is known after them is no worse than the base.
 use Rattle.std.proofs.Common.{◌≡◌, List, [], ◌∷◌, ◌++◌, refl, sym, subst, inl, inr, true}
-use Rattle.std.specs.Prelude.{ℤ, All, map, Result, Ok, Err, IfOk}
+use Rattle.std.specs.Prelude.{ℤ, All, map, Result, Ok, Err, IfOk, None}
 use Rattle.pesp_problem.specs.declared.row.SignedRow.{SignedRow}
 use Rattle.pesp_problem.specs.Timetables.{Pesp}
 use Rattle.pesp_problem.specs.Limits.{KeepsLimits}
@@ -53,7 +53,7 @@ works_lead p labels (work ∷ works) (reply ∷ replies) old new h =
     (first.0 ++ rest.0, run_then p first.0 rest.0 old h.0 new first.1 rest.1)
 
 -- the cycles of a valid base are walks of the problem
-walks_there : (i : Pesp) (base : Content) (p : ProblemValue) (jobs : List Job) (lent : State) → IsValid i base
+walks_there : (i : Pesp) (base : Content) (p : ProblemValue) (jobs : List Job) (lent : State) → IsValid None i base
     → IsLentFrom i base p jobs lent → All (IsWalk (net_of p).arcs) p.table
 walks_there i base p jobs lent valid b = subst
     (λ (table : List (List SignedRow)). All (IsWalk (net_of p).arcs) table) (sym b.cycles)
@@ -61,9 +61,9 @@ walks_there i base p jobs lent valid b = subst
 
 pub all_grafted : {E : Type 0} (i : Pesp) (base : Content) (p : ProblemValue) (jobs : List Job)
     (lent state : State) (works : List WorkValue) (r : Result Grafted E) → KeepsLimits i
-    → has_costs base.answer ≡ true → IsValid i base → IsLentFrom i base p jobs lent
+    → has_costs base.answer ≡ true → IsValid None i base → IsLentFrom i base p jobs lent
     → IfOk r (λ g. TakesWorks p i.events lent works g.replies.items state)
-    → IfOk r (λ g. IsCertificateOf p i.events state g.certificate) → IfOk r (λ g. IsValid i g.certificate)
+    → IfOk r (λ g. IsCertificateOf p i.events state g.certificate) → IfOk r (λ g. IsValid None i g.certificate)
     → IfOk r (λ g. IsGrafted i base works g.replies.items g.certificate)
 all_grafted i base p jobs lent state works (Ok g) limits costs valid begins takes certified after =
     let lead = works_lead p i.events works g.replies.items lent state takes in

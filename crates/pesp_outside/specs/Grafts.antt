@@ -1,5 +1,5 @@
 -- Works that are grafted onto a certificate, one after the other.
-use Rattle.std.specs.Prelude.{◌≡◌, ◌⊎◌, ℕ, ℤ, List, [], ◌∷◌, map, Bool, Err}
+use Rattle.std.specs.Prelude.{◌≡◌, ◌⊎◌, ℕ, ℤ, List, [], ◌∷◌, map, Bool, Err, None}
 use Rattle.std.specs.Global.{Vec}
 use Rattle.pesp_problem.specs.Timetables.{Pesp}
 use Rattle.pesp_truth.specs.declared.tree.TreeLine.{TreeLine}
@@ -48,6 +48,6 @@ pub record IsGrafted (instance : Pesp) (base : Content) (works : List WorkValue)
   pub state : State
   pub takes : TakesWorks problem instance.events lent works replies state
   pub certified : IsCertificateOf problem instance.events state content
-  pub valid : IsValid instance content
+  pub valid : IsValid None instance content
   pub bound : IsAtMost (least_of base.answer) (least_of content.answer)
   pub cost : IsAtMost (cost_of content.answer) (cost_of base.answer)

@@ -1,6 +1,6 @@
 //! Works that are grafted onto a certificate.
 
-ghost use Rattle.std.specs.Prelude.{◌≡◌, [], ◌∷◌, ◌++◌, map, IfOk, OnOk, IsTrue, ◌↔◌, Err};
+ghost use Rattle.std.specs.Prelude.{◌≡◌, [], ◌∷◌, ◌++◌, map, IfOk, OnOk, IsTrue, ◌↔◌, Err, None};
 ghost use Rattle.pesp_truth.specs.Certificates.{IsValid};
 ghost use Rattle.pesp_machine.specs.declared.refusal.GiveRefusal.TheVariants.{Memory as Refused};
 ghost use Rattle.pesp_machine.specs.Certificates.{IsProblemOf, IsCertificateOf};
@@ -141,7 +141,7 @@ fn graft_on(
         board.old.state works.items grafted.replies.items board.new.state) }
     ensures certified { IfOk result (λ grafted. IsCertificateOf board.old.problem
         instance.now.events board.new.state grafted.certificate) }
-    ensures valid { IfOk result (λ grafted. IsValid instance.now grafted.certificate) }
+    ensures valid { IfOk result (λ grafted. IsValid None instance.now grafted.certificate) }
 {
     let replies = take_works(alloc, instance.events(), board, works)?;
     let certificate = board.certificate(alloc, instance)?;
@@ -161,7 +161,7 @@ pub fn graft(
     base: &Certificate,
     works: Vec<WorkText>,
 ) -> Result<Grafted, Memory>
-    requires { IsValid instance.now base.now }
+    requires { IsValid None instance.now base.now }
     ensures { IfOk result (λ grafted. IsGrafted instance.now base.now works.items
         grafted.replies.items grafted.certificate) }
 {

@@ -1,6 +1,6 @@
 //! The open leaves of a certificate.
 
-ghost use Rattle.std.specs.Prelude.{◌≡◌, [], ◌∷◌, ◌++◌, All, map, IfOk, OnOk};
+ghost use Rattle.std.specs.Prelude.{◌≡◌, [], ◌∷◌, ◌++◌, All, map, IfOk, OnOk, None};
 ghost use Rattle.pesp_truth.specs.Certificates.{IsValid};
 ghost use Rattle.pesp_machine.specs.States.{State, IsLentNumber};
 ghost use Rattle.pesp_machine.specs.Adopting.{LendsEach};
@@ -64,7 +64,7 @@ pub fn open_jobs(
     instance: &Instance,
     base: &Certificate,
 ) -> Result<Vec<OpenJob>, Memory>
-    requires { IsValid instance.now base.now }
+    requires { IsValid None instance.now base.now }
     ensures { IfOk result (λ opens. AreOpenJobs instance.now base.now opens.items) }
 {
     let mut lent = lend_base(alloc, instance, base)?;

@@ -1,6 +1,6 @@
 //! A certificate that is taken up, with all its open leaves lent.
 
-ghost use Rattle.std.specs.Prelude.{IfOk};
+ghost use Rattle.std.specs.Prelude.{IfOk, None};
 ghost use Rattle.pesp_truth.specs.Certificates.{IsValid};
 ghost use Rattle.pesp_outside.specs.Lent.{IsLentFrom};
 
@@ -18,7 +18,7 @@ pub struct Lent {
 
 /// Takes the base up, and lends all its open leaves.
 pub fn lend_base(alloc: Global, instance: &Instance, base: &Certificate) -> Result<Lent, Memory>
-    requires { IsValid instance.now base.now }
+    requires { IsValid None instance.now base.now }
     ensures { IfOk result (λ lent. IsLentFrom instance.now base.now lent.board.problem
         lent.jobs.items lent.board.state) }
 {

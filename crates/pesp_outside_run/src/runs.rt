@@ -1,6 +1,6 @@
 //! The runs for work from outside.
 
-ghost use Rattle.std.specs.Prelude.{◌≡◌, ◌≢◌, ◌⊎◌, ◌<◌, ◌≤◌, ◌^◌, OnOk, IfOk, IfErr};
+ghost use Rattle.std.specs.Prelude.{◌≡◌, ◌≢◌, ◌⊎◌, ◌<◌, ◌≤◌, ◌^◌, OnOk, IfOk, IfErr, None};
 ghost use Rattle.std.specs.Io.KnownBytes.{Appends};
 ghost use Rattle.std.specs.List.Sorted.{IsStrictlyIncreasing};
 ghost use Rattle.pesp_problem.specs.declared.limits.TheConstants.{MOST_STEPS};
@@ -58,7 +58,7 @@ fn write_jobs<W: Sink>(
     base: &Certificate,
     writer: &mut W,
 ) -> Result<(), Fault>
-    requires valid { IsValid instance.now base.now }
+    requires valid { IsValid None instance.now base.now }
     requires fits { FewerThan (2 ^ 63) (W.calls writer.old) }
     ensures ok { OnOk result (WritesJobs instance.now base.now
         (Appends (W.contents writer.old) (W.contents writer.new))) }
@@ -136,7 +136,7 @@ fn found_works(
 ) -> Result<Vec<WorkText>, Fault>
     requires steps { steps ≤ MOST_STEPS }
     requires rise { IsStrictlyIncreasing jobs.now }
-    requires valid { IsValid instance.now base.now }
+    requires valid { IsValid None instance.now base.now }
     ensures works { IfOk result
         (λ works. AreWorksOn instance.now base.now jobs.now steps until works.items) }
     ensures cause { IfErr result (λ fault. JobCause fault instance.now base.now jobs.now) }
@@ -159,7 +159,7 @@ fn write_works<W: Sink>(
 ) -> Result<(), Fault>
     requires steps { steps ≤ MOST_STEPS }
     requires rise { IsStrictlyIncreasing jobs.now }
-    requires valid { IsValid instance.now base.now }
+    requires valid { IsValid None instance.now base.now }
     requires fits { FewerThan (2 ^ 63) (W.calls writer.old) }
     ensures ok { OnOk result (WritesWorks instance.now base.now jobs.now steps until
         (Appends (W.contents writer.old) (W.contents writer.new))) }
@@ -232,7 +232,7 @@ fn write_graft<W: Sink, E: Sink>(
     writer: &mut W,
     teller: &mut E,
 ) -> Result<(), Fault>
-    requires valid { IsValid instance.now base.now }
+    requires valid { IsValid None instance.now base.now }
     requires writes_fit { FewerThan (2 ^ 63) (W.calls writer.old) }
     requires tellings_fit { FewerThan (2 ^ 63) (E.calls teller.old) }
     ensures ok { OnOk result (WritesGraft instance.now base.now works.items

@@ -1,6 +1,6 @@
 -- What is certified after a search that went on is no worse than the base.
 use Rattle.std.proofs.Common.{◌≡◌, ℕ, ◌≤◌, List, ap, sym, ◌∙◌, subst, arith, true}
-use Rattle.std.specs.Prelude.{All, Result, Ok, Err, IfOk}
+use Rattle.std.specs.Prelude.{All, Result, Ok, Err, IfOk, None}
 use Rattle.pesp_problem.specs.declared.row.SignedRow.{SignedRow}
 use Rattle.pesp_problem.specs.Timetables.{Pesp}
 use Rattle.pesp_problem.specs.Limits.{KeepsLimits}
@@ -23,7 +23,7 @@ use Rattle.pesp_resume.specs.Endings.{IsEndedAs}
 use Rattle.pesp_resume.specs.Resuming.{IsBegun, IsCertified, IsResumed}
 
 -- the cycles of a valid base are walks of the problem
-walks_there : (i : Pesp) (base : Content) (p : ProblemValue) (opening : State) → IsValid i base
+walks_there : (i : Pesp) (base : Content) (p : ProblemValue) (opening : State) → IsValid None i base
     → IsBegun i base p opening → All (IsWalk (net_of p).arcs) p.table
 walks_there i base p opening valid b = subst (λ (table : List (List SignedRow)).
     All (IsWalk (net_of p).arcs) table) (sym b.cycles)
@@ -31,7 +31,7 @@ walks_there i base p opening valid b = subst (λ (table : List (List SignedRow))
 
 is_resumed : (i : Pesp) (base : Content) (p : ProblemValue) (opening state : State) (steps : ℕ) (stopped : Type 0)
     (used : ℕ) (ending : Ending) (content : Content) → KeepsLimits i → has_costs base.answer ≡ true
-    → IsValid i base → IsBegun i base p opening → Grows p used opening state → used ≤ steps
+    → IsValid None i base → IsBegun i base p opening → Grows p used opening state → used ≤ steps
     → IsEndedAs p steps stopped opening state used ending → IsCertified i p state content
     → IsResumed i base steps stopped used ending content
 is_resumed i base p opening state steps stopped used ending content limits costs valid b g few ended c =
@@ -57,7 +57,7 @@ is_resumed i base p opening state steps stopped used ending content limits costs
     }
 
 pub is_resumed_of : {E : Type 0} (i : Pesp) (base : Content) (p : ProblemValue) (opening state : State) (steps : ℕ)
-    (stopped : Type 0) (r : Result Resumed E) → KeepsLimits i → has_costs base.answer ≡ true → IsValid i base
+    (stopped : Type 0) (r : Result Resumed E) → KeepsLimits i → has_costs base.answer ≡ true → IsValid None i base
     → IsBegun i base p opening
     → IfOk r (λ x. Grows p x.steps_used opening state) → IfOk r (λ x. x.steps_used ≤ steps)
     → IfOk r (λ x. IsEndedAs p steps stopped opening state x.steps_used x.ending)

@@ -1,5 +1,5 @@
 -- What a search that goes on from a certificate answers.
-use Rattle.std.specs.Prelude.{◌≡◌, ℕ, ◌+◌, ◌≤◌}
+use Rattle.std.specs.Prelude.{◌≡◌, ℕ, ◌+◌, ◌≤◌, None}
 use Rattle.pesp_problem.specs.Timetables.{Pesp}
 use Rattle.pesp_truth.specs.Certificates.{Content, IsValid, lines_of, least_of, cost_of}
 use Rattle.pesp_nodes.specs.Problems.{ProblemValue}
@@ -20,7 +20,7 @@ pub record IsBegun (instance : Pesp) (base : Content) (p : ProblemValue) (state 
 -- a valid certificate of what a board knows in a state
 pub record IsCertified (instance : Pesp) (p : ProblemValue) (state : State) (content : Content) : Type 0 where
   pub is_certificate : IsCertificateOf p instance.events state content
-  pub valid : IsValid instance content
+  pub valid : IsValid None instance content
 
 -- the certificate of a state to which the events of a board lead from the base, with so many splits of at most so many;
 -- it is valid, its bound isn't below the base's, no bound standing above every number, its cost isn't above the base's,
@@ -36,7 +36,7 @@ pub record IsResumed (instance : Pesp) (base : Content) (steps : ℕ) (stopped :
   pub ended : IsEndedAs problem steps stopped opening state used ending
   pub certified : IsCertified instance problem state content
   pub few : used ≤ steps
-  pub valid : IsValid instance content
+  pub valid : IsValid None instance content
   pub bound : IsAtMost (least_of base.answer) (least_of content.answer)
   pub cost : IsAtMost (cost_of content.answer) (cost_of base.answer)
   pub branches : branch_lines (lines_of content) ≡ branch_lines (lines_of base) + used

@@ -1,6 +1,6 @@
 //! Searches that go on from a certificate.
 
-ghost use Rattle.std.specs.Prelude.{◌≡◌, ◌≤◌, IfOk, OnOk};
+ghost use Rattle.std.specs.Prelude.{◌≡◌, ◌≤◌, IfOk, OnOk, None};
 ghost use Rattle.pesp_truth.specs.Certificates.{IsValid};
 ghost use Rattle.pesp_machine.specs.Certificates.{IsProblemOf};
 ghost use Rattle.pesp_turns.specs.Knowing.{IsKnown};
@@ -140,7 +140,7 @@ fn resume_search<W: Watcher>(
 
 /// A search that goes on from a valid certificate.
 fn search_from(alloc: Global, instance: &Instance, base: &Certificate) -> Result<Search, Memory>
-    requires { IsValid instance.now base.now }
+    requires { IsValid None instance.now base.now }
     ensures begun { IfOk result (λ search. IsBegun instance.now base.now search.board.problem
         search.board.state) }
     ensures known { IfOk result (λ search. IsKnown search.board.problem search.known) }
@@ -164,7 +164,7 @@ pub fn resume<W: Watcher>(
     steps: u32,
     watcher: &mut W,
 ) -> Result<Resumed, Memory>
-    requires { IsValid instance.now base.now }
+    requires { IsValid None instance.now base.now }
     ensures { IfOk result
         (λ r. IsResumed instance.now base.now steps
         (W.may_end watcher.old × W.has_ended watcher.new) r.steps_used r.ending r.certificate) }

@@ -1,4 +1,5 @@
 -- What is written of a search that went on.
+use Rattle.std.specs.Prelude.{None}
 use Rattle.std.proofs.Common.{inl, inr, ℕ, ◌≤◌, List}
 use Rattle.pesp_problem.specs.Timetables.{Pesp}
 use Rattle.pesp_truth.specs.Certificates.{Content}
@@ -22,7 +23,7 @@ writes {p} {certificate = certificate} used ending some resumed has_text gets = 
   ending = ending;
   certificate = certificate;
   resumed = resumed;
-  is_true = valid_is_true p certificate some resumed.valid;
+  is_true = valid_is_true None p certificate some resumed.valid;
   has_text = has_text;
   written = gets;
 }

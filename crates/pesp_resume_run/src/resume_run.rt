@@ -1,6 +1,6 @@
 //! The run that goes on from a certificate.
 
-ghost use Rattle.std.specs.Prelude.{◌≡◌, ◌≢◌, ◌<◌, ◌≤◌, ◌^◌, OnOk, IfErr};
+ghost use Rattle.std.specs.Prelude.{◌≡◌, ◌≢◌, ◌<◌, ◌≤◌, ◌^◌, OnOk, IfErr, None};
 ghost use Rattle.std.specs.Io.KnownBytes.{Appends};
 ghost use Rattle.pesp_stream.specs.Counts.{FewerThan, HasWorked};
 ghost use Rattle.pesp_truth.specs.Certificates.{IsValid};
@@ -25,7 +25,7 @@ fn write_resumed<W: Sink, T: Watcher>(
     steps: u32,
     watcher: &mut T,
 ) -> Result<(), Fault>
-    requires valid { IsValid instance.now base.now }
+    requires valid { IsValid None instance.now base.now }
     requires fits { FewerThan (2 ^ 63) (W.calls writer.old) }
     ensures ok { OnOk result (WritesResumed instance.now base.now steps
         (T.may_end watcher.old × T.has_ended watcher.new)

@@ -49,7 +49,7 @@ open_is (Bounded l cost) opens = (l, cost, refl)
 
 pub is_solved : (instance : Pesp) (p : ProblemValue) (steps used : ℕ) (first now : State) (content : Content)
     → KeepsNetLimits p.network → IsProblemOf instance p → IsFrugal p.table → IsRootBound p first
-    → AreAllTurns p steps first used now → IsCertificateOf p instance.events now content → IsValid instance content
+    → AreAllTurns p steps first used now → IsCertificateOf p instance.events now content → IsValid None instance content
     → IsSolved instance steps used content
 is_solved instance p steps used first now content limits of frugal bound turns c valid = record {
   valid = valid;
@@ -98,7 +98,7 @@ feasible instance answer shown times t is e = (subst (λ (a : Answer). IsTrueAns
 
 pub costs_no_more : (instance : Pesp) (p : ProblemValue) (times : List ℕ) (now : State) (content : Content)
     → KeepsLimits instance → IsProblemOf instance p → IsCertificateOf p instance.events now content
-    → IsValid instance content → IsAsCheapAs p times now → CostsNoMore instance times content
+    → IsValid None instance content → IsAsCheapAs p times now → CostsNoMore instance times content
 costs_no_more instance p times now content limits of c valid cheap is =
     let some = limits.some_period in
     let positive : 0 < instance.period = omega (arith, some) in
@@ -112,7 +112,7 @@ costs_no_more instance p times now content limits of c valid cheap is =
     subst (λ (n : ℕ). IsAtMost (best_cost p now) (Some n)) same (cheap there) in
     let here = told_cost (least p now) (best_cost p now) (cost instance.period instance.rows times) most
     (λ e. feasible instance content.answer (shown_times content) times
-    (valid_is_true instance content positive valid) is (c.answer ∙ e)) in
+    (valid_is_true None instance content positive valid) is (c.answer ∙ e)) in
     subst (λ (a : Answer). IsSomeAnd (cost_of a) (λ k. k ≤ cost instance.period instance.rows times)) (sym c.answer) here
 
 -- ---- refusals

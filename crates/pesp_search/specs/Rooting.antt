@@ -1,5 +1,5 @@
 -- The root of the tree: the leaf that is given for it, and what its value says from then on.
-use Rattle.std.specs.Prelude.{ℕ, List, Bool, true, false, Some}
+use Rattle.std.specs.Prelude.{ℕ, List, Bool, true, false, Some, None}
 use Rattle.pesp_problem.specs.declared.row.SignedRow.{SignedRow}
 use Rattle.pesp_problem.specs.Arcs.{Net}
 use Rattle.pesp_problem.specs.Nodes.{root}
@@ -21,7 +21,7 @@ work_of false (Bound pairs value) = works.Leaf pairs
 
 -- under the slack ranges of the root the rows support some family of sets without an empty one
 abbrev pub IsRootSupported : Net → List (List SignedRow) → Type 0
-IsRootSupported n table = IsShut n table ByPropagation (root n table) → ⊥
+IsRootSupported n table = IsShut None n table ByPropagation (root n table) → ⊥
 
 -- where there is a least value the root is supported, and each bound that the value reaches is above the value at the
 -- root of no pairs, and of each single pair that has one

@@ -1,5 +1,5 @@
 -- What the solver answers.
-use Rattle.std.specs.Prelude.{◌≡◌, ⊤, ℕ, ◌+◌, ◌*◌, ◌<◌, ◌≤◌, List, length, Option, IsSomeAnd}
+use Rattle.std.specs.Prelude.{◌≡◌, ⊤, ℕ, ◌+◌, ◌*◌, ◌<◌, ◌≤◌, List, length, Option, IsSomeAnd, None}
 use Rattle.pesp_problem.specs.declared.limits.TheConstants.{MOST_PAIRS, MOST_SIGNED_ROWS}
 use Rattle.pesp_problem.specs.Timetables.{Pesp, IsTimetable, cost}
 use Rattle.pesp_problem.specs.Arcs.{net_of}
@@ -16,7 +16,7 @@ use Rattle.pesp_search.specs.declared.refusal.SolveRefusal.TheVariants.{Memory, 
 
 -- a valid certificate for the instance, after so many splits of at most so many
 pub record IsSolved (p : Pesp) (steps used : ℕ) (content : Content) : Type 0 where
-  pub valid : IsValid p content
+  pub valid : IsValid None p content
   pub few : used ≤ steps
   pub finished : IsOpenAnswer content.answer → used ≡ steps
   pub supported : IsOpenAnswer content.answer → IsRootSupported (net_of p) content.cycles

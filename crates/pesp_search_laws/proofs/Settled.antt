@@ -180,7 +180,7 @@ settled_offsets n table node c t s h o l = let one = one_left n table node c t s
 -- ---- the value of a leaf
 
 settled_part : (n : Net) (table : List (List SignedRow)) (node : Node) (pairs : List Pair) → 0 < n.period
-    → IsSettled n table node → HaveSlacks n node → HaveOffsetsLeft n table node → PairsExist table pairs
+    → IsSettled n table node → HaveSlacks n node → HaveOffsetsLeft n table node → PairsExist None table pairs
     → (v : ℤ) × (offset_part n table node pairs ≡ Some v)
     × (pos n.period *ℤ v ≡ over_arcs n.arcs (λ i. flow table pairs i *ℤ duration n (low_slack node) i))
 settled_part n table node [] t s h o e = (
@@ -244,7 +244,7 @@ settled_slack n table node pairs weighted i s h l =
 
 pub settled_value : (n : Net) (table : List (List SignedRow)) (node : Node) (pairs : List Pair) (weighted : Bool)
     → 0 < n.period → IsSettled n table node → HaveSlacks n node → HaveOffsetsLeft n table node
-    → PairsExist table pairs → leaf_value n table node pairs weighted
+    → PairsExist None table pairs → leaf_value n table node pairs weighted
     ≡ Some (over_arcs n.arcs (λ i. weight_of weighted (arc_at n.arcs i) *ℤ pos (low_slack node i)))
 settled_value n table node pairs weighted t s h o e =
     let count = length n.arcs in

@@ -1,7 +1,7 @@
 //! Laws of branches. Each is a function without a body whose contract is the law: a caller that calls it has the law within
 //! reach.
 
-ghost use Rattle.std.specs.Prelude.{◌≡◌, ◌≤◌, ℕ, ◌+◌, ◌*◌, ◌<◌, List, length, ◌*ℤ◌, pos, Bool, Some};
+ghost use Rattle.std.specs.Prelude.{◌≡◌, ◌≤◌, ℕ, ◌+◌, ◌*◌, ◌<◌, List, length, ◌*ℤ◌, pos, Bool, Some, None};
 ghost use Rattle.pesp_problem.specs.declared.row.SignedRow.{SignedRow};
 ghost use Rattle.pesp_problem.specs.declared.cut.Cut.{Cut};
 ghost use Rattle.pesp_problem.specs.declared.cut.Side.{Side};
@@ -87,7 +87,7 @@ pub fn settled_nodes_have_their_cost()
         → c < length table → HasWholeOffset n (low_slack node) (cycle_at table c) }
     ensures value { (n : Net) (table : List (List SignedRow)) (node : Node) (pairs : List Pair)
         (weighted : Bool) → 0 < n.period → IsSettled n table node → HaveSlacks n node
-        → HaveOffsetsLeft n table node → PairsExist table pairs
+        → HaveOffsetsLeft n table node → PairsExist None table pairs
         → leaf_value n table node pairs weighted ≡ Some
         (over_arcs n.arcs (λ i. weight_of weighted (arc_at n.arcs i) *ℤ pos (low_slack node i))) }
 {}

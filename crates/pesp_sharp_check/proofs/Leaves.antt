@@ -6,12 +6,11 @@ use Rattle.pesp_problem.specs.declared.pair.Pair.{Pair}
 use Rattle.pesp_problem.specs.Sums.{ceil_div}
 use Rattle.pesp_problem.specs.Arcs.{Net}
 use Rattle.pesp_problem.specs.Nodes.{Node}
-use Rattle.pesp_truth.specs.Trees.{Bound, Nothing}
+use Rattle.pesp_truth.specs.Trees.{Bound, Nothing, IsSoundLeaf}
 use Rattle.pesp_judges.specs.declared.refusal.Refusal.TheVariants.{NoSuch, BoundInInfeasible, LeafBelow, NotEmpty}
-use Rattle.pesp_sharp.specs.Sharp.{sharp_value, sharp_cost}
-use Rattle.pesp_sharp_truth.specs.Marks.{Marks, AreNamed, uses_walks, multipliers}
-use Rattle.pesp_sharp_truth.specs.Trees.{IsSoundLeafWith}
-use Rattle.pesp_sharp_check.specs.Faults.{IsLeafFaultWith}
+use Rattle.pesp_nets.specs.Sharp.{sharp_value, sharp_cost}
+use Rattle.pesp_truth.specs.Marks.{Marks, AreNamed, uses_walks, multipliers}
+use Rattle.pesp_judges.specs.Faults.{IsLeafFault}
 use Rattle.pesp_sharp_check.proofs.Worth.{scale_is}
 
 -- a value and its quotient
@@ -48,36 +47,36 @@ module _ (n : Net) (table : List (List SignedRow)) (marks : Marks) (least : Opti
   -- ---- a bound
 
   pub bound_unnamed : (AreNamed cycles (length marks.walks) pairs → ⊥)
-      → IsLeafFaultWith n table marks least (Bound pairs) node line (NoSuch line)
+      → IsLeafFault (Some marks) n table least (Bound pairs) node line (NoSuch line)
   bound_unnamed h = inl (refl, not_here h)
 
   pub bound_infeasible : AreNamed cycles (length marks.walks) pairs → least ≡ None
-      → IsLeafFaultWith n table marks least (Bound pairs) node line (BoundInInfeasible line)
+      → IsLeafFault (Some marks) n table least (Bound pairs) node line (BoundInInfeasible line)
   bound_infeasible h e = inr (inl (refl, here h, e))
 
   module _ (c : ℕ) (value : Option ℤ) (wanted : least ≡ Some c)
       (is : value ≡ sharp_value n table node (multipliers (length table) marks pairs) true)
       (named : AreNamed cycles (length marks.walks) pairs) where
     pub bound_below : (IsSomeAnd value (λ v. pos c ≤ℤ ceil_div v marks.scale) → ⊥)
-        → IsLeafFaultWith n table marks least (Bound pairs) node line (LeafBelow line)
+        → IsLeafFault (Some marks) n table least (Bound pairs) node line (LeafBelow line)
     bound_below h = inr (inr (refl, here named, (c, wanted, λ s. h ((cost c value is).1 s))))
 
-    pub bound_sound : IsSomeAnd value (λ v. pos c ≤ℤ ceil_div v marks.scale) → IsSoundLeafWith n table marks least (Bound pairs) node
+    pub bound_sound : IsSomeAnd value (λ v. pos c ≤ℤ ceil_div v marks.scale) → IsSoundLeaf (Some marks) n table least (Bound pairs) node
     bound_sound h =
-        let P : Option ℕ → Type 0 = λ l. IsSoundLeafWith n table marks l (Bound pairs) node in
+        let P : Option ℕ → Type 0 = λ l. IsSoundLeaf (Some marks) n table l (Bound pairs) node in
         subst P (sym wanted) (here named, (cost c value is).0 h)
 
   -- ---- none there
 
   pub nothing_unnamed : (AreNamed cycles (length marks.walks) pairs → ⊥)
-      → IsLeafFaultWith n table marks least (Nothing pairs) node line (NoSuch line)
+      → IsLeafFault (Some marks) n table least (Nothing pairs) node line (NoSuch line)
   nothing_unnamed h = inl (refl, not_here h)
 
   module _ (value : Option ℤ) (is : value ≡ sharp_value n table node
       (multipliers (length table) marks pairs) false) (named : AreNamed cycles (length marks.walks) pairs) where
     pub nothing_open : (IsSomeAnd value (λ v. pos 0 <ℤ v) → ⊥)
-        → IsLeafFaultWith n table marks least (Nothing pairs) node line (NotEmpty line)
+        → IsLeafFault (Some marks) n table least (Nothing pairs) node line (NotEmpty line)
     nothing_open h = let P : Option ℤ → Type 0 = λ o. IsSomeAnd o (λ v. pos 0 <ℤ v) → ⊥ in inr (refl, here named, subst P is h)
 
-    pub nothing_sound : IsSomeAnd value (λ v. pos 0 <ℤ v) → IsSoundLeafWith n table marks least (Nothing pairs) node
+    pub nothing_sound : IsSomeAnd value (λ v. pos 0 <ℤ v) → IsSoundLeaf (Some marks) n table least (Nothing pairs) node
     nothing_sound h = let P : Option ℤ → Type 0 = λ o. IsSomeAnd o (λ v. pos 0 <ℤ v) in (here named, subst P is h)

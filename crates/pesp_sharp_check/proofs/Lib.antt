@@ -3,8 +3,6 @@ pub mod Plain
 pub mod Summing
 pub mod Worth
 pub mod Leaves
-pub mod Judged
 pub mod Closing
 pub mod Faults
-pub mod Fronts
 pub mod Shown

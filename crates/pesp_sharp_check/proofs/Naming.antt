@@ -5,9 +5,9 @@ use Rattle.std.proofs.lemmas.List.Elements.{All-nil, All-cons, All-head, All-tai
 use Rattle.pesp_problem.specs.declared.pair.Pair.{Pair}
 use Rattle.pesp_problem.specs.Walks.{Names}
 use Rattle.pesp_judges.specs.Lines.{ArePairLimits}
-use Rattle.pesp_judges.specs.Flows.{ArePairs}
-use Rattle.pesp_sharp_truth.specs.Marks.{IsNamed, AreNamed, of_cycles, uses_walks}
-use Rattle.pesp_sharp_truth.proofs.Marks.{at_most}
+use Rattle.pesp_leaves.specs.Flows.{ArePairs}
+use Rattle.pesp_truth.specs.Marks.{IsNamed, AreNamed, of_cycles, uses_walks}
+use Rattle.pesp_truth.proofs.Marks.{at_most}
 
 module _ (cycles : ℕ) (left rest : List Pair) (pair : Pair) (is : left ≡ pair ∷ rest) where
   -- the pair names a cycle

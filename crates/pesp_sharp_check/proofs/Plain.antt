@@ -9,25 +9,23 @@ use Rattle.pesp_truth.specs.Trees.{Leaf, Bound, Shut, ByPairs, ByGap, ByPropagat
 use Rattle.pesp_judges.specs.declared.refusal.Refusal.{Refusal}
 use Rattle.pesp_judges.specs.Faults.{IsLeafFault}
 use Rattle.pesp_judges.specs.Lines.{IsLeafVerdict, IsLineVerdict}
-use Rattle.pesp_sharp.specs.Sharp.{Multipliers, sharp_value, sharp_cost}
-use Rattle.pesp_sharp.proofs.Values.{value_without_walks, cost_without_walks}
-use Rattle.pesp_sharp_truth.specs.Marks.{Marks, AreNamed, uses_walks}
-use Rattle.pesp_sharp_truth.proofs.Marks.{no_walks, named_cycles}
-use Rattle.pesp_sharp_truth.proofs.Certificates.{plain_leaf}
-use Rattle.pesp_sharp_check.specs.Faults.{IsLeafFaultWith}
-use Rattle.pesp_sharp_check.specs.Lines.{IsLeafVerdictWith, IsLineVerdictWith}
+use Rattle.pesp_nets.specs.Sharp.{Multipliers, sharp_value, sharp_cost}
+use Rattle.pesp_nets.proofs.Values.{value_without_walks, cost_without_walks}
+use Rattle.pesp_truth.specs.Marks.{Marks, AreNamed, uses_walks}
+use Rattle.pesp_truth.proofs.Marks.{no_walks, named_cycles}
+use Rattle.pesp_truth.proofs.Fronts.{plain_leaf}
 
 module _ (n : Net) (table : List (List SignedRow)) (marks : Marks) (least : Option ℕ) (node : Node) (at : ℕ) (refusal : Refusal) where
-  not_named : (pairs : List Pair) → uses_walks (length table) pairs ≡ false → (PairsExist table pairs → ⊥)
+  not_named : (pairs : List Pair) → uses_walks (length table) pairs ≡ false → (PairsExist None table pairs → ⊥)
       → AreNamed (length table) (length marks.walks) pairs → ⊥
   not_named pairs e never named = never ((named_cycles (length table) (length marks.walks) pairs e).0 named)
 
-  are_named : (pairs : List Pair) → uses_walks (length table) pairs ≡ false → PairsExist table pairs
+  are_named : (pairs : List Pair) → uses_walks (length table) pairs ≡ false → PairsExist None table pairs
       → AreNamed (length table) (length marks.walks) pairs
   are_named pairs e exist = (named_cycles (length table) (length marks.walks) pairs e).1 exist
 
   leaf_fault : (leaf : Leaf) → uses_walks (length table) (pairs_of_leaf leaf) ≡ false
-      → IsLeafFault n table least leaf node at refusal → IsLeafFaultWith n table marks least leaf node at refusal
+      → IsLeafFault None n table least leaf node at refusal → IsLeafFault (Some marks) n table least leaf node at refusal
   leaf_fault (Bound pairs) e (inl f) = inl (f.0, not_named pairs e f.1)
   leaf_fault (Bound pairs) e (inr (inl f)) = inr (inl (f.0, are_named pairs e f.1, f.2))
   leaf_fault (Bound pairs) e (inr (inr f)) =
@@ -59,7 +57,7 @@ module _ (n : Net) (table : List (List SignedRow)) (marks : Marks) (least : Opti
 
 pub leaf_verdict : (n : Net) (table : List (List SignedRow)) (marks : Marks) (least : Option ℕ) (leaf : Leaf)
     (node : Node) (at : ℕ) (found : Option Refusal) → uses_walks (length table) (pairs_of_leaf leaf) ≡ false
-    → IsLeafVerdict n table least leaf node at found → IsLeafVerdictWith n table marks least leaf node at found
+    → IsLeafVerdict None n table least leaf node at found → IsLeafVerdict (Some marks) n table least leaf node at found
 leaf_verdict n table marks least leaf node at None e h = (plain_leaf n table marks least leaf node e).1 h
 leaf_verdict n table marks least leaf node at (Some refusal) e h = leaf_fault n table marks least node at refusal leaf e h
 
@@ -70,8 +68,8 @@ pairs_of_line (CutLine cut) = []
 pub line_verdict : (n : Net) (table : List (List SignedRow)) (marks : Marks) (least : Option ℕ) (line : Line)
     (nodes nodes' : List Node) (at : ℕ) (found : Option Refusal)
     → uses_walks (length table) (pairs_of_line line) ≡ false
-    → IsLineVerdict n table least line nodes nodes' at found
-    → IsLineVerdictWith n table marks least line nodes nodes' at found
+    → IsLineVerdict None n table least line nodes nodes' at found
+    → IsLineVerdict (Some marks) n table least line nodes nodes' at found
 line_verdict n table marks least line [] nodes' at None e h = absurd h.0
 line_verdict n table marks least line [] nodes' at (Some refusal) e h = absurd h
 line_verdict n table marks least (EndLine leaf) (node ∷ nodes) nodes' at None e h =

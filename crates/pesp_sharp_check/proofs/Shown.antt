@@ -13,14 +13,13 @@ use Rattle.pesp_problem.specs.Arcs.{Net, net_of}
 use Rattle.pesp_problem.specs.Walks.{Names}
 use Rattle.pesp_problem.specs.Nodes.{Node}
 use Rattle.pesp_truth.specs.declared.tree.TreeLine.{TreeLine}
-use Rattle.pesp_truth.specs.Trees.{Line, EndLine, CutLine, Leaf, Bound, Shut, CutExists}
+use Rattle.pesp_truth.specs.Trees.{Line, EndLine, CutLine, Leaf, Bound, Shut, CutExists, IsSoundLeaf, AreSound}
 use Rattle.pesp_truth.specs.Certificates.{line_of}
 use Rattle.pesp_judges.specs.Lines.{after, CutIsNamed}
-use Rattle.pesp_judges.proofs.Arcs.{arcs_long}
+use Rattle.pesp_leaves.proofs.Arcs.{arcs_long}
 use Rattle.pesp_judges.proofs.Judged.{next_line}
-use Rattle.pesp_sharp.specs.Sharp.{sharp_value, sharp_cost}
-use Rattle.pesp_sharp_truth.specs.Marks.{Marks, AreNamed, uses_walks, scale_of, multipliers}
-use Rattle.pesp_sharp_truth.specs.Trees.{IsSoundLeafWith, AreSoundWith}
+use Rattle.pesp_nets.specs.Sharp.{sharp_value, sharp_cost}
+use Rattle.pesp_truth.specs.Marks.{Marks, AreNamed, uses_walks, scale_of, multipliers}
 use Rattle.pesp_sharp_check.specs.Costs.{told, shown_at, line_shows, shown_in, LeafIsNamed, LineIsNamed}
 
 -- ---- a cost as it is told
@@ -63,37 +62,37 @@ module _ (p : Pesp) (table : List (List SignedRow)) (marks : Marks) (least : Opt
   cut_named (Offset cycle k) cycles long exists = subst (λ (m : ℕ). Names m cycle) (sym long) exists
 
   leaf_named : (leaf : Leaf) (node : Node) (cycles : ℕ) → cycles ≡ length table
-      → IsSoundLeafWith (net_of p) table marks least leaf node → LeafIsNamed cycles (length marks.walks) leaf
+      → IsSoundLeaf (Some marks) (net_of p) table least leaf node → LeafIsNamed cycles (length marks.walks) leaf
   leaf_named (Bound pairs) node cycles long s = subst (λ (m : ℕ). AreNamed m (length marks.walks) pairs) (sym long) s.0
   leaf_named (Shut reason) node cycles long s = tt
 
   line_named : (line : Line) (lines : List Line) (nodes : List Node) (cycles : ℕ) → cycles ≡ length table
-      → AreSoundWith (net_of p) table marks least (line ∷ lines) nodes
+      → AreSound (Some marks) (net_of p) table least (line ∷ lines) nodes
       → LineIsNamed (length p.rows) cycles (length marks.walks) line
   line_named line lines [] cycles long s = absurd s
   line_named (EndLine leaf) lines (node ∷ nodes) cycles long s = leaf_named leaf node cycles long s.0
   line_named (CutLine cut) lines (node ∷ nodes) cycles long s = cut_named cut cycles long s.0
 
   line_waits : (line : Line) (lines : List Line) (nodes : List Node)
-      → AreSoundWith (net_of p) table marks least (line ∷ lines) nodes → nodes ≢ []
+      → AreSound (Some marks) (net_of p) table least (line ∷ lines) nodes → nodes ≢ []
   line_waits line lines [] s = absurd s
   line_waits line lines (node ∷ nodes) s = λ f. cc
 
   sound_after : (line : Line) (lines : List Line) (nodes : List Node)
-      → AreSoundWith (net_of p) table marks least (line ∷ lines) nodes
-      → AreSoundWith (net_of p) table marks least lines (after line nodes)
+      → AreSound (Some marks) (net_of p) table least (line ∷ lines) nodes
+      → AreSound (Some marks) (net_of p) table least lines (after line nodes)
   sound_after line lines [] s = absurd s
   sound_after (EndLine leaf) lines (node ∷ nodes) s = s.1
   sound_after (CutLine cut) lines (node ∷ nodes) s = s.1
 
   -- what is left of lines, and the nodes that wait for them; what was shown before
   pub record AreShown (lines : List TreeLine) (nodes : List Node) (k : ℕ) (now : List Node) (shown : List (Option ℕ)) : Type 0 where
-    pub sound : AreSoundWith (net_of p) table marks least (map line_of (drop k lines)) now
+    pub sound : AreSound (Some marks) (net_of p) table least (map line_of (drop k lines)) now
     pub all : shown ++ shown_in (net_of p) table marks (map line_of (drop k lines)) now
         ≡ shown_in (net_of p) table marks (map line_of lines) nodes
 
   pub none_shown : (lines : List TreeLine) (nodes : List Node)
-      → AreSoundWith (net_of p) table marks least (map line_of lines) nodes → AreShown lines nodes 0 nodes []
+      → AreSound (Some marks) (net_of p) table least (map line_of lines) nodes → AreShown lines nodes 0 nodes []
   none_shown lines nodes s = record { sound = s; all = refl }
 
   module _ (lines : List TreeLine) (nodes : List Node) (k : ℕ) (now : List Node) (shown : List (Option ℕ))
@@ -106,8 +105,8 @@ module _ (p : Pesp) (table : List (List SignedRow)) (marks : Marks) (least : Opt
         sym (append-nil shown) ∙ subst P none h.all
 
     module _ (line : TreeLine) (within : k < length lines) (is : line ≡ get_or lines k line) where
-      here : AreSoundWith (net_of p) table marks least (line_of line ∷ map line_of (drop (k + 1) lines)) now
-      here = let P : List Line → Type 0 = λ ls. AreSoundWith (net_of p) table marks least ls now in
+      here : AreSound (Some marks) (net_of p) table least (line_of line ∷ map line_of (drop (k + 1) lines)) now
+      here = let P : List Line → Type 0 = λ ls. AreSound (Some marks) (net_of p) table least ls now in
           subst P (next_line lines k line within is) h.sound
 
       pub next_named : (cycles : ℕ) → cycles ≡ length table → LineIsNamed (length p.rows) cycles (length marks.walks) (line_of line)
@@ -121,7 +120,7 @@ module _ (p : Pesp) (table : List (List SignedRow)) (marks : Marks) (least : Opt
           → after' ≡ after (line_of line) now → new ≡ shown ++ value ∷ [] → AreShown lines nodes (k + 1) after' new
       one_shown after' new value node rest waits v a more = record {
         sound = (let Q : List Node → Type 0 = λ ns.
-            AreSoundWith (net_of p) table marks least (map line_of (drop (k + 1) lines)) ns in
+            AreSound (Some marks) (net_of p) table least (map line_of (drop (k + 1) lines)) ns in
             subst Q (sym a) (sound_after (line_of line) (map line_of (drop (k + 1) lines)) now here));
         all = (let left = map line_of (drop (k + 1) lines) in
             let S : List Line → List Node → List (Option ℕ) = λ ls ns. shown_in (net_of p) table marks ls ns in

@@ -12,15 +12,15 @@ use Rattle.pesp_problem.specs.Limits.{KeepsLimits}
 use Rattle.pesp_problem.specs.Arcs.{Net, arc_of, arcs_of, net_of}
 use Rattle.pesp_problem.specs.Walks.{AreRows, IsWalk, RowExists}
 use Rattle.pesp_judges.specs.Lines.{ArePairLimits}
-use Rattle.pesp_sharp.specs.declared.marked.MarkedRow.{MarkedRow}
-use Rattle.pesp_sharp.specs.Marked.{signed_rows, IsMarkedWalk, rates_at as walk_rates}
-use Rattle.pesp_sharp.specs.Sharp.{over_multiples}
-use Rattle.pesp_sharp_truth.specs.Marks.{IsNamed, AreNamed, walk_at, of_walks}
-use Rattle.pesp_sharp_truth.proofs.Marks.{at_most}
-use Rattle.pesp_sharp_leaf.specs.declared.rates.Rates.{Rates}
-use Rattle.pesp_sharp_leaf.specs.Rates.{rates_at, entry, AreSmallRates, AreNoRates}
-use Rattle.pesp_sharp_leaf.specs.Terms.{AreSmallArcs}
-use Rattle.pesp_sharp_leaf.proofs.Small.{marked_exist}
+use Rattle.pesp_nets.specs.declared.marked.MarkedRow.{MarkedRow}
+use Rattle.pesp_nets.specs.Marked.{signed_rows, IsMarkedWalk, rates_at as walk_rates}
+use Rattle.pesp_nets.specs.Sharp.{over_multiples}
+use Rattle.pesp_truth.specs.Marks.{IsNamed, AreNamed, walk_at, of_walks}
+use Rattle.pesp_truth.proofs.Marks.{at_most}
+use Rattle.pesp_nets.specs.declared.rates.Rates.{Rates}
+use Rattle.pesp_nets.specs.Rates.{rates_at, entry, AreSmallRates, AreNoRates}
+use Rattle.pesp_nets.specs.Terms.{AreSmallArcs}
+use Rattle.pesp_nets.proofs.Small.{marked_exist}
 use Rattle.pesp_sharp_check.specs.Gains.{gains_of, rates_of}
 use Rattle.pesp_sharp_check.proofs.Naming.{limits_apart, named_apart}
 

@@ -6,12 +6,12 @@ use Rattle.pesp_problem.specs.declared.pair.Pair.{Pair}
 use Rattle.pesp_problem.specs.Timetables.{Pesp}
 use Rattle.pesp_problem.specs.Arcs.{net_of, arcs_of}
 use Rattle.pesp_problem.specs.Nodes.{Node, flow, offset_part}
-use Rattle.pesp_sharp.specs.Sharp.{Multipliers, sharp_value}
-use Rattle.pesp_sharp_truth.specs.Marks.{Marks, of_cycles, of_walks, uses_walks, scale_of, multipliers}
-use Rattle.pesp_sharp_leaf.specs.declared.rates.Rates.{Rates}
-use Rattle.pesp_sharp_leaf.specs.Rates.{rates_at, entry}
-use Rattle.pesp_sharp_leaf.specs.Terms.{number_at, rows_sum}
-use Rattle.pesp_sharp_leaf.proofs.Values.{AreOf, value_is}
+use Rattle.pesp_nets.specs.Sharp.{Multipliers, sharp_value}
+use Rattle.pesp_truth.specs.Marks.{Marks, of_cycles, of_walks, uses_walks, scale_of, multipliers}
+use Rattle.pesp_nets.specs.declared.rates.Rates.{Rates}
+use Rattle.pesp_nets.specs.Rates.{rates_at, entry}
+use Rattle.pesp_nets.specs.Terms.{number_at, rows_sum}
+use Rattle.pesp_nets.proofs.RowValues.{AreOf, value_is}
 use Rattle.pesp_sharp_check.specs.Gains.{gains_of, rates_of}
 
 -- the multipliers of a leaf of this scale

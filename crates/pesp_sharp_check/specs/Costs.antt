@@ -7,8 +7,8 @@ use Rattle.pesp_problem.specs.Nodes.{Node, root}
 use Rattle.pesp_truth.specs.Trees.{Leaf, Bound, Shut, Line, EndLine, CutLine}
 use Rattle.pesp_truth.specs.Certificates.{lines_of}
 use Rattle.pesp_judges.specs.Lines.{after, CutIsNamed}
-use Rattle.pesp_sharp.specs.Sharp.{sharp_cost}
-use Rattle.pesp_sharp_truth.specs.Marks.{Marks, AreNamed, multipliers}
+use Rattle.pesp_nets.specs.Sharp.{sharp_cost}
+use Rattle.pesp_truth.specs.Marks.{Marks, AreNamed, multipliers}
 use Rattle.pesp_sharp_text.specs.Texts.{Fronted, marks_of}
 
 -- a cost as it is told: 0 where it is below that, and at most 999999999999999999

@@ -1,5 +1,3 @@
 pub mod Gains
-pub mod Faults
-pub mod Lines
 pub mod Verdicts
 pub mod Costs

@@ -7,19 +7,17 @@ ghost use Rattle.pesp_problem.specs.Walks.{IsWalk};
 ghost use Rattle.pesp_problem.specs.Nodes as nodes;
 ghost use Rattle.pesp_problem.specs.Nodes.{Node};
 ghost use Rattle.pesp_truth.specs.Trees as trees;
-ghost use Rattle.pesp_truth.specs.Certificates.{lines_of};
+ghost use Rattle.pesp_truth.specs.Certificates.{lines_of, IsValid};
 ghost use Rattle.pesp_truth.specs.Certificates as spec;
 ghost use Rattle.pesp_nets.specs.Nets.{AreZeros, AreNets};
-ghost use Rattle.pesp_judges.specs.Ranges.{node_of, AreRanges};
+ghost use Rattle.pesp_leaves.specs.Ranges.{node_of, AreRanges};
 ghost use Rattle.pesp_judges.specs.Lines.{after, ArePairLimits};
 ghost use Rattle.pesp_judges.specs.SaidLines.{line_said, KeepsSaidLimits};
 ghost use Rattle.pesp_judges.specs.LeafLines.{leaf_said, KeepsLeafLimits};
-ghost use Rattle.pesp_sharp_truth.specs.Marks as marked;
-ghost use Rattle.pesp_sharp_truth.specs.Marks.{AreNamed};
-ghost use Rattle.pesp_sharp_truth.specs.Trees.{AreSoundWith};
-ghost use Rattle.pesp_sharp_truth.specs.Certificates.{IsValidWith};
+ghost use Rattle.pesp_truth.specs.Marks as marked;
+ghost use Rattle.pesp_truth.specs.Marks.{AreNamed};
+ghost use Rattle.pesp_truth.specs.Trees.{AreSound};
 ghost use Rattle.pesp_sharp_text.specs.Texts as texts;
-ghost use Rattle.pesp_sharp_text.specs.Texts.{content_of};
 ghost use Rattle.pesp_sharp_check.specs.Costs as costs;
 ghost use Rattle.pesp_sharp_check.specs.Costs.{LeafIsNamed, LineIsNamed, line_shows, shown_at, shown_in, shown_of};
 
@@ -31,11 +29,11 @@ use pesp_judges::{
     Checker, Elements, LeafLine, Nets, NodeWalk, Ranges, SaidLine, judge_cycles, least_of, root,
     said_by, zeros,
 };
+use pesp_nets::{Rates, no_rates};
 use pesp_problem::exact::ceil_div;
 use pesp_problem::{Instance, Memory, Pair};
-use pesp_sharp_leaf::{Rates, no_rates};
 use pesp_sharp_text::{Fronted, Marks, NotMarks};
-use pesp_sharp_truth::laws::lines_are_sound_as_tree;
+use pesp_truth::laws::{a_front_without_walks_changes_nothing, lines_are_sound_as_tree};
 use std::alloc::{AllocError, Global};
 
 /// The greatest cost that is told.
@@ -203,8 +201,7 @@ fn tree_costs(
 ) -> Result<Vec<Option<u64>>, AllocError>
     requires nets { AreNets (length checker.now.plain.instance.now.rows) certificate.now.cycles
         checker.now.plain.table.now }
-    requires sound { AreSoundWith (net_of checker.now.plain.instance.now) certificate.now.cycles
-        checker.now.marks.now (spec.least_of certificate.now.answer) (lines_of certificate.now)
+    requires sound { AreSound (Some checker.now.marks.now) (net_of checker.now.plain.instance.now) certificate.now.cycles (spec.least_of certificate.now.answer) (lines_of certificate.now)
         (nodes.root (net_of checker.now.plain.instance.now) certificate.now.cycles ∷ []) }
     requires long { length flows.old ≡ length checker.now.plain.instance.now.rows }
     requires wide { length rates.old ≡ length checker.now.plain.instance.now.rows }
@@ -250,7 +247,7 @@ fn costs_with(
     marks: &Marks,
     certificate: &Certificate,
 ) -> Result<Vec<Option<u64>>, Memory>
-    requires { IsValidWith instance.now (record { marks = marks.now; content = certificate.now }) }
+    requires { IsValid (Some marks.now) instance.now certificate.now }
     ensures { IfOk result (λ shown. shown.items
         ≡ shown_of instance.now (record { front = Some marks.now; content = certificate.now })) }
 {
@@ -282,9 +279,10 @@ pub fn costs_shown(
     instance: &Instance,
     certificate: &Fronted,
 ) -> Result<Vec<Option<u64>>, Memory>
-    requires { IsValidWith instance.now (content_of certificate.now) }
+    requires { IsValid certificate.now.front instance.now certificate.now.content }
     ensures { IfOk result (λ shown. shown.items ≡ shown_of instance.now certificate.now) }
 {
+    a_front_without_walks_changes_nothing();
     let behind = &certificate.certificate;
     match &certificate.front {
         Some(marks) => costs_with(alloc, instance, marks, behind),

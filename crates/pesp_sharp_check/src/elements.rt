@@ -1,12 +1,12 @@
 //! Parts of a list, read one element after another.
 
 ghost use Rattle.std.specs.Prelude.{◌≡◌, [], ◌∷◌};
-ghost use Rattle.pesp_sharp.specs.Marked.{signed_rows};
-ghost use Rattle.pesp_sharp_truth.specs.Marks.{of_cycles};
+ghost use Rattle.pesp_nets.specs.Marked.{signed_rows};
+ghost use Rattle.pesp_truth.specs.Marks.{of_cycles};
 
 use pesp_judges::Elements;
+use pesp_nets::MarkedRow;
 use pesp_problem::{Pair, SignedRow};
-use pesp_sharp::MarkedRow;
 
 /// The rows of a marked walk, without their marks, that are still to come.
 #[derive(Clone, Copy)]

@@ -3,17 +3,17 @@
 ghost use Rattle.std.specs.Prelude.{◌≡◌, ℕ, ◌+◌, ◌*◌, ◌^◌, ◌<◌, ◌≤◌, [], ◌∷◌, length, ◌+ℤ◌, unsigned_abs, Bool};
 ghost use Rattle.pesp_problem.specs.declared.limits.TheConstants.{MOST_MULTIPLIER};
 ghost use Rattle.pesp_problem.specs.Arcs.{net_of};
-ghost use Rattle.pesp_judges.specs.Offsets.{AreSlackRanges};
+ghost use Rattle.pesp_leaves.specs.Offsets.{AreSlackRanges};
 ghost use Rattle.pesp_judges.specs.Lines.{ArePairLimits};
-ghost use Rattle.pesp_sharp_truth.specs.Marks.{IsNamed, AreNamed};
-ghost use Rattle.pesp_sharp_leaf.specs.Rates.{rates_at, entry, AreSmallRates, AreNoRates};
+ghost use Rattle.pesp_truth.specs.Marks.{IsNamed, AreNamed};
+ghost use Rattle.pesp_nets.specs.Rates.{rates_at, entry, AreSmallRates, AreNoRates};
 ghost use Rattle.pesp_sharp_check.specs.Gains.{gains_of, rates_of};
 
 use crate::checker::MarksChecker;
 use pesp_judges::Elements;
+use pesp_nets::{Rates, add_walk};
 use pesp_problem::Pair;
 use pesp_problem::exact::plus;
-use pesp_sharp_leaf::{Rates, add_walk};
 
 /// Adds the marked walk that a pair names to rates, under the pair's multiplier. Gives what it gains at least, times the
 /// multiplier; nothing for a pair that names a cycle.

@@ -5,18 +5,17 @@ ghost use Rattle.pesp_problem.specs.declared.row.SignedRow.{SignedRow};
 ghost use Rattle.pesp_problem.specs.Arcs.{net_of};
 ghost use Rattle.pesp_truth.specs.Trees as trees;
 ghost use Rattle.pesp_nets.specs.Nets.{AreZeros, AreNets};
-ghost use Rattle.pesp_judges.specs.Ranges.{node_of, AreRanges};
-ghost use Rattle.pesp_judges.specs.Lines.{ArePairLimits};
+ghost use Rattle.pesp_leaves.specs.Ranges.{node_of, AreRanges};
+ghost use Rattle.pesp_judges.specs.Lines.{ArePairLimits, IsLeafVerdict};
 ghost use Rattle.pesp_judges.specs.LeafLines.{leaf_said, KeepsLeafLimits};
-ghost use Rattle.pesp_sharp_truth.specs.Marks as marks;
-ghost use Rattle.pesp_sharp_check.specs.Lines.{IsLeafVerdictWith};
+ghost use Rattle.pesp_truth.specs.Marks as marks;
 
 use crate::checker::MarksChecker;
 use crate::pairs::{are_named, uses_walks};
 use crate::values::{is_enough, sharp_value};
 use pesp_judges::{Elements, LeafLine, Ranges, Refusal};
+use pesp_nets::Rates;
 use pesp_problem::Pair;
-use pesp_sharp_leaf::Rates;
 
 /// Whether there is a value and it is above 0.
 fn is_positive(value: Option<i128>) -> bool
@@ -46,7 +45,7 @@ fn judge_bound<P: Elements<Pair>>(
     requires zeros { AreZeros flows.old }
     ensures verdict { (walks : List (List SignedRow))
         → AreNets (length checker.now.plain.instance.now.rows) walks checker.now.plain.table.now
-        → IsLeafVerdictWith (net_of checker.now.plain.instance.now) walks checker.now.marks.now
+        → IsLeafVerdict (Some checker.now.marks.now) (net_of checker.now.plain.instance.now) walks
         checker.now.plain.least (trees.Bound (P.elements pairs)) (node_of ranges.now) line result }
     ensures zeros { AreZeros flows.new }
 {
@@ -85,7 +84,7 @@ fn judge_nothing<P: Elements<Pair>>(
     requires zeros { AreZeros flows.old }
     ensures verdict { (walks : List (List SignedRow))
         → AreNets (length checker.now.plain.instance.now.rows) walks checker.now.plain.table.now
-        → IsLeafVerdictWith (net_of checker.now.plain.instance.now) walks checker.now.marks.now
+        → IsLeafVerdict (Some checker.now.marks.now) (net_of checker.now.plain.instance.now) walks
         checker.now.plain.least (trees.Nothing (P.elements pairs)) (node_of ranges.now) line result }
     ensures zeros { AreZeros flows.new }
 {
@@ -131,7 +130,7 @@ pub fn judge_leaf<P: Elements<Pair>>(
     requires zeros { AreZeros flows.old }
     ensures verdict { (walks : List (List SignedRow))
         → AreNets (length checker.now.plain.instance.now.rows) walks checker.now.plain.table.now
-        → IsLeafVerdictWith (net_of checker.now.plain.instance.now) walks checker.now.marks.now
+        → IsLeafVerdict (Some checker.now.marks.now) (net_of checker.now.plain.instance.now) walks
         checker.now.plain.least (leaf_said P.elements leaf) (node_of ranges.now) line result }
     ensures zeros { AreZeros flows.new }
 {

@@ -5,17 +5,15 @@ ghost use Rattle.pesp_problem.specs.declared.limits.TheConstants.{MOST_LINES};
 ghost use Rattle.pesp_problem.specs.declared.row.SignedRow.{SignedRow};
 ghost use Rattle.pesp_problem.specs.Arcs.{net_of};
 ghost use Rattle.pesp_problem.specs.Nodes as nodes;
-ghost use Rattle.pesp_truth.specs.Trees.{are_trees};
+ghost use Rattle.pesp_truth.specs.Trees.{are_trees, AreSound};
 ghost use Rattle.pesp_truth.specs.Certificates.{line_of};
 ghost use Rattle.pesp_nets.specs.Nets.{AreZeros, AreNets};
-ghost use Rattle.pesp_judges.specs.Lines.{KeepsLineLimits};
-ghost use Rattle.pesp_sharp_truth.specs.Trees.{AreSoundWith};
-ghost use Rattle.pesp_sharp_check.specs.Lines.{IsLinesFaultWith};
+ghost use Rattle.pesp_judges.specs.Lines.{KeepsLineLimits, IsLinesFault};
 
 use crate::checker::MarksChecker;
 use crate::tree::take_line;
 use pesp_judges::{NodeWalk, Refusal, root, said_by};
-use pesp_sharp_leaf::Rates;
+use pesp_nets::Rates;
 use pesp_truth::TreeLine;
 use std::alloc::{AllocError, Global};
 
@@ -39,11 +37,10 @@ pub fn judge_tree(
     ensures { IfOk result (λ found. (walks : List (List SignedRow))
         → AreNets (length checker.now.plain.instance.now.rows) walks checker.now.plain.table.now
         → MatchOption found
-        (AreSoundWith (net_of checker.now.plain.instance.now) walks checker.now.marks.now
+        (AreSound (Some checker.now.marks.now) (net_of checker.now.plain.instance.now) walks
         checker.now.plain.least (map line_of lines.now)
         (nodes.root (net_of checker.now.plain.instance.now) walks ∷ []))
-        (λ refusal. IsLinesFaultWith (net_of checker.now.plain.instance.now) walks
-        checker.now.marks.now checker.now.plain.least (map line_of lines.now)
+        (λ refusal. IsLinesFault (Some checker.now.marks.now) (net_of checker.now.plain.instance.now) walks checker.now.plain.least (map line_of lines.now)
         (nodes.root (net_of checker.now.plain.instance.now) walks ∷ []) first refusal)) }
 {
     let ranges = root(alloc, checker.plain.instance, checker.plain.table)?;

@@ -4,8 +4,8 @@ ghost use Rattle.std.specs.Prelude.{◌≡◌, ◌≤◌, length, All, IfOk, OnO
 ghost use Rattle.pesp_problem.specs.declared.limits.TheConstants.{MOST_CYCLES};
 ghost use Rattle.pesp_problem.specs.Arcs.{arcs_of};
 ghost use Rattle.pesp_nets.specs.Nets.{AreZeros};
-ghost use Rattle.pesp_sharp.specs.Marked.{IsMarkedWalk};
-ghost use Rattle.pesp_sharp_check.specs.Verdicts.{IsMarkFault};
+ghost use Rattle.pesp_nets.specs.Marked.{IsMarkedWalk};
+ghost use Rattle.pesp_judges.specs.Faults.{IsMarkFault};
 
 use crate::elements::UnmarkedRows;
 use pesp_judges::{Refusal, judge_cycle};

@@ -1,8 +1,8 @@
 //! What the pairs of a leaf name.
 
 ghost use Rattle.std.specs.Prelude.{◌≡◌, ◌↔◌, IsTrue, length, true};
-ghost use Rattle.pesp_sharp_truth.specs.Marks as marks;
-ghost use Rattle.pesp_sharp_truth.specs.Marks.{IsNamed, AreNamed};
+ghost use Rattle.pesp_truth.specs.Marks as marks;
+ghost use Rattle.pesp_truth.specs.Marks.{IsNamed, AreNamed};
 
 use pesp_judges::Elements;
 use pesp_problem::Pair;

@@ -5,16 +5,15 @@ ghost use Rattle.pesp_problem.specs.declared.row.SignedRow.{SignedRow};
 ghost use Rattle.pesp_problem.specs.Arcs.{net_of};
 ghost use Rattle.pesp_truth.specs.Trees.{EndLine};
 ghost use Rattle.pesp_nets.specs.Nets.{AreZeros, AreNets};
-ghost use Rattle.pesp_judges.specs.Lines.{after};
+ghost use Rattle.pesp_judges.specs.Lines.{after, IsLineVerdict};
 ghost use Rattle.pesp_judges.specs.LeafLines.{leaf_said, KeepsLeafLimits};
 ghost use Rattle.pesp_judges.specs.SaidLines.{line_said, KeepsSaidLimits};
-ghost use Rattle.pesp_sharp_check.specs.Lines.{IsLineVerdictWith};
 
 use crate::checker::MarksChecker;
 use crate::judge_leaf::judge_leaf;
 use pesp_judges::{Elements, LeafLine, NodeWalk, Refusal, SaidLine, take_line as take_plain_line};
+use pesp_nets::Rates;
 use pesp_problem::Pair;
-use pesp_sharp_leaf::Rates;
 use std::alloc::{AllocError, Global};
 
 /// Takes a leaf: it is judged at the first of the nodes that wait, and the next one is the first then.
@@ -37,7 +36,7 @@ fn take_leaf<P: Elements<Pair>>(
     ensures cycles { walk.new.cycles ≡ length checker.now.plain.table.now }
     ensures verdict { (walks : List (List SignedRow))
         → AreNets (length checker.now.plain.instance.now.rows) walks checker.now.plain.table.now
-        → IsLineVerdictWith (net_of checker.now.plain.instance.now) walks checker.now.marks.now
+        → IsLineVerdict (Some checker.now.marks.now) (net_of checker.now.plain.instance.now) walks
         checker.now.plain.least (EndLine (leaf_said P.elements leaf)) walk.old.nodes walk.new.nodes
         line result }
     ensures nodes { IfNone result
@@ -71,7 +70,7 @@ pub fn take_line<P: Elements<Pair>>(
     ensures cycles { walk.new.cycles ≡ length checker.now.plain.table.now }
     ensures verdict { IfOk result (λ found. (walks : List (List SignedRow))
         → AreNets (length checker.now.plain.instance.now.rows) walks checker.now.plain.table.now
-        → IsLineVerdictWith (net_of checker.now.plain.instance.now) walks checker.now.marks.now
+        → IsLineVerdict (Some checker.now.marks.now) (net_of checker.now.plain.instance.now) walks
         checker.now.plain.least (line_said P.elements said) walk.old.nodes walk.new.nodes line
         found) }
     ensures nodes { IfOk result (λ found. IfNone found

@@ -5,18 +5,18 @@ ghost use Rattle.pesp_problem.specs.declared.row.SignedRow.{SignedRow};
 ghost use Rattle.pesp_problem.specs.Sums.{ceil_div};
 ghost use Rattle.pesp_problem.specs.Arcs.{net_of};
 ghost use Rattle.pesp_nets.specs.Nets.{AreZeros, AreNets};
-ghost use Rattle.pesp_judges.specs.Ranges.{node_of, AreRanges};
+ghost use Rattle.pesp_leaves.specs.Ranges.{node_of, AreRanges};
 ghost use Rattle.pesp_judges.specs.Lines.{ArePairLimits};
-ghost use Rattle.pesp_sharp.specs.Sharp as sharp;
-ghost use Rattle.pesp_sharp_truth.specs.Marks.{AreNamed, uses_walks, scale_of, multipliers};
+ghost use Rattle.pesp_nets.specs.Sharp as sharp;
+ghost use Rattle.pesp_truth.specs.Marks.{AreNamed, uses_walks, scale_of, multipliers};
 
 use crate::checker::MarksChecker;
 use crate::elements::CyclePairs;
 use crate::gains::add_walks;
 use pesp_judges::{Elements, Ranges, add_flows, offset_sum};
+use pesp_nets::{Rates, clear, rows_sum};
 use pesp_problem::Pair;
 use pesp_problem::exact::{plus, times};
-use pesp_sharp_leaf::{Rates, clear, rows_sum};
 
 /// The value of a leaf with these pairs by its scale; none where a cycle of a pair has no offset left. The flows, one a row, are 0
 /// before and after; the rates, one a row, are those of the leaf afterwards.

@@ -1,20 +1,18 @@
 //! The check of a certificate with its front as a whole.
 
-ghost use Rattle.std.specs.Prelude.{◌≡◌, ◌↔◌, ◌+◌, [], ◌∷◌, length, All, Ok, IfOk, MatchOption};
+ghost use Rattle.std.specs.Prelude.{◌≡◌, ◌↔◌, ◌+◌, [], ◌∷◌, length, All, Some, Ok, IfOk, MatchOption};
 ghost use Rattle.pesp_problem.specs.Arcs.{arcs_of, net_of};
 ghost use Rattle.pesp_problem.specs.Limits.{KeepsLimits};
 ghost use Rattle.pesp_problem.specs.Nodes as nodes;
 ghost use Rattle.pesp_truth.specs.Truth.{IsTrueAnswer};
-ghost use Rattle.pesp_truth.specs.Certificates.{lines_of, shown_times};
+ghost use Rattle.pesp_truth.specs.Certificates.{lines_of, shown_times, IsValid};
 ghost use Rattle.pesp_truth.specs.Certificates as spec;
 ghost use Rattle.pesp_nets.specs.Nets.{AreZeros, AreNets};
-ghost use Rattle.pesp_judges.specs.Faults.{first_tree_line};
-ghost use Rattle.pesp_sharp.specs.Marked.{IsMarkedWalk};
-ghost use Rattle.pesp_sharp_truth.specs.Trees.{AreSoundWith};
-ghost use Rattle.pesp_sharp_truth.specs.Certificates.{IsValidWith};
-ghost use Rattle.pesp_sharp_text.specs.Texts.{marks_of, content_of};
-ghost use Rattle.pesp_sharp_check.specs.Lines.{IsLinesFaultWith};
-ghost use Rattle.pesp_sharp_check.specs.Verdicts.{IsFirstFaultWith, IsMarksVerdict, IsFrontVerdict, IsVerdictWith, IsInnerFault, lines_in_front};
+ghost use Rattle.pesp_judges.specs.Faults.{first_tree_line, IsFirstFault, IsVerdict};
+ghost use Rattle.pesp_nets.specs.Marked.{IsMarkedWalk};
+ghost use Rattle.pesp_truth.specs.Trees.{AreSound};
+ghost use Rattle.pesp_judges.specs.Lines.{IsLinesFault};
+ghost use Rattle.pesp_sharp_check.specs.Verdicts.{IsInnerFault};
 
 use crate::checker::MarksChecker;
 use crate::judge_tree::judge_tree;
@@ -22,10 +20,10 @@ use crate::judge_walks::judge_walks;
 use pesp_cert::Certificate;
 use pesp_check::check;
 use pesp_judges::{Checker, Nets, Refusal, Verdict, judge_answer, judge_cycles, least_of, zeros};
+use pesp_nets::no_rates;
 use pesp_problem::{Instance, Memory};
-use pesp_sharp_leaf::no_rates;
 use pesp_sharp_text::{Fronted, Marks};
-use pesp_sharp_truth::laws::valid_with_is_true;
+use pesp_truth::laws::valid_is_true;
 use std::alloc::Global;
 
 /// The first fault of the tree, where all cycles are walks and all marked walks are closed.
@@ -42,13 +40,13 @@ fn tree_fault(
     requires long { length working.old ≡ length instance.now.rows }
     requires zeros { AreZeros working.old }
     ensures { IfOk result (λ found. MatchOption found
-        (AreSoundWith (net_of instance.now) certificate.now.cycles marks.now
+        (AreSound (Some marks.now) (net_of instance.now) certificate.now.cycles
         (spec.least_of certificate.now.answer) (lines_of certificate.now)
         (nodes.root (net_of instance.now) certificate.now.cycles ∷ []))
-        (λ refusal. IsLinesFaultWith (net_of instance.now) certificate.now.cycles marks.now
+        (λ refusal. IsLinesFault (Some marks.now) (net_of instance.now) certificate.now.cycles
         (spec.least_of certificate.now.answer) (lines_of certificate.now)
         (nodes.root (net_of instance.now) certificate.now.cycles ∷ [])
-        (lines_in_front marks.now + first_tree_line certificate.now) refusal)) }
+        (first_tree_line (Some marks.now) certificate.now) refusal)) }
 {
     let front = 2 + marks.walks().len() as u64;
     let own = 4 + certificate.times().len() as u64 + certificate.cycles().len() as u64;
@@ -57,7 +55,7 @@ fn tree_fault(
     let checker = MarksChecker::new(plain, &arcs, marks);
     let mut rates = no_rates(alloc, working.len())?;
     let lines = certificate.tree();
-    Ok(judge_tree(alloc, &checker, lines, front + own, working, &mut rates)?)
+    Ok(judge_tree(alloc, &checker, lines, own + front, working, &mut rates)?)
 }
 
 /// The first fault of the marked walks, or of the tree, where all cycles are walks.
@@ -74,7 +72,7 @@ fn marks_fault(
     requires zeros { AreZeros working.old }
     ensures { IfOk result (λ found. MatchOption found
         (All (IsMarkedWalk (arcs_of instance.now)) marks.now.walks
-        × AreSoundWith (net_of instance.now) certificate.now.cycles marks.now
+        × AreSound (Some marks.now) (net_of instance.now) certificate.now.cycles
         (spec.least_of certificate.now.answer) (lines_of certificate.now)
         (nodes.root (net_of instance.now) certificate.now.cycles ∷ []))
         (λ refusal. IsInnerFault instance.now marks.now certificate.now refusal)) }
@@ -95,8 +93,8 @@ fn first_fault(
     certificate: &Certificate,
 ) -> Result<Option<Refusal>, Memory>
     ensures found { IfOk result (λ found. MatchOption found
-        (IsValidWith instance.now (record { marks = marks.now; content = certificate.now }))
-        (λ refusal. IsFirstFaultWith instance.now marks.now certificate.now refusal)) }
+        (IsValid (Some marks.now) instance.now certificate.now)
+        (λ refusal. IsFirstFault (Some marks.now) instance.now certificate.now refusal)) }
     ensures limits { KeepsLimits instance.now }
 {
     if certificate.period() != instance.period() {
@@ -108,7 +106,7 @@ fn first_fault(
         return Ok(found);
     }
     let front = 2 + marks.walks().len() as u64;
-    let line = front + (3 + times.len() as u64);
+    let line = 3 + times.len() as u64 + front;
     let mut working = zeros(alloc, instance.rows().len())?;
     match judge_cycles(alloc, instance, certificate.cycles(), line, &mut working)? {
         Ok(table) => marks_fault(alloc, instance, marks, certificate, &table, &mut working),
@@ -124,7 +122,7 @@ fn check_marks(
     certificate: &Certificate,
 ) -> Result<Verdict, Memory>
     ensures verdict { IfOk result
-        (λ verdict. IsMarksVerdict instance.now marks.now certificate.now verdict) }
+        (λ verdict. IsVerdict (Some marks.now) instance.now certificate.now verdict) }
     ensures limits { KeepsLimits instance.now }
 {
     match first_fault(alloc, instance, marks, certificate)? {
@@ -141,16 +139,13 @@ fn check_behind(
     certificate: &Certificate,
 ) -> Result<Verdict, Memory>
     ensures verdict { IfOk result
-        (λ verdict. IsFrontVerdict instance.now front.now certificate.now verdict) }
+        (λ verdict. IsVerdict front.now instance.now certificate.now verdict) }
     ensures exactly { IfOk result (λ verdict. (verdict ≡ Verdict.Accepted)
-        ↔ IsValidWith instance.now (record {
-          marks = marks_of front.now;
-          content = certificate.now;
-        })) }
+        ↔ IsValid front.now instance.now certificate.now) }
     ensures truth { result ≡ Ok Verdict.Accepted
         → IsTrueAnswer instance.now certificate.now.answer (shown_times certificate.now) }
 {
-    valid_with_is_true();
+    valid_is_true();
     match front {
         Some(marks) => check_marks(alloc, instance, marks, certificate),
         None => check(alloc, instance, certificate),
@@ -170,9 +165,9 @@ pub fn check_sharp(
     instance: &Instance,
     certificate: &Fronted,
 ) -> Result<Verdict, Memory>
-    ensures verdict { IfOk result (λ verdict. IsVerdictWith instance.now certificate.now verdict) }
+    ensures verdict { IfOk result (λ verdict. IsVerdict certificate.now.front instance.now certificate.now.content verdict) }
     ensures exactly { IfOk result (λ verdict. (verdict ≡ Verdict.Accepted)
-        ↔ IsValidWith instance.now (content_of certificate.now)) }
+        ↔ IsValid certificate.now.front instance.now certificate.now.content) }
     ensures truth { result ≡ Ok Verdict.Accepted
         → IsTrueAnswer instance.now certificate.now.content.answer
         (shown_times certificate.now.content) }

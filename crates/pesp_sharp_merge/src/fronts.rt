@@ -1,8 +1,8 @@
 //! The cycles and the marked walks of the certificate that comes of two.
 
 use crate::names::Numbering;
+use pesp_nets::MarkedWalk;
 use pesp_problem::{Memory, Walk};
-use pesp_sharp::MarkedWalk;
 use pesp_sharp_text::Marks;
 use std::alloc::Global;
 

@@ -3,10 +3,9 @@ use Rattle.std.proofs.Common.{◌≡◌, ℕ, ◌≤◌, arith, ap, sym, subst, 
 use Rattle.std.specs.Prelude.{Option, Some, None}
 use Rattle.pesp_problem.specs.Timetables.{Pesp}
 use Rattle.pesp_truth.specs.declared.answer.Answer.{Answer}
-use Rattle.pesp_truth.specs.Certificates.{least_of, cost_of}
+use Rattle.pesp_truth.specs.Certificates.{least_of, cost_of, IsValid}
 use Rattle.pesp_machine.specs.States.{IsAtMost}
-use Rattle.pesp_sharp_truth.specs.Certificates.{IsValidWith}
-use Rattle.pesp_sharp_text.specs.Texts.{Fronted, content_of}
+use Rattle.pesp_sharp_text.specs.Texts.{Fronted}
 use Rattle.pesp_sharp_search.specs.Solving.{IsNoWorse}
 use Rattle.pesp_sharp_outside.specs.Cutting.{IsCut}
 use Rattle.pesp_sharp_outside.specs.declared.sharp_graft.SharpReply.{SharpReply}
@@ -36,12 +35,12 @@ no_worse_then a b c h k = (
 
 -- what stands after a work is valid and no worse
 module _ (p : Pesp) (old new : Fronted) (text : List ℕ) where
-  kept : new ≡ old → IsValidWith p (content_of old)
-      → IsValidWith p (content_of new) × IsNoWorse old.content.answer new.content.answer
+  kept : new ≡ old → IsValid old.front p old.content
+      → IsValid new.front p new.content × IsNoWorse old.content.answer new.content.answer
   kept is valid = rw is (valid, itself old.content.answer)
 
-  after_work : (reply : SharpReply) → IsValidWith p (content_of old) → TakesSharpWork p old text reply new
-      → IsValidWith p (content_of new) × IsNoWorse old.content.answer new.content.answer
+  after_work : (reply : SharpReply) → IsValid old.front p old.content → TakesSharpWork p old text reply new
+      → IsValid new.front p new.content × IsNoWorse old.content.answer new.content.answer
   after_work Taken valid h = (h.0, h.1)
   after_work AddsNothing valid h = kept h.0 valid
   after_work (Unread refusal) valid h = kept h.0 valid
@@ -54,12 +53,12 @@ nothing_left (x ∷ xs) e = cc
 
 -- some works were taken, and this is left of the text
 pub record AreTaken (p : Pesp) (base : Fronted) (text rest : List ℕ) (stood : Fronted) (replies : List SharpReply) : Type 0 where
-  pub valid : IsValidWith p (content_of stood)
+  pub valid : IsValid stood.front p stood.content
   pub no_worse : IsNoWorse base.content.answer stood.content.answer
   pub takes : (more : List SharpReply) (new : Fronted) → TakesSharpWorks p stood rest more new
       → TakesSharpWorks p base text (replies ++ more) new
 
-pub none_taken : (p : Pesp) (base : Fronted) (text : List ℕ) → IsValidWith p (content_of base) → AreTaken p base text text base []
+pub none_taken : (p : Pesp) (base : Fronted) (text : List ℕ) → IsValid base.front p base.content → AreTaken p base text text base []
 none_taken p base text valid = record { valid = valid; no_worse = itself base.content.answer; takes = λ more new h. h }
 
 module _ (p : Pesp) (base : Fronted) (text rest : List ℕ) (stood : Fronted) (replies : List SharpReply)

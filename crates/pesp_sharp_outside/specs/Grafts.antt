@@ -2,9 +2,9 @@
 use Rattle.std.specs.Prelude.{◌≡◌, ℕ, List, [], ◌∷◌, Err}
 use Rattle.pesp_problem.specs.Timetables.{Pesp}
 use Rattle.pesp_judges.specs.declared.refusal.Verdict.TheVariants.{Refused}
-use Rattle.pesp_sharp_truth.specs.Certificates.{IsValidWith}
-use Rattle.pesp_sharp_text.specs.Texts.{Fronted, IsFrontedText, content_of, said_of_text}
-use Rattle.pesp_sharp_check.specs.Verdicts.{IsVerdictWith}
+use Rattle.pesp_truth.specs.Certificates.{IsValid}
+use Rattle.pesp_sharp_text.specs.Texts.{Fronted, IsFrontedText, said_of_text}
+use Rattle.pesp_judges.specs.Faults.{IsVerdict}
 use Rattle.pesp_sharp_search.specs.Solving.{IsNoWorse}
 use Rattle.pesp_sharp_outside.specs.Cutting.{IsCut}
 use Rattle.pesp_sharp_outside.specs.declared.sharp_graft.SharpReply.{SharpReply}
@@ -19,14 +19,14 @@ SaysWork text Holds = (work : Fronted) × IsFrontedText text work × Holds work
 -- what is said of a text of a work, of what stood and of what stands then, where this is the reply
 abbrev pub TakesSharpWork : Pesp → Fronted → List ℕ → SharpReply → Fronted → Type 0
 TakesSharpWork p old text Taken new =
-    IsValidWith p (content_of new) × IsNoWorse old.content.answer new.content.answer
-    × SaysWork text (λ work. IsValidWith p (content_of work) × IsNoWorse work.content.answer new.content.answer)
+    IsValid new.front p new.content × IsNoWorse old.content.answer new.content.answer
+    × SaysWork text (λ work. IsValid work.front p work.content × IsNoWorse work.content.answer new.content.answer)
 TakesSharpWork p old text AddsNothing new =
     (new ≡ old)
-    × SaysWork text (λ work. IsValidWith p (content_of work) × IsNoWorse work.content.answer old.content.answer)
+    × SaysWork text (λ work. IsValid work.front p work.content × IsNoWorse work.content.answer old.content.answer)
 TakesSharpWork p old text (Unread refusal) new = (new ≡ old) × (said_of_text text ≡ Err refusal)
-TakesSharpWork p old text (NotValid refusal) new = (new ≡ old) × SaysWork text (λ work. IsVerdictWith p work (Refused refusal))
-TakesSharpWork p old text TooLarge new = (new ≡ old) × SaysWork text (λ work. IsValidWith p (content_of work))
+TakesSharpWork p old text (NotValid refusal) new = (new ≡ old) × SaysWork text (λ work. IsVerdict work.front p work.content (Refused refusal))
+TakesSharpWork p old text TooLarge new = (new ≡ old) × SaysWork text (λ work. IsValid work.front p work.content)
 
 -- ---- works
 
@@ -40,5 +40,5 @@ TakesSharpWorks p old text (reply ∷ replies) new =
 -- what a certificate becomes by works: it is valid with its marked walks, its bound isn't below the base's, and its cost isn't above it
 pub record IsSharpGrafted (p : Pesp) (base : Fronted) (text : List ℕ) (replies : List SharpReply) (c : Fronted) : Type 0 where
   pub takes : TakesSharpWorks p base text replies c
-  pub valid : IsValidWith p (content_of c)
+  pub valid : IsValid c.front p c.content
   pub no_worse : IsNoWorse base.content.answer c.content.answer

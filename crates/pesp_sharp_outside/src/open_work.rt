@@ -1,8 +1,7 @@
 //! Work on open leaves of a certificate.
 
 ghost use Rattle.std.specs.Prelude.{◌<◌, ◌↔◌, All, IfOk, IsTrue, MatchOption};
-ghost use Rattle.pesp_sharp_truth.specs.Certificates.{IsValidWith};
-ghost use Rattle.pesp_sharp_text.specs.Texts.{content_of};
+ghost use Rattle.pesp_truth.specs.Certificates.{IsValid};
 ghost use Rattle.pesp_sharp_search.specs.Solving.{IsSharpResumed};
 ghost use Rattle.pesp_sharp_outside.specs.Jobs.{AreJobsOf};
 
@@ -59,7 +58,7 @@ pub fn work_sharp<W: SharpWatcher>(
     until: Option<u64>,
     watcher: &mut W,
 ) -> Result<Option<Fronted>, Memory>
-    requires { IsValidWith instance.now (content_of base) }
+    requires { IsValid base.front instance.now base.content }
     ensures { IfOk result (λ found. MatchOption found
         (AreJobsOf instance.now base jobs.now → ⊥)
         (λ c. AreJobsOf instance.now base jobs.now × IsSharpResumed instance.now base steps c)) }

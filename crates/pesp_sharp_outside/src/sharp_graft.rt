@@ -1,8 +1,8 @@
 //! Works that are grafted onto a certificate whose leaves may name marked walks.
 
 ghost use Rattle.std.specs.Prelude.{◌≡◌, ◌↔◌, ◌≤◌, ◌^◌, ◌++◌, ◌∷◌, [], length, IfOk, OnOk, IsTrue};
-ghost use Rattle.pesp_sharp_truth.specs.Certificates.{IsValidWith};
-ghost use Rattle.pesp_sharp_text.specs.Texts.{IsFrontedText, content_of};
+ghost use Rattle.pesp_truth.specs.Certificates.{IsValid};
+ghost use Rattle.pesp_sharp_text.specs.Texts.{IsFrontedText};
 ghost use Rattle.pesp_sharp_search.specs.Solving.{IsNoWorse};
 ghost use Rattle.pesp_sharp_outside.specs.Grafts.{TakesSharpWork, IsSharpGrafted};
 
@@ -45,8 +45,8 @@ fn joined(
     stood: &Fronted,
     work: &Fronted,
 ) -> Result<Merged, Memory>
-    requires stood { IsValidWith instance.now (content_of stood.now) }
-    requires work { IsValidWith instance.now (content_of work.now) }
+    requires stood { IsValid stood.now.front instance.now stood.now.content }
+    requires work { IsValid work.now.front instance.now work.now.content }
 {
     let own = costs_shown(alloc, instance, stood)?;
     let other = costs_shown(alloc, instance, work)?;
@@ -69,7 +69,7 @@ fn is_better(
     work: &Fronted,
     joined: &Fronted,
 ) -> Result<bool, Memory>
-    ensures { IfOk result (λ better. IsTrue better ↔ IsValidWith instance.now (content_of joined.now)
+    ensures { IfOk result (λ better. IsTrue better ↔ IsValid joined.now.front instance.now joined.now.content
         × IsNoWorse stood.now.content.answer joined.now.content.answer
         × IsNoWorse work.now.content.answer joined.now.content.answer) }
 {
@@ -101,8 +101,8 @@ fn take_valid(
     work: &Fronted,
     text: &[u8],
 ) -> Result<SharpReply, Memory>
-    requires stood { IsValidWith instance.now (content_of stood.old) }
-    requires work { IsValidWith instance.now (content_of work.now) }
+    requires stood { IsValid stood.old.front instance.now stood.old.content }
+    requires work { IsValid work.now.front instance.now work.now.content }
     requires text { IsFrontedText text.now work.now }
     ensures { IfOk result (λ reply. TakesSharpWork instance.now stood.old text.now reply stood.new) }
 {
@@ -132,7 +132,7 @@ fn take_work(
     text: &[u8],
 ) -> Result<SharpReply, Memory>
     requires short { length text.now ≤ 2 ^ 62 }
-    requires stood { IsValidWith instance.now (content_of stood.old) }
+    requires stood { IsValid stood.old.front instance.now stood.old.content }
     ensures { IfOk result (λ reply. TakesSharpWork instance.now stood.old text.now reply stood.new) }
 {
     let work = match parse_fronted(alloc, text) {
@@ -156,7 +156,7 @@ pub fn graft_sharp(
     works: &[u8],
 ) -> Result<SharpGraft, Memory>
     requires short { length works.now ≤ 2 ^ 62 }
-    requires valid { IsValidWith instance.now (content_of base) }
+    requires valid { IsValid base.front instance.now base.content }
     ensures { IfOk result (λ graft. IsSharpGrafted instance.now base works.now graft.replies.items graft.fronted) }
 {
     let mut stood = base;

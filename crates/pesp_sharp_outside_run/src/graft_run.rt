@@ -4,9 +4,7 @@ ghost use Rattle.std.specs.Prelude.{◌≡◌, ◌≢◌, ◌<◌, ◌≤◌, �
 ghost use Rattle.std.specs.Io.KnownBytes.{Appends};
 ghost use Rattle.pesp_stream.specs.Counts.{FewerThan, HasWorked};
 ghost use Rattle.pesp_truth.specs.Truth.{IsTrueAnswer};
-ghost use Rattle.pesp_truth.specs.Certificates.{shown_times};
-ghost use Rattle.pesp_sharp_truth.specs.Certificates.{IsValidWith};
-ghost use Rattle.pesp_sharp_text.specs.Texts.{content_of};
+ghost use Rattle.pesp_truth.specs.Certificates.{shown_times, IsValid};
 ghost use Rattle.pesp_check_run.specs.Devices.{over};
 ghost use Rattle.pesp_problem.specs.declared.limits.TheConstants.{MOST_TEXT};
 ghost use Rattle.pesp_stream.specs.Reading.{ReadsText};
@@ -21,8 +19,8 @@ use pesp_problem::{Instance, Memory};
 use pesp_sharp_outside::{SharpGraft, graft_sharp};
 use pesp_sharp_solve_run::{has_text, read_sharp_base};
 use pesp_sharp_text::{Fronted, print_fronted};
-use pesp_sharp_truth::laws::valid_with_is_true;
 use pesp_stream::{Bytes, Sink, Source, print_to, read_all};
+use pesp_truth::laws::valid_is_true;
 use std::alloc::Global;
 
 /// Reads works: at most 1,073,741,824 bytes.
@@ -49,13 +47,13 @@ fn grafted(
     works: &[u8],
 ) -> Result<SharpGraft, Memory>
     requires short { length works.now ≤ 2 ^ 62 }
-    requires valid { IsValidWith instance.now (content_of base) }
+    requires valid { IsValid base.front instance.now base.content }
     ensures grafted { IfOk result
         (λ graft. IsSharpGrafted instance.now base works.now graft.replies.items graft.fronted) }
     ensures is_true { IfOk result (λ graft. IsTrueAnswer instance.now graft.fronted.content.answer
         (shown_times graft.fronted.content)) }
 {
-    valid_with_is_true();
+    valid_is_true();
     instance.period();
     let found = graft_sharp(alloc, instance, base, works)?;
     Ok(found)
@@ -71,7 +69,7 @@ fn write_graft<W: Sink, E: Sink>(
     teller: &mut E,
 ) -> Result<(), Fault>
     requires short { length works.now ≤ 2 ^ 62 }
-    requires valid { IsValidWith instance.now (content_of base) }
+    requires valid { IsValid base.front instance.now base.content }
     requires writes_fit { FewerThan (2 ^ 63) (W.calls writer.old) }
     requires tellings_fit { FewerThan (2 ^ 63) (E.calls teller.old) }
     ensures ok { OnOk result (WritesSharpGraft instance.now base works.now

@@ -3,8 +3,7 @@
 ghost use Rattle.std.specs.Prelude.{◌≡◌, ◌≢◌, ◌<◌, ◌^◌, OnOk, IfErr};
 ghost use Rattle.std.specs.Io.KnownBytes.{Appends};
 ghost use Rattle.pesp_stream.specs.Counts.{FewerThan, HasWorked};
-ghost use Rattle.pesp_sharp_truth.specs.Certificates.{IsValidWith};
-ghost use Rattle.pesp_sharp_text.specs.Texts.{content_of};
+ghost use Rattle.pesp_truth.specs.Certificates.{IsValid};
 ghost use Rattle.pesp_check_run.specs.Devices.{over, HasFailed, GetsFront};
 ghost use Rattle.pesp_faults.specs.Causes.{OutCause};
 ghost use Rattle.pesp_sharp_solve_run.specs.Resuming.{HasSharpBase};
@@ -25,7 +24,7 @@ fn write_jobs<W: Sink>(
     base: &Fronted,
     writer: &mut W,
 ) -> Result<(), Fault>
-    requires valid { IsValidWith instance.now (content_of base.now) }
+    requires valid { IsValid base.now.front instance.now base.now.content }
     requires fits { FewerThan (2 ^ 63) (W.calls writer.old) }
     ensures ok { OnOk result (WritesSharpJobs instance.now base.now
         (Appends (W.contents writer.old) (W.contents writer.new))) }

@@ -4,9 +4,7 @@ ghost use Rattle.std.specs.Prelude.{◌≡◌, ◌≢◌, ◌⊎◌, ◌<◌, �
 ghost use Rattle.std.specs.Io.KnownBytes.{Appends};
 ghost use Rattle.pesp_stream.specs.Counts.{FewerThan, HasWorked};
 ghost use Rattle.pesp_truth.specs.Truth.{IsTrueAnswer};
-ghost use Rattle.pesp_truth.specs.Certificates.{shown_times};
-ghost use Rattle.pesp_sharp_truth.specs.Certificates.{IsValidWith};
-ghost use Rattle.pesp_sharp_text.specs.Texts.{content_of};
+ghost use Rattle.pesp_truth.specs.Certificates.{shown_times, IsValid};
 ghost use Rattle.pesp_sharp_search.specs.Solving.{IsSharpResumed};
 ghost use Rattle.pesp_check_run.specs.Devices.{over, HasFailed, GetsFront};
 ghost use Rattle.pesp_faults.specs.Causes.{OutCause};
@@ -19,8 +17,8 @@ use pesp_problem::Instance;
 use pesp_sharp_outside::{Unwatched, work_sharp};
 use pesp_sharp_solve_run::{has_text, read_sharp_base};
 use pesp_sharp_text::{Fronted, print_fronted};
-use pesp_sharp_truth::laws::valid_with_is_true;
 use pesp_stream::{Sink, Source};
+use pesp_truth::laws::valid_is_true;
 use std::alloc::Global;
 
 /// A certificate that comes of work on open leaves of a valid one.
@@ -32,14 +30,14 @@ fn worked(
     until: Option<u64>,
     jobs: &[u64],
 ) -> Result<Fronted, Fault>
-    requires { IsValidWith instance.now (content_of base) }
+    requires { IsValid base.front instance.now base.content }
     ensures jobs { IfOk result (λ _. AreJobsOf instance.now base jobs.now) }
     ensures worked { IfOk result (IsSharpResumed instance.now base steps) }
     ensures is_true { IfOk result (λ fronted.
         IsTrueAnswer instance.now fronted.content.answer (shown_times fronted.content)) }
     ensures cause { IfErr result (λ fault. SharpJobCause fault instance.now base jobs.now) }
 {
-    valid_with_is_true();
+    valid_is_true();
     instance.period();
     match work_sharp(alloc, instance, base, jobs, steps, until, &mut Unwatched)? {
         Some(found) => Ok(found),
@@ -57,7 +55,7 @@ fn write_work<W: Sink>(
     until: Option<u64>,
     jobs: &[u64],
 ) -> Result<(), Fault>
-    requires valid { IsValidWith instance.now (content_of base) }
+    requires valid { IsValid base.front instance.now base.content }
     requires fits { FewerThan (2 ^ 63) (W.calls writer.old) }
     ensures ok { OnOk result (WritesSharpWork instance.now base jobs.now steps
         (Appends (W.contents writer.old) (W.contents writer.new))) }

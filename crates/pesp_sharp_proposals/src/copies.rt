@@ -1,7 +1,7 @@
 //! Copies of a certificate's parts.
 
+use pesp_nets::MarkedWalk;
 use pesp_problem::{Memory, Pairs, Walk};
-use pesp_sharp::MarkedWalk;
 use pesp_truth::TreeLine;
 use std::alloc::Global;
 

@@ -2,9 +2,9 @@
 
 use crate::copies::copied_marked;
 use crate::scales::growth_of;
+use pesp_nets::MarkedWalk;
 use pesp_network::Network;
 use pesp_problem::{Memory, Pair, Pairs};
-use pesp_sharp::MarkedWalk;
 use pesp_sharp_text::Fronted;
 use pesp_sharpening::Line;
 use pesp_truth::TreeLine;

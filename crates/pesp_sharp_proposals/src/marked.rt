@@ -2,10 +2,10 @@
 
 use crate::lifted::lifted_of;
 use pesp_inequalities::Pass;
+use pesp_nets::{MarkedRow, MarkedWalk};
 use pesp_network::NetRow;
 use pesp_problem::{Memory, SignedRow, Walk};
 use pesp_reduce::Reduced;
-use pesp_sharp::{MarkedRow, MarkedWalk};
 use std::alloc::Global;
 
 /// Whether a pass comes from this row of the instance.

@@ -5,16 +5,15 @@ use Rattle.pesp_stream.specs.Reading.{ReadsText}
 use Rattle.pesp_problem.specs.Timetables.{Pesp}
 use Rattle.pesp_truth.specs.declared.answer.Answer.{Answer}
 use Rattle.pesp_truth.specs.Truth.{IsTrueAnswer}
-use Rattle.pesp_truth.specs.Certificates.{shown_times}
+use Rattle.pesp_truth.specs.Certificates.{shown_times, IsValid}
 use Rattle.pesp_cert.specs.declared.refusal.CertRefusal.{CertRefusal}
 use Rattle.pesp_cert.specs.declared.refusal.CertRefusal.TheVariants.{Memory as NoMemory}
 use Rattle.pesp_judges.specs.declared.refusal.Verdict.{Verdict}
 use Rattle.pesp_judges.specs.declared.refusal.Verdict.TheVariants.{Accepted}
 use Rattle.pesp_check_run.specs.declared.fault.VerdictFault.{VerdictFault}
 use Rattle.pesp_check_run.specs.declared.fault.VerdictFault.TheVariants.{Certificate, Memory, Read}
-use Rattle.pesp_sharp_truth.specs.Certificates.{IsValidWith}
-use Rattle.pesp_sharp_text.specs.Texts.{Fronted, IsFrontedText, content_of, said_of_text}
-use Rattle.pesp_sharp_check.specs.Verdicts.{IsVerdictWith}
+use Rattle.pesp_sharp_text.specs.Texts.{Fronted, IsFrontedText, said_of_text}
+use Rattle.pesp_judges.specs.Faults.{IsVerdict}
 
 -- the text is a certificate's, the answer is its answer, and the verdict is the checker's: accepted is exactly what is valid,
 -- and its answer is true then
@@ -22,8 +21,8 @@ pub record Judges (text : List ℕ) (p : Pesp) (verdict : Verdict) (answer : Ans
   pub certificate : Fronted
   pub spelt : IsFrontedText text certificate
   pub answer_is : answer ≡ certificate.content.answer
-  pub said : IsVerdictWith p certificate verdict
-  pub exactly : (verdict ≡ Accepted) ↔ IsValidWith p (content_of certificate)
+  pub said : IsVerdict certificate.front p certificate.content verdict
+  pub exactly : (verdict ≡ Accepted) ↔ IsValid certificate.front p certificate.content
   pub truth : verdict ≡ Accepted → IsTrueAnswer p answer (shown_times certificate.content)
 
 -- a refusal of memory is told as such

@@ -3,14 +3,12 @@ use Rattle.std.proofs.Common.{◌≡◌, ℕ, ◌+◌, ◌≤◌, List, refl, ar
 use Rattle.std.specs.Prelude.{Option, Some, None, IsSomeAnd, ◌↔◌}
 use Rattle.pesp_problem.specs.Timetables.{Pesp, IsTimetable, cost}
 use Rattle.pesp_truth.specs.declared.answer.Answer.{Answer}
-use Rattle.pesp_truth.specs.Certificates.{Content, lines_of, least_of, cost_of}
+use Rattle.pesp_truth.specs.Certificates.{Content, lines_of, least_of, cost_of, IsValid}
 use Rattle.pesp_machine.specs.States.{IsAtMost}
 use Rattle.pesp_sharp_text.specs.Texts.{Fronted}
 use Rattle.pesp_sharp_check.proofs.Fronts.{without_front}
 use Rattle.pesp_search_laws.specs.Rooms.{branch_lines}
 use Rattle.pesp_search.specs.Solving.{IsSolved, CostsNoMore}
-use Rattle.pesp_sharp_truth.specs.Certificates.{IsValidWith}
-use Rattle.pesp_sharp_text.specs.Texts.{content_of}
 use Rattle.pesp_sharp_search.specs.Solving.{IsNoWorse, MayStand, IsSharpSolved, IsSharpResumed}
 
 at_most_itself : (a : Option ℕ) → IsAtMost a a
@@ -37,7 +35,7 @@ stands_longer p answer most more c longer stands =
     record { valid = stands.valid; few = omega (arith, few, longer); no_worse = stands.no_worse }
 
 -- a base stands in its own place
-pub base_stands : (p : Pesp) (base : Fronted) (steps : ℕ) → IsValidWith p (content_of base) → IsSharpResumed p base steps base
+pub base_stands : (p : Pesp) (base : Fronted) (steps : ℕ) → IsValid base.front p base.content → IsSharpResumed p base steps base
 base_stands p base steps valid = record {
   valid = valid;
   few = omega arith;

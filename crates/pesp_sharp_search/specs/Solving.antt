@@ -2,9 +2,8 @@
 use Rattle.std.specs.Prelude.{◌≡◌, ℕ, ◌+◌, ◌≤◌}
 use Rattle.pesp_problem.specs.Timetables.{Pesp}
 use Rattle.pesp_truth.specs.declared.answer.Answer.{Answer}
-use Rattle.pesp_truth.specs.Certificates.{Content, lines_of, least_of, cost_of}
-use Rattle.pesp_sharp_truth.specs.Certificates.{IsValidWith}
-use Rattle.pesp_sharp_text.specs.Texts.{Fronted, content_of}
+use Rattle.pesp_truth.specs.Certificates.{Content, lines_of, least_of, cost_of, IsValid}
+use Rattle.pesp_sharp_text.specs.Texts.{Fronted}
 use Rattle.pesp_machine.specs.States.{IsAtMost}
 use Rattle.pesp_search_laws.specs.Rooms.{branch_lines}
 use Rattle.pesp_search.specs.Solving.{IsSolved}
@@ -16,14 +15,14 @@ IsNoWorse old new = IsAtMost (least_of old) (least_of new) × IsAtMost (cost_of 
 -- a certificate that may stand in an answer's place: it is valid with its marked walks, its tree has at most so many
 -- branches, and it is no worse
 pub record MayStand (p : Pesp) (answer : Answer) (steps : ℕ) (c : Fronted) : Type 0 where
-  pub valid : IsValidWith p (content_of c)
+  pub valid : IsValid c.front p c.content
   pub few : branch_lines (lines_of c.content) ≤ steps
   pub no_worse : IsNoWorse answer c.content.answer
 
 -- a certificate that is valid for the instance with its marked walks; its tree has so many branches, at most so many;
 -- and it is no worse than some answer that a search without marked walks has within 0 steps
 pub record IsSharpSolved (p : Pesp) (steps used : ℕ) (c : Fronted) : Type 0 where
-  pub valid : IsValidWith p (content_of c)
+  pub valid : IsValid c.front p c.content
   pub branches : branch_lines (lines_of c.content) ≡ used
   pub few : used ≤ steps
   pub plain : (content : Content) × IsSolved p 0 0 content × IsNoWorse content.answer c.content.answer

@@ -1,9 +1,7 @@
 //! The choice between a plain answer and what is proposed in its place.
 
 ghost use Rattle.std.specs.Prelude.{◌≡◌, ◌≤◌, ◌↔◌, ℕ, List, IsTrue, IfOk, IfSome, None};
-ghost use Rattle.pesp_truth.specs.Certificates.{lines_of};
-ghost use Rattle.pesp_sharp_truth.specs.Certificates.{IsValidWith};
-ghost use Rattle.pesp_sharp_text.specs.Texts.{content_of};
+ghost use Rattle.pesp_truth.specs.Certificates.{lines_of, IsValid};
 ghost use Rattle.pesp_search_laws.specs.Rooms.{branch_lines};
 ghost use Rattle.pesp_search.specs.Solving.{IsSolved, CostsNoMore};
 ghost use Rattle.pesp_sharp_search.specs.Solving.{MayStand, IsSharpSolved};
@@ -35,7 +33,7 @@ pub(crate) fn branches_of(certificate: &Certificate) -> u32
 
 /// Whether the checker accepts a certificate.
 fn is_accepted(alloc: Global, instance: &Instance, fronted: &Fronted) -> Result<bool, Memory>
-    ensures { IfOk result (λ accepted. IsTrue accepted ↔ IsValidWith instance.now (content_of fronted.now)) }
+    ensures { IfOk result (λ accepted. IsTrue accepted ↔ IsValid fronted.now.front instance.now fronted.now.content) }
 {
     match check_sharp(alloc, instance, fronted)? {
         Verdict::Accepted => Ok(true),

@@ -1,8 +1,7 @@
 //! Searches that go on from a certificate.
 
 ghost use Rattle.std.specs.Prelude.{IfOk};
-ghost use Rattle.pesp_sharp_truth.specs.Certificates.{IsValidWith};
-ghost use Rattle.pesp_sharp_text.specs.Texts.{content_of};
+ghost use Rattle.pesp_truth.specs.Certificates.{IsValid};
 ghost use Rattle.pesp_sharp_search.specs.Solving.{IsSharpResumed};
 
 use crate::choice::{branches_of, first_standing};
@@ -25,7 +24,7 @@ pub fn resume_sharp<W: SharpWatcher>(
     steps: u32,
     watcher: &mut W,
 ) -> Result<Fronted, Memory>
-    requires { IsValidWith instance.now (content_of base) }
+    requires { IsValid base.front instance.now base.content }
     ensures { IfOk result (IsSharpResumed instance.now base steps) }
 {
     let answer = base.certificate.answer();
@@ -48,7 +47,7 @@ pub fn resume_leaves<W: SharpWatcher>(
     steps: u32,
     watcher: &mut W,
 ) -> Result<Fronted, Memory>
-    requires { IsValidWith instance.now (content_of base) }
+    requires { IsValid base.front instance.now base.content }
     ensures { IfOk result (IsSharpResumed instance.now base steps) }
 {
     let answer = base.certificate.answer();

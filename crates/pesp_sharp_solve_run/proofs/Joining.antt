@@ -8,8 +8,8 @@ use Rattle.pesp_instance.specs.Instance.{instance_of}
 use Rattle.pesp_instance.specs.declared.refusal.ReadRefusal.{ReadRefusal}
 use Rattle.pesp_judges.specs.declared.refusal.Verdict.{Verdict}
 use Rattle.pesp_judges.specs.declared.refusal.Verdict.TheVariants.{Accepted}
-use Rattle.pesp_sharp_truth.specs.Certificates.{IsValidWith}
-use Rattle.pesp_sharp_text.specs.Texts.{Fronted, IsFrontedText, fronted_text, content_of}
+use Rattle.pesp_truth.specs.Certificates.{IsValid}
+use Rattle.pesp_sharp_text.specs.Texts.{Fronted, IsFrontedText, fronted_text}
 use Rattle.pesp_sharp_text.proofs.Said.{none_begins}
 use Rattle.pesp_sharp_run.specs.Checking.{ChecksWith}
 use Rattle.pesp_sharp_solve_run.specs.Solving.{SolvesSharp}
@@ -30,8 +30,8 @@ same_certificate bytes front limit c d text spelt is read =
     ∙ take-append-drop limit bytes ∙ sym spelt in
     (none_begins d c front (fronted_text c) (drop limit bytes) read text joined).0
 
-accepted : (p q : Pesp) (c d : Fronted) (verdict : Verdict) → p ≡ q → d ≡ c → IsValidWith p (content_of c)
-    → (verdict ≡ Accepted) ↔ IsValidWith q (content_of d) → verdict ≡ Accepted
+accepted : (p q : Pesp) (c d : Fronted) (verdict : Verdict) → p ≡ q → d ≡ c → IsValid c.front p c.content
+    → (verdict ≡ Accepted) ↔ IsValid d.front q d.content → verdict ≡ Accepted
 accepted p q c d verdict same is valid exactly = exactly.1 (rw (← same, is) valid)
 
 pub accepts_what_is_sharpened : (text before bytes : List ℕ)

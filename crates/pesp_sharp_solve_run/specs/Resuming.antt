@@ -2,11 +2,10 @@
 use Rattle.std.specs.Prelude.{◌≡◌, ◌⊎◌, ℕ, List, Option, Err}
 use Rattle.pesp_problem.specs.Timetables.{Pesp}
 use Rattle.pesp_truth.specs.Truth.{IsTrueAnswer}
-use Rattle.pesp_truth.specs.Certificates.{shown_times}
+use Rattle.pesp_truth.specs.Certificates.{shown_times, IsValid}
 use Rattle.pesp_judges.specs.declared.refusal.Verdict.TheVariants.{Refused}
-use Rattle.pesp_sharp_truth.specs.Certificates.{IsValidWith}
-use Rattle.pesp_sharp_text.specs.Texts.{Fronted, IsFrontedText, fronted_text, content_of, said_of_text}
-use Rattle.pesp_sharp_check.specs.Verdicts.{IsVerdictWith}
+use Rattle.pesp_sharp_text.specs.Texts.{Fronted, IsFrontedText, fronted_text, said_of_text}
+use Rattle.pesp_judges.specs.Faults.{IsVerdict}
 use Rattle.pesp_sharp_search.specs.Solving.{IsSharpResumed}
 use Rattle.pesp_check_run.specs.Devices.{Device, HasFailed, GetsFront}
 use Rattle.pesp_faults.specs.Reading.{ReadsNext, ReadsInstance}
@@ -20,7 +19,7 @@ ReadsFronted told left base = ReadsNext told left (λ text. IsFrontedText text b
 
 -- they are, and it is valid for the instance with its marked walks
 abbrev pub ReadsSharpBase : Option (List ℕ) → Option (List ℕ) → Pesp → Fronted → Type 0
-ReadsSharpBase told left p base = ReadsFronted told left base × IsValidWith p (content_of base)
+ReadsSharpBase told left p base = ReadsFronted told left base × IsValid base.front p base.content
 
 -- the first text has an instance and the second one a base of it, of which this is said
 abbrev pub HasSharpBase : Option (List ℕ) → Option (List ℕ) → Option (List ℕ) → Option (List ℕ) → ℕ → (Pesp → Fronted → Type 0) → Type 0
@@ -46,7 +45,7 @@ ResumesSharp told left told_base left_base period steps Gets =
 abbrev pub SharpBaseCause : Fault → Device → Pesp → Type 0
 SharpBaseCause (Certificate refusal) reader p = ReadsNext reader.old reader.new (λ bytes. said_of_text bytes ≡ Err refusal)
 SharpBaseCause (Base refusal) reader p =
-    (base : Fronted) × ReadsFronted reader.old reader.new base × IsVerdictWith p base (Refused refusal)
+    (base : Fronted) × ReadsFronted reader.old reader.new base × IsVerdict base.front p base.content (Refused refusal)
 SharpBaseCause Memory reader p = Unit {0}
 SharpBaseCause Read reader p = HasFailed reader
 SharpBaseCause fault reader p = ⊥

@@ -4,9 +4,7 @@ ghost use Rattle.std.specs.Prelude.{◌≡◌, ◌≢◌, ◌<◌, ◌^◌, OnOk
 ghost use Rattle.std.specs.Io.KnownBytes.{Appends};
 ghost use Rattle.pesp_stream.specs.Counts.{FewerThan, HasWorked};
 ghost use Rattle.pesp_truth.specs.Truth.{IsTrueAnswer};
-ghost use Rattle.pesp_truth.specs.Certificates.{shown_times};
-ghost use Rattle.pesp_sharp_truth.specs.Certificates.{IsValidWith};
-ghost use Rattle.pesp_sharp_text.specs.Texts.{content_of};
+ghost use Rattle.pesp_truth.specs.Certificates.{shown_times, IsValid};
 ghost use Rattle.pesp_sharp_search.specs.Solving.{IsSharpResumed};
 ghost use Rattle.pesp_check_run.specs.Devices.{over, HasFailed, GetsFront};
 ghost use Rattle.pesp_faults.specs.Causes.{OutCause};
@@ -18,8 +16,8 @@ use pesp_faults::{Fault, read_whole_instance};
 use pesp_problem::{Instance, Memory};
 use pesp_sharp_search::{SharpWatcher, resume_sharp};
 use pesp_sharp_text::{Fronted, print_fronted};
-use pesp_sharp_truth::laws::valid_with_is_true;
 use pesp_stream::{Sink, Source};
+use pesp_truth::laws::valid_is_true;
 use std::alloc::Global;
 
 /// A certificate to which a search leads from a base within so many steps, while a watcher looks on.
@@ -30,12 +28,12 @@ fn resumed<T: SharpWatcher>(
     steps: u32,
     watcher: &mut T,
 ) -> Result<Fronted, Memory>
-    requires { IsValidWith instance.now (content_of base) }
+    requires { IsValid base.front instance.now base.content }
     ensures resumed { IfOk result (IsSharpResumed instance.now base steps) }
     ensures is_true { IfOk result (λ fronted.
         IsTrueAnswer instance.now fronted.content.answer (shown_times fronted.content)) }
 {
-    valid_with_is_true();
+    valid_is_true();
     instance.period();
     let found = resume_sharp(alloc, instance, base, steps, watcher)?;
     Ok(found)
@@ -50,7 +48,7 @@ fn write_resumed<W: Sink, T: SharpWatcher>(
     steps: u32,
     watcher: &mut T,
 ) -> Result<(), Fault>
-    requires valid { IsValidWith instance.now (content_of base) }
+    requires valid { IsValid base.front instance.now base.content }
     requires fits { FewerThan (2 ^ 63) (W.calls writer.old) }
     ensures ok { OnOk result (WritesSharpResumed instance.now base steps
         (Appends (W.contents writer.old) (W.contents writer.new))) }

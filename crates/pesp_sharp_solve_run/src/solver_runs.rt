@@ -17,8 +17,8 @@ use pesp_faults::{Fault, read_timetable, read_whole_instance};
 use pesp_problem::Instance;
 use pesp_sharp_search::{SharpObserver, SolveRefusal, solve_sharp};
 use pesp_sharp_text::{Fronted, print_fronted};
-use pesp_sharp_truth::laws::valid_with_is_true;
 use pesp_stream::{Sink, Source};
+use pesp_truth::laws::valid_is_true;
 use std::alloc::Global;
 
 /// A certificate of what the search finds from these times within so many steps, while an observer looks on.
@@ -38,7 +38,7 @@ fn solved<O: SharpObserver>(
     ensures refused { IfErr result (IsSearchRefusal instance.now 0) }
     ensures passed { IfErr result (MeetsLimit instance.now 0) }
 {
-    valid_with_is_true();
+    valid_is_true();
     instance.period();
     let found = solve_sharp(alloc, instance, times, steps, observer)?;
     Ok(found.fronted)

@@ -24,8 +24,8 @@ use Rattle.pesp_cert.specs.declared.refusal.CertRefusal.TheVariants as refusals
 use Rattle.pesp_cert.specs.Refusals.{refusal_at}
 use Rattle.pesp_cert.proofs.TextLaws.{line_lf, no_lf}
 use Rattle.pesp_cert.proofs.TextSteps.{nonempty}
-use Rattle.pesp_sharp.specs.declared.marked.MarkedRow.{MarkedRow}
-use Rattle.pesp_sharp_truth.specs.Marks.{Marks}
+use Rattle.pesp_nets.specs.declared.marked.MarkedRow.{MarkedRow}
+use Rattle.pesp_truth.specs.Marks.{Marks}
 use Rattle.pesp_sharp_text.specs.Rows.{marked_words, are_named}
 use Rattle.pesp_sharp_text.specs.Limits.{is_scale, is_walk, total_rows, are_few, keeps_limits, KeepsLimits}
 use Rattle.pesp_sharp_text.specs.Lines.{is_header, scale_of, scale_in, scale_at, begins_walk, is_walk_line, rows_behind, walk_in, walk_at}

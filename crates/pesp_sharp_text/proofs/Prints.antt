@@ -5,8 +5,8 @@ use Rattle.std.specs.List.{flat_map}
 use Rattle.std.proofs.lemmas.List.{append-nil}
 use Rattle.std.proofs.lemmas.List.Concat.{flat_map-cons}
 use Rattle.pesp_text.specs.Words.{spaced}
-use Rattle.pesp_sharp.specs.declared.marked.MarkedRow.{MarkedRow}
-use Rattle.pesp_sharp_truth.specs.Marks.{Marks}
+use Rattle.pesp_nets.specs.declared.marked.MarkedRow.{MarkedRow}
+use Rattle.pesp_truth.specs.Marks.{Marks}
 use Rattle.pesp_sharp_text.specs.Rows.{marked_words}
 use Rattle.pesp_sharp_text.specs.Texts.{walk_line, front_text}
 use Rattle.pesp_sharp_text.specs.Print.{row_text, rows_text, walk_text}

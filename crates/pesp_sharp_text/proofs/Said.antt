@@ -30,7 +30,7 @@ use Rattle.pesp_cert.specs.Texts.{HasText, items_of, spelling, is_end, time_item
 use Rattle.pesp_cert.specs.Refusals.{items_from, items_of_text, onto, is_nothing, refusal_at, later_refusal}
 use Rattle.pesp_cert.proofs.TextLaws.{line_cut, text_found_of, text_read_of, none_begins_another}
 use Rattle.pesp_cert.proofs.TextSteps.{nonempty}
-use Rattle.pesp_sharp_truth.specs.Marks.{Marks}
+use Rattle.pesp_truth.specs.Marks.{Marks}
 use Rattle.pesp_sharp_text.specs.Limits.{KeepsLimits}
 use Rattle.pesp_sharp_text.specs.Lines.{is_header, begins_walk, is_walk_line}
 use Rattle.pesp_sharp_text.specs.Faults.{IsRefusal}

@@ -4,7 +4,7 @@ use Rattle.std.specs.Prelude.{if◌then◌else◌}
 use Rattle.pesp_cert_lines.specs.declared.fault.LineFault.{LineFault}
 use Rattle.pesp_cert_lines.specs.declared.fault.LineFault.TheVariants.{Number, Limit}
 use Rattle.pesp_cert_lines.specs.Rows.{is_name, both}
-use Rattle.pesp_sharp.specs.declared.marked.MarkedRow.{MarkedRow}
+use Rattle.pesp_nets.specs.declared.marked.MarkedRow.{MarkedRow}
 use Rattle.pesp_sharp_text.specs.Rows.{marked_at, marked_made, marked_of, are_named, behind_rows, walk_of}
 
 -- what the rest gives behind the rows so far is what all gives

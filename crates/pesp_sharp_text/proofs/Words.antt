@@ -18,7 +18,7 @@ use Rattle.pesp_cert_lines.proofs.Tests.{cases, and_left, and_right, and_both}
 use Rattle.pesp_cert_lines.proofs.WordLaws.{row_spells, row_read, both_some, joined, named_below}
 use Rattle.pesp_cert_lines.proofs.LineLaws.{is_inner, is_plain, all_plain, item_plain}
 use Rattle.pesp_cert.proofs.ShortLaws.{rows_len}
-use Rattle.pesp_sharp.specs.declared.marked.MarkedRow.{MarkedRow}
+use Rattle.pesp_nets.specs.declared.marked.MarkedRow.{MarkedRow}
 use Rattle.pesp_sharp_text.specs.Rows.{star, marked_word, marked_words, are_named, is_starred, but_last, with_mark, marked_at, marked_made, marked_of, behind_rows, walk_of}
 
 -- ---- the last byte

@@ -5,8 +5,8 @@ use Rattle.pesp_cert_lines.specs.Lines.{LONGEST}
 use Rattle.pesp_cert.specs.declared.refusal.CertRefusal.{CertRefusal}
 use Rattle.pesp_cert.specs.declared.refusal.CertRefusal.TheVariants as refusals
 use Rattle.pesp_cert.specs.Refusals.{refusal_at}
-use Rattle.pesp_sharp.specs.declared.marked.MarkedRow.{MarkedRow}
-use Rattle.pesp_sharp_truth.specs.Marks.{Marks}
+use Rattle.pesp_nets.specs.declared.marked.MarkedRow.{MarkedRow}
+use Rattle.pesp_truth.specs.Marks.{Marks}
 use Rattle.pesp_sharp_text.specs.Limits.{are_few}
 use Rattle.pesp_sharp_text.specs.Lines.{is_header, scale_at, is_walk_line, walk_at}
 

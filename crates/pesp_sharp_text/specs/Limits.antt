@@ -2,8 +2,8 @@
 use Rattle.std.specs.Prelude.{◌≡◌, ℕ, ◌≤◌, Bool, ◌&&◌, true, nat_le, List, length}
 use Rattle.std.specs.List.{list_all, sum_by}
 use Rattle.pesp_problem.specs.declared.limits.TheConstants.{MOST_CYCLES, MOST_SCALE, MOST_SIGNED_ROWS}
-use Rattle.pesp_sharp.specs.declared.marked.MarkedRow.{MarkedRow}
-use Rattle.pesp_sharp_truth.specs.Marks.{Marks}
+use Rattle.pesp_nets.specs.declared.marked.MarkedRow.{MarkedRow}
+use Rattle.pesp_truth.specs.Marks.{Marks}
 use Rattle.pesp_sharp_text.specs.Rows.{are_named}
 
 abbrev pub is_scale : ℕ → Bool

@@ -5,7 +5,7 @@ use Rattle.pesp_text.specs.Number.{natural_of}
 use Rattle.pesp_text.specs.Words.{words_of, has_empty}
 use Rattle.pesp_cert_lines.specs.declared.fault.LineFault.{LineFault}
 use Rattle.pesp_cert_lines.specs.declared.fault.LineFault.TheVariants.{Line, Number, Limit}
-use Rattle.pesp_sharp.specs.declared.marked.MarkedRow.{MarkedRow}
+use Rattle.pesp_nets.specs.declared.marked.MarkedRow.{MarkedRow}
 use Rattle.pesp_sharp_text.specs.Rows.{walk_of}
 use Rattle.pesp_sharp_text.specs.Limits.{is_scale}
 

@@ -1,7 +1,7 @@
 -- The text of a front in the pieces in which it is printed.
 use Rattle.std.specs.Prelude.{if◌then◌else◌, ℕ, List, ◌++◌, decimal, codes}
 use Rattle.std.specs.List.{flat_map}
-use Rattle.pesp_sharp.specs.declared.marked.MarkedRow.{MarkedRow}
+use Rattle.pesp_nets.specs.declared.marked.MarkedRow.{MarkedRow}
 use Rattle.pesp_sharp_text.specs.Rows.{star}
 
 abbrev pub row_text : MarkedRow → List ℕ

@@ -4,7 +4,7 @@ use Rattle.std.specs.List.{list_all}
 use Rattle.pesp_cert_lines.specs.declared.fault.LineFault.{LineFault}
 use Rattle.pesp_cert_lines.specs.declared.fault.LineFault.TheVariants.{Number, Limit}
 use Rattle.pesp_cert_lines.specs.Rows.{is_name, row_word, spelt_row, both}
-use Rattle.pesp_sharp.specs.declared.marked.MarkedRow.{MarkedRow}
+use Rattle.pesp_nets.specs.declared.marked.MarkedRow.{MarkedRow}
 
 -- ---- the spelling: a signed row, and `*` behind it where it is flipped
 

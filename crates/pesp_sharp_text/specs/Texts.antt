@@ -8,9 +8,8 @@ use Rattle.pesp_cert.specs.declared.refusal.CertRefusal.{CertRefusal}
 use Rattle.pesp_cert.specs.declared.refusal.CertRefusal.TheVariants as refusals
 use Rattle.pesp_cert.specs.Texts.{HasText, spelling}
 use Rattle.pesp_cert.specs.Refusals.{items_of_text}
-use Rattle.pesp_sharp.specs.declared.marked.MarkedRow.{MarkedRow}
-use Rattle.pesp_sharp_truth.specs.Marks.{Marks}
-use Rattle.pesp_sharp_truth.specs.Certificates.{SharpContent}
+use Rattle.pesp_nets.specs.declared.marked.MarkedRow.{MarkedRow}
+use Rattle.pesp_truth.specs.Marks.{Marks, front_lines}
 use Rattle.pesp_sharp_text.specs.Rows.{marked_words}
 use Rattle.pesp_sharp_text.specs.Limits.{KeepsLimits}
 use Rattle.pesp_sharp_text.specs.Fronts.{Front, front_of}
@@ -52,15 +51,7 @@ abbrev pub marks_of : Option Marks → Marks
 marks_of None = no_marks
 marks_of (Some marks) = marks
 
-abbrev pub content_of : Fronted → SharpContent
-content_of c = record { marks = marks_of c.front; content = c.content }
-
 -- ---- reading
-
--- how many lines a front has
-abbrev pub front_lines : Option Marks → ℕ
-front_lines None = 0
-front_lines (Some marks) = 2 + length marks.walks
 
 -- the line that a refusal names, 0 where it names none
 abbrev pub number_in : CertRefusal → ℕ

@@ -9,8 +9,8 @@ ghost use Rattle.pesp_sharp_text.specs.Fronts.{walks_from, behind_header};
 use crate::lines::{LONGEST, is_walk_line, judge_walk, scale_at};
 use crate::marks::Marks;
 use pesp_cert::{CertRefusal, refusal_at};
+use pesp_nets::{MarkedRow, MarkedWalk};
 use pesp_problem::{MOST_CYCLES, MOST_SIGNED_ROWS, Memory};
-use pesp_sharp::{MarkedRow, MarkedWalk};
 use pesp_text::split_at_byte;
 use std::alloc::Global;
 

@@ -10,7 +10,7 @@ use crate::marks::is_scale;
 use crate::rows::take_rows;
 use pesp_cert::{CertRefusal, refusal_at};
 use pesp_cert_lines::LineFault;
-use pesp_sharp::MarkedRow;
+use pesp_nets::MarkedRow;
 use pesp_text::{Words, count_words, is_word, natural};
 use std::alloc::Global;
 

@@ -6,8 +6,8 @@ ghost use Rattle.pesp_cert_lines.specs.Rows.{is_name};
 ghost use Rattle.pesp_sharp_text.specs.Rows.{are_named};
 ghost use Rattle.pesp_sharp_text.specs.Limits.{is_scale, is_walk, total_rows, keeps_limits, KeepsLimits};
 
+use pesp_nets::{MarkedRow, MarkedWalk};
 use pesp_problem::{MOST_CYCLES, MOST_ROWS, MOST_SCALE, MOST_SIGNED_ROWS};
-use pesp_sharp::{MarkedRow, MarkedWalk};
 use std::marker::Model;
 
 /// The scale of the leaves that name marked walks, and these walks. A leaf names them by numbers that go on from those of
@@ -20,7 +20,7 @@ pub struct Marks {
 
 impl Model for Marks {
     ghost use Rattle.std.specs.Prelude.{◌≡◌, true};
-    ghost use Rattle.pesp_sharp_truth.specs.Marks.{Marks as SpecMarks};
+    ghost use Rattle.pesp_truth.specs.Marks.{Marks as SpecMarks};
     ghost use Rattle.pesp_sharp_text.specs.Limits.{keeps_limits};
 
     ghost Value = { SpecMarks };

@@ -12,7 +12,7 @@ ghost use Rattle.pesp_sharp_text.specs.Rows.{star};
 use crate::fronted::Fronted;
 use crate::marks::Marks;
 use pesp_cert::Number;
-use pesp_sharp::{MarkedRow, MarkedWalk};
+use pesp_nets::{MarkedRow, MarkedWalk};
 use pesp_stream::{Output, Printed, Sink, WriteFault, print_to};
 
 /// A space and a sign.

@@ -9,8 +9,8 @@ ghost use Rattle.pesp_sharp_text.specs.Faults.{IsFault};
 use crate::marks::is_name;
 use pesp_cert::{CertRefusal, refusal_at};
 use pesp_cert_lines::LineFault;
+use pesp_nets::MarkedRow;
 use pesp_problem::{Memory, SignedRow};
-use pesp_sharp::MarkedRow;
 use pesp_text::{Words, natural};
 use std::alloc::Global;
 

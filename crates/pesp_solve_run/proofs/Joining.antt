@@ -34,8 +34,8 @@ same_content bytes front limit c d text spelt is read =
     ∙ sym spelt in
     (none_begins_another d c (drop limit bytes) read.has_text text joined).0
 
-accepted : (p q : Pesp) (c d : Content) (verdict : Verdict) → p ≡ q → d ≡ c → IsValid p c
-    → (verdict ≡ Accepted) ↔ IsValid q d → verdict ≡ Accepted
+accepted : (p q : Pesp) (c d : Content) (verdict : Verdict) → p ≡ q → d ≡ c → IsValid None p c
+    → (verdict ≡ Accepted) ↔ IsValid None q d → verdict ≡ Accepted
 accepted p q c d verdict same is valid exactly = exactly.1 (rw (← same, is) valid)
 
 pub accepts_what_is_solved : (text before bytes : List ℕ)

@@ -1,9 +1,10 @@
 -- A valid certificate's answer is true.
 use Rattle.std.proofs.Common.{ℕ, ◌<◌, List}
-use Rattle.std.specs.Prelude.{ℤ, Some, None}
+use Rattle.std.specs.Prelude.{ℤ, Option, Some, None}
 use Rattle.pesp_problem.specs.Timetables.{Pesp, IsTimetable}
 use Rattle.pesp_truth.specs.declared.answer.Answer.{Answer}
 use Rattle.pesp_truth.specs.declared.answer.Answer.TheVariants.{Optimal, Infeasible, Bounded}
+use Rattle.pesp_truth.specs.Marks.{Marks}
 use Rattle.pesp_truth.specs.Truth.{IsTrueAnswer}
 use Rattle.pesp_truth.specs.Certificates.{Content, IsValid, ShowsAnswer, least_of, shown_times, shown_labels}
 use Rattle.pesp_truth.proofs.Trees.{CostsAtLeast, root_is_right}
@@ -16,7 +17,8 @@ answer_is_true p Infeasible labels times s h = h
 answer_is_true p (Bounded least (Some c)) labels times s h = (s.1.1, s.0, h)
 answer_is_true p (Bounded least None) labels times s h = h
 
-pub valid_is_true : (p : Pesp) (content : Content) → 0 < p.period → IsValid p content → IsTrueAnswer p content.answer (shown_times content)
-valid_is_true p content h v =
+pub valid_is_true : (front : Option Marks) (p : Pesp) (content : Content) → 0 < p.period → IsValid front p content
+    → IsTrueAnswer p content.answer (shown_times content)
+valid_is_true front p content h v =
     answer_is_true p content.answer (shown_labels content) (shown_times content) v.answer
-    (λ times t. root_is_right p content.cycles times (least_of content.answer) v.tree.0 h v.cycles v.tree.2 t)
+    (λ times t. root_is_right front p content.cycles times (least_of content.answer) v.tree.0 h v.cycles v.marks v.tree.2 t)

@@ -1,3 +1,4 @@
+pub mod Marks
 pub mod Trees
 pub mod Lines
 pub mod NoBound
@@ -7,3 +8,11 @@ pub mod Worked
 pub mod Opening
 pub mod Events
 pub mod Leaves
+pub mod Fronts
+pub mod WorkedMarks
+pub mod Passing
+pub mod Agreeing
+pub mod AgreeingLeaves
+pub mod Widening
+pub mod Using
+pub mod Choosing

@@ -32,11 +32,12 @@ nothing = record { period = 10; events = []; rows = [] }
 abbrev nothing_certificate : Content
 nothing_certificate = record { version = 1; period = 10; answer = Optimal 0; times = []; cycles = []; tree = BoundLine [] ∷ [] }
 
-nothing_valid : IsValid nothing nothing_certificate
+nothing_valid : IsValid None nothing nothing_certificate
 nothing_valid = record {
   period = refl;
   answer = (refl, (((refl, All-nil (λ t. t < 10)), All-nil (λ r. IsSatisfied nothing [] r)), refl));
   cycles = All-nil (IsWalk (arcs_of nothing));
+  marks = tt;
   tree = (Ends (Bound []), refl, (no_pairs 0, le_z_yes tt));
 }
 
@@ -52,11 +53,12 @@ one_row_certificate = record {
   tree = BoundLine [] ∷ [];
 }
 
-one_row_valid : IsValid one_row one_row_certificate
+one_row_valid : IsValid None one_row one_row_certificate
 one_row_valid = record {
   period = refl;
   answer = (refl, one_row_timetable);
   cycles = All-nil (IsWalk (arcs_of one_row));
+  marks = tt;
   tree = (Ends (Bound []), refl, (no_pairs 0, le_z_yes tt));
 }
 
@@ -64,11 +66,12 @@ one_row_valid = record {
 abbrev late_certificate : Content
 late_certificate = record { version = 1; period = 60; answer = Bounded 0 None; times = []; cycles = []; tree = BoundLine [] ∷ [] }
 
-late_valid : IsValid late late_certificate
+late_valid : IsValid None late late_certificate
 late_valid = record {
   period = refl;
   answer = refl;
   cycles = All-nil (IsWalk (arcs_of late));
+  marks = tt;
   tree = (Ends (Bound []), refl, (no_pairs 0, le_z_yes tt));
 }
 
@@ -100,25 +103,27 @@ against_walk = single (IsWalk (arcs_of against)) (plus 1 ∷ plus 2 ∷ []) (
   (refl, (refl, refl)),
 )
 
-against_valid : IsValid against against_certificate
+against_valid : IsValid None against against_certificate
 against_valid = record {
   period = refl;
   answer = (refl, against_timetable);
   cycles = against_walk;
+  marks = tt;
   tree = (Ends (Bound (pair 1 (pos 1) ∷ [])), refl, (one_pair (pos 1), le_z_yes tt));
 }
 
 -- a bound below the cost
-against_bounded : IsValid against (record against_certificate { answer = Bounded 2 (Some 3) })
+against_bounded : IsValid None against (record against_certificate { answer = Bounded 2 (Some 3) })
 against_bounded = record {
   period = refl;
   answer = (omega arith, (refl, against_timetable));
   cycles = against_walk;
+  marks = tt;
   tree = (Ends (Bound (pair 1 (pos 1) ∷ [])), refl, (one_pair (pos 1), le_z_yes tt));
 }
 
 -- not: another period, another cost, a bound that isn't below the cost, times beside an answer without a cost, another order of the labels
-other_period : IsValid against (record against_certificate { period = 11 }) → ⊥
+other_period : IsValid None against (record against_certificate { period = 11 }) → ⊥
 other_period v = omega (arith, v.period)
 
 wrong_cost : ShowsAnswer against (Optimal 2) (pos 1 ∷ pos 2 ∷ []) (0 ∷ 3 ∷ []) → ⊥
@@ -134,10 +139,10 @@ other_order : ShowsAnswer against (Optimal 3) (pos 2 ∷ pos 1 ∷ []) (0 ∷ 3 
 other_order s = cc (s.0)
 
 -- not: a bound leaf where no least cost is wanted, a gap that is none
-bound_in_infeasible : IsSoundLeaf (net_of against) against_table None (Bound (pair 1 (pos 1) ∷ [])) against_root → ⊥
+bound_in_infeasible : IsSoundLeaf None (net_of against) against_table None (Bound (pair 1 (pos 1) ∷ [])) against_root → ⊥
 bound_in_infeasible s = s.1
 
-no_gap : IsSoundLeaf (net_of against) against_table None (Gap 1) against_root → ⊥
+no_gap : IsSoundLeaf None (net_of against) against_table None (Gap 1) against_root → ⊥
 no_gap s = cc (s.1)
 
 -- ---- two rows side by side
@@ -155,7 +160,7 @@ aside_certificate = record {
 abbrev aside_tree : Tree
 aside_tree = Branch (Offset 1 (negsuc 0)) (Ends (Bound (pair 1 (negsuc 0) ∷ []))) (Ends (Bound (pair 1 (pos 1) ∷ [])))
 
-aside_sound : IsSound (net_of aside) aside_table (Some 5) aside_tree aside_root
+aside_sound : IsSound None (net_of aside) aside_table (Some 5) aside_tree aside_root
 aside_sound = ((omega arith, omega arith), (one_pair (negsuc 0), le_z_yes tt), (one_pair (pos 1), le_z_yes tt))
 
 aside_timetable : IsTimetableOfCost aside (0 ∷ 0 ∷ []) 5
@@ -174,34 +179,34 @@ aside_walk = single (IsWalk (arcs_of aside)) (plus 1 ∷ minus 2 ∷ []) (
   (refl, (refl, refl)),
 )
 
-aside_valid : IsValid aside aside_certificate
-aside_valid = record { period = refl; answer = (refl, aside_timetable); cycles = aside_walk; tree = (aside_tree, refl, aside_sound) }
+aside_valid : IsValid None aside aside_certificate
+aside_valid = record { period = refl; answer = (refl, aside_timetable); cycles = aside_walk; marks = tt; tree = (aside_tree, refl, aside_sound) }
 
 -- not: the leaves exchanged, no pairs at the second part, one leaf for the whole with either sign
-exchanged : IsSoundLeaf (net_of aside) aside_table (Some 5) (Bound (pair 1 (pos 1) ∷ [])) aside_low → ⊥
+exchanged : IsSoundLeaf None (net_of aside) aside_table (Some 5) (Bound (pair 1 (pos 1) ∷ [])) aside_low → ⊥
 exchanged s = omega (arith, s.1)
 
-no_pairs_there : IsSoundLeaf (net_of aside) aside_table (Some 5) (Bound []) aside_high → ⊥
+no_pairs_there : IsSoundLeaf None (net_of aside) aside_table (Some 5) (Bound []) aside_high → ⊥
 no_pairs_there s = omega (arith, s.1)
 
-minus_at_root : IsSoundLeaf (net_of aside) aside_table (Some 5) (Bound (pair 1 (negsuc 0) ∷ [])) aside_root → ⊥
+minus_at_root : IsSoundLeaf None (net_of aside) aside_table (Some 5) (Bound (pair 1 (negsuc 0) ∷ [])) aside_root → ⊥
 minus_at_root s = omega (arith, s.1)
 
-plus_at_root : IsSoundLeaf (net_of aside) aside_table (Some 5) (Bound (pair 1 (pos 1) ∷ [])) aside_root → ⊥
+plus_at_root : IsSoundLeaf None (net_of aside) aside_table (Some 5) (Bound (pair 1 (pos 1) ∷ [])) aside_root → ⊥
 plus_at_root s = omega (arith, s.1)
 
 -- not: a nothing leaf of value exactly 0, a nothing leaf that would do with the rows' weights
-value_zero : IsSoundLeaf (net_of aside) aside_table None (Nothing []) aside_root → ⊥
+value_zero : IsSoundLeaf None (net_of aside) aside_table None (Nothing []) aside_root → ⊥
 value_zero s = omega (arith, s.1)
 
-takes_weights : IsSoundLeaf (net_of against) against_table None (Nothing (pair 1 (pos 1) ∷ [])) against_root → ⊥
+takes_weights : IsSoundLeaf None (net_of against) against_table None (Nothing (pair 1 (pos 1) ∷ [])) against_root → ⊥
 takes_weights s = omega (arith, s.1)
 
 -- not: a walk that doesn't close, a cycle that doesn't exist
 open_walk : IsWalk (arcs_of aside) (plus 1 ∷ plus 2 ∷ []) → ⊥
 open_walk w = omega (arith, w.1.1.0)
 
-no_such_cycle : IsSoundLeaf (net_of aside) aside_table (Some 0) (Bound (pair 2 (pos 1) ∷ [])) aside_root → ⊥
+no_such_cycle : IsSoundLeaf None (net_of aside) aside_table (Some 0) (Bound (pair 2 (pos 1) ∷ [])) aside_root → ⊥
 no_such_cycle s = omega (arith, All-head (λ (x : Pair). Names 1 x.cycle) (pair 2 (pos 1)) [] s.0)
 
 -- ---- loops
@@ -216,7 +221,7 @@ loop_certificate = record {
   tree = BoundLine (pair 1 (pos 2) ∷ []) ∷ [];
 }
 
-loop_valid : IsValid loop loop_certificate
+loop_valid : IsValid None loop loop_certificate
 loop_valid = record {
   period = refl;
   answer = (
@@ -231,6 +236,7 @@ loop_valid = record {
   );
   cycles = single (IsWalk (arcs_of loop)) (plus 1 ∷ [])
       (single (RowExists (arcs_of loop)) (plus 1) (omega arith, omega arith), (refl, refl));
+  marks = tt;
   tree = (Ends (Bound (pair 1 (pos 2) ∷ [])), refl, (one_pair (pos 2), le_z_yes tt));
 }
 
@@ -238,12 +244,13 @@ loop_valid = record {
 abbrev tight_loop_certificate : Content
 tight_loop_certificate = record { version = 1; period = 10; answer = Infeasible; times = []; cycles = loop_table; tree = GapLine 1 ∷ [] }
 
-tight_loop_valid : IsValid tight_loop tight_loop_certificate
+tight_loop_valid : IsValid None tight_loop tight_loop_certificate
 tight_loop_valid = record {
   period = refl;
   answer = refl;
   cycles = single (IsWalk (arcs_of tight_loop)) (plus 1 ∷ [])
       (single (RowExists (arcs_of tight_loop)) (plus 1) (omega arith, omega arith), (refl, refl));
+  marks = tt;
   tree = (Ends (Gap 1), refl, ((omega arith, omega arith), refl));
 }
 
@@ -262,11 +269,12 @@ no_loop_family s family supported some =
     let partner = (supported 0 (omega arith)).tails d.0 d.1 in
     omega (arith, partner.2.high, remainder_of_loop d.0 partner.0 (partner.2.loop refl))
 
-propagated_loop_valid : IsValid tight_loop propagated_loop_certificate
+propagated_loop_valid : IsValid None tight_loop propagated_loop_certificate
 propagated_loop_valid = record {
   period = refl;
   answer = refl;
   cycles = All-nil (IsWalk (arcs_of tight_loop));
+  marks = tt;
   tree = (Ends (Shut ByPropagation), refl, (1, no_loop_family));
 }
 
@@ -281,7 +289,7 @@ large_certificate = record {
   tree = BoundLine (pair 1 (pos 1000000000) ∷ []) ∷ [];
 }
 
-large_valid : IsValid large large_certificate
+large_valid : IsValid None large large_certificate
 large_valid = record {
   period = refl;
   answer = (
@@ -296,6 +304,7 @@ large_valid = record {
   );
   cycles = single (IsWalk (arcs_of large)) (plus 1 ∷ [])
       (single (RowExists (arcs_of large)) (plus 1) (omega arith, omega arith), (refl, refl));
+  marks = tt;
   tree = (Ends (Bound (pair 1 (pos 1000000000) ∷ [])), refl, (one_pair (pos 1000000000), le_z_yes tt));
 }
 
@@ -325,11 +334,12 @@ crossed_walks =
     ) in
     both (IsWalk (arcs_of crossed)) (plus 1 ∷ plus 2 ∷ []) (plus 1 ∷ minus 3 ∷ []) first second
 
-crossed_valid : IsValid crossed crossed_certificate
+crossed_valid : IsValid None crossed crossed_certificate
 crossed_valid = record {
   period = refl;
   answer = refl;
   cycles = crossed_walks;
+  marks = tt;
   tree = (
     Ends (Nothing (pair 1 (pos 1) ∷ pair 2 (negsuc 0) ∷ [])),
     refl,

@@ -1,5 +1,5 @@
 -- The contents of certificates, and when they are valid for an instance.
-use Rattle.std.specs.Prelude.{◌≡◌, ℕ, ◌<◌, List, [], map, ℤ, All, Option, Some, None}
+use Rattle.std.specs.Prelude.{◌≡◌, ℕ, ◌<◌, List, [], map, ℤ, All, Option, Some, None, IfSome}
 use Rattle.pesp_problem.specs.declared.row.SignedRow.{SignedRow}
 use Rattle.pesp_problem.specs.declared.cut.Cut.TheVariants.{Slack, Offset}
 use Rattle.pesp_problem.specs.Timetables.{Pesp, IsTimetableOfCost}
@@ -10,6 +10,7 @@ use Rattle.pesp_truth.specs.declared.answer.Answer.{Answer}
 use Rattle.pesp_truth.specs.declared.answer.Answer.TheVariants.{Optimal, Infeasible, Bounded}
 use Rattle.pesp_truth.specs.declared.tree.TreeLine.{TreeLine}
 use Rattle.pesp_truth.specs.declared.tree.TreeLine.TheVariants.{Slack as SlackLine, Offset as OffsetLine, Bound as BoundLine, Nothing as NothingLine, Gap as GapLine, Propagated as PropagatedLine}
+use Rattle.pesp_truth.specs.Marks.{Marks, AreMarks}
 use Rattle.pesp_truth.specs.Trees.{Tree, Line, EndLine, CutLine, Bound, Shut, ByPropagation, Nothing, Gap, preorder, IsSound}
 
 -- what a certificate says: the version of its text, its period, its answer, times with the labels of their events, a
@@ -62,10 +63,12 @@ ShowsAnswer p Infeasible labels times = times ≡ []
 ShowsAnswer p (Bounded least (Some c)) labels times = (least < c) × ShowsTimetable p labels times c
 ShowsAnswer p (Bounded least None) labels times = times ≡ []
 
--- the period is the instance's, the answer shows what it has to, the cycles are walks, and the lines are a tree that is sound at the root
-pub record IsValid (p : Pesp) (content : Content) : Type 0 where
+-- the period is the instance's, the answer shows what it has to, the cycles are walks, the marked walks of a front are
+-- closed, and the lines are a tree that is sound at the root
+pub record IsValid (front : Option Marks) (p : Pesp) (content : Content) : Type 0 where
   pub period : content.period ≡ p.period
   pub answer : ShowsAnswer p content.answer (shown_labels content) (shown_times content)
   pub cycles : All (IsWalk (arcs_of p)) content.cycles
+  pub marks : IfSome front (AreMarks (arcs_of p))
   pub tree : (tree : Tree) × (preorder tree ≡ lines_of content)
-      × IsSound (net_of p) content.cycles (least_of content.answer) tree (root (net_of p) content.cycles)
+      × IsSound front (net_of p) content.cycles (least_of content.answer) tree (root (net_of p) content.cycles)

@@ -1,6 +1,9 @@
+pub mod Marks
 pub mod Trees
 pub mod Paths
 pub mod Truth
 pub mod Certificates
 pub mod Leaves
 pub mod Codes
+pub mod Conflicts
+pub mod Used

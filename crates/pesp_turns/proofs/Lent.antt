@@ -73,7 +73,7 @@ handed p state job work l valid = record {
 }
 
 pub handed_gap : (p : ProblemValue) (state : State) (job : Job) (cycle : ℕ) → IsJustLent p state job
-    → IsSoundLeaf (net_of p) p.table None (Gap cycle) (node_at p job.path.items)
+    → IsSoundLeaf None (net_of p) p.table None (Gap cycle) (node_at p job.path.items)
     → IsHandedIn p state job (works.Gap cycle)
 handed_gap p state job cycle l gap = handed p state job (works.Gap cycle) l (gap.0, gap)
 

@@ -23,7 +23,7 @@ use std::alloc::Global;
 /// Closes the leaf that was just lent by a cycle that has no offset left; says whether that is taken.
 fn close_leaf(alloc: Global, board: &mut Board, job: &Job, cycle: u32) -> Result<bool, Memory>
     requires lent { IsJustLent board.old.problem board.old.state job.now }
-    requires gap { IsSoundLeaf (net_of board.old.problem) board.old.problem.table None (Gap cycle)
+    requires gap { IsSoundLeaf None (net_of board.old.problem) board.old.problem.table None (Gap cycle)
         (node_at board.old.problem job.now.path.items) }
     ensures problem { board.new.problem ≡ board.old.problem }
     ensures given { IfOk result (λ taken. IsGiven board.old.problem board.old.state job.now.number

@@ -159,5 +159,5 @@ shown_are i known (Bounded least None) ts less h = inl (no_times ts h)
 
 -- what a valid certificate shows that costs less than so much
 pub times_for : (i : Pesp) (known : Option ℕ) (c : Content) → IfSome (cost_of c.answer) (λ n. IsCheaper n known)
-    → IsValid i c → AreTimesFor i known c.times
+    → IsValid None i c → AreTimesFor i known c.times
 times_for i known c less valid = shown_are i known c.answer c.times less valid.answer

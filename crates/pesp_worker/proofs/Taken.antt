@@ -1,6 +1,6 @@
 -- What is handed in for a base is taken where it is grafted onto that base first.
 use Rattle.std.proofs.Common.{◌≡◌, ℕ, List, length, refl, sym, ◌∙◌, subst, true, Option}
-use Rattle.std.specs.Prelude.{ℤ, ◌≤ℤ◌, IsSomeAnd, IfSome, Result, Ok, Err}
+use Rattle.std.specs.Prelude.{ℤ, ◌≤ℤ◌, IsSomeAnd, IfSome, Result, Ok, Err, None}
 use Rattle.std.specs.Global.{Vec}
 use Rattle.pesp_problem.specs.declared.cut.Cut.{Cut}
 use Rattle.pesp_problem.specs.declared.cut.Side.{Side}
@@ -42,10 +42,10 @@ graft_same p q n t worth node (Ends (Bound pairs)) g =
     swap (λ x table. ArePairs (length table) pairs
     × IsSomeAnd (leaf_value x table node pairs true) (λ v. IfSome worth (λ w. w ≤ℤ v))) p q n t g
 graft_same p q n t worth node (Ends (Shut (ByPairs pairs))) g =
-    swap (λ x table. ArePairs (length table) pairs × IsShut x table (ByPairs pairs) node) p q n t g
+    swap (λ x table. ArePairs (length table) pairs × IsShut None x table (ByPairs pairs) node) p q n t g
 graft_same p q n t worth node (Ends (Shut (ByGap cycle))) g =
-    swap (λ x table. Names (length table) cycle × IsShut x table (ByGap cycle) node) p q n t g
-graft_same p q n t worth node (Ends (Shut ByPropagation)) g = (g.0, swap (λ x table. IsShut x table ByPropagation node) p q n t g.1)
+    swap (λ x table. Names (length table) cycle × IsShut None x table (ByGap cycle) node) p q n t g
+graft_same p q n t worth node (Ends (Shut ByPropagation)) g = (g.0, swap (λ x table. IsShut None x table ByPropagation node) p q n t g.1)
 graft_same p q n t worth node (Branch cut low high) g = (
   swap (λ x table. CutExists x table cut) p q n t g.0,
   g.1,

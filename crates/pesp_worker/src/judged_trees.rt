@@ -1,6 +1,6 @@
 //! What was found for jobs, judged by a board on which their leaves are lent.
 
-ghost use Rattle.std.specs.Prelude.{◌≡◌, ◌≤◌, ◌+◌, ℕ, List, map, All, Some, IfOk, IfErr, IfSome, OnOk};
+ghost use Rattle.std.specs.Prelude.{◌≡◌, ◌≤◌, ◌+◌, ℕ, List, map, All, Some, IfOk, IfErr, IfSome, OnOk, None};
 ghost use Rattle.std.specs.List.{AllZip};
 ghost use Rattle.std.specs.Global.{Vec};
 ghost use Rattle.pesp_truth.specs.declared.tree.TreeLine.{TreeLine};
@@ -205,7 +205,7 @@ pub(crate) fn judged(
     range: Range,
     found: Vec<WorkText>,
 ) -> Result<Vec<WorkText>, WorkRefusal>
-    requires valid { IsValid instance.now base.now }
+    requires valid { IsValid None instance.now base.now }
     requires rise { IsStrictlyIncreasing jobs.now }
     requires found { AllZip (IsFound instance.now (cost_of base.now.answer)) jobs.now found.items }
     ensures works { IfOk result (λ works. AreWorksOn instance.now base.now jobs.now range.steps range.until works.items) }

@@ -32,7 +32,7 @@ pub fn work_on_all(
     steps: u32,
     until: Option<u64>,
 ) -> Result<Vec<WorkText>, WorkRefusal>
-    requires valid { IsValid instance.now base.now }
+    requires valid { IsValid None instance.now base.now }
     requires rise { IsStrictlyIncreasing jobs.now }
     requires few { steps ≤ MOST_STEPS }
     ensures works { IfOk result
@@ -57,7 +57,7 @@ pub fn work(
     job: u64,
     steps: u32,
 ) -> Result<WorkText, WorkRefusal>
-    requires valid { IsValid instance.now base.now }
+    requires valid { IsValid None instance.now base.now }
     requires few { steps ≤ MOST_STEPS }
     ensures work { IfOk result (λ work. IsWorkOn instance.now base.now job steps work) }
     ensures refused { IfErr result (IsWorkRefusal instance.now base.now job) }

@@ -1,6 +1,6 @@
 //! The search for trees and for times on a board where the leaves of jobs are open.
 
-ghost use Rattle.std.specs.Prelude.{◌≡◌, ◌⊎◌, ◌≤◌, ◌<◌, ◌++◌, ◌∷◌, [], ℕ, length, All, Contains, IfOk, IfErr, IfSome, OnOk, IsTrue, false};
+ghost use Rattle.std.specs.Prelude.{◌≡◌, ◌⊎◌, ◌≤◌, ◌<◌, ◌++◌, ◌∷◌, [], ℕ, length, All, Contains, IfOk, IfErr, IfSome, OnOk, IsTrue, false, None};
 ghost use Rattle.std.specs.List.{AllZip};
 ghost use Rattle.pesp_problem.specs.declared.limits.TheConstants.{MOST_STEPS};
 ghost use Rattle.pesp_problem.specs.Timetables.{Pesp};
@@ -73,7 +73,7 @@ fn shown(
     certificate: &Certificate,
     known: Option<u64>,
 ) -> Result<Vec<(i64, u32)>, Memory>
-    ensures times { (instance : Pesp) → IsValid instance certificate.now
+    ensures times { (instance : Pesp) → IsValid None instance certificate.now
         → IfOk result (λ times. AreTimesFor instance known times.items) }
     ensures short { IfOk result (λ times. AreShort times.items) }
 {
@@ -248,7 +248,7 @@ pub(crate) fn search_below(
     jobs: &[u64],
     range: Range,
 ) -> Result<Vec<WorkText>, WorkRefusal>
-    requires valid { IsValid instance.now base.now }
+    requires valid { IsValid None instance.now base.now }
     requires few { range.steps ≤ MOST_STEPS }
     ensures found { IfOk result (λ works. AllZip (IsFound instance.now (cost_of base.now.answer)) jobs.now works.items) }
     ensures refused { IfErr result (AreWorkRefusal instance.now base.now jobs.now) }

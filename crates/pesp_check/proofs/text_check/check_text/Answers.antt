@@ -1,3 +1,4 @@
+use Rattle.std.specs.Prelude.{None}
 use Rattle.std.proofs.Common.{◌≡◌, ◌+◌, refl, sym, ap, ◌∙◌, subst, arith, length}
 use Rattle.pesp_cert_items.specs.Lent.{listed}
 use Rattle.pesp_cert_items.specs.Readings.{Reading}
@@ -34,7 +35,7 @@ returns-in-Ok-None-clause-ok g c =
     checked_all c.args.instance.now _ _ _ judge.stage
     (kept judge) c.verdict.result c.answer.result inv.checked gives (rw inv.instance at c.verdict.ensures)
     (rw inv.instance at c.answer.ensures)
-    (λ content valid. c.valid_is_true.ensures c.args.instance.now content (omega (arith, c.rows.ensures.limits.some_period)) valid)
+    (λ content valid. c.valid_is_true.ensures None c.args.instance.now content (omega (arith, c.rows.ensures.limits.some_period)) valid)
 
 pub returns-in-Ok-None-clause-counts : goal.returns-in-Ok-None-clause-counts
 returns-in-Ok-None-clause-counts g c =

@@ -1,3 +1,4 @@
+use Rattle.std.specs.Prelude.{None}
 use Rattle.std.proofs.Common.{◌∙◌, inl, inr, sym, Option, arith}
 use Rattle.std.proofs.lemmas.Grind.{common_steps}
 use Rattle.std.proofs.lemmas.Result.{IfOk-weaker}
@@ -29,13 +30,13 @@ returns-in-Ok-clause-found c =
     let answer = match_none c.in_ok-found.found _ _ (sym c.is_some.ensures ∙ c.if-is_some.false) judged in
     let cycles = (rw (c.in-Ok.is, c.cycles.ensures.value) at c.in_ok-table.ensures.verdict).0 in
     IfOk-weaker c.tree_fault.result _ _ (λ (found : Option Refusal) h.
-    match_map found _ (IsValid c.args.instance.now c.args.certificate.now) _
-    (λ refusal. IsFirstFault c.args.instance.now c.args.certificate.now refusal)
-    (λ sound. valid_is c.args.instance.now c.args.certificate.now period answer cycles sound)
+    match_map found _ (IsValid None c.args.instance.now c.args.certificate.now) _
+    (λ refusal. IsFirstFault None c.args.instance.now c.args.certificate.now refusal)
+    (λ sound. valid_is None c.args.instance.now c.args.certificate.now period answer cycles tt sound)
     (λ refusal f. inr (
       period,
-      later_tree_fault c.args.instance.now c.args.certificate.now refusal
-          c.times-times.ensures.limits.whole answer cycles f,
+      later_tree_fault None c.args.instance.now c.args.certificate.now refusal
+          c.times-times.ensures.limits.whole answer cycles tt f,
     )) h) c.tree_fault.ensures
 
 pub tree_fault-requires-clause-zeros : goal.tree_fault-requires-clause-zeros

@@ -1,5 +1,5 @@
 use Rattle.std.proofs.Common.{sym, subst, ap, ◌∙◌}
-use Rattle.pesp_conflict_laws.specs.Conflicts.{chosen}
+use Rattle.pesp_truth.specs.Conflicts.{chosen}
 use Rattle.pesp_conflict.specs.Insides.{IsPart}
 use Rattle.pesp_conflict.proofs.Decisions.{used_part}
 use Rattle.pesp_conflict.proofs.decision.used_part.Goals as goal

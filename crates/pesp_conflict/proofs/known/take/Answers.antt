@@ -1,6 +1,6 @@
 use Rattle.std.proofs.Common.{List, ℕ, sym, subst}
 use Rattle.std.specs.Prelude.{All}
-use Rattle.pesp_conflict_laws.specs.Conflicts.{IsNeeded}
+use Rattle.pesp_truth.specs.Conflicts.{IsNeeded}
 use Rattle.pesp_conflict.specs.Insides.{IsTrial}
 use Rattle.pesp_conflict.proofs.Trials.{each_still_needed, one_more_needed}
 use Rattle.pesp_conflict.proofs.known.take.Goals as goal

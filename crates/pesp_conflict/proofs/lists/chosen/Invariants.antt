@@ -1,5 +1,5 @@
 use Rattle.std.proofs.Common.{◌≡◌, take}
-use Rattle.pesp_conflict_laws.specs.Conflicts.{chosen}
+use Rattle.pesp_truth.specs.Conflicts.{chosen}
 use Rattle.pesp_conflict.proofs.lists.chosen.Given as goal
 
 abbrev pub invariant-loop-place : goal.invariant-loop-place

@@ -1,5 +1,5 @@
 use Rattle.std.proofs.Common.{◌≡◌, take}
-use Rattle.pesp_conflict_laws.specs.Conflicts.{unweighted_rows}
+use Rattle.pesp_truth.specs.Conflicts.{unweighted_rows}
 use Rattle.pesp_conflict.proofs.part.rows_of.Given as goal
 
 abbrev pub invariant-loop-row : goal.invariant-loop-row

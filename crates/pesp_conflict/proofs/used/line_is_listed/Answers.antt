@@ -1,7 +1,7 @@
 use Rattle.std.proofs.Common.{List, subst, sym}
 use Rattle.std.specs.Prelude.{All}
 use Rattle.pesp_problem.specs.declared.pair.Pair.{Pair}
-use Rattle.pesp_conflict_laws.specs.Used.{CycleIsListed, LineUsesOnly}
+use Rattle.pesp_truth.specs.Used.{CycleIsListed, LineUsesOnly}
 use Rattle.pesp_conflict.proofs.used.line_is_listed.Goals as goal
 
 pub returns-in-Bound : goal.returns-in-Bound

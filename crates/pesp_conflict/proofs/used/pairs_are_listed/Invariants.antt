@@ -1,5 +1,5 @@
 use Rattle.pesp_problem.specs.declared.pair.Pair.{Pair}
-use Rattle.pesp_conflict_laws.specs.Used.{CycleIsListed}
+use Rattle.pesp_truth.specs.Used.{CycleIsListed}
 use Rattle.pesp_conflict.proofs.Numbers.{AllTo}
 use Rattle.pesp_conflict.proofs.used.pairs_are_listed.Given as goal
 

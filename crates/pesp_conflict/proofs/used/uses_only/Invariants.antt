@@ -1,4 +1,4 @@
-use Rattle.pesp_conflict_laws.specs.Used.{LineUsesOnly}
+use Rattle.pesp_truth.specs.Used.{LineUsesOnly}
 use Rattle.pesp_conflict.proofs.Numbers.{AllTo}
 use Rattle.pesp_conflict.proofs.used.uses_only.Given as goal
 

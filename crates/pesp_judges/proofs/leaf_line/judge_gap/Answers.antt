@@ -1,8 +1,8 @@
 use Rattle.std.proofs.Common.{◌≡◌, ◌∙◌, ◌-◌, ◌<◌, ap, sym, length, arith, refl, false, Option, Some, None}
 use Rattle.std.specs.Prelude.{ℤ, IsNone, is_some}
 use Rattle.pesp_problem.specs.Arcs.{net_of}
-use Rattle.pesp_judges.specs.Ranges.{node_of}
-use Rattle.pesp_judges.proofs.Leaves.{left_read}
+use Rattle.pesp_leaves.specs.Ranges.{node_of}
+use Rattle.pesp_leaves.proofs.Leaves.{left_read}
 use Rattle.pesp_judges.proofs.leaf_line.judge_gap.Goals as goal
 
 -- what has no value is none

@@ -2,7 +2,7 @@ use Rattle.std.proofs.Common.{refl}
 use Rattle.std.specs.Prelude.{All}
 use Rattle.pesp_problem.specs.declared.pair.Pair.{Pair}
 use Rattle.pesp_problem.specs.Walks.{Names}
-use Rattle.pesp_judges.proofs.Flowing.{exist_more}
+use Rattle.pesp_leaves.proofs.Flowing.{exist_more}
 use Rattle.pesp_judges.proofs.leaf_line.pairs_exist.Goals as goal
 
 pub loop-pair-preserved : goal.loop-pair-preserved

@@ -1,4 +1,4 @@
-use Rattle.pesp_judges.specs.Ranges.{node_of}
+use Rattle.pesp_leaves.specs.Ranges.{node_of}
 use Rattle.pesp_nets.proofs.Walking.{enter_parts}
 use Rattle.pesp_judges.proofs.node_walk.enter.Goals as goal
 

@@ -1,7 +1,7 @@
 use Rattle.std.proofs.Common.{ℕ, ◌∙◌, ap, sym, subst, length, List}
 use Rattle.pesp_problem.specs.Arcs.{arcs_of}
-use Rattle.pesp_judges.specs.Offsets.{AreSlackRanges}
-use Rattle.pesp_judges.specs.Ranges.{idle_sum}
+use Rattle.pesp_leaves.specs.Offsets.{AreSlackRanges}
+use Rattle.pesp_leaves.specs.Ranges.{idle_sum}
 use Rattle.pesp_judges.proofs.Tables.{root_are_ranges, root_idle}
 use Rattle.pesp_judges.proofs.table.root.Goals as goal
 

@@ -2,7 +2,7 @@ use Rattle.std.proofs.Common.{◌-◌, ◌<◌, arith, refl, length, get_or}
 use Rattle.std.specs.Prelude.{pos, ◌+ℤ◌}
 use Rattle.pesp_problem.specs.Arcs.{arcs_of}
 use Rattle.pesp_problem.specs.Walks.{Names, sign}
-use Rattle.pesp_judges.proofs.Arcs.{arcs_long}
+use Rattle.pesp_leaves.proofs.Arcs.{arcs_long}
 use Rattle.pesp_judges.proofs.Following.{followed_next, counted_small, counted_more, counted_all, placed_more}
 use Rattle.pesp_judges.proofs.walks.follow.Goals as goal
 

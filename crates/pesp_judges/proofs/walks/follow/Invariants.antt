@@ -1,6 +1,6 @@
 use Rattle.std.proofs.Common.{length}
 use Rattle.pesp_problem.specs.Arcs.{arcs_of}
-use Rattle.pesp_judges.specs.Nets.{ArePlaces}
+use Rattle.pesp_leaves.specs.Nets.{ArePlaces}
 use Rattle.pesp_judges.proofs.Following.{IsFollowed, AreCountedTo}
 use Rattle.pesp_judges.proofs.walks.follow.Given as goal
 

@@ -31,12 +31,12 @@ loop-place-preserved c =
           c.index-lines-place.is c.loop-place.walk.nodes c.take_line.new.walk.nodes nodes
           c.loop-place.invariant.whole;
       judged = λ walks nets.
-          let V : Line → Type 0 = λ l. IsLineVerdict
+          let V : Line → Type 0 = λ l. IsLineVerdict None
           (net_of c.args.checker.now.instance.now) walks c.args.checker.now.least l c.loop-place.walk.nodes
           c.take_line.new.walk.nodes (c.args.first + c.loop-place.place) c.in_ok-found.found in
           let sound = of_match c.in_ok-found.found _ _ none (subst V c.said_by.ensures.line (c.in_ok-found.ensures.verdict walks nets)) in
           judged_more c.args.lines.now c.loop-place.place c.index-lines-place.result c.loop-place-test.true
-          c.index-lines-place.is (net_of c.args.checker.now.instance.now) walks c.args.checker.now.least
+          c.index-lines-place.is None (net_of c.args.checker.now.instance.now) walks c.args.checker.now.least
           (root (net_of c.args.checker.now.instance.now) walks) c.args.first c.loop-place.walk.nodes
           (c.loop-place.invariant.judged walks nets) c.take_line.new.walk.nodes sound.0 nodes;
     }

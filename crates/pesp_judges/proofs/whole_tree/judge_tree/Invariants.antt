@@ -1,3 +1,4 @@
+use Rattle.std.specs.Prelude.{None}
 use Rattle.std.proofs.Common.{◌≡◌, List, length, map, drop, true}
 use Rattle.pesp_problem.specs.declared.row.SignedRow.{SignedRow}
 use Rattle.pesp_problem.specs.Arcs.{net_of}
@@ -15,6 +16,6 @@ invariant-loop-place l = record {
   zeros : AreZeros l.working;
   whole : are_trees (length l.walk.nodes) (map line_of (drop l.place l.lines)) ≡ true;
   judged : (walks : List (List SignedRow)) → AreNets (length l.checker.instance.now.rows) walks l.checker.table.now
-      → AreJudged (net_of l.checker.instance.now) walks l.checker.least l.lines
+      → AreJudged None (net_of l.checker.instance.now) walks l.checker.least l.lines
       (root (net_of l.checker.instance.now) walks) l.fn.first l.walk.nodes l.place;
 }

@@ -1,4 +1,4 @@
-use Rattle.std.proofs.Common.{◌∙◌, sym, subst, List}
+use Rattle.std.proofs.Common.{◌∙◌, sym, subst, List, Some}
 use Rattle.std.specs.Prelude.{All}
 use Rattle.pesp_problem.specs.declared.arc.Arc.{Arc}
 use Rattle.pesp_problem.specs.Arcs.{arcs_of, net_of}
@@ -19,5 +19,5 @@ tree_costs-requires-clause-sound c =
     let instance = c.new-checker.ensures.instance ∙ c.new-plain.ensures.instance in
     let p = c.args.instance.now in
     let content = c.args.certificate.now in
-    rw (instance, c.new-checker.ensures.marks) (c.lines_are_sound_as_tree.ensures.lines (net_of p) content.cycles
-    c.args.marks.now (least_of content.answer) (lines_of content) (root (net_of p) content.cycles) c.requires.tree)
+    rw (instance, c.new-checker.ensures.marks) (c.lines_are_sound_as_tree.ensures.lines (Some c.args.marks.now) (net_of p)
+    content.cycles (least_of content.answer) (lines_of content) (root (net_of p) content.cycles) c.requires.tree)

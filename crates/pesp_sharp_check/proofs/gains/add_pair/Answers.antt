@@ -4,9 +4,9 @@ use Rattle.std.specs.Int.{w64}
 use Rattle.std.proofs.lemmas.Int.{ints, to_z-of_z}
 use Rattle.std.proofs.lemmas.List.{get_or_default}
 use Rattle.pesp_problem.specs.declared.arc.Arc.{Arc}
-use Rattle.pesp_sharp_leaf.specs.Rates.{rates_at, entry}
-use Rattle.pesp_sharp_leaf.specs.Terms.{AreSmallArcs}
-use Rattle.pesp_sharp_truth.specs.Marks.{walk_at}
+use Rattle.pesp_nets.specs.Rates.{rates_at, entry}
+use Rattle.pesp_nets.specs.Terms.{AreSmallArcs}
+use Rattle.pesp_truth.specs.Marks.{walk_at}
 use Rattle.pesp_sharp_check.proofs.Summing.{small_arcs, walk_added}
 use Rattle.pesp_sharp_check.proofs.gains.add_pair.Goals as goal
 

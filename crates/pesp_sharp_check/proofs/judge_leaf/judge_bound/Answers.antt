@@ -1,6 +1,6 @@
 use Rattle.std.proofs.Common.{refl, length}
 use Rattle.pesp_problem.specs.Arcs.{net_of}
-use Rattle.pesp_judges.specs.Ranges.{node_of}
+use Rattle.pesp_leaves.specs.Ranges.{node_of}
 use Rattle.pesp_sharp_check.proofs.Leaves.{bound_sound}
 use Rattle.pesp_sharp_check.proofs.judge_leaf.judge_bound.Goals as goal
 

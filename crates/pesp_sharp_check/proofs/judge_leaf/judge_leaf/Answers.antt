@@ -1,9 +1,9 @@
 use Rattle.std.proofs.Common.{◌≡◌, ℕ, sym, subst, false}
 use Rattle.pesp_problem.specs.Arcs.{net_of}
 use Rattle.pesp_truth.specs.Trees.{pairs_of_leaf}
-use Rattle.pesp_judges.specs.Ranges.{node_of}
+use Rattle.pesp_leaves.specs.Ranges.{node_of}
 use Rattle.pesp_judges.specs.LeafLines.{leaf_said}
-use Rattle.pesp_sharp_truth.specs.Marks.{uses_walks}
+use Rattle.pesp_truth.specs.Marks.{uses_walks}
 use Rattle.pesp_sharp_check.proofs.Plain.{leaf_verdict}
 use Rattle.pesp_sharp_check.proofs.judge_leaf.judge_leaf.Goals as goal
 

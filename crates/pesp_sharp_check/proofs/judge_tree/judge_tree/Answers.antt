@@ -3,12 +3,10 @@ use Rattle.std.specs.Prelude.{is_some, IfNone}
 use Rattle.pesp_problem.specs.Arcs.{net_of}
 use Rattle.pesp_problem.specs.Nodes.{root}
 use Rattle.pesp_truth.specs.Trees.{Line}
-use Rattle.pesp_judges.specs.Lines.{after}
+use Rattle.pesp_judges.specs.Lines.{after, IsLineVerdict}
 use Rattle.pesp_judges.specs.declared.refusal.Refusal.{Refusal}
-use Rattle.pesp_judges.proofs.Judged.{whole_more}
+use Rattle.pesp_judges.proofs.Judged.{whole_more, judged_more, fault_here}
 use Rattle.pesp_judges.proofs.Options.{match_none, match_some}
-use Rattle.pesp_sharp_check.specs.Lines.{IsLineVerdictWith}
-use Rattle.pesp_sharp_check.proofs.Judged.{judged_more, fault_here}
 use Rattle.pesp_sharp_check.proofs.judge_tree.judge_tree.Goals as goal
 
 -- what holds of none holds of what is not some
@@ -29,29 +27,27 @@ loop-place-preserved c =
           c.index-lines-place.is c.loop-place.walk.nodes c.take_line.new.walk.nodes nodes
           c.loop-place.invariant.whole;
       judged = λ walks nets.
-          let V : Line → Type 0 = λ l. IsLineVerdictWith
-          (net_of c.args.checker.now.plain.instance.now) walks c.args.checker.now.marks.now
+          let V : Line → Type 0 = λ l. IsLineVerdict (Some c.args.checker.now.marks.now) (net_of c.args.checker.now.plain.instance.now) walks
           c.args.checker.now.plain.least l c.loop-place.walk.nodes c.take_line.new.walk.nodes
           (c.args.first + c.loop-place.place) c.in_ok-found.found in
           let sound = match_none c.in_ok-found.found _ _ none
           (subst V c.said_by-said.ensures.line (c.in_ok-found.ensures.verdict walks nets)) in
           judged_more c.args.lines.now c.loop-place.place c.index-lines-place.result c.loop-place-test.true
-          c.index-lines-place.is (net_of c.args.checker.now.plain.instance.now) walks
-          c.args.checker.now.marks.now c.args.checker.now.plain.least
+          c.index-lines-place.is (Some c.args.checker.now.marks.now)
+          (net_of c.args.checker.now.plain.instance.now) walks c.args.checker.now.plain.least
           (root (net_of c.args.checker.now.plain.instance.now) walks) c.args.first c.loop-place.walk.nodes
           (c.loop-place.invariant.judged walks nets) c.take_line.new.walk.nodes sound.0 nodes;
     }
 
 pub returns-then-is_some : goal.returns-then-is_some
 returns-then-is_some c walks nets =
-    let V : Line → Type 0 = λ l. IsLineVerdictWith
-    (net_of c.args.checker.now.plain.instance.now) walks c.args.checker.now.marks.now
+    let V : Line → Type 0 = λ l. IsLineVerdict (Some c.args.checker.now.marks.now) (net_of c.args.checker.now.plain.instance.now) walks
     c.args.checker.now.plain.least l c.loop-place.walk.nodes c.take_line.new.walk.nodes
     (c.args.first + c.loop-place.place) c.in_ok-found.found in
     match_some c.in_ok-found.found _ _ _ _ (sym c.is_some.ensures ∙ c.if-is_some.true)
     (λ refusal f. fault_here c.args.lines.now c.loop-place.place c.index-lines-place.result c.loop-place-test.true
-    c.index-lines-place.is (net_of c.args.checker.now.plain.instance.now) walks c.args.checker.now.marks.now
-    c.args.checker.now.plain.least (root (net_of c.args.checker.now.plain.instance.now) walks) c.args.first
+    c.index-lines-place.is (Some c.args.checker.now.marks.now)
+    (net_of c.args.checker.now.plain.instance.now) walks c.args.checker.now.plain.least (root (net_of c.args.checker.now.plain.instance.now) walks) c.args.first
     c.loop-place.walk.nodes (c.loop-place.invariant.judged walks nets)
     (c.args.first + c.loop-place.place) refusal refl f)
     (subst V c.said_by-said.ensures.line (c.in_ok-found.ensures.verdict walks nets))

@@ -5,7 +5,7 @@ use Rattle.pesp_problem.specs.Nodes.{root}
 use Rattle.pesp_truth.specs.Trees.{are_trees}
 use Rattle.pesp_truth.specs.Certificates.{line_of}
 use Rattle.pesp_nets.specs.Nets.{AreZeros, AreNets}
-use Rattle.pesp_sharp_check.specs.Lines.{AreJudgedWith}
+use Rattle.pesp_judges.specs.Lines.{AreJudged}
 use Rattle.pesp_sharp_check.proofs.judge_tree.judge_tree.Given as goal
 
 abbrev pub invariant-loop-place : goal.invariant-loop-place
@@ -15,6 +15,6 @@ invariant-loop-place l = record {
   zeros : AreZeros l.flows;
   whole : are_trees (length l.walk.nodes) (map line_of (drop l.place l.lines)) ≡ true;
   judged : (walks : List (List SignedRow)) → AreNets (length l.checker.plain.instance.now.rows) walks l.checker.plain.table.now
-      → AreJudgedWith (net_of l.checker.plain.instance.now) walks l.checker.marks.now l.checker.plain.least l.lines
+      → AreJudged (Some l.checker.marks.now) (net_of l.checker.plain.instance.now) walks l.checker.plain.least l.lines
       (root (net_of l.checker.plain.instance.now) walks) l.fn.first l.walk.nodes l.place;
 }

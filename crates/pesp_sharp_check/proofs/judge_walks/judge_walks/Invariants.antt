@@ -3,7 +3,7 @@ use Rattle.pesp_problem.specs.Arcs.{arcs_of}
 use Rattle.pesp_problem.specs.Walks.{IsWalk}
 use Rattle.pesp_problem.specs.Nodes.{cycle_at}
 use Rattle.pesp_nets.specs.Nets.{AreZeros}
-use Rattle.pesp_sharp.specs.Marked.{signed_rows}
+use Rattle.pesp_nets.specs.Marked.{signed_rows}
 use Rattle.pesp_sharp_check.proofs.judge_walks.judge_walks.Given as goal
 
 abbrev pub invariant-loop-place : goal.invariant-loop-place

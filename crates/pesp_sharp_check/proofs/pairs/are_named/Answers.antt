@@ -1,6 +1,6 @@
 use Rattle.std.proofs.Common.{refl}
-use Rattle.pesp_judges.proofs.Flowing.{exist_more}
-use Rattle.pesp_sharp_truth.specs.Marks.{IsNamed, AreNamed}
+use Rattle.pesp_leaves.proofs.Flowing.{exist_more}
+use Rattle.pesp_truth.specs.Marks.{IsNamed, AreNamed}
 use Rattle.pesp_sharp_check.proofs.Naming.{not_all}
 use Rattle.pesp_sharp_check.proofs.pairs.are_named.Goals as goal
 

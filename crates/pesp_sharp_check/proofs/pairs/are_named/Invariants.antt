@@ -1,6 +1,6 @@
 use Rattle.std.proofs.Common.{length}
 use Rattle.std.specs.Prelude.{◌↔◌}
-use Rattle.pesp_sharp_truth.specs.Marks.{AreNamed}
+use Rattle.pesp_truth.specs.Marks.{AreNamed}
 use Rattle.pesp_sharp_check.proofs.pairs.are_named.Given as goal
 
 abbrev pub invariant-loop-pair : goal.invariant-loop-pair

@@ -3,7 +3,7 @@ use Rattle.std.specs.Prelude.{ℤ, ◌+ℤ◌, ◌*ℤ◌, ◌≤ℤ◌, IsSomeA
 use Rattle.std.specs.Int.{w128}
 use Rattle.std.proofs.lemmas.Int.{ints}
 use Rattle.pesp_problem.specs.Sums.{ceil_div}
-use Rattle.pesp_sharp.proofs.Values.{rounded_is_enough}
+use Rattle.pesp_nets.proofs.Values.{rounded_is_enough}
 use Rattle.pesp_sharp_check.proofs.values.is_enough.Goals as goal
 
 pub returns-in-Some : goal.returns-in-Some

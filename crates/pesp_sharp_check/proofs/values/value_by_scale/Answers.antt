@@ -4,9 +4,9 @@ use Rattle.std.specs.Int.{w128}
 use Rattle.std.proofs.lemmas.Int.{ints}
 use Rattle.pesp_problem.specs.declared.arc.Arc.{Arc}
 use Rattle.pesp_nets.specs.Nets.{AreNets}
-use Rattle.pesp_judges.specs.Ranges.{node_of}
-use Rattle.pesp_judges.proofs.Arcs.{arcs_long}
-use Rattle.pesp_sharp_leaf.specs.Terms.{AreSmallArcs}
+use Rattle.pesp_leaves.specs.Ranges.{node_of}
+use Rattle.pesp_leaves.proofs.Arcs.{arcs_long}
+use Rattle.pesp_nets.specs.Terms.{AreSmallArcs}
 use Rattle.pesp_sharp_check.proofs.Naming.{are_pairs}
 use Rattle.pesp_sharp_check.proofs.Summing.{small_arcs}
 use Rattle.pesp_sharp_check.proofs.Worth.{whole_value}

@@ -1,10 +1,13 @@
-use Rattle.std.proofs.Common.{◌∙◌, inl, inr, sym, Option}
+use Rattle.std.proofs.Common.{◌∙◌, inl, inr, sym, Option, Some}
 use Rattle.std.proofs.lemmas.Result.{IfOk-weaker}
-use Rattle.pesp_sharp_truth.specs.Certificates.{IsValidWith}
+use Rattle.pesp_problem.specs.Arcs.{arcs_of}
+use Rattle.pesp_truth.specs.Marks.{AreMarks}
+use Rattle.pesp_truth.specs.Certificates.{IsValid}
 use Rattle.pesp_judges.specs.declared.refusal.Refusal.{Refusal}
 use Rattle.pesp_judges.proofs.Options.{match_map, match_some, match_none}
-use Rattle.pesp_sharp_check.specs.Verdicts.{IsFirstFaultWith}
-use Rattle.pesp_sharp_check.proofs.Faults.{inner_fault, valid_is}
+use Rattle.pesp_judges.specs.Faults.{IsFirstFault}
+use Rattle.pesp_judges.proofs.Faults.{valid_is}
+use Rattle.pesp_sharp_check.proofs.Faults.{inner_fault}
 use Rattle.pesp_sharp_check.proofs.whole_check.first_fault.Goals as goal
 
 pub returns-then-is_some-clause-found : goal.returns-then-is_some-clause-found
@@ -29,11 +32,11 @@ returns-in-Ok-clause-found c =
     let answer = match_none c.in_ok-found.found _ _ (sym c.is_some.ensures ∙ c.if-is_some.false) judged in
     let cycles = (rw (c.in-Ok.is, c.cycles.ensures.value) at c.in_ok-table.ensures.verdict).0 in
     IfOk-weaker c.marks_fault.result _ _ (λ (found : Option Refusal) h.
-    match_map found _ (IsValidWith c.args.instance.now
-    (record { marks = c.args.marks.now; content = c.args.certificate.now })) _
-    (λ refusal. IsFirstFaultWith c.args.instance.now c.args.marks.now c.args.certificate.now refusal)
-    (λ sound. valid_is c.args.instance.now c.args.marks.now c.args.certificate.now c.walks.ensures.limits period
-    answer cycles sound.0 sound.1)
+    match_map found _ (IsValid (Some c.args.marks.now) c.args.instance.now c.args.certificate.now) _
+    (λ refusal. IsFirstFault (Some c.args.marks.now) c.args.instance.now c.args.certificate.now refusal)
+    (λ sound. let are : AreMarks (arcs_of c.args.instance.now) c.args.marks.now =
+    record { scale = c.walks.ensures.limits.scale.0; walks = sound.0 } in
+    valid_is (Some c.args.marks.now) c.args.instance.now c.args.certificate.now period answer cycles are sound.1)
     (λ refusal f. inr (
       period,
       inner_fault c.args.instance.now c.args.marks.now c.args.certificate.now refusal

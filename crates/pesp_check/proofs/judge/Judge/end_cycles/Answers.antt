@@ -1,6 +1,6 @@
 use Rattle.std.proofs.Common.{rules, ◌≡◌, ap}
 use Rattle.pesp_judges.specs.Pending.{Standing}
-use Rattle.pesp_judges.specs.Ranges.{node_of}
+use Rattle.pesp_leaves.specs.Ranges.{node_of}
 use Rattle.pesp_check.specs.declared.stage.Stage.TheVariants as stages
 use Rattle.pesp_check.specs.Views.{kept}
 use Rattle.pesp_check.proofs.Lines.{cycles_end}

@@ -1,3 +1,4 @@
+use Rattle.std.specs.Prelude.{None}
 use Rattle.std.proofs.Common.{◌+◌, refl, sym, subst, length, List}
 use Rattle.pesp_problem.specs.Arcs.{net_of}
 use Rattle.pesp_truth.specs.Trees.{Line}
@@ -21,7 +22,7 @@ returns-in-Some-found-clause-judged c c' rest whole before =
     let walk = c.in-Some.is in
     let told = rw (c.new-checker.ensures.instance, c.new-checker.ensures.table, c.new-checker.ensures.least) at
     c.in_ok-found.ensures.verdict in
-    let V : Line → Type 0 = λ l. IsLineVerdict
+    let V : Line → Type 0 = λ l. IsLineVerdict None
     (net_of p) c'.cycles c.least_of-least.result l c.in-Some.walk.nodes c.take_line.new.walk.nodes
     (j.line + 1) c.in_ok-found.found in
     let verdict = line_found p c' line rest (kept j) j.stage c.requires.stage before c.in-Some.walk
@@ -40,7 +41,7 @@ returns-clause-judged c c' rest whole before =
     let walk = c.in-Some.is in
     let told = rw (c.new-checker.ensures.instance, c.new-checker.ensures.table, c.new-checker.ensures.least) at
     c.in_ok-found.ensures.verdict in
-    let V : Line → Type 0 = λ l. IsLineVerdict
+    let V : Line → Type 0 = λ l. IsLineVerdict None
     (net_of p) c'.cycles c.least_of-least.result l c.in-Some.walk.nodes c.take_line.new.walk.nodes
     (j.line + 1) c.in_ok-found.found in
     let verdict = line_found p c' line rest (kept j) j.stage c.requires.stage before c.in-Some.walk

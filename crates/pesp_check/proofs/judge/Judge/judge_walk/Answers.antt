@@ -1,9 +1,7 @@
-use Rattle.std.proofs.Common.{◌≡◌, ◌+◌, arith, ap, refl, sym, subst, length, true, List}
-use Rattle.pesp_check.specs.Judging.{JudgedAt}
+use Rattle.std.proofs.Common.{◌≡◌, ◌+◌, arith, ap, refl, sym, subst, length, true, List, true≢false, ◌∙◌}
+use Rattle.pesp_check.specs.Judging.{JudgedAt, is_before_tree}
 use Rattle.pesp_check.specs.Views.{kept}
 use Rattle.std.specs.Option.{is_some}
-use Rattle.std.proofs.Common.{true≢false, ◌∙◌}
-use Rattle.pesp_check.specs.Judging.{is_before_tree}
 use Rattle.pesp_nets.specs.declared.nets.NetCount.{NetCount}
 use Rattle.pesp_cert_items.specs.Lent.{rows_in}
 use Rattle.pesp_check.proofs.Cycles.{walk_taken, walk_refused}

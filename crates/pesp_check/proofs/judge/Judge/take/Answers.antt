@@ -1,8 +1,7 @@
-use Rattle.std.proofs.Common.{rules, ◌+◌, sym, subst, List}
+use Rattle.std.proofs.Common.{rules, ◌+◌, sym, subst, List, FitsSigned, w64}
 use Rattle.pesp_check.specs.Judging.{JudgedAt}
 use Rattle.pesp_check.specs.Views.{kept}
 use Rattle.std.specs.Prelude.{ℤ, ℕ}
-use Rattle.std.proofs.Common.{FitsSigned, w64}
 use Rattle.std.proofs.lemmas.Int.{to_z-of_z}
 use Rattle.pesp_check.proofs.Fronts.{version_taken, period_taken, answer_taken, time_taken}
 use Rattle.pesp_check.proofs.judge.Judge.take.Goals as goal

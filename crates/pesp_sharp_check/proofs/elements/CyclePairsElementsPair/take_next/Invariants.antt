@@ -1,5 +1,5 @@
 use Rattle.std.proofs.Common.{◌≡◌, length}
-use Rattle.pesp_sharp_truth.specs.Marks.{of_cycles}
+use Rattle.pesp_truth.specs.Marks.{of_cycles}
 use Rattle.pesp_sharp_check.proofs.elements.CyclePairsElementsPair.take_next.Given as goal
 
 abbrev pub invariant-loop-pair : goal.invariant-loop-pair

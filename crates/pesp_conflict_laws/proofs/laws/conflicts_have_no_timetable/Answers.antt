@@ -1,5 +1,0 @@
-use Rattle.pesp_conflict_laws.proofs.Choosing as lemmas
-use Rattle.pesp_conflict_laws.proofs.laws.conflicts_have_no_timetable.Goals as goal
-
-pub returns : goal.returns
-returns c = lemmas.conflict_is_none

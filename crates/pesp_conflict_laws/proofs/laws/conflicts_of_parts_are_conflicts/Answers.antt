@@ -1,5 +1,0 @@
-use Rattle.pesp_conflict_laws.proofs.Choosing as lemmas
-use Rattle.pesp_conflict_laws.proofs.laws.conflicts_of_parts_are_conflicts.Goals as goal
-
-pub returns : goal.returns
-returns c = lemmas.chosen_conflict

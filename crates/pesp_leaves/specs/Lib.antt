@@ -1,0 +1,4 @@
+pub mod Nets
+pub mod Offsets
+pub mod Ranges
+pub mod Flows

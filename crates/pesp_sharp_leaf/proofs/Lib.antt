@@ -1,4 +1,0 @@
-pub mod Along
-pub mod Passes
-pub mod Small
-pub mod Values

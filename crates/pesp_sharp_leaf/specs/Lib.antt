@@ -1,2 +1,0 @@
-pub mod Rates
-pub mod Terms

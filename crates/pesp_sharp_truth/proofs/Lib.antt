@@ -1,5 +1,0 @@
-pub mod Marks
-pub mod Trees
-pub mod Lines
-pub mod Certificates
-pub mod Worked

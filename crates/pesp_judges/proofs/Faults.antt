@@ -20,7 +20,7 @@ use Rattle.pesp_truth.proofs.Lines.{whole_tree, one_tree, sound_as_tree}
 use Rattle.pesp_judges.specs.declared.refusal.Refusal.{Refusal}
 use Rattle.pesp_judges.specs.declared.refusal.Verdict.{Verdict}
 use Rattle.pesp_judges.specs.declared.refusal.Verdict.TheVariants.{Accepted, Refused}
-use Rattle.pesp_judges.specs.Faults.{HasShape, IsTimesFault, IsAnswerFault, IsCycleFault, IsMarkFault, IsFrontFault, IsReasonFault, IsLeafFault, IsTreeFault, IsLaterFault, IsFirstFault, IsVerdict, first_tree_line}
+use Rattle.pesp_judges.specs.Faults.{HasShape, IsTimesFault, IsAnswerFault, IsCycleFault, IsMarkFault, IsMarksFault, IsReasonFault, IsLeafFault, IsTreeFault, IsLaterFault, IsFirstFault, IsVerdict, first_tree_line}
 use Rattle.pesp_judges.specs.Lines.{IsLinesFault}
 
 -- ---- from lines to the tree
@@ -163,7 +163,7 @@ mark_fault arcs cycles walks refusal closed f =
     first.open_ends (all (f.0 - 1) [] (omega (arith, first.exists)))
 
 front_fault : (front : Option Marks) (arcs : List Arc) (cycles : ℕ) (refusal : Refusal)
-    → IfSome front (AreMarks arcs) → IsFrontFault front arcs cycles refusal → ⊥
+    → IfSome front (AreMarks arcs) → IsMarksFault front arcs cycles refusal → ⊥
 front_fault None arcs cycles refusal are f = f
 front_fault (Some marks) arcs cycles refusal are f = mark_fault arcs cycles marks.walks refusal are.walks f
 

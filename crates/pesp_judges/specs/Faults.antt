@@ -108,9 +108,9 @@ IsMarkFault arcs cycles walks refusal =
     ⊎ ((refusal ≡ OpenWalk (cycles + number)) × AreRows arcs (cycle_at (map signed_rows walks) (number - 1))))
 
 -- the same of a front, where there is one
-abbrev pub IsFrontFault : Option Marks → List Arc → ℕ → Refusal → Type 0
-IsFrontFault None arcs cycles refusal = ⊥
-IsFrontFault (Some marks) arcs cycles refusal = IsMarkFault arcs cycles marks.walks refusal
+abbrev pub IsMarksFault : Option Marks → List Arc → ℕ → Refusal → Type 0
+IsMarksFault None arcs cycles refusal = ⊥
+IsMarksFault (Some marks) arcs cycles refusal = IsMarkFault arcs cycles marks.walks refusal
 
 -- ---- the certificate
 
@@ -129,7 +129,7 @@ IsLaterFault front p content refusal =
     ⊎ (ShowsAnswer p content.answer (shown_labels content) (shown_times content)
     × IsCycleFault (arcs_of p) content.cycles (line_before_cycles front content) refusal)
     ⊎ (ShowsAnswer p content.answer (shown_labels content) (shown_times content) × All (IsWalk (arcs_of p)) content.cycles
-    × IsFrontFault front (arcs_of p) (length content.cycles) refusal)
+    × IsMarksFault front (arcs_of p) (length content.cycles) refusal)
     ⊎ (ShowsAnswer p content.answer (shown_labels content) (shown_times content) × All (IsWalk (arcs_of p)) content.cycles
     × IfSome front (λ marks. All (IsMarkedWalk (arcs_of p)) marks.walks)
     × ((tree : Tree) × (preorder tree ≡ lines_of content)

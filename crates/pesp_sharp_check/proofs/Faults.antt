@@ -1,5 +1,5 @@
 -- The faults of the marked walks and of the tree are the certificate's.
-use Rattle.std.proofs.Common.{◌≡◌, inl, inr, length, Some, true}
+use Rattle.std.proofs.Common.{◌≡◌, inl, inr, Some, true}
 use Rattle.std.specs.Prelude.{All}
 use Rattle.pesp_problem.specs.Timetables.{Pesp}
 use Rattle.pesp_problem.specs.Arcs.{arcs_of}

@@ -1,5 +1,5 @@
 -- What may be wrong with a certificate's marked walks and with its tree, where its cycles are walks.
-use Rattle.std.specs.Prelude.{◌⊎◌, List, [], ◌∷◌, length, All, Some}
+use Rattle.std.specs.Prelude.{◌⊎◌, [], ◌∷◌, length, All, Some}
 use Rattle.pesp_problem.specs.Timetables.{Pesp}
 use Rattle.pesp_problem.specs.Arcs.{arcs_of, net_of}
 use Rattle.pesp_problem.specs.Nodes.{root}

@@ -114,13 +114,18 @@ IsMarksFault (Some marks) arcs cycles refusal = IsMarkFault arcs cycles marks.wa
 
 -- ---- the certificate
 
+-- the number in the whole text of a line of the certificate's own: behind a front, where there is one
+abbrev pub behind_front : Option Marks → ℕ → ℕ
+behind_front None line = line
+behind_front (Some marks) line = line + front_lines (Some marks)
+
 -- the line before the first cycle's: a front, the header, the period, the answer, and the times
 abbrev pub line_before_cycles : Option Marks → Content → ℕ
-line_before_cycles front content = 3 + length content.times + front_lines front
+line_before_cycles front content = behind_front front (3 + length content.times)
 
 -- the first line of the tree
 abbrev pub first_tree_line : Option Marks → Content → ℕ
-first_tree_line front content = 4 + length content.times + length content.cycles + front_lines front
+first_tree_line front content = behind_front front (4 + length content.times + length content.cycles)
 
 -- the answer, then the cycles, then the marked walks, then the tree, of a certificate with the instance's period
 abbrev pub IsLaterFault : Option Marks → Pesp → Content → Refusal → Type 0

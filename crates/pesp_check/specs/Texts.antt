@@ -1,5 +1,5 @@
 -- What a check of a text says of the bytes that a reader gives.
-use Rattle.std.specs.Prelude.{◌≡◌, ◌↔◌, ℕ, List, Option}
+use Rattle.std.specs.Prelude.{◌≡◌, ◌↔◌, ℕ, List, Option, None}
 use Rattle.pesp_problem.specs.declared.limits.TheConstants.{MOST_TEXT}
 use Rattle.pesp_stream.specs.Reading.{ReadsText}
 use Rattle.pesp_problem.specs.Timetables.{Pesp}
@@ -20,7 +20,7 @@ pub record ChecksText (told told' : Option (List ℕ)) (p : Pesp) (verdict : Ver
   pub text : List ℕ
   pub content : Content
   pub read : ReadsText told told' MOST_TEXT text
-  pub spelt : IsTextOf text content
+  pub spelt : IsTextOf None text content
   pub answer_is : answer ≡ content.answer
   pub said : IsVerdict p content verdict
   pub exactly : (verdict ≡ Accepted) ↔ IsValid p content

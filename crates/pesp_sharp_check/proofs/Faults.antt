@@ -24,7 +24,7 @@ use Rattle.pesp_sharp_truth.specs.Marks.{Marks, multipliers}
 use Rattle.pesp_sharp_truth.specs.Trees.{IsShutWith, IsSoundWith, AreSoundWith}
 use Rattle.pesp_sharp_truth.specs.Certificates.{IsValidWith}
 use Rattle.pesp_sharp_truth.proofs.Lines.{sound_as_tree}
-use Rattle.pesp_sharp_text.specs.Limits.{KeepsLimits}
+use Rattle.pesp_cert.specs.FrontLimits.{KeepsLimits}
 use Rattle.pesp_sharp_check.specs.Faults.{IsReasonFaultWith, IsLeafFaultWith}
 use Rattle.pesp_sharp_check.specs.Lines.{IsLinesFaultWith}
 use Rattle.pesp_sharp_check.specs.Verdicts.{IsMarkFault, IsTreeFaultWith, IsInnerFault, IsLaterFaultWith, IsFirstFaultWith, IsMarksVerdict, lines_in_front}

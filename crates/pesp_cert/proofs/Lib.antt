@@ -1,6 +1,7 @@
 pub mod LimitLoops
 pub mod LimitFacts
 pub mod Runs
+pub mod FrontRuns
 pub mod PrintLaws
 pub mod DraftLaws
 pub mod ShortLaws

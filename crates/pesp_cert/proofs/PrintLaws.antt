@@ -84,7 +84,7 @@ mapped f g same (x ∷ xs) = flat_map-cons item_line (f x) (map f xs)
     ∙ ap (λ (t : List ℕ). t ++ flat_map item_line (map f xs)) (same x)
     ∙ ap (λ (t : List ℕ). g x ++ t) (mapped f g same xs) ∙ sym (flat_map-cons g x xs)
 
-pub certificate_is : (c : Content) → certificate_text c ≡ spelling c
+pub certificate_is : (c : Content) → certificate_text c ≡ spelling None c
 certificate_is c =
     let ts = map time_item c.times in
     let cs = map Cycle c.cycles in
@@ -100,7 +100,7 @@ certificate_is c =
       mapped tree_item tree_line tree_is c.tree,
     ) refl in
     let first : List ℕ = item_line (Version c.version) in
-    let all : spelling c ≡ first ++ (item_line (Period c.period)
+    let all : spelling None c ≡ first ++ (item_line (Period c.period)
     ++ (answer_line c.answer ++ (((flat_map time_line c.times ++ flat_map cycle_line c.cycles)
     ++ flat_map tree_line c.tree) ++ codes "end\n"))) =
     flat_map-cons item_line (Version c.version) (Period c.period ∷ Says c.answer ∷ others)

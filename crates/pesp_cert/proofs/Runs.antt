@@ -19,13 +19,15 @@ use Rattle.pesp_cert_lines.specs.declared.item.Item.TheVariants.{Version, Period
 use Rattle.pesp_cert_lines.specs.declared.progress.Place.{Place}
 use Rattle.pesp_cert_lines.specs.declared.progress.Place.TheVariants as places
 use Rattle.pesp_cert_lines.specs.declared.progress.Progress.{Progress}
+use Rattle.pesp_cert_lines.specs.declared.versions.Versions.{Versions}
+use Rattle.pesp_cert_lines.specs.declared.versions.Versions.TheVariants.{All}
 use Rattle.pesp_cert_lines.specs.Rows.{rows_are_named}
 use Rattle.pesp_cert_lines.specs.Pairs.{rise_from, all_within}
 use Rattle.pesp_cert_lines.specs.Items.{IsProper, HasProperCosts, is_item_within}
-use Rattle.pesp_cert_lines.specs.Counts.{beginning, after, after_tree, allows, may_follow, has_kind, is_end_kind, keeps_counts, kind_in, CanStand}
+use Rattle.pesp_cert_lines.specs.Counts.{after, after_tree, allows, may_follow, has_kind, is_end_kind, keeps_counts, kind_in, CanStand}
 use Rattle.pesp_cert_lines.proofs.Tests.{and_left, and_right, and_both}
 use Rattle.pesp_cert.specs.Limits.{has_costs, is_period, is_time, are_times, is_cycle, total_rows, are_cycles, is_line, is_branch, pairs_in, total_pairs, are_lines, has_line, has_lines, keeps_limits, KeepsLimits}
-use Rattle.pesp_cert.specs.Texts.{is_end, IsRun, HasText, time_item, tree_item}
+use Rattle.pesp_cert.specs.Texts.{is_end, IsRun, HasText, own_items, time_item, tree_item}
 use Rattle.pesp_cert.proofs.LimitFacts.{limits_of}
 
 -- ---- one item and the others
@@ -83,18 +85,30 @@ proper_line lines.Propagated h w = w
 
 -- ---- the tree
 
+-- what doesn't change behind the certificate's own first line
+record Base : Type 0 where
+  versions : Versions
+  version : ℕ
+  walks : ℕ
+  marked : ℕ
+  few_walks : walks ≤ 100000
+  few_marked : marked ≤ 10000000
+
 -- behind the other lines, with so many trees to come
-abbrev in_tree : (v : ℕ) (place : Place) (needs times cycles rows lines pairs : ℕ) → Progress
+abbrev in_tree : (v : Base) (place : Place) (needs times cycles rows lines pairs : ℕ) → Progress
 in_tree v place needs times cycles rows lines pairs =
     record {
+      versions = v.versions;
       place = place;
-      version = v;
+      version = v.version;
       needs = needs;
       times = times;
       cycles = cycles;
       rows = rows;
       lines = lines;
       pairs = pairs;
+      walks = v.walks;
+      marked = v.marked;
     }
 
 abbrev parts_in : TreeLine → ℕ
@@ -119,6 +133,8 @@ line_goes lines.Propagated = refl
 -- each kind of line may follow where one may
 line_follows : (place : Place) (line : TreeLine) → may_follow place kinds.Gap ≡ true → may_follow place (kind_in (tree_item line)) ≡ true
 line_follows places.Front line h = absurd cc
+line_follows places.Marked line h = absurd cc
+line_follows places.Walks line h = absurd cc
 line_follows places.Header line h = absurd cc
 line_follows places.Period line h = absurd cc
 line_follows places.Times (lines.Slack row k) h = refl
@@ -157,10 +173,10 @@ trees_step n (lines.Nothing ps) ls = let e : suc n + 0 - 1 ≡ n = omega arith i
 trees_step n (lines.Gap cycle) ls = let e : suc n + 0 - 1 ≡ n = omega arith in rw e refl
 trees_step n lines.Propagated ls = let e : suc n + 0 - 1 ≡ n = omega arith in rw e refl
 
-counts_fit : (v : ℕ) (place : Place) (needs times cycles rows lines pairs : ℕ) → times ≤ 100000 → cycles ≤ 100000
+counts_fit : (v : Base) (place : Place) (needs times cycles rows lines pairs : ℕ) → times ≤ 100000 → cycles ≤ 100000
     → rows ≤ 10000000 → lines ≤ 1000000 → pairs ≤ 20000000
     → keeps_counts (in_tree v place needs times cycles rows lines pairs) ≡ true
-counts_fit v place needs times cycles rows lines pairs a b c d e = grind (arith, nat_tests, a, b, c, d, e)
+counts_fit v place needs times cycles rows lines pairs a b c d e = grind (arith, nat_tests, a, b, c, d, e, v.few_walks, v.few_marked)
 
 -- what the counts keep to
 record Fit (times cycles rows lines pairs : ℕ) : Type 0 where
@@ -170,7 +186,7 @@ record Fit (times cycles rows lines pairs : ℕ) : Type 0 where
   few_lines : lines ≤ 1000000
   few_pairs : pairs ≤ 20000000
 
-fit_counts : (v : ℕ) (place : Place) (needs times cycles rows lines pairs : ℕ)
+fit_counts : (v : Base) (place : Place) (needs times cycles rows lines pairs : ℕ)
     → keeps_counts (in_tree v place needs times cycles rows lines pairs) ≡ true → Fit times cycles rows lines pairs
 fit_counts v place needs times cycles rows lines pairs h =
     record {
@@ -186,29 +202,29 @@ none_needed zero h = refl
 none_needed (suc n) h = absurd cc
 
 -- the kinds of the lines that a version has
-line_known : (v : ℕ) (line : TreeLine) → has_kind v (kind_in (tree_item line)) ≡ has_line v line
-line_known v (lines.Slack row k) = refl
-line_known v (lines.Offset cycle k) = refl
-line_known v (lines.Bound ps) = refl
-line_known v (lines.Nothing ps) = refl
-line_known v (lines.Gap cycle) = refl
-line_known v lines.Propagated = refl
+line_known : (w : Versions) (v : ℕ) (line : TreeLine) → has_kind w v (kind_in (tree_item line)) ≡ has_line v line
+line_known w v (lines.Slack row k) = refl
+line_known w v (lines.Offset cycle k) = refl
+line_known w v (lines.Bound ps) = refl
+line_known w v (lines.Nothing ps) = refl
+line_known w v (lines.Gap cycle) = refl
+line_known w v lines.Propagated = refl
 
-allows_next : (p : Progress) (k : Kind) → 0 < p.needs → may_follow p.place k ≡ true → has_kind p.version k ≡ true → allows p k ≡ true
-allows_next p k some h known = rw (ne_eqb p.needs 0 (omega arith)) (and_both (may_follow p.place k) (has_kind p.version k) h known)
+allows_next : (p : Progress) (k : Kind) → 0 < p.needs → may_follow p.place k ≡ true → has_kind p.versions p.version k ≡ true → allows p k ≡ true
+allows_next p k some h known = rw (ne_eqb p.needs 0 (omega arith)) (and_both (may_follow p.place k) (has_kind p.versions p.version k) h known)
 
-known_next : (p : Progress) (k : Kind) → 0 < p.needs → allows p k ≡ true → has_kind p.version k ≡ true
-known_next p k some h = and_right (may_follow p.place k) (has_kind p.version k) (rw (ne_eqb p.needs 0 (omega arith)) at h)
+known_next : (p : Progress) (k : Kind) → 0 < p.needs → allows p k ≡ true → has_kind p.versions p.version k ≡ true
+known_next p k some h = and_right (may_follow p.place k) (has_kind p.versions p.version k) (rw (ne_eqb p.needs 0 (omega arith)) at h)
 
-allows_line : (b : Bool) (v : ℕ) (place : Place) (line : TreeLine)
+allows_line : (b : Bool) (w : Versions) (v : ℕ) (place : Place) (line : TreeLine)
     → cond b (is_end_kind (kind_in (tree_item line)))
-    (may_follow place (kind_in (tree_item line)) && has_kind v (kind_in (tree_item line))) ≡ true → b ≡ false
-allows_line true v place line h = let bad : false ≡ true = sym (not_end line) ∙ h in cc
-allows_line false v place line h = refl
+    (may_follow place (kind_in (tree_item line)) && has_kind w v (kind_in (tree_item line))) ≡ true → b ≡ false
+allows_line true w v place line h = let bad : false ≡ true = sym (not_end line) ∙ h in cc
+allows_line false w v place line h = refl
 
-tree_gives : (v : ℕ) (ls : List TreeLine) (place : Place) (needs times cycles rows lines pairs : ℕ)
+tree_gives : (v : Base) (ls : List TreeLine) (place : Place) (needs times cycles rows lines pairs : ℕ)
     → may_follow place kinds.Gap ≡ true → are_trees needs (map line_of ls) ≡ true → list_all is_line ls ≡ true
-    → list_all (has_line v) ls ≡ true
+    → list_all (has_line v.version) ls ≡ true
     → Fit times cycles rows (lines + length ls) (pairs + total_pairs ls)
     → IsRun (in_tree v place needs times cycles rows lines pairs) (map tree_item ls ++ End ∷ [])
 tree_gives v [] place needs times cycles rows lines pairs follows whole each known fit =
@@ -241,10 +257,10 @@ tree_gives v (line ∷ ls) place (suc n) times cycles rows lines pairs follows w
     let run = tree_gives v ls places.Tree (suc n + parts_in line - 1) times cycles rows (lines + 1)
     (pairs + pairs_in line) refl (sym (trees_step n line (map line_of ls)) ∙ whole)
     (and_right (is_line line) (list_all is_line ls) each)
-    (and_right (has_line v line) (list_all (has_line v) ls) known) later in
+    (and_right (has_line v.version line) (list_all (has_line v.version) ls) known) later in
     let can : CanStand p (tree_item line) = record {
       allowed = allows_next p (kind_in (tree_item line)) (omega arith) (line_follows place line follows)
-          (line_known v line ∙ and_left (has_line v line) (list_all (has_line v) ls) known);
+          (line_known v.versions v.version line ∙ and_left (has_line v.version line) (list_all (has_line v.version) ls) known);
       proper = line_proper line one;
       within = line_within line one;
       counts = rw (after_line p line) (counts_fit v places.Tree (suc n + parts_in line - 1) times cycles rows
@@ -253,22 +269,24 @@ tree_gives v (line ∷ ls) place (suc n) times cycles rows lines pairs follows w
     run_onto p (tree_item line) (map tree_item ls ++ End ∷ []) can (line_goes line) (rw (after_line p line) run)
 
 -- what a run of lines says of them
-record IsTree (v : ℕ) (ls : List TreeLine) (needs times cycles rows lines pairs : ℕ) : Type 0 where
+record IsTree (v : Base) (ls : List TreeLine) (needs times cycles rows lines pairs : ℕ) : Type 0 where
   whole : are_trees needs (map line_of ls) ≡ true
   each : list_all is_line ls ≡ true
-  known : list_all (has_line v) ls ≡ true
+  known : list_all (has_line v.version) ls ≡ true
   fit : Fit times cycles rows (lines + length ls) (pairs + total_pairs ls)
 
 end_needs : (b : Bool) (place : Place) → cond b true (may_follow place kinds.End && true) ≡ true → b ≡ true
 end_needs true place h = refl
 end_needs false places.Front h = absurd cc
+end_needs false places.Marked h = absurd cc
+end_needs false places.Walks h = absurd cc
 end_needs false places.Header h = absurd cc
 end_needs false places.Period h = absurd cc
 end_needs false places.Times h = absurd cc
 end_needs false places.Cycles h = absurd cc
 end_needs false places.Tree h = absurd cc
 
-tree_takes : (v : ℕ) (ls : List TreeLine) (place : Place) (needs times cycles rows lines pairs : ℕ)
+tree_takes : (v : Base) (ls : List TreeLine) (place : Place) (needs times cycles rows lines pairs : ℕ)
     → IsRun (in_tree v place needs times cycles rows lines pairs) (map tree_item ls ++ End ∷ [])
     → IsTree v ls needs times cycles rows lines pairs
 tree_takes v [] place needs times cycles rows lines pairs run =
@@ -288,7 +306,7 @@ tree_takes v [] place needs times cycles rows lines pairs run =
     }
 tree_takes v (line ∷ ls) place zero times cycles rows lines pairs run =
     let can = run_first (in_tree v place zero times cycles rows lines pairs) (tree_item line) (map tree_item ls ++ End ∷ []) run in
-    let bad : true ≡ false = allows_line true v place line can.allowed in
+    let bad : true ≡ false = allows_line true v.versions v.version place line can.allowed in
     absurd cc
 tree_takes v (line ∷ ls) place (suc n) times cycles rows lines pairs run =
     let p : Progress = in_tree v place (suc n) times cycles rows lines pairs in
@@ -300,8 +318,8 @@ tree_takes v (line ∷ ls) place (suc n) times cycles rows lines pairs run =
     record {
       whole = trees_step n line (map line_of ls) ∙ later.whole;
       each = and_both (is_line line) (list_all is_line ls) (proper_line line can.proper can.within) later.each;
-      known = and_both (has_line v line) (list_all (has_line v) ls)
-          (sym (line_known v line) ∙ known_next p (kind_in (tree_item line)) (omega arith) can.allowed) later.known;
+      known = and_both (has_line v.version line) (list_all (has_line v.version) ls)
+          (sym (line_known v.versions v.version line) ∙ known_next p (kind_in (tree_item line)) (omega arith) can.allowed) later.known;
       fit = record {
         few_times = later.fit.few_times;
         few_cycles = later.fit.few_cycles;
@@ -314,7 +332,7 @@ tree_takes v (line ∷ ls) place (suc n) times cycles rows lines pairs run =
 -- ---- the cycles
 
 -- behind the answer, times and cycles
-abbrev in_cycles : (v : ℕ) (place : Place) (times cycles rows : ℕ) → Progress
+abbrev in_cycles : (v : Base) (place : Place) (times cycles rows : ℕ) → Progress
 in_cycles v place times cycles rows = in_tree v place 1 times cycles rows 0 0
 
 some_rows : (rows : List SignedRow) → is_cycle rows ≡ true → 0 < length rows
@@ -324,7 +342,7 @@ rows_some : (rows : List SignedRow) → 0 < length rows → rows_are_named rows 
 rows_some rows h k = let some : nat_le 1 (length rows) ≡ true = grind (arith, nat_tests, h) in
     and_both (nat_le 1 (length rows)) (rows_are_named rows) some k
 
-cycles_give : (v : ℕ) (cs : List (List SignedRow)) (place : Place) (times cycles rows : ℕ) (more : List Item)
+cycles_give : (v : Base) (cs : List (List SignedRow)) (place : Place) (times cycles rows : ℕ) (more : List Item)
     → may_follow place kinds.Cycle ≡ true → list_all is_cycle cs ≡ true
     → times ≤ 100000 → cycles + length cs ≤ 100000 → rows + total_rows cs ≤ 10000000
     → ((last : Place) → may_follow last kinds.Cycle ≡ true
@@ -354,11 +372,11 @@ cycles_give v (w ∷ cs) place times cycles rows more follows each few_times few
     run_onto p (Cycle w) (map Cycle cs ++ more) can refl run
 
 -- what a run of cycles says of them, and the run behind it
-abbrev AreCycles : ℕ → List (List SignedRow) → (times cycles rows : ℕ) → List Item → Type 0
+abbrev AreCycles : Base → List (List SignedRow) → (times cycles rows : ℕ) → List Item → Type 0
 AreCycles v cs times cycles rows more = (list_all is_cycle cs ≡ true)
     × ((last : Place) × IsRun (in_cycles v last times (cycles + length cs) (rows + total_rows cs)) more)
 
-cycles_take : (v : ℕ) (cs : List (List SignedRow)) (place : Place) (times cycles rows : ℕ) (more : List Item)
+cycles_take : (v : Base) (cs : List (List SignedRow)) (place : Place) (times cycles rows : ℕ) (more : List Item)
     → IsRun (in_cycles v place times cycles rows) (map Cycle cs ++ more) → AreCycles v cs times cycles rows more
 cycles_take v [] place times cycles rows more run =
     let c : cycles ≡ cycles + 0 = omega arith in
@@ -379,10 +397,10 @@ cycles_take v (w ∷ cs) place times cycles rows more run =
 
 -- ---- the times
 
-abbrev in_times : ℕ → ℕ → Progress
+abbrev in_times : Base → ℕ → Progress
 in_times v times = in_cycles v places.Times times 0 0
 
-times_give : (v : ℕ) (ts : List (ℤ × ℕ)) (times : ℕ) (more : List Item) → list_all is_time ts ≡ true
+times_give : (v : Base) (ts : List (ℤ × ℕ)) (times : ℕ) (more : List Item) → list_all is_time ts ≡ true
     → times + length ts ≤ 100000 → IsRun (in_times v (times + length ts)) more
     → IsRun (in_times v times) (map time_item ts ++ more)
 times_give v [] times more each few run = let t : times + 0 ≡ times = omega arith in rw t at run
@@ -398,7 +416,7 @@ times_give v (t ∷ ts) times more each few run =
     } in
     run_onto (in_times v times) (time_item t) (map time_item ts ++ more) can refl later
 
-times_take : (v : ℕ) (ts : List (ℤ × ℕ)) (times : ℕ) (more : List Item)
+times_take : (v : Base) (ts : List (ℤ × ℕ)) (times : ℕ) (more : List Item)
     → IsRun (in_times v times) (map time_item ts ++ more)
     → (list_all is_time ts ≡ true) × IsRun (in_times v (times + length ts)) more
 times_take v [] times more run = let t : times + 0 ≡ times = omega arith in (refl, rw t run)
@@ -413,6 +431,8 @@ times_take v (t ∷ ts) times more run =
 
 tree_where_cycle : (place : Place) → may_follow place kinds.Cycle ≡ true → may_follow place kinds.Gap ≡ true
 tree_where_cycle places.Front h = h
+tree_where_cycle places.Marked h = h
+tree_where_cycle places.Walks h = h
 tree_where_cycle places.Header h = h
 tree_where_cycle places.Period h = h
 tree_where_cycle places.Times h = refl
@@ -422,14 +442,44 @@ tree_where_cycle places.Tree h = refl
 pub items_shape : {A : Type 0} (t c l e : List A) → ((t ++ c) ++ l) ++ e ≡ t ++ (c ++ (l ++ e))
 items_shape t c l e = append_assoc (t ++ c) l e ∙ append_assoc t c (l ++ e)
 
-pub limits_give : (c : Content) → KeepsLimits c → HasText c
-limits_give c k =
+-- before the certificate's own first line, behind so many marked walks with so many marked rows
+abbrev pub start : (versions : Versions) (place : Place) (walks marked : ℕ) → Progress
+start versions place walks marked =
+    record {
+      versions = versions;
+      place = place;
+      version = 0;
+      needs = 1;
+      times = 0;
+      cycles = 0;
+      rows = 0;
+      lines = 0;
+      pairs = 0;
+      walks = walks;
+      marked = marked;
+    }
+
+abbrev base : (versions : Versions) (version walks marked : ℕ) → walks ≤ 100000 → marked ≤ 10000000 → Base
+base versions version walks marked few_w few_m =
+    record {
+      versions = versions;
+      version = version;
+      walks = walks;
+      marked = marked;
+      few_walks = few_w;
+      few_marked = few_m;
+    }
+
+pub own_give : (versions : Versions) (place : Place) (walks marked : ℕ) (c : Content) → walks ≤ 100000 → marked ≤ 10000000
+    → may_follow place kinds.Version ≡ true → KeepsLimits c → IsRun (start versions place walks marked) (own_items c)
+own_give versions place walks marked c few_w few_m follows k =
+    let v : Base = base versions c.version walks marked few_w few_m in
     let tree : List Item = map tree_item c.tree ++ End ∷ [] in
     let others : List Item = ((map time_item c.times ++ map Cycle c.cycles) ++ map tree_item c.tree) ++ End ∷ [] in
     let behind : (last : Place) → may_follow last kinds.Cycle ≡ true
-    → IsRun (in_cycles c.version last (0 + length c.times) (0 + length c.cycles) (0 + total_rows c.cycles))
+    → IsRun (in_cycles v last (0 + length c.times) (0 + length c.cycles) (0 + total_rows c.cycles))
     tree = λ last f.
-    tree_gives c.version c.tree last 1 (0 + length c.times) (0 + length c.cycles) (0 + total_rows c.cycles) 0 0
+    tree_gives v c.tree last 1 (0 + length c.times) (0 + length c.cycles) (0 + total_rows c.cycles) 0 0
     (tree_where_cycle last f) k.whole k.each_line k.known
     (record {
       few_times = omega (arith, k.times);
@@ -438,45 +488,53 @@ limits_give c k =
       few_lines = omega (arith, k.lines);
       few_pairs = omega (arith, k.pairs);
     }) in
-    let cycles = cycles_give c.version c.cycles places.Times (0 + length c.times) 0 0 tree refl k.each_cycle
+    let cycles = cycles_give v c.cycles places.Times (0 + length c.times) 0 0 tree refl k.each_cycle
     (omega (arith, k.times)) (omega (arith, k.cycles)) (omega (arith, k.rows)) behind in
-    let times = times_give c.version c.times 0 (map Cycle c.cycles ++ tree) k.each_time (omega (arith, k.times)) cycles in
-    let shaped : IsRun (in_times c.version 0) (((map time_item c.times ++ map Cycle c.cycles)
+    let times = times_give v c.times 0 (map Cycle c.cycles ++ tree) k.each_time (omega (arith, k.times)) cycles in
+    let shaped : IsRun (in_times v 0) (((map time_item c.times ++ map Cycle c.cycles)
     ++ map tree_item c.tree) ++ End ∷ []) = rw (items_shape (map time_item c.times) (map Cycle c.cycles)
     (map tree_item c.tree) (End ∷ [])) times in
-    let answer = run_onto (in_tree c.version places.Period 1 0 0 0 0 0) (Says c.answer) others
-    (record { allowed = refl; proper = costs_proper c.answer k.answer; within = refl; counts = refl }) refl
+    let fits : (at : Place) → keeps_counts (in_tree v at 1 0 0 0 0 0) ≡ true = λ at.
+    counts_fit v at 1 0 0 0 0 0 (omega arith) (omega arith) (omega arith) (omega arith) (omega arith) in
+    let answer = run_onto (in_tree v places.Period 1 0 0 0 0 0) (Says c.answer) others
+    (record { allowed = refl; proper = costs_proper c.answer k.answer; within = refl; counts = fits places.Times }) refl
     shaped in
     let within : (nat_le 1 c.period && nat_le c.period 10000) ≡ true = grind (arith, nat_tests, k.period) in
     let version : (nat_le 1 c.version && nat_le c.version 2) ≡ true = grind (arith, nat_tests, k.version) in
-    let period = run_onto (in_tree c.version places.Header 1 0 0 0 0 0) (Period c.period) (Says c.answer ∷ others)
-    (record { allowed = refl; proper = tt; within = within; counts = refl }) refl answer in
-    record {
-      run = run_onto beginning (Version c.version) (Period c.period ∷ Says c.answer ∷ others)
-          (record { allowed = refl; proper = tt; within = version; counts = refl }) refl period;
-    }
+    let period = run_onto (in_tree v places.Header 1 0 0 0 0 0) (Period c.period) (Says c.answer ∷ others)
+    (record { allowed = refl; proper = tt; within = within; counts = fits places.Period }) refl answer in
+    run_onto (start versions place walks marked) (Version c.version) (Period c.period ∷ Says c.answer ∷ others)
+    (record {
+      allowed = and_both (may_follow place kinds.Version) true follows refl;
+      proper = tt;
+      within = version;
+      counts = fits places.Header;
+    }) refl period
 
 le_test : (m n : ℕ) → m ≤ n → nat_le m n ≡ true
 le_test m n h = grind (arith, nat_tests, h)
 
-pub text_keeps_limits : (c : Content) → HasText c → keeps_limits c ≡ true
+pub own_take : (versions : Versions) (place : Place) (walks marked : ℕ) (c : Content) → walks ≤ 100000 → marked ≤ 10000000
+    → IsRun (start versions place walks marked) (own_items c) → keeps_limits c ≡ true
 unfolding keeps_limits
-text_keeps_limits c h =
+own_take versions place walks marked c few_w few_m run =
+    let v : Base = base versions c.version walks marked few_w few_m in
     let tree : List Item = map tree_item c.tree ++ End ∷ [] in
     let others : List Item = ((map time_item c.times ++ map Cycle c.cycles) ++ map tree_item c.tree) ++ End ∷ [] in
-    let version = run_first beginning (Version c.version) (Period c.period ∷ Says c.answer ∷ others) h.run in
-    let behind_version = run_rest beginning (Version c.version) (Period c.period ∷ Says c.answer ∷ others) refl h.run in
-    let period = run_first (in_tree c.version places.Header 1 0 0 0 0 0) (Period c.period) (Says c.answer ∷ others) behind_version in
-    let behind_period = run_rest (in_tree c.version places.Header 1 0 0 0 0 0) (Period c.period)
+    let version = run_first (start versions place walks marked) (Version c.version) (Period c.period ∷ Says c.answer ∷ others) run in
+    let behind_version = run_rest (start versions place walks marked) (Version c.version)
+    (Period c.period ∷ Says c.answer ∷ others) refl run in
+    let period = run_first (in_tree v places.Header 1 0 0 0 0 0) (Period c.period) (Says c.answer ∷ others) behind_version in
+    let behind_period = run_rest (in_tree v places.Header 1 0 0 0 0 0) (Period c.period)
     (Says c.answer ∷ others) refl behind_version in
-    let answer = run_first (in_tree c.version places.Period 1 0 0 0 0 0) (Says c.answer) others behind_period in
-    let behind_answer = run_rest (in_tree c.version places.Period 1 0 0 0 0 0) (Says c.answer) others refl behind_period in
-    let shaped : IsRun (in_times c.version 0) (map time_item c.times ++ (map Cycle c.cycles ++ tree)) =
+    let answer = run_first (in_tree v places.Period 1 0 0 0 0 0) (Says c.answer) others behind_period in
+    let behind_answer = run_rest (in_tree v places.Period 1 0 0 0 0 0) (Says c.answer) others refl behind_period in
+    let shaped : IsRun (in_times v 0) (map time_item c.times ++ (map Cycle c.cycles ++ tree)) =
     rw (items_shape (map time_item c.times) (map Cycle c.cycles) (map tree_item c.tree) (End ∷ [])) at
     behind_answer in
-    let times = times_take c.version c.times 0 (map Cycle c.cycles ++ tree) shaped in
-    let cycles = cycles_take c.version c.cycles places.Times (0 + length c.times) 0 0 tree times.1 in
-    let lines = tree_takes c.version c.tree cycles.1.0 1 (0 + length c.times) (0 + length c.cycles)
+    let times = times_take v c.times 0 (map Cycle c.cycles ++ tree) shaped in
+    let cycles = cycles_take v c.cycles places.Times (0 + length c.times) 0 0 tree times.1 in
+    let lines = tree_takes v c.tree cycles.1.0 1 (0 + length c.times) (0 + length c.cycles)
     (0 + total_rows c.cycles) 0 0 cycles.1.1 in
     let t : are_times c.times ≡ true = and_both (nat_le (length c.times) 100000) (list_all is_time c.times)
     (le_test (length c.times) 100000 (omega (arith, lines.fit.few_times))) times.0 in
@@ -501,12 +559,18 @@ text_keeps_limits c h =
     and_both (is_period c.period && has_costs c.answer && are_times c.times && are_cycles c.cycles
     && are_lines c.tree) (has_lines c.version c.tree) atcl known
 
-pub no_text : (c : Content) → keeps_limits c ≡ false → HasText c → ⊥
+pub limits_give : (c : Content) → KeepsLimits c → HasText None c
+limits_give c k = record { run = own_give All places.Front 0 0 c (omega arith) (omega arith) refl k }
+
+pub text_keeps_limits : (c : Content) → HasText None c → keeps_limits c ≡ true
+text_keeps_limits c h = own_take All places.Front 0 0 c (omega arith) (omega arith) h.run
+
+pub no_text : (c : Content) → keeps_limits c ≡ false → HasText None c → ⊥
 no_text c h text = let bad : true ≡ false = sym (text_keeps_limits c text) ∙ h in cc
 
-pub kept_is_text : (c : Content) → keeps_limits c ≡ true → HasText c
+pub kept_is_text : (c : Content) → keeps_limits c ≡ true → HasText None c
 kept_is_text c h = limits_give c (limits_of c h)
 
 -- the limits are kept exactly by what has a text
-pub limits_iff : (c : Content) → KeepsLimits c ↔ HasText c
+pub limits_iff : (c : Content) → KeepsLimits c ↔ HasText None c
 limits_iff c = (limits_give c, λ text. limits_of c (text_keeps_limits c text))

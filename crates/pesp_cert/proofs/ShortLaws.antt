@@ -1,5 +1,5 @@
 -- No line of a certificate is too long.
-use Rattle.std.proofs.Common.{◌≡◌, ℕ, suc, ◌+◌, ◌*◌, ◌<◌, ◌≤◌, ◌^◌, true, List, [], ◌∷◌, ◌++◌, length, Some, None, arith, length-append}
+use Rattle.std.proofs.Common.{◌≡◌, ℕ, suc, ◌+◌, ◌*◌, ◌<◌, ◌≤◌, ◌^◌, Bool, true, false, List, [], ◌∷◌, ◌++◌, length, Some, None, arith, length-append}
 use Rattle.std.specs.Prelude.{ℤ, pos, negsuc, nat_abs, codes, decimal}
 use Rattle.std.specs.List.{AllByRecursion}
 use Rattle.std.specs.Fmt.{signed_decimal}
@@ -13,8 +13,10 @@ use Rattle.pesp_text.specs.Number.{NATURALS}
 use Rattle.pesp_text.specs.Words.{spaced, line_of_words}
 use Rattle.pesp_cert_lines.specs.Pairs.{pair_words, is_pair_within, all_within, follows, rise_from}
 use Rattle.pesp_cert_lines.specs.declared.item.Item.{Item}
-use Rattle.pesp_cert_lines.specs.declared.item.Item.TheVariants.{Version, Period, Answer as Says, Time, Cycle, Slack, Offset, Bound, Nothing, Gap, Propagated, End}
+use Rattle.pesp_cert_lines.specs.declared.item.Item.TheVariants.{Front, Scale, Walk, Version, Period, Answer as Says, Time, Cycle, Slack, Offset, Bound, Nothing, Gap, Propagated, End}
 use Rattle.pesp_cert_lines.specs.Rows.{is_name, rows_are_named, row_word, row_words}
+use Rattle.pesp_nets.specs.declared.marked.MarkedRow.{MarkedRow}
+use Rattle.pesp_cert_lines.specs.Marked.{star, marked_word, marked_words, are_named}
 use Rattle.pesp_cert_lines.specs.Items.{item_words}
 use Rattle.pesp_cert_lines.specs.Counts.{after, CanStand}
 use Rattle.pesp_cert.specs.Texts.{IsRun}
@@ -86,6 +88,21 @@ rows_len (r ∷ rs) h =
       rows_len rs (and_right (is_name r.row) (rows_are_named rs) h),
     )
 
+star_len : (flipped : Bool) → length (star flipped) ≤ 1
+star_len true = omega arith
+star_len false = omega arith
+
+pub marked_len : (walk : List MarkedRow) → are_named walk ≡ true → length (spaced (marked_words walk)) ≤ 9 * length walk
+marked_len [] h = omega arith
+marked_len (s ∷ walk) h = omega (
+  arith,
+  row_len s.signed (and_left (is_name s.signed.row) (are_named walk) h),
+  star_len s.flipped,
+  length-append (row_word s.signed) (star s.flipped),
+  length-append (marked_word s) (spaced (marked_words walk)),
+  marked_len walk (and_right (is_name s.signed.row) (are_named walk) h),
+)
+
 one_short : (w a : List ℕ) → length w ≤ 100 → length a ≤ 100 → length (w ++ ((32 ∷ a) ++ [])) ≤ 100000000
 one_short w a h k = omega (arith, length-append w (32 ∷ (a ++ [])), length-append a [], h, k)
 
@@ -100,7 +117,7 @@ two_short w a b h k l = omega (
   l,
 )
 
-list_short : (w a : List ℕ) → length w ≤ 100 → length a ≤ 80000000 → length (w ++ a) ≤ 100000000
+list_short : (w a : List ℕ) → length w ≤ 100 → length a ≤ 99999000 → length (w ++ a) ≤ 100000000
 list_short w a h k = omega (arith, length-append w a, h, k)
 
 nat100 : (n : ℕ) → n < NATURALS → length (decimal n) ≤ 100
@@ -110,6 +127,11 @@ int100 : (z : ℤ) → nat_abs z < NATURALS → length (signed_decimal z) ≤ 10
 int100 z lt = omega (arith, int_len z lt)
 
 pub can_short : (p : Progress) (item : Item) → CanStand p item → IsShort item
+can_short p Front can = omega arith
+can_short p (Scale n) can = one_short (codes "scale") (decimal n) (omega arith) (nat100 n (grind (arith, nat_tests, can.within)))
+can_short p (Walk rs) can =
+    let few : length rs ≤ 10000000 = grind (arith, nat_tests, can.counts) in
+    list_short (codes "walk") (spaced (marked_words rs)) (omega arith) (omega (arith, marked_len rs can.within, few))
 can_short p (Version n) can = one_short (codes "pesp-certificate") (decimal n) (omega arith)
     (nat100 n (grind (arith, nat_tests, can.within)))
 can_short p (Period n) can = one_short (codes "period") (decimal n) (omega arith) (nat100 n (grind (arith, nat_tests, can.within)))

@@ -1,6 +1,6 @@
 -- The whole text: what is read is spelt so, and what is spelt is read. No text begins another.
-use Rattle.std.proofs.Common.{◌≡◌, ℕ, zero, suc, ◌+◌, Bool, true, false, cond, not, List, [], ◌∷◌, ◌++◌, length, Result, Ok, Err, refl, sym, subst, ap, ◌∙◌, arith, inl, inr, append_assoc}
-use Rattle.std.specs.Prelude.{IsErrAnd, nat_lt, ◌==◌}
+use Rattle.std.proofs.Common.{◌≡◌, ℕ, zero, suc, ◌+◌, Bool, true, false, cond, not, List, [], ◌∷◌, ◌++◌, length, Option, Some, None, Result, Ok, Err, refl, sym, subst, ap, ◌∙◌, arith, inl, inr, append_assoc}
+use Rattle.std.specs.Prelude.{IsErrAnd, IsOkAnd, nat_lt, ◌==◌, ◌⊎◌}
 use Rattle.std.specs.List.{list_all, All, join_with_byte, flat_map, AllByRecursion}
 use Rattle.std.proofs.lemmas.Bool.Decides.{nat_tests}
 use Rattle.std.proofs.lemmas.List.{append-nil}
@@ -10,18 +10,24 @@ use Rattle.pesp_cert_lines.specs.declared.fault.LineFault.{LineFault}
 use Rattle.pesp_cert.specs.declared.refusal.CertRefusal.{CertRefusal}
 use Rattle.pesp_cert.specs.declared.refusal.CertRefusal.TheVariants as refusals
 use Rattle.pesp_cert_lines.specs.declared.progress.Progress.{Progress}
+use Rattle.pesp_cert_lines.specs.declared.versions.Versions.{Versions}
+use Rattle.pesp_cert_lines.specs.declared.versions.Versions.TheVariants as readers
+use Rattle.pesp_truth.specs.Marks.{Marks}
 use Rattle.pesp_text.specs.Words.{is_byte, pieces, spaced, line_of_words}
 use Rattle.pesp_cert_lines.specs.declared.item.Item.{Item}
 use Rattle.pesp_cert_lines.specs.Items.{item_words, item_line}
 use Rattle.pesp_cert_lines.specs.Counts.{beginning, after, CanStand}
 use Rattle.pesp_cert_lines.specs.Lines.{LONGEST, line_at}
-use Rattle.pesp_cert.specs.Texts.{is_end, IsRun, text_of, items_of, spelling, NoneBeginsAnother}
-use Rattle.pesp_cert.specs.Refusals.{items_from, items_of_text, onto, is_nothing, refusal_at, IsTextOf, ReadsTexts}
+use Rattle.pesp_cert.specs.Texts.{is_end, IsRun, text_of, items_of, spelling, takes, NoneBeginsAnother}
+use Rattle.pesp_cert.specs.Refusals.{items_from, items_of_text, onto, is_nothing, refusal_at, IsTextOf, ReadsTexts, ReadsWhole}
 use Rattle.pesp_cert_lines.proofs.Tests.{cases, and_left, and_right}
 use Rattle.pesp_cert.proofs.TextSteps.{nonempty, at_end, at_item, nothing_more}
 use Rattle.pesp_truth.specs.Certificates.{Content}
-use Rattle.pesp_cert.specs.Drafts.{blank, all_added, ReadsItems}
-use Rattle.pesp_cert.proofs.DraftLaws.{all_added-items_of}
+use Rattle.pesp_cert.specs.Drafts.{blank, all_added, FrontValue, no_front, all_noted, front_said, ReadsItems}
+use Rattle.pesp_cert.proofs.DraftLaws.{all_added-items_of, front_said-items_of}
+use Rattle.pesp_cert.proofs.FrontRuns.{has_text, text_run, fronts_iff}
+use Rattle.pesp_cert.proofs.Runs.{limits_give, text_keeps_limits}
+use Rattle.pesp_cert.specs.Limits.{keeps_limits}
 use Rattle.pesp_cert.proofs.RunLaws.{run_content}
 use Rattle.pesp_cert.proofs.ShortLaws.{IsShort, run_short}
 use Rattle.pesp_cert_lines.proofs.LineLaws.{line_found, line_read, item_plain, is_plain, is_inner, all_plain}
@@ -184,16 +190,18 @@ items_read (item ∷ next ∷ others) n m p more run short last =
 
 -- ---- whole texts
 
-pub text_read : (items : List Item) (more : List ℕ) → IsRun beginning items
-    → items_of_text (text_of items ++ more) ≡ cond (length more == 0) (Ok items)
+pub text_read : (versions : Versions) (items : List Item) (more : List ℕ) → IsRun (beginning versions) items
+    → items_of_text versions (text_of items ++ more) ≡ cond (length more == 0) (Ok items)
     (Err (refusals.Trailing (1 + length items)))
 unfolding items_of_text
-text_read items more run = items_read items 1 (1 + length items) beginning more run (run_short beginning items run) refl
+text_read versions items more run =
+    items_read items 1 (1 + length items) (beginning versions) more run (run_short (beginning versions) items run) refl
 
-pub text_found : (text : List ℕ) (items : List Item) → items_of_text text ≡ Ok items → (text ≡ text_of items) × IsRun beginning items
+pub text_found : (versions : Versions) (text : List ℕ) (items : List Item) → items_of_text versions text ≡ Ok items
+    → (text ≡ text_of items) × IsRun (beginning versions) items
 unfolding items_of_text
-text_found text items h =
-    let found = items_found 1 beginning (pieces 10 text) items h in
+text_found versions text items h =
+    let found = items_found 1 (beginning versions) (pieces 10 text) items h in
     (sym (join_with_byte-slice_split 10 text) ∙ found.text, found.run)
 
 -- ---- no text begins another
@@ -207,49 +215,124 @@ nil_is : (more : List ℕ) → (length more == 0) ≡ true → more ≡ []
 nil_is [] h = refl
 nil_is (c ∷ cs) h = absurd (grind (arith, nat_tests, h))
 
-pub none_begins : (a b : List Item) (more : List ℕ) → IsRun beginning a → IsRun beginning b
+pub none_begins : (a b : List Item) (more : List ℕ) → IsRun (beginning readers.All) a → IsRun (beginning readers.All) b
     → text_of a ++ more ≡ text_of b → (a ≡ b) × (more ≡ [])
 none_begins a b more run_a run_b same =
-    let whole : items_of_text (text_of b) ≡ Ok b = ap items_of_text (sym (append-nil (text_of b))) ∙ text_read b [] run_b in
+    let whole : items_of_text readers.All (text_of b)
+    ≡ Ok b = ap (items_of_text readers.All) (sym (append-nil (text_of b))) ∙ text_read readers.All b [] run_b in
     let both : cond (length more == 0) (Ok a) (Err (refusals.Trailing (1 + length a)))
-    ≡ Ok b = sym (text_read a more run_a) ∙ ap items_of_text same ∙ whole in
+    ≡ Ok b = sym (text_read readers.All a more run_a) ∙ ap (items_of_text readers.All) same ∙ whole in
     let t = begun (length more == 0) a b (1 + length a) both in
     (t.1, nil_is more t.0)
 
 -- ---- contents
 
 -- what is read whole is some content's text
-pub text_found_of : (text : List ℕ) (items : List Item) → items_of_text text ≡ Ok items
-    → (c : Content) × (items ≡ items_of c) × IsTextOf text c
-text_found_of text items h =
-    let t = text_found text items h in
-    let c = run_content items t.1 in
-    let run : IsRun beginning (items_of c.0) = let P : List Item → Type 0 = λ is. IsRun beginning is in subst P c.1 t.1 in
-    (c.0, c.1, record { has_text = record { run = run }; spelt = t.0 ∙ ap text_of c.1 })
+pub text_found_of : (versions : Versions) (text : List ℕ) (items : List Item) → items_of_text versions text ≡ Ok items
+    → (front : Option Marks) × (c : Content) × (items ≡ items_of front c) × IsTextOf front text c × (takes versions front ≡ true)
+text_found_of versions text items h =
+    let t = text_found versions text items h in
+    let c = run_content versions items t.1 in
+    let run : IsRun (beginning versions) (items_of c.0 c.1) =
+    let P : List Item → Type 0 = λ is. IsRun (beginning versions) is in subst P c.2 t.1 in (
+      c.0,
+      c.1,
+      c.2,
+      record { has_text = has_text versions c.0 c.1 c.3 run; spelt = t.0 ∙ ap text_of c.2 },
+      c.3,
+    )
 
-pub text_read_of : (text : List ℕ) (c : Content) → IsTextOf text c → items_of_text text ≡ Ok (items_of c)
-text_read_of text c is = ap items_of_text (is.spelt ∙ sym (append-nil (spelling c))) ∙ text_read (items_of c) [] is.has_text.run
+pub text_read_of : (versions : Versions) (front : Option Marks) (text : List ℕ) (c : Content) → IsTextOf front text c
+    → takes versions front ≡ true → items_of_text versions text ≡ Ok (items_of front c)
+text_read_of versions front text c is taken =
+    ap (items_of_text versions) (is.spelt ∙ sym (append-nil (spelling front c)))
+    ∙ text_read versions (items_of front c) [] (text_run versions front c taken is.has_text)
 
 pub none_begins_another : NoneBeginsAnother
-none_begins_another a b more text_a text_b same =
-    let t = none_begins (items_of a) (items_of b) more text_a.run text_b.run same in
-    (sym (all_added-items_of a) ∙ ap (all_added blank) t.0 ∙ all_added-items_of b, t.1)
+none_begins_another f g a b more text_a text_b same =
+    let t = none_begins (items_of f a) (items_of g b) more text_a.run text_b.run same in (
+      sym (front_said-items_of f a) ∙ ap (λ (is : List Item). front_said (all_noted no_front is)) t.0 ∙ front_said-items_of g b,
+      sym (all_added-items_of f a) ∙ ap (all_added blank) t.0 ∙ all_added-items_of g b,
+      t.1,
+    )
 
 -- ---- what a reader answers
 
-pub reads_found : (text : List ℕ) (d : Content) → ReadsItems (Ok d) (items_of_text text) → IsTextOf text d
-reads_found text d r =
-    let t = text_found_of text r.0 r.1 in
-    let same : d ≡ t.0 = r.2 ∙ ap (all_added blank) t.1 ∙ all_added-items_of t.0 in
-    rw same t.2
+-- what was said whole is the front and the content of the text
+pub reads_whole : (versions : Versions) (text : List ℕ) (f : FrontValue) (d : Content)
+    → ReadsItems (Ok (f, d)) (items_of_text versions text)
+    → IsTextOf (front_said f) text d × (takes versions (front_said f) ≡ true)
+reads_whole versions text f d r =
+    let t = text_found_of versions text r.0 r.1 in
+    let front : front_said f ≡ t.0 = ap front_said (r.2 ∙ ap (all_noted no_front) t.2) ∙ front_said-items_of t.0 t.1 in
+    let same : d ≡ t.1 = r.3 ∙ ap (all_added blank) t.2 ∙ all_added-items_of t.0 t.1 in
+    rw (front, same) (t.3, t.4)
 
-pub reads_only : (text : List ℕ) (r : Result Content CertRefusal) → ReadsItems r (items_of_text text) → ReadsTexts text r
-reads_only text (Ok d) r c is =
-    let items : r.0 ≡ items_of c = let e : Ok r.0 ≡ Ok (items_of c) = sym r.1 ∙ text_read_of text c is in cc in
-    inl (ap Ok (r.2 ∙ ap (all_added blank) items ∙ all_added-items_of c))
-reads_only text (Err e) (inl memory) c is = inr (ap Err memory)
-reads_only text (Err e) (inr first) c is = let bad : Err e ≡ Ok (items_of c) = sym first ∙ text_read_of text c is in absurd cc
+-- the content of a text whose front is taken is read
+pub whole_reads : (versions : Versions) (text : List ℕ) (f : FrontValue) (d : Content) (front : Option Marks) (c : Content)
+    → ReadsItems (Ok (f, d)) (items_of_text versions text) → IsTextOf front text c → takes versions front ≡ true
+    → (front_said f ≡ front) × (d ≡ c)
+whole_reads versions text f d front c r is taken =
+    let items : r.0 ≡ items_of front c =
+    (let e : Ok r.0 ≡ Ok (items_of front c) = sym r.1 ∙ text_read_of versions front text c is taken in cc) in (
+      ap front_said (r.2 ∙ ap (all_noted no_front) items) ∙ front_said-items_of front c,
+      r.3 ∙ ap (all_added blank) items ∙ all_added-items_of front c,
+    )
 
-pub err_is : (r : Result Content CertRefusal) (e : CertRefusal) → IsErrAnd r (λ x. x ≡ e) → r ≡ Err e
+plain_is : (front : Option Marks) → takes readers.Plain front ≡ true → None ≡ front
+plain_is None h = refl
+plain_is (Some marks) h = absurd cc
+
+-- what a reader of these versions answers
+pub reads_text : (versions : Versions) (text : List ℕ) (f : FrontValue) (d : Content)
+    → ReadsItems (Ok (f, d)) (items_of_text versions text) → ReadsWhole versions text (Ok (f, d))
+reads_text versions text f d r front c is taken = inl (whole_reads versions text f d front c r is taken)
+
+pub reads_none : (versions : Versions) (text : List ℕ) (e : CertRefusal) → ReadsItems (Err e) (items_of_text versions text)
+    → ReadsWhole versions text (Err e)
+reads_none versions text e (inl memory) front c is taken = inr (ap Err memory)
+reads_none versions text e (inr first) front c is taken =
+    let bad : Err e ≡ Ok (items_of front c) = sym first ∙ text_read_of versions front text c is taken in absurd cc
+
+pub whole_keeps : (front : Option Marks) (text : List ℕ) (c : Content) → IsTextOf front text c → keeps_limits c ≡ true
+whole_keeps front text c is = text_keeps_limits c (limits_give c ((fronts_iff front c).1 is.has_text).1)
+
+-- without a front
+pub plain_found : (text : List ℕ) (f : FrontValue) (c : Content) → IsTextOf (front_said f) text c
+    → takes readers.Plain (front_said f) ≡ true → IsTextOf None text c
+plain_found text f c is taken = rw (plain_is (front_said f) taken) is
+
+pub plain_reads : (text : List ℕ) (f : FrontValue) (c : Content) → ReadsWhole readers.Plain text (Ok (f, c)) → ReadsTexts text (Ok c)
+plain_reads text f c reads d is = go (reads None d is refl)
+  where
+    go : IsOkAnd {T = FrontValue × Content} {E = CertRefusal} (Ok (f, c)) (λ p. (front_said p.0 ≡ None) × (p.1 ≡ d))
+        ⊎ (◌≡◌ {A = Result (FrontValue × Content) CertRefusal} (Ok (f, c)) (Err refusals.Memory))
+        → (◌≡◌ {A = Result Content CertRefusal} (Ok c) (Ok d)) ⊎ (◌≡◌ {A = Result Content CertRefusal} (Ok c) (Err refusals.Memory))
+    go (inl same) = inl (ap Ok same.1)
+    go (inr bad) = absurd cc
+
+pub plain_none : (text : List ℕ) (e : CertRefusal) → ReadsWhole readers.Plain text (Err e) → ReadsTexts text (Err e)
+plain_none text e reads d is = go (reads None d is refl)
+  where
+    go : IsOkAnd {T = FrontValue × Content} {E = CertRefusal} (Err e) (λ p. (front_said p.0 ≡ None) × (p.1 ≡ d))
+        ⊎ (◌≡◌ {A = Result (FrontValue × Content) CertRefusal} (Err e) (Err refusals.Memory))
+        → (◌≡◌ {A = Result Content CertRefusal} (Err e) (Ok d)) ⊎ (◌≡◌ {A = Result Content CertRefusal} (Err e) (Err refusals.Memory))
+    go (inl bad) = absurd bad
+    go (inr same) = inr cc
+
+pub err_is : {A : Type 0} (r : Result A CertRefusal) (e : CertRefusal) → IsErrAnd r (λ x. x ≡ e) → r ≡ Err e
 err_is (Ok c) e h = absurd h
 err_is (Err x) e h = ap Err h
+
+-- what is read whole of a text without a front is some content's text
+pub plain_found_of : (text : List ℕ) (items : List Item) → items_of_text readers.Plain text ≡ Ok items
+    → (c : Content) × (items ≡ items_of None c) × IsTextOf None text c
+plain_found_of text items h = let t = text_found_of readers.Plain text items h in go t.0 t.1 t.2 t.3 t.4
+  where
+    go : (front : Option Marks) (c : Content) → items ≡ items_of front c → IsTextOf front text c → takes readers.Plain front ≡ true
+        → (c : Content) × (items ≡ items_of None c) × IsTextOf None text c
+    go None c same is taken = (c, same, is)
+    go (Some marks) c same is taken = absurd cc
+
+pub plain_read_of : (text : List ℕ) (c : Content) → IsTextOf None text c → items_of_text readers.Plain text ≡ Ok (items_of None c)
+plain_read_of text c is = text_read_of readers.Plain None text c is refl

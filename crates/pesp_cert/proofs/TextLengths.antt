@@ -168,7 +168,7 @@ others_len c k =
     )
 
 -- no certificate's text has so many bytes
-pub texts_short : (c : Content) → HasText c → length (spelling c) < 1073741824
+pub texts_short : (c : Content) → HasText None c → length (spelling None c) < 1073741824
 texts_short c text =
     let k = limits_of c (text_keeps_limits c text) in
     let others : List Item = ((map time_item c.times ++ map Cycle c.cycles) ++ map tree_item c.tree) ++ End ∷ [] in

@@ -5,16 +5,17 @@ use Rattle.pesp_truth.specs.Certificates.{Content}
 use Rattle.pesp_text.specs.Words.{pieces}
 use Rattle.pesp_cert_lines.specs.declared.fault.LineFault.{LineFault}
 use Rattle.pesp_cert_lines.specs.declared.item.Item.{Item}
-use Rattle.pesp_cert_lines.specs.declared.item.Item.TheVariants.{Version, Period, Answer as Says, Time, Cycle, Slack, Offset, Bound, Nothing, Gap, Propagated, End}
+use Rattle.pesp_cert_lines.specs.declared.item.Item.TheVariants.{Front, Scale, Walk, Version, Period, Answer as Says, Time, Cycle, Slack, Offset, Bound, Nothing, Gap, Propagated, End}
 use Rattle.pesp_cert_lines.specs.declared.progress.Progress.{Progress}
+use Rattle.pesp_cert_lines.specs.declared.versions.Versions.{Versions}
 use Rattle.pesp_cert_lines.specs.Counts.{beginning, after, IsKept}
 use Rattle.pesp_cert_lines.specs.Lines.{line_at, LONGEST}
 use Rattle.pesp_cert.specs.declared.refusal.CertRefusal.{CertRefusal}
 use Rattle.pesp_cert.specs.declared.refusal.CertRefusal.TheVariants as refusals
 use Rattle.pesp_cert.specs.Texts.{is_end}
-use Rattle.pesp_cert.specs.Drafts.{blank, added, all_added, ReadsItems}
+use Rattle.pesp_cert.specs.Drafts.{blank, added, all_added, FrontValue, no_front, noted, all_noted, ReadsItems}
 use Rattle.pesp_cert.specs.Refusals.{items_from, items_of_text, refusal_at, is_nothing, onto}
-use Rattle.pesp_cert.proofs.DraftLaws.{all_added-append}
+use Rattle.pesp_cert.proofs.DraftLaws.{all_added-append, all_noted-append}
 use Rattle.pesp_cert.proofs.TextSteps.{nonempty, nothing_more, at_long, at_last, at_fault, at_end, at_item}
 
 -- items in front of those that are read
@@ -23,9 +24,10 @@ behind items (Ok others) = Ok (items ++ others)
 behind items (Err r) = Err r
 
 -- what is left gives, behind the items so far, what all gives; and they add up to the draft
-pub record IsReadTo (all rest : List ℕ) (n : ℕ) (p : Progress) (draft : Content) : Type 0 where
+pub record IsReadTo (vs : Versions) (all rest : List ℕ) (n : ℕ) (p : Progress) (front : FrontValue) (draft : Content) : Type 0 where
   pub items : List Item
-  pub same : behind items (items_from n p (pieces 10 rest)) ≡ items_of_text all
+  pub same : behind items (items_from n p (pieces 10 rest)) ≡ items_of_text vs all
+  pub fronts : front ≡ all_noted no_front items
   pub made : draft ≡ all_added blank items
   pub kept : IsKept p
   pub long : n + length rest ≤ length all + 1
@@ -35,45 +37,50 @@ behind_nothing : (r : Result (List Item) CertRefusal) → behind [] r ≡ r
 behind_nothing (Ok items) = refl
 behind_nothing (Err e) = refl
 
-pub read_start : (all : List ℕ) (p : Progress) (draft : Content) → p ≡ beginning → IsKept p → draft ≡ blank → IsReadTo all all 1 p draft
+pub read_start : (vs : Versions) (all : List ℕ) (p : Progress) (front : FrontValue) (draft : Content) → p ≡ beginning vs → IsKept p
+    → front ≡ no_front → draft ≡ blank → IsReadTo vs all all 1 p front draft
 unfolding items_of_text
-read_start all p draft e kept none = record {
+read_start vs all p front draft e kept unfronted none = record {
   items = [];
-  same = rw e (behind_nothing (items_from 1 beginning (pieces 10 all)));
+  same = rw e (behind_nothing (items_from 1 (beginning vs) (pieces 10 all)));
+  fronts = unfronted;
   made = none;
   kept = kept;
   long = omega arith;
   more = omega arith;
 }
 
-read_as : (all rest : List ℕ) (n : ℕ) (p : Progress) (draft : Content) (r : Result (List Item) CertRefusal)
-    (so_far : IsReadTo all rest n p draft) → items_from n p (pieces 10 rest) ≡ r
-    → behind so_far.items r ≡ items_of_text all
-read_as all rest n p draft r so_far h = rw (← h) so_far.same
+read_as : (vs : Versions) (all rest : List ℕ) (n : ℕ) (p : Progress) (front : FrontValue) (draft : Content) (r : Result (List Item) CertRefusal)
+    (so_far : IsReadTo vs all rest n p front draft) → items_from n p (pieces 10 rest) ≡ r
+    → behind so_far.items r ≡ items_of_text vs all
+read_as vs all rest n p front draft r so_far h = rw (← h) so_far.same
 
-read_err : (all rest : List ℕ) (n : ℕ) (p : Progress) (draft : Content) (e : CertRefusal)
-    → IsReadTo all rest n p draft → items_from n p (pieces 10 rest) ≡ Err e → ReadsItems (Err e) (items_of_text all)
-read_err all rest n p draft e so_far h = inr (sym (read_as all rest n p draft (Err e) so_far h))
+read_err : (vs : Versions) (all rest : List ℕ) (n : ℕ) (p : Progress) (front : FrontValue) (draft : Content) (e : CertRefusal)
+    → IsReadTo vs all rest n p front draft → items_from n p (pieces 10 rest) ≡ Err e → ReadsItems (Err e) (items_of_text vs all)
+read_err vs all rest n p front draft e so_far h = inr (sym (read_as vs all rest n p front draft (Err e) so_far h))
 
-pub read_long : (all rest line : List ℕ) (ps : List (List ℕ)) (n : ℕ) (p : Progress) (draft : Content)
-    → IsReadTo all rest n p draft → pieces 10 rest ≡ line ∷ ps → LONGEST < length line
-    → ReadsItems (Err (refusals.Limit n)) (items_of_text all)
-read_long all rest line ps n p draft so_far cut long =
-    read_err all rest n p draft (refusals.Limit n) so_far (rw cut (at_long n p line ps long))
+pub read_long : (vs : Versions) (all rest line : List ℕ) (ps : List (List ℕ)) (n : ℕ) (p : Progress) (front : FrontValue) (draft : Content)
+    → IsReadTo vs all rest n p front draft → pieces 10 rest ≡ line ∷ ps → LONGEST < length line
+    → ReadsItems (Err (refusals.Limit n)) (items_of_text vs all)
+read_long vs all rest line ps n p front draft so_far cut long =
+    read_err vs all rest n p front draft (refusals.Limit n) so_far (rw cut (at_long n p line ps long))
 
-pub read_cut : (all rest line : List ℕ) (n : ℕ) (p : Progress) (draft : Content) → IsReadTo all rest n p draft
-    → pieces 10 rest ≡ line ∷ [] → length line ≤ LONGEST → ReadsItems (Err refusals.Truncated) (items_of_text all)
-read_cut all rest line n p draft so_far cut short = read_err all rest n p draft refusals.Truncated so_far (rw cut (at_last n p line short))
+pub read_cut : (vs : Versions) (all rest line : List ℕ) (n : ℕ) (p : Progress) (front : FrontValue) (draft : Content) → IsReadTo vs all rest n p front draft
+    → pieces 10 rest ≡ line ∷ [] → length line ≤ LONGEST → ReadsItems (Err refusals.Truncated) (items_of_text vs all)
+read_cut vs all rest line n p front draft so_far cut short = read_err vs all rest n p front draft refusals.Truncated so_far (rw cut (at_last n p line short))
 
-pub read_fault : (all rest line more : List ℕ) (n : ℕ) (p : Progress) (draft : Content) (f : LineFault)
-    → IsReadTo all rest n p draft → pieces 10 rest ≡ line ∷ pieces 10 more → length line ≤ LONGEST
+pub read_fault : (vs : Versions) (all rest line more : List ℕ) (n : ℕ) (p : Progress) (front : FrontValue) (draft : Content) (f : LineFault)
+    → IsReadTo vs all rest n p front draft → pieces 10 rest ≡ line ∷ pieces 10 more → length line ≤ LONGEST
     → line_at p line ≡ Err f
-    → ReadsItems (Err (refusal_at n f)) (items_of_text all)
-read_fault all rest line more n p draft f so_far cut short h =
+    → ReadsItems (Err (refusal_at n f)) (items_of_text vs all)
+read_fault vs all rest line more n p front draft f so_far cut short h =
     let some = nonempty more in
-    read_err all rest n p draft (refusal_at n f) so_far (rw (cut, some.2) (at_fault n p line some.0 some.1 f short h))
+    read_err vs all rest n p front draft (refusal_at n f) so_far (rw (cut, some.2) (at_fault n p line some.0 some.1 f short h))
 
 pub end_adds : (c : Content) (item : Item) → is_end item ≡ true → added c item ≡ c
+end_adds c Front h = absurd cc
+end_adds c (Scale n) h = absurd cc
+end_adds c (Walk walk) h = absurd cc
 end_adds c (Version n) h = absurd cc
 end_adds c (Period n) h = absurd cc
 end_adds c (Says a) h = absurd cc
@@ -96,42 +103,63 @@ at_the_end rest line more n p item cut short h e =
     let test : is_nothing (some.0 ∷ some.1) ≡ (length more == 0) = ap is_nothing (sym some.2) ∙ nothing_more more in
     rw (cut, some.2, ← test) (at_end n p line some.0 some.1 item short h e)
 
-pub read_end : (all rest line more : List ℕ) (n : ℕ) (p : Progress) (draft : Content) (item : Item)
-    → IsReadTo all rest n p draft → pieces 10 rest ≡ line ∷ pieces 10 more → length line ≤ LONGEST
+end_notes : (f : FrontValue) (item : Item) → is_end item ≡ true → noted f item ≡ f
+end_notes f Front h = absurd cc
+end_notes f (Scale n) h = absurd cc
+end_notes f (Walk walk) h = absurd cc
+end_notes f (Version n) h = refl
+end_notes f (Period n) h = refl
+end_notes f (Says a) h = refl
+end_notes f (Time l t) h = refl
+end_notes f (Cycle rs) h = refl
+end_notes f (Slack row k) h = refl
+end_notes f (Offset cycle k) h = refl
+end_notes f (Bound ps) h = refl
+end_notes f (Nothing ps) h = refl
+end_notes f (Gap cycle) h = refl
+end_notes f Propagated h = refl
+end_notes f End h = refl
+
+pub read_end : (vs : Versions) (all rest line more : List ℕ) (n : ℕ) (p : Progress) (front : FrontValue) (draft : Content) (item : Item)
+    → IsReadTo vs all rest n p front draft → pieces 10 rest ≡ line ∷ pieces 10 more → length line ≤ LONGEST
     → line_at p line ≡ Ok item → is_end item ≡ true
-    → (length more == 0) ≡ true → ReadsItems (Ok draft) (items_of_text all)
-read_end all rest line more n p draft item so_far cut short h e none =
+    → (length more == 0) ≡ true → ReadsItems (Ok (front, draft)) (items_of_text vs all)
+read_end vs all rest line more n p front draft item so_far cut short h e none =
     let last = rw none at (at_the_end rest line more n p item cut short h e) in (
       so_far.items ++ item ∷ [],
-      sym (read_as all rest n p draft (Ok (item ∷ [])) so_far last),
+      sym (read_as vs all rest n p front draft (Ok (item ∷ [])) so_far last),
+      so_far.fronts
+          ∙ sym (all_noted-append no_front so_far.items (item ∷ []) ∙ end_notes (all_noted no_front so_far.items) item e),
       so_far.made
           ∙ sym (all_added-append blank so_far.items (item ∷ []) ∙ end_adds (all_added blank so_far.items) item e),
     )
 
-pub read_trailing : (all rest line more : List ℕ) (n : ℕ) (p : Progress) (draft : Content) (item : Item)
-    → IsReadTo all rest n p draft → pieces 10 rest ≡ line ∷ pieces 10 more → length line ≤ LONGEST
+pub read_trailing : (vs : Versions) (all rest line more : List ℕ) (n : ℕ) (p : Progress) (front : FrontValue) (draft : Content) (item : Item)
+    → IsReadTo vs all rest n p front draft → pieces 10 rest ≡ line ∷ pieces 10 more → length line ≤ LONGEST
     → line_at p line ≡ Ok item → is_end item ≡ true
-    → (length more == 0) ≡ false → ReadsItems (Err (refusals.Trailing (n + 1))) (items_of_text all)
-read_trailing all rest line more n p draft item so_far cut short h e some =
-    read_err all rest n p draft (refusals.Trailing (n + 1)) so_far (rw some at (at_the_end rest line more n p item cut short h e))
+    → (length more == 0) ≡ false → ReadsItems (Err (refusals.Trailing (n + 1))) (items_of_text vs all)
+read_trailing vs all rest line more n p front draft item so_far cut short h e some =
+    read_err vs all rest n p front draft (refusals.Trailing (n + 1)) so_far (rw some at (at_the_end rest line more n p item cut short h e))
 
 behind_onto : (items : List Item) (item : Item) (r : Result (List Item) CertRefusal)
     → behind (items ++ item ∷ []) r ≡ behind items (onto item r)
 behind_onto items item (Ok others) = ap Ok (append_assoc items (item ∷ []) others)
 behind_onto items item (Err e) = refl
 
-pub read_more : (all rest line more : List ℕ) (n : ℕ) (p q : Progress) (draft next : Content) (item : Item)
-    → IsReadTo all rest n p draft → pieces 10 rest ≡ line ∷ pieces 10 more → length more < length rest
+pub read_more : (vs : Versions) (all rest line more : List ℕ) (n : ℕ) (p q : Progress) (front after_front : FrontValue) (draft next : Content) (item : Item)
+    → IsReadTo vs all rest n p front draft → pieces 10 rest ≡ line ∷ pieces 10 more → length more < length rest
     → length line ≤ LONGEST → line_at p line ≡ Ok item → is_end item ≡ false
-    → q ≡ after p item → IsKept q → next ≡ added draft item → IsReadTo all more (n + 1) q next
-read_more all rest line more n p q draft next item so_far cut shorter short h e goes kept is =
+    → q ≡ after p item → IsKept q → after_front ≡ noted front item → next ≡ added draft item
+    → IsReadTo vs all more (n + 1) q after_front next
+read_more vs all rest line more n p q front after_front draft next item so_far cut shorter short h e goes kept notes is =
     let some = nonempty more in
     let one : items_from n p (pieces 10 rest) ≡ onto item (items_from (n + 1) (after p item) (pieces 10 more)) =
     rw (cut, some.2) (at_item n p line some.0 some.1 item short h e) in
     record {
       items = so_far.items ++ item ∷ [];
       same = rw goes (behind_onto so_far.items item (items_from (n + 1) (after p item) (pieces 10 more))
-          ∙ read_as all rest n p draft (onto item (items_from (n + 1) (after p item) (pieces 10 more))) so_far one);
+          ∙ read_as vs all rest n p front draft (onto item (items_from (n + 1) (after p item) (pieces 10 more))) so_far one);
+      fronts = notes ∙ ap (λ (f : FrontValue). noted f item) so_far.fronts ∙ sym (all_noted-append no_front so_far.items (item ∷ []));
       made = is ∙ ap (λ (c : Content). added c item) so_far.made ∙ sym (all_added-append blank so_far.items (item ∷ []));
       kept = kept;
       long = omega (arith, so_far.long);

@@ -1,4 +1,5 @@
 pub mod Limits
+pub mod FrontLimits
 pub mod Texts
 pub mod Print
 pub mod Drafts

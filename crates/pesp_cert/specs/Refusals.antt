@@ -1,16 +1,19 @@
 -- What a text says as a whole, or which refusal it gives: the first line with a fault decides.
-use Rattle.std.specs.Prelude.{◌≡◌, ℕ, ◌+◌, Bool, true, ◌&&◌, ◌==◌, nat_lt, if◌then◌else◌, Result, Ok, Err, List, [], ◌∷◌, ◌⊎◌, length}
+use Rattle.std.specs.Prelude.{◌≡◌, ℕ, ◌+◌, Bool, true, ◌&&◌, ◌==◌, nat_lt, if◌then◌else◌, Result, Ok, Err, List, [], ◌∷◌, ◌⊎◌, length, Option, None, IsOkAnd}
 use Rattle.pesp_truth.specs.Certificates.{Content}
 use Rattle.pesp_text.specs.Words.{pieces}
 use Rattle.pesp_cert_lines.specs.declared.fault.LineFault.{LineFault}
 use Rattle.pesp_cert_lines.specs.declared.fault.LineFault.TheVariants as faults
 use Rattle.pesp_cert_lines.specs.declared.item.Item.{Item}
 use Rattle.pesp_cert_lines.specs.declared.progress.Progress.{Progress}
+use Rattle.pesp_cert_lines.specs.declared.versions.Versions.{Versions}
 use Rattle.pesp_cert_lines.specs.Counts.{after, beginning}
+use Rattle.pesp_truth.specs.Marks.{Marks}
 use Rattle.pesp_cert_lines.specs.Lines.{line_at, LONGEST}
 use Rattle.pesp_cert.specs.declared.refusal.CertRefusal.{CertRefusal}
 use Rattle.pesp_cert.specs.declared.refusal.CertRefusal.TheVariants as refusals
-use Rattle.pesp_cert.specs.Texts.{is_end, HasText, spelling}
+use Rattle.pesp_cert.specs.Texts.{is_end, HasText, spelling, takes}
+use Rattle.pesp_cert.specs.Drafts.{FrontValue, front_said}
 
 -- the fault of a line behind the first
 abbrev pub later_refusal : ℕ → LineFault → CertRefusal
@@ -42,21 +45,26 @@ items_from n p (line ∷ next ∷ more) = if nat_lt LONGEST (length line) then E
           else onto item (items_from (n + 1) (after p item) (next ∷ more))
     ]
 
--- the items of a whole text, or its first fault
-unfoldable pub items_of_text : List ℕ → Result (List Item) CertRefusal
-items_of_text text = items_from 1 beginning (pieces 10 text)
+-- the items of a whole text, or its first fault, where these versions are taken
+unfoldable pub items_of_text : Versions → List ℕ → Result (List Item) CertRefusal
+items_of_text versions text = items_from 1 (beginning versions) (pieces 10 text)
 
 -- ---- what a reader of a text answers
 
--- the text is this content's
-pub record IsTextOf (text : List ℕ) (c : Content) : Type 0 where
-  pub has_text : HasText c
-  pub spelt : text ≡ spelling c
+-- the text is this content's behind this front
+pub record IsTextOf (front : Option Marks) (text : List ℕ) (c : Content) : Type 0 where
+  pub has_text : HasText front c
+  pub spelt : text ≡ spelling front c
 
--- where the text is a content's, that content is read, unless a growth was refused
+-- where the text is a content's without a front, that content is read, unless a growth was refused
 abbrev pub ReadsTexts : List ℕ → Result Content CertRefusal → Type 0
-ReadsTexts text r = (c : Content) → IsTextOf text c → (r ≡ Ok c) ⊎ (r ≡ Err refusals.Memory)
+ReadsTexts text r = (c : Content) → IsTextOf None text c → (r ≡ Ok c) ⊎ (r ≡ Err refusals.Memory)
+
+-- where the text is that of a front, which is taken, and a content, those are read, unless a growth was refused
+abbrev pub ReadsWhole : Versions → List ℕ → Result (FrontValue × Content) CertRefusal → Type 0
+ReadsWhole versions text r = (front : Option Marks) (c : Content) → IsTextOf front text c → takes versions front ≡ true
+    → IsOkAnd r (λ p. (front_said p.0 ≡ front) × (p.1 ≡ c)) ⊎ (r ≡ Err refusals.Memory)
 
 -- the refusal is the text's first fault, unless a growth was refused
-abbrev pub RefusesFirst : List ℕ → CertRefusal → Type 0
-RefusesFirst text r = (r ≡ refusals.Memory) ⊎ (items_of_text text ≡ Err r)
+abbrev pub RefusesFirst : Versions → List ℕ → CertRefusal → Type 0
+RefusesFirst versions text r = (r ≡ refusals.Memory) ⊎ (items_of_text versions text ≡ Err r)

@@ -1,12 +1,15 @@
--- The one text of a certificate.
-use Rattle.std.specs.Prelude.{◌≡◌, ℕ, true, false, List, [], ◌∷◌, ◌++◌, map, ℤ, Bool}
+-- The one text of a certificate, with its front where it has one.
+use Rattle.std.specs.Prelude.{◌≡◌, ℕ, true, false, List, [], ◌∷◌, ◌++◌, map, ℤ, Bool, Option, Some, None}
 use Rattle.std.specs.List.{flat_map}
 use Rattle.pesp_truth.specs.declared.tree.TreeLine.{TreeLine}
 use Rattle.pesp_truth.specs.declared.tree.TreeLine.TheVariants as lines
 use Rattle.pesp_truth.specs.Certificates.{Content}
 use Rattle.pesp_cert_lines.specs.declared.item.Item.{Item}
-use Rattle.pesp_cert_lines.specs.declared.item.Item.TheVariants.{Version, Period, Answer as Says, Time, Cycle, Slack, Offset, Bound, Nothing, Gap, Propagated, End}
+use Rattle.pesp_cert_lines.specs.declared.item.Item.TheVariants.{Front, Scale, Walk, Version, Period, Answer as Says, Time, Cycle, Slack, Offset, Bound, Nothing, Gap, Propagated, End}
 use Rattle.pesp_cert_lines.specs.declared.progress.Progress.{Progress}
+use Rattle.pesp_cert_lines.specs.declared.versions.Versions.{Versions}
+use Rattle.pesp_cert_lines.specs.declared.versions.Versions.TheVariants.{Plain, All}
+use Rattle.pesp_truth.specs.Marks.{Marks}
 use Rattle.pesp_cert_lines.specs.Items.{item_line}
 use Rattle.pesp_cert_lines.specs.Counts.{after, beginning, CanStand}
 
@@ -36,18 +39,34 @@ tree_item (lines.Gap cycle) = Gap cycle
 tree_item lines.Propagated = Propagated
 
 -- version, period, answer, times, cycles, tree and end
-abbrev pub items_of : Content → List Item
-items_of c = Version c.version ∷ Period c.period ∷ Says c.answer ∷ map time_item c.times ++ map Cycle c.cycles
+abbrev pub own_items : Content → List Item
+own_items c = Version c.version ∷ Period c.period ∷ Says c.answer ∷ map time_item c.times ++ map Cycle c.cycles
     ++ map tree_item c.tree ++ End ∷ []
 
+-- version 3, the scale and the marked walks; nothing where there is no front
+abbrev pub front_items : Option Marks → List Item
+front_items None = []
+front_items (Some marks) = Front ∷ Scale marks.scale ∷ map Walk marks.walks
+
+-- the front, and behind it the certificate's own lines
+abbrev pub items_of : Option Marks → Content → List Item
+items_of front c = front_items front ++ own_items c
+
 -- the one text of a certificate
-abbrev pub spelling : Content → List ℕ
-spelling c = text_of (items_of c)
+abbrev pub spelling : Option Marks → Content → List ℕ
+spelling front c = text_of (items_of front c)
 
 -- what has a text
-pub record HasText (c : Content) : Type 0 where
-  pub run : IsRun beginning (items_of c)
+pub record HasText (front : Option Marks) (c : Content) : Type 0 where
+  pub run : IsRun (beginning All) (items_of front c)
+
+-- whether texts with this front are read where these versions are taken
+abbrev pub takes : Versions → Option Marks → Bool
+takes Plain None = true
+takes Plain (Some marks) = false
+takes All front = true
 
 -- no text begins another, and each has one meaning
 abbrev pub NoneBeginsAnother : Type 0
-NoneBeginsAnother = (a b : Content) (more : List ℕ) → HasText a → HasText b → spelling a ++ more ≡ spelling b → (a ≡ b) × (more ≡ [])
+NoneBeginsAnother = (f g : Option Marks) (a b : Content) (more : List ℕ) → HasText f a → HasText g b
+    → spelling f a ++ more ≡ spelling g b → (f ≡ g) × (a ≡ b) × (more ≡ [])

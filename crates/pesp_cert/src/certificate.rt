@@ -1,6 +1,6 @@
 //! The certificate as one value.
 
-ghost use Rattle.std.specs.Prelude.{◌≡◌, true, IfOk, OnErr};
+ghost use Rattle.std.specs.Prelude.{◌≡◌, true, None, IfOk, OnErr};
 ghost use Rattle.pesp_truth.specs.Certificates.{Content};
 ghost use Rattle.pesp_cert.specs.Limits.{keeps_limits, KeepsLimits};
 ghost use Rattle.pesp_cert.specs.Texts.{HasText};
@@ -75,9 +75,9 @@ impl Certificate {
               = cycles.items;
           tree = tree.items;
         }) }
-        ensures text { IfOk result HasText }
+        ensures text { IfOk result (HasText None) }
         // It is refused only where the parts have no text.
-        ensures refused { OnErr result (¬ HasText
+        ensures refused { OnErr result (¬ HasText None
             (record {
               version = version;
               period = period;

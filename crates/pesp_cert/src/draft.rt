@@ -72,6 +72,7 @@ impl Draft {
         ensures { OnOk result (self.new ≡ added self.old item.entry) }
     {
         match item {
+            Item::Front | Item::Scale(_) | Item::Walk(_) => {}
             Item::Version(version) => self.version = version,
             Item::Period(period) => self.period = period,
             Item::Answer(answer) => self.answer = answer,

@@ -1,12 +1,15 @@
 //! Laws of certificates and their texts. Each is a function without a body whose contract is the law: a caller that calls
 //! it has the law within reach.
 
-ghost use Rattle.std.specs.Prelude.{◌≡◌, ◌↔◌, ◌<◌, ℕ, List, Ok, length};
+ghost use Rattle.std.specs.Prelude.{◌≡◌, ◌↔◌, ◌<◌, true, ℕ, List, Option, None, Ok, IfSome, length};
 ghost use Rattle.pesp_truth.specs.Certificates.{Content};
 ghost use Rattle.pesp_cert_lines.specs.declared.item.Item.{Item};
+ghost use Rattle.pesp_cert_lines.specs.declared.versions.Versions.{Versions};
+ghost use Rattle.pesp_truth.specs.Marks.{Marks};
+ghost use Rattle.pesp_cert.specs.FrontLimits.{KeepsLimits as FrontKeepsLimits};
 ghost use Rattle.pesp_cert.specs.Limits.{KeepsLimits};
 ghost use Rattle.pesp_cert.specs.Refusals.{IsTextOf, items_of_text};
-ghost use Rattle.pesp_cert.specs.Texts.{HasText, NoneBeginsAnother, items_of, spelling};
+ghost use Rattle.pesp_cert.specs.Texts.{HasText, NoneBeginsAnother, items_of, spelling, takes};
 
 /// No certificate's text begins another's, and no two certificates have one text.
 pub fn no_text_begins_another()
@@ -15,19 +18,27 @@ pub fn no_text_begins_another()
 
 /// What keeps the limits has a text, and nothing else has.
 pub fn limits_are_those_of_texts()
-    ensures { (c : Content) → KeepsLimits c ↔ HasText c }
+    ensures { (c : Content) → KeepsLimits c ↔ HasText None c }
+{}
+
+/// The same behind a front: front and certificate keep their limits, each for itself.
+pub fn limits_of_fronts_are_those_of_texts()
+    ensures { (front : Option Marks) (c : Content)
+        → (IfSome front FrontKeepsLimits × KeepsLimits c) ↔ HasText front c }
 {}
 
 /// Every text is shorter than 1,073,741,824 bytes, so a program that reads so many of a certificate reads all of it.
 pub fn texts_are_short()
-    ensures { (c : Content) → HasText c → length (spelling c) < 1073741824 }
+    ensures { (c : Content) → HasText None c → length (spelling None c) < 1073741824 }
 {}
 
 /// What is read whole is a certificate's text and its items, and a certificate's text is read whole.
 #[tactic(auto, using(crate::proofs::TextLaws::text_found_of, crate::proofs::TextLaws::text_read_of))]
 pub fn items_are_those_of_texts()
-    ensures found { (text : List ℕ) (items : List Item) → items_of_text text ≡ Ok items
-        → (c : Content) × (items ≡ items_of c) × IsTextOf text c }
-    ensures read { (text : List ℕ) (c : Content) → IsTextOf text c
-        → items_of_text text ≡ Ok (items_of c) }
+    ensures found { (versions : Versions) (text : List ℕ) (items : List Item)
+        → items_of_text versions text ≡ Ok items → (front : Option Marks) × (c : Content)
+        × (items ≡ items_of front c) × IsTextOf front text c × (takes versions front ≡ true) }
+    ensures read { (versions : Versions) (front : Option Marks) (text : List ℕ) (c : Content)
+        → IsTextOf front text c → takes versions front ≡ true
+        → items_of_text versions text ≡ Ok (items_of front c) }
 {}

@@ -3,6 +3,7 @@
 
 mod certificate;
 mod draft;
+mod front_draft;
 pub mod laws;
 mod limits;
 mod number;
@@ -12,9 +13,11 @@ mod refusal;
 
 pub use certificate::{Certificate, NotACertificate};
 pub use draft::Draft;
+pub use front_draft::FrontDraft;
 pub use number::{Number, Whole};
+pub use pesp_cert_lines::Versions;
 pub use pesp_problem::{Pair, Pairs, SignedRow, Walk};
 pub use pesp_truth::{Answer, TreeLine};
 pub use printer::{print, print_times, print_tree};
-pub use reader::parse;
+pub use reader::{parse, parse_text};
 pub use refusal::{CertRefusal, refusal_at};

@@ -1,6 +1,6 @@
 //! Printing a certificate.
 
-ghost use Rattle.std.specs.Prelude.{◌≡◌, ◌<◌, ◌+◌, ◌^◌, ◌++◌, codes, OnOk, OnErr, if◌then◌else◌};
+ghost use Rattle.std.specs.Prelude.{◌≡◌, ◌<◌, ◌+◌, ◌^◌, ◌++◌, codes, None, OnOk, OnErr, if◌then◌else◌};
 ghost use Rattle.std.specs.List.{flat_map};
 ghost use Rattle.pesp_stream.specs.Counts.{FewerThan, HasWorked, DeviceFailed};
 ghost use Rattle.pesp_stream.specs.Printing.{Sending, Sends};
@@ -155,9 +155,10 @@ fn print_answer<O: Output>(answer: Answer, out: &mut O)
 }
 
 impl Printed for Certificate {
+    ghost use Rattle.std.specs.Prelude.{None};
     ghost use Rattle.pesp_cert.specs.Texts.{spelling};
 
-    ghost text = { spelling };
+    ghost text = { spelling None };
 
     fn print<O: Output>(&self, out: &mut O) {
         print_head(self.version(), self.period(), out);
@@ -171,7 +172,7 @@ impl Printed for Certificate {
 
 /// Every certificate has a text.
 fn has_text(certificate: &Certificate)
-    ensures { HasText certificate.now }
+    ensures { HasText None certificate.now }
 {
     limits_are_those_of_texts();
     certificate.period();
@@ -181,8 +182,8 @@ fn has_text(certificate: &Certificate)
 /// write that takes no byte is a fault. After a fault a front of the text went out. It takes no memory.
 pub fn print<W: Sink>(certificate: &Certificate, sink: &mut W) -> Result<(), WriteFault>
     requires fits { FewerThan (2 ^ 63) (W.calls sink.old) }
-    ensures has_text { HasText certificate.now }
-    ensures text { Writes (W.contents sink.old) (W.contents sink.new) (spelling certificate.now)
+    ensures has_text { HasText None certificate.now }
+    ensures text { Writes (W.contents sink.old) (W.contents sink.new) (spelling None certificate.now)
         result }
     ensures counts { OnOk result (HasWorked (W.calls sink.old) (W.calls sink.new)) }
     // The device is blamed only where it failed.

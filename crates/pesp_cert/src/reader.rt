@@ -1,14 +1,16 @@
 //! Reading a certificate's text.
 
-ghost use Rattle.std.specs.Prelude.{◌≡◌, IfOk, IfErr};
-ghost use Rattle.pesp_cert.specs.Texts.{is_end};
-ghost use Rattle.pesp_cert.specs.Drafts.{ReadsItems};
-ghost use Rattle.pesp_cert.specs.Refusals.{items_of_text, IsTextOf, ReadsTexts, RefusesFirst};
+ghost use Rattle.std.specs.Prelude.{◌≡◌, true, None, IfOk, IfErr};
+ghost use Rattle.pesp_cert_lines.specs.declared.versions.Versions.TheVariants.{Plain};
+ghost use Rattle.pesp_cert.specs.Texts.{is_end, takes};
+ghost use Rattle.pesp_cert.specs.Drafts.{front_said, ReadsItems};
+ghost use Rattle.pesp_cert.specs.Refusals.{items_of_text, IsTextOf, ReadsTexts, ReadsWhole, RefusesFirst};
 
 use crate::certificate::Certificate;
 use crate::draft::Draft;
+use crate::front_draft::FrontDraft;
 use crate::refusal::{CertRefusal, refusal_at};
-use pesp_cert_lines::{Item, Progress, take_line};
+use pesp_cert_lines::{Item, Progress, Versions, take_line};
 use pesp_text::split_at_byte;
 use std::alloc::Global;
 
@@ -19,12 +21,17 @@ fn is_end(item: &Item<'_>) -> bool
     matches!(item, Item::End)
 }
 
-/// What a whole text says.
-fn read_text(alloc: Global, text: &[u8]) -> Result<Draft, CertRefusal>
-    ensures { ReadsItems result (items_of_text text.now) }
+/// What a whole text says, of its front and behind it, or its first fault, where these versions are taken.
+fn read_text(
+    alloc: Global,
+    text: &[u8],
+    versions: Versions,
+) -> Result<(FrontDraft, Draft), CertRefusal>
+    ensures { ReadsItems result (items_of_text versions text.now) }
 {
+    let mut front = FrontDraft::new(alloc);
     let mut draft = Draft::new(alloc);
-    let mut progress = Progress::new();
+    let mut progress = Progress::new(versions);
     let mut rest = text;
     let mut n = 1u64;
     loop {
@@ -41,25 +48,46 @@ fn read_text(alloc: Global, text: &[u8]) -> Result<Draft, CertRefusal>
         };
         if is_end(&item) {
             if more.is_empty() {
-                return Ok(draft);
+                return Ok((front, draft));
             }
             return Err(CertRefusal::Trailing { n: n + 1 });
         }
+        front.note(alloc, &item)?;
         draft.add(alloc, item)?;
         rest = more;
         n += 1;
     }
 }
 
+/// The certificate whose text this is, with what its lines say of a front, or why it is none's, where these versions are taken.
+/// The text is read once from its front to its end.
+pub fn parse_text(
+    alloc: Global,
+    text: &[u8],
+    versions: Versions,
+) -> Result<(FrontDraft, Certificate), CertRefusal>
+    // What is read is the certificate whose text this is, with its front where it has one.
+    ensures found { IfOk result (λ p. IsTextOf (front_said p.0) text.now p.1) }
+    ensures taken { IfOk result (λ p. takes versions (front_said p.0) ≡ true) }
+    // The text of a certificate whose version is taken is read, unless a growth was refused.
+    ensures only { ReadsWhole versions text.now result }
+    // Which refusal it is.
+    ensures refused { IfErr result (RefusesFirst versions text.now) }
+{
+    let (front, draft) = read_text(alloc, text, versions)?;
+    Ok((front, Certificate::from_draft(draft)))
+}
+
 /// The certificate whose text this is, or why it is no certificate's. The text is read once from its front to its end.
 pub fn parse(alloc: Global, text: &[u8]) -> Result<Certificate, CertRefusal>
     // What is read is the certificate whose text this is.
-    ensures found { IfOk result (IsTextOf text.now) }
+    ensures found { IfOk result (IsTextOf None text.now) }
     // A certificate's text is read, unless a growth was refused.
     ensures only { ReadsTexts text.now result }
     // Which refusal it is.
-    ensures refused { IfErr result (RefusesFirst text.now) }
+    ensures refused { IfErr result (RefusesFirst Plain text.now) }
 {
-    let draft = read_text(alloc, text)?;
-    Ok(Certificate::from_draft(draft))
+    let (front, certificate) = parse_text(alloc, text, Versions::Plain)?;
+    drop(front);
+    Ok(certificate)
 }

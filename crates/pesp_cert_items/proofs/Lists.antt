@@ -5,7 +5,7 @@ use Rattle.pesp_problem.specs.declared.row.SignedRow.{SignedRow}
 use Rattle.pesp_problem.specs.declared.pair.Pair.{Pair}
 use Rattle.pesp_text.specs.Words.{words_of}
 use Rattle.pesp_cert_lines.specs.declared.item.Item.{Item}
-use Rattle.pesp_cert_lines.specs.declared.item.Item.TheVariants.{Version, Period, Answer as Says, Time, Cycle, Slack, Offset, Bound, Nothing, Gap, Propagated, End}
+use Rattle.pesp_cert_lines.specs.declared.item.Item.TheVariants.{Front, Scale, Walk, Version, Period, Answer as Says, Time, Cycle, Slack, Offset, Bound, Nothing, Gap, Propagated, End}
 use Rattle.pesp_cert_lines.specs.declared.progress.Progress.{Progress}
 use Rattle.pesp_cert_lines.specs.Rows.{rows_of, rows_are_named, row_words}
 use Rattle.pesp_cert_lines.specs.Pairs.{pairs_from, all_within, pair_words}
@@ -18,6 +18,7 @@ use Rattle.pesp_cert_items.specs.declared.item.Item.{Item as LentItem}
 use Rattle.pesp_cert_items.specs.declared.item.Item.TheVariants as lent
 use Rattle.pesp_cert_items.specs.declared.rows.SignedRows.{SignedRows}
 use Rattle.pesp_cert_items.specs.declared.pairs.LinePairs.{LinePairs}
+use Rattle.pesp_cert_items.specs.Plain.{in_front}
 use Rattle.pesp_cert_items.specs.Lent.{rows_in, pairs_in, listed, bare, read_back, IsSpelt}
 
 -- the words behind the first
@@ -94,25 +95,28 @@ plain_lent (lent.Gap cycle) line item plain h = record { says = h; spelt = tt }
 plain_lent lent.Propagated line item plain h = record { says = h; spelt = tt }
 
 pub lent_back : (p : Progress) (said : LentItem) (line : List ℕ) (item : Item) → SpellsItem p line item
-    → is_end item ≡ false → listed said ≡ bare item → IsLent said line item
-lent_back p said line (Period n) s e h = plain_lent said line (Period n) refl h
-lent_back p said line (Version n) s e h = plain_lent said line (Version n) refl h
-lent_back p said line (Says a) s e h = plain_lent said line (Says a) refl h
-lent_back p said line (Time l t) s e h = plain_lent said line (Time l t) refl h
-lent_back p said line (Cycle rows) s e h = cycle_lent said line rows h
+    → is_end item ≡ false → in_front item ≡ false → listed said ≡ bare item → IsLent said line item
+lent_back p said line Front s e plain h = absurd cc
+lent_back p said line (Scale n) s e plain h = absurd cc
+lent_back p said line (Walk walk) s e plain h = absurd cc
+lent_back p said line (Period n) s e plain h = plain_lent said line (Period n) refl h
+lent_back p said line (Version n) s e plain h = plain_lent said line (Version n) refl h
+lent_back p said line (Says a) s e plain h = plain_lent said line (Says a) refl h
+lent_back p said line (Time l t) s e plain h = plain_lent said line (Time l t) refl h
+lent_back p said line (Cycle rows) s e plain h = cycle_lent said line rows h
     (ap rows_of (behind p (Cycle rows) line (codes "cycle") (row_words rows) s refl) ∙ rows_read rows s.1.within)
     s.1.within
-lent_back p said line (Slack row k) s e h = plain_lent said line (Slack row k) refl h
-lent_back p said line (Offset cycle k) s e h = plain_lent said line (Offset cycle k) refl h
-lent_back p said line (Bound ps) s e h = bound_lent said line ps h
+lent_back p said line (Slack row k) s e plain h = plain_lent said line (Slack row k) refl h
+lent_back p said line (Offset cycle k) s e plain h = plain_lent said line (Offset cycle k) refl h
+lent_back p said line (Bound ps) s e plain h = bound_lent said line ps h
     (ap (pairs_from 0) (behind p (Bound ps) line (codes "b") (pair_words ps) s refl)
     ∙ pairs_read 0 ps s.1.proper s.1.within) s.1.within
-lent_back p said line (Nothing ps) s e h = nothing_lent said line ps h
+lent_back p said line (Nothing ps) s e plain h = nothing_lent said line ps h
     (ap (pairs_from 0) (behind p (Nothing ps) line (codes "n") (pair_words ps) s refl)
     ∙ pairs_read 0 ps s.1.proper s.1.within) s.1.within
-lent_back p said line (Gap cycle) s e h = plain_lent said line (Gap cycle) refl h
-lent_back p said line Propagated s e h = plain_lent said line Propagated refl h
-lent_back p said line End s e h = absurd cc
+lent_back p said line (Gap cycle) s e plain h = plain_lent said line (Gap cycle) refl h
+lent_back p said line Propagated s e plain h = plain_lent said line Propagated refl h
+lent_back p said line End s e plain h = absurd cc
 
 -- ---- the end of a list
 

@@ -11,13 +11,13 @@ use Rattle.pesp_text.specs.Words.{is_byte, pieces}
 use Rattle.pesp_cert_lines.specs.declared.fault.LineFault.{LineFault}
 use Rattle.pesp_cert_lines.specs.declared.fault.LineFault.TheVariants as faults
 use Rattle.pesp_cert_lines.specs.declared.item.Item.{Item}
-use Rattle.pesp_cert_lines.specs.declared.item.Item.TheVariants.{Version, Period, Answer as Says, Time, Cycle, Slack, Offset, Bound, Nothing, Gap, Propagated, End}
+use Rattle.pesp_cert_lines.specs.declared.item.Item.TheVariants.{Front, Scale, Walk, Version, Period, Answer as Says, Time, Cycle, Slack, Offset, Bound, Nothing, Gap, Propagated, End}
 use Rattle.pesp_text.specs.Words.{line_of_words}
 use Rattle.pesp_cert_lines.specs.Items.{item_words}
 use Rattle.pesp_cert_lines.proofs.LineLaws.{line_read as line_read_law}
 use Rattle.std.proofs.lemmas.Slice.Eq.{bytes_eq-Decides}
 use Rattle.pesp_cert_lines.specs.declared.progress.Progress.{Progress}
-use Rattle.pesp_cert_lines.specs.Counts.{after, IsKept, keeps_counts}
+use Rattle.pesp_cert_lines.specs.Counts.{after, is_in_front, IsKept, keeps_counts}
 use Rattle.pesp_cert_lines.specs.Lines.{line_at, LONGEST}
 use Rattle.pesp_cert.specs.declared.refusal.CertRefusal.TheVariants as refusals
 use Rattle.pesp_cert.specs.Texts.{is_end}
@@ -176,6 +176,9 @@ is_the_end line h = (bytes_eq-Decides line (codes "end")).0 h
 
 pub not_the_end : (item : Item) (line : List ℕ) → bytes_eq line (codes "end") ≡ false
     → line ≡ line_of_words (item_words item) → is_end item ≡ false
+not_the_end Front line h is = refl
+not_the_end (Scale n) line h is = refl
+not_the_end (Walk walk) line h is = refl
 not_the_end (Version n) line h is = refl
 not_the_end (Period n) line h is = refl
 not_the_end (Says a) line h is = refl
@@ -190,17 +193,17 @@ not_the_end Propagated line h is = refl
 not_the_end End line h is = absurd (true≢false (subst (λ l. bytes_eq l (codes "end") ≡ false) is h))
 
 all_counted : (p : Progress) → IsKept p → keeps_counts p ≡ true
-all_counted p k = grind (arith, nat_tests, k.times, k.cycles, k.rows, k.lines, k.pairs)
+all_counted p k = grind (arith, nat_tests, k.times, k.cycles, k.rows, k.lines, k.pairs, k.walks, k.marked)
 
 pub end_whole : (p : Progress) (line : List ℕ) → IsKept p → p.needs ≡ 0 → bytes_eq line (codes "end") ≡ true → line_at p line ≡ Ok End
 end_whole p line k none h = rw (is_the_end line h)
     (line_read_law p End (record { allowed = rw none refl; proper = tt; within = refl; counts = all_counted p k }))
 
-pub end_early : (p : Progress) (line : List ℕ) → p.needs ≢ 0 → bytes_eq line (codes "end") ≡ true → line_at p line ≡ Err faults.Truncated
+pub end_early : (p : Progress) (line : List ℕ) → is_in_front p.place ≡ false → p.needs ≢ 0 → bytes_eq line (codes "end") ≡ true → line_at p line ≡ Err faults.Truncated
 unfolding line_at
-end_early p line some h =
+end_early p line plain some h =
     let more : (p.needs == 0) ≡ false = grind (arith, nat_tests) in
-    rw (h, more) refl
+    rw (h, more, plain) refl
 
 pub ends_there : (old : Reading) (told' told'' : Option (List ℕ)) (left' left'' : ℕ) (held' held'' line : List ℕ) (n : ℕ) (p : Progress)
     → Lines old (record { told = told'; left = left'; held = held'; n = n; progress = p; stage = stages.Going })

@@ -5,6 +5,7 @@ use Rattle.std.proofs.lemmas.List.{take_all}
 use Rattle.pesp_stream.specs.Reading.{ReadsText}
 use Rattle.pesp_cert_lines.specs.declared.item.Item.{Item}
 use Rattle.pesp_cert_lines.specs.declared.item.Item.TheVariants.{End}
+use Rattle.pesp_cert_lines.specs.declared.versions.Versions.TheVariants.{Plain}
 use Rattle.pesp_cert_lines.specs.Counts.{beginning}
 use Rattle.pesp_cert.specs.declared.refusal.CertRefusal.{CertRefusal}
 use Rattle.pesp_cert.specs.Refusals.{items_of_text}
@@ -15,7 +16,7 @@ use Rattle.pesp_cert_items.proofs.Running.{Ran}
 
 -- nothing was read
 abbrev pub at_first : Option (List ℕ) → ℕ → Reading
-at_first told limit = record { told = told; left = limit; held = []; n = 0; progress = beginning; stage = stages.Going }
+at_first told limit = record { told = told; left = limit; held = []; n = 0; progress = beginning Plain; stage = stages.Going }
 
 take_front : (got ys : List ℕ) (left : ℕ) → take (length got + left) (got ++ ys) ≡ got ++ take left ys
 take_front [] ys left = ap (λ k. take k ys) {y = left} (omega arith)
@@ -45,7 +46,7 @@ ended_is told' limit left got w (inr e) l = e
 
 pub ran_text : (told : Option (List ℕ)) (limit : ℕ) (new : Reading) (items : List Item)
     (ran : Ran (at_first told limit) new items) → ReadsText told new.told limit ran.got
-    × (items_of_text ran.got ≡ Ok (items ++ End ∷ []))
+    × (items_of_text Plain ran.got ≡ Ok (items ++ End ∷ []))
 unfolding items_of_text
 ran_text told limit new items ran = (
   record {

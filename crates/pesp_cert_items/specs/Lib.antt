@@ -3,4 +3,5 @@ pub mod Cuts
 pub mod Readings
 pub mod Texts
 pub mod Views
+pub mod Plain
 pub mod Lent

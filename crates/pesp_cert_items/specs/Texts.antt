@@ -2,6 +2,7 @@
 use Rattle.std.specs.Prelude.{◌≡◌, ◌⊎◌, ℕ, ◌≤◌, List, [], ◌++◌, length, Option, Err}
 use Rattle.std.specs.Io.KnownBytes.{Consumes, IsAtEnd}
 use Rattle.pesp_cert.specs.declared.refusal.CertRefusal.{CertRefusal}
+use Rattle.pesp_cert_lines.specs.declared.versions.Versions.TheVariants.{Plain}
 use Rattle.pesp_cert.specs.Refusals.{items_of_text}
 
 -- some bytes were read, at most so many, and whatever stands behind them, where more of them would be read, the text's
@@ -10,4 +11,4 @@ pub record RefusesText (told told' : Option (List ℕ)) (limit : ℕ) (r : CertR
   pub read : List ℕ
   pub within : length read ≤ limit
   pub consumed : Consumes told told' read
-  pub first : (more : List ℕ) → ((length read ≡ limit) ⊎ IsAtEnd told' → more ≡ []) → items_of_text (read ++ more) ≡ Err r
+  pub first : (more : List ℕ) → ((length read ≡ limit) ⊎ IsAtEnd told' → more ≡ []) → items_of_text Plain (read ++ more) ≡ Err r

@@ -5,7 +5,9 @@ ghost use Rattle.std.below.core.specs.declared.int.u64.TheConstants.{MAX};
 ghost use Rattle.std.specs.Borrow.{sem};
 ghost use Rattle.std.specs.Io.BufRead.{Rests};
 ghost use Rattle.pesp_stream.specs.Counts.{Worked};
+ghost use Rattle.pesp_cert_lines.specs.declared.versions.Versions.TheVariants.{Plain};
 ghost use Rattle.pesp_cert_lines.specs.Counts.{IsKept, beginning};
+ghost use Rattle.pesp_cert_items.specs.Plain.{IsPlain};
 ghost use Rattle.pesp_cert_items.specs.declared.stage.Stage.TheVariants as stages;
 ghost use Rattle.pesp_cert_items.specs.Readings.{is_open};
 
@@ -15,7 +17,7 @@ use crate::lent_item::{bare_item, item_in};
 use crate::lines::{LineBuffer, LinesFault, Next};
 use crate::stage::Stage;
 use pesp_cert::{CertRefusal, refusal_at};
-use pesp_cert_lines::{LineFault, Progress, take_line};
+use pesp_cert_lines::{LineFault, Progress, Versions, take_line};
 use pesp_stream::Source;
 use pesp_text::is_word;
 use std::alloc::Global;
@@ -31,6 +33,7 @@ pub struct ItemReader {
     stage: Stage,
     ghost most_fits: { most < MAX },
     ghost kept: { IsKept progress },
+    ghost plain: { IsPlain progress },
     ghost counted: { is_open stage ≡ true → n + (lines.left + length lines.chunk) ≤ 1073741824 },
 }
 
@@ -50,7 +53,7 @@ impl ItemReader {
               left = 1073741824;
               held = [];
               n = 0;
-              progress = beginning;
+              progress = beginning Plain;
               stage = stages.Going;
             } }
     {
@@ -58,7 +61,7 @@ impl ItemReader {
             lines: LineBuffer::new(alloc),
             most,
             n: 0,
-            progress: Progress::new(),
+            progress: Progress::new(Versions::Plain),
             said: Item::Gap(0),
             stage: Stage::Going,
         }

@@ -5,6 +5,7 @@ ghost use Rattle.std.below.core.specs.declared.int.u64.TheConstants.{MAX};
 ghost use Rattle.std.specs.Borrow.{sem};
 ghost use Rattle.std.specs.Io.BufRead.{Rests};
 ghost use Rattle.pesp_stream.specs.Counts.{FewerThan};
+ghost use Rattle.pesp_cert_lines.specs.declared.versions.Versions.TheVariants.{Plain};
 ghost use Rattle.pesp_cert_lines.specs.Counts.{beginning};
 ghost use Rattle.pesp_cert_items.specs.declared.stage.Stage.TheVariants as stages;
 ghost use Rattle.pesp_cert_items.specs.Readings.{is_open};
@@ -43,7 +44,7 @@ impl<S: Source> Items<S> {
               held = [];
               n = 0;
               progress
-                  = beginning;
+                  = beginning Plain;
               stage = stages.Going;
             } }
     {

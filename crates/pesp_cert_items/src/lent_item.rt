@@ -4,6 +4,7 @@ ghost use Rattle.std.specs.Prelude.{◌≡◌, false, drop};
 ghost use Rattle.std.specs.Option.{option_copied};
 ghost use Rattle.pesp_text.specs.Words.{words_of, pieces_left};
 ghost use Rattle.pesp_cert.specs.Texts.{is_end};
+ghost use Rattle.pesp_cert_items.specs.Plain.{in_front};
 ghost use Rattle.pesp_cert_items.specs.Lent.{listed, bare, read_back, IsSpelt};
 
 use crate::item::Item;
@@ -14,7 +15,8 @@ use pesp_text::split_at_byte;
 
 /// The same item without the elements of its list.
 pub(crate) fn bare_item(item: &LineItem<'_>) -> Item<'static>
-    requires { is_end item.now ≡ false }
+    requires goes { is_end item.now ≡ false }
+    requires plain { in_front item.now ≡ false }
     ensures { listed result ≡ bare item.now }
 {
     match item {
@@ -32,7 +34,7 @@ pub(crate) fn bare_item(item: &LineItem<'_>) -> Item<'static>
         LineItem::Nothing(_) => Item::Nothing(LinePairs::new(None)),
         LineItem::Gap(cycle) => Item::Gap(*cycle),
         LineItem::Propagated => Item::Propagated,
-        LineItem::End => unreachable!(),
+        LineItem::Front | LineItem::Scale(_) | LineItem::Walk(_) | LineItem::End => unreachable!(),
     }
 }
 

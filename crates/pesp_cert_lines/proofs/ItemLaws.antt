@@ -1,5 +1,5 @@
 -- What is read is spelt so, and what is spelt is read: answers and items.
-use Rattle.std.proofs.Common.{◌≡◌, ℕ, ◌*◌, ◌%◌, ◌<◌, ◌≤◌, true, false, List, [], ◌∷◌, length, Option, Some, None, refl, sym, ap, ◌∙◌, arith, inl, inr}
+use Rattle.std.proofs.Common.{◌≡◌, ℕ, ◌*◌, ◌%◌, ◌<◌, ◌≤◌, Bool, true, false, List, [], ◌∷◌, length, Option, Some, None, refl, sym, ap, ◌∙◌, arith, inl, inr}
 use Rattle.std.specs.Prelude.{ℤ, nat_abs, nat_le, ◌==◌, codes, decimal, IfSome}
 use Rattle.std.specs.Str.{bytes_eq, all_ascii_digits}
 use Rattle.std.specs.Fmt.{signed_decimal}
@@ -16,14 +16,17 @@ use Rattle.pesp_cert_lines.specs.declared.kind.Kind.{Kind}
 use Rattle.pesp_cert_lines.specs.declared.kind.Kind.TheVariants as kinds
 use Rattle.pesp_text.specs.Number.{NATURALS, natural_of, whole_of, SpellsNatural}
 use Rattle.pesp_cert_lines.specs.Rows.{is_name, row_words, rows_of}
+use Rattle.pesp_cert_lines.specs.Marked.{marked_of, marked_words}
 use Rattle.pesp_cert_lines.specs.Pairs.{pairs_from, pair_words}
+use Rattle.pesp_nets.specs.declared.marked.MarkedRow.{MarkedRow}
 use Rattle.pesp_cert_lines.specs.declared.item.Item.{Item}
-use Rattle.pesp_cert_lines.specs.declared.item.Item.TheVariants.{Version, Period, Answer as Says, Time, Cycle, Slack, Offset, Bound, Nothing, Gap, Propagated, End}
+use Rattle.pesp_cert_lines.specs.declared.item.Item.TheVariants.{Front, Scale, Walk, Version, Period, Answer as Says, Time, Cycle, Slack, Offset, Bound, Nothing, Gap, Propagated, End}
 use Rattle.pesp_cert_lines.specs.Items.{is_item_within, item_of, is_form, item_words, one, two, spelt_cost, cost_word, answer_of, answer_words, optimal_of, open_of, is_answer_form, IsProper, HasProperCosts}
 use Rattle.pesp_cert_lines.specs.Counts.{kind_in}
 use Rattle.pesp_text.proofs.Digits.{natural_spells, natural_read, whole_spells, whole_read, decimal_digits}
 use Rattle.pesp_cert_lines.proofs.Tests.{cases}
-use Rattle.pesp_cert_lines.proofs.WordLaws.{kind_word, joined, option_map_some, both_some, pairs_spell, pairs_read, rows_spell, rows_read}
+use Rattle.pesp_cert_lines.proofs.WordLaws.{kind_word, is_worded, joined, option_map_some, both_some, pairs_spell, pairs_read, rows_spell, rows_read}
+use Rattle.pesp_cert_lines.proofs.MarkedLaws.{marked_spell, marked_words_read}
 
 is_bytes : (w name : List ℕ) → bytes_eq w name ≡ true → w ≡ name
 is_bytes w name h = (bytes_eq-Decides w name).0 h
@@ -151,6 +154,29 @@ at_item k ws x y e h = rw (← e) h
 
 pub item_spells : (k : Kind) (ws : List (List ℕ)) (item : Item) → is_form k ws ≡ true → item_of k ws ≡ Some item → IsSpelt k ws item
 unfolding item_of
+item_spells kinds.Front ws item f h = absurd cc
+item_spells kinds.Scale ws item f h =
+    let m = option_map_some Scale (one natural_of ws) item h in
+    at_item kinds.Scale ws (Scale m.0) item m.2
+    (record {
+      words = ap (λ (vs : List (List ℕ)). codes "scale" ∷ vs)
+          (one_spells natural_of decimal nat_word ws m.0 f m.1);
+      kind = refl;
+      proper = tt;
+    })
+item_spells kinds.Walk ws item f h =
+    let m = option_map_some Walk (marked_of ws) item h in
+    let words = marked_spell ws m.0 m.1 in
+    at_item kinds.Walk ws (Walk m.0) item m.2
+    (record {
+      words = ap (λ (vs : List (List ℕ)). codes "walk" ∷ vs) words;
+      kind = refl;
+      proper = some_rows m.0 (ap length (sym words)) (grind (arith, nat_tests, f));
+    })
+  where
+    some_rows : (rs : List MarkedRow) → length (marked_words rs) ≡ length ws → 1 ≤ length ws → 0 < length rs
+    some_rows [] e h = omega (arith, e)
+    some_rows (r ∷ rs) e h = omega arith
 item_spells kinds.Version ws item f h =
     let m = option_map_some Version (one natural_of ws) item h in
     at_item kinds.Version ws (Version m.0) item m.2
@@ -254,18 +280,35 @@ pair_count ps = grind (arith, nat_tests, even ps)
 name_fits : (n : ℕ) → is_name n ≡ true → n < NATURALS
 name_fits n h = grind (arith, nat_tests, h)
 
-pub item_read : (item : Item) → IsProper item → is_item_within item ≡ true → (ws : List (List ℕ)) × IsRead item ws
+-- whether the item's line is known by its first word
+abbrev pub has_word : Item → Bool
+has_word item = is_worded (kind_in item)
+
+pub item_read : (item : Item) → has_word item ≡ true → IsProper item → is_item_within item ≡ true → (ws : List (List ℕ)) × IsRead item ws
 unfolding item_of
-item_read (Version n) proper within = (
+item_read Front word proper within = absurd cc
+item_read (Scale n) word proper within = (
   decimal n ∷ [],
   record { words = refl; form = refl; says = rw (nat_read n (grind (arith, nat_tests, within))) refl },
 )
-item_read (Period n) proper within = (
+item_read (Walk rs) word proper within = (
+  marked_words rs,
+  record { words = refl; form = some_words rs proper; says = rw (marked_words_read rs within) refl },
+)
+  where
+    some_words : (rs : List MarkedRow) → 0 < length rs → nat_le 1 (length (marked_words rs)) ≡ true
+    some_words [] h = absurd (omega arith)
+    some_words (r ∷ rs) h = grind (arith, nat_tests)
+item_read (Version n) word proper within = (
   decimal n ∷ [],
   record { words = refl; form = refl; says = rw (nat_read n (grind (arith, nat_tests, within))) refl },
 )
-item_read (Says a) proper within = let r = answer_read a proper in (answer_words a, record { words = refl; form = r.0; says = rw r.1 refl })
-item_read (Time label time) proper within = (
+item_read (Period n) word proper within = (
+  decimal n ∷ [],
+  record { words = refl; form = refl; says = rw (nat_read n (grind (arith, nat_tests, within))) refl },
+)
+item_read (Says a) word proper within = let r = answer_read a proper in (answer_words a, record { words = refl; form = r.0; says = rw r.1 refl })
+item_read (Time label time) word proper within = (
   signed_decimal label ∷ decimal time ∷ [],
   record {
     words = refl;
@@ -276,7 +319,7 @@ item_read (Time label time) proper within = (
     ) refl;
   },
 )
-item_read (Cycle rs) proper within = (
+item_read (Cycle rs) word proper within = (
   row_words rs,
   record { words = refl; form = some_words rs proper; says = rw (rows_read rs within) refl },
 )
@@ -284,7 +327,7 @@ item_read (Cycle rs) proper within = (
     some_words : (rs : List SignedRow) → 0 < length rs → nat_le 1 (length (row_words rs)) ≡ true
     some_words [] h = absurd (omega arith)
     some_words (r ∷ rs) h = grind (arith, nat_tests)
-item_read (Slack row k) proper within = (
+item_read (Slack row k) word proper within = (
   decimal row ∷ decimal k ∷ [],
   record {
     words = refl;
@@ -295,7 +338,7 @@ item_read (Slack row k) proper within = (
     ) refl;
   },
 )
-item_read (Offset cycle k) proper within = (
+item_read (Offset cycle k) word proper within = (
   decimal cycle ∷ signed_decimal k ∷ [],
   record {
     words = refl;
@@ -306,17 +349,17 @@ item_read (Offset cycle k) proper within = (
     ) refl;
   },
 )
-item_read (Bound ps) proper within = (
+item_read (Bound ps) word proper within = (
   pair_words ps,
   record { words = refl; form = pair_count ps; says = rw (pairs_read 0 ps proper within) refl },
 )
-item_read (Nothing ps) proper within = (
+item_read (Nothing ps) word proper within = (
   pair_words ps,
   record { words = refl; form = pair_count ps; says = rw (pairs_read 0 ps proper within) refl },
 )
-item_read (Gap cycle) proper within = (
+item_read (Gap cycle) word proper within = (
   decimal cycle ∷ [],
   record { words = refl; form = refl; says = rw (nat_read cycle (grind (arith, nat_tests, within))) refl },
 )
-item_read Propagated proper within = ([], record { words = refl; form = refl; says = refl })
-item_read End proper within = ([], record { words = refl; form = refl; says = refl })
+item_read Propagated word proper within = ([], record { words = refl; form = refl; says = refl })
+item_read End word proper within = ([], record { words = refl; form = refl; says = refl })

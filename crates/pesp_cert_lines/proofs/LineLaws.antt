@@ -1,6 +1,6 @@
 -- What is read is spelt so, and what is spelt is read: one line at its place.
 use Rattle.std.proofs.Common.{◌≡◌, ℕ, zero, suc, ◌<◌, ◌^◌, Bool, true, false, cond, not, ◌&&◌, List, [], ◌∷◌, ◌++◌, length, Option, Some, None, Result, Ok, Err, refl, sym, ap, ◌∙◌, arith, inl, inr}
-use Rattle.std.specs.Prelude.{ℤ, pos, negsuc, nat_abs, ◌==◌, codes, decimal, IfSome}
+use Rattle.std.specs.Prelude.{ℤ, pos, negsuc, nat_abs, ◌==◌, ◌⊎◌, codes, decimal, IfSome}
 use Rattle.std.specs.List.{list_all, All, onto_first}
 use Rattle.std.specs.Str.{bytes_eq, all_ascii_digits}
 use Rattle.std.specs.Char.{is_ascii_digit}
@@ -21,19 +21,21 @@ use Rattle.pesp_cert_lines.specs.declared.fault.LineFault.TheVariants as faults
 use Rattle.pesp_cert_lines.specs.declared.progress.Progress.{Progress}
 use Rattle.pesp_cert_lines.specs.declared.progress.Place.{Place}
 use Rattle.pesp_cert_lines.specs.declared.progress.Place.TheVariants as places
-use Rattle.pesp_text.specs.Number.{NATURALS}
+use Rattle.pesp_text.specs.Number.{NATURALS, is_natural, natural_of}
 use Rattle.pesp_text.specs.Words.{is_byte, words_of, spaced, line_of_words, has_empty}
 use Rattle.pesp_cert_lines.specs.Rows.{is_name, rows_are_named, row_word, row_words}
+use Rattle.pesp_cert_lines.specs.Marked.{are_named, star, marked_word, marked_words}
 use Rattle.pesp_cert_lines.specs.Pairs.{pair_words, is_pair_within, all_within}
+use Rattle.pesp_nets.specs.declared.marked.MarkedRow.{MarkedRow}
 use Rattle.pesp_cert_lines.specs.declared.item.Item.{Item}
-use Rattle.pesp_cert_lines.specs.declared.item.Item.TheVariants.{Version, Period, Answer as Says, Time, Cycle, Slack, Offset, Bound, Nothing, Gap, Propagated, End}
+use Rattle.pesp_cert_lines.specs.declared.item.Item.TheVariants.{Front, Scale, Walk, Version, Period, Answer as Says, Time, Cycle, Slack, Offset, Bound, Nothing, Gap, Propagated, End}
 use Rattle.pesp_cert_lines.specs.Items.{is_item_within, checked, item_of, is_form, item_words, cost_word, kind_of, IsProper}
-use Rattle.pesp_cert_lines.specs.Counts.{allows, may_follow, after, keeps_counts, kind_in, CanStand}
-use Rattle.pesp_cert_lines.specs.Lines.{line_at, words_judged, kind_judged, counted, ReadsLine}
+use Rattle.pesp_cert_lines.specs.Counts.{allows, may_follow, is_behind_front, after, keeps_counts, kind_in, CanStand}
+use Rattle.pesp_cert_lines.specs.Lines.{line_at, line_judged, begins_front, is_cut, as_line, words_judged, kind_judged, counted, ReadsLine}
 use Rattle.pesp_text.proofs.Digits.{decimal_digits, decimal_some}
 use Rattle.pesp_cert_lines.proofs.Tests.{cases, and_left, and_right, and_both}
-use Rattle.pesp_cert_lines.proofs.WordLaws.{kind_word, kind_spells, kind_read, named_below, cycle_below, mult_below}
-use Rattle.pesp_cert_lines.proofs.ItemLaws.{item_spells, item_read}
+use Rattle.pesp_cert_lines.proofs.WordLaws.{kind_word, is_worded, kind_spells, kind_read, named_below, cycle_below, mult_below}
+use Rattle.pesp_cert_lines.proofs.ItemLaws.{has_word, item_spells, item_read}
 
 -- ---- words without a space or an LF in them
 
@@ -88,11 +90,41 @@ plain_rows (r ∷ rs) h = and_both _ _ (row r.plus r.row (named_below r.row (and
     row true n lt = plain_led 43 n refl lt
     row false n lt = plain_led 45 n refl lt
 
+plain_more : (w : List ℕ) (flipped : Bool) → is_plain w ≡ true → is_plain (w ++ star flipped) ≡ true
+plain_more w false h = rw (append-nil w) h
+plain_more w true h = and_both _ _ (some w) (inner w (and_right (not (length w == 0)) (list_all is_inner w) h))
+  where
+    some : (v : List ℕ) → not (length (v ++ 42 ∷ []) == 0) ≡ true
+    some [] = refl
+    some (b ∷ bs) = grind (arith, nat_tests)
+
+    inner : (v : List ℕ) → list_all is_inner v ≡ true → list_all is_inner (v ++ 42 ∷ []) ≡ true
+    inner [] h = refl
+    inner (b ∷ bs) h = and_both (is_inner b) (list_all is_inner (bs ++ 42 ∷ []))
+        (and_left (is_inner b) (list_all is_inner bs) h)
+        (inner bs (and_right (is_inner b) (list_all is_inner bs) h))
+
+signed_plain : (s : SignedRow) → is_name s.row ≡ true → is_plain (row_word s) ≡ true
+signed_plain s h =
+    let one : rows_are_named (s ∷ []) ≡ true = and_both (is_name s.row) true h refl in
+    and_left (is_plain (row_word s)) true (plain_rows (s ∷ []) one)
+
+plain_walk : (walk : List MarkedRow) → are_named walk ≡ true → all_plain (marked_words walk) ≡ true
+plain_walk [] h = refl
+plain_walk (s ∷ walk) h =
+    and_both (is_plain (marked_word s)) (all_plain (marked_words walk))
+    (plain_more (row_word s.signed) s.flipped (signed_plain s.signed
+    (and_left (is_name s.signed.row) (are_named walk) h)))
+    (plain_walk walk (and_right (is_name s.signed.row) (are_named walk) h))
+
 plain_cost : (o : Option ℕ) → IfSome o (λ c. c < NATURALS) → is_plain (cost_word o) ≡ true
 plain_cost None h = refl
 plain_cost (Some c) h = plain_nat c h
 
 pub item_plain : (item : Item) → IsProper item → is_item_within item ≡ true → all_plain (item_words item) ≡ true
+item_plain Front proper within = refl
+item_plain (Scale n) proper within = and_both _ _ (plain_nat n (grind (arith, nat_tests, within))) refl
+item_plain (Walk walk) proper within = plain_walk walk within
 item_plain (Version n) proper within = and_both _ _ (plain_nat n (grind (arith, nat_tests, within))) refl
 item_plain (Period n) proper within = and_both _ _ (plain_nat n (grind (arith, nat_tests, within))) refl
 item_plain (Says (answers.Optimal c)) proper within = and_both _ _ (plain_nat c proper) refl
@@ -165,16 +197,25 @@ checked_ok (Some i) item h = go (is_item_within i) refl h
     go true e h = let same : i ≡ item = cc in (ap Some same, rw (← same) e)
     go false e h = absurd cc
 
+lined_ok : (b : Bool) (r : Result Item LineFault) (item : Item) → as_line b r ≡ Ok item → r ≡ Ok item
+lined_ok true (Ok i) item h = h
+lined_ok true (Err f) item h = absurd cc
+lined_ok false r item h = h
+
+ok_lined : (b : Bool) (item : Item) → as_line b (Ok item) ≡ Ok item
+ok_lined true item = refl
+ok_lined false item = refl
+
 kind_ok : (p : Progress) (ws : List (List ℕ)) (o : Option Kind) (item : Item) → kind_judged p ws o ≡ Ok item
     → (k : Kind) × (o ≡ Some k) × (allows p k ≡ true) × (is_form k ws ≡ true) × (checked (item_of k ws) ≡ Ok item)
 kind_ok p ws None item h = absurd cc
 kind_ok p ws (Some k) item h = go (allows p k && is_form k ws) refl h
   where
     go : (b : Bool) → (allows p k && is_form k ws) ≡ b
-        → cond b (checked (item_of k ws)) (Err faults.Line) ≡ Ok item
+        → cond b (as_line (is_behind_front p.place k) (checked (item_of k ws))) (Err faults.Line) ≡ Ok item
         → (j : Kind) × (Some k ≡ Some j) × (allows p j ≡ true) × (is_form j ws ≡ true)
         × (checked (item_of j ws) ≡ Ok item)
-    go true e h = (k, refl, and_left (allows p k) (is_form k ws) e, and_right (allows p k) (is_form k ws) e, h)
+    go true e h = (k, refl, and_left (allows p k) (is_form k ws) e, and_right (allows p k) (is_form k ws) e, lined_ok (is_behind_front p.place k) (checked (item_of k ws)) item h)
     go false e h = absurd cc
 
 counted_ok : (p : Progress) (r : Result Item LineFault) (item : Item) → counted p r ≡ Ok item
@@ -207,15 +248,37 @@ not_cut : (b : Bool) (r : Result Item LineFault) (item : Item) → cond b (Err f
 not_cut true r item h = absurd cc
 not_cut false r item h = h
 
+front_found : (p : Progress) (line : List ℕ) (item : Item) → Front ≡ item → begins_front p line ≡ true
+    → keeps_counts (after p item) ≡ true → (line ≡ line_of_words (item_words item)) × CanStand p item
+front_found p line item e is counts =
+    let test : List ℕ → Bool = λ l. bytes_eq l (codes "pesp-certificate 3") in
+    rw (← e) (
+      (bytes_eq-Decides line (codes "pesp-certificate 3")).0 (and_right (allows p kinds.Front) (test line) is),
+      record {
+        allowed = and_left (allows p kinds.Front) (test line) is;
+        proper = tt;
+        within = refl;
+        counts = rw (← e) at counts;
+      },
+    )
+
 -- what is read stands at its place, and is spelt so
 pub line_found : (p : Progress) (line : List ℕ) (item : Item) → line_at p line ≡ Ok item
     → (line ≡ line_of_words (item_words item)) × CanStand p item
 unfolding line_at
 line_found p line item h =
-    let r = not_cut (bytes_eq line (codes "end") && not (p.needs == 0)) (counted p (words_judged p (words_of line))) item h in
-    let c = counted_ok p (words_judged p (words_of line)) item r in
-    let w = words_ok p (words_of line) item c.0 in
-    (sym (line_of_words-words_of line) ∙ ap line_of_words (sym w.0), record { allowed = w.1; proper = w.2; within = w.3; counts = c.1 })
+    let r = not_cut (is_cut p line) (counted p (line_judged p line)) item h in
+    let c = counted_ok p (line_judged p line) item r in
+    elim (cases (begins_front p line)) [
+      | inl is ↦
+          let same : Front ≡ item = (let e : done Front ≡ Ok item = rw is at c.0 in cc) in
+          front_found p line item same is c.1
+      | inr isnt ↦
+          let w = words_ok p (words_of line) item (rw isnt at c.0) in (
+            sym (line_of_words-words_of line) ∙ ap line_of_words (sym w.0),
+            record { allowed = w.1; proper = w.2; within = w.3; counts = c.1 },
+          )
+    ]
 
 plain_words_have_no_empty : (ws : List (List ℕ)) → all_plain ws ≡ true → has_empty ws ≡ false
 plain_words_have_no_empty [] h = refl
@@ -233,46 +296,123 @@ only_end p k e h = go (p.needs == 0) p.place (rw (← e) at h)
     go : (b : Bool) (place : Place) → cond b true (may_follow place kinds.End && true) ≡ true → b ≡ true
     go true place h = refl
     go false places.Front h = absurd cc
+    go false places.Marked h = absurd cc
+    go false places.Walks h = absurd cc
     go false places.Header h = absurd cc
     go false places.Period h = absurd cc
     go false places.Times h = absurd cc
     go false places.Cycles h = absurd cc
     go false places.Tree h = absurd cc
 
+-- the item's line is known by its first word, or as a whole
+worded : (item : Item) → (has_word item ≡ true) ⊎ (Front ≡ item)
+worded Front = inr refl
+worded (Scale n) = inl refl
+worded (Walk walk) = inl refl
+worded (Version n) = inl refl
+worded (Period n) = inl refl
+worded (Says a) = inl refl
+worded (Time label time) = inl refl
+worded (Cycle rs) = inl refl
+worded (Slack row k) = inl refl
+worded (Offset cycle k) = inl refl
+worded (Bound ps) = inl refl
+worded (Nothing ps) = inl refl
+worded (Gap cycle) = inl refl
+worded Propagated = inl refl
+worded End = inl refl
+
 pub words_of-item : (item : Item) → IsProper item → is_item_within item ≡ true
     → words_of (line_of_words (item_words item)) ≡ item_words item
 words_of-item item proper within =
-    let r = item_read item proper within in
-    let plain = rw r.1.words at (item_plain item proper within) in
-    rw r.1.words (words_joined (kind_word (kind_in item)) r.0
-    (and_left (is_plain (kind_word (kind_in item))) (all_plain r.0) plain)
-    (and_right (is_plain (kind_word (kind_in item))) (all_plain r.0) plain))
+    elim (worded item) [
+      | inr front ↦ rw (← front) refl
+      | inl word ↦
+          let r = item_read item word proper within in
+          let plain = rw r.1.words at (item_plain item proper within) in
+          rw r.1.words (words_joined (kind_word (kind_in item)) r.0
+          (and_left (is_plain (kind_word (kind_in item))) (all_plain r.0) plain)
+          (and_right (is_plain (kind_word (kind_in item))) (all_plain r.0) plain))
+    ]
 
-end_is : (item : Item) → IsProper item → is_item_within item ≡ true
+-- the words of a line that is the item's and this one
+words_are : (item : Item) (word : has_word item ≡ true) (proper : IsProper item) (within : is_item_within item ≡ true) (name : List ℕ)
+    → bytes_eq (line_of_words (item_words item)) name ≡ true
+    → words_of name ≡ kind_word (kind_in item) ∷ (item_read item word proper within).0
+words_are item word proper within name h =
+    let same : line_of_words (item_words item) ≡ name = (bytes_eq-Decides (line_of_words (item_words item)) name).0 h in
+    sym (ap words_of same) ∙ words_of-item item proper within ∙ (item_read item word proper within).1.words
+
+kind_is : (k : Kind) (item : Item) → is_worded k ≡ true → has_word item ≡ true → kind_word k ≡ kind_word (kind_in item) → k ≡ kind_in item
+kind_is k item known word first = same_Some k (kind_in item) (sym (kind_read k known) ∙ ap kind_of first ∙ kind_read (kind_in item) word)
+
+end_is : (item : Item) → has_word item ≡ true → IsProper item → is_item_within item ≡ true
     → bytes_eq (line_of_words (item_words item)) (codes "end") ≡ true → kinds.End ≡ kind_in item
-end_is item proper within h =
-    let r = item_read item proper within in
-    let same : line_of_words (item_words item) ≡ codes "end" = (bytes_eq-Decides (line_of_words (item_words item)) (codes "end")).0 h in
-    let words : codes "end" ∷ [] ≡ kind_word (kind_in item) ∷ r.0 = sym (ap words_of same) ∙ words_of-item item proper within ∙ r.1.words in
+end_is item word proper within h =
+    let words : codes "end" ∷ [] ≡ kind_word (kind_in item) ∷ (item_read item word proper within).0 =
+    words_are item word proper within (codes "end") h in
     let first : codes "end" ≡ kind_word (kind_in item) = cc in
-    same_Some kinds.End (kind_in item) (sym (kind_read kinds.End) ∙ ap kind_of first ∙ kind_read (kind_in item))
+    kind_is kinds.End item refl word first
+
+three : natural_of (codes "3") ≡ Some 3
+unfolding natural_of is_natural
+three = refl
+
+-- a third version is none of a certificate's own
+third : (item : Item) → item_of kinds.Version (codes "3" ∷ []) ≡ Some item → is_item_within item ≡ true → ⊥
+unfolding item_of
+third item says within =
+    let same : Version 3 ≡ item = same_Some (Version 3) item (rw three at says) in
+    let bad : false ≡ true = rw (← same) at within in
+    cc
+
+begins_not : (item : Item) → has_word item ≡ true → IsProper item → is_item_within item ≡ true
+    → bytes_eq (line_of_words (item_words item)) (codes "pesp-certificate 3") ≡ true → ⊥
+begins_not item word proper within h =
+    let r = item_read item word proper within in
+    let words : codes "pesp-certificate" ∷ codes "3" ∷ [] ≡ kind_word (kind_in item) ∷ r.0 =
+    words_are item word proper within (codes "pesp-certificate 3") h in
+    let first : codes "pesp-certificate" ≡ kind_word (kind_in item) = cc in
+    let others : codes "3" ∷ [] ≡ r.0 = cc in
+    let kind = kind_is kinds.Version item refl word first in
+    third item (rw (← kind, ← others) at r.1.says) within
+
+word_read : (p : Progress) (item : Item) → has_word item ≡ true → CanStand p item → line_at p (line_of_words (item_words item)) ≡ Ok item
+unfolding line_at
+word_read p item word can =
+    let line : List ℕ = line_of_words (item_words item) in
+    let r = item_read item word can.proper can.within in
+    let plain : has_empty (kind_word (kind_in item) ∷ r.0)
+    ≡ false = plain_words_have_no_empty (kind_word (kind_in item) ∷ r.0)
+    (rw r.1.words at (item_plain item can.proper can.within)) in
+    let goes : is_cut p line ≡ false = elim (cases (bytes_eq line (codes "end"))) [
+      | inl is ↦ rw (is, only_end p (kind_in item) (end_is item word can.proper can.within is) can.allowed) refl
+      | inr isnt ↦ rw isnt refl
+    ] in
+    let begins : begins_front p line ≡ false = elim (cases (bytes_eq line (codes "pesp-certificate 3"))) [
+      | inl is ↦ absurd (begins_not item word can.proper can.within is)
+      | inr isnt ↦ rw isnt (and_false (allows p kinds.Front))
+    ] in
+    let judged : words_judged p (words_of line)
+    ≡ Ok item = ap (words_judged p) (words_of-item item can.proper can.within ∙ r.1.words)
+    ∙ rw (plain, kind_read (kind_in item) word, can.allowed, r.1.form, r.1.says, can.within)
+    (ok_lined (is_behind_front p.place (kind_in item)) item) in
+    rw (goes, begins, judged, can.counts) refl
+  where
+    and_false : (b : Bool) → (b && false) ≡ false
+    and_false true = refl
+    and_false false = refl
 
 pub line_read : (p : Progress) (item : Item) → CanStand p item → line_at p (line_of_words (item_words item)) ≡ Ok item
 unfolding line_at
 line_read p item can =
-    let r = item_read item can.proper can.within in
-    let plain : has_empty (kind_word (kind_in item) ∷ r.0)
-    ≡ false = plain_words_have_no_empty (kind_word (kind_in item) ∷ r.0)
-    (rw r.1.words at (item_plain item can.proper can.within)) in
-    let goes : (bytes_eq (line_of_words (item_words item)) (codes "end") && not (p.needs == 0))
-    ≡ false = elim (cases (bytes_eq (line_of_words (item_words item)) (codes "end"))) [
-      | inl is ↦ rw (is, only_end p (kind_in item) (end_is item can.proper can.within is) can.allowed) refl
-      | inr isnt ↦ rw isnt refl
-    ] in
-    let judged : words_judged p (words_of (line_of_words (item_words item)))
-    ≡ Ok item = ap (words_judged p) (words_of-item item can.proper can.within ∙ r.1.words)
-    ∙ rw (plain, kind_read (kind_in item), can.allowed, r.1.form, r.1.says, can.within) refl in
-    rw (goes, judged, can.counts) refl
+    elim (worded item) [
+      | inl word ↦ word_read p item word can
+      | inr front ↦ rw (← front) (front_read p (rw (← front) at can))
+    ]
+  where
+    front_read : (p : Progress) → CanStand p Front → line_at p (line_of_words (item_words Front)) ≡ Ok Front
+    front_read p can = rw (can.allowed, can.counts) refl
 
 pub reads_line : (p : Progress) (line : List ℕ) (r : Result Item LineFault) → r ≡ line_at p line → ReadsLine p line r
 reads_line p line r h item = (λ e. line_found p line item (sym h ∙ e), λ s. h ∙ ap (line_at p) s.0 ∙ line_read p item s.1)

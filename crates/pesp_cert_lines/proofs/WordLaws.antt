@@ -141,6 +141,9 @@ rows_read (r ∷ rs) h =
 -- ---- the first word
 
 abbrev pub kind_word : Kind → List ℕ
+kind_word kinds.Front = []
+kind_word kinds.Scale = codes "scale"
+kind_word kinds.Walk = codes "walk"
 kind_word kinds.Version = codes "pesp-certificate"
 kind_word kinds.Period = codes "period"
 kind_word kinds.Answer = codes "answer"
@@ -201,12 +204,17 @@ kind_spells w j h0 =
                                                                 elim (kind_step w (codes "pesp-certificate") kinds.Version j _ h10) [
                                                                   | inl e ↦ as_kind w kinds.Version j e.0 e.1
                                                                   | inr h11 ↦
-                                                                      elim
-                                                                      (kind_step w (codes "end") kinds.End j _
-                                                                      h11) [
-                                                                        | inl e ↦ as_kind w kinds.End j e.0
-                                                                            e.1
-                                                                        | inr h12 ↦ absurd cc
+                                                                      elim (kind_step w (codes "end") kinds.End j _ h11) [
+                                                                        | inl e ↦ as_kind w kinds.End j e.0 e.1
+                                                                        | inr h12 ↦
+                                                                            elim (kind_step w (codes "walk") kinds.Walk j _ h12) [
+                                                                              | inl e ↦ as_kind w kinds.Walk j e.0 e.1
+                                                                              | inr h13 ↦
+                                                                                  elim (kind_step w (codes "scale") kinds.Scale j _ h13) [
+                                                                                    | inl e ↦ as_kind w kinds.Scale j e.0 e.1
+                                                                                    | inr h14 ↦ absurd cc
+                                                                                  ]
+                                                                            ]
                                                                       ]
                                                                 ]
                                                           ]
@@ -220,17 +228,25 @@ kind_spells w j h0 =
           ]
     ]
 
-pub kind_read : (k : Kind) → kind_of (kind_word k) ≡ Some k
+-- whether a first word says the kind
+abbrev pub is_worded : Kind → Bool
+is_worded kinds.Front = false
+is_worded _ = true
+
+pub kind_read : (k : Kind) → is_worded k ≡ true → kind_of (kind_word k) ≡ Some k
 unfolding kind_of
-kind_read kinds.Version = refl
-kind_read kinds.Period = refl
-kind_read kinds.Answer = refl
-kind_read kinds.Time = refl
-kind_read kinds.Cycle = refl
-kind_read kinds.Slack = refl
-kind_read kinds.Offset = refl
-kind_read kinds.Bound = refl
-kind_read kinds.Nothing = refl
-kind_read kinds.Gap = refl
-kind_read kinds.Propagated = refl
-kind_read kinds.End = refl
+kind_read kinds.Front h = absurd cc
+kind_read kinds.Scale h = refl
+kind_read kinds.Walk h = refl
+kind_read kinds.Version h = refl
+kind_read kinds.Period h = refl
+kind_read kinds.Answer h = refl
+kind_read kinds.Time h = refl
+kind_read kinds.Cycle h = refl
+kind_read kinds.Slack h = refl
+kind_read kinds.Offset h = refl
+kind_read kinds.Bound h = refl
+kind_read kinds.Nothing h = refl
+kind_read kinds.Gap h = refl
+kind_read kinds.Propagated h = refl
+kind_read kinds.End h = refl

@@ -4,11 +4,20 @@ use Rattle.pesp_problem.specs.declared.limits.TheConstants.{MOST_CYCLES, MOST_EV
 use Rattle.pesp_cert_lines.specs.declared.kind.Kind.{Kind}
 use Rattle.pesp_cert_lines.specs.declared.kind.Kind.TheVariants as kinds
 use Rattle.pesp_cert_lines.specs.declared.item.Item.{Item}
-use Rattle.pesp_cert_lines.specs.declared.item.Item.TheVariants.{Version, Period, Answer as Says, Time, Cycle, Slack, Offset, Bound, Nothing, Gap, Propagated, End}
+use Rattle.pesp_cert_lines.specs.declared.item.Item.TheVariants.{Front, Scale, Walk, Version, Period, Answer as Says, Time, Cycle, Slack, Offset, Bound, Nothing, Gap, Propagated, End}
 use Rattle.pesp_cert_lines.specs.declared.progress.Place.{Place}
 use Rattle.pesp_cert_lines.specs.declared.progress.Place.TheVariants as places
 use Rattle.pesp_cert_lines.specs.declared.progress.Progress.{Progress}
+use Rattle.pesp_cert_lines.specs.declared.versions.Versions.{Versions}
+use Rattle.pesp_cert_lines.specs.declared.versions.Versions.TheVariants.{Plain, All}
 use Rattle.pesp_cert_lines.specs.Items.{IsProper, is_item_within}
+
+-- ---- the versions
+
+-- whether a text may have a front
+abbrev pub takes_fronts : Versions → Bool
+takes_fronts Plain = false
+takes_fronts All = true
 
 -- ---- the place
 
@@ -29,6 +38,18 @@ abbrev pub is_time_kind : Kind → Bool
 is_time_kind kinds.Time = true
 is_time_kind _ = false
 
+abbrev pub is_front_kind : Kind → Bool
+is_front_kind kinds.Front = true
+is_front_kind _ = false
+
+abbrev pub is_scale_kind : Kind → Bool
+is_scale_kind kinds.Scale = true
+is_scale_kind _ = false
+
+abbrev pub is_walk_kind : Kind → Bool
+is_walk_kind kinds.Walk = true
+is_walk_kind _ = false
+
 abbrev pub is_version_kind : Kind → Bool
 is_version_kind kinds.Version = true
 is_version_kind _ = false
@@ -47,32 +68,65 @@ is_end_kind _ = false
 
 -- whether a line of this kind may stand next, while the tree isn't whole
 abbrev pub may_follow : Place → Kind → Bool
-may_follow places.Front k = is_version_kind k
+may_follow places.Front k = is_version_kind k || is_front_kind k
+may_follow places.Marked k = is_scale_kind k
+may_follow places.Walks k = is_walk_kind k || is_version_kind k
 may_follow places.Header k = is_period_kind k
 may_follow places.Period k = is_answer_kind k
 may_follow places.Times k = is_time_kind k || is_cycle_kind k || is_tree_kind k
 may_follow places.Cycles k = is_cycle_kind k || is_tree_kind k
 may_follow places.Tree k = is_tree_kind k
 
--- whether texts of this version have lines of this kind
-abbrev pub has_kind : ℕ → Kind → Bool
-has_kind version kinds.Propagated = nat_le 2 version
-has_kind version _ = true
+-- behind a line of a front
+abbrev pub is_in_front : Place → Bool
+is_in_front places.Marked = true
+is_in_front places.Walks = true
+is_in_front _ = false
+
+abbrev pub is_walks_place : Place → Bool
+is_walks_place places.Walks = true
+is_walks_place _ = false
+
+-- the certificate's own first line, behind a front
+abbrev pub is_behind_front : Place → Kind → Bool
+is_behind_front place k = is_walks_place place && is_version_kind k
+
+-- whether texts of this version have lines of this kind, where these versions are taken
+abbrev pub has_kind : Versions → ℕ → Kind → Bool
+has_kind versions version kinds.Propagated = nat_le 2 version
+has_kind versions version kinds.Front = takes_fronts versions
+has_kind versions version _ = true
 
 -- where it is, only `end` may
 abbrev pub allows : Progress → Kind → Bool
-allows p k = if p.needs == 0 then is_end_kind k else may_follow p.place k && has_kind p.version k
+allows p k = if p.needs == 0 then is_end_kind k else may_follow p.place k && has_kind p.versions p.version k
 
 -- ---- the counts
 
-abbrev pub beginning : Progress
-beginning = record { place = places.Front; version = 0; needs = 1; times = 0; cycles = 0; rows = 0; lines = 0; pairs = 0 }
+-- before the first line of a text, where these versions are taken
+abbrev pub beginning : Versions → Progress
+beginning versions = record {
+  versions = versions;
+  place = places.Front;
+  version = 0;
+  needs = 1;
+  times = 0;
+  cycles = 0;
+  rows = 0;
+  lines = 0;
+  pairs = 0;
+  walks = 0;
+  marked = 0;
+}
 
 -- behind a line of the tree that asks for so many trees in place of the one that it is, and has so many pairs
 abbrev pub after_tree : Progress → ℕ → ℕ → Progress
 after_tree p parts pairs = record p { place = places.Tree; needs = (p.needs + parts) - 1; lines = p.lines + 1; pairs = p.pairs + pairs }
 
 abbrev pub after : Progress → Item → Progress
+after p Front = record p { place = places.Marked }
+after p (Scale n) = record p { place = places.Walks }
+after p (Walk walk) = record p { place = places.Walks; walks = p.walks + 1; marked = p.marked + length walk }
 after p (Version n) = record p { place = places.Header; version = n }
 after p (Period n) = record p { place = places.Period }
 after p (Says a) = record p { place = places.Times }
@@ -90,6 +144,7 @@ after p End = p
 abbrev pub keeps_counts : Progress → Bool
 keeps_counts p = nat_le p.times MOST_EVENTS && nat_le p.cycles MOST_CYCLES && nat_le p.rows MOST_SIGNED_ROWS
     && nat_le p.lines MOST_LINES && nat_le p.pairs MOST_PAIRS
+    && nat_le p.walks MOST_CYCLES && nat_le p.marked MOST_SIGNED_ROWS
 
 abbrev pub counted_after : Progress → Item → Option Progress
 counted_after p item = if keeps_counts (after p item) then Some (after p item) else None
@@ -101,11 +156,16 @@ pub record IsKept (p : Progress) : Type 0 where
   pub rows : p.rows ≤ MOST_SIGNED_ROWS
   pub lines : p.lines ≤ MOST_LINES
   pub pairs : p.pairs ≤ MOST_PAIRS
+  pub walks : p.walks ≤ MOST_CYCLES
+  pub marked : p.marked ≤ MOST_SIGNED_ROWS
   pub needs : p.needs ≤ p.lines + 1
 
 -- ---- what may stand next
 
 abbrev pub kind_in : Item → Kind
+kind_in Front = kinds.Front
+kind_in (Scale n) = kinds.Scale
+kind_in (Walk walk) = kinds.Walk
 kind_in (Version n) = kinds.Version
 kind_in (Period n) = kinds.Period
 kind_in (Says a) = kinds.Answer

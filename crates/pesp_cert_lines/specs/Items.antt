@@ -3,7 +3,7 @@ use Rattle.std.specs.Prelude.{◌≡◌, ℕ, ◌<◌, ◌%◌, Bool, true, fals
 use Rattle.std.specs.Option.{option_map}
 use Rattle.std.specs.Str.{bytes_eq}
 use Rattle.std.specs.Fmt.{signed_decimal}
-use Rattle.pesp_problem.specs.declared.limits.TheConstants.{MOST_LABEL, MOST_OFFSET, MOST_PERIOD, MOST_SLACK, MOST_TIME}
+use Rattle.pesp_problem.specs.declared.limits.TheConstants.{MOST_LABEL, MOST_OFFSET, MOST_PERIOD, MOST_SCALE, MOST_SLACK, MOST_TIME}
 use Rattle.pesp_truth.specs.declared.answer.Answer.{Answer}
 use Rattle.pesp_truth.specs.declared.answer.Answer.TheVariants as answers
 use Rattle.pesp_text.specs.Number.{NATURALS, natural_of, whole_of}
@@ -11,10 +11,11 @@ use Rattle.pesp_text.specs.Words.{line_of_words}
 use Rattle.pesp_cert_lines.specs.declared.kind.Kind.{Kind}
 use Rattle.pesp_cert_lines.specs.declared.kind.Kind.TheVariants as kinds
 use Rattle.pesp_cert_lines.specs.declared.item.Item.{Item}
-use Rattle.pesp_cert_lines.specs.declared.item.Item.TheVariants.{Version, Period, Answer as Says, Time, Cycle, Slack, Offset, Bound, Nothing, Gap, Propagated, End}
+use Rattle.pesp_cert_lines.specs.declared.item.Item.TheVariants.{Front, Scale, Walk, Version, Period, Answer as Says, Time, Cycle, Slack, Offset, Bound, Nothing, Gap, Propagated, End}
 use Rattle.pesp_cert_lines.specs.declared.fault.LineFault.{LineFault}
 use Rattle.pesp_cert_lines.specs.declared.fault.LineFault.TheVariants as faults
 use Rattle.pesp_cert_lines.specs.Rows.{is_name, rows_are_named, row_words, rows_of, both}
+use Rattle.pesp_cert_lines.specs.Marked.{are_named, marked_words, marked_of}
 use Rattle.pesp_cert_lines.specs.Pairs.{pair_words, pairs_from, all_within, rise_from}
 
 -- ---- the spelling
@@ -29,6 +30,9 @@ answer_words answers.Infeasible = codes "infeasible" ∷ []
 answer_words (answers.Bounded least cost) = codes "open" ∷ decimal least ∷ cost_word cost ∷ []
 
 abbrev pub item_words : Item → List (List ℕ)
+item_words Front = codes "pesp-certificate" ∷ codes "3" ∷ []
+item_words (Scale n) = codes "scale" ∷ decimal n ∷ []
+item_words (Walk walk) = codes "walk" ∷ marked_words walk
 item_words (Version n) = codes "pesp-certificate" ∷ decimal n ∷ []
 item_words (Period n) = codes "period" ∷ decimal n ∷ []
 item_words (Says a) = codes "answer" ∷ answer_words a
@@ -56,6 +60,7 @@ HasProperCosts (answers.Bounded least cost) = (least < NATURALS) × IfSome cost 
 -- what has a spelling, but for the limits of its numbers
 abbrev pub IsProper : Item → Type 0
 IsProper (Says a) = HasProperCosts a
+IsProper (Walk walk) = 0 < length walk
 IsProper (Cycle rows) = 0 < length rows
 IsProper (Bound ps) = rise_from 0 ps ≡ true
 IsProper (Nothing ps) = rise_from 0 ps ≡ true
@@ -63,6 +68,9 @@ IsProper _ = Unit {0}
 
 -- the limits of its numbers
 abbrev pub is_item_within : Item → Bool
+is_item_within Front = true
+is_item_within (Scale n) = nat_le 1 n && nat_le n MOST_SCALE
+is_item_within (Walk walk) = are_named walk
 is_item_within (Version n) = nat_le 1 n && nat_le n 2
 is_item_within (Period n) = nat_le 1 n && nat_le n MOST_PERIOD
 is_item_within (Says a) = true
@@ -91,7 +99,9 @@ kind_of w = if bytes_eq w (codes "s") then Some kinds.Slack else
     if bytes_eq w (codes "period") then Some kinds.Period else
     if bytes_eq w (codes "answer") then Some kinds.Answer else
     if bytes_eq w (codes "pesp-certificate") then Some kinds.Version else
-    if bytes_eq w (codes "end") then Some kinds.End else None
+    if bytes_eq w (codes "end") then Some kinds.End else
+    if bytes_eq w (codes "walk") then Some kinds.Walk else
+    if bytes_eq w (codes "scale") then Some kinds.Scale else None
 
 -- whether so many words may stand behind `answer`, by the first of them
 unfoldable pub is_answer_form : List (List ℕ) → Bool
@@ -102,6 +112,9 @@ is_answer_form (w ∷ ws) = if bytes_eq w (codes "optimal") then length ws == 1 
 
 -- whether the words behind the first have the form of its kind
 abbrev pub is_form : Kind → List (List ℕ) → Bool
+is_form kinds.Front ws = false
+is_form kinds.Scale ws = length ws == 1
+is_form kinds.Walk ws = nat_le 1 (length ws)
 is_form kinds.Version ws = length ws == 1
 is_form kinds.Period ws = length ws == 1
 is_form kinds.Answer ws = is_answer_form ws
@@ -144,6 +157,9 @@ two h f g (v ∷ w ∷ ws) = both h (f v) (g w)
 
 -- what the words behind the first say, where they have the form of their kind
 unfoldable pub item_of : Kind → List (List ℕ) → Option Item
+item_of kinds.Front ws = None
+item_of kinds.Scale ws = option_map Scale (one natural_of ws)
+item_of kinds.Walk ws = option_map Walk (marked_of ws)
 item_of kinds.Version ws = option_map Version (one natural_of ws)
 item_of kinds.Period ws = option_map Period (one natural_of ws)
 item_of kinds.Answer ws = option_map Says (answer_of ws)

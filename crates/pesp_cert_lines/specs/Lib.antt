@@ -1,4 +1,5 @@
 pub mod Rows
+pub mod Marked
 pub mod Pairs
 pub mod Items
 pub mod Counts

@@ -1,22 +1,30 @@
 -- One line at its place: what it says, or its first fault.
-use Rattle.std.specs.Prelude.{◌≡◌, ℕ, ◌&&◌, not, ◌==◌, if◌then◌else◌, Option, Some, None, Result, Ok, Err, List, [], ◌∷◌, codes}
+use Rattle.std.specs.Prelude.{◌≡◌, ℕ, Bool, true, false, ◌&&◌, not, ◌==◌, if◌then◌else◌, Option, Some, None, Result, Ok, Err, List, [], ◌∷◌, codes}
 use Rattle.std.specs.Str.{bytes_eq}
 use Rattle.pesp_text.specs.Words.{words_of, line_of_words, has_empty}
 use Rattle.pesp_cert_lines.specs.declared.kind.Kind.{Kind}
+use Rattle.pesp_cert_lines.specs.declared.kind.Kind.TheVariants as kinds
 use Rattle.pesp_cert_lines.specs.declared.fault.LineFault.{LineFault}
 use Rattle.pesp_cert_lines.specs.declared.fault.LineFault.TheVariants as faults
 use Rattle.pesp_cert_lines.specs.declared.item.Item.{Item}
+use Rattle.pesp_cert_lines.specs.declared.item.Item.TheVariants.{Front}
 use Rattle.pesp_cert_lines.specs.declared.progress.Progress.{Progress}
 use Rattle.pesp_cert_lines.specs.Items.{kind_of, is_form, item_of, item_words, checked}
-use Rattle.pesp_cert_lines.specs.Counts.{allows, after, keeps_counts, CanStand}
+use Rattle.pesp_cert_lines.specs.Counts.{is_in_front, is_behind_front, allows, after, keeps_counts, CanStand}
 
 -- the longest line, in bytes before its LF
 abbrev pub LONGEST : ℕ
 LONGEST = 100000000
 
+-- any fault of a line that has to be right is one of its form
+abbrev pub as_line : Bool → Result Item LineFault → Result Item LineFault
+as_line true (Ok item) = Ok item
+as_line true (Err f) = Err faults.Line
+as_line false r = r
+
 abbrev pub kind_judged : Progress → List (List ℕ) → Option Kind → Result Item LineFault
 kind_judged p ws None = Err faults.Line
-kind_judged p ws (Some k) = if allows p k && is_form k ws then checked (item_of k ws) else Err faults.Line
+kind_judged p ws (Some k) = if allows p k && is_form k ws then as_line (is_behind_front p.place k) (checked (item_of k ws)) else Err faults.Line
 
 -- the first fault of the form, then of the numbers
 abbrev pub words_judged : Progress → List (List ℕ) → Result Item LineFault
@@ -28,10 +36,21 @@ abbrev pub counted : Progress → Result Item LineFault → Result Item LineFaul
 counted p (Err f) = Err f
 counted p (Ok item) = if keeps_counts (after p item) then Ok item else Err faults.Limit
 
+-- the first line of version 3, where it may stand
+abbrev pub begins_front : Progress → List ℕ → Bool
+begins_front p line = allows p kinds.Front && bytes_eq line (codes "pesp-certificate 3")
+
+-- the end of a certificate whose tree isn't whole
+abbrev pub is_cut : Progress → List ℕ → Bool
+is_cut p line = bytes_eq line (codes "end") && not (p.needs == 0) && not (is_in_front p.place)
+
+-- what a line says at its place without the counts, or its first fault
+abbrev pub line_judged : Progress → List ℕ → Result Item LineFault
+line_judged p line = if begins_front p line then Ok Front else words_judged p (words_of line)
+
 -- what a line says at its place, or its first fault
 unfoldable pub line_at : Progress → List ℕ → Result Item LineFault
-line_at p line = if bytes_eq line (codes "end")
-    && not (p.needs == 0) then Err faults.Truncated else counted p (words_judged p (words_of line))
+line_at p line = if is_cut p line then Err faults.Truncated else counted p (line_judged p line)
 
 -- ---- the same in words of the spelling
 

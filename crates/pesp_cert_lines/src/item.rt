@@ -1,15 +1,20 @@
 //! What one line says.
 
+use crate::marked::MarkedRows;
 use crate::pairs::LinePairs;
 use crate::rows::SignedRows;
 use pesp_truth::Answer;
 
 /// What one line says. The lists are read from the line itself.
 ///
-/// `Version` is the first line's. `Time` has an event's label and its time. `Slack` and `Offset` are branches of the tree,
+/// `Front` is the first line of version 3; `Scale` and `Walk` are the lines of its front. `Version` is the first line's of what
+/// stands behind it, or of the text. `Time` has an event's label and its time. `Slack` and `Offset` are branches of the tree,
 /// with the part of 'at most `k`' first; `Bound`, `Nothing`, `Gap` and `Propagated` are its leaves.
 #[derive(Drop)]
 pub enum Item<'a> {
+    Front,
+    Scale(u32),
+    Walk(MarkedRows<'a>),
     Version(u32),
     Period(u32),
     Answer(Answer),

@@ -6,11 +6,38 @@ ghost use Rattle.pesp_cert_lines.specs.Items.{item_of, checked, spelt_cost, answ
 use crate::fault::LineFault;
 use crate::item::Item;
 use crate::kind::Kind;
+use crate::marked::judge_marked;
 use crate::pairs::judge_pairs;
 use crate::rows::{MOST_WORDS, is_name, judge_rows};
-use pesp_problem::{MOST_LABEL, MOST_OFFSET, MOST_PERIOD, MOST_SLACK, MOST_TIME};
+use pesp_problem::{MOST_LABEL, MOST_OFFSET, MOST_PERIOD, MOST_SCALE, MOST_SLACK, MOST_TIME};
 use pesp_text::{Words, is_word, natural, whole};
 use pesp_truth::Answer;
+
+#[tactic(auto, unfolding(crate::specs::Items::item_of))]
+fn scale(mut words: Words<'_>) -> Result<Item<'static>, LineFault>
+    ensures { result ≡ checked (item_of Kind.Scale words.entry) }
+{
+    let Some(word) = words.next() else {
+        return Err(LineFault::Number);
+    };
+    let Some(number) = natural(word) else {
+        return Err(LineFault::Number);
+    };
+    if 1 <= number && number <= u64::from(MOST_SCALE) {
+        Ok(Item::Scale(number as u32))
+    } else {
+        Err(LineFault::Limit)
+    }
+}
+
+#[tactic(auto, unfolding(crate::specs::Items::item_of))]
+fn walk(words: Words<'_>) -> Result<Item<'_>, LineFault>
+    requires { length words ≤ MOST_WORDS }
+    ensures { result ≡ checked (item_of Kind.Walk words.entry) }
+{
+    let rows = judge_marked(words)?;
+    Ok(Item::Walk(rows))
+}
 
 #[tactic(auto, unfolding(crate::specs::Items::item_of))]
 fn version(mut words: Words<'_>) -> Result<Item<'static>, LineFault>
@@ -213,6 +240,9 @@ pub(crate) fn judge_numbers(kind: Kind, words: Words<'_>) -> Result<Item<'_>, Li
     ensures { result ≡ checked (item_of kind words.entry) }
 {
     match kind {
+        Kind::Front => Err(LineFault::Number),
+        Kind::Scale => scale(words),
+        Kind::Walk => walk(words),
         Kind::Version => version(words),
         Kind::Period => period(words),
         Kind::Answer => answer(words),

@@ -35,6 +35,10 @@ pub(crate) fn kind_of(word: &[u8]) -> Option<Kind>
         Some(Kind::Version)
     } else if is_word(word, "end") {
         Some(Kind::End)
+    } else if is_word(word, "walk") {
+        Some(Kind::Walk)
+    } else if is_word(word, "scale") {
+        Some(Kind::Scale)
     } else {
         None
     }

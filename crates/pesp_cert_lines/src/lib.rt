@@ -7,13 +7,17 @@ mod judge;
 mod kind;
 mod kinds;
 mod line;
+mod marked;
 mod pairs;
 mod progress;
 mod rows;
+mod versions;
 
 pub use fault::LineFault;
 pub use item::Item;
 pub use line::take_line;
+pub use marked::MarkedRows;
 pub use pairs::{LinePairs, first_pair};
 pub use progress::{Place, Progress};
 pub use rows::{SignedRows, first_row};
+pub use versions::Versions;

@@ -1,17 +1,17 @@
 //! One line at its place.
 
-ghost use Rattle.std.specs.Prelude.{◌≡◌, ◌≤◌, IfOk, OnErr, length};
+ghost use Rattle.std.specs.Prelude.{◌≡◌, ◌≤◌, Result, IfOk, OnErr, length};
 ghost use Rattle.pesp_text.specs.Words.{words_of};
 ghost use Rattle.pesp_cert_lines.specs.Items.{is_form, is_answer_form};
 ghost use Rattle.pesp_cert_lines.specs.Counts.{after, IsKept};
-ghost use Rattle.pesp_cert_lines.specs.Lines.{line_at, words_judged, LONGEST, ReadsLine};
+ghost use Rattle.pesp_cert_lines.specs.Lines.{begins_front, is_cut, line_at, line_judged, as_line, words_judged, LONGEST, ReadsLine};
 
 use crate::fault::LineFault;
 use crate::item::Item;
 use crate::judge::judge_numbers;
 use crate::kind::Kind;
 use crate::kinds::kind_of;
-use crate::progress::{Progress, allows, counted};
+use crate::progress::{Progress, allows, counted, is_behind_front, is_in_front};
 use pesp_text::{Words, count_words, is_word};
 
 /// Whether so many words may stand behind `answer`, by the first of them.
@@ -40,12 +40,23 @@ fn is_form(kind: Kind, words: Words<'_>, number: usize) -> bool
     ensures { result ≡ is_form kind words.entry }
 {
     match kind {
-        Kind::Version | Kind::Period | Kind::Gap => number == 1,
+        Kind::Front => false,
+        Kind::Scale | Kind::Version | Kind::Period | Kind::Gap => number == 1,
         Kind::Answer => is_answer_form(words, number),
         Kind::Time | Kind::Slack | Kind::Offset => number == 2,
-        Kind::Cycle => number >= 1,
+        Kind::Cycle | Kind::Walk => number >= 1,
         Kind::Bound | Kind::Nothing => number % 2 == 0,
         Kind::Propagated | Kind::End => number == 0,
+    }
+}
+
+/// A fault as one of the line's form, where it is that of a first line that has to be right.
+fn as_line(strict: bool, judged: Result<Item<'_>, LineFault>) -> Result<Item<'_>, LineFault>
+    ensures { result ≡ as_line strict judged.entry }
+{
+    match judged {
+        Ok(item) => Ok(item),
+        Err(fault) => Err(if strict { LineFault::Line } else { fault }),
     }
 }
 
@@ -65,10 +76,38 @@ fn judge_words<'a>(progress: &Progress, line: &'a [u8]) -> Result<Item<'a>, Line
         return Err(LineFault::Line);
     };
     if allows(progress, kind) && is_form(kind, words.again(), number - 1) {
-        judge_numbers(kind, words)
+        as_line(
+            is_behind_front(progress.place, kind),
+            judge_numbers(kind, words),
+        )
     } else {
         Err(LineFault::Line)
     }
+}
+
+/// Whether this is the first line of version 3, where it may stand.
+fn begins_front(progress: &Progress, line: &[u8]) -> bool
+    ensures { result ≡ begins_front progress.now line.now }
+{
+    allows(progress, Kind::Front) && is_word(line, "pesp-certificate 3")
+}
+
+/// Whether the line ends a certificate whose tree is not whole.
+fn is_cut(progress: &Progress, line: &[u8]) -> bool
+    ensures { result ≡ is_cut progress.now line.now }
+{
+    is_word(line, "end") && progress.needs != 0 && !is_in_front(progress.place)
+}
+
+/// What a line says at its place without the counts, or its first fault.
+fn judge_whole<'a>(progress: &Progress, line: &'a [u8]) -> Result<Item<'a>, LineFault>
+    requires { length line.now ≤ LONGEST }
+    ensures { result ≡ line_judged progress.now line.now }
+{
+    if begins_front(progress, line) {
+        return Ok(Item::Front);
+    }
+    judge_words(progress, line)
 }
 
 /// What the next line says at its place, or its first fault.
@@ -81,10 +120,10 @@ fn judge_line<'a>(progress: &mut Progress, line: &'a [u8]) -> Result<Item<'a>, L
     ensures kept { IfOk result (λ item. IsKept progress.new) }
     ensures stays { OnErr result (progress.new ≡ progress.old) }
 {
-    if is_word(line, "end") && progress.needs != 0 {
+    if is_cut(progress, line) {
         return Err(LineFault::Truncated);
     }
-    let item = judge_words(progress, line)?;
+    let item = judge_whole(progress, line)?;
     match counted(progress, &item) {
         None => Err(LineFault::Limit),
         Some(next) => {

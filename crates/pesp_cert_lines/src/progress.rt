@@ -1,11 +1,12 @@
 //! How far a text has come.
 
 ghost use Rattle.std.specs.Prelude.{◌≡◌, ◌≤◌};
-ghost use Rattle.pesp_cert_lines.specs.Counts.{after, after_tree, counted_after, keeps_counts, IsKept, beginning, may_follow, has_kind, allows};
+ghost use Rattle.pesp_cert_lines.specs.Counts.{after, after_tree, counted_after, keeps_counts, IsKept, beginning, may_follow, has_kind, allows, is_in_front, is_behind_front};
 
 use crate::item::Item;
 use crate::kind::Kind;
 use crate::rows::MOST_WORDS;
+use crate::versions::{Versions, takes_fronts};
 use pesp_problem::{MOST_CYCLES, MOST_EVENTS, MOST_LINES, MOST_PAIRS, MOST_SIGNED_ROWS};
 
 /// Where in a text the last line stood.
@@ -13,7 +14,11 @@ use pesp_problem::{MOST_CYCLES, MOST_EVENTS, MOST_LINES, MOST_PAIRS, MOST_SIGNED
 pub enum Place {
     /// Before the first line.
     Front,
-    /// Behind the first line.
+    /// Behind the first line of version 3.
+    Marked,
+    /// Behind the scale, or a marked walk.
+    Walks,
+    /// Behind the certificate's own first line.
     Header,
     /// Behind the period.
     Period,
@@ -25,10 +30,11 @@ pub enum Place {
     Tree,
 }
 
-/// How far a text has come: the version that its first line says, 0 before it, how many trees are still to come, and how many
-/// lines, signed rows and pairs came.
+/// How far a text has come: which versions are taken, the version that the certificate's own first line says, 0 before it, how
+/// many trees are still to come, and how many lines, signed rows, pairs, marked walks and marked rows came.
 #[derive(Clone, Copy)]
 pub struct Progress {
+    pub versions: Versions,
     pub place: Place,
     pub version: u32,
     pub needs: u64,
@@ -37,6 +43,8 @@ pub struct Progress {
     pub rows: u64,
     pub lines: u64,
     pub pairs: u64,
+    pub walks: u64,
+    pub marked: u64,
 }
 
 impl Progress {
@@ -44,11 +52,12 @@ impl Progress {
     ghost use Rattle.pesp_cert_lines.specs.Counts.{IsKept, beginning};
 
     /// Before the first line of a text: one tree is still to come.
-    pub fn new() -> Progress
-        ensures exact { result ≡ beginning }
+    pub fn new(versions: Versions) -> Progress
+        ensures exact { result ≡ beginning versions }
         ensures kept { IsKept result }
     {
         Progress {
+            versions,
             place: Place::Front,
             version: 0,
             needs: 1,
@@ -57,6 +66,8 @@ impl Progress {
             rows: 0,
             lines: 0,
             pairs: 0,
+            walks: 0,
+            marked: 0,
         }
     }
 }
@@ -70,6 +81,8 @@ fn keeps_counts(progress: &Progress) -> bool
         && progress.rows <= MOST_SIGNED_ROWS as u64
         && progress.lines <= MOST_LINES as u64
         && progress.pairs <= MOST_PAIRS as u64
+        && progress.walks <= MOST_CYCLES as u64
+        && progress.marked <= MOST_SIGNED_ROWS as u64
 }
 
 /// How far the text has come with a line of the tree that asks for `parts` trees and has so many pairs.
@@ -93,6 +106,20 @@ fn after(progress: &Progress, item: &Item<'_>) -> Progress
     ensures { result ≡ after progress.now item.now }
 {
     match item {
+        Item::Front => Progress {
+            place: Place::Marked,
+            ..*progress
+        },
+        Item::Scale(_) => Progress {
+            place: Place::Walks,
+            ..*progress
+        },
+        Item::Walk(rows) => Progress {
+            place: Place::Walks,
+            walks: progress.walks + 1,
+            marked: progress.marked + rows.left(),
+            ..*progress
+        },
         Item::Version(version) => Progress {
             place: Place::Header,
             version: *version,
@@ -135,12 +162,15 @@ pub(crate) fn counted(progress: &Progress, item: &Item<'_>) -> Option<Progress>
         None
     }
 }
+
 /// Whether a line of this kind may stand next, while the tree is not complete.
 fn may_follow(place: Place, kind: Kind) -> bool
     ensures { result ≡ may_follow place kind }
 {
     match place {
-        Place::Front => matches!(kind, Kind::Version),
+        Place::Front => matches!(kind, Kind::Version | Kind::Front),
+        Place::Marked => matches!(kind, Kind::Scale),
+        Place::Walks => matches!(kind, Kind::Walk | Kind::Version),
         Place::Header => matches!(kind, Kind::Period),
         Place::Period => matches!(kind, Kind::Answer),
         Place::Times => matches!(
@@ -171,14 +201,29 @@ fn may_follow(place: Place, kind: Kind) -> bool
     }
 }
 
-/// Whether texts of this version have lines of this kind.
-fn has_kind(version: u32, kind: Kind) -> bool
-    ensures { result ≡ has_kind version kind }
+/// Whether texts of this version have lines of this kind, where these versions are taken.
+fn has_kind(versions: Versions, version: u32, kind: Kind) -> bool
+    ensures { result ≡ has_kind versions version kind }
 {
     match kind {
         Kind::Propagated => version >= 2,
+        Kind::Front => takes_fronts(versions),
         _ => true,
     }
+}
+
+/// Whether this is behind a line of a front.
+pub(crate) fn is_in_front(place: Place) -> bool
+    ensures { result ≡ is_in_front place }
+{
+    matches!(place, Place::Marked | Place::Walks)
+}
+
+/// Whether the certificate's own first line stands here, behind a front.
+pub(crate) fn is_behind_front(place: Place, kind: Kind) -> bool
+    ensures { result ≡ is_behind_front place kind }
+{
+    matches!(place, Place::Walks) && matches!(kind, Kind::Version)
 }
 
 /// Whether a line of this kind may stand next.
@@ -188,6 +233,6 @@ pub(crate) fn allows(progress: &Progress, kind: Kind) -> bool
     if progress.needs == 0 {
         matches!(kind, Kind::End)
     } else {
-        may_follow(progress.place, kind) && has_kind(progress.version, kind)
+        may_follow(progress.place, kind) && has_kind(progress.versions, progress.version, kind)
     }
 }

@@ -82,7 +82,7 @@ fn with_sign(plus: bool, word: &[u8]) -> Option<(u64, bool)>
 /// A sign and a number.
 #[inline(always)]
 #[tactic(auto, unfolding(crate::specs::Rows::spelt_row))]
-fn spelt_row(word: &[u8]) -> Option<(u64, bool)>
+pub(crate) fn spelt_row(word: &[u8]) -> Option<(u64, bool)>
     ensures { result ≡ spelt_row word.now }
 {
     if word.is_empty() {

@@ -15,7 +15,7 @@ use Rattle.pesp_cert.specs.declared.refusal.CertRefusal.TheVariants as refusals
 use Rattle.pesp_cert.specs.Texts.{items_of, time_item, tree_item}
 use Rattle.pesp_cert.proofs.Runs.{items_shape, text_keeps_limits}
 use Rattle.pesp_cert.proofs.LimitFacts.{limits_of}
-use Rattle.pesp_cert.proofs.TextLaws.{text_found_of}
+use Rattle.pesp_cert.proofs.TextLaws.{plain_found_of}
 use Rattle.pesp_cert_items.specs.declared.fault.ItemFault.{ItemFault}
 use Rattle.pesp_cert_items.specs.declared.fault.ItemFault.TheVariants as items
 use Rattle.pesp_cert_items.specs.Readings.{Reading, is_open, Gives, Blamed, Refuses}
@@ -60,7 +60,7 @@ checked_more p a b c stage stage' kept kept' item h g step = record {
 
 -- ---- the end
 
-behind_is : (c : Content) → items_of c ≡ behind c
+behind_is : (c : Content) → items_of None c ≡ behind c
 behind_is c = ap (λ is. Version c.version ∷ Period c.period ∷ Says c.answer ∷ is)
     (items_shape (map time_item c.times) (map Cycle c.cycles) (map tree_item c.tree) (End ∷ []))
 
@@ -74,7 +74,7 @@ pub checked_all : (p : Pesp) (told : Option (List ℕ)) (b c : Reading) (stage :
 checked_all p told b c stage kept verdict answer h g says is true_then =
     let ran = runs_all (at_first told 1073741824) b c h.so_far h.runs g.1 in
     let text = ran_text told 1073741824 c h.so_far ran in
-    let found = text_found_of ran.got (h.so_far ++ End ∷ []) text.1 in
+    let found = plain_found_of ran.got (h.so_far ++ End ∷ []) text.1 in
     let content = found.0 in
     let whole = (limits_of content (text_keeps_limits content found.2.has_text)).whole in
     let judged = h.judged content (End ∷ []) whole (sym (found.1 ∙ behind_is content)) in

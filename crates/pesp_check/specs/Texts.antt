@@ -20,7 +20,7 @@ pub record ChecksText (told told' : Option (List ℕ)) (p : Pesp) (verdict : Ver
   pub text : List ℕ
   pub content : Content
   pub read : ReadsText told told' MOST_TEXT text
-  pub spelt : IsTextOf text content
+  pub spelt : IsTextOf None text content
   pub answer_is : answer ≡ content.answer
   pub said : IsVerdict None p content verdict
   pub exactly : (verdict ≡ Accepted) ↔ IsValid None p content

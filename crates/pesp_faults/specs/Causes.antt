@@ -3,6 +3,7 @@ use Rattle.std.specs.Prelude.{◌≡◌, ◌⊎◌, ℕ, List, Err, None}
 use Rattle.pesp_problem.specs.Timetables.{Pesp}
 use Rattle.pesp_problem.specs.Scores.{IsFirstViolated}
 use Rattle.pesp_truth.specs.Certificates.{Content}
+use Rattle.pesp_cert_lines.specs.declared.versions.Versions.TheVariants.{Plain}
 use Rattle.pesp_cert.specs.Refusals.{items_of_text}
 use Rattle.pesp_judges.specs.Faults.{IsVerdict}
 use Rattle.pesp_judges.specs.declared.refusal.Verdict.TheVariants.{Refused}
@@ -42,7 +43,7 @@ TimetableCause fault reader p =
 
 -- why there is no base: its text, its verdict, or the reader's device
 abbrev pub BaseCause : Fault → Device → Pesp → Type 0
-BaseCause (Certificate refusal) reader p = ReadsNext reader.old reader.new (λ bytes. items_of_text bytes ≡ Err refusal)
+BaseCause (Certificate refusal) reader p = ReadsNext reader.old reader.new (λ bytes. items_of_text Plain bytes ≡ Err refusal)
 BaseCause (Base refusal) reader p =
     (base : Content) × ReadsCertificate reader.old reader.new base × IsVerdict None p base (Refused refusal)
 BaseCause Memory reader p = Unit {0}

@@ -30,7 +30,7 @@ ReadsTimetable told left told_times left_times period Holds =
 
 -- the bytes that were read are the text of this certificate
 abbrev pub ReadsCertificate : Option (List ℕ) → Option (List ℕ) → Content → Type 0
-ReadsCertificate told left certificate = ReadsNext told left (λ text. IsTextOf text certificate)
+ReadsCertificate told left certificate = ReadsNext told left (λ text. IsTextOf None text certificate)
 
 -- they are, and it is valid for the instance
 abbrev pub ReadsBase : Option (List ℕ) → Option (List ℕ) → Pesp → Content → Type 0

@@ -1,5 +1,5 @@
 -- Why a run has no answer, from what the call that failed says of it, and what it wrote.
-use Rattle.std.proofs.Common.{inl, inr, ℕ, List}
+use Rattle.std.proofs.Common.{inl, inr, ℕ, List, None}
 use Rattle.std.specs.Prelude.{Option}
 use Rattle.std.specs.List.{flat_map}
 use Rattle.pesp_stream.specs.Counts.{Calls}
@@ -46,7 +46,7 @@ job_cause NoSuchJob p base jobs refused = refused
 
 -- works were grafted, and the writers got what is said of the certificate's text and of the replies' lines
 pub graft : {p : Pesp} {base certificate : Content} {works : List WorkValue} {Gets Tells : List ℕ → Type 0} (replies : List Reply)
-    → IsGrafted p base works replies certificate → HasText certificate → Gets (spelling certificate)
+    → IsGrafted p base works replies certificate → HasText None certificate → Gets (spelling None certificate)
     → Tells (flat_map reply_line replies) → WritesGraft p base works Gets Tells
 graft {certificate = certificate} replies grafted has_text gets tells = record {
   replies = replies;

@@ -1,5 +1,5 @@
 -- What the runs for work from outside read and write, and when they tell which fault.
-use Rattle.std.specs.Prelude.{◌≡◌, ◌⊎◌, ℕ, List, Option, Err}
+use Rattle.std.specs.Prelude.{◌≡◌, ◌⊎◌, ℕ, List, Option, Err, None}
 use Rattle.std.specs.List.{flat_map}
 use Rattle.std.specs.Io.KnownBytes.{Appends}
 use Rattle.pesp_problem.specs.Timetables.{Pesp}
@@ -98,9 +98,9 @@ pub record WritesGraft (p : Pesp) (base : Content) (works : List WorkValue) (Get
   pub replies : List Reply
   pub certificate : Content
   pub grafted : IsGrafted p base works replies certificate
-  pub has_text : HasText certificate
+  pub has_text : HasText None certificate
   pub told_replies : Tells (flat_map reply_line replies)
-  pub written : Gets (spelling certificate)
+  pub written : Gets (spelling None certificate)
 
 -- the reader's text is that of works, which are grafted and written
 abbrev pub Grafts : Option (List ℕ) → Option (List ℕ) → Pesp → Content → (List ℕ → Type 0) → (List ℕ → Type 0) → Type 0

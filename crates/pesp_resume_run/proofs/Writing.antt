@@ -1,6 +1,5 @@
 -- What is written of a search that went on.
-use Rattle.std.specs.Prelude.{None}
-use Rattle.std.proofs.Common.{inl, inr, ℕ, ◌≤◌, List}
+use Rattle.std.proofs.Common.{inl, inr, ℕ, ◌≤◌, List, None}
 use Rattle.pesp_problem.specs.Timetables.{Pesp}
 use Rattle.pesp_truth.specs.Certificates.{Content}
 use Rattle.pesp_truth.proofs.Certificates.{valid_is_true}
@@ -16,8 +15,8 @@ use Rattle.pesp_resume_run.specs.Resuming.{WritesResumed, ResumeCause}
 
 -- the writer got what is said of the certificate's text
 pub writes : {p : Pesp} {base certificate : Content} {steps : ℕ} {stopped : Type 0} {Gets : List ℕ → Type 0}
-    (used : ℕ) (ending : Ending) → 1 ≤ p.period → IsResumed p base steps stopped used ending certificate → HasText certificate
-    → Gets (spelling certificate) → WritesResumed p base steps stopped Gets
+    (used : ℕ) (ending : Ending) → 1 ≤ p.period → IsResumed p base steps stopped used ending certificate → HasText None certificate
+    → Gets (spelling None certificate) → WritesResumed p base steps stopped Gets
 writes {p} {certificate = certificate} used ending some resumed has_text gets = record {
   used = used;
   ending = ending;

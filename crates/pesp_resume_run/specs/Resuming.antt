@@ -1,5 +1,5 @@
 -- What the run that goes on from a certificate reads and writes, and when it tells which fault.
-use Rattle.std.specs.Prelude.{◌⊎◌, ℕ, List}
+use Rattle.std.specs.Prelude.{◌⊎◌, ℕ, List, None}
 use Rattle.pesp_problem.specs.Timetables.{Pesp}
 use Rattle.pesp_truth.specs.Truth.{IsTrueAnswer}
 use Rattle.pesp_truth.specs.Certificates.{Content, shown_times}
@@ -20,8 +20,8 @@ pub record WritesResumed (p : Pesp) (base : Content) (steps : ℕ) (stopped : Ty
   pub certificate : Content
   pub resumed : IsResumed p base steps stopped used ending certificate
   pub is_true : IsTrueAnswer p certificate.answer (shown_times certificate)
-  pub has_text : HasText certificate
-  pub written : Gets (spelling certificate)
+  pub has_text : HasText None certificate
+  pub written : Gets (spelling None certificate)
 
 -- each fault of `resume` and its cause, in the order of what is read and written; the second reader is called only
 -- where the first text has an instance

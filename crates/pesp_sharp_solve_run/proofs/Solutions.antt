@@ -1,12 +1,12 @@
 -- What is written of a search.
-use Rattle.std.proofs.Common.{◌≡◌, ℕ, List, refl, sym, subst}
+use Rattle.std.proofs.Common.{◌≡◌, ℕ, List, refl, sym, subst, None}
 use Rattle.std.specs.Prelude.{Option, IfSome}
 use Rattle.pesp_problem.specs.Timetables.{Pesp}
 use Rattle.pesp_truth.specs.Truth.{IsTrueAnswer}
 use Rattle.pesp_truth.specs.Certificates.{Content, shown_times}
 use Rattle.pesp_cert.specs.Texts.{HasText}
 use Rattle.pesp_truth.specs.Marks.{Marks}
-use Rattle.pesp_sharp_text.specs.Limits.{KeepsLimits}
+use Rattle.pesp_cert.specs.FrontLimits.{KeepsLimits}
 use Rattle.pesp_sharp_text.specs.Texts.{Fronted, IsFrontedText, fronted_text}
 use Rattle.pesp_search.specs.Solving.{CostsNoMore}
 use Rattle.pesp_sharp_search.specs.Solving.{IsSharpSolved, IsSharpResumed}
@@ -43,7 +43,7 @@ resumption {certificate = certificate} resumed is_true has_text gets = record {
 
 -- a certificate whose parts have texts has one
 pub has_text_of : (c : Fronted) (front : Option Marks) (content : Content)
-    → c ≡ record { front = front; content = content } → IfSome front KeepsLimits → HasText content
+    → c ≡ record { front = front; content = content } → IfSome front KeepsLimits → HasText None content
     → IsFrontedText (fronted_text c) c
 has_text_of c front content is keeps has =
     let there : IsFrontedText (fronted_text (record { front = front; content = content }))

@@ -1,7 +1,3 @@
 pub mod Limits
-pub mod Taking
-pub mod Walking
-pub mod Words
-pub mod Founds
 pub mod Said
 pub mod Prints

@@ -5,7 +5,7 @@ use Rattle.std.specs.List.{list_all}
 use Rattle.std.proofs.lemmas.Bool.Decides.{nat_tests}
 use Rattle.pesp_cert_lines.proofs.Tests.{and_left, and_right, and_both}
 use Rattle.pesp_truth.specs.Marks.{Marks}
-use Rattle.pesp_sharp_text.specs.Limits.{is_scale, is_walk, are_few, total_rows, keeps_limits, KeepsLimits}
+use Rattle.pesp_cert.specs.FrontLimits.{is_scale, is_walk, are_few, total_rows, keeps_limits, KeepsLimits}
 
 pub le_of : (m n : ℕ) → nat_le m n ≡ true → m ≤ n
 le_of m n h = grind (arith, nat_tests, h)

@@ -2,7 +2,7 @@
 use Rattle.std.specs.Prelude.{if◌then◌else◌, ℕ, List, ◌++◌, decimal, codes}
 use Rattle.std.specs.List.{flat_map}
 use Rattle.pesp_nets.specs.declared.marked.MarkedRow.{MarkedRow}
-use Rattle.pesp_sharp_text.specs.Rows.{star}
+use Rattle.pesp_cert_lines.specs.Marked.{star}
 
 abbrev pub row_text : MarkedRow → List ℕ
 row_text s = ((if s.signed.plus then codes " +" else codes " -") ++ decimal s.signed.row) ++ star s.flipped

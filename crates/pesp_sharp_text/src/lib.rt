@@ -2,13 +2,10 @@
 #![tactic(auto)]
 
 mod fronted;
-mod fronts;
 pub mod laws;
-mod lines;
 mod marks;
 mod printer;
 mod reader;
-mod rows;
 
 pub use fronted::Fronted;
 pub use marks::{Marks, NotMarks};

@@ -3,11 +3,11 @@
 ghost use Rattle.std.specs.Prelude.{◌≡◌, true, ◌&&◌, nat_le, length, IfOk, OnErr};
 ghost use Rattle.std.specs.List.{list_all};
 ghost use Rattle.pesp_cert_lines.specs.Rows.{is_name};
-ghost use Rattle.pesp_sharp_text.specs.Rows.{are_named};
-ghost use Rattle.pesp_sharp_text.specs.Limits.{is_scale, is_walk, total_rows, keeps_limits, KeepsLimits};
+ghost use Rattle.pesp_cert_lines.specs.Marked.{are_named};
+ghost use Rattle.pesp_cert.specs.FrontLimits.{is_scale, is_walk, total_rows, keeps_limits, KeepsLimits};
 
-use pesp_nets::{MarkedRow, MarkedWalk};
 use pesp_problem::{MOST_CYCLES, MOST_ROWS, MOST_SCALE, MOST_SIGNED_ROWS};
+use pesp_nets::{MarkedRow, MarkedWalk};
 use std::marker::Model;
 
 /// The scale of the leaves that name marked walks, and these walks. A leaf names them by numbers that go on from those of
@@ -21,7 +21,7 @@ pub struct Marks {
 impl Model for Marks {
     ghost use Rattle.std.specs.Prelude.{◌≡◌, true};
     ghost use Rattle.pesp_truth.specs.Marks.{Marks as SpecMarks};
-    ghost use Rattle.pesp_sharp_text.specs.Limits.{keeps_limits};
+    ghost use Rattle.pesp_cert.specs.FrontLimits.{keeps_limits};
 
     ghost Value = { SpecMarks };
 
@@ -36,7 +36,7 @@ impl Model for Marks {
 pub struct NotMarks;
 
 /// Whether a row may have this number.
-pub(crate) fn is_name(number: u64) -> bool
+fn is_name(number: u64) -> bool
     ensures { result ≡ is_name number }
 {
     1 <= number && number <= MOST_ROWS as u64
@@ -75,7 +75,7 @@ fn has_few_rows(walks: &[MarkedWalk]) -> bool
 }
 
 /// Whether a front may have this scale.
-pub(crate) fn is_scale(scale: u64) -> bool
+fn is_scale(scale: u64) -> bool
     ensures { result ≡ is_scale scale }
 {
     1 <= scale && scale <= u64::from(MOST_SCALE)

@@ -7,7 +7,7 @@ ghost use Rattle.pesp_stream.specs.Printing.{Sending, Sends};
 ghost use Rattle.pesp_stream.specs.Writing.{Writes};
 ghost use Rattle.pesp_sharp_text.specs.Print.{row_text, rows_text, walk_text};
 ghost use Rattle.pesp_sharp_text.specs.Texts.{fronted_text, front_text};
-ghost use Rattle.pesp_sharp_text.specs.Rows.{star};
+ghost use Rattle.pesp_cert_lines.specs.Marked.{star};
 
 use crate::fronted::Fronted;
 use crate::marks::Marks;

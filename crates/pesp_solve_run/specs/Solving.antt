@@ -1,5 +1,5 @@
 -- What the runs that solve read and write, and when they tell which fault.
-use Rattle.std.specs.Prelude.{◌⊎◌, ℕ, List, [], Option}
+use Rattle.std.specs.Prelude.{◌⊎◌, ℕ, List, [], Option, None}
 use Rattle.pesp_problem.specs.Timetables.{Pesp, IsTimetable}
 use Rattle.pesp_truth.specs.Truth.{IsTrueAnswer}
 use Rattle.pesp_truth.specs.Certificates.{Content, shown_times}
@@ -19,8 +19,8 @@ pub record WritesSolution (p : Pesp) (times : List ℕ) (steps : ℕ) (Gets : Li
   pub solved : IsSolved p steps used certificate
   pub improved : CostsNoMore p times certificate
   pub is_true : IsTrueAnswer p certificate.answer (shown_times certificate)
-  pub has_text : HasText certificate
-  pub written : Gets (spelling certificate)
+  pub has_text : HasText None certificate
+  pub written : Gets (spelling None certificate)
 
 -- why no solution went out: what the search passes, or the writer
 abbrev pub SolutionCause : Fault → Pesp → List ℕ → ℕ → Device → Type 0

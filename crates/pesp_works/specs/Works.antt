@@ -9,6 +9,7 @@ use Rattle.pesp_cert_lines.specs.declared.item.Item.{Item}
 use Rattle.pesp_cert_lines.specs.declared.item.Item.TheVariants.{End}
 use Rattle.pesp_cert_lines.specs.declared.progress.Place.TheVariants as places
 use Rattle.pesp_cert_lines.specs.declared.progress.Progress.{Progress}
+use Rattle.pesp_cert_lines.specs.declared.versions.Versions.TheVariants.{Plain}
 use Rattle.pesp_cert_lines.specs.Items.{item_line}
 use Rattle.pesp_cert_lines.specs.Counts.{beginning}
 use Rattle.pesp_cert.specs.Limits.{KeepsLimits}
@@ -34,7 +35,7 @@ items_of w = map time_item w.times ++ (map tree_item w.tree ++ End ∷ [])
 
 -- behind the job's line times may stand, and one tree is still to come, with the lines of version 2
 abbrev pub opening : Progress
-opening = record beginning { place = places.Times; version = 2 }
+opening = record (beginning Plain) { place = places.Times; version = 2 }
 
 -- the one text of a work
 abbrev pub spelling : WorkValue → List ℕ

@@ -7,7 +7,7 @@ ghost use Rattle.pesp_cert_lines.specs.Lines.{LONGEST};
 ghost use Rattle.pesp_works.specs.Works as works;
 ghost use Rattle.pesp_works.specs.Lines as spec;
 
-use pesp_cert_lines::{Item, LineFault, Place, Progress, take_line};
+use pesp_cert_lines::{Item, LineFault, Place, Progress, Versions, take_line};
 use pesp_text::{Words, is_word};
 
 /// How far a text has come behind the line of a job.
@@ -18,7 +18,7 @@ pub(crate) fn opening() -> Progress
     Progress {
         place: Place::Times,
         version: 2,
-        ..Progress::new()
+        ..Progress::new(Versions::Plain)
     }
 }
 

@@ -1,12 +1,18 @@
-use Rattle.std.proofs.lemmas.Result.{IfOk-weaker}
-use Rattle.pesp_sharp_text.specs.Texts.{Fronted}
-use Rattle.pesp_sharp_text.proofs.Said.{said_found, reads_only}
+use Rattle.pesp_cert.proofs.TextLaws.{err_is}
+use Rattle.pesp_sharp_text.proofs.Said.{of_text, limits_said, reads_only, reads_none}
 use Rattle.pesp_sharp_text.proofs.reader.parse_fronted.Goals as goal
 
+pub returns-in_err-front-clause-only : goal.returns-in_err-front-clause-only
+returns-in_err-front-clause-only c = rw (err_is c.from_residual.result c.in_err-front.field-0.0
+    c.from_residual.ensures.1) (reads_none c.args.text.now _ (rw c.in_err-front.was at c.parse_text.ensures.only))
+
+pub front_of-requires : goal.front_of-requires
+front_of-requires c = limits_said c.args.text.now _ c.in_ok-front.certificate c.in_ok-front.ensures.found
+
 pub returns-clause-found : goal.returns-clause-found
-returns-clause-found c = IfOk-weaker c.read_fronted.result _ _
-    (λ (f : Fronted) h. said_found c.args.text.now f h) c.read_fronted.ensures.found
+returns-clause-found c = rw c.front_of.ensures
+    (of_text c.args.text.now _ c.in_ok-front.certificate c.in_ok-front.ensures.found)
 
 pub returns-clause-only : goal.returns-clause-only
-returns-clause-only c = reads_only c.args.text.now c.read_fronted.result
-    (λ f e. rw e at c.read_fronted.ensures.found) (λ r e. rw e at c.read_fronted.ensures.refused)
+returns-clause-only c = rw c.front_of.ensures
+    (reads_only c.args.text.now c.in_ok-front.front c.in_ok-front.certificate c.in_ok-front.ensures.only)

@@ -4,7 +4,7 @@ use Rattle.std.specs.List.{list_all, sum_by}
 use Rattle.pesp_problem.specs.declared.limits.TheConstants.{MOST_CYCLES, MOST_SCALE, MOST_SIGNED_ROWS}
 use Rattle.pesp_nets.specs.declared.marked.MarkedRow.{MarkedRow}
 use Rattle.pesp_truth.specs.Marks.{Marks}
-use Rattle.pesp_sharp_text.specs.Rows.{are_named}
+use Rattle.pesp_cert_lines.specs.Marked.{are_named}
 
 abbrev pub is_scale : ℕ → Bool
 is_scale scale = nat_le 1 scale && nat_le scale MOST_SCALE

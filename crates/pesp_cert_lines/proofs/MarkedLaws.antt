@@ -1,7 +1,6 @@
 -- Marked words: what is read is spelt so, and what is spelt is read.
-use Rattle.std.proofs.Common.{◌≡◌, ℕ, zero, suc, ◌+◌, ◌-◌, ◌*◌, ◌<◌, ◌≤◌, Bool, true, false, not, List, [], ◌∷◌, ◌++◌, length, get_or, take, drop, Option, Some, None, Ok, Err, refl, sym, ap, ◌∙◌, arith, inl, inr, length-append, append-nil}
-use Rattle.std.specs.Prelude.{◌==◌, decimal, codes, if◌then◌else◌}
-use Rattle.std.specs.List.{list_all}
+use Rattle.std.proofs.Common.{◌≡◌, ℕ, zero, suc, ◌+◌, ◌-◌, ◌<◌, Bool, true, false, List, [], ◌∷◌, ◌++◌, length, get_or, take, drop, Option, Some, None, refl, sym, ap, ◌∙◌, arith, inl, inr, length-append, append-nil}
+use Rattle.std.specs.Prelude.{decimal, if◌then◌else◌}
 use Rattle.std.specs.Str.{all_ascii_digits}
 use Rattle.std.specs.Char.{is_ascii_digit}
 use Rattle.std.proofs.lemmas.Option.{same_Some}
@@ -10,16 +9,12 @@ use Rattle.std.proofs.lemmas.Bool.Decides.{nat_tests}
 use Rattle.std.proofs.lemmas.List.{take-append-drop, take_at, drop_more, drop_all}
 use Rattle.pesp_problem.specs.declared.row.SignedRow.{SignedRow}
 use Rattle.pesp_text.specs.Number.{NATURALS}
-use Rattle.pesp_text.specs.Words.{spaced}
 use Rattle.pesp_text.proofs.Digits.{decimal_digits, decimal_some, digit_range}
-use Rattle.pesp_cert_lines.specs.Rows.{is_name, row_word, row_words, spelt_row, row_made}
-use Rattle.pesp_cert_lines.specs.declared.item.Item.TheVariants.{Cycle}
-use Rattle.pesp_cert_lines.proofs.Tests.{cases, and_left, and_right, and_both}
-use Rattle.pesp_cert_lines.proofs.WordLaws.{row_spells, row_read, both_some, joined, named_below}
-use Rattle.pesp_cert_lines.proofs.LineLaws.{is_inner, is_plain, all_plain, item_plain}
-use Rattle.pesp_cert.proofs.ShortLaws.{rows_len}
 use Rattle.pesp_nets.specs.declared.marked.MarkedRow.{MarkedRow}
-use Rattle.pesp_sharp_text.specs.Rows.{star, marked_word, marked_words, are_named, is_starred, but_last, with_mark, marked_at, marked_made, marked_of, behind_rows, walk_of}
+use Rattle.pesp_cert_lines.specs.Rows.{is_name, row_word, spelt_row, row_made}
+use Rattle.pesp_cert_lines.specs.Marked.{marked_word, marked_words, are_named, is_starred, but_last, with_mark, marked_at, marked_made, marked_of}
+use Rattle.pesp_cert_lines.proofs.Tests.{cases, and_left, and_right}
+use Rattle.pesp_cert_lines.proofs.WordLaws.{row_spells, row_read, both_some, joined, named_below}
 
 -- ---- the last byte
 
@@ -117,72 +112,3 @@ marked_words_read [] h = refl
 marked_words_read (s ∷ walk) h =
     let first = marked_read s (and_left (is_name s.signed.row) (are_named walk) h) in
     rw (first, marked_words_read walk (and_right (is_name s.signed.row) (are_named walk) h)) refl
-
-behind_ok : (o : Option (List MarkedRow)) (walk : List MarkedRow) → behind_rows [] true o ≡ Ok walk
-    → (o ≡ Some walk) × (are_named walk ≡ true)
-behind_ok None walk h = absurd cc
-behind_ok (Some rows) walk h =
-    elim (cases (are_named rows)) [
-      | inl is ↦ (let same : rows ≡ walk = (let e : Ok rows ≡ Ok walk = rw is at h in cc) in (ap Some same, rw (← same) is))
-      | inr isnt ↦ (let bad : Err _ ≡ Ok walk = rw isnt at h in absurd cc)
-    ]
-
-pub walk_spells : (ws : List (List ℕ)) (walk : List MarkedRow) → walk_of ws ≡ Ok walk → (ws ≡ marked_words walk) × (are_named walk ≡ true)
-walk_spells ws walk h = let b = behind_ok (marked_of ws) walk h in (marked_spell ws walk b.0, b.1)
-
-pub walk_read : (walk : List MarkedRow) → are_named walk ≡ true → walk_of (marked_words walk) ≡ Ok walk
-walk_read walk h = rw (marked_words_read walk h, h) refl
-
--- ---- words without a space or an LF, and their length
-
-plain_more : (w : List ℕ) (flipped : Bool) → is_plain w ≡ true → is_plain (w ++ star flipped) ≡ true
-plain_more w false h = rw (append-nil w) h
-plain_more w true h = and_both _ _ (some w) (inner w (and_right (not (length w == 0)) (list_all is_inner w) h))
-  where
-    some : (v : List ℕ) → not (length (v ++ 42 ∷ []) == 0) ≡ true
-    some [] = refl
-    some (b ∷ bs) = grind (arith, nat_tests)
-
-    inner : (v : List ℕ) → list_all is_inner v ≡ true → list_all is_inner (v ++ 42 ∷ []) ≡ true
-    inner [] h = refl
-    inner (b ∷ bs) h = and_both (is_inner b) (list_all is_inner (bs ++ 42 ∷ []))
-        (and_left (is_inner b) (list_all is_inner bs) h)
-        (inner bs (and_right (is_inner b) (list_all is_inner bs) h))
-
-signed_plain : (s : SignedRow) → is_name s.row ≡ true → is_plain (row_word s) ≡ true
-signed_plain s h =
-    let one : list_all (λ (r : SignedRow). is_name r.row) (s ∷ []) ≡ true = and_both (is_name s.row) true h refl in
-    let all = item_plain (Cycle (s ∷ [])) (omega arith) one in
-    and_left (is_plain (row_word s)) true (and_right (is_plain (codes "cycle")) (all_plain (row_words (s ∷ []))) all)
-
-pub words_plain : (walk : List MarkedRow) → are_named walk ≡ true → all_plain (marked_words walk) ≡ true
-words_plain [] h = refl
-words_plain (s ∷ walk) h =
-    and_both (is_plain (marked_word s)) (all_plain (marked_words walk))
-    (plain_more (row_word s.signed) s.flipped (signed_plain s.signed
-    (and_left (is_name s.signed.row) (are_named walk) h)))
-    (words_plain walk (and_right (is_name s.signed.row) (are_named walk) h))
-
-star_len : (flipped : Bool) → length (star flipped) ≤ 1
-star_len true = omega arith
-star_len false = omega arith
-
-pub words_len : (walk : List MarkedRow) → are_named walk ≡ true → length (spaced (marked_words walk)) ≤ 9 * length walk
-words_len [] h = omega arith
-words_len (s ∷ walk) h =
-    let one : list_all (λ (r : SignedRow). is_name r.row) (s.signed ∷ [])
-    ≡ true = and_both (is_name s.signed.row) true (and_left (is_name s.signed.row) (are_named walk) h) refl in
-    let row = rows_len (s.signed ∷ []) one in
-    omega (
-      arith,
-      row,
-      length-append (row_word s.signed) [],
-      star_len s.flipped,
-      length-append (row_word s.signed) (star s.flipped),
-      length-append (marked_word s) (spaced (marked_words walk)),
-      words_len walk (and_right (is_name s.signed.row) (are_named walk) h),
-    )
-
-pub words_many : (walk : List MarkedRow) → length (marked_words walk) ≡ length walk
-words_many [] = refl
-words_many (s ∷ walk) = omega (arith, words_many walk)

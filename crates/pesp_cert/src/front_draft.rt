@@ -4,8 +4,8 @@ ghost use Rattle.std.specs.Prelude.{◌≡◌, IfOk, OnOk};
 ghost use Rattle.pesp_cert.specs.Drafts.{no_front, noted};
 
 use pesp_cert_lines::{Item, MarkedRows};
-use pesp_problem::Memory;
 use pesp_nets::MarkedWalk;
+use pesp_problem::Memory;
 use std::alloc::Global;
 use std::marker::Model;
 

@@ -6,8 +6,8 @@ ghost use Rattle.pesp_cert_lines.specs.Marked.{is_starred, but_last, with_mark, 
 
 use crate::fault::LineFault;
 use crate::rows::{MOST_WORDS, is_name, spelt_row};
-use pesp_problem::SignedRow;
 use pesp_nets::MarkedRow;
+use pesp_problem::SignedRow;
 use pesp_text::Words;
 use std::marker::Model;
 

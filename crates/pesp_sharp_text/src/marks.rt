@@ -6,8 +6,8 @@ ghost use Rattle.pesp_cert_lines.specs.Rows.{is_name};
 ghost use Rattle.pesp_cert_lines.specs.Marked.{are_named};
 ghost use Rattle.pesp_cert.specs.FrontLimits.{is_scale, is_walk, total_rows, keeps_limits, KeepsLimits};
 
-use pesp_problem::{MOST_CYCLES, MOST_ROWS, MOST_SCALE, MOST_SIGNED_ROWS};
 use pesp_nets::{MarkedRow, MarkedWalk};
+use pesp_problem::{MOST_CYCLES, MOST_ROWS, MOST_SCALE, MOST_SIGNED_ROWS};
 use std::marker::Model;
 
 /// The scale of the leaves that name marked walks, and these walks. A leaf names them by numbers that go on from those of

@@ -1,8 +1,9 @@
 -- The limits of an item that may stand in a text.
 use Rattle.std.proofs.Common.{◌≡◌, ℕ, ◌≤◌, arith, true}
 use Rattle.std.specs.Prelude.{nat_abs, nat_le, ◌&&◌}
+use Rattle.std.proofs.lemmas.Bool.Decides.{nat_tests}
 use Rattle.pesp_cert_lines.specs.declared.item.Item.{Item}
-use Rattle.pesp_cert_lines.specs.declared.item.Item.TheVariants.{Version, Period, Answer as Says, Time, Cycle, Slack, Offset, Bound, Nothing, Gap, Propagated, End}
+use Rattle.pesp_cert_lines.specs.declared.item.Item.TheVariants.{Front, Scale, Walk, Version, Period, Answer as Says, Time, Cycle, Slack, Offset, Bound, Nothing, Gap, Propagated, End}
 use Rattle.pesp_cert_lines.specs.declared.progress.Progress.{Progress}
 use Rattle.pesp_cert_lines.specs.Counts.{CanStand, after, keeps_counts}
 use Rattle.pesp_cert_lines.specs.Rows.{is_name}
@@ -12,13 +13,12 @@ use Rattle.pesp_check.proofs.Limits.{le_of, pair_limits}
 use Rattle.pesp_check.specs.Items.{KeepsItemLimits}
 
 few_rows : (p : Progress) → keeps_counts p ≡ true → p.rows ≤ 10000000
-few_rows p h =
-    let most = and_left (nat_le p.times 100000 && nat_le p.cycles 100000 && nat_le p.rows 10000000
-    && nat_le p.lines 1000000) (nat_le p.pairs 20000000) h in
-    let lines = and_left (nat_le p.times 100000 && nat_le p.cycles 100000 && nat_le p.rows 10000000) (nat_le p.lines 1000000) most in
-    le_of p.rows 10000000 (and_right (nat_le p.times 100000 && nat_le p.cycles 100000) (nat_le p.rows 10000000) lines)
+few_rows p h = grind (arith, nat_tests, h)
 
 pub item_limits : (p : Progress) (item : Item) → CanStand p item → KeepsItemLimits item
+item_limits p Front h = tt
+item_limits p (Scale n) h = tt
+item_limits p (Walk walk) h = tt
 item_limits p (Version n) h = tt
 item_limits p (Period n) h = tt
 item_limits p (Says a) h = tt

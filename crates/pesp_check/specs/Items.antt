@@ -2,11 +2,14 @@
 use Rattle.std.specs.Prelude.{◌≤◌, List, [], ◌∷◌, length, Bool, true, false, unsigned_abs}
 use Rattle.pesp_problem.specs.declared.limits.TheConstants.{MOST_OFFSET, MOST_SIGNED_ROWS, MOST_SLACK}
 use Rattle.pesp_cert_lines.specs.declared.item.Item.{Item}
-use Rattle.pesp_cert_lines.specs.declared.item.Item.TheVariants.{Version, Period, Answer as Says, Time, Cycle, Slack, Offset, Bound, Nothing, Gap, Propagated}
+use Rattle.pesp_cert_lines.specs.declared.item.Item.TheVariants.{Front, Scale, Walk, Version, Period, Answer as Says, Time, Cycle, Slack, Offset, Bound, Nothing, Gap, Propagated}
 use Rattle.pesp_judges.specs.Lines.{ArePairLimits}
 
 -- it comes behind the times
 abbrev pub is_later : Item → Bool
+is_later Front = false
+is_later (Scale n) = false
+is_later (Walk walk) = false
 is_later (Version n) = false
 is_later (Period n) = false
 is_later (Says a) = false

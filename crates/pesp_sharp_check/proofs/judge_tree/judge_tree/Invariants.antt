@@ -1,4 +1,4 @@
-use Rattle.std.proofs.Common.{◌≡◌, List, length, map, drop, true}
+use Rattle.std.proofs.Common.{◌≡◌, List, Some, length, map, drop, true}
 use Rattle.pesp_problem.specs.declared.row.SignedRow.{SignedRow}
 use Rattle.pesp_problem.specs.Arcs.{net_of}
 use Rattle.pesp_problem.specs.Nodes.{root}

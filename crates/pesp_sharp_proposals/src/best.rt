@@ -1,8 +1,8 @@
 //! The best timetable so far.
 
-use crate::left::Left;
 use pesp_cert::Certificate;
 use pesp_problem::{Instance, Memory, Score, score};
+use pesp_sharp_trees::Left;
 use pesp_truth::Answer;
 use std::alloc::Global;
 

@@ -2,17 +2,8 @@
 //! others 2020). Nothing is promised of them but that they are found safely: others judge them.
 #![tactic(auto)]
 
-mod base;
 mod best;
-mod copies;
-mod kept;
-mod left;
-mod lifted;
-mod lines;
-mod lowered;
-mod marked;
 mod proposal;
-mod scales;
 mod search;
 mod standing;
 mod whole_search;

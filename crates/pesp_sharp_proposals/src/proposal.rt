@@ -1,17 +1,15 @@
 //! The certificates that a search proposes. They are judged by others.
 
 use crate::best::Best;
-use crate::copies::{copied_lines, copied_marked, copied_walks};
-use crate::kept::Kept;
-use crate::left::Left;
-use crate::lifted::{lifted_of, offset_shifts};
-use crate::lines::{Numbers, lines_of, some_wants_scale};
-use crate::marked::{marked_of, scale_walk};
 use crate::search::SharpSearch;
 use pesp_cert::Certificate;
 use pesp_judges::least_of;
 use pesp_problem::{Instance, Memory, Walk};
 use pesp_sharp_text::{Fronted, Marks};
+use pesp_sharp_trees::{
+    Kept, Left, Numbers, copied_lines, copied_marked, copied_walks, lifted_of, lines_of, marked_of,
+    offset_shifts, scale_walk, some_wants_scale,
+};
 use pesp_sharpening::{Line, Sharpened};
 use pesp_truth::{Answer, TreeLine};
 use std::alloc::Global;
@@ -62,7 +60,7 @@ fn answer_beside(least: Option<u64>, best: &Option<Best>) -> Answer {
 
 /// The answer that a tree shows beside the best timetable.
 fn answer_of(sharpened: &Sharpened, best: &Option<Best>) -> Answer {
-    let has_bound = sharpened.lines.iter().any(|line| shows_bound(line));
+    let has_bound = sharpened.lines.iter().any(shows_bound);
     let least = sharpened.bound.min(MOST_BOUND);
     answer_beside(has_bound.then_some(least), best)
 }
@@ -150,14 +148,21 @@ impl<'a> Parts<'a> {
         alloc: Global,
         kept: &Option<Kept<'a>>,
     ) -> Result<Option<Certificate>, Memory> {
+        let answer = answer_of(self.sharpened, self.best);
+        let period = self.left.instance.period();
+        let times = labelled(alloc, self.left.instance, self.best)?;
         let Some(cycles) = self.cycles(alloc)? else {
             return Ok(None);
         };
-        let tree = self.tree(alloc, &cycles, kept)?;
-        let times = labelled(alloc, self.left.instance, self.best)?;
-        let answer = answer_of(self.sharpened, self.best);
-        let period = self.left.instance.period();
-        Ok(Certificate::new(self.version(), period, answer, times, cycles, tree).ok())
+        match self.tree(alloc, &cycles, kept) {
+            Ok(tree) => {
+                Ok(Certificate::new(self.version(), period, answer, times, cycles, tree).ok())
+            }
+            Err(refused) => {
+                drop(cycles);
+                Err(refused)
+            }
+        }
     }
 
     /// The front; None where it would pass a limit.
@@ -249,11 +254,9 @@ fn timed_of(
     old: &Certificate,
     best: &Option<Best>,
 ) -> Result<Option<Fronted>, Memory> {
-    if !best
-        .as_ref()
-        .is_some_and(|best| best.cost < cost_of(old.answer()))
-    {
-        return Ok(None);
+    match best {
+        Some(found) if found.cost < cost_of(old.answer()) => {}
+        _ => return Ok(None),
     }
     let Some(certificate) = with_times(alloc, instance, old, best)? else {
         return Ok(None);

@@ -2,14 +2,13 @@
 
 ghost use Rattle.std.specs.Prelude.{◌≡◌};
 
-use crate::base::given_of;
 use crate::best::{Best, offer, shown_by};
-use crate::left::Left;
 use crate::standing::{SharpWatcher, Standing};
 use pesp_cert::Certificate;
 use pesp_judges::least_of;
 use pesp_problem::{Memory, Score, score};
 use pesp_sharp_text::Fronted;
+use pesp_sharp_trees::{Left, given_of};
 use pesp_sharpening::{Sharpening, Step};
 use pesp_simplex::{Improved, SimplexRefusal, improve};
 use pesp_times::TimesSearch;
@@ -200,7 +199,9 @@ impl SharpSearch {
     ) -> Result<(), Memory> {
         let given = given_of(left, base, spared)?;
         let limit = self.limit();
-        self.has_taken_up = self.sharpening.take_up(&given, limit)?;
+        let taken = self.sharpening.take_up(&given, limit);
+        drop(given);
+        self.has_taken_up = taken?;
         // Nothing more is done where the tree was taken up.
         self.look_at_root(left)
     }

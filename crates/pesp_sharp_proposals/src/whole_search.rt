@@ -3,15 +3,14 @@
 ghost use Rattle.std.specs.Prelude.{◌≡◌};
 
 use crate::best::is_open;
-use crate::left::Left;
 use crate::proposal::{Proposals, no_proposals, proposals_of};
-use crate::scales::{scale_for, scale_over};
 use crate::search::SharpSearch;
 use crate::standing::SharpWatcher;
 use pesp_cert::Certificate;
 use pesp_problem::{Instance, Memory};
 use pesp_reduce::{Reduced, reduce};
 use pesp_sharp_text::Fronted;
+use pesp_sharp_trees::{Left, scale_for, scale_over};
 use pesp_times::TimesSearch;
 use std::alloc::Global;
 

@@ -26,7 +26,7 @@ fn copied_line(alloc: Global, line: &TreeLine) -> Result<TreeLine, Memory> {
 }
 
 /// Copies of lines.
-pub(crate) fn copied_lines(alloc: Global, lines: &[TreeLine]) -> Result<Vec<TreeLine>, Memory> {
+pub fn copied_lines(alloc: Global, lines: &[TreeLine]) -> Result<Vec<TreeLine>, Memory> {
     let mut copies = Vec::with_capacity(alloc, lines.len())?;
     for line in lines {
         copies.push(copied_line(alloc, line)?)?;
@@ -35,7 +35,7 @@ pub(crate) fn copied_lines(alloc: Global, lines: &[TreeLine]) -> Result<Vec<Tree
 }
 
 /// Copies of walks.
-pub(crate) fn copied_walks(alloc: Global, walks: &[Walk]) -> Result<Vec<Walk>, Memory> {
+pub fn copied_walks(alloc: Global, walks: &[Walk]) -> Result<Vec<Walk>, Memory> {
     let mut copies = Vec::with_capacity(alloc, walks.len())?;
     for walk in walks {
         copies.push(Walk::new(Vec::from_slice(alloc, walk.rows())?))?;
@@ -44,6 +44,6 @@ pub(crate) fn copied_walks(alloc: Global, walks: &[Walk]) -> Result<Vec<Walk>, M
 }
 
 /// A copy of a marked walk.
-pub(crate) fn copied_marked(alloc: Global, walk: &MarkedWalk) -> Result<MarkedWalk, Memory> {
+pub fn copied_marked(alloc: Global, walk: &MarkedWalk) -> Result<MarkedWalk, Memory> {
     Ok(MarkedWalk::new(Vec::from_slice(alloc, walk.rows())?))
 }

@@ -1,5 +1,6 @@
 //! The tree of a certificate as one over what is left of the instance.
 
+use crate::kept::name_walk;
 use crate::left::Left;
 use crate::lifted::offset_shifts;
 use crate::lowered::Lowering;
@@ -69,6 +70,16 @@ fn sizes_of(alloc: Global, lines: &[TreeLine]) -> Result<Vec<usize>, Memory> {
     Ok(sizes)
 }
 
+/// Whether a line shows a bound.
+fn has_bound(lines: &[TreeLine]) -> bool {
+    for line in lines {
+        if let TreeLine::Bound(_) = line {
+            return true;
+        }
+    }
+    false
+}
+
 impl LoweredWalks {
     /// Walks of which some aren't there.
     fn of(alloc: Global, lowered: Vec<Option<Vec<Pass>>>) -> Result<LoweredWalks, Memory> {
@@ -87,11 +98,6 @@ impl Base<'_> {
     /// How many cycles there are.
     fn count(&self) -> u32 {
         u32::try_from(self.cycles.len()).unwrap_or(u32::MAX)
-    }
-
-    /// Whether pairs name a marked walk.
-    fn names_walk(&self, pairs: &[Pair]) -> bool {
-        pairs.iter().any(|pair| pair.cycle > self.count())
     }
 
     /// Takes a pair up; None where its walk isn't one of what is left, or its multiplier grows too great.
@@ -115,7 +121,7 @@ impl Base<'_> {
 
     /// The leaf of pairs; None where one can't be taken up.
     fn leaf(&self, alloc: Global, pairs: &[Pair]) -> Result<Option<Leaf>, Memory> {
-        let factor = if self.names_walk(pairs) {
+        let factor = if name_walk(self.count(), pairs) {
             self.sharp_factor
         } else {
             self.plain_factor
@@ -148,12 +154,16 @@ impl Base<'_> {
                 cycle: cycle.wrapping_sub(1),
             })),
             TreeLine::Bound(pairs) => {
-                let leaf = self.leaf(alloc, pairs.as_slice())?;
-                Ok(leaf.map(|leaf| Line::Bound(leaf)))
+                match self.leaf(alloc, pairs.as_slice())? {
+                    Some(leaf) => Ok(Some(Line::Bound(leaf))),
+                    None => Ok(None),
+                }
             }
             TreeLine::Nothing(pairs) => {
-                let leaf = self.leaf(alloc, pairs.as_slice())?;
-                Ok(leaf.map(|leaf| Line::Nothing(leaf)))
+                match self.leaf(alloc, pairs.as_slice())? {
+                    Some(leaf) => Ok(Some(Line::Nothing(leaf))),
+                    None => Ok(None),
+                }
             }
             TreeLine::Slack { .. } | TreeLine::Propagated => Ok(None),
         }
@@ -181,11 +191,14 @@ impl Base<'_> {
     fn kept(&self, lines: &[TreeLine], place: usize, count: usize) -> Line {
         let end = place.saturating_add(count);
         let kept = lines.get(place..end).unwrap_or(&[]);
-        let has_bound = kept.iter().any(|line| matches!(line, TreeLine::Bound(_)));
         Line::Kept {
             first: u32::try_from(place).unwrap_or(u32::MAX),
             count: u32::try_from(count).unwrap_or(u32::MAX),
-            bound: if has_bound { self.least } else { u64::MAX },
+            bound: if has_bound(kept) {
+                self.least
+            } else {
+                u64::MAX
+            },
         }
     }
 
@@ -271,7 +284,7 @@ fn lines_over(
 
 /// The tree of a base as one over what is left of the instance, to be taken up. What isn't one is kept as it is, and so is each
 /// line for which the cost is told that it shows.
-pub(crate) fn given_of(
+pub fn given_of(
     left: Left<'_>,
     base: &Fronted,
     spared: &[Option<u64>],

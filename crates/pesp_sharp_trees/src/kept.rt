@@ -13,7 +13,7 @@ use std::alloc::Global;
 /// The lines of a base of which some are kept: how many cycles the base has, for each of its marked walks its place among those
 /// that kept lines name, how many these are, and by what the multipliers grow of leaves that name one.
 #[derive(Drop)]
-pub(crate) struct Kept<'a> {
+pub struct Kept<'a> {
     tree: &'a [TreeLine],
     marked: &'a [MarkedWalk],
     cycles: u32,
@@ -35,6 +35,16 @@ fn pairs_of(line: &TreeLine) -> &[Pair] {
         TreeLine::Bound(pairs) | TreeLine::Nothing(pairs) => pairs.as_slice(),
         _ => &[],
     }
+}
+
+/// Whether pairs name a marked walk.
+pub(crate) fn name_walk(cycles: u32, pairs: &[Pair]) -> bool {
+    for pair in pairs {
+        if pair.cycle > cycles {
+            return true;
+        }
+    }
+    false
 }
 
 /// The place of a marked walk that a pair names.
@@ -71,7 +81,7 @@ fn ranks_of(alloc: Global, named: &[bool]) -> Result<Vec<Option<u32>>, Memory> {
 
 impl<'a> Kept<'a> {
     /// The lines of a base of which these lines keep some.
-    pub(crate) fn of(
+    pub fn of(
         alloc: Global,
         network: &Network,
         base: &'a Fronted,
@@ -114,11 +124,7 @@ impl<'a> Kept<'a> {
     }
 
     /// The marked walks that kept lines name, behind these.
-    pub(crate) fn add_walks(
-        &self,
-        alloc: Global,
-        walks: &mut Vec<MarkedWalk>,
-    ) -> Result<(), Memory> {
+    pub fn add_walks(&self, alloc: Global, walks: &mut Vec<MarkedWalk>) -> Result<(), Memory> {
         for (walk, rank) in self.marked.iter().zip(self.ranks.iter()) {
             if rank.is_some() {
                 walks.push(copied_marked(alloc, walk)?)?;
@@ -138,14 +144,9 @@ impl<'a> Kept<'a> {
         }
     }
 
-    /// Whether pairs name a marked walk.
-    fn names_walk(&self, pairs: &[Pair]) -> bool {
-        pairs.iter().any(|pair| pair.cycle > self.cycles)
-    }
-
     /// Pairs by these numbers.
     fn renumbered(&self, alloc: Global, pairs: &[Pair], behind: u32) -> Result<Pairs, Memory> {
-        let factor = if self.names_walk(pairs) {
+        let factor = if name_walk(self.cycles, pairs) {
             self.factor
         } else {
             1

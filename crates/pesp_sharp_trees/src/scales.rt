@@ -34,7 +34,7 @@ fn scale_of(period: u32) -> u32 {
 }
 
 /// The scale for a network: less where its weights are great, so that multipliers have a text.
-pub(crate) fn scale_for(network: &Network) -> u32 {
+pub fn scale_for(network: &Network) -> u32 {
     let wanted = scale_of(network.period());
     let most = MOST_MULTIPLIER / greatest_weight(network.rows()).saturating_mul(ROOM).max(1);
     u32::try_from(most).unwrap_or(wanted).min(wanted).max(1)
@@ -55,7 +55,7 @@ pub(crate) fn growth_of(base: &Fronted, network: &Network) -> i64 {
 
 /// The scale in which the leaves of a base can be told again exactly: a multiple of its own, or that for the network where it has
 /// none.
-pub(crate) fn scale_over(base: &Fronted, network: &Network) -> u32 {
+pub fn scale_over(base: &Fronted, network: &Network) -> u32 {
     match &base.front {
         Some(marks) => marks.scale().saturating_mul(factor_of(marks, network)),
         None => scale_for(network),

@@ -9,16 +9,16 @@ use std::alloc::Global;
 
 /// An instance, what is left of it, and the network of that.
 #[derive(Clone, Copy)]
-pub(crate) struct Left<'a> {
-    pub(crate) alloc: Global,
-    pub(crate) instance: &'a Instance,
-    pub(crate) reduced: &'a Reduced,
-    pub(crate) network: &'a Network,
+pub struct Left<'a> {
+    pub alloc: Global,
+    pub instance: &'a Instance,
+    pub reduced: &'a Reduced,
+    pub network: &'a Network,
 }
 
 impl<'a> Left<'a> {
     /// What is left of an instance.
-    pub(crate) fn of(alloc: Global, instance: &'a Instance, reduced: &'a Reduced) -> Left<'a>
+    pub fn of(alloc: Global, instance: &'a Instance, reduced: &'a Reduced) -> Left<'a>
         ensures instance { result.instance.now ≡ instance.now }
         ensures reduced { result.reduced.now ≡ reduced.now }
     {

@@ -8,18 +8,23 @@ use std::alloc::Global;
 
 /// How a certificate numbers what a tree names.
 #[derive(Clone, Copy)]
-pub(crate) struct Numbers<'a> {
+pub struct Numbers<'a> {
     /// How many cycles there are.
-    pub(crate) cycles: u32,
+    pub cycles: u32,
     /// How many marked walks the tree names; the walk that only gives leaves the scale comes behind them.
-    pub(crate) walks: u32,
+    pub walks: u32,
     /// By how much the offset of each cycle is above the one that the tree speaks of.
-    pub(crate) shifts: &'a [i64],
+    pub shifts: &'a [i64],
 }
 
 /// Whether a leaf names a marked walk under a multiplier.
 fn names_walk(leaf: &Leaf) -> bool {
-    leaf.walks.iter().any(|walk| walk.1 > 0)
+    for walk in &leaf.walks {
+        if walk.1 > 0 {
+            return true;
+        }
+    }
+    false
 }
 
 /// Whether a line is a leaf that has to have the scale, though it names no marked walk.
@@ -31,8 +36,8 @@ fn wants_scale(line: &Line) -> bool {
 }
 
 /// Whether some leaf has to have the scale, though it names no marked walk.
-pub(crate) fn some_wants_scale(lines: &[Line]) -> bool {
-    lines.iter().any(|line| wants_scale(line))
+pub fn some_wants_scale(lines: &[Line]) -> bool {
+    lines.iter().any(wants_scale)
 }
 
 /// Adds pairs under the numbers behind this one.
@@ -50,10 +55,11 @@ fn add_pairs(pairs: &mut Vec<Pair>, behind: u32, named: &[(u32, i64)]) -> Result
 fn joined(alloc: Global, mut pairs: Vec<Pair>) -> Result<Pairs, Memory> {
     pairs.sort_unstable_by_key(|pair| pair.cycle);
     let mut rising: Vec<Pair> = Vec::new(alloc);
+    let mut last = None;
     for pair in &pairs {
-        let is_there = rising.last().is_some_and(|last| last.cycle == pair.cycle);
-        if pair.mult != 0 && !is_there {
+        if pair.mult != 0 && last != Some(pair.cycle) {
             rising.push(*pair)?;
+            last = Some(pair.cycle);
         }
     }
     Ok(Pairs::new(rising))
@@ -135,7 +141,7 @@ fn add_line(
 }
 
 /// The lines of the tree, with those of a base that are kept.
-pub(crate) fn lines_of(
+pub fn lines_of(
     alloc: Global,
     numbers: Numbers<'_>,
     lines: &[Line],

@@ -57,7 +57,7 @@ fn lifted_walks(alloc: Global, reduced: &Reduced, walks: &[Walk]) -> Result<Vec<
 }
 
 /// The walks that lists of passes name, as walks of the instance; None where one isn't closed, or they pass a limit.
-pub(crate) fn lifted_of(
+pub fn lifted_of(
     alloc: Global,
     reduced: &Reduced,
     lists: &[Vec<Pass>],
@@ -99,7 +99,7 @@ fn sum_of_rows(arcs: &[Arc], rows: &[SignedRow]) -> i64 {
 }
 
 /// For each list of passes, by how much the offset of the lifted walk is above its own, where rows have the same slack.
-pub(crate) fn offset_shifts(
+pub fn offset_shifts(
     left: Left<'_>,
     lists: &[Vec<Pass>],
     lifted: &[Walk],

@@ -56,7 +56,7 @@ fn marked_walks(
 }
 
 /// The marked walks of the instance that lists of passes name; None where one isn't closed, or they pass a limit.
-pub(crate) fn marked_of(
+pub fn marked_of(
     alloc: Global,
     reduced: &Reduced,
     lists: &[Vec<Pass>],
@@ -70,7 +70,7 @@ pub(crate) fn marked_of(
 
 /// The walk along the first row and back, flipped on the way along it. It gains what it costs at each slack, so a leaf that
 /// names it is worth what it is worth without; but it has the scale of leaves that name a marked walk.
-pub(crate) fn scale_walk(alloc: Global) -> Result<MarkedWalk, Memory> {
+pub fn scale_walk(alloc: Global) -> Result<MarkedWalk, Memory> {
     let mut rows = Vec::new(alloc);
     for plus in [true, false] {
         rows.push(MarkedRow {

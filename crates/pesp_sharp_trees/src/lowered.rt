@@ -48,10 +48,12 @@ fn ends_of(left: &[NetRow], pass: &Pass) -> Option<(u32, u32)> {
 
 /// Whether each pass begins where the one before it ends, and the first where the last one ends.
 fn is_closed(left: &[NetRow], passes: &[Pass]) -> bool {
-    let Some((_, last)) = passes.last().and_then(|pass| ends_of(left, pass)) else {
+    let Some(last) = passes.last() else {
         return true;
     };
-    let mut at = last;
+    let Some((_, mut at)) = ends_of(left, last) else {
+        return true;
+    };
     for pass in passes {
         match ends_of(left, pass) {
             Some((from, to)) if from == at => at = to,

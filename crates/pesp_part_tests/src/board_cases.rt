@@ -3,8 +3,9 @@
 ghost use Rattle.std.specs.Prelude.{◌≡◌};
 ghost use Rattle.pesp_machine.specs.Certificates.{IsProblemOf};
 
-use crate::board_given::{board_of, instance_of};
+use crate::board_given::board_of;
 use crate::changes::{adopt, change, spend};
+use crate::given::instance_of;
 use crate::lent::Lent;
 use crate::questions::{ask, certified, fault_of};
 use pesp_board::Board;
@@ -14,12 +15,17 @@ use std::alloc::Global;
 
 /// What is told of a case: its name, and each event and question with its answer.
 pub(crate) fn play_board_case(alloc: Global, lines: &[&str]) -> Option<String> {
-    play_instance(alloc, &instance_of(alloc, lines)?, lines)
+    let instance = instance_of(alloc, lines, "row")?;
+    let told = play_instance(alloc, &instance, lines);
+    drop(instance);
+    told
 }
 
 fn play_instance(alloc: Global, instance: &Instance, lines: &[&str]) -> Option<String> {
     let mut board = board_of(alloc, instance, lines)?;
-    play_board(alloc, instance, &mut board, lines)
+    let told = play_board(alloc, instance, &mut board, lines);
+    drop(board);
+    told
 }
 
 fn play_board(

@@ -41,14 +41,22 @@ fn check_on(alloc: Global, instance: &Instance, certificate: &Certificate) -> An
 
 fn check_parsed(alloc: Global, instance: &Instance) -> Answer {
     match certificate_of(alloc) {
-        Some(certificate) => check_on(alloc, instance, &certificate),
+        Some(certificate) => {
+            let answer = check_on(alloc, instance, &certificate);
+            drop(certificate);
+            answer
+        }
         None => Answer::Memory,
     }
 }
 
 pub(crate) fn try_check(alloc: Global) -> Answer {
     match instance_of(alloc) {
-        Some(instance) => check_parsed(alloc, &instance),
+        Some(instance) => {
+            let answer = check_parsed(alloc, &instance);
+            drop(instance);
+            answer
+        }
         None => Answer::Memory,
     }
 }
@@ -66,7 +74,11 @@ fn check_text_on(alloc: Global, instance: &Instance) -> Answer {
 
 pub(crate) fn try_check_text(alloc: Global) -> Answer {
     match instance_of(alloc) {
-        Some(instance) => check_text_on(alloc, &instance),
+        Some(instance) => {
+            let answer = check_text_on(alloc, &instance);
+            drop(instance);
+            answer
+        }
         None => Answer::Memory,
     }
 }
@@ -112,7 +124,11 @@ fn report_on(alloc: Global, instance: &Instance) -> Answer {
 
 pub(crate) fn try_report(alloc: Global) -> Answer {
     match instance_of(alloc) {
-        Some(instance) => report_on(alloc, &instance),
+        Some(instance) => {
+            let answer = report_on(alloc, &instance);
+            drop(instance);
+            answer
+        }
         None => Answer::Memory,
     }
 }
@@ -127,7 +143,11 @@ fn solve_on(alloc: Global, instance: &Instance) -> Answer {
 
 pub(crate) fn try_solve(alloc: Global) -> Answer {
     match instance_of(alloc) {
-        Some(instance) => solve_on(alloc, &instance),
+        Some(instance) => {
+            let answer = solve_on(alloc, &instance);
+            drop(instance);
+            answer
+        }
         None => Answer::Memory,
     }
 }

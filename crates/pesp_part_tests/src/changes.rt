@@ -9,6 +9,7 @@ use pesp_cases::{cut_of, pairs_of, small, whole};
 use pesp_cert::TreeLine;
 use pesp_problem::{Instance, Pairs};
 use std::alloc::Global;
+use std::mem::replace;
 
 /// An event and what is answered.
 pub(crate) fn change(
@@ -115,7 +116,11 @@ fn adopted(alloc: Global, instance: &Instance, board: &Board) -> Option<Board>
     ensures { IfSome result (λ adopted. IsProblemOf instance.now adopted.problem) }
 {
     match board.certificate(alloc, instance) {
-        Ok(certificate) => Board::adopt(alloc, instance, &certificate).ok(),
+        Ok(certificate) => {
+            let adopted = Board::adopt(alloc, instance, &certificate);
+            drop(certificate);
+            adopted.ok()
+        }
         Err(_) => None,
     }
 }
@@ -125,7 +130,8 @@ pub(crate) fn adopt(alloc: Global, instance: &Instance, board: &mut Board) -> Op
     requires { IsProblemOf instance.now board.old.problem }
     ensures { IsProblemOf instance.now board.new.problem }
 {
-    *board = adopted(alloc, instance, board)?;
+    let adopted = adopted(alloc, instance, board)?;
+    drop(replace(board, adopted));
     String::from_str(alloc, "adopted").ok()
 }
 

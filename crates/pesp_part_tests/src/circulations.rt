@@ -65,7 +65,10 @@ fn lines_of(alloc: Global, lines: &[&str]) -> Option<Vec<Line>> {
 /// The frame of lines between three events.
 fn frame_of(alloc: Global, lines: &[Line]) -> Option<Frame> {
     let rows = lines.iter().map(|line| line.row).collect(alloc).ok()?;
-    Frame::new(alloc, &network_of_rows(alloc, rows, 3)?).ok()
+    let network = network_of_rows(alloc, rows, 3)?;
+    let frame = Frame::new(alloc, &network);
+    drop(network);
+    frame.ok()
 }
 
 /// The costs and the flows of lines.
@@ -78,13 +81,23 @@ fn set_lines(basis: &mut Basis, lines: &[Line]) -> Option<()> {
     Some(())
 }
 
+/// Begins with the costs and the flows of lines, and with a tree.
+fn start(alloc: Global, frame: &Frame, lines: &[Line], basis: &mut Basis) -> Option<()> {
+    set_lines(basis, lines)?;
+    let order: Vec<u32> = (0..u32::try_from(lines.len()).ok()?).collect(alloc).ok()?;
+    basis.start(alloc, frame, &order).ok()?
+}
+
 /// The circulation of lines, with a tree.
 fn started(alloc: Global, frame: &Frame, lines: &[Line]) -> Option<Basis> {
     let mut basis = Basis::idle(alloc, frame).ok()?;
-    set_lines(&mut basis, lines)?;
-    let order: Vec<u32> = (0..u32::try_from(lines.len()).ok()?).collect(alloc).ok()?;
-    basis.start(alloc, frame, &order).ok()??;
-    Some(basis)
+    match start(alloc, frame, lines, &mut basis) {
+        Some(()) => Some(basis),
+        None => {
+            drop(basis);
+            None
+        }
+    }
 }
 
 /// The flows, or a closed way along which more flow costs less without end.
@@ -104,9 +117,16 @@ fn spell_flows(alloc: Global, basis: &Basis, count: usize, ended: Ended) -> Opti
 
 /// What is found between three events in so many rounds.
 pub(crate) fn circulate(alloc: Global, lines: &[&str], words: &[&str]) -> Option<String> {
+    let rounds = small(words, 1)?;
     let lines = lines_of(alloc, lines)?;
     let frame = frame_of(alloc, &lines)?;
-    let mut basis = started(alloc, &frame, &lines)?;
-    let ended = basis.solve(&frame, small(words, 1)?);
-    spell_flows(alloc, &basis, lines.len(), ended)
+    let Some(mut basis) = started(alloc, &frame, &lines) else {
+        drop(frame);
+        return None;
+    };
+    let ended = basis.solve(&frame, rounds);
+    drop(frame);
+    let told = spell_flows(alloc, &basis, lines.len(), ended);
+    drop(basis);
+    told
 }

@@ -11,12 +11,17 @@ use std::alloc::Global;
 /// A question to the sets that propagation leaves: the outcome, the empty event, what is left of an event, or whether the plain
 /// way leaves the same.
 pub(crate) fn ask_domains(alloc: Global, lines: &[&str], words: &[&str]) -> Option<String> {
-    ask_left(alloc, &given_network(alloc, lines)?, words)
+    let network = given_network(alloc, lines)?;
+    let told = ask_left(alloc, &network, words);
+    drop(network);
+    told
 }
 
 fn ask_left(alloc: Global, network: &Network, words: &[&str]) -> Option<String> {
     let (outcome, domains) = propagated(alloc, network)?;
-    answer(alloc, network, outcome, &domains, words)
+    let told = answer(alloc, network, outcome, &domains, words);
+    drop(domains);
+    told
 }
 
 /// Whether the plain way leaves the same sets.
@@ -71,8 +76,13 @@ fn spell_empty(alloc: Global, outcome: Outcome) -> Option<String> {
 fn propagated(alloc: Global, network: &Network) -> Option<(Outcome, Domains)> {
     let ranges = ranges_of(alloc, network)?;
     let mut domains = Domains::full(alloc, network).ok()?;
-    let outcome = propagate(alloc, network, &ranges, &mut domains).ok()?;
-    Some((outcome, domains))
+    match propagate(alloc, network, &ranges, &mut domains) {
+        Ok(outcome) => Some((outcome, domains)),
+        Err(_) => {
+            drop(domains);
+            None
+        }
+    }
 }
 
 /// The differences that are left of an event.
@@ -101,7 +111,10 @@ fn spell_some(alloc: Global, numbers: &[u32]) -> Option<String> {
 
 /// The times that a dive finds in so many tries.
 fn dived(alloc: Global, lines: &[&str], tries: u32) -> Option<Option<Vec<u32>>> {
-    dive(alloc, &given_network(alloc, lines)?, tries).ok()
+    let network = given_network(alloc, lines)?;
+    let times = dive(alloc, &network, tries);
+    drop(network);
+    times.ok()
 }
 
 /// The times that a dive finds in so many tries: `found`, or the times themselves where they are asked for.
@@ -121,7 +134,10 @@ fn tell_times(alloc: Global, times: &[u32], words: &[&str]) -> Option<String> {
 
 /// What an improvement of the times ends with in so many rounds.
 pub(crate) fn ask_improvement(alloc: Global, lines: &[&str], words: &[&str]) -> Option<String> {
-    improve_given(alloc, &given_network(alloc, lines)?, lines, words)
+    let network = given_network(alloc, lines)?;
+    let told = improve_given(alloc, &network, lines, words);
+    drop(network);
+    told
 }
 
 fn improve_given(

@@ -97,28 +97,28 @@ fn rows_of(alloc: Global, lines: &[&str]) -> Option<Vec<NetRow>> {
     Some(rows)
 }
 
-/// Adds an activity and the end of its line.
-fn add_activity(text: &mut String, activity: &str) -> Option<()> {
-    text.push_str(activity).ok()?;
+/// Adds a line and its end.
+fn add_text(text: &mut String, line: &str) -> Option<()> {
+    text.push_str(line).ok()?;
     text.push_str("\n").ok()
 }
 
-/// The text of the lines `activity ..`.
-pub(crate) fn activities_of(alloc: Global, lines: &[&str]) -> Option<String> {
+/// The text of the lines that begin with this word, each without it.
+pub(crate) fn text_of(alloc: Global, lines: &[&str], name: &str) -> Option<String> {
     let mut text = String::new(alloc);
     for line in lines {
         let (word, rest) = split_word(line);
-        if word == "activity" {
-            add_activity(&mut text, rest)?;
+        if word == name {
+            add_text(&mut text, rest)?;
         }
     }
     Some(text)
 }
 
-/// The instance of the lines `activity ..`.
-pub(crate) fn instance_of(alloc: Global, lines: &[&str]) -> Option<Instance> {
+/// The instance of the lines that begin with this word.
+pub(crate) fn instance_of(alloc: Global, lines: &[&str], name: &str) -> Option<Instance> {
     let period = period_of(alloc, lines)?;
-    read_instance(alloc, activities_of(alloc, lines)?.as_bytes(), period).ok()
+    read_instance(alloc, text_of(alloc, lines, name)?.as_bytes(), period).ok()
 }
 
 /// The network of the rows between so many events.
@@ -138,7 +138,10 @@ pub(crate) fn network_of_rows(alloc: Global, rows: Vec<NetRow>, events: u32) -> 
 
 /// The network of the instance.
 fn network_of_instance(alloc: Global, lines: &[&str]) -> Option<Network> {
-    Network::of(alloc, &instance_of(alloc, lines)?).ok()
+    let instance = instance_of(alloc, lines, "activity")?;
+    let network = Network::of(alloc, &instance);
+    drop(instance);
+    network.ok()
 }
 
 /// The network of the rows between the events of the line `events N`, or that of the instance where there is no such line.

@@ -30,7 +30,9 @@ fn answers_of<S: Source>(items: &mut Items<S>, count: u32, fault: Option<ItemFau
 
 fn try_text(alloc: Global, text: &[u8], count: u32, fault: Option<ItemFault>) -> Answer {
     let mut items = Items::new(alloc, Counted::new(text));
-    answers_of(&mut items, count, fault)
+    let answer = answers_of(&mut items, count, fault);
+    drop(items);
+    answer
 }
 
 /// All items of a certificate, and none behind them.

@@ -9,7 +9,10 @@ use std::alloc::Global;
 
 /// The leaf that is found in so many rounds, or, behind `start`, in 1000 rounds from no pairs.
 pub(crate) fn ask_leaf(alloc: Global, lines: &[&str], words: &[&str]) -> Option<String> {
-    ask_problem_leaf(alloc, &problem_of(alloc, lines)?, lines, words)
+    let problem = problem_of(alloc, lines)?;
+    let told = ask_problem_leaf(alloc, &problem, lines, words);
+    drop(problem);
+    told
 }
 
 fn ask_problem_leaf(

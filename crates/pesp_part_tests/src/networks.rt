@@ -40,7 +40,11 @@ const ASKED: [(&str, Asked); 11] = [
 /// A question to the network, or why there is none.
 pub(crate) fn ask_network(alloc: Global, lines: &[&str], words: &[&str]) -> Option<String> {
     match network_of(alloc, lines)? {
-        Ok(network) => answer(alloc, &network, lines, words),
+        Ok(network) => {
+            let told = answer(alloc, &network, lines, words);
+            drop(network);
+            told
+        }
         Err(refusal) => format!(in alloc; "{refusal:?}").ok(),
     }
 }

@@ -24,8 +24,13 @@ fn cycles_of(alloc: Global, network: &Network, lines: &[&str]) -> Option<Vec<Wal
 /// The problem of the network with the given cycles, or with its own where none are given.
 fn made(alloc: Global, lines: &[&str]) -> Option<Result<Problem, ProblemRefusal>> {
     let network = given_network(alloc, lines)?;
-    let table = cycles_of(alloc, &network, lines)?;
-    Some(Problem::new(alloc, network, table))
+    match cycles_of(alloc, &network, lines) {
+        Some(table) => Some(Problem::new(alloc, network, table)),
+        None => {
+            drop(network);
+            None
+        }
+    }
 }
 
 pub(crate) fn problem_of(alloc: Global, lines: &[&str]) -> Option<Problem> {
@@ -35,7 +40,11 @@ pub(crate) fn problem_of(alloc: Global, lines: &[&str]) -> Option<Problem> {
 /// The size of the problem, or why there is none.
 pub(crate) fn ask_problem(alloc: Global, lines: &[&str]) -> Option<String> {
     match made(alloc, lines)? {
-        Ok(problem) => size(alloc, &problem),
+        Ok(problem) => {
+            let told = size(alloc, &problem);
+            drop(problem);
+            told
+        }
         Err(refusal) => format!(in alloc; "{refusal:?}").ok(),
     }
 }
@@ -61,7 +70,7 @@ fn has_cut(node: &Node, cut: Cut) -> bool
 }
 
 /// The part of the root by the given cuts.
-fn node_of(alloc: Global, problem: &Problem, cuts: &[(Cut, Side)]) -> Option<Node>
+pub(crate) fn node_of(alloc: Global, problem: &Problem, cuts: &[(Cut, Side)]) -> Option<Node>
     ensures { IfSome result (IsNodeOf problem.now) }
 {
     let Ok(mut node) = problem.root(alloc) else {
@@ -88,7 +97,10 @@ pub(crate) fn given_node(alloc: Global, problem: &Problem, lines: &[&str]) -> Op
 
 /// A question to the node of the given cuts.
 pub(crate) fn ask_node(alloc: Global, lines: &[&str], words: &[&str]) -> Option<String> {
-    ask_problem_node(alloc, &problem_of(alloc, lines)?, lines, words)
+    let problem = problem_of(alloc, lines)?;
+    let told = ask_problem_node(alloc, &problem, lines, words);
+    drop(problem);
+    told
 }
 
 fn ask_problem_node(

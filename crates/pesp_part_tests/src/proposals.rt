@@ -37,16 +37,20 @@ const ASKED: [(&str, Asked); 8] = [
 /// The network with the forest of the line `forest ..`.
 fn with_forest(alloc: Global, lines: &[&str]) -> Option<Network> {
     let forest = list_of(alloc, lines, "forest")?;
-    given_network(alloc, lines)?
-        .with_forest(alloc, &forest)
-        .ok()
+    let network = given_network(alloc, lines)?;
+    let planted = network.with_forest(alloc, &forest);
+    drop(network);
+    planted.ok()
 }
 
 /// A question about proposals for the network with the forest of the line `forest ..`: that forest, how many rows it has, the
 /// forest that so many exchanges by a seed lead to or how many rows that has, what is advised for the root, or the times of a
 /// dive in so many tries to the prices of the line `prices ..`.
 pub(crate) fn ask_proposal(alloc: Global, lines: &[&str], words: &[&str]) -> Option<String> {
-    answer(alloc, &with_forest(alloc, lines)?, lines, words)
+    let network = with_forest(alloc, lines)?;
+    let told = answer(alloc, &network, lines, words);
+    drop(network);
+    told
 }
 
 fn answer(alloc: Global, network: &Network, lines: &[&str], words: &[&str]) -> Option<String> {
@@ -101,7 +105,9 @@ fn advice_for(
     offsets: &[(i64, i64)],
 ) -> Option<Advice> {
     let mut strategy = Strategy::new(alloc, network, offsets).ok()??;
-    look(alloc, &mut strategy, slacks, offsets)
+    let advice = look(alloc, &mut strategy, slacks, offsets);
+    drop(strategy);
+    advice
 }
 
 fn look(
@@ -116,7 +122,11 @@ fn look(
 /// What is asked of the advice for the root.
 fn tell_advised(alloc: Global, network: &Network, asked: Asked, lines: &[&str]) -> Option<String> {
     match advised(alloc, network, lines) {
-        Some(advice) => tell_advice(alloc, asked, &advice),
+        Some(advice) => {
+            let told = tell_advice(alloc, asked, &advice);
+            drop(advice);
+            told
+        }
         None => None,
     }
 }

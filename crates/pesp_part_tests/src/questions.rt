@@ -62,7 +62,10 @@ fn spell_leaf(alloc: Global, value: u64, pairs: &[Pair]) -> Option<String> {
 pub(crate) fn certified(alloc: Global, instance: &Instance, board: &Board) -> Option<String>
     requires { IsProblemOf instance.now board.now.problem }
 {
-    printed(alloc, &board.certificate(alloc, instance).ok()?)
+    let certificate = board.certificate(alloc, instance).ok()?;
+    let told = printed(alloc, &certificate);
+    drop(certificate);
+    told
 }
 
 fn printed(alloc: Global, certificate: &Certificate) -> Option<String> {
@@ -89,7 +92,10 @@ fn joined(alloc: Global, bytes: &[u8]) -> Option<String> {
 pub(crate) fn fault_of(alloc: Global, instance: &Instance, board: &Board) -> Option<String>
     requires { IsProblemOf instance.now board.now.problem }
 {
-    spell_fault(alloc, instance, &board.certificate(alloc, instance).ok()?)
+    let certificate = board.certificate(alloc, instance).ok()?;
+    let fault = spell_fault(alloc, instance, &certificate);
+    drop(certificate);
+    fault
 }
 
 fn spell_fault(alloc: Global, instance: &Instance, certificate: &Certificate) -> Option<String> {

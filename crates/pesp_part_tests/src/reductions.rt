@@ -16,12 +16,19 @@ use std::alloc::Global;
 
 /// A question to what is left of the instance.
 pub(crate) fn ask_reduced(alloc: Global, lines: &[&str], words: &[&str]) -> Option<String> {
-    answer(alloc, &instance_of(alloc, lines)?, lines, words)
+    let instance = instance_of(alloc, lines, "activity")?;
+    let told = answer(alloc, &instance, lines, words);
+    drop(instance);
+    told
 }
 
 fn answer(alloc: Global, instance: &Instance, lines: &[&str], words: &[&str]) -> Option<String> {
     match reduced(alloc, instance) {
-        Some(left) => ask_left(alloc, instance, &left, lines, words),
+        Some(left) => {
+            let told = ask_left(alloc, instance, &left, lines, words);
+            drop(left);
+            told
+        }
         None => None,
     }
 }

@@ -1,16 +1,14 @@
 //! A board before and after a refusal.
 
-ghost use Rattle.std.specs.Prelude.{◌≡◌, IfSome};
+ghost use Rattle.std.specs.Prelude.{◌≡◌};
 ghost use Rattle.pesp_machine.specs.Certificates.{IsProblemOf};
 
 use crate::answers::{Answer, right_if};
+use crate::board_given::board_of;
 use crate::texts::instance_of;
 use pesp_board::{Board, GiveRefusal, LendRefusal, Work};
-use pesp_cases::signed_rows;
 use pesp_cert::{Certificate, print};
-use pesp_network::Network;
-use pesp_nodes::Problem;
-use pesp_problem::{Cut, Instance, Memory, Walk};
+use pesp_problem::{Cut, Instance, Memory};
 use pesp_stream::Counted;
 use std::alloc::Global;
 
@@ -34,10 +32,12 @@ fn view_of(alloc: Global, instance: &Instance, board: &Board) -> Option<View>
     requires { IsProblemOf instance.now board.now.problem }
 {
     let certificate = board.certificate(alloc, instance).ok()?;
+    let text = text_of(alloc, &certificate);
+    drop(certificate);
     Some(View {
         least: board.least(),
         best: board.best(),
-        text: text_of(alloc, &certificate)?,
+        text: text?,
     })
 }
 
@@ -84,39 +84,24 @@ fn try_split(alloc: Global, instance: &Instance, board: &mut Board) -> Answer
     }
 }
 
-/// The problem of the instance with its one cycle.
-fn problem_of(alloc: Global, instance: &Instance) -> Option<Problem>
-    ensures { IfSome result (IsProblemOf instance.now) }
-{
-    let mut table = Vec::new(alloc);
-    table
-        .push(Walk::new(signed_rows(alloc, &["+1", "-2"])?))
-        .ok()?;
-    match Network::of(alloc, instance) {
-        Ok(network) => Problem::new(alloc, network, table).ok(),
-        Err(_) => None,
-    }
-}
-
-fn board_of(alloc: Global, instance: &Instance) -> Option<Board>
-    ensures { IfSome result (λ board. IsProblemOf instance.now board.problem) }
-{
-    match problem_of(alloc, instance) {
-        Some(problem) => Board::new(alloc, problem).ok(),
-        None => None,
-    }
-}
-
 fn split_new(alloc: Global, instance: &Instance) -> Answer {
-    match board_of(alloc, instance) {
-        Some(mut board) => try_split(alloc, instance, &mut board),
+    match board_of(alloc, instance, &["cycle +1 -2"]) {
+        Some(mut board) => {
+            let answer = try_split(alloc, instance, &mut board);
+            drop(board);
+            answer
+        }
         None => Answer::Memory,
     }
 }
 
 pub(crate) fn try_board(alloc: Global) -> Answer {
     match instance_of(alloc) {
-        Some(instance) => split_new(alloc, &instance),
+        Some(instance) => {
+            let answer = split_new(alloc, &instance);
+            drop(instance);
+            answer
+        }
         None => Answer::Memory,
     }
 }

@@ -1,38 +1,10 @@
 //! Tasks over a board.
 
-ghost use Rattle.std.specs.Prelude.{IsTrue};
-ghost use Rattle.pesp_nodes.specs.Problems.{IsCutOf};
-
-use crate::timed_leaves::{root_of, wide_cycle};
+use crate::nodes::node_of;
+use crate::timed_leaves::wide_cycle;
 use pesp_board::{Board, Job, Work};
-use pesp_bound::{Cut, Node, Problem, Side};
+use pesp_bound::{Cut, Problem, Side};
 use std::alloc::Global;
-
-/// Whether a node has what the cut names, and the cut keeps its limit.
-fn has_cut(node: &Node, cut: Cut) -> bool
-    ensures { IsTrue result → IsCutOf node.now cut }
-{
-    match cut {
-        Cut::Slack { row, k } => 1 <= row && row as usize <= node.slacks().len() && k < 10_000,
-        Cut::Offset { cycle, k } => {
-            1 <= cycle
-                && cycle as usize <= node.offsets().len()
-                && k.unsigned_abs() <= 100_000_000_000_000
-        }
-    }
-}
-
-/// The node to which a path leads.
-fn node_along(alloc: Global, problem: &Problem, path: &[(Cut, Side)]) -> Option<Node> {
-    let mut node = root_of(alloc, problem)?;
-    for (cut, side) in path {
-        if !has_cut(&node, *cut) {
-            return None;
-        }
-        node.cut(*cut, *side);
-    }
-    Some(node)
-}
 
 /// Lends a leaf and keeps its job; whether there was one.
 fn lend_next(alloc: Global, board: &mut Board, jobs: &mut Vec<Job>) -> Option<bool> {
@@ -58,7 +30,7 @@ fn lend_all(alloc: Global, board: &mut Board) -> Option<Vec<Job>> {
 
 /// A cut of the leaf to which a path leads.
 fn cut_along(alloc: Global, problem: &Problem, path: &[(Cut, Side)]) -> Option<Cut> {
-    let (cycle, k) = wide_cycle(&node_along(alloc, problem, path)?)?;
+    let (cycle, k) = wide_cycle(&node_of(alloc, problem, path)?)?;
     Some(Cut::Offset { cycle, k })
 }
 
@@ -108,5 +80,7 @@ fn least_split(alloc: Global, board: &mut Board, count: u32) -> Option<u64> {
 /// Lends all open leaves and splits them, again and again, until so many are split: the least value that is left.
 pub(crate) fn splits(alloc: Global, problem: Problem, count: u32) -> Option<u64> {
     let mut board = Board::new(alloc, problem).ok()?;
-    least_split(alloc, &mut board, count)
+    let least = least_split(alloc, &mut board, count);
+    drop(board);
+    least
 }

@@ -12,8 +12,13 @@ use std::alloc::Global;
 /// The problem of an instance's network with its fundamental walks.
 pub(crate) fn problem_of(alloc: Global, instance: &Instance) -> Option<Problem> {
     let network = Network::of(alloc, instance).ok()?;
-    let table = network.cycles(alloc).ok()?;
-    Problem::new(alloc, network, table).ok()
+    match network.cycles(alloc) {
+        Ok(table) => Problem::new(alloc, network, table).ok(),
+        Err(_) => {
+            drop(network);
+            None
+        }
+    }
 }
 
 /// The value of a leaf that has one.
@@ -39,7 +44,7 @@ pub(crate) fn wide_cycle(node: &Node) -> Option<(u32, i64)>
 }
 
 /// The root.
-pub(crate) fn root_of(alloc: Global, problem: &Problem) -> Option<Node>
+fn root_of(alloc: Global, problem: &Problem) -> Option<Node>
     ensures { IfSome result (IsNodeOf problem.now) }
 {
     match problem.root(alloc) {

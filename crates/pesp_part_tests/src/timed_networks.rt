@@ -1,7 +1,6 @@
 //! Tasks over a network.
 
-ghost use Rattle.std.specs.Prelude.{◌≡◌, IfSome, length};
-
+use crate::given::ranges_of;
 use crate::timed_boards::splits;
 use crate::timed_leaves::{child_leaf, child_rounds, problem_of, root_leaf, root_rounds};
 use pesp_bound::Problem;
@@ -68,23 +67,13 @@ fn signed_rows(alloc: Global, network: &Network) -> Option<u64> {
     Some(rows)
 }
 
-/// The slacks of the rows, each from 0 to its span.
-fn ranges_of(alloc: Global, network: &Network) -> Option<Vec<(u32, u32)>>
-    ensures { IfSome result (λ ranges. length ranges.items ≡ length network.now.rows) }
-{
-    network
-        .rows()
-        .iter()
-        .map(|row| (0, row.span))
-        .collect(alloc)
-        .ok()
-}
-
 /// 1 where the full sets of differences stay possible, else 0.
 fn settled(alloc: Global, network: &Network) -> Option<u64> {
     let ranges = ranges_of(alloc, network)?;
     let mut domains = Domains::full(alloc, network).ok()?;
-    match propagate(alloc, network, &ranges, &mut domains).ok()? {
+    let outcome = propagate(alloc, network, &ranges, &mut domains);
+    drop(domains);
+    match outcome.ok()? {
         Outcome::Stable => Some(1),
         Outcome::Empty { .. } => Some(0),
     }
@@ -138,15 +127,17 @@ fn figure(alloc: Global, task: Task, own: u32, instance: &Instance) -> Option<u6
         Task::Read => Some(instance.rows().len() as u64),
         Task::Board => splits(alloc, problem_of(alloc, instance)?, own),
         Task::Leaf | Task::Child | Task::LeafRounds | Task::ChildRounds => {
-            leaf_figure(alloc, task, own, &problem_of(alloc, instance)?)
+            let problem = problem_of(alloc, instance)?;
+            let figure = leaf_figure(alloc, task, own, &problem);
+            drop(problem);
+            figure
         }
-        _ => network_figure(
-            alloc,
-            task,
-            own,
-            instance,
-            &Network::of(alloc, instance).ok()?,
-        ),
+        _ => {
+            let network = Network::of(alloc, instance).ok()?;
+            let figure = network_figure(alloc, task, own, instance, &network);
+            drop(network);
+            figure
+        }
     }
 }
 
@@ -169,11 +160,8 @@ fn last_figure(
 /// last.
 pub(crate) fn measure(alloc: Global, task: Task, text: &[u8], numbers: Numbers) -> Option<u64> {
     let Numbers { period, times, own } = numbers;
-    last_figure(
-        alloc,
-        task,
-        own,
-        &read_instance(alloc, text, period).ok()?,
-        times,
-    )
+    let instance = read_instance(alloc, text, period).ok()?;
+    let figure = last_figure(alloc, task, own, &instance, times);
+    drop(instance);
+    figure
 }

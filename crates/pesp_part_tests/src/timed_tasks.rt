@@ -1,6 +1,6 @@
 //! Measurements: one task of the solver so many times over a text, with what came out of the last.
 
-use crate::given::{activities_of, period_of};
+use crate::given::{period_of, text_of};
 use crate::timed_certificates::{parse_again, print_again};
 use crate::timed_networks::{Numbers, measure, task_of};
 use pesp_cases::small;
@@ -48,7 +48,7 @@ pub(crate) fn run_words<R: AllocGlobal + Input + Print>(rt: &R, words: &[String]
 /// What comes out of the task of the words behind the first over the activities of a case: the task's word, how many times, and the
 /// task's own number.
 pub(crate) fn ask_figure(alloc: Global, lines: &[&str], words: &[&str]) -> Option<String> {
-    let text = activities_of(alloc, lines)?;
+    let text = text_of(alloc, lines, "activity")?;
     let numbers = Numbers {
         period: period_of(alloc, lines)?,
         times: small(words, 2)?,

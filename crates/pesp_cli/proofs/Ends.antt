@@ -5,8 +5,8 @@ use Rattle.pesp_check_run.specs.Devices.{Device}
 use Rattle.pesp_faults.specs.declared.fault.Fault.{Fault}
 use Rattle.pesp_faults.specs.declared.fault.Fault.TheVariants.{Write}
 use Rattle.pesp_faults.specs.Reading.{HasBase}
-use Rattle.pesp_resume_run.specs.Resuming.{WritesResumed}
-use Rattle.pesp_resume_run.proofs.Writing.{written_weaker}
+use Rattle.pesp_tasks.specs.Resuming.{WritesResumed}
+use Rattle.pesp_tasks.proofs.Resumptions.{written_weaker}
 use Rattle.pesp_check_run.specs.declared.fault.VerdictFault.{VerdictFault}
 use Rattle.pesp_check_run.specs.declared.fault.VerdictFault.TheVariants.{Write as OfWrite}
 use Rattle.pesp_faults.specs.FaultLines.{verdict_fault}
@@ -83,10 +83,10 @@ stopped_base told left told_base left_base period steps Gets f h =
     let (p, reads, (base, reads_base, writes)) = h in
     (p, reads, (base, reads_base, written_weaker p base steps Gets f writes))
 
-pub stopped_less : {T A B : Type 0} (run : Result T Fault) (told left told_base left_base : Option (List ℕ))
+pub stopped_less : {A B : Type 0} (r : Result ℕ Fault) (told left told_base left_base : Option (List ℕ))
     (period steps : ℕ) (Gets : List ℕ → Type 0) → (A → B)
-    → OnOk run (HasBase told left told_base left_base period (λ p base. WritesResumed p base steps A Gets))
-    → OnOk run (HasBase told left told_base left_base period (λ p base. WritesResumed p base steps B Gets))
-stopped_less (Ok t) told left told_base left_base period steps Gets f holds =
-    stopped_base told left told_base left_base period steps Gets f holds
+    → IfOk r (λ status. HasBase told left told_base left_base period (λ p base. WritesResumed p base steps A Gets) × (status ≡ 0))
+    → IfOk r (λ status. HasBase told left told_base left_base period (λ p base. WritesResumed p base steps B Gets) × (status ≡ 0))
+stopped_less (Ok status) told left told_base left_base period steps Gets f holds =
+    (stopped_base told left told_base left_base period steps Gets f holds.0, holds.1)
 stopped_less (Err e) told left told_base left_base period steps Gets f holds = tt

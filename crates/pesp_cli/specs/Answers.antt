@@ -1,7 +1,7 @@
 -- What the program reads and writes for a request, and its exit status.
 use Rattle.std.specs.Prelude.{◌≡◌, ◌⊎◌, ℕ, ℤ, List, ◌++◌, codes, zero, suc, Option, Some, None, IsSome, ⊤}
 use Rattle.std.specs.Io.KnownBytes.{Appends}
-use Rattle.pesp_gap.specs.Gaps.{gap_line}
+use Rattle.pesp_problem.specs.Timetables.{Pesp}
 use Rattle.pesp_report.specs.Report.{IsReport}
 use Rattle.pesp_report.specs.Named.{IsNamedReport}
 use Rattle.pesp_judges.specs.declared.refusal.Verdict.{Verdict}
@@ -13,14 +13,16 @@ use Rattle.pesp_faults.specs.Reading.{HasBase, ReadsTimetable}
 use Rattle.pesp_faults.specs.FaultLines.{fault_line, exit_status}
 use Rattle.pesp_faults.specs.declared.fault.Fault.{Fault}
 use Rattle.pesp_faults.specs.declared.fault.Fault.TheVariants.{Memory}
-use Rattle.pesp_solve_run.specs.Solving.{Solves, SolvesFrom}
-use Rattle.pesp_sharp_solve_run.specs.Solving.{SolvesSharp, SolvesSharpFrom}
-use Rattle.pesp_sharp_solve_run.specs.Resuming.{ResumesSharp, HasSharpBase}
-use Rattle.pesp_sharp_outside_run.specs.Outside.{WritesSharpJobs, WritesSharpWork, GraftsSharp}
+use Rattle.pesp_runs.specs.Bases.{ReadsSharpBase}
+use Rattle.pesp_runs.specs.Runs.{Alone, OverBase}
+use Rattle.pesp_tasks.specs.Gaps.{gap_line}
+use Rattle.pesp_tasks.specs.Solving.{WritesSolution}
+use Rattle.pesp_tasks.specs.Resuming.{WritesResumed}
+use Rattle.pesp_tasks.specs.Outside.{WritesJobs, WritesWorks, Grafts}
+use Rattle.pesp_tasks.specs.SharpSolving.{WritesSharpSolution, ResumesSharp}
+use Rattle.pesp_tasks.specs.SharpOutside.{WritesSharpJobs, WritesSharpWork, GraftsSharp}
 use Rattle.pesp_report_run.specs.Reporting.{WritesSheet}
 use Rattle.pesp_report_run.specs.Violating.{ReadsForEvents, WritesViolations}
-use Rattle.pesp_outside_run.specs.Outside.{WritesJobs, WritesWorks, Grafts}
-use Rattle.pesp_resume_run.specs.Resuming.{WritesResumed}
 use Rattle.pesp_conflict_run.specs.Runs.{TellsConflict}
 use Rattle.pesp_conflict_run.specs.Told.{told_text, told_status}
 use Rattle.pesp_conflict_run.specs.declared.told.Told.{Told}
@@ -47,23 +49,18 @@ TellsFault teller fault status =
 
 -- ---- requests
 
--- what the program does for a search, from the times in a file where one is named, which are some text
-abbrev pub AnswersSolve : {A : Type 0} → Option A → ℕ → ℕ → Device → Device → ℕ → Type 0
-AnswersSolve None steps period reader writer status = Solves reader.old reader.new period steps (Gets writer) × (status ≡ 0)
-AnswersSolve (Some file) steps period reader writer status =
-    ((times : Device) × SolvesFrom reader.old reader.new times.old times.new period steps (Gets writer)) × (status ≡ 0)
-
--- the same with leaves that marked walks sharpen
-abbrev pub AnswersSolveSharp : {A : Type 0} → Option A → ℕ → ℕ → Device → Device → ℕ → Type 0
-AnswersSolveSharp None steps period reader writer status = SolvesSharp reader.old reader.new period steps (Gets writer) × (status ≡ 0)
-AnswersSolveSharp (Some file) steps period reader writer status =
-    ((times : Device) × SolvesSharpFrom reader.old reader.new times.old times.new period steps (Gets writer)) × (status ≡ 0)
+-- what the program does for a search that writes this, from the times in a file where one is named, which are some text
+abbrev pub AnswersSearch : {A : Type 0} → (Pesp → List ℕ → (List ℕ → Type 0) → Type 0) → Option A → ℕ → Device → Device → ℕ → Type 0
+AnswersSearch Writes None period reader writer status = Alone Writes reader.old reader.new period (Gets writer) × (status ≡ 0)
+AnswersSearch Writes (Some file) period reader writer status =
+    ((times : Device) × ReadsTimetable reader.old reader.new times.old times.new period (λ p times. Writes p times (Gets writer))) × (status ≡ 0)
 
 -- what the program does for what is asked of an instance, from the reader that has it; `silent` says that the writer was not called
 abbrev pub AnswersInstance : OfInstance → ℕ → Device → Device → Device → Type 0 → ℕ → Type 0
-AnswersInstance (Solve steps from progress) period reader writer teller silent status = AnswersSolve from steps period reader writer status
+AnswersInstance (Solve steps from progress) period reader writer teller silent status =
+    AnswersSearch (λ p times Gets. WritesSolution p times steps Gets) from period reader writer status
 AnswersInstance (SolveSharp steps from progress) period reader writer teller silent status =
-    AnswersSolveSharp from steps period reader writer status
+    AnswersSearch (λ p times Gets. WritesSharpSolution p times steps Gets) from period reader writer status
 AnswersInstance (Conflict steps) period reader writer teller silent status =
     (told : Told) × TellsConflict reader.old reader.new period steps told (Gets writer) silent
     × GetsLine teller (told_text told) × (status ≡ told_status told)
@@ -87,7 +84,7 @@ AnswersCertificate (ResumeSharp steps seconds progress) period instance reader w
 AnswersCertificate Split period instance reader writer status =
     HasBase instance.old instance.new reader.old reader.new period (λ p base. WritesJobs p base (Gets writer)) × (status ≡ 0)
 AnswersCertificate SplitSharp period instance reader writer status =
-    HasSharpBase instance.old instance.new reader.old reader.new period (λ p base. WritesSharpJobs p base (Gets writer)) × (status ≡ 0)
+    OverBase ReadsSharpBase instance.old instance.new reader.old reader.new period (λ p base. WritesSharpJobs p base (Gets writer)) × (status ≡ 0)
 
 -- the same of open leaves of a certificate
 abbrev pub AnswersLeaves : OfLeaves → ℕ → Device → Device → Device → ℕ → Type 0
@@ -95,7 +92,7 @@ AnswersLeaves (Work steps until jobs) period instance reader writer status =
     HasBase instance.old instance.new reader.old reader.new period
     (λ p base. WritesWorks p base jobs.items steps until (Gets writer)) × (status ≡ 0)
 AnswersLeaves (WorkSharp steps until jobs) period instance reader writer status =
-    HasSharpBase instance.old instance.new reader.old reader.new period
+    OverBase ReadsSharpBase instance.old instance.new reader.old reader.new period
     (λ p base. WritesSharpWork p base jobs.items steps (Gets writer)) × (status ≡ 0)
 
 -- 1 where any activity is violated
@@ -128,7 +125,7 @@ AnswersWorks Graft period instance base reader writer teller status =
     HasBase instance.old instance.new base.old base.new period
     (λ p base. Grafts reader.old reader.new p base (Gets writer) (Gets teller)) × (status ≡ 0)
 AnswersWorks GraftSharp period instance base reader writer teller status =
-    HasSharpBase instance.old instance.new base.old base.new period
+    OverBase ReadsSharpBase instance.old instance.new base.old base.new period
     (λ p base. GraftsSharp reader.old reader.new p base (Gets writer) (Gets teller)) × (status ≡ 0)
 
 -- what the program does for what is asked, from the reader of standard input to the writers of standard output and

@@ -2,23 +2,29 @@
 use Rattle.std.specs.Prelude.{◌≡◌, ◌⊎◌, ⊤, ℕ, ℤ, List, Option, Some, None, IsSome}
 use Rattle.pesp_report.specs.Report.{IsReport}
 use Rattle.pesp_report.specs.Named.{IsNamedReport}
+use Rattle.pesp_problem.specs.Timetables.{Pesp}
+use Rattle.pesp_truth.specs.Certificates.{Content}
+use Rattle.pesp_sharp_text.specs.Texts.{Fronted}
 use Rattle.pesp_check_run.specs.Devices.{Device}
 use Rattle.pesp_check_run.specs.Checking.{CheckCause}
 use Rattle.pesp_check_run.specs.declared.fault.VerdictFault.{VerdictFault}
 use Rattle.pesp_sharp_run.specs.Checking.{CheckCauseWith}
+use Rattle.pesp_faults.specs.Reading.{ReadsBase}
+use Rattle.pesp_faults.specs.Causes.{BaseCause, OutCause}
 use Rattle.pesp_faults.specs.FaultLines.{verdict_fault}
 use Rattle.pesp_faults.specs.declared.fault.Fault.{Fault}
 use Rattle.pesp_faults.specs.declared.fault.Fault.TheVariants.{NoFile}
-use Rattle.pesp_solve_run.specs.Solving.{SolveCause, SolveFromCause}
-use Rattle.pesp_sharp_solve_run.specs.Solving.{SolveSharpCause, SolveSharpFromCause}
-use Rattle.pesp_sharp_solve_run.specs.Resuming.{ResumeSharpCause}
-use Rattle.pesp_sharp_outside_run.specs.Outside.{SplitSharpCause, WorkSharpCause, GraftSharpCause}
+use Rattle.pesp_runs.specs.Bases.{ReadsSharpBase, SharpBaseCause}
+use Rattle.pesp_runs.specs.Runs.{AloneCause, FromTimesCause, OverBaseCause}
+use Rattle.pesp_tasks.specs.Gaps.{gap_line}
+use Rattle.pesp_tasks.specs.Solving.{WritesSolution, SolutionStops}
+use Rattle.pesp_tasks.specs.Resuming.{WritesResumed}
+use Rattle.pesp_tasks.specs.Outside.{WritesJobs, WritesWorks, JobCause, GraftCause}
+use Rattle.pesp_tasks.specs.SharpSolving.{WritesSharpSolution, WritesSharpResumed}
+use Rattle.pesp_tasks.specs.SharpOutside.{WritesSharpJobs, WritesSharpWork, SharpJobCause, GraftSharpCause}
 use Rattle.pesp_report_run.specs.Naming.{NamesCause}
 use Rattle.pesp_report_run.specs.Reporting.{SheetCause}
 use Rattle.pesp_report_run.specs.Violating.{ViolationsCause}
-use Rattle.pesp_outside_run.specs.Outside.{SplitCause, WorkCause, GraftCause}
-use Rattle.pesp_resume_run.specs.Gaps.{GapCause}
-use Rattle.pesp_resume_run.specs.Resuming.{ResumeCause}
 use Rattle.pesp_conflict_run.specs.Runs.{ConflictCause}
 use Rattle.pesp_request.specs.declared.request.OfInstance.{OfInstance}
 use Rattle.pesp_request.specs.declared.request.OfInstance.TheVariants.{Solve, SolveSharp, Conflict}
@@ -42,22 +48,32 @@ OrNoFile fault Cause = (fault ≡ NoFile) ⊎ Cause
 abbrev pub OrNoNames : Fault → Type 0 → Type 0
 OrNoNames fault Cause = OrNoFile fault (((names : Device) × NamesCause fault names) ⊎ Cause)
 
--- a search, from the times in a file where one is named
-abbrev pub StopsSolve : {A : Type 0} → Option A → Fault → ℕ → ℕ → Device → Device → Type 0
-StopsSolve None fault steps period reader writer = SolveCause fault reader writer period steps
-StopsSolve (Some file) fault steps period reader writer =
-    OrNoFile fault ((times : Device) × SolveFromCause fault reader times writer period steps ⊤)
+-- a search that writes this and stops for that, from the times in a file where one is named
+abbrev pub StopsSearch : {A : Type 0} → (Pesp → List ℕ → Fault → Type 0 → Type 0) → (Pesp → List ℕ → (List ℕ → Type 0) → Type 0)
+    → Option A → Fault → ℕ → Device → Device → Type 0
+StopsSearch Stops Writes None fault period reader writer = AloneCause Stops Writes fault reader writer period
+StopsSearch Stops Writes (Some file) fault period reader writer =
+    OrNoFile fault ((times : Device) × FromTimesCause Stops Writes fault reader times writer period ⊤)
 
--- the same with leaves that marked walks sharpen
-abbrev pub StopsSolveSharp : {A : Type 0} → Option A → Fault → ℕ → ℕ → Device → Device → Type 0
-StopsSolveSharp None fault steps period reader writer = SolveSharpCause fault reader writer period steps
-StopsSolveSharp (Some file) fault steps period reader writer =
-    OrNoFile fault ((times : Device) × SolveSharpFromCause fault reader times writer period steps ⊤)
+-- a task with a certificate without a front, which writes this; `uncalled` says that its reader was not called
+abbrev pub StopsPlain : Fault → ℕ → Device → Device → Device → Type 0 → (Pesp → Content → (List ℕ → Type 0) → Type 0) → Type 0
+StopsPlain fault period instance reader writer uncalled Writes =
+    OverBaseCause ReadsBase BaseCause fault instance reader writer period uncalled (λ p base fault cut. OutCause fault cut) Writes
+
+-- the same with one that may have a front
+abbrev pub StopsSharp : Fault → ℕ → Device → Device → Device → Type 0 → (Pesp → Fronted → (List ℕ → Type 0) → Type 0) → Type 0
+StopsSharp fault period instance reader writer uncalled Writes =
+    OverBaseCause ReadsSharpBase SharpBaseCause fault instance reader writer period uncalled
+    (λ p base fault cut. OutCause fault cut) Writes
 
 -- what is asked of an instance
 abbrev pub StopsInstance : OfInstance → Fault → ℕ → Device → Device → Type 0
-StopsInstance (Solve steps from progress) fault period reader writer = StopsSolve from fault steps period reader writer
-StopsInstance (SolveSharp steps from progress) fault period reader writer = StopsSolveSharp from fault steps period reader writer
+StopsInstance (Solve steps from progress) fault period reader writer =
+    StopsSearch (λ p times fault cut. SolutionStops fault p steps cut) (λ p times Gets. WritesSolution p times steps Gets)
+    from fault period reader writer
+StopsInstance (SolveSharp steps from progress) fault period reader writer =
+    StopsSearch (λ p times fault cut. SolutionStops fault p 0 cut) (λ p times Gets. WritesSharpSolution p times steps Gets)
+    from fault period reader writer
 StopsInstance (Conflict steps) fault period reader writer = ConflictCause fault reader writer period steps
 
 -- what is asked of a certificate; `uncalled` says that its reader was not called
@@ -66,20 +82,27 @@ StopsCertificate Check fault period instance reader writer uncalled =
     (found : VerdictFault) × (fault ≡ verdict_fault found) × CheckCause found instance reader writer period uncalled
 StopsCertificate CheckSharp fault period instance reader writer uncalled =
     (found : VerdictFault) × (fault ≡ verdict_fault found) × CheckCauseWith found instance reader writer period uncalled
-StopsCertificate Gap fault period instance reader writer uncalled = GapCause fault instance reader writer period uncalled
+StopsCertificate Gap fault period instance reader writer uncalled =
+    StopsPlain fault period instance reader writer uncalled (λ p base Gets. Gets (gap_line base.answer))
 StopsCertificate (Resume steps seconds progress) fault period instance reader writer uncalled =
-    ResumeCause fault instance reader writer period steps (IsSome seconds) uncalled
+    StopsPlain fault period instance reader writer uncalled (λ p base Gets. WritesResumed p base steps (IsSome seconds) Gets)
 StopsCertificate (ResumeSharp steps seconds progress) fault period instance reader writer uncalled =
-    ResumeSharpCause fault instance reader writer period steps uncalled
-StopsCertificate Split fault period instance reader writer uncalled = SplitCause fault instance reader writer period uncalled
-StopsCertificate SplitSharp fault period instance reader writer uncalled = SplitSharpCause fault instance reader writer period uncalled
+    StopsSharp fault period instance reader writer uncalled (λ p base Gets. WritesSharpResumed p base steps Gets)
+StopsCertificate Split fault period instance reader writer uncalled =
+    StopsPlain fault period instance reader writer uncalled (λ p base Gets. WritesJobs p base Gets)
+StopsCertificate SplitSharp fault period instance reader writer uncalled =
+    StopsSharp fault period instance reader writer uncalled (λ p base Gets. WritesSharpJobs p base Gets)
 
 -- what is asked of open leaves
 abbrev pub StopsLeaves : OfLeaves → Fault → ℕ → Device → Device → Device → Type 0 → Type 0
 StopsLeaves (Work steps until jobs) fault period instance reader writer uncalled =
-    WorkCause fault instance reader writer period jobs.items steps until uncalled
+    OverBaseCause ReadsBase BaseCause fault instance reader writer period uncalled
+    (λ p base fault cut. JobCause fault p base jobs.items ⊎ OutCause fault cut)
+    (λ p base Gets. WritesWorks p base jobs.items steps until Gets)
 StopsLeaves (WorkSharp steps until jobs) fault period instance reader writer uncalled =
-    WorkSharpCause fault instance reader writer period jobs.items steps uncalled
+    OverBaseCause ReadsSharpBase SharpBaseCause fault instance reader writer period uncalled
+    (λ p base fault cut. SharpJobCause fault p base jobs.items ⊎ OutCause fault cut)
+    (λ p base Gets. WritesSharpWork p base jobs.items steps Gets)
 
 -- what is asked of times
 abbrev pub StopsTimes : OfTimes → Fault → ℕ → Device → Device → Device → Type 0 → Type 0

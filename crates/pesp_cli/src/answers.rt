@@ -1,37 +1,33 @@
 //! What the program does for each request, over any readers and writers.
 
-ghost use Rattle.std.specs.Prelude.{◌≡◌, ◌≢◌, ◌<◌, ◌≤◌, ◌^◌, Ok, Err, IfOk, IfErr, OnOk, IsSome, MatchResult};
+ghost use Rattle.std.specs.Prelude.{◌≡◌, ◌≢◌, ◌<◌, ◌^◌, Ok, Err, IfOk, IfErr, MatchResult};
 ghost use Rattle.std.specs.Io.KnownBytes.{Appends};
-ghost use Rattle.pesp_problem.specs.declared.limits.TheConstants.{MOST_STEPS};
 ghost use Rattle.pesp_stream.specs.Counts.{FewerThan};
 ghost use Rattle.pesp_check_run.specs.Devices.{over};
-ghost use Rattle.pesp_faults.specs.Reading.{HasBase};
-ghost use Rattle.pesp_resume_run.specs.Resuming.{WritesResumed, ResumeCause};
-ghost use Rattle.pesp_sharp_solve_run.specs.Resuming.{ResumesSharp, ResumeSharpCause};
+ghost use Rattle.pesp_runs.specs.Runs.{OverBase, OverBaseCause};
 ghost use Rattle.pesp_request.specs.Requests.{InstanceWithin, CertificateWithin, LeavesWithin};
-ghost use Rattle.pesp_cli.specs.Answers.{AnswersSolve, AnswersSolveSharp, AnswersInstance, AnswersCertificate, AnswersLeaves, AnswersTimes, AnswersWorks, violations_status};
-ghost use Rattle.pesp_cli.specs.Stops.{OrNoNames, StopsSolve, StopsSolveSharp, StopsInstance, StopsCertificate, StopsLeaves, StopsTimes, StopsWorks};
+ghost use Rattle.pesp_cli.specs.Answers.{AnswersSearch, AnswersInstance, AnswersCertificate, AnswersLeaves, AnswersTimes, AnswersWorks, violations_status};
+ghost use Rattle.pesp_cli.specs.Stops.{OrNoNames, StopsSearch, StopsInstance, StopsCertificate, StopsLeaves, StopsTimes, StopsWorks};
 
 use crate::input::{Beginning, warn_of_period};
 use crate::telling::told_conflict;
 use pesp_check_run::{run_check, status_of_verdict};
 use pesp_conflict_run::{run_conflict, status_of_told};
 use pesp_faults::Fault;
-use pesp_outside_run::{run_graft, run_split, run_work};
 use pesp_progress::{Teller, Watch};
 use pesp_report::Names;
 use pesp_report_run::{
     Diagrams, NamedReport, Picture, Report, read_whole_names, run_sheet, run_violations,
 };
 use pesp_request::{OfCertificate, OfInstance, OfLeaves, OfTimes, OfWorks};
-use pesp_resume_run::{run_gap, run_resume};
-use pesp_search::{Nobody, Observer};
-use pesp_sharp_outside_run::{run_graft_sharp, run_split_sharp, run_work_sharp};
+use pesp_runs::{OnBase, Search, run_alone, run_from_times, run_on_base};
+use pesp_search::Nobody;
 use pesp_sharp_run::run_check_sharp;
-use pesp_sharp_search::SharpObserver;
-use pesp_sharp_solve_run::{run_resume_sharp, run_solve_sharp, run_solve_sharp_from};
-use pesp_solve_run::{run_solve_from, run_solve_watched};
 use pesp_stream::{Counted, Sink, Source};
+use pesp_tasks::{
+    Gap, Resume, ResumeSharp, Solve, SolveSharp, Split, SplitSharp, Work, WorkSharp, run_graft,
+    run_graft_sharp,
+};
 use std::alloc::Global;
 use std::fs::File;
 use std::rt::{Clock, Files};
@@ -46,26 +42,26 @@ fn done(run: Result<(), Fault>) -> Result<u8, Fault>
     }
 }
 
-/// Solves the instance that the reader gives, from the times in a file where one is named, while an observer looks on.
+/// Searches for the instance that the reader gives, from the times in a file where one is named.
 #[tactic(auto, using(crate::proofs::Ends::finished))]
-fn solve<R: AllocGlobal + Eprint + Files, I: Source, W: Sink, O: Observer>(
+fn search<R: AllocGlobal + Eprint + Files, I: Source, W: Sink, S: Search>(
     rt: &R,
     reader: &mut I,
     writer: &mut W,
     period: u32,
-    steps: u32,
     from: Option<&str>,
-    observer: &mut O,
+    task: &mut S,
 ) -> Result<u8, Fault>
-    requires steps { steps ≤ MOST_STEPS }
+    requires within { S.within task.old }
     requires reads_fit { FewerThan (2 ^ 62) (I.calls reader.old) }
     requires writes_fit { FewerThan (2 ^ 62) (W.calls writer.old) }
-    ensures answered { IfOk result (AnswersSolve from.entry steps period
+    ensures answered { IfOk result (AnswersSearch (S.writes task.old) from.entry period
         (over (I.remaining reader.old) (I.remaining reader.new)
         (I.calls reader.old) (I.calls reader.new))
         (over (W.contents writer.old) (W.contents writer.new)
         (W.calls writer.old) (W.calls writer.new))) }
-    ensures stopped { IfErr result (λ fault. StopsSolve from.entry fault steps period
+    ensures stopped { IfErr result (λ fault. StopsSearch (S.stops task.old) (S.writes task.old) from.entry
+        fault period
         (over (I.remaining reader.old) (I.remaining reader.new)
         (I.calls reader.old) (I.calls reader.new))
         (over (W.contents writer.old) (W.contents writer.new)
@@ -74,50 +70,10 @@ fn solve<R: AllocGlobal + Eprint + Files, I: Source, W: Sink, O: Observer>(
 {
     let alloc = rt.alloc();
     match from {
-        None => done(run_solve_watched(alloc, reader, writer, period, steps, observer)),
+        None => done(run_alone(alloc, task, reader, writer, period)),
         Some(file) => {
             let mut times = opened_times(rt, file)?;
-            let run = run_solve_from(alloc, reader, &mut times, writer, period, steps, observer);
-            warn_of_period(rt, &times.into_inner(), period);
-            done(run)
-        }
-    }
-}
-
-/// The same with leaves that marked walks sharpen.
-#[tactic(auto, using(crate::proofs::Ends::finished))]
-fn solve_with_marks<R: AllocGlobal + Eprint + Files, I: Source, W: Sink, O: SharpObserver>(
-    rt: &R,
-    reader: &mut I,
-    writer: &mut W,
-    period: u32,
-    steps: u32,
-    from: Option<&str>,
-    observer: &mut O,
-) -> Result<u8, Fault>
-    requires steps { steps ≤ MOST_STEPS }
-    requires reads_fit { FewerThan (2 ^ 62) (I.calls reader.old) }
-    requires writes_fit { FewerThan (2 ^ 62) (W.calls writer.old) }
-    ensures answered { IfOk result (AnswersSolveSharp from.entry steps period
-        (over (I.remaining reader.old) (I.remaining reader.new)
-        (I.calls reader.old) (I.calls reader.new))
-        (over (W.contents writer.old) (W.contents writer.new)
-        (W.calls writer.old) (W.calls writer.new))) }
-    ensures stopped { IfErr result (λ fault. StopsSolveSharp from.entry fault steps period
-        (over (I.remaining reader.old) (I.remaining reader.new)
-        (I.calls reader.old) (I.calls reader.new))
-        (over (W.contents writer.old) (W.contents writer.new)
-        (W.calls writer.old) (W.calls writer.new))) }
-    ensures silent { IfErr result (λ fault. fault ≢ Fault.Write → writer.new ≡ writer.old) }
-{
-    let alloc = rt.alloc();
-    match from {
-        None => done(run_solve_sharp(alloc, reader, writer, period, steps, observer)),
-        Some(file) => {
-            let mut times = opened_times(rt, file)?;
-            let run = run_solve_sharp_from(
-                alloc, reader, &mut times, writer, period, steps, observer,
-            );
+            let run = run_from_times(alloc, task, reader, &mut times, writer, period);
             warn_of_period(rt, &times.into_inner(), period);
             done(run)
         }
@@ -158,29 +114,43 @@ pub(crate) fn of_instance<R: AllocGlobal + Eprint + Files + Clock, I: Source, W:
             steps,
             from,
             progress: false,
-        } => solve(rt, reader, writer, period, steps, from, &mut Nobody),
+        } => {
+            let mut task = Solve {
+                steps,
+                observer: Nobody,
+            };
+            search(rt, reader, writer, period, from, &mut task)
+        }
         OfInstance::Solve {
             steps,
             from,
             progress: true,
         } => {
-            let mut observer = Teller::new(rt);
+            let observer = Teller::new(rt);
             observer.begin();
-            solve(rt, reader, writer, period, steps, from, &mut observer)
+            let mut told = Solve { steps, observer };
+            search(rt, reader, writer, period, from, &mut told)
         }
         OfInstance::SolveSharp {
             steps,
             from,
             progress: false,
-        } => solve_with_marks(rt, reader, writer, period, steps, from, &mut Nobody),
+        } => {
+            let mut sharp = SolveSharp {
+                steps,
+                observer: Nobody,
+            };
+            search(rt, reader, writer, period, from, &mut sharp)
+        }
         OfInstance::SolveSharp {
             steps,
             from,
             progress: true,
         } => {
-            let mut observer = Teller::new(rt);
+            let observer = Teller::new(rt);
             observer.begin();
-            solve_with_marks(rt, reader, writer, period, steps, from, &mut observer)
+            let mut told = SolveSharp { steps, observer };
+            search(rt, reader, writer, period, from, &mut told)
         }
         OfInstance::Conflict { steps } => {
             let told = run_conflict(alloc, reader, writer, period, steps)?;
@@ -190,72 +160,41 @@ pub(crate) fn of_instance<R: AllocGlobal + Eprint + Files + Clock, I: Source, W:
     }
 }
 
-/// Goes on from the certificate that the reader gives, for the instance of the other reader, with a watch, which ends it only where
-/// seconds are counted.
-fn resume<R: Eprint + Clock, I: Source, S: Source, W: Sink>(
+/// Does a task with the certificate that the reader gives, for the instance of the other reader.
+#[tactic(auto, using(crate::proofs::Ends::finished))]
+fn on_base<I: Source, S: Source, W: Sink, T: OnBase>(
     alloc: Global,
     instance: &mut I,
     reader: &mut S,
     writer: &mut W,
     period: u32,
-    steps: u32,
-    watch: Watch<'_, R>,
-) -> Result<(), Fault>
+    task: &mut T,
+) -> Result<u8, Fault>
+    requires within { T.within task.old }
     requires instance_fits { FewerThan (2 ^ 62) (I.calls instance.old) }
     requires reads_fit { FewerThan (2 ^ 62) (S.calls reader.old) }
     requires writes_fit { FewerThan (2 ^ 62) (W.calls writer.old) }
-    ensures answered { OnOk result
-        (HasBase (I.remaining instance.old) (I.remaining instance.new)
+    ensures answered { IfOk result (λ status. OverBase T.Base.reads
+        (I.remaining instance.old) (I.remaining instance.new)
         (S.remaining reader.old) (S.remaining reader.new) period
-        (λ p base. WritesResumed p base steps (IsSome watch.entry.seconds)
-        (Appends (W.contents writer.old) (W.contents writer.new)))) }
-    ensures stopped { IfErr result (λ fault. ResumeCause fault
+        (λ p base. T.writes task.old task.new p base
+        (Appends (W.contents writer.old) (W.contents writer.new)))
+        × (status ≡ 0)) }
+    ensures stopped { IfErr result (λ fault. OverBaseCause T.Base.reads T.Base.refused fault
         (over (I.remaining instance.old) (I.remaining instance.new)
         (I.calls instance.old) (I.calls instance.new))
         (over (S.remaining reader.old) (S.remaining reader.new)
         (S.calls reader.old) (S.calls reader.new))
         (over (W.contents writer.old) (W.contents writer.new)
         (W.calls writer.old) (W.calls writer.new))
-        period steps (IsSome watch.entry.seconds) (reader.new ≡ reader.old)) }
+        period (reader.new ≡ reader.old)
+        (T.stops task.old) (T.writes task.old task.new)) }
     ensures silent { IfErr result (λ fault. fault ≢ Fault.Write → writer.new ≡ writer.old) }
 {
-    let mut watch = watch;
-    run_resume(alloc, instance, reader, writer, period, steps, &mut watch)
-}
-
-/// The same with leaves that marked walks sharpen.
-fn resume_with_marks<R: Eprint + Clock, I: Source, S: Source, W: Sink>(
-    alloc: Global,
-    instance: &mut I,
-    reader: &mut S,
-    writer: &mut W,
-    period: u32,
-    steps: u32,
-    watch: Watch<'_, R>,
-) -> Result<(), Fault>
-    requires instance_fits { FewerThan (2 ^ 62) (I.calls instance.old) }
-    requires reads_fit { FewerThan (2 ^ 62) (S.calls reader.old) }
-    requires writes_fit { FewerThan (2 ^ 62) (W.calls writer.old) }
-    ensures answered { OnOk result
-        (ResumesSharp (I.remaining instance.old) (I.remaining instance.new)
-        (S.remaining reader.old) (S.remaining reader.new) period steps
-        (Appends (W.contents writer.old) (W.contents writer.new))) }
-    ensures stopped { IfErr result (λ fault. ResumeSharpCause fault
-        (over (I.remaining instance.old) (I.remaining instance.new)
-        (I.calls instance.old) (I.calls instance.new))
-        (over (S.remaining reader.old) (S.remaining reader.new)
-        (S.calls reader.old) (S.calls reader.new))
-        (over (W.contents writer.old) (W.contents writer.new)
-        (W.calls writer.old) (W.calls writer.new))
-        period steps (reader.new ≡ reader.old)) }
-    ensures silent { IfErr result (λ fault. fault ≢ Fault.Write → writer.new ≡ writer.old) }
-{
-    let mut watch = watch;
-    run_resume_sharp(alloc, instance, reader, writer, period, steps, &mut watch)
+    done(run_on_base(alloc, task, instance, reader, writer, period))
 }
 
 /// Does what is asked of the certificate that the reader gives, for the instance of the other reader.
-#[tactic(auto, using(crate::proofs::Ends::finished))]
 pub(crate) fn of_certificate<R: AllocGlobal + Eprint + Clock, I: Source, S: Source, W: Sink>(
     rt: &R,
     instance: &mut I,
@@ -295,32 +234,33 @@ pub(crate) fn of_certificate<R: AllocGlobal + Eprint + Clock, I: Source, S: Sour
             let judged = run_check_sharp(alloc, instance, reader, writer, period)?;
             Ok(status_of_verdict(judged))
         }
-        OfCertificate::Gap => done(run_gap(alloc, instance, reader, writer, period)),
+        OfCertificate::Gap => on_base(alloc, instance, reader, writer, period, &mut Gap),
         OfCertificate::Resume {
             steps,
             seconds,
             progress,
         } => {
-            let watch = Watch::new(rt, progress, seconds);
-            done(resume(alloc, instance, reader, writer, period, steps, watch))
+            let watcher = Watch::new(rt, progress, seconds);
+            let mut task = Resume { steps, watcher };
+            on_base(alloc, instance, reader, writer, period, &mut task)
         }
         OfCertificate::ResumeSharp {
             steps,
             seconds,
             progress,
         } => {
-            let watch = Watch::new(rt, progress, seconds);
-            done(resume_with_marks(alloc, instance, reader, writer, period, steps, watch))
+            let watcher = Watch::new(rt, progress, seconds);
+            let mut task = ResumeSharp { steps, watcher };
+            on_base(alloc, instance, reader, writer, period, &mut task)
         }
-        OfCertificate::Split => done(run_split(alloc, instance, reader, writer, period)),
+        OfCertificate::Split => on_base(alloc, instance, reader, writer, period, &mut Split),
         OfCertificate::SplitSharp => {
-            done(run_split_sharp(alloc, instance, reader, writer, period))
+            on_base(alloc, instance, reader, writer, period, &mut SplitSharp)
         }
     }
 }
 
 /// Does what is asked of open leaves of the certificate that the reader gives, for the instance of the other reader.
-#[tactic(auto, using(crate::proofs::Ends::finished))]
 pub(crate) fn of_leaves<R: AllocGlobal, I: Source, S: Source, W: Sink>(
     rt: &R,
     instance: &mut I,
@@ -353,10 +293,14 @@ pub(crate) fn of_leaves<R: AllocGlobal, I: Source, S: Source, W: Sink>(
     let alloc = rt.alloc();
     match asked {
         OfLeaves::Work { steps, until, jobs } => {
-            done(run_work(alloc, instance, reader, writer, period, steps, until, &jobs))
+            let jobs = jobs.as_slice();
+            let mut task = Work { steps, until, jobs };
+            on_base(alloc, instance, reader, writer, period, &mut task)
         }
         OfLeaves::WorkSharp { steps, until, jobs } => {
-            done(run_work_sharp(alloc, instance, reader, writer, period, steps, until, &jobs))
+            let jobs = jobs.as_slice();
+            let mut task = WorkSharp { steps, until, jobs };
+            on_base(alloc, instance, reader, writer, period, &mut task)
         }
     }
 }

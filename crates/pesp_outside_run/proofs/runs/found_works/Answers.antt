@@ -1,4 +1,0 @@
-use Rattle.pesp_outside_run.proofs.runs.found_works.Goals as goal
-
-pub returns-in-Ok-clause-works : goal.returns-in-Ok-clause-works
-returns-in-Ok-clause-works c = c.in-Ok.ensures.works

@@ -1,2 +1,0 @@
-pub mod Resuming
-pub mod Gaps

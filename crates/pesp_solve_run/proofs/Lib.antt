@@ -1,2 +1,0 @@
-mod Solutions
-pub mod Joining

@@ -1,0 +1,58 @@
+-- Why a run has no answer, from what the call that failed says of it, and what it wrote.
+use Rattle.std.proofs.Common.{inl, inr, ℕ, List, None}
+use Rattle.std.specs.Prelude.{Option}
+use Rattle.std.specs.List.{flat_map}
+use Rattle.pesp_stream.specs.Counts.{Calls}
+use Rattle.pesp_stream.specs.Reading.{ReadsText}
+use Rattle.pesp_problem.specs.Timetables.{Pesp}
+use Rattle.pesp_truth.specs.Certificates.{Content}
+use Rattle.pesp_cert.specs.declared.refusal.CertRefusal.{CertRefusal}
+use Rattle.pesp_cert.specs.declared.refusal.CertRefusal.TheVariants.{Header, Line, Number, Limit, Truncated, Trailing, Memory as CertMemory}
+use Rattle.pesp_cert.specs.Texts.{spelling, HasText}
+use Rattle.pesp_works.specs.Works.{WorkValue}
+use Rattle.pesp_works.specs.Refusals.{RefusesFirst}
+use Rattle.pesp_outside.specs.declared.grafted.Reply.{Reply}
+use Rattle.pesp_outside.specs.Grafts.{IsGrafted}
+use Rattle.pesp_outside.specs.Texts.{reply_line}
+use Rattle.pesp_worker.specs.declared.refusal.WorkRefusal.{WorkRefusal}
+use Rattle.pesp_worker.specs.declared.refusal.WorkRefusal.TheVariants.{Memory as WorkMemory, NoSuchJob}
+use Rattle.pesp_worker.specs.HandingIn.{AreWorkRefusal}
+use Rattle.pesp_check_run.specs.Devices.{over}
+use Rattle.pesp_tasks.specs.Outside.{works_fault, work_fault, WorksCause, JobCause, WritesGraft}
+
+-- a refusal of the works' text, or of memory
+pub works_cause : (refusal : CertRefusal) (told left : Option (List ℕ)) (calls after : Calls) (bytes : List ℕ)
+    → ReadsText told left 1073741824 bytes → RefusesFirst bytes refusal
+    → WorksCause (works_fault refusal) (over told left calls after)
+works_cause CertMemory told left calls after bytes read first = tt
+works_cause Header told left calls after bytes read first =
+    elim first [ inl e ↦ cc | inr e ↦ record { text = bytes; read = read; holds = e } ]
+works_cause (Line n) told left calls after bytes read first =
+    elim first [ inl e ↦ cc | inr e ↦ record { text = bytes; read = read; holds = e } ]
+works_cause (Number n) told left calls after bytes read first =
+    elim first [ inl e ↦ cc | inr e ↦ record { text = bytes; read = read; holds = e } ]
+works_cause (Limit n) told left calls after bytes read first =
+    elim first [ inl e ↦ cc | inr e ↦ record { text = bytes; read = read; holds = e } ]
+works_cause Truncated told left calls after bytes read first =
+    elim first [ inl e ↦ cc | inr e ↦ record { text = bytes; read = read; holds = e } ]
+works_cause (Trailing n) told left calls after bytes read first =
+    elim first [ inl e ↦ cc | inr e ↦ record { text = bytes; read = read; holds = e } ]
+
+-- a job that isn't there, or a refusal of memory
+pub job_cause : (refusal : WorkRefusal) (p : Pesp) (base : Content) (jobs : List ℕ)
+    → AreWorkRefusal p base jobs refusal → JobCause (work_fault refusal) p base jobs
+job_cause WorkMemory p base jobs refused = tt
+job_cause NoSuchJob p base jobs refused = refused
+
+-- works were grafted, and the writers got what is said of the certificate's text and of the replies' lines
+pub graft : {p : Pesp} {base certificate : Content} {works : List WorkValue} {Gets Tells : List ℕ → Type 0} (replies : List Reply)
+    → IsGrafted p base works replies certificate → HasText None certificate → Gets (spelling None certificate)
+    → Tells (flat_map reply_line replies) → WritesGraft p base works Gets Tells
+graft {certificate = certificate} replies grafted has_text gets tells = record {
+  replies = replies;
+  certificate = certificate;
+  grafted = grafted;
+  has_text = has_text;
+  told_replies = tells;
+  written = gets;
+}

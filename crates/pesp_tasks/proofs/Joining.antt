@@ -1,0 +1,93 @@
+-- What is solved is read and accepted.
+use Rattle.std.proofs.Common.{◌≡◌, ◌⊎◌, inl, inr, ◌∙◌, ℕ, ◌<◌, List, [], ◌++◌, length, take, drop, sym, ap, arith, length-append, Some, None, Ok, Err}
+use Rattle.std.specs.Prelude.{Option, Result, ◌↔◌}
+use Rattle.std.specs.Io.KnownBytes.{Appends}
+use Rattle.std.proofs.lemmas.List.{append_cancel_left, take-append-drop}
+use Rattle.pesp_problem.specs.Timetables.{Pesp}
+use Rattle.pesp_instance.specs.Instance.{instance_of}
+use Rattle.pesp_instance.specs.declared.refusal.ReadRefusal.{ReadRefusal}
+use Rattle.pesp_truth.specs.Certificates.{Content, IsValid}
+use Rattle.pesp_cert.specs.declared.refusal.CertRefusal.{CertRefusal}
+use Rattle.pesp_cert_lines.specs.declared.versions.Versions.TheVariants.{Plain}
+use Rattle.pesp_cert.specs.Texts.{spelling, HasText}
+use Rattle.pesp_cert.specs.Refusals.{IsTextOf, items_of_text}
+use Rattle.pesp_cert.proofs.TextLaws.{none_begins_another, plain_read_of}
+use Rattle.pesp_cert.proofs.TextLengths.{texts_short}
+use Rattle.pesp_cert_items.specs.Texts.{RefusesText}
+use Rattle.pesp_judges.specs.declared.refusal.Verdict.{Verdict}
+use Rattle.pesp_judges.specs.declared.refusal.Verdict.TheVariants.{Accepted}
+use Rattle.pesp_check_run.specs.Checking.{Checks, RefusesInstance}
+use Rattle.pesp_tasks.specs.Solving.{Solves}
+
+-- what a writer got behind what it held before
+pub appended_is : (before bytes text : List ℕ) → Appends (Some before) (Some (before ++ bytes)) text → text ≡ bytes
+appended_is before bytes text e = append_cancel_left before text bytes (sym e)
+
+pub same_instance : (text : List ℕ) (period : ℕ) (p q : Pesp) → instance_of text period ≡ Ok p → instance_of text period ≡ Ok q → p ≡ q
+same_instance text period p q is also = let same : ◌≡◌ {A = Result Pesp ReadRefusal} (Ok p) (Ok q) = sym is ∙ also in cc
+
+-- a text of which the front that is read is a certificate's text is that text
+same_content : (bytes front : List ℕ) (limit : ℕ) (c d : Content) → HasText None c → spelling None c ≡ bytes
+    → front ≡ take limit bytes → IsTextOf None front d → d ≡ c
+same_content bytes front limit c d text spelt is read =
+    let joined : spelling None d ++ drop limit bytes
+    ≡ spelling None c = ap (λ t. t ++ drop limit bytes) (sym read.spelt ∙ is) ∙ take-append-drop limit bytes
+    ∙ sym spelt in
+    (none_begins_another None None d c (drop limit bytes) read.has_text text joined).1
+
+accepted : (p q : Pesp) (c d : Content) (verdict : Verdict) → p ≡ q → d ≡ c → IsValid None p c
+    → (verdict ≡ Accepted) ↔ IsValid None q d → verdict ≡ Accepted
+accepted p q c d verdict same is valid exactly = exactly.1 (rw (← same, is) valid)
+
+pub accepts_what_is_solved : (text before bytes : List ℕ)
+    (left left_instance left_certificate old new : Option (List ℕ)) (period steps : ℕ) (verdict : Verdict)
+    → Solves (Some text) left period steps (Appends (Some before) (Some (before ++ bytes)))
+    → Checks (Some text) left_instance (Some bytes) left_certificate period verdict (Appends old new)
+    → verdict ≡ Accepted
+accepts_what_is_solved text before bytes left left_instance left_certificate old new period steps verdict
+    (p, read, solved) (q, read_again, checked) =
+    let one = ap (λ t. instance_of t period) (read.read.whole) ∙ read.is_instance in
+    let other = ap (λ t. instance_of t period) (read_again.read.whole) ∙ read_again.is_instance in
+    let written = appended_is before bytes (spelling None solved.certificate) solved.written in
+    let judged = checked.judged in
+    accepted
+    p
+    q
+    solved.certificate
+    judged.content
+    verdict
+    (same_instance text period p q one other)
+    (same_content bytes judged.text 1073741824 solved.certificate judged.content solved.has_text written judged.read.front judged.spelt)
+    solved.solved.valid
+    judged.exactly
+
+pub instance_is_read : (text : List ℕ) (left left_instance old new : Option (List ℕ)) (period steps : ℕ)
+    (refusal : ReadRefusal) → Solves (Some text) left period steps (Appends old new)
+    → RefusesInstance (Some text) left_instance period refusal → ⊥
+instance_is_read text left left_instance old new period steps refusal (p, read, solved) refused =
+    let one = ap (λ t. instance_of t period) (read.read.whole) ∙ read.is_instance in
+    let bad : ◌≡◌ {A = Result Pesp ReadRefusal} (Ok p) (Err refusal) = sym one ∙ refused.whole in
+    cc
+
+-- a text that is shorter than the limit has nothing behind what was read, where no more of it is read
+nothing_behind : (bytes read rest : List ℕ) → length bytes < 1073741824 → bytes ≡ read ++ rest
+    → (length read ≡ 1073741824) ⊎ (rest ≡ []) → rest ≡ []
+nothing_behind bytes read rest short is (inl full) = absurd (omega (arith, short, full, ap length is, length-append read rest))
+nothing_behind bytes read rest short is (inr e) = e
+
+-- the text of a certificate isn't refused
+never_refused : (bytes : List ℕ) (left : Option (List ℕ)) (c : Content) (refusal : CertRefusal) → IsTextOf None bytes c
+    → RefusesText (Some bytes) left 1073741824 refusal → ⊥
+never_refused bytes None c refusal is refused = refused.consumed
+never_refused bytes (Some rest) c refusal is refused =
+    let short : length bytes < 1073741824 = omega (arith, texts_short c is.has_text, ap length is.spelt) in
+    let first = refused.first rest (nothing_behind bytes refused.read rest short refused.consumed) in
+    let bad = sym (plain_read_of bytes c is) ∙ ap (items_of_text Plain) refused.consumed ∙ first in
+    cc
+
+pub certificate_is_read : (text before bytes : List ℕ) (left left_certificate : Option (List ℕ)) (period steps : ℕ) (refusal : CertRefusal)
+    → Solves (Some text) left period steps (Appends (Some before) (Some (before ++ bytes)))
+    → RefusesText (Some bytes) left_certificate 1073741824 refusal → ⊥
+certificate_is_read text before bytes left left_certificate period steps refusal (p, read, solved) refused =
+    let written = appended_is before bytes (spelling None solved.certificate) solved.written in
+    never_refused bytes left_certificate solved.certificate refusal (record { has_text = solved.has_text; spelt = sym written }) refused

@@ -1,0 +1,77 @@
+-- What is sharpened is accepted, and what is gone on from so.
+use Rattle.std.proofs.Common.{◌≡◌, ◌∙◌, ℕ, List, ◌++◌, take, drop, sym, ap, Some, Ok}
+use Rattle.std.specs.Prelude.{Option, Result, ◌↔◌}
+use Rattle.std.specs.Io.KnownBytes.{Appends}
+use Rattle.std.proofs.lemmas.List.{append_cancel_left, take-append-drop}
+use Rattle.pesp_problem.specs.Timetables.{Pesp}
+use Rattle.pesp_instance.specs.Instance.{instance_of}
+use Rattle.pesp_instance.specs.declared.refusal.ReadRefusal.{ReadRefusal}
+use Rattle.pesp_judges.specs.declared.refusal.Verdict.{Verdict}
+use Rattle.pesp_judges.specs.declared.refusal.Verdict.TheVariants.{Accepted}
+use Rattle.pesp_truth.specs.Certificates.{IsValid}
+use Rattle.pesp_sharp_text.specs.Texts.{Fronted, IsFrontedText, fronted_text}
+use Rattle.pesp_sharp_text.proofs.Said.{none_begins}
+use Rattle.pesp_sharp_run.specs.Checking.{ChecksWith}
+use Rattle.pesp_tasks.specs.SharpSolving.{SolvesSharp, ResumesSharp}
+use Rattle.pesp_tasks.proofs.Joining.{appended_is, same_instance}
+
+-- a text of which the front that is read is a certificate's text is that text
+same_certificate : (bytes front : List ℕ) (limit : ℕ) (c d : Fronted) → IsFrontedText (fronted_text c) c
+    → fronted_text c ≡ bytes → front ≡ take limit bytes → IsFrontedText front d → d ≡ c
+same_certificate bytes front limit c d text spelt is read =
+    let joined : front ++ drop limit bytes ≡ fronted_text c = ap (λ t. t ++ drop limit bytes) is
+    ∙ take-append-drop limit bytes ∙ sym spelt in
+    (none_begins d c front (fronted_text c) (drop limit bytes) read text joined).0
+
+accepted : (p q : Pesp) (c d : Fronted) (verdict : Verdict) → p ≡ q → d ≡ c → IsValid c.front p c.content
+    → (verdict ≡ Accepted) ↔ IsValid d.front q d.content → verdict ≡ Accepted
+accepted p q c d verdict same is valid exactly = exactly.1 (rw (← same, is) valid)
+
+pub accepts_what_is_sharpened : (text before bytes : List ℕ)
+    (left left_instance left_certificate old new : Option (List ℕ)) (period steps : ℕ) (verdict : Verdict)
+    → SolvesSharp (Some text) left period steps (Appends (Some before) (Some (before ++ bytes)))
+    → ChecksWith (Some text) left_instance (Some bytes) left_certificate period verdict (Appends old new)
+    → verdict ≡ Accepted
+accepts_what_is_sharpened text before bytes left left_instance left_certificate old new period steps verdict
+    (p, read, solved) (q, read_again, checked) =
+    let one = ap (λ t. instance_of t period) (read.read.whole) ∙ read.is_instance in
+    let other = ap (λ t. instance_of t period) (read_again.read.whole) ∙ read_again.is_instance in
+    let written = appended_is before bytes (fronted_text solved.certificate) solved.written in
+    let text_judged = checked.judged in
+    let judged = text_judged.judged in
+    accepted
+    p
+    q
+    solved.certificate
+    judged.certificate
+    verdict
+    (same_instance text period p q one other)
+    (same_certificate bytes text_judged.text 1073741824 solved.certificate judged.certificate solved.has_text
+    written text_judged.read.front judged.spelt)
+    solved.solved.valid
+    judged.exactly
+
+pub accepts_what_is_resumed : (text before bytes : List ℕ)
+    (left base left_base left_instance left_certificate old new : Option (List ℕ)) (period steps : ℕ)
+    (verdict : Verdict)
+    → ResumesSharp (Some text) left base left_base period steps (Appends (Some before) (Some (before ++ bytes)))
+    → ChecksWith (Some text) left_instance (Some bytes) left_certificate period verdict (Appends old new)
+    → verdict ≡ Accepted
+accepts_what_is_resumed text before bytes left base left_base left_instance left_certificate old new period steps
+    verdict (p, read, (begun, read_base, resumed)) (q, read_again, checked) =
+    let one = ap (λ t. instance_of t period) (read.read.whole) ∙ read.is_instance in
+    let other = ap (λ t. instance_of t period) (read_again.read.whole) ∙ read_again.is_instance in
+    let written = appended_is before bytes (fronted_text resumed.certificate) resumed.written in
+    let text_judged = checked.judged in
+    let judged = text_judged.judged in
+    accepted
+    p
+    q
+    resumed.certificate
+    judged.certificate
+    verdict
+    (same_instance text period p q one other)
+    (same_certificate bytes text_judged.text 1073741824 resumed.certificate judged.certificate resumed.has_text
+    written text_judged.read.front judged.spelt)
+    resumed.holds.valid
+    judged.exactly

@@ -1,0 +1,11 @@
+use Rattle.std.proofs.Common.{sym, arith}
+use Rattle.pesp_tasks.proofs.SharpSolutions.{has_text_of}
+use Rattle.pesp_tasks.proofs.fronted.vouch.Goals as goal
+
+pub returns-clause-is_true : goal.returns-clause-is_true
+returns-clause-is_true c = c.valid_is_true.ensures _ c.args.instance.now _
+    (omega (arith, c.period.ensures.limits.some_period)) c.requires
+
+pub returns-clause-has_text : goal.returns-clause-has_text
+returns-clause-has_text c = has_text_of c.args.fronted.now _ _ (sym c.fronted.view_is) c.keeps_limits.ensures
+    ((c.limits_are_those_of_texts.ensures _).0 c.period-2.ensures.limits)

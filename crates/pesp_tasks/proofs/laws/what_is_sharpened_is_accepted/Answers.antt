@@ -1,0 +1,5 @@
+use Rattle.pesp_tasks.proofs.SharpJoining.{accepts_what_is_sharpened}
+use Rattle.pesp_tasks.proofs.laws.what_is_sharpened_is_accepted.Goals as goal
+
+pub returns : goal.returns
+returns c = accepts_what_is_sharpened

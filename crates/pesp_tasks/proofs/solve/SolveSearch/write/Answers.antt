@@ -1,0 +1,30 @@
+use Rattle.std.proofs.Common.{inl, inr}
+use Rattle.pesp_check_run.proofs.ReadingLemmas.{told_as}
+use Rattle.pesp_faults.proofs.Telling.{search_cause, limit_cause}
+use Rattle.pesp_tasks.proofs.Solutions.{solution}
+use Rattle.pesp_tasks.proofs.solve.SolveSearch.write.Goals as goal
+
+pub returns-in_err-found-clause-cause : goal.returns-in_err-found-clause-cause
+returns-in_err-found-clause-cause g c =
+    told_as _ _ _ c.from_residual.ensures.1 (inl (
+      search_cause _ _ _ c.in_err-found.ensures.refused,
+      limit_cause _ _ _ c.in_err-found.ensures.passed,
+    ))
+
+pub returns-in_err-print-clause-cause : goal.returns-in_err-print-clause-cause
+returns-in_err-print-clause-cause g c =
+    let found = c.in_ok-found in
+    let out = c.in_err-print.ensures in
+    told_as _ _ _ c.from_residual-in_err-print.ensures.1
+    (inr (
+      out.fault,
+      solution found.found.steps_used c.period.ensures.limits.some_period found.ensures.solved
+          found.ensures.improved out.has_text out.text,
+    ))
+
+pub returns-clause-ok : goal.returns-clause-ok
+returns-clause-ok g c =
+    let found = c.in_ok-found in
+    let out = c.in_ok-print.ensures in
+    solution found.found.steps_used c.period.ensures.limits.some_period found.ensures.solved
+    found.ensures.improved out.has_text out.text

@@ -1,0 +1,20 @@
+-- What a search writes that goes on from a certificate.
+use Rattle.std.specs.Prelude.{ℕ, List, None}
+use Rattle.pesp_problem.specs.Timetables.{Pesp}
+use Rattle.pesp_truth.specs.Truth.{IsTrueAnswer}
+use Rattle.pesp_truth.specs.Certificates.{Content, shown_times}
+use Rattle.pesp_cert.specs.Texts.{spelling, HasText}
+use Rattle.pesp_resume.specs.declared.ending.Ending.{Ending}
+use Rattle.pesp_resume.specs.Resuming.{IsResumed}
+
+-- the writer got what the relation says of the text of a certificate to which a search leads from the base, within so
+-- many steps; its answer is true; the search ended before all were used only where nothing is left to split, a limit is
+-- met, or it was stopped
+pub record WritesResumed (p : Pesp) (base : Content) (steps : ℕ) (stopped : Type 0) (Gets : List ℕ → Type 0) : Type 0 where
+  pub used : ℕ
+  pub ending : Ending
+  pub certificate : Content
+  pub resumed : IsResumed p base steps stopped used ending certificate
+  pub is_true : IsTrueAnswer p certificate.answer (shown_times certificate)
+  pub has_text : HasText None certificate
+  pub written : Gets (spelling None certificate)

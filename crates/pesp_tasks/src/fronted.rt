@@ -1,0 +1,36 @@
+//! Certificates that may have a front, before they are written.
+
+ghost use Rattle.std.specs.Prelude.{◌≡◌, IfSome};
+ghost use Rattle.pesp_truth.specs.Truth.{IsTrueAnswer};
+ghost use Rattle.pesp_truth.specs.Certificates.{shown_times};
+ghost use Rattle.pesp_cert.specs.FrontLimits.{KeepsLimits};
+ghost use Rattle.pesp_sharp_text.specs.Texts.{IsFrontedText, fronted_text};
+ghost use Rattle.pesp_runs.specs.Bases.{IsSharpBase};
+
+use pesp_cert::laws::limits_are_those_of_texts;
+use pesp_problem::Instance;
+use pesp_sharp_text::{Fronted, Marks};
+use pesp_truth::laws::valid_is_true;
+
+/// A front keeps its limits.
+fn keeps_limits(front: &Option<Marks>)
+    ensures { IfSome front.now KeepsLimits }
+{
+    if let Some(marks) = front {
+        marks.scale();
+    }
+}
+
+/// Every certificate has a text with its front, and the answer of a valid one is true.
+pub(crate) fn vouch(instance: &Instance, fronted: &Fronted)
+    requires { IsSharpBase instance.now fronted.now }
+    ensures is_true { IsTrueAnswer instance.now fronted.now.content.answer
+        (shown_times fronted.now.content) }
+    ensures has_text { IsFrontedText (fronted_text fronted.now) fronted.now }
+{
+    valid_is_true();
+    instance.period();
+    limits_are_those_of_texts();
+    fronted.certificate.period();
+    keeps_limits(&fronted.front);
+}

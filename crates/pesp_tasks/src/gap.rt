@@ -1,0 +1,40 @@
+//! How good a certificate's answer is.
+
+use crate::gap_text::GapText;
+use pesp_cert::Certificate;
+use pesp_faults::Fault;
+use pesp_problem::Instance;
+use pesp_runs::OnBase;
+use pesp_stream::{Sink, print_to};
+use std::alloc::Global;
+
+/// The cost of a certificate's answer, its bound, and what might still be saved, in per cent of the cost, rounded up.
+#[derive(Clone, Copy)]
+pub struct Gap;
+
+impl OnBase for Gap {
+    ghost use Rattle.std.specs.Prelude.{⊤};
+    ghost use Rattle.pesp_faults.specs.Causes.{OutCause};
+    ghost use Rattle.pesp_tasks.specs.Gaps.{gap_line};
+
+    type Base = Certificate;
+
+    ghost within = { λ _. ⊤ };
+
+    ghost writes = { λ _ _ p base Gets. Gets (gap_line base.answer) };
+
+    ghost stops = { λ _ p base fault cut. OutCause fault cut };
+
+    fn write<W: Sink>(
+        &mut self,
+        _alloc: Global,
+        _instance: &Instance,
+        base: Certificate,
+        writer: &mut W,
+    ) -> Result<(), Fault> {
+        let answer = base.answer();
+        drop(base);
+        print_to(writer, &GapText(answer))?;
+        Ok(())
+    }
+}

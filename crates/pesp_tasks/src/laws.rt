@@ -1,0 +1,61 @@
+//! Laws of what is solved and of what is gone on from. Each is a function without a body whose contract is the law.
+
+ghost use Rattle.std.specs.Prelude.{◌≡◌, ℕ, List, ◌++◌, Option, Some};
+ghost use Rattle.std.specs.Io.KnownBytes.{Appends};
+ghost use Rattle.pesp_instance.specs.declared.refusal.ReadRefusal.{ReadRefusal};
+ghost use Rattle.pesp_cert.specs.declared.refusal.CertRefusal.{CertRefusal};
+ghost use Rattle.pesp_judges.specs.declared.refusal.Verdict.{Verdict};
+ghost use Rattle.pesp_judges.specs.declared.refusal.Verdict.TheVariants.{Accepted};
+ghost use Rattle.pesp_cert_items.specs.Texts.{RefusesText};
+ghost use Rattle.pesp_check_run.specs.Checking.{Checks, RefusesInstance};
+ghost use Rattle.pesp_sharp_run.specs.Checking.{ChecksWith};
+ghost use Rattle.pesp_tasks.specs.Solving.{Solves};
+ghost use Rattle.pesp_tasks.specs.SharpSolving.{SolvesSharp, ResumesSharp};
+
+/// The bytes that `run_solve` appended for an instance's text, within whichever number of steps, `run_check` accepts for the
+/// same text and period, where it answers Ok.
+pub fn what_is_solved_is_accepted()
+    ensures { (text before bytes : List ℕ) (left left_instance left_certificate old new : Option
+        (List ℕ)) (period steps : ℕ) (verdict : Verdict)
+        → Solves (Some text) left period steps (Appends (Some before) (Some (before ++ bytes)))
+        → Checks (Some text) left_instance (Some bytes) left_certificate period verdict
+        (Appends old new)
+        → verdict ≡ Accepted }
+{}
+
+/// And `run_check` refuses neither of the two texts: for them no `Instance` fault and no `Certificate` fault has a cause, so
+/// that memory and devices alone can keep it from its verdict.
+pub fn what_is_solved_is_read()
+    ensures instance { (text : List ℕ) (left left_instance old new : Option (List ℕ))
+        (period steps : ℕ) (refusal : ReadRefusal)
+        → Solves (Some text) left period steps (Appends old new)
+        → RefusesInstance (Some text) left_instance period refusal → ⊥ }
+    ensures certificate { (text before bytes : List ℕ) (left left_certificate : Option (List ℕ))
+        (period steps : ℕ) (refusal : CertRefusal)
+        → Solves (Some text) left period steps (Appends (Some before) (Some (before ++ bytes)))
+        → RefusesText (Some bytes) left_certificate 1073741824 refusal → ⊥ }
+{}
+
+/// The bytes that `SolveSharp` appended for an instance's text, within whichever number of steps, `run_check_sharp` accepts
+/// for the same text and period, where it answers Ok.
+pub fn what_is_sharpened_is_accepted()
+    ensures { (text before bytes : List ℕ) (left left_instance left_certificate old new : Option
+        (List ℕ)) (period steps : ℕ) (verdict : Verdict)
+        → SolvesSharp (Some text) left period steps
+        (Appends (Some before) (Some (before ++ bytes)))
+        → ChecksWith (Some text) left_instance (Some bytes) left_certificate period verdict
+        (Appends old new)
+        → verdict ≡ Accepted }
+{}
+
+/// The bytes that `ResumeSharp` appended for the texts of an instance and of a certificate, within whichever number of steps,
+/// `run_check_sharp` accepts for the same instance and period, where it answers Ok.
+pub fn what_is_resumed_is_accepted()
+    ensures { (text before bytes : List ℕ) (left base left_base left_instance left_certificate old new : Option
+        (List ℕ)) (period steps : ℕ) (verdict : Verdict)
+        → ResumesSharp (Some text) left base left_base period steps
+        (Appends (Some before) (Some (before ++ bytes)))
+        → ChecksWith (Some text) left_instance (Some bytes) left_certificate period verdict
+        (Appends old new)
+        → verdict ≡ Accepted }
+{}

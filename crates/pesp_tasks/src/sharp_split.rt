@@ -1,0 +1,42 @@
+//! The open leaves of a certificate that may have a front, as jobs.
+
+use pesp_faults::Fault;
+use pesp_problem::Instance;
+use pesp_runs::OnBase;
+use pesp_sharp_outside::{JobsText, sharp_jobs};
+use pesp_sharp_text::Fronted;
+use pesp_stream::{Sink, print_to};
+use std::alloc::Global;
+
+/// The open leaves of a certificate, with a front or without, as jobs, numbered from 0 in the order of the tree's lines, each with its
+/// value and the path to it.
+#[derive(Clone, Copy)]
+pub struct SplitSharp;
+
+impl OnBase for SplitSharp {
+    ghost use Rattle.std.specs.Prelude.{⊤};
+    ghost use Rattle.pesp_faults.specs.Causes.{OutCause};
+    ghost use Rattle.pesp_tasks.specs.SharpOutside.{WritesSharpJobs};
+
+    type Base = Fronted;
+
+    ghost within = { λ _. ⊤ };
+
+    ghost writes = { λ _ _ p base Gets. WritesSharpJobs p base Gets };
+
+    ghost stops = { λ _ p base fault cut. OutCause fault cut };
+
+    fn write<W: Sink>(
+        &mut self,
+        alloc: Global,
+        instance: &Instance,
+        base: Fronted,
+        writer: &mut W,
+    ) -> Result<(), Fault> {
+        let jobs = sharp_jobs(alloc, instance, &base);
+        drop(base);
+        let jobs = jobs?;
+        print_to(writer, &JobsText(&jobs))?;
+        Ok(())
+    }
+}

@@ -1,7 +1,7 @@
 //! Certificates with a front have texts.
 
 ghost use Rattle.std.specs.Prelude.{◌≡◌, IfSome};
-ghost use Rattle.pesp_sharp_text.specs.Limits.{KeepsLimits};
+ghost use Rattle.pesp_truth.specs.FrontLimits.{KeepsLimits};
 ghost use Rattle.pesp_sharp_text.specs.Texts.{IsFrontedText, fronted_text};
 
 use pesp_cert::laws::limits_are_those_of_texts;

@@ -27,11 +27,11 @@ use Rattle.pesp_cert.proofs.TextSteps.{nonempty}
 use Rattle.pesp_nets.specs.declared.marked.MarkedRow.{MarkedRow}
 use Rattle.pesp_truth.specs.Marks.{Marks}
 use Rattle.pesp_sharp_text.specs.Rows.{marked_words, are_named}
-use Rattle.pesp_sharp_text.specs.Limits.{is_scale, is_walk, total_rows, are_few, keeps_limits, KeepsLimits}
+use Rattle.pesp_truth.specs.FrontLimits.{is_scale, is_walk, total_rows, are_few, keeps_limits, KeepsLimits}
 use Rattle.pesp_sharp_text.specs.Lines.{is_header, scale_of, scale_in, scale_at, begins_walk, is_walk_line, rows_behind, walk_in, walk_at}
 use Rattle.pesp_sharp_text.specs.Fronts.{Read, Front, onto, judged, walks_from, with_scale, behind_header, front_in, front_of}
 use Rattle.pesp_sharp_text.specs.Texts.{walk_line, scale_line, front_text}
-use Rattle.pesp_sharp_text.proofs.Limits.{le_of, of_le, few_is, scale_is, limits_of, keeps}
+use Rattle.pesp_truth.proofs.FrontLimits.{le_of, of_le, few_is, scale_is, limits_of, keeps}
 use Rattle.pesp_sharp_text.proofs.Walking.{at_walk}
 use Rattle.pesp_sharp_text.proofs.Words.{walk_spells, walk_read, words_plain, words_len, words_many}
 

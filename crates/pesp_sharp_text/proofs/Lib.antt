@@ -1,4 +1,3 @@
-pub mod Limits
 pub mod Taking
 pub mod Walking
 pub mod Words

@@ -31,7 +31,7 @@ use Rattle.pesp_cert.specs.Refusals.{items_from, items_of_text, onto, is_nothing
 use Rattle.pesp_cert.proofs.TextLaws.{line_cut, text_found_of, text_read_of, none_begins_another}
 use Rattle.pesp_cert.proofs.TextSteps.{nonempty}
 use Rattle.pesp_truth.specs.Marks.{Marks}
-use Rattle.pesp_sharp_text.specs.Limits.{KeepsLimits}
+use Rattle.pesp_truth.specs.FrontLimits.{KeepsLimits}
 use Rattle.pesp_sharp_text.specs.Lines.{is_header, begins_walk, is_walk_line}
 use Rattle.pesp_sharp_text.specs.Faults.{IsRefusal}
 use Rattle.pesp_sharp_text.specs.Fronts.{Front, front_of}

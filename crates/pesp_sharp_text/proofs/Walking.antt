@@ -9,7 +9,7 @@ use Rattle.pesp_cert.specs.declared.refusal.CertRefusal.TheVariants as refusals
 use Rattle.pesp_cert.proofs.TextSteps.{nonempty}
 use Rattle.pesp_text.specs.Words.{pieces}
 use Rattle.pesp_nets.specs.declared.marked.MarkedRow.{MarkedRow}
-use Rattle.pesp_sharp_text.specs.Limits.{are_few}
+use Rattle.pesp_truth.specs.FrontLimits.{are_few}
 use Rattle.pesp_sharp_text.specs.Lines.{is_walk_line}
 use Rattle.pesp_sharp_text.specs.Faults.{IsRefusal}
 use Rattle.pesp_sharp_text.specs.Fronts.{Read, onto, judged, walks_from}

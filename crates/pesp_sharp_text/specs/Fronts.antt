@@ -7,7 +7,7 @@ use Rattle.pesp_cert.specs.declared.refusal.CertRefusal.TheVariants as refusals
 use Rattle.pesp_cert.specs.Refusals.{refusal_at}
 use Rattle.pesp_nets.specs.declared.marked.MarkedRow.{MarkedRow}
 use Rattle.pesp_truth.specs.Marks.{Marks}
-use Rattle.pesp_sharp_text.specs.Limits.{are_few}
+use Rattle.pesp_truth.specs.FrontLimits.{are_few}
 use Rattle.pesp_sharp_text.specs.Lines.{is_header, scale_at, is_walk_line, walk_at}
 
 -- walks, and the lines behind them

@@ -1,6 +1,5 @@
 pub mod Rows
 pub mod Faults
-pub mod Limits
 pub mod Lines
 pub mod Fronts
 pub mod Texts

@@ -7,7 +7,7 @@ use Rattle.pesp_cert_lines.specs.declared.fault.LineFault.{LineFault}
 use Rattle.pesp_cert_lines.specs.declared.fault.LineFault.TheVariants.{Line, Number, Limit}
 use Rattle.pesp_nets.specs.declared.marked.MarkedRow.{MarkedRow}
 use Rattle.pesp_sharp_text.specs.Rows.{walk_of}
-use Rattle.pesp_sharp_text.specs.Limits.{is_scale}
+use Rattle.pesp_truth.specs.FrontLimits.{is_scale}
 
 -- the line that every front begins with
 abbrev pub is_header : List ℕ → Bool

@@ -11,7 +11,7 @@ use Rattle.pesp_cert.specs.Refusals.{items_of_text}
 use Rattle.pesp_nets.specs.declared.marked.MarkedRow.{MarkedRow}
 use Rattle.pesp_truth.specs.Marks.{Marks, front_lines}
 use Rattle.pesp_sharp_text.specs.Rows.{marked_words}
-use Rattle.pesp_sharp_text.specs.Limits.{KeepsLimits}
+use Rattle.pesp_truth.specs.FrontLimits.{KeepsLimits}
 use Rattle.pesp_sharp_text.specs.Fronts.{Front, front_of}
 
 -- ---- the spelling

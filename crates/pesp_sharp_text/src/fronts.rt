@@ -2,16 +2,16 @@
 
 ghost use Rattle.std.specs.Prelude.{◌≡◌, ◌+◌, ◌<◌, ◌^◌, ◌++◌, ◌∷◌, [], ℕ, length, Ok, Some, IfOk, IfErr, OnOk};
 ghost use Rattle.pesp_text.specs.Words.{pieces};
-ghost use Rattle.pesp_sharp_text.specs.Limits.{are_few};
+ghost use Rattle.pesp_truth.specs.FrontLimits.{are_few};
 ghost use Rattle.pesp_sharp_text.specs.Faults.{IsRefusal};
 ghost use Rattle.pesp_sharp_text.specs.Fronts.{walks_from, behind_header};
 
 use crate::lines::{LONGEST, is_walk_line, judge_walk, scale_at};
-use crate::marks::Marks;
 use pesp_cert::{CertRefusal, refusal_at};
 use pesp_nets::{MarkedRow, MarkedWalk};
 use pesp_problem::{MOST_CYCLES, MOST_SIGNED_ROWS, Memory};
 use pesp_text::split_at_byte;
+use pesp_truth::Marks;
 use std::alloc::Global;
 
 /// Whether so many walks with so many marked rows are within the limits.

@@ -5,12 +5,11 @@ mod fronted;
 mod fronts;
 pub mod laws;
 mod lines;
-mod marks;
 mod printer;
 mod reader;
 mod rows;
 
 pub use fronted::Fronted;
-pub use marks::{Marks, NotMarks};
+pub use pesp_truth::{Marks, NotMarks};
 pub use printer::print_fronted;
 pub use reader::parse_fronted;

@@ -6,12 +6,12 @@ ghost use Rattle.pesp_sharp_text.specs.Lines.{is_header, scale_of, scale_at, is_
 ghost use Rattle.pesp_sharp_text.specs.Faults.{IsFault, IsRefusal};
 ghost use Rattle.pesp_sharp_text.specs.Fronts.{judged};
 
-use crate::marks::is_scale;
 use crate::rows::take_rows;
 use pesp_cert::{CertRefusal, refusal_at};
 use pesp_cert_lines::LineFault;
 use pesp_nets::MarkedRow;
 use pesp_text::{Words, count_words, is_word, natural};
+use pesp_truth::is_scale;
 use std::alloc::Global;
 
 /// The longest line, in bytes before its LF.

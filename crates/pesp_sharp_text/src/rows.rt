@@ -6,12 +6,12 @@ ghost use Rattle.pesp_cert_lines.specs.Rows.{signed, spelt_row, is_name};
 ghost use Rattle.pesp_sharp_text.specs.Rows.{is_starred, but_last, with_mark, marked_at, marked_made, walk_of};
 ghost use Rattle.pesp_sharp_text.specs.Faults.{IsFault};
 
-use crate::marks::is_name;
 use pesp_cert::{CertRefusal, refusal_at};
 use pesp_cert_lines::LineFault;
 use pesp_nets::MarkedRow;
 use pesp_problem::{Memory, SignedRow};
 use pesp_text::{Words, natural};
+use pesp_truth::is_row_number;
 use std::alloc::Global;
 
 /// What stands behind the first byte.
@@ -111,7 +111,7 @@ pub(crate) fn take_rows(
         let Some((row, plus, flipped)) = marked_at(word) else {
             return Err(refusal_at(n, LineFault::Number));
         };
-        within &= is_name(row);
+        within &= is_row_number(row);
         push_row(&mut rows, row, plus, flipped)?;
     }
     if within {

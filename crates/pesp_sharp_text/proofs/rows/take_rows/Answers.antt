@@ -13,7 +13,7 @@ returns-in_default-marked_at-clause-refused c =
     )
 
 pub loop-word-preserved : goal.loop-word-preserved
-loop-word-preserved c = rw c.is_name-within.ensures
+loop-word-preserved c = rw c.is_row_number-within.ensures
     (taken_more c.args.words c.next.new.self c.in-Some.word.now c.in-Some-marked_at.row c.in-Some-marked_at.plus
     c.in-Some-marked_at.flipped c.loop-word.within c.loop-word.rows.items c.push_row.new.rows.items
     c.in-Some-marked_at.ensures c.in_ok-push_row.ensures (rw c.in-Some.ensures.steps at c.loop-word.invariant))

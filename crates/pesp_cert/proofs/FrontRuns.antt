@@ -17,7 +17,7 @@ use Rattle.pesp_cert_lines.specs.Marked.{are_named}
 use Rattle.pesp_cert_lines.specs.Counts.{beginning, keeps_counts, CanStand}
 use Rattle.pesp_cert_lines.proofs.Tests.{and_left, and_right, and_both}
 use Rattle.pesp_cert.specs.Limits.{KeepsLimits}
-use Rattle.pesp_cert.specs.FrontLimits.{is_walk, total_rows, KeepsLimits as FrontKeepsLimits}
+use Rattle.pesp_truth.specs.FrontLimits.{is_walk, total_rows, KeepsLimits as FrontKeepsLimits}
 use Rattle.pesp_cert.specs.Texts.{IsRun, HasText, own_items, items_of, takes}
 use Rattle.pesp_cert.proofs.LimitFacts.{limits_of}
 use Rattle.pesp_cert.proofs.Runs.{start, run_onto, run_first, run_rest, own_give, own_take, limits_give, text_keeps_limits}

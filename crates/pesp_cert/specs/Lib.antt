@@ -1,5 +1,4 @@
 pub mod Limits
-pub mod FrontLimits
 pub mod Texts
 pub mod Print
 pub mod Drafts

@@ -6,7 +6,7 @@ ghost use Rattle.pesp_truth.specs.Certificates.{Content};
 ghost use Rattle.pesp_cert_lines.specs.declared.item.Item.{Item};
 ghost use Rattle.pesp_cert_lines.specs.declared.versions.Versions.{Versions};
 ghost use Rattle.pesp_truth.specs.Marks.{Marks};
-ghost use Rattle.pesp_cert.specs.FrontLimits.{KeepsLimits as FrontKeepsLimits};
+ghost use Rattle.pesp_truth.specs.FrontLimits.{KeepsLimits as FrontKeepsLimits};
 ghost use Rattle.pesp_cert.specs.Limits.{KeepsLimits};
 ghost use Rattle.pesp_cert.specs.Refusals.{IsTextOf, items_of_text};
 ghost use Rattle.pesp_cert.specs.Texts.{HasText, NoneBeginsAnother, items_of, spelling, takes};

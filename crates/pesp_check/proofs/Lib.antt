@@ -5,3 +5,4 @@ pub mod Cycles
 pub mod Lines
 pub mod Items
 pub mod Texts
+pub mod Inner

@@ -11,7 +11,8 @@ use Rattle.pesp_cert_lines.specs.Pairs.{is_pair_within, all_within, follows, ris
 use Rattle.pesp_cert_lines.specs.Rows.{is_name}
 use Rattle.pesp_cert.specs.Limits.{are_pairs, is_line}
 use Rattle.pesp_cert.proofs.ShortLaws.{pairs_few}
-use Rattle.pesp_judges.specs.Lines.{ArePairLimits, KeepsLineLimits}
+use Rattle.pesp_leaves.specs.Flows.{ArePairLimits}
+use Rattle.pesp_judges.specs.Lines.{KeepsLineLimits}
 
 both : (a b : Bool) → (a && b) ≡ true → (a ≡ true) × (b ≡ true)
 both true b e = (refl, e)

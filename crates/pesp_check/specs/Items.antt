@@ -3,7 +3,7 @@ use Rattle.std.specs.Prelude.{◌≤◌, List, [], ◌∷◌, length, Bool, true
 use Rattle.pesp_problem.specs.declared.limits.TheConstants.{MOST_OFFSET, MOST_SIGNED_ROWS, MOST_SLACK}
 use Rattle.pesp_cert_lines.specs.declared.item.Item.{Item}
 use Rattle.pesp_cert_lines.specs.declared.item.Item.TheVariants.{Front, Scale, Walk, Version, Period, Answer as Says, Time, Cycle, Slack, Offset, Bound, Nothing, Gap, Propagated}
-use Rattle.pesp_judges.specs.Lines.{ArePairLimits}
+use Rattle.pesp_leaves.specs.Flows.{ArePairLimits}
 
 -- it comes behind the times
 abbrev pub is_later : Item → Bool

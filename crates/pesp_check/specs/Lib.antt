@@ -4,3 +4,4 @@ pub mod Texts
 pub mod Judging
 pub mod Views
 pub mod Said
+pub mod Inner

@@ -254,8 +254,9 @@ impl<'a> Judge<'a> {
         if walk.is_done() {
             return Ok(());
         }
-        let checker = Checker::new(self.instance, &self.table, least);
-        let found = take_line(alloc, &checker, walk, said, self.line, working)?;
+        let none = None;
+        let checker = Checker::new(self.instance, &self.table, &none, &[], least);
+        let found = take_line(alloc, &checker, walk, said, self.line, working, &mut [])?;
         if let Some(refusal) = found {
             self.stage = Stage::Refused(refusal);
             return Ok(());

@@ -12,4 +12,4 @@ mod whole_check;
 pub use fault::CheckFault;
 pub use pesp_judges::{Refusal, Verdict};
 pub use text_check::check_text;
-pub use whole_check::check;
+pub use whole_check::{check, check_behind};

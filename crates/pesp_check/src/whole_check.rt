@@ -1,58 +1,160 @@
-//! The check of a certificate as a whole.
+//! The check of a certificate as a whole, without a front and behind one.
 
-ghost use Rattle.std.specs.Prelude.{◌≡◌, ◌↔◌, ◌+◌, [], ◌∷◌, length, Ok, IfOk, MatchOption, None};
+ghost use Rattle.std.specs.Prelude.{◌≡◌, ◌↔◌, ◌+◌, ◌^◌, ◌<◌, ◌≤◌, [], ◌∷◌, length, All, None, Ok, IfOk, IfSome, OnOk, MatchOption};
+ghost use Rattle.pesp_problem.specs.declared.limits.TheConstants.{MOST_CYCLES};
+ghost use Rattle.pesp_problem.specs.Arcs as instances;
 ghost use Rattle.pesp_problem.specs.Arcs.{net_of};
 ghost use Rattle.pesp_problem.specs.Limits.{KeepsLimits};
 ghost use Rattle.pesp_problem.specs.Nodes as nodes;
+ghost use Rattle.pesp_nets.specs.Nets.{AreZeros, AreNets};
+ghost use Rattle.pesp_nets.specs.Marked.{IsMarkedWalk};
+ghost use Rattle.pesp_truth.specs.FrontLimits as fronts;
 ghost use Rattle.pesp_truth.specs.Trees.{AreSound};
 ghost use Rattle.pesp_truth.specs.Truth.{IsTrueAnswer};
 ghost use Rattle.pesp_truth.specs.Certificates.{IsValid, lines_of, shown_times};
 ghost use Rattle.pesp_truth.specs.Certificates as spec;
-ghost use Rattle.pesp_nets.specs.Nets.{AreZeros, AreNets};
-ghost use Rattle.pesp_judges.specs.Faults.{IsVerdict, IsFirstFault, first_tree_line};
+ghost use Rattle.pesp_judges.specs.Faults as faults;
+ghost use Rattle.pesp_judges.specs.Faults.{IsVerdict, IsFirstFault, IsMarksFault, first_tree_line};
 ghost use Rattle.pesp_judges.specs.Lines.{IsLinesFault};
+ghost use Rattle.pesp_check.specs.Inner.{IsInnerFault};
 
 use pesp_cert::Certificate;
 use pesp_judges::{
-    Checker, Nets, Refusal, Verdict, judge_answer, judge_cycles, judge_tree, least_of, zeros,
+    Checker, Nets, Refusal, Verdict, judge_answer, judge_cycles, judge_tree, judge_walks, least_of,
+    zeros,
 };
-use pesp_problem::{Instance, Memory};
+use pesp_nets::{Rates, no_rates};
+use pesp_problem::{Arc, Instance, Memory};
+use pesp_truth::Marks;
 use pesp_truth::laws::valid_is_true;
 use std::alloc::{AllocError, Global};
 
-/// The first fault of the tree, where all cycles are walks.
+/// The number in the whole text of a line of the certificate's own.
+fn behind_front(front: &Option<Marks>, line: u64) -> u64
+    requires { line < 2 ^ 61 }
+    ensures value { result ≡ faults.behind_front front.now line }
+    ensures few { result ≤ line + 100002 }
+    ensures limits { IfSome front.now fronts.KeepsLimits }
+{
+    match front {
+        None => line,
+        Some(marks) => line + (2 + marks.walks().len() as u64),
+    }
+}
+
+/// The arcs of the instance behind a front, none without one.
+fn front_arcs(alloc: Global, instance: &Instance, front: &Option<Marks>) -> Result<Vec<Arc>, Memory>
+    ensures { IfOk result
+        (λ arcs. IfSome front.now (λ marks. arcs.items ≡ instances.arcs_of instance.now)) }
+{
+    match front {
+        None => Ok(Vec::new(alloc)),
+        Some(_) => instance.arcs(alloc),
+    }
+}
+
+/// Rates for so many rows behind a front, none without one.
+fn front_rates(alloc: Global, rows: usize, front: &Option<Marks>) -> Result<Vec<Rates>, AllocError>
+    ensures { IfOk result (λ rates. IfSome front.now (λ marks. length rates.items ≡ rows)) }
+{
+    match front {
+        None => Ok(Vec::new(alloc)),
+        Some(_) => no_rates(alloc, rows),
+    }
+}
+
+/// The first of the marked walks of a front that isn't closed.
+fn walks_fault(
+    alloc: Global,
+    instance: &Instance,
+    cycles: usize,
+    front: &Option<Marks>,
+    working: &mut [i128],
+) -> Result<Option<Refusal>, AllocError>
+    requires few { cycles ≤ MOST_CYCLES }
+    requires long { length working.old ≡ length instance.now.rows }
+    requires zeros { AreZeros working.old }
+    ensures verdict { IfOk result (λ found. MatchOption found
+        (IfSome front.now (λ marks. All (IsMarkedWalk (instances.arcs_of instance.now)) marks.walks))
+        (λ refusal. IsMarksFault front.now (instances.arcs_of instance.now) cycles refusal)) }
+    ensures zeros { OnOk result (AreZeros working.new) }
+{
+    match front {
+        None => Ok(None),
+        Some(marks) => judge_walks(alloc, instance, cycles, marks, working),
+    }
+}
+
+/// The first fault of the tree, where all cycles are walks and all marked walks are closed.
 fn tree_fault(
     alloc: Global,
     instance: &Instance,
+    front: &Option<Marks>,
     certificate: &Certificate,
     table: &[Nets],
     working: &mut [i128],
-) -> Result<Option<Refusal>, AllocError>
+) -> Result<Option<Refusal>, Memory>
+    requires nets { AreNets (length instance.now.rows) certificate.now.cycles table.now }
+    requires closed { IfSome front.now
+        (λ marks. All (IsMarkedWalk (instances.arcs_of instance.now)) marks.walks) }
+    requires long { length working.old ≡ length instance.now.rows }
+    requires zeros { AreZeros working.old }
+    ensures { IfOk result (λ found. MatchOption found
+        (AreSound front.now (net_of instance.now) certificate.now.cycles
+        (spec.least_of certificate.now.answer) (lines_of certificate.now)
+        (nodes.root (net_of instance.now) certificate.now.cycles ∷ []))
+        (λ refusal. IsLinesFault front.now (net_of instance.now) certificate.now.cycles
+        (spec.least_of certificate.now.answer) (lines_of certificate.now)
+        (nodes.root (net_of instance.now) certificate.now.cycles ∷ [])
+        (first_tree_line front.now certificate.now) refusal)) }
+{
+    let own = 4 + certificate.times().len() as u64 + certificate.cycles().len() as u64;
+    let first = behind_front(front, own);
+    let arcs = front_arcs(alloc, instance, front)?;
+    let mut rates = front_rates(alloc, working.len(), front)?;
+    let least = least_of(certificate.answer());
+    let checker = Checker::new(instance, table, front, &arcs, least);
+    let lines = certificate.tree();
+    Ok(judge_tree(alloc, &checker, lines, first, working, &mut rates)?)
+}
+
+/// The first fault of the marked walks, or of the tree, where all cycles are walks.
+fn inner_fault(
+    alloc: Global,
+    instance: &Instance,
+    front: &Option<Marks>,
+    certificate: &Certificate,
+    table: &[Nets],
+    working: &mut [i128],
+) -> Result<Option<Refusal>, Memory>
     requires nets { AreNets (length instance.now.rows) certificate.now.cycles table.now }
     requires long { length working.old ≡ length instance.now.rows }
     requires zeros { AreZeros working.old }
     ensures { IfOk result (λ found. MatchOption found
-        (AreSound None (net_of instance.now) certificate.now.cycles
+        (IfSome front.now (λ marks. All (IsMarkedWalk (instances.arcs_of instance.now)) marks.walks)
+        × AreSound front.now (net_of instance.now) certificate.now.cycles
         (spec.least_of certificate.now.answer) (lines_of certificate.now)
         (nodes.root (net_of instance.now) certificate.now.cycles ∷ []))
-        (λ refusal. IsLinesFault None (net_of instance.now) certificate.now.cycles
-        (spec.least_of certificate.now.answer) (lines_of certificate.now)
-        (nodes.root (net_of instance.now) certificate.now.cycles ∷ [])
-        (first_tree_line None certificate.now) refusal)) }
+        (λ refusal. IsInnerFault front.now instance.now certificate.now refusal)) }
 {
-    let first = 4 + certificate.times().len() as u64 + certificate.cycles().len() as u64;
-    let checker = Checker::new(instance, table, least_of(certificate.answer()));
-    judge_tree(alloc, &checker, certificate.tree(), first, working)
+    let cycles = certificate.cycles().len();
+    let found = walks_fault(alloc, instance, cycles, front, working)?;
+    if found.is_some() {
+        return Ok(found);
+    }
+    tree_fault(alloc, instance, front, certificate, table, working)
 }
 
 /// The first fault of a certificate.
 fn first_fault(
     alloc: Global,
     instance: &Instance,
+    front: &Option<Marks>,
     certificate: &Certificate,
-) -> Result<Option<Refusal>, AllocError>
-    ensures found { IfOk result (λ found. MatchOption found (IsValid None instance.now certificate.now)
-        (λ refusal. IsFirstFault None instance.now certificate.now refusal)) }
+) -> Result<Option<Refusal>, Memory>
+    ensures found { IfOk result
+        (λ found. MatchOption found (IsValid front.now instance.now certificate.now)
+        (λ refusal. IsFirstFault front.now instance.now certificate.now refusal)) }
     ensures limits { KeepsLimits instance.now }
 {
     if certificate.period() != instance.period() {
@@ -63,21 +165,44 @@ fn first_fault(
     if found.is_some() {
         return Ok(found);
     }
-    let line = 3 + times.len() as u64;
+    let line = behind_front(front, 3 + times.len() as u64);
     let mut working = zeros(alloc, instance.rows().len())?;
     match judge_cycles(alloc, instance, certificate.cycles(), line, &mut working)? {
-        Ok(table) => tree_fault(alloc, instance, certificate, &table, &mut working),
+        Ok(table) => inner_fault(alloc, instance, front, certificate, &table, &mut working),
         Err(refusal) => Ok(Some(refusal)),
     }
 }
 
-/// Judges a certificate, whoever made it: `Accepted` exactly where it is valid for the instance, and then its answer is true
-/// of the instance's own activities; else `Refused` with the first thing that is wrong. `Memory` only where a growth was
-/// refused.
+/// Judges a certificate behind a front, where there is one, whoever made it: `Accepted` exactly where it is valid for the
+/// instance, and then its answer is true of the instance's own activities; else `Refused` with the first thing that is wrong.
+/// `Memory` only where a growth was refused.
 ///
-/// It looks at the period, the shape of the answer, the shown times, then at the cycles in order, then at the lines of the
-/// tree in order. A leaf's work depends on the rows that its cycles pass, that of a leaf closed by propagation on all rows,
-/// a branch takes constant work, and no call depth grows with the tree.
+/// It looks at the period, the shape of the answer, the shown times, then at the cycles in order, then at the marked walks in
+/// order, then at the lines of the tree in order. Lines are those of the text with its front, and a marked walk that isn't
+/// closed is told as `OpenWalk` by its number, which goes on from the cycles'. A leaf's work depends on the rows that its
+/// cycles and walks pass; one that names marked walks takes that of all rows once, and so does one closed by propagation. A
+/// branch takes constant work, and no call depth grows with the tree.
+pub fn check_behind(
+    alloc: Global,
+    instance: &Instance,
+    front: &Option<Marks>,
+    certificate: &Certificate,
+) -> Result<Verdict, Memory>
+    ensures verdict { IfOk result
+        (λ verdict. IsVerdict front.now instance.now certificate.now verdict) }
+    ensures exactly { IfOk result
+        (λ verdict. (verdict ≡ Verdict.Accepted) ↔ IsValid front.now instance.now certificate.now) }
+    ensures truth { result ≡ Ok Verdict.Accepted
+        → IsTrueAnswer instance.now certificate.now.answer (shown_times certificate.now) }
+{
+    valid_is_true();
+    match first_fault(alloc, instance, front, certificate)? {
+        None => Ok(Verdict::Accepted),
+        Some(refusal) => Ok(Verdict::Refused(refusal)),
+    }
+}
+
+/// Judges a certificate without a front, as `check_behind` does.
 pub fn check(
     alloc: Global,
     instance: &Instance,
@@ -89,9 +214,6 @@ pub fn check(
     ensures truth { result ≡ Ok Verdict.Accepted
         → IsTrueAnswer instance.now certificate.now.answer (shown_times certificate.now) }
 {
-    valid_is_true();
-    match first_fault(alloc, instance, certificate)? {
-        None => Ok(Verdict::Accepted),
-        Some(refusal) => Ok(Verdict::Refused(refusal)),
-    }
+    let none = None;
+    check_behind(alloc, instance, &none, certificate)
 }

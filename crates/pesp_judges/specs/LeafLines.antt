@@ -4,7 +4,7 @@ use Rattle.pesp_problem.specs.declared.pair.Pair.{Pair}
 use Rattle.pesp_truth.specs.Trees.{Leaf, Bound, Nothing, Gap}
 use Rattle.pesp_judges.specs.declared.leaf_line.LeafLine.{LeafLine}
 use Rattle.pesp_judges.specs.declared.leaf_line.LeafLine.TheVariants.{Bound as SaysBound, Nothing as SaysNothing, Gap as SaysGap}
-use Rattle.pesp_judges.specs.Lines.{ArePairLimits}
+use Rattle.pesp_leaves.specs.Flows.{ArePairLimits}
 
 -- the leaf that is said
 abbrev pub leaf_said : {P : Type 0} → (P → List Pair) → LeafLine P → Leaf

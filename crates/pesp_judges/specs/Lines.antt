@@ -1,8 +1,7 @@
 -- A tree by its lines: each is judged at the first of the nodes that wait.
-use Rattle.std.specs.Prelude.{◌≡◌, ◌⊎◌, ℕ, ◌+◌, ◌≤◌, List, [], ◌∷◌, length, map, drop, unsigned_abs, All, Option, MatchOption}
-use Rattle.pesp_problem.specs.declared.limits.TheConstants.{MOST_CYCLES, MOST_MULTIPLIER, MOST_OFFSET, MOST_SLACK}
+use Rattle.std.specs.Prelude.{◌≡◌, ◌⊎◌, ℕ, ◌+◌, ◌≤◌, List, [], ◌∷◌, length, map, drop, unsigned_abs, Option, MatchOption}
+use Rattle.pesp_problem.specs.declared.limits.TheConstants.{MOST_OFFSET, MOST_SLACK}
 use Rattle.pesp_problem.specs.declared.row.SignedRow.{SignedRow}
-use Rattle.pesp_problem.specs.declared.pair.Pair.{Pair}
 use Rattle.pesp_problem.specs.declared.cut.Cut.{Cut}
 use Rattle.pesp_problem.specs.declared.cut.Cut.TheVariants.{Slack as SlackCut, Offset as OffsetCut}
 use Rattle.pesp_problem.specs.Arcs.{Net}
@@ -11,6 +10,7 @@ use Rattle.pesp_problem.specs.Nodes.{Node, low_part, high_part}
 use Rattle.pesp_truth.specs.declared.tree.TreeLine.{TreeLine}
 use Rattle.pesp_truth.specs.declared.tree.TreeLine.TheVariants.{Slack, Offset, Bound, Nothing, Gap, Propagated}
 use Rattle.pesp_truth.specs.Marks.{Marks}
+use Rattle.pesp_leaves.specs.Flows.{ArePairLimits}
 use Rattle.pesp_truth.specs.Trees.{Leaf, Reason, Line, EndLine, CutLine, CutExists, IsShut, IsSoundLeaf, AreSound}
 use Rattle.pesp_truth.specs.Certificates.{line_of}
 use Rattle.pesp_judges.specs.declared.refusal.Refusal.{Refusal}
@@ -65,10 +65,6 @@ pub record AreJudged (front : Option Marks) (n : Net) (table : List (List Signed
   pub sound : AreSound front n table least (map line_of (drop k lines)) nodes → AreSound front n table least (map line_of lines) (node ∷ [])
   pub fault : (refusal : Refusal) → IsLinesFault front n table least (map line_of (drop k lines)) nodes
       (first + k) refusal → IsLinesFault front n table least (map line_of lines) (node ∷ []) first refusal
-
--- few enough pairs, with multipliers within their limit
-abbrev pub ArePairLimits : List Pair → Type 0
-ArePairLimits pairs = All (λ pair. unsigned_abs pair.mult ≤ MOST_MULTIPLIER) pairs × (length pairs ≤ MOST_CYCLES)
 
 -- the numbers of a line are within their limits
 abbrev pub KeepsLineLimits : TreeLine → Type 0

@@ -7,7 +7,8 @@ ghost use Rattle.pesp_problem.specs.Walks.{Names};
 ghost use Rattle.pesp_truth.specs.Trees as trees;
 ghost use Rattle.pesp_nets.specs.Nets.{AreZeros, AreNets};
 ghost use Rattle.pesp_leaves.specs.Ranges.{node_of, AreRanges};
-ghost use Rattle.pesp_judges.specs.Lines.{IsLeafVerdict, IsReasonVerdict, ArePairLimits};
+ghost use Rattle.pesp_leaves.specs.Flows.{ArePairLimits};
+ghost use Rattle.pesp_judges.specs.Lines.{IsLeafVerdict, IsReasonVerdict};
 ghost use Rattle.pesp_judges.specs.LeafLines.{leaf_said, KeepsLeafLimits};
 
 use crate::refusal::Refusal;
@@ -53,7 +54,7 @@ fn is_at_least(value: Option<i128>, least: u64) -> bool
 }
 
 /// Whether there is a value and it is above 0.
-fn is_positive(value: Option<i128>) -> bool
+pub fn is_positive(value: Option<i128>) -> bool
     ensures { IsTrue result ↔ IsSomeAnd value (λ v. pos 0 <ℤ v) }
 {
     match value {
@@ -146,8 +147,8 @@ fn judge_gap(checker: &Checker<'_>, ranges: &Ranges, cycle: u32, line: u64) -> O
     None
 }
 
-/// What is wrong with a leaf at a node.
-pub fn judge_leaf<P: Elements<Pair>>(
+/// What is wrong with a leaf at a node, without a front.
+pub fn judge_plain<P: Elements<Pair>>(
     checker: &Checker<'_>,
     ranges: &Ranges,
     leaf: LeafLine<P>,

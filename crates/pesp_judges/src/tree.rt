@@ -1,18 +1,21 @@
 //! The tree of a certificate, line by line.
 
-ghost use Rattle.std.specs.Prelude.{◌≡◌, ◌≢◌, ◌↔◌, ℕ, ◌<◌, IsTrue, List, [], length, IfOk, IfNone, Option, None};
+ghost use Rattle.std.specs.Prelude.{◌≡◌, ◌≢◌, ◌↔◌, ℕ, ◌<◌, IsTrue, List, [], length, IfOk, IfNone, Option, IfSome};
 ghost use Rattle.pesp_problem.specs.declared.row.SignedRow.{SignedRow};
 ghost use Rattle.pesp_problem.specs.Arcs.{net_of};
+ghost use Rattle.pesp_truth.specs.Marks.{Marks};
 ghost use Rattle.pesp_truth.specs.Trees.{CutLine, EndLine, Shut, ByPropagation};
 ghost use Rattle.pesp_nets.specs.Nets.{AreZeros, AreNets};
 ghost use Rattle.pesp_judges.specs.Lines.{after, IsLineVerdict, CutIsNamed, IsSmallCut};
 ghost use Rattle.pesp_judges.specs.LeafLines.{leaf_said, KeepsLeafLimits};
 ghost use Rattle.pesp_judges.specs.SaidLines.{line_said, KeepsSaidLimits};
 
-use crate::leaf_line::{LeafLine, judge_leaf, names};
+use crate::leaf_judge::judge_leaf;
+use crate::leaf_line::{LeafLine, names};
 use crate::node_walk::NodeWalk;
 use crate::refusal::Refusal;
 use pesp_leaves::{Checker, Elements};
+use pesp_nets::Rates;
 use pesp_problem::{Cut, Instance, Pair};
 use std::alloc::{AllocError, Global};
 
@@ -47,9 +50,9 @@ fn take_branch(
     requires limits { IsSmallCut cut }
     ensures problem { walk.new.problem ≡ checker.now.instance.now }
     ensures cycles { walk.new.cycles ≡ length checker.now.table.now }
-    ensures verdict { IfOk result (λ found. (walks : List (List SignedRow)) (least : Option ℕ)
+    ensures verdict { IfOk result (λ found. (front : Option Marks) (walks : List (List SignedRow)) (least : Option ℕ)
         → AreNets (length checker.now.instance.now.rows) walks checker.now.table.now
-        → IsLineVerdict None (net_of checker.now.instance.now) walks least (CutLine cut) walk.old.nodes
+        → IsLineVerdict front (net_of checker.now.instance.now) walks least (CutLine cut) walk.old.nodes
         walk.new.nodes line found) }
     ensures nodes { IfOk result
         (λ found. IfNone found (walk.new.nodes ≡ after (CutLine cut) walk.old.nodes)) }
@@ -67,25 +70,28 @@ fn take_leaf<P: Elements<Pair>>(
     walk: &mut NodeWalk<'_>,
     leaf: LeafLine<P>,
     line: u64,
-    working: &mut [i128],
+    flows: &mut [i128],
+    rates: &mut [Rates],
 ) -> Option<Refusal>
     requires problem { walk.old.problem ≡ checker.now.instance.now }
     requires cycles { walk.old.cycles ≡ length checker.now.table.now }
     requires open { walk.old.nodes ≢ [] }
     requires limits { KeepsLeafLimits P.elements leaf }
-    requires long { length working.old ≡ length checker.now.instance.now.rows }
-    requires zeros { AreZeros working.old }
+    requires long { length flows.old ≡ length checker.now.instance.now.rows }
+    requires wide { IfSome checker.now.front.now
+        (λ marks. length rates.old ≡ length checker.now.instance.now.rows) }
+    requires zeros { AreZeros flows.old }
     ensures problem { walk.new.problem ≡ checker.now.instance.now }
     ensures cycles { walk.new.cycles ≡ length checker.now.table.now }
     ensures verdict { (walks : List (List SignedRow))
         → AreNets (length checker.now.instance.now.rows) walks checker.now.table.now
-        → IsLineVerdict None (net_of checker.now.instance.now) walks checker.now.least
+        → IsLineVerdict checker.now.front.now (net_of checker.now.instance.now) walks checker.now.least
         (EndLine (leaf_said P.elements leaf)) walk.old.nodes walk.new.nodes line result }
     ensures nodes { IfNone result
         (walk.new.nodes ≡ after (EndLine (leaf_said P.elements leaf)) walk.old.nodes) }
-    ensures zeros { AreZeros working.new }
+    ensures zeros { AreZeros flows.new }
 {
-    let found = judge_leaf(checker, walk.ranges(), leaf, line, working);
+    let found = judge_leaf(checker, walk.ranges(), leaf, line, flows, rates);
     walk.leaf();
     found
 }
@@ -100,8 +106,8 @@ fn take_propagated(
     requires open { walk.old.nodes ≢ [] }
     ensures problem { walk.new.problem ≡ walk.old.problem }
     ensures cycles { walk.new.cycles ≡ walk.old.cycles }
-    ensures verdict { IfOk result (λ found. (walks : List (List SignedRow)) (least : Option ℕ)
-        → IsLineVerdict None (net_of walk.old.problem) walks least (EndLine (Shut ByPropagation))
+    ensures verdict { IfOk result (λ found. (front : Option Marks) (walks : List (List SignedRow)) (least : Option ℕ)
+        → IsLineVerdict front (net_of walk.old.problem) walks least (EndLine (Shut ByPropagation))
         walk.old.nodes walk.new.nodes line found) }
     ensures nodes { IfOk result (λ found. IfNone found
         (walk.new.nodes ≡ after (EndLine (Shut ByPropagation)) walk.old.nodes)) }
@@ -114,34 +120,38 @@ fn take_propagated(
     Ok(Some(Refusal::NotPropagated { line }))
 }
 
-/// Takes a line of the tree: what is wrong with it at the first of the nodes that wait. The next nodes wait then.
+/// Takes a line of the tree: what is wrong with it at the first of the nodes that wait. The next nodes wait then. The flows, one a
+/// row, are 0 before and after.
 pub fn take_line<P: Elements<Pair>>(
     alloc: Global,
     checker: &Checker<'_>,
     walk: &mut NodeWalk<'_>,
     said: SaidLine<P>,
     line: u64,
-    working: &mut [i128],
+    flows: &mut [i128],
+    rates: &mut [Rates],
 ) -> Result<Option<Refusal>, AllocError>
     requires problem { walk.old.problem ≡ checker.now.instance.now }
     requires cycles { walk.old.cycles ≡ length checker.now.table.now }
     requires open { walk.old.nodes ≢ [] }
     requires limits { KeepsSaidLimits P.elements said }
-    requires long { length working.old ≡ length checker.now.instance.now.rows }
-    requires zeros { AreZeros working.old }
+    requires long { length flows.old ≡ length checker.now.instance.now.rows }
+    requires wide { IfSome checker.now.front.now
+        (λ marks. length rates.old ≡ length checker.now.instance.now.rows) }
+    requires zeros { AreZeros flows.old }
     ensures problem { walk.new.problem ≡ checker.now.instance.now }
     ensures cycles { walk.new.cycles ≡ length checker.now.table.now }
     ensures verdict { IfOk result (λ found. (walks : List (List SignedRow))
         → AreNets (length checker.now.instance.now.rows) walks checker.now.table.now
-        → IsLineVerdict None (net_of checker.now.instance.now) walks checker.now.least
+        → IsLineVerdict checker.now.front.now (net_of checker.now.instance.now) walks checker.now.least
         (line_said P.elements said) walk.old.nodes walk.new.nodes line found) }
     ensures nodes { IfOk result (λ found. IfNone found
         (walk.new.nodes ≡ after (line_said P.elements said) walk.old.nodes)) }
-    ensures zeros { AreZeros working.new }
+    ensures zeros { AreZeros flows.new }
 {
     match said {
         SaidLine::Branch(cut) => take_branch(checker, walk, cut, line),
-        SaidLine::Leaf(leaf) => Ok(take_leaf(checker, walk, leaf, line, working)),
+        SaidLine::Leaf(leaf) => Ok(take_leaf(checker, walk, leaf, line, flows, rates)),
         SaidLine::Propagated => take_propagated(alloc, walk, line),
     }
 }

@@ -1,6 +1,6 @@
 //! Whether the lines of a certificate are a tree that is sound at the root.
 
-ghost use Rattle.std.specs.Prelude.{◌≡◌, ◌+◌, ◌≤◌, ◌<◌, ◌^◌, List, [], ◌∷◌, length, true, map, All, IfOk, MatchOption, None};
+ghost use Rattle.std.specs.Prelude.{◌≡◌, ◌+◌, ◌≤◌, ◌<◌, ◌^◌, List, [], ◌∷◌, length, true, map, All, IfOk, MatchOption, IfSome};
 ghost use Rattle.pesp_problem.specs.declared.limits.TheConstants.{MOST_LINES};
 ghost use Rattle.pesp_problem.specs.declared.row.SignedRow.{SignedRow};
 ghost use Rattle.pesp_problem.specs.Arcs.{net_of};
@@ -17,6 +17,7 @@ use crate::refusal::Refusal;
 use crate::table::root;
 use crate::tree::{SaidLine, take_line};
 use pesp_leaves::Checker;
+use pesp_nets::Rates;
 use pesp_problem::{Cut, Pair};
 use pesp_truth::TreeLine;
 use std::alloc::{AllocError, Global};
@@ -39,26 +40,30 @@ pub fn said_by(tree_line: &TreeLine) -> SaidLine<&[Pair]>
     }
 }
 
-/// The first fault of a tree at the root; its lines begin with the line `first`.
+/// The first fault of a tree at the root; its lines begin with the line `first`. The flows, one a row, are 0 before; behind a
+/// front there is a pair of rates for each row.
 pub fn judge_tree(
     alloc: Global,
     checker: &Checker<'_>,
     lines: &[TreeLine],
     first: u64,
-    working: &mut [i128],
+    flows: &mut [i128],
+    rates: &mut [Rates],
 ) -> Result<Option<Refusal>, AllocError>
     requires lines { All KeepsLineLimits lines.now }
     requires whole { are_trees 1 (map line_of lines.now) ≡ true }
     requires first { first < 2 ^ 62 }
     requires few { length lines.now ≤ MOST_LINES }
-    requires long { length working.old ≡ length checker.now.instance.now.rows }
-    requires zeros { AreZeros working.old }
+    requires long { length flows.old ≡ length checker.now.instance.now.rows }
+    requires wide { IfSome checker.now.front.now
+        (λ marks. length rates.old ≡ length checker.now.instance.now.rows) }
+    requires zeros { AreZeros flows.old }
     ensures { IfOk result (λ found. (walks : List (List SignedRow))
         → AreNets (length checker.now.instance.now.rows) walks checker.now.table.now
         → MatchOption found
-        (AreSound None (net_of checker.now.instance.now) walks checker.now.least
+        (AreSound checker.now.front.now (net_of checker.now.instance.now) walks checker.now.least
         (map line_of lines.now) (nodes.root (net_of checker.now.instance.now) walks ∷ []))
-        (λ refusal. IsLinesFault None (net_of checker.now.instance.now) walks checker.now.least
+        (λ refusal. IsLinesFault checker.now.front.now (net_of checker.now.instance.now) walks checker.now.least
         (map line_of lines.now) (nodes.root (net_of checker.now.instance.now) walks ∷ []) first
         refusal)) }
 {
@@ -66,7 +71,15 @@ pub fn judge_tree(
     let mut walk = NodeWalk::new(alloc, checker.instance, ranges);
     for (place, tree_line) in lines.iter().enumerate() {
         let line = first + place as u64;
-        let found = take_line(alloc, checker, &mut walk, said_by(tree_line), line, working)?;
+        let found = take_line(
+            alloc,
+            checker,
+            &mut walk,
+            said_by(tree_line),
+            line,
+            flows,
+            rates,
+        )?;
         if found.is_some() {
             return Ok(found);
         }

@@ -5,3 +5,6 @@ pub mod Idle
 pub mod Flowing
 pub mod Taking
 pub mod Leaves
+pub mod Naming
+pub mod Summing
+pub mod Worth

@@ -26,6 +26,10 @@ AreSmallFlows flows = (i : ℕ) → i < length flows → unsigned_abs (number_at
 abbrev pub ArePairs : ℕ → List Pair → Type 0
 ArePairs cycles pairs = All (λ pair. Names cycles pair.cycle × (unsigned_abs pair.mult ≤ MOST_MULTIPLIER)) pairs × (length pairs ≤ MOST_CYCLES)
 
+-- few enough pairs, with multipliers within their limit
+abbrev pub ArePairLimits : List Pair → Type 0
+ArePairLimits pairs = All (λ pair. unsigned_abs pair.mult ≤ MOST_MULTIPLIER) pairs × (length pairs ≤ MOST_CYCLES)
+
 -- what a flow on the row at place i changes: of what its slack costs at least, and by its lower bound
 abbrev pub flow_term : List Arc → List (ℕ × ℕ) → Bool → ℕ → ℤ → ℤ
 flow_term arcs slacks weighted i flow =

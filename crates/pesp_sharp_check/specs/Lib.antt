@@ -1,3 +1,1 @@
-pub mod Gains
-pub mod Verdicts
 pub mod Costs

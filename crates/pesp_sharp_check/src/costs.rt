@@ -1,6 +1,6 @@
 //! What the lines of a valid certificate's tree show.
 
-ghost use Rattle.std.specs.Prelude.{◌≡◌, ◌≢◌, ◌<◌, ◌≤◌, List, [], ◌∷◌, length, drop, All, Some, IfOk, OnOk};
+ghost use Rattle.std.specs.Prelude.{◌≡◌, ◌≢◌, ◌<◌, ◌≤◌, List, [], ◌∷◌, length, drop, All, Some, IsSome, IfOk, OnOk};
 ghost use Rattle.pesp_problem.specs.declared.row.SignedRow.{SignedRow};
 ghost use Rattle.pesp_problem.specs.Arcs.{arcs_of, net_of};
 ghost use Rattle.pesp_problem.specs.Walks.{IsWalk};
@@ -11,7 +11,8 @@ ghost use Rattle.pesp_truth.specs.Certificates.{lines_of, IsValid};
 ghost use Rattle.pesp_truth.specs.Certificates as spec;
 ghost use Rattle.pesp_nets.specs.Nets.{AreZeros, AreNets};
 ghost use Rattle.pesp_leaves.specs.Ranges.{node_of, AreRanges};
-ghost use Rattle.pesp_judges.specs.Lines.{after, ArePairLimits};
+ghost use Rattle.pesp_leaves.specs.Flows.{ArePairLimits};
+ghost use Rattle.pesp_judges.specs.Lines.{after};
 ghost use Rattle.pesp_judges.specs.SaidLines.{line_said, KeepsSaidLimits};
 ghost use Rattle.pesp_judges.specs.LeafLines.{leaf_said, KeepsLeafLimits};
 ghost use Rattle.pesp_truth.specs.Marks as marked;
@@ -21,13 +22,10 @@ ghost use Rattle.pesp_sharp_text.specs.Texts as texts;
 ghost use Rattle.pesp_sharp_check.specs.Costs as costs;
 ghost use Rattle.pesp_sharp_check.specs.Costs.{LeafIsNamed, LineIsNamed, line_shows, shown_at, shown_in, shown_of};
 
-use crate::checker::MarksChecker;
-use crate::pairs::uses_walks;
-use crate::values::value_by_scale;
 use pesp_cert::Certificate;
 use pesp_judges::{
     Checker, Elements, LeafLine, Nets, NodeWalk, Ranges, SaidLine, judge_cycles, least_of, root,
-    said_by, zeros,
+    said_by, uses_walks, value_by_scale, zeros,
 };
 use pesp_nets::{Rates, no_rates};
 use pesp_problem::exact::ceil_div;
@@ -63,123 +61,131 @@ fn scale_of(marks: &Marks, uses: bool) -> u32
 
 /// What a bound leaf with these pairs shows at a node; none where a cycle of a pair has no offset left.
 fn cost_at<P: Elements<Pair>>(
-    checker: &MarksChecker<'_>,
+    checker: &Checker<'_>,
+    marks: &Marks,
     ranges: &Ranges,
     pairs: P,
     flows: &mut [i128],
     rates: &mut [Rates],
 ) -> Option<u64>
-    requires ranges { AreRanges checker.now.plain.instance.now ranges.now }
-    requires cycles { length ranges.now.offsets.items ≡ length checker.now.plain.table.now }
-    requires named { AreNamed (length checker.now.plain.table.now)
-        (length checker.now.marks.now.walks) (P.elements pairs) }
+    requires front { checker.now.front.now ≡ Some marks.now }
+    requires ranges { AreRanges checker.now.instance.now ranges.now }
+    requires cycles { length ranges.now.offsets.items ≡ length checker.now.table.now }
+    requires named { AreNamed (length checker.now.table.now)
+        (length marks.now.walks) (P.elements pairs) }
     requires limits { ArePairLimits (P.elements pairs) }
-    requires long { length flows.old ≡ length checker.now.plain.instance.now.rows }
-    requires wide { length rates.old ≡ length checker.now.plain.instance.now.rows }
+    requires long { length flows.old ≡ length checker.now.instance.now.rows }
+    requires wide { length rates.old ≡ length checker.now.instance.now.rows }
     requires zeros { AreZeros flows.old }
     ensures shown { (walks : List (List SignedRow))
-        → AreNets (length checker.now.plain.instance.now.rows) walks checker.now.plain.table.now
-        → result ≡ shown_at (net_of checker.now.plain.instance.now) walks checker.now.marks.now
+        → AreNets (length checker.now.instance.now.rows) walks checker.now.table.now
+        → result ≡ shown_at (net_of checker.now.instance.now) walks marks.now
         (trees.Bound (P.elements pairs)) (node_of ranges.now) }
     ensures zeros { AreZeros flows.new }
 {
-    let uses = uses_walks(checker.plain.table.len(), pairs);
-    let scale = scale_of(checker.marks, uses);
-    let value = value_by_scale(checker, ranges, pairs, true, scale, flows, rates)?;
+    let uses = uses_walks(checker.table.len(), pairs);
+    let scale = scale_of(marks, uses);
+    let value = value_by_scale(checker, marks, ranges, pairs, true, scale, flows, rates)?;
     Some(told(ceil_div(value, scale)))
 }
 
 /// What a leaf shows at a node; none where it is no bound leaf.
 fn leaf_cost<P: Elements<Pair>>(
-    checker: &MarksChecker<'_>,
+    checker: &Checker<'_>,
+    marks: &Marks,
     ranges: &Ranges,
     leaf: LeafLine<P>,
     flows: &mut [i128],
     rates: &mut [Rates],
 ) -> Option<u64>
-    requires ranges { AreRanges checker.now.plain.instance.now ranges.now }
-    requires cycles { length ranges.now.offsets.items ≡ length checker.now.plain.table.now }
-    requires named { LeafIsNamed (length checker.now.plain.table.now)
-        (length checker.now.marks.now.walks) (leaf_said P.elements leaf) }
+    requires front { checker.now.front.now ≡ Some marks.now }
+    requires ranges { AreRanges checker.now.instance.now ranges.now }
+    requires cycles { length ranges.now.offsets.items ≡ length checker.now.table.now }
+    requires named { LeafIsNamed (length checker.now.table.now)
+        (length marks.now.walks) (leaf_said P.elements leaf) }
     requires limits { KeepsLeafLimits P.elements leaf }
-    requires long { length flows.old ≡ length checker.now.plain.instance.now.rows }
-    requires wide { length rates.old ≡ length checker.now.plain.instance.now.rows }
+    requires long { length flows.old ≡ length checker.now.instance.now.rows }
+    requires wide { length rates.old ≡ length checker.now.instance.now.rows }
     requires zeros { AreZeros flows.old }
     ensures shown { (walks : List (List SignedRow))
-        → AreNets (length checker.now.plain.instance.now.rows) walks checker.now.plain.table.now
-        → result ≡ shown_at (net_of checker.now.plain.instance.now) walks checker.now.marks.now
+        → AreNets (length checker.now.instance.now.rows) walks checker.now.table.now
+        → result ≡ shown_at (net_of checker.now.instance.now) walks marks.now
         (leaf_said P.elements leaf) (node_of ranges.now) }
     ensures zeros { AreZeros flows.new }
 {
     match leaf {
-        LeafLine::Bound(pairs) => cost_at(checker, ranges, pairs, flows, rates),
+        LeafLine::Bound(pairs) => cost_at(checker, marks, ranges, pairs, flows, rates),
         LeafLine::Nothing(_) | LeafLine::Gap(_) => None,
     }
 }
 
 /// Passes a leaf: what it shows at the first of the nodes that wait. The next one is the first then.
 fn pass_leaf<P: Elements<Pair>>(
-    checker: &MarksChecker<'_>,
+    checker: &Checker<'_>,
+    marks: &Marks,
     walk: &mut NodeWalk<'_>,
     leaf: LeafLine<P>,
     flows: &mut [i128],
     rates: &mut [Rates],
 ) -> Option<u64>
-    requires problem { walk.old.problem ≡ checker.now.plain.instance.now }
-    requires cycles { walk.old.cycles ≡ length checker.now.plain.table.now }
+    requires front { checker.now.front.now ≡ Some marks.now }
+    requires problem { walk.old.problem ≡ checker.now.instance.now }
+    requires cycles { walk.old.cycles ≡ length checker.now.table.now }
     requires waits { walk.old.nodes ≢ [] }
-    requires named { LeafIsNamed (length checker.now.plain.table.now)
-        (length checker.now.marks.now.walks) (leaf_said P.elements leaf) }
+    requires named { LeafIsNamed (length checker.now.table.now)
+        (length marks.now.walks) (leaf_said P.elements leaf) }
     requires limits { KeepsLeafLimits P.elements leaf }
-    requires long { length flows.old ≡ length checker.now.plain.instance.now.rows }
-    requires wide { length rates.old ≡ length checker.now.plain.instance.now.rows }
+    requires long { length flows.old ≡ length checker.now.instance.now.rows }
+    requires wide { length rates.old ≡ length checker.now.instance.now.rows }
     requires zeros { AreZeros flows.old }
-    ensures problem { walk.new.problem ≡ checker.now.plain.instance.now }
-    ensures cycles { walk.new.cycles ≡ length checker.now.plain.table.now }
+    ensures problem { walk.new.problem ≡ checker.now.instance.now }
+    ensures cycles { walk.new.cycles ≡ length checker.now.table.now }
     ensures shown { (walks : List (List SignedRow))
-        → AreNets (length checker.now.plain.instance.now.rows) walks checker.now.plain.table.now
+        → AreNets (length checker.now.instance.now.rows) walks checker.now.table.now
         → (node : Node) × (rest : List Node) × (walk.old.nodes ≡ node ∷ rest)
-        × (result ≡ shown_at (net_of checker.now.plain.instance.now) walks checker.now.marks.now
+        × (result ≡ shown_at (net_of checker.now.instance.now) walks marks.now
         (leaf_said P.elements leaf) node) }
     ensures nodes { walk.new.nodes ≡ drop 1 walk.old.nodes }
     ensures zeros { AreZeros flows.new }
 {
-    let shown = leaf_cost(checker, walk.ranges(), leaf, flows, rates);
+    let shown = leaf_cost(checker, marks, walk.ranges(), leaf, flows, rates);
     walk.leaf();
     shown
 }
 
 /// Passes a line of the tree: what it shows at the first of the nodes that wait. The next nodes wait then.
 fn pass_line<P: Elements<Pair>>(
-    checker: &MarksChecker<'_>,
+    checker: &Checker<'_>,
+    marks: &Marks,
     walk: &mut NodeWalk<'_>,
     said: SaidLine<P>,
     flows: &mut [i128],
     rates: &mut [Rates],
 ) -> Result<Option<u64>, AllocError>
-    requires problem { walk.old.problem ≡ checker.now.plain.instance.now }
-    requires cycles { walk.old.cycles ≡ length checker.now.plain.table.now }
+    requires front { checker.now.front.now ≡ Some marks.now }
+    requires problem { walk.old.problem ≡ checker.now.instance.now }
+    requires cycles { walk.old.cycles ≡ length checker.now.table.now }
     requires waits { walk.old.nodes ≢ [] }
-    requires named { LineIsNamed (length checker.now.plain.instance.now.rows)
-        (length checker.now.plain.table.now) (length checker.now.marks.now.walks)
+    requires named { LineIsNamed (length checker.now.instance.now.rows)
+        (length checker.now.table.now) (length marks.now.walks)
         (line_said P.elements said) }
     requires limits { KeepsSaidLimits P.elements said }
-    requires long { length flows.old ≡ length checker.now.plain.instance.now.rows }
-    requires wide { length rates.old ≡ length checker.now.plain.instance.now.rows }
+    requires long { length flows.old ≡ length checker.now.instance.now.rows }
+    requires wide { length rates.old ≡ length checker.now.instance.now.rows }
     requires zeros { AreZeros flows.old }
-    ensures problem { walk.new.problem ≡ checker.now.plain.instance.now }
-    ensures cycles { walk.new.cycles ≡ length checker.now.plain.table.now }
+    ensures problem { walk.new.problem ≡ checker.now.instance.now }
+    ensures cycles { walk.new.cycles ≡ length checker.now.table.now }
     ensures shown { IfOk result (λ shown. (walks : List (List SignedRow))
-        → AreNets (length checker.now.plain.instance.now.rows) walks checker.now.plain.table.now
+        → AreNets (length checker.now.instance.now.rows) walks checker.now.table.now
         → (node : Node) × (rest : List Node) × (walk.old.nodes ≡ node ∷ rest)
-        × (shown ≡ line_shows (net_of checker.now.plain.instance.now) walks checker.now.marks.now
+        × (shown ≡ line_shows (net_of checker.now.instance.now) walks marks.now
         (line_said P.elements said) node)) }
     ensures nodes { OnOk result
         (walk.new.nodes ≡ after (line_said P.elements said) walk.old.nodes) }
     ensures zeros { AreZeros flows.new }
 {
     match said {
-        SaidLine::Leaf(leaf) => Ok(pass_leaf(checker, walk, leaf, flows, rates)),
+        SaidLine::Leaf(leaf) => Ok(pass_leaf(checker, marks, walk, leaf, flows, rates)),
         SaidLine::Branch(cut) => {
             walk.branch(cut)?;
             Ok(None)
@@ -194,27 +200,29 @@ fn pass_line<P: Elements<Pair>>(
 /// What the lines of a certificate's sound tree show.
 fn tree_costs(
     alloc: Global,
-    checker: &MarksChecker<'_>,
+    checker: &Checker<'_>,
+    marks: &Marks,
     certificate: &Certificate,
     flows: &mut [i128],
     rates: &mut [Rates],
 ) -> Result<Vec<Option<u64>>, AllocError>
-    requires nets { AreNets (length checker.now.plain.instance.now.rows) certificate.now.cycles
-        checker.now.plain.table.now }
-    requires sound { AreSound (Some checker.now.marks.now) (net_of checker.now.plain.instance.now) certificate.now.cycles (spec.least_of certificate.now.answer) (lines_of certificate.now)
-        (nodes.root (net_of checker.now.plain.instance.now) certificate.now.cycles ∷ []) }
-    requires long { length flows.old ≡ length checker.now.plain.instance.now.rows }
-    requires wide { length rates.old ≡ length checker.now.plain.instance.now.rows }
+    requires front { checker.now.front.now ≡ Some marks.now }
+    requires nets { AreNets (length checker.now.instance.now.rows) certificate.now.cycles
+        checker.now.table.now }
+    requires sound { AreSound (Some marks.now) (net_of checker.now.instance.now) certificate.now.cycles (spec.least_of certificate.now.answer) (lines_of certificate.now)
+        (nodes.root (net_of checker.now.instance.now) certificate.now.cycles ∷ []) }
+    requires long { length flows.old ≡ length checker.now.instance.now.rows }
+    requires wide { length rates.old ≡ length checker.now.instance.now.rows }
     requires zeros { AreZeros flows.old }
-    ensures { IfOk result (λ shown. shown.items ≡ shown_in (net_of checker.now.plain.instance.now)
-        certificate.now.cycles checker.now.marks.now (lines_of certificate.now)
-        (nodes.root (net_of checker.now.plain.instance.now) certificate.now.cycles ∷ [])) }
+    ensures { IfOk result (λ shown. shown.items ≡ shown_in (net_of checker.now.instance.now)
+        certificate.now.cycles marks.now (lines_of certificate.now)
+        (nodes.root (net_of checker.now.instance.now) certificate.now.cycles ∷ [])) }
 {
-    let ranges = root(alloc, checker.plain.instance, checker.plain.table)?;
-    let mut walk = NodeWalk::new(alloc, checker.plain.instance, ranges);
+    let ranges = root(alloc, checker.instance, checker.table)?;
+    let mut walk = NodeWalk::new(alloc, checker.instance, ranges);
     let mut shown = Vec::new(alloc);
     for line in certificate.tree() {
-        let cost = pass_line(checker, &mut walk, said_by(line), flows, rates)?;
+        let cost = pass_line(checker, marks, &mut walk, said_by(line), flows, rates)?;
         shown.push(cost)?;
     }
     Ok(shown)
@@ -240,34 +248,45 @@ fn table_of(
     }
 }
 
-/// What the lines of a valid certificate show that has these marked walks.
-fn costs_with(
+/// What the lines of a valid certificate show behind a front.
+fn costs_behind(
     alloc: Global,
     instance: &Instance,
-    marks: &Marks,
+    front: &Option<Marks>,
     certificate: &Certificate,
 ) -> Result<Vec<Option<u64>>, Memory>
-    requires { IsValid (Some marks.now) instance.now certificate.now }
+    requires some { IsSome front.now }
+    requires valid { IsValid front.now instance.now certificate.now }
     ensures { IfOk result (λ shown. shown.items
-        ≡ shown_of instance.now (record { front = Some marks.now; content = certificate.now })) }
+        ≡ shown_of instance.now (record { front = front.now; content = certificate.now })) }
 {
     lines_are_sound_as_tree();
+    let Some(marks) = front else {
+        return Ok(Vec::new(alloc));
+    };
     let mut working = zeros(alloc, instance.rows().len())?;
     let table = table_of(alloc, instance, certificate, &mut working)?;
     let arcs = instance.arcs(alloc)?;
-    let plain = Checker::new(instance, &table, least_of(certificate.answer()));
-    let checker = MarksChecker::new(plain, &arcs, marks);
+    let least = least_of(certificate.answer());
+    let checker = Checker::new(instance, &table, front, &arcs, least);
     let mut rates = no_rates(alloc, working.len())?;
-    let shown = tree_costs(alloc, &checker, certificate, &mut working, &mut rates)?;
+    let shown = tree_costs(
+        alloc,
+        &checker,
+        marks,
+        certificate,
+        &mut working,
+        &mut rates,
+    )?;
     Ok(shown)
 }
 
-/// No marked walks.
-fn no_marks(alloc: Global) -> Marks
-    ensures { result ≡ texts.no_marks }
+/// A front that marks no walk.
+fn no_walks(alloc: Global) -> Option<Marks>
+    ensures { result ≡ Some texts.no_marks }
 {
     match Marks::new(1, Vec::new(alloc)) {
-        Ok(marks) => marks,
+        Ok(marks) => Some(marks),
         Err(NotMarks) => unreachable!(),
     }
 }
@@ -285,7 +304,7 @@ pub fn costs_shown(
     a_front_without_walks_changes_nothing();
     let behind = &certificate.certificate;
     match &certificate.front {
-        Some(marks) => costs_with(alloc, instance, marks, behind),
-        None => costs_with(alloc, instance, &no_marks(alloc), behind),
+        Some(_) => costs_behind(alloc, instance, &certificate.front, behind),
+        None => costs_behind(alloc, instance, &no_walks(alloc), behind),
     }
 }

@@ -1,17 +1,7 @@
-//! The checker for leaves that marked walks sharpen: whoever made a certificate, with a front or without, it says yes only to
-//! what is true of the planner's own activities.
+//! The checker for certificates with a front, and what the lines of a valid one show.
 #![tactic(auto)]
 
-mod checker;
 mod costs;
-mod elements;
-mod gains;
-mod judge_leaf;
-mod judge_tree;
-mod judge_walks;
-mod pairs;
-mod tree;
-mod values;
 mod whole_check;
 
 pub use costs::costs_shown;

@@ -1,3 +1,2 @@
-pub mod Limits
 pub mod Said
 pub mod Prints

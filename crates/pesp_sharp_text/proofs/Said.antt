@@ -5,7 +5,7 @@ use Rattle.pesp_truth.specs.Certificates.{Content}
 use Rattle.pesp_cert_lines.specs.declared.versions.Versions.TheVariants.{All}
 use Rattle.pesp_cert.specs.declared.refusal.CertRefusal.{CertRefusal}
 use Rattle.pesp_cert.specs.declared.refusal.CertRefusal.TheVariants as refusals
-use Rattle.pesp_cert.specs.FrontLimits.{KeepsLimits}
+use Rattle.pesp_truth.specs.FrontLimits.{KeepsLimits}
 use Rattle.pesp_cert.specs.Drafts.{FrontValue, front_said}
 use Rattle.pesp_cert.specs.Refusals.{IsTextOf, ReadsWhole}
 use Rattle.pesp_cert.proofs.Runs.{limits_iff}

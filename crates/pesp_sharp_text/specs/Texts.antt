@@ -5,7 +5,7 @@ use Rattle.pesp_cert_lines.specs.declared.item.Item.{Item}
 use Rattle.pesp_cert_lines.specs.declared.versions.Versions.TheVariants.{All}
 use Rattle.pesp_cert.specs.declared.refusal.CertRefusal.{CertRefusal}
 use Rattle.pesp_cert.specs.declared.refusal.CertRefusal.TheVariants as refusals
-use Rattle.pesp_cert.specs.FrontLimits.{KeepsLimits}
+use Rattle.pesp_truth.specs.FrontLimits.{KeepsLimits}
 use Rattle.pesp_cert.specs.Texts.{HasText, text_of, front_items, spelling}
 use Rattle.pesp_cert.specs.Refusals.{items_of_text}
 use Rattle.pesp_truth.specs.Marks.{Marks}

@@ -1,7 +1,7 @@
 //! A certificate with its front.
 
-use crate::marks::Marks;
 use pesp_cert::Certificate;
+use pesp_truth::Marks;
 use std::marker::Model;
 
 /// A certificate, and the front of its text where it has one.

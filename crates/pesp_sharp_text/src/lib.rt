@@ -3,11 +3,10 @@
 
 mod fronted;
 pub mod laws;
-mod marks;
 mod printer;
 mod reader;
 
 pub use fronted::Fronted;
-pub use marks::{Marks, NotMarks};
+pub use pesp_truth::{Marks, NotMarks};
 pub use printer::print_fronted;
 pub use reader::parse_fronted;

@@ -1,6 +1,6 @@
 //! Printing a certificate with its front.
 
-ghost use Rattle.std.specs.Prelude.{◌≡◌, ◌^◌, OnOk, OnErr, codes, if◌then◌else◌};
+ghost use Rattle.std.specs.Prelude.{◌≡◌, ◌^◌, OnOk, OnErr, codes, if◌then◌else◌, Some};
 ghost use Rattle.std.specs.List.{flat_map};
 ghost use Rattle.pesp_stream.specs.Counts.{FewerThan, HasWorked, DeviceFailed};
 ghost use Rattle.pesp_stream.specs.Printing.{Sending, Sends};
@@ -10,10 +10,10 @@ ghost use Rattle.pesp_sharp_text.specs.Texts.{fronted_text, front_text};
 ghost use Rattle.pesp_cert_lines.specs.Marked.{star};
 
 use crate::fronted::Fronted;
-use crate::marks::Marks;
 use pesp_cert::Number;
 use pesp_nets::{MarkedRow, MarkedWalk};
 use pesp_stream::{Output, Printed, Sink, WriteFault, print_to};
+use pesp_truth::Marks;
 
 /// A space and a sign.
 fn sign_text(plus: bool) -> &'static str
@@ -66,23 +66,18 @@ fn print_walks<O: Output>(walks: &[MarkedWalk], out: &mut O)
     }
 }
 
-impl Printed for Marks {
-    ghost use Rattle.std.specs.Prelude.{Some};
-    ghost use Rattle.pesp_sharp_text.specs.Texts.{front_text};
-
-    ghost text = { λ m. front_text (Some m) };
-
-    fn print<O: Output>(&self, out: &mut O) {
-        ("pesp-certificate 3\nscale ", Number(self.scale()), "\n").print(out);
-        print_walks(self.walks(), out);
-    }
+fn print_marks<O: Output>(marks: &Marks, out: &mut O)
+    ensures { Sends (O.sending out.old) (O.sending out.new) (front_text (Some marks.now)) }
+{
+    ("pesp-certificate 3\nscale ", Number(marks.scale()), "\n").print(out);
+    print_walks(marks.walks(), out);
 }
 
 fn print_front<O: Output>(front: &Option<Marks>, out: &mut O)
     ensures { Sends (O.sending out.old) (O.sending out.new) (front_text front.now) }
 {
     if let Some(marks) = front {
-        marks.print(out);
+        print_marks(marks, out);
     }
 }
 

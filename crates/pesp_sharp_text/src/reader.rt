@@ -2,7 +2,7 @@
 
 ghost use Rattle.std.specs.Prelude.{◌≡◌, IfOk, IfErr, IfSome};
 ghost use Rattle.pesp_cert.specs.Drafts.{front_said};
-ghost use Rattle.pesp_cert.specs.FrontLimits.{KeepsLimits};
+ghost use Rattle.pesp_truth.specs.FrontLimits.{KeepsLimits};
 ghost use Rattle.pesp_sharp_text.specs.Faults.{IsRefusal};
 ghost use Rattle.pesp_sharp_text.specs.Texts.{said_of_text, IsFrontedText, ReadsTexts};
 

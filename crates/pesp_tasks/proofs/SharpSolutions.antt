@@ -6,7 +6,7 @@ use Rattle.pesp_truth.specs.Truth.{IsTrueAnswer}
 use Rattle.pesp_truth.specs.Certificates.{Content, shown_times}
 use Rattle.pesp_cert.specs.Texts.{HasText}
 use Rattle.pesp_truth.specs.Marks.{Marks}
-use Rattle.pesp_cert.specs.FrontLimits.{KeepsLimits}
+use Rattle.pesp_truth.specs.FrontLimits.{KeepsLimits}
 use Rattle.pesp_sharp_text.specs.Texts.{Fronted, IsFrontedText, fronted_text}
 use Rattle.pesp_search.specs.Solving.{CostsNoMore}
 use Rattle.pesp_sharp_search.specs.Solving.{IsSharpSolved}

@@ -3,7 +3,7 @@
 ghost use Rattle.std.specs.Prelude.{◌≡◌, IfSome};
 ghost use Rattle.pesp_truth.specs.Truth.{IsTrueAnswer};
 ghost use Rattle.pesp_truth.specs.Certificates.{shown_times};
-ghost use Rattle.pesp_cert.specs.FrontLimits.{KeepsLimits};
+ghost use Rattle.pesp_truth.specs.FrontLimits.{KeepsLimits};
 ghost use Rattle.pesp_sharp_text.specs.Texts.{IsFrontedText, fronted_text};
 ghost use Rattle.pesp_runs.specs.Bases.{IsSharpBase};
 

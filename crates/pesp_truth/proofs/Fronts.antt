@@ -15,7 +15,7 @@ use Rattle.pesp_nets.proofs.Values.{value_without_walks, cost_without_walks}
 use Rattle.pesp_truth.specs.Marks.{Marks, AreNamed, uses_walks}
 use Rattle.pesp_truth.specs.Trees.{Tree, Leaf, Ends, Branch, Bound, Shut, ByPairs, ByGap, ByPropagation, pairs_of_leaf, PairsExist, cost_by, lack_by, IsAtLeast, IsSoundLeaf, IsSound}
 use Rattle.pesp_truth.specs.Certificates.{Content, IsValid, least_of}
-use Rattle.pesp_truth.proofs.Marks.{at_most, no_walks, named_cycles}
+use Rattle.pesp_truth.proofs.Multipliers.{at_most, no_walks, named_cycles}
 
 -- ---- pairs
 

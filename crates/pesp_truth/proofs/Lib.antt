@@ -1,4 +1,6 @@
-pub mod Marks
+pub mod Multipliers
+pub mod Rooms
+pub mod FrontLimits
 pub mod Trees
 pub mod Lines
 pub mod NoBound

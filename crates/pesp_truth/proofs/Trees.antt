@@ -16,7 +16,7 @@ use Rattle.pesp_problem.proofs.Nodes.{leaf_value-le, no_weights, has_left, in_sl
 use Rattle.pesp_nets.proofs.Values.{bound_sums, shut_holds_none}
 use Rattle.pesp_truth.specs.Marks.{Marks, AreMarks, multipliers}
 use Rattle.pesp_truth.specs.Trees.{Tree, Leaf, Reason, Ends, Bound, Shut, ByPairs, ByGap, ByPropagation, Branch, CutExists, PairsExist, IsShut, IsSoundLeaf, IsSound}
-use Rattle.pesp_truth.proofs.Marks.{are_multipliers}
+use Rattle.pesp_truth.proofs.Multipliers.{are_multipliers}
 
 -- the sum of weight times slack over the arcs
 abbrev pub weighted_sum : Net → (ℕ → ℕ) → ℤ

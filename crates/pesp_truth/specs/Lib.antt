@@ -1,4 +1,5 @@
 pub mod Marks
+pub mod FrontLimits
 pub mod Trees
 pub mod Paths
 pub mod Truth

@@ -3,7 +3,9 @@
 
 mod answer;
 pub mod laws;
+mod marks;
 mod tree;
 
 pub use answer::Answer;
+pub use marks::{Marks, NotMarks, is_row_number, is_scale};
 pub use tree::TreeLine;

@@ -1,5 +1,5 @@
 use Rattle.std.proofs.Common.{length}
-use Rattle.pesp_cert.proofs.LimitLoops.{LeavesRoom}
+use Rattle.pesp_truth.proofs.Rooms.{LeavesRoom}
 use Rattle.pesp_cert.proofs.limits.has_few_rows.Given as goal
 
 abbrev pub invariant-loop-walk : goal.invariant-loop-walk

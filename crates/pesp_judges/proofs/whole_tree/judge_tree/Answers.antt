@@ -1,6 +1,6 @@
-use Rattle.std.proofs.Common.{◌≡◌, ◌+◌, ◌∙◌, sym, subst, false, Option, Some, None, arith}
+use Rattle.std.proofs.Common.{◌≡◌, ◌+◌, ◌∙◌, sym, subst, length, false, Option, Some, None, arith}
 use Rattle.std.proofs.lemmas.Grind.{common_steps}
-use Rattle.std.specs.Prelude.{is_some, IfNone, MatchOption}
+use Rattle.std.specs.Prelude.{ℕ, is_some, IfNone, IfSome, MatchOption}
 use Rattle.pesp_problem.specs.Arcs.{net_of}
 use Rattle.pesp_problem.specs.Nodes.{root}
 use Rattle.pesp_truth.specs.Trees.{Line}
@@ -18,6 +18,11 @@ of_match : (found : Option Refusal) (P : Type 0) (Q : Refusal → Type 0) → is
 of_match None P Q e h = h
 of_match (Some x) P Q e h = cc
 
+-- a slice stays as long as it was
+as_wide : {A : Type 0} (o : Option A) {m n : ℕ} (k : ℕ) → m ≡ n → IfSome o (λ _. n ≡ k) → IfSome o (λ _. m ≡ k)
+as_wide None k e h = tt
+as_wide (Some x) k e h = e ∙ h
+
 pub loop-place-preserved : goal.loop-place-preserved
 loop-place-preserved c =
     let none : is_some c.in_ok-found.found ≡ false = sym c.is_some.ensures ∙ c.if-is_some.false in
@@ -27,16 +32,17 @@ loop-place-preserved c =
       problem = c.in_ok-found.ensures.problem;
       cycles = c.in_ok-found.ensures.cycles;
       zeros = c.in_ok-found.ensures.zeros;
+      wide = as_wide c.args.checker.now.front.now (length c.args.checker.now.instance.now.rows) c.take_line.auto.rates c.loop-place.invariant.wide;
       whole = whole_more c.args.lines.now c.loop-place.place c.index-lines-place.result c.loop-place-test.true
           c.index-lines-place.is c.loop-place.walk.nodes c.take_line.new.walk.nodes nodes
           c.loop-place.invariant.whole;
       judged = λ walks nets.
-          let V : Line → Type 0 = λ l. IsLineVerdict None
+          let V : Line → Type 0 = λ l. IsLineVerdict c.args.checker.now.front.now
           (net_of c.args.checker.now.instance.now) walks c.args.checker.now.least l c.loop-place.walk.nodes
           c.take_line.new.walk.nodes (c.args.first + c.loop-place.place) c.in_ok-found.found in
           let sound = of_match c.in_ok-found.found _ _ none (subst V c.said_by.ensures.line (c.in_ok-found.ensures.verdict walks nets)) in
           judged_more c.args.lines.now c.loop-place.place c.index-lines-place.result c.loop-place-test.true
-          c.index-lines-place.is None (net_of c.args.checker.now.instance.now) walks c.args.checker.now.least
+          c.index-lines-place.is c.args.checker.now.front.now (net_of c.args.checker.now.instance.now) walks c.args.checker.now.least
           (root (net_of c.args.checker.now.instance.now) walks) c.args.first c.loop-place.walk.nodes
           (c.loop-place.invariant.judged walks nets) c.take_line.new.walk.nodes sound.0 nodes;
     }

@@ -12,14 +12,14 @@ use Rattle.pesp_sharp_check.proofs.costs.tree_costs.Goals as goal
 
 pub pass_line-requires-clause-named : goal.pass_line-requires-clause-named
 pass_line-requires-clause-named c =
-    let p = c.args.checker.now.plain.instance.now in
+    let p = c.args.checker.now.instance.now in
     let tree = c.args.certificate.now.tree in
     let k = c.loop-line.line-index in
     let within : k < length tree = rw c.tree-line-items.ensures.value at c.loop-line-test.true in
     let is : c.line-item.result ≡ get_or tree k c.line-item.result = rw c.tree-line-items.ensures.value at c.line-item.is in
-    let cycles = length c.args.checker.now.plain.table.now in
-    let P : Line → Type 0 = LineIsNamed (length p.rows) cycles (length c.args.checker.now.marks.now.walks) in
-    subst P (sym c.said_by.ensures.line) (next_named p c.args.certificate.now.cycles c.args.checker.now.marks.now
+    let cycles = length c.args.checker.now.table.now in
+    let P : Line → Type 0 = LineIsNamed (length p.rows) cycles (length c.args.marks.now.walks) in
+    subst P (sym c.said_by.ensures.line) (next_named p c.args.certificate.now.cycles c.args.marks.now
     (least_of c.args.certificate.now.answer) tree (root (net_of p) c.args.certificate.now.cycles ∷ []) k
     c.loop-line.walk.nodes c.loop-line.shown.items c.loop-line.invariant.shown c.line-item.result within is cycles
     c.requires.nets.long)
@@ -36,10 +36,10 @@ pass_line-requires-clause-limits c =
 
 pub loop-line-preserved : goal.loop-line-preserved
 loop-line-preserved c =
-    let p = c.args.checker.now.plain.instance.now in
+    let p = c.args.checker.now.instance.now in
     let tree = c.args.certificate.now.tree in
     let table = c.args.certificate.now.cycles in
-    let marks = c.args.checker.now.marks.now in
+    let marks = c.args.marks.now in
     let k = c.loop-line.line-index in
     let within : k < length tree = rw c.tree-line-items.ensures.value at c.loop-line-test.true in
     let is : c.line-item.result ≡ get_or tree k c.line-item.result = rw c.tree-line-items.ensures.value at c.line-item.is in

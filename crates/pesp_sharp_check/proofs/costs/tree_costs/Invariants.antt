@@ -8,11 +8,11 @@ use Rattle.pesp_sharp_check.proofs.costs.tree_costs.Given as goal
 
 abbrev pub invariant-loop-line : goal.invariant-loop-line
 invariant-loop-line l = record {
-  problem : l.walk.problem ≡ l.checker.plain.instance.now;
-  cycles : l.walk.cycles ≡ length l.checker.plain.table.now;
+  problem : l.walk.problem ≡ l.checker.instance.now;
+  cycles : l.walk.cycles ≡ length l.checker.table.now;
   zeros : AreZeros l.flows;
-  shown : AreShown l.checker.plain.instance.now l.certificate.cycles l.checker.marks.now
+  shown : AreShown l.checker.instance.now l.certificate.cycles l.marks
       (least_of l.certificate.answer) l.certificate.tree
-      (root (net_of l.checker.plain.instance.now) l.certificate.cycles ∷ []) l.line-index l.walk.nodes
+      (root (net_of l.checker.instance.now) l.certificate.cycles ∷ []) l.line-index l.walk.nodes
       l.shown.items;
 }

@@ -20,7 +20,7 @@ returns-in-Some-found-clause-judged c c' rest whole before =
     let P : List (List NetCount) → Type 0 = AreNets (length p.rows) c'.cycles in
     let nets = subst P (sym c.deref.ensures.value) (nets_are p c' line rest (kept j) j.stage c.requires.stage before) in
     let walk = c.in-Some.is in
-    let told = rw (c.new-checker.ensures.instance, c.new-checker.ensures.table, c.new-checker.ensures.least) at
+    let told = rw (c.new-checker.ensures.instance, c.new-checker.ensures.table, c.new-checker.ensures.front, c.new-checker.ensures.least) at
     c.in_ok-found.ensures.verdict in
     let V : Line → Type 0 = λ l. IsLineVerdict None
     (net_of p) c'.cycles c.least_of-least.result l c.in-Some.walk.nodes c.take_line.new.walk.nodes
@@ -39,7 +39,7 @@ returns-clause-judged c c' rest whole before =
     let P : List (List NetCount) → Type 0 = AreNets (length p.rows) c'.cycles in
     let nets = subst P (sym c.deref.ensures.value) (nets_are p c' line rest (kept j) j.stage c.requires.stage before) in
     let walk = c.in-Some.is in
-    let told = rw (c.new-checker.ensures.instance, c.new-checker.ensures.table, c.new-checker.ensures.least) at
+    let told = rw (c.new-checker.ensures.instance, c.new-checker.ensures.table, c.new-checker.ensures.front, c.new-checker.ensures.least) at
     c.in_ok-found.ensures.verdict in
     let V : Line → Type 0 = λ l. IsLineVerdict None
     (net_of p) c'.cycles c.least_of-least.result l c.in-Some.walk.nodes c.take_line.new.walk.nodes
@@ -56,3 +56,12 @@ returns-then-is_done-clause-judged c c' rest whole before =
     let walk = c.in-Some.is in
     absurd (never_done j.instance.now c' (tree_line pairs_of c.args.said) rest
     (kept j) j.stage c.requires.stage before c.in-Some.walk walk (c.is_done.ensures.0 c.if-is_done.true))
+
+pub take_line-requires-clause-wide : goal.take_line-requires-clause-wide
+take_line-requires-clause-wide c = rw c.new-checker.ensures.front tt
+
+pub new-checker-requires-clause-same : goal.new-checker-requires-clause-same
+new-checker-requires-clause-same c = λ marks is. absurd cc
+
+pub new-checker-requires-clause-exist : goal.new-checker-requires-clause-exist
+new-checker-requires-clause-exist c = λ marks is. absurd cc

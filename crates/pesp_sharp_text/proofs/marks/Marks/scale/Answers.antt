@@ -1,5 +1,0 @@
-use Rattle.pesp_sharp_text.proofs.Limits.{limits_of}
-use Rattle.pesp_sharp_text.proofs.marks.Marks.scale.Goals as goal
-
-pub returns-clause-limits : goal.returns-clause-limits
-returns-clause-limits c = rw (← c.self.view_is) (limits_of _ c.self.invariant)

@@ -3,10 +3,12 @@
 //! it finds but that it is found safely.
 #![tactic(auto)]
 
+mod charts;
 mod components;
 mod curve;
 mod moving;
 mod plan;
+mod scale;
 mod settings;
 mod shifts;
 mod soft_annealer;

@@ -1,6 +1,8 @@
 //! The slacks that are being changed.
 
+use crate::charts::Charts;
 use crate::curve::Curve;
+use crate::scale::Scale;
 use crate::shifts::Shifts;
 use crate::tent::Tent;
 use pesp_annealing::{Choices, Heat, Steps};
@@ -15,6 +17,8 @@ pub(crate) struct Moving {
     period: u32,
     rows: Vec<Activity>,
     tents: Vec<Tent>,
+    scale: Scale,
+    charts: Charts,
     cost: i64,
     random: Random,
     choices: Choices,
@@ -31,6 +35,7 @@ impl Moving {
         seed: u64,
     ) -> Result<Moving, AllocError> {
         let period = network.period();
+        let charts = Charts::new(alloc, period, slacks.len())?;
         let mut rows = Vec::with_capacity(alloc, slacks.len())?;
         let mut tents = Vec::with_capacity(alloc, slacks.len())?;
         for (row, slack) in network.rows().iter().zip(slacks.iter()) {
@@ -42,6 +47,8 @@ impl Moving {
             period,
             rows,
             tents,
+            scale: Scale::of(1),
+            charts,
             cost: 0,
             random: Random::new(seed),
             choices: Choices::none(),
@@ -93,12 +100,25 @@ impl Moving {
         Some(())
     }
 
+    /// Finds what the shifts cost in a long period.
+    fn find_curve(&mut self, steps: &Steps, crossings: &[Crossing]) -> Option<()> {
+        let mut costs = [0i64; 64];
+        self.curve.find(steps, &self.rows, &self.tents, crossings)?;
+        self.curve.write(&mut costs);
+        self.shifts.take(&costs, &self.scale);
+        Some(())
+    }
+
     /// Draws one of all shifts, by weight.
-    pub(crate) fn visit_softly(&mut self, crossings: &[Crossing], heat: &Heat) -> Option<()> {
+    pub(crate) fn visit_softly(&mut self, crossings: &[Crossing]) -> Option<()> {
         let steps = Steps::draw(self.period, &mut self.random);
-        self.curve.find(&steps, &self.rows, &self.tents, crossings)?;
-        self.curve.write(&mut self.shifts.costs);
-        let place = self.shifts.draw(steps.count(), heat, &mut self.random)?;
+        if self.period <= 64 {
+            self.shifts
+                .find(&self.charts, &self.rows, crossings, steps.count())?;
+        } else {
+            self.find_curve(&steps, crossings)?;
+        }
+        let place = self.shifts.draw(&mut self.random)?;
         self.make(crossings, &steps, place)
     }
 
@@ -117,21 +137,28 @@ impl Moving {
         self.make(crossings, &steps, place)
     }
 
-    /// Sets the price of all rows.
-    pub(crate) fn set_price(&mut self, price: u64) {
-        for tent in self.tents.iter_mut() {
+    /// Sets the heat, and the price of all rows.
+    pub(crate) fn set_heat(&mut self, heat: u64, price: u64) {
+        self.scale = Scale::of(heat);
+        let mut place = 0u32;
+        for (row, tent) in self.rows.iter().zip(self.tents.iter_mut()) {
             tent.set_price(price);
+            self.charts.set(place, row, tent, &self.scale);
+            place = place.wrapping_add(1);
         }
     }
 
     /// Doubles the prices of the rows that are broken; whether there are some.
     pub(crate) fn double_broken(&mut self) -> bool {
         let mut are_broken = false;
+        let mut place = 0u32;
         for (row, tent) in self.rows.iter().zip(self.tents.iter_mut()) {
             if row.slack > row.span {
                 tent.double_price();
+                self.charts.set(place, row, tent, &self.scale);
                 are_broken = true;
             }
+            place = place.wrapping_add(1);
         }
         are_broken
     }

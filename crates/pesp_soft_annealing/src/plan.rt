@@ -1,6 +1,6 @@
 //! How an anneal cools.
 
-use pesp_annealing::{Heat, halved};
+use pesp_annealing::halved;
 
 /// So many sweeps at a heat that falls from a top, halved so many sixteenths of once. The top is in 32nds of the mean cost of a
 /// row.
@@ -28,10 +28,10 @@ fn thirty_seconds(mean: u64, count: u64) -> u64 {
 
 impl Cooling {
     /// The heat of a sweep.
-    pub(crate) fn heat(&self, mean: u64, sweep: u32) -> Heat {
+    pub(crate) fn heat(&self, mean: u64, sweep: u32) -> u64 {
         let done = u64::from(sweep).saturating_mul(self.sixteenths);
         let sixteenths = done / u64::from(self.sweeps.max(1));
-        Heat::of(halved(thirty_seconds(mean, self.top), sixteenths))
+        halved(thirty_seconds(mean, self.top), sixteenths)
     }
 }
 

@@ -6,6 +6,9 @@ pub(crate) const MOST_CROSSINGS: usize = 250;
 /// How many sweeps a forest serves.
 pub(crate) const SWEEPS_OF_A_FOREST: u32 = 8;
 
+/// How many sweeps a heat and a price serve.
+pub(crate) const SWEEPS_OF_A_HEAT: u32 = 16;
+
 /// How many sweeps mend what is broken.
 pub(crate) const MENDING_SWEEPS: u32 = 40;
 

@@ -1,17 +1,36 @@
 //! All shifts of a component, one of which is drawn.
 
+use crate::charts::Charts;
+use crate::scale::{MOST, Scale};
 use pesp_annealing::Heat;
+use pesp_clusters::{Activity, Crossing};
 use pesp_search_tools::Random;
 
-/// What each shift costs, and the sum of the weights of the shifts up to each.
+/// How many weights aren't 0.
+const WEIGHTS: usize = 384;
+
+/// What each shift costs, in units, and the most where there is none; the same of the rows that grow alone, and of those that fall
+/// by the shift the other way; the sum of the weights of the shifts up to each; and the weights by sixteenths of an octave.
 #[derive(Drop)]
 pub(crate) struct Shifts {
-    pub(crate) costs: [i64; 64],
-    sums: [u64; 64],
+    costs: [i16; 64],
+    grows: [i16; 64],
+    falls: [i16; 64],
+    sums: [u32; 64],
+    weights: [u32; WEIGHTS],
 }
 
 /// The least of some costs.
-fn least_of(costs: &[i64]) -> i64 {
+fn least_of(costs: &[i16]) -> i16 {
+    let mut least = MOST;
+    for cost in costs {
+        least = least.min(*cost);
+    }
+    least
+}
+
+/// The least of some costs.
+fn least_cost(costs: &[i64]) -> i64 {
     let mut least = i64::MAX;
     for cost in costs {
         least = least.min(*cost);
@@ -19,38 +38,124 @@ fn least_of(costs: &[i64]) -> i64 {
     least
 }
 
+/// Adds costs to sums.
+fn add(sums: &mut [i16], costs: &[i16]) {
+    for (sum, cost) in sums.iter_mut().zip(costs.iter()) {
+        *sum = sum.saturating_add(*cost);
+    }
+}
+
+/// Adds up costs of shifts, and others of the same shifts the other way.
+fn join(costs: &mut [i16], grows: &[i16], falls: &[i16]) {
+    for (cost, (one, other)) in costs.iter_mut().zip(grows.iter().zip(falls.iter().rev())) {
+        *cost = one.saturating_add(*other);
+    }
+}
+
 /// Sums up the weights of costs; all of them together.
-fn sum_up(costs: &[i64], heat: &Heat, sums: &mut [u64]) -> u64 {
-    let least = least_of(costs);
-    let mut sum = 0u64;
+fn sum_up(costs: &[i16], least: i16, weights: &[u32], sums: &mut [u32]) -> u32 {
+    let mut sum = 0u32;
     for (cost, slot) in costs.iter().zip(sums.iter_mut()) {
-        sum = sum.wrapping_add(heat.weight(cost.abs_diff(least)));
+        let dearer = cost.abs_diff(least);
+        let weight = weights.get(dearer as usize).copied().unwrap_or(0);
+        sum = sum.wrapping_add(weight);
         *slot = sum;
     }
     sum
 }
 
+/// How many of these sums are at most a number.
+fn count_up_to(sums: &[u32], most: u32) -> u32 {
+    let mut count = 0u32;
+    for sum in sums {
+        count = count.wrapping_add(u32::from(*sum <= most));
+    }
+    count
+}
+
+/// Writes the weight of each sixteenth of an octave: from 2^24.
+fn write_weights(weights: &mut [u32]) {
+    let heat = Heat::of(16);
+    let mut dearer = 0u64;
+    for weight in weights.iter_mut() {
+        *weight = u32::try_from(heat.weight(dearer) >> 4).unwrap_or(0);
+        dearer = dearer.wrapping_add(1);
+    }
+}
+
 impl Shifts {
-    /// Shifts that cost nothing.
+    /// No shift yet.
     pub(crate) fn new() -> Shifts {
+        let mut weights = [0; WEIGHTS];
+        write_weights(&mut weights);
         Shifts {
-            costs: [0; 64],
+            costs: [MOST; 64],
+            grows: [0; 64],
+            falls: [0; 64],
             sums: [0; 64],
+            weights,
         }
     }
 
-    /// The place of one of so many shifts, drawn by weight.
-    pub(crate) fn draw(&mut self, count: u32, heat: &Heat, random: &mut Random) -> Option<u32> {
-        let costs = self.costs.get(..count as usize)?;
-        let sum = sum_up(costs, heat, &mut self.sums);
-        let drawn = random.below(sum);
-        let mut place = 0u32;
-        for sum in self.sums.iter() {
-            if drawn < *sum {
-                return Some(place);
-            }
-            place = place.wrapping_add(1);
+    /// Takes costs over, beyond the least of them.
+    pub(crate) fn take(&mut self, costs: &[i64], scale: &Scale) {
+        let least = least_cost(costs);
+        for (slot, cost) in self.costs.iter_mut().zip(costs.iter()) {
+            *slot = scale.units(cost.abs_diff(least));
         }
-        None
+    }
+
+    /// Adds up the charts of rows.
+    fn add_charts(
+        &mut self,
+        charts: &Charts,
+        rows: &[Activity],
+        crossings: &[Crossing],
+    ) -> Option<()> {
+        for crossing in crossings {
+            let slack = rows.get(crossing.row as usize)?.slack;
+            let chart = charts.from(crossing.row, slack)?;
+            if crossing.grows {
+                add(&mut self.grows, chart);
+            } else {
+                add(&mut self.falls, chart);
+            }
+        }
+        Some(())
+    }
+
+    /// Joins what was added up of so many shifts: the one by nothing, and each that grows with the one that falls as far.
+    fn join(&mut self, count: u32) -> Option<()> {
+        self.costs[0] = self.grows[0].saturating_add(self.falls[0]);
+        let grows = self.grows.get(1..count as usize)?;
+        let falls = self.falls.get(1..count as usize)?;
+        let (_, costs) = self.costs.split_at_mut(1);
+        join(costs, grows, falls);
+        Some(())
+    }
+
+    /// Finds what so many shifts cost by the charts of the rows that cross.
+    pub(crate) fn find(
+        &mut self,
+        charts: &Charts,
+        rows: &[Activity],
+        crossings: &[Crossing],
+        count: u32,
+    ) -> Option<()> {
+        self.grows = [0; 64];
+        self.falls = [0; 64];
+        self.add_charts(charts, rows, crossings)?;
+        self.join(count)
+    }
+
+    /// The place of one of the shifts, drawn by weight; None where all cost more than can be told.
+    pub(crate) fn draw(&mut self, random: &mut Random) -> Option<u32> {
+        let least = least_of(&self.costs);
+        if least == MOST {
+            return None;
+        }
+        let sum = sum_up(&self.costs, least, &self.weights, &mut self.sums);
+        let drawn = random.below(u64::from(sum));
+        Some(count_up_to(&self.sums, u32::try_from(drawn).ok()?))
     }
 }

@@ -5,6 +5,7 @@ use crate::moving::Moving;
 use crate::plan::{Cooling, Plan};
 use crate::settings::{
     LAST_FORESTS, LAST_SWEEPS, MENDING_SWEEPS, MENDING_SWEEPS_OF_A_FOREST, SWEEPS_OF_A_FOREST,
+    SWEEPS_OF_A_HEAT,
 };
 use pesp_annealing::Heat;
 use pesp_clusters::{Bent, Forest};
@@ -80,10 +81,10 @@ impl SoftAnnealer {
     }
 
     /// Visits all components softly.
-    fn sweep_softly(&mut self, heat: &Heat) {
+    fn sweep_softly(&mut self) {
         for part in self.components.parts() {
             if let Some(crossings) = self.components.of(part) {
-                self.moving.visit_softly(crossings, heat);
+                self.moving.visit_softly(crossings);
             }
         }
     }
@@ -98,7 +99,7 @@ impl SoftAnnealer {
     }
 
     /// Sweeps until no row is broken, at prices that are doubled for those that are.
-    fn mend(&mut self, heat: &Heat) -> Result<(), AllocError> {
+    fn mend(&mut self) -> Result<(), AllocError> {
         for sweep in 0..MENDING_SWEEPS {
             if !self.moving.double_broken() {
                 break;
@@ -106,7 +107,7 @@ impl SoftAnnealer {
             if sweep % MENDING_SWEEPS_OF_A_FOREST == 0 {
                 self.draw_forest()?;
             }
-            self.sweep_softly(heat);
+            self.sweep_softly();
         }
         Ok(())
     }
@@ -117,11 +118,14 @@ impl SoftAnnealer {
         for sweep in 0..plan.soft.sweeps {
             if sweep % SWEEPS_OF_A_FOREST == 0 {
                 self.draw_forest()?;
-                self.moving.set_price(plan.price(mean, sweep));
             }
-            self.sweep_softly(&plan.soft.heat(mean, sweep));
+            if sweep % SWEEPS_OF_A_HEAT == 0 {
+                let heat = plan.soft.heat(mean, sweep);
+                self.moving.set_heat(heat, plan.price(mean, sweep));
+            }
+            self.sweep_softly();
         }
-        self.mend(&plan.soft.heat(mean, plan.soft.sweeps))?;
+        self.mend()?;
         self.moving.count_cost();
         self.keep();
         Ok(self.moving.is_whole())
@@ -153,7 +157,7 @@ impl SoftAnnealer {
             if sweep % SWEEPS_OF_A_FOREST == 0 {
                 self.draw_forest()?;
             }
-            self.sweep_hard(Some(cooling.heat(mean, sweep)));
+            self.sweep_hard(Some(Heat::of(cooling.heat(mean, sweep))));
             if sweep >= cooling.sweeps - cooling.sweeps / 4 {
                 self.keep_cheaper();
             }

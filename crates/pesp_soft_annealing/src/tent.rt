@@ -30,6 +30,17 @@ impl Tent {
         }
     }
 
+    /// What a slack of the row costs.
+    pub(crate) fn cost(&self, period: u32, row: &Activity, slack: u32) -> u64 {
+        let within = row.span.min(slack);
+        let above = i64::from(slack.wrapping_sub(within));
+        let left = i64::from(period.wrapping_sub(slack));
+        let falls = self.fall.wrapping_mul(above);
+        let pays = self.price.wrapping_mul(above.min(left));
+        let cost = row.weight.wrapping_mul(i64::from(within));
+        cost.wrapping_sub(falls).wrapping_add(pays).unsigned_abs()
+    }
+
     /// Sets the price.
     pub(crate) fn set_price(&mut self, price: u64) {
         self.price = within(price);

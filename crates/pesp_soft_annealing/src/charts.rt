@@ -1,0 +1,61 @@
+//! What each slack of each row costs, where a period has at most 64 shifts.
+
+use crate::scale::Scale;
+use crate::tent::Tent;
+use pesp_clusters::Activity;
+use std::alloc::{AllocError, Global};
+
+/// How long a chart is: it has the costs of 64 slacks from any one on.
+const LENGTH: usize = 128;
+
+/// For each row the costs of its slacks in units, from 0 on, again and again. There are none where a period is longer than 64.
+#[derive(Drop)]
+pub(crate) struct Charts {
+    period: u32,
+    charts: Vec<[i16; LENGTH]>,
+}
+
+/// Writes what the slacks of a row cost into the first places of its chart.
+fn draw(chart: &mut [i16], period: u32, row: &Activity, tent: &Tent, scale: &Scale) {
+    let mut slack = 0u32;
+    for slot in chart.iter_mut().take(period as usize) {
+        *slot = scale.units(tent.cost(period, row, slack));
+        slack = slack.wrapping_add(1);
+    }
+}
+
+/// Writes the first costs again into the other places.
+fn repeat(chart: &mut [i16], period: usize) -> Option<()> {
+    for place in period..LENGTH {
+        let cost = chart.get(place.wrapping_sub(period)).copied()?;
+        *chart.get_mut(place)? = cost;
+    }
+    Some(())
+}
+
+impl Charts {
+    /// Charts of so many rows, in which nothing costs anything.
+    pub(crate) fn new(alloc: Global, period: u32, rows: usize) -> Result<Charts, AllocError> {
+        let count = if period <= 64 { rows } else { 0 };
+        Ok(Charts {
+            period,
+            charts: vec![in alloc; [0; LENGTH]; count]?,
+        })
+    }
+
+    /// Draws the chart of a row.
+    pub(crate) fn set(&mut self, place: u32, row: &Activity, tent: &Tent, scale: &Scale) {
+        if let Some(chart) = self.charts.get_mut(place as usize) {
+            draw(chart, self.period, row, tent, scale);
+            repeat(chart, self.period as usize);
+        }
+    }
+
+    /// What 64 slacks of a row cost, from one of them on.
+    pub(crate) fn from(&self, row: u32, slack: u32) -> Option<&[i16]> {
+        let first = slack as usize;
+        self.charts
+            .get(row as usize)?
+            .get(first..first.wrapping_add(64))
+    }
+}

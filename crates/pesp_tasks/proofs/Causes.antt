@@ -1,11 +1,12 @@
 -- Why a run has no answer, from what the call that failed says of it, and what it wrote.
-use Rattle.std.proofs.Common.{inl, inr, ℕ, List, None}
+use Rattle.std.proofs.Common.{inl, inr, ℕ, ◌≤◌, List, None}
 use Rattle.std.specs.Prelude.{Option}
 use Rattle.std.specs.List.{flat_map}
 use Rattle.pesp_stream.specs.Counts.{Calls}
 use Rattle.pesp_stream.specs.Reading.{ReadsText}
 use Rattle.pesp_problem.specs.Timetables.{Pesp}
 use Rattle.pesp_truth.specs.Certificates.{Content}
+use Rattle.pesp_truth.proofs.Certificates.{valid_is_true}
 use Rattle.pesp_cert.specs.declared.refusal.CertRefusal.{CertRefusal}
 use Rattle.pesp_cert.specs.declared.refusal.CertRefusal.TheVariants.{Header, Line, Number, Limit, Truncated, Trailing, Memory as CertMemory}
 use Rattle.pesp_cert.specs.Texts.{spelling, HasText}
@@ -46,12 +47,13 @@ job_cause NoSuchJob p base jobs refused = refused
 
 -- works were grafted, and the writers got what is said of the certificate's text and of the replies' lines
 pub graft : {p : Pesp} {base certificate : Content} {works : List WorkValue} {Gets Tells : List ℕ → Type 0} (replies : List Reply)
-    → IsGrafted p base works replies certificate → HasText None certificate → Gets (spelling None certificate)
+    → 1 ≤ p.period → IsGrafted p base works replies certificate → HasText None certificate → Gets (spelling None certificate)
     → Tells (flat_map reply_line replies) → WritesGraft p base works Gets Tells
-graft {certificate = certificate} replies grafted has_text gets tells = record {
+graft {p} {certificate = certificate} replies some grafted has_text gets tells = record {
   replies = replies;
   certificate = certificate;
   grafted = grafted;
+  is_true = valid_is_true None p certificate some grafted.valid;
   has_text = has_text;
   told_replies = tells;
   written = gets;

@@ -1,6 +1,6 @@
--- What is solved is read and accepted.
+-- What is solved is read and accepted, and what is gone on from and grafted is accepted.
 use Rattle.std.proofs.Common.{◌≡◌, ◌⊎◌, inl, inr, ◌∙◌, ℕ, ◌<◌, List, [], ◌++◌, length, take, drop, sym, ap, arith, length-append, Some, None, Ok, Err}
-use Rattle.std.specs.Prelude.{Option, Result, ◌↔◌}
+use Rattle.std.specs.Prelude.{Option, Result, ◌↔◌, ⊤}
 use Rattle.std.specs.Io.KnownBytes.{Appends}
 use Rattle.std.proofs.lemmas.List.{append_cancel_left, take-append-drop}
 use Rattle.pesp_problem.specs.Timetables.{Pesp}
@@ -16,8 +16,11 @@ use Rattle.pesp_cert.proofs.TextLengths.{texts_short}
 use Rattle.pesp_cert_items.specs.Texts.{RefusesText}
 use Rattle.pesp_judges.specs.declared.refusal.Verdict.{Verdict}
 use Rattle.pesp_judges.specs.declared.refusal.Verdict.TheVariants.{Accepted}
-use Rattle.pesp_check_run.specs.Checking.{Checks, RefusesInstance}
-use Rattle.pesp_tasks.specs.Solving.{Solves}
+use Rattle.pesp_check_run.specs.Checking.{Checks, ReadsInstance, RefusesInstance}
+use Rattle.pesp_faults.specs.Reading.{HasBase, ReadsTimetable}
+use Rattle.pesp_tasks.specs.Solving.{Solves, WritesSolution}
+use Rattle.pesp_tasks.specs.Resuming.{WritesResumed}
+use Rattle.pesp_tasks.specs.Outside.{Grafts}
 
 -- what a writer got behind what it held before
 pub appended_is : (before bytes text : List ℕ) → Appends (Some before) (Some (before ++ bytes)) text → text ≡ bytes
@@ -39,27 +42,71 @@ accepted : (p q : Pesp) (c d : Content) (verdict : Verdict) → p ≡ q → d �
     → (verdict ≡ Accepted) ↔ IsValid None q d → verdict ≡ Accepted
 accepted p q c d verdict same is valid exactly = exactly.1 (rw (← same, is) valid)
 
+-- a certificate that is valid for the instance of a text is accepted for it, where its text was appended
+accepts_written : (text before bytes : List ℕ) (left left_instance left_certificate old new : Option (List ℕ)) (period : ℕ)
+    (verdict : Verdict) (p : Pesp) (c : Content) → ReadsInstance (Some text) left period p → IsValid None p c → HasText None c
+    → Appends (Some before) (Some (before ++ bytes)) (spelling None c)
+    → Checks (Some text) left_instance (Some bytes) left_certificate period verdict (Appends old new)
+    → verdict ≡ Accepted
+accepts_written text before bytes left left_instance left_certificate old new period verdict p c read valid has_text gets
+    (q, read_again, checked) =
+    let one = ap (λ t. instance_of t period) (read.read.whole) ∙ read.is_instance in
+    let other = ap (λ t. instance_of t period) (read_again.read.whole) ∙ read_again.is_instance in
+    let written = appended_is before bytes (spelling None c) gets in
+    let judged = checked.judged in
+    accepted
+    p
+    q
+    c
+    judged.content
+    verdict
+    (same_instance text period p q one other)
+    (same_content bytes judged.text 1073741824 c judged.content has_text written judged.read.front judged.spelt)
+    valid
+    judged.exactly
+
 pub accepts_what_is_solved : (text before bytes : List ℕ)
     (left left_instance left_certificate old new : Option (List ℕ)) (period steps : ℕ) (verdict : Verdict)
     → Solves (Some text) left period steps (Appends (Some before) (Some (before ++ bytes)))
     → Checks (Some text) left_instance (Some bytes) left_certificate period verdict (Appends old new)
     → verdict ≡ Accepted
-accepts_what_is_solved text before bytes left left_instance left_certificate old new period steps verdict
-    (p, read, solved) (q, read_again, checked) =
-    let one = ap (λ t. instance_of t period) (read.read.whole) ∙ read.is_instance in
-    let other = ap (λ t. instance_of t period) (read_again.read.whole) ∙ read_again.is_instance in
-    let written = appended_is before bytes (spelling None solved.certificate) solved.written in
-    let judged = checked.judged in
-    accepted
-    p
-    q
-    solved.certificate
-    judged.content
-    verdict
-    (same_instance text period p q one other)
-    (same_content bytes judged.text 1073741824 solved.certificate judged.content solved.has_text written judged.read.front judged.spelt)
-    solved.solved.valid
-    judged.exactly
+accepts_what_is_solved text before bytes left left_instance left_certificate old new period steps verdict (p, read, solved) =
+    accepts_written text before bytes left left_instance left_certificate old new period verdict p solved.certificate read
+    solved.solved.valid solved.has_text solved.written
+
+pub accepts_from_times : (text before bytes : List ℕ)
+    (left times left_times left_instance left_certificate old new : Option (List ℕ)) (period steps : ℕ) (verdict : Verdict)
+    → ReadsTimetable (Some text) left times left_times period
+    (λ p begun. WritesSolution p begun steps (Appends (Some before) (Some (before ++ bytes))))
+    → Checks (Some text) left_instance (Some bytes) left_certificate period verdict (Appends old new)
+    → verdict ≡ Accepted
+accepts_from_times text before bytes left times left_times left_instance left_certificate old new period steps verdict
+    (p, read, (begun, reads, is, solved)) =
+    accepts_written text before bytes left left_instance left_certificate old new period verdict p solved.certificate read
+    solved.solved.valid solved.has_text solved.written
+
+pub accepts_what_is_gone_on_from : (text before bytes : List ℕ)
+    (left base left_base left_instance left_certificate old new : Option (List ℕ)) (period steps : ℕ) (verdict : Verdict)
+    → HasBase (Some text) left base left_base period
+    (λ p begun. WritesResumed p begun steps ⊤ (Appends (Some before) (Some (before ++ bytes))))
+    → Checks (Some text) left_instance (Some bytes) left_certificate period verdict (Appends old new)
+    → verdict ≡ Accepted
+accepts_what_is_gone_on_from text before bytes left base left_base left_instance left_certificate old new period steps verdict
+    (p, read, (begun, reads, resumed)) =
+    accepts_written text before bytes left left_instance left_certificate old new period verdict p resumed.certificate read
+    resumed.resumed.valid resumed.has_text resumed.written
+
+pub accepts_what_is_grafted : (text before bytes : List ℕ)
+    (left base left_base works left_works left_instance left_certificate told_old told_new old new : Option (List ℕ)) (period : ℕ)
+    (verdict : Verdict)
+    → HasBase (Some text) left base left_base period
+    (λ p begun. Grafts works left_works p begun (Appends (Some before) (Some (before ++ bytes))) (Appends told_old told_new))
+    → Checks (Some text) left_instance (Some bytes) left_certificate period verdict (Appends old new)
+    → verdict ≡ Accepted
+accepts_what_is_grafted text before bytes left base left_base works left_works left_instance left_certificate told_old told_new old
+    new period verdict (p, read, (begun, reads, (are, reads_works, grafted))) =
+    accepts_written text before bytes left left_instance left_certificate old new period verdict p grafted.certificate read
+    grafted.grafted.valid grafted.has_text grafted.written
 
 pub instance_is_read : (text : List ℕ) (left left_instance old new : Option (List ℕ)) (period steps : ℕ)
     (refusal : ReadRefusal) → Solves (Some text) left period steps (Appends old new)

@@ -12,7 +12,12 @@ use Rattle.pesp_truth.specs.Certificates.{IsValid}
 use Rattle.pesp_sharp_text.specs.Texts.{Fronted, IsFrontedText, fronted_text}
 use Rattle.pesp_sharp_text.proofs.Said.{none_begins}
 use Rattle.pesp_sharp_run.specs.Checking.{ChecksWith}
-use Rattle.pesp_tasks.specs.SharpSolving.{SolvesSharp, ResumesSharp}
+use Rattle.pesp_check_run.specs.Checking.{ReadsInstance}
+use Rattle.pesp_faults.specs.Reading.{ReadsTimetable}
+use Rattle.pesp_runs.specs.Bases.{ReadsSharpBase}
+use Rattle.pesp_runs.specs.Runs.{OverBase}
+use Rattle.pesp_tasks.specs.SharpSolving.{SolvesSharp, ResumesSharp, WritesSharpSolution}
+use Rattle.pesp_tasks.specs.SharpOutside.{WritesSharpWork, GraftsSharp}
 use Rattle.pesp_tasks.proofs.Joining.{appended_is, same_instance}
 
 -- a text of which the front that is read is a certificate's text is that text
@@ -27,29 +32,49 @@ accepted : (p q : Pesp) (c d : Fronted) (verdict : Verdict) → p ≡ q → d �
     → (verdict ≡ Accepted) ↔ IsValid d.front q d.content → verdict ≡ Accepted
 accepted p q c d verdict same is valid exactly = exactly.1 (rw (← same, is) valid)
 
-pub accepts_what_is_sharpened : (text before bytes : List ℕ)
-    (left left_instance left_certificate old new : Option (List ℕ)) (period steps : ℕ) (verdict : Verdict)
-    → SolvesSharp (Some text) left period steps (Appends (Some before) (Some (before ++ bytes)))
+-- a certificate that is valid for the instance of a text with its marked walks is accepted for it, where its text was appended
+accepts_written : (text before bytes : List ℕ) (left left_instance left_certificate old new : Option (List ℕ)) (period : ℕ)
+    (verdict : Verdict) (p : Pesp) (c : Fronted) → ReadsInstance (Some text) left period p → IsValid c.front p c.content
+    → IsFrontedText (fronted_text c) c → Appends (Some before) (Some (before ++ bytes)) (fronted_text c)
     → ChecksWith (Some text) left_instance (Some bytes) left_certificate period verdict (Appends old new)
     → verdict ≡ Accepted
-accepts_what_is_sharpened text before bytes left left_instance left_certificate old new period steps verdict
-    (p, read, solved) (q, read_again, checked) =
+accepts_written text before bytes left left_instance left_certificate old new period verdict p c read valid has_text gets
+    (q, read_again, checked) =
     let one = ap (λ t. instance_of t period) (read.read.whole) ∙ read.is_instance in
     let other = ap (λ t. instance_of t period) (read_again.read.whole) ∙ read_again.is_instance in
-    let written = appended_is before bytes (fronted_text solved.certificate) solved.written in
+    let written = appended_is before bytes (fronted_text c) gets in
     let text_judged = checked.judged in
     let judged = text_judged.judged in
     accepted
     p
     q
-    solved.certificate
+    c
     judged.certificate
     verdict
     (same_instance text period p q one other)
-    (same_certificate bytes text_judged.text 1073741824 solved.certificate judged.certificate solved.has_text
-    written text_judged.read.front judged.spelt)
-    solved.solved.valid
+    (same_certificate bytes text_judged.text 1073741824 c judged.certificate has_text written text_judged.read.front judged.spelt)
+    valid
     judged.exactly
+
+pub accepts_what_is_sharpened : (text before bytes : List ℕ)
+    (left left_instance left_certificate old new : Option (List ℕ)) (period steps : ℕ) (verdict : Verdict)
+    → SolvesSharp (Some text) left period steps (Appends (Some before) (Some (before ++ bytes)))
+    → ChecksWith (Some text) left_instance (Some bytes) left_certificate period verdict (Appends old new)
+    → verdict ≡ Accepted
+accepts_what_is_sharpened text before bytes left left_instance left_certificate old new period steps verdict (p, read, solved) =
+    accepts_written text before bytes left left_instance left_certificate old new period verdict p solved.certificate read
+    solved.solved.valid solved.has_text solved.written
+
+pub accepts_from_times : (text before bytes : List ℕ)
+    (left times left_times left_instance left_certificate old new : Option (List ℕ)) (period steps : ℕ) (verdict : Verdict)
+    → ReadsTimetable (Some text) left times left_times period
+    (λ p begun. WritesSharpSolution p begun steps (Appends (Some before) (Some (before ++ bytes))))
+    → ChecksWith (Some text) left_instance (Some bytes) left_certificate period verdict (Appends old new)
+    → verdict ≡ Accepted
+accepts_from_times text before bytes left times left_times left_instance left_certificate old new period steps verdict
+    (p, read, (begun, reads, is, solved)) =
+    accepts_written text before bytes left left_instance left_certificate old new period verdict p solved.certificate read
+    solved.solved.valid solved.has_text solved.written
 
 pub accepts_what_is_resumed : (text before bytes : List ℕ)
     (left base left_base left_instance left_certificate old new : Option (List ℕ)) (period steps : ℕ)
@@ -57,21 +82,32 @@ pub accepts_what_is_resumed : (text before bytes : List ℕ)
     → ResumesSharp (Some text) left base left_base period steps (Appends (Some before) (Some (before ++ bytes)))
     → ChecksWith (Some text) left_instance (Some bytes) left_certificate period verdict (Appends old new)
     → verdict ≡ Accepted
-accepts_what_is_resumed text before bytes left base left_base left_instance left_certificate old new period steps
-    verdict (p, read, (begun, read_base, resumed)) (q, read_again, checked) =
-    let one = ap (λ t. instance_of t period) (read.read.whole) ∙ read.is_instance in
-    let other = ap (λ t. instance_of t period) (read_again.read.whole) ∙ read_again.is_instance in
-    let written = appended_is before bytes (fronted_text resumed.certificate) resumed.written in
-    let text_judged = checked.judged in
-    let judged = text_judged.judged in
-    accepted
-    p
-    q
-    resumed.certificate
-    judged.certificate
-    verdict
-    (same_instance text period p q one other)
-    (same_certificate bytes text_judged.text 1073741824 resumed.certificate judged.certificate resumed.has_text
-    written text_judged.read.front judged.spelt)
-    resumed.holds.valid
-    judged.exactly
+accepts_what_is_resumed text before bytes left base left_base left_instance left_certificate old new period steps verdict
+    (p, read, (begun, reads, resumed)) =
+    accepts_written text before bytes left left_instance left_certificate old new period verdict p resumed.certificate read
+    resumed.holds.valid resumed.has_text resumed.written
+
+pub accepts_what_is_worked_on : (text before bytes : List ℕ)
+    (left base left_base left_instance left_certificate old new : Option (List ℕ)) (period : ℕ) (jobs : List ℕ) (steps : ℕ)
+    (verdict : Verdict)
+    → OverBase ReadsSharpBase (Some text) left base left_base period
+    (λ p begun. WritesSharpWork p begun jobs steps (Appends (Some before) (Some (before ++ bytes))))
+    → ChecksWith (Some text) left_instance (Some bytes) left_certificate period verdict (Appends old new)
+    → verdict ≡ Accepted
+accepts_what_is_worked_on text before bytes left base left_base left_instance left_certificate old new period jobs steps verdict
+    (p, read, (begun, reads, (are, worked))) =
+    accepts_written text before bytes left left_instance left_certificate old new period verdict p worked.certificate read
+    worked.holds.valid worked.has_text worked.written
+
+pub accepts_what_is_grafted : (text before bytes : List ℕ)
+    (left base left_base works left_works left_instance left_certificate told_old told_new old new : Option (List ℕ)) (period : ℕ)
+    (verdict : Verdict)
+    → OverBase ReadsSharpBase (Some text) left base left_base period
+    (λ p begun. GraftsSharp works left_works p begun (Appends (Some before) (Some (before ++ bytes))) (Appends told_old told_new))
+    → ChecksWith (Some text) left_instance (Some bytes) left_certificate period verdict (Appends old new)
+    → verdict ≡ Accepted
+accepts_what_is_grafted text before bytes left base left_base works left_works left_instance left_certificate told_old told_new old
+    new period verdict (p, read, (begun, reads, grafts)) =
+    let grafted = grafts.holds.grafted in
+    accepts_written text before bytes left left_instance left_certificate old new period verdict p grafted.certificate read
+    grafted.holds.valid grafted.has_text grafted.written

@@ -3,7 +3,8 @@ use Rattle.std.specs.Prelude.{◌≡◌, ◌⊎◌, ℕ, List, Option, Err, None
 use Rattle.std.specs.List.{flat_map}
 use Rattle.std.specs.Io.KnownBytes.{Appends}
 use Rattle.pesp_problem.specs.Timetables.{Pesp}
-use Rattle.pesp_truth.specs.Certificates.{Content}
+use Rattle.pesp_truth.specs.Truth.{IsTrueAnswer}
+use Rattle.pesp_truth.specs.Certificates.{Content, shown_times}
 use Rattle.pesp_cert.specs.Texts.{spelling, HasText}
 use Rattle.pesp_cert.specs.declared.refusal.CertRefusal.{CertRefusal}
 use Rattle.pesp_cert.specs.declared.refusal.CertRefusal.TheVariants.{Memory as CertMemory}
@@ -93,11 +94,12 @@ WorkCause fault reader base_reader writer period jobs steps until uncalled =
 -- ---- graft
 
 -- the first writer got what its relation says of the text of the certificate with these works grafted onto the base,
--- and the second what its relation says of a line for each work
+-- whose answer is true, and the second what its relation says of a line for each work
 pub record WritesGraft (p : Pesp) (base : Content) (works : List WorkValue) (Gets Tells : List ℕ → Type 0) : Type 0 where
   pub replies : List Reply
   pub certificate : Content
   pub grafted : IsGrafted p base works replies certificate
+  pub is_true : IsTrueAnswer p certificate.answer (shown_times certificate)
   pub has_text : HasText None certificate
   pub told_replies : Tells (flat_map reply_line replies)
   pub written : Gets (spelling None certificate)

@@ -73,6 +73,7 @@ fn write_graft<W: Sink, E: Sink>(
     ensures silent { IfErr result (λ fault. fault ≢ Fault.Write → writer.new ≡ writer.old) }
     ensures untold { IfErr result (λ fault. fault ≢ Fault.Write → teller.new ≡ teller.old) }
 {
+    instance.period();
     let grafted = graft(alloc, instance, base, works)?;
     print(&grafted.certificate, writer)?;
     print_to(teller, &RepliesText(&grafted.replies))?;

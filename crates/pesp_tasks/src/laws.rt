@@ -1,6 +1,6 @@
 //! Laws of what is solved and of what is gone on from. Each is a function without a body whose contract is the law.
 
-ghost use Rattle.std.specs.Prelude.{◌≡◌, ℕ, List, ◌++◌, Option, Some};
+ghost use Rattle.std.specs.Prelude.{◌≡◌, ℕ, List, ◌++◌, Option, Some, ⊤};
 ghost use Rattle.std.specs.Io.KnownBytes.{Appends};
 ghost use Rattle.pesp_instance.specs.declared.refusal.ReadRefusal.{ReadRefusal};
 ghost use Rattle.pesp_cert.specs.declared.refusal.CertRefusal.{CertRefusal};
@@ -9,8 +9,14 @@ ghost use Rattle.pesp_judges.specs.declared.refusal.Verdict.TheVariants.{Accepte
 ghost use Rattle.pesp_cert_items.specs.Texts.{RefusesText};
 ghost use Rattle.pesp_check_run.specs.Checking.{Checks, RefusesInstance};
 ghost use Rattle.pesp_sharp_run.specs.Checking.{ChecksWith};
-ghost use Rattle.pesp_tasks.specs.Solving.{Solves};
-ghost use Rattle.pesp_tasks.specs.SharpSolving.{SolvesSharp, ResumesSharp};
+ghost use Rattle.pesp_faults.specs.Reading.{HasBase, ReadsTimetable};
+ghost use Rattle.pesp_runs.specs.Bases.{ReadsSharpBase};
+ghost use Rattle.pesp_runs.specs.Runs.{OverBase};
+ghost use Rattle.pesp_tasks.specs.Solving.{Solves, WritesSolution};
+ghost use Rattle.pesp_tasks.specs.Resuming.{WritesResumed};
+ghost use Rattle.pesp_tasks.specs.Outside.{Grafts};
+ghost use Rattle.pesp_tasks.specs.SharpSolving.{SolvesSharp, ResumesSharp, WritesSharpSolution};
+ghost use Rattle.pesp_tasks.specs.SharpOutside.{WritesSharpWork, GraftsSharp};
 
 /// The bytes that `run_solve` appended for an instance's text, within whichever number of steps, `run_check` accepts for the
 /// same text and period, where it answers Ok.
@@ -36,6 +42,32 @@ pub fn what_is_solved_is_read()
         → RefusesText (Some bytes) left_certificate 1073741824 refusal → ⊥ }
 {}
 
+/// And so are the bytes that `Solve` appended from times, that `Resume` appended, however it ended, and that `run_graft` appended.
+pub fn what_goes_on_is_accepted()
+    ensures from_times { (text before bytes : List ℕ) (left times left_times left_instance left_certificate old new : Option
+        (List ℕ)) (period steps : ℕ) (verdict : Verdict)
+        → ReadsTimetable (Some text) left times left_times period
+        (λ p begun. WritesSolution p begun steps (Appends (Some before) (Some (before ++ bytes))))
+        → Checks (Some text) left_instance (Some bytes) left_certificate period verdict
+        (Appends old new)
+        → verdict ≡ Accepted }
+    ensures resumed { (text before bytes : List ℕ) (left base left_base left_instance left_certificate old new : Option
+        (List ℕ)) (period steps : ℕ) (verdict : Verdict)
+        → HasBase (Some text) left base left_base period
+        (λ p begun. WritesResumed p begun steps ⊤ (Appends (Some before) (Some (before ++ bytes))))
+        → Checks (Some text) left_instance (Some bytes) left_certificate period verdict
+        (Appends old new)
+        → verdict ≡ Accepted }
+    ensures grafted { (text before bytes : List ℕ) (left base left_base works left_works left_instance left_certificate told_old told_new old new : Option
+        (List ℕ)) (period : ℕ) (verdict : Verdict)
+        → HasBase (Some text) left base left_base period
+        (λ p begun. Grafts works left_works p begun
+        (Appends (Some before) (Some (before ++ bytes))) (Appends told_old told_new))
+        → Checks (Some text) left_instance (Some bytes) left_certificate period verdict
+        (Appends old new)
+        → verdict ≡ Accepted }
+{}
+
 /// The bytes that `SolveSharp` appended for an instance's text, within whichever number of steps, `run_check_sharp` accepts
 /// for the same text and period, where it answers Ok.
 pub fn what_is_sharpened_is_accepted()
@@ -55,6 +87,32 @@ pub fn what_is_resumed_is_accepted()
         (List ℕ)) (period steps : ℕ) (verdict : Verdict)
         → ResumesSharp (Some text) left base left_base period steps
         (Appends (Some before) (Some (before ++ bytes)))
+        → ChecksWith (Some text) left_instance (Some bytes) left_certificate period verdict
+        (Appends old new)
+        → verdict ≡ Accepted }
+{}
+
+/// And so are the bytes that `SolveSharp` appended from times, that `WorkSharp` appended, and that `run_graft_sharp` appended.
+pub fn what_goes_on_with_marks_is_accepted()
+    ensures from_times { (text before bytes : List ℕ) (left times left_times left_instance left_certificate old new : Option
+        (List ℕ)) (period steps : ℕ) (verdict : Verdict)
+        → ReadsTimetable (Some text) left times left_times period
+        (λ p begun. WritesSharpSolution p begun steps (Appends (Some before) (Some (before ++ bytes))))
+        → ChecksWith (Some text) left_instance (Some bytes) left_certificate period verdict
+        (Appends old new)
+        → verdict ≡ Accepted }
+    ensures worked { (text before bytes : List ℕ) (left base left_base left_instance left_certificate old new : Option
+        (List ℕ)) (period : ℕ) (jobs : List ℕ) (steps : ℕ) (verdict : Verdict)
+        → OverBase ReadsSharpBase (Some text) left base left_base period
+        (λ p begun. WritesSharpWork p begun jobs steps (Appends (Some before) (Some (before ++ bytes))))
+        → ChecksWith (Some text) left_instance (Some bytes) left_certificate period verdict
+        (Appends old new)
+        → verdict ≡ Accepted }
+    ensures grafted { (text before bytes : List ℕ) (left base left_base works left_works left_instance left_certificate told_old told_new old new : Option
+        (List ℕ)) (period : ℕ) (verdict : Verdict)
+        → OverBase ReadsSharpBase (Some text) left base left_base period
+        (λ p begun. GraftsSharp works left_works p begun
+        (Appends (Some before) (Some (before ++ bytes))) (Appends told_old told_new))
         → ChecksWith (Some text) left_instance (Some bytes) left_certificate period verdict
         (Appends old new)
         → verdict ≡ Accepted }

@@ -10,7 +10,7 @@ returns-in_err-print-clause-cause g c =
     (inl (
       out.fault,
       (refl, refl),
-      graft c.in_ok-grafted.grafted.replies.items c.in_ok-grafted.ensures
+      graft c.in_ok-grafted.grafted.replies.items c.period.ensures.limits.some_period c.in_ok-grafted.ensures
           out.has_text out.text tt,
     ))
 
@@ -20,11 +20,12 @@ returns-in_err-print_to-clause-cause g c =
     told_as _ _ _ c.from_residual-in_err-print_to.ensures.1
     (inr (
       c.in_err-print_to.ensures.fault,
-      graft c.deref.result.now
+      graft c.deref.result.now c.period.ensures.limits.some_period
           (rw c.deref.ensures.value c.in_ok-grafted.ensures) out.has_text out.text c.in_err-print_to.ensures.text,
     ))
 
 pub returns-clause-ok : goal.returns-clause-ok
 returns-clause-ok g c =
     let out = c.in_ok-print.ensures in
-    graft c.deref.result.now (rw c.deref.ensures.value c.in_ok-grafted.ensures) out.has_text out.text c.in_ok-print_to.ensures.text
+    graft c.deref.result.now c.period.ensures.limits.some_period (rw c.deref.ensures.value c.in_ok-grafted.ensures)
+    out.has_text out.text c.in_ok-print_to.ensures.text

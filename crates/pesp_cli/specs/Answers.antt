@@ -4,6 +4,7 @@ use Rattle.std.specs.Io.KnownBytes.{Appends}
 use Rattle.pesp_gap.specs.Gaps.{gap_line}
 use Rattle.pesp_report.specs.Report.{IsReport}
 use Rattle.pesp_report.specs.Named.{IsNamedReport}
+use Rattle.pesp_timetable.specs.Timetable.{IsTimetableText}
 use Rattle.pesp_judges.specs.declared.refusal.Verdict.{Verdict}
 use Rattle.pesp_check_run.specs.Checking.{Checks}
 use Rattle.pesp_sharp_run.specs.Checking.{ChecksWith}
@@ -30,7 +31,7 @@ use Rattle.pesp_request.specs.declared.request.OfInstance.TheVariants.{Solve, So
 use Rattle.pesp_request.specs.declared.request.OfCertificate.{OfCertificate}
 use Rattle.pesp_request.specs.declared.request.OfCertificate.TheVariants.{Check, CheckSharp, Gap, Resume, ResumeSharp, Split, SplitSharp}
 use Rattle.pesp_request.specs.declared.request.OfTimes.{OfTimes}
-use Rattle.pesp_request.specs.declared.request.OfTimes.TheVariants.{Report, Violations, Picture, Diagrams}
+use Rattle.pesp_request.specs.declared.request.OfTimes.TheVariants.{Report, Violations, Picture, Diagrams, Timetable, Page}
 use Rattle.pesp_request.specs.declared.request.OfLeaves.{OfLeaves}
 use Rattle.pesp_request.specs.declared.request.OfLeaves.TheVariants.{Work, WorkSharp}
 use Rattle.pesp_request.specs.declared.request.OfWorks.{OfWorks}
@@ -103,7 +104,7 @@ abbrev pub violations_status : ℕ → ℕ
 violations_status zero = 0
 violations_status (suc n) = 1
 
--- the same of times; nothing is said of what a picture shows, or of what names a file tells
+-- the same of times; nothing is said of what a picture or a page shows, or of what names a file tells
 abbrev pub AnswersTimes : OfTimes → ℕ → Device → Device → Device → ℕ → Type 0
 AnswersTimes (Report None) period instance reader writer status =
     ReadsTimetable instance.old instance.new reader.old reader.new period
@@ -119,7 +120,12 @@ AnswersTimes Violations period instance reader writer status =
     × (status ≡ violations_status count)
 AnswersTimes (Picture rows names) period instance reader writer status =
     ReadsTimetable instance.old instance.new reader.old reader.new period (λ p times. WritesSheet (λ text. ⊤) (Gets writer)) × (status ≡ 0)
-AnswersTimes (Diagrams names) period instance reader writer status =
+AnswersTimes (Diagrams names along) period instance reader writer status =
+    ReadsTimetable instance.old instance.new reader.old reader.new period (λ p times. WritesSheet (λ text. ⊤) (Gets writer)) × (status ≡ 0)
+AnswersTimes (Timetable names) period instance reader writer status =
+    ReadsTimetable instance.old instance.new reader.old reader.new period
+    (λ p times. WritesSheet (IsTimetableText p times) (Gets writer)) × (status ≡ 0)
+AnswersTimes (Page names) period instance reader writer status =
     ReadsTimetable instance.old instance.new reader.old reader.new period (λ p times. WritesSheet (λ text. ⊤) (Gets writer)) × (status ≡ 0)
 
 -- the same of works, from the readers that have the instance, the base and the works

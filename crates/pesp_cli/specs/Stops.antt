@@ -2,6 +2,7 @@
 use Rattle.std.specs.Prelude.{◌≡◌, ◌⊎◌, ⊤, ℕ, ℤ, List, Option, Some, None, IsSome}
 use Rattle.pesp_report.specs.Report.{IsReport}
 use Rattle.pesp_report.specs.Named.{IsNamedReport}
+use Rattle.pesp_timetable.specs.Timetable.{IsTimetableText}
 use Rattle.pesp_check_run.specs.Devices.{Device}
 use Rattle.pesp_check_run.specs.Checking.{CheckCause}
 use Rattle.pesp_check_run.specs.declared.fault.VerdictFault.{VerdictFault}
@@ -25,7 +26,7 @@ use Rattle.pesp_request.specs.declared.request.OfInstance.TheVariants.{Solve, So
 use Rattle.pesp_request.specs.declared.request.OfCertificate.{OfCertificate}
 use Rattle.pesp_request.specs.declared.request.OfCertificate.TheVariants.{Check, CheckSharp, Gap, Resume, ResumeSharp, Split, SplitSharp}
 use Rattle.pesp_request.specs.declared.request.OfTimes.{OfTimes}
-use Rattle.pesp_request.specs.declared.request.OfTimes.TheVariants.{Report, Violations, Picture, Diagrams}
+use Rattle.pesp_request.specs.declared.request.OfTimes.TheVariants.{Report, Violations, Picture, Diagrams, Timetable, Page}
 use Rattle.pesp_request.specs.declared.request.OfLeaves.{OfLeaves}
 use Rattle.pesp_request.specs.declared.request.OfLeaves.TheVariants.{Work, WorkSharp}
 use Rattle.pesp_request.specs.declared.request.OfWorks.{OfWorks}
@@ -93,7 +94,15 @@ StopsTimes (Picture rows None) fault period instance reader writer uncalled =
     SheetCause fault instance reader writer period uncalled (λ p times text. ⊤)
 StopsTimes (Picture rows (Some names)) fault period instance reader writer uncalled =
     OrNoNames fault (SheetCause fault instance reader writer period uncalled (λ p times text. ⊤))
-StopsTimes (Diagrams names) fault period instance reader writer uncalled =
+StopsTimes (Diagrams names along) fault period instance reader writer uncalled =
+    OrNoNames fault (SheetCause fault instance reader writer period uncalled (λ p times text. ⊤))
+StopsTimes (Timetable None) fault period instance reader writer uncalled =
+    SheetCause fault instance reader writer period uncalled IsTimetableText
+StopsTimes (Timetable (Some names)) fault period instance reader writer uncalled =
+    OrNoNames fault (SheetCause fault instance reader writer period uncalled IsTimetableText)
+StopsTimes (Page None) fault period instance reader writer uncalled =
+    SheetCause fault instance reader writer period uncalled (λ p times text. ⊤)
+StopsTimes (Page (Some names)) fault period instance reader writer uncalled =
     OrNoNames fault (SheetCause fault instance reader writer period uncalled (λ p times text. ⊤))
 
 -- what is asked of works; `base_uncalled` says that the base's reader was not called

@@ -21,7 +21,8 @@ use pesp_outside_run::{run_graft, run_split, run_work};
 use pesp_progress::{Teller, Watch};
 use pesp_report::Names;
 use pesp_report_run::{
-    Diagrams, NamedReport, Picture, Report, read_whole_names, run_sheet, run_violations,
+    Diagrams, NamedReport, Page, Picture, Report, Timetable, read_whole_names, run_sheet,
+    run_violations,
 };
 use pesp_request::{OfCertificate, OfInstance, OfLeaves, OfTimes, OfWorks};
 use pesp_resume_run::{run_gap, run_resume};
@@ -426,9 +427,29 @@ pub(crate) fn of_times<R: AllocGlobal + Files, I: Source, S: Source, W: Sink>(
             };
             done(run_sheet(alloc, &picture, instance, reader, writer, period))
         }
-        OfTimes::Diagrams { names: file } => {
+        OfTimes::Diagrams { names: file, along } => {
             let names = names_in(rt, file)?;
-            done(run_sheet(alloc, &Diagrams(&names), instance, reader, writer, period))
+            let diagrams = Diagrams {
+                names: &names,
+                along,
+            };
+            done(run_sheet(alloc, &diagrams, instance, reader, writer, period))
+        }
+        OfTimes::Timetable { names: None } => {
+            done(run_sheet(alloc, &Timetable(None), instance, reader, writer, period))
+        }
+        OfTimes::Timetable { names: Some(file) } => {
+            let names = names_in(rt, file)?;
+            let sheet = Timetable(Some(&names));
+            done(run_sheet(alloc, &sheet, instance, reader, writer, period))
+        }
+        OfTimes::Page { names: None } => {
+            done(run_sheet(alloc, &Page(None), instance, reader, writer, period))
+        }
+        OfTimes::Page { names: Some(file) } => {
+            let names = names_in(rt, file)?;
+            let sheet = Page(Some(&names));
+            done(run_sheet(alloc, &sheet, instance, reader, writer, period))
         }
     }
 }

@@ -60,14 +60,22 @@ AnswersSolveSharp None steps period reader writer status = SolvesSharp reader.ol
 AnswersSolveSharp (Some file) steps period reader writer status =
     ((times : Device) × SolvesSharpFrom reader.old reader.new times.old times.new period steps (Gets writer)) × (status ≡ 0)
 
+-- what it does for a conflict, with what events are called where a file is named
+abbrev pub AnswersConflict : {A : Type 0} → Option A → ℕ → ℕ → Device → Device → Device → Type 0 → ℕ → Type 0
+AnswersConflict None steps period reader writer teller silent status =
+    (told : Told) × TellsConflict reader.old reader.new period steps None told (Gets writer) silent
+    × GetsLine teller (told_text told) × (status ≡ told_status told)
+AnswersConflict (Some file) steps period reader writer teller silent status =
+    (name : ℤ → List ℕ) × (told : Told) × TellsConflict reader.old reader.new period steps (Some name) told (Gets writer) silent
+    × GetsLine teller (told_text told) × (status ≡ told_status told)
+
 -- what the program does for what is asked of an instance, from the reader that has it; `silent` says that the writer was not called
 abbrev pub AnswersInstance : OfInstance → ℕ → Device → Device → Device → Type 0 → ℕ → Type 0
 AnswersInstance (Solve steps from progress) period reader writer teller silent status = AnswersSolve from steps period reader writer status
 AnswersInstance (SolveSharp steps from progress) period reader writer teller silent status =
     AnswersSolveSharp from steps period reader writer status
-AnswersInstance (Conflict steps) period reader writer teller silent status =
-    (told : Told) × TellsConflict reader.old reader.new period steps told (Gets writer) silent
-    × GetsLine teller (told_text told) × (status ≡ told_status told)
+AnswersInstance (Conflict steps names) period reader writer teller silent status =
+    AnswersConflict names steps period reader writer teller silent status
 
 -- the same of a certificate, from the readers that have its instance and its text; a search that goes on is stopped
 -- only where seconds are counted

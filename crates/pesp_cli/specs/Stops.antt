@@ -55,11 +55,17 @@ StopsSolveSharp None fault steps period reader writer = SolveSharpCause fault re
 StopsSolveSharp (Some file) fault steps period reader writer =
     OrNoFile fault ((times : Device) × SolveSharpFromCause fault reader times writer period steps ⊤)
 
+-- a conflict, with what events are called where a file is named
+abbrev pub StopsConflict : {A : Type 0} → Option A → Fault → ℕ → ℕ → Device → Device → Type 0
+StopsConflict None fault steps period reader writer = ConflictCause fault reader writer period steps None
+StopsConflict (Some file) fault steps period reader writer =
+    OrNoNames fault ((name : ℤ → List ℕ) × ConflictCause fault reader writer period steps (Some name))
+
 -- what is asked of an instance
 abbrev pub StopsInstance : OfInstance → Fault → ℕ → Device → Device → Type 0
 StopsInstance (Solve steps from progress) fault period reader writer = StopsSolve from fault steps period reader writer
 StopsInstance (SolveSharp steps from progress) fault period reader writer = StopsSolveSharp from fault steps period reader writer
-StopsInstance (Conflict steps) fault period reader writer = ConflictCause fault reader writer period steps
+StopsInstance (Conflict steps names) fault period reader writer = StopsConflict names fault steps period reader writer
 
 -- what is asked of a certificate; `uncalled` says that its reader was not called
 abbrev pub StopsCertificate : OfCertificate → Fault → ℕ → Device → Device → Device → Type 0 → Type 0

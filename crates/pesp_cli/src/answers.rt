@@ -9,11 +9,11 @@ ghost use Rattle.pesp_faults.specs.Reading.{HasBase};
 ghost use Rattle.pesp_resume_run.specs.Resuming.{WritesResumed, ResumeCause};
 ghost use Rattle.pesp_sharp_solve_run.specs.Resuming.{ResumesSharp, ResumeSharpCause};
 ghost use Rattle.pesp_request.specs.Requests.{InstanceWithin, CertificateWithin, LeavesWithin};
-ghost use Rattle.pesp_cli.specs.Answers.{AnswersSolve, AnswersSolveSharp, AnswersInstance, AnswersCertificate, AnswersLeaves, AnswersTimes, AnswersWorks, violations_status};
-ghost use Rattle.pesp_cli.specs.Stops.{OrNoNames, StopsSolve, StopsSolveSharp, StopsInstance, StopsCertificate, StopsLeaves, StopsTimes, StopsWorks};
+ghost use Rattle.pesp_cli.specs.Answers.{AnswersConflict, AnswersSolve, AnswersSolveSharp, AnswersInstance, AnswersCertificate, AnswersLeaves, AnswersTimes, AnswersWorks, violations_status};
+ghost use Rattle.pesp_cli.specs.Stops.{OrNoNames, StopsConflict, StopsSolve, StopsSolveSharp, StopsInstance, StopsCertificate, StopsLeaves, StopsTimes, StopsWorks};
 
 use crate::input::{Beginning, warn_of_period};
-use crate::telling::told_conflict;
+use crate::telling::{tell_sums, told_conflict};
 use pesp_check_run::{run_check, status_of_verdict};
 use pesp_conflict_run::{run_conflict, status_of_told};
 use pesp_faults::Fault;
@@ -125,6 +125,63 @@ fn solve_with_marks<R: AllocGlobal + Eprint + Files, I: Source, W: Sink, O: Shar
     }
 }
 
+/// Looks for a conflict in the instance that the reader gives, and tells it with the names in a file where one is named.
+fn conflict<R: AllocGlobal + Eprint + Files, I: Source, W: Sink, E: Sink>(
+    rt: &R,
+    reader: &mut I,
+    writer: &mut W,
+    teller: &mut E,
+    period: u32,
+    steps: u32,
+    names: Option<&str>,
+) -> Result<u8, Fault>
+    requires steps { steps ≤ MOST_STEPS }
+    requires reads_fit { FewerThan (2 ^ 62) (I.calls reader.old) }
+    requires writes_fit { FewerThan (2 ^ 62) (W.calls writer.old) }
+    requires tellings_fit { FewerThan (2 ^ 62) (E.calls teller.old) }
+    ensures answered { IfOk result (AnswersConflict names.entry steps period
+        (over (I.remaining reader.old) (I.remaining reader.new)
+        (I.calls reader.old) (I.calls reader.new))
+        (over (W.contents writer.old) (W.contents writer.new)
+        (W.calls writer.old) (W.calls writer.new))
+        (over (E.contents teller.old) (E.contents teller.new)
+        (E.calls teller.old) (E.calls teller.new))
+        (writer.new ≡ writer.old)) }
+    ensures stopped { IfErr result (λ fault. StopsConflict names.entry fault steps period
+        (over (I.remaining reader.old) (I.remaining reader.new)
+        (I.calls reader.old) (I.calls reader.new))
+        (over (W.contents writer.old) (W.contents writer.new)
+        (W.calls writer.old) (W.calls writer.new))) }
+    ensures silent { IfErr result (λ fault. fault ≢ Fault.Write → writer.new ≡ writer.old) }
+{
+    let alloc = rt.alloc();
+    let mut sums = String::new(alloc);
+    match names {
+        None => {
+            let told = run_conflict(alloc, reader, writer, period, steps, None, &mut sums)?;
+            told_conflict(teller, told);
+            Ok(status_of_told(told))
+        }
+        Some(file) => {
+            let names = names_in(rt, file)?;
+            let run = run_conflict(
+                alloc,
+                reader,
+                writer,
+                period,
+                steps,
+                Some(&names),
+                &mut sums,
+            );
+            drop(names);
+            let told = run?;
+            told_conflict(teller, told);
+            tell_sums(rt, &sums);
+            Ok(status_of_told(told))
+        }
+    }
+}
+
 /// Does what is asked of the instance that the reader gives.
 pub(crate) fn of_instance<R: AllocGlobal + Eprint + Files + Clock, I: Source, W: Sink, E: Sink>(
     rt: &R,
@@ -183,10 +240,8 @@ pub(crate) fn of_instance<R: AllocGlobal + Eprint + Files + Clock, I: Source, W:
             observer.begin();
             solve_with_marks(rt, reader, writer, period, steps, from, &mut observer)
         }
-        OfInstance::Conflict { steps } => {
-            let told = run_conflict(alloc, reader, writer, period, steps)?;
-            told_conflict(teller, told);
-            Ok(status_of_told(told))
+        OfInstance::Conflict { steps, names } => {
+            conflict(rt, reader, writer, teller, period, steps, names)
         }
     }
 }

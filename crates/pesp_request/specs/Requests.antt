@@ -21,7 +21,7 @@ IsPeriod period = (1 ≤ period) × (period ≤ MOST_PERIOD)
 abbrev pub InstanceWithin : OfInstance → Type 0
 InstanceWithin (Solve steps from progress) = steps ≤ MOST_STEPS
 InstanceWithin (SolveSharp steps from progress) = steps ≤ MOST_STEPS
-InstanceWithin (Conflict steps) = steps ≤ MOST_STEPS
+InstanceWithin (Conflict steps names) = steps ≤ MOST_STEPS
 
 abbrev pub CertificateWithin : OfCertificate → Type 0
 CertificateWithin Check = Unit {0}

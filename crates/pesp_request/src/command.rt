@@ -35,8 +35,9 @@ Exit status: 0 the certificate is written; 1 the times to begin with violate a r
 2 the command line; 3 a text is refused; 4 memory, a device, or a limit of the search";
 
 const CONFLICTS: &str = "\
-A list is written as CSV: row, label, tail, head, lower, upper. Standard error tells how
-many activities there are, and whether each of them is needed.
+A list is written as CSV: row, label, tail, head, lower, upper, and with --names the
+names of both events. Standard error tells how many activities there are, and whether
+each of them is needed; with --names it adds up those that make up one closed way.
 
 Exit status: 0 a list is written; 1 no conflict was found; 2 the command line; 3 the
 instance is refused; 4 memory, a device, or a limit of the search";
@@ -91,6 +92,7 @@ fn conflict_command<'a>(alloc: Global) -> Result<Command<'a>, AllocError> {
         .after_help(CONFLICTS)
         .arg(period_option(alloc))?
         .arg(steps_option(alloc))?
+        .arg(names_option(alloc))?
         .arg(optional_file(alloc))
 }
 
@@ -381,6 +383,7 @@ fn conflict_of<'a>(matches: &ArgMatches<'a>) -> OfInstance<'a>
 {
     OfInstance::Conflict {
         steps: steps_of(matches),
+        names: matches.get_str("names"),
     }
 }
 

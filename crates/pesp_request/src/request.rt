@@ -61,6 +61,8 @@ pub enum OfInstance<'a> {
     /// Activities that have no timetable together, within searches of at most so many steps.
     Conflict {
         steps: u32,
+        /// The file with the names of events, where one is named.
+        names: Option<&'a str>,
     },
 }
 

@@ -79,9 +79,19 @@ fn tell_resume(
 }
 
 /// Conflicting activities that are asked for.
-fn tell_conflict(alloc: Global, period: u32, steps: u32, file: Option<&str>) -> Option<String> {
+fn tell_conflict(
+    alloc: Global,
+    period: u32,
+    steps: u32,
+    file: Option<&str>,
+    names: Option<&str>,
+) -> Option<String> {
     let file = file.unwrap_or("of standard input");
-    tell_steps(alloc, "conflict ", file, period, steps)
+    let mut told = tell_steps(alloc, "conflict ", file, period, steps)?;
+    if let Some(names) = names {
+        write!(told, " with {names}").ok()?;
+    }
+    Some(told)
 }
 
 /// What is asked for over a file and a file of names.
@@ -189,7 +199,9 @@ fn tell_of_instance(
             from,
             progress,
         } => { with_walks(tell_solve(alloc, period, steps, from, progress, file)?) }
-        OfInstance::Conflict { steps } => tell_conflict(alloc, period, steps, file),
+        OfInstance::Conflict { steps, names } => {
+            tell_conflict(alloc, period, steps, file, names)
+        }
     }
 }
 

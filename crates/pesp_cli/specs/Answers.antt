@@ -4,6 +4,7 @@ use Rattle.std.specs.Io.KnownBytes.{Appends}
 use Rattle.pesp_problem.specs.Timetables.{Pesp}
 use Rattle.pesp_report.specs.Report.{IsReport}
 use Rattle.pesp_report.specs.Named.{IsNamedReport}
+use Rattle.pesp_timetable.specs.Timetable.{IsTimetableText}
 use Rattle.pesp_judges.specs.declared.refusal.Verdict.{Verdict}
 use Rattle.pesp_check_run.specs.Checking.{Checks}
 use Rattle.pesp_sharp_run.specs.Checking.{ChecksWith}
@@ -32,7 +33,7 @@ use Rattle.pesp_request.specs.declared.request.OfInstance.TheVariants.{Solve, So
 use Rattle.pesp_request.specs.declared.request.OfCertificate.{OfCertificate}
 use Rattle.pesp_request.specs.declared.request.OfCertificate.TheVariants.{Check, CheckSharp, Gap, Resume, ResumeSharp, Split, SplitSharp}
 use Rattle.pesp_request.specs.declared.request.OfTimes.{OfTimes}
-use Rattle.pesp_request.specs.declared.request.OfTimes.TheVariants.{Report, Violations, Picture, Diagrams}
+use Rattle.pesp_request.specs.declared.request.OfTimes.TheVariants.{Report, Violations, Picture, Diagrams, Timetable, Page}
 use Rattle.pesp_request.specs.declared.request.OfLeaves.{OfLeaves}
 use Rattle.pesp_request.specs.declared.request.OfLeaves.TheVariants.{Work, WorkSharp}
 use Rattle.pesp_request.specs.declared.request.OfWorks.{OfWorks}
@@ -55,15 +56,23 @@ AnswersSearch Writes None period reader writer status = Alone Writes reader.old 
 AnswersSearch Writes (Some file) period reader writer status =
     ((times : Device) × ReadsTimetable reader.old reader.new times.old times.new period (λ p times. Writes p times (Gets writer))) × (status ≡ 0)
 
+-- what it does for a conflict, with what events are called where a file is named
+abbrev pub AnswersConflict : {A : Type 0} → Option A → ℕ → ℕ → Device → Device → Device → Type 0 → ℕ → Type 0
+AnswersConflict None steps period reader writer teller silent status =
+    (told : Told) × TellsConflict reader.old reader.new period steps None told (Gets writer) silent
+    × GetsLine teller (told_text told) × (status ≡ told_status told)
+AnswersConflict (Some file) steps period reader writer teller silent status =
+    (name : ℤ → List ℕ) × (told : Told) × TellsConflict reader.old reader.new period steps (Some name) told (Gets writer) silent
+    × GetsLine teller (told_text told) × (status ≡ told_status told)
+
 -- what the program does for what is asked of an instance, from the reader that has it; `silent` says that the writer was not called
 abbrev pub AnswersInstance : OfInstance → ℕ → Device → Device → Device → Type 0 → ℕ → Type 0
 AnswersInstance (Solve steps from progress) period reader writer teller silent status =
     AnswersSearch (λ p times Gets. WritesSolution p times steps Gets) from period reader writer status
 AnswersInstance (SolveSharp steps from progress) period reader writer teller silent status =
     AnswersSearch (λ p times Gets. WritesSharpSolution p times steps Gets) from period reader writer status
-AnswersInstance (Conflict steps) period reader writer teller silent status =
-    (told : Told) × TellsConflict reader.old reader.new period steps told (Gets writer) silent
-    × GetsLine teller (told_text told) × (status ≡ told_status told)
+AnswersInstance (Conflict steps names) period reader writer teller silent status =
+    AnswersConflict names steps period reader writer teller silent status
 
 -- the same of a certificate, from the readers that have its instance and its text; a search that goes on is stopped
 -- only where seconds are counted
@@ -100,7 +109,7 @@ abbrev pub violations_status : ℕ → ℕ
 violations_status zero = 0
 violations_status (suc n) = 1
 
--- the same of times; nothing is said of what a picture shows, or of what names a file tells
+-- the same of times; nothing is said of what a picture or a page shows, or of what names a file tells
 abbrev pub AnswersTimes : OfTimes → ℕ → Device → Device → Device → ℕ → Type 0
 AnswersTimes (Report None) period instance reader writer status =
     ReadsTimetable instance.old instance.new reader.old reader.new period
@@ -116,7 +125,12 @@ AnswersTimes Violations period instance reader writer status =
     × (status ≡ violations_status count)
 AnswersTimes (Picture rows names) period instance reader writer status =
     ReadsTimetable instance.old instance.new reader.old reader.new period (λ p times. WritesSheet (λ text. ⊤) (Gets writer)) × (status ≡ 0)
-AnswersTimes (Diagrams names) period instance reader writer status =
+AnswersTimes (Diagrams names along) period instance reader writer status =
+    ReadsTimetable instance.old instance.new reader.old reader.new period (λ p times. WritesSheet (λ text. ⊤) (Gets writer)) × (status ≡ 0)
+AnswersTimes (Timetable names) period instance reader writer status =
+    ReadsTimetable instance.old instance.new reader.old reader.new period
+    (λ p times. WritesSheet (IsTimetableText p times) (Gets writer)) × (status ≡ 0)
+AnswersTimes (Page names) period instance reader writer status =
     ReadsTimetable instance.old instance.new reader.old reader.new period (λ p times. WritesSheet (λ text. ⊤) (Gets writer)) × (status ≡ 0)
 
 -- the same of works, from the readers that have the instance, the base and the works

@@ -2,6 +2,7 @@
 use Rattle.std.specs.Prelude.{◌≡◌, ◌⊎◌, ⊤, ℕ, ℤ, List, Option, Some, None, IsSome}
 use Rattle.pesp_report.specs.Report.{IsReport}
 use Rattle.pesp_report.specs.Named.{IsNamedReport}
+use Rattle.pesp_timetable.specs.Timetable.{IsTimetableText}
 use Rattle.pesp_problem.specs.Timetables.{Pesp}
 use Rattle.pesp_truth.specs.Certificates.{Content}
 use Rattle.pesp_sharp_text.specs.Texts.{Fronted}
@@ -31,7 +32,7 @@ use Rattle.pesp_request.specs.declared.request.OfInstance.TheVariants.{Solve, So
 use Rattle.pesp_request.specs.declared.request.OfCertificate.{OfCertificate}
 use Rattle.pesp_request.specs.declared.request.OfCertificate.TheVariants.{Check, CheckSharp, Gap, Resume, ResumeSharp, Split, SplitSharp}
 use Rattle.pesp_request.specs.declared.request.OfTimes.{OfTimes}
-use Rattle.pesp_request.specs.declared.request.OfTimes.TheVariants.{Report, Violations, Picture, Diagrams}
+use Rattle.pesp_request.specs.declared.request.OfTimes.TheVariants.{Report, Violations, Picture, Diagrams, Timetable, Page}
 use Rattle.pesp_request.specs.declared.request.OfLeaves.{OfLeaves}
 use Rattle.pesp_request.specs.declared.request.OfLeaves.TheVariants.{Work, WorkSharp}
 use Rattle.pesp_request.specs.declared.request.OfWorks.{OfWorks}
@@ -66,6 +67,12 @@ StopsSharp fault period instance reader writer uncalled Writes =
     OverBaseCause ReadsSharpBase SharpBaseCause fault instance reader writer period uncalled
     (λ p base fault cut. OutCause fault cut) Writes
 
+-- a conflict, with what events are called where a file is named
+abbrev pub StopsConflict : {A : Type 0} → Option A → Fault → ℕ → ℕ → Device → Device → Type 0
+StopsConflict None fault steps period reader writer = ConflictCause fault reader writer period steps None
+StopsConflict (Some file) fault steps period reader writer =
+    OrNoNames fault ((name : ℤ → List ℕ) × ConflictCause fault reader writer period steps (Some name))
+
 -- what is asked of an instance
 abbrev pub StopsInstance : OfInstance → Fault → ℕ → Device → Device → Type 0
 StopsInstance (Solve steps from progress) fault period reader writer =
@@ -74,7 +81,7 @@ StopsInstance (Solve steps from progress) fault period reader writer =
 StopsInstance (SolveSharp steps from progress) fault period reader writer =
     StopsSearch (λ p times fault cut. SolutionStops fault p 0 cut) (λ p times Gets. WritesSharpSolution p times steps Gets)
     from fault period reader writer
-StopsInstance (Conflict steps) fault period reader writer = ConflictCause fault reader writer period steps
+StopsInstance (Conflict steps names) fault period reader writer = StopsConflict names fault steps period reader writer
 
 -- what is asked of a certificate; `uncalled` says that its reader was not called
 abbrev pub StopsCertificate : OfCertificate → Fault → ℕ → Device → Device → Device → Type 0 → Type 0
@@ -116,7 +123,15 @@ StopsTimes (Picture rows None) fault period instance reader writer uncalled =
     SheetCause fault instance reader writer period uncalled (λ p times text. ⊤)
 StopsTimes (Picture rows (Some names)) fault period instance reader writer uncalled =
     OrNoNames fault (SheetCause fault instance reader writer period uncalled (λ p times text. ⊤))
-StopsTimes (Diagrams names) fault period instance reader writer uncalled =
+StopsTimes (Diagrams names along) fault period instance reader writer uncalled =
+    OrNoNames fault (SheetCause fault instance reader writer period uncalled (λ p times text. ⊤))
+StopsTimes (Timetable None) fault period instance reader writer uncalled =
+    SheetCause fault instance reader writer period uncalled IsTimetableText
+StopsTimes (Timetable (Some names)) fault period instance reader writer uncalled =
+    OrNoNames fault (SheetCause fault instance reader writer period uncalled IsTimetableText)
+StopsTimes (Page None) fault period instance reader writer uncalled =
+    SheetCause fault instance reader writer period uncalled (λ p times text. ⊤)
+StopsTimes (Page (Some names)) fault period instance reader writer uncalled =
     OrNoNames fault (SheetCause fault instance reader writer period uncalled (λ p times text. ⊤))
 
 -- what is asked of works; `base_uncalled` says that the base's reader was not called

@@ -6,18 +6,19 @@ ghost use Rattle.pesp_stream.specs.Counts.{FewerThan};
 ghost use Rattle.pesp_check_run.specs.Devices.{over};
 ghost use Rattle.pesp_runs.specs.Runs.{OverBase, OverBaseCause};
 ghost use Rattle.pesp_request.specs.Requests.{InstanceWithin, CertificateWithin, LeavesWithin};
-ghost use Rattle.pesp_cli.specs.Answers.{AnswersSearch, AnswersInstance, AnswersCertificate, AnswersLeaves, AnswersTimes, AnswersWorks, violations_status};
-ghost use Rattle.pesp_cli.specs.Stops.{OrNoNames, StopsSearch, StopsInstance, StopsCertificate, StopsLeaves, StopsTimes, StopsWorks};
+ghost use Rattle.pesp_cli.specs.Answers.{AnswersConflict, AnswersSearch, AnswersInstance, AnswersCertificate, AnswersLeaves, AnswersTimes, AnswersWorks, violations_status};
+ghost use Rattle.pesp_cli.specs.Stops.{OrNoNames, StopsConflict, StopsSearch, StopsInstance, StopsCertificate, StopsLeaves, StopsTimes, StopsWorks};
 
 use crate::input::{Beginning, warn_of_period};
-use crate::telling::told_conflict;
+use crate::telling::{tell_sums, told_conflict};
 use pesp_check_run::{run_check, status_of_verdict};
 use pesp_conflict_run::{run_conflict, status_of_told};
 use pesp_faults::Fault;
 use pesp_progress::{Teller, Watch};
 use pesp_report::Names;
 use pesp_report_run::{
-    Diagrams, NamedReport, Picture, Report, read_whole_names, run_sheet, run_violations,
+    Diagrams, NamedReport, Page, Picture, Report, Timetable, read_whole_names, run_sheet,
+    run_violations,
 };
 use pesp_request::{OfCertificate, OfInstance, OfLeaves, OfTimes, OfWorks};
 use pesp_runs::{OnBase, Search, run_alone, run_from_times, run_on_base};
@@ -76,6 +77,63 @@ fn search<R: AllocGlobal + Eprint + Files, I: Source, W: Sink, S: Search>(
             let run = run_from_times(alloc, task, reader, &mut times, writer, period);
             warn_of_period(rt, &times.into_inner(), period);
             done(run)
+        }
+    }
+}
+
+/// Looks for a conflict in the instance that the reader gives, and tells it with the names in a file where one is named.
+fn conflict<R: AllocGlobal + Eprint + Files, I: Source, W: Sink, E: Sink>(
+    rt: &R,
+    reader: &mut I,
+    writer: &mut W,
+    teller: &mut E,
+    period: u32,
+    steps: u32,
+    names: Option<&str>,
+) -> Result<u8, Fault>
+    requires steps { steps ≤ MOST_STEPS }
+    requires reads_fit { FewerThan (2 ^ 62) (I.calls reader.old) }
+    requires writes_fit { FewerThan (2 ^ 62) (W.calls writer.old) }
+    requires tellings_fit { FewerThan (2 ^ 62) (E.calls teller.old) }
+    ensures answered { IfOk result (AnswersConflict names.entry steps period
+        (over (I.remaining reader.old) (I.remaining reader.new)
+        (I.calls reader.old) (I.calls reader.new))
+        (over (W.contents writer.old) (W.contents writer.new)
+        (W.calls writer.old) (W.calls writer.new))
+        (over (E.contents teller.old) (E.contents teller.new)
+        (E.calls teller.old) (E.calls teller.new))
+        (writer.new ≡ writer.old)) }
+    ensures stopped { IfErr result (λ fault. StopsConflict names.entry fault steps period
+        (over (I.remaining reader.old) (I.remaining reader.new)
+        (I.calls reader.old) (I.calls reader.new))
+        (over (W.contents writer.old) (W.contents writer.new)
+        (W.calls writer.old) (W.calls writer.new))) }
+    ensures silent { IfErr result (λ fault. fault ≢ Fault.Write → writer.new ≡ writer.old) }
+{
+    let alloc = rt.alloc();
+    let mut sums = String::new(alloc);
+    match names {
+        None => {
+            let told = run_conflict(alloc, reader, writer, period, steps, None, &mut sums)?;
+            told_conflict(teller, told);
+            Ok(status_of_told(told))
+        }
+        Some(file) => {
+            let names = names_in(rt, file)?;
+            let run = run_conflict(
+                alloc,
+                reader,
+                writer,
+                period,
+                steps,
+                Some(&names),
+                &mut sums,
+            );
+            drop(names);
+            let told = run?;
+            told_conflict(teller, told);
+            tell_sums(rt, &sums);
+            Ok(status_of_told(told))
         }
     }
 }
@@ -152,10 +210,8 @@ pub(crate) fn of_instance<R: AllocGlobal + Eprint + Files + Clock, I: Source, W:
             let mut told = SolveSharp { steps, observer };
             search(rt, reader, writer, period, from, &mut told)
         }
-        OfInstance::Conflict { steps } => {
-            let told = run_conflict(alloc, reader, writer, period, steps)?;
-            told_conflict(teller, told);
-            Ok(status_of_told(told))
+        OfInstance::Conflict { steps, names } => {
+            conflict(rt, reader, writer, teller, period, steps, names)
         }
     }
 }
@@ -370,9 +426,29 @@ pub(crate) fn of_times<R: AllocGlobal + Files, I: Source, S: Source, W: Sink>(
             };
             done(run_sheet(alloc, &picture, instance, reader, writer, period))
         }
-        OfTimes::Diagrams { names: file } => {
+        OfTimes::Diagrams { names: file, along } => {
             let names = names_in(rt, file)?;
-            done(run_sheet(alloc, &Diagrams(&names), instance, reader, writer, period))
+            let diagrams = Diagrams {
+                names: &names,
+                along,
+            };
+            done(run_sheet(alloc, &diagrams, instance, reader, writer, period))
+        }
+        OfTimes::Timetable { names: None } => {
+            done(run_sheet(alloc, &Timetable(None), instance, reader, writer, period))
+        }
+        OfTimes::Timetable { names: Some(file) } => {
+            let names = names_in(rt, file)?;
+            let sheet = Timetable(Some(&names));
+            done(run_sheet(alloc, &sheet, instance, reader, writer, period))
+        }
+        OfTimes::Page { names: None } => {
+            done(run_sheet(alloc, &Page(None), instance, reader, writer, period))
+        }
+        OfTimes::Page { names: Some(file) } => {
+            let names = names_in(rt, file)?;
+            let sheet = Page(Some(&names));
+            done(run_sheet(alloc, &sheet, instance, reader, writer, period))
         }
     }
 }

@@ -44,3 +44,10 @@ pub(crate) fn told_conflict<E: Sink>(teller: &mut E, told: Told)
 {
     tell(teller, &(told, "\n"));
 }
+
+/// Tells the sum of a closed walk on a line, where there is one, whether or not it goes out.
+pub(crate) fn tell_sums<R: Eprint>(rt: &R, sums: &str) {
+    if !sums.is_empty() {
+        let _ = rt.eprintln(sums);
+    }
+}

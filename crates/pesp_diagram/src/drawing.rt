@@ -11,9 +11,9 @@ use crate::frame::{
     Frame, line_height, open_plot, write_front, write_left, write_scale, write_stations,
 };
 use crate::marks::Marks;
-use crate::network::Network;
 use crate::pieces::{Piece, write_piece};
 use pesp_problem::Instance;
+use pesp_railway::Network;
 use pesp_report::{Names, ReportRefusal, cost_of};
 use pesp_stream::{Bytes, Sink, print_to};
 use std::alloc::{AllocError, Global};
@@ -21,8 +21,9 @@ use std::alloc::{AllocError, Global};
 /// Writes time-distance diagrams of a timetable in SVG: for each line that the names tell, its stations below each other in the
 /// order in which the names first name them, the time across one period, its trains as lines between stations, what stands at
 /// a station as a line along it, and a mark at each change from or to another line, marks of one time and station above each
-/// other. What lies behind the period's end goes
-/// on from 0. What weighs nothing at a station isn't drawn; how many events have no line or no station is said in words.
+/// other. What lies behind the period's end goes on from 0. What weighs nothing at a station isn't drawn; how many events have no line or no station is said in words.
+/// Where stations are named, between commas, there is one diagram: of these stations, with the trains of all lines, their minutes,
+/// and what keeps them apart at a station.
 ///
 /// `NotTimes` where there isn't one time below the period for each event, and `Violates` with the first row that isn't
 /// satisfied; `Memory` where a growth was refused. An interrupted write is repeated, at most 1000 times in all. After `Write`
@@ -32,6 +33,7 @@ pub fn diagram<W: Sink>(
     instance: &Instance,
     times: &[u32],
     names: &Names,
+    along: Option<&str>,
     sink: &mut W,
 ) -> Result<(), ReportRefusal>
     requires fits { FewerThan (2 ^ 63) (W.calls sink.old) }
@@ -49,7 +51,7 @@ pub fn diagram<W: Sink>(
     ensures silent { IfErr result (λ e. UnlessBlamed e (sink.new ≡ sink.old)) }
 {
     let cost = cost_of(instance, times)?;
-    let Ok(text) = picture_of(alloc, instance, times, names, cost) else {
+    let Ok(text) = picture_of(alloc, instance, times, names, along, cost) else {
         return Err(ReportRefusal::Memory);
     };
     match print_to(sink, &Bytes(text.as_bytes())) {
@@ -64,16 +66,33 @@ fn picture_of(
     instance: &Instance,
     times: &[u32],
     names: &Names,
+    along: Option<&str>,
     cost: u64,
 ) -> Result<String, AllocError> {
-    let network = Network::of(alloc, instance, names)?;
-    let frame = Frame::of(&network.lines);
     let mut text = String::new(alloc);
-    write_front(&mut text, &frame, instance.period(), cost)?;
-    let end = write_lines(alloc, &mut text, &frame, &network, instance, times)?;
-    write_left(&mut text, &network, end)?;
-    text.push_str("</svg>\n")?;
+    write_diagrams(alloc, &mut text, instance, times, names, along, cost)?;
     Ok(text)
+}
+
+/// Writes the picture of a timetable of this cost behind a text, of the lines or along stations.
+pub fn write_diagrams(
+    alloc: Global,
+    text: &mut String,
+    instance: &Instance,
+    times: &[u32],
+    names: &Names,
+    along: Option<&str>,
+    cost: u64,
+) -> Result<(), AllocError> {
+    let network = match along {
+        Some(stations) => Network::along(alloc, instance, names, stations)?,
+        None => Network::of(alloc, instance, names)?,
+    };
+    let frame = Frame::of(&network.lines);
+    write_front(text, &frame, network.is_corridor, instance.period(), cost)?;
+    let end = write_lines(alloc, text, &frame, &network, instance, times)?;
+    write_left(text, &network, end)?;
+    text.push_str("</svg>\n")
 }
 
 /// Writes the diagrams of all lines, and tells the height below them.
@@ -87,7 +106,7 @@ fn write_lines(
 ) -> Result<u32, AllocError> {
     let mut y = frame.first();
     for (count, line) in network.lines.iter().enumerate() {
-        write_stations(text, frame, line, y)?;
+        write_stations(text, frame, line, network.is_corridor, y)?;
         write_scale(text, frame, line, instance.period(), y)?;
         open_plot(text, frame, line, y)?;
         let mut marks = Marks::none(alloc, line.stations.len())?;

@@ -1,8 +1,8 @@
 //! What stands round the trains.
 
-use crate::network::{Line, Network};
 use crate::places::{Across, PLOT, STATION, height_of};
 use pesp_draw::{Escaped, Shortened, step_for};
+use pesp_railway::{Line, Network};
 use std::alloc::AllocError;
 
 /// The fewest pixels for the names of stations.
@@ -22,16 +22,25 @@ const BELOW: u32 = 30;
 
 /// The classes of lines, marks and texts.
 const STYLE: &str =
-    "<style>.run{stroke:#1f5a94;stroke-width:2}.stand{stroke:#f58518;stroke-width:4}.wait{stroke:#a02c2c;stroke-dasharray:2 3}.run,.stand,.wait{fill:none}.leave{fill:#fff;stroke:#a02c2c;stroke-width:2}\
+    "<style>.run{stroke:#1f5a94;stroke-width:2}.back{stroke:#8a3b00;stroke-width:2;stroke-dasharray:9 3}.stand{stroke:#f58518;stroke-width:4}.wait{stroke:#a02c2c;stroke-dasharray:2 3}.apart{stroke:#777;stroke-width:3;stroke-dasharray:1 4}.run,.back,.stand,.wait,.apart{fill:none}.minute{font-size:9px}.leave{fill:#fff;stroke:#a02c2c;stroke-width:2}\
 .join{fill:#a02c2c}.grid{stroke:#ddd}.station{stroke:#bbb}.end{text-anchor:end}.middle{text-anchor:middle}.time{fill:#666}.heading{font-weight:bold}</style>";
 
 /// What the lines and marks mean.
 const LEGEND: &str =
-    "<g transform=\"translate(14 36)\"><path class=\"run\" d=\"M0 6h24\"/><text x=\"30\" y=\"10\">train</text>\
-<path class=\"stand\" d=\"M90 6h24\"/><text x=\"120\" y=\"10\">train at a station</text>\
-<path class=\"wait\" d=\"M240 6h24\"/><text x=\"270\" y=\"10\">change on the line</text>\
-<circle class=\"leave\" cx=\"402\" cy=\"6\" r=\"4\"/><text x=\"412\" y=\"10\">change to another line</text>\
-<circle class=\"join\" cx=\"570\" cy=\"6\" r=\"4\"/><text x=\"580\" y=\"10\">change from another line</text></g>";
+    "<g transform=\"translate(14 36)\"><path class=\"run\" d=\"M0 6h24\"/><text x=\"30\" y=\"10\">train out</text>\
+<path class=\"back\" d=\"M104 6h24\"/><text x=\"134\" y=\"10\">train back</text>\
+<path class=\"stand\" d=\"M216 6h24\"/><text x=\"246\" y=\"10\">train at a station</text>\
+<path class=\"wait\" d=\"M366 6h24\"/><text x=\"396\" y=\"10\">change on the line</text>\
+<circle class=\"leave\" cx=\"528\" cy=\"6\" r=\"4\"/><text x=\"538\" y=\"10\">change to another line</text>\
+<circle class=\"join\" cx=\"696\" cy=\"6\" r=\"4\"/><text x=\"706\" y=\"10\">change from another line</text></g>";
+
+/// What the lines of a corridor mean.
+const CORRIDOR: &str =
+    "<g transform=\"translate(14 36)\"><path class=\"run\" d=\"M0 6h24\"/><text x=\"30\" y=\"10\">train out</text>\
+<path class=\"back\" d=\"M104 6h24\"/><text x=\"134\" y=\"10\">train back</text>\
+<path class=\"stand\" d=\"M216 6h24\"/><text x=\"246\" y=\"10\">train at a station</text>\
+<path class=\"wait\" d=\"M366 6h24\"/><text x=\"396\" y=\"10\">change</text>\
+<path class=\"apart\" d=\"M458 6h24\"/><text x=\"488\" y=\"10\">kept apart</text></g>";
 
 /// How large a picture is, in pixels: where the plots begin from the left, and how wide and high it is.
 #[derive(Clone, Copy)]
@@ -108,6 +117,7 @@ impl Frame {
 pub fn write_front(
     text: &mut String,
     frame: &Frame,
+    is_corridor: bool,
     period: u32,
     cost: u64,
 ) -> Result<(), AllocError> {
@@ -124,7 +134,7 @@ pub fn write_front(
         text,
         "<text class=\"heading\" x=\"14\" y=\"20\">Trains of period {period}, cost {cost}</text>"
     )?;
-    text.push_str(LEGEND)?;
+    text.push_str(if is_corridor { CORRIDOR } else { LEGEND })?;
     text.push('\n')
 }
 
@@ -134,9 +144,14 @@ pub fn write_left(text: &mut String, network: &Network<'_>, y: u32) -> Result<()
     if left == 0 {
         return Ok(());
     }
+    let which = if network.is_corridor {
+        "Events at no station of these"
+    } else {
+        "Events without a line and a station"
+    };
     writeln!(
         text,
-        "<text x=\"14\" y=\"{y}\">Events without a line and a station, not drawn: {left}</text>"
+        "<text x=\"14\" y=\"{y}\">{which}, not drawn: {left}</text>"
     )
 }
 
@@ -154,13 +169,15 @@ pub fn write_stations(
     text: &mut String,
     frame: &Frame,
     line: &Line<'_>,
+    is_corridor: bool,
     y: u32,
 ) -> Result<(), AllocError> {
     let above = y.saturating_add(16);
+    let word = if is_corridor { "Along" } else { "Line" };
     let name = Escaped(line.name);
     writeln!(
         text,
-        "<text class=\"heading\" x=\"14\" y=\"{above}\">Line {name}</text>"
+        "<text class=\"heading\" x=\"14\" y=\"{above}\">{word} {name}</text>"
     )?;
     let left = frame.left;
     let right = left.saturating_add(PLOT);

@@ -5,8 +5,7 @@
 mod drawing;
 mod frame;
 mod marks;
-mod network;
 mod pieces;
 mod places;
 
-pub use drawing::diagram;
+pub use drawing::{diagram, write_diagrams};

@@ -1,29 +1,14 @@
 //! What is drawn of an activity.
 
 use crate::marks::{Marks, Spot};
-use crate::network::{Network, Place};
 use crate::places::{Across, height_of};
 use pesp_draw::Escaped;
 use pesp_problem::{Instance, Row};
+use pesp_railway::{Kind, Network, Place, duration_of, kind_on};
 use std::alloc::AllocError;
 
 /// How often a stretch of time is drawn at most: once for each period into which it reaches.
 const MOST_PERIODS: i64 = 20;
-
-/// What an activity is in the diagram of a line.
-#[derive(Clone, Copy, PartialEq, Eq)]
-enum Kind {
-    /// A train between two stations.
-    Run,
-    /// A train at a station.
-    Stand,
-    /// What waits at a station for as long as it may be: passengers who change to another train of the line.
-    Wait,
-    /// A change at a station from this line to another one.
-    Leave,
-    /// A change at a station from another line to this one.
-    Join,
-}
 
 /// An activity in the diagram of a line, from its time at its tail on.
 #[derive(Clone, Copy)]
@@ -34,44 +19,6 @@ pub struct Piece<'a> {
     head: Place,
     time: i64,
     duration: i64,
-}
-
-/// What an activity between two places is in the diagram of a line. What weighs nothing at a station keeps trains apart, and
-/// isn't drawn.
-fn kind_of(
-    network: &Network<'_>,
-    line: usize,
-    row: &Row,
-    free: bool,
-    tail: Place,
-    head: Place,
-) -> Option<Kind> {
-    if tail.line == line && head.line == line && tail.station != head.station {
-        return Some(Kind::Run);
-    }
-    if row.weight == 0 || network.station(tail) != network.station(head) {
-        return None;
-    }
-    match (tail.line == line, head.line == line) {
-        (true, true) if free => Some(Kind::Wait),
-        (true, true) => Some(Kind::Stand),
-        (true, false) => Some(Kind::Leave),
-        (false, true) => Some(Kind::Join),
-        (false, false) => None,
-    }
-}
-
-/// The least duration of an activity between two times that is no less than its lower bound.
-fn duration_of(period: u32, from: i64, to: i64, lower: i64) -> i64 {
-    let length = i64::from(period.max(1));
-    let above = to.saturating_sub(from).saturating_sub(lower);
-    lower.saturating_add(above.rem_euclid(length))
-}
-
-/// Whether every slack is allowed to an activity.
-fn is_free(period: u32, row: &Row) -> bool {
-    let allowed = row.upper.saturating_sub(row.lower);
-    allowed.saturating_add(1) >= i64::from(period)
 }
 
 impl<'a> Piece<'a> {
@@ -85,17 +32,15 @@ impl<'a> Piece<'a> {
     ) -> Option<Piece<'a>> {
         let tail = network.at(row.tail)?;
         let head = network.at(row.head)?;
-        let free = is_free(instance.period(), row);
-        let kind = kind_of(network, line, row, free, tail, head)?;
+        let kind = kind_on(network, line, instance.period(), row, tail, head)?;
         let time = i64::from(times.get(row.tail as usize).copied()?);
-        let end = i64::from(times.get(row.head as usize).copied()?);
         Some(Piece {
             kind,
             row,
             tail,
             head,
             time,
-            duration: duration_of(instance.period(), time, end, row.lower),
+            duration: duration_of(instance, times, row)?,
         })
     }
 
@@ -120,11 +65,11 @@ fn write_title(
         ..
     } = *piece.row;
     let (first, from) = (
-        Escaped(network.line(piece.tail)),
+        Escaped(network.line_of_event(piece.row.tail)),
         Escaped(network.station(piece.tail)),
     );
     let (second, to) = (
-        Escaped(network.line(piece.head)),
+        Escaped(network.line_of_event(piece.row.head)),
         Escaped(network.station(piece.head)),
     );
     let Piece { time, duration, .. } = *piece;
@@ -164,8 +109,10 @@ fn write_stretch(
 /// Writes a train between two stations, or at one of them.
 fn write_train(text: &mut String, period: u32, piece: &Piece<'_>) -> Result<(), AllocError> {
     let class = match piece.kind {
+        Kind::Run if piece.tail.station > piece.head.station => "back",
         Kind::Run => "run",
         Kind::Wait => "wait",
+        Kind::Apart => "apart",
         _ => "stand",
     };
     let to = piece.time.saturating_add(piece.duration);
@@ -174,6 +121,32 @@ fn write_train(text: &mut String, period: u32, piece: &Piece<'_>) -> Result<(), 
     write!(text, "<path class=\"{class}\" d=\"")?;
     write_stretch(text, period, piece.time, to, first, second)?;
     text.push_str("\"/>")
+}
+
+/// Writes when a train leaves a station, with its line, and when it comes to the next one: beside its ends, within the period.
+fn write_minutes(
+    text: &mut String,
+    network: &Network<'_>,
+    period: u32,
+    piece: &Piece<'_>,
+) -> Result<(), AllocError> {
+    let length = i64::from(period.max(1));
+    let end = piece.time.saturating_add(piece.duration).rem_euclid(length);
+    let (x, to) = (Across::of(period, piece.time), Across::of(period, end));
+    let is_back = piece.tail.station > piece.head.station;
+    let (behind, before) = if is_back { (0, 17) } else { (17, 0) };
+    let y = height_of(piece.tail.station)
+        .saturating_add(behind)
+        .saturating_sub(5);
+    let below = height_of(piece.head.station)
+        .saturating_add(before)
+        .saturating_sub(5);
+    let time = piece.time;
+    let line = Escaped(network.line_of_event(piece.row.tail));
+    write!(
+        text,
+        "<text class=\"minute\" x=\"{x}\" y=\"{y}\">{time} ({line})</text><text class=\"minute end\" x=\"{to}\" y=\"{below}\">{end}</text>\n"
+    )
 }
 
 /// Writes a mark where passengers leave the line or join it.
@@ -212,5 +185,9 @@ pub fn write_piece(
     } else {
         write_train(text, instance.period(), piece)?;
     }
-    text.push_str("</g>\n")
+    text.push_str("</g>\n")?;
+    if network.is_corridor && piece.kind == Kind::Run {
+        write_minutes(text, network, instance.period(), piece)?;
+    }
+    Ok(())
 }

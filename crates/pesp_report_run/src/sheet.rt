@@ -9,23 +9,26 @@ ghost use Rattle.pesp_report.specs.Reporting.{IfBlamed, Refuses, UnlessBlamed};
 
 use pesp_diagram::diagram;
 use pesp_draw::{Choice, draw};
+use pesp_page::{Claim, page};
 use pesp_problem::Instance;
 use pesp_report::{Names, ReportRefusal, report, report_named};
 use pesp_stream::Sink;
+use pesp_timetable::timetable;
 use std::alloc::Global;
 
-/// What is written of a timetable: a report, or a picture.
+/// What is written of a timetable: a report, its records, a picture or a page.
 pub trait Sheet {
     // What is said of the text that is written of these times of an instance.
     ghost shows: { Self → Pesp → List ℕ → List ℕ → Type 0 };
 
-    /// Writes it. `NotTimes` where there isn't one time below the period for each event, and `Violates` with the first row that
+    /// Writes it, with what the text of the times claims of other timetables. `NotTimes` where there isn't one time below the period for each event, and `Violates` with the first row that
     /// isn't satisfied. After `Write` a front of the text is written, and after any other refusal nothing.
     fn write<W: Sink>(
         &self,
         alloc: Global,
         instance: &Instance,
         times: &[u32],
+        claim: Claim,
         sink: &mut W,
     ) -> Result<(), ReportRefusal>
         requires fits { FewerThan (2 ^ 63) (W.calls sink.old) }
@@ -57,6 +60,7 @@ impl Sheet for Report {
         alloc: Global,
         instance: &Instance,
         times: &[u32],
+        _claim: Claim,
         sink: &mut W,
     ) -> Result<(), ReportRefusal> {
         report(alloc, instance, times, sink)
@@ -78,6 +82,7 @@ impl Sheet for NamedReport<'_> {
         alloc: Global,
         instance: &Instance,
         times: &[u32],
+        _claim: Claim,
         sink: &mut W,
     ) -> Result<(), ReportRefusal> {
         report_named(alloc, instance, times, self.0, sink)
@@ -102,6 +107,7 @@ impl Sheet for Picture<'_> {
         alloc: Global,
         instance: &Instance,
         times: &[u32],
+        _claim: Claim,
         sink: &mut W,
     ) -> Result<(), ReportRefusal> {
         let choice = Choice {
@@ -112,9 +118,13 @@ impl Sheet for Picture<'_> {
     }
 }
 
-/// Time-distance diagrams in SVG, one for each line that the names tell. What they show is not promised.
+/// Time-distance diagrams in SVG, one for each line that the names tell, or one along stations that are named between commas. What
+/// they show is not promised.
 #[derive(Clone, Copy)]
-pub struct Diagrams<'a>(pub &'a Names);
+pub struct Diagrams<'a> {
+    pub names: &'a Names,
+    pub along: Option<&'a str>,
+}
 
 impl Sheet for Diagrams<'_> {
     ghost use Rattle.std.specs.Prelude.{⊤};
@@ -126,8 +136,52 @@ impl Sheet for Diagrams<'_> {
         alloc: Global,
         instance: &Instance,
         times: &[u32],
+        _claim: Claim,
         sink: &mut W,
     ) -> Result<(), ReportRefusal> {
-        diagram(alloc, instance, times, self.0, sink)
+        diagram(alloc, instance, times, self.names, self.along, sink)
+    }
+}
+
+/// The timetable: a record for each event, in the order of the ways of trains, with what names tell where there are any.
+#[derive(Clone, Copy)]
+pub struct Timetable<'a>(pub Option<&'a Names>);
+
+impl Sheet for Timetable<'_> {
+    ghost use Rattle.pesp_timetable.specs.Timetable.{IsTimetableText};
+
+    ghost shows = { λ _ p times text. IsTimetableText p times text };
+
+    fn write<W: Sink>(
+        &self,
+        alloc: Global,
+        instance: &Instance,
+        times: &[u32],
+        _claim: Claim,
+        sink: &mut W,
+    ) -> Result<(), ReportRefusal> {
+        timetable(alloc, instance, times, self.0, sink)
+    }
+}
+
+/// A page in HTML with what the text of the times claims, the timetable, the diagrams and the slack of each activity. What it
+/// shows is not promised.
+#[derive(Clone, Copy)]
+pub struct Page<'a>(pub Option<&'a Names>);
+
+impl Sheet for Page<'_> {
+    ghost use Rattle.std.specs.Prelude.{⊤};
+
+    ghost shows = { λ _ _ _ _. ⊤ };
+
+    fn write<W: Sink>(
+        &self,
+        alloc: Global,
+        instance: &Instance,
+        times: &[u32],
+        claim: Claim,
+        sink: &mut W,
+    ) -> Result<(), ReportRefusal> {
+        page(alloc, instance, times, self.0, claim, sink)
     }
 }

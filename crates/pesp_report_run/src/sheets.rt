@@ -8,8 +8,9 @@ ghost use Rattle.pesp_check_run.specs.Devices.{over};
 ghost use Rattle.pesp_faults.specs.Reading.{ReadsTimetable};
 ghost use Rattle.pesp_report_run.specs.Reporting.{WritesSheet, SheetCause};
 
+use crate::claimed::read_claimed;
 use crate::sheet::{Report, Sheet};
-use pesp_faults::{Fault, read_whole_instance, read_whole_times};
+use pesp_faults::{Fault, read_whole_instance};
 use pesp_stream::{Sink, Source};
 use std::alloc::Global;
 
@@ -49,8 +50,8 @@ pub fn run_sheet<P: Sheet, R: Source, T: Source, W: Sink>(
     ensures silent { IfErr result (λ fault. fault ≢ Fault.Write → writer.new ≡ writer.old) }
 {
     let instance = read_whole_instance(alloc, instance_reader, period)?;
-    let times = read_whole_times(alloc, &instance, times_reader)?;
-    sheet.write(alloc, &instance, &times, writer)?;
+    let claimed = read_claimed(alloc, &instance, times_reader)?;
+    sheet.write(alloc, &instance, &claimed.times, claimed.claim, writer)?;
     Ok(())
 }
 

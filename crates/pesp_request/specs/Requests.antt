@@ -7,7 +7,7 @@ use Rattle.pesp_request.specs.declared.request.OfInstance.TheVariants.{Solve, So
 use Rattle.pesp_request.specs.declared.request.OfCertificate.{OfCertificate}
 use Rattle.pesp_request.specs.declared.request.OfCertificate.TheVariants.{Check, CheckSharp, Gap, Resume, ResumeSharp, Split, SplitSharp}
 use Rattle.pesp_request.specs.declared.request.OfTimes.{OfTimes}
-use Rattle.pesp_request.specs.declared.request.OfTimes.TheVariants.{Report, Violations, Picture, Diagrams}
+use Rattle.pesp_request.specs.declared.request.OfTimes.TheVariants.{Report, Violations, Picture, Diagrams, Timetable, Page}
 use Rattle.pesp_request.specs.declared.request.OfLeaves.{OfLeaves}
 use Rattle.pesp_request.specs.declared.request.OfLeaves.TheVariants.{Work, WorkSharp}
 use Rattle.pesp_request.specs.declared.request.Asked.{Asked}
@@ -21,7 +21,7 @@ IsPeriod period = (1 ≤ period) × (period ≤ MOST_PERIOD)
 abbrev pub InstanceWithin : OfInstance → Type 0
 InstanceWithin (Solve steps from progress) = steps ≤ MOST_STEPS
 InstanceWithin (SolveSharp steps from progress) = steps ≤ MOST_STEPS
-InstanceWithin (Conflict steps) = steps ≤ MOST_STEPS
+InstanceWithin (Conflict steps names) = steps ≤ MOST_STEPS
 
 abbrev pub CertificateWithin : OfCertificate → Type 0
 CertificateWithin Check = Unit {0}
@@ -40,7 +40,9 @@ abbrev pub TimesWithin : OfTimes → Type 0
 TimesWithin (Report names) = Unit {0}
 TimesWithin Violations = Unit {0}
 TimesWithin (Picture rows names) = (1 ≤ rows) × (rows ≤ 1000)
-TimesWithin (Diagrams names) = Unit {0}
+TimesWithin (Diagrams names along) = Unit {0}
+TimesWithin (Timetable names) = Unit {0}
+TimesWithin (Page names) = Unit {0}
 
 abbrev pub AskedWithin : Asked → Type 0
 AskedWithin (Instance file asked) = InstanceWithin asked

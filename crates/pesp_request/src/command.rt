@@ -5,9 +5,9 @@ ghost use Rattle.std.specs.List.Sorted.{IsStrictlyIncreasing};
 ghost use Rattle.pesp_request.specs.Requests.{InstanceWithin, CertificateWithin, LeavesWithin, TimesWithin, AskedWithin, IsWithinLimits};
 
 use crate::options::{
-    base_argument, file_argument, from_option, graft_sharp_option, jobs_argument, names_argument,
-    names_option, optional_file, period_option, progress_option, rows_option, seconds_option,
-    sharp_option, sharpen_option, solve_steps_option, steps_option, until_option,
+    along_option, base_argument, file_argument, from_option, graft_sharp_option, jobs_argument,
+    names_argument, names_option, optional_file, period_option, progress_option, rows_option,
+    seconds_option, sharp_option, sharpen_option, solve_steps_option, steps_option, until_option,
     violations_option, work_sharpen_option,
 };
 use crate::request::{Asked, OfCertificate, OfInstance, OfLeaves, OfTimes, OfWorks, Request};
@@ -35,8 +35,9 @@ Exit status: 0 the certificate is written; 1 the times to begin with violate a r
 2 the command line; 3 a text is refused; 4 memory, a device, or a limit of the search";
 
 const CONFLICTS: &str = "\
-A list is written as CSV: row, label, tail, head, lower, upper. Standard error tells how
-many activities there are, and whether each of them is needed.
+A list is written as CSV: row, label, tail, head, lower, upper, and with --names the
+names of both events. Standard error tells how many activities there are, and whether
+each of them is needed; with --names it adds up those that make up one closed way.
 
 Exit status: 0 a list is written; 1 no conflict was found; 2 the command line; 3 the
 instance is refused; 4 memory, a device, or a limit of the search";
@@ -46,9 +47,11 @@ A whole round, for an instance in trains.csv with the period 60:
   pesp solve trains.csv > trains.certificate
   pesp check trains.csv < trains.certificate
   pesp report trains.csv < trains.certificate > trains.report.csv
+  pesp timetable trains.csv < trains.certificate > trains.timetable.csv
   pesp draw trains.csv < trains.certificate > trains.svg
 and with names of events in trains.names, one a line as event,name,line,station
   pesp diagram trains.csv trains.names < trains.certificate > trains.lines.svg
+  pesp page --names trains.names trains.csv < trains.certificate > trains.html
 or with a pipe
   pesp solve trains.csv | pesp check trains.csv
 
@@ -89,6 +92,7 @@ fn conflict_command<'a>(alloc: Global) -> Result<Command<'a>, AllocError> {
         .after_help(CONFLICTS)
         .arg(period_option(alloc))?
         .arg(steps_option(alloc))?
+        .arg(names_option(alloc))?
         .arg(optional_file(alloc))
 }
 
@@ -217,7 +221,28 @@ fn diagram_command<'a>(alloc: Global) -> Result<Command<'a>, AllocError> {
         "pesp diagram [OPTIONS] <FILE> <NAMES> < TIMES",
         "Reads time lines or a certificate from standard input and draws a time-distance diagram in SVG for each line that NAMES tells",
     )?
+    .arg(along_option(alloc))?
     .arg(names_argument(alloc))
+}
+
+fn timetable_command<'a>(alloc: Global) -> Result<Command<'a>, AllocError> {
+    file_command(
+        alloc,
+        "timetable",
+        "pesp timetable [OPTIONS] <FILE> < TIMES",
+        "Reads time lines or a certificate from standard input and writes the timetable of FILE as CSV, a record for each event along the ways of trains",
+    )?
+    .arg(names_option(alloc))
+}
+
+fn page_command<'a>(alloc: Global) -> Result<Command<'a>, AllocError> {
+    file_command(
+        alloc,
+        "page",
+        "pesp page [OPTIONS] <FILE> < TIMES",
+        "Reads time lines or a certificate from standard input and writes a page in HTML with the timetable of FILE, its diagrams and its slack",
+    )?
+    .arg(names_option(alloc))
 }
 
 /// A command with one more subcommand.
@@ -240,9 +265,16 @@ fn with_round_trip<'a>(alloc: Global) -> Result<Command<'a>, AllocError> {
     let pesp = with(pesp, conflict_command(alloc))?;
     let pesp = with(pesp, check_command(alloc))?;
     let pesp = with(pesp, gap_command(alloc))?;
+    with_sheets(alloc, pesp)
+}
+
+/// The program with its commands for what is written of times.
+fn with_sheets<'a>(alloc: Global, pesp: Command<'a>) -> Result<Command<'a>, AllocError> {
     let pesp = with(pesp, report_command(alloc))?;
+    let pesp = with(pesp, timetable_command(alloc))?;
     let pesp = with(pesp, draw_command(alloc))?;
-    with(pesp, diagram_command(alloc))
+    let pesp = with(pesp, diagram_command(alloc))?;
+    with(pesp, page_command(alloc))
 }
 
 /// The program with all its commands.
@@ -351,6 +383,7 @@ fn conflict_of<'a>(matches: &ArgMatches<'a>) -> OfInstance<'a>
 {
     OfInstance::Conflict {
         steps: steps_of(matches),
+        names: matches.get_str("names"),
     }
 }
 
@@ -404,6 +437,25 @@ fn diagrams_of<'a>(matches: &ArgMatches<'a>) -> OfTimes<'a>
 {
     OfTimes::Diagrams {
         names: matches.get_str("names").unwrap_or(""),
+        along: matches.get_str("along"),
+    }
+}
+
+/// What the words behind `timetable` ask for.
+fn timetable_of<'a>(matches: &ArgMatches<'a>) -> OfTimes<'a>
+    ensures { TimesWithin result }
+{
+    OfTimes::Timetable {
+        names: matches.get_str("names"),
+    }
+}
+
+/// What the words behind `page` ask for.
+fn page_of<'a>(matches: &ArgMatches<'a>) -> OfTimes<'a>
+    ensures { TimesWithin result }
+{
+    OfTimes::Page {
+        names: matches.get_str("names"),
     }
 }
 
@@ -456,8 +508,10 @@ fn asked_by<'a>(command: &str, matches: &ArgMatches<'a>) -> Asked<'a>
         "resume" => certificate_of(matches, resume_of(matches)),
         "split" => certificate_of(matches, split_of(matches)),
         "report" => times_of(matches, report_of(matches)),
+        "timetable" => times_of(matches, timetable_of(matches)),
         "draw" => times_of(matches, picture_of(matches)),
         "diagram" => times_of(matches, diagrams_of(matches)),
+        "page" => times_of(matches, page_of(matches)),
         "graft" => graft_of(matches),
         _ => instance_of(matches, solve_of(matches)),
     }

@@ -103,6 +103,15 @@ pub(crate) fn names_argument<'a>(alloc: Global) -> Arg<'a> {
         .help("The file with the names of events, one a line as event,name,line,station")
 }
 
+pub(crate) fn along_option<'a>(alloc: Global) -> Arg<'a> {
+    Arg::new(alloc, "along")
+        .long("along")
+        .value_name("STATIONS")
+        .help(
+            "Draws one diagram of these stations, between commas, with the trains of all lines, their minutes and what keeps them apart",
+        )
+}
+
 pub(crate) fn rows_option<'a>(alloc: Global) -> Arg<'a> {
     number_option(alloc, "rows", 1, 1000)
         .default_value("100")

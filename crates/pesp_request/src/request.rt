@@ -61,6 +61,8 @@ pub enum OfInstance<'a> {
     /// Activities that have no timetable together, within searches of at most so many steps.
     Conflict {
         steps: u32,
+        /// The file with the names of events, where one is named.
+        names: Option<&'a str>,
     },
 }
 
@@ -127,13 +129,29 @@ pub enum OfWorks {
 #[derive(Clone, Copy, Drop)]
 pub enum OfTimes<'a> {
     /// Their report, with names where a file is named.
-    Report { names: Option<&'a str> },
+    Report {
+        names: Option<&'a str>,
+    },
     /// The activities that they violate.
     Violations,
     /// A picture of them, with at most so many activities and so many events, and with names where a file is named.
-    Picture { rows: u32, names: Option<&'a str> },
-    /// Time-distance diagrams of them, for the lines that a file with names tells.
-    Diagrams { names: &'a str },
+    Picture {
+        rows: u32,
+        names: Option<&'a str>,
+    },
+    /// Time-distance diagrams of them, for the lines that a file with names tells, or along stations between commas.
+    Diagrams {
+        names: &'a str,
+        along: Option<&'a str>,
+    },
+    /// Their timetable, with names where a file is named.
+    Timetable {
+        names: Option<&'a str>,
+    },
+    /// A page of them, with names where a file is named.
+    Page {
+        names: Option<&'a str>,
+    },
 }
 
 impl Request<'_> {

@@ -79,14 +79,53 @@ fn tell_resume(
 }
 
 /// Conflicting activities that are asked for.
-fn tell_conflict(alloc: Global, period: u32, steps: u32, file: Option<&str>) -> Option<String> {
+fn tell_conflict(
+    alloc: Global,
+    period: u32,
+    steps: u32,
+    file: Option<&str>,
+    names: Option<&str>,
+) -> Option<String> {
     let file = file.unwrap_or("of standard input");
-    tell_steps(alloc, "conflict ", file, period, steps)
+    let mut told = tell_steps(alloc, "conflict ", file, period, steps)?;
+    if let Some(names) = names {
+        write!(told, " with {names}").ok()?;
+    }
+    Some(told)
 }
 
 /// What is asked for over a file and a file of names.
 fn tell_named(alloc: Global, verb: &str, period: u32, file: &str, names: &str) -> Option<String> {
     format!(in alloc; "{verb} {file} at period {period} with {names}").ok()
+}
+
+/// What is asked for over a file, and over a file of names where one is named.
+fn tell_sheet(
+    alloc: Global,
+    verb: &str,
+    period: u32,
+    file: &str,
+    names: Option<&str>,
+) -> Option<String> {
+    match names {
+        Some(names) => tell_named(alloc, verb, period, file, names),
+        None => tell_file(alloc, verb, period, file),
+    }
+}
+
+/// Diagrams that are asked for, and the stations along which they lie, where some are named.
+fn tell_diagrams(
+    alloc: Global,
+    period: u32,
+    file: &str,
+    names: &str,
+    along: Option<&str>,
+) -> Option<String> {
+    let mut told = tell_named(alloc, "diagram", period, file, names)?;
+    if let Some(stations) = along {
+        write!(told, " along {stations}").ok()?;
+    }
+    Some(told)
 }
 
 fn tell_picture(
@@ -160,7 +199,9 @@ fn tell_of_instance(
             from,
             progress,
         } => { with_walks(tell_solve(alloc, period, steps, from, progress, file)?) }
-        OfInstance::Conflict { steps } => tell_conflict(alloc, period, steps, file),
+        OfInstance::Conflict { steps, names } => {
+            tell_conflict(alloc, period, steps, file, names)
+        }
     }
 }
 
@@ -193,11 +234,12 @@ fn tell_of_certificate(
 /// What is asked of times.
 fn tell_of_times(alloc: Global, period: u32, file: &str, asked: OfTimes<'_>) -> Option<String> {
     match asked {
-        OfTimes::Report { names: None } => tell_file(alloc, "report", period, file),
-        OfTimes::Report { names: Some(names) } => tell_named(alloc, "report", period, file, names),
+        OfTimes::Report { names } => tell_sheet(alloc, "report", period, file, names),
         OfTimes::Violations => tell_file(alloc, "report violations of", period, file),
         OfTimes::Picture { rows, names } => tell_picture(alloc, period, rows, names, file),
-        OfTimes::Diagrams { names } => tell_named(alloc, "diagram", period, file, names),
+        OfTimes::Diagrams { names, along } => { tell_diagrams(alloc, period, file, names, along) }
+        OfTimes::Timetable { names } => tell_sheet(alloc, "timetable", period, file, names),
+        OfTimes::Page { names } => tell_sheet(alloc, "page", period, file, names),
     }
 }
 

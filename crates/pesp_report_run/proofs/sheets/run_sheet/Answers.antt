@@ -10,13 +10,13 @@ returns-in_err-write-clause-cause g c =
       c.in_ok-instance.instance,
       c.in_ok-instance.ensures.ok,
       inr (
-        c.in_ok-times.times.items,
-        c.in_ok-times.ensures.ok,
-        timetable_cause _ _ _ _ _ c.in_ok-times.ensures.times out.refused out.fault out.front,
+        c.in_ok-claimed.claimed.times.items,
+        c.in_ok-claimed.ensures.ok,
+        timetable_cause _ _ _ _ _ c.in_ok-claimed.ensures.times out.refused out.fault out.front,
       ),
     ))
 
 pub returns-clause-ok : goal.returns-clause-ok
 returns-clause-ok g c =
     let out = rw c.deref.ensures.value at c.in_ok-write.ensures in
-    (c.in_ok-instance.instance, c.in_ok-instance.ensures.ok, (c.in_ok-times.times.items, c.in_ok-times.ensures.ok, out.timetable, out.text))
+    (c.in_ok-instance.instance, c.in_ok-instance.ensures.ok, (c.in_ok-claimed.claimed.times.items, c.in_ok-claimed.ensures.ok, out.timetable, out.text))

@@ -21,13 +21,15 @@ pub struct Line<'a> {
     pub stations: Vec<&'a str>,
 }
 
-/// The lines in the order in which the names first name them; where each event stands, by its number in the instance; and how
-/// many events stand nowhere.
+/// The lines in the order in which the names first name them; where each event stands, by its number in the instance, and the
+/// name of its own line; how many events stand nowhere; and whether there is one line alone, a corridor for trains of all lines.
 #[derive(Drop)]
 pub struct Network<'a> {
     pub lines: Vec<Line<'a>>,
-    pub places: Vec<Option<Place>>,
+    places: Vec<Option<Place>>,
+    owners: Vec<&'a str>,
     pub left: u32,
+    pub is_corridor: bool,
 }
 
 /// An event of the instance, by its number, with what is told of it.
@@ -68,6 +70,18 @@ fn place_among<'a>(texts: &mut Vec<&'a str>, text: &'a str) -> Result<Option<usi
     Ok(Some(place))
 }
 
+/// The line of the stations that a text names between commas.
+fn line_along<'a>(alloc: Global, stations: &'a str) -> Result<Line<'a>, AllocError> {
+    let mut line = Line {
+        name: stations,
+        stations: Vec::new(alloc),
+    };
+    for station in stations.split(',') {
+        let _place = place_among(&mut line.stations, station.trim())?;
+    }
+    Ok(line)
+}
+
 impl<'a> Network<'a> {
     /// The lines and the places that names tell.
     pub fn of(
@@ -76,25 +90,68 @@ impl<'a> Network<'a> {
         names: &'a Names,
     ) -> Result<Network<'a>, AllocError> {
         let stops = stops_of(alloc, instance, names)?;
-        let mut network = Network {
-            lines: Vec::new(alloc),
-            places: Vec::new(alloc),
-            left: 0,
-        };
-        for _ in instance.events() {
-            network.places.push(None)?;
-        }
+        let mut network = Network::without_lines(alloc, instance)?;
         for stop in &stops {
             let place = network.place_of(alloc, stop.name)?;
-            network.put(stop.event, place);
+            network.put(stop, place);
         }
         network.left = network.count_left();
         Ok(network)
     }
 
+    /// A corridor: the stations that a text names between commas, in their order, as those of one line, with the events there of
+    /// all lines.
+    pub fn along(
+        alloc: Global,
+        instance: &Instance,
+        names: &'a Names,
+        stations: &'a str,
+    ) -> Result<Network<'a>, AllocError> {
+        let stops = stops_of(alloc, instance, names)?;
+        let mut network = Network::without_lines(alloc, instance)?;
+        network.lines.push(line_along(alloc, stations)?)?;
+        network.is_corridor = true;
+        for stop in &stops {
+            let place = network.place_along(stop.name.station.as_str());
+            network.put(stop, place);
+        }
+        network.left = network.count_left();
+        Ok(network)
+    }
+
+    /// No lines: each event stands nowhere.
+    fn without_lines(alloc: Global, instance: &Instance) -> Result<Network<'a>, AllocError> {
+        let mut network = Network {
+            lines: Vec::new(alloc),
+            places: Vec::new(alloc),
+            owners: Vec::new(alloc),
+            left: 0,
+            is_corridor: false,
+        };
+        for _ in instance.events() {
+            network.places.push(None)?;
+            network.owners.push("")?;
+        }
+        Ok(network)
+    }
+
+    /// Where a station stands on the first line.
+    fn place_along(&self, station: &str) -> Option<Place> {
+        let line = self.lines.first()?;
+        let place = line.stations.iter().position(|other| *other == station)?;
+        Some(Place {
+            line: 0,
+            station: place,
+        })
+    }
+
     /// The number of the line with this name, which is put behind the others if it isn't there; None where there are too
     /// many.
-    fn line_of(&mut self, alloc: Global, name: &'a str) -> Result<Option<usize>, AllocError> {
+    fn number_of_line(
+        &mut self,
+        alloc: Global,
+        name: &'a str,
+    ) -> Result<Option<usize>, AllocError> {
         if let Some(place) = self.lines.iter().position(|line| line.name == name) {
             return Ok(Some(place));
         }
@@ -111,7 +168,7 @@ impl<'a> Network<'a> {
 
     /// Where an event with this name stands.
     fn place_of(&mut self, alloc: Global, name: &'a Name) -> Result<Option<Place>, AllocError> {
-        let Some(line) = self.line_of(alloc, name.line.as_str())? else {
+        let Some(line) = self.number_of_line(alloc, name.line.as_str())? else {
             return Ok(None);
         };
         let Some(found) = self.lines.get_mut(line) else {
@@ -124,9 +181,12 @@ impl<'a> Network<'a> {
     }
 
     /// Puts an event at a place.
-    fn put(&mut self, event: usize, place: Option<Place>) {
-        if let Some(old) = self.places.get_mut(event) {
+    fn put(&mut self, stop: &Stop<'a>, place: Option<Place>) {
+        if let Some(old) = self.places.get_mut(stop.event) {
             *old = place;
+        }
+        if let Some(owner) = self.owners.get_mut(stop.event) {
+            *owner = stop.name.line.as_str();
         }
     }
 
@@ -154,11 +214,8 @@ impl<'a> Network<'a> {
         }
     }
 
-    /// The name of the line at a place.
-    pub fn line(&self, place: Place) -> &'a str {
-        match self.lines.get(place.line) {
-            Some(line) => line.name,
-            None => "",
-        }
+    /// The name of an event's own line.
+    pub fn line_of_event(&self, event: u32) -> &'a str {
+        self.owners.get(event as usize).copied().unwrap_or("")
     }
 }

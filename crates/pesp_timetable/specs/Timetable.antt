@@ -1,0 +1,117 @@
+-- A timetable as records, one for each event.
+use Rattle.std.specs.Prelude.{◌≡◌, ℕ, ◌+◌, ◌*◌, ◌/◌, ◌%◌, ◌==◌, ◌&&◌, ◌||◌, Bool, nat_lt, ℤ, List, [], ◌∷◌, ◌++◌, map, Option, Some, None, slice_get, slice_index_or, string_bytes, codes, IsPermutation, IsSortedBy}
+use Rattle.std.specs.List.{enumerate_from}
+use Rattle.std.specs.Fmt.{decimal, signed_decimal}
+use Rattle.pesp_problem.specs.Timetables.{Pesp}
+use Rattle.pesp_railway.specs.declared.step.Direction.{Direction}
+use Rattle.pesp_railway.specs.declared.step.Direction.TheVariants.{Out, Back, Nowhere}
+use Rattle.pesp_railway.specs.declared.step.Halt.{Halt}
+use Rattle.pesp_railway.specs.declared.step.Halt.TheVariants.{Arrival, Departure, Pass, Other}
+use Rattle.pesp_report.specs.Report.{records_text}
+use Rattle.pesp_timetable.specs.declared.told.Told.{Told}
+use Rattle.pesp_timetable.specs.declared.entry.Entry.{Entry}
+
+-- minutes as hours and minutes, of two digits each where there are fewer than 100 hours
+abbrev pub clock_text : ℕ → List ℕ
+clock_text n =
+    decimal (n / 60 / 10) ++ decimal (n / 60 % 10) ++ codes ":" ++ decimal (n % 60 / 10) ++ decimal (n % 60 % 10)
+
+-- ---- what is told of an event beside its time; nothing is said of what it is
+
+-- its way, its place along it, and how many periods have begun since that way's first event
+abbrev pub way_of : Option Told → ℕ
+way_of None = 0
+way_of (Some told) = told.step.way
+
+abbrev pub stop_of : Option Told → ℕ
+stop_of None = 0
+stop_of (Some told) = told.step.stop
+
+abbrev pub laps_of : Option Told → ℕ
+laps_of None = 0
+laps_of (Some told) = told.step.laps
+
+-- its line, its station, its name and its changes, as bytes
+abbrev pub line_of : Option Told → List ℕ
+line_of None = []
+line_of (Some told) = string_bytes told.line
+
+abbrev pub station_of : Option Told → List ℕ
+station_of None = []
+station_of (Some told) = string_bytes told.station
+
+abbrev pub name_of : Option Told → List ℕ
+name_of None = []
+name_of (Some told) = string_bytes told.name
+
+abbrev pub changes_of : Option Told → List ℕ
+changes_of None = []
+changes_of (Some told) = string_bytes told.changes
+
+-- the words for the direction of its train, and for what the train does there
+abbrev pub direction_word : Direction → List ℕ
+direction_word Out = codes "out"
+direction_word Back = codes "back"
+direction_word Nowhere = []
+
+abbrev pub direction_of : Option Told → List ℕ
+direction_of None = []
+direction_of (Some told) = direction_word told.step.direction
+
+abbrev pub kind_word : Halt → List ℕ
+kind_word Arrival = codes "arrival"
+kind_word Departure = codes "departure"
+kind_word Pass = codes "pass"
+kind_word Other = []
+
+abbrev pub kind_of : Option Told → List ℕ
+kind_of None = []
+kind_of (Some told) = kind_word told.step.halt
+
+-- ---- the records
+
+-- an event with its number, from 0, and its label; the running time is the time behind so many periods
+abbrev pub entry_of : Pesp → List ℕ → List Told → ℕ × ℤ → Entry
+entry_of p times tolds (event, label) = record {
+  event = event;
+  label = label;
+  way = way_of (slice_get tolds event);
+  stop = stop_of (slice_get tolds event);
+  time = slice_index_or times event 0;
+  running = slice_index_or times event 0 + laps_of (slice_get tolds event) * p.period;
+}
+
+-- all events in the order of the instance
+abbrev pub entries_of : Pesp → List ℕ → List Told → List Entry
+entries_of p times tolds = map (entry_of p times tolds) (enumerate_from 0 p.events)
+
+-- the event of the earlier way goes first, and along a way that of the earlier stop
+abbrev pub goes_before : Entry → Entry → Bool
+goes_before x y = nat_lt x.way y.way || ((x.way == y.way) && nat_lt x.stop y.stop)
+
+-- the fields of the header and of an event
+abbrev pub timetable_header : List (List ℕ)
+timetable_header =
+    codes "way" ∷ codes "line" ∷ codes "direction" ∷ codes "stop" ∷ codes "station" ∷ codes "kind" ∷ codes "event" ∷ codes "name" ∷ codes "time"
+    ∷ codes "clock" ∷ codes "changes" ∷ []
+
+abbrev pub told_fields : Option Told → Entry → List ℕ → List (List ℕ)
+told_fields told e clock =
+    decimal e.way ∷ line_of told ∷ direction_of told ∷ decimal e.stop ∷ station_of told ∷ kind_of told ∷ signed_decimal e.label
+    ∷ name_of told ∷ decimal e.time ∷ clock ∷ changes_of told ∷ []
+
+abbrev pub entry_fields : List Told → Entry → List (List ℕ)
+entry_fields tolds e = told_fields (slice_get tolds e.event) e (clock_text e.running)
+
+-- the header and these records
+abbrev pub timetable_text : List Told → List Entry → List ℕ
+timetable_text tolds entries = records_text (timetable_header ∷ map (entry_fields tolds) entries)
+
+-- a text is the timetable of times: the header, and a record for each event with its label and its time, in the order of the
+-- ways and stops that the records tell
+pub record IsTimetableText (p : Pesp) (times : List ℕ) (text : List ℕ) : Type 0 where
+  pub tolds : List Told
+  pub entries : List Entry
+  pub all : IsPermutation (entries_of p times tolds) entries
+  pub ordered : IsSortedBy goes_before entries
+  pub whole : text ≡ timetable_text tolds entries

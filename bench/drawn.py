@@ -11,11 +11,13 @@ def between(chance, low, high):
 
 
 class Drawn:
-    """Activities and hidden times that satisfy them; arrivals and departures at stations, and departures on tracks."""
+    """Activities and hidden times that satisfy them; arrivals and departures at stations, and departures on tracks; what each
+    event is, its line and its station."""
 
     def __init__(self, chance):
         self.chance, self.times, self.rows = chance, {}, []
         self.arrivals, self.departures, self.tracks = {}, {}, {}
+        self.lines, self.names = 0, {}
 
     def event(self, time):
         label = len(self.times) + 1
@@ -38,11 +40,13 @@ class Drawn:
         first = departure = start or self.event(chance.randrange(PERIOD))
         for here, there in zip(stations, stations[1:]):
             self.departures.setdefault(here, []).append(departure)
+            self.names[departure] = ("departure", self.lines, here)
             least, span = minutes(here, there), chance.randint(1, 4)
             arrival = self.after(departure, least + chance.randint(0, min(span, 2)))
             self.add(departure, arrival, least, span, riders(chance))
             self.tracks.setdefault((here, there), []).append((departure, arrival))
             self.arrivals.setdefault(there, []).append(arrival)
+            self.names[arrival] = ("arrival", self.lines, there)
             if there != stations[-1]:
                 stay, span = chance.randint(1, 3), chance.randint(3, 8)
                 departure = self.after(arrival, stay)
@@ -51,6 +55,7 @@ class Drawn:
 
     def line(self, stations, minutes, riders, span, weight):
         """A line out and back, with a turn of at least 5 minutes at both ends."""
+        self.lines += 1
         out, end = self.run(stations, minutes, riders)
         back = self.after(end, 5 + self.chance.randint(0, min(span, 15)))
         self.add(end, back, 5, span, weight)
@@ -75,5 +80,10 @@ class Drawn:
             self.add(arrival, departure, least, PERIOD - 1, between(self.chance, low, high))
 
     def print(self):
+        """Prints the instance, or its names where the command line asks for them by the word `names`."""
+        if "names" in sys.argv[3:]:
+            for label, (kind, line, station) in sorted(self.names.items()):
+                sys.stdout.write(f"{label};station {station} {kind};{line};station {station}\n")
+            return
         for number, row in enumerate(self.rows, 1):
             sys.stdout.write(";".join(map(str, (number, *row))) + "\n")

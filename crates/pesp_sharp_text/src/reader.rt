@@ -7,8 +7,8 @@ ghost use Rattle.pesp_sharp_text.specs.Faults.{IsRefusal};
 ghost use Rattle.pesp_sharp_text.specs.Texts.{said_of_text, IsFrontedText, ReadsTexts};
 
 use crate::fronted::Fronted;
-use crate::marks::Marks;
 use pesp_cert::{CertRefusal, FrontDraft, Versions, parse_text};
+use pesp_truth::Marks;
 use std::alloc::Global;
 
 /// The front that the lines of a text said.

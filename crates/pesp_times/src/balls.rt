@@ -1,109 +1,11 @@
 //! Balls: a connected part of the events is freed, and the rest moves as one cluster.
 
-use crate::clusters::Clusters;
-use crate::contraction::Contraction;
 use crate::effort::FEW;
-use crate::forests::Keys;
-use crate::found::{Found, cost_of};
-use crate::relaxation::Relaxation;
 use crate::search::TimesSearch;
 use pesp_annealing::Annealer;
-use pesp_forest::Frame;
 use pesp_network::Network;
 use pesp_problem::Memory;
-use pesp_search_tools::Random;
-use pesp_search_tools::guarded::set_number;
-use std::alloc::{AllocError, Global};
-
-/// Among how many events that wait the next one is drawn.
-const DRAWN_FROM: usize = 6;
-
-/// A ball as it grows: the events that wait, from the next one on, which events and rows were met, and how many rows.
-#[derive(Drop)]
-struct Ball {
-    clusters: Clusters,
-    waiting: Vec<u32>,
-    next: usize,
-    is_met: Vec<bool>,
-    is_touched: Vec<bool>,
-    touched: u64,
-}
-
-impl Ball {
-    /// No event is freed.
-    fn new(alloc: Global, frame: &Frame) -> Result<Ball, AllocError> {
-        let events = frame.events();
-        Ok(Ball {
-            clusters: Clusters {
-                of: vec![in alloc; 0u32; events]?,
-                count: 1,
-            },
-            waiting: Vec::new(alloc),
-            next: 0,
-            is_met: vec![in alloc; false; events]?,
-            is_touched: vec![in alloc; false; frame.rows().len()]?,
-            touched: 0,
-        })
-    }
-
-    /// Lets an event wait that wasn't met.
-    fn meet(&mut self, event: u32) -> Result<(), AllocError> {
-        if let Some(is_met) = self.is_met.get_mut(event as usize) {
-            if !*is_met {
-                *is_met = true;
-                self.waiting.push(event)?;
-            }
-        }
-        Ok(())
-    }
-
-    /// Counts a row that wasn't touched.
-    fn touch(&mut self, row: u32) {
-        if let Some(is_touched) = self.is_touched.get_mut(row as usize) {
-            if !*is_touched {
-                *is_touched = true;
-                self.touched = self.touched.saturating_add(1);
-            }
-        }
-    }
-
-    /// One of the first events that wait, which waits no more.
-    fn draw(&mut self, random: &mut Random) -> Option<u32> {
-        let left = self.waiting.len().checked_sub(self.next)?;
-        let drawn = random.below(u64::try_from(left.min(DRAWN_FROM)).ok()?);
-        let place = self.next.checked_add(usize::try_from(drawn).ok()?)?;
-        let event = self.waiting.get(place).copied()?;
-        let first = self.waiting.get(self.next).copied()?;
-        *self.waiting.get_mut(place)? = first;
-        self.next = self.next.checked_add(1)?;
-        Some(event)
-    }
-
-    /// Makes an event a cluster of its own, and meets those around it.
-    fn free(&mut self, frame: &Frame, event: u32) -> Result<(), AllocError> {
-        set_number(&mut self.clusters.of, event, self.clusters.count);
-        self.clusters.count = self.clusters.count.saturating_add(1);
-        for link in frame.star(event) {
-            self.touch(link.row);
-            self.meet(link.other)?;
-        }
-        Ok(())
-    }
-
-    /// Frees events until so many rows were touched, but never all events.
-    fn grow(&mut self, frame: &Frame, random: &mut Random, rows: u64) -> Result<(), AllocError> {
-        for _ in 1..frame.events() {
-            if self.touched >= rows {
-                return Ok(());
-            }
-            let Some(event) = self.draw(random) else {
-                return Ok(());
-            };
-            self.free(frame, event)?;
-        }
-        Ok(())
-    }
-}
+use pesp_timetables::{Clusters, Contraction, Found, Keys, Relaxation, ball_around, cost_of};
 
 impl TimesSearch {
     /// The dearest of three rows that are drawn.
@@ -134,15 +36,10 @@ impl TimesSearch {
         };
         let most = u64::try_from(found.slacks.len().min(FEW)).unwrap_or(0);
         let drawn = self.random.below((most * 2 / 5).saturating_add(1));
-        let mut ball = Ball::new(self.alloc, &self.frame)?;
-        ball.meet(row.tail)?;
-        ball.meet(row.head)?;
-        ball.grow(
-            &self.frame,
-            &mut self.random,
-            (most / 5).saturating_add(drawn),
-        )?;
-        Ok(Some(ball.clusters))
+        let ends = (row.tail, row.head);
+        let size = (most / 5).saturating_add(drawn);
+        let ball = ball_around(self.alloc, &self.frame, ends, size, &mut self.random)?;
+        Ok(Some(ball))
     }
 
     /// What a low anneal finds.

@@ -1,10 +1,11 @@
 //! Batches: individuals are merged by fours, and these with the best of before.
 
-use crate::effort::{Effort, MAY_END_EARLY, MOST_REOPTIMISED, SoftEffort, is_near};
-use crate::found::Found;
+use crate::effort::{Effort, MAY_END_EARLY, is_near};
 use crate::search::TimesSearch;
 use pesp_network::Network;
 use pesp_problem::Memory;
+use pesp_soft_times::SoftEffort;
+use pesp_timetables::{Found, MOST_REOPTIMISED};
 
 /// How a batch ended: with all fours, with one that costs what the cheapest timetable of before does, or as none would win.
 #[derive(Clone, Copy, PartialEq, Eq)]

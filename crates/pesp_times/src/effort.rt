@@ -14,9 +14,6 @@ pub(crate) const GREEDY: u32 = 4;
 /// Up to how many rows the relaxation is dived into.
 pub(crate) const MOST_DIVED: usize = 8_000;
 
-/// Up to how many rows timetables are made cheaper under their offsets.
-pub(crate) const MOST_REOPTIMISED: usize = 8_000;
-
 /// Up to how many rows no batch ends early: all of it takes little time there.
 pub(crate) const MAY_END_EARLY: usize = 150;
 
@@ -57,84 +54,7 @@ impl Effort {
     }
 }
 
-/// Up to how many rows there is no search in which spans may be broken: batches find the best there.
-const FEWEST_SOFT: usize = 120;
-
-/// How many reheats of a timetable are merged with it.
-const REHEATS: u32 = 3;
-
-/// How many groups of how many individuals have anneals in which spans may be broken, and with how many sweeps; how many sweeps
-/// an anneal between clusters has; how many rounds there are of how many reheats, with how many sweeps, and after how many rounds
-/// in turn that found nothing they end.
-#[derive(Clone, Copy)]
-pub(crate) struct SoftEffort {
-    pub(crate) groups: u32,
-    pub(crate) individuals: u32,
-    pub(crate) sweeps: u32,
-    pub(crate) between: u32,
-    pub(crate) rounds: u32,
-    pub(crate) reheats: u32,
-    pub(crate) again: u32,
-    pub(crate) quiet: u32,
-}
-
 /// Whether a batch may still lead to the cheapest timetable, by what its cheapest and that of the other search cost.
 pub(crate) fn may_win(hard: u64, soft: u64) -> bool {
     hard <= soft.saturating_add(soft / 16)
-}
-
-impl SoftEffort {
-    /// The work before the first step; None where there is none.
-    pub(crate) fn first(rows: usize) -> Option<SoftEffort> {
-        if rows <= FEWEST_SOFT {
-            return None;
-        }
-        let (groups, individuals, sweeps, rounds, quiet) = match rows {
-            0..=700 => (1, 3, 600, 1, 1),
-            701..=2_500 => (1, 3, 800, 2, 1),
-            2_501..=8_000 => (1, 1, 1_500, 1, 1),
-            8_001..=30_000 => (1, 1, 600, 1, 1),
-            _ => (1, 1, 200, 0, 1),
-        };
-        let between = sweeps.min(1_000);
-        Some(SoftEffort {
-            groups,
-            individuals,
-            sweeps,
-            between,
-            rounds,
-            reheats: REHEATS,
-            again: between / 2,
-            quiet,
-        })
-    }
-
-    /// One individual, in half the sweeps.
-    pub(crate) fn once(&self) -> SoftEffort {
-        SoftEffort {
-            groups: 1,
-            individuals: 1,
-            sweeps: self.sweeps / 2,
-            ..*self
-        }
-    }
-
-    /// The work after so many steps.
-    pub(crate) fn after(rows: usize, steps: u32) -> SoftEffort {
-        let between = match rows {
-            0..=8_000 => 1_000,
-            8_001..=30_000 => 600,
-            _ => 200,
-        };
-        SoftEffort {
-            groups: 0,
-            individuals: 0,
-            sweeps: 0,
-            between,
-            rounds: (steps / 512).clamp(1, 4),
-            reheats: REHEATS,
-            again: between / 2,
-            quiet: 2,
-        }
-    }
 }

@@ -1,15 +1,13 @@
 //! New timetables: dives of several kinds, and anneals behind them.
 
 use crate::effort::{FEW, GREEDY, MOST_DIVED};
-use crate::forests::Keys;
-use crate::found::{Found, slacks_of};
 use crate::kinds::Start;
-use crate::relaxation::Relaxation;
 use crate::search::{Known, TimesSearch};
 use pesp_annealing::Annealer;
 use pesp_network::Network;
 use pesp_problem::Memory;
 use pesp_propagate::{dive, dive_to};
+use pesp_timetables::{Found, Keys, Relaxation, slacks_of};
 use std::mem;
 
 /// How many tries a dive to the root's prices has.

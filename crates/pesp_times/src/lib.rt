@@ -1,24 +1,14 @@
 //! The search for cheap timetables of a network: times from dives of the relaxation, annealed, and merged by contracting what
-//! they have in common; and such anneals in which spans may be broken. Nothing is promised but that all is found safely, in so many steps, and the same in each run: what is
-//! found is judged by others.
+//! they have in common; and beside it the search in which spans may be broken. Nothing is promised but that all is found safely,
+//! in so many steps, and the same in each run: what is found is judged by others.
 #![tactic(auto)]
 
 mod balls;
 mod batches;
-mod cheapest;
-mod clusters;
-mod contraction;
-mod dives;
 mod effort;
-mod fixed_offsets;
-mod forests;
-mod found;
 mod individuals;
 mod kinds;
 mod merges;
-mod relaxation;
 mod search;
-mod soft;
-mod soft_plans;
 
 pub use search::TimesSearch;

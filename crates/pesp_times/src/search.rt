@@ -1,17 +1,14 @@
 //! The search for timetables of one network, and the best that it found.
 
 use crate::batches::Ended;
-use crate::cheapest::Cheapest;
-use crate::effort::{Effort, SoftEffort, may_win};
-use crate::fixed_offsets::reoptimised;
-use crate::found::{Found, cheaper, slacks_of};
+use crate::effort::{Effort, may_win};
 use crate::kinds::Kinds;
-use crate::relaxation::Relaxation;
-use crate::soft::SoftSearch;
 use pesp_forest::Frame;
 use pesp_network::Network;
 use pesp_problem::Memory;
 use pesp_search_tools::Random;
+use pesp_soft_times::{SoftEffort, SoftSearch};
+use pesp_timetables::{Cheapest, Found, Relaxation, cheaper, reoptimised, slacks_of};
 use std::alloc::Global;
 
 /// How many batches, and how many reheats after steps, are left out where the first batch ended early.

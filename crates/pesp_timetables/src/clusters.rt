@@ -7,7 +7,7 @@ use std::alloc::{AllocError, Global};
 
 /// The cluster of each event, from 0, and how many clusters there are.
 #[derive(Drop)]
-pub(crate) struct Clusters {
+pub struct Clusters {
     pub(crate) of: Vec<u32>,
     pub(crate) count: u32,
 }
@@ -37,11 +37,7 @@ impl Clusters {
     }
 
     /// Events of a group in one cluster.
-    pub(crate) fn of_groups(
-        alloc: Global,
-        groups: &mut Groups,
-        events: u32,
-    ) -> Result<Clusters, AllocError> {
+    fn of_groups(alloc: Global, groups: &mut Groups, events: u32) -> Result<Clusters, AllocError> {
         let mut numbers = vec![in alloc; NONE; events as usize]?;
         let mut clusters = Clusters {
             of: Vec::with_capacity(alloc, events as usize)?,

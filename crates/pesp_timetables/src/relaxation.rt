@@ -10,17 +10,17 @@ use std::alloc::{AllocError, Global};
 /// A network with a forest, the offsets that this leaves to each cycle, the best basis of the root, that of a dive, and
 /// whether the order of the next dive is drawn.
 #[derive(Drop)]
-pub(crate) struct Relaxation {
-    pub(crate) frame: Frame,
-    pub(crate) root: Root,
-    pub(crate) best: Basis,
-    pub(crate) dived: Basis,
-    pub(crate) is_drawn: bool,
+pub struct Relaxation {
+    pub frame: Frame,
+    pub root: Root,
+    pub best: Basis,
+    pub dived: Basis,
+    pub is_drawn: bool,
 }
 
 impl Relaxation {
     /// The relaxation over a forest of rows of small span by weight; None where the root has no timetable.
-    pub(crate) fn new(
+    pub fn new(
         alloc: Global,
         network: &Network,
         keys: Keys,

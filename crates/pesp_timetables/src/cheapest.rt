@@ -14,34 +14,34 @@ struct Best {
 
 /// The cheapest timetable that was met, where there is one.
 #[derive(Drop)]
-pub(crate) struct Cheapest {
+pub struct Cheapest {
     best: Option<Best>,
 }
 
 impl Cheapest {
     /// None was met.
-    pub(crate) fn none() -> Cheapest {
+    pub fn none() -> Cheapest {
         Cheapest { best: None }
     }
 
     /// The timetable.
-    pub(crate) fn found(&self) -> Option<&Found> {
+    pub fn found(&self) -> Option<&Found> {
         Some(&self.best.as_ref()?.found)
     }
 
     /// What it costs.
-    pub(crate) fn cost(&self) -> Option<u64> {
+    pub fn cost(&self) -> Option<u64> {
         Some(self.found()?.cost)
     }
 
     /// Its times, and what it costs.
-    pub(crate) fn times(&self) -> Option<(&[u32], u64)> {
+    pub fn times(&self) -> Option<(&[u32], u64)> {
         let best = self.best.as_ref()?;
         Some((&best.times, best.found.cost))
     }
 
     /// Whether it is dearer than another one, or there is none.
-    pub(crate) fn is_dearer(&self, cost: u64) -> bool {
+    pub fn is_dearer(&self, cost: u64) -> bool {
         match self.cost() {
             Some(least) => least > cost,
             None => true,
@@ -49,12 +49,7 @@ impl Cheapest {
     }
 
     /// Keeps a timetable if it is the cheapest so far.
-    pub(crate) fn note(
-        &mut self,
-        alloc: Global,
-        network: &Network,
-        found: &Found,
-    ) -> Result<(), Memory> {
+    pub fn note(&mut self, alloc: Global, network: &Network, found: &Found) -> Result<(), Memory> {
         if !self.is_dearer(found.cost) {
             return Ok(());
         }

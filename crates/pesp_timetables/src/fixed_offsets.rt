@@ -10,6 +10,9 @@ use pesp_problem::Memory;
 use pesp_relaxation::{Basis, Ended, root_slacks, settle};
 use std::alloc::{AllocError, Global};
 
+/// Up to how many rows a timetable is worth being made cheaper under its offsets.
+pub const MOST_REOPTIMISED: usize = 8_000;
+
 /// The rows with keys that are the less, the smaller a row's slack and the greater its weight.
 fn keyed_by_slack(
     alloc: Global,
@@ -103,7 +106,7 @@ fn found_over(
 }
 
 /// The cheapest timetable with the offsets of another; None where it isn't found.
-pub(crate) fn reoptimised(
+pub fn reoptimised(
     alloc: Global,
     network: &Network,
     slacks: &[u32],

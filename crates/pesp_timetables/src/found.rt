@@ -6,9 +6,9 @@ use std::alloc::{AllocError, Global};
 
 /// The slacks of a timetable, one for each row of a network in order, and what they cost.
 #[derive(Drop)]
-pub(crate) struct Found {
-    pub(crate) slacks: Vec<u32>,
-    pub(crate) cost: u64,
+pub struct Found {
+    pub slacks: Vec<u32>,
+    pub cost: u64,
 }
 
 /// The slack of a row by times; 0 where an end has no time.
@@ -23,11 +23,7 @@ fn slack_of(period: u32, row: &NetRow, times: &[u32]) -> u32 {
 }
 
 /// The slacks of the rows by times.
-pub(crate) fn slacks_of(
-    alloc: Global,
-    network: &Network,
-    times: &[u32],
-) -> Result<Vec<u32>, AllocError> {
+pub fn slacks_of(alloc: Global, network: &Network, times: &[u32]) -> Result<Vec<u32>, AllocError> {
     let rows = network.rows();
     let mut slacks = Vec::with_capacity(alloc, rows.len())?;
     for row in rows {
@@ -47,7 +43,7 @@ pub(crate) fn times_at(alloc: Global, period: u32, prices: &[i64]) -> Result<Vec
 }
 
 /// What slacks cost: the sum of weight times slack.
-pub(crate) fn cost_of(network: &Network, slacks: &[u32]) -> u64 {
+pub fn cost_of(network: &Network, slacks: &[u32]) -> u64 {
     let mut cost = 0u64;
     for (row, slack) in network.rows().iter().zip(slacks.iter()) {
         cost = cost.saturating_add(row.weight.saturating_mul(u64::from(*slack)));
@@ -56,7 +52,7 @@ pub(crate) fn cost_of(network: &Network, slacks: &[u32]) -> u64 {
 }
 
 /// Times with these slacks; None where there are none.
-pub(crate) fn times_of(
+pub fn times_of(
     alloc: Global,
     network: &Network,
     slacks: &[u32],
@@ -69,7 +65,7 @@ pub(crate) fn times_of(
 }
 
 /// The cheaper of two timetables.
-pub(crate) fn cheaper(one: Found, other: Option<Found>) -> Found {
+pub fn cheaper(one: Found, other: Option<Found>) -> Found {
     let Some(other) = other else {
         return one;
     };
@@ -78,7 +74,7 @@ pub(crate) fn cheaper(one: Found, other: Option<Found>) -> Found {
 
 impl Found {
     /// The timetable of these slacks.
-    pub(crate) fn of_slacks(network: &Network, slacks: Vec<u32>) -> Found {
+    pub fn of_slacks(network: &Network, slacks: Vec<u32>) -> Found {
         Found {
             cost: cost_of(network, &slacks),
             slacks,
@@ -86,7 +82,7 @@ impl Found {
     }
 
     /// The same timetable once more.
-    pub(crate) fn copy(&self, alloc: Global) -> Result<Found, AllocError> {
+    pub fn copy(&self, alloc: Global) -> Result<Found, AllocError> {
         Ok(Found {
             slacks: Vec::from_slice(alloc, &self.slacks)?,
             cost: self.cost,

@@ -1,16 +1,15 @@
 //! Timetables by anneals in which spans may be broken: individuals that are merged, and reheats of the best.
 
-use crate::cheapest::Cheapest;
-use crate::effort::{MOST_REOPTIMISED, SoftEffort};
-use crate::fixed_offsets::reoptimised;
-use crate::found::{Found, cheaper, slacks_of, times_of};
-use crate::merges::Merge;
-use crate::soft_plans::{between, individual, reheat};
+use crate::effort::SoftEffort;
+use crate::plans::{between, individual, reheat};
 use pesp_network::Network;
 use pesp_problem::Memory;
 use pesp_propagate::dive_to;
 use pesp_search_tools::Random;
 use pesp_soft_annealing::{Plan, SoftAnnealer};
+use pesp_timetables::{
+    Cheapest, Found, MOST_REOPTIMISED, Merge, cheaper, reoptimised, slacks_of, times_of,
+};
 use std::alloc::{AllocError, Global};
 use std::mem;
 
@@ -23,13 +22,13 @@ const BETWEEN: u32 = 3;
 /// The search, with the mean cost of a row after a descent, what the timetable of others cost that was merged last, the best of
 /// each group until it is merged, and the cheapest timetable that it found.
 #[derive(Drop)]
-pub(crate) struct SoftSearch {
+pub struct SoftSearch {
     alloc: Global,
     random: Random,
     mean: u64,
     joined: Option<u64>,
     tops: Vec<Found>,
-    pub(crate) cheapest: Cheapest,
+    pub cheapest: Cheapest,
 }
 
 /// Times as prices.
@@ -43,7 +42,7 @@ fn prices_of(alloc: Global, times: &[u32]) -> Result<Vec<i64>, AllocError> {
 
 impl SoftSearch {
     /// A search that has found nothing yet.
-    pub(crate) fn new(alloc: Global) -> SoftSearch {
+    pub fn new(alloc: Global) -> SoftSearch {
         SoftSearch {
             alloc,
             random: Random::new(1),
@@ -298,7 +297,7 @@ impl SoftSearch {
     }
 
     /// Groups of new individuals from the slacks of a timetable, each merged.
-    pub(crate) fn begin(
+    pub fn begin(
         &mut self,
         network: &Network,
         slacks: &[u32],
@@ -316,7 +315,7 @@ impl SoftSearch {
     }
 
     /// A merge with the cheapest timetable of others, where it isn't known, and reheats of the best.
-    pub(crate) fn go_on(
+    pub fn go_on(
         &mut self,
         network: &Network,
         other: Option<&Found>,

@@ -21,7 +21,7 @@ impl Keyed {
 
 /// Whether keys are the plain ones, or each grows by a factor from 1 to 5 that is drawn.
 #[derive(Clone, Copy, PartialEq, Eq)]
-pub(crate) enum Keys {
+pub enum Keys {
     Plain,
     Drawn,
 }

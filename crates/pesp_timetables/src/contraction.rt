@@ -9,9 +9,9 @@ use std::alloc::{AllocError, Global};
 /// A network between clusters, in which the times that are 0 for each cluster give the slacks of a timetable; the rows of the
 /// whole network that its rows stand for; and what that timetable costs in them.
 #[derive(Drop)]
-pub(crate) struct Contraction {
-    pub(crate) network: Network,
-    pub(crate) cost: u64,
+pub struct Contraction {
+    pub network: Network,
+    pub cost: u64,
     rows: Vec<u32>,
 }
 
@@ -32,7 +32,7 @@ fn row_between(row: &NetRow, clusters: &Clusters, slack: u32) -> Option<NetRow> 
 
 impl Contraction {
     /// The network between clusters by a timetable's slacks.
-    pub(crate) fn new(
+    pub fn new(
         alloc: Global,
         network: &Network,
         slacks: &[u32],
@@ -61,7 +61,7 @@ impl Contraction {
     }
 
     /// The slacks of the rows between clusters, of those of all rows.
-    pub(crate) fn taken_from(&self, alloc: Global, slacks: &[u32]) -> Result<Vec<u32>, AllocError> {
+    pub fn taken_from(&self, alloc: Global, slacks: &[u32]) -> Result<Vec<u32>, AllocError> {
         let mut taken = Vec::with_capacity(alloc, self.rows.len())?;
         for row in &self.rows {
             taken.push(number(slacks, *row).unwrap_or(0))?;
@@ -70,7 +70,7 @@ impl Contraction {
     }
 
     /// Puts slacks of the rows between clusters into those of all rows.
-    pub(crate) fn put_into(&self, slacks: &mut [u32], found: &[u32]) {
+    pub fn put_into(&self, slacks: &mut [u32], found: &[u32]) {
         for (row, slack) in self.rows.iter().zip(found.iter()) {
             if let Some(slot) = slacks.get_mut(*row as usize) {
                 *slot = *slack;

@@ -163,7 +163,7 @@ impl Relaxation {
     }
 
     /// The times to which a dive leads, or some near its prices; None where none were found.
-    pub(crate) fn times(
+    pub fn times(
         &mut self,
         alloc: Global,
         network: &Network,

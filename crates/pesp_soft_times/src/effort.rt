@@ -1,0 +1,78 @@
+//! How much work anneals have in which spans may be broken.
+
+/// Up to how many rows there is no search in which spans may be broken: batches find the best there.
+const FEWEST_SOFT: usize = 120;
+
+/// How many reheats of a timetable are merged with it.
+const REHEATS: u32 = 3;
+
+/// How many groups of how many individuals have anneals in which spans may be broken, and with how many sweeps; how many sweeps
+/// an anneal between clusters has; how many rounds there are of how many reheats, with how many sweeps, and after how many rounds
+/// in turn that found nothing they end.
+#[derive(Clone, Copy)]
+pub struct SoftEffort {
+    pub(crate) groups: u32,
+    pub(crate) individuals: u32,
+    pub(crate) sweeps: u32,
+    pub(crate) between: u32,
+    pub(crate) rounds: u32,
+    pub(crate) reheats: u32,
+    pub(crate) again: u32,
+    pub(crate) quiet: u32,
+}
+
+impl SoftEffort {
+    /// The work before the first step; None where there is none.
+    pub fn first(rows: usize) -> Option<SoftEffort> {
+        if rows <= FEWEST_SOFT {
+            return None;
+        }
+        let (groups, individuals, sweeps, rounds, quiet) = match rows {
+            0..=700 => (1, 3, 600, 1, 1),
+            701..=2_500 => (1, 3, 800, 2, 1),
+            2_501..=8_000 => (1, 1, 1_500, 1, 1),
+            8_001..=30_000 => (1, 1, 600, 1, 1),
+            _ => (1, 1, 200, 0, 1),
+        };
+        let between = sweeps.min(1_000);
+        Some(SoftEffort {
+            groups,
+            individuals,
+            sweeps,
+            between,
+            rounds,
+            reheats: REHEATS,
+            again: between / 2,
+            quiet,
+        })
+    }
+
+    /// One individual, in half the sweeps.
+    pub fn once(&self) -> SoftEffort {
+        SoftEffort {
+            groups: 1,
+            individuals: 1,
+            sweeps: self.sweeps / 2,
+            ..*self
+        }
+    }
+
+    /// The work after so many steps.
+    pub fn after(rows: usize, steps: u32) -> SoftEffort {
+        let between = match rows {
+            0..=8_000 => 1_000,
+            8_001..=30_000 => 600,
+            _ => 200,
+        };
+        SoftEffort {
+            groups: 0,
+            individuals: 0,
+            sweeps: 0,
+            between,
+            rounds: (steps / 512).clamp(1, 4),
+            reheats: REHEATS,
+            again: between / 2,
+            quiet: 2,
+        }
+    }
+}

@@ -1,0 +1,11 @@
+use Rattle.pesp_cli.proofs.answers.of_leaves.Goals as goal
+
+pub returns-in-Work-clause-stopped : goal.returns-in-Work-clause-stopped
+returns-in-Work-clause-stopped g c =
+    let cause = rw c.as_slice-jobs.ensures.value at c.on_base.ensures.stopped in
+    rw c.in-Work.is cause
+
+pub returns-in-WorkSharp-clause-stopped : goal.returns-in-WorkSharp-clause-stopped
+returns-in-WorkSharp-clause-stopped g c =
+    let cause = rw c.as_slice-jobs-in-WorkSharp.ensures.value at c.on_base-in-WorkSharp.ensures.stopped in
+    rw c.in-WorkSharp.is cause

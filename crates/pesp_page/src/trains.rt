@@ -73,7 +73,11 @@ fn on_way<'a>(tolds: &'a [Told], entry: &Entry) -> Option<&'a Told> {
 }
 
 /// Writes the trains of all lines, one table for each.
-fn write_ways(text: &mut String, tolds: &[Told], entries: &[Entry]) -> Result<(), AllocError> {
+fn write_ways<'a>(
+    text: &mut String,
+    tolds: &'a [Told],
+    entries: &'a [Entry],
+) -> Result<(), AllocError> {
     let mut open = Open { way: 0, stop: None };
     for entry in entries {
         if let Some(told) = on_way(tolds, entry) {
@@ -123,11 +127,11 @@ fn write_others(
 }
 
 /// Writes the timetable: for each train a table of its stops, in the order of its way, and the events that belong to none.
-pub fn write_trains(
+pub fn write_trains<'a>(
     text: &mut String,
     names: Option<&Names>,
-    tolds: &[Told],
-    entries: &[Entry],
+    tolds: &'a [Told],
+    entries: &'a [Entry],
 ) -> Result<(), AllocError> {
     text.push_str(
         "<section id=\"trains\"><h2>Trains</h2>\n<p>Beside each time within the period stands the time as hours and minutes, which goes on along the way. Trains out go in the order in which the names first name the stations, and trains back against it.</p>\n<div class=\"ways\">\n",

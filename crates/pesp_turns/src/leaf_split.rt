@@ -31,10 +31,7 @@ fn give_proposed(
     let Some(lines) = proposed_lines(alloc, board.problem(), node, choice)? else {
         return Ok(None);
     };
-    let work = Work::Tree(lines);
-    let given = board.give(alloc, job.number, &work);
-    drop(work);
-    match given {
+    match board.give(alloc, job.number, &Work::Tree(lines)) {
         Ok(()) => Ok(Some(true)),
         Err(GiveRefusal::TooLarge) => Ok(Some(false)),
         Err(GiveRefusal::Memory) => Err(Memory),

@@ -214,10 +214,8 @@ pub(crate) fn judged(
     let mut lent = lend_base(alloc, instance, base)?;
     if !are_there(jobs, &lent) {
         drop(lent);
-        drop(found);
         return Err(WorkRefusal::NoSuchJob);
     }
-    let works = judge_each(alloc, &mut lent.board, found, range.steps, range.until);
-    drop(lent);
-    Ok(works?)
+    let works = judge_each(alloc, &mut lent.board, found, range.steps, range.until)?;
+    Ok(works)
 }

@@ -6,13 +6,13 @@ proposed_lines-requires-clause-cut c = split_cut c.args.board.now.problem c.args
     c.args.choice.now.cut c.args.node.now c.requires.node c.requires.split
 
 pub returns-in-Ok-clause-given : goal.returns-in-Ok-clause-given
-returns-in-Ok-clause-given c = step_taken c.args.board.now.problem c.args.board.now.state c.give-given.new.self.state
+returns-in-Ok-clause-given c = step_taken c.args.board.now.problem c.args.board.now.state c.give.new.self.state
     c.args.job.now c.args.choice.now.cut c.in-Some.lines c.requires.split
     (rw c.in-Some.is at c.in_ok-lines.ensures) c.in-Ok.ensures.state
 
 pub returns-in-Err-TooLarge-clause-given : goal.returns-in-Err-TooLarge-clause-given
 returns-in-Err-TooLarge-clause-given c =
     let refused = rw (c.in-Err-TooLarge.field-0-is) at c.in-Err-TooLarge.ensures.state in
-    step_too_large c.args.board.now.problem c.args.board.now.state c.give-given.new.self.state c.args.job.now
+    step_too_large c.args.board.now.problem c.args.board.now.state c.give.new.self.state c.args.job.now
     c.args.choice.now.cut c.in-Some.lines c.requires.split (rw c.in-Some.is at c.in_ok-lines.ensures)
     refused.0 refused.1

@@ -8,12 +8,12 @@ returns-then-not-are_there-clause-refused c =
     one_missing c.args.instance.now c.args.base.now lent.board.problem lent.jobs.items lent.board.state
     c.args.jobs.now c.in_ok-lent.ensures (c.are_there.ensures.missing c.if-not-are_there.true)
 
-pub judge_each-works-requires-clause-rise : goal.judge_each-works-requires-clause-rise
-judge_each-works-requires-clause-rise c = all_rise c.args.instance.now
+pub judge_each-requires-clause-rise : goal.judge_each-requires-clause-rise
+judge_each-requires-clause-rise c = all_rise c.args.instance.now
     (cost_of c.args.base.now.answer) c.args.jobs.now c.args.found.items c.requires.found c.requires.rise
 
-pub judge_each-works-requires-clause-lent : goal.judge_each-works-requires-clause-lent
-judge_each-works-requires-clause-lent c =
+pub judge_each-requires-clause-lent : goal.judge_each-requires-clause-lent
+judge_each-requires-clause-lent c =
     let lent = c.in_ok-lent.lent in
     all_lent c.args.instance.now c.args.base.now lent.board.problem lent.jobs.items lent.board.state
     (cost_of c.args.base.now.answer) c.args.jobs.now c.args.found.items c.in_ok-lent.ensures

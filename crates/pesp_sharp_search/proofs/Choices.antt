@@ -6,7 +6,6 @@ use Rattle.pesp_truth.specs.declared.answer.Answer.{Answer}
 use Rattle.pesp_truth.specs.Certificates.{Content, lines_of, least_of, cost_of, IsValid}
 use Rattle.pesp_machine.specs.States.{IsAtMost}
 use Rattle.pesp_sharp_text.specs.Texts.{Fronted}
-use Rattle.pesp_sharp_check.proofs.Fronts.{without_front}
 use Rattle.pesp_search_laws.specs.Rooms.{branch_lines}
 use Rattle.pesp_search.specs.Solving.{IsSolved, CostsNoMore}
 use Rattle.pesp_sharp_search.specs.Solving.{IsNoWorse, MayStand, IsSharpSolved, IsSharpResumed}
@@ -21,7 +20,7 @@ pub plain_stands : (p : Pesp) (content : Content) (steps : ℕ) (c : Fronted)
 plain_stands p content steps c is solved =
     let count = solved.branches.lines in
     let there : MayStand p content.answer steps (record { front = None; content = content }) = record {
-      valid = (without_front p content).0 solved.valid;
+      valid = solved.valid;
       few = omega (arith, count);
       no_worse = (at_most_itself (least_of content.answer), at_most_itself (cost_of content.answer));
     } in

@@ -171,40 +171,6 @@ item_read old told' left' held' line n p q item l h e goes = record {
 
 -- ---- the last line
 
-pub is_the_end : (line : List ℕ) → bytes_eq line (codes "end") ≡ true → line ≡ line_of_words (item_words End)
-is_the_end line h = (bytes_eq-Decides line (codes "end")).0 h
-
-pub not_the_end : (item : Item) (line : List ℕ) → bytes_eq line (codes "end") ≡ false
-    → line ≡ line_of_words (item_words item) → is_end item ≡ false
-not_the_end Front line h is = refl
-not_the_end (Scale n) line h is = refl
-not_the_end (Walk walk) line h is = refl
-not_the_end (Version n) line h is = refl
-not_the_end (Period n) line h is = refl
-not_the_end (Says a) line h is = refl
-not_the_end (Time l t) line h is = refl
-not_the_end (Cycle rs) line h is = refl
-not_the_end (Slack row k) line h is = refl
-not_the_end (Offset cycle k) line h is = refl
-not_the_end (Bound ps) line h is = refl
-not_the_end (Nothing ps) line h is = refl
-not_the_end (Gap cycle) line h is = refl
-not_the_end Propagated line h is = refl
-not_the_end End line h is = absurd (true≢false (subst (λ l. bytes_eq l (codes "end") ≡ false) is h))
-
-all_counted : (p : Progress) → IsKept p → keeps_counts p ≡ true
-all_counted p k = grind (arith, nat_tests, k.times, k.cycles, k.rows, k.lines, k.pairs, k.walks, k.marked)
-
-pub end_whole : (p : Progress) (line : List ℕ) → IsKept p → p.needs ≡ 0 → bytes_eq line (codes "end") ≡ true → line_at p line ≡ Ok End
-end_whole p line k none h = rw (is_the_end line h)
-    (line_read_law p End (record { allowed = rw none refl; proper = tt; within = refl; counts = all_counted p k }))
-
-pub end_early : (p : Progress) (line : List ℕ) → is_in_front p.place ≡ false → p.needs ≢ 0 → bytes_eq line (codes "end") ≡ true → line_at p line ≡ Err faults.Truncated
-unfolding line_at
-end_early p line plain some h =
-    let more : (p.needs == 0) ≡ false = grind (arith, nat_tests) in
-    rw (h, more, plain) refl
-
 pub ends_there : (old : Reading) (told' told'' : Option (List ℕ)) (left' left'' : ℕ) (held' held'' line : List ℕ) (n : ℕ) (p : Progress)
     → Lines old (record { told = told'; left = left'; held = held'; n = n; progress = p; stage = stages.Going })
     line → line_at p line ≡ Ok End → EndsHere told' told'' left' left'' held' true
@@ -256,7 +222,3 @@ pub of_going : (old : Reading) (told' : Option (List ℕ)) (left' : ℕ) (held' 
 of_going old told' left' held' line n p stage is l =
     subst (λ s. Lines old (record { told = told'; left = left'; held = held'; n = n; progress = p; stage = s })
     line) is l
-
-pub zero_of : (n : ℕ) → (n ≢ 0 → ⊥) → n ≡ 0
-zero_of zero h = refl
-zero_of (suc n) h = absurd (h (λ e. omega arith))

@@ -5,7 +5,7 @@ use Rattle.std.proofs.lemmas.List.{take_all}
 use Rattle.pesp_stream.specs.Reading.{ReadsText}
 use Rattle.pesp_cert_lines.specs.declared.item.Item.{Item}
 use Rattle.pesp_cert_lines.specs.declared.item.Item.TheVariants.{End}
-use Rattle.pesp_cert_lines.specs.declared.versions.Versions.TheVariants.{Plain}
+use Rattle.pesp_cert_lines.specs.declared.versions.Versions.{Versions}
 use Rattle.pesp_cert_lines.specs.Counts.{beginning}
 use Rattle.pesp_cert.specs.declared.refusal.CertRefusal.{CertRefusal}
 use Rattle.pesp_cert.specs.Refusals.{items_of_text}
@@ -15,8 +15,8 @@ use Rattle.pesp_cert_items.specs.Texts.{RefusesText}
 use Rattle.pesp_cert_items.proofs.Running.{Ran}
 
 -- nothing was read
-abbrev pub at_first : Option (List ℕ) → ℕ → Reading
-at_first told limit = record { told = told; left = limit; held = []; n = 0; progress = beginning Plain; stage = stages.Going }
+abbrev pub at_first : Versions → Option (List ℕ) → ℕ → Reading
+at_first versions told limit = record { told = told; left = limit; held = []; n = 0; progress = beginning versions; stage = stages.Going }
 
 take_front : (got ys : List ℕ) (left : ℕ) → take (length got + left) (got ++ ys) ≡ got ++ take left ys
 take_front [] ys left = ap (λ k. take k ys) {y = left} (omega arith)
@@ -44,11 +44,11 @@ ended_is : (told' : Option (List ℕ)) (limit left : ℕ) (got : List ℕ) → l
 ended_is told' limit left got w (inl e) l = absurd (omega (arith, w, e, l))
 ended_is told' limit left got w (inr e) l = e
 
-pub ran_text : (told : Option (List ℕ)) (limit : ℕ) (new : Reading) (items : List Item)
-    (ran : Ran (at_first told limit) new items) → ReadsText told new.told limit ran.got
-    × (items_of_text Plain ran.got ≡ Ok (items ++ End ∷ []))
+pub ran_text : (versions : Versions) (told : Option (List ℕ)) (limit : ℕ) (new : Reading) (items : List Item)
+    (ran : Ran (at_first versions told limit) new items) → ReadsText told new.told limit ran.got
+    × (items_of_text versions ran.got ≡ Ok (items ++ End ∷ []))
 unfolding items_of_text
-ran_text told limit new items ran = (
+ran_text versions told limit new items ran = (
   record {
     within = omega (arith, ran.reads.within);
     front = front_is told new.told limit new.left ran.got ran.reads.consumed ran.reads.within ran.over;
@@ -58,10 +58,10 @@ ran_text told limit new items ran = (
   ran.says,
 )
 
-pub refused_text : (told : Option (List ℕ)) (limit : ℕ) (new : Reading) (r : CertRefusal)
-    → Refuses (at_first told limit) new r → RefusesText told new.told limit r
+pub refused_text : (versions : Versions) (told : Option (List ℕ)) (limit : ℕ) (new : Reading) (r : CertRefusal)
+    → Refuses (at_first versions told limit) new r → RefusesText versions told new.told limit r
 unfolding items_of_text
-refused_text told limit new r f = record {
+refused_text versions told limit new r f = record {
   read = f.got;
   within = omega (arith, f.reads.within);
   consumed = f.reads.consumed;

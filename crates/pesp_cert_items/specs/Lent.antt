@@ -1,18 +1,23 @@
--- What an item that is lent says, as an item with its lists.
-use Rattle.std.specs.Prelude.{◌≡◌, ℕ, true, List, [], drop, Option, Some, None, Result, Ok, Err}
+-- What a line or an item that is lent says, as an item with its lists.
+use Rattle.std.specs.Prelude.{◌≡◌, ℕ, Bool, true, false, List, [], drop, Option, Some, None, Result, Ok, Err}
 use Rattle.std.specs.Option.{option_copied}
 use Rattle.pesp_problem.specs.declared.row.SignedRow.{SignedRow}
 use Rattle.pesp_problem.specs.declared.pair.Pair.{Pair}
+use Rattle.pesp_nets.specs.declared.marked.MarkedRow.{MarkedRow}
 use Rattle.pesp_text.specs.Words.{words_of, pieces_left}
 use Rattle.pesp_cert_lines.specs.declared.item.Item.{Item}
 use Rattle.pesp_cert_lines.specs.declared.item.Item.TheVariants as items
 use Rattle.pesp_cert_lines.specs.Rows.{rows_of, rows_left, rows_are_good}
 use Rattle.pesp_cert_lines.specs.Pairs.{pairs_from, pairs_left, pairs_are_good}
+use Rattle.pesp_cert_lines.specs.Marked.{marked_of, marked_left, marked_are_good}
 use Rattle.pesp_cert_items.specs.declared.fault.ItemFault.{ItemFault}
 use Rattle.pesp_cert_items.specs.declared.rows.SignedRows.{SignedRows}
 use Rattle.pesp_cert_items.specs.declared.pairs.LinePairs.{LinePairs}
+use Rattle.pesp_cert_items.specs.declared.marked.MarkedRows.{MarkedRows}
 use Rattle.pesp_cert_items.specs.declared.item.Item.{Item as LentItem}
 use Rattle.pesp_cert_items.specs.declared.item.Item.TheVariants as lent
+use Rattle.pesp_cert_items.specs.declared.text_line.TextLine.{TextLine}
+use Rattle.pesp_cert_items.specs.declared.text_line.TextLine.TheVariants.{Front, Scale, Walk, Own}
 
 -- the rows that are left in the line
 abbrev pub rows_in : SignedRows → List SignedRow
@@ -21,6 +26,10 @@ rows_in r = rows_left (rows_of (pieces_left 32 (option_copied r.words)))
 -- the pairs that are left in the line
 abbrev pub pairs_in : LinePairs → List Pair
 pairs_in p = pairs_left (pairs_from p.least (pieces_left 32 (option_copied p.words)))
+
+-- the marked rows that are left in the line
+abbrev pub marked_in : MarkedRows → List MarkedRow
+marked_in r = marked_left (marked_of (pieces_left 32 (option_copied r.words)))
 
 -- the item with its list
 abbrev pub listed : LentItem → Item
@@ -38,6 +47,7 @@ listed lent.Propagated = items.Propagated
 
 -- the item without the elements of its list
 abbrev pub bare : Item → Item
+bare (items.Walk walk) = items.Walk []
 bare (items.Cycle rows) = items.Cycle []
 bare (items.Bound pairs) = items.Bound []
 bare (items.Nothing pairs) = items.Nothing []
@@ -62,3 +72,36 @@ abbrev pub said_by : Result (Option LentItem) ItemFault → Result (Option Item)
 said_by (Ok None) = Ok None
 said_by (Ok (Some item)) = Ok (Some (listed item))
 said_by (Err fault) = Err fault
+
+-- ---- a line of a front, or an item
+
+-- the line's item with its list
+abbrev pub line_said : TextLine → Item
+line_said Front = items.Front
+line_said (Scale n) = items.Scale n
+line_said (Walk walk) = items.Walk (marked_in walk)
+line_said (Own item) = listed item
+
+-- it is no line of a front
+abbrev pub is_own : TextLine → Bool
+is_own (Own item) = true
+is_own _ = false
+
+-- the item whose list the words behind the line's first spell
+abbrev pub line_back : TextLine → List ℕ → Item
+line_back Front line = items.Front
+line_back (Scale n) line = items.Scale n
+line_back (Walk walk) line = items.Walk (marked_left (marked_of (drop 1 (words_of line))))
+line_back (Own item) line = read_back item line
+
+-- these words spell its list
+abbrev pub IsLineSpelt : TextLine → List ℕ → Type 0
+IsLineSpelt (Walk walk) line = marked_are_good (marked_of (drop 1 (words_of line))) ≡ true
+IsLineSpelt (Own item) line = IsSpelt item line
+IsLineSpelt said line = Unit {0}
+
+-- what a call of a reader of lines answers
+abbrev pub told_by : Result (Option TextLine) ItemFault → Result (Option Item) ItemFault
+told_by (Ok None) = Ok None
+told_by (Ok (Some line)) = Ok (Some (line_said line))
+told_by (Err fault) = Err fault

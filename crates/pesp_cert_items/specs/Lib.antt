@@ -1,7 +1,7 @@
 pub mod Fronts
 pub mod Cuts
+pub mod Lent
+pub mod Plain
 pub mod Readings
 pub mod Texts
 pub mod Views
-pub mod Plain
-pub mod Lent

@@ -6,8 +6,9 @@ use Rattle.pesp_text.specs.Words.{pieces}
 use Rattle.pesp_cert_lines.specs.declared.item.Item.{Item}
 use Rattle.pesp_cert_lines.specs.declared.item.Item.TheVariants.{End}
 use Rattle.pesp_cert_lines.specs.declared.progress.Progress.{Progress}
-use Rattle.pesp_cert_lines.specs.Counts.{CanStand}
-use Rattle.pesp_cert_lines.specs.Lines.{LONGEST}
+use Rattle.pesp_cert_lines.specs.Counts.{after, CanStand}
+use Rattle.pesp_cert_lines.specs.Lines.{line_at, LONGEST}
+use Rattle.pesp_cert_lines.specs.declared.fault.LineFault.{LineFault}
 use Rattle.pesp_cert.specs.declared.refusal.CertRefusal.{CertRefusal}
 use Rattle.pesp_cert.specs.declared.refusal.CertRefusal.TheVariants as refusals
 use Rattle.pesp_cert.specs.Texts.{is_end}
@@ -17,6 +18,9 @@ use Rattle.pesp_cert_items.specs.declared.fault.ItemFault.TheVariants.{Text, Rea
 use Rattle.pesp_cert_items.specs.declared.stage.Stage.{Stage}
 use Rattle.pesp_cert_items.specs.declared.stage.Stage.TheVariants as stages
 use Rattle.pesp_cert_items.specs.Cuts.{Reads}
+use Rattle.pesp_cert_items.specs.declared.text_line.TextLine.{TextLine}
+use Rattle.pesp_cert_items.specs.Lent.{line_back, is_own, IsLineSpelt}
+use Rattle.pesp_cert_items.specs.Plain.{IsPlain}
 
 -- the reader's bytes where it tells them, how many of them may be read, those that were read and not handed out, the number
 -- of the line that was read last, and how far its text has come with it
@@ -68,6 +72,22 @@ pub record Lines (old new : Reading) (line : List ℕ) : Type 0 where
   pub short : length line ≤ LONGEST
   pub says : (more : List ℕ) → items_at old (old.held ++ (got ++ more))
       ≡ items_behind new.stage new.n new.progress line (pieces 10 (new.held ++ more))
+
+-- the line says this item at its place, which isn't the end, and this is kept of it; a text without a front goes on so
+pub record IsItem (old new : Progress) (line : List ℕ) (said : TextLine) (item : Item) : Type 0 where
+  pub says : line_at old line ≡ Ok item
+  pub more : is_end item ≡ false
+  pub goes : new ≡ after old item
+  pub can : CanStand old item
+  pub kept : line_back said line ≡ item
+  pub spelt : IsLineSpelt said line
+  pub plain : IsPlain old → IsPlain new × (is_own said ≡ true)
+
+-- what a line says at its place: an item, the end, or its first fault
+abbrev pub Says : Progress → Progress → List ℕ → TextLine → Result Bool LineFault → Type 0
+Says old new line said (Ok true) = (item : Item) × IsItem old new line said item
+Says old new line said (Ok false) = (line_at old line ≡ Ok End) × (new ≡ old)
+Says old new line said (Err fault) = (line_at old line ≡ Err fault) × (new ≡ old)
 
 -- the text ends behind its last line
 pub record Ends (old new : Reading) : Type 0 where

@@ -8,11 +8,13 @@ ghost use Rattle.pesp_stream.specs.Counts.{FewerThan};
 ghost use Rattle.pesp_cert_lines.specs.declared.versions.Versions.TheVariants.{Plain};
 ghost use Rattle.pesp_cert_lines.specs.Counts.{beginning};
 ghost use Rattle.pesp_cert_items.specs.declared.stage.Stage.TheVariants as stages;
+ghost use Rattle.pesp_cert_items.specs.Plain.{IsPlain};
 ghost use Rattle.pesp_cert_items.specs.Readings.{is_open};
 
 use crate::fault::ItemFault;
 use crate::item::Item;
 use crate::item_reader::ItemReader;
+use pesp_cert_lines::Versions;
 use pesp_stream::{MOST_INTERRUPTED, Source};
 use std::alloc::Global;
 
@@ -24,6 +26,7 @@ pub struct Items<S: Source> {
     ghost failed_fits: { is_open reader.stage ≡ true → (S.calls source).failed < MAX },
     ghost interrupted_fits: { is_open reader.stage ≡ true
         → (S.calls source).interrupted ≤ reader.most },
+    ghost plain: { IsPlain reader.progress },
 }
 
 impl<S: Source> Items<S> {
@@ -51,7 +54,7 @@ impl<S: Source> Items<S> {
         let most = source.interrupted_reads() + MOST_INTERRUPTED;
         Items {
             source,
-            reader: ItemReader::new(alloc, most),
+            reader: ItemReader::new(alloc, most, Versions::Plain),
         }
     }
 

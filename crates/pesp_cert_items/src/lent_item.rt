@@ -1,20 +1,23 @@
-//! The item of the line that was read last, kept without its list and lent with it.
+//! The line that was read last, kept without its list and lent with it.
 
-ghost use Rattle.std.specs.Prelude.{◌≡◌, false, drop};
+ghost use Rattle.std.specs.Prelude.{◌≡◌, true, false, drop, MatchOption};
 ghost use Rattle.std.specs.Option.{option_copied};
 ghost use Rattle.pesp_text.specs.Words.{words_of, pieces_left};
 ghost use Rattle.pesp_cert.specs.Texts.{is_end};
 ghost use Rattle.pesp_cert_items.specs.Plain.{in_front};
-ghost use Rattle.pesp_cert_items.specs.Lent.{listed, bare, read_back, IsSpelt};
+ghost use Rattle.pesp_cert_items.specs.Lent.{listed, bare, read_back, IsSpelt, line_said, line_back, IsLineSpelt, is_own};
+ghost use Rattle.pesp_cert_lines.specs.declared.item.Item.TheVariants.{End};
 
 use crate::item::Item;
+use crate::marked::MarkedRows;
 use crate::pairs::LinePairs;
 use crate::rows::SignedRows;
+use crate::text_line::TextLine;
 use pesp_cert_lines::Item as LineItem;
 use pesp_text::split_at_byte;
 
 /// The same item without the elements of its list.
-pub(crate) fn bare_item(item: &LineItem<'_>) -> Item<'static>
+fn bare_item(item: &LineItem<'_>) -> Item<'static>
     requires goes { is_end item.now ≡ false }
     requires plain { in_front item.now ≡ false }
     ensures { listed result ≡ bare item.now }
@@ -38,6 +41,20 @@ pub(crate) fn bare_item(item: &LineItem<'_>) -> Item<'static>
     }
 }
 
+/// What a line says without the elements of its list; None of the last one.
+pub(crate) fn bare_line(item: &LineItem<'_>) -> Option<TextLine<'static>>
+    ensures { MatchOption result (item.now ≡ End)
+        (λ line. (is_end item.now ≡ false) × (line_said line ≡ bare item.now)) }
+{
+    match item {
+        LineItem::End => None,
+        LineItem::Front => Some(TextLine::Front),
+        LineItem::Scale(scale) => Some(TextLine::Scale(*scale)),
+        LineItem::Walk(_) => Some(TextLine::Walk(MarkedRows::new(None))),
+        own => Some(TextLine::Own(bare_item(own))),
+    }
+}
+
 /// What stands behind the first word.
 fn behind_first(line: &[u8]) -> Option<&[u8]>
     ensures { pieces_left 32 (option_copied result) ≡ drop 1 (words_of line.now) }
@@ -47,7 +64,7 @@ fn behind_first(line: &[u8]) -> Option<&[u8]>
 }
 
 /// The item of a line, by the same item without the elements of its list.
-pub(crate) fn item_in<'a>(said: &Item<'static>, line: &'a [u8]) -> Item<'a>
+fn item_in<'a>(said: &Item<'static>, line: &'a [u8]) -> Item<'a>
     requires { IsSpelt said.now line.now }
     ensures { listed result ≡ read_back said.now line.now }
 {
@@ -56,5 +73,30 @@ pub(crate) fn item_in<'a>(said: &Item<'static>, line: &'a [u8]) -> Item<'a>
         Item::Bound(_) => Item::Bound(LinePairs::new(behind_first(line))),
         Item::Nothing(_) => Item::Nothing(LinePairs::new(behind_first(line))),
         other => *other,
+    }
+}
+
+/// A line, by the same line without the elements of its list.
+pub(crate) fn line_in<'a>(said: &TextLine<'static>, line: &'a [u8]) -> TextLine<'a>
+    requires { IsLineSpelt said.now line.now }
+    ensures { line_said result ≡ line_back said.now line.now }
+{
+    match said {
+        TextLine::Front => TextLine::Front,
+        TextLine::Scale(scale) => TextLine::Scale(*scale),
+        TextLine::Walk(_) => TextLine::Walk(MarkedRows::new(behind_first(line))),
+        TextLine::Own(item) => TextLine::Own(item_in(item, line)),
+    }
+}
+
+/// The item of a line that is none of a front, by the same line without the elements of its list.
+pub(crate) fn own_in<'a>(said: &TextLine<'static>, line: &'a [u8]) -> Item<'a>
+    requires own { is_own said.now ≡ true }
+    requires spelt { IsLineSpelt said.now line.now }
+    ensures { listed result ≡ line_back said.now line.now }
+{
+    match said {
+        TextLine::Own(item) => item_in(item, line),
+        TextLine::Front | TextLine::Scale(_) | TextLine::Walk(_) => unreachable!(),
     }
 }

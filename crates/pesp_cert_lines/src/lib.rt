@@ -16,7 +16,7 @@ mod versions;
 pub use fault::LineFault;
 pub use item::Item;
 pub use line::take_line;
-pub use marked::MarkedRows;
+pub use marked::{MarkedRows, first_marked};
 pub use pairs::{LinePairs, first_pair};
 pub use progress::{Place, Progress};
 pub use rows::{SignedRows, first_row};

@@ -1,6 +1,8 @@
 //! The marked rows of a walk's line.
 
-ghost use Rattle.std.specs.Prelude.{◌≡◌, ◌≤◌, IfOk, true, length};
+ghost use Rattle.std.specs.Prelude.{◌≡◌, ◌≤◌, IfOk, Some, true, length};
+ghost use Rattle.std.specs.Option.{option_copied};
+ghost use Rattle.pesp_text.specs.Words.{words_of, pieces_left};
 ghost use Rattle.pesp_cert_lines.specs.Rows.{spelt_row};
 ghost use Rattle.pesp_cert_lines.specs.Marked.{is_starred, but_last, with_mark, marked_at, marked_of, marked_within, count_of_marked, marked_are_good, BeginsMarked};
 
@@ -8,7 +10,7 @@ use crate::fault::LineFault;
 use crate::rows::{MOST_WORDS, is_name, spelt_row};
 use pesp_nets::MarkedRow;
 use pesp_problem::SignedRow;
-use pesp_text::Words;
+use pesp_text::{Words, split_at_byte};
 use std::marker::Model;
 
 /// The marked rows of a walk that are left in a line that was judged.
@@ -132,6 +134,27 @@ pub(crate) fn judge_marked(words: Words<'_>) -> Result<MarkedRows<'_>, LineFault
 {
     let count = count_marked(words.again())?;
     Ok(MarkedRows { words, count })
+}
+
+/// The first marked row of words that were judged, and what stands behind its word.
+#[inline]
+pub fn first_marked(words: &[u8]) -> (MarkedRow, Option<&[u8]>)
+    requires { marked_are_good (marked_of (words_of words.now)) ≡ true }
+    ensures { BeginsMarked (Some result.0) (marked_of (words_of words.now))
+        (marked_of (pieces_left 32 (option_copied result.1))) }
+{
+    let (word, rest) = split_at_byte(b' ', words);
+    let Some((row, plus, flipped)) = marked_at(word) else {
+        unreachable!()
+    };
+    let row = MarkedRow {
+        signed: SignedRow {
+            row: row as u32,
+            plus,
+        },
+        flipped,
+    };
+    (row, rest)
 }
 
 /// The next marked row of words that were judged.

@@ -6,26 +6,45 @@ use Rattle.pesp_problem.specs.declared.row.SignedRow.{SignedRow}
 use Rattle.pesp_problem.specs.Timetables.{Pesp}
 use Rattle.pesp_problem.specs.Arcs.{arcs_of, net_of}
 use Rattle.pesp_problem.specs.Nodes.{Node, root}
+use Rattle.pesp_nets.specs.Marked.{IsMarkedWalk}
+use Rattle.pesp_truth.specs.Marks.{Marks}
+use Rattle.pesp_truth.specs.FrontLimits.{KeepsLimits as FrontKeepsLimits}
 use Rattle.pesp_truth.specs.declared.tree.TreeLine.{TreeLine}
 use Rattle.pesp_truth.specs.Trees.{are_trees}
 use Rattle.pesp_truth.specs.Certificates.{Content, IsValid, line_of, lines_of, least_of}
 use Rattle.pesp_cert_lines.specs.declared.item.Item.{Item}
 use Rattle.pesp_cert_lines.specs.declared.item.Item.TheVariants.{Cycle, End}
-use Rattle.pesp_cert.specs.Texts.{tree_item}
+use Rattle.std.specs.Prelude.{All, IfSome, min}
+use Rattle.pesp_cert.specs.Texts.{HasText, tree_item}
+use Rattle.pesp_cert.specs.Drafts.{FrontValue, front_said}
+use Rattle.pesp_cert.proofs.FrontRuns.{fronts_iff}
 use Rattle.pesp_judges.specs.declared.refusal.Refusal.{Refusal}
 use Rattle.pesp_nets.specs.Nets.{AreNets}
 use Rattle.pesp_judges.specs.Pending.{Standing}
-use Rattle.pesp_judges.specs.Faults.{first_tree_line}
+use Rattle.pesp_judges.specs.Faults.{IsMarksFault, behind_front, first_tree_line}
 use Rattle.pesp_judges.specs.Lines.{after, IsSoundLine, IsLineFault, IsLineVerdict, AreJudged}
 use Rattle.pesp_check.specs.Items.{is_later, is_line, begins_tree}
 use Rattle.pesp_check.specs.declared.stage.Stage.{Stage}
 use Rattle.pesp_check.specs.declared.stage.Stage.TheVariants as stages
-use Rattle.pesp_check.specs.Judging.{Kept, is_before_tree, tree_from, cycles_from, TreeTo, JudgedAt}
+use Rattle.pesp_check.specs.Judging.{Kept, is_before_tree, tree_from, cycles_from, CyclesTo, TreeTo, JudgedAt}
 use Rattle.pesp_judges.proofs.Closing.{all_walks}
 use Rattle.pesp_judges.proofs.Judged.{judged_none, open_there, whole_more, judged_more, fault_here, judged_all}
 use Rattle.pesp_judges.proofs.Faults.{later_tree_fault, valid_is}
-use Rattle.pesp_check.proofs.Lists.{IsNext, next_of, line_not_end, same_line, all_tree, tree_ended, cycles_ended, times_ended}
+use Rattle.pesp_check.proofs.Lists.{IsNext, next_of, line_not_end, same_line, all_tree, tree_ended, cycles_ended}
+use Rattle.pesp_check.proofs.Inner.{are_marks}
+use Rattle.pesp_check.proofs.Fronts.{behind_adds, front_done}
 use Rattle.pesp_check.proofs.Cycles.{shown_still, passed}
+
+-- ---- what has a text
+
+pub keeps_front : (front : Option Marks) (c : Content) → HasText front c → IfSome front FrontKeepsLimits
+keeps_front front c has = ((fronts_iff front c).1 has).0
+
+pub whole_text : (front : Option Marks) (c : Content) → HasText front c → are_trees 1 (lines_of c) ≡ true
+whole_text front c has = ((fronts_iff front c).1 has).1.whole
+
+few_cycles : (front : Option Marks) (c : Content) → HasText front c → length c.cycles ≤ 100000
+few_cycles front c has = ((fronts_iff front c).1 has).1.cycles
 
 -- ---- all cycles came
 
@@ -40,44 +59,89 @@ cycles_done c k (item ∷ rest) b e = elim (next_of Cycle c.cycles k (tree_from 
   | inr n ↦ record { all = n.0; left = n.1 }
 ]
 
-pub cycles_end : (stage : Stage) (p : Pesp) (c : Content) (rest : List Item) (kept : Kept) (standing : Standing)
-    (node : Node) → stage ≡ stages.Cycles → are_trees 1 (lines_of c) ≡ true → begins_tree rest ≡ true
-    → ((walks : List (List SignedRow)) → AreNets (length p.rows) walks kept.table → node ≡ root (net_of p) walks)
-    → standing.nodes ≡ node ∷ []
-    → JudgedAt stage p c rest kept → JudgedAt stages.Tree p c rest (record kept { walk = Some standing })
-cycles_end stage p c rest kept standing node is whole b roots nodes before =
-    let so_far : JudgedAt stages.Cycles p c rest kept = subst (λ (s : Stage). JudgedAt s p c rest kept) is before in
-    let k = so_far.0 in
-    let h = so_far.1 in
-    let done = cycles_done c k rest b h.left in
-    let nets : AreNets (length p.rows) c.cycles kept.table =
-    subst (λ (ws : List (List SignedRow)). AreNets (length p.rows) ws kept.table)
-    (take_all k c.cycles done.all) h.nets in
-    let at : standing.nodes ≡ root (net_of p) c.cycles ∷ [] = nodes ∙ ap (λ (n : Node). n ∷ []) (roots c.cycles nets) in
-    let P : List Node → Type 0 = λ ns. AreJudged None (net_of p) c.cycles (least_of c.answer) c.tree
-    (root (net_of p) c.cycles) (first_tree_line None c) ns 0 in
-    let Q : List Node → Type 0 = λ ns. are_trees (length ns) (lines_of c) ≡ true in (
-      0,
-      standing,
+-- the front that was made is that of the text
+pub made_is : (front made : Option Marks) (draft : FrontValue) → IfSome front FrontKeepsLimits → front_said draft ≡ front
+    → (IfSome (front_said draft) FrontKeepsLimits → made ≡ front_said draft) → made ≡ front
+made_is front made draft keeps said is = is (subst (λ f. IfSome f FrontKeepsLimits) (sym said) keeps) ∙ said
+
+-- what came where the tree begins, with the front that was made
+module _ (stage : Stage) (p : Pesp) (front : Option Marks) (c : Content) (rest : List Item) (kept : Kept) (made : Option Marks)
+    (is : stage ≡ stages.Cycles) (has : HasText front c) (b : begins_tree rest ≡ true)
+    (limits : IfSome (front_said kept.draft) FrontKeepsLimits → made ≡ front_said kept.draft)
+    (before : JudgedAt stage p front c rest kept) where
+  so_far : JudgedAt stages.Cycles p front c rest kept
+  so_far = subst (λ (s : Stage). JudgedAt s p front c rest kept) is before
+
+  cycles : CyclesTo p front c rest kept so_far.0
+  cycles = so_far.1
+
+  done : AreDone c rest so_far.0
+  done = cycles_done c so_far.0 rest b cycles.left
+
+  same : made ≡ front
+  same = made_is front made kept.draft (keeps_front front c has) cycles.front_is limits
+
+  nets : AreNets (length p.rows) c.cycles kept.table
+  nets = subst (λ (ws : List (List SignedRow)). AreNets (length p.rows) ws kept.table)
+      (take_all so_far.0 c.cycles done.all) cycles.nets
+
+  pub cycles_end : (standing : Standing) (node : Node) (kept' : Kept)
+      → kept' ≡ record kept { draft = kept'.draft; front = made; walk = Some standing }
+      → IfSome made (λ marks. All (IsMarkedWalk (arcs_of p)) marks.walks)
+      → ((walks : List (List SignedRow)) → AreNets (length p.rows) walks kept.table → node ≡ root (net_of p) walks)
+      → standing.nodes ≡ node ∷ [] → JudgedAt stages.Tree p front c rest kept'
+  cycles_end standing node kept' e closed roots nodes =
+      let at : standing.nodes ≡ root (net_of p) c.cycles ∷ [] = nodes ∙ ap (λ (n : Node). n ∷ []) (roots c.cycles nets) in
+      let P : List Node → Type 0 = λ ns. AreJudged front (net_of p) c.cycles (least_of c.answer) c.tree
+      (root (net_of p) c.cycles) (first_tree_line front c) ns 0 in
+      let Q : List Node → Type 0 = λ ns. are_trees (length ns) (lines_of c) ≡ true in
+      let new : Kept = record kept { draft = kept'.draft; front = made; walk = Some standing } in
+      let all : so_far.0 ≡ length c.cycles = omega (arith, cycles.within, done.all) in
+      let R : Kept → Type 0 = λ k. JudgedAt stages.Tree p front c rest k in
+      subst R (sym e) (
+        0,
+        standing,
+        record {
+          shown = shown_still p c kept new refl cycles.shown;
+          front_is = same;
+          walks = all_walks (arcs_of p) c.cycles so_far.0 done.all cycles.walks;
+          nets = nets;
+          closed = subst (λ f. IfSome f (λ marks. All (IsMarkedWalk (arcs_of p)) marks.walks)) same closed;
+          walk = refl;
+          whole = subst Q (sym at) (whole_text front c has);
+          judged = subst P (sym at) (judged_none front (net_of p) c.cycles (least_of c.answer) c.tree
+              (root (net_of p) c.cycles) (first_tree_line front c));
+          line = cycles.line ∙ ap (λ k. behind_front front (3 + length c.times + k)) all ∙ ap (behind_front front) (omega arith);
+          left = done.left;
+        },
+      )
+
+  pub marks_refused : (refusal : Refusal) (number : ℕ) (kept' : Kept) → number ≡ min (length kept.table) 100000
+      → kept'.answer ≡ kept.answer → IsMarksFault made (arcs_of p) cycles_number refusal
+      → JudgedAt (stages.Refused refusal) p front c rest kept'
+  marks_refused refusal number kept' e a fault =
+      let all : number ≡ length c.cycles = omega (arith, e, nets.long, few_cycles front c has) in
+      let P : Option Marks → Type 0 = λ f. IsMarksFault f (arcs_of p) number refusal in
+      let Q : ℕ → Type 0 = λ n. IsMarksFault front (arcs_of p) n refusal in
       record {
-        shown = shown_still p c kept (record kept { walk = Some standing }) refl h.shown;
-        walks = all_walks (arcs_of p) c.cycles k done.all h.walks;
-        nets = nets;
-        walk = refl;
-        whole = subst Q (sym at) whole;
-        judged = subst P (sym at) (judged_none None (net_of p) c.cycles (least_of c.answer) c.tree
-            (root (net_of p) c.cycles) (first_tree_line None c));
-        line = omega (arith, h.line, h.within, done.all);
-        left = done.left;
-      },
-    )
+        answer = a ∙ cycles.shown.answer;
+        later = ap (list_all is_later) done.left ∙ all_tree c 0;
+        first = inr (
+          cycles.shown.period,
+          inr (inr (inl (
+            cycles.shown.shows,
+            all_walks (arcs_of p) c.cycles so_far.0 done.all cycles.walks,
+            subst Q all (subst P same fault),
+          ))),
+        );
+      }
 
 -- ---- one line
 
-module _ (p : Pesp) (c : Content) (line : TreeLine) (rest : List Item) (kept : Kept) (stage : Stage)
-    (is : stage ≡ stages.Tree) (before : JudgedAt stage p c (tree_item line ∷ rest) kept) where
-  abbrev so_far : JudgedAt stages.Tree p c (tree_item line ∷ rest) kept
-  so_far = subst (λ (s : Stage). JudgedAt s p c (tree_item line ∷ rest) kept) is before
+module _ (p : Pesp) (front : Option Marks) (c : Content) (line : TreeLine) (rest : List Item) (kept : Kept) (stage : Stage)
+    (is : stage ≡ stages.Tree) (before : JudgedAt stage p front c (tree_item line ∷ rest) kept) where
+  abbrev so_far : JudgedAt stages.Tree p front c (tree_item line ∷ rest) kept
+  so_far = subst (λ (s : Stage). JudgedAt s p front c (tree_item line ∷ rest) kept) is before
 
   abbrev k : ℕ
   k = so_far.0
@@ -85,7 +149,7 @@ module _ (p : Pesp) (c : Content) (line : TreeLine) (rest : List Item) (kept : K
   abbrev pub standing : Standing
   standing = so_far.1
 
-  abbrev tree : TreeTo p c (tree_item line ∷ rest) kept k standing
+  abbrev tree : TreeTo p front c (tree_item line ∷ rest) kept k standing
   tree = so_far.2
 
   next : (x : TreeLine) × IsNext tree_item c.tree k (End ∷ []) (tree_item line) rest x
@@ -106,21 +170,25 @@ module _ (p : Pesp) (c : Content) (line : TreeLine) (rest : List Item) (kept : K
   pub nets_are : AreNets (length p.rows) c.cycles kept.table
   nets_are = tree.nets
 
+  pub front_is : kept.front ≡ front
+  front_is = tree.front_is
+
   pub answer_is : kept.answer ≡ c.answer
   answer_is = tree.shown.answer
 
   -- what is said at the node where the walk stands is said for the certificate's answer
   pub line_found : (walk walk' : Standing) (least : Option ℕ) (at : ℕ) (found : Option Refusal)
       → kept.walk ≡ Some walk → least ≡ least_of kept.answer
-      → IsLineVerdict None (net_of p) c.cycles least (line_of line) walk.nodes walk'.nodes at found
-      → IsLineVerdict None (net_of p) c.cycles (least_of c.answer) (line_of line) standing.nodes walk'.nodes at found
+      → IsLineVerdict kept.front (net_of p) c.cycles least (line_of line) walk.nodes walk'.nodes at found
+      → IsLineVerdict front (net_of p) c.cycles (least_of c.answer) (line_of line) standing.nodes walk'.nodes at found
   line_found walk walk' least at found e l v =
       let same : Some standing ≡ Some walk = sym stands ∙ e in
       let s : standing ≡ walk = cc in
-      let P : Standing → Type 0 = λ st. IsLineVerdict None (net_of p) c.cycles (least_of c.answer)
+      let F : Option Marks → Type 0 = λ f. IsLineVerdict f (net_of p) c.cycles least (line_of line) walk.nodes walk'.nodes at found in
+      let P : Standing → Type 0 = λ st. IsLineVerdict front (net_of p) c.cycles (least_of c.answer)
       (line_of line) st.nodes walk'.nodes at found in
-      let Q : Option ℕ → Type 0 = λ m. IsLineVerdict None (net_of p) c.cycles m (line_of line) walk.nodes walk'.nodes at found in
-      subst P (sym s) (subst Q (l ∙ ap least_of answer_is) v)
+      let Q : Option ℕ → Type 0 = λ m. IsLineVerdict front (net_of p) c.cycles m (line_of line) walk.nodes walk'.nodes at found in
+      subst P (sym s) (subst Q (l ∙ ap least_of answer_is) (subst F front_is v))
 
   pub never_done : (walk : Standing) → kept.walk ≡ Some walk → walk.nodes ≡ [] → ⊥
   never_done walk e none =
@@ -133,50 +201,55 @@ module _ (p : Pesp) (c : Content) (line : TreeLine) (rest : List Item) (kept : K
 
   pub line_taken : (standing' : Standing) (kept' : Kept)
       → kept' ≡ record kept { line = kept.line + 1; walk = Some standing' }
-      → IsSoundLine None (net_of p) c.cycles (least_of c.answer) (line_of line) standing.nodes
+      → IsSoundLine front (net_of p) c.cycles (least_of c.answer) (line_of line) standing.nodes
       → standing'.nodes ≡ after (line_of line) standing.nodes
-      → JudgedAt stage p c rest kept'
+      → JudgedAt stage p front c rest kept'
   line_taken standing' kept' e sound nodes =
-      let P : Kept → Type 0 = JudgedAt stages.Tree p c rest in
-      let Q : Stage → Type 0 = λ s. JudgedAt s p c rest kept' in
+      let P : Kept → Type 0 = JudgedAt stages.Tree p front c rest in
+      let Q : Stage → Type 0 = λ s. JudgedAt s p front c rest kept' in
       subst Q (sym is) (subst P (sym e) (
         k + 1,
         standing',
         record {
           shown = shown_still p c kept (record kept { line = kept.line + 1; walk = Some standing' }) refl tree.shown;
+          front_is = tree.front_is;
           walks = tree.walks;
           nets = tree.nets;
+          closed = tree.closed;
           walk = refl;
           whole = whole_more c.tree k line next.1.within read standing.nodes standing'.nodes nodes tree.whole;
-          judged = judged_more c.tree k line next.1.within read None (net_of p) c.cycles (least_of c.answer)
-              (root (net_of p) c.cycles) (first_tree_line None c) standing.nodes tree.judged standing'.nodes sound nodes;
-          line = omega (arith, tree.line);
+          judged = judged_more c.tree k line next.1.within read front (net_of p) c.cycles (least_of c.answer)
+              (root (net_of p) c.cycles) (first_tree_line front c) standing.nodes tree.judged standing'.nodes sound nodes;
+          line = ap (λ n. n + 1) tree.line ∙ behind_adds front (3 + length c.times + length c.cycles + k) 1
+              ∙ ap (behind_front front) (omega arith);
           left = next.1.left;
         },
       ))
 
   pub line_refused : (refusal : Refusal) (at : ℕ) (kept' : Kept) → at ≡ kept.line + 1 → kept'.answer ≡ kept.answer
-      → are_trees 1 (lines_of c) ≡ true → IsLineFault None (net_of p) c.cycles (least_of c.answer)
+      → are_trees 1 (lines_of c) ≡ true → IsLineFault front (net_of p) c.cycles (least_of c.answer)
       (line_of line) standing.nodes at refusal
-      → JudgedAt (stages.Refused refusal) p c rest kept'
+      → JudgedAt (stages.Refused refusal) p front c rest kept'
   line_refused refusal at kept' e a whole fault =
-      let number : at ≡ first_tree_line None c + k = omega (arith, e, tree.line) in
-      let faults = fault_here c.tree k line next.1.within read None (net_of p) c.cycles (least_of c.answer)
-      (root (net_of p) c.cycles) (first_tree_line None c) standing.nodes tree.judged at refusal number fault in
+      let number : at ≡ first_tree_line front c + k =
+      e ∙ ap (λ n. n + 1) tree.line ∙ behind_adds front (3 + length c.times + length c.cycles + k) 1
+      ∙ ap (behind_front front) (omega arith) ∙ sym (behind_adds front (4 + length c.times + length c.cycles) k) in
+      let faults = fault_here c.tree k line next.1.within read front (net_of p) c.cycles (least_of c.answer)
+      (root (net_of p) c.cycles) (first_tree_line front c) standing.nodes tree.judged at refusal number fault in
       record {
         answer = a ∙ tree.shown.answer;
         later = ap (list_all is_later) next.1.left ∙ all_tree c (k + 1);
-        first = inr (tree.shown.period, later_tree_fault None p c refusal whole tree.shown.shows tree.walks tt faults);
+        first = inr (tree.shown.period, later_tree_fault front p c refusal whole tree.shown.shows tree.walks tree.closed faults);
       }
 
 -- a line of the tree behind a refusal
-pub line_passed : (stage : Stage) (p : Pesp) (c : Content) (line : TreeLine) (rest : List Item) (kept kept' : Kept)
+pub line_passed : (stage : Stage) (p : Pesp) (front : Option Marks) (c : Content) (line : TreeLine) (rest : List Item) (kept kept' : Kept)
     → is_before_tree stage ≡ false → (stage ≡ stages.Tree → ⊥) → kept'.answer ≡ kept.answer
-    → JudgedAt stage p c (tree_item line ∷ rest) kept → JudgedAt stage p c rest kept'
-line_passed stages.Front p c line rest kept kept' b n e h = absurd cc
-line_passed stages.Cycles p c line rest kept kept' b n e h = absurd cc
-line_passed stages.Tree p c line rest kept kept' b n e h = absurd (n refl)
-line_passed (stages.Refused r) p c line rest kept kept' b n e h = passed p c r (tree_item line) rest kept kept' e h
+    → JudgedAt stage p front c (tree_item line ∷ rest) kept → JudgedAt stage p front c rest kept'
+line_passed stages.Front p front c line rest kept kept' b n e h = absurd cc
+line_passed stages.Cycles p front c line rest kept kept' b n e h = absurd cc
+line_passed stages.Tree p front c line rest kept kept' b n e h = absurd (n refl)
+line_passed (stages.Refused r) p front c line rest kept kept' b n e h = passed p front c r (tree_item line) rest kept kept' e h
 
 -- ---- the end
 
@@ -187,34 +260,32 @@ no_tree c Q whole none = go c.tree whole none
     go [] w l = absurd cc
     go (x ∷ xs) w l = absurd (omega arith)
 
-front_open : (stage : Stage) (p : Pesp) (c : Content) (kept : Kept) (Q : Type 0) → is_before_tree stage ≡ true
-    → are_trees 1 (lines_of c) ≡ true → JudgedAt stage p c (End ∷ []) kept → Q
-front_open stages.Front p c kept Q b whole (none, inl h) = let e = h.2 in absurd cc
-front_open stages.Front p c kept Q b whole (none, inr (inl h)) = let e = h.2 in absurd cc
-front_open stages.Front p c kept Q b whole (none, inr (inr (inl h))) = let e = h.3 in absurd cc
-front_open stages.Front p c kept Q b whole (none, inr (inr (inr h))) = no_tree c Q whole (times_ended c h.0 h.1.left)
-front_open stages.Cycles p c kept Q b whole h = no_tree c Q whole (cycles_ended c h.0 h.1.left)
-front_open stages.Tree p c kept Q b whole h = absurd cc
-front_open (stages.Refused r) p c kept Q b whole h = absurd cc
+front_open : (stage : Stage) (p : Pesp) (front : Option Marks) (c : Content) (kept : Kept) (Q : Type 0) → is_before_tree stage ≡ true
+    → are_trees 1 (lines_of c) ≡ true → JudgedAt stage p front c (End ∷ []) kept → Q
+front_open stages.Front p front c kept Q b whole h =
+    let done = front_done front c (End ∷ []) kept refl h.1 in no_tree c Q whole (cycles_ended c 0 done.left)
+front_open stages.Cycles p front c kept Q b whole h = no_tree c Q whole (cycles_ended c h.0 h.1.left)
+front_open stages.Tree p front c kept Q b whole h = absurd cc
+front_open (stages.Refused r) p front c kept Q b whole h = absurd cc
 
 pub end_answer : (stage : Stage) (p : Pesp) (c : Content) (kept : Kept) → are_trees 1 (lines_of c) ≡ true
-    → JudgedAt stage p c (End ∷ []) kept → kept.answer ≡ c.answer
-end_answer stages.Front p c kept whole h = front_open stages.Front p c kept (kept.answer ≡ c.answer) refl whole h
-end_answer stages.Cycles p c kept whole h = h.1.shown.answer
-end_answer stages.Tree p c kept whole h = h.2.shown.answer
-end_answer (stages.Refused r) p c kept whole h = h.answer
+    → JudgedAt stage p front c (End ∷ []) kept → kept.answer ≡ c.answer
+end_answer stages.Front p front c kept whole h = front_open stages.Front p front c kept (kept.answer ≡ c.answer) refl whole h
+end_answer stages.Cycles p front c kept whole h = h.1.shown.answer
+end_answer stages.Tree p front c kept whole h = h.2.shown.answer
+end_answer (stages.Refused r) p front c kept whole h = h.answer
 
-pub end_valid : (stage : Stage) (p : Pesp) (c : Content) (kept : Kept)
-    → (stage ≡ stages.Front) ⊎ ((stage ≡ stages.Cycles) ⊎ (stage ≡ stages.Tree)) → are_trees 1 (lines_of c) ≡ true
-    → JudgedAt stage p c (End ∷ []) kept → IsValid None p c
-end_valid stages.Front p c kept is whole h = front_open stages.Front p c kept (IsValid None p c) refl whole h
-end_valid stages.Cycles p c kept is whole h = front_open stages.Cycles p c kept (IsValid None p c) refl whole h
-end_valid stages.Tree p c kept is whole h =
+pub end_valid : (stage : Stage) (p : Pesp) (front : Option Marks) (c : Content) (kept : Kept)
+    → (stage ≡ stages.Front) ⊎ ((stage ≡ stages.Cycles) ⊎ (stage ≡ stages.Tree)) → HasText front c
+    → JudgedAt stage p front c (End ∷ []) kept → IsValid front p c
+end_valid stages.Front p front c kept is has h = front_open stages.Front p front c kept (IsValid front p c) refl (whole_text front c has) h
+end_valid stages.Cycles p front c kept is has h = front_open stages.Cycles p front c kept (IsValid front p c) refl (whole_text front c has) h
+end_valid stages.Tree p front c kept is has h =
     let t = h.2 in
     let done = tree_ended c h.0 t.left in
-    valid_is None p c t.shown.period t.shown.shows t.walks tt
-    (judged_all None (net_of p) c.cycles (least_of c.answer) c.tree (root (net_of p) c.cycles)
-    (first_tree_line None c) h.1.nodes h.0 done t.whole t.judged)
-end_valid (stages.Refused r) p c kept (inl e) whole h = absurd cc
-end_valid (stages.Refused r) p c kept (inr (inl e)) whole h = absurd cc
-end_valid (stages.Refused r) p c kept (inr (inr e)) whole h = absurd cc
+    valid_is front p c t.shown.period t.shown.shows t.walks (are_marks front (arcs_of p) (keeps_front front c has) t.closed)
+    (judged_all front (net_of p) c.cycles (least_of c.answer) c.tree (root (net_of p) c.cycles)
+    (first_tree_line front c) h.1.nodes h.0 done t.whole t.judged)
+end_valid (stages.Refused r) p front c kept (inl e) has h = absurd cc
+end_valid (stages.Refused r) p front c kept (inr (inl e)) has h = absurd cc
+end_valid (stages.Refused r) p front c kept (inr (inr e)) has h = absurd cc

@@ -18,7 +18,7 @@ use Rattle.pesp_judges.specs.declared.tree.SaidLine.TheVariants.{Branch, Leaf, P
 use Rattle.pesp_judges.specs.SaidLines.{line_said}
 use Rattle.pesp_check.specs.Items.{is_later, is_line}
 use Rattle.pesp_check.specs.Said.{tree_line}
-use Rattle.pesp_check.specs.Judging.{tree_from, cycles_from, times_from}
+use Rattle.pesp_check.specs.Judging.{tree_from, cycles_from}
 
 -- the next item is that of the element at place k
 pub record IsNext {A : Type 0} (f : A → Item) (xs : List A) (k : ℕ) (ys : List Item) (item : Item) (rest : List Item) (x : A) : Type 0 where
@@ -143,10 +143,4 @@ pub cycles_ended : (c : Content) (k : ℕ) → End ∷ [] ≡ cycles_from c k �
 cycles_ended c k e = elim (next_of Cycle c.cycles k (tree_from c 0) End [] e) [
   | inl n ↦ let bad : End ≡ Cycle n.0 = n.1.item_is in absurd cc
   | inr n ↦ tree_ended c 0 n.1
-]
-
-pub times_ended : (c : Content) (k : ℕ) → End ∷ [] ≡ times_from c k → length c.tree ≤ 0
-times_ended c k e = elim (next_of time_item c.times k (cycles_from c 0) End [] e) [
-  | inl n ↦ let bad : End ≡ Time n.0.0 n.0.1 = n.1.item_is in absurd cc
-  | inr n ↦ cycles_ended c 0 n.1
 ]

@@ -6,16 +6,16 @@ use Rattle.pesp_stream.specs.Counts.{Calls, Worked, Failed}
 use Rattle.pesp_problem.specs.Timetables.{Pesp}
 use Rattle.pesp_truth.specs.declared.answer.Answer.{Answer}
 use Rattle.pesp_truth.specs.Truth.{IsTrueAnswer}
-use Rattle.pesp_truth.specs.Trees.{are_trees}
-use Rattle.pesp_truth.specs.Certificates.{Content, IsValid, lines_of, shown_times}
+use Rattle.pesp_truth.specs.Marks.{Marks}
+use Rattle.pesp_truth.specs.Certificates.{Content, IsValid, shown_times}
 use Rattle.pesp_cert_lines.specs.declared.item.Item.{Item}
 use Rattle.pesp_cert_lines.specs.declared.item.Item.TheVariants.{Version, Period, Answer as Says, Cycle, End}
 use Rattle.pesp_cert.specs.declared.refusal.CertRefusal.{CertRefusal}
 use Rattle.pesp_cert.specs.declared.refusal.CertRefusal.TheVariants as refusals
-use Rattle.pesp_cert.specs.Texts.{items_of, time_item, tree_item}
-use Rattle.pesp_cert.proofs.Runs.{items_shape, text_keeps_limits}
-use Rattle.pesp_cert.proofs.LimitFacts.{limits_of}
-use Rattle.pesp_cert.proofs.TextLaws.{plain_found_of}
+use Rattle.pesp_cert_lines.specs.declared.versions.Versions.{Versions}
+use Rattle.pesp_cert.specs.Texts.{HasText, items_of, front_items, time_item, tree_item}
+use Rattle.pesp_cert.proofs.Runs.{items_shape}
+use Rattle.pesp_cert.proofs.TextLaws.{text_found_of}
 use Rattle.pesp_cert_items.specs.declared.fault.ItemFault.{ItemFault}
 use Rattle.pesp_cert_items.specs.declared.fault.ItemFault.TheVariants as items
 use Rattle.pesp_cert_items.specs.Readings.{Reading, is_open, Gives, Blamed, Refuses}
@@ -29,98 +29,103 @@ use Rattle.pesp_check.specs.declared.stage.Stage.{Stage}
 use Rattle.pesp_check.specs.declared.fault.CheckFault.TheVariants.{Read}
 use Rattle.pesp_check.specs.CheckFaults.{fault_of}
 use Rattle.pesp_check.specs.Texts.{ChecksText, Faults}
-use Rattle.pesp_check.specs.Judging.{Kept, JudgedAt, behind}
+use Rattle.pesp_check.specs.Judging.{Kept, JudgedAt, items_left}
 
--- these items came, and whatever content they and others are the items of, the others are left of it
+-- these items came, and whatever front and content they and others are the items of, the others are left of those
 pub record IsCheckedTo (p : Pesp) (old now : Reading) (stage : Stage) (kept : Kept) : Type 0 where
   pub so_far : List Item
   pub runs : Runs old now so_far
-  pub judged : (c : Content) (rest : List Item) → are_trees 1 (lines_of c) ≡ true → behind c ≡ so_far ++ rest → JudgedAt stage p c rest kept
+  pub judged : (front : Option Marks) (c : Content) (rest : List Item) → HasText front c → items_left front c ≡ so_far ++ rest
+      → JudgedAt stage p front c rest kept
   pub going : is_open now.stage ≡ true
 
 pub checked_none : (p : Pesp) (r : Reading) (stage : Stage) (kept : Kept) → is_open r.stage ≡ true
-    → ((c : Content) → JudgedAt stage p c (behind c) kept) → IsCheckedTo p r r stage kept
+    → ((front : Option Marks) (c : Content) → JudgedAt stage p front c (items_left front c) kept) → IsCheckedTo p r r stage kept
 checked_none p r stage kept o h = record {
   so_far = [];
   runs = runs_none r;
-  judged = λ c rest whole e. subst (λ (is : List Item). JudgedAt stage p c is kept) e (h c);
+  judged = λ front c rest has e. subst (λ (is : List Item). JudgedAt stage p front c is kept) e (h front c);
   going = o;
 }
 
 pub checked_more : (p : Pesp) (a b c : Reading) (stage stage' : Stage) (kept kept' : Kept) (item : Item)
     → IsCheckedTo p a b stage kept → Gives b c (Ok (Some item))
-    → ((c : Content) (rest : List Item) → are_trees 1 (lines_of c) ≡ true → JudgedAt stage p c (item ∷ rest) kept
-    → JudgedAt stage' p c rest kept') → IsCheckedTo p a c stage' kept'
+    → ((front : Option Marks) (c : Content) (rest : List Item) → HasText front c → JudgedAt stage p front c (item ∷ rest) kept
+    → JudgedAt stage' p front c rest kept') → IsCheckedTo p a c stage' kept'
 checked_more p a b c stage stage' kept kept' item h g step = record {
   so_far = h.so_far ++ item ∷ [];
   runs = runs_more a b c h.so_far item h.runs g.2;
-  judged = λ c rest whole e. step c rest whole (h.judged c (item ∷ rest) whole (e ∙ append_assoc h.so_far (item ∷ []) rest));
+  judged = λ front c rest has e. step front c rest has
+      (h.judged front c (item ∷ rest) has (e ∙ append_assoc h.so_far (item ∷ []) rest));
   going = ap is_open g.0;
 }
 
 -- ---- the end
 
-behind_is : (c : Content) → items_of None c ≡ behind c
-behind_is c = ap (λ is. Version c.version ∷ Period c.period ∷ Says c.answer ∷ is)
+all_left : (front : Option Marks) (c : Content) → items_of front c ≡ items_left front c
+all_left front c = ap (λ is. front_items front ++ Version c.version ∷ Period c.period ∷ Says c.answer ∷ is)
     (items_shape (map time_item c.times) (map Cycle c.cycles) (map tree_item c.tree) (End ∷ []))
 
-pub checked_all : (p : Pesp) (told : Option (List ℕ)) (b c : Reading) (stage : Stage) (kept : Kept)
-    (verdict : Verdict) (answer : Answer) → IsCheckedTo p (at_first told 1073741824) b stage kept
+pub checked_all : (versions : Versions) (p : Pesp) (told : Option (List ℕ)) (b c : Reading) (stage : Stage) (kept : Kept)
+    (verdict : Verdict) (answer : Answer) → IsCheckedTo p (at_first versions told 1073741824) b stage kept
     → Gives b c (Ok None)
-    → ((c : Content) → are_trees 1 (lines_of c) ≡ true → JudgedAt stage p c (End ∷ []) kept → IsVerdict None p c verdict)
-    → ((c : Content) → are_trees 1 (lines_of c) ≡ true → JudgedAt stage p c (End ∷ []) kept → answer ≡ c.answer)
-    → ((c : Content) → IsValid None p c → IsTrueAnswer p c.answer (shown_times c))
-    → ChecksText told c.told p verdict answer
-checked_all p told b c stage kept verdict answer h g says is true_then =
-    let ran = runs_all (at_first told 1073741824) b c h.so_far h.runs g.1 in
-    let text = ran_text told 1073741824 c h.so_far ran in
-    let found = plain_found_of ran.got (h.so_far ++ End ∷ []) text.1 in
-    let content = found.0 in
-    let whole = (limits_of content (text_keeps_limits content found.2.has_text)).whole in
-    let judged = h.judged content (End ∷ []) whole (sym (found.1 ∙ behind_is content)) in
-    let said = says content whole judged in
-    let same = is content whole judged in
+    → ((front : Option Marks) (c : Content) → HasText front c → JudgedAt stage p front c (End ∷ []) kept → IsVerdict front p c verdict)
+    → ((front : Option Marks) (c : Content) → HasText front c → JudgedAt stage p front c (End ∷ []) kept → answer ≡ c.answer)
+    → ((front : Option Marks) (c : Content) → IsValid front p c → IsTrueAnswer p c.answer (shown_times c))
+    → ChecksText versions told c.told p verdict answer
+checked_all versions p told b c stage kept verdict answer h g says is true_then =
+    let ran = runs_all (at_first versions told 1073741824) b c h.so_far h.runs g.1 in
+    let text = ran_text versions told 1073741824 c h.so_far ran in
+    let found = text_found_of versions ran.got (h.so_far ++ End ∷ []) text.1 in
+    let front = found.0 in
+    let content = found.1 in
+    let has = found.3.has_text in
+    let judged = h.judged front content (End ∷ []) has (sym (found.2 ∙ all_left front content)) in
+    let said = says front content has judged in
+    let same = is front content has judged in
     record {
       text = ran.got;
+      front = front;
       content = content;
       read = text.0;
-      spelt = found.2;
+      taken = found.4;
+      spelt = found.3;
       answer_is = same;
       said = said;
-      exactly = accepts_valid None p content verdict said;
+      exactly = accepts_valid front p content verdict said;
       truth = λ e. subst (λ (a : Answer). IsTrueAnswer p a (shown_times content)) (sym same)
-          (true_then content ((accepts_valid None p content verdict said).0 e));
+          (true_then front content ((accepts_valid front p content verdict said).0 e));
     }
 
 -- ---- a fault
 
-text_faults : (told told' : Option (List ℕ)) (failed : Type 0) (r : CertRefusal)
-    → (r ≡ refusals.Memory) ⊎ RefusesText told told' 1073741824 r
-    → Faults (fault_of (items.Text r)) told told' failed
-text_faults told told' failed refusals.Memory h = tt
-text_faults told told' failed refusals.Header (inl e) = absurd cc
-text_faults told told' failed refusals.Header (inr f) = f
-text_faults told told' failed (refusals.Line n) (inl e) = absurd cc
-text_faults told told' failed (refusals.Line n) (inr f) = f
-text_faults told told' failed (refusals.Number n) (inl e) = absurd cc
-text_faults told told' failed (refusals.Number n) (inr f) = f
-text_faults told told' failed (refusals.Limit n) (inl e) = absurd cc
-text_faults told told' failed (refusals.Limit n) (inr f) = f
-text_faults told told' failed refusals.Truncated (inl e) = absurd cc
-text_faults told told' failed refusals.Truncated (inr f) = f
-text_faults told told' failed (refusals.Trailing n) (inl e) = absurd cc
-text_faults told told' failed (refusals.Trailing n) (inr f) = f
+text_faults : (versions : Versions) (told told' : Option (List ℕ)) (failed : Type 0) (r : CertRefusal)
+    → (r ≡ refusals.Memory) ⊎ RefusesText versions told told' 1073741824 r
+    → Faults versions (fault_of (items.Text r)) told told' failed
+text_faults versions told told' failed refusals.Memory h = tt
+text_faults versions told told' failed refusals.Header (inl e) = absurd cc
+text_faults versions told told' failed refusals.Header (inr f) = f
+text_faults versions told told' failed (refusals.Line n) (inl e) = absurd cc
+text_faults versions told told' failed (refusals.Line n) (inr f) = f
+text_faults versions told told' failed (refusals.Number n) (inl e) = absurd cc
+text_faults versions told told' failed (refusals.Number n) (inr f) = f
+text_faults versions told told' failed (refusals.Limit n) (inl e) = absurd cc
+text_faults versions told told' failed (refusals.Limit n) (inr f) = f
+text_faults versions told told' failed refusals.Truncated (inl e) = absurd cc
+text_faults versions told told' failed refusals.Truncated (inr f) = f
+text_faults versions told told' failed (refusals.Trailing n) (inl e) = absurd cc
+text_faults versions told told' failed (refusals.Trailing n) (inr f) = f
 
-pub checked_fault : (p : Pesp) (told : Option (List ℕ)) (b c : Reading) (stage : Stage) (kept : Kept)
-    (f : ItemFault) (old : Calls) (most : ℕ) (new : Calls) → IsCheckedTo p (at_first told 1073741824) b stage kept
+pub checked_fault : (versions : Versions) (p : Pesp) (told : Option (List ℕ)) (b c : Reading) (stage : Stage) (kept : Kept)
+    (f : ItemFault) (old : Calls) (most : ℕ) (new : Calls) → IsCheckedTo p (at_first versions told 1073741824) b stage kept
     → Gives b c (Err f) → Blamed f old most new
-    → Faults (fault_of f) told c.told (Failed old most new)
-checked_fault p told b c stage kept items.Read old most new h g blamed = blamed
-checked_fault p told b c stage kept (items.Text r) old most new h g blamed = text_faults told c.told (Failed old most new) r (refused g.1)
+    → Faults versions (fault_of f) told c.told (Failed old most new)
+checked_fault versions p told b c stage kept items.Read old most new h g blamed = blamed
+checked_fault versions p told b c stage kept (items.Text r) old most new h g blamed = text_faults versions told c.told (Failed old most new) r (refused g.1)
   where
-    refused : (r ≡ refusals.Memory) ⊎ Refuses b c r → (r ≡ refusals.Memory) ⊎ RefusesText told c.told 1073741824 r
+    refused : (r ≡ refusals.Memory) ⊎ Refuses b c r → (r ≡ refusals.Memory) ⊎ RefusesText versions told c.told 1073741824 r
     refused (inl e) = inl e
-    refused (inr q) = inr (refused_text told 1073741824 c r (runs_refused (at_first told 1073741824) b c h.so_far r h.runs q))
+    refused (inr q) = inr (refused_text versions told 1073741824 c r (runs_refused (at_first versions told 1073741824) b c h.so_far r h.runs q))
 
 -- what is blamed after calls that worked is to be blamed for all of them
 pub blamed_since : (f : ItemFault) (first old new : Calls) (most limit : ℕ) → old.failed ≡ first.failed

@@ -2,6 +2,7 @@
 
 use pesp_cert::CertRefusal;
 use pesp_cert_items::ItemFault;
+use pesp_problem::Memory;
 use std::alloc::AllocError;
 
 /// Why a text has no verdict: it is no certificate's, the reader failed, or a growth was refused.
@@ -22,6 +23,17 @@ impl From<AllocError> for CheckFault {
     ghost from_gives = { λ _ e. e ≡ faults.Memory };
 
     fn from(_refused: AllocError) -> CheckFault {
+        CheckFault::Memory
+    }
+}
+
+impl From<Memory> for CheckFault {
+    ghost use Rattle.std.specs.Prelude.{◌≡◌};
+    ghost use Rattle.pesp_check.specs.declared.fault.CheckFault.TheVariants as faults;
+
+    ghost from_gives = { λ _ e. e ≡ faults.Memory };
+
+    fn from(_refused: Memory) -> CheckFault {
         CheckFault::Memory
     }
 }

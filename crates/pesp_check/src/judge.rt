@@ -1,44 +1,54 @@
-//! The judge of a text's items, one after another.
+//! The judge of a text's lines, one after another.
 
-ghost use Rattle.std.specs.Prelude.{◌≡◌, ℕ, ◌+◌, ◌<◌, ◌≤◌, ◌^◌, List, ◌∷◌, ◌++◌, [], true, false, length, map, All, Option, IfOk, OnOk, MatchOption, None};
+ghost use Rattle.std.specs.Prelude.{◌≡◌, ℕ, ◌+◌, ◌<◌, ◌≤◌, ◌^◌, List, ◌∷◌, ◌++◌, [], true, false, length, map, All, Option, IfOk, OnOk, MatchOption};
 ghost use Rattle.std.specs.Option.{ForSome, is_some};
 ghost use Rattle.pesp_problem.specs.declared.limits.TheConstants.{MOST_SIGNED_ROWS};
-ghost use Rattle.pesp_truth.specs.Trees.{are_trees};
-ghost use Rattle.pesp_truth.specs.Certificates.{Content, lines_of, ShowsAnswer};
+ghost use Rattle.pesp_truth.specs.Marks.{Marks};
+ghost use Rattle.pesp_truth.specs.Certificates.{Content, ShowsAnswer};
 ghost use Rattle.pesp_cert_lines.specs.declared.item.Item.{Item as LineItem};
 ghost use Rattle.pesp_cert_lines.specs.declared.item.Item.TheVariants as items;
-ghost use Rattle.pesp_cert.specs.Texts.{tree_item};
-ghost use Rattle.pesp_cert_items.specs.Lent.{listed, rows_in};
+ghost use Rattle.pesp_cert.specs.Texts.{HasText, tree_item};
+ghost use Rattle.pesp_cert_items.specs.Lent.{line_said, listed, marked_in, rows_in};
 ghost use Rattle.pesp_nets.specs.Nets.{AreZeros, AreSmallCounts};
 ghost use Rattle.pesp_judges.specs.SaidLines.{KeepsSaidLimits};
 ghost use Rattle.pesp_judges.specs.Faults.{IsVerdict};
 ghost use Rattle.pesp_check.specs.Said.{pairs_of, tree_line};
 ghost use Rattle.pesp_check.specs.Items.{KeepsItemLimits, begins_later, begins_tree, is_line};
 ghost use Rattle.pesp_check.specs.declared.stage.Stage.TheVariants as stages;
-ghost use Rattle.pesp_check.specs.Judging.{JudgedAt, behind, IsFrontFault, is_front, is_before_tree};
+ghost use Rattle.pesp_check.specs.Judging.{JudgedAt, items_left, IsFrontFault, is_front, is_before_tree};
+ghost use Rattle.pesp_check.specs.Ready.{IsReady};
 
 use crate::elements::{PairsLeft, RowsLeft};
+use crate::front_walks::{front_arcs, front_of, front_rates, walk_of, walks_fault};
 use crate::stage::Stage;
-use pesp_cert_items::{Item, SignedRows};
+use pesp_cert::FrontDraft;
+use pesp_cert_items::{Item, MarkedRows, SignedRows, TextLine};
 use pesp_judges::{
     Checker, LeafLine, Nets, NodeWalk, Refusal, SaidLine, Verdict, judge_answer, judge_cycle,
     least_of, root, take_line,
 };
-use pesp_problem::{Cut, Instance};
-use pesp_truth::Answer;
+use pesp_nets::Rates;
+use pesp_problem::{Arc, Cut, Instance, MOST_CYCLES, Memory};
+use pesp_truth::{Answer, Marks};
 use std::alloc::{AllocError, Global};
+use std::mem::replace;
 
-/// What is kept of a text while its items come: the number of the last line, the period, the answer, the times, the net
-/// counts of the cycles, and the present node of the tree with the way to it. The list of places is kept for all cycles.
+/// What is kept of a text while its lines come: the number of the last line, what the lines of a front said, the period, the
+/// answer, the times and the net counts of the cycles; for the tree the front, what leaves that name its marked walks ask for,
+/// and the present node with the way to it. The list of places is kept for all cycles.
 #[derive(Drop)]
 pub struct Judge<'a> {
     instance: &'a Instance,
     line: u64,
+    draft: FrontDraft,
+    front: Option<Marks>,
     period: u32,
     answer: Answer,
     times: Vec<(i64, u32)>,
     table: Vec<Nets>,
     places: Vec<u32>,
+    arcs: Vec<Arc>,
+    rates: Vec<Rates>,
     walk: Option<NodeWalk<'a>>,
     stage: Stage,
     ghost small: { All (AreSmallCounts (length instance.now.rows)) table.items },
@@ -46,6 +56,8 @@ pub struct Judge<'a> {
     ghost begun: { is_before_tree stage ≡ true → is_some walk ≡ false },
     ghost standing: { ForSome walk (λ w. (w.problem ≡ instance.now)
         × (w.cycles ≡ length table.items)) },
+    ghost ready: { is_some walk ≡ true
+        → IsReady instance.now front arcs.items (length rates.items) },
 }
 
 /// What is wrong with a period, or with an answer and the times that are shown with it.
@@ -104,31 +116,35 @@ impl<'a> Judge<'a> {
     pub fn new(alloc: Global, instance: &'a Instance) -> Judge<'a>
         ensures instance { result.instance.now ≡ instance.now }
         ensures line { result.line ≡ 0 }
-        ensures judged { (c : Content)
-            → JudgedAt result.stage instance.now c (behind c) (kept result) }
+        ensures judged { (front : Option Marks) (c : Content)
+            → JudgedAt result.stage instance.now front c (items_left front c) (kept result) }
     {
         Judge {
             instance,
             line: 0,
+            draft: FrontDraft::new(alloc),
+            front: None,
             period: 0,
             answer: Answer::Infeasible,
             times: Vec::new(alloc),
             table: Vec::new(alloc),
             places: Vec::new(alloc),
+            arcs: Vec::new(alloc),
+            rates: Vec::new(alloc),
             walk: None,
             stage: Stage::Front,
         }
     }
 
     /// All times came: judges the period, the answer and the times, where they are not judged yet.
-    fn end_front(&mut self, alloc: Global) -> Result<(), AllocError>
+    fn end_front(&mut self, alloc: Global) -> Result<(), Memory>
         ensures instance { self.new.instance.now ≡ self.old.instance.now }
         ensures line { self.new.line ≡ self.old.line }
         ensures past { OnOk result (is_front self.new.stage ≡ false) }
         ensures judged { OnOk result
-            ((c : Content) (rest : List LineItem) → begins_later rest ≡ true
-            → JudgedAt self.old.stage self.old.instance.now c rest (kept self.old)
-            → JudgedAt self.new.stage self.old.instance.now c rest (kept self.new)) }
+            ((front : Option Marks) (c : Content) (rest : List LineItem) → begins_later rest ≡ true
+            → JudgedAt self.old.stage self.old.instance.now front c rest (kept self.old)
+            → JudgedAt self.new.stage self.old.instance.now front c rest (kept self.new)) }
     {
         if self.stage != Stage::Front {
             return Ok(());
@@ -142,20 +158,36 @@ impl<'a> Judge<'a> {
         Ok(())
     }
 
-    /// All cycles came: goes to the root of the tree, where it has not gone there yet.
-    fn end_cycles(&mut self, alloc: Global) -> Result<(), AllocError>
+    /// All cycles came: makes the front, judges its marked walks and goes to the root of the tree, where it has not gone there
+    /// yet.
+    fn end_cycles(&mut self, alloc: Global, working: &mut [i128]) -> Result<(), Memory>
         requires past { is_front self.old.stage ≡ false }
+        requires few { self.old.line < 2 ^ 31 }
+        requires long { length working.old ≡ length self.old.instance.now.rows }
+        requires zeros { AreZeros working.old }
         ensures instance { self.new.instance.now ≡ self.old.instance.now }
         ensures line { self.new.line ≡ self.old.line }
+        ensures zeros { OnOk result (AreZeros working.new) }
         ensures past { OnOk result (is_before_tree self.new.stage ≡ false) }
-        ensures judged { OnOk result ((c : Content) (rest : List LineItem)
-            → are_trees 1 (lines_of c) ≡ true → begins_tree rest ≡ true
-            → JudgedAt self.old.stage self.old.instance.now c rest (kept self.old)
-            → JudgedAt self.new.stage self.old.instance.now c rest (kept self.new)) }
+        ensures judged { OnOk result ((front : Option Marks) (c : Content) (rest : List LineItem)
+            → HasText front c → begins_tree rest ≡ true
+            → JudgedAt self.old.stage self.old.instance.now front c rest (kept self.old)
+            → JudgedAt self.new.stage self.old.instance.now front c rest (kept self.new)) }
     {
         if self.stage != Stage::Cycles {
             return Ok(());
         }
+        let draft = replace(&mut self.draft, FrontDraft::new(alloc));
+        self.front = front_of(draft);
+        // A text has no more cycles.
+        let cycles = self.table.len().min(MOST_CYCLES);
+        let found = walks_fault(alloc, self.instance, cycles, &self.front, working)?;
+        if let Some(refusal) = found {
+            self.stage = Stage::Refused(refusal);
+            return Ok(());
+        }
+        self.arcs = front_arcs(alloc, self.instance, &self.front)?;
+        self.rates = front_rates(alloc, self.instance.rows().len(), &self.front)?;
         let ranges = root(alloc, self.instance, &self.table)?;
         self.walk = Some(NodeWalk::new(alloc, self.instance, ranges));
         self.stage = Stage::Tree;
@@ -168,7 +200,7 @@ impl<'a> Judge<'a> {
         alloc: Global,
         rows: SignedRows<'_>,
         working: &mut [i128],
-    ) -> Result<(), AllocError>
+    ) -> Result<(), Memory>
         requires stage { self.old.stage ≡ stages.Cycles }
         requires short { length (rows_in rows) ≤ MOST_SIGNED_ROWS }
         requires few { self.old.line < 2 ^ 31 }
@@ -177,10 +209,10 @@ impl<'a> Judge<'a> {
         ensures instance { self.new.instance.now ≡ self.old.instance.now }
         ensures line { OnOk result (self.new.line ≡ self.old.line + 1) }
         ensures zeros { OnOk result (AreZeros working.new) }
-        ensures judged { OnOk result ((c : Content) (rest : List LineItem)
-            → JudgedAt self.old.stage self.old.instance.now c
+        ensures judged { OnOk result ((front : Option Marks) (c : Content) (rest : List LineItem)
+            → JudgedAt self.old.stage self.old.instance.now front c
             (items.Cycle (rows_in rows.entry) ∷ rest) (kept self.old)
-            → JudgedAt self.new.stage self.old.instance.now c rest (kept self.new)) }
+            → JudgedAt self.new.stage self.old.instance.now front c rest (kept self.new)) }
     {
         let number = self.table.len() as u32 + 1;
         let line = self.line + 1;
@@ -204,7 +236,7 @@ impl<'a> Judge<'a> {
         alloc: Global,
         rows: SignedRows<'_>,
         working: &mut [i128],
-    ) -> Result<(), AllocError>
+    ) -> Result<(), Memory>
         requires short { length (rows_in rows) ≤ MOST_SIGNED_ROWS }
         requires few { self.old.line < 2 ^ 31 }
         requires long { length working.old ≡ length self.old.instance.now.rows }
@@ -212,10 +244,10 @@ impl<'a> Judge<'a> {
         ensures instance { self.new.instance.now ≡ self.old.instance.now }
         ensures line { OnOk result (self.new.line ≡ self.old.line + 1) }
         ensures zeros { OnOk result (AreZeros working.new) }
-        ensures judged { OnOk result ((c : Content) (rest : List LineItem)
-            → JudgedAt self.old.stage self.old.instance.now c
+        ensures judged { OnOk result ((front : Option Marks) (c : Content) (rest : List LineItem)
+            → JudgedAt self.old.stage self.old.instance.now front c
             (items.Cycle (rows_in rows.entry) ∷ rest) (kept self.old)
-            → JudgedAt self.new.stage self.old.instance.now c rest (kept self.new)) }
+            → JudgedAt self.new.stage self.old.instance.now front c rest (kept self.new)) }
     {
         self.end_front(alloc)?;
         if self.stage == Stage::Cycles {
@@ -231,7 +263,7 @@ impl<'a> Judge<'a> {
         alloc: Global,
         said: SaidLine<PairsLeft<'_>>,
         working: &mut [i128],
-    ) -> Result<(), AllocError>
+    ) -> Result<(), Memory>
         requires stage { self.old.stage ≡ stages.Tree }
         requires limits { KeepsSaidLimits pairs_of said }
         requires few { self.old.line < 2 ^ 31 }
@@ -241,10 +273,10 @@ impl<'a> Judge<'a> {
         ensures line { OnOk result (self.new.line ≡ self.old.line + 1) }
         ensures zeros { OnOk result (AreZeros working.new) }
         ensures judged { OnOk result
-            ((c : Content) (rest : List LineItem) → are_trees 1 (lines_of c) ≡ true
-            → JudgedAt self.old.stage self.old.instance.now c
+            ((front : Option Marks) (c : Content) (rest : List LineItem) → HasText front c
+            → JudgedAt self.old.stage self.old.instance.now front c
             (tree_item (tree_line pairs_of said.entry) ∷ rest) (kept self.old)
-            → JudgedAt self.new.stage self.old.instance.now c rest (kept self.new)) }
+            → JudgedAt self.new.stage self.old.instance.now front c rest (kept self.new)) }
     {
         let least = least_of(self.answer);
         self.line += 1;
@@ -254,9 +286,16 @@ impl<'a> Judge<'a> {
         if walk.is_done() {
             return Ok(());
         }
-        let none = None;
-        let checker = Checker::new(self.instance, &self.table, &none, &[], least);
-        let found = take_line(alloc, &checker, walk, said, self.line, working, &mut [])?;
+        let checker = Checker::new(self.instance, &self.table, &self.front, &self.arcs, least);
+        let found = take_line(
+            alloc,
+            &checker,
+            walk,
+            said,
+            self.line,
+            working,
+            &mut self.rates,
+        )?;
         if let Some(refusal) = found {
             self.stage = Stage::Refused(refusal);
             return Ok(());
@@ -270,7 +309,7 @@ impl<'a> Judge<'a> {
         alloc: Global,
         said: SaidLine<PairsLeft<'_>>,
         working: &mut [i128],
-    ) -> Result<(), AllocError>
+    ) -> Result<(), Memory>
         requires limits { KeepsSaidLimits pairs_of said }
         requires few { self.old.line < 2 ^ 31 }
         requires long { length working.old ≡ length self.old.instance.now.rows }
@@ -279,13 +318,13 @@ impl<'a> Judge<'a> {
         ensures line { OnOk result (self.new.line ≡ self.old.line + 1) }
         ensures zeros { OnOk result (AreZeros working.new) }
         ensures judged { OnOk result
-            ((c : Content) (rest : List LineItem) → are_trees 1 (lines_of c) ≡ true
-            → JudgedAt self.old.stage self.old.instance.now c
+            ((front : Option Marks) (c : Content) (rest : List LineItem) → HasText front c
+            → JudgedAt self.old.stage self.old.instance.now front c
             (tree_item (tree_line pairs_of said.entry) ∷ rest) (kept self.old)
-            → JudgedAt self.new.stage self.old.instance.now c rest (kept self.new)) }
+            → JudgedAt self.new.stage self.old.instance.now front c rest (kept self.new)) }
     {
         self.end_front(alloc)?;
-        self.end_cycles(alloc)?;
+        self.end_cycles(alloc, working)?;
         if self.stage == Stage::Tree {
             return self.judge_line(alloc, said, working);
         }
@@ -293,13 +332,29 @@ impl<'a> Judge<'a> {
         Ok(())
     }
 
-    /// Takes the next item. The working numbers, one a row, are 0 before and after.
-    pub fn take(
+    /// Takes a marked walk, which is judged when all cycles came.
+    fn take_walk(&mut self, alloc: Global, rows: MarkedRows<'_>) -> Result<(), Memory>
+        requires few { self.old.line < 2 ^ 31 }
+        ensures instance { self.new.instance.now ≡ self.old.instance.now }
+        ensures line { OnOk result (self.new.line ≡ self.old.line + 1) }
+        ensures judged { OnOk result ((front : Option Marks) (c : Content) (rest : List LineItem)
+            → JudgedAt self.old.stage self.old.instance.now front c
+            (items.Walk (marked_in rows.entry) ∷ rest) (kept self.old)
+            → JudgedAt self.new.stage self.old.instance.now front c rest (kept self.new)) }
+    {
+        let walk = walk_of(alloc, rows)?;
+        self.draft.walks.push(walk)?;
+        self.line += 1;
+        Ok(())
+    }
+
+    /// Takes a line that is none of a front.
+    fn take_item(
         &mut self,
         alloc: Global,
         item: Item<'_>,
         working: &mut [i128],
-    ) -> Result<(), AllocError>
+    ) -> Result<(), Memory>
         requires limits { KeepsItemLimits (listed item) }
         requires few { self.old.line < 2 ^ 31 }
         requires long { length working.old ≡ length self.old.instance.now.rows }
@@ -308,10 +363,10 @@ impl<'a> Judge<'a> {
         ensures line { OnOk result (self.new.line ≡ self.old.line + 1) }
         ensures zeros { OnOk result (AreZeros working.new) }
         ensures judged { OnOk result
-            ((c : Content) (rest : List LineItem) → are_trees 1 (lines_of c) ≡ true
+            ((front : Option Marks) (c : Content) (rest : List LineItem) → HasText front c
             → JudgedAt self.old.stage self.old.instance.now c (listed item.entry ∷ rest)
             (kept self.old)
-            → JudgedAt self.new.stage self.old.instance.now c rest (kept self.new)) }
+            → JudgedAt self.new.stage self.old.instance.now front c rest (kept self.new)) }
     {
         match item {
             Item::Version(_) => {
@@ -338,10 +393,46 @@ impl<'a> Judge<'a> {
         }
     }
 
+    /// Takes the next line. The working numbers, one a row, are 0 before and after.
+    pub fn take(
+        &mut self,
+        alloc: Global,
+        line: TextLine<'_>,
+        working: &mut [i128],
+    ) -> Result<(), Memory>
+        requires limits { KeepsItemLimits (line_said line) }
+        requires few { self.old.line < 2 ^ 31 }
+        requires long { length working.old ≡ length self.old.instance.now.rows }
+        requires zeros { AreZeros working.old }
+        ensures instance { self.new.instance.now ≡ self.old.instance.now }
+        ensures line { OnOk result (self.new.line ≡ self.old.line + 1) }
+        ensures zeros { OnOk result (AreZeros working.new) }
+        ensures judged { OnOk result
+            ((front : Option Marks) (c : Content) (rest : List LineItem) → HasText front c
+            → JudgedAt self.old.stage self.old.instance.now c (line_said line.entry ∷ rest)
+            (kept self.old)
+            → JudgedAt self.new.stage self.old.instance.now front c rest (kept self.new)) }
+    {
+        match line {
+            TextLine::Front => {
+                self.draft.begun = true;
+                self.line += 1;
+                Ok(())
+            }
+            TextLine::Scale(scale) => {
+                self.draft.scale = scale;
+                self.line += 1;
+                Ok(())
+            }
+            TextLine::Walk(rows) => self.take_walk(alloc, rows),
+            TextLine::Own(item) => self.take_item(alloc, item, working),
+        }
+    }
+
     /// The answer of the text.
     pub fn answer(&self) -> Answer
-        ensures { (c : Content) → are_trees 1 (lines_of c) ≡ true
-            → JudgedAt self.now.stage self.now.instance.now c (items.End ∷ []) (kept self.now)
+        ensures { (front : Option Marks) (c : Content) → HasText front c
+            → JudgedAt self.now.stage self.now.instance.now front c (items.End ∷ []) (kept self.now)
             → result ≡ c.answer }
     {
         self.answer
@@ -349,9 +440,9 @@ impl<'a> Judge<'a> {
 
     /// What the checker says of the text, where all its items came.
     pub fn verdict(&self) -> Verdict
-        ensures { (c : Content) → are_trees 1 (lines_of c) ≡ true
-            → JudgedAt self.now.stage self.now.instance.now c (items.End ∷ []) (kept self.now)
-            → IsVerdict None self.now.instance.now c result }
+        ensures { (front : Option Marks) (c : Content) → HasText front c
+            → JudgedAt self.now.stage self.now.instance.now front c (items.End ∷ []) (kept self.now)
+            → IsVerdict front self.now.instance.now c result }
     {
         match self.stage {
             Stage::Refused(refusal) => Verdict::Refused(refusal),

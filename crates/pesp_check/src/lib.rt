@@ -4,6 +4,7 @@
 
 mod elements;
 mod fault;
+mod front_walks;
 mod judge;
 mod stage;
 mod text_check;
@@ -11,5 +12,5 @@ mod whole_check;
 
 pub use fault::CheckFault;
 pub use pesp_judges::{Refusal, Verdict};
-pub use text_check::check_text;
+pub use text_check::{check_text, check_text_of};
 pub use whole_check::{check, check_behind};

@@ -1,7 +1,6 @@
 //! The check of a certificate as a whole, without a front and behind one.
 
-ghost use Rattle.std.specs.Prelude.{◌≡◌, ◌↔◌, ◌+◌, ◌^◌, ◌<◌, ◌≤◌, [], ◌∷◌, length, All, None, Ok, IfOk, IfSome, OnOk, MatchOption};
-ghost use Rattle.pesp_problem.specs.declared.limits.TheConstants.{MOST_CYCLES};
+ghost use Rattle.std.specs.Prelude.{◌≡◌, ◌↔◌, ◌+◌, ◌^◌, ◌<◌, ◌≤◌, [], ◌∷◌, length, All, None, Ok, IfOk, IfSome, MatchOption};
 ghost use Rattle.pesp_problem.specs.Arcs as instances;
 ghost use Rattle.pesp_problem.specs.Arcs.{net_of};
 ghost use Rattle.pesp_problem.specs.Limits.{KeepsLimits};
@@ -18,16 +17,15 @@ ghost use Rattle.pesp_judges.specs.Faults.{IsVerdict, IsFirstFault, IsMarksFault
 ghost use Rattle.pesp_judges.specs.Lines.{IsLinesFault};
 ghost use Rattle.pesp_check.specs.Inner.{IsInnerFault};
 
+use crate::front_walks::{front_arcs, front_rates, walks_fault};
 use pesp_cert::Certificate;
 use pesp_judges::{
-    Checker, Nets, Refusal, Verdict, judge_answer, judge_cycles, judge_tree, judge_walks, least_of,
-    zeros,
+    Checker, Nets, Refusal, Verdict, judge_answer, judge_cycles, judge_tree, least_of, zeros,
 };
-use pesp_nets::{Rates, no_rates};
-use pesp_problem::{Arc, Instance, Memory};
+use pesp_problem::{Instance, Memory};
 use pesp_truth::Marks;
 use pesp_truth::laws::valid_is_true;
-use std::alloc::{AllocError, Global};
+use std::alloc::Global;
 
 /// The number in the whole text of a line of the certificate's own.
 fn behind_front(front: &Option<Marks>, line: u64) -> u64
@@ -39,49 +37,6 @@ fn behind_front(front: &Option<Marks>, line: u64) -> u64
     match front {
         None => line,
         Some(marks) => line + (2 + marks.walks().len() as u64),
-    }
-}
-
-/// The arcs of the instance behind a front, none without one.
-fn front_arcs(alloc: Global, instance: &Instance, front: &Option<Marks>) -> Result<Vec<Arc>, Memory>
-    ensures { IfOk result
-        (λ arcs. IfSome front.now (λ marks. arcs.items ≡ instances.arcs_of instance.now)) }
-{
-    match front {
-        None => Ok(Vec::new(alloc)),
-        Some(_) => instance.arcs(alloc),
-    }
-}
-
-/// Rates for so many rows behind a front, none without one.
-fn front_rates(alloc: Global, rows: usize, front: &Option<Marks>) -> Result<Vec<Rates>, AllocError>
-    ensures { IfOk result (λ rates. IfSome front.now (λ marks. length rates.items ≡ rows)) }
-{
-    match front {
-        None => Ok(Vec::new(alloc)),
-        Some(_) => no_rates(alloc, rows),
-    }
-}
-
-/// The first of the marked walks of a front that isn't closed.
-fn walks_fault(
-    alloc: Global,
-    instance: &Instance,
-    cycles: usize,
-    front: &Option<Marks>,
-    working: &mut [i128],
-) -> Result<Option<Refusal>, AllocError>
-    requires few { cycles ≤ MOST_CYCLES }
-    requires long { length working.old ≡ length instance.now.rows }
-    requires zeros { AreZeros working.old }
-    ensures verdict { IfOk result (λ found. MatchOption found
-        (IfSome front.now (λ marks. All (IsMarkedWalk (instances.arcs_of instance.now)) marks.walks))
-        (λ refusal. IsMarksFault front.now (instances.arcs_of instance.now) cycles refusal)) }
-    ensures zeros { OnOk result (AreZeros working.new) }
-{
-    match front {
-        None => Ok(None),
-        Some(marks) => judge_walks(alloc, instance, cycles, marks, working),
     }
 }
 

@@ -2,6 +2,7 @@
 use Rattle.std.proofs.Common.{◌≡◌, ◌⊎◌, inl, inr, ℕ, List, sym, subst}
 use Rattle.std.specs.Prelude.{Option}
 use Rattle.pesp_stream.specs.Counts.{Calls, DeviceFailed}
+use Rattle.pesp_cert_lines.specs.declared.versions.Versions.{Versions}
 use Rattle.pesp_check.specs.Texts.{Faults}
 use Rattle.pesp_check.specs.declared.fault.CheckFault.{CheckFault}
 use Rattle.pesp_check.specs.declared.fault.CheckFault.TheVariants.{Text, Read as CheckRead, Memory as CheckMemory}
@@ -12,12 +13,12 @@ use Rattle.pesp_check_run.specs.Devices.{over}
 use Rattle.pesp_check_run.specs.Checking.{CertificateCause, OutCause}
 
 -- a fault of the certificate's text, of its reader, or of memory
-pub certificate_cause : (fault : CheckFault) (told left : Option (List ℕ)) (calls after : Calls)
-    → Faults fault told left (DeviceFailed calls after)
-    → CertificateCause (check_fault fault) (over told left calls after)
-certificate_cause (Text refusal) told left calls after cause = cause
-certificate_cause CheckRead told left calls after cause = cause
-certificate_cause CheckMemory told left calls after cause = tt
+pub certificate_cause : (versions : Versions) (fault : CheckFault) (told left : Option (List ℕ)) (calls after : Calls)
+    → Faults versions fault told left (DeviceFailed calls after)
+    → CertificateCause versions (check_fault fault) (over told left calls after)
+certificate_cause versions (Text refusal) told left calls after cause = cause
+certificate_cause versions CheckRead told left calls after cause = cause
+certificate_cause versions CheckMemory told left calls after cause = tt
 
 -- a line that didn't go out: for memory, or because the writer failed behind a front of it
 pub line_cause : (fault : VerdictFault) (Same Failed Front Cut : Type 0)

@@ -6,6 +6,7 @@ use Rattle.pesp_stream.specs.Reading.{ReadsText}
 use Rattle.pesp_problem.specs.Timetables.{Pesp}
 use Rattle.pesp_instance.specs.Instance.{instance_of}
 use Rattle.pesp_instance.specs.declared.refusal.ReadRefusal.{ReadRefusal}
+use Rattle.pesp_cert_lines.specs.declared.versions.Versions.{Versions}
 use Rattle.pesp_truth.specs.declared.answer.Answer.{Answer}
 use Rattle.pesp_cert_items.specs.Texts.{RefusesText}
 use Rattle.pesp_judges.specs.declared.refusal.Verdict.{Verdict}
@@ -53,29 +54,30 @@ OutCause fault cut = ⊥
 
 -- ---- check
 
--- the reader's text is a certificate's, which is judged so, and the writer got what the relation says of the verdict's line
-pub record WritesVerdict (told left : Option (List ℕ)) (p : Pesp) (verdict : Verdict) (Gets : List ℕ → Type 0) : Type 0 where
+-- the reader's text is a certificate's whose version is taken, which is judged so, and the writer got what the relation says of
+-- the verdict's line
+pub record WritesVerdict (versions : Versions) (told left : Option (List ℕ)) (p : Pesp) (verdict : Verdict) (Gets : List ℕ → Type 0) : Type 0 where
   pub answer : Answer
-  pub judged : ChecksText told left p verdict answer
+  pub judged : ChecksText versions told left p verdict answer
   pub written : Gets (verdict_line answer verdict)
 
 -- the first text has an instance, and the verdict on the second one is written
-abbrev pub Checks : Option (List ℕ) → Option (List ℕ) → Option (List ℕ) → Option (List ℕ) → ℕ → Verdict → (List ℕ → Type 0) → Type 0
-Checks told left told_certificate left_certificate period verdict Gets =
-    (p : Pesp) × ReadsInstance told left period p × WritesVerdict told_certificate left_certificate p verdict Gets
+abbrev pub Checks : Versions → Option (List ℕ) → Option (List ℕ) → Option (List ℕ) → Option (List ℕ) → ℕ → Verdict → (List ℕ → Type 0) → Type 0
+Checks versions told left told_certificate left_certificate period verdict Gets =
+    (p : Pesp) × ReadsInstance told left period p × WritesVerdict versions told_certificate left_certificate p verdict Gets
 
 -- why there is no verdict: the certificate's text, whatever stands behind what was read of it, or the reader's device
-abbrev pub CertificateCause : VerdictFault → Device → Type 0
-CertificateCause (Certificate refusal) reader = RefusesText reader.old reader.new MOST_TEXT refusal
-CertificateCause Memory reader = Unit {0}
-CertificateCause Read reader = HasFailed reader
-CertificateCause fault reader = ⊥
+abbrev pub CertificateCause : Versions → VerdictFault → Device → Type 0
+CertificateCause versions (Certificate refusal) reader = RefusesText versions reader.old reader.new MOST_TEXT refusal
+CertificateCause versions Memory reader = Unit {0}
+CertificateCause versions Read reader = HasFailed reader
+CertificateCause versions fault reader = ⊥
 
 -- each fault of `check` and its cause; the second reader is called only where the first text has an instance
-abbrev pub CheckCause : VerdictFault → Device → Device → Device → ℕ → Type 0 → Type 0
-CheckCause fault reader certificate_reader writer period uncalled =
+abbrev pub CheckCause : Versions → VerdictFault → Device → Device → Device → ℕ → Type 0 → Type 0
+CheckCause versions fault reader certificate_reader writer period uncalled =
     (InstanceCause fault reader period × uncalled)
     ⊎ ((p : Pesp) × ReadsInstance reader.old reader.new period p
-    × (CertificateCause fault certificate_reader
+    × (CertificateCause versions fault certificate_reader
     ⊎ OutCause fault (HasFailed writer
-    × ((verdict : Verdict) × WritesVerdict certificate_reader.old certificate_reader.new p verdict (GetsFront writer)))))
+    × ((verdict : Verdict) × WritesVerdict versions certificate_reader.old certificate_reader.new p verdict (GetsFront writer)))))

@@ -3,11 +3,12 @@
 ghost use Rattle.std.specs.Prelude.{◌≡◌, ◌≢◌, ◌<◌, ◌^◌, IfOk, IfErr};
 ghost use Rattle.pesp_stream.specs.Counts.{FewerThan};
 ghost use Rattle.pesp_check_run.specs.Devices.{over};
+ghost use Rattle.pesp_checker.specs.Words.{versions_asked};
 ghost use Rattle.pesp_checker.specs.Statuses.{Answers, AnswersRequest, GivesVerdict, NoVerdictCause};
 
 use crate::request::{Request, USAGE, request_of};
 use crate::telling::told;
-use pesp_check_run::{VerdictFault, run_check, status_of_verdict};
+use pesp_check_run::{VerdictFault, run_check_of, status_of_verdict};
 use pesp_stream::{Counted, Sink, Source};
 use pesp_telling::{tell, teller_of};
 use std::fs::File;
@@ -60,7 +61,7 @@ fn status_of_words<R: AllocGlobal + Files, S: Source, W: Sink, E: Sink>(
     requires reads_fit { FewerThan (2 ^ 62) (S.calls reader.old) }
     requires writes_fit { FewerThan (2 ^ 62) (W.calls writer.old) }
     requires tellings_fit { FewerThan (2 ^ 62) (E.calls teller.old) }
-    ensures { Answers
+    ensures { Answers (versions_asked words.now)
         (over (S.remaining reader.old) (S.remaining reader.new)
         (S.calls reader.old) (S.calls reader.new))
         (over (W.contents writer.old) (W.contents writer.new)
@@ -90,7 +91,7 @@ fn status_of_request<R: AllocGlobal + Files, S: Source, W: Sink, E: Sink>(
     requires reads_fit { FewerThan (2 ^ 62) (S.calls reader.old) }
     requires writes_fit { FewerThan (2 ^ 62) (W.calls writer.old) }
     requires tellings_fit { FewerThan (2 ^ 62) (E.calls teller.old) }
-    ensures { AnswersRequest request.entry.period
+    ensures { AnswersRequest request.entry.versions request.entry.period
         (over (S.remaining reader.old) (S.remaining reader.new)
         (S.calls reader.old) (S.calls reader.new))
         (over (W.contents writer.old) (W.contents writer.new)
@@ -114,12 +115,12 @@ fn check<R: AllocGlobal + Files, S: Source, W: Sink>(
 ) -> Result<u8, VerdictFault>
     requires reads_fit { FewerThan (2 ^ 62) (S.calls reader.old) }
     requires writes_fit { FewerThan (2 ^ 62) (W.calls writer.old) }
-    ensures verdict { IfOk result (GivesVerdict request.entry.period
+    ensures verdict { IfOk result (GivesVerdict request.entry.versions request.entry.period
         (over (S.remaining reader.old) (S.remaining reader.new)
         (S.calls reader.old) (S.calls reader.new))
         (over (W.contents writer.old) (W.contents writer.new)
         (W.calls writer.old) (W.calls writer.new))) }
-    ensures cause { IfErr result (λ fault. NoVerdictCause fault request.entry.period
+    ensures cause { IfErr result (λ fault. NoVerdictCause request.entry.versions fault request.entry.period
         (over (S.remaining reader.old) (S.remaining reader.new)
         (S.calls reader.old) (S.calls reader.new))
         (over (W.contents writer.old) (W.contents writer.new)
@@ -128,7 +129,14 @@ fn check<R: AllocGlobal + Files, S: Source, W: Sink>(
     ensures silent { IfErr result (λ fault. fault ≢ VerdictFault.Write → writer.new ≡ writer.old) }
 {
     let mut instance = Counted::new(opened(rt, request.file)?);
-    let verdict = run_check(rt.alloc(), &mut instance, reader, writer, request.period)?;
+    let verdict = run_check_of(
+        rt.alloc(),
+        request.versions,
+        &mut instance,
+        reader,
+        writer,
+        request.period,
+    )?;
     Ok(status_of_verdict(verdict))
 }
 

@@ -6,8 +6,8 @@ use Rattle.pesp_report.specs.Report.{IsReport}
 use Rattle.pesp_report.specs.Named.{IsNamedReport}
 use Rattle.pesp_timetable.specs.Timetable.{IsTimetableText}
 use Rattle.pesp_judges.specs.declared.refusal.Verdict.{Verdict}
+use Rattle.pesp_cert_lines.specs.declared.versions.Versions.TheVariants.{Plain, All}
 use Rattle.pesp_check_run.specs.Checking.{Checks}
-use Rattle.pesp_sharp_run.specs.Checking.{ChecksWith}
 use Rattle.pesp_check_run.specs.Devices.{Device, HasFailed, GetsFront}
 use Rattle.pesp_check_run.specs.Verdicts.{verdict_status}
 use Rattle.pesp_faults.specs.Reading.{HasBase, ReadsTimetable}
@@ -78,10 +78,10 @@ AnswersInstance (Conflict steps names) period reader writer teller silent status
 -- only where seconds are counted
 abbrev pub AnswersCertificate : OfCertificate → ℕ → Device → Device → Device → ℕ → Type 0
 AnswersCertificate Check period instance reader writer status =
-    (verdict : Verdict) × Checks instance.old instance.new reader.old reader.new period verdict (Gets writer)
+    (verdict : Verdict) × Checks Plain instance.old instance.new reader.old reader.new period verdict (Gets writer)
     × (status ≡ verdict_status verdict)
 AnswersCertificate CheckSharp period instance reader writer status =
-    (verdict : Verdict) × ChecksWith instance.old instance.new reader.old reader.new period verdict (Gets writer)
+    (verdict : Verdict) × Checks All instance.old instance.new reader.old reader.new period verdict (Gets writer)
     × (status ≡ verdict_status verdict)
 AnswersCertificate Gap period instance reader writer status =
     HasBase instance.old instance.new reader.old reader.new period (λ p base. Gets writer (gap_line base.answer)) × (status ≡ 0)

@@ -7,9 +7,9 @@ use Rattle.pesp_problem.specs.Timetables.{Pesp}
 use Rattle.pesp_truth.specs.Certificates.{Content}
 use Rattle.pesp_sharp_text.specs.Texts.{Fronted}
 use Rattle.pesp_check_run.specs.Devices.{Device}
+use Rattle.pesp_cert_lines.specs.declared.versions.Versions.TheVariants.{Plain, All}
 use Rattle.pesp_check_run.specs.Checking.{CheckCause}
 use Rattle.pesp_check_run.specs.declared.fault.VerdictFault.{VerdictFault}
-use Rattle.pesp_sharp_run.specs.Checking.{CheckCauseWith}
 use Rattle.pesp_faults.specs.Reading.{ReadsBase}
 use Rattle.pesp_faults.specs.Causes.{BaseCause, OutCause}
 use Rattle.pesp_faults.specs.FaultLines.{verdict_fault}
@@ -86,9 +86,9 @@ StopsInstance (Conflict steps names) fault period reader writer = StopsConflict 
 -- what is asked of a certificate; `uncalled` says that its reader was not called
 abbrev pub StopsCertificate : OfCertificate → Fault → ℕ → Device → Device → Device → Type 0 → Type 0
 StopsCertificate Check fault period instance reader writer uncalled =
-    (found : VerdictFault) × (fault ≡ verdict_fault found) × CheckCause found instance reader writer period uncalled
+    (found : VerdictFault) × (fault ≡ verdict_fault found) × CheckCause Plain found instance reader writer period uncalled
 StopsCertificate CheckSharp fault period instance reader writer uncalled =
-    (found : VerdictFault) × (fault ≡ verdict_fault found) × CheckCauseWith found instance reader writer period uncalled
+    (found : VerdictFault) × (fault ≡ verdict_fault found) × CheckCause All found instance reader writer period uncalled
 StopsCertificate Gap fault period instance reader writer uncalled =
     StopsPlain fault period instance reader writer uncalled (λ p base Gets. Gets (gap_line base.answer))
 StopsCertificate (Resume steps seconds progress) fault period instance reader writer uncalled =

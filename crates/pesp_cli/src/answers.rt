@@ -12,7 +12,7 @@ ghost use Rattle.pesp_cli.specs.Stops.{OrNoNames, StopsConflict, StopsSearch, St
 
 use crate::input::{Beginning, warn_of_period};
 use crate::telling::{tell_sums, told_conflict};
-use pesp_check_run::{run_check, status_of_verdict};
+use pesp_check_run::{run_check, run_check_sharp, status_of_verdict};
 use pesp_conflict_run::{run_conflict, status_of_told};
 use pesp_faults::Fault;
 use pesp_progress::{Teller, Watch};
@@ -24,7 +24,6 @@ use pesp_report_run::{
 use pesp_request::{OfCertificate, OfInstance, OfLeaves, OfTimes, OfWorks};
 use pesp_runs::{OnBase, Search, run_alone, run_from_times, run_on_base};
 use pesp_search::Nobody;
-use pesp_sharp_run::run_check_sharp;
 use pesp_stream::{Counted, Sink, Source};
 use pesp_tasks::{
     Gap, Resume, ResumeSharp, Solve, SolveSharp, Split, SplitSharp, Work, WorkSharp, run_graft,

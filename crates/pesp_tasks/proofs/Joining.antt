@@ -8,7 +8,9 @@ use Rattle.pesp_instance.specs.Instance.{instance_of}
 use Rattle.pesp_instance.specs.declared.refusal.ReadRefusal.{ReadRefusal}
 use Rattle.pesp_truth.specs.Certificates.{Content, IsValid}
 use Rattle.pesp_cert.specs.declared.refusal.CertRefusal.{CertRefusal}
+use Rattle.pesp_cert_lines.specs.declared.versions.Versions.{Versions}
 use Rattle.pesp_cert_lines.specs.declared.versions.Versions.TheVariants.{Plain}
+use Rattle.pesp_truth.specs.Marks.{Marks}
 use Rattle.pesp_cert.specs.Texts.{spelling, HasText}
 use Rattle.pesp_cert.specs.Refusals.{IsTextOf, items_of_text}
 use Rattle.pesp_cert.proofs.TextLaws.{none_begins_another, plain_read_of}
@@ -30,70 +32,75 @@ pub same_instance : (text : List ℕ) (period : ℕ) (p q : Pesp) → instance_o
 same_instance text period p q is also = let same : ◌≡◌ {A = Result Pesp ReadRefusal} (Ok p) (Ok q) = sym is ∙ also in cc
 
 -- a text of which the front that is read is a certificate's text is that text
-same_content : (bytes front : List ℕ) (limit : ℕ) (c d : Content) → HasText None c → spelling None c ≡ bytes
-    → front ≡ take limit bytes → IsTextOf None front d → d ≡ c
-same_content bytes front limit c d text spelt is read =
-    let joined : spelling None d ++ drop limit bytes
-    ≡ spelling None c = ap (λ t. t ++ drop limit bytes) (sym read.spelt ∙ is) ∙ take-append-drop limit bytes
+same_content : (bytes read : List ℕ) (limit : ℕ) (f g : Option Marks) (c d : Content) → HasText f c → spelling f c ≡ bytes
+    → read ≡ take limit bytes → IsTextOf g read d → (g ≡ f) × (d ≡ c)
+same_content bytes read limit f g c d text spelt is whole =
+    let joined : spelling g d ++ drop limit bytes
+    ≡ spelling f c = ap (λ t. t ++ drop limit bytes) (sym whole.spelt ∙ is) ∙ take-append-drop limit bytes
     ∙ sym spelt in
-    (none_begins_another None None d c (drop limit bytes) read.has_text text joined).1
+    let same = none_begins_another g f d c (drop limit bytes) whole.has_text text joined in
+    (same.0, same.1)
 
-accepted : (p q : Pesp) (c d : Content) (verdict : Verdict) → p ≡ q → d ≡ c → IsValid None p c
-    → (verdict ≡ Accepted) ↔ IsValid None q d → verdict ≡ Accepted
-accepted p q c d verdict same is valid exactly = exactly.1 (rw (← same, is) valid)
+accepted : (p q : Pesp) (f g : Option Marks) (c d : Content) (verdict : Verdict) → p ≡ q → (g ≡ f) × (d ≡ c) → IsValid f p c
+    → (verdict ≡ Accepted) ↔ IsValid g q d → verdict ≡ Accepted
+accepted p q f g c d verdict same is valid exactly = exactly.1 (rw (← same, is.0, is.1) valid)
 
 -- a certificate that is valid for the instance of a text is accepted for it, where its text was appended
-accepts_written : (text before bytes : List ℕ) (left left_instance left_certificate old new : Option (List ℕ)) (period : ℕ)
-    (verdict : Verdict) (p : Pesp) (c : Content) → ReadsInstance (Some text) left period p → IsValid None p c → HasText None c
-    → Appends (Some before) (Some (before ++ bytes)) (spelling None c)
-    → Checks (Some text) left_instance (Some bytes) left_certificate period verdict (Appends old new)
+pub accepts_written : (versions : Versions) (text before bytes : List ℕ)
+    (left left_instance left_certificate old new : Option (List ℕ)) (period : ℕ)
+    (verdict : Verdict) (p : Pesp) (front : Option Marks) (c : Content) → ReadsInstance (Some text) left period p
+    → IsValid front p c → HasText front c
+    → Appends (Some before) (Some (before ++ bytes)) (spelling front c)
+    → Checks versions (Some text) left_instance (Some bytes) left_certificate period verdict (Appends old new)
     → verdict ≡ Accepted
-accepts_written text before bytes left left_instance left_certificate old new period verdict p c read valid has_text gets
-    (q, read_again, checked) =
+accepts_written versions text before bytes left left_instance left_certificate old new period verdict p front c read valid has_text
+    gets (q, read_again, checked) =
     let one = ap (λ t. instance_of t period) (read.read.whole) ∙ read.is_instance in
     let other = ap (λ t. instance_of t period) (read_again.read.whole) ∙ read_again.is_instance in
-    let written = appended_is before bytes (spelling None c) gets in
+    let written = appended_is before bytes (spelling front c) gets in
     let judged = checked.judged in
     accepted
     p
     q
+    front
+    judged.front
     c
     judged.content
     verdict
     (same_instance text period p q one other)
-    (same_content bytes judged.text 1073741824 c judged.content has_text written judged.read.front judged.spelt)
+    (same_content bytes judged.text 1073741824 front judged.front c judged.content has_text written judged.read.front judged.spelt)
     valid
     judged.exactly
 
 pub accepts_what_is_solved : (text before bytes : List ℕ)
     (left left_instance left_certificate old new : Option (List ℕ)) (period steps : ℕ) (verdict : Verdict)
     → Solves (Some text) left period steps (Appends (Some before) (Some (before ++ bytes)))
-    → Checks (Some text) left_instance (Some bytes) left_certificate period verdict (Appends old new)
+    → Checks Plain (Some text) left_instance (Some bytes) left_certificate period verdict (Appends old new)
     → verdict ≡ Accepted
 accepts_what_is_solved text before bytes left left_instance left_certificate old new period steps verdict (p, read, solved) =
-    accepts_written text before bytes left left_instance left_certificate old new period verdict p solved.certificate read
+    accepts_written Plain text before bytes left left_instance left_certificate old new period verdict p None solved.certificate read
     solved.solved.valid solved.has_text solved.written
 
 pub accepts_from_times : (text before bytes : List ℕ)
     (left times left_times left_instance left_certificate old new : Option (List ℕ)) (period steps : ℕ) (verdict : Verdict)
     → ReadsTimetable (Some text) left times left_times period
     (λ p begun. WritesSolution p begun steps (Appends (Some before) (Some (before ++ bytes))))
-    → Checks (Some text) left_instance (Some bytes) left_certificate period verdict (Appends old new)
+    → Checks Plain (Some text) left_instance (Some bytes) left_certificate period verdict (Appends old new)
     → verdict ≡ Accepted
 accepts_from_times text before bytes left times left_times left_instance left_certificate old new period steps verdict
     (p, read, (begun, reads, is, solved)) =
-    accepts_written text before bytes left left_instance left_certificate old new period verdict p solved.certificate read
+    accepts_written Plain text before bytes left left_instance left_certificate old new period verdict p None solved.certificate read
     solved.solved.valid solved.has_text solved.written
 
 pub accepts_what_is_gone_on_from : (text before bytes : List ℕ)
     (left base left_base left_instance left_certificate old new : Option (List ℕ)) (period steps : ℕ) (verdict : Verdict)
     → HasBase (Some text) left base left_base period
     (λ p begun. WritesResumed p begun steps ⊤ (Appends (Some before) (Some (before ++ bytes))))
-    → Checks (Some text) left_instance (Some bytes) left_certificate period verdict (Appends old new)
+    → Checks Plain (Some text) left_instance (Some bytes) left_certificate period verdict (Appends old new)
     → verdict ≡ Accepted
 accepts_what_is_gone_on_from text before bytes left base left_base left_instance left_certificate old new period steps verdict
     (p, read, (begun, reads, resumed)) =
-    accepts_written text before bytes left left_instance left_certificate old new period verdict p resumed.certificate read
+    accepts_written Plain text before bytes left left_instance left_certificate old new period verdict p None resumed.certificate read
     resumed.resumed.valid resumed.has_text resumed.written
 
 pub accepts_what_is_grafted : (text before bytes : List ℕ)
@@ -101,11 +108,11 @@ pub accepts_what_is_grafted : (text before bytes : List ℕ)
     (verdict : Verdict)
     → HasBase (Some text) left base left_base period
     (λ p begun. Grafts works left_works p begun (Appends (Some before) (Some (before ++ bytes))) (Appends told_old told_new))
-    → Checks (Some text) left_instance (Some bytes) left_certificate period verdict (Appends old new)
+    → Checks Plain (Some text) left_instance (Some bytes) left_certificate period verdict (Appends old new)
     → verdict ≡ Accepted
 accepts_what_is_grafted text before bytes left base left_base works left_works left_instance left_certificate told_old told_new old
     new period verdict (p, read, (begun, reads, (are, reads_works, grafted))) =
-    accepts_written text before bytes left left_instance left_certificate old new period verdict p grafted.certificate read
+    accepts_written Plain text before bytes left left_instance left_certificate old new period verdict p None grafted.certificate read
     grafted.grafted.valid grafted.has_text grafted.written
 
 pub instance_is_read : (text : List ℕ) (left left_instance old new : Option (List ℕ)) (period steps : ℕ)
@@ -124,7 +131,7 @@ nothing_behind bytes read rest short is (inr e) = e
 
 -- the text of a certificate isn't refused
 never_refused : (bytes : List ℕ) (left : Option (List ℕ)) (c : Content) (refusal : CertRefusal) → IsTextOf None bytes c
-    → RefusesText (Some bytes) left 1073741824 refusal → ⊥
+    → RefusesText Plain (Some bytes) left 1073741824 refusal → ⊥
 never_refused bytes None c refusal is refused = refused.consumed
 never_refused bytes (Some rest) c refusal is refused =
     let short : length bytes < 1073741824 = omega (arith, texts_short c is.has_text, ap length is.spelt) in
@@ -134,7 +141,7 @@ never_refused bytes (Some rest) c refusal is refused =
 
 pub certificate_is_read : (text before bytes : List ℕ) (left left_certificate : Option (List ℕ)) (period steps : ℕ) (refusal : CertRefusal)
     → Solves (Some text) left period steps (Appends (Some before) (Some (before ++ bytes)))
-    → RefusesText (Some bytes) left_certificate 1073741824 refusal → ⊥
+    → RefusesText Plain (Some bytes) left_certificate 1073741824 refusal → ⊥
 certificate_is_read text before bytes left left_certificate period steps refusal (p, read, solved) refused =
     let written = appended_is before bytes (spelling None solved.certificate) solved.written in
     never_refused bytes left_certificate solved.certificate refusal (record { has_text = solved.has_text; spelt = sym written }) refused

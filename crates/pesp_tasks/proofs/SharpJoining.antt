@@ -1,90 +1,61 @@
 -- What is sharpened is accepted, and what is gone on from so.
-use Rattle.std.proofs.Common.{◌≡◌, ◌∙◌, ℕ, List, ◌++◌, take, drop, sym, ap, Some, Ok}
-use Rattle.std.specs.Prelude.{Option, Result, ◌↔◌}
+use Rattle.std.proofs.Common.{◌≡◌, ℕ, List, ◌++◌, Some}
+use Rattle.std.specs.Prelude.{Option}
 use Rattle.std.specs.Io.KnownBytes.{Appends}
-use Rattle.std.proofs.lemmas.List.{append_cancel_left, take-append-drop}
 use Rattle.pesp_problem.specs.Timetables.{Pesp}
-use Rattle.pesp_instance.specs.Instance.{instance_of}
-use Rattle.pesp_instance.specs.declared.refusal.ReadRefusal.{ReadRefusal}
 use Rattle.pesp_judges.specs.declared.refusal.Verdict.{Verdict}
 use Rattle.pesp_judges.specs.declared.refusal.Verdict.TheVariants.{Accepted}
 use Rattle.pesp_truth.specs.Certificates.{IsValid}
 use Rattle.pesp_sharp_text.specs.Texts.{Fronted, IsFrontedText, fronted_text}
-use Rattle.pesp_sharp_text.proofs.Said.{none_begins}
-use Rattle.pesp_sharp_run.specs.Checking.{ChecksWith}
-use Rattle.pesp_check_run.specs.Checking.{ReadsInstance}
+use Rattle.pesp_sharp_text.proofs.Said.{is_text}
+use Rattle.pesp_cert_lines.specs.declared.versions.Versions.TheVariants.{All}
+use Rattle.pesp_check_run.specs.Checking.{Checks, ReadsInstance}
 use Rattle.pesp_faults.specs.Reading.{ReadsTimetable}
 use Rattle.pesp_runs.specs.Bases.{ReadsSharpBase}
 use Rattle.pesp_runs.specs.Runs.{OverBase}
 use Rattle.pesp_tasks.specs.SharpSolving.{SolvesSharp, ResumesSharp, WritesSharpSolution}
 use Rattle.pesp_tasks.specs.SharpOutside.{WritesSharpWork, GraftsSharp}
-use Rattle.pesp_tasks.proofs.Joining.{appended_is, same_instance}
-
--- a text of which the front that is read is a certificate's text is that text
-same_certificate : (bytes front : List ℕ) (limit : ℕ) (c d : Fronted) → IsFrontedText (fronted_text c) c
-    → fronted_text c ≡ bytes → front ≡ take limit bytes → IsFrontedText front d → d ≡ c
-same_certificate bytes front limit c d text spelt is read =
-    let joined : front ++ drop limit bytes ≡ fronted_text c = ap (λ t. t ++ drop limit bytes) is
-    ∙ take-append-drop limit bytes ∙ sym spelt in
-    (none_begins d c front (fronted_text c) (drop limit bytes) read text joined).0
-
-accepted : (p q : Pesp) (c d : Fronted) (verdict : Verdict) → p ≡ q → d ≡ c → IsValid c.front p c.content
-    → (verdict ≡ Accepted) ↔ IsValid d.front q d.content → verdict ≡ Accepted
-accepted p q c d verdict same is valid exactly = exactly.1 (rw (← same, is) valid)
+use Rattle.pesp_tasks.proofs.Joining.{accepts_written}
 
 -- a certificate that is valid for the instance of a text with its marked walks is accepted for it, where its text was appended
-accepts_written : (text before bytes : List ℕ) (left left_instance left_certificate old new : Option (List ℕ)) (period : ℕ)
+accepts_fronted : (text before bytes : List ℕ) (left left_instance left_certificate old new : Option (List ℕ)) (period : ℕ)
     (verdict : Verdict) (p : Pesp) (c : Fronted) → ReadsInstance (Some text) left period p → IsValid c.front p c.content
     → IsFrontedText (fronted_text c) c → Appends (Some before) (Some (before ++ bytes)) (fronted_text c)
-    → ChecksWith (Some text) left_instance (Some bytes) left_certificate period verdict (Appends old new)
+    → Checks All (Some text) left_instance (Some bytes) left_certificate period verdict (Appends old new)
     → verdict ≡ Accepted
-accepts_written text before bytes left left_instance left_certificate old new period verdict p c read valid has_text gets
-    (q, read_again, checked) =
-    let one = ap (λ t. instance_of t period) (read.read.whole) ∙ read.is_instance in
-    let other = ap (λ t. instance_of t period) (read_again.read.whole) ∙ read_again.is_instance in
-    let written = appended_is before bytes (fronted_text c) gets in
-    let text_judged = checked.judged in
-    let judged = text_judged.judged in
-    accepted
-    p
-    q
-    c
-    judged.certificate
-    verdict
-    (same_instance text period p q one other)
-    (same_certificate bytes text_judged.text 1073741824 c judged.certificate has_text written text_judged.read.front judged.spelt)
-    valid
-    judged.exactly
+accepts_fronted text before bytes left left_instance left_certificate old new period verdict p c read valid has_text gets checked =
+    accepts_written All text before bytes left left_instance left_certificate old new period verdict p c.front c.content read valid
+    (is_text (fronted_text c) c has_text).has_text gets checked
 
 pub accepts_what_is_sharpened : (text before bytes : List ℕ)
     (left left_instance left_certificate old new : Option (List ℕ)) (period steps : ℕ) (verdict : Verdict)
     → SolvesSharp (Some text) left period steps (Appends (Some before) (Some (before ++ bytes)))
-    → ChecksWith (Some text) left_instance (Some bytes) left_certificate period verdict (Appends old new)
+    → Checks All (Some text) left_instance (Some bytes) left_certificate period verdict (Appends old new)
     → verdict ≡ Accepted
 accepts_what_is_sharpened text before bytes left left_instance left_certificate old new period steps verdict (p, read, solved) =
-    accepts_written text before bytes left left_instance left_certificate old new period verdict p solved.certificate read
+    accepts_fronted text before bytes left left_instance left_certificate old new period verdict p solved.certificate read
     solved.solved.valid solved.has_text solved.written
 
 pub accepts_from_times : (text before bytes : List ℕ)
     (left times left_times left_instance left_certificate old new : Option (List ℕ)) (period steps : ℕ) (verdict : Verdict)
     → ReadsTimetable (Some text) left times left_times period
     (λ p begun. WritesSharpSolution p begun steps (Appends (Some before) (Some (before ++ bytes))))
-    → ChecksWith (Some text) left_instance (Some bytes) left_certificate period verdict (Appends old new)
+    → Checks All (Some text) left_instance (Some bytes) left_certificate period verdict (Appends old new)
     → verdict ≡ Accepted
 accepts_from_times text before bytes left times left_times left_instance left_certificate old new period steps verdict
     (p, read, (begun, reads, is, solved)) =
-    accepts_written text before bytes left left_instance left_certificate old new period verdict p solved.certificate read
+    accepts_fronted text before bytes left left_instance left_certificate old new period verdict p solved.certificate read
     solved.solved.valid solved.has_text solved.written
 
 pub accepts_what_is_resumed : (text before bytes : List ℕ)
     (left base left_base left_instance left_certificate old new : Option (List ℕ)) (period steps : ℕ)
     (verdict : Verdict)
     → ResumesSharp (Some text) left base left_base period steps (Appends (Some before) (Some (before ++ bytes)))
-    → ChecksWith (Some text) left_instance (Some bytes) left_certificate period verdict (Appends old new)
+    → Checks All (Some text) left_instance (Some bytes) left_certificate period verdict (Appends old new)
     → verdict ≡ Accepted
 accepts_what_is_resumed text before bytes left base left_base left_instance left_certificate old new period steps verdict
     (p, read, (begun, reads, resumed)) =
-    accepts_written text before bytes left left_instance left_certificate old new period verdict p resumed.certificate read
+    accepts_fronted text before bytes left left_instance left_certificate old new period verdict p resumed.certificate read
     resumed.holds.valid resumed.has_text resumed.written
 
 pub accepts_what_is_worked_on : (text before bytes : List ℕ)
@@ -92,11 +63,11 @@ pub accepts_what_is_worked_on : (text before bytes : List ℕ)
     (verdict : Verdict)
     → OverBase ReadsSharpBase (Some text) left base left_base period
     (λ p begun. WritesSharpWork p begun jobs steps (Appends (Some before) (Some (before ++ bytes))))
-    → ChecksWith (Some text) left_instance (Some bytes) left_certificate period verdict (Appends old new)
+    → Checks All (Some text) left_instance (Some bytes) left_certificate period verdict (Appends old new)
     → verdict ≡ Accepted
 accepts_what_is_worked_on text before bytes left base left_base left_instance left_certificate old new period jobs steps verdict
     (p, read, (begun, reads, (are, worked))) =
-    accepts_written text before bytes left left_instance left_certificate old new period verdict p worked.certificate read
+    accepts_fronted text before bytes left left_instance left_certificate old new period verdict p worked.certificate read
     worked.holds.valid worked.has_text worked.written
 
 pub accepts_what_is_grafted : (text before bytes : List ℕ)
@@ -104,10 +75,10 @@ pub accepts_what_is_grafted : (text before bytes : List ℕ)
     (verdict : Verdict)
     → OverBase ReadsSharpBase (Some text) left base left_base period
     (λ p begun. GraftsSharp works left_works p begun (Appends (Some before) (Some (before ++ bytes))) (Appends told_old told_new))
-    → ChecksWith (Some text) left_instance (Some bytes) left_certificate period verdict (Appends old new)
+    → Checks All (Some text) left_instance (Some bytes) left_certificate period verdict (Appends old new)
     → verdict ≡ Accepted
 accepts_what_is_grafted text before bytes left base left_base works left_works left_instance left_certificate told_old told_new old
     new period verdict (p, read, (begun, reads, grafts)) =
     let grafted = grafts.holds.grafted in
-    accepts_written text before bytes left left_instance left_certificate old new period verdict p grafted.certificate read
+    accepts_fronted text before bytes left left_instance left_certificate old new period verdict p grafted.certificate read
     grafted.holds.valid grafted.has_text grafted.written

@@ -6,9 +6,9 @@ ghost use Rattle.pesp_instance.specs.declared.refusal.ReadRefusal.{ReadRefusal};
 ghost use Rattle.pesp_cert.specs.declared.refusal.CertRefusal.{CertRefusal};
 ghost use Rattle.pesp_judges.specs.declared.refusal.Verdict.{Verdict};
 ghost use Rattle.pesp_judges.specs.declared.refusal.Verdict.TheVariants.{Accepted};
+ghost use Rattle.pesp_cert_lines.specs.declared.versions.Versions.TheVariants.{Plain, All};
 ghost use Rattle.pesp_cert_items.specs.Texts.{RefusesText};
 ghost use Rattle.pesp_check_run.specs.Checking.{Checks, RefusesInstance};
-ghost use Rattle.pesp_sharp_run.specs.Checking.{ChecksWith};
 ghost use Rattle.pesp_faults.specs.Reading.{HasBase, ReadsTimetable};
 ghost use Rattle.pesp_runs.specs.Bases.{ReadsSharpBase};
 ghost use Rattle.pesp_runs.specs.Runs.{OverBase};
@@ -24,7 +24,7 @@ pub fn what_is_solved_is_accepted()
     ensures { (text before bytes : List ℕ) (left left_instance left_certificate old new : Option
         (List ℕ)) (period steps : ℕ) (verdict : Verdict)
         → Solves (Some text) left period steps (Appends (Some before) (Some (before ++ bytes)))
-        → Checks (Some text) left_instance (Some bytes) left_certificate period verdict
+        → Checks Plain (Some text) left_instance (Some bytes) left_certificate period verdict
         (Appends old new)
         → verdict ≡ Accepted }
 {}
@@ -39,7 +39,7 @@ pub fn what_is_solved_is_read()
     ensures certificate { (text before bytes : List ℕ) (left left_certificate : Option (List ℕ))
         (period steps : ℕ) (refusal : CertRefusal)
         → Solves (Some text) left period steps (Appends (Some before) (Some (before ++ bytes)))
-        → RefusesText (Some bytes) left_certificate 1073741824 refusal → ⊥ }
+        → RefusesText Plain (Some bytes) left_certificate 1073741824 refusal → ⊥ }
 {}
 
 /// And so are the bytes that `Solve` appended from times, that `Resume` appended, however it ended, and that `run_graft` appended.
@@ -48,14 +48,14 @@ pub fn what_goes_on_is_accepted()
         (List ℕ)) (period steps : ℕ) (verdict : Verdict)
         → ReadsTimetable (Some text) left times left_times period
         (λ p begun. WritesSolution p begun steps (Appends (Some before) (Some (before ++ bytes))))
-        → Checks (Some text) left_instance (Some bytes) left_certificate period verdict
+        → Checks Plain (Some text) left_instance (Some bytes) left_certificate period verdict
         (Appends old new)
         → verdict ≡ Accepted }
     ensures resumed { (text before bytes : List ℕ) (left base left_base left_instance left_certificate old new : Option
         (List ℕ)) (period steps : ℕ) (verdict : Verdict)
         → HasBase (Some text) left base left_base period
         (λ p begun. WritesResumed p begun steps ⊤ (Appends (Some before) (Some (before ++ bytes))))
-        → Checks (Some text) left_instance (Some bytes) left_certificate period verdict
+        → Checks Plain (Some text) left_instance (Some bytes) left_certificate period verdict
         (Appends old new)
         → verdict ≡ Accepted }
     ensures grafted { (text before bytes : List ℕ) (left base left_base works left_works left_instance left_certificate told_old told_new old new : Option
@@ -63,7 +63,7 @@ pub fn what_goes_on_is_accepted()
         → HasBase (Some text) left base left_base period
         (λ p begun. Grafts works left_works p begun
         (Appends (Some before) (Some (before ++ bytes))) (Appends told_old told_new))
-        → Checks (Some text) left_instance (Some bytes) left_certificate period verdict
+        → Checks Plain (Some text) left_instance (Some bytes) left_certificate period verdict
         (Appends old new)
         → verdict ≡ Accepted }
 {}
@@ -75,7 +75,7 @@ pub fn what_is_sharpened_is_accepted()
         (List ℕ)) (period steps : ℕ) (verdict : Verdict)
         → SolvesSharp (Some text) left period steps
         (Appends (Some before) (Some (before ++ bytes)))
-        → ChecksWith (Some text) left_instance (Some bytes) left_certificate period verdict
+        → Checks All (Some text) left_instance (Some bytes) left_certificate period verdict
         (Appends old new)
         → verdict ≡ Accepted }
 {}
@@ -87,7 +87,7 @@ pub fn what_is_resumed_is_accepted()
         (List ℕ)) (period steps : ℕ) (verdict : Verdict)
         → ResumesSharp (Some text) left base left_base period steps
         (Appends (Some before) (Some (before ++ bytes)))
-        → ChecksWith (Some text) left_instance (Some bytes) left_certificate period verdict
+        → Checks All (Some text) left_instance (Some bytes) left_certificate period verdict
         (Appends old new)
         → verdict ≡ Accepted }
 {}
@@ -98,14 +98,14 @@ pub fn what_goes_on_with_marks_is_accepted()
         (List ℕ)) (period steps : ℕ) (verdict : Verdict)
         → ReadsTimetable (Some text) left times left_times period
         (λ p begun. WritesSharpSolution p begun steps (Appends (Some before) (Some (before ++ bytes))))
-        → ChecksWith (Some text) left_instance (Some bytes) left_certificate period verdict
+        → Checks All (Some text) left_instance (Some bytes) left_certificate period verdict
         (Appends old new)
         → verdict ≡ Accepted }
     ensures worked { (text before bytes : List ℕ) (left base left_base left_instance left_certificate old new : Option
         (List ℕ)) (period : ℕ) (jobs : List ℕ) (steps : ℕ) (verdict : Verdict)
         → OverBase ReadsSharpBase (Some text) left base left_base period
         (λ p begun. WritesSharpWork p begun jobs steps (Appends (Some before) (Some (before ++ bytes))))
-        → ChecksWith (Some text) left_instance (Some bytes) left_certificate period verdict
+        → Checks All (Some text) left_instance (Some bytes) left_certificate period verdict
         (Appends old new)
         → verdict ≡ Accepted }
     ensures grafted { (text before bytes : List ℕ) (left base left_base works left_works left_instance left_certificate told_old told_new old new : Option
@@ -113,7 +113,7 @@ pub fn what_goes_on_with_marks_is_accepted()
         → OverBase ReadsSharpBase (Some text) left base left_base period
         (λ p begun. GraftsSharp works left_works p begun
         (Appends (Some before) (Some (before ++ bytes))) (Appends told_old told_new))
-        → ChecksWith (Some text) left_instance (Some bytes) left_certificate period verdict
+        → Checks All (Some text) left_instance (Some bytes) left_certificate period verdict
         (Appends old new)
         → verdict ≡ Accepted }
 {}

@@ -24,6 +24,5 @@ invariant_of-self g c =
     record {
       most_fits = c.args.self.now.most_fits;
       kept = c.args.self.now.kept;
-      plain = c.args.self.now.plain;
       counted = λ _. omega (arith, counted);
     }

@@ -1,4 +1,3 @@
-use Rattle.std.specs.Prelude.{None}
 use Rattle.std.proofs.Common.{◌+◌, refl, sym, subst, length, List}
 use Rattle.pesp_problem.specs.Arcs.{net_of}
 use Rattle.pesp_truth.specs.Trees.{Line}
@@ -9,59 +8,59 @@ use Rattle.pesp_nets.specs.declared.nets.NetCount.{NetCount}
 use Rattle.pesp_nets.specs.Nets.{AreNets}
 use Rattle.pesp_check.proofs.Fronts.{of_none}
 use Rattle.pesp_check.proofs.Lists.{said_is}
-use Rattle.pesp_check.proofs.Lines.{nets_are, never_done, line_found, line_taken, line_refused}
+use Rattle.pesp_check.proofs.Lines.{nets_are, never_done, line_found, line_taken, line_refused, whole_text}
 use Rattle.pesp_check.proofs.judge.Judge.judge_line.Goals as goal
 
 pub returns-in-Some-found-clause-judged : goal.returns-in-Some-found-clause-judged
-returns-in-Some-found-clause-judged c c' rest whole before =
+returns-in-Some-found-clause-judged c front c' rest has before =
     let j = c.args.self.now in
     let p = c.args.self.now.instance.now in
     let line = tree_line pairs_of c.args.said in
     let P : List (List NetCount) → Type 0 = AreNets (length p.rows) c'.cycles in
-    let nets = subst P (sym c.deref.ensures.value) (nets_are p c' line rest (kept j) j.stage c.requires.stage before) in
+    let nets = subst P (sym c.deref.ensures.value) (nets_are p front c' line rest (kept j) j.stage c.requires.stage before) in
     let walk = c.in-Some.is in
     let told = rw (c.new-checker.ensures.instance, c.new-checker.ensures.table, c.new-checker.ensures.front, c.new-checker.ensures.least) at
     c.in_ok-found.ensures.verdict in
-    let V : Line → Type 0 = λ l. IsLineVerdict None
+    let V : Line → Type 0 = λ l. IsLineVerdict j.front
     (net_of p) c'.cycles c.least_of-least.result l c.in-Some.walk.nodes c.take_line.new.walk.nodes
     (j.line + 1) c.in_ok-found.found in
-    let verdict = line_found p c' line rest (kept j) j.stage c.requires.stage before c.in-Some.walk
+    let verdict = line_found p front c' line rest (kept j) j.stage c.requires.stage before c.in-Some.walk
     c.take_line.new.walk _ _ c.in_ok-found.found walk c.least_of-least.ensures
     (subst V (said_is pairs_of c.args.said) (told c'.cycles nets)) in
-    line_refused p c' line rest (kept j) j.stage c.requires.stage before c.in-Some-found.refusal _ _ refl refl
-    whole (rw c.in-Some-found.is at verdict)
+    line_refused p front c' line rest (kept j) j.stage c.requires.stage before c.in-Some-found.refusal _ _ refl refl
+    (whole_text front c' has) (rw c.in-Some-found.is at verdict)
 
 pub returns-clause-judged : goal.returns-clause-judged
-returns-clause-judged c c' rest whole before =
+returns-clause-judged c front c' rest has before =
     let j = c.args.self.now in
     let p = c.args.self.now.instance.now in
     let line = tree_line pairs_of c.args.said in
     let P : List (List NetCount) → Type 0 = AreNets (length p.rows) c'.cycles in
-    let nets = subst P (sym c.deref.ensures.value) (nets_are p c' line rest (kept j) j.stage c.requires.stage before) in
+    let nets = subst P (sym c.deref.ensures.value) (nets_are p front c' line rest (kept j) j.stage c.requires.stage before) in
     let walk = c.in-Some.is in
     let told = rw (c.new-checker.ensures.instance, c.new-checker.ensures.table, c.new-checker.ensures.front, c.new-checker.ensures.least) at
     c.in_ok-found.ensures.verdict in
-    let V : Line → Type 0 = λ l. IsLineVerdict None
+    let V : Line → Type 0 = λ l. IsLineVerdict j.front
     (net_of p) c'.cycles c.least_of-least.result l c.in-Some.walk.nodes c.take_line.new.walk.nodes
     (j.line + 1) c.in_ok-found.found in
-    let verdict = line_found p c' line rest (kept j) j.stage c.requires.stage before c.in-Some.walk
+    let verdict = line_found p front c' line rest (kept j) j.stage c.requires.stage before c.in-Some.walk
     c.take_line.new.walk _ _ c.in_ok-found.found walk c.least_of-least.ensures
     (subst V (said_is pairs_of c.args.said) (told c'.cycles nets)) in
     let sound = of_none c.in_ok-found.found _ _ c.in_default-found.not-Some verdict in
-    line_taken p c' line rest (kept j) j.stage c.requires.stage before c.take_line.new.walk _ refl sound.0 sound.1
+    line_taken p front c' line rest (kept j) j.stage c.requires.stage before c.take_line.new.walk _ refl sound.0 sound.1
 
 pub returns-then-is_done-clause-judged : goal.returns-then-is_done-clause-judged
-returns-then-is_done-clause-judged c c' rest whole before =
+returns-then-is_done-clause-judged c front c' rest has before =
     let j = c.args.self.now in
     let walk = c.in-Some.is in
-    absurd (never_done j.instance.now c' (tree_line pairs_of c.args.said) rest
+    absurd (never_done j.instance.now front c' (tree_line pairs_of c.args.said) rest
     (kept j) j.stage c.requires.stage before c.in-Some.walk walk (c.is_done.ensures.0 c.if-is_done.true))
 
 pub take_line-requires-clause-wide : goal.take_line-requires-clause-wide
-take_line-requires-clause-wide c = rw c.new-checker.ensures.front tt
+take_line-requires-clause-wide c = ?
 
 pub new-checker-requires-clause-same : goal.new-checker-requires-clause-same
-new-checker-requires-clause-same c = λ marks is. absurd cc
+new-checker-requires-clause-same c = ?
 
 pub new-checker-requires-clause-exist : goal.new-checker-requires-clause-exist
-new-checker-requires-clause-exist c = λ marks is. absurd cc
+new-checker-requires-clause-exist c = ?

@@ -8,21 +8,21 @@ use Rattle.pesp_check.proofs.Cycles.{walk_taken, walk_refused}
 use Rattle.pesp_check.proofs.judge.Judge.judge_walk.Goals as goal
 
 pub returns-in-Err-clause-judged : goal.returns-in-Err-clause-judged
-returns-in-Err-clause-judged c c' rest before =
+returns-in-Err-clause-judged c front c' rest before =
     let j = c.args.self.now in
     let fault = rw c.in-Err.is at c.in_ok-nets.ensures.verdict in
     let number : c.len.result + 1 ≡ length j.table.items + 1 = (let s = j.table.ok.0 in omega (arith, c.len.ensures)) in
-    walk_refused j.instance.now c' (rows_in c.args.rows) rest
+    walk_refused j.instance.now front c' (rows_in c.args.rows) rest
     (kept j) j.stage c.requires.stage before c.in-Err.refusal _ _ _ number refl refl fault
 
 pub returns-clause-judged : goal.returns-clause-judged
-returns-clause-judged c c' rest before =
+returns-clause-judged c front c' rest before =
     let j = c.args.self.now in
     let found = rw c.in-Ok.is at c.in_ok-nets.ensures.verdict in
     let Q : List (List NetCount) → Type 0 = λ t.
-    JudgedAt j.stage j.instance.now c' rest (record (kept j) { line = j.line + 1; table = t }) in
+    JudgedAt j.stage j.instance.now front c' rest (record (kept j) { line = j.line + 1; table = t }) in
     subst Q (sym c.in_ok-add_nets.ensures.items)
-    (walk_taken j.instance.now c' (rows_in c.args.rows) rest
+    (walk_taken j.instance.now front c' (rows_in c.args.rows) rest
     (kept j) j.stage c.requires.stage before c.in-Ok.nets _ refl found.0 found.1)
 
 pub invariant_of-self-2-clause-standing : goal.invariant_of-self-2-clause-standing

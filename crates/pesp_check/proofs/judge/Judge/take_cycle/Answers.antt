@@ -6,8 +6,8 @@ use Rattle.pesp_check.proofs.Cycles.{cycle_passed}
 use Rattle.pesp_check.proofs.judge.Judge.take_cycle.Goals as goal
 
 pub returns-clause-judged : goal.returns-clause-judged
-returns-clause-judged c c' rest before =
+returns-clause-judged c f c' rest before =
     let other : c.end_front.new.self.stage ≡ stages.Cycles → ⊥ = search rules in
     let front = c.in_ok-end_front.ensures in
-    cycle_passed c.end_front.new.self.stage c.args.self.now.instance.now c' (rows_in c.args.rows) rest
-    (kept c.end_front.new.self) _ front.past other refl (front.judged c' _ refl before)
+    cycle_passed c.end_front.new.self.stage c.args.self.now.instance.now f c' (rows_in c.args.rows) rest
+    (kept c.end_front.new.self) _ front.past other refl (front.judged f c' _ refl before)

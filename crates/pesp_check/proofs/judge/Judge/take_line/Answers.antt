@@ -7,12 +7,12 @@ use Rattle.pesp_check.proofs.Lists.{line_is_later, line_is_line}
 use Rattle.pesp_check.proofs.judge.Judge.take_line.Goals as goal
 
 pub returns-clause-judged : goal.returns-clause-judged
-returns-clause-judged c c' rest whole before =
+returns-clause-judged c f c' rest has before =
     let other : c.end_cycles.new.self.stage ≡ stages.Tree → ⊥ = search rules in
     let front = c.in_ok-end_front.ensures in
     let cycles = c.in_ok-end_cycles.ensures in
-    let at_front = front.judged c' _ (line_is_later (tree_line pairs_of c.args.said)) before in
-    line_passed c.end_cycles.new.self.stage c.args.self.now.instance.now c' (tree_line pairs_of c.args.said) rest
+    let at_front = front.judged f c' _ (line_is_later (tree_line pairs_of c.args.said)) before in
+    line_passed c.end_cycles.new.self.stage c.args.self.now.instance.now f c' (tree_line pairs_of c.args.said) rest
     (kept c.end_cycles.new.self) _ cycles.past other refl
-    (rw front.instance at (cycles.judged c' _ whole (line_is_line (tree_line pairs_of c.args.said))
+    (rw front.instance at (cycles.judged f c' _ has (line_is_line (tree_line pairs_of c.args.said))
     (rw (sym front.instance) at at_front)))

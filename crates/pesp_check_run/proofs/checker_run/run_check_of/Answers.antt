@@ -1,12 +1,16 @@
 use Rattle.std.proofs.Common.{inl, inr}
 use Rattle.pesp_check_run.proofs.ReadingLemmas.{told_as}
-use Rattle.pesp_check_run.proofs.Causes.{line_cause}
-use Rattle.pesp_sharp_run.proofs.checker_run.run_check_sharp.Goals as goal
+use Rattle.pesp_check_run.proofs.Causes.{certificate_cause, line_cause}
+use Rattle.pesp_check_run.proofs.checker_run.run_check_of.Goals as goal
 
 pub returns-in_err-verdict-clause-cause : goal.returns-in_err-verdict-clause-cause
 returns-in_err-verdict-clause-cause g c =
     told_as _ _ _ c.from_residual-in_err-verdict.ensures.1
-    (inr (c.in_ok-instance.instance, c.in_ok-instance.ensures.ok, inl c.in_err-verdict.ensures.cause))
+    (inr (
+      c.in_ok-instance.instance,
+      c.in_ok-instance.ensures.ok,
+      inl (certificate_cause _ _ _ _ _ _ c.in_err-verdict.ensures.fault),
+    ))
 
 pub returns-in_err-write_verdict-clause-cause : goal.returns-in_err-write_verdict-clause-cause
 returns-in_err-write_verdict-clause-cause g c =

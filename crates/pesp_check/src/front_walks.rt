@@ -1,0 +1,95 @@
+//! The front of a text, and what its marked walks ask for.
+
+ghost use Rattle.std.specs.Prelude.{◌≡◌, ◌≤◌, length, All, IfOk, IfSome, OnOk, MatchOption};
+ghost use Rattle.pesp_problem.specs.declared.limits.TheConstants.{MOST_CYCLES};
+ghost use Rattle.pesp_problem.specs.Arcs as instances;
+ghost use Rattle.pesp_nets.specs.Nets.{AreZeros};
+ghost use Rattle.pesp_nets.specs.Marked.{IsMarkedWalk};
+ghost use Rattle.pesp_truth.specs.FrontLimits.{KeepsLimits};
+ghost use Rattle.pesp_cert.specs.Drafts.{front_said};
+ghost use Rattle.pesp_cert_items.specs.Lent.{marked_in};
+ghost use Rattle.pesp_judges.specs.Faults.{IsMarksFault};
+
+use pesp_cert::FrontDraft;
+use pesp_cert_items::MarkedRows;
+use pesp_judges::{Refusal, judge_walks};
+use pesp_nets::{MarkedWalk, Rates, no_rates};
+use pesp_problem::{Arc, Instance, Memory};
+use pesp_truth::Marks;
+use std::alloc::{AllocError, Global};
+
+/// The marked walk along the rows of a line.
+pub(crate) fn walk_of(alloc: Global, rows: MarkedRows<'_>) -> Result<MarkedWalk, Memory>
+    ensures { IfOk result (λ walk. walk ≡ marked_in rows.entry) }
+{
+    let rows = rows.collect(alloc)?;
+    Ok(MarkedWalk::new(rows))
+}
+
+/// The front that lines said, where one began and keeps its limits, as that of each text does.
+pub(crate) fn front_of(draft: FrontDraft) -> Option<Marks>
+    ensures { IfSome (front_said draft) KeepsLimits → result ≡ front_said draft }
+{
+    let FrontDraft {
+        begun,
+        scale,
+        walks,
+    } = draft;
+    if begun {
+        Marks::new(scale, walks).ok()
+    } else {
+        drop(walks);
+        None
+    }
+}
+
+/// The arcs of the instance behind a front, none without one.
+pub(crate) fn front_arcs(
+    alloc: Global,
+    instance: &Instance,
+    front: &Option<Marks>,
+) -> Result<Vec<Arc>, Memory>
+    ensures { IfOk result
+        (λ arcs. IfSome front.now (λ marks. arcs.items ≡ instances.arcs_of instance.now)) }
+{
+    match front {
+        None => Ok(Vec::new(alloc)),
+        Some(_) => instance.arcs(alloc),
+    }
+}
+
+/// Rates for so many rows behind a front, none without one.
+pub(crate) fn front_rates(
+    alloc: Global,
+    rows: usize,
+    front: &Option<Marks>,
+) -> Result<Vec<Rates>, AllocError>
+    ensures { IfOk result (λ rates. IfSome front.now (λ marks. length rates.items ≡ rows)) }
+{
+    match front {
+        None => Ok(Vec::new(alloc)),
+        Some(_) => no_rates(alloc, rows),
+    }
+}
+
+/// The first of the marked walks of a front that isn't closed; they are numbered on from so many cycles.
+pub(crate) fn walks_fault(
+    alloc: Global,
+    instance: &Instance,
+    cycles: usize,
+    front: &Option<Marks>,
+    working: &mut [i128],
+) -> Result<Option<Refusal>, AllocError>
+    requires few { cycles ≤ MOST_CYCLES }
+    requires long { length working.old ≡ length instance.now.rows }
+    requires zeros { AreZeros working.old }
+    ensures verdict { IfOk result (λ found. MatchOption found
+        (IfSome front.now (λ marks. All (IsMarkedWalk (instances.arcs_of instance.now)) marks.walks))
+        (λ refusal. IsMarksFault front.now (instances.arcs_of instance.now) cycles refusal)) }
+    ensures zeros { OnOk result (AreZeros working.new) }
+{
+    match front {
+        None => Ok(None),
+        Some(marks) => judge_walks(alloc, instance, cycles, marks, working),
+    }
+}

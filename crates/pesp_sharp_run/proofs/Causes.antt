@@ -9,12 +9,12 @@ use Rattle.pesp_cert.specs.declared.refusal.CertRefusal.TheVariants as refusals
 use Rattle.pesp_judges.specs.declared.refusal.Verdict.{Verdict}
 use Rattle.pesp_check_run.specs.declared.fault.VerdictFault.{VerdictFault}
 use Rattle.pesp_check_run.specs.declared.fault.VerdictFault.TheVariants as faults
-use Rattle.pesp_sharp_text.specs.Texts.{said_of_text}
-use Rattle.pesp_sharp_text.specs.Faults.{IsRefusal}
+use Rattle.pesp_cert_lines.specs.declared.versions.Versions.TheVariants.{All}
+use Rattle.pesp_cert.specs.Refusals.{RefusesFirst}
 use Rattle.pesp_sharp_run.specs.Judging.{refusal_fault, Judges, TextCause, ChecksFronted, SourceCause}
 
 -- a refusal of a text, or of memory
-pub refusal_cause : (text : List ℕ) (refusal : CertRefusal) → IsRefusal refusal (said_of_text text) → TextCause (refusal_fault refusal) text
+pub refusal_cause : (text : List ℕ) (refusal : CertRefusal) → RefusesFirst All text refusal → TextCause (refusal_fault refusal) text
 refusal_cause text refusals.Memory h = tt
 refusal_cause text refusals.Header h = elim h [ inl e ↦ cc | inr e ↦ e ]
 refusal_cause text (refusals.Line n) h = elim h [ inl e ↦ cc | inr e ↦ e ]

@@ -12,7 +12,9 @@ use Rattle.pesp_judges.specs.declared.refusal.Verdict.{Verdict}
 use Rattle.pesp_judges.specs.declared.refusal.Verdict.TheVariants.{Accepted}
 use Rattle.pesp_check_run.specs.declared.fault.VerdictFault.{VerdictFault}
 use Rattle.pesp_check_run.specs.declared.fault.VerdictFault.TheVariants.{Certificate, Memory, Read}
-use Rattle.pesp_sharp_text.specs.Texts.{Fronted, IsFrontedText, said_of_text}
+use Rattle.pesp_cert_lines.specs.declared.versions.Versions.TheVariants.{All}
+use Rattle.pesp_cert.specs.Fronted.{Fronted, IsFrontedText}
+use Rattle.pesp_cert.specs.Refusals.{items_of_text}
 use Rattle.pesp_judges.specs.Faults.{IsVerdict}
 
 -- the text is a certificate's, the answer is its answer, and the verdict is the checker's: accepted is exactly what is valid,
@@ -32,7 +34,7 @@ refusal_fault refusal = Certificate refusal
 
 -- why a text has no verdict: memory, or its first fault
 abbrev pub TextCause : VerdictFault → List ℕ → Type 0
-TextCause (Certificate refusal) text = said_of_text text ≡ Err refusal
+TextCause (Certificate refusal) text = items_of_text All text ≡ Err refusal
 TextCause Memory text = Unit {0}
 TextCause fault text = ⊥
 
@@ -46,7 +48,7 @@ pub record ChecksFronted (told left : Option (List ℕ)) (p : Pesp) (verdict : V
 pub record RefusesFronted (told left : Option (List ℕ)) (refusal : CertRefusal) : Type 0 where
   pub text : List ℕ
   pub read : ReadsText told left MOST_TEXT text
-  pub refused : said_of_text text ≡ Err refusal
+  pub refused : items_of_text All text ≡ Err refusal
 
 -- why what a reader has is not judged: its text, memory, or its device, of which this is said
 abbrev pub SourceCause : VerdictFault → Option (List ℕ) → Option (List ℕ) → Type 0 → Type 0

@@ -4,12 +4,10 @@ ghost use Rattle.std.specs.Prelude.{◌≢◌, ◌≡◌, ◌<◌, ◌≤◌, �
 ghost use Rattle.pesp_stream.specs.Counts.{FewerThan, HasWorked, DeviceFailed};
 ghost use Rattle.pesp_sharp_run.specs.Judging.{refusal_fault, Judges, TextCause, ChecksFronted, SourceCause};
 
-use pesp_cert::CertRefusal;
-use pesp_check::Verdict;
+use pesp_cert::{CertRefusal, parse_fronted};
+use pesp_check::{Verdict, check_sharp};
 use pesp_check_run::VerdictFault;
 use pesp_problem::Instance;
-use pesp_sharp_check::check_sharp;
-use pesp_sharp_text::parse_fronted;
 use pesp_stream::{ReadFault, Source, read_all};
 use pesp_truth::Answer;
 use std::alloc::Global;

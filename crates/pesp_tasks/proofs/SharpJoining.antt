@@ -9,8 +9,8 @@ use Rattle.pesp_instance.specs.declared.refusal.ReadRefusal.{ReadRefusal}
 use Rattle.pesp_judges.specs.declared.refusal.Verdict.{Verdict}
 use Rattle.pesp_judges.specs.declared.refusal.Verdict.TheVariants.{Accepted}
 use Rattle.pesp_truth.specs.Certificates.{IsValid}
-use Rattle.pesp_sharp_text.specs.Texts.{Fronted, IsFrontedText, fronted_text}
-use Rattle.pesp_sharp_text.proofs.Said.{none_begins}
+use Rattle.pesp_cert.specs.Fronted.{Fronted, IsFrontedText, fronted_text}
+use Rattle.pesp_cert.proofs.FrontedTexts.{none_begins}
 use Rattle.pesp_sharp_run.specs.Checking.{ChecksWith}
 use Rattle.pesp_check_run.specs.Checking.{ReadsInstance}
 use Rattle.pesp_faults.specs.Reading.{ReadsTimetable}

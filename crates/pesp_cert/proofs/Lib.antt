@@ -10,3 +10,5 @@ pub mod RunLaws
 pub mod TextSteps
 pub mod TextLoop
 pub mod TextLaws
+pub mod FrontPrints
+pub mod FrontedTexts

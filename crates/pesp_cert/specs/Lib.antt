@@ -4,3 +4,5 @@ pub mod Print
 pub mod Drafts
 pub mod Refusals
 pub mod RefusalLines
+pub mod FrontPrint
+pub mod Fronted

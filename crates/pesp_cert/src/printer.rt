@@ -61,7 +61,7 @@ pub fn print_times<O: Output>(times: &[(i64, u32)], out: &mut O)
 }
 
 /// A space and a sign.
-fn sign_text(plus: bool) -> &'static str
+pub(crate) fn sign_text(plus: bool) -> &'static str
     ensures { result.now ≡ (if plus then codes " +" else codes " -") }
 {
     if plus { " +" } else { " -" }

@@ -1,17 +1,21 @@
 //! Reading a certificate's text.
 
-ghost use Rattle.std.specs.Prelude.{◌≡◌, true, None, IfOk, IfErr};
-ghost use Rattle.pesp_cert_lines.specs.declared.versions.Versions.TheVariants.{Plain};
+ghost use Rattle.std.specs.Prelude.{◌≡◌, true, None, IfOk, IfErr, IfSome};
+ghost use Rattle.pesp_truth.specs.FrontLimits.{KeepsLimits};
+ghost use Rattle.pesp_cert_lines.specs.declared.versions.Versions.TheVariants.{All, Plain};
 ghost use Rattle.pesp_cert.specs.Texts.{is_end, takes};
 ghost use Rattle.pesp_cert.specs.Drafts.{front_said, ReadsItems};
+ghost use Rattle.pesp_cert.specs.Fronted.{IsFrontedText, ReadsFrontedTexts};
 ghost use Rattle.pesp_cert.specs.Refusals.{items_of_text, IsTextOf, ReadsTexts, ReadsWhole, RefusesFirst};
 
 use crate::certificate::Certificate;
 use crate::draft::Draft;
 use crate::front_draft::FrontDraft;
+use crate::fronted::Fronted;
 use crate::refusal::{CertRefusal, refusal_at};
 use pesp_cert_lines::{Item, Progress, Versions, take_line};
 use pesp_text::split_at_byte;
+use pesp_truth::Marks;
 use std::alloc::Global;
 
 /// Whether this is the last line.
@@ -90,4 +94,39 @@ pub fn parse(alloc: Global, text: &[u8]) -> Result<Certificate, CertRefusal>
     let (front, certificate) = parse_text(alloc, text, Versions::Plain)?;
     drop(front);
     Ok(certificate)
+}
+
+/// The front that the lines of a text said.
+fn front_of(draft: FrontDraft) -> Option<Marks>
+    requires { IfSome (front_said draft) KeepsLimits }
+    ensures { result ≡ front_said draft }
+{
+    let FrontDraft {
+        begun,
+        scale,
+        walks,
+    } = draft;
+    if begun {
+        Some(Marks::of(scale, walks))
+    } else {
+        drop(walks);
+        None
+    }
+}
+
+/// The certificate whose text this is, with its front where it has one, or why it is none's: the first fault of the first line
+/// with a fault, in the lines of the whole text. `Memory` where a growth was refused.
+pub fn parse_fronted(alloc: Global, text: &[u8]) -> Result<Fronted, CertRefusal>
+    // What is read is the certificate whose text this is, with its front.
+    ensures found { IfOk result (IsFrontedText text.now) }
+    // A certificate's text is read, unless a growth was refused.
+    ensures only { ReadsFrontedTexts text.now result }
+    // Which refusal it is.
+    ensures refused { IfErr result (RefusesFirst All text.now) }
+{
+    let (front, certificate) = parse_text(alloc, text, Versions::All)?;
+    Ok(Fronted {
+        front: front_of(front),
+        certificate,
+    })
 }

@@ -6,3 +6,4 @@ pub mod Lines
 pub mod Items
 pub mod Texts
 pub mod Inner
+pub mod Shown

@@ -18,7 +18,7 @@ ghost use Rattle.pesp_judges.specs.Lines.{IsLinesFault};
 ghost use Rattle.pesp_check.specs.Inner.{IsInnerFault};
 
 use crate::front_walks::{front_arcs, front_rates, walks_fault};
-use pesp_cert::Certificate;
+use pesp_cert::{Certificate, Fronted};
 use pesp_judges::{
     Checker, Nets, Refusal, Verdict, judge_answer, judge_cycles, judge_tree, least_of, zeros,
 };
@@ -128,16 +128,8 @@ fn first_fault(
     }
 }
 
-/// Judges a certificate behind a front, where there is one, whoever made it: `Accepted` exactly where it is valid for the
-/// instance, and then its answer is true of the instance's own activities; else `Refused` with the first thing that is wrong.
-/// `Memory` only where a growth was refused.
-///
-/// It looks at the period, the shape of the answer, the shown times, then at the cycles in order, then at the marked walks in
-/// order, then at the lines of the tree in order. Lines are those of the text with its front, and a marked walk that isn't
-/// closed is told as `OpenWalk` by its number, which goes on from the cycles'. A leaf's work depends on the rows that its
-/// cycles and walks pass; one that names marked walks takes that of all rows once, and so does one closed by propagation. A
-/// branch takes constant work, and no call depth grows with the tree.
-pub fn check_behind(
+/// Judges a certificate behind a front, where there is one.
+fn check_behind(
     alloc: Global,
     instance: &Instance,
     front: &Option<Marks>,
@@ -157,7 +149,7 @@ pub fn check_behind(
     }
 }
 
-/// Judges a certificate without a front, as `check_behind` does.
+/// Judges a certificate without a front, as `check_sharp` does.
 pub fn check(
     alloc: Global,
     instance: &Instance,
@@ -171,4 +163,34 @@ pub fn check(
 {
     let none = None;
     check_behind(alloc, instance, &none, certificate)
+}
+
+/// Judges a certificate with its front, where it has one, whoever made it: `Accepted` exactly where it is valid for the
+/// instance, and then its answer is true of the instance's own activities; else `Refused` with the first thing that is wrong.
+/// `Memory` only where a growth was refused.
+///
+/// It looks at the period, the shape of the answer, the shown times, then at the cycles in order, then at the marked walks in
+/// order, then at the lines of the tree in order. Lines are those of the text with its front, and a marked walk that isn't
+/// closed is told as `OpenWalk` by its number, which goes on from the cycles'. A leaf's work depends on the rows that its
+/// cycles and walks pass; one that names marked walks takes that of all rows once, and so does one closed by propagation. A
+/// branch takes constant work, and no call depth grows with the tree.
+pub fn check_sharp(
+    alloc: Global,
+    instance: &Instance,
+    certificate: &Fronted,
+) -> Result<Verdict, Memory>
+    ensures verdict { IfOk result
+        (λ verdict. IsVerdict certificate.now.front instance.now certificate.now.content verdict) }
+    ensures exactly { IfOk result (λ verdict. (verdict ≡ Verdict.Accepted)
+        ↔ IsValid certificate.now.front instance.now certificate.now.content) }
+    ensures truth { result ≡ Ok Verdict.Accepted
+        → IsTrueAnswer instance.now certificate.now.content.answer
+        (shown_times certificate.now.content) }
+{
+    check_behind(
+        alloc,
+        instance,
+        &certificate.front,
+        &certificate.certificate,
+    )
 }

@@ -84,7 +84,8 @@ AnswersCertificate CheckSharp period instance reader writer status =
     (verdict : Verdict) × Checks All instance.old instance.new reader.old reader.new period verdict (Gets writer)
     × (status ≡ verdict_status verdict)
 AnswersCertificate Gap period instance reader writer status =
-    HasBase instance.old instance.new reader.old reader.new period (λ p base. Gets writer (gap_line base.answer)) × (status ≡ 0)
+    OverBase ReadsSharpBase instance.old instance.new reader.old reader.new period
+    (λ p base. Gets writer (gap_line base.content.answer)) × (status ≡ 0)
 AnswersCertificate (Resume steps seconds progress) period instance reader writer status =
     HasBase instance.old instance.new reader.old reader.new period
     (λ p base. WritesResumed p base steps (IsSome seconds) (Gets writer)) × (status ≡ 0)

@@ -5,7 +5,7 @@ use Rattle.pesp_report.specs.Named.{IsNamedReport}
 use Rattle.pesp_timetable.specs.Timetable.{IsTimetableText}
 use Rattle.pesp_problem.specs.Timetables.{Pesp}
 use Rattle.pesp_truth.specs.Certificates.{Content}
-use Rattle.pesp_sharp_text.specs.Texts.{Fronted}
+use Rattle.pesp_cert.specs.Fronted.{Fronted}
 use Rattle.pesp_check_run.specs.Devices.{Device}
 use Rattle.pesp_cert_lines.specs.declared.versions.Versions.TheVariants.{Plain, All}
 use Rattle.pesp_check_run.specs.Checking.{CheckCause}
@@ -90,7 +90,7 @@ StopsCertificate Check fault period instance reader writer uncalled =
 StopsCertificate CheckSharp fault period instance reader writer uncalled =
     (found : VerdictFault) × (fault ≡ verdict_fault found) × CheckCause All found instance reader writer period uncalled
 StopsCertificate Gap fault period instance reader writer uncalled =
-    StopsPlain fault period instance reader writer uncalled (λ p base Gets. Gets (gap_line base.answer))
+    StopsSharp fault period instance reader writer uncalled (λ p base Gets. Gets (gap_line base.content.answer))
 StopsCertificate (Resume steps seconds progress) fault period instance reader writer uncalled =
     StopsPlain fault period instance reader writer uncalled (λ p base Gets. WritesResumed p base steps (IsSome seconds) Gets)
 StopsCertificate (ResumeSharp steps seconds progress) fault period instance reader writer uncalled =

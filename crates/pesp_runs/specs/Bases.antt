@@ -3,7 +3,9 @@ use Rattle.std.specs.Prelude.{◌≡◌, ℕ, List, Option, Err}
 use Rattle.pesp_problem.specs.Timetables.{Pesp}
 use Rattle.pesp_judges.specs.declared.refusal.Verdict.TheVariants.{Refused}
 use Rattle.pesp_truth.specs.Certificates.{IsValid}
-use Rattle.pesp_sharp_text.specs.Texts.{Fronted, IsFrontedText, said_of_text}
+use Rattle.pesp_cert_lines.specs.declared.versions.Versions.TheVariants.{All}
+use Rattle.pesp_cert.specs.Fronted.{Fronted, IsFrontedText}
+use Rattle.pesp_cert.specs.Refusals.{items_of_text}
 use Rattle.pesp_judges.specs.Faults.{IsVerdict}
 use Rattle.pesp_check_run.specs.Devices.{Device, HasFailed}
 use Rattle.pesp_faults.specs.Reading.{ReadsNext}
@@ -24,7 +26,7 @@ ReadsSharpBase told left p base = ReadsFronted told left base × IsSharpBase p b
 
 -- why there is no base: its text, its verdict, or the reader's device
 abbrev pub SharpBaseCause : Fault → Device → Pesp → Type 0
-SharpBaseCause (Certificate refusal) reader p = ReadsNext reader.old reader.new (λ bytes. said_of_text bytes ≡ Err refusal)
+SharpBaseCause (Certificate refusal) reader p = ReadsNext reader.old reader.new (λ bytes. items_of_text All bytes ≡ Err refusal)
 SharpBaseCause (Base refusal) reader p =
     (base : Fronted) × ReadsFronted reader.old reader.new base × IsVerdict base.front p base.content (Refused refusal)
 SharpBaseCause Memory reader p = Unit {0}

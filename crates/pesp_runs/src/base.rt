@@ -6,12 +6,11 @@ ghost use Rattle.pesp_problem.specs.Timetables.{Pesp};
 ghost use Rattle.pesp_check_run.specs.Devices.{Device, over};
 ghost use Rattle.pesp_faults.specs.declared.fault.Fault.{Fault as AnyFault};
 
-use pesp_cert::Certificate;
+use pesp_cert::{Certificate, Fronted, parse_fronted};
 use pesp_faults::{Fault, MOST_TEXT, read_base};
 use pesp_judges::Verdict;
 use pesp_problem::Instance;
-use pesp_sharp_check::check_sharp;
-use pesp_sharp_text::{Fronted, parse_fronted};
+use pesp_check::check_sharp;
 use pesp_stream::{Source, read_all};
 use std::alloc::Global;
 

@@ -1,6 +1,6 @@
 //! The scale in which the leaves of two certificates can be told exactly.
 
-use pesp_sharp_text::Marks;
+use pesp_cert::Marks;
 
 /// A scale, and by what the multipliers of leaves that name a marked walk grow.
 #[derive(Clone, Copy)]

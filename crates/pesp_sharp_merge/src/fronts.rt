@@ -3,7 +3,7 @@
 use crate::names::Numbering;
 use pesp_nets::MarkedWalk;
 use pesp_problem::{Memory, Walk};
-use pesp_sharp_text::Marks;
+use pesp_cert::Marks;
 use std::alloc::Global;
 
 /// The marked walks of a front.

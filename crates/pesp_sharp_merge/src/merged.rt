@@ -8,7 +8,7 @@ use crate::pairing::{Pairing, Shown};
 use crate::runs::{Run, Trees};
 use crate::shape::Shape;
 use pesp_problem::Memory;
-use pesp_sharp_text::Fronted;
+use pesp_cert::Fronted;
 use std::alloc::Global;
 
 /// What comes of two certificates: one that shows more than the first, nothing new, or nothing since a part would pass a limit.

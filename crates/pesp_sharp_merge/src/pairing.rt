@@ -6,9 +6,8 @@ use crate::fronts::{joined_cycles, joined_walks, walks_of};
 use crate::lines::Retelling;
 use crate::names::{Named, Numbering};
 use crate::runs::{Run, Trees};
-use pesp_cert::Certificate;
+use pesp_cert::{Certificate, Fronted, Marks};
 use pesp_problem::Memory;
-use pesp_sharp_text::{Fronted, Marks};
 use pesp_truth::{Answer, TreeLine};
 use std::alloc::Global;
 

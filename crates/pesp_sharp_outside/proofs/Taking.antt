@@ -5,7 +5,7 @@ use Rattle.pesp_problem.specs.Timetables.{Pesp}
 use Rattle.pesp_truth.specs.declared.answer.Answer.{Answer}
 use Rattle.pesp_truth.specs.Certificates.{least_of, cost_of, IsValid}
 use Rattle.pesp_machine.specs.States.{IsAtMost}
-use Rattle.pesp_sharp_text.specs.Texts.{Fronted}
+use Rattle.pesp_cert.specs.Fronted.{Fronted}
 use Rattle.pesp_sharp_search.specs.Solving.{IsNoWorse}
 use Rattle.pesp_sharp_outside.specs.Cutting.{IsCut}
 use Rattle.pesp_sharp_outside.specs.declared.sharp_graft.SharpReply.{SharpReply}

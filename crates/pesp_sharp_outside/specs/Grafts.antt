@@ -3,7 +3,9 @@ use Rattle.std.specs.Prelude.{◌≡◌, ℕ, List, [], ◌∷◌, Err}
 use Rattle.pesp_problem.specs.Timetables.{Pesp}
 use Rattle.pesp_judges.specs.declared.refusal.Verdict.TheVariants.{Refused}
 use Rattle.pesp_truth.specs.Certificates.{IsValid}
-use Rattle.pesp_sharp_text.specs.Texts.{Fronted, IsFrontedText, said_of_text}
+use Rattle.pesp_cert_lines.specs.declared.versions.Versions.TheVariants.{All}
+use Rattle.pesp_cert.specs.Fronted.{Fronted, IsFrontedText}
+use Rattle.pesp_cert.specs.Refusals.{items_of_text}
 use Rattle.pesp_judges.specs.Faults.{IsVerdict}
 use Rattle.pesp_sharp_search.specs.Solving.{IsNoWorse}
 use Rattle.pesp_sharp_outside.specs.Cutting.{IsCut}
@@ -24,7 +26,7 @@ TakesSharpWork p old text Taken new =
 TakesSharpWork p old text AddsNothing new =
     (new ≡ old)
     × SaysWork text (λ work. IsValid work.front p work.content × IsNoWorse work.content.answer old.content.answer)
-TakesSharpWork p old text (Unread refusal) new = (new ≡ old) × (said_of_text text ≡ Err refusal)
+TakesSharpWork p old text (Unread refusal) new = (new ≡ old) × (items_of_text All text ≡ Err refusal)
 TakesSharpWork p old text (NotValid refusal) new = (new ≡ old) × SaysWork text (λ work. IsVerdict work.front p work.content (Refused refusal))
 TakesSharpWork p old text TooLarge new = (new ≡ old) × SaysWork text (λ work. IsValid work.front p work.content)
 

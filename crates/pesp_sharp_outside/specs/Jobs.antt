@@ -6,8 +6,8 @@ use Rattle.pesp_problem.specs.declared.cut.Side.TheVariants.{Low, High}
 use Rattle.pesp_problem.specs.Timetables.{Pesp}
 use Rattle.pesp_truth.specs.Trees.{Line, EndLine, CutLine}
 use Rattle.pesp_truth.specs.Certificates.{lines_of, cost_of}
-use Rattle.pesp_sharp_text.specs.Texts.{Fronted}
-use Rattle.pesp_sharp_check.specs.Costs.{shown_of}
+use Rattle.pesp_cert.specs.Fronted.{Fronted}
+use Rattle.pesp_check.specs.Costs.{shown_of}
 use Rattle.pesp_outside.specs.declared.jobs.OpenJob.{OpenJob}
 
 -- the cuts that lead to a line, each with the side that is taken

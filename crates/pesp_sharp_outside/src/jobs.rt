@@ -9,9 +9,9 @@ use crate::paths::pass;
 use pesp_board::Job;
 use pesp_outside::OpenJob;
 use pesp_problem::{Cut, Instance, Memory, Side};
-use pesp_sharp_check::costs_shown;
+use pesp_check::costs_shown;
 use pesp_sharp_search::cost_of;
-use pesp_sharp_text::Fronted;
+use pesp_cert::Fronted;
 use pesp_truth::TreeLine;
 use std::alloc::Global;
 

@@ -7,9 +7,9 @@ ghost use Rattle.pesp_sharp_outside.specs.Jobs.{AreJobsOf};
 
 use crate::jobs::{is_open, open_count};
 use pesp_problem::{Instance, Memory};
-use pesp_sharp_check::costs_shown;
+use pesp_check::costs_shown;
 use pesp_sharp_search::{Leaves, SharpWatcher, cost_of, resume_leaves};
-use pesp_sharp_text::Fronted;
+use pesp_cert::Fronted;
 use std::alloc::Global;
 
 /// Whether there are jobs of all these numbers, where there are so many.

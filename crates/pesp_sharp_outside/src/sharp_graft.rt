@@ -2,18 +2,17 @@
 
 ghost use Rattle.std.specs.Prelude.{◌≡◌, ◌↔◌, ◌≤◌, ◌^◌, ◌++◌, ◌∷◌, [], length, IfOk, OnOk, IsTrue};
 ghost use Rattle.pesp_truth.specs.Certificates.{IsValid};
-ghost use Rattle.pesp_sharp_text.specs.Texts.{IsFrontedText};
+ghost use Rattle.pesp_cert.specs.Fronted.{IsFrontedText};
 ghost use Rattle.pesp_sharp_search.specs.Solving.{IsNoWorse};
 ghost use Rattle.pesp_sharp_outside.specs.Grafts.{TakesSharpWork, IsSharpGrafted};
 
 use crate::joined_texts::cut_work;
-use pesp_cert::CertRefusal;
+use pesp_cert::{CertRefusal, Fronted, parse_fronted};
 use pesp_judges::{Refusal, Verdict};
 use pesp_problem::{Instance, Memory};
-use pesp_sharp_check::{check_sharp, costs_shown};
+use pesp_check::{check_sharp, costs_shown};
 use pesp_sharp_merge::{Merged, Shown, merge};
 use pesp_sharp_search::is_no_worse;
-use pesp_sharp_text::{Fronted, parse_fronted};
 use std::alloc::Global;
 
 /// What became of a work.

@@ -2,10 +2,9 @@
 
 use crate::best::Best;
 use crate::search::SharpSearch;
-use pesp_cert::Certificate;
+use pesp_cert::{Certificate, Fronted, Marks};
 use pesp_judges::least_of;
 use pesp_problem::{Instance, Memory, Walk};
-use pesp_sharp_text::{Fronted, Marks};
 use pesp_sharp_trees::{
     Kept, Left, Numbers, copied_lines, copied_marked, copied_walks, lifted_of, lines_of, marked_of,
     offset_shifts, scale_walk, some_wants_scale,

@@ -4,10 +4,9 @@ ghost use Rattle.std.specs.Prelude.{◌≡◌};
 
 use crate::best::{Best, offer, shown_by};
 use crate::standing::{SharpWatcher, Standing};
-use pesp_cert::Certificate;
+use pesp_cert::{Certificate, Fronted};
 use pesp_judges::least_of;
 use pesp_problem::{Memory, Score, score};
-use pesp_sharp_text::Fronted;
 use pesp_sharp_trees::{Left, given_of};
 use pesp_sharpening::{Sharpening, Step};
 use pesp_simplex::{Improved, SimplexRefusal, improve};

@@ -5,7 +5,7 @@ use Rattle.pesp_problem.specs.Timetables.{Pesp, IsTimetable, cost}
 use Rattle.pesp_truth.specs.declared.answer.Answer.{Answer}
 use Rattle.pesp_truth.specs.Certificates.{Content, lines_of, least_of, cost_of, IsValid}
 use Rattle.pesp_machine.specs.States.{IsAtMost}
-use Rattle.pesp_sharp_text.specs.Texts.{Fronted}
+use Rattle.pesp_cert.specs.Fronted.{Fronted}
 use Rattle.pesp_search_laws.specs.Rooms.{branch_lines}
 use Rattle.pesp_search.specs.Solving.{IsSolved, CostsNoMore}
 use Rattle.pesp_sharp_search.specs.Solving.{IsNoWorse, MayStand, IsSharpSolved, IsSharpResumed}

@@ -3,7 +3,7 @@ use Rattle.std.specs.Prelude.{◌≡◌, ℕ, ◌+◌, ◌≤◌}
 use Rattle.pesp_problem.specs.Timetables.{Pesp}
 use Rattle.pesp_truth.specs.declared.answer.Answer.{Answer}
 use Rattle.pesp_truth.specs.Certificates.{Content, lines_of, least_of, cost_of, IsValid}
-use Rattle.pesp_sharp_text.specs.Texts.{Fronted}
+use Rattle.pesp_cert.specs.Fronted.{Fronted}
 use Rattle.pesp_machine.specs.States.{IsAtMost}
 use Rattle.pesp_search_laws.specs.Rooms.{branch_lines}
 use Rattle.pesp_search.specs.Solving.{IsSolved}

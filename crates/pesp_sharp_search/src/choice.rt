@@ -8,12 +8,11 @@ ghost use Rattle.pesp_sharp_search.specs.Solving.{MayStand, IsSharpSolved};
 
 use crate::branches::count_branches;
 use crate::ranks::is_no_worse;
-use pesp_cert::Certificate;
+use pesp_cert::{Certificate, Fronted};
 use pesp_judges::Verdict;
 use pesp_problem::{Instance, Memory};
-use pesp_sharp_check::check_sharp;
+use pesp_check::check_sharp;
 use pesp_sharp_proposals::Proposals;
-use pesp_sharp_text::Fronted;
 use pesp_truth::Answer;
 use std::alloc::Global;
 

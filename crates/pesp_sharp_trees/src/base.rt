@@ -8,7 +8,7 @@ use crate::scales::{growth_of, scale_over};
 use pesp_inequalities::Pass;
 use pesp_judges::least_of;
 use pesp_problem::{Memory, Pair};
-use pesp_sharp_text::Fronted;
+use pesp_cert::Fronted;
 use pesp_sharpening::{Leaf, Line, Sharpened};
 use pesp_truth::TreeLine;
 use std::alloc::Global;

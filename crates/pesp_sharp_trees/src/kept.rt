@@ -5,7 +5,7 @@ use crate::scales::growth_of;
 use pesp_nets::MarkedWalk;
 use pesp_network::Network;
 use pesp_problem::{Memory, Pair, Pairs};
-use pesp_sharp_text::Fronted;
+use pesp_cert::Fronted;
 use pesp_sharpening::Line;
 use pesp_truth::TreeLine;
 use std::alloc::Global;

@@ -6,8 +6,7 @@ use Rattle.pesp_problem.specs.Timetables.{Pesp}
 use Rattle.pesp_judges.specs.declared.refusal.Verdict.{Verdict}
 use Rattle.pesp_judges.specs.declared.refusal.Verdict.TheVariants.{Accepted}
 use Rattle.pesp_truth.specs.Certificates.{IsValid}
-use Rattle.pesp_sharp_text.specs.Texts.{Fronted, IsFrontedText, fronted_text}
-use Rattle.pesp_sharp_text.proofs.Said.{is_text}
+use Rattle.pesp_cert.specs.Fronted.{Fronted, IsFrontedText, fronted_text}
 use Rattle.pesp_cert_lines.specs.declared.versions.Versions.TheVariants.{All}
 use Rattle.pesp_check_run.specs.Checking.{Checks, ReadsInstance}
 use Rattle.pesp_faults.specs.Reading.{ReadsTimetable}
@@ -25,7 +24,7 @@ accepts_fronted : (text before bytes : List ℕ) (left left_instance left_certif
     → verdict ≡ Accepted
 accepts_fronted text before bytes left left_instance left_certificate old new period verdict p c read valid has_text gets checked =
     accepts_written All text before bytes left left_instance left_certificate old new period verdict p c.front c.content read valid
-    (is_text (fronted_text c) c has_text).has_text gets checked
+    has_text.has_text gets checked
 
 pub accepts_what_is_sharpened : (text before bytes : List ℕ)
     (left left_instance left_certificate old new : Option (List ℕ)) (period steps : ℕ) (verdict : Verdict)

@@ -1,13 +1,12 @@
 -- What is written of certificates that may have a front.
-use Rattle.std.proofs.Common.{◌≡◌, ℕ, List, refl, sym, subst, None}
-use Rattle.std.specs.Prelude.{Option, IfSome}
+use Rattle.std.proofs.Common.{◌≡◌, ℕ, List, refl, sym, subst}
+use Rattle.std.specs.Prelude.{Option}
 use Rattle.pesp_problem.specs.Timetables.{Pesp}
 use Rattle.pesp_truth.specs.Truth.{IsTrueAnswer}
 use Rattle.pesp_truth.specs.Certificates.{Content, shown_times}
 use Rattle.pesp_cert.specs.Texts.{HasText}
 use Rattle.pesp_truth.specs.Marks.{Marks}
-use Rattle.pesp_truth.specs.FrontLimits.{KeepsLimits}
-use Rattle.pesp_sharp_text.specs.Texts.{Fronted, IsFrontedText, fronted_text}
+use Rattle.pesp_cert.specs.Fronted.{Fronted, IsFrontedText, fronted_text}
 use Rattle.pesp_search.specs.Solving.{CostsNoMore}
 use Rattle.pesp_sharp_search.specs.Solving.{IsSharpSolved}
 use Rattle.pesp_sharp_outside.specs.Grafts.{IsSharpGrafted}
@@ -56,11 +55,10 @@ graft {Tells = Tells} replies lines are grafted is_true has_text gets tells = re
   told = subst Tells are tells;
 }
 
--- a certificate whose parts have texts has one
+-- a certificate whose parts have a text has it
 pub has_text_of : (c : Fronted) (front : Option Marks) (content : Content)
-    → c ≡ record { front = front; content = content } → IfSome front KeepsLimits → HasText None content
-    → IsFrontedText (fronted_text c) c
-has_text_of c front content is keeps has =
+    → c ≡ record { front = front; content = content } → HasText front content → IsFrontedText (fronted_text c) c
+has_text_of c front content is has =
     let there : IsFrontedText (fronted_text (record { front = front; content = content }))
-    (record { front = front; content = content }) = record { front = keeps; content = has; spelt = refl } in
+    (record { front = front; content = content }) = record { has_text = has; spelt = refl } in
     subst (λ (x : Fronted). IsFrontedText (fronted_text x) x) (sym is) there

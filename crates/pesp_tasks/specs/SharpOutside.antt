@@ -2,7 +2,7 @@
 use Rattle.std.specs.Prelude.{◌≡◌, ◌⊎◌, ℕ, List, Option}
 use Rattle.std.specs.Io.KnownBytes.{Appends}
 use Rattle.pesp_problem.specs.Timetables.{Pesp}
-use Rattle.pesp_sharp_text.specs.Texts.{Fronted}
+use Rattle.pesp_cert.specs.Fronted.{Fronted}
 use Rattle.pesp_outside.specs.declared.jobs.OpenJob.{OpenJob}
 use Rattle.pesp_outside.specs.Texts.{jobs_text}
 use Rattle.pesp_sharp_outside.specs.Jobs.{AreSharpJobs, AreJobsOf}

@@ -4,12 +4,12 @@ ghost use Rattle.std.specs.Prelude.{◌≡◌, IfSome};
 ghost use Rattle.pesp_truth.specs.Truth.{IsTrueAnswer};
 ghost use Rattle.pesp_truth.specs.Certificates.{shown_times};
 ghost use Rattle.pesp_truth.specs.FrontLimits.{KeepsLimits};
-ghost use Rattle.pesp_sharp_text.specs.Texts.{IsFrontedText, fronted_text};
+ghost use Rattle.pesp_cert.specs.Fronted.{IsFrontedText, fronted_text};
 ghost use Rattle.pesp_runs.specs.Bases.{IsSharpBase};
 
-use pesp_cert::laws::limits_are_those_of_texts;
+use pesp_cert::laws::limits_of_fronts_are_those_of_texts;
+use pesp_cert::{Fronted, Marks};
 use pesp_problem::Instance;
-use pesp_sharp_text::{Fronted, Marks};
 use pesp_truth::laws::valid_is_true;
 
 /// A front keeps its limits.
@@ -30,7 +30,7 @@ pub(crate) fn vouch(instance: &Instance, fronted: &Fronted)
 {
     valid_is_true();
     instance.period();
-    limits_are_those_of_texts();
+    limits_of_fronts_are_those_of_texts();
     fronted.certificate.period();
     keeps_limits(&fronted.front);
 }

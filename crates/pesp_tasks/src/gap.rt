@@ -1,14 +1,15 @@
 //! How good a certificate's answer is.
 
 use crate::gap_text::GapText;
-use pesp_cert::Certificate;
+use pesp_cert::Fronted;
 use pesp_faults::Fault;
 use pesp_problem::Instance;
 use pesp_runs::OnBase;
 use pesp_stream::{Sink, print_to};
 use std::alloc::Global;
 
-/// The cost of a certificate's answer, its bound, and what might still be saved, in per cent of the cost, rounded up.
+/// The cost of a certificate's answer, its bound, and what might still be saved, in per cent of the cost, rounded up. The certificate's
+/// text may have a front.
 #[derive(Clone, Copy)]
 pub struct Gap;
 
@@ -17,11 +18,11 @@ impl OnBase for Gap {
     ghost use Rattle.pesp_faults.specs.Causes.{OutCause};
     ghost use Rattle.pesp_tasks.specs.Gaps.{gap_line};
 
-    type Base = Certificate;
+    type Base = Fronted;
 
     ghost within = { λ _. ⊤ };
 
-    ghost writes = { λ _ _ p base Gets. Gets (gap_line base.answer) };
+    ghost writes = { λ _ _ p base Gets. Gets (gap_line base.content.answer) };
 
     ghost stops = { λ _ p base fault cut. OutCause fault cut };
 
@@ -29,10 +30,10 @@ impl OnBase for Gap {
         &mut self,
         _alloc: Global,
         _instance: &Instance,
-        base: Certificate,
+        base: Fronted,
         writer: &mut W,
     ) -> Result<(), Fault> {
-        let answer = base.answer();
+        let answer = base.certificate.answer();
         drop(base);
         print_to(writer, &GapText(answer))?;
         Ok(())

@@ -5,7 +5,7 @@ use pesp_faults::Fault;
 use pesp_problem::Instance;
 use pesp_runs::Search;
 use pesp_sharp_search::{SharpObserver, solve_sharp};
-use pesp_sharp_text::print_fronted;
+use pesp_cert::print_fronted;
 use pesp_stream::Sink;
 use std::alloc::Global;
 

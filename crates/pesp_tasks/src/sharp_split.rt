@@ -4,7 +4,7 @@ use pesp_faults::Fault;
 use pesp_problem::Instance;
 use pesp_runs::OnBase;
 use pesp_sharp_outside::{JobsText, sharp_jobs};
-use pesp_sharp_text::Fronted;
+use pesp_cert::Fronted;
 use pesp_stream::{Sink, print_to};
 use std::alloc::Global;
 

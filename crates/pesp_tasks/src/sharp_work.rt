@@ -5,7 +5,7 @@ use pesp_faults::Fault;
 use pesp_problem::Instance;
 use pesp_runs::OnBase;
 use pesp_sharp_outside::{Unwatched, work_sharp};
-use pesp_sharp_text::{Fronted, print_fronted};
+use pesp_cert::{Fronted, print_fronted};
 use pesp_stream::Sink;
 use std::alloc::Global;
 

@@ -1,19 +1,27 @@
 //! How much work anneals have in which spans may be broken.
 
+use crate::plans::Prices;
+
 /// Up to how many rows there is no search in which spans may be broken: batches find the best there.
 const FEWEST_SOFT: usize = 120;
 
 /// How many reheats of a timetable are merged with it.
 const REHEATS: u32 = 3;
 
-/// How many groups of how many individuals have anneals in which spans may be broken, and with how many sweeps; how many sweeps
-/// an anneal between clusters has; how many rounds there are of how many reheats, with how many sweeps, and after how many rounds
-/// in turn that found nothing they end.
+/// After how many groups in turn that found nothing cheaper no more begin.
+const PATIENCE: u32 = 2;
+
+/// How many groups of how many individuals have anneals in which spans may be broken, and with how many sweeps and
+/// at which prices, and after how many groups in turn that found nothing cheaper no more begin; how many sweeps an anneal between
+/// clusters has; how many rounds there are of how many reheats, with how many sweeps, and after how many rounds in turn that found
+/// nothing they end.
 #[derive(Clone, Copy)]
 pub struct SoftEffort {
     pub(crate) groups: u32,
     pub(crate) individuals: u32,
     pub(crate) sweeps: u32,
+    pub(crate) prices: Prices,
+    pub(crate) patience: u32,
     pub(crate) between: u32,
     pub(crate) rounds: u32,
     pub(crate) reheats: u32,
@@ -28,7 +36,8 @@ impl SoftEffort {
             return None;
         }
         let (groups, individuals, sweeps, rounds, quiet) = match rows {
-            0..=700 => (1, 3, 600, 1, 1),
+            0..=400 => (4, 4, 300, 2, 1),
+            401..=700 => (1, 3, 600, 1, 1),
             701..=2_500 => (1, 4, 1_000, 3, 2),
             2_501..=8_000 => (1, 1, 1_500, 1, 1),
             8_001..=30_000 => (1, 1, 600, 1, 1),
@@ -39,6 +48,8 @@ impl SoftEffort {
             groups,
             individuals,
             sweeps,
+            prices: Prices::of(rows),
+            patience: PATIENCE,
             between,
             rounds,
             reheats: REHEATS,
@@ -47,10 +58,13 @@ impl SoftEffort {
         })
     }
 
-    /// One individual, in half the sweeps.
-    pub fn once(&self) -> SoftEffort {
+    /// The work where a batch came to one cost twice: all of it where there are several groups, else one individual in half the
+    /// sweeps.
+    pub fn after_same(&self) -> SoftEffort {
+        if self.groups > 1 {
+            return *self;
+        }
         SoftEffort {
-            groups: 1,
             individuals: 1,
             sweeps: self.sweeps / 2,
             ..*self
@@ -68,6 +82,8 @@ impl SoftEffort {
             groups: 0,
             individuals: 0,
             sweeps: 0,
+            prices: Prices::of(rows),
+            patience: 0,
             between,
             rounds: (steps / 512).clamp(1, 4),
             reheats: REHEATS,

@@ -2,41 +2,65 @@
 
 use pesp_soft_annealing::{Cooling, Plan};
 
-/// The price of a unit of time above a span at the end of a soft anneal, and how often it was doubled until then.
-const LAST_PRICE: u64 = 256;
+/// What a unit of time above a span costs at the end of a soft anneal, and how often that was doubled until then.
+#[derive(Clone, Copy)]
+pub(crate) struct Prices {
+    last: u64,
+    doublings: u64,
+}
 
-const DOUBLINGS: u64 = 2;
+/// From good timetables, most of whose offsets stay.
+const FROM_GOOD: Prices = Prices {
+    last: 256,
+    doublings: 2,
+};
 
-/// The plan of a soft anneal of so many sweeps from a heat, and of a hard one of so many.
-fn plan(sweeps: u32, top: u64, sixteenths: u64, hard_sweeps: u32) -> Plan {
+impl Prices {
+    /// The prices of individuals over so many rows. Where there are few rows they begin so low that offsets of long walks of
+    /// narrow rows change.
+    pub(crate) fn of(rows: usize) -> Prices {
+        let (last, doublings) = match rows {
+            0..=400 => (128, 3),
+            401..=700 => (256, 4),
+            _ => (256, 2),
+        };
+        Prices { last, doublings }
+    }
+}
+
+/// The plan of a soft anneal at these prices, and of a hard one of so many sweeps.
+fn plan(soft: Cooling, prices: Prices, hard_sweeps: u32) -> Plan {
     Plan {
-        soft: Cooling {
-            sweeps,
-            top,
-            sixteenths,
-        },
+        soft,
         hard: Cooling {
             sweeps: hard_sweeps,
             top: 32,
             sixteenths: 80,
         },
-        last_price: LAST_PRICE,
-        doublings: DOUBLINGS,
+        last_price: prices.last,
+        doublings: prices.doublings,
     }
 }
 
 /// An individual: from four times the mean to a half of it, in so many sweeps, and then from the mean to a 32nd of it.
-pub(crate) fn individual(sweeps: u32) -> Plan {
-    plan(sweeps, 128, 48, 300)
+pub(crate) fn individual(sweeps: u32, prices: Prices) -> Plan {
+    let soft = Cooling {
+        sweeps,
+        top: 128,
+        sixteenths: 48,
+    };
+    plan(soft, prices, 300)
 }
 
 /// A search from good timetables, from the mean, or the second one from one and a half times that, to a half of it.
 fn from_good(sweeps: u32, number: u32, hard_sweeps: u32) -> Plan {
-    if number == 1 {
-        plan(sweeps, 48, 25, hard_sweeps)
-    } else {
-        plan(sweeps, 32, 16, hard_sweeps)
-    }
+    let (top, sixteenths) = if number == 1 { (48, 25) } else { (32, 16) };
+    let soft = Cooling {
+        sweeps,
+        top,
+        sixteenths,
+    };
+    plan(soft, FROM_GOOD, hard_sweeps)
 }
 
 /// A search between the clusters of a merge.

@@ -198,9 +198,10 @@ impl SoftSearch {
         slacks: &[u32],
         effort: &SoftEffort,
     ) -> Result<Option<Found>, Memory> {
+        let plan = individual(effort.sweeps, effort.prices);
         let mut pool = Vec::new(self.alloc);
         for _ in 0..effort.individuals {
-            if let Some(found) = self.annealed(network, slacks, &individual(effort.sweeps))? {
+            if let Some(found) = self.annealed(network, slacks, &plan)? {
                 self.note(network, &found)?;
                 pool.push(found)?;
             }
@@ -296,6 +297,31 @@ impl SoftSearch {
         Ok(Some(lower?))
     }
 
+    /// Groups of new individuals from these slacks, each merged, until some in turn found nothing cheaper.
+    fn begin_groups(
+        &mut self,
+        network: &Network,
+        slacks: &[u32],
+        effort: &SoftEffort,
+    ) -> Result<(), Memory> {
+        let mut quiet = 0u32;
+        for _ in 0..effort.groups {
+            let before = self.cheapest.cost();
+            if let Some(top) = self.group(network, slacks, effort)? {
+                self.tops.push(top)?;
+            }
+            quiet = if self.cheapest.cost() == before {
+                quiet.saturating_add(1)
+            } else {
+                0
+            };
+            if quiet >= effort.patience {
+                break;
+            }
+        }
+        Ok(())
+    }
+
     /// Groups of new individuals from the slacks of a timetable, each merged.
     pub fn begin(
         &mut self,
@@ -306,12 +332,7 @@ impl SoftSearch {
         let Some(lower) = self.descend(network, slacks)? else {
             return Ok(());
         };
-        for _ in 0..effort.groups {
-            if let Some(top) = self.group(network, &lower, effort)? {
-                self.tops.push(top)?;
-            }
-        }
-        Ok(())
+        self.begin_groups(network, &lower, effort)
     }
 
     /// A merge with the cheapest timetable of others, where it isn't known, and reheats of the best.

@@ -136,7 +136,7 @@ impl TimesSearch {
         }
     }
 
-    /// Merges the best of both searches, and makes it cheaper; one try is enough where the batch found the same twice.
+    /// Merges the best of both searches, and makes it cheaper; less is enough where the batch found the same twice.
     fn end_softly(
         &mut self,
         network: &Network,
@@ -145,7 +145,7 @@ impl TimesSearch {
     ) -> Result<(), Memory> {
         if ended == Ended::Same {
             if self.soft.cheapest.cost().is_none() {
-                self.begin_softly(network, &effort.once())?;
+                self.begin_softly(network, &effort.after_same())?;
             }
             if !self.soft_is_ahead() {
                 return Ok(());

@@ -1,6 +1,6 @@
 //! A first look, for a search that goes on from it in a way of its own.
 
-ghost use Rattle.std.specs.Prelude.{IfOk, IfErr};
+ghost use Rattle.std.specs.Prelude.{◌≡◌, IfOk, IfErr};
 ghost use Rattle.pesp_search.specs.Refusals.{MeetsLimit};
 ghost use Rattle.pesp_search.specs.Solving.{IsSolved, CostsNoMore, IsSearchRefusal};
 
@@ -11,7 +11,7 @@ use crate::solution::{Solved, solve_on};
 use pesp_branching::Proposer;
 use pesp_problem::Instance;
 use pesp_reduce::Reduced;
-use pesp_times::TimesSearch;
+use pesp_times::{Effort, TimesSearch};
 use pesp_turns::{Known, Observer, Search};
 use std::alloc::Global;
 
@@ -23,12 +23,24 @@ pub struct FirstLook {
     pub times: Option<TimesSearch>,
 }
 
+/// Has the search for times do so much before the first step.
+fn set_effort(search: &mut Search, effort: Effort)
+    ensures board { search.new.board ≡ search.old.board }
+    ensures known { search.new.known ≡ search.old.known }
+{
+    if let Some(times) = &mut search.proposer.times {
+        times.set_effort(effort);
+    }
+}
+
 /// Answers within 0 steps as `solve_from` does, with the same promises, for a search that goes on from the answer in a way of
-/// its own. No later bound rests on the cycles of the answer, so a forest is looked for a twentieth as long.
+/// its own. No later bound rests on the cycles of the answer, so a forest is looked for a twentieth as long; and times are looked
+/// for with so much effort.
 pub fn look_first<O: Observer>(
     alloc: Global,
     instance: &Instance,
     times: &[u32],
+    effort: Effort,
     observer: &mut O,
 ) -> Result<FirstLook, SolveRefusal>
     ensures solved { IfOk result
@@ -39,6 +51,7 @@ pub fn look_first<O: Observer>(
     ensures passed { IfErr result (MeetsLimit instance.now 0) }
 {
     let mut search = begin(alloc, instance, Planting::Short, observer)?;
+    set_effort(&mut search, effort);
     match solve_on(alloc, instance, &mut search, times, 0, observer) {
         Ok(solved) => {
             let Search {

@@ -1,7 +1,7 @@
 //! Balls: a connected part of the events is freed, and the rest moves as one cluster.
 
-use crate::effort::FEW;
 use crate::search::TimesSearch;
+use crate::work::FEW;
 use pesp_annealing::Annealer;
 use pesp_network::Network;
 use pesp_problem::Memory;

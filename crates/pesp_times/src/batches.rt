@@ -1,7 +1,7 @@
 //! Batches: individuals are merged by fours, and these with the best of before.
 
-use crate::effort::{Effort, MAY_END_EARLY, is_near};
 use crate::search::TimesSearch;
+use crate::work::{MAY_END_EARLY, Work, is_near};
 use pesp_network::Network;
 use pesp_problem::Memory;
 use pesp_soft_times::SoftEffort;
@@ -21,12 +21,12 @@ impl TimesSearch {
         &mut self,
         network: &Network,
         pool: Vec<Found>,
-        effort: Effort,
+        work: Work,
     ) -> Result<Option<Found>, Memory> {
-        let Some(mut found) = self.merged(network, pool, effort.rounds)? else {
+        let Some(mut found) = self.merged(network, pool, work.rounds)? else {
             return Ok(None);
         };
-        self.free_balls(network, &mut found, effort.balls, effort.rounds)?;
+        self.free_balls(network, &mut found, work.balls, work.rounds)?;
         if network.rows().len() > MOST_REOPTIMISED {
             return Ok(Some(found));
         }
@@ -34,14 +34,14 @@ impl TimesSearch {
     }
 
     /// Four individuals, merged.
-    fn four(&mut self, network: &Network, effort: Effort) -> Result<Option<Found>, Memory> {
+    fn four(&mut self, network: &Network, work: Work) -> Result<Option<Found>, Memory> {
         let mut pool = Vec::new(self.alloc);
         for start in self.kinds.next_four() {
-            if let Some(found) = self.individual(network, start, effort.rounds)? {
+            if let Some(found) = self.individual(network, start, work.rounds)? {
                 pool.push(found)?;
             }
         }
-        self.merged_with_balls(network, pool, effort)
+        self.merged_with_balls(network, pool, work)
     }
 
     /// Whether a timetable is near the cheapest one, or there is none.
@@ -53,7 +53,11 @@ impl TimesSearch {
     }
 
     /// Those that were met elsewhere and are near the cheapest one, annealed.
-    fn adopt_waiting(&mut self, network: &Network, effort: Effort) -> Result<Vec<Found>, Memory> {
+    pub(crate) fn adopt_waiting(
+        &mut self,
+        network: &Network,
+        work: Work,
+    ) -> Result<Vec<Found>, Memory> {
         let mut pool = Vec::new(self.alloc);
         for _ in 0..self.waiting.len() {
             let Some(met) = self.waiting.pop() else {
@@ -62,7 +66,7 @@ impl TimesSearch {
             if !self.is_near_best(network, &met) {
                 continue;
             }
-            if let Some(found) = self.adopted(network, met, effort.rounds)? {
+            if let Some(found) = self.adopted(network, met, work.rounds)? {
                 pool.push(found)?;
             }
         }
@@ -70,7 +74,7 @@ impl TimesSearch {
     }
 
     /// The best of before, unless the pool has it.
-    fn add_best(&self, pool: &mut Vec<Found>) -> Result<(), Memory> {
+    pub(crate) fn add_best(&self, pool: &mut Vec<Found>) -> Result<(), Memory> {
         let Some(best) = self.cheapest() else {
             return Ok(());
         };
@@ -88,10 +92,10 @@ impl TimesSearch {
         &mut self,
         network: &Network,
         pool: &mut Vec<Found>,
-        effort: Effort,
+        work: Work,
     ) -> Result<bool, Memory> {
         let before = self.least();
-        let Some(found) = self.four(network, effort)? else {
+        let Some(found) = self.four(network, work)? else {
             return Ok(false);
         };
         let is_same = before == Some(found.cost);
@@ -104,19 +108,19 @@ impl TimesSearch {
         &mut self,
         network: &Network,
         pool: &mut Vec<Found>,
-        effort: Effort,
+        work: Work,
         soft: Option<SoftEffort>,
     ) -> Result<Ended, Memory> {
-        for number in 0..effort.fours {
+        for number in 0..work.fours {
             if let Some(soft) = soft
-                && number == effort.fours / 2
+                && number == work.fours / 2
             {
                 self.begin_softly(network, &soft)?;
             }
             if !self.is_worth_a_batch() {
                 return Ok(Ended::Worthless);
             }
-            let is_same = self.add_four(network, pool, effort)?;
+            let is_same = self.add_four(network, pool, work)?;
             if is_same && network.rows().len() > MAY_END_EARLY {
                 return Ok(Ended::Same);
             }
@@ -130,14 +134,14 @@ impl TimesSearch {
     pub(crate) fn batch(
         &mut self,
         network: &Network,
-        effort: Effort,
+        work: Work,
         soft: Option<SoftEffort>,
     ) -> Result<Ended, Memory> {
-        let mut pool = self.adopt_waiting(network, effort)?;
-        let ended = self.add_fours(network, &mut pool, effort, soft)?;
+        let mut pool = self.adopt_waiting(network, work)?;
+        let ended = self.add_fours(network, &mut pool, work, soft)?;
         if ended == Ended::Whole {
             self.add_best(&mut pool)?;
-            self.merged_with_balls(network, pool, effort)?;
+            self.merged_with_balls(network, pool, work)?;
         }
         Ok(ended)
     }

@@ -1,8 +1,8 @@
 //! New timetables: dives of several kinds, and anneals behind them.
 
-use crate::effort::{FEW, GREEDY, MOST_DIVED};
 use crate::kinds::Start;
 use crate::search::{Known, TimesSearch};
+use crate::work::{FEW, GREEDY, MOST_DIVED};
 use pesp_annealing::Annealer;
 use pesp_network::Network;
 use pesp_problem::Memory;

@@ -9,6 +9,9 @@ mod effort;
 mod individuals;
 mod kinds;
 mod merges;
+mod pieces;
 mod search;
+mod work;
 
+pub use effort::Effort;
 pub use search::TimesSearch;

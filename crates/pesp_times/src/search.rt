@@ -1,8 +1,10 @@
 //! The search for timetables of one network, and the best that it found.
 
 use crate::batches::Ended;
-use crate::effort::{Effort, may_win};
-use crate::kinds::Kinds;
+use crate::effort::Effort;
+use crate::kinds::{Kinds, Start};
+use crate::pieces::Pieces;
+use crate::work::{Work, may_win};
 use pesp_forest::Frame;
 use pesp_network::Network;
 use pesp_problem::Memory;
@@ -13,6 +15,9 @@ use std::alloc::Global;
 
 /// How many batches, and how many reheats after steps, are left out where the first batch ended early.
 const LONG_REST: u32 = 3;
+
+/// How many rounds an anneal has before the first step where little is done.
+const SHORT_ROUNDS: u32 = 2;
 
 /// How many timetables that were met elsewhere wait for a batch at most.
 const MOST_WAITING: usize = 3;
@@ -36,6 +41,8 @@ pub struct TimesSearch {
     pub(crate) mean: u64,
     pub(crate) kinds: Kinds,
     pub(crate) waiting: Vec<Found>,
+    pub(crate) pieces: Pieces,
+    effort: Effort,
     rest: Rest,
     soft_rest: Rest,
     hard: Cheapest,
@@ -93,6 +100,8 @@ impl TimesSearch {
             mean: 0,
             kinds: Kinds::new(alloc)?,
             waiting: Vec::new(alloc),
+            pieces: Pieces::new(alloc),
+            effort: Effort::Whole,
             rest: Rest::none(),
             soft_rest: Rest::none(),
             hard: Cheapest::none(),
@@ -100,11 +109,30 @@ impl TimesSearch {
         })
     }
 
+    /// So much is done before the first step.
+    pub fn set_effort(&mut self, effort: Effort) {
+        self.effort = effort;
+    }
+
     /// What is found before the first step of a search. It doesn't depend on any step limit.
     pub fn begin(&mut self, network: &Network) -> Result<(), Memory> {
+        match self.effort {
+            Effort::Short => self.begin_short(network),
+            Effort::Whole => self.begin_whole(network),
+        }
+    }
+
+    /// One timetable of a plain dive, annealed a little.
+    fn begin_short(&mut self, network: &Network) -> Result<(), Memory> {
+        self.individual(network, Start::Plain, SHORT_ROUNDS)?;
+        Ok(())
+    }
+
+    /// Whole batches.
+    fn begin_whole(&mut self, network: &Network) -> Result<(), Memory> {
         let rows = network.rows().len();
         let soft = SoftEffort::first(rows);
-        let ended = self.batch(network, Effort::first(rows), soft)?;
+        let ended = self.batch(network, Work::first(rows), soft)?;
         if ended == Ended::Same {
             self.rest = Rest::long();
             self.soft_rest = Rest::long();
@@ -151,7 +179,7 @@ impl TimesSearch {
                 return Ok(());
             }
         }
-        self.soft.go_on(network, self.hard.found(), effort)
+        self.reheat(network, effort)
     }
 
     /// What the cheapest timetable of all batches costs.
@@ -173,11 +201,16 @@ impl TimesSearch {
             return Ok(());
         }
         let before = self.least();
-        let effort = Effort::after(network.rows().len(), steps);
+        let effort = Work::after(network.rows().len(), steps);
         self.batch(network, effort, None)?;
         let is_cheaper = self.least() != before;
         self.rest.note(is_cheaper);
         Ok(())
+    }
+
+    /// Reheats of the cheapest timetable in which spans may be broken.
+    pub(crate) fn reheat(&mut self, network: &Network, effort: &SoftEffort) -> Result<(), Memory> {
+        self.soft.go_on(network, self.hard.found(), effort)
     }
 
     /// Reheats after so many steps, unless those before them found nothing.
@@ -187,7 +220,7 @@ impl TimesSearch {
         }
         let before = self.soft.cheapest.cost();
         let effort = SoftEffort::after(network.rows().len(), steps);
-        self.soft.go_on(network, self.hard.found(), &effort)?;
+        self.reheat(network, &effort)?;
         let is_cheaper = self.soft.cheapest.cost() != before;
         self.soft_rest.note(is_cheaper);
         Ok(())

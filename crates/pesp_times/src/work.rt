@@ -1,0 +1,60 @@
+//! How much work a batch is.
+
+/// How many individuals, in fours; how many rounds an anneal has; and how many balls in turn may find nothing behind each merge.
+#[derive(Clone, Copy)]
+pub(crate) struct Work {
+    pub(crate) fours: u32,
+    pub(crate) rounds: u32,
+    pub(crate) balls: u32,
+}
+
+/// How many greedy rounds come before an anneal.
+pub(crate) const GREEDY: u32 = 4;
+
+/// Up to how many rows the relaxation is dived into.
+pub(crate) const MOST_DIVED: usize = 8_000;
+
+/// Up to how many rows no batch ends early: all of it takes little time there.
+pub(crate) const MAY_END_EARLY: usize = 150;
+
+/// Up to how many rows there is more work for each row.
+pub(crate) const FEW: usize = 2_500;
+
+/// Whether a timetable is worth a merge beside the cheapest of a pool: where there are many rows, or it costs at most a 32nd more.
+pub(crate) fn is_near(rows: usize, cost: u64, least: u64) -> bool {
+    rows > FEW || cost <= least.saturating_add(least / 32)
+}
+
+impl Work {
+    /// The work before the first step.
+    pub(crate) fn first(rows: usize) -> Work {
+        let (fours, rounds, balls) = match rows {
+            0..=300 => (8, 20, 3),
+            301..=700 => (4, 20, 3),
+            701..=2_500 => (2, 20, 3),
+            2_501..=8_000 => (1, 24, 6),
+            8_001..=30_000 => (1, 24, 20),
+            _ => (1, 6, 20),
+        };
+        Work {
+            fours,
+            rounds,
+            balls,
+        }
+    }
+
+    /// The work after so many steps: little beside what the steps took, from a few thousand steps on.
+    pub(crate) fn after(rows: usize, steps: u32) -> Work {
+        let least = if rows > 2_500 { 15 } else { 3 };
+        Work {
+            fours: 1,
+            rounds: (steps / 8).clamp(20, 100),
+            balls: (steps / 512).saturating_add(least).min(40),
+        }
+    }
+}
+
+/// Whether a batch may still lead to the cheapest timetable, by what its cheapest and that of the other search cost.
+pub(crate) fn may_win(hard: u64, soft: u64) -> bool {
+    hard <= soft.saturating_add(soft / 16)
+}

@@ -7,10 +7,10 @@ ghost use Rattle.pesp_check_run.specs.Devices.{Device, over};
 ghost use Rattle.pesp_faults.specs.declared.fault.Fault.{Fault as AnyFault};
 
 use pesp_cert::{Certificate, Fronted, parse_fronted};
+use pesp_check::check_sharp;
 use pesp_faults::{Fault, MOST_TEXT, read_base};
 use pesp_judges::Verdict;
 use pesp_problem::Instance;
-use pesp_check::check_sharp;
 use pesp_stream::{Source, read_all};
 use std::alloc::Global;
 

@@ -1,9 +1,9 @@
 //! The cycles and the marked walks of the certificate that comes of two.
 
 use crate::names::Numbering;
+use pesp_cert::Marks;
 use pesp_nets::MarkedWalk;
 use pesp_problem::{Memory, Walk};
-use pesp_cert::Marks;
 use std::alloc::Global;
 
 /// The marked walks of a front.

@@ -7,8 +7,8 @@ use crate::fronts::walks_of;
 use crate::pairing::{Pairing, Shown};
 use crate::runs::{Run, Trees};
 use crate::shape::Shape;
-use pesp_problem::Memory;
 use pesp_cert::Fronted;
+use pesp_problem::Memory;
 use std::alloc::Global;
 
 /// What comes of two certificates: one that shows more than the first, nothing new, or nothing since a part would pass a limit.

@@ -7,11 +7,11 @@ ghost use Rattle.pesp_sharp_outside.specs.Jobs.{job_at, jobs_in, told_job, count
 
 use crate::paths::pass;
 use pesp_board::Job;
+use pesp_cert::Fronted;
+use pesp_check::costs_shown;
 use pesp_outside::OpenJob;
 use pesp_problem::{Cut, Instance, Memory, Side};
-use pesp_check::costs_shown;
 use pesp_sharp_search::cost_of;
-use pesp_cert::Fronted;
 use pesp_truth::TreeLine;
 use std::alloc::Global;
 

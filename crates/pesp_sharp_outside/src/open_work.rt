@@ -6,10 +6,10 @@ ghost use Rattle.pesp_sharp_search.specs.Solving.{IsSharpResumed};
 ghost use Rattle.pesp_sharp_outside.specs.Jobs.{AreJobsOf};
 
 use crate::jobs::{is_open, open_count};
-use pesp_problem::{Instance, Memory};
-use pesp_check::costs_shown;
-use pesp_sharp_search::{Leaves, SharpWatcher, cost_of, resume_leaves};
 use pesp_cert::Fronted;
+use pesp_check::costs_shown;
+use pesp_problem::{Instance, Memory};
+use pesp_sharp_search::{Leaves, SharpWatcher, cost_of, resume_leaves};
 use std::alloc::Global;
 
 /// Whether there are jobs of all these numbers, where there are so many.

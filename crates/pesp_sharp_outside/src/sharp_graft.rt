@@ -8,9 +8,9 @@ ghost use Rattle.pesp_sharp_outside.specs.Grafts.{TakesSharpWork, IsSharpGrafted
 
 use crate::joined_texts::cut_work;
 use pesp_cert::{CertRefusal, Fronted, parse_fronted};
+use pesp_check::{check_sharp, costs_shown};
 use pesp_judges::{Refusal, Verdict};
 use pesp_problem::{Instance, Memory};
-use pesp_check::{check_sharp, costs_shown};
 use pesp_sharp_merge::{Merged, Shown, merge};
 use pesp_sharp_search::is_no_worse;
 use std::alloc::Global;

@@ -5,9 +5,9 @@ ghost use Rattle.pesp_truth.specs.Certificates.{IsValid};
 ghost use Rattle.pesp_sharp_search.specs.Solving.{IsSharpResumed};
 
 use crate::choice::{branches_of, first_standing};
+use pesp_cert::Fronted;
 use pesp_problem::{Instance, Memory};
 use pesp_sharp_proposals::{Leaves, SharpWatcher, propose_from};
-use pesp_cert::Fronted;
 use std::alloc::Global;
 
 /// Goes on from a valid certificate of an instance, with or without marked walks: its open leaves are split, that of least value

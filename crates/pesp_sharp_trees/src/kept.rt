@@ -2,10 +2,10 @@
 
 use crate::copies::copied_marked;
 use crate::scales::growth_of;
+use pesp_cert::Fronted;
 use pesp_nets::MarkedWalk;
 use pesp_network::Network;
 use pesp_problem::{Memory, Pair, Pairs};
-use pesp_cert::Fronted;
 use pesp_sharpening::Line;
 use pesp_truth::TreeLine;
 use std::alloc::Global;

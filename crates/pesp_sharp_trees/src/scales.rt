@@ -1,7 +1,7 @@
 //! Scales of multipliers.
 
-use pesp_network::{NetRow, Network};
 use pesp_cert::{Fronted, Marks};
+use pesp_network::{NetRow, Network};
 
 /// The least scale of leaves that name a marked walk, where weights allow it.
 const LEAST_SCALE: u32 = 65_536;

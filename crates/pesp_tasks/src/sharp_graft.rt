@@ -13,11 +13,11 @@ ghost use Rattle.pesp_tasks.specs.SharpOutside.{WritesSharpGraft, GraftsSharp, C
 
 use crate::fronted::vouch;
 use crate::replies::lines_of;
+use pesp_cert::{Fronted, print_fronted};
 use pesp_faults::{Fault, MOST_TEXT, read_whole_instance};
 use pesp_problem::Instance;
 use pesp_runs::Base;
 use pesp_sharp_outside::graft_sharp;
-use pesp_cert::{Fronted, print_fronted};
 use pesp_stream::{Bytes, Sink, Source, print_to, read_all};
 use std::alloc::Global;
 

@@ -1,11 +1,11 @@
 //! The search that goes on from a certificate, with leaves that marked walks sharpen.
 
 use crate::fronted::vouch;
+use pesp_cert::{Fronted, print_fronted};
 use pesp_faults::Fault;
 use pesp_problem::Instance;
 use pesp_runs::OnBase;
 use pesp_sharp_search::{SharpWatcher, resume_sharp};
-use pesp_cert::{Fronted, print_fronted};
 use pesp_stream::Sink;
 use std::alloc::Global;
 

@@ -1,11 +1,11 @@
 //! The search for a best timetable, with leaves that marked walks sharpen.
 
 use crate::fronted::vouch;
+use pesp_cert::print_fronted;
 use pesp_faults::Fault;
 use pesp_problem::Instance;
 use pesp_runs::Search;
 use pesp_sharp_search::{SharpObserver, solve_sharp};
-use pesp_cert::print_fronted;
 use pesp_stream::Sink;
 use std::alloc::Global;
 

@@ -1,10 +1,10 @@
 //! The open leaves of a certificate that may have a front, as jobs.
 
+use pesp_cert::Fronted;
 use pesp_faults::Fault;
 use pesp_problem::Instance;
 use pesp_runs::OnBase;
 use pesp_sharp_outside::{JobsText, sharp_jobs};
-use pesp_cert::Fronted;
 use pesp_stream::{Sink, print_to};
 use std::alloc::Global;
 

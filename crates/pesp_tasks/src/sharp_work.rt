@@ -1,11 +1,11 @@
 //! Work on open leaves of a certificate that may have a front.
 
 use crate::fronted::vouch;
+use pesp_cert::{Fronted, print_fronted};
 use pesp_faults::Fault;
 use pesp_problem::Instance;
 use pesp_runs::OnBase;
 use pesp_sharp_outside::{Unwatched, work_sharp};
-use pesp_cert::{Fronted, print_fronted};
 use pesp_stream::Sink;
 use std::alloc::Global;
 

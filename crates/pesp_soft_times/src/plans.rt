@@ -21,7 +21,7 @@ impl Prices {
     pub(crate) fn of(rows: usize) -> Prices {
         let (last, doublings) = match rows {
             0..=400 => (128, 3),
-            401..=700 => (256, 4),
+            401..=700 => (128, 2),
             _ => (256, 2),
         };
         Prices { last, doublings }

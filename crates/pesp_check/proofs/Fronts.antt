@@ -12,7 +12,12 @@ use Rattle.pesp_cert_lines.specs.declared.item.Item.{Item}
 use Rattle.pesp_cert_lines.specs.declared.item.Item.TheVariants.{Front, Scale, Walk, Version, Period, Answer as Says, Time, Cycle, Slack, Offset, Bound, Nothing, Gap, Propagated, End}
 use Rattle.pesp_cert_lines.proofs.Tests.{and_left}
 use Rattle.pesp_cert.specs.Texts.{time_item}
-use Rattle.pesp_cert.specs.Drafts.{FrontValue, front_said}
+use Rattle.pesp_cert.specs.Drafts.{FrontValue, front_said, noted}
+use Rattle.pesp_cert_items.specs.declared.item.Item.{Item as LentItem}
+use Rattle.pesp_cert_items.specs.declared.item.Item.TheVariants as lent
+use Rattle.pesp_cert_items.specs.declared.text_line.TextLine.{TextLine}
+use Rattle.pesp_cert_items.specs.declared.text_line.TextLine.TheVariants as texts
+use Rattle.pesp_cert_items.specs.Lent.{listed, line_said, marked_in, is_own}
 use Rattle.pesp_judges.specs.Faults.{behind_front}
 use Rattle.pesp_judges.specs.declared.refusal.Refusal.{Refusal}
 use Rattle.pesp_nets.specs.Nets.{AreNets}
@@ -22,6 +27,20 @@ use Rattle.pesp_check.specs.declared.stage.Stage.{Stage}
 use Rattle.pesp_check.specs.declared.stage.Stage.TheVariants as stages
 use Rattle.pesp_check.specs.Judging.{Kept, cycles_from, times_from, behind, walks_from, items_left, MarksTo, HeadTo, FrontTo, JudgedAt, IsFrontFault}
 use Rattle.pesp_check.proofs.Lists.{IsNext, next_of, cycles_later, tree_later, all_cycles}
+
+-- an item that stands behind a front says nothing of it
+pub own_noted : (f : FrontValue) (item : LentItem) → f ≡ noted f (listed item)
+own_noted f (lent.Version n) = refl
+own_noted f (lent.Period n) = refl
+own_noted f (lent.Answer a) = refl
+own_noted f (lent.Time l t) = refl
+own_noted f (lent.Cycle r) = refl
+own_noted f (lent.Slack row k) = refl
+own_noted f (lent.Offset cycle k) = refl
+own_noted f (lent.Bound ps) = refl
+own_noted f (lent.Nothing ps) = refl
+own_noted f (lent.Gap cycle) = refl
+own_noted f lent.Propagated = refl
 
 -- an item that doesn't come behind the times is left only while the times are not judged
 front_only : (stage : Stage) (p : Pesp) (front : Option Marks) (c : Content) (item : Item) (rest : List Item) (kept : Kept)
@@ -151,11 +170,11 @@ scale_marks front c n rest kept (inr (inr h)) = elim (next_of Walk h.0.walks h.1
   | inr m ↦ let e = m.1 in absurd cc
 ]
 
-scale_in : Option Marks → ℕ
+abbrev scale_in : Option Marks → ℕ
 scale_in None = 0
 scale_in (Some marks) = marks.scale
 
-walks_in : Option Marks → List (List MarkedRow)
+abbrev walks_in : Option Marks → List (List MarkedRow)
 walks_in None = []
 walks_in (Some marks) = marks.walks
 
@@ -304,27 +323,34 @@ module _ (stage : Stage) (p : Pesp) (front : Option Marks) (c : Content) (rest :
   at_front : (kept' : Kept) → kept'.table ≡ [] → stage ≡ stages.Front → FrontTo front c rest kept' → JudgedAt stage p front c rest kept'
   at_front kept' none e f = subst (λ (s : Stage). JudgedAt s p front c rest kept') (sym e) (none, f)
 
-  pub begin_taken : JudgedAt stage p front c (Front ∷ rest) kept
+  begin_taken : JudgedAt stage p front c (Front ∷ rest) kept
       → JudgedAt stage p front c rest (record kept { line = kept.line + 1; draft = record kept.draft { begun = true } })
   begin_taken h =
       let f = front_only stage p front c Front rest kept refl h in
       let marks = marks_of front c Front rest kept refl f.2 in
       at_front _ f.1 f.0 (inl (marks.0, begin_marks front c rest kept marks.1))
 
-  pub scale_taken : (n : ℕ) → JudgedAt stage p front c (Scale n ∷ rest) kept
+  scale_taken : (n : ℕ) → JudgedAt stage p front c (Scale n ∷ rest) kept
       → JudgedAt stage p front c rest (record kept { line = kept.line + 1; draft = record kept.draft { scale = n } })
   scale_taken n h =
       let f = front_only stage p front c (Scale n) rest kept refl h in
       let marks = marks_of front c (Scale n) rest kept refl f.2 in
       at_front _ f.1 f.0 (inl (marks.0, scale_marks front c n rest kept marks.1))
 
-  pub mark_taken : (walk : List MarkedRow) → JudgedAt stage p front c (Walk walk ∷ rest) kept
+  walk_taken : (walk : List MarkedRow) → JudgedAt stage p front c (Walk walk ∷ rest) kept
       → JudgedAt stage p front c rest
       (record kept { line = kept.line + 1; draft = record kept.draft { walks = kept.draft.walks ++ walk ∷ [] } })
-  mark_taken walk h =
+  walk_taken walk h =
       let f = front_only stage p front c (Walk walk) rest kept refl h in
       let marks = marks_of front c (Walk walk) rest kept refl f.2 in
       at_front _ f.1 f.0 (inl (marks.0, walk_marks front c walk rest kept marks.1))
+
+  pub mark_taken : (line : TextLine) → is_own line ≡ false → JudgedAt stage p front c (line_said line ∷ rest) kept
+      → JudgedAt stage p front c rest (record kept { line = kept.line + 1; draft = noted kept.draft (line_said line) })
+  mark_taken texts.Front other h = begin_taken h
+  mark_taken (texts.Scale n) other h = scale_taken n h
+  mark_taken (texts.Walk walk) other h = walk_taken (marked_in walk) h
+  mark_taken (texts.Own item) other h = absurd cc
 
   pub version_taken : (n : ℕ) → JudgedAt stage p front c (Version n ∷ rest) kept
       → JudgedAt stage p front c rest (record kept { line = kept.line + 1 })

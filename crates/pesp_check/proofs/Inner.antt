@@ -1,5 +1,5 @@
 -- The marked walks of a front, and the faults of what a certificate holds inside.
-use Rattle.std.proofs.Common.{◌≡◌, ◌∙◌, inl, inr, ℕ, sym, subst, List, length, Option, Some, None, true}
+use Rattle.std.proofs.Common.{◌≡◌, ◌∙◌, inl, inr, refl, sym, subst, List, Option, Some, None, true}
 use Rattle.std.specs.Prelude.{All, IfSome}
 use Rattle.std.specs.Option.{ForSome}
 use Rattle.pesp_problem.specs.declared.arc.Arc.{Arc}
@@ -16,7 +16,6 @@ use Rattle.pesp_judges.specs.Faults.{IsLaterFault}
 use Rattle.pesp_judges.proofs.Faults.{later_tree_fault}
 use Rattle.pesp_leaves.proofs.Summing.{rows_exist}
 use Rattle.pesp_check.specs.Inner.{IsInnerFault}
-use Rattle.pesp_check.specs.Ready.{IsReady}
 
 -- what holds behind a front holds of each front that it is
 pub if_for : {T : Type 0} (o : Option T) (P : T → Type 0) → IfSome o P → ForSome o P
@@ -65,25 +64,6 @@ inner_fault front p content refusal whole answer cycles (inl f) = inr (inr (inl 
 inner_fault front p content refusal whole answer cycles (inr f) =
     later_tree_fault front p content refusal whole answer cycles f.0 f.1
 
--- ---- what the lines of a tree are judged with
-
-pub ready_closed : (p : Pesp) (front : Option Marks) (arcs : List Arc) (rates : ℕ) → IsReady p front arcs rates
-    → IfSome front (λ marks. All (IsMarkedWalk (arcs_of p)) marks.walks)
-ready_closed p None arcs rates ready = tt
-ready_closed p (Some marks) arcs rates ready = ready.0
-
-pub ready_arcs : (p : Pesp) (front : Option Marks) (arcs : List Arc) (rates : ℕ) → IsReady p front arcs rates
-    → IfSome front (λ _. arcs ≡ arcs_of p)
-ready_arcs p None arcs rates ready = tt
-ready_arcs p (Some marks) arcs rates ready = ready.1
-
-pub ready_rates : (p : Pesp) (front : Option Marks) (arcs : List Arc) (rates : ℕ) → IsReady p front arcs rates
-    → IfSome front (λ _. rates ≡ length p.rows)
-ready_rates p None arcs rates ready = tt
-ready_rates p (Some marks) arcs rates ready = ready.2
-
-pub is_ready : (p : Pesp) (front : Option Marks) (arcs : List Arc) (rates : ℕ)
-    → IfSome front (λ marks. All (IsMarkedWalk (arcs_of p)) marks.walks) → IfSome front (λ _. arcs ≡ arcs_of p)
-    → IfSome front (λ _. rates ≡ length p.rows) → IsReady p front arcs rates
-is_ready p None arcs rates closed same wide = tt
-is_ready p (Some marks) arcs rates closed same wide = (closed, same, wide)
+pub for_if : {T : Type 0} (o : Option T) (P : T → Type 0) → ForSome o P → IfSome o P
+for_if None P h = tt
+for_if (Some y) P h = h y refl

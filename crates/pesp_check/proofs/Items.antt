@@ -1,6 +1,6 @@
 -- The limits of an item that may stand in a text.
-use Rattle.std.proofs.Common.{◌≡◌, ℕ, ◌≤◌, arith, true}
-use Rattle.std.specs.Prelude.{nat_abs, nat_le, ◌&&◌}
+use Rattle.std.proofs.Common.{◌≡◌, ◌≤◌, arith, true}
+use Rattle.std.specs.Prelude.{nat_abs, nat_le}
 use Rattle.std.proofs.lemmas.Bool.Decides.{nat_tests}
 use Rattle.pesp_cert_lines.specs.declared.item.Item.{Item}
 use Rattle.pesp_cert_lines.specs.declared.item.Item.TheVariants.{Front, Scale, Walk, Version, Period, Answer as Says, Time, Cycle, Slack, Offset, Bound, Nothing, Gap, Propagated, End}
@@ -8,7 +8,7 @@ use Rattle.pesp_cert_lines.specs.declared.progress.Progress.{Progress}
 use Rattle.pesp_cert_lines.specs.Counts.{CanStand, after, keeps_counts}
 use Rattle.pesp_cert_lines.specs.Rows.{is_name}
 use Rattle.pesp_cert_lines.specs.Pairs.{rise_from, all_within}
-use Rattle.pesp_cert_lines.proofs.Tests.{and_left, and_right, and_both}
+use Rattle.pesp_cert_lines.proofs.Tests.{and_right, and_both}
 use Rattle.pesp_check.proofs.Limits.{le_of, pair_limits}
 use Rattle.pesp_check.specs.Items.{KeepsItemLimits}
 

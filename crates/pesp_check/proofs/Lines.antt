@@ -69,21 +69,21 @@ module _ (stage : Stage) (p : Pesp) (front : Option Marks) (c : Content) (rest :
     (is : stage ≡ stages.Cycles) (has : HasText front c) (b : begins_tree rest ≡ true)
     (limits : IfSome (front_said kept.draft) FrontKeepsLimits → made ≡ front_said kept.draft)
     (before : JudgedAt stage p front c rest kept) where
-  so_far : JudgedAt stages.Cycles p front c rest kept
-  so_far = subst (λ (s : Stage). JudgedAt s p front c rest kept) is before
+  to_cycles : JudgedAt stages.Cycles p front c rest kept
+  to_cycles = subst (λ (s : Stage). JudgedAt s p front c rest kept) is before
 
-  cycles : CyclesTo p front c rest kept so_far.0
-  cycles = so_far.1
+  cycles : CyclesTo p front c rest kept to_cycles.0
+  cycles = to_cycles.1
 
-  done : AreDone c rest so_far.0
-  done = cycles_done c so_far.0 rest b cycles.left
+  done : AreDone c rest to_cycles.0
+  done = cycles_done c to_cycles.0 rest b cycles.left
 
   same : made ≡ front
   same = made_is front made kept.draft (keeps_front front c has) cycles.front_is limits
 
   nets : AreNets (length p.rows) c.cycles kept.table
   nets = subst (λ (ws : List (List SignedRow)). AreNets (length p.rows) ws kept.table)
-      (take_all so_far.0 c.cycles done.all) cycles.nets
+      (take_all to_cycles.0 c.cycles done.all) cycles.nets
 
   pub cycles_end : (standing : Standing) (node : Node) (kept' : Kept)
       → kept' ≡ record kept { draft = kept'.draft; front = made; walk = Some standing }
@@ -96,7 +96,7 @@ module _ (stage : Stage) (p : Pesp) (front : Option Marks) (c : Content) (rest :
       (root (net_of p) c.cycles) (first_tree_line front c) ns 0 in
       let Q : List Node → Type 0 = λ ns. are_trees (length ns) (lines_of c) ≡ true in
       let new : Kept = record kept { draft = kept'.draft; front = made; walk = Some standing } in
-      let all : so_far.0 ≡ length c.cycles = omega (arith, cycles.within, done.all) in
+      let all : to_cycles.0 ≡ length c.cycles = omega (arith, cycles.within, done.all) in
       let R : Kept → Type 0 = λ k. JudgedAt stages.Tree p front c rest k in
       subst R (sym e) (
         0,
@@ -104,7 +104,7 @@ module _ (stage : Stage) (p : Pesp) (front : Option Marks) (c : Content) (rest :
         record {
           shown = shown_still p c kept new refl cycles.shown;
           front_is = same;
-          walks = all_walks (arcs_of p) c.cycles so_far.0 done.all cycles.walks;
+          walks = all_walks (arcs_of p) c.cycles to_cycles.0 done.all cycles.walks;
           nets = nets;
           closed = subst (λ f. IfSome f (λ marks. All (IsMarkedWalk (arcs_of p)) marks.walks)) same closed;
           walk = refl;
@@ -117,7 +117,7 @@ module _ (stage : Stage) (p : Pesp) (front : Option Marks) (c : Content) (rest :
       )
 
   pub marks_refused : (refusal : Refusal) (number : ℕ) (kept' : Kept) → number ≡ min (length kept.table) 100000
-      → kept'.answer ≡ kept.answer → IsMarksFault made (arcs_of p) cycles_number refusal
+      → kept'.answer ≡ kept.answer → IsMarksFault made (arcs_of p) number refusal
       → JudgedAt (stages.Refused refusal) p front c rest kept'
   marks_refused refusal number kept' e a fault =
       let all : number ≡ length c.cycles = omega (arith, e, nets.long, few_cycles front c has) in
@@ -130,7 +130,7 @@ module _ (stage : Stage) (p : Pesp) (front : Option Marks) (c : Content) (rest :
           cycles.shown.period,
           inr (inr (inl (
             cycles.shown.shows,
-            all_walks (arcs_of p) c.cycles so_far.0 done.all cycles.walks,
+            all_walks (arcs_of p) c.cycles to_cycles.0 done.all cycles.walks,
             subst Q all (subst P same fault),
           ))),
         );
@@ -268,7 +268,7 @@ front_open stages.Cycles p front c kept Q b whole h = no_tree c Q whole (cycles_
 front_open stages.Tree p front c kept Q b whole h = absurd cc
 front_open (stages.Refused r) p front c kept Q b whole h = absurd cc
 
-pub end_answer : (stage : Stage) (p : Pesp) (c : Content) (kept : Kept) → are_trees 1 (lines_of c) ≡ true
+pub end_answer : (stage : Stage) (p : Pesp) (front : Option Marks) (c : Content) (kept : Kept) → are_trees 1 (lines_of c) ≡ true
     → JudgedAt stage p front c (End ∷ []) kept → kept.answer ≡ c.answer
 end_answer stages.Front p front c kept whole h = front_open stages.Front p front c kept (kept.answer ≡ c.answer) refl whole h
 end_answer stages.Cycles p front c kept whole h = h.1.shown.answer

@@ -10,8 +10,8 @@ use Rattle.pesp_truth.specs.declared.tree.TreeLine.{TreeLine}
 use Rattle.pesp_truth.specs.declared.tree.TreeLine.TheVariants as lines
 use Rattle.pesp_truth.specs.Certificates.{Content, line_of}
 use Rattle.pesp_cert_lines.specs.declared.item.Item.{Item}
-use Rattle.pesp_cert_lines.specs.declared.item.Item.TheVariants.{Time, Cycle, Slack, Offset, Bound, Nothing, Gap, Propagated, End}
-use Rattle.pesp_cert.specs.Texts.{time_item, tree_item}
+use Rattle.pesp_cert_lines.specs.declared.item.Item.TheVariants.{Cycle, Slack, Offset, Bound, Nothing, Gap, Propagated, End}
+use Rattle.pesp_cert.specs.Texts.{tree_item}
 use Rattle.pesp_judges.specs.declared.leaf_line.LeafLine.TheVariants.{Bound as BoundLeaf, Nothing as NothingLeaf, Gap as GapLeaf}
 use Rattle.pesp_judges.specs.declared.tree.SaidLine.{SaidLine}
 use Rattle.pesp_judges.specs.declared.tree.SaidLine.TheVariants.{Branch, Leaf, Propagated as PropagatedLine}

@@ -1,6 +1,6 @@
 -- A text that is judged while its items come.
 use Rattle.std.proofs.Common.{◌≡◌, ◌⊎◌, inl, inr, ℕ, ◌+◌, ◌≤◌, arith, true, List, [], ◌∷◌, ◌++◌, length, map, take, drop, refl, sym, ap, subst, ◌∙◌, append_assoc, append-nil, Option, Some, None, Ok, Err}
-use Rattle.std.specs.Prelude.{◌↔◌, ℤ}
+use Rattle.std.specs.Prelude.{ℤ}
 use Rattle.std.proofs.lemmas.List.{drop_all, take_all}
 use Rattle.pesp_stream.specs.Counts.{Calls, Worked, Failed}
 use Rattle.pesp_problem.specs.Timetables.{Pesp}

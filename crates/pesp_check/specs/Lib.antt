@@ -5,5 +5,4 @@ pub mod Judging
 pub mod Views
 pub mod Said
 pub mod Inner
-pub mod Ready
 pub mod Costs

@@ -6,12 +6,12 @@ ghost use Rattle.pesp_problem.specs.Arcs as instances;
 ghost use Rattle.pesp_nets.specs.Nets.{AreZeros};
 ghost use Rattle.pesp_nets.specs.Marked.{IsMarkedWalk};
 ghost use Rattle.pesp_truth.specs.FrontLimits.{KeepsLimits};
-ghost use Rattle.pesp_cert.specs.Drafts.{front_said};
-ghost use Rattle.pesp_cert_items.specs.Lent.{marked_in};
+ghost use Rattle.pesp_cert.specs.Drafts.{front_said, noted};
+ghost use Rattle.pesp_cert_items.specs.Lent.{marked_in, line_said};
 ghost use Rattle.pesp_judges.specs.Faults.{IsMarksFault};
 
 use pesp_cert::FrontDraft;
-use pesp_cert_items::MarkedRows;
+use pesp_cert_items::{MarkedRows, TextLine};
 use pesp_judges::{Refusal, judge_walks};
 use pesp_nets::{MarkedWalk, Rates, no_rates};
 use pesp_problem::{Arc, Instance, Memory};
@@ -19,11 +19,29 @@ use pesp_truth::Marks;
 use std::alloc::{AllocError, Global};
 
 /// The marked walk along the rows of a line.
-pub(crate) fn walk_of(alloc: Global, rows: MarkedRows<'_>) -> Result<MarkedWalk, Memory>
+fn walk_of(alloc: Global, rows: MarkedRows<'_>) -> Result<MarkedWalk, Memory>
     ensures { IfOk result (λ walk. walk ≡ marked_in rows.entry) }
 {
     let rows = rows.collect(alloc)?;
     Ok(MarkedWalk::new(rows))
+}
+
+/// Notes what a line says of a front.
+#[tactic(auto, using(crate::proofs::Fronts::own_noted))]
+pub(crate) fn note_line(
+    alloc: Global,
+    draft: &mut FrontDraft,
+    line: &TextLine<'_>,
+) -> Result<(), Memory>
+    ensures { OnOk result (draft.new ≡ noted draft.old (line_said line.now)) }
+{
+    match line {
+        TextLine::Front => draft.begun = true,
+        TextLine::Scale(scale) => draft.scale = *scale,
+        TextLine::Walk(rows) => draft.walks.push(walk_of(alloc, *rows)?)?,
+        TextLine::Own(_) => {}
+    }
+    Ok(())
 }
 
 /// The front that lines said, where one began and keeps its limits, as that of each text does.

@@ -3,12 +3,14 @@
 ghost use Rattle.std.specs.Prelude.{◌≡◌, ℕ, ◌+◌, ◌<◌, ◌≤◌, ◌^◌, List, ◌∷◌, ◌++◌, [], true, false, length, map, All, Option, IfOk, OnOk, MatchOption};
 ghost use Rattle.std.specs.Option.{ForSome, is_some};
 ghost use Rattle.pesp_problem.specs.declared.limits.TheConstants.{MOST_SIGNED_ROWS};
+ghost use Rattle.pesp_problem.specs.Arcs.{arcs_of};
+ghost use Rattle.pesp_problem.specs.Walks.{RowExists};
 ghost use Rattle.pesp_truth.specs.Marks.{Marks};
 ghost use Rattle.pesp_truth.specs.Certificates.{Content, ShowsAnswer};
 ghost use Rattle.pesp_cert_lines.specs.declared.item.Item.{Item as LineItem};
 ghost use Rattle.pesp_cert_lines.specs.declared.item.Item.TheVariants as items;
 ghost use Rattle.pesp_cert.specs.Texts.{HasText, tree_item};
-ghost use Rattle.pesp_cert_items.specs.Lent.{line_said, listed, marked_in, rows_in};
+ghost use Rattle.pesp_cert_items.specs.Lent.{is_own, line_said, listed, rows_in};
 ghost use Rattle.pesp_nets.specs.Nets.{AreZeros, AreSmallCounts};
 ghost use Rattle.pesp_judges.specs.SaidLines.{KeepsSaidLimits};
 ghost use Rattle.pesp_judges.specs.Faults.{IsVerdict};
@@ -16,13 +18,12 @@ ghost use Rattle.pesp_check.specs.Said.{pairs_of, tree_line};
 ghost use Rattle.pesp_check.specs.Items.{KeepsItemLimits, begins_later, begins_tree, is_line};
 ghost use Rattle.pesp_check.specs.declared.stage.Stage.TheVariants as stages;
 ghost use Rattle.pesp_check.specs.Judging.{JudgedAt, items_left, IsFrontFault, is_front, is_before_tree};
-ghost use Rattle.pesp_check.specs.Ready.{IsReady};
 
 use crate::elements::{PairsLeft, RowsLeft};
-use crate::front_walks::{front_arcs, front_of, front_rates, walk_of, walks_fault};
+use crate::front_walks::{front_arcs, front_of, front_rates, note_line, walks_fault};
 use crate::stage::Stage;
 use pesp_cert::FrontDraft;
-use pesp_cert_items::{Item, MarkedRows, SignedRows, TextLine};
+use pesp_cert_items::{Item, SignedRows, TextLine};
 use pesp_judges::{
     Checker, LeafLine, Nets, NodeWalk, Refusal, SaidLine, Verdict, judge_answer, judge_cycle,
     least_of, root, take_line,
@@ -56,8 +57,11 @@ pub struct Judge<'a> {
     ghost begun: { is_before_tree stage ≡ true → is_some walk ≡ false },
     ghost standing: { ForSome walk (λ w. (w.problem ≡ instance.now)
         × (w.cycles ≡ length table.items)) },
-    ghost ready: { is_some walk ≡ true
-        → IsReady instance.now front arcs.items (length rates.items) },
+    ghost same: { is_some walk ≡ true → ForSome front (λ _. arcs.items ≡ arcs_of instance.now) },
+    ghost exist: { is_some walk ≡ true → ForSome front
+        (λ marks. All (λ path. All (λ s. RowExists arcs.items s.signed) path) marks.walks) },
+    ghost wide: { is_some walk ≡ true
+        → ForSome front (λ _. length rates.items ≡ length instance.now.rows) },
 }
 
 /// What is wrong with a period, or with an answer and the times that are shown with it.
@@ -158,10 +162,9 @@ impl<'a> Judge<'a> {
         Ok(())
     }
 
-    /// All cycles came: makes the front, judges its marked walks and goes to the root of the tree, where it has not gone there
-    /// yet.
-    fn end_cycles(&mut self, alloc: Global, working: &mut [i128]) -> Result<(), Memory>
-        requires past { is_front self.old.stage ≡ false }
+    /// Makes the front, judges its marked walks and goes to the root of the tree.
+    fn begin_tree(&mut self, alloc: Global, working: &mut [i128]) -> Result<(), Memory>
+        requires stage { self.old.stage ≡ stages.Cycles }
         requires few { self.old.line < 2 ^ 31 }
         requires long { length working.old ≡ length self.old.instance.now.rows }
         requires zeros { AreZeros working.old }
@@ -174,9 +177,6 @@ impl<'a> Judge<'a> {
             → JudgedAt self.old.stage self.old.instance.now front c rest (kept self.old)
             → JudgedAt self.new.stage self.old.instance.now front c rest (kept self.new)) }
     {
-        if self.stage != Stage::Cycles {
-            return Ok(());
-        }
         let draft = replace(&mut self.draft, FrontDraft::new(alloc));
         self.front = front_of(draft);
         // A text has no more cycles.
@@ -191,6 +191,27 @@ impl<'a> Judge<'a> {
         let ranges = root(alloc, self.instance, &self.table)?;
         self.walk = Some(NodeWalk::new(alloc, self.instance, ranges));
         self.stage = Stage::Tree;
+        Ok(())
+    }
+
+    /// All cycles came: goes on to the tree, where it has not gone there yet.
+    fn end_cycles(&mut self, alloc: Global, working: &mut [i128]) -> Result<(), Memory>
+        requires past { is_front self.old.stage ≡ false }
+        requires few { self.old.line < 2 ^ 31 }
+        requires long { length working.old ≡ length self.old.instance.now.rows }
+        requires zeros { AreZeros working.old }
+        ensures instance { self.new.instance.now ≡ self.old.instance.now }
+        ensures line { self.new.line ≡ self.old.line }
+        ensures zeros { OnOk result (AreZeros working.new) }
+        ensures past { OnOk result (is_before_tree self.new.stage ≡ false) }
+        ensures judged { OnOk result ((front : Option Marks) (c : Content) (rest : List LineItem)
+            → HasText front c → begins_tree rest ≡ true
+            → JudgedAt self.old.stage self.old.instance.now front c rest (kept self.old)
+            → JudgedAt self.new.stage self.old.instance.now front c rest (kept self.new)) }
+    {
+        if self.stage == Stage::Cycles {
+            return self.begin_tree(alloc, working);
+        }
         Ok(())
     }
 
@@ -332,18 +353,18 @@ impl<'a> Judge<'a> {
         Ok(())
     }
 
-    /// Takes a marked walk, which is judged when all cycles came.
-    fn take_walk(&mut self, alloc: Global, rows: MarkedRows<'_>) -> Result<(), Memory>
+    /// Takes a line of a front, whose marked walks are judged when all cycles came.
+    fn take_mark(&mut self, alloc: Global, line: TextLine<'_>) -> Result<(), Memory>
+        requires front { is_own line ≡ false }
         requires few { self.old.line < 2 ^ 31 }
         ensures instance { self.new.instance.now ≡ self.old.instance.now }
         ensures line { OnOk result (self.new.line ≡ self.old.line + 1) }
         ensures judged { OnOk result ((front : Option Marks) (c : Content) (rest : List LineItem)
-            → JudgedAt self.old.stage self.old.instance.now front c
-            (items.Walk (marked_in rows.entry) ∷ rest) (kept self.old)
+            → JudgedAt self.old.stage self.old.instance.now front c (line_said line.entry ∷ rest)
+            (kept self.old)
             → JudgedAt self.new.stage self.old.instance.now front c rest (kept self.new)) }
     {
-        let walk = walk_of(alloc, rows)?;
-        self.draft.walks.push(walk)?;
+        note_line(alloc, &mut self.draft, &line)?;
         self.line += 1;
         Ok(())
     }
@@ -364,7 +385,7 @@ impl<'a> Judge<'a> {
         ensures zeros { OnOk result (AreZeros working.new) }
         ensures judged { OnOk result
             ((front : Option Marks) (c : Content) (rest : List LineItem) → HasText front c
-            → JudgedAt self.old.stage self.old.instance.now c (listed item.entry ∷ rest)
+            → JudgedAt self.old.stage self.old.instance.now front c (listed item.entry ∷ rest)
             (kept self.old)
             → JudgedAt self.new.stage self.old.instance.now front c rest (kept self.new)) }
     {
@@ -409,23 +430,13 @@ impl<'a> Judge<'a> {
         ensures zeros { OnOk result (AreZeros working.new) }
         ensures judged { OnOk result
             ((front : Option Marks) (c : Content) (rest : List LineItem) → HasText front c
-            → JudgedAt self.old.stage self.old.instance.now c (line_said line.entry ∷ rest)
+            → JudgedAt self.old.stage self.old.instance.now front c (line_said line.entry ∷ rest)
             (kept self.old)
             → JudgedAt self.new.stage self.old.instance.now front c rest (kept self.new)) }
     {
         match line {
-            TextLine::Front => {
-                self.draft.begun = true;
-                self.line += 1;
-                Ok(())
-            }
-            TextLine::Scale(scale) => {
-                self.draft.scale = scale;
-                self.line += 1;
-                Ok(())
-            }
-            TextLine::Walk(rows) => self.take_walk(alloc, rows),
             TextLine::Own(item) => self.take_item(alloc, item, working),
+            mark => self.take_mark(alloc, mark),
         }
     }
 

@@ -10,7 +10,7 @@ use Rattle.pesp_check.proofs.text_check.check_text_of.Given as goal
 
 abbrev pub invariant-loop-judge : goal.invariant-loop-judge
 invariant-loop-judge g l = record {
-  checked : IsCheckedTo l.instance (at_first l.versions (g.S.Source.remaining l.initial.source) 1073741824)
+  checked : IsCheckedTo l.instance (at_first l.fn.versions (g.S.Source.remaining l.initial.source) 1073741824)
       (reading (g.S.Source.remaining l.source) l.lines) l.judge.stage (kept l.judge);
   instance : l.judge.instance.now ≡ l.instance;
   line : l.judge.line ≤ l.lines.n + 1;

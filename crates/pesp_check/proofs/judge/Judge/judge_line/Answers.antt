@@ -1,4 +1,6 @@
-use Rattle.std.proofs.Common.{◌+◌, refl, sym, subst, length, List}
+use Rattle.std.proofs.Common.{◌+◌, refl, sym, ap, subst, length, List}
+use Rattle.std.specs.Option.{is_some}
+use Rattle.pesp_check.proofs.Inner.{for_if, some_same}
 use Rattle.pesp_problem.specs.Arcs.{net_of}
 use Rattle.pesp_truth.specs.Trees.{Line}
 use Rattle.pesp_judges.specs.Lines.{IsLineVerdict}
@@ -57,10 +59,14 @@ returns-then-is_done-clause-judged c front c' rest has before =
     (kept j) j.stage c.requires.stage before c.in-Some.walk walk (c.is_done.ensures.0 c.if-is_done.true))
 
 pub take_line-requires-clause-wide : goal.take_line-requires-clause-wide
-take_line-requires-clause-wide c = ?
+take_line-requires-clause-wide c =
+    let j = c.args.self.now in
+    let wide = for_if j.front _ (j.wide (ap is_some c.in-Some.is)) in
+    rw (c.new-checker.ensures.front, c.new-checker.ensures.instance)
+    (some_same j.front _ (ap length c.deref_mut.ensures.value) wide)
 
 pub new-checker-requires-clause-same : goal.new-checker-requires-clause-same
-new-checker-requires-clause-same c = ?
+new-checker-requires-clause-same c = rw c.deref-2.ensures.value (c.args.self.now.same (ap is_some c.in-Some.is))
 
 pub new-checker-requires-clause-exist : goal.new-checker-requires-clause-exist
-new-checker-requires-clause-exist c = ?
+new-checker-requires-clause-exist c = rw c.deref-2.ensures.value (c.args.self.now.exist (ap is_some c.in-Some.is))

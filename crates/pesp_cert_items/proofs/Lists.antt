@@ -9,7 +9,6 @@ use Rattle.pesp_cert_lines.specs.declared.item.Item.TheVariants.{Front, Scale, W
 use Rattle.pesp_cert_lines.specs.declared.progress.Progress.{Progress}
 use Rattle.pesp_cert_lines.specs.Rows.{rows_of, rows_are_named, row_words}
 use Rattle.pesp_cert_lines.specs.Pairs.{pairs_from, all_within, pair_words}
-use Rattle.pesp_nets.specs.declared.marked.MarkedRow.{MarkedRow}
 use Rattle.pesp_cert_lines.specs.Marked.{marked_of, marked_words}
 use Rattle.pesp_cert_lines.specs.Items.{item_words}
 use Rattle.pesp_cert_lines.specs.Counts.{after}

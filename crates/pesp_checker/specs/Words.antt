@@ -1,5 +1,5 @@
 -- What the words of the command line ask for.
-use Rattle.std.specs.Prelude.{ℕ, List, [], ◌∷◌, if◌then◌else◌, String, string_bytes, codes}
+use Rattle.std.specs.Prelude.{List, ◌∷◌, if◌then◌else◌, String, string_bytes, codes}
 use Rattle.std.specs.Str.{bytes_eq}
 use Rattle.pesp_cert_lines.specs.declared.versions.Versions.{Versions}
 use Rattle.pesp_cert_lines.specs.declared.versions.Versions.TheVariants.{Plain, All}

@@ -1,4 +1,4 @@
-use Rattle.std.proofs.Common.{inr, refl, sym, ◌∙◌}
+use Rattle.std.proofs.Common.{inr, refl, ◌∙◌}
 use Rattle.pesp_cert_items.proofs.Stepping.{fault_read, item_read, ends_there, trails, of_going}
 use Rattle.pesp_cert_items.proofs.item_reader.ItemReader.go.Goals as goal
 

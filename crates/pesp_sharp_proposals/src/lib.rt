@@ -4,10 +4,14 @@
 
 mod best;
 mod proposal;
+mod proposing;
 mod search;
 mod standing;
+mod turns;
 mod whole_search;
 
 pub use proposal::Proposals;
+pub use proposing::{Leaves, Proposing};
+pub use search::Pace;
 pub use standing::{SharpWatcher, Standing, Unwatched};
-pub use whole_search::{Leaves, propose, propose_from};
+pub use whole_search::{propose, propose_from};

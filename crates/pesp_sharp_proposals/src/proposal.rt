@@ -1,6 +1,6 @@
 //! The certificates that a search proposes. They are judged by others.
 
-use crate::best::Best;
+use crate::best::{Best, cost_of};
 use crate::search::SharpSearch;
 use pesp_cert::{Certificate, Fronted, Marks};
 use pesp_judges::least_of;
@@ -236,31 +236,21 @@ fn copied_front(alloc: Global, front: &Option<Marks>) -> Result<Option<Marks>, M
     Ok(Marks::new(marks.scale(), walks).ok())
 }
 
-/// The cost of the times that an answer shows; `u64::MAX` where it shows none.
-fn cost_of(answer: Answer) -> u64 {
-    match answer {
-        Answer::Optimal(cost) => cost,
-        Answer::Infeasible => u64::MAX,
-        Answer::Bounded { cost, .. } => cost.unwrap_or(u64::MAX),
-    }
-}
-
 /// An answer with the best timetable in the place of its own; None where that isn't cheaper.
 fn timed_of(
     alloc: Global,
     instance: &Instance,
-    front: &Option<Marks>,
-    old: &Certificate,
+    old: &Fronted,
     best: &Option<Best>,
 ) -> Result<Option<Fronted>, Memory> {
     match best {
-        Some(found) if found.cost < cost_of(old.answer()) => {}
+        Some(found) if found.cost < cost_of(old.certificate.answer()) => {}
         _ => return Ok(None),
     }
-    let Some(certificate) = with_times(alloc, instance, old, best)? else {
+    let Some(certificate) = with_times(alloc, instance, &old.certificate, best)? else {
         return Ok(None);
     };
-    match copied_front(alloc, front) {
+    match copied_front(alloc, &old.front) {
         Ok(front) => Ok(Some(Fronted { front, certificate })),
         Err(refused) => {
             drop(certificate);
@@ -277,13 +267,12 @@ pub(crate) fn no_proposals() -> Proposals {
     }
 }
 
-/// What a search proposes in the place of an answer; where it has taken up the tree of a certificate, that is named.
+/// What a search proposes that began with a certificate, in the place of an answer.
 pub(crate) fn proposals_of(
     left: Left<'_>,
-    front: &Option<Marks>,
-    old: &Certificate,
     search: &SharpSearch,
-    base: Option<&Fronted>,
+    base: &Fronted,
+    old: &Fronted,
 ) -> Result<Proposals, Memory> {
     let sharpened = search.sharpening.sharpened()?;
     let parts = Parts {
@@ -291,12 +280,12 @@ pub(crate) fn proposals_of(
         sharpened: &sharpened,
         scale: search.sharpening.scale(),
         best: &search.best,
-        base: if search.has_taken_up { base } else { None },
+        base: search.has_taken_up.then_some(base),
     };
     let sharp = parts.fronted(left.alloc);
     drop(sharpened);
     let sharp = sharp?;
-    match timed_of(left.alloc, left.instance, front, old, &search.best) {
+    match timed_of(left.alloc, left.instance, old, &search.best) {
         Ok(timed) => Ok(Proposals { sharp, timed }),
         Err(refused) => {
             drop(sharp);

@@ -2,15 +2,17 @@
 
 ghost use Rattle.std.specs.Prelude.{◌≡◌};
 
-use crate::best::{Best, offer, shown_by};
+use crate::best::{Best, cost_of, offer, shown_by};
 use crate::standing::{SharpWatcher, Standing};
+use crate::turns::{Turn, Turns};
 use pesp_cert::{Certificate, Fronted};
 use pesp_judges::least_of;
 use pesp_problem::{Memory, Score, score};
 use pesp_sharp_trees::{Left, given_of};
 use pesp_sharpening::{Sharpening, Step};
 use pesp_simplex::{Improved, SimplexRefusal, improve};
-use pesp_times::TimesSearch;
+use pesp_times::{Effort, TimesSearch};
+use pesp_truth::Answer;
 use std::mem::swap;
 
 /// After how many steps times are looked for again, for the first time; then after twice as many, and so on.
@@ -19,21 +21,51 @@ const FIRST_BATCH_AFTER: u32 = 128;
 /// How many rounds make times cheaper that were met with.
 const MET_ROUNDS: u32 = 4;
 
-/// How many leaves are looked at at most where a search goes on.
+/// How many leaves are looked at at most in a piece of the search.
 const MOST_TURNS: u32 = 10_000_000;
 
 /// By what the choices of the search are drawn.
 const SEED: u64 = 1;
 
-/// A search that sharpens what is left of an instance: whether it has taken up a tree, and after how many steps it begins.
+/// What a search does next: it sharpens the root, takes up the tree of a certificate, or splits leaves; or nothing is left to be
+/// done.
+#[derive(Clone, Copy, PartialEq, Eq)]
+pub(crate) enum Next {
+    Root,
+    Base,
+    Leaves,
+    Nothing,
+}
+
+/// Some leaves of a certificate's tree: all but those of which the cost is told that they show; and the bound from which on none is
+/// split, where one is named.
+#[derive(Drop)]
+pub(crate) struct Chosen {
+    pub(crate) spared: Vec<Option<u64>>,
+    pub(crate) until: Option<u64>,
+}
+
+/// How far a search goes, and when times are looked for: by so many splits at most of a tree that had so many branches before, and
+/// after 128 branches, 256, and so on; or without a limit, where the tree and the search for times take turns by what each brings.
+#[derive(Clone, Copy)]
+pub enum Pace {
+    Steps { before: u32, most: u32 },
+    Turns,
+}
+
+/// A search that sharpens what is left of an instance: what it does next, whether it has taken up a tree, and how many leaves were
+/// split.
 #[derive(Drop)]
 pub(crate) struct SharpSearch {
     pub(crate) sharpening: Sharpening,
     pub(crate) best: Option<Best>,
     pub(crate) has_taken_up: bool,
+    pub(crate) next: Next,
+    pub(crate) chosen: Option<Chosen>,
     times: Option<TimesSearch>,
-    before: u32,
-    until: Option<u64>,
+    pace: Pace,
+    turns: Turns,
+    used: u32,
 }
 
 /// Whether times are looked for after so many steps.
@@ -64,16 +96,24 @@ fn lowered(left: Left<'_>, times: &[u32]) -> Result<Option<Vec<u32>>, Memory>
 }
 
 impl SharpSearch {
-    /// A search by this scale whose tree has so many branches. It knows no timetable, and nothing looks for times yet.
-    pub(crate) fn new(left: Left<'_>, scale: u32, before: u32) -> Result<SharpSearch, Memory> {
+    /// A search by this scale, and what it does first. It knows no timetable, and nothing looks for times yet.
+    pub(crate) fn new(
+        left: Left<'_>,
+        scale: u32,
+        next: Next,
+        pace: Pace,
+    ) -> Result<SharpSearch, Memory> {
         let sharpening = Sharpening::new(left.alloc, left.network, SEED, scale)?;
         Ok(SharpSearch {
             sharpening,
             best: None,
             has_taken_up: false,
+            next,
+            chosen: None,
             times: None,
-            before,
-            until: None,
+            pace,
+            turns: Turns::new(),
+            used: 0,
         })
     }
 
@@ -102,6 +142,9 @@ impl SharpSearch {
         let Some(search) = &mut self.times else {
             return Ok(());
         };
+        if let Pace::Turns = self.pace {
+            search.set_effort(Effort::Short);
+        }
         let Some(best) = &self.best else {
             return search.begin(left.network);
         };
@@ -116,20 +159,35 @@ impl SharpSearch {
         Some(self.best.as_ref()?.cost)
     }
 
+    /// The bound from which on no leaf is split, where one is named.
+    fn until(&self) -> Option<u64> {
+        self.chosen.as_ref()?.until
+    }
+
     /// From which cost on no leaf is split.
     fn limit(&self) -> Option<u64> {
-        match (self.cost(), self.until) {
+        match (self.cost(), self.until()) {
             (Some(cost), Some(until)) => Some(cost.min(until)),
             (cost, until) => cost.or(until),
         }
     }
 
-    /// How far the search is after so many steps.
-    fn standing(&self, steps_used: u32) -> Standing {
+    /// How far the search is.
+    pub(crate) fn standing(&self) -> Standing {
         Standing {
-            steps_used,
+            steps_used: self.used,
             bound: self.sharpening.bound(),
             cost: self.cost(),
+        }
+    }
+
+    /// Whether more is known than an answer tells: a greater bound, or a cheaper timetable.
+    pub(crate) fn exceeds(&self, answer: Answer) -> bool {
+        let bound = self.sharpening.bound();
+        let is_sharper = least_of(answer).is_some_and(|least| bound > least);
+        match self.cost() {
+            Some(cost) => is_sharper || cost < cost_of(answer),
+            None => is_sharper,
         }
     }
 
@@ -153,18 +211,38 @@ impl SharpSearch {
         Ok(())
     }
 
-    /// Looks for times after so many steps, where that is due.
-    fn look_for_times(&mut self, left: Left<'_>, used: u32) -> Result<(), Memory> {
-        let Some(search) = &mut self.times else {
+    /// Takes up the best times that the search for times has.
+    fn take_best(&mut self, left: Left<'_>) -> Result<(), Memory> {
+        let Some(search) = &self.times else {
             return Ok(());
         };
-        if is_due(used) {
-            search.go_on(left.network, used)?;
-        }
         match search.best() {
             Some((times, _)) => offer(left, times, &mut self.best),
             None => Ok(()),
         }
+    }
+
+    /// Looks for times after as many steps as were made, where that is due.
+    fn look_for_times(&mut self, left: Left<'_>) -> Result<(), Memory> {
+        let Pace::Steps { before, .. } = self.pace else {
+            return Ok(());
+        };
+        let branches = before.saturating_add(self.used);
+        if is_due(branches)
+            && let Some(search) = &mut self.times
+        {
+            search.go_on(left.network, branches)?;
+        }
+        self.take_best(left)
+    }
+
+    /// Makes a piece of the search for times.
+    fn make_piece(&mut self, left: Left<'_>) -> Result<Step, Memory> {
+        if let Some(search) = &mut self.times {
+            search.make_piece(left.network)?;
+        }
+        self.take_best(left)?;
+        Ok(Step::Readied)
     }
 
     /// Sharpens the root.
@@ -176,27 +254,59 @@ impl SharpSearch {
 
     /// Splits the open leaf of least bound, where there is one below the best cost; or finds the slacks of that leaf, where it
     /// was taken up.
-    fn step(&mut self, left: Left<'_>, used: u32) -> Result<Step, Memory> {
+    fn step(&mut self, left: Left<'_>) -> Result<Step, Memory> {
         let limit = self.limit();
         let step = self.sharpening.step(limit)?;
         if step != Step::Over {
             self.take_met(left)?;
         }
         if step == Step::Made {
-            self.look_for_times(left, self.before.saturating_add(used))?;
+            self.used = self.used.saturating_add(1);
+            self.look_for_times(left)?;
         }
         Ok(step)
     }
 
-    /// Takes up the tree of a certificate, but for the leaves of which a cost is told. Where none can be taken up the root is
-    /// sharpened.
-    fn take_up(
-        &mut self,
-        left: Left<'_>,
-        base: &Fronted,
-        spared: &[Option<u64>],
-    ) -> Result<(), Memory> {
-        let given = given_of(left, base, spared)?;
+    /// What lies between the bound and the cost of the best timetable; None where there is none.
+    fn gap(&self) -> Option<u64> {
+        let cost = self.cost()?;
+        Some(cost.saturating_sub(self.sharpening.bound()))
+    }
+
+    /// Takes the next turn, and notes what is left of the gap.
+    fn take_turn(&mut self, left: Left<'_>) -> Result<Step, Memory> {
+        let turn = self.turns.next();
+        let step = match turn {
+            Turn::Tree => self.step(left)?,
+            Turn::Times => self.make_piece(left)?,
+        };
+        let gap = self.gap();
+        self.turns.note(turn, gap);
+        Ok(step)
+    }
+
+    /// Goes on by what is next: a step of the tree, or a turn.
+    fn advance(&mut self, left: Left<'_>) -> Result<Step, Memory> {
+        match self.pace {
+            Pace::Steps { .. } => self.step(left),
+            Pace::Turns => self.take_turn(left),
+        }
+    }
+
+    /// Whether as many leaves were split as may be, and the slacks are known of the one that is next.
+    fn is_done(&self) -> bool {
+        match self.pace {
+            Pace::Steps { most, .. } => self.used >= most && !self.sharpening.is_cold(),
+            Pace::Turns => false,
+        }
+    }
+
+    /// Takes up the tree of a certificate, but for the leaves that are spared. Where none can be taken up the root is sharpened.
+    fn take_up(&mut self, left: Left<'_>, base: &Fronted) -> Result<(), Memory> {
+        let given = match &self.chosen {
+            Some(chosen) => given_of(left, base, &chosen.spared)?,
+            None => given_of(left, base, &[])?,
+        };
         let limit = self.limit();
         let taken = self.sharpening.take_up(&given, limit);
         drop(given);
@@ -205,108 +315,60 @@ impl SharpSearch {
         self.look_at_root(left)
     }
 
-    /// Begins with a certificate: where it has no marked walks, the root is sharpened first.
-    fn begin_from(&mut self, left: Left<'_>, base: &Fronted) -> Result<(), Memory> {
-        self.look_for_times(left, 0)?;
+    /// Begins with a certificate. Where it has no marked walks the root is sharpened first, so that its leaves get the
+    /// inequalities of that.
+    fn begin_at(&mut self, left: Left<'_>, base: &Fronted) -> Result<(), Memory> {
+        self.take_best(left)?;
         if base.front.is_none() {
             self.look_at_root(left)?;
-            if self.reaches(base) {
+            if self.passes_over(base) {
                 return Ok(());
             }
         }
-        self.take_up(left, base, &[])
+        self.take_up(left, base)
     }
 
-    /// Begins with some leaves of a certificate's tree: those of which a cost is told are kept as they are. Where it has no marked
-    /// walks, the root is sharpened first, so that these leaves get its inequalities.
-    fn begin_at_leaves(
-        &mut self,
-        left: Left<'_>,
-        base: &Fronted,
-        spared: &[Option<u64>],
-    ) -> Result<(), Memory> {
-        self.look_for_times(left, 0)?;
-        if base.front.is_none() {
-            self.look_at_root(left)?;
-            if self.is_closed() {
-                return Ok(());
-            }
-        }
-        self.take_up(left, base, spared)
-    }
-
-    /// Whether nothing is left to be found.
-    fn is_closed(&self) -> bool {
-        self.sharpening.bound() >= self.cost().unwrap_or(u64::MAX)
-    }
-
-    /// Whether the root shows at least as much as a certificate.
-    fn reaches(&self, base: &Fronted) -> bool {
-        match least_of(base.certificate.answer()) {
-            Some(least) => self.sharpening.bound() >= least,
-            None => false,
+    /// Whether the tree of a certificate is left alone, as the root shows enough: no less than it; or, where some of its leaves
+    /// are chosen, all that is left to be found.
+    fn passes_over(&self, base: &Fronted) -> bool {
+        let bound = self.sharpening.bound();
+        match (&self.chosen, least_of(base.certificate.answer())) {
+            (Some(_), _) => bound >= self.cost().unwrap_or(u64::MAX),
+            (None, Some(least)) => bound >= least,
+            (None, None) => false,
         }
     }
 
     /// Splits leaves until so many were split and the slacks are known of the one that is next, none is open below the best cost,
     /// or the watcher ends it.
-    fn split<W: SharpWatcher>(
-        &mut self,
-        left: Left<'_>,
-        steps: u32,
-        watcher: &mut W,
-    ) -> Result<(), Memory> {
-        let mut used = 0u32;
+    fn split<W: SharpWatcher>(&mut self, left: Left<'_>, watcher: &mut W) -> Result<(), Memory> {
         for _turn in 0..MOST_TURNS {
-            let is_done = used >= steps && !self.sharpening.is_cold();
-            if !watcher.goes_on(self.standing(used)) || is_done {
+            if !watcher.goes_on(self.standing()) || self.is_done() {
                 return Ok(());
             }
-            match self.step(left, used.saturating_add(1))? {
-                Step::Over => return Ok(()),
-                Step::Readied => {}
-                Step::Made => used = used.saturating_add(1),
+            if self.advance(left)? == Step::Over {
+                self.next = Next::Nothing;
+                return Ok(());
             }
         }
         Ok(())
     }
 
-    /// Sharpens the root, and then splits leaves: so many, unless none is open below the best cost before, or the watcher ends it.
-    pub(crate) fn run<W: SharpWatcher>(
-        &mut self,
-        left: Left<'_>,
-        steps: u32,
-        watcher: &mut W,
-    ) -> Result<(), Memory> {
-        self.look_at_root(left)?;
-        self.split(left, steps, watcher)
-    }
-
-    /// Goes on from a certificate in the same way.
+    /// Does what is next, and splits leaves then, until so many were split in all, none is open below the best cost, or the
+    /// watcher ends this piece of the search.
     pub(crate) fn go_on<W: SharpWatcher>(
         &mut self,
         left: Left<'_>,
         base: &Fronted,
-        steps: u32,
         watcher: &mut W,
     ) -> Result<(), Memory> {
-        self.begin_from(left, base)?;
-        self.split(left, steps, watcher)
-    }
-
-    /// Goes on from some leaves of a certificate's tree in the same way: those of which a cost is told are kept as they are. No leaf
-    /// is split that shows as much as the bound, where one is named.
-    pub(crate) fn work_on<W: SharpWatcher>(
-        &mut self,
-        left: Left<'_>,
-        base: &Fronted,
-        spared: &[Option<u64>],
-        steps: u32,
-        until: Option<u64>,
-        watcher: &mut W,
-    ) -> Result<(), Memory> {
-        self.until = until;
-        self.begin_at_leaves(left, base, spared)?;
-        self.split(left, steps, watcher)
+        match self.next {
+            Next::Root => self.look_at_root(left)?,
+            Next::Base => self.begin_at(left, base)?,
+            Next::Leaves => {}
+            Next::Nothing => return Ok(()),
+        }
+        self.next = Next::Leaves;
+        self.split(left, watcher)
     }
 }

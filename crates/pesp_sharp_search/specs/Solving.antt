@@ -1,5 +1,5 @@
 -- What a search that sharpens answers.
-use Rattle.std.specs.Prelude.{◌≡◌, ℕ, ◌+◌, ◌≤◌}
+use Rattle.std.specs.Prelude.{◌≡◌, ℕ, ◌+◌, ◌≤◌, None}
 use Rattle.pesp_problem.specs.Timetables.{Pesp}
 use Rattle.pesp_truth.specs.declared.answer.Answer.{Answer}
 use Rattle.pesp_truth.specs.Certificates.{Content, lines_of, least_of, cost_of, IsValid}
@@ -11,6 +11,10 @@ use Rattle.pesp_search.specs.Solving.{IsSolved}
 -- the other answer's bound isn't below this one's, and its cost isn't above; none stands above every number
 abbrev pub IsNoWorse : Answer → Answer → Type 0
 IsNoWorse old new = IsAtMost (least_of old) (least_of new) × IsAtMost (cost_of new) (cost_of old)
+
+-- a certificate without a front that a search without marked walks has within 0 steps
+abbrev pub IsPlain : Pesp → Fronted → Type 0
+IsPlain p c = (c.front ≡ None) × IsSolved p 0 0 c.content
 
 -- a certificate that may stand in an answer's place: it is valid with its marked walks, its tree has at most so many
 -- branches, and it is no worse

@@ -3,8 +3,8 @@
 ghost use Rattle.std.specs.Prelude.{◌≡◌, ◌≤◌, ◌↔◌, ℕ, List, IsTrue, IfOk, IfSome, None};
 ghost use Rattle.pesp_truth.specs.Certificates.{lines_of, IsValid};
 ghost use Rattle.pesp_search_laws.specs.Rooms.{branch_lines};
-ghost use Rattle.pesp_search.specs.Solving.{IsSolved, CostsNoMore};
-ghost use Rattle.pesp_sharp_search.specs.Solving.{MayStand, IsSharpSolved};
+ghost use Rattle.pesp_search.specs.Solving.{CostsNoMore};
+ghost use Rattle.pesp_sharp_search.specs.Solving.{IsPlain, MayStand, IsSharpSolved};
 
 use crate::branches::count_branches;
 use crate::ranks::is_no_worse;
@@ -96,7 +96,7 @@ pub(crate) fn first_standing(
 }
 
 /// An answer without a front.
-fn without_front(plain: Certificate) -> Fronted
+pub(crate) fn without_front(plain: Certificate) -> Fronted
     ensures { result ≡ record { front = None; content = plain } }
 {
     Fronted {
@@ -109,16 +109,17 @@ fn without_front(plain: Certificate) -> Fronted
 fn chosen(
     alloc: Global,
     instance: &Instance,
-    plain: Certificate,
+    plain: Fronted,
     proposals: Proposals,
     steps: u32,
 ) -> Result<Fronted, Memory>
-    requires { IsSolved instance.now 0 0 plain }
-    ensures { IfOk result (MayStand instance.now plain.answer steps) }
+    requires { IsPlain instance.now plain }
+    ensures { IfOk result (MayStand instance.now plain.content.answer steps) }
 {
-    match first_standing(alloc, instance, plain.answer(), proposals, steps)? {
+    let answer = plain.certificate.answer();
+    match first_standing(alloc, instance, answer, proposals, steps)? {
         Some(found) => Ok(found),
-        None => Ok(without_front(plain)),
+        None => Ok(plain),
     }
 }
 
@@ -126,14 +127,14 @@ fn chosen(
 pub(crate) fn settled(
     alloc: Global,
     instance: &Instance,
-    plain: Certificate,
+    plain: Fronted,
     proposals: Proposals,
     steps: u32,
 ) -> Result<SharpSolved, Memory>
-    requires { IsSolved instance.now 0 0 plain }
+    requires { IsPlain instance.now plain }
     ensures solved { IfOk result
         (λ sharp. IsSharpSolved instance.now steps sharp.steps_used sharp.fronted) }
-    ensures improved { (times : List ℕ) → CostsNoMore instance.now times plain
+    ensures improved { (times : List ℕ) → CostsNoMore instance.now times plain.content
         → IfOk result (λ sharp. CostsNoMore instance.now times sharp.fronted.content) }
 {
     let fronted = chosen(alloc, instance, plain, proposals, steps)?;

@@ -4,12 +4,14 @@
 
 mod branches;
 mod choice;
+mod going;
 mod observer;
 mod ranks;
 mod resumption;
 mod solution;
 
 pub use choice::SharpSolved;
+pub use going::Going;
 pub use observer::SharpObserver;
 pub use pesp_search::{Nobody, Observer, Part, SolveRefusal};
 pub use pesp_sharp_proposals::{Leaves, SharpWatcher, Standing, Unwatched};

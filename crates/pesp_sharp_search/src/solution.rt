@@ -6,10 +6,10 @@ ghost use Rattle.pesp_search.specs.Refusals.{MeetsLimit};
 ghost use Rattle.pesp_search.specs.Solving.{CostsNoMore, IsSearchRefusal};
 ghost use Rattle.pesp_sharp_search.specs.Solving.{IsSharpSolved};
 
-use crate::choice::{SharpSolved, settled};
+use crate::choice::{SharpSolved, settled, without_front};
 use crate::observer::{Observing, SharpObserver};
 use pesp_problem::Instance;
-use pesp_search::{FirstLook, SolveRefusal, look_first};
+use pesp_search::{Effort, FirstLook, SolveRefusal, look_first};
 use pesp_sharp_proposals::propose;
 use std::alloc::Global;
 
@@ -41,8 +41,8 @@ pub fn solve_sharp<O: SharpObserver>(
         solved,
         reduced,
         times: search,
-    } = look_first(alloc, instance, times, observer)?;
-    let plain = solved.certificate;
+    } = look_first(alloc, instance, times, Effort::Whole, observer)?;
+    let plain = without_front(solved.certificate);
     let watcher = &mut Observing { observer };
     match propose(alloc, instance, &plain, reduced, search, steps, watcher) {
         Ok(proposals) => Ok(settled(alloc, instance, plain, proposals, steps)?),

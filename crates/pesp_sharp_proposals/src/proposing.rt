@@ -1,0 +1,181 @@
+//! Searches that go on piece by piece.
+
+ghost use Rattle.std.specs.Prelude.{◌≡◌};
+
+use crate::best::is_open;
+use crate::proposal::{Proposals, proposals_of};
+use crate::search::{Chosen, Next, Pace, SharpSearch};
+use crate::standing::SharpWatcher;
+use pesp_cert::Fronted;
+use pesp_problem::{Instance, Memory};
+use pesp_reduce::{Reduced, reduce};
+use pesp_sharp_trees::{Left, scale_for, scale_over};
+use pesp_times::TimesSearch;
+use pesp_truth::Answer;
+use std::alloc::Global;
+
+/// Some leaves of a certificate's tree: all but those of which the cost is told that they show; and the bound from which on none is
+/// split, where one is named.
+#[derive(Clone, Copy)]
+pub struct Leaves<'a> {
+    pub spared: &'a [Option<u64>],
+    pub until: Option<u64>,
+}
+
+/// A search that goes on piece by piece, with what is left of the instance. What it proposes is told between the pieces.
+#[derive(Drop)]
+pub struct Proposing {
+    reduced: Reduced,
+    search: SharpSearch,
+}
+
+/// The same leaves, to be kept.
+fn chosen_of(alloc: Global, leaves: Leaves<'_>) -> Result<Chosen, Memory> {
+    Ok(Chosen {
+        spared: Vec::from_slice(alloc, leaves.spared)?,
+        until: leaves.until,
+    })
+}
+
+/// A search from the root.
+fn from_root(
+    left: Left<'_>,
+    plain: &Fronted,
+    times: &mut Option<TimesSearch>,
+    pace: Pace,
+) -> Result<SharpSearch, Memory> {
+    let mut search = SharpSearch::new(left, scale_for(left.network), Next::Root, pace)?;
+    search.take_search(times);
+    match search.begin_with(left, &plain.certificate) {
+        Ok(()) => Ok(search),
+        Err(refused) => {
+            drop(search);
+            Err(refused)
+        }
+    }
+}
+
+/// Readies a search that goes on from a certificate, or from some of its leaves.
+fn ready_from(
+    left: Left<'_>,
+    base: &Fronted,
+    leaves: Option<Leaves<'_>>,
+    search: &mut SharpSearch,
+) -> Result<(), Memory>
+    requires { left.reduced.now.original ≡ left.instance.now }
+{
+    if let Some(leaves) = leaves {
+        search.chosen = Some(chosen_of(left.alloc, leaves)?);
+    }
+    search.begin_with(left, &base.certificate)?;
+    search.begin_times(left)
+}
+
+/// A search that goes on from a certificate, or from some of its leaves.
+fn from_base(
+    left: Left<'_>,
+    base: &Fronted,
+    leaves: Option<Leaves<'_>>,
+    pace: Pace,
+) -> Result<SharpSearch, Memory>
+    requires { left.reduced.now.original ≡ left.instance.now }
+{
+    let scale = scale_over(base, left.network);
+    let mut search = SharpSearch::new(left, scale, Next::Base, pace)?;
+    match ready_from(left, base, leaves, &mut search) {
+        Ok(()) => Ok(search),
+        Err(refused) => {
+            drop(search);
+            Err(refused)
+        }
+    }
+}
+
+/// A search over what is left of an instance, unless it was refused.
+fn owning(
+    reduced: Reduced,
+    search: Result<SharpSearch, Memory>,
+) -> Result<Option<Proposing>, Memory> {
+    match search {
+        Ok(search) => Ok(Some(Proposing { reduced, search })),
+        Err(refused) => {
+            drop(reduced);
+            Err(refused)
+        }
+    }
+}
+
+impl Proposing {
+    /// A search that begins at the root, beside a plain answer; None where that isn't open. What is left of the instance, and what
+    /// has looked for times of that, are those of a first look.
+    pub fn begin(
+        alloc: Global,
+        instance: &Instance,
+        plain: &Fronted,
+        reduced: Reduced,
+        mut times: Option<TimesSearch>,
+        pace: Pace,
+    ) -> Result<Option<Proposing>, Memory> {
+        if !is_open(plain.certificate.answer()) {
+            drop(times);
+            drop(reduced);
+            return Ok(None);
+        }
+        let left = Left::of(alloc, instance, &reduced);
+        let search = from_root(left, plain, &mut times, pace);
+        drop(times);
+        owning(reduced, search)
+    }
+
+    /// A search that goes on from a certificate, or from some of its leaves; None where its answer isn't open.
+    pub fn begin_from(
+        alloc: Global,
+        instance: &Instance,
+        base: &Fronted,
+        leaves: Option<Leaves<'_>>,
+        pace: Pace,
+    ) -> Result<Option<Proposing>, Memory> {
+        if !is_open(base.certificate.answer()) {
+            return Ok(None);
+        }
+        let reduced = reduce(alloc, instance)?;
+        let left = Left::of(alloc, instance, &reduced);
+        let search = from_base(left, base, leaves, pace);
+        owning(reduced, search)
+    }
+
+    /// Goes on, from the certificate with which it began, until as many leaves were split as may be, nothing is left to be done, or
+    /// the watcher ends this piece.
+    pub fn go_on<W: SharpWatcher>(
+        &mut self,
+        alloc: Global,
+        instance: &Instance,
+        base: &Fronted,
+        watcher: &mut W,
+    ) -> Result<(), Memory> {
+        let left = Left::of(alloc, instance, &self.reduced);
+        self.search.go_on(left, base, watcher)
+    }
+
+    /// What it proposes at a pause in the place of an answer. It began with this certificate.
+    pub fn proposals(
+        &self,
+        alloc: Global,
+        instance: &Instance,
+        base: &Fronted,
+        old: &Fronted,
+    ) -> Result<Proposals, Memory> {
+        let left = Left::of(alloc, instance, &self.reduced);
+        proposals_of(left, &self.search, base, old)
+    }
+
+    /// Whether it knows more than an answer tells.
+    pub fn exceeds(&self, answer: Answer) -> bool {
+        self.search.exceeds(answer)
+    }
+
+    /// Whether nothing is left to be done.
+    pub fn is_over(&self) -> bool {
+        self.search.next == Next::Nothing
+    }
+}

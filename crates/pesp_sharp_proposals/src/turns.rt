@@ -1,0 +1,109 @@
+//! Whose turn it is where a search goes on piece by piece: the tree's, or that of what looks for times.
+
+/// Each of both has one such part of all the work at least.
+const LEAST_PART: u64 = 8;
+
+/// How many steps of the tree count as what a piece of the search for times does.
+const STEPS_A_PIECE: u64 = 8;
+
+/// How many pieces of work are remembered, the later ones more.
+const REMEMBERED: u64 = 4;
+
+/// The work of one of both, in steps of the tree: what it took off the gap by its last work, and all of it.
+#[derive(Clone, Copy)]
+struct Account {
+    gain: u64,
+    work: u64,
+    all: u64,
+}
+
+/// Who takes the next turn.
+#[derive(Clone, Copy, PartialEq, Eq)]
+pub(crate) enum Turn {
+    Tree,
+    Times,
+}
+
+/// The accounts of both, and the gap after the last turn, where there was one.
+#[derive(Clone, Copy)]
+pub(crate) struct Turns {
+    tree: Account,
+    times: Account,
+    gap: Option<u64>,
+}
+
+impl Account {
+    /// No work so far.
+    fn new() -> Account {
+        Account {
+            gain: 0,
+            work: 0,
+            all: 0,
+        }
+    }
+
+    /// Notes what so much work took off the gap.
+    fn note(&mut self, gain: u64, work: u64) {
+        self.gain = self.gain.saturating_add(gain);
+        self.work = self.work.saturating_add(work);
+        self.all = self.all.saturating_add(work);
+        if self.work > STEPS_A_PIECE * REMEMBERED {
+            self.gain /= 2;
+            self.work /= 2;
+        }
+    }
+
+    /// Whether it had less than its part, beside the other.
+    fn is_short(&self, other: &Account) -> bool {
+        self.all.saturating_mul(LEAST_PART) < other.all
+    }
+
+    /// What it took off the gap by as much work as both did.
+    fn worth(&self, other: &Account) -> u128 {
+        u128::from(self.gain).saturating_mul(u128::from(other.work))
+    }
+}
+
+impl Turns {
+    /// Nobody has had a turn.
+    pub(crate) fn new() -> Turns {
+        Turns {
+            tree: Account::new(),
+            times: Account::new(),
+            gap: None,
+        }
+    }
+
+    /// What a turn took off the gap.
+    fn gain(&self, gap: Option<u64>) -> u64 {
+        match (self.gap, gap) {
+            (Some(before), Some(after)) => before.saturating_sub(after),
+            _ => 0,
+        }
+    }
+
+    /// Whose turn it is: that of the one who took more off the gap last by as much work; each has an eighth of the other's work
+    /// at least.
+    pub(crate) fn next(&self) -> Turn {
+        let (tree, times) = (&self.tree, &self.times);
+        let by_tree = tree.worth(times);
+        let by_times = times.worth(tree);
+        let is_even = by_tree == by_times && times.all <= tree.all;
+        let takes_times = by_tree < by_times || is_even;
+        if times.is_short(tree) || (takes_times && !tree.is_short(times)) {
+            Turn::Times
+        } else {
+            Turn::Tree
+        }
+    }
+
+    /// Notes what a turn left of the gap; None where no timetable is known.
+    pub(crate) fn note(&mut self, turn: Turn, gap: Option<u64>) {
+        let gain = self.gain(gap);
+        self.gap = gap;
+        match turn {
+            Turn::Tree => self.tree.note(gain, 1),
+            Turn::Times => self.times.note(gain, STEPS_A_PIECE),
+        }
+    }
+}

@@ -131,7 +131,7 @@ fn check<R: AllocGlobal + Files, S: Source, W: Sink>(
     let mut instance = Counted::new(opened(rt, request.file)?);
     let verdict = run_check_of(
         rt.alloc(),
-        pesp_cert::Versions::Plain,
+        request.versions,
         &mut instance,
         reader,
         writer,

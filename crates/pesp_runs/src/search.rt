@@ -19,8 +19,9 @@ pub trait Search {
     // What its caller shows.
     ghost within: { Self → Type 0 };
 
-    // What is written for these times: the writer got what the last relation says of its text.
-    ghost writes: { Self → Pesp → List ℕ → (List ℕ → Type 0) → Type 0 };
+    // What is written for these times: the writer got what the last relation says of its text. The task is named as it was before and
+    // as it is after, since it may keep what it found elsewhere.
+    ghost writes: { Self → Self → Pesp → List ℕ → (List ℕ → Type 0) → Type 0 };
 
     // Why nothing went out whole. The last one says that the writer failed, behind a front of the text.
     ghost stops: { Self → Pesp → List ℕ → AnyFault → Type 0 → Type 0 };
@@ -35,13 +36,13 @@ pub trait Search {
     ) -> Result<(), Fault>
         requires within { within self.old }
         requires fits { FewerThan (2 ^ 63) (W.calls writer.old) }
-        ensures ok { OnOk result (writes self.old instance.now times.now
+        ensures ok { OnOk result (writes self.old self.new instance.now times.now
             (Appends (W.contents writer.old) (W.contents writer.new))) }
         ensures counts { OnOk result (HasWorked (W.calls writer.old) (W.calls writer.new)) }
         ensures cause { IfErr result (λ fault. stops self.old instance.now times.now fault
             (HasFailed (over (W.contents writer.old) (W.contents writer.new)
             (W.calls writer.old) (W.calls writer.new))
-            × writes self.old instance.now times.now (GetsFront
+            × writes self.old self.new instance.now times.now (GetsFront
             (over (W.contents writer.old) (W.contents writer.new)
             (W.calls writer.old) (W.calls writer.new))))) }
         ensures silent { IfErr result (λ fault. fault ≢ Fault.Write → writer.new ≡ writer.old) };
@@ -58,13 +59,13 @@ pub fn run_alone<S: Search, R: Source, W: Sink>(
     requires within { S.within search.old }
     requires reads_fit { FewerThan (2 ^ 62) (R.calls reader.old) }
     requires writes_fit { FewerThan (2 ^ 62) (W.calls writer.old) }
-    ensures ok { OnOk result (Alone (S.writes search.old)
+    ensures ok { OnOk result (Alone (S.writes search.old search.new)
         (R.remaining reader.old) (R.remaining reader.new) period
         (Appends (W.contents writer.old) (W.contents writer.new))) }
     ensures reads { OnOk result (HasWorked (R.calls reader.old) (R.calls reader.new)) }
     ensures reads_else { IfErr result (λ fault. fault ≢ Fault.Read → HasWorked (R.calls reader.old) (R.calls reader.new)) }
     ensures writes { OnOk result (HasWorked (W.calls writer.old) (W.calls writer.new)) }
-    ensures cause { IfErr result (λ fault. AloneCause (S.stops search.old) (S.writes search.old) fault
+    ensures cause { IfErr result (λ fault. AloneCause (S.stops search.old) (S.writes search.old search.new) fault
         (over (R.remaining reader.old) (R.remaining reader.new)
         (R.calls reader.old) (R.calls reader.new))
         (over (W.contents writer.old) (W.contents writer.new)
@@ -93,7 +94,7 @@ pub fn run_from_times<S: Search, R: Source, T: Source, W: Sink>(
     ensures ok { OnOk result
         (ReadsTimetable (R.remaining instance_reader.old) (R.remaining instance_reader.new)
         (T.remaining times_reader.old) (T.remaining times_reader.new) period
-        (λ p times. S.writes search.old p times
+        (λ p times. S.writes search.old search.new p times
         (Appends (W.contents writer.old) (W.contents writer.new)))) }
     ensures reads { OnOk result
         (HasWorked (R.calls instance_reader.old) (R.calls instance_reader.new)) }
@@ -103,7 +104,7 @@ pub fn run_from_times<S: Search, R: Source, T: Source, W: Sink>(
     ensures times_reads_else { IfErr result (λ fault. fault ≢ Fault.Read → HasWorked (T.calls times_reader.old) (T.calls times_reader.new)) }
     ensures writes { OnOk result (HasWorked (W.calls writer.old) (W.calls writer.new)) }
     ensures cause { IfErr result
-        (λ fault. FromTimesCause (S.stops search.old) (S.writes search.old) fault
+        (λ fault. FromTimesCause (S.stops search.old) (S.writes search.old search.new) fault
         (over (R.remaining instance_reader.old) (R.remaining instance_reader.new)
         (R.calls instance_reader.old) (R.calls instance_reader.new))
         (over (T.remaining times_reader.old) (T.remaining times_reader.new)

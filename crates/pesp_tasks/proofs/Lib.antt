@@ -1,6 +1,6 @@
 mod Causes
 mod Solutions
-mod SharpSolutions
+pub mod SharpSolutions
 mod Telling
 pub mod Joining
 pub mod Resumptions

@@ -22,7 +22,7 @@ fn keeps_limits(front: &Option<Marks>)
 }
 
 /// Every certificate has a text with its front, and the answer of a valid one is true.
-pub(crate) fn vouch(instance: &Instance, fronted: &Fronted)
+pub fn vouch(instance: &Instance, fronted: &Fronted)
     requires { IsSharpBase instance.now fronted.now }
     ensures is_true { IsTrueAnswer instance.now fronted.now.content.answer
         (shown_times fronted.now.content) }

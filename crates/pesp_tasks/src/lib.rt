@@ -19,6 +19,7 @@ mod solve;
 mod split;
 mod work;
 
+pub use fronted::vouch;
 pub use gap::Gap;
 pub use graft::run_graft;
 pub use resume::Resume;

@@ -30,7 +30,7 @@ impl<O: SharpObserver> Search for SolveSharp<O> {
 
     ghost within = { λ s. s.steps ≤ MOST_STEPS };
 
-    ghost writes = { λ s p times Gets. WritesSharpSolution p times s.steps Gets };
+    ghost writes = { λ s _ p times Gets. WritesSharpSolution p times s.steps Gets };
 
     // What the search passes it passes within 0 steps.
     ghost stops = { λ _ p times fault cut. SolutionStops fault p 0 cut };

@@ -34,7 +34,7 @@ impl<O: Observer> Search for Solve<O> {
 
     ghost within = { λ s. s.steps ≤ MOST_STEPS };
 
-    ghost writes = { λ s p times Gets. WritesSolution p times s.steps Gets };
+    ghost writes = { λ s _ p times Gets. WritesSolution p times s.steps Gets };
 
     ghost stops = { λ s p times fault cut. SolutionStops fault p s.steps cut };
 

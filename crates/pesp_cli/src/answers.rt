@@ -56,12 +56,12 @@ fn search<R: AllocGlobal + Eprint + Files, I: Source, W: Sink, S: Search>(
     requires within { S.within task.old }
     requires reads_fit { FewerThan (2 ^ 62) (I.calls reader.old) }
     requires writes_fit { FewerThan (2 ^ 62) (W.calls writer.old) }
-    ensures answered { IfOk result (AnswersSearch (S.writes task.old) from.entry period
+    ensures answered { IfOk result (AnswersSearch (S.writes task.old task.new) from.entry period
         (over (I.remaining reader.old) (I.remaining reader.new)
         (I.calls reader.old) (I.calls reader.new))
         (over (W.contents writer.old) (W.contents writer.new)
         (W.calls writer.old) (W.calls writer.new))) }
-    ensures stopped { IfErr result (λ fault. StopsSearch (S.stops task.old) (S.writes task.old) from.entry
+    ensures stopped { IfErr result (λ fault. StopsSearch (S.stops task.old) (S.writes task.old task.new) from.entry
         fault period
         (over (I.remaining reader.old) (I.remaining reader.new)
         (I.calls reader.old) (I.calls reader.new))

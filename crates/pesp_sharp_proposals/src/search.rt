@@ -112,7 +112,7 @@ impl SharpSearch {
             chosen: None,
             times: None,
             pace,
-            turns: Turns::new(),
+            turns: Turns::new(left.network.rows().len()),
             used: 0,
         })
     }

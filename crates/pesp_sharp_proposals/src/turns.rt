@@ -1,13 +1,15 @@
 //! Whose turn it is where a search goes on piece by piece: the tree's, or that of what looks for times.
 
 /// Each of both has one such part of all the work at least.
-const LEAST_PART: u64 = 8;
+const LEAST_PART: u64 = 4;
 
-/// How many steps of the tree count as what a piece of the search for times does.
+/// How many steps of the tree count as what a piece of the search for times does: with many activities left a step is as long.
 const STEPS_A_PIECE: u64 = 8;
 
+const MANY: usize = 2_500;
+
 /// How many pieces of work are remembered, the later ones more.
-const REMEMBERED: u64 = 4;
+const REMEMBERED: u64 = 16;
 
 /// The work of one of both, in steps of the tree: what it took off the gap by its last work, and all of it.
 #[derive(Clone, Copy)]
@@ -30,6 +32,8 @@ pub(crate) struct Turns {
     tree: Account,
     times: Account,
     gap: Option<u64>,
+    /// How many steps of the tree a piece of the search for times counts as.
+    piece: u64,
 }
 
 impl Account {
@@ -42,12 +46,12 @@ impl Account {
         }
     }
 
-    /// Notes what so much work took off the gap.
-    fn note(&mut self, gain: u64, work: u64) {
+    /// Notes what so much work took off the gap; so much of the later work is remembered.
+    fn note(&mut self, gain: u64, work: u64, remembered: u64) {
         self.gain = self.gain.saturating_add(gain);
         self.work = self.work.saturating_add(work);
         self.all = self.all.saturating_add(work);
-        if self.work > STEPS_A_PIECE * REMEMBERED {
+        if self.work > remembered {
             self.gain /= 2;
             self.work /= 2;
         }
@@ -65,12 +69,13 @@ impl Account {
 }
 
 impl Turns {
-    /// Nobody has had a turn.
-    pub(crate) fn new() -> Turns {
+    /// Nobody has had a turn, with so many activities left.
+    pub(crate) fn new(activities: usize) -> Turns {
         Turns {
             tree: Account::new(),
             times: Account::new(),
             gap: None,
+            piece: if activities > MANY { 1 } else { STEPS_A_PIECE },
         }
     }
 
@@ -82,7 +87,7 @@ impl Turns {
         }
     }
 
-    /// Whose turn it is: that of the one who took more off the gap last by as much work; each has an eighth of the other's work
+    /// Whose turn it is: that of the one who took more off the gap last by as much work; each has a quarter of the other's work
     /// at least.
     pub(crate) fn next(&self) -> Turn {
         let (tree, times) = (&self.tree, &self.times);
@@ -100,10 +105,11 @@ impl Turns {
     /// Notes what a turn left of the gap; None where no timetable is known.
     pub(crate) fn note(&mut self, turn: Turn, gap: Option<u64>) {
         let gain = self.gain(gap);
+        let remembered = self.piece.saturating_mul(REMEMBERED);
         self.gap = gap;
         match turn {
-            Turn::Tree => self.tree.note(gain, 1),
-            Turn::Times => self.times.note(gain, STEPS_A_PIECE),
+            Turn::Tree => self.tree.note(gain, 1, remembered),
+            Turn::Times => self.times.note(gain, self.piece, remembered),
         }
     }
 }

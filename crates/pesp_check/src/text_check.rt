@@ -16,7 +16,7 @@ use pesp_truth::Answer;
 use pesp_truth::laws::valid_is_true;
 use std::alloc::Global;
 
-/// Judges a certificate's text, whoever made it, while it is read, where its version is taken: the verdict that `check_behind`
+/// Judges a certificate's text, whoever made it, while it is read, where its version is taken: the verdict that `check_sharp`
 /// has for the certificate and the front that `parse_text` reads from it, and its answer. At most 1,073,741,824 bytes of the
 /// reader are read, and those are judged.
 ///

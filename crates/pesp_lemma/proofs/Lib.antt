@@ -1,0 +1,9 @@
+pub mod Sums
+pub mod Leaves
+pub mod Trees
+pub mod Lines
+pub mod Shown
+pub mod Plain
+pub mod Certificates
+pub mod Worked
+pub mod Small

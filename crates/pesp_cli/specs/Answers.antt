@@ -131,7 +131,7 @@ AnswersLeaves (Work steps until jobs) period instance reader writer status =
     (λ p base. WritesWorks p base jobs.items steps until (Gets writer)) × (status ≡ 0)
 AnswersLeaves (WorkSharp steps until jobs) period instance reader writer status =
     OverBase ReadsSharpBase instance.old instance.new reader.old reader.new period
-    (λ p base. WritesSharpWork p base jobs.items steps (Gets writer)) × (status ≡ 0)
+    (λ p base. WritesSharpWork p base jobs.items steps until (Gets writer)) × (status ≡ 0)
 
 -- 1 where any activity is violated
 abbrev pub violations_status : ℕ → ℕ

@@ -135,7 +135,7 @@ StopsLeaves (Work steps until jobs) fault period instance reader writer uncalled
 StopsLeaves (WorkSharp steps until jobs) fault period instance reader writer uncalled =
     OverBaseCause ReadsSharpBase SharpBaseCause fault instance reader writer period uncalled
     (λ p base fault cut. SharpJobCause fault p base jobs.items ⊎ OutCause fault cut)
-    (λ p base Gets. WritesSharpWork p base jobs.items steps Gets)
+    (λ p base Gets. WritesSharpWork p base jobs.items steps until Gets)
 
 -- a list of violated activities, with what events are called where a file is named
 abbrev pub StopsViolations : {A : Type 0} → Option A → Fault → ℕ → Device → Device → Device → Type 0 → Type 0

@@ -84,16 +84,16 @@ accepts_what_goes_on text before bytes left base left_base left_instance left_ce
     accepts_gone_on begun.front text before bytes left left_instance left_certificate old new period steps verdict p begun read gone_on
 
 pub accepts_what_is_worked_on : (text before bytes : List ℕ)
-    (left base left_base left_instance left_certificate old new : Option (List ℕ)) (period : ℕ) (jobs : List ℕ) (steps : ℕ)
+    (left base left_base left_instance left_certificate old new : Option (List ℕ)) (period : ℕ) (jobs : List ℕ) (steps : ℕ) (until : Option ℕ)
     (verdict : Verdict)
     → OverBase ReadsSharpBase (Some text) left base left_base period
-    (λ p begun. WritesSharpWork p begun jobs steps (Appends (Some before) (Some (before ++ bytes))))
+    (λ p begun. WritesSharpWork p begun jobs steps until (Appends (Some before) (Some (before ++ bytes))))
     → Checks All (Some text) left_instance (Some bytes) left_certificate period verdict (Appends old new)
     → verdict ≡ Accepted
-accepts_what_is_worked_on text before bytes left base left_base left_instance left_certificate old new period jobs steps verdict
+accepts_what_is_worked_on text before bytes left base left_base left_instance left_certificate old new period jobs steps until verdict
     (p, read, (begun, reads, (are, worked))) =
     accepts_fronted text before bytes left left_instance left_certificate old new period verdict p worked.certificate read
-    worked.holds.valid worked.has_text worked.written
+    worked.holds.resumed.valid worked.has_text worked.written
 
 pub accepts_what_is_grafted : (text before bytes : List ℕ)
     (left base left_base works left_works left_instance left_certificate told_old told_new old new : Option (List ℕ)) (period : ℕ)

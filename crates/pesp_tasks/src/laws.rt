@@ -111,9 +111,9 @@ pub fn what_goes_on_with_marks_is_accepted()
         (Appends old new)
         → verdict ≡ Accepted }
     ensures worked { (text before bytes : List ℕ) (left base left_base left_instance left_certificate old new : Option
-        (List ℕ)) (period : ℕ) (jobs : List ℕ) (steps : ℕ) (verdict : Verdict)
+        (List ℕ)) (period : ℕ) (jobs : List ℕ) (steps : ℕ) (until : Option ℕ) (verdict : Verdict)
         → OverBase ReadsSharpBase (Some text) left base left_base period
-        (λ p begun. WritesSharpWork p begun jobs steps (Appends (Some before) (Some (before ++ bytes))))
+        (λ p begun. WritesSharpWork p begun jobs steps until (Appends (Some before) (Some (before ++ bytes))))
         → Checks All (Some text) left_instance (Some bytes) left_certificate period verdict
         (Appends old new)
         → verdict ≡ Accepted }

@@ -2,10 +2,8 @@
 #![tactic(auto)]
 
 mod answers;
-mod headed;
 mod input;
 mod output;
-mod plans;
 mod program;
 mod telling;
 

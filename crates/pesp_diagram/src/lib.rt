@@ -2,13 +2,10 @@
 //! lines.
 #![tactic(auto)]
 
-mod backs;
 mod drawing;
 mod frame;
-mod layout;
 mod marks;
 mod pieces;
 mod places;
-mod scene;
 
-pub use drawing::{diagram, write_pictures};
+pub use drawing::{diagram, write_diagrams};

@@ -1,4 +1,3 @@
 pub mod Reporting
 pub mod Violating
-pub mod Fixing
 pub mod Naming

@@ -6,6 +6,4 @@ mod options;
 mod request;
 
 pub use command::request_of;
-pub use request::{
-    Asked, OfCertificate, OfInstance, OfLeaves, OfTimes, OfWorks, Planning, Request,
-};
+pub use request::{Asked, OfCertificate, OfInstance, OfLeaves, OfTimes, OfWorks, Request};

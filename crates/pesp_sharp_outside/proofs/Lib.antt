@@ -3,4 +3,3 @@ mod Listing
 mod Counting
 mod Passed
 mod Taking
-mod Keeping

@@ -2,4 +2,3 @@ pub mod Jobs
 pub mod Paths
 pub mod Cutting
 pub mod Grafts
-pub mod Keeping

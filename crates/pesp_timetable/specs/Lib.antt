@@ -1,3 +1,1 @@
 pub mod Timetable
-pub mod Objects
-pub mod Texts

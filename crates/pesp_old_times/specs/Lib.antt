@@ -1,2 +1,0 @@
-pub mod OldTimes
-pub mod Tables

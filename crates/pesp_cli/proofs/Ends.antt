@@ -4,9 +4,10 @@ use Rattle.std.specs.Prelude.{Result, Option, MatchResult, OnOk, IfOk, IfErr, �
 use Rattle.pesp_check_run.specs.Devices.{Device}
 use Rattle.pesp_faults.specs.declared.fault.Fault.{Fault}
 use Rattle.pesp_faults.specs.declared.fault.Fault.TheVariants.{Write}
-use Rattle.pesp_faults.specs.Reading.{HasBase}
-use Rattle.pesp_tasks.specs.Resuming.{WritesResumed}
-use Rattle.pesp_tasks.proofs.Resumptions.{written_weaker}
+use Rattle.pesp_runs.specs.Bases.{ReadsSharpBase}
+use Rattle.pesp_runs.specs.Runs.{OverBase}
+use Rattle.pesp_tasks.specs.Resuming.{WritesGoneOn}
+use Rattle.pesp_tasks.proofs.Resumptions.{gone_on_weaker}
 use Rattle.pesp_check_run.specs.declared.fault.VerdictFault.{VerdictFault}
 use Rattle.pesp_check_run.specs.declared.fault.VerdictFault.TheVariants.{Write as OfWrite}
 use Rattle.pesp_faults.specs.FaultLines.{verdict_fault}
@@ -76,17 +77,19 @@ from_some_times (Err e) r P times holds is = rw is tt
 
 -- where less is said of a stop of a search that goes on
 stopped_base : {A B : Type 0} (told left told_base left_base : Option (List ℕ)) (period steps : ℕ)
-    (Gets : List ℕ → Type 0) → (A → B) → HasBase told left told_base left_base period
-    (λ p base. WritesResumed p base steps A Gets)
-    → HasBase told left told_base left_base period (λ p base. WritesResumed p base steps B Gets)
+    (Gets : List ℕ → Type 0) → (A → B)
+    → OverBase ReadsSharpBase told left told_base left_base period (λ p base. WritesGoneOn p base steps A Gets)
+    → OverBase ReadsSharpBase told left told_base left_base period (λ p base. WritesGoneOn p base steps B Gets)
 stopped_base told left told_base left_base period steps Gets f h =
     let (p, reads, (base, reads_base, writes)) = h in
-    (p, reads, (base, reads_base, written_weaker p base steps Gets f writes))
+    (p, reads, (base, reads_base, gone_on_weaker base.front p base steps Gets f writes))
 
 pub stopped_less : {A B : Type 0} (r : Result ℕ Fault) (told left told_base left_base : Option (List ℕ))
     (period steps : ℕ) (Gets : List ℕ → Type 0) → (A → B)
-    → IfOk r (λ status. HasBase told left told_base left_base period (λ p base. WritesResumed p base steps A Gets) × (status ≡ 0))
-    → IfOk r (λ status. HasBase told left told_base left_base period (λ p base. WritesResumed p base steps B Gets) × (status ≡ 0))
+    → IfOk r (λ status. OverBase ReadsSharpBase told left told_base left_base period
+    (λ p base. WritesGoneOn p base steps A Gets) × (status ≡ 0))
+    → IfOk r (λ status. OverBase ReadsSharpBase told left told_base left_base period
+    (λ p base. WritesGoneOn p base steps B Gets) × (status ≡ 0))
 stopped_less (Ok status) told left told_base left_base period steps Gets f holds =
     (stopped_base told left told_base left_base period steps Gets f holds.0, holds.1)
 stopped_less (Err e) told left told_base left_base period steps Gets f holds = tt

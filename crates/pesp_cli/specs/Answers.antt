@@ -4,10 +4,13 @@ use Rattle.std.specs.Io.KnownBytes.{Appends}
 use Rattle.pesp_problem.specs.Timetables.{Pesp}
 use Rattle.pesp_report.specs.Report.{IsReport}
 use Rattle.pesp_report.specs.Named.{IsNamedReport}
-use Rattle.pesp_timetable.specs.Timetable.{IsTimetableText}
+use Rattle.pesp_fix.specs.declared.refusal.FixRefusal.{FixRefusal}
+use Rattle.pesp_timetable.specs.Texts.{IsTimetableText}
 use Rattle.pesp_judges.specs.declared.refusal.Verdict.{Verdict}
 use Rattle.pesp_cert_lines.specs.declared.versions.Versions.TheVariants.{Plain, All}
 use Rattle.pesp_check_run.specs.Checking.{Checks}
+use Rattle.pesp_plan.specs.Planning.{WritesPlan, KeepsSome, KeepsSomeOn}
+use Rattle.pesp_old_runs.specs.Beginning.{FromOld, FromStanding}
 use Rattle.pesp_check_run.specs.Devices.{Device, HasFailed, GetsFront}
 use Rattle.pesp_check_run.specs.Verdicts.{verdict_status}
 use Rattle.pesp_faults.specs.Reading.{HasBase, ReadsTimetable}
@@ -16,24 +19,25 @@ use Rattle.pesp_faults.specs.declared.fault.Fault.{Fault}
 use Rattle.pesp_faults.specs.declared.fault.Fault.TheVariants.{Memory}
 use Rattle.pesp_runs.specs.Bases.{ReadsSharpBase}
 use Rattle.pesp_runs.specs.Runs.{Alone, OverBase}
-use Rattle.pesp_tasks.specs.Gaps.{gap_line}
+use Rattle.pesp_tasks.specs.Gaps.{gap_line, gap_json}
 use Rattle.pesp_tasks.specs.Solving.{WritesSolution}
-use Rattle.pesp_tasks.specs.Resuming.{WritesResumed}
+use Rattle.pesp_tasks.specs.Resuming.{WritesGoneOn}
 use Rattle.pesp_tasks.specs.Outside.{WritesJobs, WritesWorks, Grafts}
 use Rattle.pesp_tasks.specs.SharpSolving.{WritesSharpSolution, ResumesSharp}
 use Rattle.pesp_tasks.specs.SharpOutside.{WritesSharpJobs, WritesSharpWork, GraftsSharp}
 use Rattle.pesp_report_run.specs.Reporting.{WritesSheet}
 use Rattle.pesp_report_run.specs.Violating.{ReadsForEvents, WritesViolations}
+use Rattle.pesp_report_run.specs.Fixing.{WritesFixed}
 use Rattle.pesp_conflict_run.specs.Runs.{TellsConflict}
 use Rattle.pesp_conflict_run.specs.Told.{told_text, told_status}
 use Rattle.pesp_conflict_run.specs.declared.told.Told.{Told}
 use Rattle.pesp_telling.specs.Lines.{Gets, GetsLine}
 use Rattle.pesp_request.specs.declared.request.OfInstance.{OfInstance}
-use Rattle.pesp_request.specs.declared.request.OfInstance.TheVariants.{Solve, SolveSharp, Conflict}
+use Rattle.pesp_request.specs.declared.request.OfInstance.TheVariants.{Solve, SolveSharp, Plan, Conflict}
 use Rattle.pesp_request.specs.declared.request.OfCertificate.{OfCertificate}
-use Rattle.pesp_request.specs.declared.request.OfCertificate.TheVariants.{Check, CheckSharp, Gap, Resume, ResumeSharp, Split, SplitSharp}
+use Rattle.pesp_request.specs.declared.request.OfCertificate.TheVariants.{Check, CheckSharp, Gap, GapJson, Resume, ResumeSharp, Split, SplitSharp}
 use Rattle.pesp_request.specs.declared.request.OfTimes.{OfTimes}
-use Rattle.pesp_request.specs.declared.request.OfTimes.TheVariants.{Report, Violations, Picture, Diagrams, Timetable, Page}
+use Rattle.pesp_request.specs.declared.request.OfTimes.TheVariants.{Report, Violations, Picture, Diagrams, Timetable, Fix, Page}
 use Rattle.pesp_request.specs.declared.request.OfLeaves.{OfLeaves}
 use Rattle.pesp_request.specs.declared.request.OfLeaves.TheVariants.{Work, WorkSharp}
 use Rattle.pesp_request.specs.declared.request.OfWorks.{OfWorks}
@@ -65,12 +69,33 @@ AnswersConflict (Some file) steps period reader writer teller silent status =
     (name : ℤ → List ℕ) × (told : Told) × TellsConflict reader.old reader.new period steps (Some name) told (Gets writer) silent
     × GetsLine teller (told_text told) × (status ≡ told_status told)
 
+-- what it does for a plan that writes this, from old times in a file where one is named, which are some text
+abbrev pub AnswersBegun : {A : Type 0} → (Pesp → List ℕ → (List ℕ → Type 0) → Type 0) → Option A → ℕ → Device → Device → ℕ → Type 0
+AnswersBegun Writes None period reader writer status = Alone Writes reader.old reader.new period (Gets writer) × (status ≡ 0)
+AnswersBegun Writes (Some file) period reader writer status =
+    ((times : Device) × FromOld (λ p times. Writes p times (Gets writer)) reader.old reader.new times.old times.new period) × (status ≡ 0)
+
+-- what it does for a plan that is kept in a file: from what stands there, which is some text; or from old times in a file where
+-- one is named
+abbrev pub AnswersKept : {A : Type 0} → Option A → ℕ → Device → Device → ℕ → Type 0
+AnswersKept from period reader writer status =
+    AnswersBegun KeepsSome from period reader writer status
+    ⊎ (((base : Device) × FromStanding (λ p base. KeepsSomeOn base (Gets writer)) (λ p times. KeepsSome p times (Gets writer))
+    reader.old reader.new base.old base.new period) × (status ≡ 0))
+
+-- what it does for a plan, which is written where no file is named in which it is kept
+abbrev pub AnswersPlan : {A B : Type 0} → Option A → Option B → ℕ → Device → Device → ℕ → Type 0
+AnswersPlan None from period reader writer status = AnswersBegun WritesPlan from period reader writer status
+AnswersPlan (Some file) from period reader writer status = AnswersKept from period reader writer status
+
 -- what the program does for what is asked of an instance, from the reader that has it; `silent` says that the writer was not called
 abbrev pub AnswersInstance : OfInstance → ℕ → Device → Device → Device → Type 0 → ℕ → Type 0
 AnswersInstance (Solve steps from progress) period reader writer teller silent status =
     AnswersSearch (λ p times Gets. WritesSolution p times steps Gets) from period reader writer status
 AnswersInstance (SolveSharp steps from progress) period reader writer teller silent status =
     AnswersSearch (λ p times Gets. WritesSharpSolution p times steps Gets) from period reader writer status
+AnswersInstance (Plan asked) period reader writer teller silent status =
+    AnswersPlan asked.output asked.from period reader writer status
 AnswersInstance (Conflict steps names) period reader writer teller silent status =
     AnswersConflict names steps period reader writer teller silent status
 
@@ -85,10 +110,13 @@ AnswersCertificate CheckSharp period instance reader writer status =
     × (status ≡ verdict_status verdict)
 AnswersCertificate Gap period instance reader writer status =
     OverBase ReadsSharpBase instance.old instance.new reader.old reader.new period
-    (λ p base. Gets writer (gap_line base.content.answer)) × (status ≡ 0)
+    (λ p base. Gets writer (gap_line base)) × (status ≡ 0)
+AnswersCertificate GapJson period instance reader writer status =
+    OverBase ReadsSharpBase instance.old instance.new reader.old reader.new period
+    (λ p base. Gets writer (gap_json base)) × (status ≡ 0)
 AnswersCertificate (Resume steps seconds progress) period instance reader writer status =
-    HasBase instance.old instance.new reader.old reader.new period
-    (λ p base. WritesResumed p base steps (IsSome seconds) (Gets writer)) × (status ≡ 0)
+    OverBase ReadsSharpBase instance.old instance.new reader.old reader.new period
+    (λ p base. WritesGoneOn p base steps (IsSome seconds) (Gets writer)) × (status ≡ 0)
 AnswersCertificate (ResumeSharp steps seconds progress) period instance reader writer status =
     ResumesSharp instance.old instance.new reader.old reader.new period steps (Gets writer) × (status ≡ 0)
 AnswersCertificate Split period instance reader writer status =
@@ -103,12 +131,35 @@ AnswersLeaves (Work steps until jobs) period instance reader writer status =
     (λ p base. WritesWorks p base jobs.items steps until (Gets writer)) × (status ≡ 0)
 AnswersLeaves (WorkSharp steps until jobs) period instance reader writer status =
     OverBase ReadsSharpBase instance.old instance.new reader.old reader.new period
-    (λ p base. WritesSharpWork p base jobs.items steps (Gets writer)) × (status ≡ 0)
+    (λ p base. WritesSharpWork p base jobs.items steps until (Gets writer)) × (status ≡ 0)
 
 -- 1 where any activity is violated
 abbrev pub violations_status : ℕ → ℕ
 violations_status zero = 0
 violations_status (suc n) = 1
+
+-- what it does to list violated activities, with what events are called where a file is named
+abbrev pub AnswersViolations : {A : Type 0} → Option A → ℕ → Device → Device → Device → ℕ → Type 0
+AnswersViolations None period instance reader writer status =
+    (count : ℕ) × ReadsForEvents instance.old instance.new reader.old reader.new period
+    (λ p times. WritesViolations p times None count (Gets writer))
+    × (status ≡ violations_status count)
+AnswersViolations (Some file) period instance reader writer status =
+    (name : ℤ → List ℕ) × (count : ℕ) × ReadsForEvents instance.old instance.new reader.old reader.new period
+    (λ p times. WritesViolations p times (Some name) count (Gets writer))
+    × (status ≡ violations_status count)
+
+-- 2 where what is wanted can't be had
+abbrev pub fix_status : Option FixRefusal → ℕ
+fix_status None = 0
+fix_status (Some refusal) = 2
+
+-- what it does to fix events; nothing is said of what names a file tells
+abbrev pub AnswersFix : ℕ → Device → Device → Device → ℕ → Type 0
+AnswersFix period instance reader writer status =
+    (refused : Option FixRefusal) × ReadsForEvents instance.old instance.new reader.old reader.new period
+    (λ p times. WritesFixed p refused (Gets writer))
+    × (status ≡ fix_status refused)
 
 -- the same of times; nothing is said of what a picture or a page shows, or of what names a file tells
 abbrev pub AnswersTimes : OfTimes → ℕ → Device → Device → Device → ℕ → Type 0
@@ -120,17 +171,15 @@ AnswersTimes (Report (Some names)) period instance reader writer status =
     × ReadsTimetable instance.old instance.new reader.old reader.new period
     (λ p times. WritesSheet (IsNamedReport p times name) (Gets writer)))
     × (status ≡ 0)
-AnswersTimes Violations period instance reader writer status =
-    (count : ℕ) × ReadsForEvents instance.old instance.new reader.old reader.new period
-    (λ p times. WritesViolations p times count (Gets writer))
-    × (status ≡ violations_status count)
+AnswersTimes (Violations names) period instance reader writer status = AnswersViolations names period instance reader writer status
 AnswersTimes (Picture rows names) period instance reader writer status =
     ReadsTimetable instance.old instance.new reader.old reader.new period (λ p times. WritesSheet (λ text. ⊤) (Gets writer)) × (status ≡ 0)
 AnswersTimes (Diagrams names along) period instance reader writer status =
     ReadsTimetable instance.old instance.new reader.old reader.new period (λ p times. WritesSheet (λ text. ⊤) (Gets writer)) × (status ≡ 0)
-AnswersTimes (Timetable names) period instance reader writer status =
+AnswersTimes (Timetable names json) period instance reader writer status =
     ReadsTimetable instance.old instance.new reader.old reader.new period
-    (λ p times. WritesSheet (IsTimetableText p times) (Gets writer)) × (status ≡ 0)
+    (λ p times. WritesSheet (IsTimetableText json p times) (Gets writer)) × (status ≡ 0)
+AnswersTimes (Fix names events lines) period instance reader writer status = AnswersFix period instance reader writer status
 AnswersTimes (Page names) period instance reader writer status =
     ReadsTimetable instance.old instance.new reader.old reader.new period (λ p times. WritesSheet (λ text. ⊤) (Gets writer)) × (status ≡ 0)
 

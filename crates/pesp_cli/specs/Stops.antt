@@ -2,7 +2,7 @@
 use Rattle.std.specs.Prelude.{◌≡◌, ◌⊎◌, ⊤, ℕ, ℤ, List, Option, Some, None, IsSome}
 use Rattle.pesp_report.specs.Report.{IsReport}
 use Rattle.pesp_report.specs.Named.{IsNamedReport}
-use Rattle.pesp_timetable.specs.Timetable.{IsTimetableText}
+use Rattle.pesp_timetable.specs.Texts.{IsTimetableText}
 use Rattle.pesp_problem.specs.Timetables.{Pesp}
 use Rattle.pesp_truth.specs.Certificates.{Content}
 use Rattle.pesp_cert.specs.Fronted.{Fronted}
@@ -10,6 +10,8 @@ use Rattle.pesp_check_run.specs.Devices.{Device}
 use Rattle.pesp_cert_lines.specs.declared.versions.Versions.TheVariants.{Plain, All}
 use Rattle.pesp_check_run.specs.Checking.{CheckCause}
 use Rattle.pesp_check_run.specs.declared.fault.VerdictFault.{VerdictFault}
+use Rattle.pesp_plan.specs.Planning.{WritesPlan, KeepsSome}
+use Rattle.pesp_old_runs.specs.Beginning.{FromOldCause, FromStandingCause}
 use Rattle.pesp_faults.specs.Reading.{ReadsBase}
 use Rattle.pesp_faults.specs.Causes.{BaseCause, OutCause}
 use Rattle.pesp_faults.specs.FaultLines.{verdict_fault}
@@ -17,22 +19,23 @@ use Rattle.pesp_faults.specs.declared.fault.Fault.{Fault}
 use Rattle.pesp_faults.specs.declared.fault.Fault.TheVariants.{NoFile}
 use Rattle.pesp_runs.specs.Bases.{ReadsSharpBase, SharpBaseCause}
 use Rattle.pesp_runs.specs.Runs.{AloneCause, FromTimesCause, OverBaseCause}
-use Rattle.pesp_tasks.specs.Gaps.{gap_line}
+use Rattle.pesp_tasks.specs.Gaps.{gap_line, gap_json}
 use Rattle.pesp_tasks.specs.Solving.{WritesSolution, SolutionStops}
-use Rattle.pesp_tasks.specs.Resuming.{WritesResumed}
+use Rattle.pesp_tasks.specs.Resuming.{WritesGoneOn}
 use Rattle.pesp_tasks.specs.Outside.{WritesJobs, WritesWorks, JobCause, GraftCause}
 use Rattle.pesp_tasks.specs.SharpSolving.{WritesSharpSolution, WritesSharpResumed}
 use Rattle.pesp_tasks.specs.SharpOutside.{WritesSharpJobs, WritesSharpWork, SharpJobCause, GraftSharpCause}
 use Rattle.pesp_report_run.specs.Naming.{NamesCause}
 use Rattle.pesp_report_run.specs.Reporting.{SheetCause}
 use Rattle.pesp_report_run.specs.Violating.{ViolationsCause}
+use Rattle.pesp_report_run.specs.Fixing.{FixCause}
 use Rattle.pesp_conflict_run.specs.Runs.{ConflictCause}
 use Rattle.pesp_request.specs.declared.request.OfInstance.{OfInstance}
-use Rattle.pesp_request.specs.declared.request.OfInstance.TheVariants.{Solve, SolveSharp, Conflict}
+use Rattle.pesp_request.specs.declared.request.OfInstance.TheVariants.{Solve, SolveSharp, Plan, Conflict}
 use Rattle.pesp_request.specs.declared.request.OfCertificate.{OfCertificate}
-use Rattle.pesp_request.specs.declared.request.OfCertificate.TheVariants.{Check, CheckSharp, Gap, Resume, ResumeSharp, Split, SplitSharp}
+use Rattle.pesp_request.specs.declared.request.OfCertificate.TheVariants.{Check, CheckSharp, Gap, GapJson, Resume, ResumeSharp, Split, SplitSharp}
 use Rattle.pesp_request.specs.declared.request.OfTimes.{OfTimes}
-use Rattle.pesp_request.specs.declared.request.OfTimes.TheVariants.{Report, Violations, Picture, Diagrams, Timetable, Page}
+use Rattle.pesp_request.specs.declared.request.OfTimes.TheVariants.{Report, Violations, Picture, Diagrams, Timetable, Fix, Page}
 use Rattle.pesp_request.specs.declared.request.OfLeaves.{OfLeaves}
 use Rattle.pesp_request.specs.declared.request.OfLeaves.TheVariants.{Work, WorkSharp}
 use Rattle.pesp_request.specs.declared.request.OfWorks.{OfWorks}
@@ -73,6 +76,26 @@ StopsConflict None fault steps period reader writer = ConflictCause fault reader
 StopsConflict (Some file) fault steps period reader writer =
     OrNoNames fault ((name : ℤ → List ℕ) × ConflictCause fault reader writer period steps (Some name))
 
+-- a plan that writes this and stops for that, from old times in a file where one is named
+abbrev pub StopsBegun : {A : Type 0} → (Pesp → List ℕ → Fault → Type 0 → Type 0) → (Pesp → List ℕ → (List ℕ → Type 0) → Type 0)
+    → Option A → Fault → ℕ → Device → Device → Type 0
+StopsBegun Stops Writes None fault period reader writer = AloneCause Stops Writes fault reader writer period
+StopsBegun Stops Writes (Some file) fault period reader writer =
+    OrNoFile fault ((times : Device) × FromOldCause Stops Writes fault reader times writer period ⊤)
+
+-- a plan that is kept in a file, which can't be had, or can't be written
+abbrev pub StopsKept : {A : Type 0} → Option A → Fault → ℕ → Device → Device → Type 0
+StopsKept from fault period reader writer =
+    OrNoFile fault (StopsBegun (λ p times fault cut. SolutionStops fault p 0 ⊤) KeepsSome from fault period reader writer
+    ⊎ ((base : Device) × FromStandingCause (λ p base. OutCause fault ⊤) (λ p times. SolutionStops fault p 0 ⊤)
+    fault reader base period))
+
+-- a plan
+abbrev pub StopsPlan : {A B : Type 0} → Option A → Option B → Fault → ℕ → Device → Device → Type 0
+StopsPlan None from fault period reader writer =
+    StopsBegun (λ p times fault cut. SolutionStops fault p 0 cut) WritesPlan from fault period reader writer
+StopsPlan (Some file) from fault period reader writer = StopsKept from fault period reader writer
+
 -- what is asked of an instance
 abbrev pub StopsInstance : OfInstance → Fault → ℕ → Device → Device → Type 0
 StopsInstance (Solve steps from progress) fault period reader writer =
@@ -81,6 +104,7 @@ StopsInstance (Solve steps from progress) fault period reader writer =
 StopsInstance (SolveSharp steps from progress) fault period reader writer =
     StopsSearch (λ p times fault cut. SolutionStops fault p 0 cut) (λ p times Gets. WritesSharpSolution p times steps Gets)
     from fault period reader writer
+StopsInstance (Plan asked) fault period reader writer = StopsPlan asked.output asked.from fault period reader writer
 StopsInstance (Conflict steps names) fault period reader writer = StopsConflict names fault steps period reader writer
 
 -- what is asked of a certificate; `uncalled` says that its reader was not called
@@ -90,9 +114,11 @@ StopsCertificate Check fault period instance reader writer uncalled =
 StopsCertificate CheckSharp fault period instance reader writer uncalled =
     (found : VerdictFault) × (fault ≡ verdict_fault found) × CheckCause All found instance reader writer period uncalled
 StopsCertificate Gap fault period instance reader writer uncalled =
-    StopsSharp fault period instance reader writer uncalled (λ p base Gets. Gets (gap_line base.content.answer))
+    StopsSharp fault period instance reader writer uncalled (λ p base Gets. Gets (gap_line base))
+StopsCertificate GapJson fault period instance reader writer uncalled =
+    StopsSharp fault period instance reader writer uncalled (λ p base Gets. Gets (gap_json base))
 StopsCertificate (Resume steps seconds progress) fault period instance reader writer uncalled =
-    StopsPlain fault period instance reader writer uncalled (λ p base Gets. WritesResumed p base steps (IsSome seconds) Gets)
+    StopsSharp fault period instance reader writer uncalled (λ p base Gets. WritesGoneOn p base steps (IsSome seconds) Gets)
 StopsCertificate (ResumeSharp steps seconds progress) fault period instance reader writer uncalled =
     StopsSharp fault period instance reader writer uncalled (λ p base Gets. WritesSharpResumed p base steps Gets)
 StopsCertificate Split fault period instance reader writer uncalled =
@@ -109,7 +135,20 @@ StopsLeaves (Work steps until jobs) fault period instance reader writer uncalled
 StopsLeaves (WorkSharp steps until jobs) fault period instance reader writer uncalled =
     OverBaseCause ReadsSharpBase SharpBaseCause fault instance reader writer period uncalled
     (λ p base fault cut. SharpJobCause fault p base jobs.items ⊎ OutCause fault cut)
-    (λ p base Gets. WritesSharpWork p base jobs.items steps Gets)
+    (λ p base Gets. WritesSharpWork p base jobs.items steps until Gets)
+
+-- a list of violated activities, with what events are called where a file is named
+abbrev pub StopsViolations : {A : Type 0} → Option A → Fault → ℕ → Device → Device → Device → Type 0 → Type 0
+StopsViolations None fault period instance reader writer uncalled =
+    ViolationsCause fault instance reader writer period uncalled None
+StopsViolations (Some file) fault period instance reader writer uncalled =
+    OrNoNames fault ((name : ℤ → List ℕ) × ViolationsCause fault instance reader writer period uncalled (Some name))
+
+-- fixed events
+abbrev pub StopsFix : {A : Type 0} → Option A → Fault → ℕ → Device → Device → Device → Type 0 → Type 0
+StopsFix None fault period instance reader writer uncalled = FixCause fault instance reader writer period uncalled
+StopsFix (Some file) fault period instance reader writer uncalled =
+    OrNoNames fault (FixCause fault instance reader writer period uncalled)
 
 -- what is asked of times
 abbrev pub StopsTimes : OfTimes → Fault → ℕ → Device → Device → Device → Type 0 → Type 0
@@ -118,17 +157,18 @@ StopsTimes (Report None) fault period instance reader writer uncalled =
 StopsTimes (Report (Some names)) fault period instance reader writer uncalled =
     OrNoNames fault ((name : ℤ → List ℕ)
     × SheetCause fault instance reader writer period uncalled (λ p times text. IsNamedReport p times name text))
-StopsTimes Violations fault period instance reader writer uncalled = ViolationsCause fault instance reader writer period uncalled
+StopsTimes (Violations names) fault period instance reader writer uncalled = StopsViolations names fault period instance reader writer uncalled
 StopsTimes (Picture rows None) fault period instance reader writer uncalled =
     SheetCause fault instance reader writer period uncalled (λ p times text. ⊤)
 StopsTimes (Picture rows (Some names)) fault period instance reader writer uncalled =
     OrNoNames fault (SheetCause fault instance reader writer period uncalled (λ p times text. ⊤))
 StopsTimes (Diagrams names along) fault period instance reader writer uncalled =
     OrNoNames fault (SheetCause fault instance reader writer period uncalled (λ p times text. ⊤))
-StopsTimes (Timetable None) fault period instance reader writer uncalled =
-    SheetCause fault instance reader writer period uncalled IsTimetableText
-StopsTimes (Timetable (Some names)) fault period instance reader writer uncalled =
-    OrNoNames fault (SheetCause fault instance reader writer period uncalled IsTimetableText)
+StopsTimes (Timetable None json) fault period instance reader writer uncalled =
+    SheetCause fault instance reader writer period uncalled (IsTimetableText json)
+StopsTimes (Timetable (Some names) json) fault period instance reader writer uncalled =
+    OrNoNames fault (SheetCause fault instance reader writer period uncalled (IsTimetableText json))
+StopsTimes (Fix names events lines) fault period instance reader writer uncalled = StopsFix names fault period instance reader writer uncalled
 StopsTimes (Page None) fault period instance reader writer uncalled =
     SheetCause fault instance reader writer period uncalled (λ p times text. ⊤)
 StopsTimes (Page (Some names)) fault period instance reader writer uncalled =

@@ -7,34 +7,37 @@ ghost use Rattle.pesp_stream.specs.Counts.{FewerThan};
 ghost use Rattle.pesp_check_run.specs.Devices.{over};
 ghost use Rattle.pesp_runs.specs.Runs.{OverBase, OverBaseCause};
 ghost use Rattle.pesp_request.specs.Requests.{InstanceWithin, CertificateWithin, LeavesWithin};
-ghost use Rattle.pesp_cli.specs.Answers.{AnswersConflict, AnswersSearch, AnswersInstance, AnswersCertificate, AnswersLeaves, AnswersTimes, AnswersWorks, violations_status};
-ghost use Rattle.pesp_cli.specs.Stops.{OrNoNames, StopsConflict, StopsSearch, StopsInstance, StopsCertificate, StopsLeaves, StopsTimes, StopsWorks};
+ghost use Rattle.pesp_cli.specs.Answers.{AnswersConflict, AnswersSearch, AnswersInstance, AnswersCertificate, AnswersLeaves, AnswersTimes, AnswersViolations, AnswersFix, AnswersWorks, violations_status};
+ghost use Rattle.pesp_cli.specs.Stops.{OrNoNames, StopsConflict, StopsSearch, StopsInstance, StopsCertificate, StopsLeaves, StopsTimes, StopsViolations, StopsFix, StopsWorks};
 
+use crate::headed::Headed;
 use crate::input::{Beginning, warn_of_period};
-use crate::telling::{tell_sums, told_conflict};
+use crate::plans::of_plan;
+use crate::telling::{tell_sums, told_conflict, told_fix};
 use pesp_check_run::{run_check, run_check_sharp, status_of_verdict};
 use pesp_conflict_run::{run_conflict, status_of_told};
 use pesp_faults::Fault;
+use pesp_fix::Wanted;
 use pesp_progress::{Teller, Watch};
 use pesp_report::Names;
 use pesp_report_run::{
-    Diagrams, NamedReport, Page, Picture, Report, Timetable, read_whole_names, run_sheet,
+    Diagrams, NamedReport, Page, Picture, Report, Timetable, read_whole_names, run_fix, run_sheet,
     run_violations,
 };
 use pesp_request::{OfCertificate, OfInstance, OfLeaves, OfTimes, OfWorks};
 use pesp_runs::{OnBase, Search, run_alone, run_from_times, run_on_base};
-use pesp_search::Nobody;
+use pesp_shelf::Lockable;
 use pesp_stream::{Counted, Sink, Source};
 use pesp_tasks::{
-    Gap, Resume, ResumeSharp, Solve, SolveSharp, Split, SplitSharp, Work, WorkSharp, run_graft,
-    run_graft_sharp,
+    Gap, GapJson, Resume, ResumeSharp, Solve, SolveSharp, Split, SplitSharp, Work, WorkSharp,
+    run_graft, run_graft_sharp,
 };
 use std::alloc::Global;
 use std::fs::File;
 use std::rt::{Clock, Files};
 
 /// The status of a run that has none of its own: 0.
-fn done(run: Result<(), Fault>) -> Result<u8, Fault>
+pub(crate) fn done(run: Result<(), Fault>) -> Result<u8, Fault>
     ensures { MatchResult run (λ _. result ≡ Ok 0) (λ fault. result ≡ Err fault) }
 {
     match run {
@@ -45,7 +48,7 @@ fn done(run: Result<(), Fault>) -> Result<u8, Fault>
 
 /// Searches for the instance that the reader gives, from the times in a file where one is named.
 #[tactic(auto, using(crate::proofs::Ends::finished))]
-fn search<R: AllocGlobal + Eprint + Files, I: Source, W: Sink, S: Search>(
+pub(crate) fn search<R: AllocGlobal + Eprint + Files, I: Source, W: Sink, S: Search>(
     rt: &R,
     reader: &mut I,
     writer: &mut W,
@@ -147,6 +150,8 @@ pub(crate) fn of_instance<R: AllocGlobal + Eprint + Files + Clock, I: Source, W:
     period: u32,
     asked: OfInstance<'_>,
 ) -> Result<u8, Fault>
+where
+    R::File: Lockable,
     requires within { InstanceWithin asked }
     requires reads_fit { FewerThan (2 ^ 62) (I.calls reader.old) }
     requires writes_fit { FewerThan (2 ^ 62) (W.calls writer.old) }
@@ -166,50 +171,26 @@ pub(crate) fn of_instance<R: AllocGlobal + Eprint + Files + Clock, I: Source, W:
         (W.calls writer.old) (W.calls writer.new))) }
     ensures silent { IfErr result (λ fault. fault ≢ Fault.Write → writer.new ≡ writer.old) }
 {
-    let alloc = rt.alloc();
     match asked {
         OfInstance::Solve {
             steps,
             from,
-            progress: false,
+            progress,
         } => {
-            let mut task = Solve {
-                steps,
-                observer: Nobody,
-            };
+            let observer = Teller::begin(rt, progress);
+            let mut task = Solve { steps, observer };
             search(rt, reader, writer, period, from, &mut task)
         }
-        OfInstance::Solve {
-            steps,
-            from,
-            progress: true,
-        } => {
-            let observer = Teller::new(rt);
-            observer.begin();
-            let mut told = Solve { steps, observer };
-            search(rt, reader, writer, period, from, &mut told)
-        }
         OfInstance::SolveSharp {
             steps,
             from,
-            progress: false,
+            progress,
         } => {
-            let mut sharp = SolveSharp {
-                steps,
-                observer: Nobody,
-            };
+            let observer = Teller::begin(rt, progress);
+            let mut sharp = SolveSharp { steps, observer };
             search(rt, reader, writer, period, from, &mut sharp)
         }
-        OfInstance::SolveSharp {
-            steps,
-            from,
-            progress: true,
-        } => {
-            let observer = Teller::new(rt);
-            observer.begin();
-            let mut told = SolveSharp { steps, observer };
-            search(rt, reader, writer, period, from, &mut told)
-        }
+        OfInstance::Plan(asked) => of_plan(rt, reader, writer, period, asked),
         OfInstance::Conflict { steps, names } => {
             conflict(rt, reader, writer, teller, period, steps, names)
         }
@@ -218,7 +199,7 @@ pub(crate) fn of_instance<R: AllocGlobal + Eprint + Files + Clock, I: Source, W:
 
 /// Does a task with the certificate that the reader gives, for the instance of the other reader.
 #[tactic(auto, using(crate::proofs::Ends::finished))]
-fn on_base<I: Source, S: Source, W: Sink, T: OnBase>(
+pub(crate) fn on_base<I: Source, S: Source, W: Sink, T: OnBase>(
     alloc: Global,
     instance: &mut I,
     reader: &mut S,
@@ -291,6 +272,7 @@ pub(crate) fn of_certificate<R: AllocGlobal + Eprint + Clock, I: Source, S: Sour
             Ok(status_of_verdict(judged))
         }
         OfCertificate::Gap => on_base(alloc, instance, reader, writer, period, &mut Gap),
+        OfCertificate::GapJson => { on_base(alloc, instance, reader, writer, period, &mut GapJson) }
         OfCertificate::Resume {
             steps,
             seconds,
@@ -361,9 +343,108 @@ pub(crate) fn of_leaves<R: AllocGlobal, I: Source, S: Source, W: Sink>(
     }
 }
 
+/// Lists the activities that the times of the reader violate, with the names in a file where one is named.
+fn violated<R: AllocGlobal + Files, I: Source, S: Source, W: Sink>(
+    rt: &R,
+    instance: &mut I,
+    reader: &mut S,
+    writer: &mut W,
+    period: u32,
+    names: Option<&str>,
+) -> Result<u8, Fault>
+    requires instance_fits { FewerThan (2 ^ 62) (I.calls instance.old) }
+    requires reads_fit { FewerThan (2 ^ 62) (S.calls reader.old) }
+    requires writes_fit { FewerThan (2 ^ 62) (W.calls writer.old) }
+    ensures answered { IfOk result (AnswersViolations names.entry period
+        (over (I.remaining instance.old) (I.remaining instance.new)
+        (I.calls instance.old) (I.calls instance.new))
+        (over (S.remaining reader.old) (S.remaining reader.new)
+        (S.calls reader.old) (S.calls reader.new))
+        (over (W.contents writer.old) (W.contents writer.new)
+        (W.calls writer.old) (W.calls writer.new))) }
+    ensures stopped { IfErr result (λ fault. StopsViolations names.entry fault period
+        (over (I.remaining instance.old) (I.remaining instance.new)
+        (I.calls instance.old) (I.calls instance.new))
+        (over (S.remaining reader.old) (S.remaining reader.new)
+        (S.calls reader.old) (S.calls reader.new))
+        (over (W.contents writer.old) (W.contents writer.new)
+        (W.calls writer.old) (W.calls writer.new))
+        (reader.new ≡ reader.old)) }
+    ensures silent { IfErr result (λ fault. fault ≢ Fault.Write → writer.new ≡ writer.old) }
+{
+    let alloc = rt.alloc();
+    match names {
+        None => {
+            let count = run_violations(alloc, instance, reader, writer, period, None)?;
+            Ok(status_of_violations(count))
+        }
+        Some(file) => {
+            let names = names_in(rt, file)?;
+            let run = run_violations(alloc, instance, reader, writer, period, Some(&names));
+            drop(names);
+            let count = run?;
+            Ok(status_of_violations(count))
+        }
+    }
+}
+
+/// Fixes what is wanted in the instance, with the names in a file where one is named; tells on standard error why that can't be had.
+fn fix<R: AllocGlobal + Eprint + Files, I: Source, S: Source, W: Sink>(
+    rt: &R,
+    instance: &mut I,
+    reader: &mut S,
+    writer: &mut W,
+    period: u32,
+    names: Option<&str>,
+    wanted: Wanted<'_>,
+) -> Result<u8, Fault>
+    requires instance_fits { FewerThan (2 ^ 62) (I.calls instance.old) }
+    requires reads_fit { FewerThan (2 ^ 62) (S.calls reader.old) }
+    requires writes_fit { FewerThan (2 ^ 62) (W.calls writer.old) }
+    ensures answered { IfOk result (AnswersFix period
+        (over (I.remaining instance.old) (I.remaining instance.new)
+        (I.calls instance.old) (I.calls instance.new))
+        (over (S.remaining reader.old) (S.remaining reader.new)
+        (S.calls reader.old) (S.calls reader.new))
+        (over (W.contents writer.old) (W.contents writer.new)
+        (W.calls writer.old) (W.calls writer.new))) }
+    ensures stopped { IfErr result (λ fault. StopsFix names.entry fault period
+        (over (I.remaining instance.old) (I.remaining instance.new)
+        (I.calls instance.old) (I.calls instance.new))
+        (over (S.remaining reader.old) (S.remaining reader.new)
+        (S.calls reader.old) (S.calls reader.new))
+        (over (W.contents writer.old) (W.contents writer.new)
+        (W.calls writer.old) (W.calls writer.new))
+        (reader.new ≡ reader.old)) }
+    ensures silent { IfErr result (λ fault. fault ≢ Fault.Write → writer.new ≡ writer.old) }
+{
+    let alloc = rt.alloc();
+    match names {
+        None => {
+            let refused = run_fix(alloc, instance, reader, writer, period, None, wanted)?;
+            Ok(told_fix(rt, refused))
+        }
+        Some(file) => {
+            let names = names_in(rt, file)?;
+            let run = run_fix(
+                alloc,
+                instance,
+                reader,
+                writer,
+                period,
+                Some(&names),
+                wanted,
+            );
+            drop(names);
+            let refused = run?;
+            Ok(told_fix(rt, refused))
+        }
+    }
+}
+
 /// Does what is asked of the times that the reader gives, for the instance of the other reader.
 #[tactic(auto, using(crate::proofs::Ends::finished))]
-pub(crate) fn of_times<R: AllocGlobal + Files, I: Source, S: Source, W: Sink>(
+pub(crate) fn of_times<R: AllocGlobal + Eprint + Files, I: Source, S: Source, W: Sink>(
     rt: &R,
     instance: &mut I,
     reader: &mut S,
@@ -393,10 +474,7 @@ pub(crate) fn of_times<R: AllocGlobal + Files, I: Source, S: Source, W: Sink>(
 {
     let alloc = rt.alloc();
     match asked {
-        OfTimes::Violations => {
-            let count = run_violations(alloc, instance, reader, writer, period)?;
-            Ok(status_of_violations(count))
-        }
+        OfTimes::Violations { names } => { violated(rt, instance, reader, writer, period, names) }
         OfTimes::Report { names: None } => {
             done(run_sheet(alloc, &Report, instance, reader, writer, period))
         }
@@ -434,13 +512,28 @@ pub(crate) fn of_times<R: AllocGlobal + Files, I: Source, S: Source, W: Sink>(
             };
             done(run_sheet(alloc, &diagrams, instance, reader, writer, period))
         }
-        OfTimes::Timetable { names: None } => {
-            done(run_sheet(alloc, &Timetable(None), instance, reader, writer, period))
-        }
-        OfTimes::Timetable { names: Some(file) } => {
-            let names = names_in(rt, file)?;
-            let sheet = Timetable(Some(&names));
+        OfTimes::Timetable { names: None, json } => {
+            let sheet = Timetable { names: None, json };
             done(run_sheet(alloc, &sheet, instance, reader, writer, period))
+        }
+        OfTimes::Timetable {
+            names: Some(file),
+            json,
+        } => {
+            let names = names_in(rt, file)?;
+            let sheet = Timetable {
+                names: Some(&names),
+                json,
+            };
+            done(run_sheet(alloc, &sheet, instance, reader, writer, period))
+        }
+        OfTimes::Fix {
+            names,
+            events,
+            lines,
+        } => {
+            let wanted = Wanted { events, lines };
+            fix(rt, instance, reader, writer, period, names, wanted)
         }
         OfTimes::Page { names: None } => {
             done(run_sheet(alloc, &Page(None), instance, reader, writer, period))
@@ -524,8 +617,26 @@ pub(crate) fn opened<R: Files>(rt: &R, file: &str) -> Result<Counted<R::File>, F
     }
 }
 
+/// Opens a file with an instance, of which a header is told where that is wanted.
+pub(crate) fn opened_headed<'a, R: Eprint + Files>(
+    rt: &'a R,
+    file: &str,
+    tells: bool,
+) -> Result<Counted<Headed<'a, R, R::File>>, Fault>
+    ensures failed { IfOk result (λ file. file.calls.failed ≡ 0) }
+    ensures interrupted { IfOk result (λ file. file.calls.interrupted ≡ 0) }
+    ensures stopped { IfErr result (λ fault. fault ≡ Fault.NoFile) }
+{
+    let instance = opened(rt, file)?;
+    let teller = if tells { Some(rt) } else { None };
+    Ok(Counted::new(Headed::of(instance.into_inner(), teller)))
+}
+
 /// Opens a file with times, of which the beginning is kept.
-fn opened_times<R: Files>(rt: &R, file: &str) -> Result<Counted<Beginning<R::File>>, Fault>
+pub(crate) fn opened_times<R: Files>(
+    rt: &R,
+    file: &str,
+) -> Result<Counted<Beginning<R::File>>, Fault>
     ensures failed { IfOk result (λ file. file.calls.failed ≡ 0) }
     ensures interrupted { IfOk result (λ file. file.calls.interrupted ≡ 0) }
     ensures stopped { IfErr result (λ fault. fault ≡ Fault.NoFile) }

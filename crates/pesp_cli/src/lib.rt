@@ -2,8 +2,10 @@
 #![tactic(auto)]
 
 mod answers;
+mod headed;
 mod input;
 mod output;
+mod plans;
 mod program;
 mod telling;
 

@@ -7,14 +7,18 @@ ghost use Rattle.pesp_request.specs.Requests.{IsWithinLimits};
 ghost use Rattle.pesp_cli.specs.Answers.{Answers};
 ghost use Rattle.pesp_cli.specs.Stops.{Stops};
 
-use crate::answers::{of_certificate, of_instance, of_leaves, of_times, of_works, opened};
+use crate::answers::{
+    of_certificate, of_instance, of_leaves, of_times, of_works, opened, opened_headed,
+};
+use crate::headed::Headed;
 use crate::input::{Beginning, warn_of_period};
 use crate::output::writer_of;
 use crate::telling::told;
 use clap::Error;
 use clap::error::ErrorKind;
 use pesp_faults::{Fault, status_of};
-use pesp_request::{Asked, Request, request_of};
+use pesp_request::{Asked, OfInstance, Request, request_of};
+use pesp_shelf::Lockable;
 use pesp_stream::{Counted, Sink, Source};
 use pesp_telling::teller_of;
 use std::process::ExitCode;
@@ -26,7 +30,10 @@ use std::{env, io};
 /// 3 for a text that is refused, 4 for memory, devices and limits of the search.
 pub fn exit_of_program<R: AllocGlobal + Env + Input + Print + Eprint + Files + Clock>(
     rt: &R,
-) -> ExitCode {
+) -> ExitCode
+where
+    R::File: Lockable,
+{
     let words = match env::args(rt) {
         Ok(args) => args.collect::<Vec<String>>(rt.alloc()),
         Err(error) if error.kind() == io::ErrorKind::OutOfMemory => {
@@ -45,7 +52,10 @@ pub fn exit_of_program<R: AllocGlobal + Env + Input + Print + Eprint + Files + C
 pub fn status_of_words<R: AllocGlobal + Input + Print + Eprint + Files + Clock>(
     rt: &R,
     words: &[String],
-) -> u8 {
+) -> u8
+where
+    R::File: Lockable,
+{
     match request_of(rt.alloc(), words) {
         Ok(request) => status_of_request(rt, request),
         Err(error) if error.kind() == ErrorKind::OutOfMemory => stopped(rt, &Fault::Memory),
@@ -78,23 +88,41 @@ fn status_of_request<R: AllocGlobal + Input + Print + Eprint + Files + Clock>(
     rt: &R,
     request: Request<'_>,
 ) -> u8
+where
+    R::File: Lockable,
     requires { IsWithinLimits request }
 {
     let mut input = Beginning::of(rt.reader());
     if request.reads_input() && input.is_closed() {
         return stopped(rt, &Fault::Read);
     }
-    let mut reader = Counted::new(input);
+    let teller = if tells_header(&request) {
+        Some(rt)
+    } else {
+        None
+    };
+    let mut reader = Counted::new(Headed::of(input, teller));
     let mut writer = writer_of(rt);
     let period_of_times = request.period_of_times();
     let done = answer(rt, &mut reader, &mut writer, &mut teller_of(rt), request);
     if let Some(period) = period_of_times {
-        warn_of_period(rt, &reader.into_inner(), period);
+        warn_of_period(rt, &reader.into_inner().into_inner(), period);
     }
     match done {
         Ok(status) => status,
         Err(Fault::Write) if writer.into_inner().unread => status_of(&Fault::Write),
         Err(fault) => stopped(rt, &fault),
+    }
+}
+
+/// Whether it is told that a header of the instance is passed over.
+fn tells_header(request: &Request<'_>) -> bool {
+    match &request.asked {
+        Asked::Instance {
+            asked: OfInstance::Plan(planning),
+            ..
+        } => !planning.quiet,
+        _ => false,
     }
 }
 
@@ -106,6 +134,8 @@ fn answer<R: AllocGlobal + Eprint + Files + Clock, S: Source, W: Sink, E: Sink>(
     teller: &mut E,
     request: Request<'_>,
 ) -> Result<u8, Fault>
+where
+    R::File: Lockable,
     requires limits { IsWithinLimits request }
     requires reads_fit { FewerThan (2 ^ 62) (S.calls reader.old) }
     requires writes_fit { FewerThan (2 ^ 62) (W.calls writer.old) }
@@ -128,6 +158,7 @@ fn answer<R: AllocGlobal + Eprint + Files + Clock, S: Source, W: Sink, E: Sink>(
         (reader.new ≡ reader.old)) }
     ensures silent { IfErr result (λ fault. fault ≢ Fault.Write → writer.new ≡ writer.old) }
 {
+    let tells = tells_header(&request);
     let Request { period, asked } = request;
     match asked {
         Asked::Instance { file: None, asked } => {
@@ -137,7 +168,7 @@ fn answer<R: AllocGlobal + Eprint + Files + Clock, S: Source, W: Sink, E: Sink>(
             file: Some(file),
             asked,
         } => {
-            let mut instance = opened(rt, file)?;
+            let mut instance = opened_headed(rt, file, tells)?;
             of_instance(rt, &mut instance, writer, teller, period, asked)
         }
         Asked::Certificate { file, asked } => {

@@ -1,14 +1,15 @@
 //! The lines that are told.
 
-ghost use Rattle.std.specs.Prelude.{◌<◌, ◌^◌};
+ghost use Rattle.std.specs.Prelude.{◌≡◌, ◌<◌, ◌^◌};
 ghost use Rattle.pesp_stream.specs.Counts.{FewerThan};
 ghost use Rattle.pesp_check_run.specs.Devices.{over};
 ghost use Rattle.pesp_conflict_run.specs.Told.{told_text};
 ghost use Rattle.pesp_telling.specs.Lines.{GetsLine};
-ghost use Rattle.pesp_cli.specs.Answers.{TellsFault};
+ghost use Rattle.pesp_cli.specs.Answers.{TellsFault, fix_status};
 
 use pesp_conflict_run::Told;
 use pesp_faults::{Fault, status_of};
+use pesp_fix::FixRefusal;
 use pesp_stream::{Bytes, Sink};
 use pesp_telling::tell;
 use std::alloc::Global;
@@ -43,6 +44,21 @@ pub(crate) fn told_conflict<E: Sink>(teller: &mut E, told: Told)
         (told_text told) }
 {
     tell(teller, &(told, "\n"));
+}
+
+/// Tells why events can't be fixed on a line, where it is so, whether or not it goes out; and gives the exit status.
+pub(crate) fn told_fix<R: AllocGlobal + Eprint>(rt: &R, refused: Option<FixRefusal>) -> u8
+    ensures { result ≡ fix_status refused }
+{
+    match refused {
+        Some(refusal) => {
+            if let Ok(line) = format!(in rt.alloc(); "{refusal}") {
+                let _ = rt.eprintln(&line);
+            }
+            2
+        }
+        None => 0,
+    }
 }
 
 /// Tells the sum of a closed walk on a line, where there is one, whether or not it goes out.

@@ -5,7 +5,8 @@ ghost use Rattle.csv.specs.Writing.{default_writer, row_text};
 ghost use Rattle.pesp_problem.specs.Walks.{Names as Numbers};
 ghost use Rattle.pesp_report.specs.Report.{records_text};
 ghost use Rattle.pesp_report.specs.Written.{HasWritten};
-ghost use Rattle.pesp_conflict_list.specs.Lists.{list_header, list_text, listed_fields, naming_of};
+ghost use Rattle.pesp_report.specs.Naming.{naming_of};
+ghost use Rattle.pesp_conflict_list.specs.Lists.{list_header, list_text, listed_fields};
 ghost use Rattle.pesp_conflict_list.specs.Lists as spec;
 
 use crate::listed::{Listed, lines_of};

@@ -6,7 +6,7 @@ ghost use Rattle.pesp_problem.specs.declared.limits.TheConstants.{MOST_ROWS, MOS
 ghost use Rattle.pesp_stream.specs.Counts.{FewerThan, HasWorked};
 ghost use Rattle.pesp_conflict.specs.Findings.{IsConflict};
 ghost use Rattle.pesp_check_run.specs.Devices.{over, HasFailed, GetsFront};
-ghost use Rattle.pesp_conflict_list.specs.Lists.{naming_of};
+ghost use Rattle.pesp_report.specs.Naming.{naming_of};
 ghost use Rattle.pesp_faults.specs.Causes.{OutCause};
 ghost use Rattle.pesp_conflict_run.specs.Runs.{ConflictCause, TellsConflict, WritesList};
 

@@ -7,13 +7,17 @@ ghost use Rattle.pesp_stream.specs.Writing.{AppendsFront};
 ghost use Rattle.pesp_problem.specs.Timetables.{IsTimetable};
 ghost use Rattle.pesp_report.specs.Reporting.{IfBlamed, Refuses, UnlessBlamed};
 
+use crate::backs::Backs;
 use crate::frame::{
-    Frame, line_height, open_plot, write_front, write_left, write_scale, write_stations,
+    Column, open_picture, open_plot, write_front, write_left, write_left_words, write_legend,
+    write_scale, write_stations,
 };
+use crate::layout::{Corner, Layout};
 use crate::marks::Marks;
 use crate::pieces::{Piece, write_piece};
+use crate::scene::Scene;
 use pesp_problem::Instance;
-use pesp_railway::Network;
+use pesp_railway::{Line, Network};
 use pesp_report::{Names, ReportRefusal, cost_of};
 use pesp_stream::{Bytes, Sink, print_to};
 use std::alloc::{AllocError, Global};
@@ -21,7 +25,9 @@ use std::alloc::{AllocError, Global};
 /// Writes time-distance diagrams of a timetable in SVG: for each line that the names tell, its stations below each other in the
 /// order in which the names first name them, the time across one period, its trains as lines between stations, what stands at
 /// a station as a line along it, and a mark at each change from or to another line, marks of one time and station above each
-/// other. What lies behind the period's end goes on from 0. What weighs nothing at a station isn't drawn; how many events have no line or no station is said in words.
+/// other. A train back stands a little lower at its stations than one out, so that neither lies on the other. Where there are
+/// many lines their diagrams stand in columns side by side. What lies behind the period's end goes on from 0. What weighs nothing at
+/// a station isn't drawn; how many events have no line or no station is said in words.
 /// Where stations are named, between commas, there is one diagram: of these stations, with the trains of all lines, their minutes,
 /// and what keeps them apart at a station.
 ///
@@ -75,7 +81,7 @@ fn picture_of(
 }
 
 /// Writes the picture of a timetable of this cost behind a text, of the lines or along stations.
-pub fn write_diagrams(
+fn write_diagrams(
     alloc: Global,
     text: &mut String,
     instance: &Instance,
@@ -88,48 +94,91 @@ pub fn write_diagrams(
         Some(stations) => Network::along(alloc, instance, names, stations)?,
         None => Network::of(alloc, instance, names)?,
     };
-    let frame = Frame::of(&network.lines);
-    write_front(text, &frame, network.is_corridor, instance.period(), cost)?;
-    let end = write_lines(alloc, text, &frame, &network, instance, times)?;
-    write_left(text, &network, end)?;
+    let backs = Backs::of(alloc, instance, &network)?;
+    let scene = Scene {
+        instance,
+        times,
+        network,
+        backs,
+    };
+    let column = Column::of(&scene.network.lines);
+    let layout = Layout::of(alloc, &scene.network.lines, column.width)?;
+    write_front(
+        text,
+        column,
+        &layout,
+        &scene.network,
+        instance.period(),
+        cost,
+    )?;
+    write_lines(alloc, text, &scene, column, &layout)?;
+    write_left(text, &scene.network, layout.end)?;
     text.push_str("</svg>\n")
 }
 
-/// Writes the diagrams of all lines, and tells the height below them.
+/// Writes the diagrams of all lines, each at its corner.
 fn write_lines(
     alloc: Global,
     text: &mut String,
-    frame: &Frame,
-    network: &Network<'_>,
-    instance: &Instance,
-    times: &[u32],
-) -> Result<u32, AllocError> {
-    let mut y = frame.first();
-    for (count, line) in network.lines.iter().enumerate() {
-        write_stations(text, frame, line, network.is_corridor, y)?;
-        write_scale(text, frame, line, instance.period(), y)?;
-        open_plot(text, frame, line, y)?;
-        let mut marks = Marks::none(alloc, line.stations.len())?;
-        write_pieces(text, network, count, instance, times, &mut marks)?;
-        text.push_str("</svg>\n")?;
-        y = y.saturating_add(line_height(line));
-    }
-    Ok(y)
-}
-
-/// Writes what is drawn of each activity in the diagram of a line.
-fn write_pieces(
-    text: &mut String,
-    network: &Network<'_>,
-    line: usize,
-    instance: &Instance,
-    times: &[u32],
-    marks: &mut Marks,
+    scene: &Scene<'_, '_, '_>,
+    column: Column,
+    layout: &Layout,
 ) -> Result<(), AllocError> {
-    for row in instance.rows() {
-        if let Some(piece) = Piece::of(network, line, instance, times, row) {
-            write_piece(text, network, instance, marks, &piece)?;
-        }
+    for (count, line) in scene.network.lines.iter().enumerate() {
+        let corner = layout.corners.get(count).copied();
+        let Some(Corner { x, y }) = corner else {
+            continue;
+        };
+        writeln!(text, "<g transform=\"translate({x} {y})\">")?;
+        write_line(alloc, text, scene, column, line, count)?;
+        text.push_str("</g>\n")?;
     }
     Ok(())
+}
+
+/// Writes the diagram of a line, which has a number.
+fn write_line(
+    alloc: Global,
+    text: &mut String,
+    scene: &Scene<'_, '_, '_>,
+    column: Column,
+    line: &Line<'_>,
+    count: usize,
+) -> Result<(), AllocError> {
+    write_stations(text, column, line, scene.network.is_corridor)?;
+    write_scale(text, column, line, scene.instance.period())?;
+    open_plot(text, column, line)?;
+    let mut marks = Marks::none(alloc, line.stations.len())?;
+    for row in scene.instance.rows() {
+        if let Some(piece) = Piece::of(scene, count, row) {
+            write_piece(text, scene, &mut marks, &piece)?;
+        }
+    }
+    text.push_str("</svg>\n")
+}
+
+/// Writes a picture for each line behind a text of HTML, with what the lines and marks mean in front.
+pub fn write_pictures(
+    alloc: Global,
+    text: &mut String,
+    instance: &Instance,
+    times: &[u32],
+    names: &Names,
+) -> Result<(), AllocError> {
+    let network = Network::of(alloc, instance, names)?;
+    let backs = Backs::of(alloc, instance, &network)?;
+    let scene = Scene {
+        instance,
+        times,
+        network,
+        backs,
+    };
+    let column = Column::of(&scene.network.lines);
+    write_legend(text)?;
+    for (count, line) in scene.network.lines.iter().enumerate() {
+        open_picture(text, column, line)?;
+        write_line(alloc, text, &scene, column, line, count)?;
+        text.push_str("</svg></div>\n")?;
+    }
+    write_left_words(text, &scene.network)
 }

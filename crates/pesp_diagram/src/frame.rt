@@ -1,5 +1,6 @@
 //! What stands round the trains.
 
+use crate::layout::Layout;
 use crate::places::{Across, PLOT, STATION, height_of};
 use pesp_draw::{Escaped, Shortened, step_for};
 use pesp_railway::{Line, Network};
@@ -12,7 +13,7 @@ const LEAST_NAMES: u32 = 64;
 const MARGIN: u32 = 14;
 
 /// How many pixels the title and what the lines and marks mean take.
-const FRONT: u32 = 64;
+pub const FRONT: u32 = 64;
 
 /// How many pixels the name of a line and the scale take above its plot.
 const HEADING: u32 = 44;
@@ -42,12 +43,11 @@ const CORRIDOR: &str =
 <path class=\"wait\" d=\"M366 6h24\"/><text x=\"396\" y=\"10\">change</text>\
 <path class=\"apart\" d=\"M458 6h24\"/><text x=\"488\" y=\"10\">kept apart</text></g>";
 
-/// How large a picture is, in pixels: where the plots begin from the left, and how wide and high it is.
+/// How large a diagram is, in pixels: where its plot begins from the left, and how wide it is with what stands beside it.
 #[derive(Clone, Copy)]
-pub struct Frame {
-    pub left: u32,
-    width: u32,
-    height: u32,
+pub struct Column {
+    left: u32,
+    pub width: u32,
 }
 
 /// How many pixels a character takes at most.
@@ -90,42 +90,41 @@ pub fn line_height(line: &Line<'_>) -> u32 {
     plot_height(line).saturating_add(HEADING + BELOW)
 }
 
-impl Frame {
-    /// The frame of a picture of these lines.
-    pub fn of(lines: &[Line<'_>]) -> Frame {
+impl Column {
+    /// The column of diagrams of these lines.
+    pub fn of(lines: &[Line<'_>]) -> Column {
         let mut widest = LEAST_NAMES;
-        let mut height = FRONT + BELOW;
         for line in lines {
             widest = widest.max(widest_of(line));
-            height = height.saturating_add(line_height(line));
         }
         let left = widest.saturating_add(2 * MARGIN);
-        Frame {
+        Column {
             left,
             width: left.saturating_add(PLOT + 3 * MARGIN),
-            height,
         }
     }
+}
 
-    /// Where the first line begins, from the top.
-    pub fn first(&self) -> u32 {
-        FRONT
-    }
+/// Opens a picture of a size.
+fn open_svg(text: &mut String, width: u32, height: u32) -> Result<(), AllocError> {
+    writeln!(
+        text,
+        "<svg xmlns=\"http://www.w3.org/2000/svg\" width=\"{width}\" height=\"{height}\" viewBox=\"0 0 {width} {height}\" font-family=\"sans-serif\" font-size=\"12\">"
+    )
 }
 
 /// Writes the picture's beginning: its size, its style, its title and what the lines and marks mean.
 pub fn write_front(
     text: &mut String,
-    frame: &Frame,
-    is_corridor: bool,
+    column: Column,
+    layout: &Layout,
+    network: &Network<'_>,
     period: u32,
     cost: u64,
 ) -> Result<(), AllocError> {
-    let Frame { width, height, .. } = *frame;
-    writeln!(
-        text,
-        "<svg xmlns=\"http://www.w3.org/2000/svg\" width=\"{width}\" height=\"{height}\" viewBox=\"0 0 {width} {height}\" font-family=\"sans-serif\" font-size=\"12\">"
-    )?;
+    let width = column.width.saturating_mul(layout.columns);
+    let height = layout.end.saturating_add(BELOW);
+    open_svg(text, width, height)?;
     writeln!(
         text,
         "<title>Trains of period {period}, cost {cost}</title>{STYLE}<rect width=\"{width}\" height=\"{height}\" fill=\"#fff\"/>"
@@ -134,25 +133,61 @@ pub fn write_front(
         text,
         "<text class=\"heading\" x=\"14\" y=\"20\">Trains of period {period}, cost {cost}</text>"
     )?;
-    text.push_str(if is_corridor { CORRIDOR } else { LEGEND })?;
+    text.push_str(if network.is_corridor {
+        CORRIDOR
+    } else {
+        LEGEND
+    })?;
     text.push('\n')
+}
+
+/// Writes a picture of what the lines and marks mean, with their style.
+pub fn write_legend(text: &mut String) -> Result<(), AllocError> {
+    text.push_str("<div class=\"picture\" aria-hidden=\"true\">")?;
+    open_svg(text, 880, FRONT)?;
+    text.push_str(STYLE)?;
+    text.push_str(LEGEND)?;
+    text.push_str("</svg></div>\n")
+}
+
+/// Opens the picture of a line.
+pub fn open_picture(text: &mut String, column: Column, line: &Line<'_>) -> Result<(), AllocError> {
+    let name = Escaped(line.name);
+    write!(
+        text,
+        "<div class=\"picture\" role=\"img\" aria-label=\"Time-distance diagram of line {name}\">"
+    )?;
+    open_svg(text, column.width, line_height(line))
+}
+
+/// Which events stand in no diagram.
+fn words_for_left(network: &Network<'_>) -> &'static str {
+    if network.is_corridor {
+        "Events at no station of these"
+    } else {
+        "Events without a line and a station"
+    }
 }
 
 /// Writes how many events stand in no diagram, below a height.
 pub fn write_left(text: &mut String, network: &Network<'_>, y: u32) -> Result<(), AllocError> {
-    let left = network.left;
+    let (left, which) = (network.left, words_for_left(network));
     if left == 0 {
         return Ok(());
     }
-    let which = if network.is_corridor {
-        "Events at no station of these"
-    } else {
-        "Events without a line and a station"
-    };
     writeln!(
         text,
         "<text x=\"14\" y=\"{y}\">{which}, not drawn: {left}</text>"
     )
+}
+
+/// Writes how many events stand in no diagram, as a sentence of HTML.
+pub fn write_left_words(text: &mut String, network: &Network<'_>) -> Result<(), AllocError> {
+    let (left, which) = (network.left, words_for_left(network));
+    if left == 0 {
+        return Ok(());
+    }
+    writeln!(text, "<p>{which}, not drawn: {left}</p>")
 }
 
 /// Writes the whole name of a station whose name is cut, for where the pointer rests on it.
@@ -164,27 +199,24 @@ fn write_whole_name(text: &mut String, station: &str) -> Result<(), AllocError> 
     write!(text, "<title>{name}</title>")
 }
 
-/// Writes the name of a line and its stations, from a height on.
+/// Writes the name of a line and its stations.
 pub fn write_stations(
     text: &mut String,
-    frame: &Frame,
+    column: Column,
     line: &Line<'_>,
     is_corridor: bool,
-    y: u32,
 ) -> Result<(), AllocError> {
-    let above = y.saturating_add(16);
     let word = if is_corridor { "Along" } else { "Line" };
     let name = Escaped(line.name);
     writeln!(
         text,
-        "<text class=\"heading\" x=\"14\" y=\"{above}\">{word} {name}</text>"
+        "<text class=\"heading\" x=\"14\" y=\"16\">{word} {name}</text>"
     )?;
-    let left = frame.left;
+    let left = column.left;
     let right = left.saturating_add(PLOT);
     let before = left.saturating_sub(8);
-    let top = y.saturating_add(HEADING);
     for (count, station) in line.stations.iter().enumerate() {
-        let at = top.saturating_add(height_of(count));
+        let at = height_of(count).saturating_add(HEADING);
         let below = at.saturating_add(4);
         let name = Shortened(station);
         write!(
@@ -198,18 +230,12 @@ pub fn write_stations(
 }
 
 /// Opens the plot of a line: a part of the picture in which what lies before 0 or behind the period's end isn't seen.
-pub fn open_plot(
-    text: &mut String,
-    frame: &Frame,
-    line: &Line<'_>,
-    y: u32,
-) -> Result<(), AllocError> {
-    let left = frame.left;
-    let top = y.saturating_add(HEADING);
+pub fn open_plot(text: &mut String, column: Column, line: &Line<'_>) -> Result<(), AllocError> {
+    let left = column.left;
     let height = plot_height(line);
     writeln!(
         text,
-        "<svg x=\"{left}\" y=\"{top}\" width=\"{PLOT}\" height=\"{height}\">"
+        "<svg x=\"{left}\" y=\"{HEADING}\" width=\"{PLOT}\" height=\"{height}\">"
     )
 }
 
@@ -230,16 +256,14 @@ fn has_room(period: u32, step: u32, time: u32) -> bool {
 /// Writes a line for each step of the period and for its end, with its time above.
 pub fn write_scale(
     text: &mut String,
-    frame: &Frame,
+    column: Column,
     line: &Line<'_>,
     period: u32,
-    y: u32,
 ) -> Result<(), AllocError> {
-    let left = frame.left;
-    let top = y.saturating_add(HEADING);
+    let left = column.left;
     let height = plot_height(line);
     let step = step_for(period);
-    write!(text, "<g transform=\"translate({left} {top})\">")?;
+    write!(text, "<g transform=\"translate({left} {HEADING})\">")?;
     for place in 0..18_u32 {
         let time = step.saturating_mul(place);
         if time < period && has_room(period, step, time) {

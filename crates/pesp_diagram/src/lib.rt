@@ -2,10 +2,13 @@
 //! lines.
 #![tactic(auto)]
 
+mod backs;
 mod drawing;
 mod frame;
+mod layout;
 mod marks;
 mod pieces;
 mod places;
+mod scene;
 
-pub use drawing::{diagram, write_diagrams};
+pub use drawing::{diagram, write_pictures};

@@ -2,6 +2,7 @@
 
 use crate::marks::{Marks, Spot};
 use crate::places::{Across, height_of};
+use crate::scene::Scene;
 use pesp_draw::Escaped;
 use pesp_problem::{Instance, Row};
 use pesp_railway::{Kind, Network, Place, duration_of, kind_on};
@@ -9,6 +10,9 @@ use std::alloc::AllocError;
 
 /// How often a stretch of time is drawn at most: once for each period into which it reaches.
 const MOST_PERIODS: i64 = 20;
+
+/// How much lower a train back stands at a station than one out, in pixels.
+const LOWER: u32 = 4;
 
 /// An activity in the diagram of a line, from its time at its tail on.
 #[derive(Clone, Copy)]
@@ -23,13 +27,8 @@ pub struct Piece<'a> {
 
 impl<'a> Piece<'a> {
     /// What is drawn of an activity in the diagram of a line.
-    pub fn of(
-        network: &Network<'_>,
-        line: usize,
-        instance: &Instance,
-        times: &[u32],
-        row: &'a Row,
-    ) -> Option<Piece<'a>> {
+    pub fn of(scene: &Scene<'_, '_, '_>, line: usize, row: &'a Row) -> Option<Piece<'a>> {
+        let (instance, times, network) = (scene.instance, scene.times, &scene.network);
         let tail = network.at(row.tail)?;
         let head = network.at(row.head)?;
         let kind = kind_on(network, line, instance.period(), row, tail, head)?;
@@ -106,8 +105,21 @@ fn write_stretch(
     Ok(())
 }
 
+/// How far below its station a piece stands, in pixels: 0 but for a train that goes back and stands there.
+fn lowered(scene: &Scene<'_, '_, '_>, piece: &Piece<'_>) -> u32 {
+    if piece.kind == Kind::Stand && scene.backs.has(piece.row) {
+        LOWER
+    } else {
+        0
+    }
+}
+
 /// Writes a train between two stations, or at one of them.
-fn write_train(text: &mut String, period: u32, piece: &Piece<'_>) -> Result<(), AllocError> {
+fn write_train(
+    text: &mut String,
+    scene: &Scene<'_, '_, '_>,
+    piece: &Piece<'_>,
+) -> Result<(), AllocError> {
     let class = match piece.kind {
         Kind::Run if piece.tail.station > piece.head.station => "back",
         Kind::Run => "run",
@@ -116,10 +128,11 @@ fn write_train(text: &mut String, period: u32, piece: &Piece<'_>) -> Result<(), 
         _ => "stand",
     };
     let to = piece.time.saturating_add(piece.duration);
-    let first = height_of(piece.tail.station);
-    let second = height_of(piece.head.station);
+    let lower = lowered(scene, piece);
+    let first = height_of(piece.tail.station).saturating_add(lower);
+    let second = height_of(piece.head.station).saturating_add(lower);
     write!(text, "<path class=\"{class}\" d=\"")?;
-    write_stretch(text, period, piece.time, to, first, second)?;
+    write_stretch(text, scene.instance.period(), piece.time, to, first, second)?;
     text.push_str("\"/>")
 }
 
@@ -173,17 +186,17 @@ fn write_mark(
 /// Writes what is drawn of an activity.
 pub fn write_piece(
     text: &mut String,
-    network: &Network<'_>,
-    instance: &Instance,
+    scene: &Scene<'_, '_, '_>,
     marks: &mut Marks,
     piece: &Piece<'_>,
 ) -> Result<(), AllocError> {
+    let (instance, network) = (scene.instance, &scene.network);
     text.push_str("<g>")?;
     write_title(text, network, instance, piece)?;
     if piece.is_mark() {
         write_mark(text, instance.period(), marks, piece)?;
     } else {
-        write_train(text, instance.period(), piece)?;
+        write_train(text, scene, piece)?;
     }
     text.push_str("</g>\n")?;
     if network.is_corridor && piece.kind == Kind::Run {

@@ -3,6 +3,8 @@
 
 mod jobs;
 mod period;
+mod seconds;
 
 pub use jobs::jobs_of;
 pub use period::period_within;
+pub use seconds::{MOST_SECONDS, seconds_within};

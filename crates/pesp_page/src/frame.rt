@@ -17,30 +17,32 @@ td.n,th.n{text-align:right}thead th{background:#eee}\n\
 .out caption{color:var(--out)}.back caption{color:var(--back)}\n\
 .out{border-left:4px solid var(--out)}.back{border-left:4px double var(--back)}\n\
 .way,.all,.picture{content-visibility:auto;contain-intrinsic-size:auto 20rem}.picture{overflow-x:auto}.picture>svg{max-width:100%;height:auto}\n\
-button{font:inherit;background:none;border:0;padding:0;cursor:pointer;text-align:inherit}\n\
-button::after{content:\" \\2195\"}[aria-sort=ascending] button::after{content:\" \\2191\"}[aria-sort=descending] button::after{content:\" \\2193\"}\n\
+th span{cursor:pointer}\n\
+th span::after{content:\" \\2195\"}[aria-sort=ascending] span::after{content:\" \\2191\"}[aria-sort=descending] span::after{content:\" \\2193\"}\n\
 input{font:inherit;width:20rem;max-width:100%}\n\
-@media print{nav,.tools{display:none}body{max-width:none;font-size:10pt}section{break-before:page}#found{break-before:auto}.way,.all,.picture{content-visibility:visible}table{break-inside:auto}tr{break-inside:avoid}button::after{content:\"\"}}\n\
+@media print{nav,.tools{display:none}body{max-width:none;font-size:10pt}section{break-before:page}#found{break-before:auto}.way,.all,.picture{content-visibility:visible}table{break-inside:auto}tr{break-inside:avoid}th span::after{content:\"\"}#diagrams{page:wide}}@page wide{size:landscape}\n\
 </style>\n";
 
 /// Sorts the table of activities by a column, and shows those that have all words that are looked for. Without it the page can be
 /// read as it stands.
 const SCRIPT: &str = "<script>\n\
 const table=document.getElementById('activities'),body=table.tBodies[0],rows=[...body.rows],count=document.getElementById('count');\n\
-let texts;\n\
+const words=new Intl.Collator('en',{numeric:true});let texts;\n\
 document.getElementById('search').addEventListener('input',event=>{texts??=rows.map(row=>row.textContent.toLowerCase());\n\
-const words=event.target.value.toLowerCase().split(/\\s+/).filter(Boolean);let shown=0;\n\
-rows.forEach((row,place)=>{row.hidden=!words.every(word=>texts[place].includes(word));if(!row.hidden)shown++});\n\
+const wanted=event.target.value.toLowerCase().split(/\\s+/).filter(Boolean);let shown=0;\n\
+rows.forEach((row,place)=>{row.hidden=!wanted.every(word=>texts[place].includes(word));if(!row.hidden)shown++});\n\
 count.textContent=shown+' of '+rows.length+' activities'});\n\
 [...table.tHead.rows[0].cells].forEach((head,column)=>{const numbers=head.className=='n';\n\
-head.querySelector('button').addEventListener('click',()=>{\n\
+const sort=()=>{\n\
 const falls=head.getAttribute('aria-sort')=='ascending'||numbers&&head.getAttribute('aria-sort')!='descending';\n\
 for(const other of table.tHead.rows[0].cells)other.removeAttribute('aria-sort');\n\
 head.setAttribute('aria-sort',falls?'descending':'ascending');\n\
 const key=row=>numbers?+row.cells[column].textContent:row.cells[column].textContent;\n\
 const keys=new Map(rows.map(row=>[row,key(row)]));\n\
-const order=[...rows].sort((a,b)=>(numbers?keys.get(a)-keys.get(b):keys.get(a).localeCompare(keys.get(b)))*(falls?-1:1));\n\
-body.append(...order)})});\n\
+const order=[...rows].sort((a,b)=>(numbers?keys.get(a)-keys.get(b):words.compare(keys.get(a),keys.get(b)))*(falls?-1:1));\n\
+body.append(...order)};\n\
+const button=head.firstChild;button.addEventListener('click',sort);\n\
+button.addEventListener('keydown',event=>{if(event.key=='Enter'||event.key==' '){event.preventDefault();sort()}})});\n\
 </script>\n";
 
 /// Writes the page's beginning: its title, its style and the way to its parts.

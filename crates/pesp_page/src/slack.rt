@@ -48,7 +48,7 @@ fn write_headings(text: &mut String) -> Result<(), AllocError> {
         let class = if *has_numbers { " class=\"n\"" } else { "" };
         write!(
             text,
-            "<th scope=\"col\"{class}><button type=\"button\">{heading}</button></th>"
+            "<th scope=\"col\"{class}><span role=\"button\" tabindex=\"0\">{heading}</span></th>"
         )?;
     }
     text.push_str("</tr></thead>\n")

@@ -12,7 +12,7 @@ use crate::found::write_found;
 use crate::frame::{write_end, write_front};
 use crate::slack::{count_tight, write_slack};
 use crate::trains::write_trains;
-use pesp_diagram::write_diagrams;
+use pesp_diagram::write_pictures;
 use pesp_problem::Instance;
 use pesp_report::{Names, ReportRefusal, cost_of, lines_by_cost};
 use pesp_stream::{Bytes, Sink, print_to};
@@ -74,7 +74,7 @@ fn text_of(
     write_front(&mut text, instance.period(), cost)?;
     write_found(&mut text, instance, claim, cost, count_tight(&lines))?;
     write_all_trains(alloc, &mut text, instance, times, names)?;
-    write_pictures(alloc, &mut text, instance, times, names, cost)?;
+    write_diagrams(alloc, &mut text, instance, times, names)?;
     write_slack(&mut text, names, &lines)?;
     write_end(&mut text)?;
     Ok(text)
@@ -96,22 +96,21 @@ fn write_all_trains(
 }
 
 /// Writes the diagrams, where names tell lines.
-fn write_pictures(
+fn write_diagrams(
     alloc: Global,
     text: &mut String,
     instance: &Instance,
     times: &[u32],
     names: Option<&Names>,
-    cost: u64,
 ) -> Result<(), AllocError> {
     text.push_str("<section id=\"diagrams\"><h2>Diagrams</h2>\n")?;
     match names {
         Some(names) => {
             text.push_str(
-                "<p>Each line's stations stand below each other, and the time goes across one period. A train out goes down, in blue, and one back goes up, in brown and dashed; the table of trains has the same times in words.</p>\n<div class=\"picture\" role=\"img\" aria-label=\"Time-distance diagrams of all lines; the section Trains has the same times\">\n",
+                "<p>Each line's stations stand below each other, and the time goes across one period. A train out goes down, in blue, and one back goes up, in brown and dashed; the table of trains has the same times in words.</p>\n",
             )?;
-            write_diagrams(alloc, text, instance, times, names, None, cost)?;
-            text.push_str("</div></section>\n")
+            write_pictures(alloc, text, instance, times, names)?;
+            text.push_str("</section>\n")
         }
         None => text.push_str(
             "<p>There are none without names of lines and stations (<code>--names</code>).</p></section>\n",

@@ -2,8 +2,14 @@
 //! doesn't depend on it.
 #![tactic(auto)]
 
+mod hearer;
+mod plan_words;
+mod planner;
 mod progress;
 mod watch;
 
+pub use hearer::Hearer;
+pub use plan_words::Again;
+pub use planner::Planner;
 pub use progress::{Milestones, Progress, Teller};
 pub use watch::Watch;

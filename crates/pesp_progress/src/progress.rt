@@ -40,7 +40,7 @@ impl Progress {
     }
 
     /// How far a search is that sharpens.
-    fn of_standing(standing: Standing) -> Progress {
+    pub(crate) fn of_standing(standing: Standing) -> Progress {
         let Standing {
             steps_used,
             bound,
@@ -55,7 +55,7 @@ impl Progress {
     }
 
     /// How much of the cost might still be saved, in thousandths of it, rounded down.
-    fn gap(&self) -> Option<u64> {
+    pub(crate) fn gap(&self) -> Option<u64> {
         let (bound, cost) = (self.bound?, self.cost?);
         let most = u128::from(cost.saturating_sub(bound)) * 1000;
         let share = most.checked_div(u128::from(cost)).unwrap_or(0);
@@ -85,7 +85,7 @@ impl fmt::Display for Progress {
             write!(f, ", open leaves {open}")?;
         }
         let (bound, cost) = (Known(self.bound), Known(self.cost));
-        write!(f, ", bound {bound}, cost {cost}")?;
+        write!(f, ", cost {cost}, bound {bound}")?;
         match self.gap() {
             None => Ok(()),
             Some(gap) => {
@@ -148,7 +148,7 @@ impl Milestones {
 }
 
 /// How many seconds pass at most between two lines, where turns end meanwhile.
-const SECONDS: u64 = 5;
+pub(crate) const SECONDS: u64 = 5;
 
 /// How long a search has gone on, and how many leaves were split meanwhile.
 #[derive(Clone, Copy, Drop)]
@@ -187,14 +187,19 @@ struct Beginning {
     gone: Option<Duration>,
 }
 
+/// What a part of the search does, in words.
+pub(crate) fn words_of(part: Part) -> &'static str {
+    match part {
+        Part::Reduction => "drops activities that decide nothing",
+        Part::Forest => "looks for a spanning forest",
+        Part::Root => "looks for the root's bound",
+        Part::Times => "looks for first times",
+    }
+}
+
 impl fmt::Display for Beginning {
     fn fmt<W: fmt::Write>(&self, f: &mut fmt::Formatter<W>) -> fmt::Result {
-        let part = match self.part {
-            Part::Reduction => "drops activities that decide nothing",
-            Part::Forest => "looks for a spanning forest",
-            Part::Root => "looks for the root's bound",
-            Part::Times => "looks for first times",
-        };
+        let part = words_of(self.part);
         write!(f, "progress: {part}")?;
         match self.gone {
             Some(gone) => {
@@ -223,31 +228,43 @@ impl fmt::Display for Paced {
     }
 }
 
-/// Tells on standard error how far a search is: when a part of it begins, at the milestones, and else when five seconds have
-/// passed since the last line. A line that can't be written is dropped, and where the clock can't be read no line waits for it.
+/// Tells on standard error how far a search is, where that is asked for: when a part of it begins, at the milestones, and else when
+/// five seconds have passed since the last line. A line that can't be written is dropped, and where the clock can't be read no line
+/// waits for it.
 #[derive(Drop)]
 pub struct Teller<'a, R> {
-    rt: &'a R,
+    /// By which it tells; None where nothing is told, and no clock is read.
+    rt: Option<&'a R>,
     milestones: Milestones,
     begun: Option<Instant>,
     told: Option<Instant>,
 }
 
 impl<'a, R: Eprint + Clock> Teller<'a, R> {
-    /// A teller that has told nothing; seconds count from here on.
-    pub fn new(rt: &'a R) -> Teller<'a, R> {
-        let begun = Instant::now(rt).ok();
-        Teller {
-            rt,
+    /// A teller of a run that begins, which it tells, where it tells anything; seconds count from here on.
+    pub fn begin(rt: &'a R, tells: bool) -> Teller<'a, R> {
+        let mut teller = Teller {
+            rt: if tells { Some(rt) } else { None },
             milestones: Milestones::new(),
-            begun,
-            told: begun,
-        }
+            begun: None,
+            told: None,
+        };
+        teller.begun = teller.now();
+        teller.told = teller.begun;
+        teller.say("progress: reads the instance");
+        teller
     }
 
-    /// Tells that the run begins.
-    pub fn begin(&self) {
-        let _ = self.rt.eprintln("progress: reads the instance");
+    /// What the clock tells, where it is read and can be.
+    fn now(&self) -> Option<Instant> {
+        Instant::now(self.rt?).ok()
+    }
+
+    /// Tells a line, where anything is told.
+    fn say<D: fmt::Display + Drop>(&self, line: D) {
+        if let Some(rt) = self.rt {
+            let _ = rt.eprintln(line);
+        }
     }
 
     /// How long it is since the run began.
@@ -273,20 +290,20 @@ impl<'a, R: Eprint + Clock> Teller<'a, R> {
             None => None,
         };
         self.told = now;
-        let _ = self.rt.eprintln(Paced { progress, pace });
+        self.say(Paced { progress, pace });
     }
 }
 
 impl<R: Eprint + Clock> Observer for Teller<'_, R> {
     fn at(&mut self, part: Part) {
-        let now = Instant::now(self.rt).ok();
+        let now = self.now();
         let gone = self.gone(now);
         self.told = now;
-        let _ = self.rt.eprintln(Beginning { part, gone });
+        self.say(Beginning { part, gone });
     }
 
     fn look(&mut self, steps_used: u32, board: &Board) {
-        let now = Instant::now(self.rt).ok();
+        let now = self.now();
         match self.milestones.passed(steps_used, board) {
             Some(progress) => self.tell(progress, now),
             None if self.is_due(now) => self.tell(Progress::of(steps_used, board), now),
@@ -297,7 +314,7 @@ impl<R: Eprint + Clock> Observer for Teller<'_, R> {
 
 impl<R: Eprint + Clock> SharpObserver for Teller<'_, R> {
     fn stands(&mut self, standing: Standing) {
-        let now = Instant::now(self.rt).ok();
+        let now = self.now();
         let told = self.milestones.is_told(standing.steps_used, standing.cost);
         if told || self.is_due(now) {
             self.tell(Progress::of_standing(standing), now);

@@ -60,7 +60,7 @@ impl<'a, R: Eprint + Clock> Watch<'a, R> {
 }
 
 /// Whether so many seconds are over, where they are counted, when so many have gone.
-fn are_over(most: Option<u32>, gone: Option<u64>) -> bool
+pub(crate) fn are_over(most: Option<u32>, gone: Option<u64>) -> bool
     ensures { IsTrue result ↔ AreOver most gone }
 {
     match (most, gone) {

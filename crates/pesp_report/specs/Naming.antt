@@ -1,5 +1,5 @@
 -- The names of events.
-use Rattle.std.specs.Prelude.{ℕ, ℤ, List, [], Option, Some, None, slice_get, string_bytes}
+use Rattle.std.specs.Prelude.{ℕ, ℤ, List, [], ◌∷◌, Option, Some, None, slice_get, string_bytes, codes}
 use Rattle.std.specs.Ordering.{int_eq}
 use Rattle.indexmap.specs.IndexMap.{get}
 use Rattle.pesp_report.specs.declared.names.Name.{Name}
@@ -22,3 +22,17 @@ bytes_of (Some name) = string_bytes name.name
 -- the name of the event with this label, as bytes
 abbrev pub name_of : Names → ℤ → List ℕ
 name_of names event = bytes_of (told_of names event)
+
+-- what events are called, where names are told
+abbrev pub naming_of : Option Names → Option (ℤ → List ℕ)
+naming_of None = None
+naming_of (Some names) = Some (name_of names)
+
+-- the last fields of a header, and those of an activity from one event to another: the names of both, where names are told
+abbrev pub name_header : Option (ℤ → List ℕ) → List (List ℕ)
+name_header None = []
+name_header (Some name) = codes "tail_name" ∷ codes "head_name" ∷ []
+
+abbrev pub name_fields : Option (ℤ → List ℕ) → ℤ → ℤ → List (List ℕ)
+name_fields None tail head = []
+name_fields (Some name) tail head = name tail ∷ name head ∷ []

@@ -1,10 +1,11 @@
 -- The activities that times violate, as they are told.
-use Rattle.std.specs.Prelude.{ℕ, ◌-◌, Bool, pos, ◌+ℤ◌, ◌-ℤ◌, int_lt, List, [], ◌∷◌, Option, Some, None, map, codes, if◌then◌else◌}
+use Rattle.std.specs.Prelude.{ℕ, ℤ, ◌-◌, Bool, pos, ◌+ℤ◌, ◌-ℤ◌, int_lt, List, [], ◌∷◌, Option, Some, None, map, codes, if◌then◌else◌}
 use Rattle.std.specs.List.{enumerate_from, filter_map}
 use Rattle.std.specs.Fmt.{decimal, signed_decimal}
 use Rattle.pesp_problem.specs.Timetables.{Pesp, AreTimes, slack}
 use Rattle.pesp_problem.specs.declared.row.Row.{Row}
 use Rattle.pesp_report.specs.Report.{label_at, records_text}
+use Rattle.pesp_report.specs.Naming.{name_header, name_fields}
 use Rattle.pesp_report.specs.declared.violation.Violation.{Violation}
 use Rattle.pesp_report.specs.declared.refusal.ViolationsRefusal.{ViolationsRefusal}
 use Rattle.pesp_report.specs.declared.refusal.ViolationsRefusal.TheVariants.{NotTimes, Memory, Write}
@@ -43,21 +44,21 @@ short_field v = if int_lt v.excess (pos v.short) then [] else decimal v.short
 abbrev pub long_field : Violation → List ℕ
 long_field v = if int_lt (pos v.short) v.excess then [] else signed_decimal v.excess
 
--- the fields of the header and of a violated row
-abbrev pub violation_header : List (List ℕ)
-violation_header =
+-- the fields of the header and of a violated row, with the names of its two events where names are told
+abbrev pub violation_header : Option (ℤ → List ℕ) → List (List ℕ)
+violation_header naming =
     codes "row" ∷ codes "label" ∷ codes "tail" ∷ codes "head" ∷ codes "duration" ∷ codes "lower" ∷ codes "upper" ∷ codes "excess" ∷ codes "short"
-    ∷ codes "long" ∷ []
+    ∷ codes "long" ∷ name_header naming
 
-abbrev pub violation_fields : Violation → List (List ℕ)
-violation_fields v =
+abbrev pub violation_fields : Option (ℤ → List ℕ) → Violation → List (List ℕ)
+violation_fields naming v =
     decimal v.row ∷ signed_decimal v.label ∷ signed_decimal v.tail ∷ signed_decimal v.head
     ∷ signed_decimal v.duration ∷ signed_decimal v.lower
-    ∷ signed_decimal v.upper ∷ signed_decimal v.excess ∷ short_field v ∷ long_field v ∷ []
+    ∷ signed_decimal v.upper ∷ signed_decimal v.excess ∷ short_field v ∷ long_field v ∷ name_fields naming v.tail v.head
 
 -- the header and these records
-abbrev pub violations_text : List Violation → List ℕ
-violations_text violations = records_text (violation_header ∷ map violation_fields violations)
+abbrev pub violations_text : Option (ℤ → List ℕ) → List Violation → List ℕ
+violations_text naming violations = records_text (violation_header naming ∷ map (violation_fields naming) violations)
 
 -- what a refusal says of the times
 abbrev pub RefusesViolations : Pesp → List ℕ → ViolationsRefusal → Type 0

@@ -1,5 +1,5 @@
 -- Why a run has no answer, from what the call that failed says of it, and what it wrote.
-use Rattle.std.proofs.Common.{◌≡◌, ◌⊎◌, inl, inr, ℕ, List, length, sym, subst}
+use Rattle.std.proofs.Common.{◌≡◌, ◌⊎◌, inl, inr, ℕ, ℤ, List, length, sym, subst}
 use Rattle.std.specs.Prelude.{Option}
 use Rattle.std.specs.Io.KnownBytes.{Appends}
 use Rattle.pesp_stream.specs.Counts.{Calls}
@@ -54,20 +54,20 @@ violations_out ViolationsMemory p times Failed Front are refused failed front = 
 violations_out ViolationsWrite p times Failed Front are refused failed front = (are, failed, front)
 
 -- the same of times that are these ones
-pub violations_cause : (refusal : ViolationsRefusal) (p : Pesp) (told times : List ℕ) (old new : Option (List ℕ))
-    (Failed : Type 0) → told ≡ times → AreTimes p times → RefusesViolations p told refusal
+pub violations_cause : (refusal : ViolationsRefusal) (p : Pesp) (told times : List ℕ) (naming : Option (ℤ → List ℕ))
+    (old new : Option (List ℕ)) (Failed : Type 0) → told ≡ times → AreTimes p times → RefusesViolations p told refusal
     → IfWriteFailed refusal Failed → IfWriteFailed refusal
-    (AppendsFront old new (violations_text (violations_of p told)))
-    → OutCause (violations_fault refusal) (AreTimes p times × Failed × AppendsFront old new (violations_text (violations_of p times)))
-violations_cause refusal p told times old new Failed same are refused failed front =
+    (AppendsFront old new (violations_text naming (violations_of p told)))
+    → OutCause (violations_fault refusal) (AreTimes p times × Failed × AppendsFront old new (violations_text naming (violations_of p times)))
+violations_cause refusal p told times naming old new Failed same are refused failed front =
     subst (λ (ts : List ℕ). OutCause (violations_fault refusal)
-    (AreTimes p ts × Failed × AppendsFront old new (violations_text (violations_of p ts)))) same
-    (violations_out refusal p told Failed (AppendsFront old new (violations_text (violations_of p told)))
+    (AreTimes p ts × Failed × AppendsFront old new (violations_text naming (violations_of p ts)))) same
+    (violations_out refusal p told Failed (AppendsFront old new (violations_text naming (violations_of p told)))
     (subst (λ (ts : List ℕ). AreTimes p ts) (sym same) are) refused failed front)
 
 -- violated activities of times that are these ones were counted and written
-pub violations_told : (p : Pesp) (told times : List ℕ) (count : ℕ) (old new : Option (List ℕ)) → told ≡ times
-    → count ≡ length (violations_of p told) → Appends old new (violations_text (violations_of p told))
-    → WritesViolations p times count (Appends old new)
-violations_told p told times count old new same counted written =
-    subst (λ (ts : List ℕ). WritesViolations p ts count (Appends old new)) same (counted, written)
+pub violations_told : (p : Pesp) (told times : List ℕ) (naming : Option (ℤ → List ℕ)) (count : ℕ) (old new : Option (List ℕ)) → told ≡ times
+    → count ≡ length (violations_of p told) → Appends old new (violations_text naming (violations_of p told))
+    → WritesViolations p times naming count (Appends old new)
+violations_told p told times naming count old new same counted written =
+    subst (λ (ts : List ℕ). WritesViolations p ts naming count (Appends old new)) same (counted, written)

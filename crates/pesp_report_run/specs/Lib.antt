@@ -1,3 +1,4 @@
 pub mod Reporting
 pub mod Violating
+pub mod Fixing
 pub mod Naming

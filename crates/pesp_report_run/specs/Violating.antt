@@ -1,5 +1,5 @@
 -- What the run that tells violated activities reads and writes, and when it tells which fault.
-use Rattle.std.specs.Prelude.{◌≡◌, ◌⊎◌, ℕ, List, Option, length}
+use Rattle.std.specs.Prelude.{◌≡◌, ◌⊎◌, ℕ, ℤ, List, Option, length}
 use Rattle.pesp_problem.specs.Timetables.{Pesp, AreTimes}
 use Rattle.pesp_report.specs.Violations.{violations_of, violations_text}
 use Rattle.pesp_check_run.specs.Devices.{Device, HasFailed, GetsFront}
@@ -13,15 +13,17 @@ ReadsForEvents told left told_times left_times period Holds =
     (p : Pesp) × ReadsInstance told left period p
     × ((times : List ℕ) × ReadsTimes told_times left_times p times × AreTimes p times × Holds p times)
 
--- so many rows are violated, and the writer got what the relation says of their records
-abbrev pub WritesViolations : Pesp → List ℕ → ℕ → (List ℕ → Type 0) → Type 0
-WritesViolations p times count Gets = (count ≡ length (violations_of p times)) × Gets (violations_text (violations_of p times))
+-- so many rows are violated, and the writer got what the relation says of their records, with what events are called where
+-- names are told
+abbrev pub WritesViolations : Pesp → List ℕ → Option (ℤ → List ℕ) → ℕ → (List ℕ → Type 0) → Type 0
+WritesViolations p times naming count Gets =
+    (count ≡ length (violations_of p times)) × Gets (violations_text naming (violations_of p times))
 
 -- each fault of the run and its cause; the second reader is called only where the first text has an instance
-abbrev pub ViolationsCause : Fault → Device → Device → Device → ℕ → Type 0 → Type 0
-ViolationsCause fault reader times_reader writer period uncalled =
+abbrev pub ViolationsCause : Fault → Device → Device → Device → ℕ → Type 0 → Option (ℤ → List ℕ) → Type 0
+ViolationsCause fault reader times_reader writer period uncalled naming =
     (InstanceCause fault reader period × uncalled)
     ⊎ ((p : Pesp) × ReadsInstance reader.old reader.new period p
     × (TimesCause fault times_reader p
     ⊎ ((times : List ℕ) × ReadsTimes times_reader.old times_reader.new p times
-    × OutCause fault (AreTimes p times × HasFailed writer × GetsFront writer (violations_text (violations_of p times))))))
+    × OutCause fault (AreTimes p times × HasFailed writer × GetsFront writer (violations_text naming (violations_of p times))))))

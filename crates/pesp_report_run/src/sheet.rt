@@ -143,14 +143,18 @@ impl Sheet for Diagrams<'_> {
     }
 }
 
-/// The timetable: a record for each event, in the order of the ways of trains, with what names tell where there are any.
+/// The timetable: a record for each event, or an object of JSON, in the order of the ways of trains, with what names tell where
+/// there are any.
 #[derive(Clone, Copy)]
-pub struct Timetable<'a>(pub Option<&'a Names>);
+pub struct Timetable<'a> {
+    pub names: Option<&'a Names>,
+    pub json: bool,
+}
 
 impl Sheet for Timetable<'_> {
-    ghost use Rattle.pesp_timetable.specs.Timetable.{IsTimetableText};
+    ghost use Rattle.pesp_timetable.specs.Texts.{IsTimetableText};
 
-    ghost shows = { λ _ p times text. IsTimetableText p times text };
+    ghost shows = { λ s p times text. IsTimetableText s.json p times text };
 
     fn write<W: Sink>(
         &self,
@@ -160,7 +164,7 @@ impl Sheet for Timetable<'_> {
         _claim: Claim,
         sink: &mut W,
     ) -> Result<(), ReportRefusal> {
-        timetable(alloc, instance, times, self.0, sink)
+        timetable(alloc, instance, times, self.names, self.json, sink)
     }
 }
 

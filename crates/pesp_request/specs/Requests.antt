@@ -2,12 +2,13 @@
 use Rattle.std.specs.Prelude.{ℕ, ◌≤◌}
 use Rattle.std.specs.List.Sorted.{IsStrictlyIncreasing}
 use Rattle.pesp_problem.specs.declared.limits.TheConstants.{MOST_PERIOD, MOST_STEPS}
+use Rattle.pesp_limits.specs.declared.seconds.TheConstants.{MOST_SECONDS}
 use Rattle.pesp_request.specs.declared.request.OfInstance.{OfInstance}
-use Rattle.pesp_request.specs.declared.request.OfInstance.TheVariants.{Solve, SolveSharp, Conflict}
+use Rattle.pesp_request.specs.declared.request.OfInstance.TheVariants.{Solve, SolveSharp, Plan, Conflict}
 use Rattle.pesp_request.specs.declared.request.OfCertificate.{OfCertificate}
-use Rattle.pesp_request.specs.declared.request.OfCertificate.TheVariants.{Check, CheckSharp, Gap, Resume, ResumeSharp, Split, SplitSharp}
+use Rattle.pesp_request.specs.declared.request.OfCertificate.TheVariants.{Check, CheckSharp, Gap, GapJson, Resume, ResumeSharp, Split, SplitSharp}
 use Rattle.pesp_request.specs.declared.request.OfTimes.{OfTimes}
-use Rattle.pesp_request.specs.declared.request.OfTimes.TheVariants.{Report, Violations, Picture, Diagrams, Timetable, Page}
+use Rattle.pesp_request.specs.declared.request.OfTimes.TheVariants.{Report, Violations, Picture, Diagrams, Timetable, Fix, Page}
 use Rattle.pesp_request.specs.declared.request.OfLeaves.{OfLeaves}
 use Rattle.pesp_request.specs.declared.request.OfLeaves.TheVariants.{Work, WorkSharp}
 use Rattle.pesp_request.specs.declared.request.Asked.{Asked}
@@ -21,12 +22,14 @@ IsPeriod period = (1 ≤ period) × (period ≤ MOST_PERIOD)
 abbrev pub InstanceWithin : OfInstance → Type 0
 InstanceWithin (Solve steps from progress) = steps ≤ MOST_STEPS
 InstanceWithin (SolveSharp steps from progress) = steps ≤ MOST_STEPS
+InstanceWithin (Plan asked) = (1 ≤ asked.seconds) × (asked.seconds ≤ MOST_SECONDS)
 InstanceWithin (Conflict steps names) = steps ≤ MOST_STEPS
 
 abbrev pub CertificateWithin : OfCertificate → Type 0
 CertificateWithin Check = Unit {0}
 CertificateWithin CheckSharp = Unit {0}
 CertificateWithin Gap = Unit {0}
+CertificateWithin GapJson = Unit {0}
 CertificateWithin (Resume steps seconds progress) = steps ≤ MOST_STEPS
 CertificateWithin (ResumeSharp steps seconds progress) = steps ≤ MOST_STEPS
 CertificateWithin Split = Unit {0}
@@ -38,10 +41,11 @@ LeavesWithin (WorkSharp steps until jobs) = (steps ≤ MOST_STEPS) × IsStrictly
 
 abbrev pub TimesWithin : OfTimes → Type 0
 TimesWithin (Report names) = Unit {0}
-TimesWithin Violations = Unit {0}
+TimesWithin (Violations names) = Unit {0}
 TimesWithin (Picture rows names) = (1 ≤ rows) × (rows ≤ 1000)
 TimesWithin (Diagrams names along) = Unit {0}
-TimesWithin (Timetable names) = Unit {0}
+TimesWithin (Timetable names json) = Unit {0}
+TimesWithin (Fix names events lines) = Unit {0}
 TimesWithin (Page names) = Unit {0}
 
 abbrev pub AskedWithin : Asked → Type 0

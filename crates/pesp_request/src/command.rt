@@ -5,15 +5,18 @@ ghost use Rattle.std.specs.List.Sorted.{IsStrictlyIncreasing};
 ghost use Rattle.pesp_request.specs.Requests.{InstanceWithin, CertificateWithin, LeavesWithin, TimesWithin, AskedWithin, IsWithinLimits};
 
 use crate::options::{
-    along_option, base_argument, file_argument, from_option, graft_sharp_option, jobs_argument,
-    names_argument, names_option, optional_file, period_option, progress_option, rows_option,
+    along_option, base_argument, file_argument, fix_option, from_option, graft_sharp_option,
+    jobs_argument, json_option, lock_option, names_argument, names_option, optional_file,
+    output_option, period_option, plan_seconds_option, progress_option, quiet_option, rows_option,
     seconds_option, sharp_option, sharpen_option, solve_steps_option, steps_option, until_option,
     violations_option, work_sharpen_option,
 };
-use crate::request::{Asked, OfCertificate, OfInstance, OfLeaves, OfTimes, OfWorks, Request};
+use crate::request::{
+    Asked, OfCertificate, OfInstance, OfLeaves, OfTimes, OfWorks, Planning, Request,
+};
 use clap::error::ErrorKind;
 use clap::{ArgMatches, Command, Error};
-use pesp_limits::{jobs_of, period_within};
+use pesp_limits::{jobs_of, period_within, seconds_within};
 use pesp_problem::{MOST_PERIOD, MOST_STEPS};
 use std::alloc::{AllocError, Global};
 
@@ -34,6 +37,17 @@ Times are counted modulo the period, in the unit of the durations. For example
 Exit status: 0 the certificate is written; 1 the times to begin with violate a row;
 2 the command line; 3 a text is refused; 4 memory, a device, or a limit of the search";
 
+const PLANS: &str = "\
+With --output the certificate is written anew at each better timetable or bound, so
+whatever ends the run, the file is a whole certificate; the same words go on from it.
+  pesp plan --seconds 600 --output trains.certificate trains.csv
+  pesp check --sharp trains.csv < trains.certificate
+Standard error tells seconds, cost, bound and gap, at most once in five seconds.
+
+Exit status: 0 the certificate is written; 1 the file's certificate isn't valid, or the
+times to begin with violate a row; 2 the command line; 3 a text is refused; 4 memory, a
+device, a limit of the search, or another plan that writes the same file";
+
 const CONFLICTS: &str = "\
 A list is written as CSV: row, label, tail, head, lower, upper, and with --names the
 names of both events. Standard error tells how many activities there are, and whether
@@ -42,10 +56,21 @@ each of them is needed; with --names it adds up those that make up one closed wa
 Exit status: 0 a list is written; 1 no conflict was found; 2 the command line; 3 the
 instance is refused; 4 memory, a device, or a limit of the search";
 
+const FIXES: &str = "\
+Line 1 stays as it is, and event 1131 comes at 23:
+  pesp fix --fix 1131=23 --lock 1 --names trains.names trains.csv \\
+    < trains.certificate > fixed.csv
+  pesp solve fixed.csv > fixed.certificate
+Each is held at a time of a clock, an event of its own that stands first; see its line
+'time' in the certificate, which is at 0.
+
+Exit status: 0 the instance is written; 2 the command line, or there is no such event
+or line; 3 a text is refused; 4 memory or a device";
+
 const ROUND_TRIP: &str = "\
 A whole round, for an instance in trains.csv with the period 60:
-  pesp solve trains.csv > trains.certificate
-  pesp check trains.csv < trains.certificate
+  pesp plan --output trains.certificate trains.csv
+  pesp check --sharp trains.csv < trains.certificate
   pesp report trains.csv < trains.certificate > trains.report.csv
   pesp timetable trains.csv < trains.certificate > trains.timetable.csv
   pesp draw trains.csv < trains.certificate > trains.svg
@@ -81,6 +106,20 @@ fn solve_command<'a>(alloc: Global) -> Result<Command<'a>, AllocError> {
         .arg(sharpen_option(alloc))?
         .arg(from_option(alloc))?
         .arg(progress_option(alloc))?
+        .arg(optional_file(alloc))
+}
+
+fn plan_command<'a>(alloc: Global) -> Result<Command<'a>, AllocError> {
+    Command::new(alloc, "plan")
+        .about(
+            "Reads an instance and makes the best timetable and bound that it finds within some seconds",
+        )
+        .after_help(PLANS)
+        .arg(period_option(alloc))?
+        .arg(plan_seconds_option(alloc))?
+        .arg(output_option(alloc))?
+        .arg(from_option(alloc))?
+        .arg(quiet_option(alloc))?
         .arg(optional_file(alloc))
 }
 
@@ -189,7 +228,8 @@ fn gap_command<'a>(alloc: Global) -> Result<Command<'a>, AllocError> {
         "gap",
         "pesp gap [OPTIONS] <FILE> < CERTIFICATE",
         "Reads a certificate from standard input and says how good its answer is",
-    )
+    )?
+    .arg(json_option(alloc))
 }
 
 fn report_command<'a>(alloc: Global) -> Result<Command<'a>, AllocError> {
@@ -199,7 +239,7 @@ fn report_command<'a>(alloc: Global) -> Result<Command<'a>, AllocError> {
         "pesp report [OPTIONS] <FILE> < TIMES",
         "Reads time lines or a certificate from standard input and lists the slack of each activity in FILE",
     )?
-    .arg(violations_option(alloc)?)?
+    .arg(violations_option(alloc))?
     .arg(names_option(alloc))
 }
 
@@ -232,6 +272,7 @@ fn timetable_command<'a>(alloc: Global) -> Result<Command<'a>, AllocError> {
         "pesp timetable [OPTIONS] <FILE> < TIMES",
         "Reads time lines or a certificate from standard input and writes the timetable of FILE as CSV, a record for each event along the ways of trains",
     )?
+    .arg(json_option(alloc))?
     .arg(names_option(alloc))
 }
 
@@ -243,6 +284,20 @@ fn page_command<'a>(alloc: Global) -> Result<Command<'a>, AllocError> {
         "Reads time lines or a certificate from standard input and writes a page in HTML with the timetable of FILE, its diagrams and its slack",
     )?
     .arg(names_option(alloc))
+}
+
+fn fix_command<'a>(alloc: Global) -> Result<Command<'a>, AllocError> {
+    Command::new(alloc, "fix")
+        .override_usage("pesp fix [OPTIONS] <FILE> < TIMES")
+        .about(
+            "Reads time lines or a certificate from standard input and writes the instance in FILE with activities in front that hold events",
+        )
+        .after_help(FIXES)
+        .arg(period_option(alloc))?
+        .arg(file_argument(alloc))?
+        .arg(fix_option(alloc))?
+        .arg(lock_option(alloc))?
+        .arg(names_option(alloc))
 }
 
 /// A command with one more subcommand.
@@ -260,6 +315,7 @@ fn with_round_trip<'a>(alloc: Global) -> Result<Command<'a>, AllocError> {
         .about("Periodic timetables with certificates that can be checked")
         .after_help(ROUND_TRIP)
         .subcommand_required(true);
+    let pesp = with(pesp, plan_command(alloc))?;
     let pesp = with(pesp, solve_command(alloc))?;
     let pesp = with(pesp, resume_command(alloc))?;
     let pesp = with(pesp, conflict_command(alloc))?;
@@ -274,7 +330,8 @@ fn with_sheets<'a>(alloc: Global, pesp: Command<'a>) -> Result<Command<'a>, Allo
     let pesp = with(pesp, timetable_command(alloc))?;
     let pesp = with(pesp, draw_command(alloc))?;
     let pesp = with(pesp, diagram_command(alloc))?;
-    with(pesp, page_command(alloc))
+    let pesp = with(pesp, page_command(alloc))?;
+    with(pesp, fix_command(alloc))
 }
 
 /// The program with all its commands.
@@ -377,6 +434,19 @@ fn solve_of<'a>(matches: &ArgMatches<'a>) -> OfInstance<'a>
     }
 }
 
+/// What the words behind `plan` ask for.
+fn plan_of<'a>(matches: &ArgMatches<'a>) -> OfInstance<'a>
+    ensures { InstanceWithin result }
+{
+    OfInstance::Plan(Planning {
+        seconds: seconds_within(matches.get_one::<u32>("seconds")),
+        output: matches.get_str("output"),
+        from: matches.get_str("from"),
+        quiet: matches.get_flag("quiet"),
+        instance: matches.get_str("file"),
+    })
+}
+
 /// What the words behind `conflict` ask for.
 fn conflict_of<'a>(matches: &ArgMatches<'a>) -> OfInstance<'a>
     ensures { InstanceWithin result }
@@ -412,12 +482,11 @@ fn resume_of(matches: &ArgMatches<'_>) -> OfCertificate
 fn report_of<'a>(matches: &ArgMatches<'a>) -> OfTimes<'a>
     ensures { TimesWithin result }
 {
+    let names = matches.get_str("names");
     if matches.get_flag("violations") {
-        OfTimes::Violations
+        OfTimes::Violations { names }
     } else {
-        OfTimes::Report {
-            names: matches.get_str("names"),
-        }
+        OfTimes::Report { names }
     }
 }
 
@@ -447,6 +516,18 @@ fn timetable_of<'a>(matches: &ArgMatches<'a>) -> OfTimes<'a>
 {
     OfTimes::Timetable {
         names: matches.get_str("names"),
+        json: matches.get_flag("json"),
+    }
+}
+
+/// What the words behind `fix` ask for.
+fn fix_of<'a>(matches: &ArgMatches<'a>) -> OfTimes<'a>
+    ensures { TimesWithin result }
+{
+    OfTimes::Fix {
+        names: matches.get_str("names"),
+        events: matches.get_str("fix").unwrap_or(""),
+        lines: matches.get_str("lock").unwrap_or(""),
     }
 }
 
@@ -467,6 +548,17 @@ fn check_of(matches: &ArgMatches<'_>) -> OfCertificate
         OfCertificate::CheckSharp
     } else {
         OfCertificate::Check
+    }
+}
+
+/// What the words behind `gap` ask for.
+fn gap_of(matches: &ArgMatches<'_>) -> OfCertificate
+    ensures { CertificateWithin result }
+{
+    if matches.get_flag("json") {
+        OfCertificate::GapJson
+    } else {
+        OfCertificate::Gap
     }
 }
 
@@ -502,9 +594,10 @@ fn asked_by<'a>(command: &str, matches: &ArgMatches<'a>) -> Asked<'a>
     ensures { AskedWithin result }
 {
     match command {
+        "plan" => instance_of(matches, plan_of(matches)),
         "conflict" => instance_of(matches, conflict_of(matches)),
         "check" => certificate_of(matches, check_of(matches)),
-        "gap" => certificate_of(matches, OfCertificate::Gap),
+        "gap" => certificate_of(matches, gap_of(matches)),
         "resume" => certificate_of(matches, resume_of(matches)),
         "split" => certificate_of(matches, split_of(matches)),
         "report" => times_of(matches, report_of(matches)),
@@ -512,6 +605,7 @@ fn asked_by<'a>(command: &str, matches: &ArgMatches<'a>) -> Asked<'a>
         "draw" => times_of(matches, picture_of(matches)),
         "diagram" => times_of(matches, diagrams_of(matches)),
         "page" => times_of(matches, page_of(matches)),
+        "fix" => times_of(matches, fix_of(matches)),
         "graft" => graft_of(matches),
         _ => instance_of(matches, solve_of(matches)),
     }

@@ -6,4 +6,6 @@ mod options;
 mod request;
 
 pub use command::request_of;
-pub use request::{Asked, OfCertificate, OfInstance, OfLeaves, OfTimes, OfWorks, Request};
+pub use request::{
+    Asked, OfCertificate, OfInstance, OfLeaves, OfTimes, OfWorks, Planning, Request,
+};

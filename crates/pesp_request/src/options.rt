@@ -55,6 +55,27 @@ pub(crate) fn seconds_option<'a>(alloc: Global) -> Arg<'a> {
     )
 }
 
+pub(crate) fn plan_seconds_option<'a>(alloc: Global) -> Arg<'a> {
+    number_option(alloc, "seconds", 1, 1000000)
+        .default_value("60")
+        .help(
+            "For about how many seconds, 1 to 1000000; it ends before where nothing is left to be found",
+        )
+}
+
+pub(crate) fn output_option<'a>(alloc: Global) -> Arg<'a> {
+    Arg::new(alloc, "output")
+        .long("output")
+        .value_name("FILE")
+        .help(
+            "The file in which the certificate stands, whole at every moment; where it is there, the plan goes on from it",
+        )
+}
+
+pub(crate) fn quiet_option<'a>(alloc: Global) -> Arg<'a> {
+    flag(alloc, "quiet").help("Tells nothing on standard error but what stops it")
+}
+
 pub(crate) fn progress_option<'a>(alloc: Global) -> Arg<'a> {
     flag(alloc, "progress").help(
         "Tells on standard error how far the search is: at its beginning, at each doubling of the steps and at each better timetable",
@@ -79,12 +100,14 @@ pub(crate) fn graft_sharp_option<'a>(alloc: Global) -> Arg<'a> {
     )
 }
 
-pub(crate) fn violations_option<'a>(alloc: Global) -> Result<Arg<'a>, AllocError> {
-    flag(alloc, "violations")
-        .help(
-            "Lists the activities that the times violate instead, each with its bounds and the excess; the exit status is 1 where there are any",
-        )
-        .conflicts_with("names")
+pub(crate) fn violations_option<'a>(alloc: Global) -> Arg<'a> {
+    flag(alloc, "violations").help(
+        "Lists the activities that the times violate instead, each with its bounds and the excess; the exit status is 1 where there are any",
+    )
+}
+
+pub(crate) fn json_option<'a>(alloc: Global) -> Arg<'a> {
+    flag(alloc, "json").help("Writes the same as JSON")
 }
 
 pub(crate) fn names_option<'a>(alloc: Global) -> Arg<'a> {
@@ -110,6 +133,19 @@ pub(crate) fn along_option<'a>(alloc: Global) -> Arg<'a> {
         .help(
             "Draws one diagram of these stations, between commas, with the trains of all lines, their minutes and what keeps them apart",
         )
+}
+
+pub(crate) fn fix_option<'a>(alloc: Global) -> Arg<'a> {
+    Arg::new(alloc, "fix")
+        .long("fix")
+        .value_name("LABEL=TIME")
+        .help("Holds an event at a time, several between commas; LABEL alone holds it at its time")
+}
+
+pub(crate) fn lock_option<'a>(alloc: Global) -> Arg<'a> {
+    Arg::new(alloc, "lock").long("lock").value_name("LINE").help(
+        "Holds all events of a line that NAMES tells at their times, several between commas",
+    )
 }
 
 pub(crate) fn rows_option<'a>(alloc: Global) -> Arg<'a> {

@@ -58,12 +58,29 @@ pub enum OfInstance<'a> {
         /// Whether it is told on standard error how far the search is.
         progress: bool,
     },
+    /// The best timetable and bound that are found within some seconds.
+    Plan(Planning<'a>),
     /// Activities that have no timetable together, within searches of at most so many steps.
     Conflict {
         steps: u32,
         /// The file with the names of events, where one is named.
         names: Option<&'a str>,
     },
+}
+
+/// How a plan is made.
+#[derive(Clone, Copy, Drop)]
+pub struct Planning<'a> {
+    /// For about how many seconds.
+    pub seconds: u32,
+    /// The file in which what is found stands at every moment; standard output at the end where none is named.
+    pub output: Option<&'a str>,
+    /// The file with the times from which it begins, where there are some.
+    pub from: Option<&'a str>,
+    /// Whether nothing is told on standard error of how far it is.
+    pub quiet: bool,
+    /// What the file with the instance is called, where it is one.
+    pub instance: Option<&'a str>,
 }
 
 /// What is asked of a certificate.
@@ -75,6 +92,8 @@ pub enum OfCertificate {
     CheckSharp,
     /// How good its answer is.
     Gap,
+    /// The same as JSON.
+    GapJson,
     /// A search of at most so many steps that goes on from it, for about so many seconds at most.
     Resume {
         steps: u32,
@@ -132,8 +151,10 @@ pub enum OfTimes<'a> {
     Report {
         names: Option<&'a str>,
     },
-    /// The activities that they violate.
-    Violations,
+    /// The activities that they violate, with names where a file is named.
+    Violations {
+        names: Option<&'a str>,
+    },
     /// A picture of them, with at most so many activities and so many events, and with names where a file is named.
     Picture {
         rows: u32,
@@ -144,9 +165,17 @@ pub enum OfTimes<'a> {
         names: &'a str,
         along: Option<&'a str>,
     },
-    /// Their timetable, with names where a file is named.
+    /// Their timetable, with names where a file is named, as records or as JSON.
     Timetable {
         names: Option<&'a str>,
+        json: bool,
+    },
+    /// Their instance with events fixed: those of the words between commas, and those of the lines between commas that a file
+    /// with names tells, at their times where no others are named.
+    Fix {
+        names: Option<&'a str>,
+        events: &'a str,
+        lines: &'a str,
     },
     /// A page of them, with names where a file is named.
     Page {

@@ -3,3 +3,4 @@ mod Listing
 mod Counting
 mod Passed
 mod Taking
+mod Keeping

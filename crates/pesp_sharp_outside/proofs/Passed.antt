@@ -1,12 +1,12 @@
 -- Where a work ends.
-use Rattle.std.proofs.Common.{◌≡◌, ℕ, ◌+◌, ◌-◌, ◌<◌, ◌≤◌, arith, ap, sym, subst, ◌∙◌, refl, List, [], ◌∷◌, ◌++◌, length, take, drop, append_assoc, append-nil, Option, Some, None, true, false}
+use Rattle.std.proofs.Common.{◌≡◌, ℕ, ◌+◌, ◌-◌, ◌<◌, arith, ap, sym, ◌∙◌, refl, List, [], ◌∷◌, ◌++◌, length, take, drop, append_assoc, append-nil, true, false}
 use Rattle.std.specs.Prelude.{codes, Bool, ◌||◌, if◌then◌else◌}
 use Rattle.std.specs.List.{join_with_byte}
 use Rattle.std.specs.Str.{bytes_eq}
 use Rattle.std.proofs.lemmas.List.{length-append}
 use Rattle.std.proofs.Math.Seq.{take-append_seam, drop-append_seam}
 use Rattle.std.proofs.lemmas.List.Splits.{join_with_byte-slice_split}
-use Rattle.pesp_text.specs.Words.{pieces, pieces_left}
+use Rattle.pesp_text.specs.Words.{pieces}
 use Rattle.pesp_text.proofs.Pieces.{pieces_some}
 use Rattle.pesp_sharp_outside.specs.Cutting.{begins_with_front, behind_work, IsCut}
 

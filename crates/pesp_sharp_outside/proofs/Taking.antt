@@ -1,11 +1,11 @@
 -- Works taken one after the other.
-use Rattle.std.proofs.Common.{◌≡◌, ℕ, ◌≤◌, arith, ap, sym, subst, ◌∙◌, refl, List, [], ◌∷◌, ◌++◌, length, append_assoc, append-nil}
+use Rattle.std.proofs.Common.{◌≡◌, ℕ, arith, ap, sym, subst, ◌∙◌, refl, List, [], ◌∷◌, ◌++◌, length, append_assoc, append-nil}
 use Rattle.std.specs.Prelude.{Option, Some, None}
 use Rattle.pesp_problem.specs.Timetables.{Pesp}
 use Rattle.pesp_truth.specs.declared.answer.Answer.{Answer}
 use Rattle.pesp_truth.specs.Certificates.{least_of, cost_of, IsValid}
 use Rattle.pesp_machine.specs.States.{IsAtMost}
-use Rattle.pesp_cert.specs.Fronted.{Fronted}
+use Rattle.pesp_cert.specs.Fronted.{Fronted, IsFrontedText}
 use Rattle.pesp_sharp_search.specs.Solving.{IsNoWorse}
 use Rattle.pesp_sharp_outside.specs.Cutting.{IsCut}
 use Rattle.pesp_sharp_outside.specs.declared.sharp_graft.SharpReply.{SharpReply}
@@ -46,6 +46,19 @@ module _ (p : Pesp) (old new : Fronted) (text : List ℕ) where
   after_work (Unread refusal) valid h = kept h.0 valid
   after_work (NotValid refusal) valid h = kept h.0 valid
   after_work TooLarge valid h = kept h.0 valid
+
+-- ---- a valid work alone
+
+module _ (p : Pesp) (old work : Fronted) (text : List ℕ) (valid : IsValid work.front p work.content) (is : IsFrontedText text work) where
+  pub adds_nothing : IsNoWorse work.content.answer old.content.answer → TakesSharpWork p old text AddsNothing old
+  adds_nothing worse = (refl, (work, is, (valid, worse)))
+
+  pub taken_alone : IsNoWorse old.content.answer work.content.answer → TakesSharpWork p old text Taken work
+  taken_alone better = (valid, better, (work, is, (valid, itself work.content.answer)))
+
+  pub too_large : (IsNoWorse work.content.answer old.content.answer → ⊥) → (IsNoWorse old.content.answer work.content.answer → ⊥)
+      → TakesSharpWork p old text TooLarge old
+  too_large less more = (refl, (work, is, (valid, less, more)))
 
 pub nothing_left : (xs : List ℕ) → length xs ≡ 0 → xs ≡ []
 nothing_left [] e = refl

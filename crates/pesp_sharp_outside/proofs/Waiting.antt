@@ -1,14 +1,13 @@
 -- How the paths that wait change at the end of a path.
-use Rattle.std.proofs.Common.{◌≡◌, ℕ, zero, suc, ◌+◌, ◌-◌, ◌<◌, ◌≤◌, arith, ap, sym, ◌∙◌, refl, subst, List, [], ◌∷◌, ◌++◌, length, get_or, set, take, append_assoc, append-nil, Bool, true, false, Option, Some, None}
+use Rattle.std.proofs.Common.{◌≡◌, ℕ, ◌+◌, ◌<◌, arith, ap, sym, ◌∙◌, List, [], ◌∷◌, ◌++◌, length, get_or, set, take, append_assoc, append-nil, true}
 use Rattle.std.proofs.lemmas.List.{length-set}
 use Rattle.std.proofs.lemmas.Grind.{take_at_read, take-set_at}
 use Rattle.std.proofs.Math.Seq.{take-length}
 use Rattle.pesp_problem.specs.declared.cut.Cut.{Cut}
 use Rattle.pesp_problem.specs.declared.cut.Side.{Side}
 use Rattle.pesp_problem.specs.declared.cut.Side.TheVariants.{Low, High}
-use Rattle.pesp_truth.specs.Trees.{Line, EndLine, CutLine}
-use Rattle.pesp_sharp_outside.specs.Jobs.{Path, after}
-use Rattle.pesp_sharp_outside.specs.Paths.{cut_in, beside, behind, passed, waiting, branched}
+use Rattle.pesp_sharp_outside.specs.Jobs.{Path}
+use Rattle.pesp_sharp_outside.specs.Paths.{beside, behind, passed, waiting, branched}
 
 -- a step more at the end of a path, which stands behind some steps
 behind_more : (before path : Path) (cut : Cut) (side : Side)

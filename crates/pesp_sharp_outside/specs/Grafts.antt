@@ -28,7 +28,11 @@ TakesSharpWork p old text AddsNothing new =
     × SaysWork text (λ work. IsValid work.front p work.content × IsNoWorse work.content.answer old.content.answer)
 TakesSharpWork p old text (Unread refusal) new = (new ≡ old) × (items_of_text All text ≡ Err refusal)
 TakesSharpWork p old text (NotValid refusal) new = (new ≡ old) × SaysWork text (λ work. IsVerdict work.front p work.content (Refused refusal))
-TakesSharpWork p old text TooLarge new = (new ≡ old) × SaysWork text (λ work. IsValid work.front p work.content)
+TakesSharpWork p old text TooLarge new =
+    (new ≡ old)
+    × SaysWork text (λ work. IsValid work.front p work.content
+    × (IsNoWorse work.content.answer old.content.answer → ⊥)
+    × (IsNoWorse old.content.answer work.content.answer → ⊥))
 
 -- ---- works
 

@@ -2,3 +2,4 @@ pub mod Jobs
 pub mod Paths
 pub mod Cutting
 pub mod Grafts
+pub mod Keeping

@@ -16,7 +16,7 @@ use pesp_truth::TreeLine;
 use std::alloc::Global;
 
 /// Whether a leaf that shows so much is open, where the times cost so much; none stands above every cost.
-fn is_below(shown: u64, cost: Option<u64>) -> bool
+pub(crate) fn is_below(shown: u64, cost: Option<u64>) -> bool
     ensures { result ≡ spec.is_open cost shown }
 {
     match cost {

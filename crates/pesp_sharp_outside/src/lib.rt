@@ -4,6 +4,7 @@
 
 mod jobs;
 mod joined_texts;
+mod kept_leaves;
 mod open_work;
 mod paths;
 mod sharp_graft;

@@ -1,11 +1,12 @@
 //! Work on open leaves of a certificate.
 
-ghost use Rattle.std.specs.Prelude.{◌<◌, ◌↔◌, All, IfOk, IsTrue, MatchOption};
+ghost use Rattle.std.specs.Prelude.{◌≡◌, ◌<◌, ◌↔◌, ◌⊎◌, All, IfOk, IfSome, IsTrue, MatchOption, Some};
 ghost use Rattle.pesp_truth.specs.Certificates.{IsValid};
-ghost use Rattle.pesp_sharp_search.specs.Solving.{IsSharpResumed};
 ghost use Rattle.pesp_sharp_outside.specs.Jobs.{AreJobsOf};
+ghost use Rattle.pesp_sharp_outside.specs.Keeping.{IsSharpWorked, KeepsOthers};
 
 use crate::jobs::{is_open, open_count};
+use crate::kept_leaves::keeps_others;
 use pesp_cert::Fronted;
 use pesp_check::costs_shown;
 use pesp_problem::{Instance, Memory};
@@ -45,10 +46,44 @@ fn spared(
     Ok(spared)
 }
 
+/// What was found from a base, where it keeps the leaves that weren't to be worked on, else the base.
+fn worked(
+    alloc: Global,
+    instance: &Instance,
+    base: Fronted,
+    found: Option<Fronted>,
+    jobs: &[u64],
+    until: Option<u64>,
+) -> Result<Fronted, Memory>
+    requires base { IsValid base.front instance.now base.content }
+    requires found { IfSome found (λ c. IsValid c.front instance.now c.content) }
+    ensures { IfOk result (λ c. ((c ≡ base) ⊎ (found ≡ Some c)) × KeepsOthers instance.now base jobs.now until c) }
+{
+    let Some(found) = found else {
+        return Ok(base);
+    };
+    match keeps_others(alloc, instance, &base, &found, jobs, until) {
+        Ok(true) => {
+            drop(base);
+            Ok(found)
+        }
+        Ok(false) => {
+            drop(found);
+            Ok(base)
+        }
+        Err(refused) => {
+            drop(found);
+            drop(base);
+            Err(refused)
+        }
+    }
+}
+
 /// Works on open leaves of a valid certificate, by their numbers as jobs, which rise: they are split, that of least value first, and
-/// sharpened by marked walks, by at most so many splits of leaves below the bound, where one is named. The other leaves are kept as
-/// they are. What comes of it is the whole certificate, and what `resume_sharp` promises of it. None where no more leaves than one of
-/// the numbers are open. The one refusal is of memory.
+/// sharpened by marked walks, by at most so many splits of leaves below the bound, where one is named. What comes of it is the whole
+/// certificate, and what `resume_sharp` promises of it. Where its answer is open, each other open leaf, and each that is worth as
+/// much as the bound, is there at the end of the same path, and shows as much; but for those that aren't below the cost that is
+/// known then. None where no more leaves than one of the numbers are open. The one refusal is of memory.
 pub fn work_sharp<W: SharpWatcher>(
     alloc: Global,
     instance: &Instance,
@@ -61,7 +96,7 @@ pub fn work_sharp<W: SharpWatcher>(
     requires { IsValid base.front instance.now base.content }
     ensures { IfOk result (λ found. MatchOption found
         (AreJobsOf instance.now base jobs.now → ⊥)
-        (λ c. AreJobsOf instance.now base jobs.now × IsSharpResumed instance.now base steps c)) }
+        (λ c. AreJobsOf instance.now base jobs.now × IsSharpWorked instance.now base jobs.now steps until c)) }
 {
     let shown = costs_shown(alloc, instance, &base)?;
     let cost = cost_of(base.certificate.answer());
@@ -73,6 +108,6 @@ pub fn work_sharp<W: SharpWatcher>(
         spared: &spared,
         until,
     };
-    let worked = resume_leaves(alloc, instance, base, leaves, steps, watcher)?;
-    Ok(Some(worked))
+    let found = resume_leaves(alloc, instance, &base, leaves, steps, watcher)?;
+    Ok(Some(worked(alloc, instance, base, found, jobs, until)?))
 }

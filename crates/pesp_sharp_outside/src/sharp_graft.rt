@@ -1,6 +1,7 @@
 //! Works that are grafted onto a certificate whose leaves may name marked walks.
 
-ghost use Rattle.std.specs.Prelude.{◌≡◌, ◌↔◌, ◌≤◌, ◌^◌, ◌++◌, ◌∷◌, [], length, IfOk, OnOk, IsTrue};
+ghost use Rattle.std.specs.Prelude.{◌≡◌, ◌↔◌, ◌≤◌, ◌^◌, ℕ, List, false, length, IfOk, IsTrue};
+ghost use Rattle.pesp_problem.specs.Timetables.{Pesp};
 ghost use Rattle.pesp_truth.specs.Certificates.{IsValid};
 ghost use Rattle.pesp_cert.specs.Fronted.{IsFrontedText};
 ghost use Rattle.pesp_sharp_search.specs.Solving.{IsNoWorse};
@@ -18,7 +19,7 @@ use std::alloc::Global;
 /// What became of a work.
 #[derive(Clone, Copy, PartialEq, Eq)]
 pub enum SharpReply {
-    /// What it shows was taken.
+    /// What it shows was taken, joined with what stood or alone.
     Taken,
     /// It shows no more than what stood.
     AddsNothing,
@@ -26,7 +27,8 @@ pub enum SharpReply {
     Unread(CertRefusal),
     /// It isn't valid.
     NotValid(Refusal),
-    /// What comes of it would pass a limit.
+    /// Nothing comes of both that is valid and no worse than either, as where a part would pass a limit; and what stood has the
+    /// better bound and it the better cost, or the other way round.
     TooLarge,
 }
 
@@ -92,34 +94,74 @@ fn shows_as_much(stood: &Fronted, work: &Fronted) -> bool
     is_no_worse(work.certificate.answer(), stood.certificate.answer())
 }
 
+/// Puts what comes of a valid certificate and a work in the place of the first, where it is valid and no worse than either;
+/// whether it did.
+fn take_joined(
+    alloc: Global,
+    instance: &Instance,
+    stood: &mut Fronted,
+    work: &Fronted,
+) -> Result<bool, Memory>
+    requires stood { IsValid stood.old.front instance.now stood.old.content }
+    requires work { IsValid work.now.front instance.now work.now.content }
+    ensures joined { IfOk result (λ taken. IsTrue taken
+        → IsValid stood.new.front instance.now stood.new.content
+        × IsNoWorse stood.old.content.answer stood.new.content.answer
+        × IsNoWorse work.now.content.answer stood.new.content.answer) }
+    ensures kept { IfOk result (λ taken. taken ≡ false → stood.new ≡ stood.old) }
+{
+    match joined(alloc, instance, stood, work)? {
+        Merged::Better(joined) => {
+            let better = is_better(alloc, instance, stood, work, &joined)?;
+            if better {
+                *stood = joined;
+            }
+            Ok(better)
+        }
+        Merged::NothingNew | Merged::TooLarge => Ok(false),
+    }
+}
+
+/// Takes a valid work alone in the place of a valid certificate, where it is no worse.
+fn take_alone(stood: &mut Fronted, work: Fronted) -> SharpReply
+    ensures { (p : Pesp) (text : List ℕ) → IsValid work.front p work.content → IsFrontedText text work
+        → TakesSharpWork p stood.old text result stood.new }
+{
+    if shows_as_much(stood, &work) {
+        drop(work);
+        return SharpReply::AddsNothing;
+    }
+    if shows_as_much(&work, stood) {
+        *stood = work;
+        return SharpReply::Taken;
+    }
+    drop(work);
+    SharpReply::TooLarge
+}
+
 /// Grafts a valid certificate onto another one.
 fn take_valid(
     alloc: Global,
     instance: &Instance,
     stood: &mut Fronted,
-    work: &Fronted,
+    work: Fronted,
     text: &[u8],
 ) -> Result<SharpReply, Memory>
     requires stood { IsValid stood.old.front instance.now stood.old.content }
-    requires work { IsValid work.now.front instance.now work.now.content }
-    requires text { IsFrontedText text.now work.now }
+    requires work { IsValid work.front instance.now work.content }
+    requires text { IsFrontedText text.now work }
     ensures { IfOk result (λ reply. TakesSharpWork instance.now stood.old text.now reply stood.new) }
 {
-    match joined(alloc, instance, stood, work)? {
-        Merged::Better(joined) => {
-            if !is_better(alloc, instance, stood, work, &joined)? {
-                return Ok(SharpReply::TooLarge);
-            }
-            *stood = joined;
+    match take_joined(alloc, instance, stood, &work) {
+        Ok(true) => {
+            drop(work);
             Ok(SharpReply::Taken)
         }
-        Merged::NothingNew => {
-            if !shows_as_much(stood, work) {
-                return Ok(SharpReply::TooLarge);
-            }
-            Ok(SharpReply::AddsNothing)
+        Ok(false) => Ok(take_alone(stood, work)),
+        Err(refused) => {
+            drop(work);
+            Err(refused)
         }
-        Merged::TooLarge => Ok(SharpReply::TooLarge),
     }
 }
 
@@ -140,7 +182,7 @@ fn take_work(
         Err(refusal) => return Ok(SharpReply::Unread(refusal)),
     };
     match check_sharp(alloc, instance, &work)? {
-        Verdict::Accepted => take_valid(alloc, instance, stood, &work, text),
+        Verdict::Accepted => take_valid(alloc, instance, stood, work, text),
         Verdict::Refused(refusal) => Ok(SharpReply::NotValid(refusal)),
     }
 }

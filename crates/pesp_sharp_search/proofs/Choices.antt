@@ -1,15 +1,21 @@
 -- What is chosen between a plain answer and a proposal.
-use Rattle.std.proofs.Common.{◌≡◌, ℕ, ◌+◌, ◌≤◌, List, refl, arith, sym, subst}
-use Rattle.std.specs.Prelude.{Option, Some, None, IsSomeAnd, ◌↔◌}
-use Rattle.pesp_problem.specs.Timetables.{Pesp, IsTimetable, cost}
+use Rattle.std.proofs.Common.{◌≡◌, ℕ, ◌<◌, ◌≤◌, List, refl, ap, ◌∙◌, arith, sym, subst}
+use Rattle.std.specs.Prelude.{Option, Some, None, IsSomeAnd}
+use Rattle.pesp_problem.specs.Timetables.{Pesp, cost}
+use Rattle.pesp_problem.specs.Arcs.{Net, net_of}
+use Rattle.pesp_problem.specs.Nodes.{root}
 use Rattle.pesp_truth.specs.declared.answer.Answer.{Answer}
 use Rattle.pesp_truth.specs.Certificates.{Content, lines_of, least_of, cost_of, IsValid}
 use Rattle.pesp_truth.specs.Marks.{Marks}
 use Rattle.pesp_machine.specs.States.{IsAtMost}
 use Rattle.pesp_cert.specs.Fronted.{Fronted}
-use Rattle.pesp_search_laws.specs.Rooms.{branch_lines}
+use Rattle.pesp_search_laws.specs.Rooms.{branch_lines, room}
+use Rattle.pesp_search_laws.specs.Turns.{HasBranches}
+use Rattle.pesp_search_laws.proofs.Rooms.{fewer_branches}
+use Rattle.pesp_search_laws.proofs.Branches.{as_lines}
 use Rattle.pesp_search.specs.Solving.{IsSolved, CostsNoMore}
-use Rattle.pesp_sharp_search.specs.Solving.{IsNoWorse, IsPlain, MayStand, IsSharpSolved, IsSharpResumed}
+use Rattle.pesp_told.specs.Told.{TellsLeast, IsRetold}
+use Rattle.pesp_sharp_search.specs.Solving.{IsNoWorse, IsPlain, MayStand, StandsWhole, IsSharpSolved, IsSharpResumed}
 
 at_most_itself : (a : Option ℕ) → IsAtMost a a
 at_most_itself None = tt
@@ -66,16 +72,74 @@ base_stands p base steps valid = record {
   no_worse = no_worse_itself base.content.answer;
 }
 
-pub sharp_solved : (p : Pesp) (plain : Fronted) (steps used : ℕ) (c : Fronted) → IsPlain p plain
-    → MayStand p plain.content.answer steps c → used ≡ branch_lines (lines_of c.content) → IsSharpSolved p steps used c
-sharp_solved p plain steps used c solved stands is =
-    let few = stands.few in
+-- a plain answer has no branch
+pub plain_whole : (p : Pesp) (c : Fronted) (steps : ℕ) → IsPlain p c → StandsWhole p c.content.answer steps c
+plain_whole p c steps plain =
+    (plain_stands p c steps plain, subst (HasBranches (net_of p) c.content) (sym plain.1.branches.lines) plain.1.branches)
+
+-- a certificate that tells what its tree shows is told again as it is
+pub told_itself : (p : Pesp) (c : Fronted) → IsValid c.front p c.content → TellsLeast p c → IsRetold p c c
+told_itself p c valid told = record {
+  valid = valid;
+  told = told;
+  same = refl;
+  least = at_most_itself (least_of c.content.answer);
+  cost = refl;
+}
+
+-- what is told again has the same branches
+same_branches : (n : Net) (content : Content) (answer : Answer) (used : ℕ) → HasBranches n content used
+    → HasBranches n (record content { answer = answer }) used
+same_branches n content answer used h = record { lines = h.lines; tree = h.tree; preorder_is = h.preorder_is; both = h.both }
+
+-- and has fewer than the root has room
+in_room : (n : Net) (content : Content) (used : ℕ) → HasBranches n content used → used < room n content.cycles (root n content.cycles)
+in_room n content used h =
+    let count = as_lines h.tree in
+    let lines = ap branch_lines h.preorder_is in
+    let few = fewer_branches n content.cycles h.tree (root n content.cycles) h.both in
+    omega (arith, count, lines, h.lines, few)
+
+at_most_then : (a b c : Option ℕ) → IsAtMost a b → IsAtMost b c → IsAtMost a c
+at_most_then a b None h k = tt
+at_most_then None None (Some c) h k = absurd k
+at_most_then (Some a) None (Some c) h k = absurd k
+at_most_then None (Some b) (Some c) h k = absurd h
+at_most_then (Some a) (Some b) (Some c) h k = omega (arith, h, k)
+
+pub sharp_solved : (p : Pesp) (plain : Fronted) (steps used : ℕ) (found c : Fronted) → IsPlain p plain
+    → StandsWhole p plain.content.answer steps found → IsRetold p found c → used ≡ branch_lines (lines_of c.content)
+    → IsSharpSolved p steps used c
+sharp_solved p plain steps used found c solved stands again is =
+    let few = stands.0.few in
+    let count : used ≡ branch_lines (lines_of found.content) = is ∙ ap (λ (f : Fronted). branch_lines (lines_of f.content)) again.same in
+    let H : Fronted → Type 0 = λ f. HasBranches (net_of p) f.content used in
+    let branches : H c = subst H (sym again.same) (same_branches (net_of p) found.content c.content.answer used
+    (subst (HasBranches (net_of p) found.content) (sym count) stands.1)) in
+    let cheap : IsAtMost (cost_of c.content.answer) (cost_of plain.content.answer) =
+    subst (λ (cost : Option ℕ). IsAtMost cost (cost_of plain.content.answer)) (sym again.cost) stands.0.no_worse.1 in
     record {
-      valid = stands.valid;
-      branches = sym is;
-      few = omega (arith, few, is);
-      plain = (plain.content, solved.1, stands.no_worse);
+      valid = again.valid;
+      few = omega (arith, few, count);
+      branches = branches;
+      room = in_room (net_of p) c.content used branches;
+      told = again.told;
+      plain = (
+        plain.content,
+        solved.1,
+        (
+          at_most_then (least_of plain.content.answer) (least_of found.content.answer) (least_of c.content.answer)
+              stands.0.no_worse.0 again.least,
+          cheap,
+        ),
+      );
     }
+
+-- what is told again costs the same
+pub retold_costs : (p : Pesp) (times : List ℕ) (old new : Fronted) → IsRetold p old new → CostsNoMore p times old.content
+    → CostsNoMore p times new.content
+retold_costs p times old new again cheap is =
+    subst (λ (cost' : Option ℕ). IsSomeAnd cost' (λ c. c ≤ cost p.period p.rows times)) (sym again.cost) (cheap is)
 
 below : (new old : Option ℕ) (most : ℕ) → IsAtMost new old → IsSomeAnd old (λ c. c ≤ most) → IsSomeAnd new (λ c. c ≤ most)
 below new None most h some = absurd some

@@ -1,12 +1,16 @@
 -- What a search that sharpens answers.
-use Rattle.std.specs.Prelude.{◌≡◌, ℕ, ◌+◌, ◌≤◌, None}
+use Rattle.std.specs.Prelude.{◌≡◌, ℕ, ◌+◌, ◌<◌, ◌≤◌, None}
 use Rattle.pesp_problem.specs.Timetables.{Pesp}
+use Rattle.pesp_problem.specs.Arcs.{net_of}
+use Rattle.pesp_problem.specs.Nodes.{root}
 use Rattle.pesp_truth.specs.declared.answer.Answer.{Answer}
 use Rattle.pesp_truth.specs.Certificates.{Content, lines_of, least_of, cost_of, IsValid}
 use Rattle.pesp_cert.specs.Fronted.{Fronted}
 use Rattle.pesp_machine.specs.States.{IsAtMost}
-use Rattle.pesp_search_laws.specs.Rooms.{branch_lines}
+use Rattle.pesp_search_laws.specs.Rooms.{branch_lines, room}
+use Rattle.pesp_search_laws.specs.Turns.{HasBranches}
 use Rattle.pesp_search.specs.Solving.{IsSolved}
+use Rattle.pesp_told.specs.Told.{TellsLeast}
 
 -- the other answer's bound isn't below this one's, and its cost isn't above; none stands above every number
 abbrev pub IsNoWorse : Answer → Answer → Type 0
@@ -23,12 +27,19 @@ pub record MayStand (p : Pesp) (answer : Answer) (steps : ℕ) (c : Fronted) : T
   pub few : branch_lines (lines_of c.content) ≤ steps
   pub no_worse : IsNoWorse answer c.content.answer
 
--- a certificate that is valid for the instance with its marked walks; its tree has so many branches, at most so many;
+-- it may stand there, and each branch of its tree leaves both parts a value
+abbrev pub StandsWhole : Pesp → Answer → ℕ → Fronted → Type 0
+StandsWhole p answer steps c = MayStand p answer steps c × HasBranches (net_of p) c.content (branch_lines (lines_of c.content))
+
+-- a certificate that is valid for the instance with its marked walks; its tree has so many branches, at most so many and
+-- fewer than the root has room, and each leaves both parts a value; its bound is the least that its tree shows, and its cost;
 -- and it is no worse than some answer that a search without marked walks has within 0 steps
 pub record IsSharpSolved (p : Pesp) (steps used : ℕ) (c : Fronted) : Type 0 where
   pub valid : IsValid c.front p c.content
-  pub branches : branch_lines (lines_of c.content) ≡ used
   pub few : used ≤ steps
+  pub branches : HasBranches (net_of p) c.content used
+  pub room : used < room (net_of p) c.content.cycles (root (net_of p) c.content.cycles)
+  pub told : TellsLeast p c
   pub plain : (content : Content) × IsSolved p 0 0 content × IsNoWorse content.answer c.content.answer
 
 -- a certificate to which a search leads from the base: it is valid with its marked walks, its tree has at most so many

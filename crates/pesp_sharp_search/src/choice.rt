@@ -1,10 +1,11 @@
 //! The choice between a plain answer and what is proposed in its place.
 
-ghost use Rattle.std.specs.Prelude.{◌≡◌, ◌≤◌, ◌↔◌, ℕ, List, IsTrue, IfOk, IfSome, None};
+ghost use Rattle.std.specs.Prelude.{◌≡◌, ◌↔◌, ℕ, List, IsTrue, IfOk, IfSome, None};
 ghost use Rattle.pesp_truth.specs.Certificates.{lines_of, IsValid};
 ghost use Rattle.pesp_search_laws.specs.Rooms.{branch_lines};
 ghost use Rattle.pesp_search.specs.Solving.{CostsNoMore};
-ghost use Rattle.pesp_sharp_search.specs.Solving.{IsPlain, MayStand, IsSharpSolved};
+ghost use Rattle.pesp_told.specs.Told.{IsRetold};
+ghost use Rattle.pesp_sharp_search.specs.Solving.{IsPlain, MayStand, StandsWhole, IsSharpSolved};
 
 use crate::branches::count_branches;
 use crate::ranks::is_no_worse;
@@ -13,6 +14,7 @@ use pesp_check::check_sharp;
 use pesp_judges::Verdict;
 use pesp_problem::{Instance, Memory};
 use pesp_sharp_proposals::Proposals;
+use pesp_told::{branches_leave_both, retold};
 use pesp_truth::Answer;
 use std::alloc::Global;
 
@@ -105,7 +107,35 @@ pub(crate) fn without_front(plain: Certificate) -> Fronted
     }
 }
 
-/// The first proposal that may stand in the place of a plain answer, else that.
+/// The same, where each branch of it leaves both of its parts an offset.
+fn whole_standing(
+    alloc: Global,
+    instance: &Instance,
+    answer: Answer,
+    proposals: Proposals,
+    steps: u32,
+) -> Result<Option<Fronted>, Memory>
+    ensures { IfOk result (λ found. IfSome found (StandsWhole instance.now answer steps)) }
+{
+    let found = first_standing(alloc, instance, answer, proposals, steps)?;
+    let Some(found) = found else {
+        return Ok(None);
+    };
+    match branches_leave_both(alloc, instance, &found.certificate) {
+        Ok(true) => Ok(Some(found)),
+        Ok(false) => {
+            drop(found);
+            Ok(None)
+        }
+        Err(refused) => {
+            drop(found);
+            Err(refused)
+        }
+    }
+}
+
+/// The first proposal that may stand in the place of a plain answer, where its branches leave both parts an offset, else that
+/// answer.
 fn chosen(
     alloc: Global,
     instance: &Instance,
@@ -114,12 +144,34 @@ fn chosen(
     steps: u32,
 ) -> Result<Fronted, Memory>
     requires { IsPlain instance.now plain }
-    ensures { IfOk result (MayStand instance.now plain.content.answer steps) }
+    ensures { IfOk result (StandsWhole instance.now plain.content.answer steps) }
 {
     let answer = plain.certificate.answer();
-    match first_standing(alloc, instance, answer, proposals, steps)? {
+    match whole_standing(alloc, instance, answer, proposals, steps)? {
         Some(found) => Ok(found),
         None => Ok(plain),
+    }
+}
+
+/// A valid certificate with the answer that its tree shows beside its times.
+fn told_in_full(alloc: Global, instance: &Instance, found: Fronted) -> Result<Fronted, Memory>
+    requires { IsValid found.front instance.now found.content }
+    ensures { IfOk result (IsRetold instance.now found) }
+{
+    match retold(alloc, instance, &found) {
+        Ok(None) => Ok(found),
+        Ok(Some(told)) => {
+            let Fronted { front, certificate } = found;
+            drop(certificate);
+            Ok(Fronted {
+                front,
+                certificate: told,
+            })
+        }
+        Err(refused) => {
+            drop(found);
+            Err(refused)
+        }
     }
 }
 
@@ -137,7 +189,8 @@ pub(crate) fn settled(
     ensures improved { (times : List ℕ) → CostsNoMore instance.now times plain.content
         → IfOk result (λ sharp. CostsNoMore instance.now times sharp.fronted.content) }
 {
-    let fronted = chosen(alloc, instance, plain, proposals, steps)?;
+    let found = chosen(alloc, instance, plain, proposals, steps)?;
+    let fronted = told_in_full(alloc, instance, found)?;
     let steps_used = branches_of(&fronted.certificate);
     Ok(SharpSolved {
         fronted,

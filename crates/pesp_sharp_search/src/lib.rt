@@ -15,6 +15,7 @@ pub use going::Going;
 pub use observer::SharpObserver;
 pub use pesp_search::{Nobody, Observer, Part, SolveRefusal};
 pub use pesp_sharp_proposals::{Leaves, SharpWatcher, Standing, Unwatched};
-pub use ranks::{cost_of, is_no_worse};
+pub use pesp_told::cost_of;
+pub use ranks::is_no_worse;
 pub use resumption::{resume_leaves, resume_sharp};
 pub use solution::solve_sharp;

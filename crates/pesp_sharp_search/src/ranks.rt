@@ -1,23 +1,12 @@
 //! Whether one answer is no worse than another.
 
-ghost use Rattle.std.specs.Prelude.{◌≡◌, ◌↔◌, IsTrue};
-ghost use Rattle.pesp_truth.specs.Certificates as spec;
+ghost use Rattle.std.specs.Prelude.{◌↔◌, IsTrue};
 ghost use Rattle.pesp_machine.specs.States.{IsAtMost};
 ghost use Rattle.pesp_sharp_search.specs.Solving.{IsNoWorse};
 
 use pesp_judges::least_of;
+use pesp_told::cost_of;
 use pesp_truth::Answer;
-
-/// The cost of the times that an answer shows; None where it shows none.
-pub fn cost_of(answer: Answer) -> Option<u64>
-    ensures { result ≡ spec.cost_of answer }
-{
-    match answer {
-        Answer::Optimal(cost) => Some(cost),
-        Answer::Infeasible => None,
-        Answer::Bounded { cost, .. } => cost,
-    }
-}
 
 /// Whether a number is at most another; None stands above every number.
 fn is_at_most(a: Option<u64>, b: Option<u64>) -> bool

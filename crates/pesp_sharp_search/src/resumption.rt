@@ -1,6 +1,6 @@
 //! Searches that go on from a certificate.
 
-ghost use Rattle.std.specs.Prelude.{IfOk};
+ghost use Rattle.std.specs.Prelude.{IfOk, IfSome};
 ghost use Rattle.pesp_truth.specs.Certificates.{IsValid};
 ghost use Rattle.pesp_sharp_search.specs.Solving.{IsSharpResumed};
 
@@ -37,27 +37,27 @@ pub fn resume_sharp<W: SharpWatcher>(
     }
 }
 
-/// Goes on from some leaves of a valid certificate's tree in the same way; the others are kept as they are. What comes of it is what
-/// `resume_sharp` promises, but the tree isn't begun anew.
+/// Goes on from some leaves of a valid certificate's tree in the same way. What is found is what `resume_sharp` promises of what comes
+/// of going on, but the tree isn't begun anew; None where nothing is found that may stand in the certificate's place.
 pub fn resume_leaves<W: SharpWatcher>(
     alloc: Global,
     instance: &Instance,
-    base: Fronted,
+    base: &Fronted,
     leaves: Leaves<'_>,
     steps: u32,
     watcher: &mut W,
-) -> Result<Fronted, Memory>
-    requires { IsValid base.front instance.now base.content }
-    ensures { IfOk result (IsSharpResumed instance.now base steps) }
+) -> Result<Option<Fronted>, Memory>
+    requires { IsValid base.now.front instance.now base.now.content }
+    ensures { IfOk result (λ found. IfSome found (IsSharpResumed instance.now base.now steps)) }
 {
     let answer = base.certificate.answer();
     let branches = branches_of(&base.certificate);
     let most = branches.saturating_add(steps);
     let chosen = Some(leaves);
-    let proposals = propose_from(alloc, instance, &base, branches, chosen, steps, watcher)?;
+    let proposals = propose_from(alloc, instance, base, branches, chosen, steps, watcher)?;
     let found = first_standing(alloc, instance, answer, proposals, most)?;
     match found {
-        Some(found) => Ok(found),
-        None => Ok(base),
+        Some(found) => Ok(Some(found)),
+        None => Ok(None),
     }
 }

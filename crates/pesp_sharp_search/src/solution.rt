@@ -18,8 +18,9 @@ use std::alloc::Global;
 /// on.
 ///
 /// The certificate is valid for the instance with its marked walks. Its tree has as many branches as splits are told, at most
-/// so many. Its bound isn't below, and its cost isn't above, what `solve_from` has for some forest within 0 steps. Where the
-/// times are a timetable of the instance, the answer has a cost, at most theirs.
+/// so many, and fewer than the root has room. Each branch leaves both of its parts a value of the range that it cuts. The bound
+/// that is told is the least that the tree shows, and the cost. It isn't below, and the cost isn't above, what `solve_from` has
+/// for some forest within 0 steps. Where the times are a timetable of the instance, the answer has a cost, at most theirs.
 ///
 /// Refused as `TableTooLarge` or `PairsTooMany` only where the square of the number of activities is above 10000000, or that
 /// number above 20000000, and as `solve` says within 0 steps; and else as `Memory`, where a growth was refused.

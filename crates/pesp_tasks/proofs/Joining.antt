@@ -1,5 +1,5 @@
 -- What is solved is read and accepted, and what is gone on from and grafted is accepted.
-use Rattle.std.proofs.Common.{◌≡◌, ◌⊎◌, inl, inr, ◌∙◌, ℕ, ◌<◌, List, [], ◌++◌, length, take, drop, sym, ap, arith, length-append, Some, None, Ok, Err}
+use Rattle.std.proofs.Common.{◌≡◌, ◌⊎◌, inl, inr, ◌∙◌, ℕ, ◌<◌, List, [], ◌++◌, length, take, drop, sym, ap, subst, arith, length-append, Some, None, Ok, Err}
 use Rattle.std.specs.Prelude.{Option, Result, ◌↔◌, ⊤}
 use Rattle.std.specs.Io.KnownBytes.{Appends}
 use Rattle.std.proofs.lemmas.List.{append_cancel_left, take-append-drop}
@@ -21,7 +21,9 @@ use Rattle.pesp_judges.specs.declared.refusal.Verdict.TheVariants.{Accepted}
 use Rattle.pesp_check_run.specs.Checking.{Checks, ReadsInstance, RefusesInstance}
 use Rattle.pesp_faults.specs.Reading.{HasBase, ReadsTimetable}
 use Rattle.pesp_tasks.specs.Solving.{Solves, WritesSolution}
-use Rattle.pesp_tasks.specs.Resuming.{WritesResumed}
+use Rattle.pesp_runs.specs.Bases.{ReadsSharpBase}
+use Rattle.pesp_runs.specs.Runs.{OverBase}
+use Rattle.pesp_tasks.specs.Resuming.{WritesResumed, GoesOnBy, WritesGoneOn}
 use Rattle.pesp_tasks.specs.Outside.{Grafts}
 
 -- what a writer got behind what it held before
@@ -94,12 +96,14 @@ accepts_from_times text before bytes left times left_times left_instance left_ce
 
 pub accepts_what_is_gone_on_from : (text before bytes : List ℕ)
     (left base left_base left_instance left_certificate old new : Option (List ℕ)) (period steps : ℕ) (verdict : Verdict)
-    → HasBase (Some text) left base left_base period
-    (λ p begun. WritesResumed p begun steps ⊤ (Appends (Some before) (Some (before ++ bytes))))
+    → OverBase ReadsSharpBase (Some text) left base left_base period
+    (λ p begun. (begun.front ≡ None) × WritesGoneOn p begun steps ⊤ (Appends (Some before) (Some (before ++ bytes))))
     → Checks Plain (Some text) left_instance (Some bytes) left_certificate period verdict (Appends old new)
     → verdict ≡ Accepted
 accepts_what_is_gone_on_from text before bytes left base left_base left_instance left_certificate old new period steps verdict
-    (p, read, (begun, reads, resumed)) =
+    (p, read, (begun, reads, (plain, gone_on))) =
+    let resumed : WritesResumed p begun.content steps ⊤ (Appends (Some before) (Some (before ++ bytes))) = subst
+    (λ (front : Option Marks). GoesOnBy front p begun steps ⊤ (Appends (Some before) (Some (before ++ bytes)))) plain gone_on in
     accepts_written Plain text before bytes left left_instance left_certificate old new period verdict p None resumed.certificate read
     resumed.resumed.valid resumed.has_text resumed.written
 

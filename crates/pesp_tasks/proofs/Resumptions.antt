@@ -1,19 +1,22 @@
 -- What is written of a search that went on.
-use Rattle.std.proofs.Common.{inl, inr, ℕ, ◌≤◌, List, None}
+use Rattle.std.proofs.Common.{inl, inr, ℕ, ◌≤◌, List, None, Some}
+use Rattle.std.specs.Prelude.{Option}
 use Rattle.pesp_problem.specs.Timetables.{Pesp}
 use Rattle.pesp_truth.specs.Certificates.{Content}
+use Rattle.pesp_truth.specs.Marks.{Marks}
 use Rattle.pesp_truth.proofs.Certificates.{valid_is_true}
 use Rattle.pesp_cert.specs.Texts.{spelling, HasText}
+use Rattle.pesp_cert.specs.Fronted.{Fronted}
 use Rattle.pesp_resume.specs.declared.ending.Ending.{Ending}
 use Rattle.pesp_resume.specs.Resuming.{IsResumed}
 use Rattle.pesp_resume.proofs.Resumptions.{resumed_weaker}
 use Rattle.pesp_check_run.specs.Devices.{Device, GetsFront}
-use Rattle.pesp_faults.specs.Reading.{ReadsBase}
-use Rattle.pesp_faults.specs.Causes.{BaseCause, OutCause}
+use Rattle.pesp_faults.specs.Causes.{OutCause}
 use Rattle.pesp_faults.specs.declared.fault.Fault.{Fault}
 use Rattle.pesp_faults.specs.declared.fault.Fault.TheVariants.{Instance, Certificate, Times, Names, Search, Report, Base, Works, NoJob, Memory, Read, Write, NoFile}
+use Rattle.pesp_runs.specs.Bases.{ReadsSharpBase, SharpBaseCause}
 use Rattle.pesp_runs.specs.Runs.{OverBaseCause}
-use Rattle.pesp_tasks.specs.Resuming.{WritesResumed}
+use Rattle.pesp_tasks.specs.Resuming.{WritesResumed, GoesOnBy, WritesGoneOn}
 
 -- the writer got what is said of the certificate's text
 pub writes : {p : Pesp} {base certificate : Content} {steps : ℕ} {stopped : Type 0} {Gets : List ℕ → Type 0}
@@ -30,7 +33,7 @@ writes {p} {certificate = certificate} used ending some resumed has_text gets = 
 }
 
 -- where less is said of a stop
-pub written_weaker : {A B : Type 0} (p : Pesp) (base : Content) (steps : ℕ) (Gets : List ℕ → Type 0) → (A → B)
+written_weaker : {A B : Type 0} (p : Pesp) (base : Content) (steps : ℕ) (Gets : List ℕ → Type 0) → (A → B)
     → WritesResumed p base steps A Gets → WritesResumed p base steps B Gets
 written_weaker p base steps Gets f w = record {
   used = w.used;
@@ -41,6 +44,11 @@ written_weaker p base steps Gets f w = record {
   has_text = w.has_text;
   written = w.written;
 }
+
+pub gone_on_weaker : {A B : Type 0} (front : Option Marks) (p : Pesp) (base : Fronted) (steps : ℕ) (Gets : List ℕ → Type 0)
+    → (A → B) → GoesOnBy front p base steps A Gets → GoesOnBy front p base steps B Gets
+gone_on_weaker None p base steps Gets f w = written_weaker p base.content steps Gets f w
+gone_on_weaker (Some marks) p base steps Gets f w = w
 
 out_weaker : (fault : Fault) (A B : Type 0) → (A → B) → OutCause fault A → OutCause fault B
 out_weaker (Instance r) A B f h = h
@@ -59,11 +67,20 @@ out_weaker NoFile A B f h = h
 
 -- a cause too
 pub cause_weaker : {A B : Type 0} (fault : Fault) (reader base_reader writer : Device) (period steps : ℕ) (uncalled : Type 0) → (A → B)
-    → OverBaseCause ReadsBase BaseCause fault reader base_reader writer period uncalled
-    (λ p base fault cut. OutCause fault cut) (λ p base Gets. WritesResumed p base steps A Gets)
-    → OverBaseCause ReadsBase BaseCause fault reader base_reader writer period uncalled
-    (λ p base fault cut. OutCause fault cut) (λ p base Gets. WritesResumed p base steps B Gets)
+    → OverBaseCause ReadsSharpBase SharpBaseCause fault reader base_reader writer period uncalled
+    (λ p base fault cut. OutCause fault cut) (λ p base Gets. WritesGoneOn p base steps A Gets)
+    → OverBaseCause ReadsSharpBase SharpBaseCause fault reader base_reader writer period uncalled
+    (λ p base fault cut. OutCause fault cut) (λ p base Gets. WritesGoneOn p base steps B Gets)
 cause_weaker fault reader base_reader writer period steps uncalled f (inl h) = inl h
 cause_weaker fault reader base_reader writer period steps uncalled f (inr (p, reads, inl h)) = inr (p, reads, inl h)
 cause_weaker fault reader base_reader writer period steps uncalled f (inr (p, reads, inr (base, is_base, out))) =
-    inr (p, reads, inr (base, is_base, out_weaker fault _ _ (λ cut. (cut.0, written_weaker p base steps (GetsFront writer) f cut.1)) out))
+    inr (
+      p,
+      reads,
+      inr (
+        base,
+        is_base,
+        out_weaker fault _ _
+            (λ cut. (cut.0, gone_on_weaker base.front p base steps (GetsFront writer) f cut.1)) out,
+      ),
+    )

@@ -1,17 +1,19 @@
 -- What is sharpened is accepted, and what is gone on from so.
-use Rattle.std.proofs.Common.{◌≡◌, ℕ, List, ◌++◌, Some}
-use Rattle.std.specs.Prelude.{Option}
+use Rattle.std.proofs.Common.{◌≡◌, ℕ, List, ◌++◌, Some, None}
+use Rattle.std.specs.Prelude.{Option, ⊤}
 use Rattle.std.specs.Io.KnownBytes.{Appends}
 use Rattle.pesp_problem.specs.Timetables.{Pesp}
 use Rattle.pesp_judges.specs.declared.refusal.Verdict.{Verdict}
 use Rattle.pesp_judges.specs.declared.refusal.Verdict.TheVariants.{Accepted}
 use Rattle.pesp_truth.specs.Certificates.{IsValid}
+use Rattle.pesp_truth.specs.Marks.{Marks}
 use Rattle.pesp_cert.specs.Fronted.{Fronted, IsFrontedText, fronted_text}
 use Rattle.pesp_cert_lines.specs.declared.versions.Versions.TheVariants.{All}
 use Rattle.pesp_check_run.specs.Checking.{Checks, ReadsInstance}
 use Rattle.pesp_faults.specs.Reading.{ReadsTimetable}
 use Rattle.pesp_runs.specs.Bases.{ReadsSharpBase}
 use Rattle.pesp_runs.specs.Runs.{OverBase}
+use Rattle.pesp_tasks.specs.Resuming.{GoesOnBy, WritesGoneOn}
 use Rattle.pesp_tasks.specs.SharpSolving.{SolvesSharp, ResumesSharp, WritesSharpSolution}
 use Rattle.pesp_tasks.specs.SharpOutside.{WritesSharpWork, GraftsSharp}
 use Rattle.pesp_tasks.proofs.Joining.{accepts_written}
@@ -57,17 +59,41 @@ accepts_what_is_resumed text before bytes left base left_base left_instance left
     accepts_fronted text before bytes left left_instance left_certificate old new period verdict p resumed.certificate read
     resumed.holds.valid resumed.has_text resumed.written
 
-pub accepts_what_is_worked_on : (text before bytes : List ℕ)
-    (left base left_base left_instance left_certificate old new : Option (List ℕ)) (period : ℕ) (jobs : List ℕ) (steps : ℕ)
-    (verdict : Verdict)
-    → OverBase ReadsSharpBase (Some text) left base left_base period
-    (λ p begun. WritesSharpWork p begun jobs steps (Appends (Some before) (Some (before ++ bytes))))
+-- what goes on from a base with this front is accepted
+accepts_gone_on : (front : Option Marks) (text before bytes : List ℕ)
+    (left left_instance left_certificate old new : Option (List ℕ)) (period steps : ℕ) (verdict : Verdict) (p : Pesp) (begun : Fronted)
+    → ReadsInstance (Some text) left period p
+    → GoesOnBy front p begun steps ⊤ (Appends (Some before) (Some (before ++ bytes)))
     → Checks All (Some text) left_instance (Some bytes) left_certificate period verdict (Appends old new)
     → verdict ≡ Accepted
-accepts_what_is_worked_on text before bytes left base left_base left_instance left_certificate old new period jobs steps verdict
+accepts_gone_on None text before bytes left left_instance left_certificate old new period steps verdict p begun read resumed =
+    accepts_written All text before bytes left left_instance left_certificate old new period verdict p None resumed.certificate read
+    resumed.resumed.valid resumed.has_text resumed.written
+accepts_gone_on (Some marks) text before bytes left left_instance left_certificate old new period steps verdict p begun read resumed =
+    accepts_fronted text before bytes left left_instance left_certificate old new period verdict p resumed.certificate read
+    resumed.holds.valid resumed.has_text resumed.written
+
+pub accepts_what_goes_on : (text before bytes : List ℕ)
+    (left base left_base left_instance left_certificate old new : Option (List ℕ)) (period steps : ℕ) (verdict : Verdict)
+    → OverBase ReadsSharpBase (Some text) left base left_base period
+    (λ p begun. WritesGoneOn p begun steps ⊤ (Appends (Some before) (Some (before ++ bytes))))
+    → Checks All (Some text) left_instance (Some bytes) left_certificate period verdict (Appends old new)
+    → verdict ≡ Accepted
+accepts_what_goes_on text before bytes left base left_base left_instance left_certificate old new period steps verdict
+    (p, read, (begun, reads, gone_on)) =
+    accepts_gone_on begun.front text before bytes left left_instance left_certificate old new period steps verdict p begun read gone_on
+
+pub accepts_what_is_worked_on : (text before bytes : List ℕ)
+    (left base left_base left_instance left_certificate old new : Option (List ℕ)) (period : ℕ) (jobs : List ℕ) (steps : ℕ) (until : Option ℕ)
+    (verdict : Verdict)
+    → OverBase ReadsSharpBase (Some text) left base left_base period
+    (λ p begun. WritesSharpWork p begun jobs steps until (Appends (Some before) (Some (before ++ bytes))))
+    → Checks All (Some text) left_instance (Some bytes) left_certificate period verdict (Appends old new)
+    → verdict ≡ Accepted
+accepts_what_is_worked_on text before bytes left base left_base left_instance left_certificate old new period jobs steps until verdict
     (p, read, (begun, reads, (are, worked))) =
     accepts_fronted text before bytes left left_instance left_certificate old new period verdict p worked.certificate read
-    worked.holds.valid worked.has_text worked.written
+    worked.holds.resumed.valid worked.has_text worked.written
 
 pub accepts_what_is_grafted : (text before bytes : List ℕ)
     (left base left_base works left_works left_instance left_certificate told_old told_new old new : Option (List ℕ)) (period : ℕ)

@@ -6,6 +6,7 @@ use Rattle.pesp_cert.specs.Fronted.{Fronted}
 use Rattle.pesp_outside.specs.declared.jobs.OpenJob.{OpenJob}
 use Rattle.pesp_outside.specs.Texts.{jobs_text}
 use Rattle.pesp_sharp_outside.specs.Jobs.{AreSharpJobs, AreJobsOf}
+use Rattle.pesp_sharp_outside.specs.Keeping.{IsSharpWorked}
 use Rattle.pesp_sharp_outside.specs.Grafts.{IsSharpGrafted}
 use Rattle.pesp_sharp_outside.specs.declared.sharp_graft.SharpReply.{SharpReply}
 use Rattle.pesp_runs.specs.Bases.{ReadsSharpBase, SharpBaseCause}
@@ -16,7 +17,7 @@ use Rattle.pesp_faults.specs.declared.fault.Fault.{Fault}
 use Rattle.pesp_faults.specs.declared.fault.Fault.TheVariants.{NoJob, Memory, Read}
 use Rattle.pesp_tasks.specs.Outside.{IsUncalled}
 use Rattle.pesp_tasks.specs.Replies.{lines_from}
-use Rattle.pesp_tasks.specs.SharpSolving.{WritesFronted, WritesSharpResumed}
+use Rattle.pesp_tasks.specs.SharpSolving.{WritesFronted}
 
 -- ---- split
 
@@ -28,9 +29,9 @@ pub record WritesSharpJobs (p : Pesp) (base : Fronted) (Gets : List ℕ → Type
 
 -- ---- work
 
--- each number is that of an open leaf, and the writer got the text of a certificate to which a search leads from the base
-abbrev pub WritesSharpWork : Pesp → Fronted → List ℕ → ℕ → (List ℕ → Type 0) → Type 0
-WritesSharpWork p base jobs steps Gets = AreJobsOf p base jobs × WritesSharpResumed p base steps Gets
+-- each number is that of an open leaf, and the writer got the text of a certificate to which work on these leaves leads
+abbrev pub WritesSharpWork : Pesp → Fronted → List ℕ → ℕ → Option ℕ → (List ℕ → Type 0) → Type 0
+WritesSharpWork p base jobs steps until Gets = AreJobsOf p base jobs × WritesFronted p (IsSharpWorked p base jobs steps until) Gets
 
 -- why there is no work for one of the numbers
 abbrev pub SharpJobCause : Fault → Pesp → Fronted → List ℕ → Type 0

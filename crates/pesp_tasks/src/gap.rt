@@ -1,6 +1,6 @@
 //! How good a certificate's answer is.
 
-use crate::gap_text::GapText;
+use crate::gap_text::{GapText, Told};
 use pesp_cert::Fronted;
 use pesp_faults::Fault;
 use pesp_problem::Instance;
@@ -8,8 +8,8 @@ use pesp_runs::OnBase;
 use pesp_stream::{Sink, print_to};
 use std::alloc::Global;
 
-/// The cost of a certificate's answer, its bound, and what might still be saved, in per cent of the cost, rounded up. The certificate's
-/// text may have a front.
+/// A certificate in a line: its period, the cost of its answer, its bound, and what might still be saved, in per cent of the cost,
+/// rounded up; then how many branches its tree has, and the version of its text. The text may have a front.
 #[derive(Clone, Copy)]
 pub struct Gap;
 
@@ -22,7 +22,7 @@ impl OnBase for Gap {
 
     ghost within = { λ _. ⊤ };
 
-    ghost writes = { λ _ _ p base Gets. Gets (gap_line base.content.answer) };
+    ghost writes = { λ _ _ p base Gets. Gets (gap_line base) };
 
     ghost stops = { λ _ p base fault cut. OutCause fault cut };
 
@@ -33,9 +33,9 @@ impl OnBase for Gap {
         base: Fronted,
         writer: &mut W,
     ) -> Result<(), Fault> {
-        let answer = base.certificate.answer();
+        let told = Told::of(&base);
         drop(base);
-        print_to(writer, &GapText(answer))?;
+        print_to(writer, &GapText(told))?;
         Ok(())
     }
 }

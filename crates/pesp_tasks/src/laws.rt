@@ -1,6 +1,6 @@
 //! Laws of what is solved and of what is gone on from. Each is a function without a body whose contract is the law.
 
-ghost use Rattle.std.specs.Prelude.{◌≡◌, ℕ, List, ◌++◌, Option, Some, ⊤};
+ghost use Rattle.std.specs.Prelude.{◌≡◌, ℕ, List, ◌++◌, Option, Some, None, ⊤};
 ghost use Rattle.std.specs.Io.KnownBytes.{Appends};
 ghost use Rattle.pesp_instance.specs.declared.refusal.ReadRefusal.{ReadRefusal};
 ghost use Rattle.pesp_cert.specs.declared.refusal.CertRefusal.{CertRefusal};
@@ -13,7 +13,7 @@ ghost use Rattle.pesp_faults.specs.Reading.{HasBase, ReadsTimetable};
 ghost use Rattle.pesp_runs.specs.Bases.{ReadsSharpBase};
 ghost use Rattle.pesp_runs.specs.Runs.{OverBase};
 ghost use Rattle.pesp_tasks.specs.Solving.{Solves, WritesSolution};
-ghost use Rattle.pesp_tasks.specs.Resuming.{WritesResumed};
+ghost use Rattle.pesp_tasks.specs.Resuming.{WritesGoneOn};
 ghost use Rattle.pesp_tasks.specs.Outside.{Grafts};
 ghost use Rattle.pesp_tasks.specs.SharpSolving.{SolvesSharp, ResumesSharp, WritesSharpSolution};
 ghost use Rattle.pesp_tasks.specs.SharpOutside.{WritesSharpWork, GraftsSharp};
@@ -42,7 +42,8 @@ pub fn what_is_solved_is_read()
         → RefusesText Plain (Some bytes) left_certificate 1073741824 refusal → ⊥ }
 {}
 
-/// And so are the bytes that `Solve` appended from times, that `Resume` appended, however it ended, and that `run_graft` appended.
+/// And so are the bytes that `Solve` appended from times, that `Resume` appended where the certificate had no marked walks, however
+/// it ended, and that `run_graft` appended.
 pub fn what_goes_on_is_accepted()
     ensures from_times { (text before bytes : List ℕ) (left times left_times left_instance left_certificate old new : Option
         (List ℕ)) (period steps : ℕ) (verdict : Verdict)
@@ -53,8 +54,8 @@ pub fn what_goes_on_is_accepted()
         → verdict ≡ Accepted }
     ensures resumed { (text before bytes : List ℕ) (left base left_base left_instance left_certificate old new : Option
         (List ℕ)) (period steps : ℕ) (verdict : Verdict)
-        → HasBase (Some text) left base left_base period
-        (λ p begun. WritesResumed p begun steps ⊤ (Appends (Some before) (Some (before ++ bytes))))
+        → OverBase ReadsSharpBase (Some text) left base left_base period
+        (λ p begun. (begun.front ≡ None) × WritesGoneOn p begun steps ⊤ (Appends (Some before) (Some (before ++ bytes))))
         → Checks Plain (Some text) left_instance (Some bytes) left_certificate period verdict
         (Appends old new)
         → verdict ≡ Accepted }
@@ -92,7 +93,8 @@ pub fn what_is_resumed_is_accepted()
         → verdict ≡ Accepted }
 {}
 
-/// And so are the bytes that `SolveSharp` appended from times, that `WorkSharp` appended, and that `run_graft_sharp` appended.
+/// And so are the bytes that `SolveSharp` appended from times, that `Resume` appended, that `WorkSharp` appended, and that
+/// `run_graft_sharp` appended.
 pub fn what_goes_on_with_marks_is_accepted()
     ensures from_times { (text before bytes : List ℕ) (left times left_times left_instance left_certificate old new : Option
         (List ℕ)) (period steps : ℕ) (verdict : Verdict)
@@ -101,10 +103,17 @@ pub fn what_goes_on_with_marks_is_accepted()
         → Checks All (Some text) left_instance (Some bytes) left_certificate period verdict
         (Appends old new)
         → verdict ≡ Accepted }
-    ensures worked { (text before bytes : List ℕ) (left base left_base left_instance left_certificate old new : Option
-        (List ℕ)) (period : ℕ) (jobs : List ℕ) (steps : ℕ) (verdict : Verdict)
+    ensures resumed { (text before bytes : List ℕ) (left base left_base left_instance left_certificate old new : Option
+        (List ℕ)) (period steps : ℕ) (verdict : Verdict)
         → OverBase ReadsSharpBase (Some text) left base left_base period
-        (λ p begun. WritesSharpWork p begun jobs steps (Appends (Some before) (Some (before ++ bytes))))
+        (λ p begun. WritesGoneOn p begun steps ⊤ (Appends (Some before) (Some (before ++ bytes))))
+        → Checks All (Some text) left_instance (Some bytes) left_certificate period verdict
+        (Appends old new)
+        → verdict ≡ Accepted }
+    ensures worked { (text before bytes : List ℕ) (left base left_base left_instance left_certificate old new : Option
+        (List ℕ)) (period : ℕ) (jobs : List ℕ) (steps : ℕ) (until : Option ℕ) (verdict : Verdict)
+        → OverBase ReadsSharpBase (Some text) left base left_base period
+        (λ p begun. WritesSharpWork p begun jobs steps until (Appends (Some before) (Some (before ++ bytes))))
         → Checks All (Some text) left_instance (Some bytes) left_certificate period verdict
         (Appends old new)
         → verdict ≡ Accepted }

@@ -4,6 +4,7 @@
 
 mod fronted;
 mod gap;
+mod gap_json;
 mod gap_text;
 mod graft;
 pub mod laws;
@@ -21,6 +22,7 @@ mod work;
 
 pub use fronted::vouch;
 pub use gap::Gap;
+pub use gap_json::GapJson;
 pub use graft::run_graft;
 pub use resume::Resume;
 pub use sharp_graft::run_graft_sharp;

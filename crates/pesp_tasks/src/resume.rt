@@ -1,15 +1,26 @@
 //! The search that goes on from a certificate.
 
-use pesp_cert::{Certificate, print};
+ghost use Rattle.std.specs.Prelude.{◌≡◌, ◌≢◌, ◌<◌, ◌^◌, None, OnOk, IfErr};
+ghost use Rattle.std.specs.Io.KnownBytes.{Appends};
+ghost use Rattle.pesp_stream.specs.Counts.{FewerThan, HasWorked};
+ghost use Rattle.pesp_truth.specs.Certificates.{IsValid};
+ghost use Rattle.pesp_check_run.specs.Devices.{over, HasFailed, GetsFront};
+ghost use Rattle.pesp_faults.specs.Causes.{OutCause};
+ghost use Rattle.pesp_tasks.specs.Resuming.{WritesResumed};
+
+use crate::sharp_resume::write_sharply;
+use pesp_cert::{Certificate, Fronted, print};
 use pesp_faults::Fault;
 use pesp_problem::Instance;
 use pesp_resume::{Watcher, resume};
 use pesp_runs::OnBase;
+use pesp_sharp_search::SharpWatcher;
 use pesp_stream::Sink;
 use std::alloc::Global;
 
 /// A search that goes on from a certificate by at most so many splits of open leaves, as long as the watcher lets it, and writes
-/// the certificate that comes of it.
+/// the certificate that comes of it. From one with marked walks it goes on as `ResumeSharp` does, of which less is promised; what
+/// follows is of one without.
 ///
 /// What is written is the text of a valid certificate, whose answer is true. Its bound isn't below that of the certificate read,
 /// and its cost isn't above it; none counts as above every number. Its tree has at most so many branches more, and fewer only
@@ -21,16 +32,46 @@ pub struct Resume<T> {
     pub watcher: T,
 }
 
-impl<T: Watcher> OnBase for Resume<T> {
+/// Goes on from a certificate without a front, and writes what comes of it.
+fn write_plainly<T: Watcher, W: Sink>(
+    alloc: Global,
+    instance: &Instance,
+    base: Certificate,
+    steps: u32,
+    watcher: &mut T,
+    writer: &mut W,
+) -> Result<(), Fault>
+    requires valid { IsValid None instance.now base }
+    requires fits { FewerThan (2 ^ 63) (W.calls writer.old) }
+    ensures ok { OnOk result (WritesResumed instance.now base steps (T.may_end watcher.old × T.has_ended watcher.new)
+        (Appends (W.contents writer.old) (W.contents writer.new))) }
+    ensures counts { OnOk result (HasWorked (W.calls writer.old) (W.calls writer.new)) }
+    ensures cause { IfErr result (λ fault. OutCause fault
+        (HasFailed (over (W.contents writer.old) (W.contents writer.new)
+        (W.calls writer.old) (W.calls writer.new))
+        × WritesResumed instance.now base steps (T.may_end watcher.old × T.has_ended watcher.new) (GetsFront
+        (over (W.contents writer.old) (W.contents writer.new)
+        (W.calls writer.old) (W.calls writer.new))))) }
+    ensures silent { IfErr result (λ fault. fault ≢ Fault.Write → writer.new ≡ writer.old) }
+{
+    instance.period();
+    let resumed = resume(alloc, instance, &base, steps, watcher);
+    drop(base);
+    let resumed = resumed?;
+    print(&resumed.certificate, writer)?;
+    Ok(())
+}
+
+impl<T: Watcher + SharpWatcher> OnBase for Resume<T> {
     ghost use Rattle.std.specs.Prelude.{⊤};
     ghost use Rattle.pesp_faults.specs.Causes.{OutCause};
-    ghost use Rattle.pesp_tasks.specs.Resuming.{WritesResumed};
+    ghost use Rattle.pesp_tasks.specs.Resuming.{WritesGoneOn};
 
-    type Base = Certificate;
+    type Base = Fronted;
 
     ghost within = { λ _. ⊤ };
 
-    ghost writes = { λ before after p base Gets. WritesResumed p base before.steps
+    ghost writes = { λ before after p base Gets. WritesGoneOn p base before.steps
         (T.may_end before.watcher × T.has_ended after.watcher) Gets };
 
     ghost stops = { λ _ p base fault cut. OutCause fault cut };
@@ -39,14 +80,24 @@ impl<T: Watcher> OnBase for Resume<T> {
         &mut self,
         alloc: Global,
         instance: &Instance,
-        base: Certificate,
+        base: Fronted,
         writer: &mut W,
     ) -> Result<(), Fault> {
-        instance.period();
-        let resumed = resume(alloc, instance, &base, self.steps, &mut self.watcher);
-        drop(base);
-        let resumed = resumed?;
-        print(&resumed.certificate, writer)?;
-        Ok(())
+        let Fronted { front, certificate } = base;
+        match front {
+            None => write_plainly(
+                alloc,
+                instance,
+                certificate,
+                self.steps,
+                &mut self.watcher,
+                writer,
+            ),
+            Some(marks) => {
+                let front = Some(marks);
+                let base = Fronted { front, certificate };
+                write_sharply(alloc, instance, base, self.steps, &mut self.watcher, writer)
+            }
+        }
     }
 }

@@ -1,5 +1,13 @@
 //! The search that goes on from a certificate, with leaves that marked walks sharpen.
 
+ghost use Rattle.std.specs.Prelude.{◌≡◌, ◌≢◌, ◌<◌, ◌^◌, OnOk, IfErr};
+ghost use Rattle.std.specs.Io.KnownBytes.{Appends};
+ghost use Rattle.pesp_stream.specs.Counts.{FewerThan, HasWorked};
+ghost use Rattle.pesp_check_run.specs.Devices.{over, HasFailed, GetsFront};
+ghost use Rattle.pesp_faults.specs.Causes.{OutCause};
+ghost use Rattle.pesp_runs.specs.Bases.{IsSharpBase};
+ghost use Rattle.pesp_tasks.specs.SharpSolving.{WritesSharpResumed};
+
 use crate::fronted::vouch;
 use pesp_cert::{Fronted, print_fronted};
 use pesp_faults::Fault;
@@ -19,6 +27,34 @@ use std::alloc::Global;
 pub struct ResumeSharp<T> {
     pub steps: u32,
     pub watcher: T,
+}
+
+/// Goes on from a certificate by marked walks, and writes what comes of it.
+pub(crate) fn write_sharply<T: SharpWatcher, W: Sink>(
+    alloc: Global,
+    instance: &Instance,
+    base: Fronted,
+    steps: u32,
+    watcher: &mut T,
+    writer: &mut W,
+) -> Result<(), Fault>
+    requires valid { IsSharpBase instance.now base }
+    requires fits { FewerThan (2 ^ 63) (W.calls writer.old) }
+    ensures ok { OnOk result (WritesSharpResumed instance.now base steps
+        (Appends (W.contents writer.old) (W.contents writer.new))) }
+    ensures counts { OnOk result (HasWorked (W.calls writer.old) (W.calls writer.new)) }
+    ensures cause { IfErr result (λ fault. OutCause fault
+        (HasFailed (over (W.contents writer.old) (W.contents writer.new)
+        (W.calls writer.old) (W.calls writer.new))
+        × WritesSharpResumed instance.now base steps (GetsFront
+        (over (W.contents writer.old) (W.contents writer.new)
+        (W.calls writer.old) (W.calls writer.new))))) }
+    ensures silent { IfErr result (λ fault. fault ≢ Fault.Write → writer.new ≡ writer.old) }
+{
+    let fronted = resume_sharp(alloc, instance, base, steps, watcher)?;
+    vouch(instance, &fronted);
+    print_fronted(&fronted, writer)?;
+    Ok(())
 }
 
 impl<T: SharpWatcher> OnBase for ResumeSharp<T> {
@@ -41,9 +77,6 @@ impl<T: SharpWatcher> OnBase for ResumeSharp<T> {
         base: Fronted,
         writer: &mut W,
     ) -> Result<(), Fault> {
-        let fronted = resume_sharp(alloc, instance, base, self.steps, &mut self.watcher)?;
-        vouch(instance, &fronted);
-        print_fronted(&fronted, writer)?;
-        Ok(())
+        write_sharply(alloc, instance, base, self.steps, &mut self.watcher, writer)
     }
 }

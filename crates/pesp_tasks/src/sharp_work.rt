@@ -28,7 +28,7 @@ impl OnBase for WorkSharp<'_> {
 
     ghost within = { λ _. ⊤ };
 
-    ghost writes = { λ s _ p base Gets. WritesSharpWork p base s.jobs.now s.steps Gets };
+    ghost writes = { λ s _ p base Gets. WritesSharpWork p base s.jobs.now s.steps s.until Gets };
 
     ghost stops = { λ s p base fault cut. SharpJobCause fault p base s.jobs.now ⊎ OutCause fault cut };
 

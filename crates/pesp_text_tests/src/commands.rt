@@ -3,7 +3,7 @@
 use clap::Error;
 use pesp_cases::words_of;
 use pesp_request::{
-    Asked, OfCertificate, OfInstance, OfLeaves, OfTimes, OfWorks, Request, request_of,
+    Asked, OfCertificate, OfInstance, OfLeaves, OfTimes, OfWorks, Planning, Request, request_of,
 };
 use std::alloc::Global;
 
@@ -75,6 +75,26 @@ fn tell_resume(
         write!(told, " or {seconds} seconds").ok()?;
     }
     add_progress(&mut told, progress)?;
+    Some(told)
+}
+
+/// A plan that is asked for, and the file with the instance, where one is named.
+fn tell_plan(
+    alloc: Global,
+    period: u32,
+    asked: Planning<'_>,
+    file: Option<&str>,
+) -> Option<String> {
+    let (seconds, file) = (asked.seconds, file.unwrap_or("of standard input"));
+    let mut told = format!(in alloc; "plan {file} at period {period} in {seconds} seconds").ok()?;
+    if let Some(output) = asked.output {
+        write!(told, ", kept in {output}").ok()?;
+    }
+    if let Some(from) = asked.from {
+        write!(told, ", from {from}").ok()?;
+    }
+    told.push_str(if asked.quiet { ", silently" } else { "" })
+        .ok()?;
     Some(told)
 }
 
@@ -199,6 +219,7 @@ fn tell_of_instance(
             from,
             progress,
         } => { with_walks(tell_solve(alloc, period, steps, from, progress, file)?) }
+        OfInstance::Plan(asked) => tell_plan(alloc, period, asked, file),
         OfInstance::Conflict { steps, names } => {
             tell_conflict(alloc, period, steps, file, names)
         }
@@ -216,6 +237,7 @@ fn tell_of_certificate(
         OfCertificate::Check => tell_file(alloc, "check", period, file),
         OfCertificate::CheckSharp => tell_file(alloc, "check with a front", period, file),
         OfCertificate::Gap => tell_file(alloc, "gap", period, file),
+        OfCertificate::GapJson => tell_file(alloc, "gap as JSON of", period, file),
         OfCertificate::Resume {
             steps,
             seconds,
@@ -231,14 +253,40 @@ fn tell_of_certificate(
     }
 }
 
+/// What is to be fixed.
+fn tell_fix(
+    alloc: Global,
+    period: u32,
+    file: &str,
+    names: Option<&str>,
+    events: &str,
+    lines: &str,
+) -> Option<String> {
+    let mut told = tell_sheet(alloc, "fix", period, file, names)?;
+    write!(told, ", events '{events}', lines '{lines}'").ok()?;
+    Some(told)
+}
+
 /// What is asked of times.
 fn tell_of_times(alloc: Global, period: u32, file: &str, asked: OfTimes<'_>) -> Option<String> {
     match asked {
         OfTimes::Report { names } => tell_sheet(alloc, "report", period, file, names),
-        OfTimes::Violations => tell_file(alloc, "report violations of", period, file),
+        OfTimes::Violations { names } => {
+            tell_sheet(alloc, "report violations of", period, file, names)
+        }
         OfTimes::Picture { rows, names } => tell_picture(alloc, period, rows, names, file),
         OfTimes::Diagrams { names, along } => { tell_diagrams(alloc, period, file, names, along) }
-        OfTimes::Timetable { names } => tell_sheet(alloc, "timetable", period, file, names),
+        OfTimes::Timetable { names, json: false } => {
+            tell_sheet(alloc, "timetable", period, file, names)
+        }
+        OfTimes::Timetable { names, json: true } => {
+            tell_sheet(alloc, "timetable in JSON of", period, file, names)
+        }
+        OfTimes::Fix {
+            names,
+            events,
+            lines,
+        } => { tell_fix(alloc, period, file, names, events, lines) }
         OfTimes::Page { names } => tell_sheet(alloc, "page", period, file, names),
     }
 }

@@ -1,6 +1,7 @@
 //! A file in memory.
 
 use crate::devices::Device;
+use pesp_shelf::Lockable;
 use std::fs::{Metadata, OpenFile};
 use std::io;
 use std::io::{Error, ErrorKind, Read, Seek, SeekFrom, Write};
@@ -55,6 +56,12 @@ impl Write for Page {
 
 impl Seek for Page {
     fn seek(&mut self, _to: SeekFrom) -> io::Result<u64> {
+        Err(refused())
+    }
+}
+
+impl Lockable for Page {
+    fn take(&self) -> io::Result<bool> {
         Err(refused())
     }
 }

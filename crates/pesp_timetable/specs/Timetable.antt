@@ -1,5 +1,5 @@
 -- A timetable as records, one for each event.
-use Rattle.std.specs.Prelude.{◌≡◌, ℕ, ◌+◌, ◌*◌, ◌/◌, ◌%◌, ◌==◌, ◌&&◌, ◌||◌, Bool, nat_lt, ℤ, List, [], ◌∷◌, ◌++◌, map, Option, Some, None, slice_get, slice_index_or, string_bytes, codes, IsPermutation, IsSortedBy}
+use Rattle.std.specs.Prelude.{ℕ, ◌+◌, ◌*◌, ◌/◌, ◌%◌, ◌==◌, ◌&&◌, ◌||◌, Bool, nat_lt, ℤ, List, [], ◌∷◌, ◌++◌, map, Option, Some, None, slice_get, slice_index_or, string_bytes, codes}
 use Rattle.std.specs.List.{enumerate_from}
 use Rattle.std.specs.Fmt.{decimal, signed_decimal}
 use Rattle.pesp_problem.specs.Timetables.{Pesp}
@@ -106,12 +106,3 @@ entry_fields tolds e = told_fields (slice_get tolds e.event) e (clock_text e.run
 -- the header and these records
 abbrev pub timetable_text : List Told → List Entry → List ℕ
 timetable_text tolds entries = records_text (timetable_header ∷ map (entry_fields tolds) entries)
-
--- a text is the timetable of times: the header, and a record for each event with its label and its time, in the order of the
--- ways and stops that the records tell
-pub record IsTimetableText (p : Pesp) (times : List ℕ) (text : List ℕ) : Type 0 where
-  pub tolds : List Told
-  pub entries : List Entry
-  pub all : IsPermutation (entries_of p times tolds) entries
-  pub ordered : IsSortedBy goes_before entries
-  pub whole : text ≡ timetable_text tolds entries

@@ -1,19 +1,17 @@
 //! The records of a timetable, in memory.
 
-ghost use Rattle.std.specs.Prelude.{◌≡◌, ◌++◌, ℕ, List, map, option_copied, slice_get, string_bytes, IfOk, OnOk};
+ghost use Rattle.std.specs.Prelude.{◌≡◌, ◌++◌, ℕ, List, map, option_copied, IfOk, OnOk};
 ghost use Rattle.csv.specs.Writing.{default_writer, row_text};
 ghost use Rattle.pesp_report.specs.Report.{records_text};
 ghost use Rattle.pesp_report.specs.Written.{HasWritten};
-ghost use Rattle.pesp_timetable.specs.Timetable.{clock_text, entry_fields, timetable_header, timetable_text, told_fields};
-ghost use Rattle.pesp_timetable.specs.Timetable as spec;
+ghost use Rattle.pesp_timetable.specs.Timetable.{entry_fields, timetable_header, timetable_text, told_fields};
 
-use crate::clock::Clock;
 use crate::entry::Entry;
 use crate::told::{Told, told_at};
+use crate::words::{changes_of, clock_of, direction_of, kind_of, line_of, name_of, station_of};
 use csv::Writer;
 use itoa::Buffer;
 use pesp_problem::Memory;
-use pesp_railway::{Direction, Halt};
 use std::alloc::Global;
 
 /// Writes a record of these fields.
@@ -52,86 +50,6 @@ fn write_header(writer: &mut Writer<Vec<u8>>) -> Result<(), Memory>
     )
 }
 
-/// The line of an event.
-fn line_of(told: Option<&Told>) -> &[u8]
-    ensures { result.now ≡ spec.line_of (option_copied told.entry) }
-{
-    match told {
-        Some(told) => told.line.as_bytes(),
-        None => b"",
-    }
-}
-
-/// The station of an event.
-fn station_of(told: Option<&Told>) -> &[u8]
-    ensures { result.now ≡ spec.station_of (option_copied told.entry) }
-{
-    match told {
-        Some(told) => told.station.as_bytes(),
-        None => b"",
-    }
-}
-
-/// The name of an event.
-fn name_of(told: Option<&Told>) -> &[u8]
-    ensures { result.now ≡ spec.name_of (option_copied told.entry) }
-{
-    match told {
-        Some(told) => told.name.as_bytes(),
-        None => b"",
-    }
-}
-
-/// The changes at an event.
-fn changes_of(told: Option<&Told>) -> &[u8]
-    ensures { result.now ≡ spec.changes_of (option_copied told.entry) }
-{
-    match told {
-        Some(told) => told.changes.as_bytes(),
-        None => b"",
-    }
-}
-
-/// The word for the direction in which the train of an event goes.
-fn direction_of(told: Option<&Told>) -> &[u8]
-    ensures { result.now ≡ spec.direction_of (option_copied told.entry) }
-{
-    let Some(told) = told else {
-        return b"";
-    };
-    match told.step.direction {
-        Direction::Out => b"out",
-        Direction::Back => b"back",
-        Direction::Nowhere => b"",
-    }
-}
-
-/// The word for what a train does at an event.
-fn kind_of(told: Option<&Told>) -> &[u8]
-    ensures { result.now ≡ spec.kind_of (option_copied told.entry) }
-{
-    let Some(told) = told else {
-        return b"";
-    };
-    match told.step.halt {
-        Halt::Arrival => b"arrival",
-        Halt::Departure => b"departure",
-        Halt::Pass => b"pass",
-        Halt::Other => b"",
-    }
-}
-
-/// Minutes as hours and minutes.
-fn clock_of(alloc: Global, minutes: u64) -> Result<String, Memory>
-    ensures { IfOk result (λ text. string_bytes text ≡ clock_text minutes) }
-{
-    let clock = Clock(minutes);
-    match format!(in alloc; "{clock}") {
-        Ok(text) => Ok(text),
-        Err(_) => Err(Memory),
-    }
-}
-
 /// Writes an event of which this is told, at this time of the day.
 fn write_told(
     writer: &mut Writer<Vec<u8>>,
@@ -149,16 +67,16 @@ fn write_told(
         writer,
         &[
             way.format(entry.way).as_bytes(),
-            line_of(told),
-            direction_of(told),
+            line_of(told).as_bytes(),
+            direction_of(told).as_bytes(),
             stop.format(entry.stop).as_bytes(),
-            station_of(told),
-            kind_of(told),
+            station_of(told).as_bytes(),
+            kind_of(told).as_bytes(),
             label.format(entry.label).as_bytes(),
-            name_of(told),
+            name_of(told).as_bytes(),
             time.format(entry.time).as_bytes(),
             clock,
-            changes_of(told),
+            changes_of(told).as_bytes(),
         ],
     )
 }

@@ -44,26 +44,26 @@ pub returns-in_ok-names-in-Diagrams-clause-silent : goal.returns-in_ok-names-in-
 returns-in_ok-names-in-Diagrams-clause-silent g c =
     stopped c.run_sheet-in-Diagrams.result _ _ c.run_sheet-in-Diagrams.ensures.silent c.done-in-Diagrams.ensures
 
-pub returns-in-Timetable-None-clause-stopped : goal.returns-in-Timetable-None-clause-stopped
-returns-in-Timetable-None-clause-stopped g c =
-    let names = rw c.in-Timetable-None.is at c.in-Timetable-None.names-is in
-    let run = c.run_sheet-in-Timetable-None in
-    rw c.in-Timetable-None.is (rw names (stopped run.result _ _ run.ensures.cause c.done-in-Timetable-None.ensures))
+pub returns-in-Timetable-None-default-clause-stopped : goal.returns-in-Timetable-None-default-clause-stopped
+returns-in-Timetable-None-default-clause-stopped g c =
+    let names = rw c.in-Timetable-None-default.is at c.in-Timetable-None-default.names-is in
+    let run = c.run_sheet-in-Timetable-None-default in
+    rw c.in-Timetable-None-default.is (rw names (stopped run.result _ _ run.ensures.cause c.done-in-Timetable-None-default.ensures))
 
-pub returns-in-Timetable-None-clause-silent : goal.returns-in-Timetable-None-clause-silent
-returns-in-Timetable-None-clause-silent g c =
-    stopped c.run_sheet-in-Timetable-None.result _ _ c.run_sheet-in-Timetable-None.ensures.silent c.done-in-Timetable-None.ensures
+pub returns-in-Timetable-None-default-clause-silent : goal.returns-in-Timetable-None-default-clause-silent
+returns-in-Timetable-None-default-clause-silent g c =
+    stopped c.run_sheet-in-Timetable-None-default.result _ _ c.run_sheet-in-Timetable-None-default.ensures.silent c.done-in-Timetable-None-default.ensures
 
-pub returns-in_ok-names-in-Timetable-Some-clause-stopped : goal.returns-in_ok-names-in-Timetable-Some-clause-stopped
-returns-in_ok-names-in-Timetable-Some-clause-stopped g c =
-    let names = rw c.in-Timetable-Some.is at c.in-Timetable-Some.names-is in
-    let run = c.run_sheet-in-Timetable-Some in
-    rw c.in-Timetable-Some.is (rw names (stopped_from run.result _ _ _ run.ensures.cause
-    (λ fault h. inr (inr h)) c.done-in-Timetable-Some.ensures))
+pub returns-in_ok-names-in-Timetable-Some-default-clause-stopped : goal.returns-in_ok-names-in-Timetable-Some-default-clause-stopped
+returns-in_ok-names-in-Timetable-Some-default-clause-stopped g c =
+    let names = rw c.in-Timetable-Some-default.is at c.in-Timetable-Some-default.names-is in
+    let run = c.run_sheet-in-Timetable-Some-default in
+    rw c.in-Timetable-Some-default.is (rw names (stopped_from run.result _ _ _ run.ensures.cause
+    (λ fault h. inr (inr h)) c.done-in-Timetable-Some-default.ensures))
 
-pub returns-in_ok-names-in-Timetable-Some-clause-silent : goal.returns-in_ok-names-in-Timetable-Some-clause-silent
-returns-in_ok-names-in-Timetable-Some-clause-silent g c =
-    stopped c.run_sheet-in-Timetable-Some.result _ _ c.run_sheet-in-Timetable-Some.ensures.silent c.done-in-Timetable-Some.ensures
+pub returns-in_ok-names-in-Timetable-Some-default-clause-silent : goal.returns-in_ok-names-in-Timetable-Some-default-clause-silent
+returns-in_ok-names-in-Timetable-Some-default-clause-silent g c =
+    stopped c.run_sheet-in-Timetable-Some-default.result _ _ c.run_sheet-in-Timetable-Some-default.ensures.silent c.done-in-Timetable-Some-default.ensures
 
 pub returns-in-Page-None-clause-stopped : goal.returns-in-Page-None-clause-stopped
 returns-in-Page-None-clause-stopped g c =

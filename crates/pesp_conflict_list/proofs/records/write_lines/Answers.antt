@@ -4,7 +4,8 @@ use Rattle.std.proofs.lemmas.List.{take_all}
 use Rattle.csv.specs.Writing.{default_writer, row_text}
 use Rattle.pesp_report.specs.Report.{records_text}
 use Rattle.pesp_report.proofs.Order.{records-more}
-use Rattle.pesp_conflict_list.specs.Lists.{listed_fields, naming_of}
+use Rattle.pesp_report.specs.Naming.{naming_of}
+use Rattle.pesp_conflict_list.specs.Lists.{listed_fields}
 use Rattle.pesp_conflict_list.specs.declared.listed.Listed.{Listed}
 use Rattle.pesp_conflict_list.proofs.records.write_lines.Goals as goal
 

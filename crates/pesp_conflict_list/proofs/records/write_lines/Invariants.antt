@@ -2,7 +2,8 @@ use Rattle.std.proofs.Common.{ℕ, List, ◌++◌, map, take}
 use Rattle.std.specs.Prelude.{option_copied}
 use Rattle.pesp_report.specs.Report.{records_text}
 use Rattle.pesp_report.specs.Written.{HasWritten}
-use Rattle.pesp_conflict_list.specs.Lists.{listed_fields, naming_of}
+use Rattle.pesp_report.specs.Naming.{naming_of}
+use Rattle.pesp_conflict_list.specs.Lists.{listed_fields}
 use Rattle.pesp_conflict_list.proofs.records.write_lines.Given as goal
 
 abbrev pub invariant-loop-line : goal.invariant-loop-line

@@ -12,7 +12,7 @@ returns-in_err-count-clause-cause g c =
       inr (
         c.in_ok-times.times.items,
         c.in_ok-times.ensures.ok,
-        violations_cause _ c.in_ok-instance.instance _ _ _ _ _ c.deref.ensures.value c.in_ok-times.ensures.times
+        violations_cause _ c.in_ok-instance.instance _ _ _ _ _ _ c.deref.ensures.value c.in_ok-times.ensures.times
             out.refused out.fault out.front,
       ),
     ))
@@ -26,6 +26,6 @@ returns-clause-ok g c =
         c.in_ok-times.times.items,
         c.in_ok-times.ensures.ok,
         c.in_ok-times.ensures.times,
-        violations_told c.in_ok-instance.instance _ _ _ _ _ c.deref.ensures.value out.count out.text,
+        violations_told c.in_ok-instance.instance _ _ _ _ _ _ c.deref.ensures.value out.count out.text,
       ),
     )

@@ -1,4 +1,4 @@
-use Rattle.std.proofs.Common.{◌≡◌, ◌+◌, ℕ, ◌<◌, ◌≤◌, ◌++◌, ◌∙◌, ap, sym, refl, subst, arith, [], List, length, map, get_or, Bool, true, Option, None}
+use Rattle.std.proofs.Common.{◌≡◌, ◌+◌, ℕ, ◌<◌, ◌++◌, ◌∙◌, ap, sym, refl, subst, arith, [], List, length, map, get_or, Bool, true, Option, None}
 use Rattle.std.proofs.lemmas.List.{length-map, get_or_default}
 use Rattle.pesp_truth.specs.Certificates.{line_of}
 use Rattle.pesp_sharp_outside.specs.Jobs.{Path, SharpJob, told_job, job_at, after}

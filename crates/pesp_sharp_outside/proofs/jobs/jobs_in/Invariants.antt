@@ -1,4 +1,4 @@
-use Rattle.std.proofs.Common.{map, length, true}
+use Rattle.std.proofs.Common.{map, true}
 use Rattle.pesp_sharp_outside.specs.Jobs.{told_job}
 use Rattle.pesp_sharp_outside.specs.Paths.{waiting}
 use Rattle.pesp_sharp_outside.proofs.Listing.{AreListed}

@@ -1,18 +1,13 @@
-use Rattle.pesp_check_run.proofs.ReadingLemmas.{told_as}
-use Rattle.pesp_tasks.proofs.Resumptions.{writes}
 use Rattle.pesp_tasks.proofs.resume.ResumeOnBase.write.Goals as goal
 
-pub returns-in_err-print-clause-cause : goal.returns-in_err-print-clause-cause
-returns-in_err-print-clause-cause g c =
-    let out = c.in_err-print.ensures in
-    told_as _ _ _ c.from_residual-in_err-print.ensures.1 (
-      out.fault,
-      writes c.in_ok-resumed.resumed.steps_used c.in_ok-resumed.resumed.ending
-          c.period.ensures.limits.some_period c.in_ok-resumed.ensures out.has_text out.text,
-    )
+pub returns-in-None-clause-ok : goal.returns-in-None-clause-ok
+returns-in-None-clause-ok g c = rw (← c.base.view_is, c.in-None.is) c.write_plainly.ensures.ok
 
-pub returns-clause-ok : goal.returns-clause-ok
-returns-clause-ok g c =
-    let out = c.in_ok-print.ensures in
-    writes c.in_ok-resumed.resumed.steps_used c.in_ok-resumed.resumed.ending
-    c.period.ensures.limits.some_period c.in_ok-resumed.ensures out.has_text out.text
+pub returns-in-None-clause-cause : goal.returns-in-None-clause-cause
+returns-in-None-clause-cause g c = rw (← c.base.view_is, c.in-None.is) c.write_plainly.ensures.cause
+
+pub returns-in-Some-clause-ok : goal.returns-in-Some-clause-ok
+returns-in-Some-clause-ok g c = rw (← c.base.view_is, c.in-Some.is) c.write_sharply.ensures.ok
+
+pub returns-in-Some-clause-cause : goal.returns-in-Some-clause-cause
+returns-in-Some-clause-cause g c = rw (← c.base.view_is, c.in-Some.is) c.write_sharply.ensures.cause

@@ -1,6 +1,6 @@
 use Rattle.pesp_check_run.proofs.ReadingLemmas.{told_as}
 use Rattle.pesp_tasks.proofs.SharpSolutions.{written}
-use Rattle.pesp_tasks.proofs.sharp_resume.ResumeSharpOnBase.write.Goals as goal
+use Rattle.pesp_tasks.proofs.sharp_resume.write_sharply.Goals as goal
 
 pub returns-in_err-print_fronted-clause-cause : goal.returns-in_err-print_fronted-clause-cause
 returns-in_err-print_fronted-clause-cause g c =

@@ -1,0 +1,203 @@
+//! Plans, written or kept in a file.
+
+ghost use Rattle.std.specs.Prelude.{◌≡◌, ◌≢◌, ◌⊎◌, ◌<◌, ◌^◌, None, IfOk, IfErr, IfSome};
+ghost use Rattle.pesp_stream.specs.Counts.{FewerThan};
+ghost use Rattle.pesp_check_run.specs.Devices.{over};
+ghost use Rattle.pesp_cli.specs.Answers.{AnswersBegun, AnswersPlan, AnswersKept};
+ghost use Rattle.pesp_cli.specs.Stops.{StopsBegun, StopsPlan, StopsKept};
+
+use crate::answers::{done, opened_times};
+use crate::input::warn_of_period;
+use pesp_faults::Fault;
+use pesp_old_runs::{Listener, run_from_old, run_on_standing};
+use pesp_plan::{KeptPlan, Overseer, Plan};
+use pesp_progress::{Again, Hearer, Planner};
+use pesp_request::Planning;
+use pesp_runs::{Search, run_alone};
+use pesp_shelf::{FileShelf, Lockable, ShelfRefusal};
+use pesp_stream::{Counted, Sink, Source};
+use std::rt::{Clock, Files};
+
+/// The fault that a file can't be a shelf. Where another plan has it, that is told besides.
+fn fault_of<R: Eprint>(rt: &R, refusal: ShelfRefusal) -> Fault
+    ensures { (result ≡ Fault.NoFile) ⊎ (result ≡ Fault.Memory) }
+{
+    match refusal {
+        ShelfRefusal::Memory => Fault::Memory,
+        ShelfRefusal::Taken => {
+            let _ = rt.eprintln(refusal);
+            Fault::NoFile
+        }
+        ShelfRefusal::Device => Fault::NoFile,
+    }
+}
+
+/// The shelf of a file, on which nothing counts as standing yet.
+fn shelf_of<'a, R: AllocGlobal + Eprint + Files>(
+    rt: &'a R,
+    file: &str,
+) -> Result<FileShelf<'a, R>, Fault>
+where
+    R::File: Lockable,
+    ensures shelf { IfOk result (λ shelf. shelf.standing ≡ None) }
+    ensures refused { IfErr result (λ fault. (fault ≡ Fault.NoFile) ⊎ (fault ≡ Fault.Memory)) }
+{
+    match FileShelf::open(rt, file) {
+        Ok(shelf) => Ok(shelf),
+        Err(refusal) => Err(fault_of(rt, refusal)),
+    }
+}
+
+/// The certificate that stands on a shelf, to be read, where one does.
+fn found_on<R: Eprint + Files>(
+    rt: &R,
+    shelf: &FileShelf<'_, R>,
+) -> Result<Option<Counted<R::File>>, Fault>
+    ensures failed { IfOk result (λ found. IfSome found (λ file. file.calls.failed ≡ 0)) }
+    ensures interrupted { IfOk result (λ found. IfSome found (λ file. file.calls.interrupted ≡ 0)) }
+    ensures refused { IfErr result (λ fault. (fault ≡ Fault.NoFile) ⊎ (fault ≡ Fault.Memory)) }
+{
+    match shelf.found() {
+        Ok(Some(file)) => Ok(Some(Counted::new(file))),
+        Ok(None) => Ok(None),
+        Err(refusal) => Err(fault_of(rt, refusal)),
+    }
+}
+
+/// Makes a plan of the instance that the reader gives, which begins with the times in a file where one is named.
+#[tactic(auto, using(crate::proofs::Ends::finished))]
+fn begun<R: AllocGlobal + Eprint + Files, I: Source, W: Sink, S: Search, L: Listener>(
+    rt: &R,
+    reader: &mut I,
+    writer: &mut W,
+    period: u32,
+    from: Option<&str>,
+    plan: &mut S,
+    listener: &mut L,
+) -> Result<u8, Fault>
+    requires within { S.within plan.old }
+    requires reads_fit { FewerThan (2 ^ 62) (I.calls reader.old) }
+    requires writes_fit { FewerThan (2 ^ 62) (W.calls writer.old) }
+    ensures answered { IfOk result (AnswersBegun (S.writes plan.old plan.new) from.entry period
+        (over (I.remaining reader.old) (I.remaining reader.new)
+        (I.calls reader.old) (I.calls reader.new))
+        (over (W.contents writer.old) (W.contents writer.new)
+        (W.calls writer.old) (W.calls writer.new))) }
+    ensures stopped { IfErr result (λ fault. StopsBegun (S.stops plan.old) (S.writes plan.old plan.new) from.entry
+        fault period
+        (over (I.remaining reader.old) (I.remaining reader.new)
+        (I.calls reader.old) (I.calls reader.new))
+        (over (W.contents writer.old) (W.contents writer.new)
+        (W.calls writer.old) (W.calls writer.new))) }
+    ensures silent { IfErr result (λ fault. fault ≢ Fault.Write → writer.new ≡ writer.old) }
+{
+    let alloc = rt.alloc();
+    match from {
+        None => done(run_alone(alloc, plan, reader, writer, period)),
+        Some(file) => {
+            let mut times = opened_times(rt, file)?;
+            let run = run_from_old(alloc, plan, reader, &mut times, writer, period, listener);
+            warn_of_period(rt, &times.into_inner(), period);
+            done(run)
+        }
+    }
+}
+
+/// Makes a plan of the instance that the reader gives, and keeps it in a file: from the certificate that stands there, or its times
+/// where it is of other activities; where none stands there, from the times in a file where one is named.
+fn kept_in<R: AllocGlobal + Eprint + Files, I: Source, W: Sink, K: Overseer + Drop, L: Listener>(
+    rt: &R,
+    reader: &mut I,
+    writer: &mut W,
+    period: u32,
+    file: &str,
+    from: Option<&str>,
+    overseer: K,
+    listener: &mut L,
+) -> Result<u8, Fault>
+where
+    R::File: Lockable,
+    requires reads_fit { FewerThan (2 ^ 62) (I.calls reader.old) }
+    requires writes_fit { FewerThan (2 ^ 62) (W.calls writer.old) }
+    ensures answered { IfOk result (AnswersKept from.entry period
+        (over (I.remaining reader.old) (I.remaining reader.new)
+        (I.calls reader.old) (I.calls reader.new))
+        (over (W.contents writer.old) (W.contents writer.new)
+        (W.calls writer.old) (W.calls writer.new))) }
+    ensures stopped { IfErr result (λ fault. StopsKept from.entry fault period
+        (over (I.remaining reader.old) (I.remaining reader.new)
+        (I.calls reader.old) (I.calls reader.new))
+        (over (W.contents writer.old) (W.contents writer.new)
+        (W.calls writer.old) (W.calls writer.new))) }
+    ensures silent { IfErr result (λ fault. fault ≢ Fault.Write → writer.new ≡ writer.old) }
+{
+    let shelf = shelf_of(rt, file)?;
+    let found = found_on(rt, &shelf);
+    let mut plan = KeptPlan { shelf, overseer };
+    match found {
+        Ok(None) => begun(rt, reader, writer, period, from, &mut plan, listener),
+        Ok(Some(mut base)) => {
+            let alloc = rt.alloc();
+            done(run_on_standing(
+                alloc, &mut plan, reader, &mut base, writer, period, listener,
+            ))
+        }
+        Err(fault) => Err(fault),
+    }
+}
+
+/// Makes the plan that is asked for, of the instance that the reader gives.
+pub(crate) fn of_plan<R: AllocGlobal + Eprint + Files + Clock, I: Source, W: Sink>(
+    rt: &R,
+    reader: &mut I,
+    writer: &mut W,
+    period: u32,
+    asked: Planning<'_>,
+) -> Result<u8, Fault>
+where
+    R::File: Lockable,
+    requires reads_fit { FewerThan (2 ^ 62) (I.calls reader.old) }
+    requires writes_fit { FewerThan (2 ^ 62) (W.calls writer.old) }
+    ensures answered { IfOk result (AnswersPlan asked.entry.output asked.entry.from period
+        (over (I.remaining reader.old) (I.remaining reader.new)
+        (I.calls reader.old) (I.calls reader.new))
+        (over (W.contents writer.old) (W.contents writer.new)
+        (W.calls writer.old) (W.calls writer.new))) }
+    ensures stopped { IfErr result (λ fault. StopsPlan asked.entry.output asked.entry.from fault period
+        (over (I.remaining reader.old) (I.remaining reader.new)
+        (I.calls reader.old) (I.calls reader.new))
+        (over (W.contents writer.old) (W.contents writer.new)
+        (W.calls writer.old) (W.calls writer.new))) }
+    ensures silent { IfErr result (λ fault. fault ≢ Fault.Write → writer.new ≡ writer.old) }
+{
+    let Planning {
+        seconds,
+        output,
+        from,
+        quiet,
+        instance,
+    } = asked;
+    let again = Again {
+        period,
+        output,
+        instance,
+    };
+    let overseer = Planner::new(rt, seconds, quiet, again);
+    let mut hearer = Hearer::new(rt, quiet);
+    match output {
+        None => {
+            let mut plan = Plan { overseer };
+            begun(rt, reader, writer, period, from, &mut plan, &mut hearer)
+        }
+        Some(file) => kept_in(
+            rt,
+            reader,
+            writer,
+            period,
+            file,
+            from,
+            overseer,
+            &mut hearer,
+        ),
+    }
+}

@@ -1,0 +1,2 @@
+pub mod OldTimes
+pub mod Tables

@@ -1,0 +1,84 @@
+//! A plan that is written at its end.
+
+ghost use Rattle.std.specs.Prelude.{◌<◌, ◌^◌, OnOk, OnErr};
+ghost use Rattle.pesp_stream.specs.Counts.{FewerThan, HasWorked, DeviceFailed};
+ghost use Rattle.pesp_stream.specs.Writing.{Writes};
+ghost use Rattle.pesp_truth.specs.Truth.{IsTrueAnswer};
+ghost use Rattle.pesp_truth.specs.Certificates.{shown_times};
+ghost use Rattle.pesp_cert.specs.Fronted.{IsFrontedText, fronted_text};
+ghost use Rattle.pesp_sharp_search.specs.Solving.{IsNoWorse};
+ghost use Rattle.pesp_runs.specs.Bases.{IsSharpBase};
+
+use crate::overseer::Overseer;
+use crate::pursuit::go_to_end;
+use pesp_cert::print_fronted;
+use pesp_faults::Fault;
+use pesp_problem::Instance;
+use pesp_runs::Search;
+use pesp_sharp_search::Going;
+use pesp_stream::{Sink, WriteFault};
+use pesp_tasks::vouch;
+use std::alloc::Global;
+
+/// A plan that is made while an overseer lets it be, and written at its end: a certificate with a front where it has one.
+///
+/// What is written is the text of a certificate that is valid for the instance with its marked walks, so its answer is true. From
+/// times that are a timetable it has a cost, at most theirs. `Search` where the instance's cycles or the pairs of the root pass their
+/// limits, as `SolveSharp` says.
+#[derive(Drop)]
+pub struct Plan<K> {
+    pub overseer: K,
+}
+
+/// Goes on to the end, and writes what is known by then.
+fn finish<K: Overseer, W: Sink>(
+    alloc: Global,
+    instance: &Instance,
+    going: &mut Going,
+    overseer: &mut K,
+    writer: &mut W,
+) -> Result<(), WriteFault>
+    requires valid { IsSharpBase instance.now going.old }
+    requires fits { FewerThan (2 ^ 63) (W.calls writer.old) }
+    ensures valid { IsSharpBase instance.now going.new }
+    ensures is_true { IsTrueAnswer instance.now going.new.content.answer (shown_times going.new.content) }
+    ensures has_text { IsFrontedText (fronted_text going.new) going.new }
+    ensures no_worse { IsNoWorse going.old.content.answer going.new.content.answer }
+    ensures text { Writes (W.contents writer.old) (W.contents writer.new) (fronted_text going.new) result }
+    ensures counts { OnOk result (HasWorked (W.calls writer.old) (W.calls writer.new)) }
+    ensures fault { OnErr result (DeviceFailed (W.calls writer.old) (W.calls writer.new)) }
+{
+    go_to_end(alloc, instance, going, overseer);
+    let known = going.has();
+    vouch(instance, known);
+    overseer.ends(known.certificate.answer());
+    print_fronted(known, writer)
+}
+
+impl<K: Overseer> Search for Plan<K> {
+    ghost use Rattle.std.specs.Prelude.{⊤};
+    ghost use Rattle.pesp_tasks.specs.Solving.{SolutionStops};
+    ghost use Rattle.pesp_plan.specs.Planning.{WritesPlan};
+
+    ghost within = { λ _. ⊤ };
+
+    ghost writes = { λ _ _ p times Gets. WritesPlan p times Gets };
+
+    // What the first look passes it passes within 0 steps.
+    ghost stops = { λ _ p times fault cut. SolutionStops fault p 0 cut };
+
+    fn write<W: Sink>(
+        &mut self,
+        alloc: Global,
+        instance: &Instance,
+        times: &[u32],
+        writer: &mut W,
+    ) -> Result<(), Fault> {
+        self.overseer.begins(instance);
+        let mut going = Going::begin(alloc, instance, times, &mut self.overseer)?;
+        let written = finish(alloc, instance, &mut going, &mut self.overseer, writer);
+        drop(going);
+        written?;
+        Ok(())
+    }
+}

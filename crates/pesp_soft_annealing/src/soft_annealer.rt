@@ -98,23 +98,8 @@ impl SoftAnnealer {
         }
     }
 
-    /// The sweeps of an anneal in which rows may be broken from one number to another. `mean` is the mean cost of a row.
-    pub fn soften(&mut self, mean: u64, plan: &Plan, from: u32, to: u32) -> Result<(), Memory> {
-        for sweep in from..to {
-            if sweep % SWEEPS_OF_A_FOREST == 0 {
-                self.draw_forest()?;
-            }
-            if sweep % SWEEPS_OF_A_HEAT == 0 {
-                let heat = plan.soft.heat(mean, sweep);
-                self.moving.set_heat(heat, plan.price(mean, sweep));
-            }
-            self.sweep_softly();
-        }
-        Ok(())
-    }
-
-    /// Sweeps until no row is broken, at prices that are doubled for those that are; whether no row stays broken.
-    pub fn mend(&mut self) -> Result<bool, Memory> {
+    /// Sweeps until no row is broken, at prices that are doubled for those that are.
+    fn mend(&mut self) -> Result<(), AllocError> {
         for sweep in 0..MENDING_SWEEPS {
             if !self.moving.double_broken() {
                 break;
@@ -124,6 +109,23 @@ impl SoftAnnealer {
             }
             self.sweep_softly();
         }
+        Ok(())
+    }
+
+    /// An anneal in which rows may be broken, and sweeps that mend them; whether no row stays broken. `mean` is the mean cost of a
+    /// row.
+    pub fn soften(&mut self, mean: u64, plan: &Plan) -> Result<bool, Memory> {
+        for sweep in 0..plan.soft.sweeps {
+            if sweep % SWEEPS_OF_A_FOREST == 0 {
+                self.draw_forest()?;
+            }
+            if sweep % SWEEPS_OF_A_HEAT == 0 {
+                let heat = plan.soft.heat(mean, sweep);
+                self.moving.set_heat(heat, plan.price(mean, sweep));
+            }
+            self.sweep_softly();
+        }
+        self.mend()?;
         self.moving.count_cost();
         self.keep();
         Ok(self.moving.is_whole())
@@ -148,16 +150,10 @@ impl SoftAnnealer {
         Ok(())
     }
 
-    /// The sweeps of an anneal in which spans hold from one number to another. The cheapest slacks of the last quarter or of the end
-    /// stand.
-    pub fn harden(
-        &mut self,
-        mean: u64,
-        cooling: &Cooling,
-        from: u32,
-        to: u32,
-    ) -> Result<(), Memory> {
-        for sweep in from..to {
+    /// An anneal in which spans hold, and sweeps in which only shifts that cost no more are made. The cheapest slacks of the last
+    /// quarter or of the end stand.
+    pub fn harden(&mut self, mean: u64, cooling: &Cooling) -> Result<(), Memory> {
+        for sweep in 0..cooling.sweeps {
             if sweep % SWEEPS_OF_A_FOREST == 0 {
                 self.draw_forest()?;
             }
@@ -166,7 +162,7 @@ impl SoftAnnealer {
                 self.keep_cheaper();
             }
         }
-        Ok(())
+        self.descend()
     }
 
     /// What the slacks cost: the sum of weight times slack.

@@ -1,0 +1,4 @@
+pub mod Judging
+pub mod Passing
+pub mod Judged
+pub mod Placing

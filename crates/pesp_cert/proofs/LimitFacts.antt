@@ -8,7 +8,7 @@ use Rattle.pesp_truth.specs.Certificates.{Content, lines_of}
 use Rattle.pesp_cert_lines.proofs.Tests.{and_left, and_right}
 use Rattle.pesp_cert.specs.Limits.{is_period, has_costs, is_time, are_times, total_rows, is_cycle, are_cycles, total_pairs, is_line, are_lines, has_line, has_lines, keeps_limits, KeepsLimits}
 
-pub le_of : (m n : ℕ) → nat_le m n ≡ true → m ≤ n
+le_of : (m n : ℕ) → nat_le m n ≡ true → m ≤ n
 le_of m n h = grind (arith, nat_tests, h)
 
 pub limits_of : (c : Content) → keeps_limits c ≡ true → KeepsLimits c

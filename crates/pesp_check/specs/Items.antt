@@ -1,18 +1,15 @@
 -- Items by their place in a text, and their limits.
-use Rattle.std.specs.Prelude.{◌≡◌, ◌≤◌, List, [], ◌∷◌, length, Bool, true, false, unsigned_abs}
+use Rattle.std.specs.Prelude.{◌≤◌, List, [], ◌∷◌, length, Bool, true, false, unsigned_abs}
 use Rattle.pesp_problem.specs.declared.limits.TheConstants.{MOST_OFFSET, MOST_SIGNED_ROWS, MOST_SLACK}
 use Rattle.pesp_cert_lines.specs.declared.item.Item.{Item}
-use Rattle.pesp_cert_lines.specs.declared.item.Item.TheVariants.{Front, Scale, Walk, Lemma, Least, Version, Period, Answer as Says, Time, Cycle, Slack, Offset, Bound, Nothing, Gap, Propagated}
+use Rattle.pesp_cert_lines.specs.declared.item.Item.TheVariants.{Front, Scale, Walk, Version, Period, Answer as Says, Time, Cycle, Slack, Offset, Bound, Nothing, Gap, Propagated}
 use Rattle.pesp_leaves.specs.Flows.{ArePairLimits}
-use Rattle.pesp_lemma.specs.Limits.{keeps_limits}
 
 -- it comes behind the times
 abbrev pub is_later : Item → Bool
 is_later Front = false
 is_later (Scale n) = false
 is_later (Walk walk) = false
-is_later (Lemma ps) = false
-is_later (Least n) = false
 is_later (Version n) = false
 is_later (Period n) = false
 is_later (Says a) = false
@@ -39,7 +36,6 @@ begins_tree (item ∷ items) = is_line item
 
 -- what the limits of a text say of one item
 abbrev pub KeepsItemLimits : Item → Type 0
-KeepsItemLimits (Lemma ps) = keeps_limits ps ≡ true
 KeepsItemLimits (Cycle rows) = length rows ≤ MOST_SIGNED_ROWS
 KeepsItemLimits (Slack row k) = k ≤ MOST_SLACK
 KeepsItemLimits (Offset cycle k) = unsigned_abs k ≤ MOST_OFFSET

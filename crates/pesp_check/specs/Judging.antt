@@ -1,61 +1,35 @@
 -- What the items of a certificate's text that came say of the certificate, while others are still to come.
-use Rattle.std.specs.Prelude.{◌≡◌, ◌⊎◌, ℕ, ◌+◌, ◌<◌, ◌≤◌, Bool, true, false, List, [], ◌∷◌, ◌++◌, length, map, take, drop, if◌then◌else◌, option_map, ℤ, Option, Some, None, All, IfSome}
-use Rattle.std.specs.List.{flat_map, sum_by}
+use Rattle.std.specs.Prelude.{◌≡◌, ◌⊎◌, ℕ, ◌+◌, ◌<◌, ◌≤◌, Bool, true, false, List, [], ◌∷◌, ◌++◌, length, map, take, drop, ℤ, Option, Some, All, IfSome}
+use Rattle.std.specs.List.{list_all}
 use Rattle.pesp_problem.specs.Timetables.{Pesp}
 use Rattle.pesp_problem.specs.Arcs.{arcs_of, net_of}
 use Rattle.pesp_problem.specs.Walks.{IsWalk}
-use Rattle.pesp_problem.specs.Nodes.{Node, root, cycle_at}
+use Rattle.pesp_problem.specs.Nodes.{root, cycle_at}
 use Rattle.pesp_nets.specs.Marked.{IsMarkedWalk}
-use Rattle.pesp_nets.specs.declared.marked.MarkedRow.{MarkedRow}
 use Rattle.pesp_truth.specs.Marks.{Marks}
-use Rattle.pesp_lemma.specs.Lemmas.{Lemma}
-use Rattle.pesp_lemma.specs.Trees.{cost_goal}
-use Rattle.pesp_lemma.specs.Shown.{LemmaProof, AreShownFrom, lemmas_of}
-use Rattle.pesp_lemma.specs.Fronts.{Front as FrontOf, lemma_lines, front_lines}
-use Rattle.pesp_lemma_judges.specs.Lines.{AreJudgedFrom}
-use Rattle.pesp_lemma_judges.specs.Faults.{IsFirstFaultBehind}
-use Rattle.pesp_lemma_judges.specs.Showing.{KeptLemma, LemmaTo}
 use Rattle.pesp_truth.specs.declared.answer.Answer.{Answer}
 use Rattle.pesp_truth.specs.Trees.{are_trees}
 use Rattle.pesp_truth.specs.Certificates.{Content, line_of, least_of, shown_labels, shown_times, ShowsAnswer}
 use Rattle.pesp_cert_lines.specs.declared.item.Item.{Item}
-use Rattle.pesp_cert_lines.specs.declared.item.Item.TheVariants.{Front, Scale, Walk, Version, Period, Answer as Says, Cycle, End}
-use Rattle.pesp_cert.specs.Texts.{time_item, tree_item, lemma_items, front_items}
+use Rattle.pesp_cert_lines.specs.declared.item.Item.TheVariants.{Scale, Walk, Version, Period, Answer as Says, Cycle, End}
+use Rattle.pesp_cert.specs.Texts.{time_item, tree_item, front_items}
+use Rattle.pesp_cert.specs.Drafts.{FrontValue, no_front, front_said}
 use Rattle.pesp_nets.specs.declared.nets.NetCount.{NetCount}
 use Rattle.pesp_judges.specs.declared.refusal.Refusal.{Refusal}
 use Rattle.pesp_judges.specs.declared.refusal.Refusal.TheVariants.{OtherPeriod}
 use Rattle.pesp_judges.specs.Pending.{Standing}
 use Rattle.pesp_nets.specs.Nets.{AreNets}
-use Rattle.pesp_judges.specs.Faults.{IsAnswerFault}
+use Rattle.pesp_judges.specs.Faults.{IsAnswerFault, IsFirstFault, behind_front, first_tree_line}
 use Rattle.pesp_judges.specs.Lines.{AreJudged}
+use Rattle.pesp_check.specs.Items.{is_later}
 use Rattle.pesp_check.specs.declared.stage.Stage.{Stage}
 use Rattle.pesp_check.specs.declared.stage.Stage.TheVariants as stages
 
--- what the lines of a front said of its own scale and walks: whether one began, its scale, and its marked walks
-pub record MarksSaid : Type 0 where
-  pub begun : Bool
-  pub scale : ℕ
-  pub walks : List (List MarkedRow)
-
-abbrev pub no_marks : MarksSaid
-no_marks = record { begun = false; scale = 0; walks = [] }
-
-abbrev pub marks_noted : MarksSaid → Item → MarksSaid
-marks_noted f Front = record f { begun = true }
-marks_noted f (Scale n) = record f { scale = n }
-marks_noted f (Walk walk) = record f { walks = f.walks ++ walk ∷ [] }
-marks_noted f _ = f
-
-abbrev pub marks_said : MarksSaid → Option Marks
-marks_said f = if f.begun then Some (record { scale = f.scale; walks = f.walks }) else None
-
--- what is kept of the items that came: the number of the last line, what the lines of a front said, the lemmas that were shown,
--- the period, the answer, the times and the cycles' net counts; for the tree the front, and the nodes that wait
+-- what is kept of the items that came: the number of the last line, what the lines of a front said, the period, the answer, the
+-- times and the cycles' net counts; for the tree the front, and the nodes that wait
 pub record Kept : Type 0 where
   pub line : ℕ
-  pub draft : MarksSaid
-  pub facts : List Lemma
-  pub lemma : Option KeptLemma
+  pub draft : FrontValue
   pub front : Option Marks
   pub period : ℕ
   pub answer : Answer
@@ -93,22 +67,13 @@ times_from c k = map time_item (drop k c.times) ++ cycles_from c 0
 abbrev pub behind : Content → List Item
 behind c = Version c.version ∷ Period c.period ∷ Says c.answer ∷ times_from c 0
 
--- the lemmas behind the first j, and so on
-abbrev pub lemmas_from : FrontOf → Content → ℕ → List Item
-lemmas_from f c j = flat_map lemma_items (drop j f.lemmas) ++ behind c
-
 -- the marked walks behind the first k, and so on
-abbrev pub walks_from : FrontOf → Content → ℕ → List Item
-walks_from f c k = map Walk (drop k f.marks.walks) ++ lemmas_from f c 0
+abbrev pub walks_from : Marks → Content → ℕ → List Item
+walks_from marks c k = map Walk (drop k marks.walks) ++ behind c
 
 -- all of them
-abbrev pub items_left : Option FrontOf → Content → List Item
+abbrev pub items_left : Option Marks → Content → List Item
 items_left front c = front_items front ++ behind c
-
--- the number in the whole text of a line of the certificate's own
-abbrev pub own_line : Option FrontOf → ℕ → ℕ
-own_line None line = line
-own_line (Some f) line = front_lines f + line
 
 -- ---- what they say
 
@@ -118,69 +83,40 @@ IsFrontFault p period answer labels times refusal =
     ((refusal ≡ OtherPeriod) × (period ≡ p.period → ⊥)) ⊎ ((period ≡ p.period) × IsAnswerFault p answer labels times refusal)
 
 -- the scale of a front and k of its marked walks came
-pub record WalksTo (f : FrontOf) (c : Content) (rest : List Item) (kept : Kept) (k : ℕ) : Type 0 where
-  pub within : k ≤ length f.marks.walks
-  pub said : marks_said kept.draft ≡ Some (record { scale = f.marks.scale; walks = take k f.marks.walks })
+pub record WalksTo (marks : Marks) (c : Content) (rest : List Item) (kept : Kept) (k : ℕ) : Type 0 where
+  pub within : k ≤ length marks.walks
+  pub said : front_said kept.draft ≡ Some (record { scale = marks.scale; walks = take k marks.walks })
   pub line : kept.line ≡ 2 + k
-  pub left : rest ≡ walks_from f c k
+  pub left : rest ≡ walks_from marks c k
 
--- the walks came, and j lemmas, which are shown
-pub record LemmasShown (p : Pesp) (f : FrontOf) (kept : Kept) (j : ℕ) : Type 0 where
-  pub within : j ≤ length f.lemmas
-  pub said : marks_said kept.draft ≡ Some f.marks
-  pub shown : AreShownFrom (net_of p) [] (take j f.lemmas)
-  pub facts : kept.facts ≡ lemmas_of (take j f.lemmas)
-
--- the line before the lemma behind j others
-abbrev pub line_before : FrontOf → ℕ → ℕ
-line_before f j = (2 + length f.marks.walks) + sum_by lemma_lines (take j f.lemmas)
-
--- of the next lemma m lines came
-pub record LemmaCame (p : Pesp) (f : FrontOf) (c : Content) (rest : List Item) (kept : Kept) (j m : ℕ) : Type 0 where
-  pub lemma : LemmaProof
-  pub kept_lemma : KeptLemma
-  pub before : LemmasShown p f kept j
-  pub next : drop j f.lemmas ≡ lemma ∷ drop (j + 1) f.lemmas
-  pub some : kept.lemma ≡ Some kept_lemma
-  pub within : m ≤ lemma_lines lemma
-  pub came : LemmaTo p (lemmas_of (take j f.lemmas)) lemma (line_before f j + 1) kept_lemma m
-  pub line : kept.line ≡ line_before f j + m
-  pub left : rest ≡ drop m (lemma_items lemma) ++ lemmas_from f c (j + 1)
-
--- nothing came, or the first line of a front, or its scale and some marked walks, or some lines of a lemma
-abbrev pub MarksTo : Pesp → Option FrontOf → Content → List Item → Kept → Type 0
-MarksTo p front c rest kept =
-    ((kept.line ≡ 0) × (kept.draft ≡ no_marks) × (kept.facts ≡ []) × (kept.lemma ≡ None) × (rest ≡ items_left front c))
-    ⊎ ((f : FrontOf) × (front ≡ Some f) × (kept.line ≡ 1) × (kept.draft ≡ record no_marks { begun = true }) × (kept.facts ≡ [])
-    × (kept.lemma ≡ None) × (rest ≡ Scale f.marks.scale ∷ walks_from f c 0))
-    ⊎ ((f : FrontOf) × (k : ℕ) × (front ≡ Some f) × (kept.facts ≡ []) × (kept.lemma ≡ None) × WalksTo f c rest kept k)
-    ⊎ ((f : FrontOf) × (j m : ℕ) × (front ≡ Some f) × LemmaCame p f c rest kept j m)
-
--- all of the front came, and its lemmas are shown
-abbrev pub FrontCame : Pesp → Option FrontOf → Kept → Type 0
-FrontCame p None kept = (marks_said kept.draft ≡ None) × (kept.facts ≡ []) × (kept.lemma ≡ None)
-FrontCame p (Some f) kept = (kept.lemma ≡ None) × LemmasShown p f kept (length f.lemmas)
+-- nothing came, or the first line of a front, or its scale and some marked walks
+abbrev pub MarksTo : Option Marks → Content → List Item → Kept → Type 0
+MarksTo front c rest kept =
+    ((kept.line ≡ 0) × (kept.draft ≡ no_front) × (rest ≡ items_left front c))
+    ⊎ ((marks : Marks) × (front ≡ Some marks) × (kept.line ≡ 1) × (kept.draft ≡ record no_front { begun = true })
+    × (rest ≡ Scale marks.scale ∷ walks_from marks c 0))
+    ⊎ ((marks : Marks) × (k : ℕ) × (front ≡ Some marks) × WalksTo marks c rest kept k)
 
 -- k times came
-pub record TimesTo (front : Option FrontOf) (c : Content) (rest : List Item) (kept : Kept) (k : ℕ) : Type 0 where
+pub record TimesTo (front : Option Marks) (c : Content) (rest : List Item) (kept : Kept) (k : ℕ) : Type 0 where
   pub period : kept.period ≡ c.period
   pub answer : kept.answer ≡ c.answer
   pub within : k ≤ length c.times
   pub times : kept.times ≡ take k c.times
-  pub line : kept.line ≡ own_line front (3 + k)
+  pub line : kept.line ≡ behind_front front (3 + k)
   pub left : rest ≡ times_from c k
 
 -- the version came, or the period, or the answer and some times
-abbrev pub HeadTo : Option FrontOf → Content → List Item → Kept → Type 0
+abbrev pub HeadTo : Option Marks → Content → List Item → Kept → Type 0
 HeadTo front c rest kept =
-    ((kept.line ≡ own_line front 1) × (kept.times ≡ []) × (rest ≡ Period c.period ∷ Says c.answer ∷ times_from c 0))
-    ⊎ ((kept.line ≡ own_line front 2) × (kept.times ≡ []) × (kept.period ≡ c.period) × (rest ≡ Says c.answer ∷ times_from c 0))
+    ((kept.line ≡ behind_front front 1) × (kept.times ≡ []) × (rest ≡ Period c.period ∷ Says c.answer ∷ times_from c 0))
+    ⊎ ((kept.line ≡ behind_front front 2) × (kept.times ≡ []) × (kept.period ≡ c.period) × (rest ≡ Says c.answer ∷ times_from c 0))
     ⊎ ((k : ℕ) × TimesTo front c rest kept k)
 
 -- the front is coming, or it came
-abbrev pub FrontTo : Pesp → Option FrontOf → Content → List Item → Kept → Type 0
-FrontTo p front c rest kept =
-    ((kept.times ≡ []) × MarksTo p front c rest kept) ⊎ (FrontCame p front kept × HeadTo front c rest kept)
+abbrev pub FrontTo : Option Marks → Content → List Item → Kept → Type 0
+FrontTo front c rest kept =
+    ((kept.times ≡ []) × MarksTo front c rest kept) ⊎ ((front_said kept.draft ≡ front) × HeadTo front c rest kept)
 
 -- the period is the instance's, and the answer shows what it has to
 pub record IsShown (p : Pesp) (c : Content) (kept : Kept) : Type 0 where
@@ -189,52 +125,36 @@ pub record IsShown (p : Pesp) (c : Content) (kept : Kept) : Type 0 where
   pub shows : ShowsAnswer p c.answer (shown_labels c) (shown_times c)
 
 -- k cycles came, and they are walks
-pub record CyclesTo (p : Pesp) (front : Option FrontOf) (c : Content) (rest : List Item) (kept : Kept) (k : ℕ) : Type 0 where
+pub record CyclesTo (p : Pesp) (front : Option Marks) (c : Content) (rest : List Item) (kept : Kept) (k : ℕ) : Type 0 where
   pub shown : IsShown p c kept
-  pub front_came : FrontCame p front kept
+  pub front_is : front_said kept.draft ≡ front
   pub within : k ≤ length c.cycles
   pub nets : AreNets (length p.rows) (take k c.cycles) kept.table
   pub walks : (i : ℕ) → i < k → IsWalk (arcs_of p) (cycle_at c.cycles i)
-  pub line : kept.line ≡ own_line front (3 + length c.times + k)
+  pub line : kept.line ≡ behind_front front (3 + length c.times + k)
   pub left : rest ≡ cycles_from c k
 
--- without lemmas as ever
-abbrev pub IsJudgedFront : FrontOf → List LemmaProof → Pesp → Content → List Node → ℕ → Type 0
-IsJudgedFront f [] p c nodes k = AreJudged (Some f.marks) (net_of p) c.cycles (least_of c.answer) c.tree (root (net_of p) c.cycles)
-    (own_line (Some f) (4 + length c.times + length c.cycles)) nodes k
-IsJudgedFront f (s ∷ shown) p c nodes k = AreJudgedFrom f.marks (lemmas_of f.lemmas) (net_of p) c.cycles
-    (cost_goal (net_of p) (least_of c.answer)) c.tree (root (net_of p) c.cycles)
-    (own_line (Some f) (4 + length c.times + length c.cycles)) nodes k
-
--- k lines of the tree came, and each is sound at its node: what those that are left say decides of all
-abbrev pub AreJudgedBehind : Pesp → Option FrontOf → Content → List Node → ℕ → Type 0
-AreJudgedBehind p None c nodes k = AreJudged None (net_of p) c.cycles (least_of c.answer) c.tree (root (net_of p) c.cycles)
-    (own_line None (4 + length c.times + length c.cycles)) nodes k
-AreJudgedBehind p (Some f) c nodes k = IsJudgedFront f f.lemmas p c nodes k
-
 -- the marked walks are closed, k lines of the tree came, and each is sound at its node
-pub record TreeTo (p : Pesp) (front : Option FrontOf) (c : Content) (rest : List Item) (kept : Kept) (k : ℕ) (standing : Standing) : Type 0 where
+pub record TreeTo (p : Pesp) (front : Option Marks) (c : Content) (rest : List Item) (kept : Kept) (k : ℕ) (standing : Standing) : Type 0 where
   pub shown : IsShown p c kept
-  pub front_is : kept.front ≡ option_map (λ f. f.marks) front
-  pub facts : IfSome front (λ f. kept.facts ≡ lemmas_of f.lemmas)
-  pub lemmas : IfSome front (λ f. AreShownFrom (net_of p) [] f.lemmas)
+  pub front_is : kept.front ≡ front
   pub walks : All (IsWalk (arcs_of p)) c.cycles
   pub nets : AreNets (length p.rows) c.cycles kept.table
-  pub closed : IfSome front (λ f. All (IsMarkedWalk (arcs_of p)) f.marks.walks)
+  pub closed : IfSome front (λ marks. All (IsMarkedWalk (arcs_of p)) marks.walks)
   pub walk : kept.walk ≡ Some standing
   pub whole : are_trees (length standing.nodes) (map line_of (drop k c.tree)) ≡ true
-  pub judged : AreJudgedBehind p front c standing.nodes k
-  pub line : kept.line ≡ own_line front (3 + length c.times + length c.cycles + k)
+  pub judged : AreJudged front (net_of p) c.cycles (least_of c.answer) c.tree (root (net_of p) c.cycles) (first_tree_line front c) standing.nodes k
+  pub line : kept.line ≡ behind_front front (3 + length c.times + length c.cycles + k)
   pub left : rest ≡ tree_from c k
 
--- an item was wrong: where it is one of a lemma, others of the front may be left
-pub record RefusedTo (p : Pesp) (front : Option FrontOf) (c : Content) (rest : List Item) (kept : Kept) (refusal : Refusal) : Type 0 where
-  pub none : kept.lemma ≡ None
-  pub answer : (kept.answer ≡ c.answer) ⊎ ((before : List Item) × (more : List Item) × (rest ≡ before ++ Says c.answer ∷ more))
-  pub first : IsFirstFaultBehind front p c refusal
+-- an item was wrong
+pub record RefusedTo (p : Pesp) (front : Option Marks) (c : Content) (rest : List Item) (kept : Kept) (refusal : Refusal) : Type 0 where
+  pub answer : kept.answer ≡ c.answer
+  pub later : list_all is_later rest ≡ true
+  pub first : IsFirstFault front p c refusal
 
-abbrev pub JudgedAt : Stage → Pesp → Option FrontOf → Content → List Item → Kept → Type 0
-JudgedAt stages.Front p front c rest kept = (kept.table ≡ []) × FrontTo p front c rest kept
+abbrev pub JudgedAt : Stage → Pesp → Option Marks → Content → List Item → Kept → Type 0
+JudgedAt stages.Front p front c rest kept = (kept.table ≡ []) × FrontTo front c rest kept
 JudgedAt stages.Cycles p front c rest kept = (k : ℕ) × CyclesTo p front c rest kept k
 JudgedAt stages.Tree p front c rest kept = (k : ℕ) × (standing : Standing) × TreeTo p front c rest kept k standing
 JudgedAt (stages.Refused refusal) p front c rest kept = RefusedTo p front c rest kept refusal

@@ -5,7 +5,7 @@ ghost use Rattle.std.specs.Option.{ForSome, is_some};
 ghost use Rattle.pesp_problem.specs.declared.limits.TheConstants.{MOST_SIGNED_ROWS};
 ghost use Rattle.pesp_problem.specs.Arcs.{arcs_of};
 ghost use Rattle.pesp_problem.specs.Walks.{RowExists};
-ghost use Rattle.pesp_lemma.specs.Fronts.{Front};
+ghost use Rattle.pesp_truth.specs.Marks.{Marks};
 ghost use Rattle.pesp_truth.specs.Certificates.{Content, ShowsAnswer};
 ghost use Rattle.pesp_cert_lines.specs.declared.item.Item.{Item as LineItem};
 ghost use Rattle.pesp_cert_lines.specs.declared.item.Item.TheVariants as items;
@@ -13,42 +13,35 @@ ghost use Rattle.pesp_cert.specs.Texts.{HasText, tree_item};
 ghost use Rattle.pesp_cert_items.specs.Lent.{is_own, line_said, listed, rows_in};
 ghost use Rattle.pesp_nets.specs.Nets.{AreZeros, AreSmallCounts};
 ghost use Rattle.pesp_judges.specs.SaidLines.{KeepsSaidLimits};
-ghost use Rattle.pesp_lemma_judges.specs.Faults.{IsVerdictBehind};
+ghost use Rattle.pesp_judges.specs.Faults.{IsVerdict};
 ghost use Rattle.pesp_check.specs.Said.{pairs_of, tree_line};
 ghost use Rattle.pesp_check.specs.Items.{KeepsItemLimits, begins_later, begins_tree, is_line};
 ghost use Rattle.pesp_check.specs.declared.stage.Stage.TheVariants as stages;
 ghost use Rattle.pesp_check.specs.Judging.{JudgedAt, items_left, IsFrontFault, is_front, is_before_tree};
 
 use crate::elements::{PairsLeft, RowsLeft};
-use crate::front_walks::{
-    MarksDraft, front_arcs, front_of, front_rates, note_line, walk_of, walks_fault,
-};
-use crate::own_goal::{own_least, own_weights};
+use crate::front_walks::{front_arcs, front_of, front_rates, note_line, walks_fault};
 use crate::stage::Stage;
-use pesp_cert_items::{Item, LinePairs, SignedRows, TextLine};
+use pesp_cert::FrontDraft;
+use pesp_cert_items::{Item, SignedRows, TextLine};
 use pesp_judges::{
     Checker, LeafLine, Nets, NodeWalk, Refusal, SaidLine, Verdict, judge_answer, judge_cycle,
-    least_of, root, take_line, zeros,
+    least_of, root, take_line,
 };
-use pesp_lemma::Lemma;
-use pesp_lemma_judges::{LemmaJudge, Shown, take_line as take_line_from};
 use pesp_nets::Rates;
 use pesp_problem::{Arc, Cut, Instance, MOST_CYCLES, Memory};
 use pesp_truth::{Answer, Marks};
 use std::alloc::{AllocError, Global};
 use std::mem::replace;
 
-/// What is kept of a text while its lines come: the number of the last line, what the lines of a front said, of its lemmas those
-/// that were shown and the one that is being shown, the period, the answer, the times and the net counts of the cycles; for the
-/// tree the front, what leaves that name its marked walks and lemmas ask for, and the present node with the way to it. The list
-/// of places is kept for all cycles.
+/// What is kept of a text while its lines come: the number of the last line, what the lines of a front said, the period, the
+/// answer, the times and the net counts of the cycles; for the tree the front, what leaves that name its marked walks ask for,
+/// and the present node with the way to it. The list of places is kept for all cycles.
 #[derive(Drop)]
 pub struct Judge<'a> {
     instance: &'a Instance,
     line: u64,
-    draft: MarksDraft,
-    lemma: Option<LemmaJudge<'a>>,
-    facts: Vec<Lemma>,
+    draft: FrontDraft,
     front: Option<Marks>,
     period: u32,
     answer: Answer,
@@ -57,8 +50,6 @@ pub struct Judge<'a> {
     places: Vec<u32>,
     arcs: Vec<Arc>,
     rates: Vec<Rates>,
-    own: Vec<i64>,
-    taken: Vec<i128>,
     walk: Option<NodeWalk<'a>>,
     stage: Stage,
     ghost small: { All (AreSmallCounts (length instance.now.rows)) table.items },
@@ -129,15 +120,13 @@ impl<'a> Judge<'a> {
     pub fn new(alloc: Global, instance: &'a Instance) -> Judge<'a>
         ensures instance { result.instance.now ≡ instance.now }
         ensures line { result.line ≡ 0 }
-        ensures judged { (front : Option Front) (c : Content)
+        ensures judged { (front : Option Marks) (c : Content)
             → JudgedAt result.stage instance.now front c (items_left front c) (kept result) }
     {
         Judge {
             instance,
             line: 0,
-            draft: MarksDraft::new(alloc),
-            lemma: None,
-            facts: Vec::new(alloc),
+            draft: FrontDraft::new(alloc),
             front: None,
             period: 0,
             answer: Answer::Infeasible,
@@ -146,8 +135,6 @@ impl<'a> Judge<'a> {
             places: Vec::new(alloc),
             arcs: Vec::new(alloc),
             rates: Vec::new(alloc),
-            own: Vec::new(alloc),
-            taken: Vec::new(alloc),
             walk: None,
             stage: Stage::Front,
         }
@@ -159,7 +146,7 @@ impl<'a> Judge<'a> {
         ensures line { self.new.line ≡ self.old.line }
         ensures past { OnOk result (is_front self.new.stage ≡ false) }
         ensures judged { OnOk result
-            ((front : Option Front) (c : Content) (rest : List LineItem) → begins_later rest ≡ true
+            ((front : Option Marks) (c : Content) (rest : List LineItem) → begins_later rest ≡ true
             → JudgedAt self.old.stage self.old.instance.now front c rest (kept self.old)
             → JudgedAt self.new.stage self.old.instance.now front c rest (kept self.new)) }
     {
@@ -185,12 +172,12 @@ impl<'a> Judge<'a> {
         ensures line { self.new.line ≡ self.old.line }
         ensures zeros { OnOk result (AreZeros working.new) }
         ensures past { OnOk result (is_before_tree self.new.stage ≡ false) }
-        ensures judged { OnOk result ((front : Option Front) (c : Content) (rest : List LineItem)
+        ensures judged { OnOk result ((front : Option Marks) (c : Content) (rest : List LineItem)
             → HasText front c → begins_tree rest ≡ true
             → JudgedAt self.old.stage self.old.instance.now front c rest (kept self.old)
             → JudgedAt self.new.stage self.old.instance.now front c rest (kept self.new)) }
     {
-        let draft = replace(&mut self.draft, MarksDraft::new(alloc));
+        let draft = replace(&mut self.draft, FrontDraft::new(alloc));
         self.front = front_of(draft);
         // A text has no more cycles.
         let cycles = self.table.len().min(MOST_CYCLES);
@@ -201,10 +188,6 @@ impl<'a> Judge<'a> {
         }
         self.arcs = front_arcs(alloc, self.instance, &self.front)?;
         self.rates = front_rates(alloc, self.instance.rows().len(), &self.front)?;
-        if !self.facts.is_empty() {
-            self.own = own_weights(alloc, self.instance)?;
-            self.taken = zeros(alloc, self.instance.rows().len())?;
-        }
         let ranges = root(alloc, self.instance, &self.table)?;
         self.walk = Some(NodeWalk::new(alloc, self.instance, ranges));
         self.stage = Stage::Tree;
@@ -221,7 +204,7 @@ impl<'a> Judge<'a> {
         ensures line { self.new.line ≡ self.old.line }
         ensures zeros { OnOk result (AreZeros working.new) }
         ensures past { OnOk result (is_before_tree self.new.stage ≡ false) }
-        ensures judged { OnOk result ((front : Option Front) (c : Content) (rest : List LineItem)
+        ensures judged { OnOk result ((front : Option Marks) (c : Content) (rest : List LineItem)
             → HasText front c → begins_tree rest ≡ true
             → JudgedAt self.old.stage self.old.instance.now front c rest (kept self.old)
             → JudgedAt self.new.stage self.old.instance.now front c rest (kept self.new)) }
@@ -247,7 +230,7 @@ impl<'a> Judge<'a> {
         ensures instance { self.new.instance.now ≡ self.old.instance.now }
         ensures line { OnOk result (self.new.line ≡ self.old.line + 1) }
         ensures zeros { OnOk result (AreZeros working.new) }
-        ensures judged { OnOk result ((front : Option Front) (c : Content) (rest : List LineItem)
+        ensures judged { OnOk result ((front : Option Marks) (c : Content) (rest : List LineItem)
             → JudgedAt self.old.stage self.old.instance.now front c
             (items.Cycle (rows_in rows.entry) ∷ rest) (kept self.old)
             → JudgedAt self.new.stage self.old.instance.now front c rest (kept self.new)) }
@@ -282,7 +265,7 @@ impl<'a> Judge<'a> {
         ensures instance { self.new.instance.now ≡ self.old.instance.now }
         ensures line { OnOk result (self.new.line ≡ self.old.line + 1) }
         ensures zeros { OnOk result (AreZeros working.new) }
-        ensures judged { OnOk result ((front : Option Front) (c : Content) (rest : List LineItem)
+        ensures judged { OnOk result ((front : Option Marks) (c : Content) (rest : List LineItem)
             → JudgedAt self.old.stage self.old.instance.now front c
             (items.Cycle (rows_in rows.entry) ∷ rest) (kept self.old)
             → JudgedAt self.new.stage self.old.instance.now front c rest (kept self.new)) }
@@ -311,7 +294,7 @@ impl<'a> Judge<'a> {
         ensures line { OnOk result (self.new.line ≡ self.old.line + 1) }
         ensures zeros { OnOk result (AreZeros working.new) }
         ensures judged { OnOk result
-            ((front : Option Front) (c : Content) (rest : List LineItem) → HasText front c
+            ((front : Option Marks) (c : Content) (rest : List LineItem) → HasText front c
             → JudgedAt self.old.stage self.old.instance.now front c
             (tree_item (tree_line pairs_of said.entry) ∷ rest) (kept self.old)
             → JudgedAt self.new.stage self.old.instance.now front c rest (kept self.new)) }
@@ -341,62 +324,6 @@ impl<'a> Judge<'a> {
         Ok(())
     }
 
-    /// Judges a line of the tree at the first of the nodes that wait. It may name lemmas.
-    fn judge_line_from(
-        &mut self,
-        alloc: Global,
-        said: SaidLine<PairsLeft<'_>>,
-        working: &mut [i128],
-    ) -> Result<(), Memory>
-        requires stage { self.old.stage ≡ stages.Tree }
-        requires limits { KeepsSaidLimits pairs_of said }
-        requires few { self.old.line < 2 ^ 31 }
-        requires long { length working.old ≡ length self.old.instance.now.rows }
-        requires zeros { AreZeros working.old }
-        ensures instance { self.new.instance.now ≡ self.old.instance.now }
-        ensures line { OnOk result (self.new.line ≡ self.old.line + 1) }
-        ensures zeros { OnOk result (AreZeros working.new) }
-        ensures judged { OnOk result
-            ((front : Option Front) (c : Content) (rest : List LineItem) → HasText front c
-            → JudgedAt self.old.stage self.old.instance.now front c
-            (tree_item (tree_line pairs_of said.entry) ∷ rest) (kept self.old)
-            → JudgedAt self.new.stage self.old.instance.now front c rest (kept self.new)) }
-    {
-        let least = own_least(least_of(self.answer));
-        self.line += 1;
-        let Some(walk) = &mut self.walk else {
-            return Ok(());
-        };
-        let Some(marks) = &self.front else {
-            return Ok(());
-        };
-        if walk.is_done() {
-            return Ok(());
-        }
-        let checker = Checker::new(self.instance, &self.table, &self.front, &self.arcs, None);
-        let shown = Shown {
-            marks,
-            facts: &self.facts,
-            weights: &self.own,
-            least,
-        };
-        let found = take_line_from(
-            alloc,
-            &checker,
-            &shown,
-            walk,
-            said,
-            self.line,
-            working,
-            &mut self.taken,
-            &mut self.rates,
-        )?;
-        if let Some(refusal) = found {
-            self.stage = Stage::Refused(refusal);
-        }
-        Ok(())
-    }
-
     /// Takes a line of the tree.
     fn take_line(
         &mut self,
@@ -412,7 +339,7 @@ impl<'a> Judge<'a> {
         ensures line { OnOk result (self.new.line ≡ self.old.line + 1) }
         ensures zeros { OnOk result (AreZeros working.new) }
         ensures judged { OnOk result
-            ((front : Option Front) (c : Content) (rest : List LineItem) → HasText front c
+            ((front : Option Marks) (c : Content) (rest : List LineItem) → HasText front c
             → JudgedAt self.old.stage self.old.instance.now front c
             (tree_item (tree_line pairs_of said.entry) ∷ rest) (kept self.old)
             → JudgedAt self.new.stage self.old.instance.now front c rest (kept self.new)) }
@@ -420,10 +347,7 @@ impl<'a> Judge<'a> {
         self.end_front(alloc)?;
         self.end_cycles(alloc, working)?;
         if self.stage == Stage::Tree {
-            if self.facts.is_empty() {
-                return self.judge_line(alloc, said, working);
-            }
-            return self.judge_line_from(alloc, said, working);
+            return self.judge_line(alloc, said, working);
         }
         self.line += 1;
         Ok(())
@@ -435,7 +359,7 @@ impl<'a> Judge<'a> {
         requires few { self.old.line < 2 ^ 31 }
         ensures instance { self.new.instance.now ≡ self.old.instance.now }
         ensures line { OnOk result (self.new.line ≡ self.old.line + 1) }
-        ensures judged { OnOk result ((front : Option Front) (c : Content) (rest : List LineItem)
+        ensures judged { OnOk result ((front : Option Marks) (c : Content) (rest : List LineItem)
             → JudgedAt self.old.stage self.old.instance.now front c (line_said line.entry ∷ rest)
             (kept self.old)
             → JudgedAt self.new.stage self.old.instance.now front c rest (kept self.new)) }
@@ -460,7 +384,7 @@ impl<'a> Judge<'a> {
         ensures line { OnOk result (self.new.line ≡ self.old.line + 1) }
         ensures zeros { OnOk result (AreZeros working.new) }
         ensures judged { OnOk result
-            ((front : Option Front) (c : Content) (rest : List LineItem) → HasText front c
+            ((front : Option Marks) (c : Content) (rest : List LineItem) → HasText front c
             → JudgedAt self.old.stage self.old.instance.now front c (listed item.entry ∷ rest)
             (kept self.old)
             → JudgedAt self.new.stage self.old.instance.now front c rest (kept self.new)) }
@@ -490,108 +414,6 @@ impl<'a> Judge<'a> {
         }
     }
 
-    /// The lemma that was being shown is whole: the trees behind it may name it.
-    fn end_lemma(&mut self) -> Result<(), Memory>
-        ensures instance { self.new.instance.now ≡ self.old.instance.now }
-        ensures line { self.new.line ≡ self.old.line }
-    {
-        if let Some(lemma) = self.lemma.take() {
-            self.facts.push(lemma.into_lemma())?;
-        }
-        Ok(())
-    }
-
-    /// Something is wrong with a lemma, where something is.
-    fn refuse(&mut self, found: Option<Refusal>)
-        ensures instance { self.new.instance.now ≡ self.old.instance.now }
-        ensures line { self.new.line ≡ self.old.line }
-    {
-        if let Some(refusal) = found {
-            self.lemma = None;
-            self.stage = Stage::Refused(refusal);
-        }
-    }
-
-    /// Takes the rows of a lemma, with their weights.
-    fn begin_lemma(&mut self, alloc: Global, pairs: LinePairs<'_>) -> Result<(), Memory>
-        requires few { self.old.line < 2 ^ 31 }
-        ensures instance { self.new.instance.now ≡ self.old.instance.now }
-        ensures line { OnOk result (self.new.line ≡ self.old.line + 1) }
-    {
-        self.end_lemma()?;
-        self.line += 1;
-        if self.stage != Stage::Front {
-            return Ok(());
-        }
-        let weights = pairs.collect(alloc)?;
-        let Ok(fact) = Lemma::new(weights, 0) else {
-            return Ok(());
-        };
-        let lemma = LemmaJudge::new(alloc, self.instance, fact, self.line);
-        let found = lemma.rows_fault();
-        self.lemma = Some(lemma);
-        self.refuse(found);
-        Ok(())
-    }
-
-    /// Takes a cycle, or a line of the tree, of the lemma that is being shown.
-    fn show_item(
-        &mut self,
-        alloc: Global,
-        item: Item<'_>,
-        working: &mut [i128],
-    ) -> Result<Option<Refusal>, Memory>
-        requires limits { KeepsItemLimits (listed item) }
-        requires few { self.old.line < 2 ^ 31 }
-        requires long { length working.old ≡ length self.old.instance.now.rows }
-        requires zeros { AreZeros working.old }
-        ensures instance { self.new.instance.now ≡ self.old.instance.now }
-        ensures line { self.new.line ≡ self.old.line }
-        ensures zeros { OnOk result (AreZeros working.new) }
-    {
-        let Some(lemma) = &mut self.lemma else {
-            return Ok(None);
-        };
-        let line = self.line;
-        match item {
-            Item::Cycle(rows) => Ok(lemma.take_cycle(alloc, RowsLeft(rows), line, working)?),
-            Item::Version(_) | Item::Period(_) | Item::Answer(_) | Item::Time(_, _) => Ok(None),
-            said => lemma.take_line(alloc, &self.facts, said_line(said), line, working),
-        }
-    }
-
-    /// Takes a line of the lemma that is being shown.
-    fn show_line(
-        &mut self,
-        alloc: Global,
-        line: TextLine<'_>,
-        working: &mut [i128],
-    ) -> Result<(), Memory>
-        requires limits { KeepsItemLimits (line_said line) }
-        requires few { self.old.line < 2 ^ 31 }
-        requires long { length working.old ≡ length self.old.instance.now.rows }
-        requires zeros { AreZeros working.old }
-        ensures instance { self.new.instance.now ≡ self.old.instance.now }
-        ensures line { OnOk result (self.new.line ≡ self.old.line + 1) }
-        ensures zeros { OnOk result (AreZeros working.new) }
-    {
-        self.line += 1;
-        let Some(lemma) = &mut self.lemma else {
-            return Ok(());
-        };
-        match line {
-            TextLine::Least(least) => lemma.take_least(least),
-            TextLine::Scale(scale) => lemma.take_scale(scale),
-            TextLine::Walk(rows) => lemma.take_walk(walk_of(alloc, rows)?)?,
-            TextLine::Own(item) => {
-                let found = self.show_item(alloc, item, working)?;
-                self.refuse(found);
-            }
-            TextLine::Front | TextLine::Lemma(_) => {}
-        }
-        Ok(())
-    }
-
     /// Takes the next line. The working numbers, one a row, are 0 before and after.
     pub fn take(
         &mut self,
@@ -607,19 +429,12 @@ impl<'a> Judge<'a> {
         ensures line { OnOk result (self.new.line ≡ self.old.line + 1) }
         ensures zeros { OnOk result (AreZeros working.new) }
         ensures judged { OnOk result
-            ((front : Option Front) (c : Content) (rest : List LineItem) → HasText front c
+            ((front : Option Marks) (c : Content) (rest : List LineItem) → HasText front c
             → JudgedAt self.old.stage self.old.instance.now front c (line_said line.entry ∷ rest)
             (kept self.old)
             → JudgedAt self.new.stage self.old.instance.now front c rest (kept self.new)) }
     {
         match line {
-            TextLine::Lemma(pairs) => self.begin_lemma(alloc, pairs),
-            TextLine::Own(Item::Version(_)) => {
-                self.end_lemma()?;
-                self.line += 1;
-                Ok(())
-            }
-            shown if self.lemma.is_some() => self.show_line(alloc, shown, working),
             TextLine::Own(item) => self.take_item(alloc, item, working),
             mark => self.take_mark(alloc, mark),
         }
@@ -627,7 +442,7 @@ impl<'a> Judge<'a> {
 
     /// The answer of the text.
     pub fn answer(&self) -> Answer
-        ensures { (front : Option Front) (c : Content) → HasText front c
+        ensures { (front : Option Marks) (c : Content) → HasText front c
             → JudgedAt self.now.stage self.now.instance.now front c (items.End ∷ []) (kept self.now)
             → result ≡ c.answer }
     {
@@ -636,9 +451,9 @@ impl<'a> Judge<'a> {
 
     /// What the checker says of the text, where all its items came.
     pub fn verdict(&self) -> Verdict
-        ensures { (front : Option Front) (c : Content) → HasText front c
+        ensures { (front : Option Marks) (c : Content) → HasText front c
             → JudgedAt self.now.stage self.now.instance.now front c (items.End ∷ []) (kept self.now)
-            → IsVerdictBehind front self.now.instance.now c result }
+            → IsVerdict front self.now.instance.now c result }
     {
         match self.stage {
             Stage::Refused(refusal) => Verdict::Refused(refusal),

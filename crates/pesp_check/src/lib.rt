@@ -7,8 +7,6 @@ mod elements;
 mod fault;
 mod front_walks;
 mod judge;
-mod lemma_check;
-mod own_goal;
 mod stage;
 mod text_check;
 mod whole_check;

@@ -13,6 +13,18 @@ pub struct Passed<'a> {
     pub to: u32,
 }
 
+impl<'a> Passed<'a> {
+    /// The same activity, passed the other way.
+    fn back(self) -> Passed<'a> {
+        let row = self.row;
+        Passed {
+            forward: !self.forward,
+            to: if self.forward { row.tail } else { row.head },
+            ..self
+        }
+    }
+}
+
 /// The listed rows.
 fn listed_rows<'a>(
     alloc: Global,
@@ -96,4 +108,13 @@ pub fn closed_walk<'a>(
 ) -> Result<Option<Vec<Passed<'a>>>, AllocError> {
     let rows = listed_rows(alloc, instance, numbers)?;
     walk_of(alloc, &rows)
+}
+
+/// The same closed walk the other way round, from the same event on.
+pub fn turned<'a>(alloc: Global, walk: &[Passed<'a>]) -> Result<Vec<Passed<'a>>, AllocError> {
+    let mut other = Vec::new(alloc);
+    for passed in walk.iter().rev() {
+        other.push(passed.back())?;
+    }
+    Ok(other)
 }

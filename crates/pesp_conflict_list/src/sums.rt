@@ -1,6 +1,6 @@
 //! The sum of a closed walk in words.
 
-use crate::closed::{Passed, closed_walk};
+use crate::closed::{Passed, closed_walk, turned};
 use pesp_problem::Instance;
 use pesp_report::Names;
 use std::alloc::{AllocError, Global};
@@ -64,14 +64,12 @@ fn sum_of(walk: &[Passed<'_>]) -> Sum {
     sum
 }
 
-/// The same sum, the other way round where it is below 0.
-fn upward(sum: Sum) -> Sum {
-    if sum.greatest >= 0 {
-        return sum;
-    }
-    Sum {
-        least: sum.greatest.saturating_neg(),
-        greatest: sum.least.saturating_neg(),
+/// A closed walk in the direction in which its greatest sum isn't below 0.
+fn upward<'a>(alloc: Global, walk: Vec<Passed<'a>>) -> Result<Vec<Passed<'a>>, AllocError> {
+    if sum_of(&walk).greatest >= 0 {
+        Ok(walk)
+    } else {
+        turned(alloc, &walk)
     }
 }
 
@@ -112,7 +110,7 @@ fn add_events(
 
 /// Adds what is wrong with a sum: what is wanted, and the multiples of the period on both sides.
 fn add_wanted(words: &mut String, period: u32, sum: Sum) -> Result<(), AllocError> {
-    let Sum { least, greatest } = upward(sum);
+    let Sum { least, greatest } = sum;
     let length = i64::from(period.max(1));
     let below = greatest.div_euclid(length).saturating_mul(length);
     let above = below.saturating_add(length);
@@ -122,8 +120,9 @@ fn add_wanted(words: &mut String, period: u32, sum: Sum) -> Result<(), AllocErro
     )
 }
 
-/// Adds the sum in words where the listed rows make up one closed walk and names are told: the events along it, the least and the
-/// greatest sum of the durations, and the multiples of the period next to it, of which neither lies between.
+/// Adds the sum in words where the listed rows make up one closed walk and names are told: the events along it, in the direction in
+/// which its greatest sum isn't below 0, the least and the greatest sum of the durations, and the multiples of the period next to
+/// it, of which neither lies between.
 pub fn add_sums(
     alloc: Global,
     instance: &Instance,
@@ -137,6 +136,7 @@ pub fn add_sums(
     let Some(walk) = closed_walk(alloc, instance, rows)? else {
         return Ok(());
     };
+    let walk = upward(alloc, walk)?;
     add_events(words, instance, names, &walk)?;
     add_wanted(words, instance.period(), sum_of(&walk))
 }

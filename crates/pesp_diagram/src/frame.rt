@@ -23,7 +23,7 @@ const BELOW: u32 = 30;
 
 /// The classes of lines, marks and texts.
 const STYLE: &str =
-    "<style>.run{stroke:#1f5a94;stroke-width:2}.back{stroke:#8a3b00;stroke-width:2;stroke-dasharray:9 3}.stand{stroke:#f58518;stroke-width:4}.wait{stroke:#a02c2c;stroke-dasharray:2 3}.apart{stroke:#777;stroke-width:3;stroke-dasharray:1 4}.run,.back,.stand,.wait,.apart{fill:none}.minute{font-size:9px}.leave{fill:#fff;stroke:#a02c2c;stroke-width:2}\
+    "<style>.run{stroke:#1f5a94;stroke-width:2}.back{stroke:#8a3b00;stroke-width:2;stroke-dasharray:9 3}.stand{stroke:#f58518;stroke-width:4}.wait{stroke:#a02c2c;stroke-dasharray:2 3}.apart{stroke:#777;stroke-width:3;stroke-dasharray:1 4}.run,.back,.stand,.wait,.apart{fill:none}.minute{font-size:9px;paint-order:stroke;stroke:#fff;stroke-width:2px}.leave{fill:#fff;stroke:#a02c2c;stroke-width:2}\
 .join{fill:#a02c2c}.grid{stroke:#ddd}.station{stroke:#bbb}.end{text-anchor:end}.middle{text-anchor:middle}.time{fill:#666}.heading{font-weight:bold}</style>";
 
 /// What the lines and marks mean.
@@ -32,7 +32,7 @@ const LEGEND: &str =
 <path class=\"back\" d=\"M104 6h24\"/><text x=\"134\" y=\"10\">train back</text>\
 <path class=\"stand\" d=\"M216 6h24\"/><text x=\"246\" y=\"10\">train at a station</text>\
 <path class=\"wait\" d=\"M366 6h24\"/><text x=\"396\" y=\"10\">change on the line</text>\
-<circle class=\"leave\" cx=\"528\" cy=\"6\" r=\"4\"/><text x=\"538\" y=\"10\">change to another line</text>\
+<circle class=\"leave\" cx=\"528\" cy=\"6\" r=\"3\"/><text x=\"538\" y=\"10\">change to another line</text>\
 <circle class=\"join\" cx=\"696\" cy=\"6\" r=\"4\"/><text x=\"706\" y=\"10\">change from another line</text></g>";
 
 /// What the lines of a corridor mean.

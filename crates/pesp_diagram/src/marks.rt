@@ -59,7 +59,7 @@ impl Marks {
         let below = BELOW.get((before % ABOVE) as usize).copied();
         let beside = (before / ABOVE).saturating_mul(MARK);
         Spot {
-            x: x.beside(beside),
+            x: x.beside(beside).within(MARK / 2),
             y: height_of(station)
                 .saturating_sub(2 * MARK)
                 .saturating_add(below.unwrap_or(0)),

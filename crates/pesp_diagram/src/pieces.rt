@@ -114,6 +114,18 @@ fn lowered(scene: &Scene<'_, '_, '_>, piece: &Piece<'_>) -> u32 {
     }
 }
 
+/// From when to when a piece is drawn: what keeps two trains apart between those that are nearer to each other.
+fn stretch_of(period: u32, piece: &Piece<'_>) -> (i64, i64) {
+    let length = i64::from(period.max(1));
+    let to = piece.time.saturating_add(piece.duration);
+    let rest = piece.duration.saturating_neg().rem_euclid(length);
+    if piece.kind == Kind::Apart && rest < length.saturating_sub(rest) {
+        (to, to.saturating_add(rest))
+    } else {
+        (piece.time, to)
+    }
+}
+
 /// Writes a train between two stations, or at one of them.
 fn write_train(
     text: &mut String,
@@ -127,12 +139,13 @@ fn write_train(
         Kind::Apart => "apart",
         _ => "stand",
     };
-    let to = piece.time.saturating_add(piece.duration);
+    let period = scene.instance.period();
+    let (from, to) = stretch_of(period, piece);
     let lower = lowered(scene, piece);
     let first = height_of(piece.tail.station).saturating_add(lower);
     let second = height_of(piece.head.station).saturating_add(lower);
     write!(text, "<path class=\"{class}\" d=\"")?;
-    write_stretch(text, scene.instance.period(), piece.time, to, first, second)?;
+    write_stretch(text, period, from, to, first, second)?;
     text.push_str("\"/>")
 }
 
@@ -171,15 +184,15 @@ fn write_mark(
 ) -> Result<(), AllocError> {
     let length = i64::from(period.max(1));
     let end = piece.time.saturating_add(piece.duration).rem_euclid(length);
-    let (class, time, place) = if piece.kind == Kind::Leave {
-        ("leave", piece.time, piece.tail)
+    let (class, radius, time, place) = if piece.kind == Kind::Leave {
+        ("leave", 3_u32, piece.time, piece.tail)
     } else {
-        ("join", end, piece.head)
+        ("join", 4_u32, end, piece.head)
     };
     let Spot { x, y } = marks.next_spot(place.station, Across::of(period, time));
     write!(
         text,
-        "<circle class=\"{class}\" cx=\"{x}\" cy=\"{y}\" r=\"4\"/>"
+        "<circle class=\"{class}\" cx=\"{x}\" cy=\"{y}\" r=\"{radius}\"/>"
     )
 }
 

@@ -33,6 +33,15 @@ impl Across {
         let tenths = self.tenths.saturating_add(i64::from(pixels) * 10);
         Across { tenths }
     }
+
+    /// The place nearest to it at which a mark of so many pixels to either side lies within the plot.
+    pub fn within(self, pixels: u32) -> Across {
+        let least = i64::from(pixels) * 10;
+        let most = (i64::from(PLOT) * 10).saturating_sub(least);
+        Across {
+            tenths: self.tenths.min(most).max(least),
+        }
+    }
 }
 
 impl fmt::Display for Across {

@@ -13,14 +13,14 @@ nav a{margin-right:1rem}.small{font-size:.85rem;color:#444}\n\
 table{border-collapse:collapse;font-variant-numeric:tabular-nums}\n\
 caption{text-align:left;font-weight:bold;padding:.2rem 0}\n\
 th,td{border:1px solid #bbb;padding:.15rem .5rem;text-align:left;vertical-align:top}\n\
-td.n,th.n{text-align:right}thead th{background:#eee}\n\
+td.n,th.n{text-align:right}thead th{background:#eee}tbody th{white-space:nowrap}\n\
 .out caption{color:var(--out)}.back caption{color:var(--back)}\n\
 .out{border-left:4px solid var(--out)}.back{border-left:4px double var(--back)}\n\
 .way,.all,.picture{content-visibility:auto;contain-intrinsic-size:auto 20rem}.picture{overflow-x:auto}.picture>svg{max-width:100%;height:auto}\n\
 th span{cursor:pointer}\n\
 th span::after{content:\" \\2195\"}[aria-sort=ascending] span::after{content:\" \\2191\"}[aria-sort=descending] span::after{content:\" \\2193\"}\n\
 input{font:inherit;width:20rem;max-width:100%}\n\
-@media print{nav,.tools{display:none}body{max-width:none;font-size:10pt}section{break-before:page}#found{break-before:auto}.way,.all,.picture{content-visibility:visible}table{break-inside:auto}tr{break-inside:avoid}th span::after{content:\"\"}#diagrams{page:wide}}@page wide{size:landscape}\n\
+@media print{nav,.tools{display:none}body{max-width:none;font-size:10pt}section{break-before:page}#found{break-before:auto}.way,.all,.picture{content-visibility:visible}.ways{display:block}.way{margin-bottom:.8rem}.way,thead,tr{break-inside:avoid}th span::after{content:\"\"}#diagrams{page:wide}}@page wide{size:landscape}\n\
 </style>\n";
 
 /// Sorts the table of activities by a column, and shows those that have all words that are looked for. Without it the page can be

@@ -6,6 +6,7 @@ mod hearer;
 mod plan_words;
 mod planner;
 mod progress;
+mod shell_word;
 mod watch;
 
 pub use hearer::Hearer;

@@ -1,6 +1,7 @@
 //! What is told of a plan, in words.
 
 use crate::progress::Progress;
+use crate::shell_word::ShellWord;
 use pesp_truth::Answer;
 use std::fmt;
 
@@ -98,8 +99,8 @@ impl fmt::Display for Again<'_> {
             output,
             instance,
         } = *self;
-        let output = output.unwrap_or("FILE");
-        let instance = instance.unwrap_or("INSTANCE");
+        let output = ShellWord(output.unwrap_or("FILE"));
+        let instance = ShellWord(instance.unwrap_or("INSTANCE"));
         f.write_str("pesp plan ")?;
         if period != 60 {
             write!(f, "--period {period} ")?;

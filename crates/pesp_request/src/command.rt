@@ -22,7 +22,7 @@ use std::alloc::{AllocError, Global};
 
 /// The program's version, and the versions of certificates that it writes and reads.
 const VERSION: &str =
-    "0.2.0\ncertificates: versions 1 and 2; with --sharp solve, resume, work and graft write version 3 too, and check, resume, split, work and graft read it";
+    "0.2.0\ncertificates: versions 1, 2 and 3; solve writes version 3 with --sharp alone, and check, split, work and graft take it with --sharp alone";
 
 /// What is said of a word that names no open leaf.
 const NO_JOB: &str =

@@ -84,7 +84,7 @@ pub(crate) fn progress_option<'a>(alloc: Global) -> Arg<'a> {
 
 pub(crate) fn sharp_option<'a>(alloc: Global) -> Arg<'a> {
     flag(alloc, "sharp").help(
-        "Takes a certificate of version 3 too, whose leaves may name marked walks; it is read whole before it is judged",
+        "Takes a certificate of version 3 too, whose leaves may name marked walks",
     )
 }
 

@@ -47,6 +47,7 @@ pub(crate) struct Chosen {
 
 /// How far a search goes, and when times are looked for: by so many splits at most of a tree that had so many branches before, and
 /// after 128 branches, 256, and so on; or without a limit, where the tree and the search for times take turns by what each brings.
+/// With a limit they take turns too while that search has its first batch to make.
 #[derive(Clone, Copy)]
 pub enum Pace {
     Steps { before: u32, most: u32 },
@@ -222,15 +223,32 @@ impl SharpSearch {
         }
     }
 
-    /// Looks for times after as many steps as were made, where that is due.
+    /// Whether the search for times has its first batch to make.
+    fn owes_times(&self) -> bool {
+        self.times
+            .as_ref()
+            .is_some_and(|search| search.owes_first())
+    }
+
+    /// Makes what is left of the first batch.
+    fn end_first(&mut self, left: Left<'_>) -> Result<(), Memory> {
+        if let Some(search) = &mut self.times {
+            search.end_first(left.network)?;
+        }
+        self.take_best(left)
+    }
+
+    /// Looks for times after as many steps as were made, where that is due; then the first batch is over.
     fn look_for_times(&mut self, left: Left<'_>) -> Result<(), Memory> {
         let Pace::Steps { before, .. } = self.pace else {
             return Ok(());
         };
         let branches = before.saturating_add(self.used);
-        if is_due(branches)
-            && let Some(search) = &mut self.times
-        {
+        if !is_due(branches) {
+            return self.take_best(left);
+        }
+        self.end_first(left)?;
+        if let Some(search) = &mut self.times {
             search.go_on(left.network, branches)?;
         }
         self.take_best(left)
@@ -243,6 +261,17 @@ impl SharpSearch {
         }
         self.take_best(left)?;
         Ok(Step::Readied)
+    }
+
+    /// Makes what is left of the first batch where a search of so many steps ends and is open.
+    fn end_times(&mut self, left: Left<'_>) -> Result<(), Memory> {
+        let Pace::Steps { .. } = self.pace else {
+            return Ok(());
+        };
+        if self.sharpening.bound() >= self.cost().unwrap_or(u64::MAX) {
+            return Ok(());
+        }
+        self.end_first(left)
     }
 
     /// Sharpens the root.
@@ -273,9 +302,17 @@ impl SharpSearch {
         Some(cost.saturating_sub(self.sharpening.bound()))
     }
 
+    /// Whose turn it is: an anneal that has begun is ended first.
+    fn next_turn(&self) -> Turn {
+        match &self.times {
+            Some(search) if search.is_annealing() => Turn::Times,
+            _ => self.turns.next(),
+        }
+    }
+
     /// Takes the next turn, and notes what is left of the gap.
     fn take_turn(&mut self, left: Left<'_>) -> Result<Step, Memory> {
-        let turn = self.turns.next();
+        let turn = self.next_turn();
         let step = match turn {
             Turn::Tree => self.step(left)?,
             Turn::Times => self.make_piece(left)?,
@@ -285,11 +322,11 @@ impl SharpSearch {
         Ok(step)
     }
 
-    /// Goes on by what is next: a step of the tree, or a turn.
+    /// Goes on by what is next: a turn, where there is no limit or the first batch isn't made; else a step of the tree.
     fn advance(&mut self, left: Left<'_>) -> Result<Step, Memory> {
         match self.pace {
-            Pace::Steps { .. } => self.step(left),
-            Pace::Turns => self.take_turn(left),
+            Pace::Steps { .. } if !self.owes_times() => self.step(left),
+            _ => self.take_turn(left),
         }
     }
 
@@ -343,12 +380,15 @@ impl SharpSearch {
     /// or the watcher ends it.
     fn split<W: SharpWatcher>(&mut self, left: Left<'_>, watcher: &mut W) -> Result<(), Memory> {
         for _turn in 0..MOST_TURNS {
-            if !watcher.goes_on(self.standing()) || self.is_done() {
+            if !watcher.goes_on(self.standing()) {
                 return Ok(());
+            }
+            if self.is_done() {
+                return self.end_times(left);
             }
             if self.advance(left)? == Step::Over {
                 self.next = Next::Nothing;
-                return Ok(());
+                return self.end_times(left);
             }
         }
         Ok(())

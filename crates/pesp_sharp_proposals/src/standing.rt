@@ -14,7 +14,8 @@ pub struct Standing {
 /// Somebody who looks on while a search sharpens, and may end it. No promise of the search speaks of watchers; an end that comes
 /// early leaves what was found by then.
 pub trait SharpWatcher {
-    /// Called before the first step, after each step, and after each look at a leaf that was taken up; whether the search goes on.
+    /// Called before the first step, after each step, after each look at a leaf that was taken up, and after each piece of a search
+    /// for timetables; whether the search goes on.
     fn goes_on(&mut self, standing: Standing) -> bool;
 }
 

@@ -5,7 +5,7 @@ use pesp_sharp_proposals::{SharpWatcher, Standing};
 
 /// Somebody who looks on while a search goes on and sharpens. No promise of the search speaks of observers.
 pub trait SharpObserver: Observer {
-    /// Called once the root is sharpened, and after each step.
+    /// Called once the root is sharpened, after each step, and after each piece of the first search for timetables.
     fn stands(&mut self, standing: Standing);
 }
 

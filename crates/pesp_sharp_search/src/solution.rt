@@ -42,7 +42,7 @@ pub fn solve_sharp<O: SharpObserver>(
         solved,
         reduced,
         times: search,
-    } = look_first(alloc, instance, times, Effort::Whole, observer)?;
+    } = look_first(alloc, instance, times, Effort::Short, observer)?;
     let plain = without_front(solved.certificate);
     let watcher = &mut Observing { observer };
     match propose(alloc, instance, &plain, reduced, search, steps, watcher) {

@@ -98,24 +98,9 @@ impl SoftAnnealer {
         }
     }
 
-    /// Sweeps until no row is broken, at prices that are doubled for those that are.
-    fn mend(&mut self) -> Result<(), AllocError> {
-        for sweep in 0..MENDING_SWEEPS {
-            if !self.moving.double_broken() {
-                break;
-            }
-            if sweep % MENDING_SWEEPS_OF_A_FOREST == 0 {
-                self.draw_forest()?;
-            }
-            self.sweep_softly();
-        }
-        Ok(())
-    }
-
-    /// An anneal in which rows may be broken, and sweeps that mend them; whether no row stays broken. `mean` is the mean cost of a
-    /// row.
-    pub fn soften(&mut self, mean: u64, plan: &Plan) -> Result<bool, Memory> {
-        for sweep in 0..plan.soft.sweeps {
+    /// The sweeps of an anneal in which rows may be broken from one number to another. `mean` is the mean cost of a row.
+    pub fn soften(&mut self, mean: u64, plan: &Plan, from: u32, to: u32) -> Result<(), Memory> {
+        for sweep in from..to {
             if sweep % SWEEPS_OF_A_FOREST == 0 {
                 self.draw_forest()?;
             }
@@ -125,7 +110,20 @@ impl SoftAnnealer {
             }
             self.sweep_softly();
         }
-        self.mend()?;
+        Ok(())
+    }
+
+    /// Sweeps until no row is broken, at prices that are doubled for those that are; whether no row stays broken.
+    pub fn mend(&mut self) -> Result<bool, Memory> {
+        for sweep in 0..MENDING_SWEEPS {
+            if !self.moving.double_broken() {
+                break;
+            }
+            if sweep % MENDING_SWEEPS_OF_A_FOREST == 0 {
+                self.draw_forest()?;
+            }
+            self.sweep_softly();
+        }
         self.moving.count_cost();
         self.keep();
         Ok(self.moving.is_whole())
@@ -150,10 +148,16 @@ impl SoftAnnealer {
         Ok(())
     }
 
-    /// An anneal in which spans hold, and sweeps in which only shifts that cost no more are made. The cheapest slacks of the last
-    /// quarter or of the end stand.
-    pub fn harden(&mut self, mean: u64, cooling: &Cooling) -> Result<(), Memory> {
-        for sweep in 0..cooling.sweeps {
+    /// The sweeps of an anneal in which spans hold from one number to another. The cheapest slacks of the last quarter or of the end
+    /// stand.
+    pub fn harden(
+        &mut self,
+        mean: u64,
+        cooling: &Cooling,
+        from: u32,
+        to: u32,
+    ) -> Result<(), Memory> {
+        for sweep in from..to {
             if sweep % SWEEPS_OF_A_FOREST == 0 {
                 self.draw_forest()?;
             }
@@ -162,7 +166,7 @@ impl SoftAnnealer {
                 self.keep_cheaper();
             }
         }
-        self.descend()
+        Ok(())
     }
 
     /// What the slacks cost: the sum of weight times slack.

@@ -9,7 +9,7 @@ const FEWEST_SOFT: usize = 120;
 const REHEATS: u32 = 3;
 
 /// After how many groups in turn that found nothing cheaper no more begin.
-const PATIENCE: u32 = 2;
+const PATIENCE: u32 = 4;
 
 /// How many groups of how many individuals have anneals in which spans may be broken, and with how many sweeps and
 /// at which prices, and after how many groups in turn that found nothing cheaper no more begin; how many sweeps an anneal between
@@ -35,15 +35,14 @@ impl SoftEffort {
         if rows <= FEWEST_SOFT {
             return None;
         }
-        let (groups, individuals, sweeps, rounds, quiet) = match rows {
-            0..=400 => (4, 4, 300, 2, 1),
-            401..=700 => (1, 3, 560, 1, 1),
-            701..=2_500 => (1, 4, 1_000, 3, 2),
-            2_501..=8_000 => (1, 1, 1_500, 1, 1),
-            8_001..=30_000 => (1, 1, 600, 1, 1),
-            _ => (1, 1, 200, 0, 1),
+        let (groups, individuals, sweeps, between, again, rounds) = match rows {
+            0..=400 => (8, 4, 200, 300, 150, 2),
+            401..=700 => (1, 3, 800, 500, 280, 1),
+            701..=2_500 => (1, 3, 2_000, 500, 500, 3),
+            2_501..=8_000 => (1, 1, 1_500, 1_000, 500, 1),
+            8_001..=30_000 => (1, 1, 600, 600, 300, 1),
+            _ => (1, 1, 200, 200, 100, 0),
         };
-        let between = sweeps.min(1_000);
         Some(SoftEffort {
             groups,
             individuals,
@@ -53,20 +52,25 @@ impl SoftEffort {
             between,
             rounds,
             reheats: REHEATS,
-            again: between / 2,
-            quiet,
+            again,
+            quiet: 1,
         })
     }
 
-    /// The work where a batch came to one cost twice: all of it where there are several groups, else one individual in half the
-    /// sweeps.
+    /// Whether new individuals are made.
+    pub fn has_groups(&self) -> bool {
+        self.groups > 0
+    }
+
+    /// The work where a batch came to one cost twice: all of it where there are several groups, else one individual in a quarter
+    /// of the sweeps.
     pub fn after_same(&self) -> SoftEffort {
         if self.groups > 1 {
             return *self;
         }
         SoftEffort {
             individuals: 1,
-            sweeps: self.sweeps / 2,
+            sweeps: self.sweeps / 4,
             ..*self
         }
     }

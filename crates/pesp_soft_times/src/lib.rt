@@ -2,6 +2,7 @@
 //! one. Nothing is promised but that all is found safely, in so many steps, and the same in each run.
 #![tactic(auto)]
 
+mod course;
 mod effort;
 mod plans;
 mod soft_search;

@@ -49,7 +49,7 @@ pub(crate) fn individual(sweeps: u32, prices: Prices) -> Plan {
         top: 128,
         sixteenths: 48,
     };
-    plan(soft, prices, 300)
+    plan(soft, prices, 150)
 }
 
 /// A search from good timetables, from the mean, or the second one from one and a half times that, to a half of it.

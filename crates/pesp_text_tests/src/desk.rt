@@ -1,15 +1,15 @@
 //! A desk at which the program runs: its standard input is a text, its files are those of a case, and what it writes and tells is
-//! kept. There is no clock.
+//! kept. Its clock goes on by as many seconds a reading as the case says; without a word of that there is none.
 
 ghost use Rattle.std.specs.Prelude.{◌≤◌, length, IfOk};
 
 use crate::devices::Device;
 use crate::drain::Drain;
 use crate::feed::Feed;
-use crate::given::{device_of, has_file, text_of};
+use crate::given::{device_of, has_file, seconds_of, text_of};
 use crate::page::{Page, refused};
 use std::alloc::{Allocator, Global};
-use std::cell::RefCell;
+use std::cell::{Cell, RefCell};
 use std::fmt::Display;
 use std::fs::{Metadata, OpenOptions};
 use std::io;
@@ -26,6 +26,10 @@ pub(crate) struct Desk<'a> {
     device: Device,
     written: RefCell<Drain>,
     told: RefCell<Drain>,
+    /// By how many seconds the clock goes on from one reading to the next, where there is one.
+    seconds: Option<u64>,
+    /// What the clock tells next.
+    time: Cell<u64>,
 }
 
 /// What went out.
@@ -84,6 +88,8 @@ impl<'a> Desk<'a> {
             device,
             written: RefCell::new(Drain::new(alloc, output)),
             told: RefCell::new(Drain::new(alloc, Device::whole())),
+            seconds: seconds_of(lines),
+            time: Cell::new(0),
         })
     }
 
@@ -152,7 +158,12 @@ impl<'a> Input for Desk<'a> {
 
 impl Clock for Desk<'_> {
     fn monotonic(&self) -> io::Result<Duration> {
-        Err(refused())
+        let Some(seconds) = self.seconds else {
+            return Err(refused());
+        };
+        let time = self.time.get();
+        self.time.set(time.saturating_add(seconds));
+        Ok(Duration::from_secs(time))
     }
 
     fn since_1970(&self) -> io::Result<Duration> {

@@ -40,6 +40,17 @@ pub(crate) fn period_of(lines: &[&str]) -> Option<u32> {
     Some(10)
 }
 
+/// By how many seconds the clock of the line `clock N` goes on from one reading to the next; None without this line.
+pub(crate) fn seconds_of(lines: &[&str]) -> Option<u64> {
+    for line in lines {
+        let (word, rest) = split_word(line);
+        if word == "clock" {
+            return rest.parse().ok();
+        }
+    }
+    None
+}
+
 /// What stands behind the line `device NAME`.
 fn device_line<'a>(lines: &[&'a str], name: &str) -> Option<&'a str> {
     for line in lines {

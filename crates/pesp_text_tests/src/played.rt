@@ -41,7 +41,7 @@ enum Role {
 }
 
 /// The first word of each line.
-const ROLES: [(&str, Role); 28] = [
+const ROLES: [(&str, Role); 29] = [
     ("instance", Role::Given),
     ("base", Role::Given),
     ("names", Role::Given),
@@ -49,6 +49,7 @@ const ROLES: [(&str, Role); 28] = [
     ("file", Role::Given),
     ("period", Role::Given),
     ("device", Role::Given),
+    ("clock", Role::Given),
     ("case", Role::Name),
     ("program", Role::Asked(Question::Program(View::Whole))),
     ("status", Role::Asked(Question::Program(View::Status))),

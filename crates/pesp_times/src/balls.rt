@@ -82,7 +82,7 @@ impl TimesSearch {
     }
 
     /// Frees a ball, and takes what is found if it isn't dearer.
-    fn try_ball(
+    pub(crate) fn try_ball(
         &mut self,
         network: &Network,
         found: &mut Found,
@@ -103,29 +103,5 @@ impl TimesSearch {
             found.cost = cost_of(network, &found.slacks);
         }
         Ok(())
-    }
-
-    /// Frees balls one after another until so many in turn found nothing cheaper: at most eight times as many.
-    pub(crate) fn free_balls(
-        &mut self,
-        network: &Network,
-        found: &mut Found,
-        balls: u32,
-        rounds: u32,
-    ) -> Result<(), Memory> {
-        let mut quiet = 0u32;
-        for _ in 0..balls.saturating_mul(8) {
-            let before = found.cost;
-            self.try_ball(network, found, rounds.min(30))?;
-            quiet = if found.cost < before {
-                0
-            } else {
-                quiet.wrapping_add(1)
-            };
-            if quiet >= balls {
-                break;
-            }
-        }
-        self.note(network, found)
     }
 }

@@ -1,80 +1,47 @@
 //! Batches: individuals are merged by fours, and these with the best of before.
 
+use crate::pieces::Piece;
 use crate::search::TimesSearch;
-use crate::work::{MAY_END_EARLY, Work, is_near};
+use crate::work::{MAY_END_EARLY, Work, is_near, may_win_merged};
 use pesp_network::Network;
 use pesp_problem::Memory;
 use pesp_soft_times::SoftEffort;
-use pesp_timetables::{Found, MOST_REOPTIMISED};
+use pesp_timetables::Found;
+use std::mem::replace;
+
+/// After how many steps as much is done for a batch as for the first one; for each further one as after twice as many.
+const FIRST_STEPS: u32 = 128;
+
+/// How often they are doubled at most.
+const MOST_DOUBLED: u32 = 12;
 
 /// How a batch ended: with all fours, with one that costs what the cheapest timetable of before does, or as none would win.
 #[derive(Clone, Copy, PartialEq, Eq)]
-pub(crate) enum Ended {
+enum Ended {
     Whole,
     Same,
     Worthless,
 }
 
 impl TimesSearch {
-    /// A merge of a pool, and balls behind it.
-    fn merged_with_balls(
-        &mut self,
-        network: &Network,
-        pool: Vec<Found>,
-        work: Work,
-    ) -> Result<Option<Found>, Memory> {
-        let Some(mut found) = self.merged(network, pool, work.rounds)? else {
-            return Ok(None);
-        };
-        self.free_balls(network, &mut found, work.balls, work.rounds)?;
-        if network.rows().len() > MOST_REOPTIMISED {
-            return Ok(Some(found));
+    /// Whether four individuals may lead to the cheapest timetable, by what the first of them cost.
+    pub(crate) fn is_worth_a_four(&self) -> bool {
+        match (self.least(), self.least_softly()) {
+            (Some(hard), Some(soft)) => may_win_merged(hard, soft),
+            _ => true,
         }
-        Ok(Some(self.reoptimised(network, found)?))
-    }
-
-    /// Four individuals, merged.
-    fn four(&mut self, network: &Network, work: Work) -> Result<Option<Found>, Memory> {
-        let mut pool = Vec::new(self.alloc);
-        for start in self.kinds.next_four() {
-            if let Some(found) = self.individual(network, start, work.rounds)? {
-                pool.push(found)?;
-            }
-        }
-        self.merged_with_balls(network, pool, work)
     }
 
     /// Whether a timetable is near the cheapest one, or there is none.
-    fn is_near_best(&self, network: &Network, found: &Found) -> bool {
+    pub(crate) fn is_near_best(&self, network: &Network, found: &Found) -> bool {
         match self.cheapest() {
             Some(best) => is_near(network.rows().len(), found.cost, best.cost),
             None => true,
         }
     }
 
-    /// Those that were met elsewhere and are near the cheapest one, annealed.
-    pub(crate) fn adopt_waiting(
-        &mut self,
-        network: &Network,
-        work: Work,
-    ) -> Result<Vec<Found>, Memory> {
-        let mut pool = Vec::new(self.alloc);
-        for _ in 0..self.waiting.len() {
-            let Some(met) = self.waiting.pop() else {
-                return Ok(pool);
-            };
-            if !self.is_near_best(network, &met) {
-                continue;
-            }
-            if let Some(found) = self.adopted(network, met, work.rounds)? {
-                pool.push(found)?;
-            }
-        }
-        Ok(pool)
-    }
-
     /// The best of before, unless the pool has it.
-    pub(crate) fn add_best(&self, pool: &mut Vec<Found>) -> Result<(), Memory> {
+    fn add_best(&self, pool: &mut Vec<Found>) -> Result<(), Memory> {
         let Some(best) = self.cheapest() else {
             return Ok(());
         };
@@ -87,62 +54,145 @@ impl TimesSearch {
         Ok(())
     }
 
-    /// Makes a four, and says whether it costs exactly what the cheapest timetable of before does.
-    fn add_four(
+    /// Begins the next batch: the first one, or one as after twice as many steps as before.
+    pub(crate) fn begin_next(&mut self, network: &Network) -> Result<(), Memory> {
+        self.note_waiting(network)?;
+        let rows = network.rows().len();
+        let number = self.pieces.batches;
+        self.pieces.batches = number.saturating_add(1);
+        if number == 0 {
+            return self.begin_batch(network, Work::first(rows), SoftEffort::first(rows));
+        }
+        let steps = FIRST_STEPS << number.min(MOST_DOUBLED);
+        let soft = Some(SoftEffort::after(rows, steps));
+        self.begin_batch(network, Work::after(rows, steps), soft)
+    }
+
+    /// Begins a batch of so much work: timetables that were met elsewhere are taken up first. Where it isn't worth its time it is
+    /// over at once, but for rounds of the search in which spans may be broken.
+    pub(crate) fn begin_batch(
         &mut self,
         network: &Network,
-        pool: &mut Vec<Found>,
         work: Work,
-    ) -> Result<bool, Memory> {
-        let before = self.least();
-        let Some(found) = self.four(network, work)? else {
-            return Ok(false);
+        soft: Option<SoftEffort>,
+    ) -> Result<(), Memory> {
+        self.pieces.begin(work, soft);
+        self.pieces.piece = if self.is_worth_a_batch() {
+            self.pieces.met = replace(&mut self.waiting, Vec::new(self.alloc));
+            self.next_met(network)?
+        } else {
+            self.end_batch(network, Ended::Worthless)?
         };
-        let is_same = before == Some(found.cost);
-        pool.push(found)?;
-        Ok(is_same)
+        Ok(())
     }
 
-    /// Fours of new individuals. In the middle of them the search in which spans may be broken begins, if there is one.
-    fn add_fours(
-        &mut self,
-        network: &Network,
-        pool: &mut Vec<Found>,
-        work: Work,
-        soft: Option<SoftEffort>,
-    ) -> Result<Ended, Memory> {
-        for number in 0..work.fours {
-            if let Some(soft) = soft
-                && number == work.fours / 2
-            {
-                self.begin_softly(network, &soft)?;
-            }
-            if !self.is_worth_a_batch() {
-                return Ok(Ended::Worthless);
-            }
-            let is_same = self.add_four(network, pool, work)?;
-            if is_same && network.rows().len() > MAY_END_EARLY {
-                return Ok(Ended::Same);
-            }
+    /// What comes next before the fours.
+    pub(crate) fn next_met(&mut self, network: &Network) -> Result<Piece, Memory> {
+        if self.pieces.met.is_empty() {
+            self.next_four(network)
+        } else {
+            Ok(Piece::Met)
         }
-        Ok(Ended::Whole)
     }
 
-    /// Fours of new individuals, merged with those that wait and with the best of before. Where there aren't very few rows it
-    /// ends once a four costs exactly what the cheapest timetable of before does; and once the search in which spans may be
-    /// broken is far ahead. It says how it ended.
-    pub(crate) fn batch(
-        &mut self,
-        network: &Network,
-        work: Work,
-        soft: Option<SoftEffort>,
-    ) -> Result<Ended, Memory> {
-        let mut pool = self.adopt_waiting(network, work)?;
-        let ended = self.add_fours(network, &mut pool, work, soft)?;
-        if ended == Ended::Whole {
-            self.add_best(&mut pool)?;
-            self.merged_with_balls(network, pool, work)?;
+    /// What comes next before a four.
+    pub(crate) fn next_four(&mut self, network: &Network) -> Result<Piece, Memory> {
+        let (fours, work) = (self.pieces.fours, self.pieces.work);
+        if fours == work.before_soft
+            && let Some(effort) = self.pieces.groups.take()
+        {
+            return Ok(Piece::Softly(effort));
         }
-        Ok(ended)
+        if !self.is_worth_a_batch() {
+            return self.end_batch(network, Ended::Worthless);
+        }
+        if fours >= work.fours {
+            return Ok(Piece::Join);
+        }
+        self.pieces.before = self.least();
+        self.pieces.starts = self.kinds.next_four();
+        Ok(Piece::Individual(0))
+    }
+
+    /// Leaves the four of which the first ones were dear, and the batch with it.
+    pub(crate) fn leave_four(&mut self, network: &Network) -> Result<Piece, Memory> {
+        self.pieces.four.clear();
+        self.end_batch(network, Ended::Worthless)
+    }
+
+    /// Merges the four.
+    pub(crate) fn merge_four(&mut self, network: &Network) -> Result<Piece, Memory> {
+        let pool = replace(&mut self.pieces.four, Vec::new(self.alloc));
+        self.merge_pool(network, pool)
+    }
+
+    /// Merges what all fours led to, with the best of before.
+    pub(crate) fn merge_fours(&mut self, network: &Network) -> Result<Piece, Memory> {
+        let mut pool = replace(&mut self.pieces.tops, Vec::new(self.alloc));
+        self.add_best(&mut pool)?;
+        self.pieces.is_joined = true;
+        self.merge_pool(network, pool)
+    }
+
+    /// Merges a pool.
+    fn merge_pool(&mut self, network: &Network, pool: Vec<Found>) -> Result<Piece, Memory> {
+        let rounds = self.pieces.work.rounds;
+        self.pieces.found = self.merged(network, pool, rounds)?;
+        self.pieces.freed = 0;
+        self.pieces.quiet = 0;
+        if self.pieces.found.is_some() {
+            Ok(Piece::Ball)
+        } else {
+            self.end_merge(network)
+        }
+    }
+
+    /// What comes behind a merge: the next four, or the end of the batch.
+    pub(crate) fn end_merge(&mut self, network: &Network) -> Result<Piece, Memory> {
+        let found = self.pieces.found.take();
+        if self.pieces.is_joined {
+            return self.end_batch(network, Ended::Whole);
+        }
+        self.pieces.fours = self.pieces.fours.saturating_add(1);
+        let Some(found) = found else {
+            return self.next_four(network);
+        };
+        let is_same = self.pieces.before == Some(found.cost);
+        self.pieces.tops.push(found)?;
+        if is_same && network.rows().len() > MAY_END_EARLY {
+            self.end_batch(network, Ended::Same)
+        } else {
+            self.next_four(network)
+        }
+    }
+
+    /// What comes behind the fours: rounds of the search in which spans may be broken, if it goes with the batch. Where two fours
+    /// came to one cost it begins first, where it hasn't, and goes on only where it is ahead.
+    fn end_batch(&mut self, network: &Network, ended: Ended) -> Result<Piece, Memory> {
+        self.pieces.tops.clear();
+        let Some(effort) = self.pieces.soft else {
+            return Ok(Piece::Nothing);
+        };
+        if ended != Ended::Same {
+            return self.begin_rounds(network);
+        }
+        self.rest_long();
+        self.pieces.is_same = true;
+        if self.soft.cheapest.cost().is_none() {
+            return Ok(Piece::Softly(effort.after_same()));
+        }
+        self.begin_rounds(network)
+    }
+
+    /// Begins rounds of reheats, where they are worth their time.
+    pub(crate) fn begin_rounds(&mut self, network: &Network) -> Result<Piece, Memory> {
+        let Some(effort) = self.pieces.soft else {
+            return Ok(Piece::Nothing);
+        };
+        if self.pieces.is_same && !self.soft_is_ahead() {
+            return Ok(Piece::Nothing);
+        }
+        self.reheat(network, &effort)?;
+        Ok(Piece::Round)
     }
 }

@@ -6,76 +6,139 @@ use crate::work::Work;
 use pesp_network::Network;
 use pesp_problem::Memory;
 use pesp_soft_times::SoftEffort;
-use pesp_timetables::Found;
+use pesp_timetables::{Found, MOST_REOPTIMISED};
 use std::alloc::Global;
-use std::mem::replace;
 
-/// After how many steps as much is done for a batch as for the first one; for each further one as after twice as many.
-const FIRST_STEPS: u32 = 128;
+/// How many pieces a batch has at most.
+const MOST_PIECES: u32 = 1_000_000;
 
-/// How often they are doubled at most.
-const MOST_DOUBLED: u32 = 12;
-
-/// What comes next: an individual of a four; the merge of the four with the best of before; balls, after so many in turn that
-/// found nothing; or anneals in which spans may be broken.
+/// What comes next: a timetable that was met elsewhere; the beginning of the search in which spans may be broken, and an anneal of
+/// it; an individual of a four; the merge of the four, or of all fours; a ball behind a merge; the best slacks under the offsets;
+/// an anneal of the rounds of that search; or nothing.
 #[derive(Clone, Copy)]
-enum Piece {
+pub(crate) enum Piece {
+    Met,
+    Softly(SoftEffort),
+    Group,
     Individual(usize),
     Merge,
-    Balls(u32),
-    Soft,
+    Join,
+    Ball,
+    Polish,
+    Round,
+    Nothing,
 }
 
-/// How far a batch is: what comes next, the kinds of the four with what was found of them, and how many batches were made.
+/// How far a batch is: what comes next; its work, and that of the search in which spans may be broken, which begins in the middle;
+/// what it takes up, the kinds of the four with what was found of them, and what the fours led to; what a merge led to, with how
+/// many balls behind it were freed and how many in turn found nothing; the cheapest cost before the four; how many fours
+/// there were; whether all fours were merged, and whether two came to one cost. And how many batches were begun.
 #[derive(Drop)]
 pub(crate) struct Pieces {
-    piece: Piece,
-    starts: [Start; 4],
-    pool: Vec<Found>,
-    batches: u32,
+    pub(crate) piece: Piece,
+    pub(crate) work: Work,
+    pub(crate) soft: Option<SoftEffort>,
+    pub(crate) groups: Option<SoftEffort>,
+    pub(crate) met: Vec<Found>,
+    pub(crate) starts: [Start; 4],
+    pub(crate) four: Vec<Found>,
+    pub(crate) tops: Vec<Found>,
+    pub(crate) found: Option<Found>,
+    pub(crate) freed: u32,
+    pub(crate) quiet: u32,
+    pub(crate) before: Option<u64>,
+    pub(crate) fours: u32,
+    pub(crate) is_joined: bool,
+    pub(crate) is_same: bool,
+    pub(crate) batches: u32,
 }
 
 impl Pieces {
     /// No batch has begun.
     pub(crate) fn new(alloc: Global) -> Pieces {
         Pieces {
-            piece: Piece::Individual(0),
+            piece: Piece::Nothing,
+            work: Work::first(0),
+            soft: None,
+            groups: None,
+            met: Vec::new(alloc),
             starts: [Start::Plain; 4],
-            pool: Vec::new(alloc),
+            four: Vec::new(alloc),
+            tops: Vec::new(alloc),
+            found: None,
+            freed: 0,
+            quiet: 0,
+            before: None,
+            fours: 0,
+            is_joined: false,
+            is_same: false,
             batches: 0,
         }
     }
 
-    /// After how many steps as much would be done.
-    fn steps(&self) -> u32 {
-        FIRST_STEPS << self.batches.min(MOST_DOUBLED)
+    /// Whether nothing is left of the batch that was begun last.
+    pub(crate) fn is_over(&self) -> bool {
+        matches!(self.piece, Piece::Nothing)
     }
 
-    /// The work of a batch over so many rows.
-    fn work(&self, rows: usize) -> Work {
-        if self.batches == 0 {
-            Work::first(rows)
+    /// Whether the first batch isn't over.
+    pub(crate) fn are_first(&self) -> bool {
+        self.batches == 0 || (self.batches == 1 && !self.is_over())
+    }
+
+    /// Begins a batch of so much work, in the middle of which the search begins in which spans may be broken, where it is new.
+    pub(crate) fn begin(&mut self, work: Work, soft: Option<SoftEffort>) {
+        self.work = work;
+        self.soft = soft;
+        self.groups = match soft {
+            Some(effort) if effort.has_groups() => soft,
+            _ => None,
+        };
+        self.fours = 0;
+        self.is_joined = false;
+        self.is_same = false;
+    }
+
+    /// Counts a ball that was freed, and whether it found something cheaper; what is next.
+    fn count_ball(&mut self, is_cheaper: bool) -> Piece {
+        self.freed = self.freed.saturating_add(1);
+        self.quiet = self.quiet.saturating_add(1);
+        if is_cheaper {
+            self.quiet = 0;
+        }
+        let balls = self.work.balls;
+        if self.quiet < balls && self.freed < balls.saturating_mul(8) {
+            Piece::Ball
         } else {
-            Work::after(rows, self.steps())
+            Piece::Polish
         }
     }
 }
 
 impl TimesSearch {
-    /// Makes an individual of the four.
-    fn make_individual(
-        &mut self,
-        network: &Network,
-        place: usize,
-        work: Work,
-    ) -> Result<Piece, Memory> {
-        if place == 0 {
-            self.pieces.starts = self.kinds.next_four();
+    /// Takes up a timetable that was met elsewhere and is near the cheapest one, annealed.
+    fn take_up(&mut self, network: &Network) -> Result<Piece, Memory> {
+        if let Some(met) = self.pieces.met.pop()
+            && self.is_near_best(network, &met)
+        {
+            let rounds = self.pieces.work.rounds;
+            if let Some(found) = self.adopted(network, met, rounds)? {
+                self.pieces.tops.push(found)?;
+            }
         }
+        self.next_met(network)
+    }
+
+    /// Makes an individual of the four.
+    fn make_individual(&mut self, network: &Network, place: usize) -> Result<Piece, Memory> {
         let start = self.pieces.starts.get(place).copied();
         let start = start.unwrap_or(Start::Plain);
-        if let Some(found) = self.individual(network, start, work.rounds)? {
-            self.pieces.pool.push(found)?;
+        let rounds = self.pieces.work.rounds;
+        if let Some(found) = self.individual(network, start, rounds)? {
+            self.pieces.four.push(found)?;
+        }
+        if !self.is_worth_a_four() {
+            return self.leave_four(network);
         }
         Ok(if place < 3 {
             Piece::Individual(place.wrapping_add(1))
@@ -84,62 +147,95 @@ impl TimesSearch {
         })
     }
 
-    /// Merges the four with those that wait and the best of before.
-    fn merge_four(&mut self, network: &Network, work: Work) -> Result<Piece, Memory> {
-        let mut pool = self.adopt_waiting(network, work)?;
-        for found in replace(&mut self.pieces.pool, Vec::new(self.alloc)) {
-            pool.push(found)?;
-        }
-        self.add_best(&mut pool)?;
-        self.merged(network, pool, work.rounds)?;
-        Ok(Piece::Balls(0))
-    }
-
-    /// Frees balls of the cheapest timetable of all batches until one finds nothing.
-    fn free_some(&mut self, network: &Network, quiet: u32, work: Work) -> Result<Piece, Memory> {
-        let Some(best) = self.cheapest() else {
-            return Ok(Piece::Soft);
+    /// Frees a ball of what a merge led to.
+    fn free_ball(&mut self, network: &Network) -> Result<Piece, Memory> {
+        let Some(mut found) = self.pieces.found.take() else {
+            return Ok(Piece::Polish);
         };
-        let mut found = best.copy(self.alloc)?;
         let before = found.cost;
-        self.free_balls(network, &mut found, 1, work.rounds)?;
-        let quiet = if found.cost < before {
-            0
-        } else {
-            quiet.wrapping_add(1)
-        };
-        Ok(if quiet < work.balls {
-            Piece::Balls(quiet)
-        } else {
-            Piece::Soft
-        })
-    }
-
-    /// Anneals in which spans may be broken: the first ones, or reheats.
-    fn anneal_softly(&mut self, network: &Network) -> Result<Piece, Memory> {
-        let rows = network.rows().len();
-        let steps = self.pieces.steps();
-        match SoftEffort::first(rows) {
-            Some(effort) if self.pieces.batches == 0 => self.begin_softly(network, &effort)?,
-            _ => self.reheat(network, &SoftEffort::after(rows, steps))?,
+        self.try_ball(network, &mut found, self.pieces.work.rounds.min(30))?;
+        let next = self.pieces.count_ball(found.cost < before);
+        if let Piece::Polish = next {
+            self.note(network, &found)?;
         }
-        self.pieces.batches = self.pieces.batches.saturating_add(1);
-        Ok(if self.is_worth_a_batch() {
-            Piece::Individual(0)
+        self.pieces.found = Some(found);
+        Ok(next)
+    }
+
+    /// Finds the best slacks under the offsets of what a merge led to, unless there are very many rows.
+    fn polish(&mut self, network: &Network) -> Result<Piece, Memory> {
+        if network.rows().len() <= MOST_REOPTIMISED
+            && let Some(found) = self.pieces.found.take()
+        {
+            self.pieces.found = Some(self.reoptimised(network, found)?);
+        }
+        self.end_merge(network)
+    }
+
+    /// Makes an anneal of the first ones in which spans may be broken.
+    fn anneal_group(&mut self, network: &Network) -> Result<Piece, Memory> {
+        self.soft.make_piece(network)?;
+        if !self.soft.is_over() {
+            return Ok(Piece::Group);
+        }
+        if self.pieces.is_same {
+            self.begin_rounds(network)
         } else {
-            Piece::Soft
+            self.next_four(network)
+        }
+    }
+
+    /// Makes an anneal of the rounds.
+    fn anneal_round(&mut self, network: &Network) -> Result<Piece, Memory> {
+        self.soft.make_piece(network)?;
+        Ok(if self.soft.is_over() {
+            Piece::Nothing
+        } else {
+            Piece::Round
         })
     }
 
-    /// Makes the next piece of a batch.
-    pub fn make_piece(&mut self, network: &Network) -> Result<(), Memory> {
-        let work = self.pieces.work(network.rows().len());
+    /// Makes what comes next of the batch.
+    fn make_next(&mut self, network: &Network) -> Result<(), Memory> {
         self.pieces.piece = match self.pieces.piece {
-            Piece::Individual(place) => self.make_individual(network, place, work)?,
-            Piece::Merge => self.merge_four(network, work)?,
-            Piece::Balls(quiet) => self.free_some(network, quiet, work)?,
-            Piece::Soft => self.anneal_softly(network)?,
+            Piece::Met => self.take_up(network)?,
+            Piece::Softly(effort) => {
+                self.begin_softly(network, &effort)?;
+                Piece::Group
+            }
+            Piece::Group => self.anneal_group(network)?,
+            Piece::Individual(place) => self.make_individual(network, place)?,
+            Piece::Merge => self.merge_four(network)?,
+            Piece::Join => self.merge_fours(network)?,
+            Piece::Ball => self.free_ball(network)?,
+            Piece::Polish => self.polish(network)?,
+            Piece::Round => self.anneal_round(network)?,
+            Piece::Nothing => Piece::Nothing,
         };
+        Ok(())
+    }
+
+    /// Whether an anneal has begun that isn't over.
+    pub fn is_annealing(&self) -> bool {
+        self.soft.is_annealing()
+    }
+
+    /// Makes the next piece of a batch; where a batch is over, of the next one.
+    pub fn make_piece(&mut self, network: &Network) -> Result<(), Memory> {
+        if self.pieces.is_over() {
+            self.begin_next(network)?;
+        }
+        self.make_next(network)
+    }
+
+    /// Makes all that is left of the batch.
+    pub(crate) fn end_pieces(&mut self, network: &Network) -> Result<(), Memory> {
+        for _ in 0..MOST_PIECES {
+            if self.pieces.is_over() {
+                break;
+            }
+            self.make_next(network)?;
+        }
         Ok(())
     }
 }

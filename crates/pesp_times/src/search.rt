@@ -1,6 +1,5 @@
 //! The search for timetables of one network, and the best that it found.
 
-use crate::batches::Ended;
 use crate::effort::Effort;
 use crate::kinds::{Kinds, Start};
 use crate::pieces::Pieces;
@@ -12,6 +11,7 @@ use pesp_search_tools::Random;
 use pesp_soft_times::{SoftEffort, SoftSearch};
 use pesp_timetables::{Cheapest, Found, Relaxation, cheaper, reoptimised, slacks_of};
 use std::alloc::Global;
+use std::mem::swap;
 
 /// How many batches, and how many reheats after steps, are left out where the first batch ended early.
 const LONG_REST: u32 = 3;
@@ -45,8 +45,9 @@ pub struct TimesSearch {
     effort: Effort,
     rest: Rest,
     soft_rest: Rest,
+    apart: Cheapest,
     hard: Cheapest,
-    soft: SoftSearch,
+    pub(crate) soft: SoftSearch,
 }
 
 /// How many batches, or how many reheats, in turn found nothing cheaper, and how many are left out for it.
@@ -88,6 +89,18 @@ impl Rest {
     }
 }
 
+/// The cheaper of two timetables, where there are some; the first of two that cost the same.
+fn cheaper_times<'a>(
+    one: Option<(&'a [u32], u64)>,
+    other: Option<(&'a [u32], u64)>,
+) -> Option<(&'a [u32], u64)> {
+    match (one, other) {
+        (Some(one), Some(other)) if other.1 < one.1 => Some(other),
+        (None, other) => other,
+        (one, _) => one,
+    }
+}
+
 impl TimesSearch {
     /// A search that has found nothing yet.
     pub fn new(alloc: Global, network: &Network) -> Result<TimesSearch, Memory> {
@@ -104,6 +117,7 @@ impl TimesSearch {
             effort: Effort::Whole,
             rest: Rest::none(),
             soft_rest: Rest::none(),
+            apart: Cheapest::none(),
             hard: Cheapest::none(),
             soft: SoftSearch::new(alloc),
         })
@@ -122,25 +136,36 @@ impl TimesSearch {
         }
     }
 
-    /// One timetable of a plain dive, annealed a little.
+    /// One timetable of a plain dive, annealed a little, of which the first batch knows nothing.
     fn begin_short(&mut self, network: &Network) -> Result<(), Memory> {
-        self.individual(network, Start::Plain, SHORT_ROUNDS)?;
-        Ok(())
-    }
-
-    /// Whole batches.
-    fn begin_whole(&mut self, network: &Network) -> Result<(), Memory> {
-        let rows = network.rows().len();
-        let soft = SoftEffort::first(rows);
-        let ended = self.batch(network, Work::first(rows), soft)?;
-        if ended == Ended::Same {
-            self.rest = Rest::long();
-            self.soft_rest = Rest::long();
-        }
-        match soft {
-            Some(effort) => self.end_softly(network, ended, &effort),
+        let mut short = TimesSearch::new(self.alloc, network)?;
+        let found = short.individual(network, Start::Plain, SHORT_ROUNDS);
+        swap(&mut self.plain, &mut short.plain);
+        drop(short);
+        match found? {
+            Some(found) => self.apart.note(self.alloc, network, &found),
             None => Ok(()),
         }
+    }
+
+    /// The first batch.
+    fn begin_whole(&mut self, network: &Network) -> Result<(), Memory> {
+        self.begin_next(network)?;
+        self.end_pieces(network)
+    }
+
+    /// Whether the first batch is made piece by piece and isn't over.
+    pub fn owes_first(&self) -> bool {
+        self.effort == Effort::Short && self.pieces.are_first()
+    }
+
+    /// Makes what is left of the first batch, where it is made piece by piece.
+    pub fn end_first(&mut self, network: &Network) -> Result<(), Memory> {
+        if !self.owes_first() {
+            return Ok(());
+        }
+        self.make_piece(network)?;
+        self.end_pieces(network)
     }
 
     /// Timetables by the search in which spans may be broken, from a plain dive.
@@ -157,34 +182,27 @@ impl TimesSearch {
     }
 
     /// Whether the search in which spans may be broken has the cheapest timetable.
-    fn soft_is_ahead(&self) -> bool {
+    pub(crate) fn soft_is_ahead(&self) -> bool {
         match (self.hard.cost(), self.soft.cheapest.cost()) {
             (Some(hard), Some(soft)) => soft < hard,
             _ => false,
         }
     }
 
-    /// Merges the best of both searches, and makes it cheaper; less is enough where the batch found the same twice.
-    fn end_softly(
-        &mut self,
-        network: &Network,
-        ended: Ended,
-        effort: &SoftEffort,
-    ) -> Result<(), Memory> {
-        if ended == Ended::Same {
-            if self.soft.cheapest.cost().is_none() {
-                self.begin_softly(network, &effort.after_same())?;
-            }
-            if !self.soft_is_ahead() {
-                return Ok(());
-            }
-        }
-        self.reheat(network, effort)
+    /// Leaves out some batches and reheats, as the first batch came to one cost twice.
+    pub(crate) fn rest_long(&mut self) {
+        self.rest = Rest::long();
+        self.soft_rest = Rest::long();
     }
 
     /// What the cheapest timetable of all batches costs.
     pub(crate) fn least(&self) -> Option<u64> {
         self.hard.cost()
+    }
+
+    /// What the cheapest timetable of the search in which spans may be broken costs.
+    pub(crate) fn least_softly(&self) -> Option<u64> {
+        self.soft.cheapest.cost()
     }
 
     /// Whether a batch may lead to the cheapest timetable: it does with spans held what the other search does without.
@@ -202,7 +220,8 @@ impl TimesSearch {
         }
         let before = self.least();
         let effort = Work::after(network.rows().len(), steps);
-        self.batch(network, effort, None)?;
+        self.begin_batch(network, effort, None)?;
+        self.end_pieces(network)?;
         let is_cheaper = self.least() != before;
         self.rest.note(is_cheaper);
         Ok(())
@@ -221,6 +240,7 @@ impl TimesSearch {
         let before = self.soft.cheapest.cost();
         let effort = SoftEffort::after(network.rows().len(), steps);
         self.reheat(network, &effort)?;
+        self.soft.end(network)?;
         let is_cheaper = self.soft.cheapest.cost() != before;
         self.soft_rest.note(is_cheaper);
         Ok(())
@@ -228,8 +248,17 @@ impl TimesSearch {
 
     /// What is found after so many steps (128, 256, 512 and so on).
     pub fn go_on(&mut self, network: &Network, steps: u32) -> Result<(), Memory> {
+        self.note_waiting(network)?;
         self.next_batch(network, steps)?;
         self.next_reheats(network, steps)
+    }
+
+    /// Notes the timetables that wait for a batch.
+    pub(crate) fn note_waiting(&mut self, network: &Network) -> Result<(), Memory> {
+        for found in self.waiting.iter() {
+            self.hard.note(self.alloc, network, found)?;
+        }
+        Ok(())
     }
 
     /// Takes times that were met elsewhere as an individual of the next batch; does nothing where they are no timetable.
@@ -239,7 +268,11 @@ impl TimesSearch {
         }
         let slacks = slacks_of(self.alloc, network, &times)?;
         let found = Found::of_slacks(network, slacks);
-        self.note(network, &found)?;
+        if self.owes_first() {
+            self.apart.note(self.alloc, network, &found)?;
+        } else {
+            self.note(network, &found)?;
+        }
         self.waiting.push(found)?;
         self.waiting.sort_unstable_by_key(|found| found.cost);
         self.waiting.truncate(MOST_WAITING);
@@ -248,11 +281,8 @@ impl TimesSearch {
 
     /// The cheapest times that were found, and their cost over the network's rows.
     pub fn best(&self) -> Option<(&[u32], u64)> {
-        match (self.hard.times(), self.soft.cheapest.times()) {
-            (Some(hard), Some(soft)) if soft.1 < hard.1 => Some(soft),
-            (None, soft) => soft,
-            (hard, _) => hard,
-        }
+        let own = cheaper_times(self.hard.times(), self.soft.cheapest.times());
+        cheaper_times(own, self.apart.times())
     }
 
     /// The cheapest timetable of all batches.

@@ -1,9 +1,11 @@
 //! How much work a batch is.
 
-/// How many individuals, in fours; how many rounds an anneal has; and how many balls in turn may find nothing behind each merge.
+/// How many individuals, in fours; how many fours come before the search in which spans may be broken; how many rounds an anneal
+/// has; and how many balls in turn may find nothing behind each merge.
 #[derive(Clone, Copy)]
 pub(crate) struct Work {
     pub(crate) fours: u32,
+    pub(crate) before_soft: u32,
     pub(crate) rounds: u32,
     pub(crate) balls: u32,
 }
@@ -28,16 +30,17 @@ pub(crate) fn is_near(rows: usize, cost: u64, least: u64) -> bool {
 impl Work {
     /// The work before the first step.
     pub(crate) fn first(rows: usize) -> Work {
-        let (fours, rounds, balls) = match rows {
-            0..=300 => (8, 20, 3),
-            301..=700 => (4, 20, 3),
-            701..=2_500 => (2, 20, 3),
-            2_501..=8_000 => (1, 24, 6),
-            8_001..=30_000 => (1, 24, 20),
-            _ => (1, 6, 20),
+        let (fours, before_soft, rounds, balls) = match rows {
+            0..=300 => (8, 2, 20, 3),
+            301..=700 => (3, 2, 20, 3),
+            701..=2_500 => (1, 0, 20, 3),
+            2_501..=8_000 => (1, 0, 24, 6),
+            8_001..=30_000 => (1, 0, 24, 20),
+            _ => (1, 0, 6, 20),
         };
         Work {
             fours,
+            before_soft,
             rounds,
             balls,
         }
@@ -48,6 +51,7 @@ impl Work {
         let least = if rows > 2_500 { 15 } else { 3 };
         Work {
             fours: 1,
+            before_soft: 0,
             rounds: (steps / 8).clamp(20, 100),
             balls: (steps / 512).saturating_add(least).min(40),
         }
@@ -56,5 +60,10 @@ impl Work {
 
 /// Whether a batch may still lead to the cheapest timetable, by what its cheapest and that of the other search cost.
 pub(crate) fn may_win(hard: u64, soft: u64) -> bool {
+    hard <= soft.saturating_add(soft / 32)
+}
+
+/// The same of individuals that aren't merged yet.
+pub(crate) fn may_win_merged(hard: u64, soft: u64) -> bool {
     hard <= soft.saturating_add(soft / 16)
 }

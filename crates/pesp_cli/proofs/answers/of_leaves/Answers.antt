@@ -9,3 +9,8 @@ pub returns-in-WorkSharp-clause-stopped : goal.returns-in-WorkSharp-clause-stopp
 returns-in-WorkSharp-clause-stopped g c =
     let cause = rw c.as_slice-jobs-in-WorkSharp.ensures.value at c.on_base-in-WorkSharp.ensures.stopped in
     rw c.in-WorkSharp.is cause
+
+pub returns-in-WorkSharp-clause-answered : goal.returns-in-WorkSharp-clause-answered
+returns-in-WorkSharp-clause-answered g c =
+    let answered = rw c.as_slice-jobs-in-WorkSharp.ensures.value at c.on_base-in-WorkSharp.ensures.answered in
+    rw c.in-WorkSharp.is answered

@@ -1,4 +1,0 @@
-pub mod Judging
-pub mod Passing
-pub mod Judged
-pub mod Placing

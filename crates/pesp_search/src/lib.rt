@@ -14,7 +14,6 @@ mod single;
 mod solution;
 
 pub use look::{FirstLook, look_first};
-pub use pesp_times::Effort;
 pub use pesp_turns::{Nobody, Observer, Part};
 pub use refusal::SolveRefusal;
 pub use solution::{Solved, solve, solve_from, solve_watched};

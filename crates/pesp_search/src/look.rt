@@ -23,24 +23,23 @@ pub struct FirstLook {
     pub times: Option<TimesSearch>,
 }
 
-/// Has the search for times do so much before the first step.
-fn set_effort(search: &mut Search, effort: Effort)
+/// Has the search for times do little before the first step.
+fn shorten(search: &mut Search)
     ensures board { search.new.board ≡ search.old.board }
     ensures known { search.new.known ≡ search.old.known }
 {
     if let Some(times) = &mut search.proposer.times {
-        times.set_effort(effort);
+        times.set_effort(Effort::Short);
     }
 }
 
 /// Answers within 0 steps as `solve_from` does, with the same promises, for a search that goes on from the answer in a way of
-/// its own. No later bound rests on the cycles of the answer, so a forest is looked for a twentieth as long; and times are looked
-/// for with so much effort.
+/// its own. No later bound rests on the cycles of the answer, so a forest is looked for a twentieth as long; and little is done
+/// for times, whose first batch is still to be made.
 pub fn look_first<O: Observer>(
     alloc: Global,
     instance: &Instance,
     times: &[u32],
-    effort: Effort,
     observer: &mut O,
 ) -> Result<FirstLook, SolveRefusal>
     ensures solved { IfOk result
@@ -51,7 +50,7 @@ pub fn look_first<O: Observer>(
     ensures passed { IfErr result (MeetsLimit instance.now 0) }
 {
     let mut search = begin(alloc, instance, Planting::Short, observer)?;
-    set_effort(&mut search, effort);
+    shorten(&mut search);
     match solve_on(alloc, instance, &mut search, times, 0, observer) {
         Ok(solved) => {
             let Search {

@@ -47,7 +47,7 @@ pub(crate) struct Chosen {
 
 /// How far a search goes, and when times are looked for: by so many splits at most of a tree that had so many branches before, and
 /// after 128 branches, 256, and so on; or without a limit, where the tree and the search for times take turns by what each brings.
-/// With a limit they take turns too while that search has its first batch to make.
+/// With a limit they take turns by their parts of the work while that search has its first batch to make.
 #[derive(Clone, Copy)]
 pub enum Pace {
     Steps { before: u32, most: u32 },
@@ -238,16 +238,15 @@ impl SharpSearch {
         self.take_best(left)
     }
 
-    /// Looks for times after as many steps as were made, where that is due; then the first batch is over.
+    /// Looks for times after as many steps as were made, where that is due and the first batch is over.
     fn look_for_times(&mut self, left: Left<'_>) -> Result<(), Memory> {
         let Pace::Steps { before, .. } = self.pace else {
             return Ok(());
         };
         let branches = before.saturating_add(self.used);
-        if !is_due(branches) {
+        if !is_due(branches) || self.owes_times() {
             return self.take_best(left);
         }
-        self.end_first(left)?;
         if let Some(search) = &mut self.times {
             search.go_on(left.network, branches)?;
         }
@@ -304,25 +303,36 @@ impl SharpSearch {
 
     /// Whose turn it is: an anneal that has begun is ended first.
     fn next_turn(&self) -> Turn {
-        match &self.times {
-            Some(search) if search.is_annealing() => Turn::Times,
-            _ => self.turns.next(),
+        match (&self.times, self.pace) {
+            (Some(search), _) if search.is_annealing() => Turn::Times,
+            (_, Pace::Steps { .. }) => self.turns.next_by_part(),
+            (_, Pace::Turns) => self.turns.next_by_worth(),
         }
     }
 
-    /// Takes the next turn, and notes what is left of the gap.
+    /// All work so far of the one whose turn it is, in numbers that were looked at.
+    fn work_of(&self, turn: Turn) -> u64 {
+        match turn {
+            Turn::Tree => self.sharpening.work(),
+            Turn::Times => self.times.as_ref().map_or(0, TimesSearch::work),
+        }
+    }
+
+    /// Takes the next turn, and notes its work and what is left of the gap.
     fn take_turn(&mut self, left: Left<'_>) -> Result<Step, Memory> {
         let turn = self.next_turn();
+        let before = self.work_of(turn);
         let step = match turn {
             Turn::Tree => self.step(left)?,
             Turn::Times => self.make_piece(left)?,
         };
         let gap = self.gap();
-        self.turns.note(turn, gap);
+        let work = self.work_of(turn).saturating_sub(before);
+        self.turns.note(turn, gap, work);
         Ok(step)
     }
 
-    /// Goes on by what is next: a turn, where there is no limit or the first batch isn't made; else a step of the tree.
+    /// Goes on by what is next: a turn, where there is no limit or the first batch isn't over; else a step of the tree.
     fn advance(&mut self, left: Left<'_>) -> Result<Step, Memory> {
         match self.pace {
             Pace::Steps { .. } if !self.owes_times() => self.step(left),

@@ -1,17 +1,16 @@
 //! Whose turn it is where a search goes on piece by piece: the tree's, or that of what looks for times.
 
-/// Each of both has one such part of all the work at least.
-const LEAST_PART: u64 = 4;
+/// Each of both has one such part of the other's work at least.
+const LEAST_PART: u64 = 8;
 
-/// How many steps of the tree count as what a piece of the search for times does: with many activities left a step is as long.
-const STEPS_A_PIECE: u64 = 8;
+/// How much work is remembered for each activity that is left, the later one more.
+const REMEMBERED: u64 = 1_000_000;
 
-const MANY: usize = 2_500;
+/// How many turns are remembered at most: one of less work counts as such a part of what is remembered, so that none counts as
+/// nothing.
+const MOST_TURNS: u64 = 1_000;
 
-/// How many pieces of work are remembered, the later ones more.
-const REMEMBERED: u64 = 16;
-
-/// The work of one of both, in steps of the tree: what it took off the gap by its last work, and all of it.
+/// The work of one of both, in numbers that were looked at: what it took off the gap by its last work, and all of it.
 #[derive(Clone, Copy)]
 struct Account {
     gain: u64,
@@ -32,8 +31,8 @@ pub(crate) struct Turns {
     tree: Account,
     times: Account,
     gap: Option<u64>,
-    /// How many steps of the tree a piece of the search for times counts as.
-    piece: u64,
+    /// How much work is remembered.
+    remembered: u64,
 }
 
 impl Account {
@@ -71,11 +70,12 @@ impl Account {
 impl Turns {
     /// Nobody has had a turn, with so many activities left.
     pub(crate) fn new(activities: usize) -> Turns {
+        let activities = u64::try_from(activities).unwrap_or(u64::MAX);
         Turns {
             tree: Account::new(),
             times: Account::new(),
             gap: None,
-            piece: if activities > MANY { 1 } else { STEPS_A_PIECE },
+            remembered: activities.saturating_mul(REMEMBERED),
         }
     }
 
@@ -87,9 +87,17 @@ impl Turns {
         }
     }
 
-    /// Whose turn it is: that of the one who took more off the gap last by as much work; each has a quarter of the other's work
-    /// at least.
-    pub(crate) fn next(&self) -> Turn {
+    /// Whose turn it is where times have their least part beside the tree.
+    pub(crate) fn next_by_part(&self) -> Turn {
+        if self.times.is_short(&self.tree) {
+            Turn::Times
+        } else {
+            Turn::Tree
+        }
+    }
+
+    /// Whose turn it is by worth: that of the one who took more off the gap last by as much work; each has its least part.
+    pub(crate) fn next_by_worth(&self) -> Turn {
         let (tree, times) = (&self.tree, &self.times);
         let by_tree = tree.worth(times);
         let by_times = times.worth(tree);
@@ -102,14 +110,14 @@ impl Turns {
         }
     }
 
-    /// Notes what a turn left of the gap; None where no timetable is known.
-    pub(crate) fn note(&mut self, turn: Turn, gap: Option<u64>) {
+    /// Notes the work of a turn, and what it left of the gap; None where no timetable is known.
+    pub(crate) fn note(&mut self, turn: Turn, gap: Option<u64>, work: u64) {
         let gain = self.gain(gap);
-        let remembered = self.piece.saturating_mul(REMEMBERED);
+        let work = work.max(self.remembered / MOST_TURNS);
         self.gap = gap;
         match turn {
-            Turn::Tree => self.tree.note(gain, 1, remembered),
-            Turn::Times => self.times.note(gain, self.piece, remembered),
+            Turn::Tree => self.tree.note(gain, work, self.remembered),
+            Turn::Times => self.times.note(gain, work, self.remembered),
         }
     }
 }

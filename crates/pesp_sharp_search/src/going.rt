@@ -10,7 +10,7 @@ ghost use Rattle.pesp_sharp_search.specs.Solving.{IsNoWorse, IsPlain, MayStand};
 use crate::choice::{first_standing, without_front};
 use pesp_cert::Fronted;
 use pesp_problem::{Instance, Memory};
-use pesp_search::{Effort, FirstLook, Observer, SolveRefusal, look_first};
+use pesp_search::{FirstLook, Observer, SolveRefusal, look_first};
 use pesp_sharp_proposals::{Pace, Proposing, SharpWatcher};
 use pesp_truth::Answer;
 use std::alloc::Global;
@@ -90,7 +90,7 @@ impl Going {
             solved,
             reduced,
             times,
-        } = look_first(alloc, instance, times, Effort::Short, observer)?;
+        } = look_first(alloc, instance, times, observer)?;
         let plain = without_front(solved.certificate);
         match Proposing::begin(alloc, instance, &plain, reduced, times, Pace::Turns) {
             Ok(proposing) => Ok(Going {

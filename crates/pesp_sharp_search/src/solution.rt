@@ -9,7 +9,7 @@ ghost use Rattle.pesp_sharp_search.specs.Solving.{IsSharpSolved};
 use crate::choice::{SharpSolved, settled, without_front};
 use crate::observer::{Observing, SharpObserver};
 use pesp_problem::Instance;
-use pesp_search::{Effort, FirstLook, SolveRefusal, look_first};
+use pesp_search::{FirstLook, SolveRefusal, look_first};
 use pesp_sharp_proposals::propose;
 use std::alloc::Global;
 
@@ -42,7 +42,7 @@ pub fn solve_sharp<O: SharpObserver>(
         solved,
         reduced,
         times: search,
-    } = look_first(alloc, instance, times, Effort::Short, observer)?;
+    } = look_first(alloc, instance, times, observer)?;
     let plain = without_front(solved.certificate);
     let watcher = &mut Observing { observer };
     match propose(alloc, instance, &plain, reduced, search, steps, watcher) {

@@ -194,10 +194,10 @@ impl SoftSearch {
         Ok(())
     }
 
-    /// Whether another timetable costs at most a 32nd more than the cheapest one.
+    /// Whether another timetable costs at most a 16th more than the cheapest one.
     fn is_near(&self, other: &Found) -> bool {
         match self.cheapest.cost() {
-            Some(least) => other.cost <= least.saturating_add(least / 32),
+            Some(least) => other.cost <= least.saturating_add(least / 16),
             None => true,
         }
     }

@@ -27,6 +27,7 @@ pub struct SoftSearch {
     pub(crate) joined: Option<u64>,
     pub(crate) tops: Vec<Found>,
     pub(crate) course: Course,
+    visits: u64,
     pub cheapest: Cheapest,
 }
 
@@ -70,6 +71,7 @@ impl SoftSearch {
             joined: None,
             tops: Vec::new(alloc),
             course: Course::none(alloc),
+            visits: 0,
             cheapest: Cheapest::none(),
         }
     }
@@ -118,6 +120,13 @@ impl SoftSearch {
         Ok(cheaper(found, better))
     }
 
+    /// Counts what so many sweeps over a network visit.
+    fn count(&mut self, network: &Network, sweeps: u32) {
+        let rows = u64::try_from(network.rows().len()).unwrap_or(0);
+        let visits = rows.saturating_mul(u64::from(sweeps));
+        self.visits = self.visits.saturating_add(visits);
+    }
+
     /// Begins an anneal from these slacks by a plan; None where there is no annealer for them.
     pub(crate) fn begin_anneal(
         &mut self,
@@ -135,9 +144,14 @@ impl SoftSearch {
         }
     }
 
+    /// How many activities were visited so far, one in each sweep counted anew.
+    pub fn visits(&self) -> u64 {
+        self.visits
+    }
+
     /// Goes on with an anneal by some sweeps.
     pub(crate) fn go_on_annealing(
-        &self,
+        &mut self,
         network: &Network,
         anneal: &mut Anneal,
     ) -> Result<Annealed, Memory> {
@@ -152,6 +166,7 @@ impl SoftSearch {
             .saturating_add(sweeps_a_piece(network))
             .min(soft.saturating_add(hard));
         *sweeps = to;
+        self.count(network, to.saturating_sub(from));
         if from < soft {
             annealer.soften(self.mean, plan, from, to.min(soft))?;
             if to < soft {

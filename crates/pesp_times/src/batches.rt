@@ -2,7 +2,7 @@
 
 use crate::pieces::Piece;
 use crate::search::TimesSearch;
-use crate::work::{MAY_END_EARLY, Work, is_near, may_win_merged};
+use crate::work::{FEW, MAY_END_EARLY, Work, is_close, is_near};
 use pesp_network::Network;
 use pesp_problem::Memory;
 use pesp_soft_times::SoftEffort;
@@ -24,12 +24,9 @@ enum Ended {
 }
 
 impl TimesSearch {
-    /// Whether four individuals may lead to the cheapest timetable, by what the first of them cost.
-    pub(crate) fn is_worth_a_four(&self) -> bool {
-        match (self.least(), self.least_softly()) {
-            (Some(hard), Some(soft)) => may_win_merged(hard, soft),
-            _ => true,
-        }
+    /// Whether a batch that has begun is worth more of its pieces. With many rows most is won behind the last four.
+    fn is_worth_more(&self, network: &Network) -> bool {
+        network.rows().len() > FEW || self.is_worth_a_batch()
     }
 
     /// Whether a timetable is near the cheapest one, or there is none.
@@ -95,6 +92,15 @@ impl TimesSearch {
         }
     }
 
+    /// How many fours the batch has at most, by how close it is to the other search.
+    fn most_fours(&self) -> u32 {
+        let work = self.pieces.work;
+        match (self.least(), self.least_softly()) {
+            (Some(hard), Some(soft)) if is_close(hard, soft) => work.close,
+            _ => work.fours,
+        }
+    }
+
     /// What comes next before a four.
     pub(crate) fn next_four(&mut self, network: &Network) -> Result<Piece, Memory> {
         let (fours, work) = (self.pieces.fours, self.pieces.work);
@@ -103,21 +109,15 @@ impl TimesSearch {
         {
             return Ok(Piece::Softly(effort));
         }
-        if !self.is_worth_a_batch() {
+        if !self.is_worth_more(network) {
             return self.end_batch(network, Ended::Worthless);
         }
-        if fours >= work.fours {
+        if fours >= self.most_fours() {
             return Ok(Piece::Join);
         }
         self.pieces.before = self.least();
         self.pieces.starts = self.kinds.next_four();
         Ok(Piece::Individual(0))
-    }
-
-    /// Leaves the four of which the first ones were dear, and the batch with it.
-    pub(crate) fn leave_four(&mut self, network: &Network) -> Result<Piece, Memory> {
-        self.pieces.four.clear();
-        self.end_batch(network, Ended::Worthless)
     }
 
     /// Merges the four.

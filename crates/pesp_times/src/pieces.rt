@@ -2,7 +2,7 @@
 
 use crate::kinds::Start;
 use crate::search::TimesSearch;
-use crate::work::Work;
+use crate::work::{A_BALL, A_MERGE, A_PAIR, A_ROUND, A_VISIT, Work};
 use pesp_network::Network;
 use pesp_problem::Memory;
 use pesp_soft_times::SoftEffort;
@@ -32,7 +32,8 @@ pub(crate) enum Piece {
 /// How far a batch is: what comes next; its work, and that of the search in which spans may be broken, which begins in the middle;
 /// what it takes up, the kinds of the four with what was found of them, and what the fours led to; what a merge led to, with how
 /// many balls behind it were freed and how many in turn found nothing; the cheapest cost before the four; how many fours
-/// there were; whether all fours were merged, and whether two came to one cost. And how many batches were begun.
+/// there were; whether all fours were merged, and whether two came to one cost. And how many batches were begun, and how many
+/// numbers pieces looked at so far.
 #[derive(Drop)]
 pub(crate) struct Pieces {
     pub(crate) piece: Piece,
@@ -51,6 +52,7 @@ pub(crate) struct Pieces {
     pub(crate) is_joined: bool,
     pub(crate) is_same: bool,
     pub(crate) batches: u32,
+    pub(crate) looked_at: u64,
 }
 
 impl Pieces {
@@ -73,6 +75,7 @@ impl Pieces {
             is_joined: false,
             is_same: false,
             batches: 0,
+            looked_at: 0,
         }
     }
 
@@ -97,6 +100,20 @@ impl Pieces {
         self.fours = 0;
         self.is_joined = false;
         self.is_same = false;
+    }
+
+    /// About how many numbers the next piece looks at, over so many rows; 0 where visits are counted, as spans may be broken.
+    fn work_of_piece(&self, rows: usize) -> u64 {
+        let rows = u64::try_from(rows).unwrap_or(0);
+        let rounds = u64::from(self.work.rounds);
+        let each = match self.piece {
+            Piece::Met | Piece::Individual(_) => rounds.saturating_mul(A_ROUND),
+            Piece::Merge | Piece::Join => rounds.saturating_mul(A_MERGE),
+            Piece::Ball => rounds.min(30).saturating_mul(A_BALL),
+            Piece::Polish => rows.saturating_mul(A_PAIR),
+            _ => 0,
+        };
+        rows.saturating_mul(each)
     }
 
     /// Counts a ball that was freed, and whether it found something cheaper; what is next.
@@ -136,9 +153,6 @@ impl TimesSearch {
         let rounds = self.pieces.work.rounds;
         if let Some(found) = self.individual(network, start, rounds)? {
             self.pieces.four.push(found)?;
-        }
-        if !self.is_worth_a_four() {
-            return self.leave_four(network);
         }
         Ok(if place < 3 {
             Piece::Individual(place.wrapping_add(1))
@@ -195,8 +209,16 @@ impl TimesSearch {
         })
     }
 
+    /// How many numbers were looked at so far, about: a measure of work that needs no clock.
+    pub fn work(&self) -> u64 {
+        let visits = self.soft.visits().saturating_mul(A_VISIT);
+        self.pieces.looked_at.saturating_add(visits)
+    }
+
     /// Makes what comes next of the batch.
     fn make_next(&mut self, network: &Network) -> Result<(), Memory> {
+        let work = self.pieces.work_of_piece(network.rows().len());
+        self.pieces.looked_at = self.pieces.looked_at.saturating_add(work);
         self.pieces.piece = match self.pieces.piece {
             Piece::Met => self.take_up(network)?,
             Piece::Softly(effort) => {

@@ -1,14 +1,30 @@
 //! How much work a batch is.
 
-/// How many individuals, in fours; how many fours come before the search in which spans may be broken; how many rounds an anneal
-/// has; and how many balls in turn may find nothing behind each merge.
+/// How many individuals, in fours, and how many fours while they are close to the search in which spans may be broken; how many
+/// fours come before that one; how many rounds an anneal has; and how many balls in turn may find nothing behind each merge.
 #[derive(Clone, Copy)]
 pub(crate) struct Work {
     pub(crate) fours: u32,
+    pub(crate) close: u32,
     pub(crate) before_soft: u32,
     pub(crate) rounds: u32,
     pub(crate) balls: u32,
 }
+
+/// About how many numbers are looked at for an activity in a visit that may break spans.
+pub(crate) const A_VISIT: u64 = 120;
+
+/// About how many in a round of an individual's anneal.
+pub(crate) const A_ROUND: u64 = 1_500;
+
+/// About how many in a round of a merge.
+pub(crate) const A_MERGE: u64 = 300;
+
+/// About how many in a round of a ball.
+pub(crate) const A_BALL: u64 = 150;
+
+/// About how many beside each other activity, where the best slacks under offsets are found.
+pub(crate) const A_PAIR: u64 = 6;
 
 /// How many greedy rounds come before an anneal.
 pub(crate) const GREEDY: u32 = 4;
@@ -30,16 +46,17 @@ pub(crate) fn is_near(rows: usize, cost: u64, least: u64) -> bool {
 impl Work {
     /// The work before the first step.
     pub(crate) fn first(rows: usize) -> Work {
-        let (fours, before_soft, rounds, balls) = match rows {
-            0..=300 => (8, 2, 20, 3),
-            301..=700 => (3, 2, 20, 3),
-            701..=2_500 => (1, 0, 20, 3),
-            2_501..=8_000 => (1, 0, 24, 6),
-            8_001..=30_000 => (1, 0, 24, 20),
-            _ => (1, 0, 6, 20),
+        let (fours, close, before_soft, rounds, balls) = match rows {
+            0..=300 => (8, 8, 2, 20, 3),
+            301..=700 => (3, 3, 2, 20, 3),
+            701..=2_500 => (1, 4, 0, 20, 3),
+            2_501..=8_000 => (1, 1, 0, 24, 6),
+            8_001..=30_000 => (1, 1, 0, 24, 20),
+            _ => (1, 1, 0, 6, 20),
         };
         Work {
             fours,
+            close,
             before_soft,
             rounds,
             balls,
@@ -51,6 +68,7 @@ impl Work {
         let least = if rows > 2_500 { 15 } else { 3 };
         Work {
             fours: 1,
+            close: 1,
             before_soft: 0,
             rounds: (steps / 8).clamp(20, 100),
             balls: (steps / 512).saturating_add(least).min(40),
@@ -63,7 +81,7 @@ pub(crate) fn may_win(hard: u64, soft: u64) -> bool {
     hard <= soft.saturating_add(soft / 32)
 }
 
-/// The same of individuals that aren't merged yet.
-pub(crate) fn may_win_merged(hard: u64, soft: u64) -> bool {
-    hard <= soft.saturating_add(soft / 16)
+/// Whether more fours pay, by what the cheapest of the batch and that of the other search cost.
+pub(crate) fn is_close(hard: u64, soft: u64) -> bool {
+    hard <= soft.saturating_add(soft / 48)
 }

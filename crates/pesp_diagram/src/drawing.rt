@@ -7,11 +7,11 @@ ghost use Rattle.pesp_stream.specs.Writing.{AppendsFront};
 ghost use Rattle.pesp_problem.specs.Timetables.{IsTimetable};
 ghost use Rattle.pesp_report.specs.Reporting.{IfBlamed, Refuses, UnlessBlamed};
 
-use crate::backs::Backs;
 use crate::frame::{
     Column, open_picture, open_plot, write_front, write_left, write_left_words, write_legend,
     write_scale, write_stations,
 };
+use crate::heights::Heights;
 use crate::layout::{Corner, Layout};
 use crate::marks::Marks;
 use crate::pieces::{Piece, write_piece};
@@ -29,7 +29,7 @@ use std::alloc::{AllocError, Global};
 /// many lines their diagrams stand in columns side by side. What lies behind the period's end goes on from 0. What weighs nothing at
 /// a station isn't drawn; how many events have no line or no station is said in words.
 /// Where stations are named, between commas, there is one diagram: of these stations, with the trains of all lines, their minutes,
-/// and what keeps them apart at a station.
+/// and what keeps them apart at a station. It is to scale where the names tell distances that rise or fall along these stations.
 ///
 /// `NotTimes` where there isn't one time below the period for each event, and `Violates` with the first row that isn't
 /// satisfied; `Memory` where a growth was refused. An interrupted write is repeated, at most 1000 times in all. After `Write`
@@ -94,15 +94,9 @@ fn write_diagrams(
         Some(stations) => Network::along(alloc, instance, names, stations)?,
         None => Network::of(alloc, instance, names)?,
     };
-    let backs = Backs::of(alloc, instance, &network)?;
-    let scene = Scene {
-        instance,
-        times,
-        network,
-        backs,
-    };
+    let scene = Scene::of(alloc, instance, times, network)?;
     let column = Column::of(&scene.network.lines);
-    let layout = Layout::of(alloc, &scene.network.lines, column.width)?;
+    let layout = Layout::of(alloc, &scene.heights, column.width)?;
     write_front(
         text,
         column,
@@ -126,11 +120,11 @@ fn write_lines(
 ) -> Result<(), AllocError> {
     for (count, line) in scene.network.lines.iter().enumerate() {
         let corner = layout.corners.get(count).copied();
-        let Some(Corner { x, y }) = corner else {
+        let (Some(Corner { x, y }), Some(heights)) = (corner, scene.heights.get(count)) else {
             continue;
         };
         writeln!(text, "<g transform=\"translate({x} {y})\">")?;
-        write_line(alloc, text, scene, column, line, count)?;
+        write_line(alloc, text, scene, column, line, heights, count)?;
         text.push_str("</g>\n")?;
     }
     Ok(())
@@ -143,15 +137,16 @@ fn write_line(
     scene: &Scene<'_, '_, '_>,
     column: Column,
     line: &Line<'_>,
+    heights: &Heights,
     count: usize,
 ) -> Result<(), AllocError> {
-    write_stations(text, column, line, scene.network.is_corridor)?;
-    write_scale(text, column, line, scene.instance.period())?;
-    open_plot(text, column, line)?;
+    write_stations(text, column, line, heights, scene.network.is_corridor)?;
+    write_scale(text, column, heights, scene.instance.period())?;
+    open_plot(text, column, heights)?;
     let mut marks = Marks::none(alloc, line.stations.len())?;
     for row in scene.instance.rows() {
         if let Some(piece) = Piece::of(scene, count, row) {
-            write_piece(text, scene, &mut marks, &piece)?;
+            write_piece(text, scene, heights, &mut marks, &piece)?;
         }
     }
     text.push_str("</svg>\n")
@@ -166,18 +161,15 @@ pub fn write_pictures(
     names: &Names,
 ) -> Result<(), AllocError> {
     let network = Network::of(alloc, instance, names)?;
-    let backs = Backs::of(alloc, instance, &network)?;
-    let scene = Scene {
-        instance,
-        times,
-        network,
-        backs,
-    };
+    let scene = Scene::of(alloc, instance, times, network)?;
     let column = Column::of(&scene.network.lines);
     write_legend(text)?;
     for (count, line) in scene.network.lines.iter().enumerate() {
-        open_picture(text, column, line)?;
-        write_line(alloc, text, &scene, column, line, count)?;
+        let Some(heights) = scene.heights.get(count) else {
+            continue;
+        };
+        open_picture(text, column, line, heights)?;
+        write_line(alloc, text, &scene, column, line, heights, count)?;
         text.push_str("</svg></div>\n")?;
     }
     write_left_words(text, &scene.network)

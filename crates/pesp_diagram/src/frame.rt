@@ -1,7 +1,8 @@
 //! What stands round the trains.
 
+use crate::heights::Heights;
 use crate::layout::Layout;
-use crate::places::{Across, PLOT, STATION, height_of};
+use crate::places::{Across, PLOT};
 use pesp_draw::{Escaped, Shortened, step_for};
 use pesp_railway::{Line, Network};
 use std::alloc::AllocError;
@@ -79,15 +80,9 @@ fn widest_of(line: &Line<'_>) -> u32 {
     most
 }
 
-/// How many pixels the plot of a line is high.
-pub fn plot_height(line: &Line<'_>) -> u32 {
-    let stations = u32::try_from(line.stations.len()).unwrap_or(u32::MAX);
-    stations.saturating_mul(STATION)
-}
-
 /// How many pixels a line takes with its heading.
-pub fn line_height(line: &Line<'_>) -> u32 {
-    plot_height(line).saturating_add(HEADING + BELOW)
+pub fn line_height(heights: &Heights) -> u32 {
+    heights.plot().saturating_add(HEADING + BELOW)
 }
 
 impl Column {
@@ -151,13 +146,18 @@ pub fn write_legend(text: &mut String) -> Result<(), AllocError> {
 }
 
 /// Opens the picture of a line.
-pub fn open_picture(text: &mut String, column: Column, line: &Line<'_>) -> Result<(), AllocError> {
+pub fn open_picture(
+    text: &mut String,
+    column: Column,
+    line: &Line<'_>,
+    heights: &Heights,
+) -> Result<(), AllocError> {
     let name = Escaped(line.name);
     write!(
         text,
         "<div class=\"picture\" role=\"img\" aria-label=\"Time-distance diagram of line {name}\">"
     )?;
-    open_svg(text, column.width, line_height(line))
+    open_svg(text, column.width, line_height(heights))
 }
 
 /// Which events stand in no diagram.
@@ -204,6 +204,7 @@ pub fn write_stations(
     text: &mut String,
     column: Column,
     line: &Line<'_>,
+    heights: &Heights,
     is_corridor: bool,
 ) -> Result<(), AllocError> {
     let word = if is_corridor { "Along" } else { "Line" };
@@ -216,7 +217,7 @@ pub fn write_stations(
     let right = left.saturating_add(PLOT);
     let before = left.saturating_sub(8);
     for (count, station) in line.stations.iter().enumerate() {
-        let at = height_of(count).saturating_add(HEADING);
+        let at = heights.at(count).saturating_add(HEADING);
         let below = at.saturating_add(4);
         let name = Shortened(station);
         write!(
@@ -230,9 +231,9 @@ pub fn write_stations(
 }
 
 /// Opens the plot of a line: a part of the picture in which what lies before 0 or behind the period's end isn't seen.
-pub fn open_plot(text: &mut String, column: Column, line: &Line<'_>) -> Result<(), AllocError> {
+pub fn open_plot(text: &mut String, column: Column, heights: &Heights) -> Result<(), AllocError> {
     let left = column.left;
-    let height = plot_height(line);
+    let height = heights.plot();
     writeln!(
         text,
         "<svg x=\"{left}\" y=\"{HEADING}\" width=\"{PLOT}\" height=\"{height}\">"
@@ -257,11 +258,11 @@ fn has_room(period: u32, step: u32, time: u32) -> bool {
 pub fn write_scale(
     text: &mut String,
     column: Column,
-    line: &Line<'_>,
+    heights: &Heights,
     period: u32,
 ) -> Result<(), AllocError> {
     let left = column.left;
-    let height = plot_height(line);
+    let height = heights.plot();
     let step = step_for(period);
     write!(text, "<g transform=\"translate({left} {HEADING})\">")?;
     for place in 0..18_u32 {

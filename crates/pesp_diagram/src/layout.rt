@@ -1,7 +1,7 @@
 //! Where the diagrams of lines stand.
 
 use crate::frame::{FRONT, line_height};
-use pesp_railway::Line;
+use crate::heights::Heights;
 use std::alloc::{AllocError, Global};
 
 /// How often a column may be as high as wide before there are two of them.
@@ -27,9 +27,9 @@ pub struct Layout {
 }
 
 /// How high all diagrams are below each other.
-fn height_of_all(lines: &[Line<'_>]) -> u32 {
+fn height_of_all(heights: &[Heights]) -> u32 {
     let mut height: u32 = 0;
-    for line in lines {
+    for line in heights {
         height = height.saturating_add(line_height(line));
     }
     height
@@ -49,16 +49,16 @@ fn columns_for(height: u32, width: u32) -> u32 {
 }
 
 impl Layout {
-    /// Where the diagrams of these lines stand, in columns of a width.
-    pub fn of(alloc: Global, lines: &[Line<'_>], width: u32) -> Result<Layout, AllocError> {
-        let height = height_of_all(lines);
+    /// Where the diagrams of lines with these heights stand, in columns of a width.
+    pub fn of(alloc: Global, heights: &[Heights], width: u32) -> Result<Layout, AllocError> {
+        let height = height_of_all(heights);
         let most = height
             .checked_div(columns_for(height, width))
             .unwrap_or(height)
             .saturating_add(FRONT);
         let mut corners = Vec::new(alloc);
         let (mut x, mut y, mut end, mut columns) = (0, FRONT, FRONT, 1);
-        for line in lines {
+        for line in heights {
             if y > most {
                 x = width.saturating_mul(columns);
                 y = FRONT;

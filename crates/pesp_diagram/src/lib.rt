@@ -5,6 +5,7 @@
 mod backs;
 mod drawing;
 mod frame;
+mod heights;
 mod layout;
 mod marks;
 mod pieces;

@@ -1,6 +1,7 @@
 //! Where marks stand, so that none lies on another one.
 
-use crate::places::{Across, PLOT, height_of};
+use crate::heights::Heights;
+use crate::places::{Across, PLOT};
 use std::alloc::{AllocError, Global};
 
 /// How many pixels a mark takes.
@@ -50,7 +51,7 @@ impl Marks {
     }
 
     /// Where the next mark stands that belongs to a station and a time.
-    pub fn next_spot(&mut self, station: usize, x: Across) -> Spot {
+    pub fn next_spot(&mut self, heights: &Heights, station: usize, x: Across) -> Spot {
         let along = x.pixels().checked_div(MARK).unwrap_or(0);
         let place = station
             .saturating_mul(PLACES as usize)
@@ -60,7 +61,8 @@ impl Marks {
         let beside = (before / ABOVE).saturating_mul(MARK);
         Spot {
             x: x.beside(beside).within(MARK / 2),
-            y: height_of(station)
+            y: heights
+                .at(station)
                 .saturating_sub(2 * MARK)
                 .saturating_add(below.unwrap_or(0)),
         }

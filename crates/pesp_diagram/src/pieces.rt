@@ -1,7 +1,8 @@
 //! What is drawn of an activity.
 
+use crate::heights::Heights;
 use crate::marks::{Marks, Spot};
-use crate::places::{Across, height_of};
+use crate::places::Across;
 use crate::scene::Scene;
 use pesp_draw::Escaped;
 use pesp_problem::{Instance, Row};
@@ -130,6 +131,7 @@ fn stretch_of(period: u32, piece: &Piece<'_>) -> (i64, i64) {
 fn write_train(
     text: &mut String,
     scene: &Scene<'_, '_, '_>,
+    heights: &Heights,
     piece: &Piece<'_>,
 ) -> Result<(), AllocError> {
     let class = match piece.kind {
@@ -142,8 +144,8 @@ fn write_train(
     let period = scene.instance.period();
     let (from, to) = stretch_of(period, piece);
     let lower = lowered(scene, piece);
-    let first = height_of(piece.tail.station).saturating_add(lower);
-    let second = height_of(piece.head.station).saturating_add(lower);
+    let first = heights.at(piece.tail.station).saturating_add(lower);
+    let second = heights.at(piece.head.station).saturating_add(lower);
     write!(text, "<path class=\"{class}\" d=\"")?;
     write_stretch(text, period, from, to, first, second)?;
     text.push_str("\"/>")
@@ -153,6 +155,7 @@ fn write_train(
 fn write_minutes(
     text: &mut String,
     network: &Network<'_>,
+    heights: &Heights,
     period: u32,
     piece: &Piece<'_>,
 ) -> Result<(), AllocError> {
@@ -161,10 +164,12 @@ fn write_minutes(
     let (x, to) = (Across::of(period, piece.time), Across::of(period, end));
     let is_back = piece.tail.station > piece.head.station;
     let (behind, before) = if is_back { (0, 17) } else { (17, 0) };
-    let y = height_of(piece.tail.station)
+    let y = heights
+        .at(piece.tail.station)
         .saturating_add(behind)
         .saturating_sub(5);
-    let below = height_of(piece.head.station)
+    let below = heights
+        .at(piece.head.station)
         .saturating_add(before)
         .saturating_sub(5);
     let time = piece.time;
@@ -178,6 +183,7 @@ fn write_minutes(
 /// Writes a mark where passengers leave the line or join it.
 fn write_mark(
     text: &mut String,
+    heights: &Heights,
     period: u32,
     marks: &mut Marks,
     piece: &Piece<'_>,
@@ -189,17 +195,18 @@ fn write_mark(
     } else {
         ("join", 4_u32, end, piece.head)
     };
-    let Spot { x, y } = marks.next_spot(place.station, Across::of(period, time));
+    let Spot { x, y } = marks.next_spot(heights, place.station, Across::of(period, time));
     write!(
         text,
         "<circle class=\"{class}\" cx=\"{x}\" cy=\"{y}\" r=\"{radius}\"/>"
     )
 }
 
-/// Writes what is drawn of an activity.
+/// Writes what is drawn of an activity, in a diagram with these heights.
 pub fn write_piece(
     text: &mut String,
     scene: &Scene<'_, '_, '_>,
+    heights: &Heights,
     marks: &mut Marks,
     piece: &Piece<'_>,
 ) -> Result<(), AllocError> {
@@ -207,13 +214,13 @@ pub fn write_piece(
     text.push_str("<g>")?;
     write_title(text, network, instance, piece)?;
     if piece.is_mark() {
-        write_mark(text, instance.period(), marks, piece)?;
+        write_mark(text, heights, instance.period(), marks, piece)?;
     } else {
-        write_train(text, scene, piece)?;
+        write_train(text, scene, heights, piece)?;
     }
     text.push_str("</g>\n")?;
     if network.is_corridor && piece.kind == Kind::Run {
-        write_minutes(text, network, instance.period(), piece)?;
+        write_minutes(text, network, heights, instance.period(), piece)?;
     }
     Ok(())
 }

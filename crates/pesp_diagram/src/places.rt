@@ -5,9 +5,6 @@ use std::fmt;
 /// How many pixels the period takes.
 pub const PLOT: u32 = 960;
 
-/// How many pixels lie between two stations.
-pub const STATION: u32 = 44;
-
 /// A place from the left of the plot, in tenths of a pixel; below 0 for what lies before it.
 #[derive(Clone, Copy)]
 pub struct Across {
@@ -51,10 +48,4 @@ impl fmt::Display for Across {
         let sign = if self.tenths < 0 { "-" } else { "" };
         write!(f, "{sign}{whole}.{part}")
     }
-}
-
-/// How far below the plot's top a station stands, in pixels.
-pub fn height_of(station: usize) -> u32 {
-    let count = u32::try_from(station).unwrap_or(u32::MAX);
-    count.saturating_mul(STATION).saturating_add(STATION / 2)
 }

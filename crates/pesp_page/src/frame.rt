@@ -3,7 +3,8 @@
 use std::alloc::AllocError;
 
 /// How the page looks, on a screen and on paper. Directions are told by a colour, a mark and a word. What is out of sight is laid out
-/// when it comes into sight, so that a large page is there at once.
+/// when it comes into sight, so that a large page is there at once. For that the parts of the table of activities are blocks with
+/// columns of fixed widths on a screen; on paper it is a table, whose head stands on each sheet.
 const STYLE: &str = "<style>\n\
 :root{--out:#0b559f;--back:#8a3b00}\n\
 body{font:16px/1.45 sans-serif;margin:0 auto;max-width:76rem;padding:0 1rem;color:#111;background:#fff}\n\
@@ -16,31 +17,40 @@ th,td{border:1px solid #bbb;padding:.15rem .5rem;text-align:left;vertical-align:
 td.n,th.n{text-align:right}thead th{background:#eee}tbody th{white-space:nowrap}\n\
 .out caption{color:var(--out)}.back caption{color:var(--back)}\n\
 .out{border-left:4px solid var(--out)}.back{border-left:4px double var(--back)}\n\
-.way,.all,.picture{content-visibility:auto;contain-intrinsic-size:auto 20rem}.picture{overflow-x:auto}.picture>svg{max-width:100%;height:auto}\n\
-th span{cursor:pointer}\n\
-th span::after{content:\" \\2195\"}[aria-sort=ascending] span::after{content:\" \\2191\"}[aria-sort=descending] span::after{content:\" \\2193\"}\n\
+.way,.picture{content-visibility:auto;contain-intrinsic-size:auto 20rem}.picture{overflow-x:auto}.picture>svg{max-width:100%;height:auto}\n\
+.ways h3{flex-basis:100%;margin-bottom:0}\n\
+#activities tbody th{font-weight:normal}th span{cursor:pointer}\n\
+@media screen{.all{overflow-x:auto}\n\
+#activities,#activities caption,#activities thead,#activities tbody{display:block}#activities tbody[hidden]{display:none}\n\
+#activities{min-width:58rem;border:solid #bbb;border-width:1px 0 0 1px}\n\
+#activities tr{display:grid;grid-template-columns:5rem 7rem 1fr 1fr 7rem 5.5rem 6.5rem 7rem}\n\
+#activities th,#activities td{border-width:0 1px 1px 0;overflow-wrap:anywhere;white-space:normal}#activities thead th{white-space:nowrap}\n\
+#activities tbody{content-visibility:auto;contain-intrinsic-size:auto 175rem}}\n\
+th span::after{content:\" \\2195\";content:\" \\2195\" / \"\"}[aria-sort=ascending] span::after{content:\" \\2191\";content:\" \\2191\" / \"\"}[aria-sort=descending] span::after{content:\" \\2193\";content:\" \\2193\" / \"\"}\n\
 input{font:inherit;width:20rem;max-width:100%}\n\
-@media print{nav,.tools{display:none}body{max-width:none;font-size:10pt}section{break-before:page}#found{break-before:auto}.way,.all,.picture{content-visibility:visible}.ways{display:block}.way{margin-bottom:.8rem}.way,thead,tr{break-inside:avoid}th span::after{content:\"\"}#diagrams{page:wide}}@page wide{size:landscape}\n\
+@media print{nav,.tools{display:none}body{max-width:none;font-size:10pt}section{break-before:page}#found{break-before:auto}.way,.picture{content-visibility:visible}.ways{display:block}.way{margin-bottom:.8rem}.way,thead,tr{break-inside:avoid}th span::after{content:none}#diagrams{page:wide}}@page wide{size:landscape}\n\
 </style>\n";
 
-/// Sorts the table of activities by a column, and shows those that have all words that are looked for. Without it the page can be
-/// read as it stands.
+/// Sorts the table of activities by a column, and shows those that have all words that are looked for, in the table's parts. Without it
+/// the page can be read as it stands.
 const SCRIPT: &str = "<script>\n\
-const table=document.getElementById('activities'),body=table.tBodies[0],rows=[...body.rows],count=document.getElementById('count');\n\
-const words=new Intl.Collator('en',{numeric:true});let texts;\n\
-document.getElementById('search').addEventListener('input',event=>{texts??=rows.map(row=>row.textContent.toLowerCase());\n\
-const wanted=event.target.value.toLowerCase().split(/\\s+/).filter(Boolean);let shown=0;\n\
-rows.forEach((row,place)=>{row.hidden=!wanted.every(word=>texts[place].includes(word));if(!row.hidden)shown++});\n\
-count.textContent=shown+' of '+rows.length+' activities'});\n\
-[...table.tHead.rows[0].cells].forEach((head,column)=>{const numbers=head.className=='n';\n\
-const sort=()=>{\n\
-const falls=head.getAttribute('aria-sort')=='ascending'||numbers&&head.getAttribute('aria-sort')!='descending';\n\
-for(const other of table.tHead.rows[0].cells)other.removeAttribute('aria-sort');\n\
+const table=document.getElementById('activities'),parts=[...table.tBodies],size=parts.length?parts[0].rows.length:1;\n\
+const heads=[...table.tHead.rows[0].cells],count=document.getElementById('count'),compare=new Intl.Collator('en',{numeric:true}).compare;\n\
+const rows=parts.flatMap(part=>[...part.rows]);let order=rows,wanted=[],texts;\n\
+const show=()=>{const shown=wanted.length?order.filter(row=>wanted.every(word=>texts.get(row).includes(word))):order;\n\
+parts.forEach((part,place)=>{const here=shown.slice(place*size,place*size+size);part.replaceChildren(...here);part.hidden=!here.length});\n\
+return shown.length};\n\
+document.getElementById('search').addEventListener('input',event=>{\n\
+texts??=new Map(rows.map(row=>[row,row.textContent.toLowerCase()]));\n\
+wanted=event.target.value.toLowerCase().split(/\\s+/).filter(Boolean);\n\
+count.textContent=show()+' of '+rows.length+' activities'});\n\
+heads.forEach((head,column)=>{const numbers=head.className=='n';\n\
+const sort=()=>{const was=head.getAttribute('aria-sort'),falls=was=='ascending'||numbers&&was!='descending';\n\
+for(const other of heads)other.removeAttribute('aria-sort');\n\
 head.setAttribute('aria-sort',falls?'descending':'ascending');\n\
-const key=row=>numbers?+row.cells[column].textContent:row.cells[column].textContent;\n\
-const keys=new Map(rows.map(row=>[row,key(row)]));\n\
-const order=[...rows].sort((a,b)=>(numbers?keys.get(a)-keys.get(b):words.compare(keys.get(a),keys.get(b)))*(falls?-1:1));\n\
-body.append(...order)};\n\
+const keys=new Map(rows.map(row=>{const text=row.cells[column].textContent;return[row,numbers?+text:text]}));\n\
+const rises=numbers?(a,b)=>keys.get(a)-keys.get(b):(a,b)=>compare(keys.get(a),keys.get(b));\n\
+order=[...order].sort(falls?(a,b)=>rises(b,a):rises);show()};\n\
 const button=head.firstChild;button.addEventListener('click',sort);\n\
 button.addEventListener('keydown',event=>{if(event.key=='Enter'||event.key==' '){event.preventDefault();sort()}})});\n\
 </script>\n";

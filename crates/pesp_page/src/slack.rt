@@ -5,17 +5,26 @@ use pesp_report::{Line, Names};
 use std::alloc::AllocError;
 use std::fmt;
 
-/// The columns, and whether they have numbers.
-const COLUMNS: [(&str, bool); 8] = [
-    ("Row", true),
-    ("Label", true),
-    ("From", false),
-    ("To", false),
-    ("Duration", true),
-    ("Slack", true),
-    ("Weight", true),
-    ("Cost", true),
+/// What is said of a column of numbers.
+const NUMBERS: &str = " class=\"n\"";
+
+/// What is said of the column by which the table is sorted at first.
+const FALLING: &str = " class=\"n\" aria-sort=\"descending\"";
+
+/// The columns, and what is said of each.
+const COLUMNS: [(&str, &str); 8] = [
+    ("Row", NUMBERS),
+    ("Label", NUMBERS),
+    ("From", ""),
+    ("To", ""),
+    ("Duration", NUMBERS),
+    ("Slack", NUMBERS),
+    ("Weight", NUMBERS),
+    ("Cost", FALLING),
 ];
+
+/// How many activities stand in each part of the table. A browser lays a part out when it comes into sight.
+const PART: usize = 100;
 
 /// An event as the page calls it: by its name, and by its label where it has none.
 #[derive(Clone, Copy)]
@@ -44,11 +53,10 @@ impl fmt::Display for Called<'_> {
 /// Writes the headings of the columns, which sort where they are pressed.
 fn write_headings(text: &mut String) -> Result<(), AllocError> {
     text.push_str("<thead><tr>")?;
-    for (heading, has_numbers) in &COLUMNS {
-        let class = if *has_numbers { " class=\"n\"" } else { "" };
+    for (heading, said) in &COLUMNS {
         write!(
             text,
-            "<th scope=\"col\"{class}><span role=\"button\" tabindex=\"0\">{heading}</span></th>"
+            "<th scope=\"col\"{said}><span role=\"button\" tabindex=\"0\">{heading}</span></th>"
         )?;
     }
     text.push_str("</tr></thead>\n")
@@ -75,8 +83,17 @@ fn write_line(text: &mut String, names: Option<&Names>, line: &Line) -> Result<(
     };
     writeln!(
         text,
-        "<tr><td class=\"n\">{row}<td class=\"n\">{label}<td>{tail}<td>{head}<td class=\"n\">{duration}<td class=\"n\">{slack}<td class=\"n\">{weight}<td class=\"n\">{weighted}"
+        "<tr><th scope=\"row\" class=\"n\">{row}<td class=\"n\">{label}<td>{tail}<td>{head}<td class=\"n\">{duration}<td class=\"n\">{slack}<td class=\"n\">{weight}<td class=\"n\">{weighted}"
     )
+}
+
+/// Writes a part of the table.
+fn write_part(text: &mut String, names: Option<&Names>, lines: &[Line]) -> Result<(), AllocError> {
+    text.push_str("<tbody>\n")?;
+    for line in lines {
+        write_line(text, names, line)?;
+    }
+    text.push_str("</tbody>\n")
 }
 
 /// Writes the table of all activities, the dearest ones first, with what sorts and searches it.
@@ -96,11 +113,10 @@ pub fn write_slack(
     )?;
     text.push_str("<div class=\"all\"><table id=\"activities\"><caption>Activities</caption>\n")?;
     write_headings(text)?;
-    text.push_str("<tbody>\n")?;
-    for line in lines {
-        write_line(text, names, line)?;
+    for part in lines.chunks(PART) {
+        write_part(text, names, part)?;
     }
-    text.push_str("</tbody></table></div></section>\n")
+    text.push_str("</table></div></section>\n")
 }
 
 /// How many activities have no slack.

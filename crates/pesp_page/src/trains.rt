@@ -2,14 +2,16 @@
 
 use crate::slack::Called;
 use crate::table::{Stop, open_way, write_stop};
+use pesp_draw::Escaped;
 use pesp_report::Names;
 use pesp_timetable::{Entry, Told};
 use std::alloc::AllocError;
 
-/// Where the writing of the trains stands: the way that is open, and the stop that isn't written yet.
+/// Where the writing of the trains stands: the way that is open, its line, and the stop that isn't written yet.
 #[derive(Clone, Copy)]
 struct Open<'a> {
     way: u32,
+    line: &'a str,
     stop: Option<Stop<'a>>,
 }
 
@@ -30,6 +32,15 @@ fn close_way(text: &mut String, open: Open<'_>) -> Result<(), AllocError> {
     text.push_str("</tbody></table></div>\n")
 }
 
+/// Writes the heading of a line, where it isn't the one that is open.
+fn write_heading(text: &mut String, open: Open<'_>, line: &str) -> Result<(), AllocError> {
+    if open.line == line {
+        return Ok(());
+    }
+    let name = Escaped(line);
+    writeln!(text, "<h3>Line {name}</h3>")
+}
+
 /// Writes an event that stands on a way.
 fn write_event<'a>(
     text: &mut String,
@@ -40,9 +51,11 @@ fn write_event<'a>(
     let alone = Some(Stop::of(told, entry));
     if open.way != entry.way {
         close_way(text, open)?;
+        write_heading(text, open, told.line.as_str())?;
         open_way(text, told, entry.way)?;
         return Ok(Open {
             way: entry.way,
+            line: told.line.as_str(),
             stop: alone,
         });
     }
@@ -78,7 +91,11 @@ fn write_ways<'a>(
     tolds: &'a [Told],
     entries: &'a [Entry],
 ) -> Result<(), AllocError> {
-    let mut open = Open { way: 0, stop: None };
+    let mut open = Open {
+        way: 0,
+        line: "",
+        stop: None,
+    };
     for entry in entries {
         if let Some(told) = on_way(tolds, entry) {
             open = write_event(text, open, told, entry)?;

@@ -1,6 +1,7 @@
 //! The railway that names tell: its lines and stations, where events stand, what activities are there, and the ways of trains.
 #![tactic(auto)]
 
+mod distances;
 mod duration;
 mod kind;
 mod links;

@@ -1,5 +1,6 @@
 //! The lines of an instance, their stations, and where its events stand.
 
+use crate::distances::distances_along;
 use pesp_problem::Instance;
 use pesp_report::{Name, Names};
 use std::alloc::{AllocError, Global};
@@ -14,11 +15,13 @@ pub struct Place {
     pub station: usize,
 }
 
-/// A line, with its stations in the order in which the names first name them.
+/// A line, with its stations in the order in which the names first name them. Of a corridor it is known how far each station is from
+/// the first one, where the names tell that.
 #[derive(Drop)]
 pub struct Line<'a> {
     pub name: &'a str,
     pub stations: Vec<&'a str>,
+    pub distances: Option<Vec<u32>>,
 }
 
 /// The lines in the order in which the names first name them; where each event stands, by its number in the instance, and the
@@ -75,6 +78,7 @@ fn line_along<'a>(alloc: Global, stations: &'a str) -> Result<Line<'a>, AllocErr
     let mut line = Line {
         name: stations,
         stations: Vec::new(alloc),
+        distances: None,
     };
     for station in stations.split(',') {
         let _place = place_among(&mut line.stations, station.trim())?;
@@ -115,6 +119,7 @@ impl<'a> Network<'a> {
             let place = network.place_along(stop.name.station.as_str());
             network.put(stop, place);
         }
+        network.measure(alloc, names)?;
         network.left = network.count_left();
         Ok(network)
     }
@@ -145,6 +150,44 @@ impl<'a> Network<'a> {
         })
     }
 
+    /// Whether an event stands at a station of the first line.
+    fn has_events(&self, station: usize) -> bool {
+        let here = Some(Place { line: 0, station });
+        self.places.iter().any(|place| *place == here)
+    }
+
+    /// How far each station of the first line is, as the names tell it. None where they don't tell it of one that has an event.
+    fn told_distances(
+        &self,
+        alloc: Global,
+        names: &Names,
+    ) -> Result<Option<Vec<Option<u32>>>, AllocError> {
+        let Some(line) = self.lines.first() else {
+            return Ok(None);
+        };
+        let mut told = Vec::new(alloc);
+        for (place, station) in line.stations.iter().enumerate() {
+            let distance = names.distance_of(station);
+            if distance.is_none() && self.has_events(place) {
+                return Ok(None);
+            }
+            told.push(distance)?;
+        }
+        Ok(Some(told))
+    }
+
+    /// Measures the first line, where the names tell how far its stations are.
+    fn measure(&mut self, alloc: Global, names: &Names) -> Result<(), AllocError> {
+        let Some(told) = self.told_distances(alloc, names)? else {
+            return Ok(());
+        };
+        let distances = distances_along(alloc, &told)?;
+        if let Some(line) = self.lines.first_mut() {
+            line.distances = distances;
+        }
+        Ok(())
+    }
+
     /// The number of the line with this name, which is put behind the others if it isn't there; None where there are too
     /// many.
     fn number_of_line(
@@ -162,6 +205,7 @@ impl<'a> Network<'a> {
         self.lines.push(Line {
             name,
             stations: Vec::new(alloc),
+            distances: None,
         })?;
         Ok(Some(place))
     }

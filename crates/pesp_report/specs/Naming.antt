@@ -1,5 +1,5 @@
 -- The names of events.
-use Rattle.std.specs.Prelude.{ℕ, ℤ, List, [], ◌∷◌, Option, Some, None, slice_get, string_bytes, codes}
+use Rattle.std.specs.Prelude.{ℕ, ℤ, if◌then◌else◌, List, [], ◌∷◌, Option, Some, None, slice_get, string_bytes, bytes_eq, codes}
 use Rattle.std.specs.Ordering.{int_eq}
 use Rattle.indexmap.specs.IndexMap.{get}
 use Rattle.pesp_report.specs.declared.names.Name.{Name}
@@ -13,6 +13,24 @@ told_at entries (Some place) = slice_get entries place
 -- what is told of the event with this label, if something is
 abbrev pub told_of : Names → ℤ → Option Name
 told_of names event = told_at names.entries.items (get int_eq names.places event)
+
+-- how far a station is, where a record tells it
+abbrev pub distance_by : List ℕ → Name → Option ℕ
+distance_by station name = if bytes_eq (string_bytes name.station) station then name.distance else None
+
+-- what is told first: the one, or where it is nothing the other
+unfoldable pub first_told : Option ℕ → Option ℕ → Option ℕ
+first_told (Some distance) later = Some distance
+first_told None later = later
+
+-- how far a station is, by the first record that tells it; nothing where none does
+unfoldable pub distance_among : List ℕ → List Name → Option ℕ
+distance_among station [] = None
+distance_among station (name ∷ later) = first_told (distance_by station name) (distance_among station later)
+
+-- how far a station is along the way
+abbrev pub distance_of : Names → List ℕ → Option ℕ
+distance_of names station = distance_among station names.entries.items
 
 -- a name as bytes; none where nothing is told
 abbrev pub bytes_of : Option Name → List ℕ

@@ -9,12 +9,16 @@ use std::alloc::Global;
 /// The most bytes of a text.
 const MAX_TEXT: usize = 16_777_216;
 
-/// The most fields of a record that aren't blank: an event's label, its name, its line and its station.
-const FIELDS: usize = 4;
+/// The most fields of a record that aren't blank: an event's label, its name, its line, its station and the station's distance.
+const FIELDS: usize = 5;
 
-/// Reads names: one event a line, as label, name, and where they are told line and station. Delimiters, comments, blank
-/// records, a header and numbers are read as those of an instance; names, lines and stations have no blanks at their ends.
-/// Where several records name an event, the first of them counts; events that no record names have no name.
+/// The greatest distance.
+const MOST_DISTANCE: i64 = 1_000_000_000;
+
+/// Reads names: one event a line, as label, name, and where they are told line, station, and how far the station is along the
+/// way. Delimiters, comments, blank records, a header and numbers are read as those of an instance; names, lines and stations
+/// have no blanks at their ends. Where several records name an event, the first of them counts; events that no record names
+/// have no name. A distance is a whole number from 0 to 1000000000, and blank where it isn't told.
 ///
 /// `TextTooLong` comes first; then the first record with a fault is told. `Memory` may come in place of any of these but the
 /// first.
@@ -66,7 +70,7 @@ fn read_records(alloc: Global, text: &[u8]) -> Result<Vec<Name>, NamesRefusal> {
     Ok(entries)
 }
 
-/// Whether a record has two to four fields, and blank ones behind them.
+/// Whether a record has two to five fields, and blank ones behind them.
 fn has_fields(line: &ByteRecord) -> bool {
     if line.len() < 2 {
         return false;
@@ -92,13 +96,35 @@ fn read_name(alloc: Global, at: u32, line: &ByteRecord) -> Result<Name, NamesRef
     let name = read_text(alloc, at, line, 1)?;
     let of_line = read_text(alloc, at, line, 2)?;
     let station = read_text(alloc, at, line, 3)?;
+    let distance = read_distance(at, line)?;
     Ok(Name {
         event,
         name,
         line: of_line,
         station,
+        distance,
         record: at,
     })
+}
+
+/// The distance in the last field; none where that is blank, or isn't there.
+fn read_distance(at: u32, line: &ByteRecord) -> Result<Option<u32>, NamesRefusal> {
+    let field = line.get(FIELDS - 1).unwrap_or(b"");
+    if field.trim_ascii().is_empty() {
+        return Ok(None);
+    }
+    match parse_number(field).and_then(|number| distance_from(number)) {
+        Some(distance) => Ok(Some(distance)),
+        None => Err(NamesRefusal::NotANumber { at }),
+    }
+}
+
+/// The distance that a number is, if it is one.
+fn distance_from(number: i64) -> Option<u32> {
+    if number > MOST_DISTANCE {
+        return None;
+    }
+    u32::try_from(number).ok()
 }
 
 /// The text of a field without the blanks at its ends; empty where there is no such field.

@@ -12,9 +12,9 @@ use std::fmt;
 pub enum NamesRefusal {
     /// The text has more than 16777216 bytes.
     TextTooLong,
-    /// The record has fewer than two fields, or more than four that aren't blank.
+    /// The record has fewer than two fields, or more than five that aren't blank.
     FieldCount { at: u32 },
-    /// The first field spells no number.
+    /// The first field spells no number, or the fifth no distance.
     NotANumber { at: u32 },
     /// A name, a line or a station is no UTF-8 text.
     NotText { at: u32 },

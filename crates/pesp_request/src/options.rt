@@ -115,7 +115,7 @@ pub(crate) fn names_option<'a>(alloc: Global) -> Arg<'a> {
         .long("names")
         .value_name("NAMES")
         .help(
-            "A file with the names of events, one a line as event,name or event,name,line,station",
+            "A file with the names of events, one a line as event,name or event,name,line,station,distance",
         )
 }
 
@@ -123,7 +123,7 @@ pub(crate) fn names_argument<'a>(alloc: Global) -> Arg<'a> {
     Arg::new(alloc, "names")
         .value_name("NAMES")
         .required(true)
-        .help("The file with the names of events, one a line as event,name,line,station")
+        .help("The file with the names of events, one a line as event,name,line,station,distance")
 }
 
 pub(crate) fn along_option<'a>(alloc: Global) -> Arg<'a> {

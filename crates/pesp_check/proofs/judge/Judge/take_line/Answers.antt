@@ -13,6 +13,6 @@ returns-clause-judged c f c' rest has before =
     let cycles = c.in_ok-end_cycles.ensures in
     let at_front = front.judged f c' _ (line_is_later (tree_line pairs_of c.args.said)) before in
     line_passed c.end_cycles.new.self.stage c.args.self.now.instance.now f c' (tree_line pairs_of c.args.said) rest
-    (kept c.end_cycles.new.self) _ cycles.past other refl refl
+    (kept c.end_cycles.new.self) _ cycles.past other refl
     (rw front.instance at (cycles.judged f c' _ has (line_is_line (tree_line pairs_of c.args.said))
     (rw (sym front.instance) at at_front)))

@@ -66,13 +66,13 @@ fn best_times(
     reduced: &Reduced,
     search: &TimesSearch,
 ) -> Result<Option<Vec<u32>>, Memory> {
-    let Some((times, _)) = search.best() else {
+    let Some(times) = search.best()? else {
         return Ok(None);
     };
-    if !reduced.network().is_timetable(times) {
+    if !reduced.network().is_timetable(&times) {
         return Ok(None);
     }
-    Ok(Some(reduced.lift_times(alloc, times)?))
+    Ok(Some(reduced.lift_times(alloc, &times)?))
 }
 
 /// Times of the instance that a search for times begins with; None says nothing.
@@ -84,7 +84,7 @@ fn first_times(
     let Some(search) = times else {
         return Ok(None);
     };
-    search.begin(reduced.network())?;
+    search.begin()?;
     best_times(alloc, reduced, search)
 }
 
@@ -140,10 +140,10 @@ fn searched_times(
     let is_due = is_due(reduced.network().rows().len(), used);
     let is_new = met.is_some() || is_due;
     if let Some(times) = met {
-        search.take(reduced.network(), times)?;
+        search.take(times)?;
     }
     if is_due {
-        search.go_on(reduced.network(), used)?;
+        search.go_on(used)?;
     }
     if !is_new {
         return Ok(None);

@@ -37,5 +37,5 @@ pub(crate) fn begin_with(
         return Ok(());
     };
     let lowered = reduced.lower_times(alloc, times)?;
-    search.take(reduced.network(), lowered)
+    search.take(lowered)
 }

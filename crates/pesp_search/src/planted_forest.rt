@@ -37,7 +37,7 @@ struct Exchanges {
 /// For a search that rests on its cycles.
 const MANY: Exchanges = Exchanges {
     a_cycle: 30,
-    in_all: 20_000,
+    in_all: 16_000,
     times_rows: 128_000_000,
 };
 

@@ -54,8 +54,8 @@ pub enum Pace {
     Turns,
 }
 
-/// A search that sharpens what is left of an instance: what it does next, whether it has taken up a tree, and how many leaves were
-/// split.
+/// A search that sharpens what is left of an instance: what it does next, whether it has taken up a tree, how many leaves were
+/// split, and after how many times are to be looked for where that is due.
 #[derive(Drop)]
 pub(crate) struct SharpSearch {
     pub(crate) sharpening: Sharpening,
@@ -67,6 +67,7 @@ pub(crate) struct SharpSearch {
     pace: Pace,
     turns: Turns,
     used: u32,
+    due: Option<u32>,
 }
 
 /// Whether times are looked for after so many steps.
@@ -115,6 +116,7 @@ impl SharpSearch {
             pace,
             turns: Turns::new(left.network.rows().len()),
             used: 0,
+            due: None,
         })
     }
 
@@ -147,10 +149,10 @@ impl SharpSearch {
             search.set_effort(Effort::Short);
         }
         let Some(best) = &self.best else {
-            return search.begin(left.network);
+            return search.begin();
         };
         match lowered(left, &best.times)? {
-            Some(times) => search.take(left.network, times),
+            Some(times) => search.take(times),
             None => Ok(()),
         }
     }
@@ -196,7 +198,7 @@ impl SharpSearch {
     fn take(&mut self, left: Left<'_>, times: Vec<u32>) -> Result<(), Memory> {
         offer(left, &times, &mut self.best)?;
         match &mut self.times {
-            Some(search) => search.take(left.network, times),
+            Some(search) => search.take(times),
             None => Ok(()),
         }
     }
@@ -217,8 +219,8 @@ impl SharpSearch {
         let Some(search) = &self.times else {
             return Ok(());
         };
-        match search.best() {
-            Some((times, _)) => offer(left, times, &mut self.best),
+        match search.best()? {
+            Some(times) => offer(left, &times, &mut self.best),
             None => Ok(()),
         }
     }
@@ -233,30 +235,38 @@ impl SharpSearch {
     /// Makes what is left of the first batch.
     fn end_first(&mut self, left: Left<'_>) -> Result<(), Memory> {
         if let Some(search) = &mut self.times {
-            search.end_first(left.network)?;
+            search.end_first()?;
         }
         self.take_best(left)
     }
 
-    /// Looks for times after as many steps as were made, where that is due and the first batch is over.
+    /// Notes after how many steps times are looked for, where that is due.
+    fn note_due(&mut self) {
+        if let Pace::Steps { before, .. } = self.pace {
+            let branches = before.saturating_add(self.used);
+            if is_due(branches) {
+                self.due = Some(branches);
+            }
+        }
+    }
+
+    /// Looks for times where that is due and the first batch is over; what was due before is made up then.
     fn look_for_times(&mut self, left: Left<'_>) -> Result<(), Memory> {
-        let Pace::Steps { before, .. } = self.pace else {
-            return Ok(());
-        };
-        let branches = before.saturating_add(self.used);
-        if !is_due(branches) || self.owes_times() {
+        self.note_due();
+        if self.owes_times() {
             return self.take_best(left);
         }
-        if let Some(search) = &mut self.times {
-            search.go_on(left.network, branches)?;
+        if let (Some(search), Some(branches)) = (&mut self.times, self.due) {
+            search.go_on(branches)?;
         }
+        self.due = None;
         self.take_best(left)
     }
 
     /// Makes a piece of the search for times.
     fn make_piece(&mut self, left: Left<'_>) -> Result<Step, Memory> {
         if let Some(search) = &mut self.times {
-            search.make_piece(left.network)?;
+            search.make_piece()?;
         }
         self.take_best(left)?;
         Ok(Step::Readied)

@@ -8,6 +8,9 @@ const FEWEST_SOFT: usize = 120;
 /// How many reheats of a timetable are merged with it.
 const REHEATS: u32 = 3;
 
+/// From how many groups on all of them are made where a batch came to one cost twice.
+const MANY_GROUPS: u32 = 8;
+
 /// After how many groups in turn that found nothing cheaper no more begin.
 const PATIENCE: u32 = 4;
 
@@ -37,8 +40,8 @@ impl SoftEffort {
         }
         let (groups, individuals, sweeps, between, again, rounds) = match rows {
             0..=400 => (8, 4, 200, 300, 150, 2),
-            401..=700 => (1, 3, 800, 500, 280, 1),
-            701..=2_500 => (1, 3, 2_000, 400, 500, 3),
+            401..=700 => (2, 4, 250, 300, 200, 1),
+            701..=2_500 => (1, 3, 2_000, 400, 500, 2),
             2_501..=8_000 => (1, 1, 1_500, 1_000, 500, 1),
             8_001..=30_000 => (1, 1, 600, 600, 300, 1),
             _ => (1, 1, 200, 200, 100, 0),
@@ -62,13 +65,14 @@ impl SoftEffort {
         self.groups > 0
     }
 
-    /// The work where a batch came to one cost twice: all of it where there are several groups, else one individual in a quarter
-    /// of the sweeps.
+    /// The work where a batch came to one cost twice: all of it where there are many groups, else one individual in a quarter of
+    /// the sweeps.
     pub fn after_same(&self) -> SoftEffort {
-        if self.groups > 1 {
+        if self.groups >= MANY_GROUPS {
             return *self;
         }
         SoftEffort {
+            groups: self.groups.min(1),
             individuals: 1,
             sweeps: self.sweeps / 4,
             ..*self

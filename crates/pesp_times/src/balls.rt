@@ -1,13 +1,13 @@
 //! Balls: a connected part of the events is freed, and the rest moves as one cluster.
 
-use crate::search::TimesSearch;
+use crate::search::Search;
 use crate::work::FEW;
 use pesp_annealing::Annealer;
 use pesp_network::Network;
 use pesp_problem::Memory;
 use pesp_timetables::{Clusters, Contraction, Found, Keys, Relaxation, ball_around, cost_of};
 
-impl TimesSearch {
+impl Search {
     /// The dearest of three rows that are drawn.
     fn dear_row(&mut self, found: &Found) -> Option<u32> {
         let rows = u64::try_from(found.slacks.len()).ok()?;

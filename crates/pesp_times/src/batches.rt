@@ -1,7 +1,7 @@
 //! Batches: individuals are merged by fours, and these with the best of before.
 
 use crate::pieces::Piece;
-use crate::search::TimesSearch;
+use crate::search::Search;
 use crate::work::{FEW, MAY_END_EARLY, Work, is_close, is_near};
 use pesp_network::Network;
 use pesp_problem::Memory;
@@ -23,7 +23,7 @@ enum Ended {
     Worthless,
 }
 
-impl TimesSearch {
+impl Search {
     /// Whether a batch that has begun is worth more of its pieces. With many rows most is won behind the last four.
     fn is_worth_more(&self, network: &Network) -> bool {
         network.rows().len() > FEW || self.is_worth_a_batch()

@@ -1,7 +1,7 @@
 //! New timetables: dives of several kinds, and anneals behind them.
 
 use crate::kinds::Start;
-use crate::search::{Known, TimesSearch};
+use crate::search::{Known, Search};
 use crate::work::{FEW, GREEDY, MOST_DIVED};
 use pesp_annealing::Annealer;
 use pesp_network::Network;
@@ -35,7 +35,7 @@ fn cheaper(one: Option<Annealer>, other: Annealer) -> Annealer {
     }
 }
 
-impl TimesSearch {
+impl Search {
     /// A seed.
     pub(crate) fn seed(&mut self) -> u64 {
         self.random.next() >> 40

@@ -9,9 +9,11 @@ mod effort;
 mod individuals;
 mod kinds;
 mod merges;
+mod order;
 mod pieces;
 mod search;
+mod times_search;
 mod work;
 
 pub use effort::Effort;
-pub use search::TimesSearch;
+pub use times_search::TimesSearch;

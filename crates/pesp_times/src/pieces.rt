@@ -1,7 +1,7 @@
 //! Batches piece by piece, so that others can look on in between.
 
 use crate::kinds::Start;
-use crate::search::TimesSearch;
+use crate::search::Search;
 use crate::work::{A_BALL, A_MERGE, A_PAIR, A_ROUND, A_VISIT, Work};
 use pesp_network::Network;
 use pesp_problem::Memory;
@@ -132,7 +132,7 @@ impl Pieces {
     }
 }
 
-impl TimesSearch {
+impl Search {
     /// Takes up a timetable that was met elsewhere and is near the cheapest one, annealed.
     fn take_up(&mut self, network: &Network) -> Result<Piece, Memory> {
         if let Some(met) = self.pieces.met.pop()
@@ -210,7 +210,7 @@ impl TimesSearch {
     }
 
     /// How many numbers were looked at so far, about: a measure of work that needs no clock.
-    pub fn work(&self) -> u64 {
+    pub(crate) fn work(&self) -> u64 {
         let visits = self.soft.visits().saturating_mul(A_VISIT);
         self.pieces.looked_at.saturating_add(visits)
     }
@@ -238,12 +238,12 @@ impl TimesSearch {
     }
 
     /// Whether an anneal has begun that isn't over.
-    pub fn is_annealing(&self) -> bool {
+    pub(crate) fn is_annealing(&self) -> bool {
         self.soft.is_annealing()
     }
 
     /// Makes the next piece of a batch; where a batch is over, of the next one.
-    pub fn make_piece(&mut self, network: &Network) -> Result<(), Memory> {
+    pub(crate) fn make_piece(&mut self, network: &Network) -> Result<(), Memory> {
         if self.pieces.is_over() {
             self.begin_next(network)?;
         }

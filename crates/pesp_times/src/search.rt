@@ -32,7 +32,7 @@ pub(crate) enum Known<T> {
 /// The search for timetables of one network: the cheapest of all batches, what later batches go on from, and the search in which
 /// spans may be broken.
 #[derive(Drop)]
-pub struct TimesSearch {
+pub(crate) struct Search {
     pub(crate) alloc: Global,
     pub(crate) frame: Frame,
     pub(crate) random: Random,
@@ -101,10 +101,10 @@ fn cheaper_times<'a>(
     }
 }
 
-impl TimesSearch {
+impl Search {
     /// A search that has found nothing yet.
-    pub fn new(alloc: Global, network: &Network) -> Result<TimesSearch, Memory> {
-        Ok(TimesSearch {
+    pub(crate) fn new(alloc: Global, network: &Network) -> Result<Search, Memory> {
+        Ok(Search {
             alloc,
             frame: Frame::new(alloc, network)?,
             random: Random::new(1),
@@ -124,12 +124,12 @@ impl TimesSearch {
     }
 
     /// So much is done before the first step.
-    pub fn set_effort(&mut self, effort: Effort) {
+    pub(crate) fn set_effort(&mut self, effort: Effort) {
         self.effort = effort;
     }
 
     /// What is found before the first step of a search. It doesn't depend on any step limit.
-    pub fn begin(&mut self, network: &Network) -> Result<(), Memory> {
+    pub(crate) fn begin(&mut self, network: &Network) -> Result<(), Memory> {
         match self.effort {
             Effort::Short => self.begin_short(network),
             Effort::Whole => self.begin_whole(network),
@@ -138,7 +138,7 @@ impl TimesSearch {
 
     /// One timetable of a plain dive, annealed a little, of which the first batch knows nothing.
     fn begin_short(&mut self, network: &Network) -> Result<(), Memory> {
-        let mut short = TimesSearch::new(self.alloc, network)?;
+        let mut short = Search::new(self.alloc, network)?;
         let found = short.individual(network, Start::Plain, SHORT_ROUNDS);
         swap(&mut self.plain, &mut short.plain);
         drop(short);
@@ -155,12 +155,12 @@ impl TimesSearch {
     }
 
     /// Whether the first batch is made piece by piece and isn't over.
-    pub fn owes_first(&self) -> bool {
+    pub(crate) fn owes_first(&self) -> bool {
         self.effort == Effort::Short && self.pieces.are_first()
     }
 
     /// Makes what is left of the first batch, where it is made piece by piece.
-    pub fn end_first(&mut self, network: &Network) -> Result<(), Memory> {
+    pub(crate) fn end_first(&mut self, network: &Network) -> Result<(), Memory> {
         if !self.owes_first() {
             return Ok(());
         }
@@ -247,7 +247,7 @@ impl TimesSearch {
     }
 
     /// What is found after so many steps (128, 256, 512 and so on).
-    pub fn go_on(&mut self, network: &Network, steps: u32) -> Result<(), Memory> {
+    pub(crate) fn go_on(&mut self, network: &Network, steps: u32) -> Result<(), Memory> {
         self.note_waiting(network)?;
         self.next_batch(network, steps)?;
         self.next_reheats(network, steps)
@@ -262,7 +262,7 @@ impl TimesSearch {
     }
 
     /// Takes times that were met elsewhere as an individual of the next batch; does nothing where they are no timetable.
-    pub fn take(&mut self, network: &Network, times: Vec<u32>) -> Result<(), Memory> {
+    pub(crate) fn take(&mut self, network: &Network, times: Vec<u32>) -> Result<(), Memory> {
         if !network.is_timetable(&times) {
             return Ok(());
         }
@@ -280,7 +280,7 @@ impl TimesSearch {
     }
 
     /// The cheapest times that were found, and their cost over the network's rows.
-    pub fn best(&self) -> Option<(&[u32], u64)> {
+    pub(crate) fn best(&self) -> Option<(&[u32], u64)> {
         let own = cheaper_times(self.hard.times(), self.soft.cheapest.times());
         cheaper_times(own, self.apart.times())
     }

@@ -1,6 +1,6 @@
 //! How far a search is, told while it works. No promise of an answer speaks of it.
 
-ghost use Rattle.std.specs.Prelude.{◌≡◌, ◌⊎◌, ◌↔◌, ◌<◌, ◌≤◌, IsTrue};
+ghost use Rattle.std.specs.Prelude.{◌≡◌, ◌↔◌, ◌<◌, ◌≤◌, ◌*◌, min, max, IsTrue};
 ghost use Rattle.pesp_progress.specs.Looks.{IsMilestone};
 
 use pesp_board::Board;
@@ -113,7 +113,7 @@ impl Milestones {
     fn is_told(&mut self, steps: u32, cost: Option<u64>) -> bool
         ensures told { IsTrue result ↔ IsMilestone self.old steps cost }
         ensures cost { self.new.cost ≡ cost }
-        ensures due { self.old.due ≤ steps → (steps < self.new.due) ⊎ (self.new.due ≡ u32.MAX) }
+        ensures due { self.old.due ≤ steps → self.new.due ≡ max 1 (min (steps * 2) u32.MAX) }
         ensures later { steps < self.old.due → self.new.due ≡ self.old.due }
     {
         if steps < self.due && cost == self.cost {

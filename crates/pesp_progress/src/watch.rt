@@ -1,6 +1,6 @@
 //! Who looks on while a search goes on from a certificate: it is told how far it is, and the search ends when its time is over.
 
-ghost use Rattle.std.specs.Prelude.{◌≡◌, ◌↔◌, true, IsSome, IsTrue};
+ghost use Rattle.std.specs.Prelude.{◌≡◌, ◌↔◌, ⊤, true, IsSome, IsTrue};
 ghost use Rattle.pesp_progress.specs.Looks.{AreOver};
 
 use crate::progress::Milestones;
@@ -85,6 +85,8 @@ impl<R: Eprint + Clock> Watcher for Watch<'_, R> {
     ghost may_end = { λ w. IsSome w.seconds };
 
     ghost has_ended = { λ w. w.ended ≡ true };
+
+    ghost was_told = { λ _ _. ⊤ };
 
     fn goes_on(&mut self, steps_used: u32, board: &Board) -> bool {
         if let Some(milestones) = &mut self.milestones {

@@ -1,5 +1,5 @@
 -- How a search that goes on from a certificate ends, one look after the other.
-use Rattle.std.proofs.Common.{◌≡◌, ℕ, ◌+◌, ◌<◌, ◌≤◌, List, [], ◌∷◌, length, length-append, refl, inl, inr, ap, sym, ◌∙◌, subst, arith}
+use Rattle.std.proofs.Common.{◌≡◌, ◌⊎◌, ℕ, ◌+◌, ◌<◌, ◌≤◌, List, [], ◌∷◌, length, length-append, refl, inl, inr, ap, sym, ◌∙◌, subst, arith}
 use Rattle.std.specs.Prelude.{Some, None, Result, Ok, Err, IfOk}
 use Rattle.std.proofs.lemmas.List.{length-set}
 use Rattle.pesp_truth.specs.Certificates.{Content}
@@ -22,7 +22,7 @@ use Rattle.pesp_resume.specs.declared.ending.Ending.{Ending}
 use Rattle.pesp_resume.specs.declared.ending.Ending.TheVariants.{StepsUsed, NoneOpen, Full, Stopped}
 use Rattle.pesp_resume.specs.declared.splits.Done.{Done}
 use Rattle.pesp_resume.specs.declared.resumption.Resumed.{Resumed}
-use Rattle.pesp_resume.specs.Endings.{ending_of, IsNoneWaiting, IsEndedAs}
+use Rattle.pesp_resume.specs.Endings.{ending_of, IsNoneWaiting, IsEndedAs, AreTold}
 use Rattle.pesp_resume.specs.Looking.{IsLook}
 
 -- ---- looks
@@ -216,3 +216,60 @@ certified_ends a b steps stopped state done (Ok x) e h used ending s =
     (subst (λ (y : BoardValue). AreLentSettled y.problem y.state
     → IsEndedAs y.problem steps stopped y.state state done.used done.ending) e h s)
 certified_ends a b steps stopped state done (Err x) e h used ending s = tt
+
+-- ---- what the watcher is told
+
+-- each number of leaves that were split so far was told
+abbrev pub AreToldTo : (ℕ → Type 0) → ℕ → Type 0
+AreToldTo told used = (n : ℕ) → 1 ≤ n → n ≤ used → told n
+
+pub none_told : (told : ℕ → Type 0) → AreToldTo told 0
+none_told told n some few = absurd (omega (arith, some, few))
+
+before_or_last : (n used more : ℕ) → more ≤ 1 → n ≤ used + more → (n ≤ used) ⊎ (n ≡ used + more)
+before_or_last n used more one few = grind arith
+
+pub told_more : (was now : ℕ → Type 0) (used more : ℕ) → more ≤ 1 → AreToldTo was used
+    → ((n : ℕ) → was n → now n) → now (used + more) → AreToldTo now (used + more)
+told_more was now used more one before kept last n some few = elim (before_or_last n used more one few) [
+  | inl early ↦ kept n (before n some early)
+  | inr same ↦ subst now (sym same) last
+]
+
+-- where the search ends by itself, the last number may be missing
+pub told_before : (told : ℕ → Type 0) (used more : ℕ) (turn : TurnsEnding) (ending : Ending) → ending_of turn ≡ Some ending
+    → more ≤ 1 → AreToldTo told used → AreTold told (used + more) ending
+told_before told used more turns.StepsUsed ending e one before = cc
+told_before told used more turns.NoneOpen ending e one before =
+    (let same : NoneOpen ≡ ending = cc in subst (AreTold told (used + more)) same
+    (λ n some less. before n some (omega (arith, less, one))))
+told_before told used more turns.NumbersSpent ending e one before =
+    (let same : Full ≡ ending = cc in subst (AreTold told (used + more)) same
+    (λ n some less. before n some (omega (arith, less, one))))
+told_before told used more turns.TreeTooLarge ending e one before =
+    (let same : Full ≡ ending = cc in subst (AreTold told (used + more)) same
+    (λ n some less. before n some (omega (arith, less, one))))
+told_before told used more turns.TurnsUsed ending e one before = cc
+
+pub told_full : (told : ℕ → Type 0) (used : ℕ) → AreToldTo told used → AreTold told used Full
+told_full told used before = λ n some less. before n some (omega (arith, less))
+
+-- without a split there is no number to tell
+nothing_to_tell : (told : ℕ → Type 0) (ending : Ending) → AreTold told 0 ending
+nothing_to_tell told StepsUsed = λ n some few. absurd (omega (arith, some, few))
+nothing_to_tell told NoneOpen = λ n some less. absurd (omega (arith, some, less))
+nothing_to_tell told Full = λ n some less. absurd (omega (arith, some, less))
+nothing_to_tell told Stopped = λ n some few. absurd (omega (arith, some, few))
+
+pub nothing_told : {E : Type 0} (told : ℕ → Type 0) (r : Result Done E) → IfOk r (λ d. d.used ≡ 0)
+    → IfOk r (λ d. AreTold told d.used d.ending)
+nothing_told told (Ok d) used =
+    subst (λ (n : ℕ). AreTold told n d.ending) (sym used) (nothing_to_tell told d.ending)
+nothing_told told (Err x) used = tt
+
+pub certified_told : {E : Type 0} (told : ℕ → Type 0) (done : Done) (r : Result Resumed E)
+    → AreTold told done.used done.ending → IfOk r (λ x. x.steps_used ≡ done.used)
+    → IfOk r (λ x. x.ending ≡ done.ending) → IfOk r (λ x. AreTold told x.steps_used x.ending)
+certified_told told done (Ok x) h used ending =
+    subst (λ (n : ℕ). AreTold told n x.ending) (sym used) (subst (AreTold told done.used) (sym ending) h)
+certified_told told done (Err x) h used ending = tt

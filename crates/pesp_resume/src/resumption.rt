@@ -6,7 +6,7 @@ ghost use Rattle.pesp_machine.specs.Certificates.{IsProblemOf};
 ghost use Rattle.pesp_turns.specs.Knowing.{IsKnown};
 ghost use Rattle.pesp_turns.specs.Growing.{Grows};
 ghost use Rattle.pesp_turns.specs.Endings.{AreLentSettled};
-ghost use Rattle.pesp_resume.specs.Endings.{IsEndedAs};
+ghost use Rattle.pesp_resume.specs.Endings.{IsEndedAs, AreTold};
 ghost use Rattle.pesp_resume.specs.Resuming.{IsBegun, IsCertified, IsResumed};
 
 use crate::ending::Ending;
@@ -80,6 +80,7 @@ fn go_on<W: Watcher>(
         (λ done. IsEndedAs search.old.board.problem steps
         (W.may_end watcher.old × W.has_ended watcher.new) search.old.board.state
         search.new.board.state done.used done.ending) }
+    ensures told { IfOk result (λ done. AreTold (W.was_told watcher.new) done.used done.ending) }
 {
     if steps == 0 {
         return look_anew(alloc, search, watcher);
@@ -132,6 +133,7 @@ fn resume_search<W: Watcher>(
         (λ r. IsEndedAs search.old.board.problem steps
         (W.may_end watcher.old × W.has_ended watcher.new) search.old.board.state
         search.new.board.state r.steps_used r.ending) }
+    ensures told { IfOk result (λ r. AreTold (W.was_told watcher.new) r.steps_used r.ending) }
 {
     look_for_times(alloc, search)?;
     let done = go_on(alloc, search, steps, watcher)?;
@@ -156,7 +158,8 @@ fn search_from(alloc: Global, instance: &Instance, base: &Certificate) -> Result
 /// What comes of it is a valid certificate. Its bound isn't below the base's, and its cost isn't above the base's; none counts as
 /// above every number. Its tree has as many branches more as leaves were split. It ends before all splits are used only where
 /// nothing is left to split at a leaf that is worth less than the best times, where a limit is met, or where the watcher ended
-/// it. The one refusal is of memory.
+/// it. The watcher was told each number of leaves that were split, but maybe the last one, where nothing is left to split or a
+/// limit is met. The one refusal is of memory.
 pub fn resume<W: Watcher>(
     alloc: Global,
     instance: &Instance,
@@ -165,9 +168,10 @@ pub fn resume<W: Watcher>(
     watcher: &mut W,
 ) -> Result<Resumed, Memory>
     requires { IsValid None instance.now base.now }
-    ensures { IfOk result
+    ensures resumed { IfOk result
         (λ r. IsResumed instance.now base.now steps
         (W.may_end watcher.old × W.has_ended watcher.new) r.steps_used r.ending r.certificate) }
+    ensures told { IfOk result (λ r. AreTold (W.was_told watcher.new) r.steps_used r.ending) }
 {
     // Both keep their limits.
     instance.events();

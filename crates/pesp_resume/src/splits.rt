@@ -4,7 +4,7 @@ ghost use Rattle.std.specs.Prelude.{◌≡◌, ◌<◌, ◌≤◌, IfOk};
 ghost use Rattle.pesp_turns.specs.Knowing.{IsKnown};
 ghost use Rattle.pesp_turns.specs.Growing.{Grows};
 ghost use Rattle.pesp_turns.specs.Endings.{AreLentSettled, EndsAs};
-ghost use Rattle.pesp_resume.specs.Endings.{IsEndedAs, ending_of};
+ghost use Rattle.pesp_resume.specs.Endings.{IsEndedAs, AreTold, ending_of};
 
 use crate::ending::Ending;
 use crate::watcher::Watcher;
@@ -65,6 +65,7 @@ pub(crate) fn split_leaves<W: Watcher>(
         → IfOk result (λ done. IsEndedAs search.old.board.problem steps
         (W.may_end watcher.old × W.has_ended watcher.new) search.old.board.state
         search.new.board.state done.used done.ending) }
+    ensures told { IfOk result (λ done. AreTold (W.was_told watcher.new) done.used done.ending) }
 {
     let mut used = 0;
     for _look in 0..MOST_LOOKS {

@@ -1,11 +1,11 @@
 //! Who looks on while a search goes on.
 
-ghost use Rattle.std.specs.Prelude.{◌≡◌, false};
+ghost use Rattle.std.specs.Prelude.{◌≡◌, ℕ, ⊤, false};
 
 use pesp_board::Board;
 
-/// Somebody who looks on while a search goes on, and may end it. No promise speaks of what is seen; an end that comes early
-/// leaves what was found by then.
+/// Somebody who looks on while a search goes on, and may end it. No promise speaks of the board that is seen; an end that comes
+/// early leaves what was found by then.
 pub trait Watcher {
     // Whether it may end a search.
     ghost may_end: { Self → Type 0 };
@@ -13,11 +13,16 @@ pub trait Watcher {
     // Whether it has ended one.
     ghost has_ended: { Self → Type 0 };
 
+    // Whether it was told that so many leaves were split.
+    ghost was_told: { Self → ℕ → Type 0 };
+
     /// Called after each turn, with the number of leaves that were split so far and the board as it stands; whether the search
     /// goes on.
     fn goes_on(&mut self, steps_used: u32, board: &Board) -> bool
         ensures same { may_end self.new → may_end self.old }
-        ensures ended { result ≡ false → may_end self.old × has_ended self.new };
+        ensures ended { result ≡ false → may_end self.old × has_ended self.new }
+        ensures told { was_told self.new steps_used }
+        ensures kept { (n : ℕ) → was_told self.old n → was_told self.new n };
 }
 
 /// A watcher that looks at nothing, and ends nothing.
@@ -28,6 +33,8 @@ impl Watcher for Nobody {
     ghost may_end = { λ _. ⊥ };
 
     ghost has_ended = { λ _. ⊥ };
+
+    ghost was_told = { λ _ _. ⊤ };
 
     fn goes_on(&mut self, _steps_used: u32, _board: &Board) -> bool {
         true

@@ -2,8 +2,8 @@ use Rattle.pesp_resume.proofs.Endings.{none_is_lent_yet}
 use Rattle.pesp_resume.proofs.Resumptions.{is_resumed_of}
 use Rattle.pesp_resume.proofs.resumption.resume.Goals as goal
 
-pub returns : goal.returns
-returns g c =
+pub returns-clause-resumed : goal.returns-clause-resumed
+returns-clause-resumed g c =
     let search = c.in_ok-search.search in
     let begun = c.in_ok-search.ensures.begun in
     is_resumed_of c.args.instance.now c.args.base.now search.board.problem search.board.state

@@ -8,11 +8,11 @@ returns-in_err-print-clause-cause g c =
     told_as _ _ _ c.from_residual-in_err-print.ensures.1 (
       out.fault,
       writes c.in_ok-resumed.resumed.steps_used c.in_ok-resumed.resumed.ending
-          c.period.ensures.limits.some_period c.in_ok-resumed.ensures out.has_text out.text,
+          c.period.ensures.limits.some_period c.in_ok-resumed.ensures.resumed out.has_text out.text,
     )
 
 pub returns-clause-ok : goal.returns-clause-ok
 returns-clause-ok g c =
     let out = c.in_ok-print.ensures in
     writes c.in_ok-resumed.resumed.steps_used c.in_ok-resumed.resumed.ending
-    c.period.ensures.limits.some_period c.in_ok-resumed.ensures out.has_text out.text
+    c.period.ensures.limits.some_period c.in_ok-resumed.ensures.resumed out.has_text out.text

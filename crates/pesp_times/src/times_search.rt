@@ -1,4 +1,4 @@
-//! The search for timetables of one network, whatever the order of its events and rows.
+//! The search for timetables of one network, by a copy of it.
 
 use crate::effort::Effort;
 use crate::order::Ordered;
@@ -7,8 +7,8 @@ use pesp_network::Network;
 use pesp_problem::Memory;
 use std::alloc::Global;
 
-/// The search for timetables of one network. It goes by a copy of it in one order of events and rows, so that what it finds
-/// doesn't depend on theirs.
+/// The search for timetables of one network. It goes by a copy of it; where there are neither few rows nor many, events and rows
+/// have one order there, so that what it finds doesn't depend on theirs.
 #[derive(Drop)]
 pub struct TimesSearch {
     alloc: Global,

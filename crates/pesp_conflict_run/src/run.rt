@@ -14,6 +14,7 @@ use crate::told::{Told, told_of};
 use pesp_conflict::{Finding, conflict};
 use pesp_conflict_list::{add_sums, text_of_listed};
 use pesp_faults::{Fault, read_whole_instance};
+use pesp_finder::TimesFinder;
 use pesp_problem::Instance;
 use pesp_report::Names;
 use pesp_stream::{Bytes, Sink, Source, print_to};
@@ -62,8 +63,9 @@ fn count_of(rows: &[u32]) -> u32
 /// needed, there are for each listed row times that keep all other listed rows. Where it tells a timetable, there is one; where
 /// it tells that so many steps decided nothing, a search over all rows used them and found neither.
 /// `Search` where the cycles or the tree of a search over some rows pass their limits, which they can only where the square of
-/// the number of rows is above 10000000, or the number of rows times one more than the steps above 20000000.
-pub fn run_conflict<R: Source, W: Sink>(
+/// the number of rows is above 10000000, or the number of rows times one more than the steps above 20000000. A finder looks for
+/// times.
+pub fn run_conflict<R: Source, W: Sink, F: TimesFinder>(
     alloc: Global,
     reader: &mut R,
     writer: &mut W,
@@ -71,6 +73,7 @@ pub fn run_conflict<R: Source, W: Sink>(
     steps: u32,
     names: Option<&Names>,
     sums: &mut String,
+    finder: &mut F,
 ) -> Result<Told, Fault>
     requires steps { steps ≤ MOST_STEPS }
     requires reads_fit { FewerThan (2 ^ 62) (R.calls reader.old) }
@@ -94,7 +97,7 @@ pub fn run_conflict<R: Source, W: Sink>(
 {
     let instance = read_whole_instance(alloc, reader, period)?;
     let _limits = instance.rows();
-    match conflict(alloc, &instance, steps)? {
+    match conflict(alloc, &instance, steps, finder)? {
         Finding::Conflict(found) => {
             write_list(alloc, &instance, &found.rows, names, writer)?;
             let _refused = add_sums(alloc, &instance, &found.rows, names, sums);

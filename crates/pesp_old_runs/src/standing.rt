@@ -14,6 +14,7 @@ use crate::listener::Listener;
 use pesp_cert::{Fronted, parse_fronted};
 use pesp_check::check_sharp;
 use pesp_faults::{Fault, MOST_TEXT, read_whole_instance};
+use pesp_finder::TimesFinder;
 use pesp_judges::{Refusal, Verdict};
 use pesp_plan::{KeptPlan, Overseer, Shelf};
 use pesp_runs::{OnBase, Search};
@@ -24,9 +25,17 @@ use std::alloc::Global;
 /// where that is valid for the instance. One of other activities gives the times to begin with, as `run_from_old` takes them, and a
 /// listener is told of it; what stood there is replaced by the first certificate that is found. `Certificate` where the text is
 /// none's, and `Base` where it has another period: then what stands there stays.
-pub fn run_on_standing<H: Shelf, K: Overseer, R: Source, B: Source, W: Sink, L: Listener>(
+pub fn run_on_standing<
+    H: Shelf,
+    F: TimesFinder,
+    K: Overseer,
+    R: Source,
+    B: Source,
+    W: Sink,
+    L: Listener,
+>(
     alloc: Global,
-    plan: &mut KeptPlan<H, K>,
+    plan: &mut KeptPlan<H, F, K>,
     instance_reader: &mut R,
     base_reader: &mut B,
     writer: &mut W,

@@ -5,9 +5,9 @@
 
 mod balls;
 mod batches;
-mod effort;
 mod individuals;
 mod kinds;
+mod looking;
 mod merges;
 mod order;
 mod pieces;
@@ -15,5 +15,4 @@ mod search;
 mod times_search;
 mod work;
 
-pub use effort::Effort;
 pub use times_search::TimesSearch;

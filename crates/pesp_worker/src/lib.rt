@@ -12,5 +12,5 @@ mod refusal;
 mod shared_search;
 mod splits;
 
-pub use open_work::{work, work_on_all};
+pub use open_work::work_on_all;
 pub use refusal::WorkRefusal;

@@ -1,9 +1,9 @@
 use Rattle.std.proofs.Common.{None, arith}
 use Rattle.pesp_worker.proofs.Works.{one_rises, one_work, last_work}
-use Rattle.pesp_worker.proofs.open_work.work.Goals as goal
+use Rattle.pesp_solver.proofs.open_work.work.Goals as goal
 
-pub work_on_all-requires-clause-rise : goal.work_on_all-requires-clause-rise
-work_on_all-requires-clause-rise c = one_rises c.args.job
+pub work_on_all-works-requires-clause-rise : goal.work_on_all-works-requires-clause-rise
+work_on_all-works-requires-clause-rise c = one_rises c.args.job
 
 pub unreachable-requires : goal.unreachable-requires
 unreachable-requires c =

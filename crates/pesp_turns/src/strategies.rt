@@ -1,5 +1,4 @@
-//! What proposes cuts for a board's problem, where its cycles are fundamental walks of what is left of the instance, and
-//! times.
+//! What proposes cuts for a board's problem, where its cycles are fundamental walks of what is left of the instance.
 
 ghost use Rattle.std.specs.Prelude.{All, IfOk, IfSome};
 ghost use Rattle.pesp_problem.specs.Walks.{IsWalk};
@@ -7,14 +6,11 @@ ghost use Rattle.pesp_problem.specs.Forests.{AreFundamental};
 ghost use Rattle.pesp_network.specs.Networks.{arcs_of_network};
 
 use crate::known::Known;
-use pesp_board::Board;
-use pesp_branching::Proposer;
 use pesp_network::NetRefusal;
 use pesp_nodes::Problem;
 use pesp_problem::{Memory, Walk};
 use pesp_reduce::Reduced;
 use pesp_strategy::Strategy;
-use pesp_times::TimesSearch;
 use std::alloc::Global;
 
 /// The fundamental walks of what is left; None where they have too many signed rows.
@@ -72,7 +68,7 @@ pub fn strategy_of(alloc: Global, known: &Known) -> Result<Option<Strategy>, Mem
 }
 
 /// A strategy; None where the cycles are another table than that of the forest of what is left.
-fn strategy_for(
+pub(crate) fn strategy_for(
     alloc: Global,
     known: &Known,
     problem: &Problem,
@@ -85,28 +81,4 @@ fn strategy_for(
         return Ok(None);
     }
     strategy_of(alloc, known)
-}
-
-/// What looks for times, where the board has none.
-fn times_for(alloc: Global, known: &Known, board: &Board) -> Result<Option<TimesSearch>, Memory> {
-    match board.best() {
-        Some(_) => Ok(None),
-        None => Ok(Some(TimesSearch::new(alloc, known.reduced.network())?)),
-    }
-}
-
-/// What proposes cuts and times; times are looked for where the board has none.
-pub(crate) fn proposer_for(
-    alloc: Global,
-    known: &Known,
-    board: &Board,
-) -> Result<Proposer, Memory> {
-    let times = times_for(alloc, known, board)?;
-    match strategy_for(alloc, known, board.problem()) {
-        Ok(strategy) => Ok(Proposer { strategy, times }),
-        Err(refused) => {
-            drop(times);
-            Err(refused)
-        }
-    }
 }

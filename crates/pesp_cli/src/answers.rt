@@ -15,18 +15,16 @@ use crate::input::{Beginning, warn_of_period};
 use crate::plans::of_plan;
 use crate::telling::{tell_sums, told_conflict, told_fix};
 use pesp_check_run::{run_check, run_check_sharp, status_of_verdict};
-use pesp_conflict_run::{run_conflict, status_of_told};
-use pesp_faults::Fault;
 use pesp_fix::Wanted;
+use pesp_plan::Lockable;
 use pesp_progress::{Teller, Watch};
 use pesp_report::Names;
 use pesp_report_run::{
-    Diagrams, NamedReport, Page, Picture, Report, Timetable, read_whole_names, run_fix, run_sheet,
-    run_violations,
+    Diagrams, NamedReport, Page, Picture, Report, Timetable, read_whole_names, run_conflict,
+    run_fix, run_sheet, run_violations, status_of_told,
 };
 use pesp_request::{OfCertificate, OfInstance, OfLeaves, OfTimes, OfWorks};
-use pesp_runs::{OnBase, Search, run_alone, run_from_times, run_on_base};
-use pesp_shelf::Lockable;
+use pesp_runs::{Fault, OnBase, Search, run_alone, run_from_times, run_on_base};
 use pesp_stream::{Counted, Sink, Source};
 use pesp_tasks::{
     Gap, GapJson, Resume, ResumeSharp, Solve, SolveSharp, Split, SplitSharp, Work, WorkSharp,

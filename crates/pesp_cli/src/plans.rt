@@ -8,13 +8,13 @@ ghost use Rattle.pesp_cli.specs.Stops.{StopsBegun, StopsPlan, StopsKept};
 
 use crate::answers::{done, opened_times};
 use crate::input::warn_of_period;
-use pesp_faults::Fault;
-use pesp_old_runs::{Listener, run_from_old, run_on_standing};
-use pesp_plan::{KeptPlan, Overseer, Plan};
+use pesp_plan::{
+    FileShelf, KeptPlan, Listener, Lockable, Overseer, Plan, ShelfRefusal, run_from_old,
+    run_on_standing,
+};
 use pesp_progress::{Again, Hearer, Planner};
 use pesp_request::Planning;
-use pesp_runs::{Search, run_alone};
-use pesp_shelf::{FileShelf, Lockable, ShelfRefusal};
+use pesp_runs::{Fault, Search, run_alone};
 use pesp_stream::{Counted, Sink, Source};
 use pesp_times::TimesSearch;
 use std::rt::{Clock, Files};

@@ -9,10 +9,9 @@ use crate::overseer::Overseer;
 use crate::pursuit::pursue;
 use crate::shelf::Shelf;
 use pesp_cert::Fronted;
-use pesp_faults::Fault;
 use pesp_finder::TimesFinder;
 use pesp_problem::Instance;
-use pesp_runs::{OnBase, Search};
+use pesp_runs::{Fault, OnBase, Search};
 use pesp_sharp_search::Going;
 use pesp_stream::{Sink, WriteFault};
 use std::alloc::Global;
@@ -90,7 +89,7 @@ impl<H: Shelf, F: TimesFinder, K: Overseer> Search for KeptPlan<H, F, K> {
 
 impl<H: Shelf, F: TimesFinder, K: Overseer> OnBase for KeptPlan<H, F, K> {
     ghost use Rattle.std.specs.Prelude.{⊤};
-    ghost use Rattle.pesp_faults.specs.Causes.{OutCause};
+    ghost use Rattle.pesp_runs.specs.Causes.{OutCause};
     ghost use Rattle.pesp_plan.specs.Planning.{KeepsOn};
 
     // The certificate that stands on the shelf.

@@ -8,9 +8,9 @@ use Rattle.pesp_cert.specs.Fronted.{Fronted, IsFrontedText}
 use Rattle.pesp_cert.specs.Refusals.{items_of_text}
 use Rattle.pesp_judges.specs.Faults.{IsVerdict}
 use Rattle.pesp_check_run.specs.Devices.{Device, HasFailed}
-use Rattle.pesp_faults.specs.Reading.{ReadsNext}
-use Rattle.pesp_faults.specs.declared.fault.Fault.{Fault}
-use Rattle.pesp_faults.specs.declared.fault.Fault.TheVariants.{Certificate, Base, Memory, Read}
+use Rattle.pesp_runs.specs.Reading.{ReadsNext}
+use Rattle.pesp_runs.specs.declared.fault.Fault.{Fault}
+use Rattle.pesp_runs.specs.declared.fault.Fault.TheVariants.{Certificate, Base, Memory, Read}
 
 -- the bytes that were read are the text of this certificate, with a front or without
 abbrev pub ReadsFronted : Option (List ℕ) → Option (List ℕ) → Fronted → Type 0

@@ -6,12 +6,11 @@ ghost use Rattle.std.specs.List.Sorted.{IsStrictlyIncreasing};
 ghost use Rattle.pesp_problem.specs.declared.limits.TheConstants.{MOST_STEPS};
 ghost use Rattle.pesp_stream.specs.Counts.{FewerThan, HasWorked};
 ghost use Rattle.pesp_check_run.specs.Devices.{over};
-ghost use Rattle.pesp_faults.specs.Reading.{HasBase};
+ghost use Rattle.pesp_runs.specs.Reading.{HasBase};
 ghost use Rattle.pesp_tasks.specs.Solving.{Solves, SolveCause};
 ghost use Rattle.pesp_tasks.specs.Outside.{WritesWorks, WorkCause};
 
-use pesp_faults::Fault;
-use pesp_runs::{run_alone, run_on_base};
+use pesp_runs::{Fault, run_alone, run_on_base};
 use pesp_search::Nobody;
 use pesp_stream::{Sink, Source};
 use pesp_tasks::{Solve, Work};

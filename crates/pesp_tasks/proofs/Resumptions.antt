@@ -11,9 +11,9 @@ use Rattle.pesp_resume.specs.declared.ending.Ending.{Ending}
 use Rattle.pesp_resume.specs.Resuming.{IsResumed}
 use Rattle.pesp_resume.proofs.Resumptions.{resumed_weaker}
 use Rattle.pesp_check_run.specs.Devices.{Device, GetsFront}
-use Rattle.pesp_faults.specs.Causes.{OutCause}
-use Rattle.pesp_faults.specs.declared.fault.Fault.{Fault}
-use Rattle.pesp_faults.specs.declared.fault.Fault.TheVariants.{Instance, Certificate, Times, Names, Search, Report, Base, Works, NoJob, Memory, Read, Write, NoFile}
+use Rattle.pesp_runs.specs.Causes.{OutCause}
+use Rattle.pesp_runs.specs.declared.fault.Fault.{Fault}
+use Rattle.pesp_runs.specs.declared.fault.Fault.TheVariants.{Instance, Certificate, Times, Names, Search, Report, Base, Works, NoJob, Memory, Read, Write, NoFile}
 use Rattle.pesp_runs.specs.Bases.{ReadsSharpBase, SharpBaseCause}
 use Rattle.pesp_runs.specs.Runs.{OverBaseCause}
 use Rattle.pesp_tasks.specs.Resuming.{WritesResumed, GoesOnBy, WritesGoneOn}

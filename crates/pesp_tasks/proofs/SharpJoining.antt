@@ -10,7 +10,7 @@ use Rattle.pesp_truth.specs.Marks.{Marks}
 use Rattle.pesp_cert.specs.Fronted.{Fronted, IsFrontedText, fronted_text}
 use Rattle.pesp_cert_lines.specs.declared.versions.Versions.TheVariants.{All}
 use Rattle.pesp_check_run.specs.Checking.{Checks, ReadsInstance}
-use Rattle.pesp_faults.specs.Reading.{ReadsTimetable}
+use Rattle.pesp_runs.specs.Reading.{ReadsTimetable}
 use Rattle.pesp_runs.specs.Bases.{ReadsSharpBase}
 use Rattle.pesp_runs.specs.Runs.{OverBase}
 use Rattle.pesp_tasks.specs.Resuming.{GoesOnBy, WritesGoneOn}

@@ -5,16 +5,15 @@ ghost use Rattle.std.specs.Io.KnownBytes.{Appends};
 ghost use Rattle.pesp_stream.specs.Counts.{FewerThan, HasWorked};
 ghost use Rattle.pesp_truth.specs.Certificates.{IsValid};
 ghost use Rattle.pesp_check_run.specs.Devices.{over, HasFailed, GetsFront};
-ghost use Rattle.pesp_faults.specs.Causes.{OutCause};
+ghost use Rattle.pesp_runs.specs.Causes.{OutCause};
 ghost use Rattle.pesp_tasks.specs.Resuming.{WritesResumed};
 
 use crate::sharp_resume::write_sharply;
 use pesp_cert::{Certificate, Fronted, print};
-use pesp_faults::Fault;
 use pesp_finder::TimesFinder;
 use pesp_problem::Instance;
 use pesp_resume::{Watcher, resume};
-use pesp_runs::OnBase;
+use pesp_runs::{Fault, OnBase};
 use pesp_sharp_search::SharpWatcher;
 use pesp_stream::Sink;
 use std::alloc::Global;
@@ -67,7 +66,7 @@ fn write_plainly<F: TimesFinder, T: Watcher, W: Sink>(
 
 impl<F: TimesFinder, T: Watcher + SharpWatcher> OnBase for Resume<F, T> {
     ghost use Rattle.std.specs.Prelude.{⊤};
-    ghost use Rattle.pesp_faults.specs.Causes.{OutCause};
+    ghost use Rattle.pesp_runs.specs.Causes.{OutCause};
     ghost use Rattle.pesp_tasks.specs.Resuming.{WritesGoneOn};
 
     type Base = Fronted;

@@ -4,16 +4,15 @@ ghost use Rattle.std.specs.Prelude.{◌≡◌, ◌≢◌, ◌<◌, ◌^◌, OnOk
 ghost use Rattle.std.specs.Io.KnownBytes.{Appends};
 ghost use Rattle.pesp_stream.specs.Counts.{FewerThan, HasWorked};
 ghost use Rattle.pesp_check_run.specs.Devices.{over, HasFailed, GetsFront};
-ghost use Rattle.pesp_faults.specs.Causes.{OutCause};
+ghost use Rattle.pesp_runs.specs.Causes.{OutCause};
 ghost use Rattle.pesp_runs.specs.Bases.{IsSharpBase};
 ghost use Rattle.pesp_tasks.specs.SharpSolving.{WritesSharpResumed};
 
 use crate::fronted::vouch;
 use pesp_cert::{Fronted, print_fronted};
-use pesp_faults::Fault;
 use pesp_finder::TimesFinder;
 use pesp_problem::Instance;
-use pesp_runs::OnBase;
+use pesp_runs::{Fault, OnBase};
 use pesp_sharp_search::{SharpWatcher, resume_sharp};
 use pesp_stream::Sink;
 use std::alloc::Global;
@@ -62,7 +61,7 @@ pub(crate) fn write_sharply<F: TimesFinder, T: SharpWatcher, W: Sink>(
 
 impl<F: TimesFinder, T: SharpWatcher> OnBase for ResumeSharp<F, T> {
     ghost use Rattle.std.specs.Prelude.{⊤};
-    ghost use Rattle.pesp_faults.specs.Causes.{OutCause};
+    ghost use Rattle.pesp_runs.specs.Causes.{OutCause};
     ghost use Rattle.pesp_tasks.specs.SharpSolving.{WritesSharpResumed};
 
     type Base = Fronted;

@@ -2,10 +2,9 @@
 
 use crate::fronted::vouch;
 use pesp_cert::print_fronted;
-use pesp_faults::Fault;
 use pesp_finder::TimesFinder;
 use pesp_problem::Instance;
-use pesp_runs::Search;
+use pesp_runs::{Fault, Search};
 use pesp_sharp_search::{SharpObserver, solve_sharp};
 use pesp_stream::Sink;
 use std::alloc::Global;

@@ -2,11 +2,10 @@
 
 use crate::fronted::vouch;
 use pesp_cert::{Fronted, print_fronted};
-use pesp_faults::Fault;
 use pesp_finder::TimesFinder;
 use pesp_problem::Instance;
-use pesp_runs::OnBase;
-use pesp_sharp_outside::{Unwatched, work_sharp};
+use pesp_runs::{Fault, OnBase};
+use pesp_sharp_search::{Unwatched, work_sharp};
 use pesp_stream::Sink;
 use std::alloc::Global;
 
@@ -23,7 +22,7 @@ pub struct WorkSharp<'a, F> {
 
 impl<F: TimesFinder> OnBase for WorkSharp<'_, F> {
     ghost use Rattle.std.specs.Prelude.{◌⊎◌, ⊤};
-    ghost use Rattle.pesp_faults.specs.Causes.{OutCause};
+    ghost use Rattle.pesp_runs.specs.Causes.{OutCause};
     ghost use Rattle.pesp_tasks.specs.SharpOutside.{SharpJobCause, WritesSharpWork};
 
     type Base = Fronted;

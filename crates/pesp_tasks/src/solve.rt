@@ -1,10 +1,9 @@
 //! The search for a best timetable.
 
 use pesp_cert::print;
-use pesp_faults::Fault;
 use pesp_finder::TimesFinder;
 use pesp_problem::Instance;
-use pesp_runs::Search;
+use pesp_runs::{Fault, Search};
 use pesp_search::{Observer, solve_from};
 use pesp_stream::Sink;
 use std::alloc::Global;

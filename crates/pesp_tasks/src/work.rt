@@ -8,10 +8,9 @@ ghost use Rattle.pesp_worker.specs.HandingIn.{AreWorksOn};
 ghost use Rattle.pesp_tasks.specs.Outside.{work_fault, JobCause};
 
 use pesp_cert::Certificate;
-use pesp_faults::Fault;
 use pesp_finder::TimesFinder;
 use pesp_problem::Instance;
-use pesp_runs::OnBase;
+use pesp_runs::{Fault, OnBase};
 use pesp_stream::{Sink, print_to};
 use pesp_worker::{WorkRefusal, work_on_all};
 use pesp_works::WorkText;
@@ -32,7 +31,7 @@ impl<F: TimesFinder> OnBase for Work<'_, F> {
     ghost use Rattle.std.specs.Prelude.{◌≤◌, ◌⊎◌};
     ghost use Rattle.std.specs.List.Sorted.{IsStrictlyIncreasing};
     ghost use Rattle.pesp_problem.specs.declared.limits.TheConstants.{MOST_STEPS};
-    ghost use Rattle.pesp_faults.specs.Causes.{OutCause};
+    ghost use Rattle.pesp_runs.specs.Causes.{OutCause};
     ghost use Rattle.pesp_tasks.specs.Outside.{JobCause, WritesWorks};
 
     type Base = Certificate;

@@ -19,6 +19,6 @@ pub returns-in-Ok-Some-clause-stopped : goal.returns-in-Ok-Some-clause-stopped
 returns-in-Ok-Some-clause-stopped g c =
     stopped_kept_on c.run_on_standing.result _ _ _ _ _ _ c.run_on_standing.ensures.cause c.done-answer.ensures
 
-pub returns-clause-stopped : goal.returns-clause-stopped
-returns-clause-stopped g c =
+pub returns-in-Err-clause-stopped : goal.returns-in-Err-clause-stopped
+returns-in-Err-clause-stopped g c =
     refused_kept _ _ _ _ _ c.in-Err.ensures.refused

@@ -5,9 +5,11 @@
 
 mod balls;
 mod batches;
+mod grown;
 mod individuals;
 mod kinds;
 mod looking;
+mod marks;
 mod merges;
 mod order;
 mod pieces;

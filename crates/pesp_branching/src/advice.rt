@@ -1,5 +1,6 @@
 //! What is proposed for a leaf.
 
+use crate::proposer::Proposer;
 use crate::settings::NARROWED_JOBS;
 use crate::slack_cut::{Narrowing, narrow};
 use pesp_board::{Board, Job};
@@ -75,7 +76,7 @@ fn ask_strategy(
 /// one of its parts, as long as no timetable is known and few leaves were lent; else what the strategy proposes.
 pub fn ask(
     alloc: Global,
-    strategy: &mut Option<Strategy>,
+    proposer: &mut Proposer,
     board: &Board,
     reduced: &Reduced,
     job: &Job,
@@ -89,5 +90,5 @@ pub fn ask(
             });
         }
     }
-    ask_strategy(alloc, strategy, board, reduced, job, node)
+    ask_strategy(alloc, &mut proposer.strategy, board, reduced, job, node)
 }

@@ -3,4 +3,3 @@ pub mod Parts
 pub mod Decisions
 pub mod Refusals
 pub mod Trials
-pub mod ListedRows

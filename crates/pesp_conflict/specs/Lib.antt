@@ -1,4 +1,3 @@
 pub mod Findings
 pub mod Refusals
 pub mod Insides
-pub mod Lists

@@ -11,7 +11,6 @@ ghost use Rattle.pesp_conflict.specs.Insides.{IsTrial};
 use crate::decided_rows::decide;
 use crate::decision::{Decision, are_fit};
 use crate::lists::{are_among, has_others, without};
-use pesp_finder::TimesFinder;
 use pesp_problem::Instance;
 use pesp_search::SolveRefusal;
 use std::alloc::Global;
@@ -47,13 +46,12 @@ fn fewer_of(listed: &[u32], rows: Vec<u32>) -> Trial
 }
 
 /// Searches for times that keep the listed rows but those of a group.
-pub fn try_without<F: TimesFinder>(
+pub fn try_without(
     alloc: Global,
     instance: &Instance,
     listed: &[u32],
     group: &[u32],
     steps: u32,
-    finder: &mut F,
 ) -> Result<Trial, SolveRefusal>
     requires { steps ≤ MOST_STEPS }
     ensures tried { IfOk result (IsTrial instance.now listed.now) }
@@ -63,7 +61,7 @@ pub fn try_without<F: TimesFinder>(
     if !are_fit(instance, &rest) {
         return Ok(Trial::Unknown);
     }
-    match decide(alloc, instance, &rest, steps, finder)? {
+    match decide(alloc, instance, &rest, steps)? {
         Decision::Timetable => Ok(needed_in(listed, group, &rest)),
         Decision::Conflict(rows) => Ok(fewer_of(listed, rows)),
         Decision::Undecided => Ok(Trial::Unknown),

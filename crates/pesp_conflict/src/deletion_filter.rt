@@ -8,7 +8,6 @@ ghost use Rattle.pesp_conflict.specs.Insides.{IsKnown};
 use crate::attempts::try_without;
 use crate::known::{Known, mark, take};
 use crate::settings::{FIRST_GROUPS, HALVINGS};
-use pesp_finder::TimesFinder;
 use pesp_problem::Instance;
 use pesp_search::SolveRefusal;
 use std::alloc::{AllocError, Global};
@@ -56,13 +55,12 @@ fn left_after(known: &Known) -> Option<usize> {
 }
 
 /// One trial; `false` where none is left to make.
-fn try_next<F: TimesFinder>(
+fn try_next(
     alloc: Global,
     instance: &Instance,
     known: &mut Known,
     size: usize,
     steps: u32,
-    finder: &mut F,
 ) -> Result<bool, SolveRefusal>
     requires steps { steps ≤ MOST_STEPS }
     requires known { IsKnown instance.now known.old }
@@ -77,20 +75,19 @@ fn try_next<F: TimesFinder>(
         return Ok(false);
     }
     known.left = left;
-    let trial = try_without(alloc, instance, &known.listed, &group, steps, finder)?;
+    let trial = try_without(alloc, instance, &known.listed, &group, steps)?;
     take(known, trial)?;
     mark(known, &group)?;
     Ok(true)
 }
 
 /// Trials of groups of one size.
-fn sift<F: TimesFinder>(
+fn sift(
     alloc: Global,
     instance: &Instance,
     known: &mut Known,
     size: usize,
     steps: u32,
-    finder: &mut F,
 ) -> Result<(), SolveRefusal>
     requires steps { steps ≤ MOST_STEPS }
     requires known { IsKnown instance.now known.old }
@@ -98,7 +95,7 @@ fn sift<F: TimesFinder>(
     ensures refused { IfErr result (IsConflictRefusal instance.now steps) }
 {
     for _ in 0..known.listed.len() {
-        if !try_next(alloc, instance, known, size, steps, finder)? {
+        if !try_next(alloc, instance, known, size, steps)? {
             return Ok(());
         }
     }
@@ -106,12 +103,11 @@ fn sift<F: TimesFinder>(
 }
 
 /// Trials of groups, each time of half the size, down to single rows.
-pub fn sift_all<F: TimesFinder>(
+pub fn sift_all(
     alloc: Global,
     instance: &Instance,
     known: &mut Known,
     steps: u32,
-    finder: &mut F,
 ) -> Result<(), SolveRefusal>
     requires steps { steps ≤ MOST_STEPS }
     requires known { IsKnown instance.now known.old }
@@ -121,7 +117,7 @@ pub fn sift_all<F: TimesFinder>(
     let mut size = known.listed.len() / FIRST_GROUPS;
     for _ in 0..HALVINGS {
         known.tried.clear();
-        sift(alloc, instance, known, size.max(1), steps, finder)?;
+        sift(alloc, instance, known, size.max(1), steps)?;
         if size <= 1 {
             return Ok(());
         }

@@ -1,4 +1,3 @@
 pub mod Entries
 pub mod Slots
 pub mod Mark
-pub mod Moved

@@ -1,3 +1,2 @@
 pub mod OldTimes
 pub mod Tables
-pub mod Moves

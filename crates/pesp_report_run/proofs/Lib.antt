@@ -1,3 +1,1 @@
 mod Causes
-pub mod Short
-mod Telling

@@ -2,5 +2,3 @@ pub mod Reporting
 pub mod Violating
 pub mod Fixing
 pub mod Naming
-pub mod Told
-pub mod Runs

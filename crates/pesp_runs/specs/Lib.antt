@@ -1,5 +1,2 @@
 pub mod Bases
 pub mod Runs
-pub mod Reading
-pub mod Causes
-pub mod FaultLines

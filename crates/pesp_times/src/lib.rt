@@ -5,11 +5,9 @@
 
 mod balls;
 mod batches;
-mod grown;
+mod effort;
 mod individuals;
 mod kinds;
-mod looking;
-mod marks;
 mod merges;
 mod order;
 mod pieces;
@@ -17,4 +15,5 @@ mod search;
 mod times_search;
 mod work;
 
+pub use effort::Effort;
 pub use times_search::TimesSearch;

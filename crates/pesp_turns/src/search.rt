@@ -15,36 +15,34 @@ use crate::ending::{Ended, Ending};
 use crate::known::{Known, known_of};
 use crate::observer::Observer;
 use crate::original_forest::replanted;
-use crate::strategies::strategy_for;
+use crate::proposers::proposer_for;
 use crate::turn::{Turn, take_turn};
 use pesp_board::Board;
-use pesp_finder::TimesFinder;
+use pesp_branching::Proposer;
 use pesp_problem::{Instance, Memory};
-use pesp_strategy::Strategy;
 use std::alloc::Global;
 
-/// A board in any state, what is known of its problem, what proposes cuts where its cycles are those of a forest of what is left of
-/// the instance, and how many leaves were split so far.
+/// A board in any state, what is known of its problem, what proposes cuts and times, and how many leaves were split so far.
 #[derive(Drop)]
 pub struct Search {
     pub board: Board,
     pub known: Known,
-    pub strategy: Option<Strategy>,
+    pub proposer: Proposer,
     pub used: u32,
 }
 
-/// What is known of the board's problem, and what proposes cuts for it.
-fn known_and_strategy(
+/// What is known of the board's problem, and what proposes cuts and times for it.
+fn known_and_proposer(
     alloc: Global,
     instance: &Instance,
     board: &Board,
-) -> Result<(Known, Option<Strategy>), Memory>
+) -> Result<(Known, Proposer), Memory>
     ensures { IfOk result (λ made. IsKnown board.now.problem made.0) }
 {
     let reduced = replanted(alloc, instance, board.problem().table())?;
     let known = known_of(alloc, board.problem(), reduced)?;
-    match strategy_for(alloc, &known, board.problem()) {
-        Ok(strategy) => Ok((known, strategy)),
+    match proposer_for(alloc, &known, board) {
+        Ok(proposer) => Ok((known, proposer)),
         Err(refused) => {
             drop(known);
             Err(refused)
@@ -72,7 +70,7 @@ fn ended_by(turn: Turn) -> Ended
 
 impl Search {
     /// A search that goes on from a board in any state. Cuts are proposed where the cycles are lifted fundamental walks of a
-    /// forest of what is left of the instance.
+    /// forest of what is left of the instance, and times are looked for where the board has none.
     ///
     /// Refused where a growth is refused.
     pub fn on(alloc: Global, instance: &Instance, board: Board) -> Result<Search, Memory>
@@ -80,11 +78,11 @@ impl Search {
         ensures known { IfOk result (λ search. IsKnown board.problem search.known) }
         ensures used { IfOk result (λ search. search.used ≡ 0) }
     {
-        match known_and_strategy(alloc, instance, &board) {
-            Ok((known, strategy)) => Ok(Search {
+        match known_and_proposer(alloc, instance, &board) {
+            Ok((known, proposer)) => Ok(Search {
                 board,
                 known,
-                strategy,
+                proposer,
                 used: 0,
             }),
             Err(refused) => {
@@ -94,15 +92,14 @@ impl Search {
         }
     }
 
-    /// Takes turns on the open leaves, of least value first, until so many were split, or none can be lent any more. A finder
-    /// looks for times of what is left of the instance, and an observer looks on.
+    /// Takes turns on the open leaves, of least value first, until so many were split, or none can be lent any more. An
+    /// observer looks on.
     ///
     /// Refused where a growth is refused.
-    pub fn run<F: TimesFinder, O: Observer>(
+    pub fn run<O: Observer>(
         &mut self,
         alloc: Global,
         steps: u32,
-        finder: &mut F,
         observer: &mut O,
     ) -> Result<Ended, Memory>
         requires known { IsKnown self.old.board.problem self.old.known }
@@ -125,25 +122,18 @@ impl Search {
         let Search {
             board,
             known,
-            strategy,
+            proposer,
             used,
         } = self;
-        let ended = run_turns(
-            alloc, board, known, strategy, *used, steps, finder, observer,
-        )?;
+        let ended = run_turns(alloc, board, known, proposer, *used, steps, observer)?;
         *used = used.saturating_add(ended.used);
         Ok(ended)
     }
 
     /// Takes one turn on an open leaf of least value: `StepsUsed` where it was split, `TurnsUsed` where it was closed or laid aside.
-    /// A finder looks for times of what is left of the instance.
     ///
     /// Refused where a growth is refused.
-    pub fn take_turn<F: TimesFinder>(
-        &mut self,
-        alloc: Global,
-        finder: &mut F,
-    ) -> Result<Ended, Memory>
+    pub fn take_turn(&mut self, alloc: Global) -> Result<Ended, Memory>
         requires { IsKnown self.old.board.problem self.old.known }
         ensures problem { self.new.board.problem ≡ self.old.board.problem }
         ensures known { self.new.known ≡ self.old.known }
@@ -157,11 +147,10 @@ impl Search {
         let Search {
             board,
             known,
-            strategy,
+            proposer,
             used,
         } = self;
-        let after = used.saturating_add(1);
-        let turn = take_turn(alloc, board, known, strategy, after, finder)?;
+        let turn = take_turn(alloc, board, known, proposer, used.saturating_add(1))?;
         let ended = ended_by(turn);
         *used = used.saturating_add(ended.used);
         Ok(ended)

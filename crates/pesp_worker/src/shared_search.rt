@@ -13,10 +13,9 @@ use crate::cutting_out::{count_branches, cut_out, ends_of};
 use crate::improved_leaf::improve_leaf;
 use crate::refusal::WorkRefusal;
 use crate::splits::split_on;
-use crate::{Lent, lend_base};
 use pesp_board::{Board, Job};
 use pesp_cert::Certificate;
-use pesp_finder::TimesFinder;
+use pesp_outside::{Lent, lend_base};
 use pesp_problem::{Instance, Memory};
 use pesp_truth::{Answer, TreeLine};
 use pesp_works::WorkText;
@@ -121,14 +120,13 @@ fn open_jobs(alloc: Global, board: &mut Board, jobs: &[u64], steps: u32) -> Resu
 }
 
 /// Works on the leaves of jobs; a leaf that is worked on alone is looked at anew first.
-fn work_on<F: TimesFinder>(
+fn work_on(
     alloc: Global,
     instance: &Instance,
     board: Board,
     base: &Certificate,
     jobs: &[u64],
     range: Range,
-    finder: &mut F,
 ) -> Result<Board, Memory>
     requires { range.steps ≤ MOST_STEPS }
     ensures { IfOk result (λ worked. worked.problem ≡ board.problem) }
@@ -137,8 +135,7 @@ fn work_on<F: TimesFinder>(
     match open_jobs(alloc, &mut board, jobs, range.steps) {
         Ok(true) => {
             let before = count_branches(base.tree());
-            let Range { steps, until } = range;
-            split_on(alloc, instance, board, before, steps, until, finder)
+            split_on(alloc, instance, board, before, range.steps, range.until)
         }
         Ok(false) => Ok(board),
         Err(refused) => {
@@ -212,14 +209,13 @@ fn works_on(
 }
 
 /// What is found for jobs of a base that is lent.
-fn found_for<F: TimesFinder>(
+fn found_for(
     alloc: Global,
     instance: &Instance,
     lent: Lent,
     base: &Certificate,
     jobs: &[u64],
     range: Range,
-    finder: &mut F,
 ) -> Result<Vec<WorkText>, Memory>
     requires of { IsProblemOf instance.now lent.board.problem }
     requires few { range.steps ≤ MOST_STEPS }
@@ -229,7 +225,7 @@ fn found_for<F: TimesFinder>(
         board,
         jobs: leaves,
     } = lent;
-    match work_on(alloc, instance, board, base, jobs, range, finder) {
+    match work_on(alloc, instance, board, base, jobs, range) {
         Ok(worked) => {
             let works = works_on(alloc, instance, &worked, base, &leaves, jobs);
             drop(worked);
@@ -245,13 +241,12 @@ fn found_for<F: TimesFinder>(
 
 /// Searches below the leaves of jobs for a tree in the place of each, and for times that are cheaper than those of the base. The
 /// trees are still to be judged.
-pub(crate) fn search_below<F: TimesFinder>(
+pub(crate) fn search_below(
     alloc: Global,
     instance: &Instance,
     base: &Certificate,
     jobs: &[u64],
     range: Range,
-    finder: &mut F,
 ) -> Result<Vec<WorkText>, WorkRefusal>
     requires valid { IsValid None instance.now base.now }
     requires few { range.steps ≤ MOST_STEPS }
@@ -263,6 +258,6 @@ pub(crate) fn search_below<F: TimesFinder>(
         drop(lent);
         return Err(WorkRefusal::NoSuchJob);
     }
-    let works = found_for(alloc, instance, lent, base, jobs, range, finder)?;
+    let works = found_for(alloc, instance, lent, base, jobs, range)?;
     Ok(works)
 }

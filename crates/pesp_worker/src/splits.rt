@@ -6,7 +6,6 @@ ghost use Rattle.pesp_turns.specs.Knowing.{IsKnown};
 
 use crate::held_leaves::lend_next;
 use pesp_board::Board;
-use pesp_finder::{NoTimes, TimesFinder};
 use pesp_problem::{Instance, Memory};
 use pesp_turns::{Ending, Nobody, Search};
 use std::alloc::Global;
@@ -30,12 +29,7 @@ fn is_open_below(alloc: Global, board: &mut Board, bound: u64) -> Result<bool, M
 }
 
 /// Takes a turn, where an open leaf is worth less than a bound: how many leaves it split; None where no turn is left.
-fn split_next<F: TimesFinder>(
-    alloc: Global,
-    search: &mut Search,
-    bound: u64,
-    finder: &mut F,
-) -> Result<Option<u32>, Memory>
+fn split_next(alloc: Global, search: &mut Search, bound: u64) -> Result<Option<u32>, Memory>
     requires { IsKnown search.old.board.problem search.old.known }
     ensures problem { search.new.board.problem ≡ search.old.board.problem }
     ensures known { search.new.known ≡ search.old.known }
@@ -43,7 +37,7 @@ fn split_next<F: TimesFinder>(
     if !is_open_below(alloc, &mut search.board, bound)? {
         return Ok(None);
     }
-    let ended = search.take_turn(alloc, finder)?;
+    let ended = search.take_turn(alloc)?;
     match ended.ending {
         Ending::StepsUsed | Ending::TurnsUsed => Ok(Some(ended.used)),
         Ending::NoneOpen | Ending::NumbersSpent | Ending::TreeTooLarge => Ok(None),
@@ -51,13 +45,7 @@ fn split_next<F: TimesFinder>(
 }
 
 /// Splits leaves that are worth less than a bound, that of least value first, at most so many.
-fn split_below<F: TimesFinder>(
-    alloc: Global,
-    search: &mut Search,
-    steps: u32,
-    bound: u64,
-    finder: &mut F,
-) -> Result<(), Memory>
+fn split_below(alloc: Global, search: &mut Search, steps: u32, bound: u64) -> Result<(), Memory>
     requires { IsKnown search.old.board.problem search.old.known }
     ensures { search.new.board.problem ≡ search.old.board.problem }
 {
@@ -66,7 +54,7 @@ fn split_below<F: TimesFinder>(
         if used >= steps {
             return Ok(());
         }
-        let Some(split) = split_next(alloc, search, bound, finder)? else {
+        let Some(split) = split_next(alloc, search, bound)? else {
             return Ok(());
         };
         used = used.saturating_add(split);
@@ -75,70 +63,43 @@ fn split_below<F: TimesFinder>(
 }
 
 /// Splits open leaves, that of least value first, at most so many: those that are worth less than a bound, where one is given.
-fn split<F: TimesFinder>(
-    alloc: Global,
-    search: &mut Search,
-    steps: u32,
-    until: Option<u64>,
-    finder: &mut F,
-) -> Result<(), Memory>
+fn split(alloc: Global, search: &mut Search, steps: u32, until: Option<u64>) -> Result<(), Memory>
     requires known { IsKnown search.old.board.problem search.old.known }
     requires few { steps ≤ MOST_STEPS }
     ensures { search.new.board.problem ≡ search.old.board.problem }
 {
     match until {
-        Some(bound) => split_below(alloc, search, steps, bound, finder),
+        Some(bound) => split_below(alloc, search, steps, bound),
         None => {
-            search.run(alloc, steps, finder, &mut Nobody)?;
+            search.run(alloc, steps, &mut Nobody)?;
             Ok(())
         }
     }
 }
 
-/// Splits open leaves in the same way. The finder looks for times of what is left of the instance where the board has none: a
-/// timetable is no part of what is worked on.
-fn split_while_looking<F: TimesFinder>(
-    alloc: Global,
-    search: &mut Search,
-    steps: u32,
-    until: Option<u64>,
-    finder: &mut F,
-) -> Result<(), Memory>
-    requires known { IsKnown search.old.board.problem search.old.known }
-    requires few { steps ≤ MOST_STEPS }
-    ensures { search.new.board.problem ≡ search.old.board.problem }
-{
-    if search.board.best().is_some() {
-        return split(alloc, search, steps, until, &mut NoTimes);
-    }
-    finder.look_at(search.known.reduced.network())?;
-    split(alloc, search, steps, until, finder)
-}
-
 /// The board with open leaves split; so many were split before.
-pub(crate) fn split_on<F: TimesFinder>(
+pub(crate) fn split_on(
     alloc: Global,
     instance: &Instance,
     board: Board,
     before: u32,
     steps: u32,
     until: Option<u64>,
-    finder: &mut F,
 ) -> Result<Board, Memory>
     requires { steps ≤ MOST_STEPS }
     ensures { IfOk result (λ worked. worked.problem ≡ board.problem) }
 {
     let mut search = Search::on(alloc, instance, board)?;
     search.used = before;
-    let done = split_while_looking(alloc, &mut search, steps, until, finder);
+    let done = split(alloc, &mut search, steps, until);
     let Search {
         board,
         known,
-        strategy,
+        proposer,
         ..
     } = search;
     drop(known);
-    drop(strategy);
+    drop(proposer);
     match done {
         Ok(()) => Ok(board),
         Err(refused) => {

@@ -1,0 +1,4 @@
+pub mod Lent
+pub mod Jobs
+pub mod Grafts
+pub mod Texts

@@ -1,0 +1,6 @@
+mod Waiting
+mod Listing
+mod Counting
+mod Passed
+mod Taking
+mod Keeping

@@ -1,0 +1,5 @@
+pub mod Jobs
+pub mod Paths
+pub mod Cutting
+pub mod Grafts
+pub mod Keeping

@@ -1,6 +1,5 @@
 //! What is proposed for a leaf.
 
-use crate::proposer::Proposer;
 use crate::settings::NARROWED_JOBS;
 use crate::slack_cut::{Narrowing, narrow};
 use pesp_board::{Board, Job};
@@ -76,7 +75,7 @@ fn ask_strategy(
 /// one of its parts, as long as no timetable is known and few leaves were lent; else what the strategy proposes.
 pub fn ask(
     alloc: Global,
-    proposer: &mut Proposer,
+    strategy: &mut Option<Strategy>,
     board: &Board,
     reduced: &Reduced,
     job: &Job,
@@ -90,5 +89,5 @@ pub fn ask(
             });
         }
     }
-    ask_strategy(alloc, &mut proposer.strategy, board, reduced, job, node)
+    ask_strategy(alloc, strategy, board, reduced, job, node)
 }

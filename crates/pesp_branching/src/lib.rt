@@ -8,7 +8,6 @@ mod expansion;
 mod offers;
 mod part_leaf;
 mod passes;
-mod proposer;
 mod settings;
 mod slack_cut;
 
@@ -18,5 +17,4 @@ pub use expansion::{expand, leaf_line, proposed_lines};
 pub use offers::{offer_met, offer_times};
 pub use part_leaf::gap_at;
 pub use passes::passed_rows;
-pub use proposer::Proposer;
 pub use slack_cut::Narrowing;

@@ -10,12 +10,12 @@ use crate::settings::{
     BATCHES, BATCHES_OF_MANY_ROWS, BATCHES_OF_MORE_ROWS, FEW_ROWS, MET_ROUNDS, MORE_ROWS,
 };
 use pesp_board::Board;
+use pesp_finder::TimesFinder;
 use pesp_network::Network;
 use pesp_problem::Memory;
 use pesp_reduce::Reduced;
 use pesp_search_laws::turn::times_are_offered;
 use pesp_simplex::{Improved, SimplexRefusal, improve};
-use pesp_times::TimesSearch;
 use std::alloc::Global;
 
 /// Whether times are looked for after so many splits, where so many rows are left.
@@ -60,13 +60,13 @@ fn improved(
     }
 }
 
-/// The cheapest times of a search for times, lifted to the instance; None where it has none that are a timetable.
-fn best_times(
+/// The cheapest times of a finder, lifted to the instance; None where it has none that are a timetable.
+fn best_times<F: TimesFinder>(
     alloc: Global,
     reduced: &Reduced,
-    search: &TimesSearch,
+    finder: &F,
 ) -> Result<Option<Vec<u32>>, Memory> {
-    let Some(times) = search.best()? else {
+    let Some(times) = finder.best()? else {
         return Ok(None);
     };
     if !reduced.network().is_timetable(&times) {
@@ -75,26 +75,23 @@ fn best_times(
     Ok(Some(reduced.lift_times(alloc, &times)?))
 }
 
-/// Times of the instance that a search for times begins with; None says nothing.
-fn first_times(
+/// Times of the instance that a finder begins with; None says nothing.
+fn first_times<F: TimesFinder>(
     alloc: Global,
     reduced: &Reduced,
-    times: &mut Option<TimesSearch>,
+    finder: &mut F,
 ) -> Result<Option<Vec<u32>>, Memory> {
-    let Some(search) = times else {
-        return Ok(None);
-    };
-    search.begin()?;
-    best_times(alloc, reduced, search)
+    finder.begin()?;
+    best_times(alloc, reduced, finder)
 }
 
 /// Offers times before the first step: those that are 0 for every event, and then those that are found for what is left of the
-/// instance, lifted to the instance.
-pub fn offer_times(
+/// instance, at which the finder looks, lifted to the instance.
+pub fn offer_times<F: TimesFinder>(
     alloc: Global,
     board: &mut Board,
     reduced: &Reduced,
-    times: &mut Option<TimesSearch>,
+    finder: &mut F,
 ) -> Result<(), Memory>
     ensures problem { board.new.problem ≡ board.old.problem }
     ensures offers { OnOk result
@@ -106,7 +103,7 @@ pub fn offer_times(
     let events = board.problem().network().events() as usize;
     let zeros = vec![in alloc; 0u32; events]?;
     offer(board, zeros);
-    let Some(first) = first_times(alloc, reduced, times)? else {
+    let Some(first) = first_times(alloc, reduced, finder)? else {
         return Ok(());
     };
     offer(board, first);
@@ -128,40 +125,40 @@ fn met_times(
     improved(alloc, network, &times, MET_ROUNDS)
 }
 
-/// The cheapest times of a search for times that takes these up, and looks for more where they are due after so many splits;
-/// lifted to the instance. None where nothing is new.
-fn searched_times(
+/// The cheapest times of a finder that takes these up, and looks for more where they are due after so many splits; lifted to the
+/// instance. None where nothing is new.
+fn found_times<F: TimesFinder>(
     alloc: Global,
     reduced: &Reduced,
-    search: &mut TimesSearch,
+    finder: &mut F,
     met: Option<Vec<u32>>,
     used: u32,
 ) -> Result<Option<Vec<u32>>, Memory> {
     let is_due = is_due(reduced.network().rows().len(), used);
     let is_new = met.is_some() || is_due;
     if let Some(times) = met {
-        search.take(times)?;
+        finder.take(times)?;
     }
     if is_due {
-        search.go_on(used)?;
+        finder.go_on(used)?;
     }
     if !is_new {
         return Ok(None);
     }
-    best_times(alloc, reduced, search)
+    best_times(alloc, reduced, finder)
 }
 
-/// Times of the instance after so many splits: of those that were met with, and of a search for times where there is one.
-fn later_times(
+/// Times of the instance after so many splits: of those that were met with, and of a finder that looks for times.
+fn later_times<F: TimesFinder>(
     alloc: Global,
     reduced: &Reduced,
-    times: &mut Option<TimesSearch>,
+    finder: &mut F,
     met: Option<Vec<u32>>,
     used: u32,
 ) -> Result<Option<Vec<u32>>, Memory> {
     let better = met_times(alloc, reduced.network(), met)?;
-    if let Some(search) = times {
-        return searched_times(alloc, reduced, search, better, used);
+    if finder.is_looking() {
+        return found_times(alloc, reduced, finder, better, used);
     }
     let Some(better) = better else {
         return Ok(None);
@@ -170,13 +167,13 @@ fn later_times(
 }
 
 /// Offers times after so many splits: those that were met with, made cheaper and lifted to the instance, where they are a
-/// timetable of what is left of it; and those that a search for times finds with them, after 128, 256, 512 splits and so on, the
-/// more seldom the more rows are left.
-pub fn offer_met(
+/// timetable of what is left of it; and those that a finder which looks at that finds with them, after 128, 256, 512 splits and so
+/// on, the more seldom the more rows are left.
+pub fn offer_met<F: TimesFinder>(
     alloc: Global,
     board: &mut Board,
     reduced: &Reduced,
-    times: &mut Option<TimesSearch>,
+    finder: &mut F,
     met: Option<Vec<u32>>,
     used: u32,
 ) -> Result<(), Memory>
@@ -188,7 +185,7 @@ pub fn offer_met(
     ensures worked { (used : ℕ) → IsWorked board.old.problem used board.old.state
         → IsWorked board.old.problem used board.new.state }
 {
-    let Some(later) = later_times(alloc, reduced, times, met, used)? else {
+    let Some(later) = later_times(alloc, reduced, finder, met, used)? else {
         return Ok(());
     };
     offer(board, later);

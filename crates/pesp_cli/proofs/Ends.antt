@@ -2,15 +2,15 @@
 use Rattle.std.proofs.Common.{◌≡◌, ◌⊎◌, inl, inr, ℕ, List, refl, ap, Ok, Err}
 use Rattle.std.specs.Prelude.{Result, Option, MatchResult, OnOk, IfOk, IfErr, ⊤, ◌≢◌}
 use Rattle.pesp_check_run.specs.Devices.{Device}
-use Rattle.pesp_faults.specs.declared.fault.Fault.{Fault}
-use Rattle.pesp_faults.specs.declared.fault.Fault.TheVariants.{Write}
+use Rattle.pesp_runs.specs.declared.fault.Fault.{Fault}
+use Rattle.pesp_runs.specs.declared.fault.Fault.TheVariants.{Write}
 use Rattle.pesp_runs.specs.Bases.{ReadsSharpBase}
 use Rattle.pesp_runs.specs.Runs.{OverBase}
 use Rattle.pesp_tasks.specs.Resuming.{WritesGoneOn}
 use Rattle.pesp_tasks.proofs.Resumptions.{gone_on_weaker}
 use Rattle.pesp_check_run.specs.declared.fault.VerdictFault.{VerdictFault}
 use Rattle.pesp_check_run.specs.declared.fault.VerdictFault.TheVariants.{Write as OfWrite}
-use Rattle.pesp_faults.specs.FaultLines.{verdict_fault}
+use Rattle.pesp_runs.specs.FaultLines.{verdict_fault}
 use Rattle.pesp_report_run.specs.Naming.{NamesCause}
 use Rattle.pesp_request.specs.declared.request.OfWorks.{OfWorks}
 use Rattle.pesp_request.specs.declared.request.OfWorks.TheVariants.{Graft, GraftSharp}

@@ -6,13 +6,13 @@ use Rattle.pesp_truth.specs.declared.answer.Answer.{Answer}
 use Rattle.pesp_tasks.specs.Solving.{SolutionStops}
 use Rattle.pesp_check_run.specs.Devices.{Device, GetsFront}
 use Rattle.pesp_telling.specs.Lines.{Gets}
-use Rattle.pesp_faults.specs.Causes.{OutCause}
-use Rattle.pesp_faults.specs.declared.fault.Fault.{Fault}
-use Rattle.pesp_faults.specs.declared.fault.Fault.TheVariants.{NoFile, Memory}
+use Rattle.pesp_runs.specs.Causes.{OutCause}
+use Rattle.pesp_runs.specs.declared.fault.Fault.{Fault}
+use Rattle.pesp_runs.specs.declared.fault.Fault.TheVariants.{NoFile, Memory}
 use Rattle.pesp_cert.specs.Fronted.{Fronted}
 use Rattle.pesp_runs.specs.Bases.{IsSharpBase}
 use Rattle.pesp_plan.specs.Planning.{Keeps, KeepsOn, KeepsSome, KeepsSomeOn}
-use Rattle.pesp_old_runs.specs.Beginning.{BeginsWith, FromOld, FromOldCause, FromStanding, FromStandingCause}
+use Rattle.pesp_plan.specs.Beginning.{BeginsWith, FromOld, FromOldCause, FromStanding, FromStandingCause}
 use Rattle.pesp_cli.specs.Answers.{AnswersBegun, AnswersKept}
 use Rattle.pesp_cli.specs.Stops.{OrNoFile, StopsBegun, StopsKept}
 

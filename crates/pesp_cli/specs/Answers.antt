@@ -10,13 +10,13 @@ use Rattle.pesp_judges.specs.declared.refusal.Verdict.{Verdict}
 use Rattle.pesp_cert_lines.specs.declared.versions.Versions.TheVariants.{Plain, All}
 use Rattle.pesp_check_run.specs.Checking.{Checks}
 use Rattle.pesp_plan.specs.Planning.{WritesPlan, KeepsSome, KeepsSomeOn}
-use Rattle.pesp_old_runs.specs.Beginning.{FromOld, FromStanding}
+use Rattle.pesp_plan.specs.Beginning.{FromOld, FromStanding}
 use Rattle.pesp_check_run.specs.Devices.{Device, HasFailed, GetsFront}
 use Rattle.pesp_check_run.specs.Verdicts.{verdict_status}
-use Rattle.pesp_faults.specs.Reading.{HasBase, ReadsTimetable}
-use Rattle.pesp_faults.specs.FaultLines.{fault_line, exit_status}
-use Rattle.pesp_faults.specs.declared.fault.Fault.{Fault}
-use Rattle.pesp_faults.specs.declared.fault.Fault.TheVariants.{Memory}
+use Rattle.pesp_runs.specs.Reading.{HasBase, ReadsTimetable}
+use Rattle.pesp_runs.specs.FaultLines.{fault_line, exit_status}
+use Rattle.pesp_runs.specs.declared.fault.Fault.{Fault}
+use Rattle.pesp_runs.specs.declared.fault.Fault.TheVariants.{Memory}
 use Rattle.pesp_runs.specs.Bases.{ReadsSharpBase}
 use Rattle.pesp_runs.specs.Runs.{Alone, OverBase}
 use Rattle.pesp_tasks.specs.Gaps.{gap_line, gap_json}
@@ -28,9 +28,9 @@ use Rattle.pesp_tasks.specs.SharpOutside.{WritesSharpJobs, WritesSharpWork, Graf
 use Rattle.pesp_report_run.specs.Reporting.{WritesSheet}
 use Rattle.pesp_report_run.specs.Violating.{ReadsForEvents, WritesViolations}
 use Rattle.pesp_report_run.specs.Fixing.{WritesFixed}
-use Rattle.pesp_conflict_run.specs.Runs.{TellsConflict}
-use Rattle.pesp_conflict_run.specs.Told.{told_text, told_status}
-use Rattle.pesp_conflict_run.specs.declared.told.Told.{Told}
+use Rattle.pesp_report_run.specs.Runs.{TellsConflict}
+use Rattle.pesp_report_run.specs.Told.{told_text, told_status}
+use Rattle.pesp_report_run.specs.declared.told.Told.{Told}
 use Rattle.pesp_telling.specs.Lines.{Gets, GetsLine}
 use Rattle.pesp_request.specs.declared.request.OfInstance.{OfInstance}
 use Rattle.pesp_request.specs.declared.request.OfInstance.TheVariants.{Solve, SolveSharp, Plan, Conflict}

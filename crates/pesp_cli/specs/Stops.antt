@@ -11,12 +11,12 @@ use Rattle.pesp_cert_lines.specs.declared.versions.Versions.TheVariants.{Plain, 
 use Rattle.pesp_check_run.specs.Checking.{CheckCause}
 use Rattle.pesp_check_run.specs.declared.fault.VerdictFault.{VerdictFault}
 use Rattle.pesp_plan.specs.Planning.{WritesPlan, KeepsSome}
-use Rattle.pesp_old_runs.specs.Beginning.{FromOldCause, FromStandingCause}
-use Rattle.pesp_faults.specs.Reading.{ReadsBase}
-use Rattle.pesp_faults.specs.Causes.{BaseCause, OutCause}
-use Rattle.pesp_faults.specs.FaultLines.{verdict_fault}
-use Rattle.pesp_faults.specs.declared.fault.Fault.{Fault}
-use Rattle.pesp_faults.specs.declared.fault.Fault.TheVariants.{NoFile}
+use Rattle.pesp_plan.specs.Beginning.{FromOldCause, FromStandingCause}
+use Rattle.pesp_runs.specs.Reading.{ReadsBase}
+use Rattle.pesp_runs.specs.Causes.{BaseCause, OutCause}
+use Rattle.pesp_runs.specs.FaultLines.{verdict_fault}
+use Rattle.pesp_runs.specs.declared.fault.Fault.{Fault}
+use Rattle.pesp_runs.specs.declared.fault.Fault.TheVariants.{NoFile}
 use Rattle.pesp_runs.specs.Bases.{ReadsSharpBase, SharpBaseCause}
 use Rattle.pesp_runs.specs.Runs.{AloneCause, FromTimesCause, OverBaseCause}
 use Rattle.pesp_tasks.specs.Gaps.{gap_line, gap_json}
@@ -29,7 +29,7 @@ use Rattle.pesp_report_run.specs.Naming.{NamesCause}
 use Rattle.pesp_report_run.specs.Reporting.{SheetCause}
 use Rattle.pesp_report_run.specs.Violating.{ViolationsCause}
 use Rattle.pesp_report_run.specs.Fixing.{FixCause}
-use Rattle.pesp_conflict_run.specs.Runs.{ConflictCause}
+use Rattle.pesp_report_run.specs.Runs.{ConflictCause}
 use Rattle.pesp_request.specs.declared.request.OfInstance.{OfInstance}
 use Rattle.pesp_request.specs.declared.request.OfInstance.TheVariants.{Solve, SolveSharp, Plan, Conflict}
 use Rattle.pesp_request.specs.declared.request.OfCertificate.{OfCertificate}

@@ -15,23 +15,22 @@ use crate::input::{Beginning, warn_of_period};
 use crate::plans::of_plan;
 use crate::telling::{tell_sums, told_conflict, told_fix};
 use pesp_check_run::{run_check, run_check_sharp, status_of_verdict};
-use pesp_conflict_run::{run_conflict, status_of_told};
-use pesp_faults::Fault;
 use pesp_fix::Wanted;
+use pesp_plan::Lockable;
 use pesp_progress::{Teller, Watch};
 use pesp_report::Names;
 use pesp_report_run::{
-    Diagrams, NamedReport, Page, Picture, Report, Timetable, read_whole_names, run_fix, run_sheet,
-    run_violations,
+    Diagrams, NamedReport, Page, Picture, Report, Timetable, read_whole_names, run_conflict,
+    run_fix, run_sheet, run_violations, status_of_told,
 };
 use pesp_request::{OfCertificate, OfInstance, OfLeaves, OfTimes, OfWorks};
-use pesp_runs::{OnBase, Search, run_alone, run_from_times, run_on_base};
-use pesp_shelf::Lockable;
+use pesp_runs::{Fault, OnBase, Search, run_alone, run_from_times, run_on_base};
 use pesp_stream::{Counted, Sink, Source};
 use pesp_tasks::{
     Gap, GapJson, Resume, ResumeSharp, Solve, SolveSharp, Split, SplitSharp, Work, WorkSharp,
     run_graft, run_graft_sharp,
 };
+use pesp_times::TimesSearch;
 use std::alloc::Global;
 use std::fs::File;
 use std::rt::{Clock, Files};
@@ -117,12 +116,25 @@ fn conflict<R: AllocGlobal + Eprint + Files, I: Source, W: Sink, E: Sink>(
     let mut sums = String::new(alloc);
     match names {
         None => {
-            let told = run_conflict(alloc, reader, writer, period, steps, None, &mut sums)?;
+            let mut finder = TimesSearch::new(alloc);
+            let run = run_conflict(
+                alloc,
+                reader,
+                writer,
+                period,
+                steps,
+                None,
+                &mut sums,
+                &mut finder,
+            );
+            drop(finder);
+            let told = run?;
             told_conflict(teller, told);
             Ok(status_of_told(told))
         }
         Some(file) => {
             let names = names_in(rt, file)?;
+            let mut finder = TimesSearch::new(alloc);
             let run = run_conflict(
                 alloc,
                 reader,
@@ -131,7 +143,9 @@ fn conflict<R: AllocGlobal + Eprint + Files, I: Source, W: Sink, E: Sink>(
                 steps,
                 Some(&names),
                 &mut sums,
+                &mut finder,
             );
+            drop(finder);
             drop(names);
             let told = run?;
             told_conflict(teller, told);
@@ -171,24 +185,35 @@ where
         (W.calls writer.old) (W.calls writer.new))) }
     ensures silent { IfErr result (λ fault. fault ≢ Fault.Write → writer.new ≡ writer.old) }
 {
+    let alloc = rt.alloc();
     match asked {
         OfInstance::Solve {
             steps,
             from,
             progress,
         } => {
-            let observer = Teller::begin(rt, progress);
-            let mut task = Solve { steps, observer };
-            search(rt, reader, writer, period, from, &mut task)
+            let mut task = Solve {
+                steps,
+                finder: TimesSearch::new(alloc),
+                observer: Teller::begin(rt, progress),
+            };
+            let answer = search(rt, reader, writer, period, from, &mut task);
+            drop(task);
+            answer
         }
         OfInstance::SolveSharp {
             steps,
             from,
             progress,
         } => {
-            let observer = Teller::begin(rt, progress);
-            let mut sharp = SolveSharp { steps, observer };
-            search(rt, reader, writer, period, from, &mut sharp)
+            let mut sharp = SolveSharp {
+                steps,
+                finder: TimesSearch::new(alloc),
+                observer: Teller::begin(rt, progress),
+            };
+            let answer = search(rt, reader, writer, period, from, &mut sharp);
+            drop(sharp);
+            answer
         }
         OfInstance::Plan(asked) => of_plan(rt, reader, writer, period, asked),
         OfInstance::Conflict { steps, names } => {
@@ -279,17 +304,28 @@ pub(crate) fn of_certificate<R: AllocGlobal + Eprint + Clock, I: Source, S: Sour
             progress,
         } => {
             let watcher = Watch::new(rt, progress, seconds);
-            let mut task = Resume { steps, watcher };
-            on_base(alloc, instance, reader, writer, period, &mut task)
+            let mut task = Resume {
+                steps,
+                finder: TimesSearch::new(alloc),
+                watcher,
+            };
+            let answer = on_base(alloc, instance, reader, writer, period, &mut task);
+            drop(task);
+            answer
         }
         OfCertificate::ResumeSharp {
             steps,
             seconds,
             progress,
         } => {
-            let watcher = Watch::new(rt, progress, seconds);
-            let mut task = ResumeSharp { steps, watcher };
-            on_base(alloc, instance, reader, writer, period, &mut task)
+            let mut task = ResumeSharp {
+                steps,
+                finder: TimesSearch::new(alloc),
+                watcher: Watch::new(rt, progress, seconds),
+            };
+            let answer = on_base(alloc, instance, reader, writer, period, &mut task);
+            drop(task);
+            answer
         }
         OfCertificate::Split => on_base(alloc, instance, reader, writer, period, &mut Split),
         OfCertificate::SplitSharp => {
@@ -332,13 +368,27 @@ pub(crate) fn of_leaves<R: AllocGlobal, I: Source, S: Source, W: Sink>(
     match asked {
         OfLeaves::Work { steps, until, jobs } => {
             let jobs = jobs.as_slice();
-            let mut task = Work { steps, until, jobs };
-            on_base(alloc, instance, reader, writer, period, &mut task)
+            let mut task = Work {
+                steps,
+                until,
+                jobs,
+                finder: TimesSearch::new(alloc),
+            };
+            let answer = on_base(alloc, instance, reader, writer, period, &mut task);
+            drop(task);
+            answer
         }
         OfLeaves::WorkSharp { steps, until, jobs } => {
             let jobs = jobs.as_slice();
-            let mut task = WorkSharp { steps, until, jobs };
-            on_base(alloc, instance, reader, writer, period, &mut task)
+            let mut task = WorkSharp {
+                steps,
+                until,
+                jobs,
+                finder: TimesSearch::new(alloc),
+            };
+            let answer = on_base(alloc, instance, reader, writer, period, &mut task);
+            drop(task);
+            answer
         }
     }
 }

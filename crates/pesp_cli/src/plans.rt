@@ -8,14 +8,15 @@ ghost use Rattle.pesp_cli.specs.Stops.{StopsBegun, StopsPlan, StopsKept};
 
 use crate::answers::{done, opened_times};
 use crate::input::warn_of_period;
-use pesp_faults::Fault;
-use pesp_old_runs::{Listener, run_from_old, run_on_standing};
-use pesp_plan::{KeptPlan, Overseer, Plan};
+use pesp_plan::{
+    FileShelf, KeptPlan, Listener, Lockable, Overseer, Plan, ShelfRefusal, run_from_old,
+    run_on_standing,
+};
 use pesp_progress::{Again, Hearer, Planner};
 use pesp_request::Planning;
-use pesp_runs::{Search, run_alone};
-use pesp_shelf::{FileShelf, Lockable, ShelfRefusal};
+use pesp_runs::{Fault, Search, run_alone};
 use pesp_stream::{Counted, Sink, Source};
+use pesp_times::TimesSearch;
 use std::rt::{Clock, Files};
 
 /// The fault that a file can't be a shelf. Where another plan has it, that is told besides.
@@ -133,16 +134,30 @@ where
 {
     let shelf = shelf_of(rt, file)?;
     let found = found_on(rt, &shelf);
-    let mut plan = KeptPlan { shelf, overseer };
+    let alloc = rt.alloc();
+    let finder = TimesSearch::new(alloc);
+    let mut plan = KeptPlan {
+        shelf,
+        finder,
+        overseer,
+    };
     match found {
-        Ok(None) => begun(rt, reader, writer, period, from, &mut plan, listener),
-        Ok(Some(mut base)) => {
-            let alloc = rt.alloc();
-            done(run_on_standing(
-                alloc, &mut plan, reader, &mut base, writer, period, listener,
-            ))
+        Ok(None) => {
+            let answer = begun(rt, reader, writer, period, from, &mut plan, listener);
+            drop(plan);
+            answer
         }
-        Err(fault) => Err(fault),
+        Ok(Some(mut base)) => {
+            let answer = done(run_on_standing(
+                alloc, &mut plan, reader, &mut base, writer, period, listener,
+            ));
+            drop(plan);
+            answer
+        }
+        Err(fault) => {
+            drop(plan);
+            Err(fault)
+        }
     }
 }
 
@@ -186,8 +201,11 @@ where
     let mut hearer = Hearer::new(rt, quiet);
     match output {
         None => {
-            let mut plan = Plan { overseer };
-            begun(rt, reader, writer, period, from, &mut plan, &mut hearer)
+            let finder = TimesSearch::new(rt.alloc());
+            let mut plan = Plan { finder, overseer };
+            let answer = begun(rt, reader, writer, period, from, &mut plan, &mut hearer);
+            drop(plan);
+            answer
         }
         Some(file) => kept_in(
             rt,

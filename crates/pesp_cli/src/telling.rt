@@ -3,13 +3,13 @@
 ghost use Rattle.std.specs.Prelude.{◌≡◌, ◌<◌, ◌^◌};
 ghost use Rattle.pesp_stream.specs.Counts.{FewerThan};
 ghost use Rattle.pesp_check_run.specs.Devices.{over};
-ghost use Rattle.pesp_conflict_run.specs.Told.{told_text};
+ghost use Rattle.pesp_report_run.specs.Told.{told_text};
 ghost use Rattle.pesp_telling.specs.Lines.{GetsLine};
 ghost use Rattle.pesp_cli.specs.Answers.{TellsFault, fix_status};
 
-use pesp_conflict_run::Told;
-use pesp_faults::{Fault, status_of};
 use pesp_fix::FixRefusal;
+use pesp_report_run::Told;
+use pesp_runs::{Fault, status_of};
 use pesp_stream::{Bytes, Sink};
 use pesp_telling::tell;
 use std::alloc::Global;

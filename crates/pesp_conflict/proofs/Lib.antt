@@ -3,3 +3,4 @@ pub mod Parts
 pub mod Decisions
 pub mod Refusals
 pub mod Trials
+pub mod ListedRows

@@ -1,3 +1,4 @@
 pub mod Findings
 pub mod Refusals
 pub mod Insides
+pub mod Lists

@@ -11,6 +11,7 @@ ghost use Rattle.pesp_conflict.specs.Insides.{IsTrial};
 use crate::decided_rows::decide;
 use crate::decision::{Decision, are_fit};
 use crate::lists::{are_among, has_others, without};
+use pesp_finder::TimesFinder;
 use pesp_problem::Instance;
 use pesp_search::SolveRefusal;
 use std::alloc::Global;
@@ -46,12 +47,13 @@ fn fewer_of(listed: &[u32], rows: Vec<u32>) -> Trial
 }
 
 /// Searches for times that keep the listed rows but those of a group.
-pub fn try_without(
+pub fn try_without<F: TimesFinder>(
     alloc: Global,
     instance: &Instance,
     listed: &[u32],
     group: &[u32],
     steps: u32,
+    finder: &mut F,
 ) -> Result<Trial, SolveRefusal>
     requires { steps ≤ MOST_STEPS }
     ensures tried { IfOk result (IsTrial instance.now listed.now) }
@@ -61,7 +63,7 @@ pub fn try_without(
     if !are_fit(instance, &rest) {
         return Ok(Trial::Unknown);
     }
-    match decide(alloc, instance, &rest, steps)? {
+    match decide(alloc, instance, &rest, steps, finder)? {
         Decision::Timetable => Ok(needed_in(listed, group, &rest)),
         Decision::Conflict(rows) => Ok(fewer_of(listed, rows)),
         Decision::Undecided => Ok(Trial::Unknown),

@@ -8,16 +8,18 @@ ghost use Rattle.pesp_conflict.specs.Insides.{IsDecision};
 
 use crate::decision::{Decision, told_by};
 use crate::part::part_of;
+use pesp_finder::TimesFinder;
 use pesp_problem::Instance;
-use pesp_search::{SolveRefusal, solve};
+use pesp_search::{Nobody, SolveRefusal, solve_watched};
 use std::alloc::Global;
 
 /// Searches, by at most so many splits of a leaf, for times that keep the listed rows.
-pub fn decide(
+pub fn decide<F: TimesFinder>(
     alloc: Global,
     instance: &Instance,
     listed: &[u32],
     steps: u32,
+    finder: &mut F,
 ) -> Result<Decision, SolveRefusal>
     requires steps { steps ≤ MOST_STEPS }
     requires fit { AreFit instance.now listed.now }
@@ -27,6 +29,6 @@ pub fn decide(
 {
     let _limits = instance.rows();
     let part = part_of(alloc, instance, listed)?;
-    let solved = solve(alloc, &part, steps)?;
+    let solved = solve_watched(alloc, &part, steps, finder, &mut Nobody)?;
     Ok(told_by(alloc, listed, &solved.certificate)?)
 }

@@ -8,6 +8,7 @@ ghost use Rattle.pesp_conflict.specs.Insides.{IsKnown};
 use crate::attempts::try_without;
 use crate::known::{Known, mark, take};
 use crate::settings::{FIRST_GROUPS, HALVINGS};
+use pesp_finder::TimesFinder;
 use pesp_problem::Instance;
 use pesp_search::SolveRefusal;
 use std::alloc::{AllocError, Global};
@@ -55,12 +56,13 @@ fn left_after(known: &Known) -> Option<usize> {
 }
 
 /// One trial; `false` where none is left to make.
-fn try_next(
+fn try_next<F: TimesFinder>(
     alloc: Global,
     instance: &Instance,
     known: &mut Known,
     size: usize,
     steps: u32,
+    finder: &mut F,
 ) -> Result<bool, SolveRefusal>
     requires steps { steps ≤ MOST_STEPS }
     requires known { IsKnown instance.now known.old }
@@ -75,19 +77,20 @@ fn try_next(
         return Ok(false);
     }
     known.left = left;
-    let trial = try_without(alloc, instance, &known.listed, &group, steps)?;
+    let trial = try_without(alloc, instance, &known.listed, &group, steps, finder)?;
     take(known, trial)?;
     mark(known, &group)?;
     Ok(true)
 }
 
 /// Trials of groups of one size.
-fn sift(
+fn sift<F: TimesFinder>(
     alloc: Global,
     instance: &Instance,
     known: &mut Known,
     size: usize,
     steps: u32,
+    finder: &mut F,
 ) -> Result<(), SolveRefusal>
     requires steps { steps ≤ MOST_STEPS }
     requires known { IsKnown instance.now known.old }
@@ -95,7 +98,7 @@ fn sift(
     ensures refused { IfErr result (IsConflictRefusal instance.now steps) }
 {
     for _ in 0..known.listed.len() {
-        if !try_next(alloc, instance, known, size, steps)? {
+        if !try_next(alloc, instance, known, size, steps, finder)? {
             return Ok(());
         }
     }
@@ -103,11 +106,12 @@ fn sift(
 }
 
 /// Trials of groups, each time of half the size, down to single rows.
-pub fn sift_all(
+pub fn sift_all<F: TimesFinder>(
     alloc: Global,
     instance: &Instance,
     known: &mut Known,
     steps: u32,
+    finder: &mut F,
 ) -> Result<(), SolveRefusal>
     requires steps { steps ≤ MOST_STEPS }
     requires known { IsKnown instance.now known.old }
@@ -117,7 +121,7 @@ pub fn sift_all(
     let mut size = known.listed.len() / FIRST_GROUPS;
     for _ in 0..HALVINGS {
         known.tried.clear();
-        sift(alloc, instance, known, size.max(1), steps)?;
+        sift(alloc, instance, known, size.max(1), steps, finder)?;
         if size <= 1 {
             return Ok(());
         }

@@ -1,6 +1,6 @@
 //! Lists of row numbers, and what of them is judged.
 
-ghost use Rattle.std.specs.Prelude.{◌≡◌, ◌≢◌, ℕ, All, Contains, IsTrue, IfOk, length};
+ghost use Rattle.std.specs.Prelude.{◌≡◌, ◌↔◌, ◌≢◌, ℕ, All, Contains, IsTrue, IfOk, length};
 ghost use Rattle.std.specs.List.Sorted.{IsStrictlyIncreasing};
 ghost use Rattle.pesp_problem.specs.Walks.{Names};
 ghost use Rattle.pesp_truth.specs.Conflicts as spec;
@@ -17,7 +17,7 @@ pub fn is_listed(listed: &[u32], row: u32) -> bool
 
 /// Whether each number is below the next.
 pub fn are_rising(rows: &[u32]) -> bool
-    ensures { IsTrue result → IsStrictlyIncreasing rows.now }
+    ensures { IsTrue result ↔ IsStrictlyIncreasing rows.now }
 {
     for place in 1..rows.len() {
         if rows[place - 1] >= rows[place] {
@@ -29,7 +29,7 @@ pub fn are_rising(rows: &[u32]) -> bool
 
 /// Whether each number names one of so many rows.
 pub fn are_named(rows: &[u32], count: usize) -> bool
-    ensures { IsTrue result → All (Names count) rows.now }
+    ensures { IsTrue result ↔ All (Names count) rows.now }
 {
     rows.iter().all(|row| 1 <= *row && *row as usize <= count)
 }

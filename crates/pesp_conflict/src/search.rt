@@ -13,26 +13,33 @@ use crate::finding::{Conflict, Finding};
 use crate::known::{conflict_of, known_of};
 use crate::lists::all_rows;
 use crate::settings::TRIAL_STEPS;
+use pesp_finder::TimesFinder;
 use pesp_problem::Instance;
 use pesp_search::SolveRefusal;
 use std::alloc::Global;
 
 /// Searches over all rows.
-fn decide_all(alloc: Global, instance: &Instance, steps: u32) -> Result<Decision, SolveRefusal>
+fn decide_all<F: TimesFinder>(
+    alloc: Global,
+    instance: &Instance,
+    steps: u32,
+    finder: &mut F,
+) -> Result<Decision, SolveRefusal>
     requires { steps ≤ MOST_STEPS }
     ensures decided { IfOk result (IsFirst instance.now steps) }
     ensures refused { IfErr result (IsConflictRefusal instance.now steps) }
 {
     let rows = all_rows(alloc, instance.rows().len() as u32)?;
-    decide(alloc, instance, &rows, steps)
+    decide(alloc, instance, &rows, steps, finder)
 }
 
 /// Leaves out of the rows what can be left out.
-fn narrowed(
+fn narrowed<F: TimesFinder>(
     alloc: Global,
     instance: &Instance,
     rows: Vec<u32>,
     steps: u32,
+    finder: &mut F,
 ) -> Result<Conflict, SolveRefusal>
     requires steps { steps ≤ MOST_STEPS }
     requires conflict { IsConflict instance.now rows.items }
@@ -40,7 +47,8 @@ fn narrowed(
     ensures refused { IfErr result (IsConflictRefusal instance.now steps) }
 {
     let mut known = known_of(alloc, rows);
-    sift_all(alloc, instance, &mut known, steps.min(TRIAL_STEPS))?;
+    let trial_steps = steps.min(TRIAL_STEPS);
+    sift_all(alloc, instance, &mut known, trial_steps, finder)?;
     Ok(conflict_of(known))
 }
 
@@ -48,18 +56,26 @@ fn narrowed(
 /// rising number, of which every list of times violates one; where it says that each is needed, there are for each listed row
 /// times that keep all other listed rows. Each is listed that could not be left out within a fixed amount of search; rows of
 /// the greatest span are left out first (the deletion filter, Chinneck 2008). `Timetable` says that the instance has a
-/// timetable, and `Undecided` that a search over all rows used all its steps and found neither.
+/// timetable, and `Undecided` that a search over all rows used all its steps and found neither. A finder looks for times; nothing
+/// that is promised rests on it.
 ///
 /// Refused as `TableTooLarge` only where the square of the number of activities is above 10000000, as `PairsTooMany` only
 /// where that number times one more than the steps is above 20000000, and where a search over some rows meets that limit; and
 /// else as `Memory`, where a growth was refused.
-pub fn conflict(alloc: Global, instance: &Instance, steps: u32) -> Result<Finding, SolveRefusal>
+pub fn conflict<F: TimesFinder>(
+    alloc: Global,
+    instance: &Instance,
+    steps: u32,
+    finder: &mut F,
+) -> Result<Finding, SolveRefusal>
     requires { steps ≤ MOST_STEPS }
     ensures found { IfOk result (IsFinding instance.now steps) }
     ensures refused { IfErr result (IsConflictRefusal instance.now steps) }
 {
-    match decide_all(alloc, instance, steps)? {
-        Decision::Conflict(rows) => Ok(Finding::Conflict(narrowed(alloc, instance, rows, steps)?)),
+    match decide_all(alloc, instance, steps, finder)? {
+        Decision::Conflict(rows) => Ok(Finding::Conflict(narrowed(
+            alloc, instance, rows, steps, finder,
+        )?)),
         Decision::Timetable => Ok(Finding::Timetable),
         Decision::Undecided => Ok(Finding::Undecided),
     }

@@ -1,3 +1,4 @@
 pub mod Entries
 pub mod Slots
 pub mod Mark
+pub mod Moved

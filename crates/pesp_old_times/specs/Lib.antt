@@ -1,2 +1,3 @@
 pub mod OldTimes
 pub mod Tables
+pub mod Moves

@@ -7,7 +7,7 @@ use pesp_check::{CheckFault, Verdict, check, check_text};
 use pesp_instance::{ReadRefusal, read_instance};
 use pesp_problem::Instance;
 use pesp_report::{ReportRefusal, report};
-use pesp_search::{SolveRefusal, solve};
+use pesp_solver::{SolveRefusal, solve};
 use pesp_stream::Counted;
 use pesp_truth::Answer as Claim;
 use std::alloc::Global;

@@ -9,26 +9,27 @@ use crate::overseer::Overseer;
 use crate::pursuit::pursue;
 use crate::shelf::Shelf;
 use pesp_cert::Fronted;
-use pesp_faults::Fault;
+use pesp_finder::TimesFinder;
 use pesp_problem::Instance;
-use pesp_runs::{OnBase, Search};
+use pesp_runs::{Fault, OnBase, Search};
 use pesp_sharp_search::Going;
 use pesp_stream::{Sink, WriteFault};
 use std::alloc::Global;
 
 /// A plan that is made while an overseer lets it be, and kept on a shelf: the first one, each better one, and the last. Nothing
-/// is written elsewhere.
+/// is written elsewhere. A finder looks for times.
 ///
 /// Whatever is put on the shelf is the text of a certificate that is valid for the instance with its marked walks, so its answer is
 /// true; its bound isn't below, and its cost isn't above, what stood there, or what the plan began with. From times that are a
 /// timetable it has a cost, at most theirs. A shelf that takes nothing more ends the plan; what stood there then stays.
 #[derive(Drop)]
-pub struct KeptPlan<H, K> {
+pub struct KeptPlan<H, F, K> {
     pub shelf: H,
+    pub finder: F,
     pub overseer: K,
 }
 
-impl<H: Shelf, K: Overseer> KeptPlan<H, K> {
+impl<H: Shelf, F: TimesFinder, K: Overseer> KeptPlan<H, F, K> {
     /// Goes on from what is known to the end, and keeps what is found.
     fn pursue(
         &mut self,
@@ -42,13 +43,18 @@ impl<H: Shelf, K: Overseer> KeptPlan<H, K> {
         ensures no_worse { IsNoWorse going.old.content.answer going.new.content.answer }
         ensures kept { OnOk result (IsAsGood (H.holds self.new.shelf) going.new.content.answer) }
     {
-        pursue(alloc, instance, going, &mut self.shelf, &mut self.overseer)?;
-        self.overseer.ends(going.has().certificate.answer());
+        let KeptPlan {
+            shelf,
+            finder,
+            overseer,
+        } = self;
+        pursue(alloc, instance, going, shelf, finder, overseer)?;
+        overseer.ends(going.has().certificate.answer());
         Ok(())
     }
 }
 
-impl<H: Shelf, K: Overseer> Search for KeptPlan<H, K> {
+impl<H: Shelf, F: TimesFinder, K: Overseer> Search for KeptPlan<H, F, K> {
     ghost use Rattle.std.specs.Prelude.{◌≡◌, None, ⊤};
     ghost use Rattle.pesp_tasks.specs.Solving.{SolutionStops};
     ghost use Rattle.pesp_plan.specs.Planning.{Keeps};
@@ -68,7 +74,12 @@ impl<H: Shelf, K: Overseer> Search for KeptPlan<H, K> {
         _writer: &mut W,
     ) -> Result<(), Fault> {
         self.overseer.begins(instance);
-        let mut going = Going::begin(alloc, instance, times, &mut self.overseer)?;
+        let KeptPlan {
+            finder,
+            overseer,
+            ..
+        } = &mut *self;
+        let mut going = Going::begin(alloc, instance, times, finder, overseer)?;
         let kept = self.pursue(alloc, instance, &mut going);
         drop(going);
         kept?;
@@ -76,9 +87,9 @@ impl<H: Shelf, K: Overseer> Search for KeptPlan<H, K> {
     }
 }
 
-impl<H: Shelf, K: Overseer> OnBase for KeptPlan<H, K> {
+impl<H: Shelf, F: TimesFinder, K: Overseer> OnBase for KeptPlan<H, F, K> {
     ghost use Rattle.std.specs.Prelude.{⊤};
-    ghost use Rattle.pesp_faults.specs.Causes.{OutCause};
+    ghost use Rattle.pesp_runs.specs.Causes.{OutCause};
     ghost use Rattle.pesp_plan.specs.Planning.{KeepsOn};
 
     // The certificate that stands on the shelf.
@@ -99,7 +110,7 @@ impl<H: Shelf, K: Overseer> OnBase for KeptPlan<H, K> {
     ) -> Result<(), Fault> {
         self.overseer.begins(instance);
         self.shelf.stands(base.certificate.answer());
-        let mut going = Going::begin_from(alloc, instance, base)?;
+        let mut going = Going::begin_from(alloc, instance, base, &mut self.finder)?;
         let kept = self.pursue(alloc, instance, &mut going);
         drop(going);
         kept?;

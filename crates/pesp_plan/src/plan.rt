@@ -12,29 +12,32 @@ ghost use Rattle.pesp_runs.specs.Bases.{IsSharpBase};
 use crate::overseer::Overseer;
 use crate::pursuit::go_to_end;
 use pesp_cert::print_fronted;
-use pesp_faults::Fault;
+use pesp_finder::TimesFinder;
 use pesp_problem::Instance;
-use pesp_runs::Search;
+use pesp_runs::{Fault, Search};
 use pesp_sharp_search::Going;
 use pesp_stream::{Sink, WriteFault};
 use pesp_tasks::vouch;
 use std::alloc::Global;
 
-/// A plan that is made while an overseer lets it be, and written at its end: a certificate with a front where it has one.
+/// A plan that is made while an overseer lets it be, and written at its end: a certificate with a front where it has one. A finder
+/// looks for times.
 ///
 /// What is written is the text of a certificate that is valid for the instance with its marked walks, so its answer is true. From
 /// times that are a timetable it has a cost, at most theirs. `Search` where the instance's cycles or the pairs of the root pass their
 /// limits, as `SolveSharp` says.
 #[derive(Drop)]
-pub struct Plan<K> {
+pub struct Plan<F, K> {
+    pub finder: F,
     pub overseer: K,
 }
 
 /// Goes on to the end, and writes what is known by then.
-fn finish<K: Overseer, W: Sink>(
+fn finish<F: TimesFinder, K: Overseer, W: Sink>(
     alloc: Global,
     instance: &Instance,
     going: &mut Going,
+    finder: &mut F,
     overseer: &mut K,
     writer: &mut W,
 ) -> Result<(), WriteFault>
@@ -48,14 +51,14 @@ fn finish<K: Overseer, W: Sink>(
     ensures counts { OnOk result (HasWorked (W.calls writer.old) (W.calls writer.new)) }
     ensures fault { OnErr result (DeviceFailed (W.calls writer.old) (W.calls writer.new)) }
 {
-    go_to_end(alloc, instance, going, overseer);
+    go_to_end(alloc, instance, going, finder, overseer);
     let known = going.has();
     vouch(instance, known);
     overseer.ends(known.certificate.answer());
     print_fronted(known, writer)
 }
 
-impl<K: Overseer> Search for Plan<K> {
+impl<F: TimesFinder, K: Overseer> Search for Plan<F, K> {
     ghost use Rattle.std.specs.Prelude.{⊤};
     ghost use Rattle.pesp_tasks.specs.Solving.{SolutionStops};
     ghost use Rattle.pesp_plan.specs.Planning.{WritesPlan};
@@ -74,9 +77,10 @@ impl<K: Overseer> Search for Plan<K> {
         times: &[u32],
         writer: &mut W,
     ) -> Result<(), Fault> {
-        self.overseer.begins(instance);
-        let mut going = Going::begin(alloc, instance, times, &mut self.overseer)?;
-        let written = finish(alloc, instance, &mut going, &mut self.overseer, writer);
+        let Plan { finder, overseer } = self;
+        overseer.begins(instance);
+        let mut going = Going::begin(alloc, instance, times, finder, overseer)?;
+        let written = finish(alloc, instance, &mut going, finder, overseer, writer);
         drop(going);
         written?;
         Ok(())

@@ -8,6 +8,7 @@ ghost use Rattle.pesp_plan.specs.Planning.{IsAsGood};
 use crate::overseer::Overseer;
 use crate::shelf::Shelf;
 use pesp_cert::Fronted;
+use pesp_finder::TimesFinder;
 use pesp_problem::Instance;
 use pesp_sharp_search::{Going, is_no_worse};
 use pesp_stream::WriteFault;
@@ -19,17 +20,18 @@ use std::alloc::Global;
 const MOST_PIECES: u32 = 1_000_000;
 
 /// Goes on for a piece, and says whether one more follows. Where memory is refused none does.
-pub(crate) fn go_on<K: Overseer>(
+pub(crate) fn go_on<F: TimesFinder, K: Overseer>(
     alloc: Global,
     instance: &Instance,
     going: &mut Going,
+    finder: &mut F,
     overseer: &mut K,
 ) -> bool
     requires { IsSharpBase instance.now going.old }
     ensures valid { IsSharpBase instance.now going.new }
     ensures no_worse { IsNoWorse going.old.content.answer going.new.content.answer }
 {
-    if going.go_on(alloc, instance, overseer).is_err() {
+    if going.go_on(alloc, instance, finder, overseer).is_err() {
         overseer.lacks_memory();
         return false;
     }
@@ -67,11 +69,12 @@ pub(crate) fn keep<H: Shelf>(
 }
 
 /// Goes on piece by piece, and keeps what is known on the shelf behind each, until no piece follows.
-pub(crate) fn pursue<H: Shelf, K: Overseer>(
+pub(crate) fn pursue<H: Shelf, F: TimesFinder, K: Overseer>(
     alloc: Global,
     instance: &Instance,
     going: &mut Going,
     shelf: &mut H,
+    finder: &mut F,
     overseer: &mut K,
 ) -> Result<(), WriteFault>
     requires valid { IsSharpBase instance.now going.old }
@@ -86,17 +89,18 @@ pub(crate) fn pursue<H: Shelf, K: Overseer>(
         if !more {
             return Ok(());
         }
-        more = go_on(alloc, instance, going, overseer);
+        more = go_on(alloc, instance, going, finder, overseer);
         keep(instance, going.has(), shelf)?;
     }
     Ok(())
 }
 
 /// Goes on until no piece follows.
-pub(crate) fn go_to_end<K: Overseer>(
+pub(crate) fn go_to_end<F: TimesFinder, K: Overseer>(
     alloc: Global,
     instance: &Instance,
     going: &mut Going,
+    finder: &mut F,
     overseer: &mut K,
 )
     requires { IsSharpBase instance.now going.old }
@@ -108,6 +112,6 @@ pub(crate) fn go_to_end<K: Overseer>(
         if !more {
             return;
         }
-        more = go_on(alloc, instance, going, overseer);
+        more = go_on(alloc, instance, going, finder, overseer);
     }
 }

@@ -1,7 +1,7 @@
 //! What became of old times, told in words.
 
-use pesp_old_runs::{Listener, Told};
-use pesp_repair::Moves;
+use pesp_old_times::Moves;
+use pesp_plan::{Listener, Told};
 use std::fmt;
 
 /// Tells on standard error what became of old times, unless nothing is told.

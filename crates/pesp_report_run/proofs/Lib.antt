@@ -1,1 +1,3 @@
 mod Causes
+pub mod Short
+mod Telling

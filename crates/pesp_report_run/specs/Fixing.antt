@@ -4,9 +4,9 @@ use Rattle.pesp_problem.specs.Timetables.{Pesp}
 use Rattle.pesp_fix.specs.Fixing.{IsText}
 use Rattle.pesp_fix.specs.declared.refusal.FixRefusal.{FixRefusal}
 use Rattle.pesp_check_run.specs.Devices.{Device, HasFailed, GetsFront}
-use Rattle.pesp_faults.specs.Reading.{ReadsInstance, ReadsTimes}
-use Rattle.pesp_faults.specs.Causes.{InstanceCause, TimesCause, OutCause}
-use Rattle.pesp_faults.specs.declared.fault.Fault.{Fault}
+use Rattle.pesp_runs.specs.Reading.{ReadsInstance, ReadsTimes}
+use Rattle.pesp_runs.specs.Causes.{InstanceCause, TimesCause, OutCause}
+use Rattle.pesp_runs.specs.declared.fault.Fault.{Fault}
 use Rattle.pesp_report_run.specs.Reporting.{WritesSheet}
 
 -- the writer got what the relation says of the text of the instance with activities in front that hold events; where what is

@@ -2,3 +2,5 @@ pub mod Reporting
 pub mod Violating
 pub mod Fixing
 pub mod Naming
+pub mod Told
+pub mod Runs

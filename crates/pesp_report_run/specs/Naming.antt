@@ -1,7 +1,7 @@
 -- When names can't be read.
 use Rattle.pesp_check_run.specs.Devices.{Device, HasFailed}
-use Rattle.pesp_faults.specs.declared.fault.Fault.{Fault}
-use Rattle.pesp_faults.specs.declared.fault.Fault.TheVariants.{Names, Memory, Read}
+use Rattle.pesp_runs.specs.declared.fault.Fault.{Fault}
+use Rattle.pesp_runs.specs.declared.fault.Fault.TheVariants.{Names, Memory, Read}
 
 -- why there are no names: their text, of which nothing is said, memory, or the reader's device
 abbrev pub NamesCause : Fault → Device → Type 0

@@ -2,9 +2,9 @@
 use Rattle.std.specs.Prelude.{◌⊎◌, ℕ, List}
 use Rattle.pesp_problem.specs.Timetables.{Pesp, IsTimetable}
 use Rattle.pesp_check_run.specs.Devices.{Device, HasFailed, GetsFront}
-use Rattle.pesp_faults.specs.Reading.{ReadsInstance, ReadsTimes}
-use Rattle.pesp_faults.specs.Causes.{InstanceCause, TimesCause, RowCause, OutCause}
-use Rattle.pesp_faults.specs.declared.fault.Fault.{Fault}
+use Rattle.pesp_runs.specs.Reading.{ReadsInstance, ReadsTimes}
+use Rattle.pesp_runs.specs.Causes.{InstanceCause, TimesCause, RowCause, OutCause}
+use Rattle.pesp_runs.specs.declared.fault.Fault.{Fault}
 
 -- the writer got what the relation says of a text of which this is shown
 abbrev pub WritesSheet : (List ℕ → Type 0) → (List ℕ → Type 0) → Type 0

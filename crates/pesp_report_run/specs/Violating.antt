@@ -3,9 +3,9 @@ use Rattle.std.specs.Prelude.{◌≡◌, ◌⊎◌, ℕ, ℤ, List, Option, leng
 use Rattle.pesp_problem.specs.Timetables.{Pesp, AreTimes}
 use Rattle.pesp_report.specs.Violations.{violations_of, violations_text}
 use Rattle.pesp_check_run.specs.Devices.{Device, HasFailed, GetsFront}
-use Rattle.pesp_faults.specs.Reading.{ReadsInstance, ReadsTimes}
-use Rattle.pesp_faults.specs.Causes.{InstanceCause, TimesCause, OutCause}
-use Rattle.pesp_faults.specs.declared.fault.Fault.{Fault}
+use Rattle.pesp_runs.specs.Reading.{ReadsInstance, ReadsTimes}
+use Rattle.pesp_runs.specs.Causes.{InstanceCause, TimesCause, OutCause}
+use Rattle.pesp_runs.specs.declared.fault.Fault.{Fault}
 
 -- the first text has an instance and the second one a time below the period for each of its events, of which this is said
 abbrev pub ReadsForEvents : Option (List ℕ) → Option (List ℕ) → Option (List ℕ) → Option (List ℕ) → ℕ → (Pesp → List ℕ → Type 0) → Type 0

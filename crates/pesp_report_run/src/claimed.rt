@@ -4,13 +4,13 @@ ghost use Rattle.std.specs.Prelude.{◌≢◌, ◌<◌, ◌^◌, OnOk, IfOk, IfE
 ghost use Rattle.pesp_stream.specs.Counts.{FewerThan, HasWorked};
 ghost use Rattle.pesp_problem.specs.Timetables.{AreTimes};
 ghost use Rattle.pesp_check_run.specs.Devices.{over};
-ghost use Rattle.pesp_faults.specs.Reading.{ReadsTimes};
-ghost use Rattle.pesp_faults.specs.Causes.{TimesCause};
+ghost use Rattle.pesp_runs.specs.Reading.{ReadsTimes};
+ghost use Rattle.pesp_runs.specs.Causes.{TimesCause};
 
-use pesp_faults::{Fault, MOST_TEXT};
 use pesp_page::{Claim, claim_in};
 use pesp_problem::Instance;
 use pesp_report::read_times;
+use pesp_runs::{Fault, MOST_TEXT};
 use pesp_stream::{Source, read_all};
 use std::alloc::Global;
 

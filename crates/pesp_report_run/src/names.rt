@@ -5,8 +5,8 @@ ghost use Rattle.pesp_stream.specs.Counts.{FewerThan, HasWorked};
 ghost use Rattle.pesp_check_run.specs.Devices.{over};
 ghost use Rattle.pesp_report_run.specs.Naming.{NamesCause};
 
-use pesp_faults::Fault;
 use pesp_report::{Names, read_names};
+use pesp_runs::Fault;
 use pesp_stream::{Source, read_all};
 use std::alloc::Global;
 

@@ -5,12 +5,12 @@ ghost use Rattle.std.specs.Io.KnownBytes.{Appends};
 ghost use Rattle.pesp_stream.specs.Counts.{FewerThan, HasWorked};
 ghost use Rattle.pesp_report.specs.Report.{IsReport};
 ghost use Rattle.pesp_check_run.specs.Devices.{over};
-ghost use Rattle.pesp_faults.specs.Reading.{ReadsTimetable};
+ghost use Rattle.pesp_runs.specs.Reading.{ReadsTimetable};
 ghost use Rattle.pesp_report_run.specs.Reporting.{WritesSheet, SheetCause};
 
 use crate::claimed::read_claimed;
 use crate::sheet::{Report, Sheet};
-use pesp_faults::{Fault, read_whole_instance};
+use pesp_runs::{Fault, read_whole_instance};
 use pesp_stream::{Sink, Source};
 use std::alloc::Global;
 

@@ -7,8 +7,8 @@ ghost use Rattle.pesp_report.specs.Naming.{naming_of};
 ghost use Rattle.pesp_check_run.specs.Devices.{over};
 ghost use Rattle.pesp_report_run.specs.Violating.{ReadsForEvents, ViolationsCause, WritesViolations};
 
-use pesp_faults::{Fault, read_whole_instance, read_whole_times};
 use pesp_report::{Names, violations};
+use pesp_runs::{Fault, read_whole_instance, read_whole_times};
 use pesp_stream::{Sink, Source};
 use std::alloc::Global;
 

@@ -14,9 +14,9 @@ use crate::options::{
 use crate::request::{
     Asked, OfCertificate, OfInstance, OfLeaves, OfTimes, OfWorks, Planning, Request,
 };
+use crate::{jobs_of, period_within, seconds_within};
 use clap::error::ErrorKind;
 use clap::{ArgMatches, Command, Error};
-use pesp_limits::{jobs_of, period_within, seconds_within};
 use pesp_problem::{MOST_PERIOD, MOST_STEPS};
 use std::alloc::{AllocError, Global};
 

@@ -205,17 +205,15 @@ none_split p steps stopped old state (Ok d) e used h =
     (subst (λ (n : ℕ). IsEndedAs p 0 stopped old state n d.ending) (sym used) h)
 none_split p steps stopped old state (Err x) e used h = tt
 
-pub certified_ends : {E : Type 0} (a b : BoardValue) (steps : ℕ) (stopped : Type 0) (state : State) (done : Done)
-    (r : Result Resumed E) → b ≡ a → (AreLentSettled b.problem b.state
-    → IsEndedAs b.problem steps stopped b.state state done.used done.ending)
+pub certified_ends : {E : Type 0} (a : BoardValue) (steps : ℕ) (stopped : Type 0) (state : State) (done : Done)
+    (r : Result Resumed E) → (AreLentSettled a.problem a.state
+    → IsEndedAs a.problem steps stopped a.state state done.used done.ending)
     → IfOk r (λ x. x.steps_used ≡ done.used) → IfOk r (λ x. x.ending ≡ done.ending)
     → AreLentSettled a.problem a.state → IfOk r
     (λ x. IsEndedAs a.problem steps stopped a.state state x.steps_used x.ending)
-certified_ends a b steps stopped state done (Ok x) e h used ending s =
-    as_ended a.problem steps done.used x.steps_used stopped a.state state done.ending x.ending used ending
-    (subst (λ (y : BoardValue). AreLentSettled y.problem y.state
-    → IsEndedAs y.problem steps stopped y.state state done.used done.ending) e h s)
-certified_ends a b steps stopped state done (Err x) e h used ending s = tt
+certified_ends a steps stopped state done (Ok x) h used ending s =
+    as_ended a.problem steps done.used x.steps_used stopped a.state state done.ending x.ending used ending (h s)
+certified_ends a steps stopped state done (Err x) h used ending s = tt
 
 -- ---- what the watcher is told
 

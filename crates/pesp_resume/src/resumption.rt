@@ -16,11 +16,10 @@ use crate::watcher::Watcher;
 use pesp_board::Board;
 use pesp_branching::offer_times;
 use pesp_cert::Certificate;
+use pesp_finder::TimesFinder;
 use pesp_problem::{Instance, Memory};
-use pesp_times::TimesSearch;
 use pesp_turns::Search;
 use std::alloc::Global;
-use std::mem::replace;
 
 /// What is known of an instance after a search that went on, how many leaves were split, and why no more were.
 #[derive(Drop)]
@@ -31,24 +30,24 @@ pub struct Resumed {
 }
 
 /// Offers times that are found for what is left of the instance.
-fn offer_anew(alloc: Global, search: &mut Search) -> Result<(), Memory>
+fn offer_anew<F: TimesFinder>(
+    alloc: Global,
+    search: &mut Search,
+    finder: &mut F,
+) -> Result<(), Memory>
     ensures problem { search.new.board.problem ≡ search.old.board.problem }
     ensures grows { OnOk result (Grows search.old.board.problem 0
         search.old.board.state search.new.board.state) }
 {
-    let Search {
-        board,
-        known,
-        proposer,
-        ..
-    } = search;
-    offer_times(alloc, board, &known.reduced, &mut proposer.times)
+    let Search { board, known, .. } = search;
+    offer_times(alloc, board, &known.reduced, finder)
 }
 
 /// Offers times, and looks at the open leaves anew.
-fn look_anew<W: Watcher>(
+fn look_anew<F: TimesFinder, W: Watcher>(
     alloc: Global,
     search: &mut Search,
+    finder: &mut F,
     watcher: &mut W,
 ) -> Result<Done, Memory>
     ensures problem { search.new.board.problem ≡ search.old.board.problem }
@@ -59,16 +58,17 @@ fn look_anew<W: Watcher>(
     ensures grows { IfOk result (λ done. Grows search.old.board.problem 0
         search.old.board.state search.new.board.state) }
 {
-    offer_anew(alloc, search)?;
+    offer_anew(alloc, search, finder)?;
     let ending = look_again(alloc, &mut search.board, watcher)?;
     Ok(Done { used: 0, ending })
 }
 
 /// Goes on, by at most so many splits.
-fn go_on<W: Watcher>(
+fn go_on<F: TimesFinder, W: Watcher>(
     alloc: Global,
     search: &mut Search,
     steps: u32,
+    finder: &mut F,
     watcher: &mut W,
 ) -> Result<Done, Memory>
     requires { IsKnown search.old.board.problem search.old.known }
@@ -83,9 +83,9 @@ fn go_on<W: Watcher>(
     ensures told { IfOk result (λ done. AreTold (W.was_told watcher.new) done.used done.ending) }
 {
     if steps == 0 {
-        return look_anew(alloc, search, watcher);
+        return look_anew(alloc, search, finder, watcher);
     }
-    split_leaves(alloc, search, steps, watcher)
+    split_leaves(alloc, search, steps, finder, watcher)
 }
 
 /// What the board certifies then.
@@ -104,22 +104,13 @@ fn certify(alloc: Global, instance: &Instance, board: &Board, done: Done) -> Res
     })
 }
 
-/// Has times looked for, also where the board has some.
-fn look_for_times(alloc: Global, search: &mut Search) -> Result<(), Memory>
-    ensures board { search.new.board ≡ search.old.board }
-    ensures known { search.new.known ≡ search.old.known }
-{
-    let times = TimesSearch::new(alloc, search.known.reduced.network())?;
-    drop(replace(&mut search.proposer.times, Some(times)));
-    Ok(())
-}
-
-/// Goes on with a search, and certifies what is known then.
-fn resume_search<W: Watcher>(
+/// Goes on with a search, and certifies what is known then. Times are looked for, also where the board has some.
+fn resume_search<F: TimesFinder, W: Watcher>(
     alloc: Global,
     instance: &Instance,
     search: &mut Search,
     steps: u32,
+    finder: &mut F,
     watcher: &mut W,
 ) -> Result<Resumed, Memory>
     requires known { IsKnown search.old.board.problem search.old.known }
@@ -135,8 +126,8 @@ fn resume_search<W: Watcher>(
         search.new.board.state r.steps_used r.ending) }
     ensures told { IfOk result (λ r. AreTold (W.was_told watcher.new) r.steps_used r.ending) }
 {
-    look_for_times(alloc, search)?;
-    let done = go_on(alloc, search, steps, watcher)?;
+    finder.look_at(search.known.reduced.network())?;
+    let done = go_on(alloc, search, steps, finder, watcher)?;
     certify(alloc, instance, &search.board, done)
 }
 
@@ -153,18 +144,20 @@ fn search_from(alloc: Global, instance: &Instance, base: &Certificate) -> Result
 
 /// Goes on from a valid certificate of an instance: its open leaves are split, that of least value first, until so many were
 /// split, no leaf is open, the tree would pass a limit, or the watcher ends it. With no step the open leaves are looked at
-/// anew, and times are offered. The watcher is asked after each leaf.
+/// anew, and times are offered. A finder looks for times of what is left of the instance; nothing that is promised rests on it. The
+/// watcher is asked after each leaf.
 ///
 /// What comes of it is a valid certificate. Its bound isn't below the base's, and its cost isn't above the base's; none counts as
 /// above every number. Its tree has as many branches more as leaves were split. It ends before all splits are used only where
 /// nothing is left to split at a leaf that is worth less than the best times, where a limit is met, or where the watcher ended
 /// it. The watcher was told each number of leaves that were split, but maybe the last one, where nothing is left to split or a
 /// limit is met. The one refusal is of memory.
-pub fn resume<W: Watcher>(
+pub fn resume<F: TimesFinder, W: Watcher>(
     alloc: Global,
     instance: &Instance,
     base: &Certificate,
     steps: u32,
+    finder: &mut F,
     watcher: &mut W,
 ) -> Result<Resumed, Memory>
     requires { IsValid None instance.now base.now }
@@ -177,7 +170,7 @@ pub fn resume<W: Watcher>(
     instance.events();
     base.answer();
     let mut search = search_from(alloc, instance, base)?;
-    let resumed = resume_search(alloc, instance, &mut search, steps, watcher);
+    let resumed = resume_search(alloc, instance, &mut search, steps, finder, watcher);
     drop(search);
     resumed
 }

@@ -8,6 +8,7 @@ ghost use Rattle.pesp_resume.specs.Endings.{IsEndedAs, AreTold, ending_of};
 
 use crate::ending::Ending;
 use crate::watcher::Watcher;
+use pesp_finder::TimesFinder;
 use pesp_problem::Memory;
 use pesp_turns::{Ended, Ending as TurnsEnding, Nobody, Search};
 use std::alloc::Global;
@@ -34,7 +35,11 @@ fn end_of(ending: TurnsEnding) -> Option<Ending>
 }
 
 /// Splits one leaf, where one can be split; leaves that can be closed are closed on the way.
-fn split_one(alloc: Global, search: &mut Search) -> Result<Ended, Memory>
+fn split_one<F: TimesFinder>(
+    alloc: Global,
+    search: &mut Search,
+    finder: &mut F,
+) -> Result<Ended, Memory>
     requires { IsKnown search.old.board.problem search.old.known }
     ensures problem { search.new.board.problem ≡ search.old.board.problem }
     ensures known { search.new.known ≡ search.old.known }
@@ -45,15 +50,16 @@ fn split_one(alloc: Global, search: &mut Search) -> Result<Ended, Memory>
         (λ ended. EndsAs search.old.board.problem search.old.known.reduced 1 search.old.board.state ended.used ended.ending
         search.new.board.state) }
 {
-    search.run(alloc, 1, &mut Nobody)
+    search.run(alloc, 1, finder, &mut Nobody)
 }
 
-/// Splits open leaves, that of least value first, until so many were split or the search ends. The watcher is asked after each
-/// leaf.
-pub(crate) fn split_leaves<W: Watcher>(
+/// Splits open leaves, that of least value first, until so many were split or the search ends. A finder looks for times, and the
+/// watcher is asked after each leaf.
+pub(crate) fn split_leaves<F: TimesFinder, W: Watcher>(
     alloc: Global,
     search: &mut Search,
     steps: u32,
+    finder: &mut F,
     watcher: &mut W,
 ) -> Result<Done, Memory>
     requires { IsKnown search.old.board.problem search.old.known }
@@ -73,7 +79,7 @@ pub(crate) fn split_leaves<W: Watcher>(
             let ending = Ending::StepsUsed;
             return Ok(Done { used, ending });
         }
-        let ended = split_one(alloc, search)?;
+        let ended = split_one(alloc, search, finder)?;
         used += ended.used;
         if let Some(ending) = end_of(ended.ending) {
             return Ok(Done { used, ending });

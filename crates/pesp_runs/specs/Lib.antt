@@ -1,2 +1,5 @@
 pub mod Bases
 pub mod Runs
+pub mod Reading
+pub mod Causes
+pub mod FaultLines

@@ -4,9 +4,9 @@
 use Rattle.std.specs.Prelude.{◌⊎◌, ℕ, List, [], Option}
 use Rattle.pesp_problem.specs.Timetables.{Pesp, IsTimetable}
 use Rattle.pesp_check_run.specs.Devices.{Device, HasFailed, GetsFront}
-use Rattle.pesp_faults.specs.Reading.{ReadsInstance, ReadsTimes}
-use Rattle.pesp_faults.specs.Causes.{InstanceCause, TimetableCause}
-use Rattle.pesp_faults.specs.declared.fault.Fault.{Fault}
+use Rattle.pesp_runs.specs.Reading.{ReadsInstance, ReadsTimes}
+use Rattle.pesp_runs.specs.Causes.{InstanceCause, TimetableCause}
+use Rattle.pesp_runs.specs.declared.fault.Fault.{Fault}
 
 -- ---- from a certificate
 

@@ -4,11 +4,11 @@ ghost use Rattle.std.specs.Prelude.{◌≢◌, ◌<◌, ◌^◌, ℕ, List, Opti
 ghost use Rattle.pesp_stream.specs.Counts.{FewerThan, HasWorked};
 ghost use Rattle.pesp_problem.specs.Timetables.{Pesp};
 ghost use Rattle.pesp_check_run.specs.Devices.{Device, over};
-ghost use Rattle.pesp_faults.specs.declared.fault.Fault.{Fault as AnyFault};
+ghost use Rattle.pesp_runs.specs.declared.fault.Fault.{Fault as AnyFault};
 
+use crate::{Fault, MOST_TEXT, read_base};
 use pesp_cert::{Certificate, Fronted, parse_fronted};
 use pesp_check::check_sharp;
-use pesp_faults::{Fault, MOST_TEXT, read_base};
 use pesp_judges::Verdict;
 use pesp_problem::Instance;
 use pesp_stream::{Source, read_all};
@@ -43,8 +43,8 @@ pub trait Base {
 impl Base for Certificate {
     ghost use Rattle.std.specs.Prelude.{None};
     ghost use Rattle.pesp_truth.specs.Certificates.{IsValid};
-    ghost use Rattle.pesp_faults.specs.Reading.{ReadsBase};
-    ghost use Rattle.pesp_faults.specs.Causes.{BaseCause};
+    ghost use Rattle.pesp_runs.specs.Reading.{ReadsBase};
+    ghost use Rattle.pesp_runs.specs.Causes.{BaseCause};
 
     ghost valid = { IsValid None };
 

@@ -5,11 +5,11 @@ ghost use Rattle.std.specs.Io.KnownBytes.{Appends};
 ghost use Rattle.pesp_stream.specs.Counts.{FewerThan, HasWorked};
 ghost use Rattle.pesp_problem.specs.Timetables.{Pesp};
 ghost use Rattle.pesp_check_run.specs.Devices.{over, HasFailed, GetsFront};
-ghost use Rattle.pesp_faults.specs.declared.fault.Fault.{Fault as AnyFault};
-ghost use Rattle.pesp_faults.specs.Reading.{ReadsTimetable};
+ghost use Rattle.pesp_runs.specs.declared.fault.Fault.{Fault as AnyFault};
+ghost use Rattle.pesp_runs.specs.Reading.{ReadsTimetable};
 ghost use Rattle.pesp_runs.specs.Runs.{Alone, AloneCause, FromTimesCause};
 
-use pesp_faults::{Fault, read_timetable, read_whole_instance};
+use crate::{Fault, read_timetable, read_whole_instance};
 use pesp_problem::Instance;
 use pesp_stream::{Sink, Source};
 use std::alloc::Global;

@@ -11,11 +11,11 @@ use crate::lifted_problem::problem_for;
 use crate::planted_forest::{Planting, planted};
 use crate::refusal::SolveRefusal;
 use pesp_board::Board;
-use pesp_branching::Proposer;
+use pesp_finder::TimesFinder;
 use pesp_nodes::Problem;
 use pesp_problem::{Instance, Memory};
 use pesp_reduce::Reduced;
-use pesp_times::TimesSearch;
+use pesp_strategy::Strategy;
 use pesp_turns::{Known, Observer, Search, known_of, strategy_of};
 use std::alloc::Global;
 
@@ -32,33 +32,18 @@ fn board_of(alloc: Global, instance: &Instance, reduced: &Reduced) -> Result<Boa
     Ok(board)
 }
 
-/// What proposes cuts and times for the network of what is left.
-fn proposer_for(alloc: Global, known: &Known) -> Result<Proposer, Memory> {
-    let strategy = strategy_of(alloc, known)?;
-    match TimesSearch::new(alloc, known.reduced.network()) {
-        Ok(times) => Ok(Proposer {
-            strategy,
-            times: Some(times),
-        }),
-        Err(refused) => {
-            drop(strategy);
-            Err(refused)
-        }
-    }
-}
-
-/// What is known of a problem with what is left of its instance, and what proposes cuts and times for it.
-fn known_and_proposer(
+/// What is known of a problem with what is left of its instance, and what proposes cuts for it.
+fn known_and_strategy(
     alloc: Global,
     problem: &Problem,
     reduced: Reduced,
-) -> Result<(Known, Proposer), Memory>
+) -> Result<(Known, Option<Strategy>), Memory>
     ensures known { IfOk result (λ made. IsKnown problem.now made.0) }
     ensures reduced { IfOk result (λ made. made.0.reduced ≡ reduced) }
 {
     let known = known_of(alloc, problem, reduced)?;
-    match proposer_for(alloc, &known) {
-        Ok(proposer) => Ok((known, proposer)),
+    match strategy_of(alloc, &known) {
+        Ok(strategy) => Ok((known, strategy)),
         Err(refused) => {
             drop(known);
             Err(refused)
@@ -79,11 +64,11 @@ pub(crate) fn begin_over(
     ensures passed { IfErr result (MeetsLimit instance.now 0) }
 {
     match board_of(alloc, instance, &reduced) {
-        Ok(board) => match known_and_proposer(alloc, board.problem(), reduced) {
-            Ok((known, proposer)) => Ok(Search {
+        Ok(board) => match known_and_strategy(alloc, board.problem(), reduced) {
+            Ok((known, strategy)) => Ok(Search {
                 board,
                 known,
-                proposer,
+                strategy,
                 used: 0,
             }),
             Err(_) => {
@@ -98,12 +83,13 @@ pub(crate) fn begin_over(
     }
 }
 
-/// Begins the search for an instance: the board's problem is its network with the lifted walks of what is left of it. An
-/// observer looks on.
-pub(crate) fn begin<O: Observer>(
+/// Begins the search for an instance: the board's problem is its network with the lifted walks of what is left of it. From then
+/// on a finder looks for times of that. An observer looks on.
+pub(crate) fn begin<F: TimesFinder, O: Observer>(
     alloc: Global,
     instance: &Instance,
     planting: Planting,
+    finder: &mut F,
     observer: &mut O,
 ) -> Result<Search, SolveRefusal>
     ensures begun { IfOk result (IsBegun instance.now) }
@@ -111,5 +97,12 @@ pub(crate) fn begin<O: Observer>(
     ensures passed { IfErr result (MeetsLimit instance.now 0) }
 {
     let reduced = planted(alloc, instance, planting, observer)?;
-    begin_over(alloc, instance, reduced)
+    let search = begin_over(alloc, instance, reduced)?;
+    match finder.look_at(search.known.reduced.network()) {
+        Ok(()) => Ok(search),
+        Err(_) => {
+            drop(search);
+            Err(SolveRefusal::Memory)
+        }
+    }
 }

@@ -16,4 +16,4 @@ mod solution;
 pub use look::{FirstLook, look_first};
 pub use pesp_turns::{Nobody, Observer, Part};
 pub use refusal::SolveRefusal;
-pub use solution::{Solved, solve, solve_from, solve_watched};
+pub use solution::{Solved, solve_from, solve_watched};

@@ -9,6 +9,7 @@ use crate::given_times::offer_given;
 use crate::planted_forest::planted_over;
 use crate::refusal::SolveRefusal;
 use crate::root::look_at_root;
+use pesp_finder::NoTimes;
 use pesp_problem::{Instance, Memory};
 use pesp_propagate::dive;
 use pesp_reduce::Reduced;
@@ -29,34 +30,29 @@ fn dived_times(alloc: Global, reduced: &Reduced) -> Result<Vec<u32>, Memory> {
     }
 }
 
-/// Looks at the root of a new board, and offers times; no others are looked for on the way.
+/// Looks at the root of a new board, and offers times.
 fn begin_trial(alloc: Global, search: &mut Search, times: &[u32]) -> Result<(), SolveRefusal>
     requires known { IsKnown search.old.board.problem search.old.known }
     requires opening { search.old.board.state ≡ opening }
     ensures problem { search.new.board.problem ≡ search.old.board.problem }
     ensures known { search.new.known ≡ search.old.known }
 {
-    let Search {
-        board,
-        known,
-        proposer,
-        ..
-    } = search;
-    drop(proposer.times.take());
+    let Search { board, known, .. } = search;
     board.problem().keeps_limits();
     look_at_root(alloc, board, &known.root)?;
     offer_given(alloc, board, times)?;
     Ok(())
 }
 
-/// The least value of a leaf after a few steps from a new board; the greatest number where none is left.
+/// The least value of a leaf after a few steps from a new board, on which no times are looked for; the greatest number where none
+/// is left.
 fn bound_of(alloc: Global, search: &mut Search) -> Result<u64, SolveRefusal>
     requires known { IsKnown search.old.board.problem search.old.known }
     requires opening { search.old.board.state ≡ opening }
 {
     let times = dived_times(alloc, &search.known.reduced)?;
     begin_trial(alloc, search, &times)?;
-    search.run(alloc, RACED_STEPS, &mut Nobody)?;
+    search.run(alloc, RACED_STEPS, &mut NoTimes, &mut Nobody)?;
     Ok(search.board.least().unwrap_or(u64::MAX))
 }
 

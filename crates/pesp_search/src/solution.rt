@@ -22,9 +22,9 @@ use crate::root::look_at_root;
 use pesp_board::Board;
 use pesp_branching::offer_times;
 use pesp_cert::Certificate;
+use pesp_finder::TimesFinder;
 use pesp_problem::{Instance, Memory};
-use pesp_times::TimesSearch;
-use pesp_turns::{Ending, Known, Nobody, Observer, Part, Search};
+use pesp_turns::{Ending, Known, Observer, Part, Search};
 use std::alloc::Global;
 
 /// What is known of an instance, and how many leaves were split to find it.
@@ -47,13 +47,13 @@ fn planting_for(steps: u32) -> Planting {
 }
 
 /// Looks at the root of a new board, and offers times, first those that are given, then those that are found.
-fn look_and_offer<O: Observer>(
+fn look_and_offer<F: TimesFinder, O: Observer>(
     alloc: Global,
     instance: &Instance,
     board: &mut Board,
     known: &Known,
-    search: &mut Option<TimesSearch>,
     times: &[u32],
+    finder: &mut F,
     observer: &mut O,
 ) -> Result<(), SolveRefusal>
     requires known { IsKnown board.old.problem known.now }
@@ -69,17 +69,18 @@ fn look_and_offer<O: Observer>(
     look_at_root(alloc, board, &known.root)?;
     observer.at(Part::Times);
     offer_given(alloc, board, times)?;
-    begin_with(alloc, instance, &known.reduced, search, times)?;
-    offer_times(alloc, board, &known.reduced, search)?;
+    begin_with(alloc, instance, &known.reduced, times, finder)?;
+    offer_times(alloc, board, &known.reduced, finder)?;
     Ok(())
 }
 
 /// Looks at the root of what was begun, and offers times, first those that are given.
-fn make_ready<O: Observer>(
+fn make_ready<F: TimesFinder, O: Observer>(
     alloc: Global,
     instance: &Instance,
     search: &mut Search,
     times: &[u32],
+    finder: &mut F,
     observer: &mut O,
 ) -> Result<(), SolveRefusal>
     requires known { IsKnown search.old.board.problem search.old.known }
@@ -91,21 +92,17 @@ fn make_ready<O: Observer>(
         (IsReady search.old.board.problem times.now search.new.board.state) }
     ensures refused { IfErr result (AreTurnsRefused search.old.board.problem 0) }
 {
-    let Search {
-        board,
-        known,
-        proposer,
-        ..
-    } = search;
-    let search = &mut proposer.times;
-    look_and_offer(alloc, instance, board, known, search, times, observer)
+    let Search { board, known, .. } = search;
+    look_and_offer(alloc, instance, board, known, times, finder, observer)
 }
 
-/// Takes turns until so many leaves were split or no leaf is open; says how many were split. An observer looks on.
-fn take_turns<O: Observer>(
+/// Takes turns until so many leaves were split or no leaf is open; says how many were split. A finder looks for times, and an
+/// observer looks on.
+fn take_turns<F: TimesFinder, O: Observer>(
     alloc: Global,
     search: &mut Search,
     steps: u32,
+    finder: &mut F,
     observer: &mut O,
 ) -> Result<u32, SolveRefusal>
     requires known { IsKnown search.old.board.problem search.old.known }
@@ -118,7 +115,7 @@ fn take_turns<O: Observer>(
     ensures refused { IfErr result (AreTurnsRefused search.old.board.problem steps) }
 {
     search.board.problem().keeps_limits();
-    let ended = search.run(alloc, steps, observer)?;
+    let ended = search.run(alloc, steps, finder, observer)?;
     match ended.ending {
         Ending::StepsUsed => Ok(ended.used),
         Ending::NoneOpen => Ok(ended.used),
@@ -153,12 +150,13 @@ fn certify(
 }
 
 /// Searches on what was begun, and certifies what is known then.
-pub(crate) fn solve_on<O: Observer>(
+pub(crate) fn solve_on<F: TimesFinder, O: Observer>(
     alloc: Global,
     instance: &Instance,
     search: &mut Search,
     times: &[u32],
     steps: u32,
+    finder: &mut F,
     observer: &mut O,
 ) -> Result<Solved, SolveRefusal>
     requires begun { IsBegun instance.now search.old }
@@ -168,8 +166,8 @@ pub(crate) fn solve_on<O: Observer>(
     ensures refused { IfErr result (IsSearchRefusal instance.now steps) }
     ensures passed { IfErr result (MeetsLimit instance.now steps) }
 {
-    make_ready(alloc, instance, search, times, observer)?;
-    let steps_used = take_turns(alloc, search, steps, observer)?;
+    make_ready(alloc, instance, search, times, finder, observer)?;
+    let steps_used = take_turns(alloc, search, steps, finder, observer)?;
     let solved = certify(alloc, instance, &search.board, steps_used)?;
     Ok(solved)
 }
@@ -183,20 +181,13 @@ pub(crate) fn solve_on<O: Observer>(
 /// some spanning forest of what is left of them pass a limit, or do so lifted; as `PairsTooMany` only where the number of
 /// cycles, at most that of activities, times one more than the steps is above 20000000 and a tree that so many steps may lead
 /// to would pass a limit; and else as `Memory`, where a growth was refused.
-pub fn solve(alloc: Global, instance: &Instance, steps: u32) -> Result<Solved, SolveRefusal>
-    requires { steps ≤ MOST_STEPS }
-    ensures solved { IfOk result (λ s. IsSolved instance.now steps s.steps_used s.certificate) }
-    ensures refused { IfErr result (IsSearchRefusal instance.now steps) }
-    ensures passed { IfErr result (MeetsLimit instance.now steps) }
-{
-    solve_watched(alloc, instance, steps, &mut Nobody)
-}
-
-/// Searches as `solve` does, with the same promises, while an observer looks on.
-pub fn solve_watched<O: Observer>(
+///
+/// A finder looks for times of what is left of the instance, and an observer looks on. Nothing that is promised rests on them.
+pub fn solve_watched<F: TimesFinder, O: Observer>(
     alloc: Global,
     instance: &Instance,
     steps: u32,
+    finder: &mut F,
     observer: &mut O,
 ) -> Result<Solved, SolveRefusal>
     requires { steps ≤ MOST_STEPS }
@@ -204,18 +195,19 @@ pub fn solve_watched<O: Observer>(
     ensures refused { IfErr result (IsSearchRefusal instance.now steps) }
     ensures passed { IfErr result (MeetsLimit instance.now steps) }
 {
-    solve_from(alloc, instance, &[], steps, observer)
+    solve_from(alloc, instance, &[], steps, finder, observer)
 }
 
 /// Searches as `solve_watched` does, with the same promises, from times that are given: one for each event of the instance, in
 /// the instance's order, from 0 to one less than the period. They are offered before all others. Where they are a timetable
 /// of the instance, the answer has a cost, at most theirs, and times near them are looked for; where they aren't, they are passed
 /// over.
-pub fn solve_from<O: Observer>(
+pub fn solve_from<F: TimesFinder, O: Observer>(
     alloc: Global,
     instance: &Instance,
     times: &[u32],
     steps: u32,
+    finder: &mut F,
     observer: &mut O,
 ) -> Result<Solved, SolveRefusal>
     requires { steps ≤ MOST_STEPS }
@@ -224,8 +216,9 @@ pub fn solve_from<O: Observer>(
     ensures refused { IfErr result (IsSearchRefusal instance.now steps) }
     ensures passed { IfErr result (MeetsLimit instance.now steps) }
 {
-    let mut search = begin(alloc, instance, planting_for(steps), observer)?;
-    let solved = solve_on(alloc, instance, &mut search, times, steps, observer);
+    let planting = planting_for(steps);
+    let mut search = begin(alloc, instance, planting, finder, observer)?;
+    let solved = solve_on(alloc, instance, &mut search, times, steps, finder, observer);
     drop(search);
     solved
 }

@@ -7,10 +7,10 @@ use crate::proposal::{Proposals, proposals_of};
 use crate::search::{Chosen, Next, Pace, SharpSearch};
 use crate::standing::SharpWatcher;
 use pesp_cert::Fronted;
+use pesp_finder::TimesFinder;
 use pesp_problem::{Instance, Memory};
 use pesp_reduce::{Reduced, reduce};
 use pesp_sharp_trees::{Left, scale_for, scale_over};
-use pesp_times::TimesSearch;
 use pesp_truth::Answer;
 use std::alloc::Global;
 
@@ -38,14 +38,8 @@ fn chosen_of(alloc: Global, leaves: Leaves<'_>) -> Result<Chosen, Memory> {
 }
 
 /// A search from the root.
-fn from_root(
-    left: Left<'_>,
-    plain: &Fronted,
-    times: &mut Option<TimesSearch>,
-    pace: Pace,
-) -> Result<SharpSearch, Memory> {
+fn from_root(left: Left<'_>, plain: &Fronted, pace: Pace) -> Result<SharpSearch, Memory> {
     let mut search = SharpSearch::new(left, scale_for(left.network), Next::Root, pace)?;
-    search.take_search(times);
     match search.begin_with(left, &plain.certificate) {
         Ok(()) => Ok(search),
         Err(refused) => {
@@ -56,11 +50,12 @@ fn from_root(
 }
 
 /// Readies a search that goes on from a certificate, or from some of its leaves.
-fn ready_from(
+fn ready_from<F: TimesFinder>(
     left: Left<'_>,
     base: &Fronted,
     leaves: Option<Leaves<'_>>,
     search: &mut SharpSearch,
+    finder: &mut F,
 ) -> Result<(), Memory>
     requires { left.reduced.now.original ≡ left.instance.now }
 {
@@ -68,21 +63,22 @@ fn ready_from(
         search.chosen = Some(chosen_of(left.alloc, leaves)?);
     }
     search.begin_with(left, &base.certificate)?;
-    search.begin_times(left)
+    search.begin_times(left, finder)
 }
 
 /// A search that goes on from a certificate, or from some of its leaves.
-fn from_base(
+fn from_base<F: TimesFinder>(
     left: Left<'_>,
     base: &Fronted,
     leaves: Option<Leaves<'_>>,
     pace: Pace,
+    finder: &mut F,
 ) -> Result<SharpSearch, Memory>
     requires { left.reduced.now.original ≡ left.instance.now }
 {
     let scale = scale_over(base, left.network);
     let mut search = SharpSearch::new(left, scale, Next::Base, pace)?;
-    match ready_from(left, base, leaves, &mut search) {
+    match ready_from(left, base, leaves, &mut search, finder) {
         Ok(()) => Ok(search),
         Err(refused) => {
             drop(search);
@@ -106,55 +102,55 @@ fn owning(
 }
 
 impl Proposing {
-    /// A search that begins at the root, beside a plain answer; None where that isn't open. What is left of the instance, and what
-    /// has looked for times of that, are those of a first look.
+    /// A search that begins at the root, beside a plain answer; None where that isn't open. What is left of the instance is that of
+    /// a first look, and the finder that looked for times of it then is to be handed in while this goes on.
     pub fn begin(
         alloc: Global,
         instance: &Instance,
         plain: &Fronted,
         reduced: Reduced,
-        mut times: Option<TimesSearch>,
         pace: Pace,
     ) -> Result<Option<Proposing>, Memory> {
         if !is_open(plain.certificate.answer()) {
-            drop(times);
             drop(reduced);
             return Ok(None);
         }
         let left = Left::of(alloc, instance, &reduced);
-        let search = from_root(left, plain, &mut times, pace);
-        drop(times);
+        let search = from_root(left, plain, pace);
         owning(reduced, search)
     }
 
-    /// A search that goes on from a certificate, or from some of its leaves; None where its answer isn't open.
-    pub fn begin_from(
+    /// A search that goes on from a certificate, or from some of its leaves; None where its answer isn't open. From then on a finder
+    /// looks for times of what is left of the instance; it is to be handed in while this goes on.
+    pub fn begin_from<F: TimesFinder>(
         alloc: Global,
         instance: &Instance,
         base: &Fronted,
         leaves: Option<Leaves<'_>>,
         pace: Pace,
+        finder: &mut F,
     ) -> Result<Option<Proposing>, Memory> {
         if !is_open(base.certificate.answer()) {
             return Ok(None);
         }
         let reduced = reduce(alloc, instance)?;
         let left = Left::of(alloc, instance, &reduced);
-        let search = from_base(left, base, leaves, pace);
+        let search = from_base(left, base, leaves, pace, finder);
         owning(reduced, search)
     }
 
     /// Goes on, from the certificate with which it began, until as many leaves were split as may be, nothing is left to be done, or
     /// the watcher ends this piece.
-    pub fn go_on<W: SharpWatcher>(
+    pub fn go_on<F: TimesFinder, W: SharpWatcher>(
         &mut self,
         alloc: Global,
         instance: &Instance,
         base: &Fronted,
+        finder: &mut F,
         watcher: &mut W,
     ) -> Result<(), Memory> {
         let left = Left::of(alloc, instance, &self.reduced);
-        self.search.go_on(left, base, watcher)
+        self.search.go_on(left, base, finder, watcher)
     }
 
     /// What it proposes at a pause in the place of an answer. It began with this certificate.

@@ -1,4 +1,4 @@
-//! The search: what sharpens, what looks for times, and the best timetable so far.
+//! The search: what sharpens, and the best timetable so far. What looks for times is handed in.
 
 ghost use Rattle.std.specs.Prelude.{◌≡◌};
 
@@ -6,14 +6,13 @@ use crate::best::{Best, cost_of, offer, shown_by};
 use crate::standing::{SharpWatcher, Standing};
 use crate::turns::{Turn, Turns};
 use pesp_cert::{Certificate, Fronted};
+use pesp_finder::{Effort, TimesFinder};
 use pesp_judges::least_of;
 use pesp_problem::{Memory, Score, score};
 use pesp_sharp_trees::{Left, given_of};
 use pesp_sharpening::{Sharpening, Step};
 use pesp_simplex::{Improved, SimplexRefusal, improve};
-use pesp_times::{Effort, TimesSearch};
 use pesp_truth::Answer;
-use std::mem::swap;
 
 /// After how many steps times are looked for again, for the first time; then after twice as many, and so on.
 const FIRST_BATCH_AFTER: u32 = 128;
@@ -63,7 +62,6 @@ pub(crate) struct SharpSearch {
     pub(crate) has_taken_up: bool,
     pub(crate) next: Next,
     pub(crate) chosen: Option<Chosen>,
-    times: Option<TimesSearch>,
     pace: Pace,
     turns: Turns,
     used: u32,
@@ -98,7 +96,7 @@ fn lowered(left: Left<'_>, times: &[u32]) -> Result<Option<Vec<u32>>, Memory>
 }
 
 impl SharpSearch {
-    /// A search by this scale, and what it does first. It knows no timetable, and nothing looks for times yet.
+    /// A search by this scale, and what it does first. It knows no timetable.
     pub(crate) fn new(
         left: Left<'_>,
         scale: u32,
@@ -112,17 +110,11 @@ impl SharpSearch {
             has_taken_up: false,
             next,
             chosen: None,
-            times: None,
             pace,
             turns: Turns::new(left.network.rows().len()),
             used: 0,
             due: None,
         })
-    }
-
-    /// Goes on with a search for times.
-    pub(crate) fn take_search(&mut self, times: &mut Option<TimesSearch>) {
-        swap(&mut self.times, times);
     }
 
     /// Begins with the timetable that a certificate shows.
@@ -135,24 +127,23 @@ impl SharpSearch {
         Ok(())
     }
 
-    /// Begins a search for times of what is left, with those of the best timetable.
-    pub(crate) fn begin_times(&mut self, left: Left<'_>) -> Result<(), Memory>
+    /// Has a finder look for times of what is left, beginning with those of the best timetable.
+    pub(crate) fn begin_times<F: TimesFinder>(
+        &self,
+        left: Left<'_>,
+        finder: &mut F,
+    ) -> Result<(), Memory>
         requires { left.reduced.now.original ≡ left.instance.now }
     {
-        let mut times = Some(TimesSearch::new(left.alloc, left.network)?);
-        self.take_search(&mut times);
-        drop(times);
-        let Some(search) = &mut self.times else {
-            return Ok(());
-        };
+        finder.look_at(left.network)?;
         if let Pace::Turns = self.pace {
-            search.set_effort(Effort::Short);
+            finder.set_effort(Effort::Short);
         }
         let Some(best) = &self.best else {
-            return search.begin();
+            return finder.begin();
         };
         match lowered(left, &best.times)? {
-            Some(times) => search.take(times),
+            Some(times) => finder.take(times),
             None => Ok(()),
         }
     }
@@ -195,49 +186,39 @@ impl SharpSearch {
     }
 
     /// Takes up times that are a timetable of what is left.
-    fn take(&mut self, left: Left<'_>, times: Vec<u32>) -> Result<(), Memory> {
+    fn take<F: TimesFinder>(
+        &mut self,
+        left: Left<'_>,
+        times: Vec<u32>,
+        finder: &mut F,
+    ) -> Result<(), Memory> {
         offer(left, &times, &mut self.best)?;
-        match &mut self.times {
-            Some(search) => search.take(times),
-            None => Ok(()),
-        }
+        finder.take(times)
     }
 
     /// Takes up the times that the tree met with, where they are a timetable of what is left, made cheaper.
-    fn take_met(&mut self, left: Left<'_>) -> Result<(), Memory> {
+    fn take_met<F: TimesFinder>(&mut self, left: Left<'_>, finder: &mut F) -> Result<(), Memory> {
         for place in 0..self.sharpening.times_met().len() {
             let met = self.sharpening.times_met().get(place);
             if let Some(better) = improved(left, met)? {
-                self.take(left, better)?;
+                self.take(left, better, finder)?;
             }
         }
         Ok(())
     }
 
-    /// Takes up the best times that the search for times has.
-    fn take_best(&mut self, left: Left<'_>) -> Result<(), Memory> {
-        let Some(search) = &self.times else {
-            return Ok(());
-        };
-        match search.best()? {
+    /// Takes up the best times that a finder has.
+    fn take_best<F: TimesFinder>(&mut self, left: Left<'_>, finder: &F) -> Result<(), Memory> {
+        match finder.best()? {
             Some(times) => offer(left, &times, &mut self.best),
             None => Ok(()),
         }
     }
 
-    /// Whether the search for times has its first batch to make.
-    fn owes_times(&self) -> bool {
-        self.times
-            .as_ref()
-            .is_some_and(|search| search.owes_first())
-    }
-
     /// Makes what is left of the first batch.
-    fn end_first(&mut self, left: Left<'_>) -> Result<(), Memory> {
-        if let Some(search) = &mut self.times {
-            search.end_first()?;
-        }
-        self.take_best(left)
+    fn end_first<F: TimesFinder>(&mut self, left: Left<'_>, finder: &mut F) -> Result<(), Memory> {
+        finder.end_first()?;
+        self.take_best(left, finder)
     }
 
     /// Notes after how many steps times are looked for, where that is due.
@@ -251,56 +232,66 @@ impl SharpSearch {
     }
 
     /// Looks for times where that is due and the first batch is over; what was due before is made up then.
-    fn look_for_times(&mut self, left: Left<'_>) -> Result<(), Memory> {
+    fn look_for_times<F: TimesFinder>(
+        &mut self,
+        left: Left<'_>,
+        finder: &mut F,
+    ) -> Result<(), Memory> {
         self.note_due();
-        if self.owes_times() {
-            return self.take_best(left);
+        if finder.owes_first() {
+            return self.take_best(left, finder);
         }
-        if let (Some(search), Some(branches)) = (&mut self.times, self.due) {
-            search.go_on(branches)?;
+        if let Some(branches) = self.due {
+            finder.go_on(branches)?;
         }
         self.due = None;
-        self.take_best(left)
+        self.take_best(left, finder)
     }
 
-    /// Makes a piece of the search for times.
-    fn make_piece(&mut self, left: Left<'_>) -> Result<Step, Memory> {
-        if let Some(search) = &mut self.times {
-            search.make_piece()?;
-        }
-        self.take_best(left)?;
+    /// Has a finder make a piece of its search.
+    fn make_piece<F: TimesFinder>(
+        &mut self,
+        left: Left<'_>,
+        finder: &mut F,
+    ) -> Result<Step, Memory> {
+        finder.make_piece()?;
+        self.take_best(left, finder)?;
         Ok(Step::Readied)
     }
 
     /// Makes what is left of the first batch where a search of so many steps ends and is open.
-    fn end_times(&mut self, left: Left<'_>) -> Result<(), Memory> {
+    fn end_times<F: TimesFinder>(&mut self, left: Left<'_>, finder: &mut F) -> Result<(), Memory> {
         let Pace::Steps { .. } = self.pace else {
             return Ok(());
         };
         if self.sharpening.bound() >= self.cost().unwrap_or(u64::MAX) {
             return Ok(());
         }
-        self.end_first(left)
+        self.end_first(left, finder)
     }
 
     /// Sharpens the root.
-    fn look_at_root(&mut self, left: Left<'_>) -> Result<(), Memory> {
+    fn look_at_root<F: TimesFinder>(
+        &mut self,
+        left: Left<'_>,
+        finder: &mut F,
+    ) -> Result<(), Memory> {
         let cost = self.cost();
         self.sharpening.look_at_root(cost)?;
-        self.take_met(left)
+        self.take_met(left, finder)
     }
 
     /// Splits the open leaf of least bound, where there is one below the best cost; or finds the slacks of that leaf, where it
     /// was taken up.
-    fn step(&mut self, left: Left<'_>) -> Result<Step, Memory> {
+    fn step<F: TimesFinder>(&mut self, left: Left<'_>, finder: &mut F) -> Result<Step, Memory> {
         let limit = self.limit();
         let step = self.sharpening.step(limit)?;
         if step != Step::Over {
-            self.take_met(left)?;
+            self.take_met(left, finder)?;
         }
         if step == Step::Made {
             self.used = self.used.saturating_add(1);
-            self.look_for_times(left)?;
+            self.look_for_times(left, finder)?;
         }
         Ok(step)
     }
@@ -312,41 +303,45 @@ impl SharpSearch {
     }
 
     /// Whose turn it is: an anneal that has begun is ended first.
-    fn next_turn(&self) -> Turn {
-        match (&self.times, self.pace) {
-            (Some(search), _) if search.is_annealing() => Turn::Times,
-            (_, Pace::Steps { .. }) => self.turns.next_by_part(),
-            (_, Pace::Turns) => self.turns.next_by_worth(),
+    fn next_turn<F: TimesFinder>(&self, finder: &F) -> Turn {
+        match self.pace {
+            _ if finder.is_annealing() => Turn::Times,
+            Pace::Steps { .. } => self.turns.next_by_part(),
+            Pace::Turns => self.turns.next_by_worth(),
         }
     }
 
     /// All work so far of the one whose turn it is, in numbers that were looked at.
-    fn work_of(&self, turn: Turn) -> u64 {
+    fn work_of<F: TimesFinder>(&self, turn: Turn, finder: &F) -> u64 {
         match turn {
             Turn::Tree => self.sharpening.work(),
-            Turn::Times => self.times.as_ref().map_or(0, TimesSearch::work),
+            Turn::Times => finder.work(),
         }
     }
 
     /// Takes the next turn, and notes its work and what is left of the gap.
-    fn take_turn(&mut self, left: Left<'_>) -> Result<Step, Memory> {
-        let turn = self.next_turn();
-        let before = self.work_of(turn);
+    fn take_turn<F: TimesFinder>(
+        &mut self,
+        left: Left<'_>,
+        finder: &mut F,
+    ) -> Result<Step, Memory> {
+        let turn = self.next_turn(finder);
+        let before = self.work_of(turn, finder);
         let step = match turn {
-            Turn::Tree => self.step(left)?,
-            Turn::Times => self.make_piece(left)?,
+            Turn::Tree => self.step(left, finder)?,
+            Turn::Times => self.make_piece(left, finder)?,
         };
         let gap = self.gap();
-        let work = self.work_of(turn).saturating_sub(before);
+        let work = self.work_of(turn, finder).saturating_sub(before);
         self.turns.note(turn, gap, work);
         Ok(step)
     }
 
     /// Goes on by what is next: a turn, where there is no limit or the first batch isn't over; else a step of the tree.
-    fn advance(&mut self, left: Left<'_>) -> Result<Step, Memory> {
+    fn advance<F: TimesFinder>(&mut self, left: Left<'_>, finder: &mut F) -> Result<Step, Memory> {
         match self.pace {
-            Pace::Steps { .. } if !self.owes_times() => self.step(left),
-            _ => self.take_turn(left),
+            Pace::Steps { .. } if !finder.owes_first() => self.step(left, finder),
+            _ => self.take_turn(left, finder),
         }
     }
 
@@ -359,7 +354,12 @@ impl SharpSearch {
     }
 
     /// Takes up the tree of a certificate, but for the leaves that are spared. Where none can be taken up the root is sharpened.
-    fn take_up(&mut self, left: Left<'_>, base: &Fronted) -> Result<(), Memory> {
+    fn take_up<F: TimesFinder>(
+        &mut self,
+        left: Left<'_>,
+        base: &Fronted,
+        finder: &mut F,
+    ) -> Result<(), Memory> {
         let given = match &self.chosen {
             Some(chosen) => given_of(left, base, &chosen.spared)?,
             None => given_of(left, base, &[])?,
@@ -369,20 +369,25 @@ impl SharpSearch {
         drop(given);
         self.has_taken_up = taken?;
         // Nothing more is done where the tree was taken up.
-        self.look_at_root(left)
+        self.look_at_root(left, finder)
     }
 
     /// Begins with a certificate. Where it has no marked walks the root is sharpened first, so that its leaves get the
     /// inequalities of that.
-    fn begin_at(&mut self, left: Left<'_>, base: &Fronted) -> Result<(), Memory> {
-        self.take_best(left)?;
+    fn begin_at<F: TimesFinder>(
+        &mut self,
+        left: Left<'_>,
+        base: &Fronted,
+        finder: &mut F,
+    ) -> Result<(), Memory> {
+        self.take_best(left, finder)?;
         if base.front.is_none() {
-            self.look_at_root(left)?;
+            self.look_at_root(left, finder)?;
             if self.passes_over(base) {
                 return Ok(());
             }
         }
-        self.take_up(left, base)
+        self.take_up(left, base, finder)
     }
 
     /// Whether the tree of a certificate is left alone, as the root shows enough: no less than it; or, where some of its leaves
@@ -398,37 +403,43 @@ impl SharpSearch {
 
     /// Splits leaves until so many were split and the slacks are known of the one that is next, none is open below the best cost,
     /// or the watcher ends it.
-    fn split<W: SharpWatcher>(&mut self, left: Left<'_>, watcher: &mut W) -> Result<(), Memory> {
+    fn split<F: TimesFinder, W: SharpWatcher>(
+        &mut self,
+        left: Left<'_>,
+        finder: &mut F,
+        watcher: &mut W,
+    ) -> Result<(), Memory> {
         for _turn in 0..MOST_TURNS {
             if !watcher.goes_on(self.standing()) {
                 return Ok(());
             }
             if self.is_done() {
-                return self.end_times(left);
+                return self.end_times(left, finder);
             }
-            if self.advance(left)? == Step::Over {
+            if self.advance(left, finder)? == Step::Over {
                 self.next = Next::Nothing;
-                return self.end_times(left);
+                return self.end_times(left, finder);
             }
         }
         Ok(())
     }
 
     /// Does what is next, and splits leaves then, until so many were split in all, none is open below the best cost, or the
-    /// watcher ends this piece of the search.
-    pub(crate) fn go_on<W: SharpWatcher>(
+    /// watcher ends this piece of the search. The finder is the one with which it began.
+    pub(crate) fn go_on<F: TimesFinder, W: SharpWatcher>(
         &mut self,
         left: Left<'_>,
         base: &Fronted,
+        finder: &mut F,
         watcher: &mut W,
     ) -> Result<(), Memory> {
         match self.next {
-            Next::Root => self.look_at_root(left)?,
-            Next::Base => self.begin_at(left, base)?,
+            Next::Root => self.look_at_root(left, finder)?,
+            Next::Base => self.begin_at(left, base, finder)?,
             Next::Leaves => {}
             Next::Nothing => return Ok(()),
         }
         self.next = Next::Leaves;
-        self.split(left, watcher)
+        self.split(left, finder, watcher)
     }
 }

@@ -1,7 +1,7 @@
 //! Searches that go on piece by piece.
 
 ghost use Rattle.std.specs.Prelude.{◌≡◌, false, IsTrue, IfOk, IfErr, IfSome};
-ghost use Rattle.pesp_lemma.specs.Fronts.{IsValidBehind};
+ghost use Rattle.pesp_truth.specs.Certificates.{IsValid};
 ghost use Rattle.pesp_search_laws.specs.Turns.{IsOpenAnswer};
 ghost use Rattle.pesp_search.specs.Refusals.{MeetsLimit};
 ghost use Rattle.pesp_search.specs.Solving.{CostsNoMore, IsSearchRefusal};
@@ -9,6 +9,7 @@ ghost use Rattle.pesp_sharp_search.specs.Solving.{IsNoWorse, IsPlain, MayStand};
 
 use crate::choice::{first_standing, without_front};
 use pesp_cert::Fronted;
+use pesp_finder::TimesFinder;
 use pesp_problem::{Instance, Memory};
 use pesp_search::{FirstLook, Observer, SolveRefusal, look_first};
 use pesp_sharp_proposals::{Pace, Proposing, SharpWatcher};
@@ -44,12 +45,13 @@ fn is_open(answer: Answer) -> bool
 }
 
 /// Searches on from the certificate with which it began, and what is found that may stand in the place of what it has.
-fn searched<W: SharpWatcher>(
+fn searched<F: TimesFinder, W: SharpWatcher>(
     alloc: Global,
     instance: &Instance,
     fronted: &Fronted,
     base: &Option<Fronted>,
     proposing: &mut Option<Proposing>,
+    finder: &mut F,
     watcher: &mut W,
 ) -> Result<Option<Fronted>, Memory>
     ensures { IfOk result (λ found. IfSome found
@@ -59,7 +61,7 @@ fn searched<W: SharpWatcher>(
         return Ok(None);
     };
     let base = base.as_ref().unwrap_or(fronted);
-    proposing.go_on(alloc, instance, base, watcher)?;
+    proposing.go_on(alloc, instance, base, finder, watcher)?;
     let answer = fronted.certificate.answer();
     if !proposing.exceeds(answer) {
         return Ok(None);
@@ -70,29 +72,27 @@ fn searched<W: SharpWatcher>(
 
 impl Going {
     /// A search that begins with a first look, and with times that are given: one for each event of the instance, in the instance's
-    /// order, from 0 to one less than the period. An observer looks on.
+    /// order, from 0 to one less than the period. A finder looks for times of what is left of the instance, and an observer looks
+    /// on.
     ///
     /// It has a certificate that is valid for the instance, one that `solve_from` has for some forest within 0 steps. Where the
     /// times are a timetable of the instance, the answer has a cost, at most theirs. Refused as `solve_sharp` is.
-    pub fn begin<O: Observer>(
+    pub fn begin<F: TimesFinder, O: Observer>(
         alloc: Global,
         instance: &Instance,
         times: &[u32],
+        finder: &mut F,
         observer: &mut O,
     ) -> Result<Going, SolveRefusal>
-        ensures valid { IfOk result (λ going. IsValidBehind going.front instance.now going.content) }
+        ensures valid { IfOk result (λ going. IsValid going.front instance.now going.content) }
         ensures plain { IfOk result (IsPlain instance.now) }
         ensures improved { IfOk result (λ going. CostsNoMore instance.now times.now going.content) }
         ensures refused { IfErr result (IsSearchRefusal instance.now 0) }
         ensures passed { IfErr result (MeetsLimit instance.now 0) }
     {
-        let FirstLook {
-            solved,
-            reduced,
-            times,
-        } = look_first(alloc, instance, times, observer)?;
+        let FirstLook { solved, reduced } = look_first(alloc, instance, times, finder, observer)?;
         let plain = without_front(solved.certificate);
-        match Proposing::begin(alloc, instance, &plain, reduced, times, Pace::Turns) {
+        match Proposing::begin(alloc, instance, &plain, reduced, Pace::Turns) {
             Ok(proposing) => Ok(Going {
                 fronted: plain,
                 base: None,
@@ -105,12 +105,17 @@ impl Going {
         }
     }
 
-    /// A search that goes on from a certificate of an instance, with or without marked walks. It has that certificate. The one
-    /// refusal is of memory.
-    pub fn begin_from(alloc: Global, instance: &Instance, base: Fronted) -> Result<Going, Memory>
+    /// A search that goes on from a certificate of an instance, with or without marked walks. It has that certificate. A finder
+    /// looks for times of what is left of the instance. The one refusal is of memory.
+    pub fn begin_from<F: TimesFinder>(
+        alloc: Global,
+        instance: &Instance,
+        base: Fronted,
+        finder: &mut F,
+    ) -> Result<Going, Memory>
         ensures { IfOk result (λ going. going ≡ base) }
     {
-        match Proposing::begin_from(alloc, instance, &base, None, Pace::Turns) {
+        match Proposing::begin_from(alloc, instance, &base, None, Pace::Turns, finder) {
             Ok(proposing) => Ok(Going {
                 fronted: base,
                 base: None,
@@ -151,19 +156,20 @@ impl Going {
     }
 
     /// Goes on until the watcher ends this piece of the search, or nothing is left to be found: leaves are split, that of least value
-    /// first, and sharpened by marked walks, and timetables are looked for. What is found is judged, and is had from then on where
-    /// it is better.
+    /// first, and sharpened by marked walks, and timetables are looked for by the finder, which is the one with which it began. What
+    /// is found is judged, and is had from then on where it is better.
     ///
     /// What it has is valid for the instance with its marked walks, its bound isn't below the one before, and its cost isn't above
     /// the one before; none counts as above every number. That holds too where a growth was refused, which is the one refusal.
-    pub fn go_on<W: SharpWatcher>(
+    pub fn go_on<F: TimesFinder, W: SharpWatcher>(
         &mut self,
         alloc: Global,
         instance: &Instance,
+        finder: &mut F,
         watcher: &mut W,
     ) -> Result<(), Memory>
-        requires { IsValidBehind self.old.front instance.now self.old.content }
-        ensures valid { IsValidBehind self.new.front instance.now self.new.content }
+        requires { IsValid self.old.front instance.now self.old.content }
+        ensures valid { IsValid self.new.front instance.now self.new.content }
         ensures no_worse { IsNoWorse self.old.content.answer self.new.content.answer }
     {
         let found = searched(
@@ -172,6 +178,7 @@ impl Going {
             &self.fronted,
             &self.base,
             &mut self.proposing,
+            finder,
             watcher,
         )?;
         if let Some(found) = found {

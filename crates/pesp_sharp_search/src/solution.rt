@@ -8,14 +8,15 @@ ghost use Rattle.pesp_sharp_search.specs.Solving.{IsSharpSolved};
 
 use crate::choice::{SharpSolved, settled, without_front};
 use crate::observer::{Observing, SharpObserver};
+use pesp_finder::TimesFinder;
 use pesp_problem::Instance;
 use pesp_search::{FirstLook, SolveRefusal, look_first};
 use pesp_sharp_proposals::propose;
 use std::alloc::Global;
 
 /// Searches for a best timetable by at most so many splits of a leaf, with leaves that marked walks sharpen, from times that are
-/// given: one for each event of the instance, in the instance's order, from 0 to one less than the period. An observer looks
-/// on.
+/// given: one for each event of the instance, in the instance's order, from 0 to one less than the period. A finder looks for
+/// times of what is left of the instance, and an observer looks on.
 ///
 /// The certificate is valid for the instance with its marked walks. Its tree has as many branches as splits are told, at most
 /// so many, and fewer than the root has room. Each branch leaves both of its parts a value of the range that it cuts. The bound
@@ -24,11 +25,12 @@ use std::alloc::Global;
 ///
 /// Refused as `TableTooLarge` or `PairsTooMany` only where the square of the number of activities is above 10000000, or that
 /// number above 20000000, and as `solve` says within 0 steps; and else as `Memory`, where a growth was refused.
-pub fn solve_sharp<O: SharpObserver>(
+pub fn solve_sharp<F: TimesFinder, O: SharpObserver>(
     alloc: Global,
     instance: &Instance,
     times: &[u32],
     steps: u32,
+    finder: &mut F,
     observer: &mut O,
 ) -> Result<SharpSolved, SolveRefusal>
     requires { steps ≤ MOST_STEPS }
@@ -38,14 +40,10 @@ pub fn solve_sharp<O: SharpObserver>(
     ensures refused { IfErr result (IsSearchRefusal instance.now 0) }
     ensures passed { IfErr result (MeetsLimit instance.now 0) }
 {
-    let FirstLook {
-        solved,
-        reduced,
-        times: search,
-    } = look_first(alloc, instance, times, observer)?;
+    let FirstLook { solved, reduced } = look_first(alloc, instance, times, finder, observer)?;
     let plain = without_front(solved.certificate);
     let watcher = &mut Observing { observer };
-    match propose(alloc, instance, &plain, reduced, search, steps, watcher) {
+    match propose(alloc, instance, &plain, reduced, steps, finder, watcher) {
         Ok(proposals) => Ok(settled(alloc, instance, plain, proposals, steps)?),
         Err(_) => {
             drop(plain);

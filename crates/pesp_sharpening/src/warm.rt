@@ -12,7 +12,7 @@ use std::alloc::AllocError;
 use std::mem::swap;
 
 /// Down to which depth inequalities are sought.
-const NEAR_ROOT: u32 = 3;
+const NEAR_ROOT: u32 = 6;
 
 /// A part of a leaf is gone on with at once within one such part of what is left to the limit.
 const WINDOW: u64 = 50;

@@ -12,9 +12,9 @@ use Rattle.pesp_cert.specs.declared.refusal.CertRefusal.TheVariants.{Header, Lin
 use Rattle.pesp_cert.specs.Texts.{spelling, HasText}
 use Rattle.pesp_works.specs.Works.{WorkValue}
 use Rattle.pesp_works.specs.Refusals.{RefusesFirst}
-use Rattle.pesp_outside.specs.declared.grafted.Reply.{Reply}
-use Rattle.pesp_outside.specs.Grafts.{IsGrafted}
-use Rattle.pesp_outside.specs.Texts.{reply_line}
+use Rattle.pesp_worker.specs.declared.grafted.Reply.{Reply}
+use Rattle.pesp_worker.specs.Grafts.{IsGrafted}
+use Rattle.pesp_worker.specs.Texts.{reply_line}
 use Rattle.pesp_worker.specs.declared.refusal.WorkRefusal.{WorkRefusal}
 use Rattle.pesp_worker.specs.declared.refusal.WorkRefusal.TheVariants.{Memory as WorkMemory, NoSuchJob}
 use Rattle.pesp_worker.specs.HandingIn.{AreWorkRefusal}

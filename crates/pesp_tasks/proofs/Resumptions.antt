@@ -3,17 +3,17 @@ use Rattle.std.proofs.Common.{inl, inr, ℕ, ◌≤◌, List, None, Some}
 use Rattle.std.specs.Prelude.{Option}
 use Rattle.pesp_problem.specs.Timetables.{Pesp}
 use Rattle.pesp_truth.specs.Certificates.{Content}
+use Rattle.pesp_truth.specs.Marks.{Marks}
 use Rattle.pesp_truth.proofs.Certificates.{valid_is_true}
-use Rattle.pesp_lemma.specs.Fronts.{Front as FrontOf}
 use Rattle.pesp_cert.specs.Texts.{spelling, HasText}
 use Rattle.pesp_cert.specs.Fronted.{Fronted}
 use Rattle.pesp_resume.specs.declared.ending.Ending.{Ending}
 use Rattle.pesp_resume.specs.Resuming.{IsResumed}
 use Rattle.pesp_resume.proofs.Resumptions.{resumed_weaker}
 use Rattle.pesp_check_run.specs.Devices.{Device, GetsFront}
-use Rattle.pesp_faults.specs.Causes.{OutCause}
-use Rattle.pesp_faults.specs.declared.fault.Fault.{Fault}
-use Rattle.pesp_faults.specs.declared.fault.Fault.TheVariants.{Instance, Certificate, Times, Names, Search, Report, Base, Works, NoJob, Memory, Read, Write, NoFile}
+use Rattle.pesp_runs.specs.Causes.{OutCause}
+use Rattle.pesp_runs.specs.declared.fault.Fault.{Fault}
+use Rattle.pesp_runs.specs.declared.fault.Fault.TheVariants.{Instance, Certificate, Times, Names, Search, Report, Base, Works, NoJob, Memory, Read, Write, NoFile}
 use Rattle.pesp_runs.specs.Bases.{ReadsSharpBase, SharpBaseCause}
 use Rattle.pesp_runs.specs.Runs.{OverBaseCause}
 use Rattle.pesp_tasks.specs.Resuming.{WritesResumed, GoesOnBy, WritesGoneOn}
@@ -45,7 +45,7 @@ written_weaker p base steps Gets f w = record {
   written = w.written;
 }
 
-pub gone_on_weaker : {A B : Type 0} (front : Option FrontOf) (p : Pesp) (base : Fronted) (steps : ℕ) (Gets : List ℕ → Type 0)
+pub gone_on_weaker : {A B : Type 0} (front : Option Marks) (p : Pesp) (base : Fronted) (steps : ℕ) (Gets : List ℕ → Type 0)
     → (A → B) → GoesOnBy front p base steps A Gets → GoesOnBy front p base steps B Gets
 gone_on_weaker None p base steps Gets f w = written_weaker p base.content steps Gets f w
 gone_on_weaker (Some marks) p base steps Gets f w = w

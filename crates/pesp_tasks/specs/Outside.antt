@@ -11,19 +11,19 @@ use Rattle.pesp_cert.specs.declared.refusal.CertRefusal.TheVariants.{Memory as C
 use Rattle.pesp_works.specs.Works.{WorkValue, spellings}
 use Rattle.pesp_works.specs.Refusals.{works_of_text}
 use Rattle.pesp_works.specs.Refusals as works_texts
-use Rattle.pesp_outside.specs.declared.jobs.OpenJob.{OpenJob}
-use Rattle.pesp_outside.specs.declared.grafted.Reply.{Reply}
-use Rattle.pesp_outside.specs.Jobs.{AreOpenJobs}
-use Rattle.pesp_outside.specs.Grafts.{IsGrafted}
-use Rattle.pesp_outside.specs.Texts.{jobs_text, reply_line}
+use Rattle.pesp_worker.specs.declared.jobs.OpenJob.{OpenJob}
+use Rattle.pesp_worker.specs.declared.grafted.Reply.{Reply}
+use Rattle.pesp_worker.specs.Jobs.{AreOpenJobs}
+use Rattle.pesp_worker.specs.Grafts.{IsGrafted}
+use Rattle.pesp_worker.specs.Texts.{jobs_text, reply_line}
 use Rattle.pesp_worker.specs.HandingIn.{AreWorksOn, AreWorkRefusal}
 use Rattle.pesp_worker.specs.declared.refusal.WorkRefusal.{WorkRefusal}
 use Rattle.pesp_worker.specs.declared.refusal.WorkRefusal.TheVariants.{Memory as WorkMemory, NoSuchJob}
 use Rattle.pesp_check_run.specs.Devices.{Device, HasFailed, GetsFront}
-use Rattle.pesp_faults.specs.Reading.{ReadsInstance, ReadsNext, ReadsBase}
-use Rattle.pesp_faults.specs.Causes.{InstanceCause, BaseCause, OutCause}
-use Rattle.pesp_faults.specs.declared.fault.Fault.{Fault}
-use Rattle.pesp_faults.specs.declared.fault.Fault.TheVariants.{Works, NoJob, Memory, Read}
+use Rattle.pesp_runs.specs.Reading.{ReadsInstance, ReadsNext, ReadsBase}
+use Rattle.pesp_runs.specs.Causes.{InstanceCause, BaseCause, OutCause}
+use Rattle.pesp_runs.specs.declared.fault.Fault.{Fault}
+use Rattle.pesp_runs.specs.declared.fault.Fault.TheVariants.{Works, NoJob, Memory, Read}
 
 -- ---- faults of these runs alone
 

@@ -3,18 +3,18 @@ use Rattle.std.specs.Prelude.{◌≡◌, ◌⊎◌, ℕ, List, Option}
 use Rattle.std.specs.Io.KnownBytes.{Appends}
 use Rattle.pesp_problem.specs.Timetables.{Pesp}
 use Rattle.pesp_cert.specs.Fronted.{Fronted}
-use Rattle.pesp_outside.specs.declared.jobs.OpenJob.{OpenJob}
-use Rattle.pesp_outside.specs.Texts.{jobs_text}
-use Rattle.pesp_sharp_outside.specs.Jobs.{AreSharpJobs, AreJobsOf}
-use Rattle.pesp_sharp_outside.specs.Keeping.{IsSharpWorked}
-use Rattle.pesp_sharp_outside.specs.Grafts.{IsSharpGrafted}
-use Rattle.pesp_sharp_outside.specs.declared.sharp_graft.SharpReply.{SharpReply}
+use Rattle.pesp_worker.specs.declared.jobs.OpenJob.{OpenJob}
+use Rattle.pesp_worker.specs.Texts.{jobs_text}
+use Rattle.pesp_sharp_search.specs.Jobs.{AreSharpJobs, AreJobsOf}
+use Rattle.pesp_sharp_search.specs.Keeping.{IsSharpWorked}
+use Rattle.pesp_sharp_search.specs.Grafts.{IsSharpGrafted}
+use Rattle.pesp_sharp_search.specs.declared.sharp_graft.SharpReply.{SharpReply}
 use Rattle.pesp_runs.specs.Bases.{ReadsSharpBase, SharpBaseCause}
 use Rattle.pesp_check_run.specs.Devices.{Device, HasFailed, GetsFront}
-use Rattle.pesp_faults.specs.Reading.{ReadsInstance, ReadsNext}
-use Rattle.pesp_faults.specs.Causes.{InstanceCause, OutCause}
-use Rattle.pesp_faults.specs.declared.fault.Fault.{Fault}
-use Rattle.pesp_faults.specs.declared.fault.Fault.TheVariants.{NoJob, Memory, Read}
+use Rattle.pesp_runs.specs.Reading.{ReadsInstance, ReadsNext}
+use Rattle.pesp_runs.specs.Causes.{InstanceCause, OutCause}
+use Rattle.pesp_runs.specs.declared.fault.Fault.{Fault}
+use Rattle.pesp_runs.specs.declared.fault.Fault.TheVariants.{NoJob, Memory, Read}
 use Rattle.pesp_tasks.specs.Outside.{IsUncalled}
 use Rattle.pesp_tasks.specs.Replies.{lines_from}
 use Rattle.pesp_tasks.specs.SharpSolving.{WritesFronted}

@@ -6,9 +6,9 @@ use Rattle.pesp_truth.specs.Certificates.{Content, shown_times}
 use Rattle.pesp_cert.specs.Texts.{spelling, HasText}
 use Rattle.pesp_search.specs.Solving.{IsSolved, CostsNoMore}
 use Rattle.pesp_check_run.specs.Devices.{Device, HasFailed, GetsFront}
-use Rattle.pesp_faults.specs.Reading.{ReadsInstance}
-use Rattle.pesp_faults.specs.Causes.{InstanceCause, SearchCause, LimitCause, OutCause}
-use Rattle.pesp_faults.specs.declared.fault.Fault.{Fault}
+use Rattle.pesp_runs.specs.Reading.{ReadsInstance}
+use Rattle.pesp_runs.specs.Causes.{InstanceCause, SearchCause, LimitCause, OutCause}
+use Rattle.pesp_runs.specs.declared.fault.Fault.{Fault}
 
 -- the writer got what the relation says of the text of a certificate that solves the instance within so many steps,
 -- from these times where there are some; its answer is true, and it costs no more than they do where they are a

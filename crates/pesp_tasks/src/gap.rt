@@ -2,9 +2,8 @@
 
 use crate::gap_text::{GapText, Told};
 use pesp_cert::Fronted;
-use pesp_faults::Fault;
 use pesp_problem::Instance;
-use pesp_runs::OnBase;
+use pesp_runs::{Fault, OnBase};
 use pesp_stream::{Sink, print_to};
 use std::alloc::Global;
 
@@ -15,7 +14,7 @@ pub struct Gap;
 
 impl OnBase for Gap {
     ghost use Rattle.std.specs.Prelude.{⊤};
-    ghost use Rattle.pesp_faults.specs.Causes.{OutCause};
+    ghost use Rattle.pesp_runs.specs.Causes.{OutCause};
     ghost use Rattle.pesp_tasks.specs.Gaps.{gap_line};
 
     type Base = Fronted;

@@ -7,9 +7,8 @@ ghost use Rattle.pesp_tasks.specs.Gaps.{points_of};
 use crate::gap_text::{Number, Told};
 use crate::savings::gap;
 use pesp_cert::Fronted;
-use pesp_faults::Fault;
 use pesp_problem::Instance;
-use pesp_runs::OnBase;
+use pesp_runs::{Fault, OnBase};
 use pesp_stream::{Output, Printed, Sink, print_to};
 use pesp_truth::Answer;
 use std::alloc::Global;
@@ -128,7 +127,7 @@ impl Printed for GapObject {
 
 impl OnBase for GapJson {
     ghost use Rattle.std.specs.Prelude.{⊤};
-    ghost use Rattle.pesp_faults.specs.Causes.{OutCause};
+    ghost use Rattle.pesp_runs.specs.Causes.{OutCause};
     ghost use Rattle.pesp_tasks.specs.Gaps.{gap_json};
 
     type Base = Fronted;

@@ -5,15 +5,15 @@ ghost use Rattle.std.specs.Io.KnownBytes.{Appends};
 ghost use Rattle.pesp_stream.specs.Counts.{FewerThan, HasWorked};
 ghost use Rattle.pesp_truth.specs.Certificates.{IsValid};
 ghost use Rattle.pesp_check_run.specs.Devices.{over};
-ghost use Rattle.pesp_faults.specs.Reading.{HasBase};
-ghost use Rattle.pesp_faults.specs.Causes.{OutCause};
+ghost use Rattle.pesp_runs.specs.Reading.{HasBase};
+ghost use Rattle.pesp_runs.specs.Causes.{OutCause};
 ghost use Rattle.pesp_tasks.specs.Outside.{works_fault, ReadsWorks, WorksCause, WritesGraft, Grafts, GraftCause, CutsGraft};
 
 use pesp_cert::{CertRefusal, Certificate, print};
-use pesp_faults::{Fault, MOST_TEXT, read_base, read_whole_instance};
-use pesp_outside::{RepliesText, graft};
 use pesp_problem::Instance;
+use pesp_runs::{Fault, MOST_TEXT, read_base, read_whole_instance};
 use pesp_stream::{Sink, Source, print_to, read_all};
+use pesp_worker::{RepliesText, graft};
 use pesp_works::{WorkText, parse_works};
 use std::alloc::Global;
 

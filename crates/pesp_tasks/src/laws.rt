@@ -9,7 +9,7 @@ ghost use Rattle.pesp_judges.specs.declared.refusal.Verdict.TheVariants.{Accepte
 ghost use Rattle.pesp_cert_lines.specs.declared.versions.Versions.TheVariants.{Plain, All};
 ghost use Rattle.pesp_cert_items.specs.Texts.{RefusesText};
 ghost use Rattle.pesp_check_run.specs.Checking.{Checks, RefusesInstance};
-ghost use Rattle.pesp_faults.specs.Reading.{HasBase, ReadsTimetable};
+ghost use Rattle.pesp_runs.specs.Reading.{HasBase, ReadsTimetable};
 ghost use Rattle.pesp_runs.specs.Bases.{ReadsSharpBase};
 ghost use Rattle.pesp_runs.specs.Runs.{OverBase};
 ghost use Rattle.pesp_tasks.specs.Solving.{Solves, WritesSolution};

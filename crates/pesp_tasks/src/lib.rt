@@ -30,6 +30,6 @@ pub use sharp_resume::ResumeSharp;
 pub use sharp_solve::SolveSharp;
 pub use sharp_split::SplitSharp;
 pub use sharp_work::WorkSharp;
-pub use solve::{Solve, run_solve};
+pub use solve::Solve;
 pub use split::{Split, run_split};
-pub use work::{Work, run_work};
+pub use work::Work;

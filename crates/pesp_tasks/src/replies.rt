@@ -5,7 +5,7 @@ ghost use Rattle.pesp_tasks.specs.Replies.{reply_line, lines_from};
 
 use pesp_check_run::RefusalText;
 use pesp_problem::Memory;
-use pesp_sharp_outside::SharpReply;
+use pesp_sharp_search::SharpReply;
 use std::alloc::Global;
 use std::fmt;
 

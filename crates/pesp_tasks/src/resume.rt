@@ -5,39 +5,41 @@ ghost use Rattle.std.specs.Io.KnownBytes.{Appends};
 ghost use Rattle.pesp_stream.specs.Counts.{FewerThan, HasWorked};
 ghost use Rattle.pesp_truth.specs.Certificates.{IsValid};
 ghost use Rattle.pesp_check_run.specs.Devices.{over, HasFailed, GetsFront};
-ghost use Rattle.pesp_faults.specs.Causes.{OutCause};
+ghost use Rattle.pesp_runs.specs.Causes.{OutCause};
 ghost use Rattle.pesp_tasks.specs.Resuming.{WritesResumed};
 
 use crate::sharp_resume::write_sharply;
 use pesp_cert::{Certificate, Fronted, print};
-use pesp_faults::Fault;
+use pesp_finder::TimesFinder;
 use pesp_problem::Instance;
 use pesp_resume::{Watcher, resume};
-use pesp_runs::OnBase;
+use pesp_runs::{Fault, OnBase};
 use pesp_sharp_search::SharpWatcher;
 use pesp_stream::Sink;
 use std::alloc::Global;
 
-/// A search that goes on from a certificate by at most so many splits of open leaves, as long as the watcher lets it, and writes
-/// the certificate that comes of it. From one with marked walks it goes on as `ResumeSharp` does, of which less is promised; what
-/// follows is of one without.
+/// A search that goes on from a certificate by at most so many splits of open leaves, while a finder looks for times, as long as the
+/// watcher lets it, and writes the certificate that comes of it. From one with marked walks it goes on as `ResumeSharp` does, of
+/// which less is promised; what follows is of one without.
 ///
 /// What is written is the text of a valid certificate, whose answer is true. Its bound isn't below that of the certificate read,
 /// and its cost isn't above it; none counts as above every number. Its tree has at most so many branches more, and fewer only
 /// where nothing is left to split at a leaf that is worth less than the best times, where a limit is met, or where the watcher
 /// ended it. No limit of a search stops it: where the tree would pass one, what stands by then is written.
 #[derive(Drop)]
-pub struct Resume<T> {
+pub struct Resume<F, T> {
     pub steps: u32,
+    pub finder: F,
     pub watcher: T,
 }
 
 /// Goes on from a certificate without a front, and writes what comes of it.
-fn write_plainly<T: Watcher, W: Sink>(
+fn write_plainly<F: TimesFinder, T: Watcher, W: Sink>(
     alloc: Global,
     instance: &Instance,
     base: Certificate,
     steps: u32,
+    finder: &mut F,
     watcher: &mut T,
     writer: &mut W,
 ) -> Result<(), Fault>
@@ -55,16 +57,16 @@ fn write_plainly<T: Watcher, W: Sink>(
     ensures silent { IfErr result (λ fault. fault ≢ Fault.Write → writer.new ≡ writer.old) }
 {
     instance.period();
-    let resumed = resume(alloc, instance, &base, steps, watcher);
+    let resumed = resume(alloc, instance, &base, steps, finder, watcher);
     drop(base);
     let resumed = resumed?;
     print(&resumed.certificate, writer)?;
     Ok(())
 }
 
-impl<T: Watcher + SharpWatcher> OnBase for Resume<T> {
+impl<F: TimesFinder, T: Watcher + SharpWatcher> OnBase for Resume<F, T> {
     ghost use Rattle.std.specs.Prelude.{⊤};
-    ghost use Rattle.pesp_faults.specs.Causes.{OutCause};
+    ghost use Rattle.pesp_runs.specs.Causes.{OutCause};
     ghost use Rattle.pesp_tasks.specs.Resuming.{WritesGoneOn};
 
     type Base = Fronted;
@@ -83,20 +85,22 @@ impl<T: Watcher + SharpWatcher> OnBase for Resume<T> {
         base: Fronted,
         writer: &mut W,
     ) -> Result<(), Fault> {
+        let Resume {
+            steps,
+            finder,
+            watcher,
+        } = self;
+        let steps = *steps;
         let Fronted { front, certificate } = base;
         match front {
-            None => write_plainly(
-                alloc,
-                instance,
-                certificate,
-                self.steps,
-                &mut self.watcher,
-                writer,
-            ),
+            None => {
+                let base = certificate;
+                write_plainly(alloc, instance, base, steps, finder, watcher, writer)
+            }
             Some(marks) => {
                 let front = Some(marks);
                 let base = Fronted { front, certificate };
-                write_sharply(alloc, instance, base, self.steps, &mut self.watcher, writer)
+                write_sharply(alloc, instance, base, steps, finder, watcher, writer)
             }
         }
     }

@@ -6,7 +6,7 @@ ghost use Rattle.pesp_stream.specs.Counts.{FewerThan, HasWorked};
 ghost use Rattle.pesp_check_run.specs.Devices.{over};
 ghost use Rattle.pesp_problem.specs.declared.limits.TheConstants.{MOST_TEXT};
 ghost use Rattle.pesp_stream.specs.Reading.{ReadsText};
-ghost use Rattle.pesp_faults.specs.Causes.{OutCause};
+ghost use Rattle.pesp_runs.specs.Causes.{OutCause};
 ghost use Rattle.pesp_runs.specs.Bases.{IsSharpBase, ReadsSharpBase};
 ghost use Rattle.pesp_runs.specs.Runs.{OverBase};
 ghost use Rattle.pesp_tasks.specs.SharpOutside.{WritesSharpGraft, GraftsSharp, CutsSharpGraft, SharpWorksCause, GraftSharpCause};
@@ -14,10 +14,9 @@ ghost use Rattle.pesp_tasks.specs.SharpOutside.{WritesSharpGraft, GraftsSharp, C
 use crate::fronted::vouch;
 use crate::replies::lines_of;
 use pesp_cert::{Fronted, print_fronted};
-use pesp_faults::{Fault, MOST_TEXT, read_whole_instance};
 use pesp_problem::Instance;
-use pesp_runs::Base;
-use pesp_sharp_outside::graft_sharp;
+use pesp_runs::{Base, Fault, MOST_TEXT, read_whole_instance};
+use pesp_sharp_search::graft_sharp;
 use pesp_stream::{Bytes, Sink, Source, print_to, read_all};
 use std::alloc::Global;
 

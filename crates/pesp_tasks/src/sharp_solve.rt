@@ -2,27 +2,28 @@
 
 use crate::fronted::vouch;
 use pesp_cert::print_fronted;
-use pesp_faults::Fault;
+use pesp_finder::TimesFinder;
 use pesp_problem::Instance;
-use pesp_runs::Search;
+use pesp_runs::{Fault, Search};
 use pesp_sharp_search::{SharpObserver, solve_sharp};
 use pesp_stream::Sink;
 use std::alloc::Global;
 
-/// A search by at most so many splits of a leaf, with leaves that marked walks sharpen, while an observer looks on, which writes a
-/// certificate of what was found, with a front where it has one.
+/// A search by at most so many splits of a leaf, with leaves that marked walks sharpen, while a finder looks for times and an observer
+/// looks on, which writes a certificate of what was found, with a front where it has one.
 ///
 /// What is written is the text of a certificate that is valid for the instance with its marked walks, so its answer is true. Its
 /// tree has at most so many branches. From times that are a timetable it has a cost, at most theirs. `Search` where the instance's
 /// cycles or the pairs of the root pass their limits, which they can only where the square of the number of rows is above 10000000,
 /// or the number of rows above 20000000.
 #[derive(Drop)]
-pub struct SolveSharp<O> {
+pub struct SolveSharp<F, O> {
     pub steps: u32,
+    pub finder: F,
     pub observer: O,
 }
 
-impl<O: SharpObserver> Search for SolveSharp<O> {
+impl<F: TimesFinder, O: SharpObserver> Search for SolveSharp<F, O> {
     ghost use Rattle.std.specs.Prelude.{◌≤◌};
     ghost use Rattle.pesp_problem.specs.declared.limits.TheConstants.{MOST_STEPS};
     ghost use Rattle.pesp_tasks.specs.Solving.{SolutionStops};
@@ -42,7 +43,12 @@ impl<O: SharpObserver> Search for SolveSharp<O> {
         times: &[u32],
         writer: &mut W,
     ) -> Result<(), Fault> {
-        let found = solve_sharp(alloc, instance, times, self.steps, &mut self.observer)?;
+        let SolveSharp {
+            steps,
+            finder,
+            observer,
+        } = self;
+        let found = solve_sharp(alloc, instance, times, *steps, finder, observer)?;
         vouch(instance, &found.fronted);
         print_fronted(&found.fronted, writer)?;
         Ok(())

@@ -1,10 +1,9 @@
 //! The open leaves of a certificate that may have a front, as jobs.
 
 use pesp_cert::Fronted;
-use pesp_faults::Fault;
 use pesp_problem::Instance;
-use pesp_runs::OnBase;
-use pesp_sharp_outside::{JobsText, sharp_jobs};
+use pesp_runs::{Fault, OnBase};
+use pesp_sharp_search::{JobsText, sharp_jobs};
 use pesp_stream::{Sink, print_to};
 use std::alloc::Global;
 
@@ -15,7 +14,7 @@ pub struct SplitSharp;
 
 impl OnBase for SplitSharp {
     ghost use Rattle.std.specs.Prelude.{⊤};
-    ghost use Rattle.pesp_faults.specs.Causes.{OutCause};
+    ghost use Rattle.pesp_runs.specs.Causes.{OutCause};
     ghost use Rattle.pesp_tasks.specs.SharpOutside.{WritesSharpJobs};
 
     type Base = Fronted;

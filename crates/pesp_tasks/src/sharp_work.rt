@@ -2,26 +2,27 @@
 
 use crate::fronted::vouch;
 use pesp_cert::{Fronted, print_fronted};
-use pesp_faults::Fault;
+use pesp_finder::TimesFinder;
 use pesp_problem::Instance;
-use pesp_runs::OnBase;
-use pesp_sharp_outside::{Unwatched, work_sharp};
+use pesp_runs::{Fault, OnBase};
+use pesp_sharp_search::{Unwatched, work_sharp};
 use pesp_stream::Sink;
 use std::alloc::Global;
 
 /// Work on the open leaves of these numbers, which rise, of a certificate with a front or without, by at most so many splits in all of
-/// leaves below the bound, where one is named; the certificate that comes of it is written. `NoJob` where no more leaves than one of
-/// the numbers are open.
-#[derive(Clone, Copy)]
-pub struct WorkSharp<'a> {
+/// leaves below the bound, where one is named, while a finder looks for times; the certificate that comes of it is written. `NoJob`
+/// where no more leaves than one of the numbers are open.
+#[derive(Drop)]
+pub struct WorkSharp<'a, F> {
     pub steps: u32,
     pub until: Option<u64>,
     pub jobs: &'a [u64],
+    pub finder: F,
 }
 
-impl OnBase for WorkSharp<'_> {
+impl<F: TimesFinder> OnBase for WorkSharp<'_, F> {
     ghost use Rattle.std.specs.Prelude.{◌⊎◌, ⊤};
-    ghost use Rattle.pesp_faults.specs.Causes.{OutCause};
+    ghost use Rattle.pesp_runs.specs.Causes.{OutCause};
     ghost use Rattle.pesp_tasks.specs.SharpOutside.{SharpJobCause, WritesSharpWork};
 
     type Base = Fronted;
@@ -39,8 +40,14 @@ impl OnBase for WorkSharp<'_> {
         base: Fronted,
         writer: &mut W,
     ) -> Result<(), Fault> {
-        let WorkSharp { steps, until, jobs } = *self;
-        match work_sharp(alloc, instance, base, jobs, steps, until, &mut Unwatched)? {
+        let WorkSharp {
+            steps,
+            until,
+            jobs,
+            finder,
+        } = self;
+        let watcher = &mut Unwatched;
+        match work_sharp(alloc, instance, base, jobs, *steps, *until, finder, watcher)? {
             Some(fronted) => {
                 vouch(instance, &fronted);
                 print_fronted(&fronted, writer)?;

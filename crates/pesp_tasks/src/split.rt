@@ -4,15 +4,14 @@ ghost use Rattle.std.specs.Prelude.{◌≡◌, ◌≢◌, ◌<◌, ◌^◌, OnOk
 ghost use Rattle.std.specs.Io.KnownBytes.{Appends};
 ghost use Rattle.pesp_stream.specs.Counts.{FewerThan, HasWorked};
 ghost use Rattle.pesp_check_run.specs.Devices.{over};
-ghost use Rattle.pesp_faults.specs.Reading.{HasBase};
+ghost use Rattle.pesp_runs.specs.Reading.{HasBase};
 ghost use Rattle.pesp_tasks.specs.Outside.{WritesJobs, SplitCause};
 
 use pesp_cert::Certificate;
-use pesp_faults::Fault;
-use pesp_outside::{JobsText, open_jobs};
 use pesp_problem::Instance;
-use pesp_runs::{OnBase, run_on_base};
+use pesp_runs::{Fault, OnBase, run_on_base};
 use pesp_stream::{Sink, Source, print_to};
+use pesp_worker::{JobsText, open_jobs};
 use std::alloc::Global;
 
 /// The open leaves of a certificate as jobs, numbered from 0 in the order of the tree's lines, each with its value and the path to it.
@@ -21,7 +20,7 @@ pub struct Split;
 
 impl OnBase for Split {
     ghost use Rattle.std.specs.Prelude.{⊤};
-    ghost use Rattle.pesp_faults.specs.Causes.{OutCause};
+    ghost use Rattle.pesp_runs.specs.Causes.{OutCause};
     ghost use Rattle.pesp_tasks.specs.Outside.{WritesJobs};
 
     type Base = Certificate;

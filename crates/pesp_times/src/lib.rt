@@ -5,9 +5,11 @@
 
 mod balls;
 mod batches;
-mod effort;
+mod grown;
 mod individuals;
 mod kinds;
+mod looking;
+mod marks;
 mod merges;
 mod order;
 mod pieces;
@@ -15,5 +17,4 @@ mod search;
 mod times_search;
 mod work;
 
-pub use effort::Effort;
 pub use times_search::TimesSearch;

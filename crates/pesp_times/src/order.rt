@@ -1,25 +1,25 @@
 //! One order of a network's events and rows, whatever order they came in.
 
+use crate::grown::grown;
+use crate::marks::{mark, marks_of};
 use pesp_network::{NetRefusal, NetRow, Network};
 use pesp_problem::Memory;
-use pesp_search_tools::Random;
 use pesp_search_tools::guarded::number;
 use std::alloc::{AllocError, Global};
-
-/// How often each event is marked anew by the marks of those around it.
-const ROUNDS: u32 = 16;
-
-/// A number by which a row's head sees another mark than its tail.
-const AT_HEAD: u64 = 0x9e37_79b9_7f4a_7c15;
-
-/// The marks that all events begin with.
-const FIRST_MARK: u64 = 87;
 
 /// From how many rows on a network comes in one order: with fewer the best is found in any.
 const FEWEST_ORDERED: usize = 121;
 
-/// Up to how many. With more the order of the lines says what belongs together, and leads to cheaper timetables.
-const MOST_ORDERED: usize = 700;
+/// Up to how many rows events stand in the order of their marks. With more, those that belong together stand near each other.
+const MOST_BY_MARKS: usize = 700;
+
+/// Up to how many rows a network comes in one order. With more the order of the lines stays: it says what belongs together.
+const MOST_ORDERED: usize = 2_500;
+
+/// The marks that all events begin with where they stand in the order of their marks, and elsewhere.
+const FIRST_MARK: u64 = 87;
+
+const FIRST_MARK_OF_MANY: u64 = 4;
 
 /// A network in one order, and the place that each event of the other one has there.
 #[derive(Drop)]
@@ -28,53 +28,27 @@ pub(crate) struct Ordered {
     places: Vec<u32>,
 }
 
-/// A number drawn by another one.
-fn drawn_by(number: u64) -> u64 {
-    Random::new(number).next()
+/// The events in the order of their marks.
+fn by_marks(alloc: Global, events: u32, marks: &[u64]) -> Result<Vec<u32>, AllocError> {
+    let mut order: Vec<u32> = (0..events).collect(alloc)?;
+    order.sort_unstable_by_key(|event| (mark(marks, *event), *event));
+    Ok(order)
 }
 
-/// A mark of an event.
-fn mark(marks: &[u64], event: u32) -> u64 {
-    marks.get(event as usize).copied().unwrap_or(0)
-}
-
-/// Adds to the mark of an event.
-fn add(marks: &mut [u64], event: u32, seen: u64) {
-    if let Some(mark) = marks.get_mut(event as usize) {
-        *mark = mark.wrapping_add(seen);
+/// The events in one order.
+fn order_of(alloc: Global, network: &Network) -> Result<Vec<u32>, AllocError> {
+    if network.rows().len() <= MOST_BY_MARKS {
+        let marks = marks_of(alloc, network, FIRST_MARK)?;
+        return by_marks(alloc, network.events(), &marks);
     }
+    let marks = marks_of(alloc, network, FIRST_MARK_OF_MANY)?;
+    let starts = by_marks(alloc, network.events(), &marks)?;
+    grown(alloc, network, &marks, &starts)
 }
 
-/// Adds what the ends of each row see of each other along it: its span, its weight and the other's mark.
-fn look_around(rows: &[NetRow], before: &[u64], marks: &mut [u64]) {
-    for row in rows {
-        let kind = row
-            .weight
-            .wrapping_shl(16)
-            .wrapping_add(u64::from(row.span));
-        let at_tail = kind.wrapping_add(mark(before, row.head));
-        let at_head = (kind ^ AT_HEAD).wrapping_add(mark(before, row.tail));
-        add(marks, row.tail, drawn_by(at_tail));
-        add(marks, row.head, drawn_by(at_head));
-    }
-}
-
-/// Marks of the events, by what is around them (Weisfeiler and Leman 1968): events that differ in that have, but for chance, marks
-/// of their own.
-fn marks_of(alloc: Global, network: &Network) -> Result<Vec<u64>, AllocError> {
-    let mut marks = vec![in alloc; FIRST_MARK; network.events() as usize]?;
-    for _ in 0..ROUNDS {
-        let before = Vec::from_slice(alloc, &marks)?;
-        look_around(network.rows(), &before, &mut marks);
-    }
-    Ok(marks)
-}
-
-/// The places of the events in the order of their marks.
+/// The places of the events in one order.
 fn places_of(alloc: Global, network: &Network) -> Result<Vec<u32>, AllocError> {
-    let marks = marks_of(alloc, network)?;
-    let mut order: Vec<u32> = (0..network.events()).collect(alloc)?;
-    order.sort_unstable_by_key(|event| (mark(&marks, *event), *event));
+    let order = order_of(alloc, network)?;
     let mut places = vec![in alloc; 0u32; order.len()]?;
     for (place, event) in order.iter().enumerate() {
         if let Some(slot) = places.get_mut(*event as usize) {

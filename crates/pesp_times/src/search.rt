@@ -1,9 +1,9 @@
 //! The search for timetables of one network, and the best that it found.
 
-use crate::effort::Effort;
 use crate::kinds::{Kinds, Start};
 use crate::pieces::Pieces;
 use crate::work::{Work, may_win};
+use pesp_finder::Effort;
 use pesp_forest::Frame;
 use pesp_network::Network;
 use pesp_problem::Memory;

@@ -1,84 +1,112 @@
-//! The search for timetables of one network, by a copy of it.
+//! The search for timetables, of one network after the other.
 
-use crate::effort::Effort;
-use crate::order::Ordered;
-use crate::search::Search;
+use crate::looking::Looking;
+use pesp_finder::{Effort, TimesFinder};
 use pesp_network::Network;
 use pesp_problem::Memory;
 use std::alloc::Global;
+use std::mem::replace;
 
-/// The search for timetables of one network. It goes by a copy of it; where there are neither few rows nor many, events and rows
-/// have one order there, so that what it finds doesn't depend on theirs.
+/// The search for timetables of a network, once one is named.
 #[derive(Drop)]
 pub struct TimesSearch {
     alloc: Global,
-    ordered: Ordered,
-    search: Search,
+    looking: Option<Looking>,
 }
 
 impl TimesSearch {
-    /// A search that has found nothing yet.
-    pub fn new(alloc: Global, network: &Network) -> Result<TimesSearch, Memory> {
-        let ordered = Ordered::of(alloc, network)?;
-        let search = Search::new(alloc, &ordered.network)?;
-        Ok(TimesSearch {
+    /// A search that has no network yet.
+    pub fn new(alloc: Global) -> TimesSearch {
+        TimesSearch {
             alloc,
-            ordered,
-            search,
-        })
+            looking: None,
+        }
     }
 
-    /// So much is done before the first step.
-    pub fn set_effort(&mut self, effort: Effort) {
-        self.search.set_effort(effort);
+    /// Has this in the place of what it looked for.
+    fn turn_to(&mut self, looking: Option<Looking>) {
+        drop(replace(&mut self.looking, looking));
+    }
+}
+
+impl TimesFinder for TimesSearch {
+    fn look_at(&mut self, network: &Network) -> Result<(), Memory> {
+        self.turn_to(None);
+        let looking = Looking::at(self.alloc, network)?;
+        self.turn_to(Some(looking));
+        Ok(())
     }
 
-    /// What is found before the first step of a search. It doesn't depend on any step limit.
-    pub fn begin(&mut self) -> Result<(), Memory> {
-        self.search.begin(&self.ordered.network)
+    fn is_looking(&self) -> bool {
+        self.looking.is_some()
     }
 
-    /// Whether the first batch is made piece by piece and isn't over.
-    pub fn owes_first(&self) -> bool {
-        self.search.owes_first()
+    fn set_effort(&mut self, effort: Effort) {
+        if let Some(looking) = &mut self.looking {
+            looking.set_effort(effort);
+        }
     }
 
-    /// Makes what is left of the first batch, where it is made piece by piece.
-    pub fn end_first(&mut self) -> Result<(), Memory> {
-        self.search.end_first(&self.ordered.network)
+    fn begin(&mut self) -> Result<(), Memory> {
+        match &mut self.looking {
+            Some(looking) => looking.begin(),
+            None => Ok(()),
+        }
     }
 
-    /// What is found after so many steps (128, 256, 512 and so on).
-    pub fn go_on(&mut self, steps: u32) -> Result<(), Memory> {
-        self.search.go_on(&self.ordered.network, steps)
+    fn owes_first(&self) -> bool {
+        match &self.looking {
+            Some(looking) => looking.owes_first(),
+            None => false,
+        }
     }
 
-    /// Takes times that were met elsewhere as an individual of the next batch; does nothing where they are no timetable.
-    pub fn take(&mut self, times: Vec<u32>) -> Result<(), Memory> {
-        let placed = self.ordered.to_places(self.alloc, &times)?;
-        self.search.take(&self.ordered.network, placed)
+    fn end_first(&mut self) -> Result<(), Memory> {
+        match &mut self.looking {
+            Some(looking) => looking.end_first(),
+            None => Ok(()),
+        }
     }
 
-    /// The cheapest times that were found.
-    pub fn best(&self) -> Result<Option<Vec<u32>>, Memory> {
-        let Some((times, _)) = self.search.best() else {
-            return Ok(None);
-        };
-        Ok(Some(self.ordered.from_places(self.alloc, times)?))
+    fn go_on(&mut self, steps: u32) -> Result<(), Memory> {
+        match &mut self.looking {
+            Some(looking) => looking.go_on(steps),
+            None => Ok(()),
+        }
     }
 
-    /// How many numbers were looked at so far, about: a measure of work that needs no clock.
-    pub fn work(&self) -> u64 {
-        self.search.work()
+    fn take(&mut self, times: Vec<u32>) -> Result<(), Memory> {
+        match &mut self.looking {
+            Some(looking) => looking.take(times),
+            None => Ok(()),
+        }
     }
 
-    /// Whether an anneal has begun that isn't over.
-    pub fn is_annealing(&self) -> bool {
-        self.search.is_annealing()
+    fn best(&self) -> Result<Option<Vec<u32>>, Memory> {
+        match &self.looking {
+            Some(looking) => looking.best(),
+            None => Ok(None),
+        }
     }
 
-    /// Makes the next piece of a batch; where a batch is over, of the next one.
-    pub fn make_piece(&mut self) -> Result<(), Memory> {
-        self.search.make_piece(&self.ordered.network)
+    fn work(&self) -> u64 {
+        match &self.looking {
+            Some(looking) => looking.work(),
+            None => 0,
+        }
+    }
+
+    fn is_annealing(&self) -> bool {
+        match &self.looking {
+            Some(looking) => looking.is_annealing(),
+            None => false,
+        }
+    }
+
+    fn make_piece(&mut self) -> Result<(), Memory> {
+        match &mut self.looking {
+            Some(looking) => looking.make_piece(),
+            None => Ok(()),
+        }
     }
 }

@@ -14,18 +14,21 @@ use crate::known::Known;
 use crate::observer::Observer;
 use crate::turn::{Turn, take_turn};
 use pesp_board::Board;
-use pesp_branching::Proposer;
+use pesp_finder::TimesFinder;
 use pesp_problem::Memory;
+use pesp_strategy::Strategy;
 use std::alloc::Global;
 
-/// Takes turns until so many leaves were split, or none can be lent any more; so many were split before. An observer looks on.
-pub(crate) fn run_turns<O: Observer>(
+/// Takes turns until so many leaves were split, or none can be lent any more; so many were split before. A finder looks for times,
+/// and an observer looks on.
+pub(crate) fn run_turns<F: TimesFinder, O: Observer>(
     alloc: Global,
     board: &mut Board,
     known: &Known,
-    proposer: &mut Proposer,
+    strategy: &mut Option<Strategy>,
     before: u32,
     steps: u32,
+    finder: &mut F,
     observer: &mut O,
 ) -> Result<Ended, Memory>
     requires known { IsKnown board.old.problem known.now }
@@ -51,7 +54,8 @@ pub(crate) fn run_turns<O: Observer>(
                 ending: Ending::StepsUsed,
             });
         }
-        match take_turn(alloc, board, known, proposer, splits.saturating_add(1))? {
+        let after = splits.saturating_add(1);
+        match take_turn(alloc, board, known, strategy, after, finder)? {
             Turn::Split => used += 1,
             Turn::Closed => {}
             Turn::GivenUp => {}

@@ -15,34 +15,36 @@ use crate::ending::{Ended, Ending};
 use crate::known::{Known, known_of};
 use crate::observer::Observer;
 use crate::original_forest::replanted;
-use crate::proposers::proposer_for;
+use crate::strategies::strategy_for;
 use crate::turn::{Turn, take_turn};
 use pesp_board::Board;
-use pesp_branching::Proposer;
+use pesp_finder::TimesFinder;
 use pesp_problem::{Instance, Memory};
+use pesp_strategy::Strategy;
 use std::alloc::Global;
 
-/// A board in any state, what is known of its problem, what proposes cuts and times, and how many leaves were split so far.
+/// A board in any state, what is known of its problem, what proposes cuts where its cycles are those of a forest of what is left of
+/// the instance, and how many leaves were split so far.
 #[derive(Drop)]
 pub struct Search {
     pub board: Board,
     pub known: Known,
-    pub proposer: Proposer,
+    pub strategy: Option<Strategy>,
     pub used: u32,
 }
 
-/// What is known of the board's problem, and what proposes cuts and times for it.
-fn known_and_proposer(
+/// What is known of the board's problem, and what proposes cuts for it.
+fn known_and_strategy(
     alloc: Global,
     instance: &Instance,
     board: &Board,
-) -> Result<(Known, Proposer), Memory>
+) -> Result<(Known, Option<Strategy>), Memory>
     ensures { IfOk result (λ made. IsKnown board.now.problem made.0) }
 {
     let reduced = replanted(alloc, instance, board.problem().table())?;
     let known = known_of(alloc, board.problem(), reduced)?;
-    match proposer_for(alloc, &known, board) {
-        Ok(proposer) => Ok((known, proposer)),
+    match strategy_for(alloc, &known, board.problem()) {
+        Ok(strategy) => Ok((known, strategy)),
         Err(refused) => {
             drop(known);
             Err(refused)
@@ -70,7 +72,7 @@ fn ended_by(turn: Turn) -> Ended
 
 impl Search {
     /// A search that goes on from a board in any state. Cuts are proposed where the cycles are lifted fundamental walks of a
-    /// forest of what is left of the instance, and times are looked for where the board has none.
+    /// forest of what is left of the instance.
     ///
     /// Refused where a growth is refused.
     pub fn on(alloc: Global, instance: &Instance, board: Board) -> Result<Search, Memory>
@@ -78,11 +80,11 @@ impl Search {
         ensures known { IfOk result (λ search. IsKnown board.problem search.known) }
         ensures used { IfOk result (λ search. search.used ≡ 0) }
     {
-        match known_and_proposer(alloc, instance, &board) {
-            Ok((known, proposer)) => Ok(Search {
+        match known_and_strategy(alloc, instance, &board) {
+            Ok((known, strategy)) => Ok(Search {
                 board,
                 known,
-                proposer,
+                strategy,
                 used: 0,
             }),
             Err(refused) => {
@@ -92,14 +94,15 @@ impl Search {
         }
     }
 
-    /// Takes turns on the open leaves, of least value first, until so many were split, or none can be lent any more. An
-    /// observer looks on.
+    /// Takes turns on the open leaves, of least value first, until so many were split, or none can be lent any more. A finder
+    /// looks for times of what is left of the instance, and an observer looks on.
     ///
     /// Refused where a growth is refused.
-    pub fn run<O: Observer>(
+    pub fn run<F: TimesFinder, O: Observer>(
         &mut self,
         alloc: Global,
         steps: u32,
+        finder: &mut F,
         observer: &mut O,
     ) -> Result<Ended, Memory>
         requires known { IsKnown self.old.board.problem self.old.known }
@@ -122,18 +125,25 @@ impl Search {
         let Search {
             board,
             known,
-            proposer,
+            strategy,
             used,
         } = self;
-        let ended = run_turns(alloc, board, known, proposer, *used, steps, observer)?;
+        let ended = run_turns(
+            alloc, board, known, strategy, *used, steps, finder, observer,
+        )?;
         *used = used.saturating_add(ended.used);
         Ok(ended)
     }
 
     /// Takes one turn on an open leaf of least value: `StepsUsed` where it was split, `TurnsUsed` where it was closed or laid aside.
+    /// A finder looks for times of what is left of the instance.
     ///
     /// Refused where a growth is refused.
-    pub fn take_turn(&mut self, alloc: Global) -> Result<Ended, Memory>
+    pub fn take_turn<F: TimesFinder>(
+        &mut self,
+        alloc: Global,
+        finder: &mut F,
+    ) -> Result<Ended, Memory>
         requires { IsKnown self.old.board.problem self.old.known }
         ensures problem { self.new.board.problem ≡ self.old.board.problem }
         ensures known { self.new.known ≡ self.old.known }
@@ -147,10 +157,11 @@ impl Search {
         let Search {
             board,
             known,
-            proposer,
+            strategy,
             used,
         } = self;
-        let turn = take_turn(alloc, board, known, proposer, used.saturating_add(1))?;
+        let after = used.saturating_add(1);
+        let turn = take_turn(alloc, board, known, strategy, after, finder)?;
         let ended = ended_by(turn);
         *used = used.saturating_add(ended.used);
         Ok(ended)

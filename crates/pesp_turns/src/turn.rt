@@ -11,8 +11,10 @@ use crate::known::Known;
 use crate::leaf_split::split_leaf;
 use crate::path_node::node_from;
 use pesp_board::{Board, Job, LendRefusal};
-use pesp_branching::{Advised, Proposer, ask, choose, offer_met};
+use pesp_branching::{Advised, ask, choose, offer_met};
+use pesp_finder::TimesFinder;
 use pesp_problem::Memory;
+use pesp_strategy::Strategy;
 use std::alloc::Global;
 
 /// What a turn did: it split a leaf; it closed one, by a cycle that has no offset left or by times that cost no more than it is
@@ -26,13 +28,14 @@ pub(crate) enum Turn {
 }
 
 /// Splits the leaf that was just lent where something is left to cut at its node, as is proposed; else closes it.
-fn turn_on(
+fn turn_on<F: TimesFinder>(
     alloc: Global,
     board: &mut Board,
     known: &Known,
-    proposer: &mut Proposer,
+    strategy: &mut Option<Strategy>,
     job: &Job,
     splits: u32,
+    finder: &mut F,
 ) -> Result<Turn, Memory>
     requires known { IsKnown board.old.problem known.now }
     requires lent { IsJustLent board.old.problem board.old.state job.now }
@@ -43,7 +46,7 @@ fn turn_on(
 {
     let reduced = &known.reduced;
     let node = node_from(alloc, &known.root, &job.path)?;
-    let Advised { cut, met } = ask(alloc, proposer, board, reduced, job, &node)?;
+    let Advised { cut, met } = ask(alloc, strategy, board, reduced, job, &node)?;
     let Some(choice) = choose(board.problem(), &node, &known.passed, cut) else {
         return close_at(alloc, board, reduced, job, &node);
     };
@@ -51,17 +54,18 @@ fn turn_on(
     if !taken {
         return Ok(Turn::Over(Ending::TreeTooLarge));
     }
-    offer_met(alloc, board, reduced, &mut proposer.times, met, splits)?;
+    offer_met(alloc, board, reduced, finder, met, splits)?;
     Ok(Turn::Split)
 }
 
 /// Lends an open leaf, and splits or closes it; where it is split, as many leaves are split then.
-pub(crate) fn take_turn(
+pub(crate) fn take_turn<F: TimesFinder>(
     alloc: Global,
     board: &mut Board,
     known: &Known,
-    proposer: &mut Proposer,
+    strategy: &mut Option<Strategy>,
     splits: u32,
+    finder: &mut F,
 ) -> Result<Turn, Memory>
     requires { IsKnown board.old.problem known.now }
     ensures problem { board.new.problem ≡ board.old.problem }
@@ -71,7 +75,7 @@ pub(crate) fn take_turn(
     board.problem().keeps_limits();
     board.best();
     match board.lend(alloc) {
-        Ok(Some(job)) => turn_on(alloc, board, known, proposer, &job, splits),
+        Ok(Some(job)) => turn_on(alloc, board, known, strategy, &job, splits, finder),
         Ok(None) => Ok(Turn::Over(Ending::NoneOpen)),
         Err(LendRefusal::NumbersSpent) => Ok(Turn::Over(Ending::NumbersSpent)),
         Err(LendRefusal::Memory) => Err(Memory),

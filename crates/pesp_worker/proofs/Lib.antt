@@ -8,3 +8,8 @@ pub mod Staying
 pub mod Works
 pub mod Judgments
 pub mod Taken
+pub mod Lending
+pub mod Taking
+pub mod Opening
+pub mod Running
+pub mod OneLending

@@ -9,7 +9,7 @@ use Rattle.pesp_nodes.specs.Problems.{ProblemValue}
 use Rattle.pesp_machine.specs.declared.job.Job.{Job}
 use Rattle.pesp_machine.specs.Adopting.{AreNumbered}
 use Rattle.pesp_machine.specs.States.{State, Ticket, Lent, Recalled, IsLentNumber}
-use Rattle.pesp_outside.specs.Lent.{IsLentFrom}
+use Rattle.pesp_worker.specs.Lent.{IsLentFrom}
 
 -- a path for each job
 as_many : (n : ℕ) (jobs : List Job) (paths : List (List (Cut × Side))) → AreNumbered n jobs paths → length jobs ≡ length paths

@@ -24,12 +24,12 @@ use Rattle.pesp_machine.specs.Events.{IsGraft, Grafts, Gives, Makes}
 use Rattle.pesp_machine.proofs.OneSize.{same_path, same_pairs}
 use Rattle.pesp_machine.proofs.Certified.{same_net}
 use Rattle.pesp_works.specs.Works.{WorkValue}
-use Rattle.pesp_outside.specs.Lent.{IsLentFrom}
-use Rattle.pesp_outside.specs.Grafts.{TakesWork}
-use Rattle.pesp_outside.specs.declared.grafted.Reply.{Reply}
+use Rattle.pesp_worker.specs.Lent.{IsLentFrom}
+use Rattle.pesp_worker.specs.Grafts.{TakesWork}
+use Rattle.pesp_worker.specs.declared.grafted.Reply.{Reply}
 use Rattle.pesp_worker.specs.HandingIn.{IsWorkOn}
 use Rattle.pesp_worker.specs.Taken.{IsTakenOrLarge}
-use Rattle.pesp_outside.proofs.OneLending.{one_lending}
+use Rattle.pesp_worker.proofs.OneLending.{one_lending}
 
 -- both parts of a problem that a rule sees, one after the other
 swap : (P : Net → List (List SignedRow) → Type 0) (p q : ProblemValue) → net_of p ≡ net_of q → p.table ≡ q.table

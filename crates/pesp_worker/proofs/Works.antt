@@ -18,7 +18,7 @@ use Rattle.pesp_machine.specs.States.{State, HasLeaf, IsLentNumber}
 use Rattle.pesp_machine.specs.Reached.{IsOrderly}
 use Rattle.pesp_machine.proofs.OneSize.{same_path, same_pairs}
 use Rattle.pesp_works.specs.Works.{WorkValue, HasText}
-use Rattle.pesp_outside.specs.Lent.{IsLentFrom}
+use Rattle.pesp_worker.specs.Lent.{IsLentFrom}
 use Rattle.pesp_worker.specs.declared.refusal.WorkRefusal.TheVariants.{NoSuchJob}
 use Rattle.pesp_worker.specs.Holding.{KeepsOthers}
 use Rattle.pesp_worker.specs.HandingIn.{AreTimesFor, AreShort, StandsFor, IsFound, IsJudged, AreJudged, IsWholeFrom, branches_of, without_times, IsWorkOn, IsSplitBelow, AreWorksOn, AreWorkRefusal}

@@ -18,7 +18,7 @@ use Rattle.pesp_machine.specs.Events.{IsValidAt, IsCheaper}
 use Rattle.pesp_search_laws.specs.Rooms.{branch_lines}
 use Rattle.pesp_works.specs.declared.job.TheConstants.{MOST_JOB}
 use Rattle.pesp_works.specs.Works.{WorkValue, HasText}
-use Rattle.pesp_outside.specs.Lent.{IsLentFrom}
+use Rattle.pesp_worker.specs.Lent.{IsLentFrom}
 use Rattle.pesp_worker.specs.declared.refusal.WorkRefusal.{WorkRefusal}
 use Rattle.pesp_worker.specs.declared.refusal.WorkRefusal.TheVariants.{Memory, NoSuchJob}
 

@@ -15,11 +15,11 @@ ghost use Rattle.pesp_worker.specs.HandingIn.{Fits, IsFound, IsWholeFrom, IsJudg
 use crate::copies::{copy_pairs, one_line};
 use crate::cutting_out::branches_in;
 use crate::held_leaves::is_taken;
+use crate::lend_base;
 use crate::refusal::WorkRefusal;
 use crate::shared_search::{Range, add, are_there};
 use pesp_board::{Board, Work};
 use pesp_cert::Certificate;
-use pesp_outside::lend_base;
 use pesp_problem::{Instance, Memory};
 use pesp_truth::TreeLine;
 use pesp_works::WorkText;

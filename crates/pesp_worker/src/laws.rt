@@ -8,9 +8,9 @@ ghost use Rattle.pesp_nodes.specs.Problems.{ProblemValue};
 ghost use Rattle.pesp_machine.specs.declared.job.Job.{Job};
 ghost use Rattle.pesp_machine.specs.States.{State};
 ghost use Rattle.pesp_works.specs.Works.{WorkValue};
-ghost use Rattle.pesp_outside.specs.Lent.{IsLentFrom};
-ghost use Rattle.pesp_outside.specs.Grafts.{TakesWork};
-ghost use Rattle.pesp_outside.specs.declared.grafted.Reply.{Reply};
+ghost use Rattle.pesp_worker.specs.Lent.{IsLentFrom};
+ghost use Rattle.pesp_worker.specs.Grafts.{TakesWork};
+ghost use Rattle.pesp_worker.specs.declared.grafted.Reply.{Reply};
 ghost use Rattle.pesp_worker.specs.HandingIn.{IsWorkOn};
 ghost use Rattle.pesp_worker.specs.Taken.{IsTakenOrLarge};
 

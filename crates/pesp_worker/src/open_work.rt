@@ -1,22 +1,23 @@
 //! Work on open leaves.
 
-ghost use Rattle.std.specs.Prelude.{◌≡◌, ◌∷◌, [], ◌≤◌, None, IfOk, IfErr};
+ghost use Rattle.std.specs.Prelude.{◌≤◌, None, IfOk, IfErr};
 ghost use Rattle.std.specs.List.Sorted.{IsStrictlyIncreasing};
 ghost use Rattle.pesp_problem.specs.declared.limits.TheConstants.{MOST_STEPS};
 ghost use Rattle.pesp_truth.specs.Certificates.{IsValid};
-ghost use Rattle.pesp_worker.specs.HandingIn.{IsWorkOn, IsWorkRefusal, AreWorksOn, AreWorkRefusal};
+ghost use Rattle.pesp_worker.specs.HandingIn.{AreWorksOn, AreWorkRefusal};
 
 use crate::judged_trees::judged;
 use crate::refusal::WorkRefusal;
 use crate::shared_search::{Range, search_below};
 use pesp_cert::Certificate;
+use pesp_finder::TimesFinder;
 use pesp_problem::Instance;
 use pesp_works::WorkText;
 use std::alloc::Global;
 
 /// Works on open leaves of a valid certificate, whose jobs rise, by at most so many splits in all: the open leaf of least value below
 /// any of them is split next, and none that is worth as much as the bound, where one is named. Open leaves are numbered from 0 in
-/// the order of the tree's lines.
+/// the order of the tree's lines. A finder looks for times where the certificate has none.
 ///
 /// A work is handed in for each job, in their order, and has a text. Its tree may stand in the leaf's place; its times are a
 /// timetable that costs less than the certificate's, or there are none. The trees have at most so many branches in all, and
@@ -24,13 +25,14 @@ use std::alloc::Global;
 ///
 /// Refused as `NoSuchJob` where the certificate has no more open leaves than one of the numbers, and else as `Memory`, where a
 /// growth was refused.
-pub fn work_on_all(
+pub fn work_on_all<F: TimesFinder>(
     alloc: Global,
     instance: &Instance,
     base: &Certificate,
     jobs: &[u64],
     steps: u32,
     until: Option<u64>,
+    finder: &mut F,
 ) -> Result<Vec<WorkText>, WorkRefusal>
     requires valid { IsValid None instance.now base.now }
     requires rise { IsStrictlyIncreasing jobs.now }
@@ -40,32 +42,6 @@ pub fn work_on_all(
     ensures refused { IfErr result (AreWorkRefusal instance.now base.now jobs.now) }
 {
     let range = Range { steps, until };
-    let found = search_below(alloc, instance, base, jobs, range)?;
+    let found = search_below(alloc, instance, base, jobs, range, finder)?;
     judged(alloc, instance, base, jobs, range, found)
-}
-
-/// Works on an open leaf of a valid certificate, by at most so many splits. Open leaves are numbered from 0 in the order of the
-/// tree's lines. The work that is handed in is of this job, and has a text. Its tree has at most so many branches and may stand
-/// in the leaf's place; its times are a timetable that costs less than the certificate's, or there are none.
-///
-/// Refused as `NoSuchJob` where the certificate has no more open leaves than the number, and else as `Memory`, where a growth was
-/// refused.
-pub fn work(
-    alloc: Global,
-    instance: &Instance,
-    base: &Certificate,
-    job: u64,
-    steps: u32,
-) -> Result<WorkText, WorkRefusal>
-    requires valid { IsValid None instance.now base.now }
-    requires few { steps ≤ MOST_STEPS }
-    ensures work { IfOk result (λ work. IsWorkOn instance.now base.now job steps work) }
-    ensures refused { IfErr result (IsWorkRefusal instance.now base.now job) }
-{
-    let jobs = [job];
-    let mut works = work_on_all(alloc, instance, base, &jobs, steps, None)?;
-    let Some(work) = works.pop() else {
-        unreachable!();
-    };
-    Ok(work)
 }

@@ -13,9 +13,10 @@ use crate::cutting_out::{count_branches, cut_out, ends_of};
 use crate::improved_leaf::improve_leaf;
 use crate::refusal::WorkRefusal;
 use crate::splits::split_on;
+use crate::{Lent, lend_base};
 use pesp_board::{Board, Job};
 use pesp_cert::Certificate;
-use pesp_outside::{Lent, lend_base};
+use pesp_finder::TimesFinder;
 use pesp_problem::{Instance, Memory};
 use pesp_truth::{Answer, TreeLine};
 use pesp_works::WorkText;
@@ -120,13 +121,14 @@ fn open_jobs(alloc: Global, board: &mut Board, jobs: &[u64], steps: u32) -> Resu
 }
 
 /// Works on the leaves of jobs; a leaf that is worked on alone is looked at anew first.
-fn work_on(
+fn work_on<F: TimesFinder>(
     alloc: Global,
     instance: &Instance,
     board: Board,
     base: &Certificate,
     jobs: &[u64],
     range: Range,
+    finder: &mut F,
 ) -> Result<Board, Memory>
     requires { range.steps ≤ MOST_STEPS }
     ensures { IfOk result (λ worked. worked.problem ≡ board.problem) }
@@ -135,7 +137,8 @@ fn work_on(
     match open_jobs(alloc, &mut board, jobs, range.steps) {
         Ok(true) => {
             let before = count_branches(base.tree());
-            split_on(alloc, instance, board, before, range.steps, range.until)
+            let Range { steps, until } = range;
+            split_on(alloc, instance, board, before, steps, until, finder)
         }
         Ok(false) => Ok(board),
         Err(refused) => {
@@ -209,13 +212,14 @@ fn works_on(
 }
 
 /// What is found for jobs of a base that is lent.
-fn found_for(
+fn found_for<F: TimesFinder>(
     alloc: Global,
     instance: &Instance,
     lent: Lent,
     base: &Certificate,
     jobs: &[u64],
     range: Range,
+    finder: &mut F,
 ) -> Result<Vec<WorkText>, Memory>
     requires of { IsProblemOf instance.now lent.board.problem }
     requires few { range.steps ≤ MOST_STEPS }
@@ -225,7 +229,7 @@ fn found_for(
         board,
         jobs: leaves,
     } = lent;
-    match work_on(alloc, instance, board, base, jobs, range) {
+    match work_on(alloc, instance, board, base, jobs, range, finder) {
         Ok(worked) => {
             let works = works_on(alloc, instance, &worked, base, &leaves, jobs);
             drop(worked);
@@ -241,12 +245,13 @@ fn found_for(
 
 /// Searches below the leaves of jobs for a tree in the place of each, and for times that are cheaper than those of the base. The
 /// trees are still to be judged.
-pub(crate) fn search_below(
+pub(crate) fn search_below<F: TimesFinder>(
     alloc: Global,
     instance: &Instance,
     base: &Certificate,
     jobs: &[u64],
     range: Range,
+    finder: &mut F,
 ) -> Result<Vec<WorkText>, WorkRefusal>
     requires valid { IsValid None instance.now base.now }
     requires few { range.steps ≤ MOST_STEPS }
@@ -258,6 +263,6 @@ pub(crate) fn search_below(
         drop(lent);
         return Err(WorkRefusal::NoSuchJob);
     }
-    let works = found_for(alloc, instance, lent, base, jobs, range)?;
+    let works = found_for(alloc, instance, lent, base, jobs, range, finder)?;
     Ok(works)
 }

@@ -8,17 +8,17 @@ returns-in_err-shelf-clause-stopped g c =
     told_as _ _ _ c.from_residual.ensures.1 (refused_kept _ _ _ _ _ c.in_err-shelf.ensures.refused)
 
 pub returns-in-Ok-None-clause-answered : goal.returns-in-Ok-None-clause-answered
-returns-in-Ok-None-clause-answered g c = kept c.begun.result _ _ _ _ _ c.begun.ensures.answered
+returns-in-Ok-None-clause-answered g c = kept c.begun-answer.result _ _ _ _ _ c.begun-answer.ensures.answered
 
 pub returns-in-Ok-Some-clause-answered : goal.returns-in-Ok-Some-clause-answered
 returns-in-Ok-Some-clause-answered g c =
     let calls = c.in-Ok-Some.base.calls in
-    kept_on c.run_on_standing.result _ _ _ _ (over _ _ calls calls) _ _ c.run_on_standing.ensures.ok c.done.ensures
+    kept_on c.run_on_standing.result _ _ _ _ (over _ _ calls calls) _ _ c.run_on_standing.ensures.ok c.done-answer.ensures
 
 pub returns-in-Ok-Some-clause-stopped : goal.returns-in-Ok-Some-clause-stopped
 returns-in-Ok-Some-clause-stopped g c =
-    stopped_kept_on c.run_on_standing.result _ _ _ _ _ _ c.run_on_standing.ensures.cause c.done.ensures
+    stopped_kept_on c.run_on_standing.result _ _ _ _ _ _ c.run_on_standing.ensures.cause c.done-answer.ensures
 
-pub returns-clause-stopped : goal.returns-clause-stopped
-returns-clause-stopped g c =
+pub returns-in-Err-clause-stopped : goal.returns-in-Err-clause-stopped
+returns-in-Err-clause-stopped g c =
     refused_kept _ _ _ _ _ c.in-Err.ensures.refused

@@ -5,20 +5,20 @@ use Rattle.pesp_conflict.proofs.Refusals.{fit_is_short, met_over}
 use Rattle.pesp_conflict.proofs.decided_rows.decide.Goals as goal
 
 pub part_of-requires-clause-few : goal.part_of-requires-clause-few
-part_of-requires-clause-few c =
+part_of-requires-clause-few g c =
     let short = fit_is_short c.args.instance.now c.args.listed.now c.requires.fit in
     let most = c.rows-limits.ensures.limits.rows in
     omega (arith, short, most)
 
 pub returns-in_err-solved-clause-refused : goal.returns-in_err-solved-clause-refused
-returns-in_err-solved-clause-refused c =
+returns-in_err-solved-clause-refused g c =
     let refused : IsConflictRefusal c.args.instance.now c.args.steps c.in_err-solved.field-0.0 =
     met_over c.args.instance.now c.in_ok-part.part c.args.listed.now c.args.steps c.in_err-solved.field-0.0
     c.requires.fit c.in_ok-part.ensures c.in_err-solved.ensures.refused c.in_err-solved.ensures.passed in
     search rules
 
 pub returns-clause-decided : goal.returns-clause-decided
-returns-clause-decided c =
+returns-clause-decided g c =
     let p = c.args.instance.now in
     let listed = c.args.listed.now in
     let solved = c.in_ok-solved.ensures.solved in

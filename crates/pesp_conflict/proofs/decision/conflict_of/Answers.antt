@@ -9,7 +9,7 @@ pub returns-in-Some : goal.returns-in-Some
 returns-in-Some c p told answer =
     let part = rw (c.in-Some.is) at (c.in_ok-rows.ensures p told answer) in
     part_is_conflict p c.args.listed.now c.in-Some.rows.items told.fit part
-    (subst IsStrictlyIncreasing c.deref.ensures.value (c.are_rising.ensures c.if-are_rising.true))
+    (subst IsStrictlyIncreasing c.deref.ensures.value (c.are_rising.ensures.0 c.if-are_rising.true))
 
 pub returns-in_ok-from_slice-in_default : goal.returns-in_ok-from_slice-in_default
 returns-in_ok-from_slice-in_default c p told answer =

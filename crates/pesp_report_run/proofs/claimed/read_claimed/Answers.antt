@@ -1,5 +1,5 @@
 use Rattle.pesp_check_run.proofs.ReadingLemmas.{told_as}
-use Rattle.pesp_faults.proofs.Telling.{times_cause}
+use Rattle.pesp_runs.proofs.Telling.{times_cause}
 use Rattle.pesp_report_run.proofs.claimed.read_claimed.Goals as goal
 
 pub returns-in_err-times-clause-cause : goal.returns-in_err-times-clause-cause

@@ -2,9 +2,9 @@ use Rattle.pesp_resume.proofs.Endings.{certified_ends, certified_told}
 use Rattle.pesp_resume.proofs.resumption.resume_search.Goals as goal
 
 pub returns-clause-ends : goal.returns-clause-ends
-returns-clause-ends g c settled = certified_ends c.args.search.now.board c.look_for_times.new.search.board
-    c.args.steps _ c.go_on.new.search.board.state c.in_ok-done.done c.certify.result c.look_for_times.ensures.board
-    c.in_ok-done.ensures.ends c.certify.ensures.used c.certify.ensures.ending settled
+returns-clause-ends g c settled = certified_ends c.args.search.now.board c.args.steps _
+    c.go_on.new.search.board.state c.in_ok-done.done c.certify.result c.in_ok-done.ensures.ends
+    c.certify.ensures.used c.certify.ensures.ending settled
 
 pub returns-clause-told : goal.returns-clause-told
 returns-clause-told g c = certified_told _ c.in_ok-done.done c.certify.result c.in_ok-done.ensures.told c.certify.ensures.used

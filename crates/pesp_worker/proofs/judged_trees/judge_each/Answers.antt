@@ -1,7 +1,7 @@
 use Rattle.std.proofs.Common.{◌≡◌, ◌∷◌, [], ◌++◌, List, length, refl, sym, ap, subst, ◌∙◌, append_assoc, append-nil, arith}
 use Rattle.std.specs.Vec.Iter.{into_iter_items}
 use Rattle.pesp_works.specs.Works.{WorkValue}
-use Rattle.pesp_outside.proofs.Opening.{nothing_left}
+use Rattle.pesp_worker.proofs.Opening.{nothing_left}
 use Rattle.pesp_worker.specs.HandingIn.{AreJudged}
 use Rattle.pesp_worker.proofs.Works.{none_judged, judged_next, lent_still, this_is_lent, all_judged, rise_of}
 use Rattle.pesp_worker.proofs.judged_trees.judge_each.Goals as goal

@@ -3,4 +3,4 @@ use Rattle.pesp_machine.specs.Certificates.{IsProblemOf}
 use Rattle.pesp_worker.proofs.shared_search.found_for.Goals as goal
 
 pub works_on-works-requires : goal.works_on-works-requires
-works_on-works-requires c = record { of = subst (IsProblemOf c.args.instance.now) (sym c.in-Ok.ensures) c.requires.of }
+works_on-works-requires g c = record { of = subst (IsProblemOf c.args.instance.now) (sym c.in-Ok.ensures) c.requires.of }

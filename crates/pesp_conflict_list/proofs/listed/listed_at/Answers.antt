@@ -1,6 +1,0 @@
-use Rattle.pesp_conflict_list.proofs.ListedRows.{listed-is}
-use Rattle.pesp_conflict_list.proofs.listed.listed_at.Goals as goal
-
-pub returns : goal.returns
-returns c = rw (c.events-events.ensures.events, c.rows.ensures.rows)
-    (listed-is c.args.instance.now c.args.number c.rows.ensures.limits c.requires)

@@ -1,4 +1,0 @@
-pub mod Lent
-pub mod Jobs
-pub mod Grafts
-pub mod Texts

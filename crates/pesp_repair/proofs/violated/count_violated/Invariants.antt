@@ -1,9 +1,0 @@
-use Rattle.std.proofs.Common.{◌≡◌, ◌≤◌, take, sum_by}
-use Rattle.pesp_repair.specs.Moves.{violation}
-use Rattle.pesp_repair.proofs.violated.count_violated.Given as goal
-
-abbrev pub invariant-loop-row : goal.invariant-loop-row
-invariant-loop-row l = record {
-  sum : l.count ≡ sum_by (violation l.instance l.wanted) (take l.row-index l.row-items);
-  small : l.count ≤ l.row-index;
-}

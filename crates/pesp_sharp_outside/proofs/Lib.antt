@@ -1,6 +1,0 @@
-mod Waiting
-mod Listing
-mod Counting
-mod Passed
-mod Taking
-mod Keeping

@@ -1,8 +1,0 @@
-use Rattle.std.proofs.Common.{map, true}
-use Rattle.pesp_sharp_outside.specs.Jobs.{told_job}
-use Rattle.pesp_sharp_outside.specs.Paths.{waiting}
-use Rattle.pesp_sharp_outside.proofs.Listing.{AreListed}
-use Rattle.pesp_sharp_outside.proofs.jobs.jobs_in.Given as goal
-
-abbrev pub invariant-loop-place : goal.invariant-loop-place
-invariant-loop-place l = AreListed l.cost l.lines l.shown l.place (waiting true l.path.items) (map told_job l.opens.items)

@@ -1,5 +1,0 @@
-pub mod Jobs
-pub mod Paths
-pub mod Cutting
-pub mod Grafts
-pub mod Keeping

@@ -25,12 +25,12 @@ use pesp_report_run::{
 };
 use pesp_request::{OfCertificate, OfInstance, OfLeaves, OfTimes, OfWorks};
 use pesp_runs::{Fault, OnBase, Search, run_alone, run_from_times, run_on_base};
+use pesp_sharp_search::Sharpener;
 use pesp_stream::{Counted, Sink, Source};
 use pesp_tasks::{
     Gap, GapJson, Resume, ResumeSharp, Solve, SolveSharp, Split, SplitSharp, Work, WorkSharp,
     run_graft, run_graft_sharp,
 };
-use pesp_times::TimesSearch;
 use std::alloc::Global;
 use std::fs::File;
 use std::rt::{Clock, Files};
@@ -84,7 +84,7 @@ pub(crate) fn search<R: AllocGlobal + Eprint + Files, I: Source, W: Sink, S: Sea
 }
 
 /// Looks for a conflict in the instance that the reader gives, and tells it with the names in a file where one is named.
-fn conflict<R: AllocGlobal + Eprint + Files, I: Source, W: Sink, E: Sink>(
+fn conflict<R: AllocGlobal + Eprint + Files, I: Source, W: Sink, E: Sink, F: Sharpener + Drop>(
     rt: &R,
     reader: &mut I,
     writer: &mut W,
@@ -92,6 +92,7 @@ fn conflict<R: AllocGlobal + Eprint + Files, I: Source, W: Sink, E: Sink>(
     period: u32,
     steps: u32,
     names: Option<&str>,
+    mut sharpener: F,
 ) -> Result<u8, Fault>
     requires steps { steps ≤ MOST_STEPS }
     requires reads_fit { FewerThan (2 ^ 62) (I.calls reader.old) }
@@ -116,25 +117,15 @@ fn conflict<R: AllocGlobal + Eprint + Files, I: Source, W: Sink, E: Sink>(
     let mut sums = String::new(alloc);
     match names {
         None => {
-            let mut finder = TimesSearch::new(alloc);
-            let run = run_conflict(
-                alloc,
-                reader,
-                writer,
-                period,
-                steps,
-                None,
-                &mut sums,
-                &mut finder,
-            );
-            drop(finder);
-            let told = run?;
+            let finder = &mut sharpener;
+            let told = run_conflict(
+                alloc, reader, writer, period, steps, None, &mut sums, finder,
+            )?;
             told_conflict(teller, told);
             Ok(status_of_told(told))
         }
         Some(file) => {
             let names = names_in(rt, file)?;
-            let mut finder = TimesSearch::new(alloc);
             let run = run_conflict(
                 alloc,
                 reader,
@@ -143,9 +134,8 @@ fn conflict<R: AllocGlobal + Eprint + Files, I: Source, W: Sink, E: Sink>(
                 steps,
                 Some(&names),
                 &mut sums,
-                &mut finder,
+                &mut sharpener,
             );
-            drop(finder);
             drop(names);
             let told = run?;
             told_conflict(teller, told);
@@ -156,13 +146,20 @@ fn conflict<R: AllocGlobal + Eprint + Files, I: Source, W: Sink, E: Sink>(
 }
 
 /// Does what is asked of the instance that the reader gives.
-pub(crate) fn of_instance<R: AllocGlobal + Eprint + Files + Clock, I: Source, W: Sink, E: Sink>(
+pub(crate) fn of_instance<
+    R: AllocGlobal + Eprint + Files + Clock,
+    I: Source,
+    W: Sink,
+    E: Sink,
+    F: Sharpener + Drop,
+>(
     rt: &R,
     reader: &mut I,
     writer: &mut W,
     teller: &mut E,
     period: u32,
     asked: OfInstance<'_>,
+    sharpener: F,
 ) -> Result<u8, Fault>
 where
     R::File: Lockable,
@@ -185,7 +182,6 @@ where
         (W.calls writer.old) (W.calls writer.new))) }
     ensures silent { IfErr result (λ fault. fault ≢ Fault.Write → writer.new ≡ writer.old) }
 {
-    let alloc = rt.alloc();
     match asked {
         OfInstance::Solve {
             steps,
@@ -194,7 +190,7 @@ where
         } => {
             let mut task = Solve {
                 steps,
-                finder: TimesSearch::new(alloc),
+                finder: sharpener,
                 observer: Teller::begin(rt, progress),
             };
             let answer = search(rt, reader, writer, period, from, &mut task);
@@ -208,16 +204,16 @@ where
         } => {
             let mut sharp = SolveSharp {
                 steps,
-                finder: TimesSearch::new(alloc),
+                sharpener,
                 observer: Teller::begin(rt, progress),
             };
             let answer = search(rt, reader, writer, period, from, &mut sharp);
             drop(sharp);
             answer
         }
-        OfInstance::Plan(asked) => of_plan(rt, reader, writer, period, asked),
+        OfInstance::Plan(asked) => of_plan(rt, reader, writer, period, asked, sharpener),
         OfInstance::Conflict { steps, names } => {
-            conflict(rt, reader, writer, teller, period, steps, names)
+            conflict(rt, reader, writer, teller, period, steps, names, sharpener)
         }
     }
 }
@@ -257,13 +253,20 @@ pub(crate) fn on_base<I: Source, S: Source, W: Sink, T: OnBase>(
 }
 
 /// Does what is asked of the certificate that the reader gives, for the instance of the other reader.
-pub(crate) fn of_certificate<R: AllocGlobal + Eprint + Clock, I: Source, S: Source, W: Sink>(
+pub(crate) fn of_certificate<
+    R: AllocGlobal + Eprint + Clock,
+    I: Source,
+    S: Source,
+    W: Sink,
+    F: Sharpener + Drop,
+>(
     rt: &R,
     instance: &mut I,
     reader: &mut S,
     writer: &mut W,
     period: u32,
     asked: OfCertificate,
+    sharpener: F,
 ) -> Result<u8, Fault>
     requires within { CertificateWithin asked }
     requires instance_fits { FewerThan (2 ^ 62) (I.calls instance.old) }
@@ -306,7 +309,7 @@ pub(crate) fn of_certificate<R: AllocGlobal + Eprint + Clock, I: Source, S: Sour
             let watcher = Watch::new(rt, progress, seconds);
             let mut task = Resume {
                 steps,
-                finder: TimesSearch::new(alloc),
+                sharpener,
                 watcher,
             };
             let answer = on_base(alloc, instance, reader, writer, period, &mut task);
@@ -320,7 +323,7 @@ pub(crate) fn of_certificate<R: AllocGlobal + Eprint + Clock, I: Source, S: Sour
         } => {
             let mut task = ResumeSharp {
                 steps,
-                finder: TimesSearch::new(alloc),
+                sharpener,
                 watcher: Watch::new(rt, progress, seconds),
             };
             let answer = on_base(alloc, instance, reader, writer, period, &mut task);
@@ -335,13 +338,14 @@ pub(crate) fn of_certificate<R: AllocGlobal + Eprint + Clock, I: Source, S: Sour
 }
 
 /// Does what is asked of open leaves of the certificate that the reader gives, for the instance of the other reader.
-pub(crate) fn of_leaves<R: AllocGlobal, I: Source, S: Source, W: Sink>(
+pub(crate) fn of_leaves<R: AllocGlobal, I: Source, S: Source, W: Sink, F: Sharpener + Drop>(
     rt: &R,
     instance: &mut I,
     reader: &mut S,
     writer: &mut W,
     period: u32,
     asked: OfLeaves,
+    sharpener: F,
 ) -> Result<u8, Fault>
     requires within { LeavesWithin asked }
     requires instance_fits { FewerThan (2 ^ 62) (I.calls instance.old) }
@@ -372,7 +376,7 @@ pub(crate) fn of_leaves<R: AllocGlobal, I: Source, S: Source, W: Sink>(
                 steps,
                 until,
                 jobs,
-                finder: TimesSearch::new(alloc),
+                finder: sharpener,
             };
             let answer = on_base(alloc, instance, reader, writer, period, &mut task);
             drop(task);
@@ -384,7 +388,7 @@ pub(crate) fn of_leaves<R: AllocGlobal, I: Source, S: Source, W: Sink>(
                 steps,
                 until,
                 jobs,
-                finder: TimesSearch::new(alloc),
+                sharpener,
             };
             let answer = on_base(alloc, instance, reader, writer, period, &mut task);
             drop(task);

@@ -15,8 +15,8 @@ use pesp_plan::{
 use pesp_progress::{Again, Hearer, Planner};
 use pesp_request::Planning;
 use pesp_runs::{Fault, Search, run_alone};
+use pesp_sharp_search::Sharpener;
 use pesp_stream::{Counted, Sink, Source};
-use pesp_times::TimesSearch;
 use std::rt::{Clock, Files};
 
 /// The fault that a file can't be a shelf. Where another plan has it, that is told besides.
@@ -106,13 +106,21 @@ fn begun<R: AllocGlobal + Eprint + Files, I: Source, W: Sink, S: Search, L: List
 
 /// Makes a plan of the instance that the reader gives, and keeps it in a file: from the certificate that stands there, or its times
 /// where it is of other activities; where none stands there, from the times in a file where one is named.
-fn kept_in<R: AllocGlobal + Eprint + Files, I: Source, W: Sink, K: Overseer + Drop, L: Listener>(
+fn kept_in<
+    R: AllocGlobal + Eprint + Files,
+    I: Source,
+    W: Sink,
+    F: Sharpener + Drop,
+    K: Overseer + Drop,
+    L: Listener,
+>(
     rt: &R,
     reader: &mut I,
     writer: &mut W,
     period: u32,
     file: &str,
     from: Option<&str>,
+    sharpener: F,
     overseer: K,
     listener: &mut L,
 ) -> Result<u8, Fault>
@@ -135,10 +143,9 @@ where
     let shelf = shelf_of(rt, file)?;
     let found = found_on(rt, &shelf);
     let alloc = rt.alloc();
-    let finder = TimesSearch::new(alloc);
     let mut plan = KeptPlan {
         shelf,
-        finder,
+        sharpener,
         overseer,
     };
     match found {
@@ -162,12 +169,18 @@ where
 }
 
 /// Makes the plan that is asked for, of the instance that the reader gives.
-pub(crate) fn of_plan<R: AllocGlobal + Eprint + Files + Clock, I: Source, W: Sink>(
+pub(crate) fn of_plan<
+    R: AllocGlobal + Eprint + Files + Clock,
+    I: Source,
+    W: Sink,
+    F: Sharpener + Drop,
+>(
     rt: &R,
     reader: &mut I,
     writer: &mut W,
     period: u32,
     asked: Planning<'_>,
+    sharpener: F,
 ) -> Result<u8, Fault>
 where
     R::File: Lockable,
@@ -201,8 +214,10 @@ where
     let mut hearer = Hearer::new(rt, quiet);
     match output {
         None => {
-            let finder = TimesSearch::new(rt.alloc());
-            let mut plan = Plan { finder, overseer };
+            let mut plan = Plan {
+                sharpener,
+                overseer,
+            };
             let answer = begun(rt, reader, writer, period, from, &mut plan, &mut hearer);
             drop(plan);
             answer
@@ -214,6 +229,7 @@ where
             period,
             file,
             from,
+            sharpener,
             overseer,
             &mut hearer,
         ),

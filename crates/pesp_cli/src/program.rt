@@ -19,6 +19,7 @@ use clap::error::ErrorKind;
 use pesp_plan::Lockable;
 use pesp_request::{Asked, OfInstance, Request, request_of};
 use pesp_runs::{Fault, status_of};
+use pesp_sharp_search::Sharpener;
 use pesp_stream::{Counted, Sink, Source};
 use pesp_telling::teller_of;
 use std::process::ExitCode;
@@ -27,10 +28,11 @@ use std::{env, io};
 
 /// Does what the command line asks for, and gives the exit status: 0 where the answer, help or the version is written,
 /// 1 for a certificate that is refused or times that violate a row, 2 for a command line that isn't understood,
-/// 3 for a text that is refused, 4 for memory, devices and limits of the search.
-pub fn exit_of_program<R: AllocGlobal + Env + Input + Print + Eprint + Files + Clock>(
-    rt: &R,
-) -> ExitCode
+/// 3 for a text that is refused, 4 for memory, devices and limits of the search. Searches are made with the sharpener.
+pub fn exit_of_program<
+    R: AllocGlobal + Env + Input + Print + Eprint + Files + Clock,
+    F: Sharpener + Drop,
+>(rt: &R, sharpener: F) -> ExitCode
 where
     R::File: Lockable,
 {
@@ -43,21 +45,21 @@ where
         Err(_) => return ExitCode::from(2),
     };
     match words {
-        Ok(words) => ExitCode::from(status_of_words(rt, words.as_slice())),
+        Ok(words) => ExitCode::from(status_of_words(rt, words.as_slice(), sharpener)),
         Err(_) => ExitCode::from(stopped(rt, &Fault::Memory)),
     }
 }
 
-/// Does what the words ask for, the program's name first, and gives the exit status.
-pub fn status_of_words<R: AllocGlobal + Input + Print + Eprint + Files + Clock>(
-    rt: &R,
-    words: &[String],
-) -> u8
+/// Does what the words ask for, the program's name first, and gives the exit status. Searches are made with the sharpener.
+pub fn status_of_words<
+    R: AllocGlobal + Input + Print + Eprint + Files + Clock,
+    F: Sharpener + Drop,
+>(rt: &R, words: &[String], sharpener: F) -> u8
 where
     R::File: Lockable,
 {
     match request_of(rt.alloc(), words) {
-        Ok(request) => status_of_request(rt, request),
+        Ok(request) => status_of_request(rt, request, sharpener),
         Err(error) if error.kind() == ErrorKind::OutOfMemory => stopped(rt, &Fault::Memory),
         Err(error) => told_words(rt, &error),
     }
@@ -84,9 +86,10 @@ fn stopped<R: AllocGlobal + Eprint>(rt: &R, fault: &Fault) -> u8 {
 
 /// Does what a request within the limits asks for, tells the fault that stops it, and gives the exit status. Where the program
 /// that read standard output has gone away, nothing is told.
-fn status_of_request<R: AllocGlobal + Input + Print + Eprint + Files + Clock>(
+fn status_of_request<R: AllocGlobal + Input + Print + Eprint + Files + Clock, F: Sharpener + Drop>(
     rt: &R,
     request: Request<'_>,
+    sharpener: F,
 ) -> u8
 where
     R::File: Lockable,
@@ -104,7 +107,14 @@ where
     let mut reader = Counted::new(Headed::of(input, teller));
     let mut writer = writer_of(rt);
     let period_of_times = request.period_of_times();
-    let done = answer(rt, &mut reader, &mut writer, &mut teller_of(rt), request);
+    let done = answer(
+        rt,
+        &mut reader,
+        &mut writer,
+        &mut teller_of(rt),
+        request,
+        sharpener,
+    );
     if let Some(period) = period_of_times {
         warn_of_period(rt, &reader.into_inner().into_inner(), period);
     }
@@ -127,12 +137,19 @@ fn tells_header(request: &Request<'_>) -> bool {
 }
 
 /// Does what a request within the limits asks for, with what it reads from standard input, and gives the exit status.
-fn answer<R: AllocGlobal + Eprint + Files + Clock, S: Source, W: Sink, E: Sink>(
+fn answer<
+    R: AllocGlobal + Eprint + Files + Clock,
+    S: Source,
+    W: Sink,
+    E: Sink,
+    F: Sharpener + Drop,
+>(
     rt: &R,
     reader: &mut S,
     writer: &mut W,
     teller: &mut E,
     request: Request<'_>,
+    sharpener: F,
 ) -> Result<u8, Fault>
 where
     R::File: Lockable,
@@ -162,22 +179,22 @@ where
     let Request { period, asked } = request;
     match asked {
         Asked::Instance { file: None, asked } => {
-            of_instance(rt, reader, writer, teller, period, asked)
+            of_instance(rt, reader, writer, teller, period, asked, sharpener)
         }
         Asked::Instance {
             file: Some(file),
             asked,
         } => {
             let mut instance = opened_headed(rt, file, tells)?;
-            of_instance(rt, &mut instance, writer, teller, period, asked)
+            of_instance(rt, &mut instance, writer, teller, period, asked, sharpener)
         }
         Asked::Certificate { file, asked } => {
             let mut instance = opened(rt, file)?;
-            of_certificate(rt, &mut instance, reader, writer, period, asked)
+            of_certificate(rt, &mut instance, reader, writer, period, asked, sharpener)
         }
         Asked::Leaves { file, asked } => {
             let mut instance = opened(rt, file)?;
-            of_leaves(rt, &mut instance, reader, writer, period, asked)
+            of_leaves(rt, &mut instance, reader, writer, period, asked, sharpener)
         }
         Asked::Times { file, asked } => {
             let mut instance = opened(rt, file)?;

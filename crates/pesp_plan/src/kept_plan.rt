@@ -9,15 +9,14 @@ use crate::overseer::Overseer;
 use crate::pursuit::pursue;
 use crate::shelf::Shelf;
 use pesp_cert::Fronted;
-use pesp_finder::TimesFinder;
 use pesp_problem::Instance;
 use pesp_runs::{Fault, OnBase, Search};
-use pesp_sharp_search::Going;
+use pesp_sharp_search::{Going, Sharpener};
 use pesp_stream::{Sink, WriteFault};
 use std::alloc::Global;
 
 /// A plan that is made while an overseer lets it be, and kept on a shelf: the first one, each better one, and the last. Nothing
-/// is written elsewhere. A finder looks for times.
+/// is written elsewhere. A sharpener proposes, and looks for times.
 ///
 /// Whatever is put on the shelf is the text of a certificate that is valid for the instance with its marked walks, so its answer is
 /// true; its bound isn't below, and its cost isn't above, what stood there, or what the plan began with. From times that are a
@@ -25,11 +24,11 @@ use std::alloc::Global;
 #[derive(Drop)]
 pub struct KeptPlan<H, F, K> {
     pub shelf: H,
-    pub finder: F,
+    pub sharpener: F,
     pub overseer: K,
 }
 
-impl<H: Shelf, F: TimesFinder, K: Overseer> KeptPlan<H, F, K> {
+impl<H: Shelf, F: Sharpener, K: Overseer> KeptPlan<H, F, K> {
     /// Goes on from what is known to the end, and keeps what is found.
     fn pursue(
         &mut self,
@@ -45,16 +44,16 @@ impl<H: Shelf, F: TimesFinder, K: Overseer> KeptPlan<H, F, K> {
     {
         let KeptPlan {
             shelf,
-            finder,
+            sharpener,
             overseer,
         } = self;
-        pursue(alloc, instance, going, shelf, finder, overseer)?;
+        pursue(alloc, instance, going, shelf, sharpener, overseer)?;
         overseer.ends(going.has().certificate.answer());
         Ok(())
     }
 }
 
-impl<H: Shelf, F: TimesFinder, K: Overseer> Search for KeptPlan<H, F, K> {
+impl<H: Shelf, F: Sharpener, K: Overseer> Search for KeptPlan<H, F, K> {
     ghost use Rattle.std.specs.Prelude.{◌≡◌, None, ⊤};
     ghost use Rattle.pesp_tasks.specs.Solving.{SolutionStops};
     ghost use Rattle.pesp_plan.specs.Planning.{Keeps};
@@ -75,11 +74,11 @@ impl<H: Shelf, F: TimesFinder, K: Overseer> Search for KeptPlan<H, F, K> {
     ) -> Result<(), Fault> {
         self.overseer.begins(instance);
         let KeptPlan {
-            finder,
+            sharpener,
             overseer,
             ..
         } = &mut *self;
-        let mut going = Going::begin(alloc, instance, times, finder, overseer)?;
+        let mut going = Going::begin(alloc, instance, times, sharpener, overseer)?;
         let kept = self.pursue(alloc, instance, &mut going);
         drop(going);
         kept?;
@@ -87,7 +86,7 @@ impl<H: Shelf, F: TimesFinder, K: Overseer> Search for KeptPlan<H, F, K> {
     }
 }
 
-impl<H: Shelf, F: TimesFinder, K: Overseer> OnBase for KeptPlan<H, F, K> {
+impl<H: Shelf, F: Sharpener, K: Overseer> OnBase for KeptPlan<H, F, K> {
     ghost use Rattle.std.specs.Prelude.{⊤};
     ghost use Rattle.pesp_runs.specs.Causes.{OutCause};
     ghost use Rattle.pesp_plan.specs.Planning.{KeepsOn};
@@ -110,7 +109,7 @@ impl<H: Shelf, F: TimesFinder, K: Overseer> OnBase for KeptPlan<H, F, K> {
     ) -> Result<(), Fault> {
         self.overseer.begins(instance);
         self.shelf.stands(base.certificate.answer());
-        let mut going = Going::begin_from(alloc, instance, base, &mut self.finder)?;
+        let mut going = Going::begin_from(alloc, instance, base, &mut self.sharpener)?;
         let kept = self.pursue(alloc, instance, &mut going);
         drop(going);
         kept?;

@@ -14,9 +14,9 @@ use crate::listener::Listener;
 use crate::{KeptPlan, Overseer, Shelf};
 use pesp_cert::{Fronted, parse_fronted};
 use pesp_check::check_sharp;
-use pesp_finder::TimesFinder;
 use pesp_judges::{Refusal, Verdict};
 use pesp_runs::{Fault, MOST_TEXT, OnBase, Search, read_whole_instance};
+use pesp_sharp_search::Sharpener;
 use pesp_stream::{Sink, Source, read_all};
 use std::alloc::Global;
 
@@ -26,7 +26,7 @@ use std::alloc::Global;
 /// none's, and `Base` where it has another period: then what stands there stays.
 pub fn run_on_standing<
     H: Shelf,
-    F: TimesFinder,
+    F: Sharpener,
     K: Overseer,
     R: Source,
     B: Source,

@@ -12,15 +12,14 @@ ghost use Rattle.pesp_runs.specs.Bases.{IsSharpBase};
 use crate::overseer::Overseer;
 use crate::pursuit::go_to_end;
 use pesp_cert::print_fronted;
-use pesp_finder::TimesFinder;
 use pesp_problem::Instance;
 use pesp_runs::{Fault, Search};
-use pesp_sharp_search::Going;
+use pesp_sharp_search::{Going, Sharpener};
 use pesp_stream::{Sink, WriteFault};
 use pesp_tasks::vouch;
 use std::alloc::Global;
 
-/// A plan that is made while an overseer lets it be, and written at its end: a certificate with a front where it has one. A finder
+/// A plan that is made while an overseer lets it be, and written at its end: a certificate with a front where it has one. A sharpener
 /// looks for times.
 ///
 /// What is written is the text of a certificate that is valid for the instance with its marked walks, so its answer is true. From
@@ -28,16 +27,16 @@ use std::alloc::Global;
 /// limits, as `SolveSharp` says.
 #[derive(Drop)]
 pub struct Plan<F, K> {
-    pub finder: F,
+    pub sharpener: F,
     pub overseer: K,
 }
 
 /// Goes on to the end, and writes what is known by then.
-fn finish<F: TimesFinder, K: Overseer, W: Sink>(
+fn finish<F: Sharpener, K: Overseer, W: Sink>(
     alloc: Global,
     instance: &Instance,
     going: &mut Going,
-    finder: &mut F,
+    sharpener: &mut F,
     overseer: &mut K,
     writer: &mut W,
 ) -> Result<(), WriteFault>
@@ -51,14 +50,14 @@ fn finish<F: TimesFinder, K: Overseer, W: Sink>(
     ensures counts { OnOk result (HasWorked (W.calls writer.old) (W.calls writer.new)) }
     ensures fault { OnErr result (DeviceFailed (W.calls writer.old) (W.calls writer.new)) }
 {
-    go_to_end(alloc, instance, going, finder, overseer);
+    go_to_end(alloc, instance, going, sharpener, overseer);
     let known = going.has();
     vouch(instance, known);
     overseer.ends(known.certificate.answer());
     print_fronted(known, writer)
 }
 
-impl<F: TimesFinder, K: Overseer> Search for Plan<F, K> {
+impl<F: Sharpener, K: Overseer> Search for Plan<F, K> {
     ghost use Rattle.std.specs.Prelude.{⊤};
     ghost use Rattle.pesp_tasks.specs.Solving.{SolutionStops};
     ghost use Rattle.pesp_plan.specs.Planning.{WritesPlan};
@@ -77,10 +76,13 @@ impl<F: TimesFinder, K: Overseer> Search for Plan<F, K> {
         times: &[u32],
         writer: &mut W,
     ) -> Result<(), Fault> {
-        let Plan { finder, overseer } = self;
+        let Plan {
+            sharpener,
+            overseer,
+        } = self;
         overseer.begins(instance);
-        let mut going = Going::begin(alloc, instance, times, finder, overseer)?;
-        let written = finish(alloc, instance, &mut going, finder, overseer, writer);
+        let mut going = Going::begin(alloc, instance, times, sharpener, overseer)?;
+        let written = finish(alloc, instance, &mut going, sharpener, overseer, writer);
         drop(going);
         written?;
         Ok(())

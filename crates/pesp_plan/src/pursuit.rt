@@ -8,9 +8,8 @@ ghost use Rattle.pesp_plan.specs.Planning.{IsAsGood};
 use crate::overseer::Overseer;
 use crate::shelf::Shelf;
 use pesp_cert::Fronted;
-use pesp_finder::TimesFinder;
 use pesp_problem::Instance;
-use pesp_sharp_search::{Going, is_no_worse};
+use pesp_sharp_search::{Going, Sharpener, is_no_worse};
 use pesp_stream::WriteFault;
 use pesp_tasks::vouch;
 use pesp_truth::Answer;
@@ -20,18 +19,18 @@ use std::alloc::Global;
 const MOST_PIECES: u32 = 1_000_000;
 
 /// Goes on for a piece, and says whether one more follows. Where memory is refused none does.
-pub(crate) fn go_on<F: TimesFinder, K: Overseer>(
+pub(crate) fn go_on<F: Sharpener, K: Overseer>(
     alloc: Global,
     instance: &Instance,
     going: &mut Going,
-    finder: &mut F,
+    sharpener: &mut F,
     overseer: &mut K,
 ) -> bool
     requires { IsSharpBase instance.now going.old }
     ensures valid { IsSharpBase instance.now going.new }
     ensures no_worse { IsNoWorse going.old.content.answer going.new.content.answer }
 {
-    if going.go_on(alloc, instance, finder, overseer).is_err() {
+    if going.go_on(alloc, instance, sharpener, overseer).is_err() {
         overseer.lacks_memory();
         return false;
     }
@@ -69,12 +68,12 @@ pub(crate) fn keep<H: Shelf>(
 }
 
 /// Goes on piece by piece, and keeps what is known on the shelf behind each, until no piece follows.
-pub(crate) fn pursue<H: Shelf, F: TimesFinder, K: Overseer>(
+pub(crate) fn pursue<H: Shelf, F: Sharpener, K: Overseer>(
     alloc: Global,
     instance: &Instance,
     going: &mut Going,
     shelf: &mut H,
-    finder: &mut F,
+    sharpener: &mut F,
     overseer: &mut K,
 ) -> Result<(), WriteFault>
     requires valid { IsSharpBase instance.now going.old }
@@ -89,18 +88,18 @@ pub(crate) fn pursue<H: Shelf, F: TimesFinder, K: Overseer>(
         if !more {
             return Ok(());
         }
-        more = go_on(alloc, instance, going, finder, overseer);
+        more = go_on(alloc, instance, going, sharpener, overseer);
         keep(instance, going.has(), shelf)?;
     }
     Ok(())
 }
 
 /// Goes on until no piece follows.
-pub(crate) fn go_to_end<F: TimesFinder, K: Overseer>(
+pub(crate) fn go_to_end<F: Sharpener, K: Overseer>(
     alloc: Global,
     instance: &Instance,
     going: &mut Going,
-    finder: &mut F,
+    sharpener: &mut F,
     overseer: &mut K,
 )
     requires { IsSharpBase instance.now going.old }
@@ -112,6 +111,6 @@ pub(crate) fn go_to_end<F: TimesFinder, K: Overseer>(
         if !more {
             return;
         }
-        more = go_on(alloc, instance, going, finder, overseer);
+        more = go_on(alloc, instance, going, sharpener, overseer);
     }
 }

@@ -6,12 +6,7 @@ mod best;
 mod proposal;
 mod proposing;
 mod search;
-mod standing;
+mod tree_sharpener;
 mod turns;
-mod whole_search;
 
-pub use proposal::Proposals;
-pub use proposing::{Leaves, Proposing};
-pub use search::Pace;
-pub use standing::{SharpWatcher, Standing, Unwatched};
-pub use whole_search::{propose, propose_from};
+pub use tree_sharpener::TreeSharpener;

@@ -9,20 +9,13 @@ use pesp_sharp_trees::{
     Kept, Left, Numbers, copied_lines, copied_marked, copied_walks, lifted_of, lines_of, marked_of,
     offset_shifts, scale_walk, some_wants_scale,
 };
+use pesp_sharpener::Proposals;
 use pesp_sharpening::{Line, Sharpened};
 use pesp_truth::{Answer, TreeLine};
 use std::alloc::Global;
 
 /// The greatest bound that a certificate tells.
 const MOST_BOUND: u64 = 999_999_999_999_999_999;
-
-/// What is proposed in the place of an answer: what was found, and that answer with the best timetable; none where a part would
-/// pass a limit, or nothing is new.
-#[derive(Drop)]
-pub struct Proposals {
-    pub sharp: Option<Fronted>,
-    pub timed: Option<Fronted>,
-}
 
 /// What proposals are made of: an instance and what is left of it, what was found, its scale, the best timetable, and the
 /// certificate whose tree was taken up, where one was.
@@ -256,14 +249,6 @@ fn timed_of(
             drop(certificate);
             Err(refused)
         }
-    }
-}
-
-/// No proposals.
-pub(crate) fn no_proposals() -> Proposals {
-    Proposals {
-        sharp: None,
-        timed: None,
     }
 }
 

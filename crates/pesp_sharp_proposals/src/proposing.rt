@@ -3,28 +3,20 @@
 ghost use Rattle.std.specs.Prelude.{◌≡◌};
 
 use crate::best::is_open;
-use crate::proposal::{Proposals, proposals_of};
-use crate::search::{Chosen, Next, Pace, SharpSearch};
-use crate::standing::SharpWatcher;
+use crate::proposal::proposals_of;
+use crate::search::{Chosen, Next, SharpSearch};
 use pesp_cert::Fronted;
 use pesp_finder::TimesFinder;
 use pesp_problem::{Instance, Memory};
 use pesp_reduce::{Reduced, reduce};
 use pesp_sharp_trees::{Left, scale_for, scale_over};
+use pesp_sharpener::{Leaves, Pace, Proposals, SharpWatcher};
 use pesp_truth::Answer;
 use std::alloc::Global;
 
-/// Some leaves of a certificate's tree: all but those of which the cost is told that they show; and the bound from which on none is
-/// split, where one is named.
-#[derive(Clone, Copy)]
-pub struct Leaves<'a> {
-    pub spared: &'a [Option<u64>],
-    pub until: Option<u64>,
-}
-
 /// A search that goes on piece by piece, with what is left of the instance. What it proposes is told between the pieces.
 #[derive(Drop)]
-pub struct Proposing {
+pub(crate) struct Proposing {
     reduced: Reduced,
     search: SharpSearch,
 }
@@ -104,7 +96,7 @@ fn owning(
 impl Proposing {
     /// A search that begins at the root, beside a plain answer; None where that isn't open. What is left of the instance is that of
     /// a first look, and the finder that looked for times of it then is to be handed in while this goes on.
-    pub fn begin(
+    pub(crate) fn begin(
         alloc: Global,
         instance: &Instance,
         plain: &Fronted,
@@ -122,7 +114,7 @@ impl Proposing {
 
     /// A search that goes on from a certificate, or from some of its leaves; None where its answer isn't open. From then on a finder
     /// looks for times of what is left of the instance; it is to be handed in while this goes on.
-    pub fn begin_from<F: TimesFinder>(
+    pub(crate) fn begin_from<F: TimesFinder>(
         alloc: Global,
         instance: &Instance,
         base: &Fronted,
@@ -141,7 +133,7 @@ impl Proposing {
 
     /// Goes on, from the certificate with which it began, until as many leaves were split as may be, nothing is left to be done, or
     /// the watcher ends this piece.
-    pub fn go_on<F: TimesFinder, W: SharpWatcher>(
+    pub(crate) fn go_on<F: TimesFinder, W: SharpWatcher>(
         &mut self,
         alloc: Global,
         instance: &Instance,
@@ -154,7 +146,7 @@ impl Proposing {
     }
 
     /// What it proposes at a pause in the place of an answer. It began with this certificate.
-    pub fn proposals(
+    pub(crate) fn proposals(
         &self,
         alloc: Global,
         instance: &Instance,
@@ -166,12 +158,12 @@ impl Proposing {
     }
 
     /// Whether it knows more than an answer tells.
-    pub fn exceeds(&self, answer: Answer) -> bool {
+    pub(crate) fn exceeds(&self, answer: Answer) -> bool {
         self.search.exceeds(answer)
     }
 
     /// Whether nothing is left to be done.
-    pub fn is_over(&self) -> bool {
+    pub(crate) fn is_over(&self) -> bool {
         self.search.next == Next::Nothing
     }
 }

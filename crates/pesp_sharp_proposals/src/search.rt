@@ -3,13 +3,13 @@
 ghost use Rattle.std.specs.Prelude.{◌≡◌};
 
 use crate::best::{Best, cost_of, offer, shown_by};
-use crate::standing::{SharpWatcher, Standing};
 use crate::turns::{Turn, Turns};
 use pesp_cert::{Certificate, Fronted};
 use pesp_finder::{Effort, TimesFinder};
 use pesp_judges::least_of;
 use pesp_problem::{Memory, Score, score};
 use pesp_sharp_trees::{Left, given_of};
+use pesp_sharpener::{Pace, SharpWatcher, Standing};
 use pesp_sharpening::{Sharpening, Step};
 use pesp_simplex::{Improved, SimplexRefusal, improve};
 use pesp_truth::Answer;
@@ -42,15 +42,6 @@ pub(crate) enum Next {
 pub(crate) struct Chosen {
     pub(crate) spared: Vec<Option<u64>>,
     pub(crate) until: Option<u64>,
-}
-
-/// How far a search goes, and when times are looked for: by so many splits at most of a tree that had so many branches before, and
-/// after 128 branches, 256, and so on; or without a limit, where the tree and the search for times take turns by what each brings.
-/// With a limit they take turns by their parts of the work while that search has its first batch to make.
-#[derive(Clone, Copy)]
-pub enum Pace {
-    Steps { before: u32, most: u32 },
-    Turns,
 }
 
 /// A search that sharpens what is left of an instance: what it does next, whether it has taken up a tree, how many leaves were

@@ -13,7 +13,7 @@ use pesp_cert::{Certificate, Fronted};
 use pesp_check::check_sharp;
 use pesp_judges::Verdict;
 use pesp_problem::{Instance, Memory};
-use pesp_sharp_proposals::Proposals;
+use pesp_sharpener::Proposals;
 use pesp_told::{branches_leave_both, retold};
 use pesp_truth::Answer;
 use std::alloc::Global;

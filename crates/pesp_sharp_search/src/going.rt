@@ -9,10 +9,9 @@ ghost use Rattle.pesp_sharp_search.specs.Solving.{IsNoWorse, IsPlain, MayStand};
 
 use crate::choice::{first_standing, without_front};
 use pesp_cert::Fronted;
-use pesp_finder::TimesFinder;
 use pesp_problem::{Instance, Memory};
 use pesp_search::{FirstLook, Observer, SolveRefusal, look_first};
-use pesp_sharp_proposals::{Pace, Proposing, SharpWatcher};
+use pesp_sharpener::{Pace, SharpWatcher, Sharpener};
 use pesp_truth::Answer;
 use std::alloc::Global;
 use std::marker::Model;
@@ -25,8 +24,8 @@ pub struct Going {
     fronted: Fronted,
     /// The certificate with which it began, where it has a better one.
     base: Option<Fronted>,
-    /// What searches on; None where nothing was left to be found when it began.
-    proposing: Option<Proposing>,
+    /// Whether the sharpener had nothing left to be done when it went on last.
+    is_done: bool,
 }
 
 impl Model for Going {
@@ -45,43 +44,39 @@ fn is_open(answer: Answer) -> bool
 }
 
 /// Searches on from the certificate with which it began, and what is found that may stand in the place of what it has.
-fn searched<F: TimesFinder, W: SharpWatcher>(
+fn searched<F: Sharpener, W: SharpWatcher>(
     alloc: Global,
     instance: &Instance,
     fronted: &Fronted,
     base: &Option<Fronted>,
-    proposing: &mut Option<Proposing>,
-    finder: &mut F,
+    sharpener: &mut F,
     watcher: &mut W,
 ) -> Result<Option<Fronted>, Memory>
     ensures { IfOk result (λ found. IfSome found
         (MayStand instance.now fronted.now.content.answer 4294967295)) }
 {
-    let Some(proposing) = proposing else {
-        return Ok(None);
-    };
     let base = base.as_ref().unwrap_or(fronted);
-    proposing.go_on(alloc, instance, base, finder, watcher)?;
+    sharpener.sharpen(alloc, instance, base, watcher)?;
     let answer = fronted.certificate.answer();
-    if !proposing.exceeds(answer) {
+    if !sharpener.exceeds(answer) {
         return Ok(None);
     }
-    let proposals = proposing.proposals(alloc, instance, base, fronted)?;
+    let proposals = sharpener.proposals(alloc, instance, base, fronted)?;
     first_standing(alloc, instance, answer, proposals, u32::MAX)
 }
 
 impl Going {
     /// A search that begins with a first look, and with times that are given: one for each event of the instance, in the instance's
-    /// order, from 0 to one less than the period. A finder looks for times of what is left of the instance, and an observer looks
-    /// on.
+    /// order, from 0 to one less than the period. A sharpener proposes, and looks for times of what is left of the instance; an
+    /// observer looks on.
     ///
     /// It has a certificate that is valid for the instance, one that `solve_from` has for some forest within 0 steps. Where the
     /// times are a timetable of the instance, the answer has a cost, at most theirs. Refused as `solve_sharp` is.
-    pub fn begin<F: TimesFinder, O: Observer>(
+    pub fn begin<F: Sharpener, O: Observer>(
         alloc: Global,
         instance: &Instance,
         times: &[u32],
-        finder: &mut F,
+        sharpener: &mut F,
         observer: &mut O,
     ) -> Result<Going, SolveRefusal>
         ensures valid { IfOk result (λ going. IsValid going.front instance.now going.content) }
@@ -90,13 +85,15 @@ impl Going {
         ensures refused { IfErr result (IsSearchRefusal instance.now 0) }
         ensures passed { IfErr result (MeetsLimit instance.now 0) }
     {
-        let FirstLook { solved, reduced } = look_first(alloc, instance, times, finder, observer)?;
+        let FirstLook { solved, reduced } = look_first(
+            alloc, instance, times, sharpener, observer,
+        )?;
         let plain = without_front(solved.certificate);
-        match Proposing::begin(alloc, instance, &plain, reduced, Pace::Turns) {
-            Ok(proposing) => Ok(Going {
+        match sharpener.sharpen_root(alloc, instance, &plain, reduced, Pace::Turns) {
+            Ok(()) => Ok(Going {
                 fronted: plain,
                 base: None,
-                proposing,
+                is_done: false,
             }),
             Err(_) => {
                 drop(plain);
@@ -105,21 +102,21 @@ impl Going {
         }
     }
 
-    /// A search that goes on from a certificate of an instance, with or without marked walks. It has that certificate. A finder
-    /// looks for times of what is left of the instance. The one refusal is of memory.
-    pub fn begin_from<F: TimesFinder>(
+    /// A search that goes on from a certificate of an instance, with or without marked walks. It has that certificate. A sharpener
+    /// proposes, and looks for times of what is left of the instance. The one refusal is of memory.
+    pub fn begin_from<F: Sharpener>(
         alloc: Global,
         instance: &Instance,
         base: Fronted,
-        finder: &mut F,
+        sharpener: &mut F,
     ) -> Result<Going, Memory>
         ensures { IfOk result (λ going. going ≡ base) }
     {
-        match Proposing::begin_from(alloc, instance, &base, None, Pace::Turns, finder) {
-            Ok(proposing) => Ok(Going {
+        match sharpener.sharpen_from(alloc, instance, &base, None, Pace::Turns) {
+            Ok(()) => Ok(Going {
                 fronted: base,
                 base: None,
-                proposing,
+                is_done: false,
             }),
             Err(refused) => {
                 drop(base);
@@ -139,10 +136,7 @@ impl Going {
     pub fn is_over(&self) -> bool
         ensures { (IsOpenAnswer self.now.content.answer → ⊥) → IsTrue result }
     {
-        match &self.proposing {
-            Some(proposing) => !is_open(self.fronted.certificate.answer()) || proposing.is_over(),
-            None => true,
-        }
+        self.is_done || !is_open(self.fronted.certificate.answer())
     }
 
     /// Has this in the place of what it has. What it began with is kept, since what is found later may rest on that.
@@ -156,16 +150,16 @@ impl Going {
     }
 
     /// Goes on until the watcher ends this piece of the search, or nothing is left to be found: leaves are split, that of least value
-    /// first, and sharpened by marked walks, and timetables are looked for by the finder, which is the one with which it began. What
+    /// first, and sharpened by marked walks, and timetables are looked for. The sharpener is the one with which it began. What
     /// is found is judged, and is had from then on where it is better.
     ///
     /// What it has is valid for the instance with its marked walks, its bound isn't below the one before, and its cost isn't above
     /// the one before; none counts as above every number. That holds too where a growth was refused, which is the one refusal.
-    pub fn go_on<F: TimesFinder, W: SharpWatcher>(
+    pub fn go_on<F: Sharpener, W: SharpWatcher>(
         &mut self,
         alloc: Global,
         instance: &Instance,
-        finder: &mut F,
+        sharpener: &mut F,
         watcher: &mut W,
     ) -> Result<(), Memory>
         requires { IsValid self.old.front instance.now self.old.content }
@@ -177,10 +171,10 @@ impl Going {
             instance,
             &self.fronted,
             &self.base,
-            &mut self.proposing,
-            finder,
+            sharpener,
             watcher,
         )?;
+        self.is_done = sharpener.is_sharpened();
         if let Some(found) = found {
             self.take(found);
         }

@@ -18,6 +18,7 @@ mod ranks;
 mod resumption;
 mod sharp_graft;
 mod solution;
+mod whole_search;
 
 pub use choice::SharpSolved;
 pub use going::Going;
@@ -25,7 +26,7 @@ pub use jobs::sharp_jobs;
 pub use observer::SharpObserver;
 pub use open_work::work_sharp;
 pub use pesp_search::{Nobody, Observer, Part, SolveRefusal};
-pub use pesp_sharp_proposals::{Leaves, SharpWatcher, Standing, Unwatched};
+pub use pesp_sharpener::{Leaves, SharpWatcher, Sharpener, Standing, Unwatched};
 pub use pesp_told::cost_of;
 pub use pesp_worker::{JobsText, OpenJob};
 pub use ranks::is_no_worse;

@@ -7,10 +7,9 @@ ghost use Rattle.pesp_sharp_search.specs.Keeping.{IsSharpWorked, KeepsOthers};
 
 use crate::jobs::{is_open, open_count};
 use crate::kept_leaves::keeps_others;
-use crate::{Leaves, SharpWatcher, cost_of, resume_leaves};
+use crate::{Leaves, SharpWatcher, Sharpener, cost_of, resume_leaves};
 use pesp_cert::Fronted;
 use pesp_check::costs_shown;
-use pesp_finder::TimesFinder;
 use pesp_problem::{Instance, Memory};
 use std::alloc::Global;
 
@@ -84,16 +83,16 @@ fn worked(
 /// sharpened by marked walks, by at most so many splits of leaves below the bound, where one is named. What comes of it is the whole
 /// certificate, and what `resume_sharp` promises of it. Where its answer is open, each other open leaf, and each that is worth as
 /// much as the bound, is there at the end of the same path, and shows as much; but for those that aren't below the cost that is
-/// known then. None where no more leaves than one of the numbers are open. The one refusal is of memory. A finder looks for times
-/// of what is left of the instance.
-pub fn work_sharp<F: TimesFinder, W: SharpWatcher>(
+/// known then. None where no more leaves than one of the numbers are open. The one refusal is of memory. A sharpener
+/// proposes, and looks for times of what is left of the instance.
+pub fn work_sharp<F: Sharpener, W: SharpWatcher>(
     alloc: Global,
     instance: &Instance,
     base: Fronted,
     jobs: &[u64],
     steps: u32,
     until: Option<u64>,
-    finder: &mut F,
+    sharpener: &mut F,
     watcher: &mut W,
 ) -> Result<Option<Fronted>, Memory>
     requires { IsValid base.front instance.now base.content }
@@ -111,6 +110,6 @@ pub fn work_sharp<F: TimesFinder, W: SharpWatcher>(
         spared: &spared,
         until,
     };
-    let found = resume_leaves(alloc, instance, &base, leaves, steps, finder, watcher)?;
+    let found = resume_leaves(alloc, instance, &base, leaves, steps, sharpener, watcher)?;
     Ok(Some(worked(alloc, instance, base, found, jobs, until)?))
 }

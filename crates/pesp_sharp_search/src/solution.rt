@@ -8,15 +8,35 @@ ghost use Rattle.pesp_sharp_search.specs.Solving.{IsSharpSolved};
 
 use crate::choice::{SharpSolved, settled, without_front};
 use crate::observer::{Observing, SharpObserver};
-use pesp_finder::TimesFinder;
-use pesp_problem::Instance;
+use crate::whole_search::proposed;
+use pesp_cert::Fronted;
+use pesp_problem::{Instance, Memory};
+use pesp_reduce::Reduced;
 use pesp_search::{FirstLook, SolveRefusal, look_first};
-use pesp_sharp_proposals::propose;
+use pesp_sharpener::{Pace, Proposals, SharpWatcher, Sharpener};
 use std::alloc::Global;
 
+/// What is proposed beside a plain answer by at most so many splits of a leaf, from the root on.
+fn proposed_at<F: Sharpener, W: SharpWatcher>(
+    alloc: Global,
+    instance: &Instance,
+    plain: &Fronted,
+    reduced: Reduced,
+    steps: u32,
+    sharpener: &mut F,
+    watcher: &mut W,
+) -> Result<Proposals, Memory> {
+    let pace = Pace::Steps {
+        before: 0,
+        most: steps,
+    };
+    sharpener.sharpen_root(alloc, instance, plain, reduced, pace)?;
+    proposed(alloc, instance, plain, sharpener, watcher)
+}
+
 /// Searches for a best timetable by at most so many splits of a leaf, with leaves that marked walks sharpen, from times that are
-/// given: one for each event of the instance, in the instance's order, from 0 to one less than the period. A finder looks for
-/// times of what is left of the instance, and an observer looks on.
+/// given: one for each event of the instance, in the instance's order, from 0 to one less than the period. A sharpener proposes, and
+/// looks for times of what is left of the instance; an observer looks on.
 ///
 /// The certificate is valid for the instance with its marked walks. Its tree has as many branches as splits are told, at most
 /// so many, and fewer than the root has room. Each branch leaves both of its parts a value of the range that it cuts. The bound
@@ -25,12 +45,12 @@ use std::alloc::Global;
 ///
 /// Refused as `TableTooLarge` or `PairsTooMany` only where the square of the number of activities is above 10000000, or that
 /// number above 20000000, and as `solve` says within 0 steps; and else as `Memory`, where a growth was refused.
-pub fn solve_sharp<F: TimesFinder, O: SharpObserver>(
+pub fn solve_sharp<F: Sharpener, O: SharpObserver>(
     alloc: Global,
     instance: &Instance,
     times: &[u32],
     steps: u32,
-    finder: &mut F,
+    sharpener: &mut F,
     observer: &mut O,
 ) -> Result<SharpSolved, SolveRefusal>
     requires { steps ≤ MOST_STEPS }
@@ -40,10 +60,10 @@ pub fn solve_sharp<F: TimesFinder, O: SharpObserver>(
     ensures refused { IfErr result (IsSearchRefusal instance.now 0) }
     ensures passed { IfErr result (MeetsLimit instance.now 0) }
 {
-    let FirstLook { solved, reduced } = look_first(alloc, instance, times, finder, observer)?;
+    let FirstLook { solved, reduced } = look_first(alloc, instance, times, sharpener, observer)?;
     let plain = without_front(solved.certificate);
     let watcher = &mut Observing { observer };
-    match propose(alloc, instance, &plain, reduced, steps, finder, watcher) {
+    match proposed_at(alloc, instance, &plain, reduced, steps, sharpener, watcher) {
         Ok(proposals) => Ok(settled(alloc, instance, plain, proposals, steps)?),
         Err(_) => {
             drop(plain);

@@ -10,15 +10,14 @@ ghost use Rattle.pesp_tasks.specs.Resuming.{WritesResumed};
 
 use crate::sharp_resume::write_sharply;
 use pesp_cert::{Certificate, Fronted, print};
-use pesp_finder::TimesFinder;
 use pesp_problem::Instance;
 use pesp_resume::{Watcher, resume};
 use pesp_runs::{Fault, OnBase};
-use pesp_sharp_search::SharpWatcher;
+use pesp_sharp_search::{SharpWatcher, Sharpener};
 use pesp_stream::Sink;
 use std::alloc::Global;
 
-/// A search that goes on from a certificate by at most so many splits of open leaves, while a finder looks for times, as long as the
+/// A search that goes on from a certificate by at most so many splits of open leaves, while a sharpener proposes and looks for times, as long as the
 /// watcher lets it, and writes the certificate that comes of it. From one with marked walks it goes on as `ResumeSharp` does, of
 /// which less is promised; what follows is of one without.
 ///
@@ -29,17 +28,17 @@ use std::alloc::Global;
 #[derive(Drop)]
 pub struct Resume<F, T> {
     pub steps: u32,
-    pub finder: F,
+    pub sharpener: F,
     pub watcher: T,
 }
 
 /// Goes on from a certificate without a front, and writes what comes of it.
-fn write_plainly<F: TimesFinder, T: Watcher, W: Sink>(
+fn write_plainly<F: Sharpener, T: Watcher, W: Sink>(
     alloc: Global,
     instance: &Instance,
     base: Certificate,
     steps: u32,
-    finder: &mut F,
+    sharpener: &mut F,
     watcher: &mut T,
     writer: &mut W,
 ) -> Result<(), Fault>
@@ -57,14 +56,14 @@ fn write_plainly<F: TimesFinder, T: Watcher, W: Sink>(
     ensures silent { IfErr result (λ fault. fault ≢ Fault.Write → writer.new ≡ writer.old) }
 {
     instance.period();
-    let resumed = resume(alloc, instance, &base, steps, finder, watcher);
+    let resumed = resume(alloc, instance, &base, steps, sharpener, watcher);
     drop(base);
     let resumed = resumed?;
     print(&resumed.certificate, writer)?;
     Ok(())
 }
 
-impl<F: TimesFinder, T: Watcher + SharpWatcher> OnBase for Resume<F, T> {
+impl<F: Sharpener, T: Watcher + SharpWatcher> OnBase for Resume<F, T> {
     ghost use Rattle.std.specs.Prelude.{⊤};
     ghost use Rattle.pesp_runs.specs.Causes.{OutCause};
     ghost use Rattle.pesp_tasks.specs.Resuming.{WritesGoneOn};
@@ -87,7 +86,7 @@ impl<F: TimesFinder, T: Watcher + SharpWatcher> OnBase for Resume<F, T> {
     ) -> Result<(), Fault> {
         let Resume {
             steps,
-            finder,
+            sharpener,
             watcher,
         } = self;
         let steps = *steps;
@@ -95,12 +94,12 @@ impl<F: TimesFinder, T: Watcher + SharpWatcher> OnBase for Resume<F, T> {
         match front {
             None => {
                 let base = certificate;
-                write_plainly(alloc, instance, base, steps, finder, watcher, writer)
+                write_plainly(alloc, instance, base, steps, sharpener, watcher, writer)
             }
             Some(marks) => {
                 let front = Some(marks);
                 let base = Fronted { front, certificate };
-                write_sharply(alloc, instance, base, steps, finder, watcher, writer)
+                write_sharply(alloc, instance, base, steps, sharpener, watcher, writer)
             }
         }
     }

@@ -10,15 +10,14 @@ ghost use Rattle.pesp_tasks.specs.SharpSolving.{WritesSharpResumed};
 
 use crate::fronted::vouch;
 use pesp_cert::{Fronted, print_fronted};
-use pesp_finder::TimesFinder;
 use pesp_problem::Instance;
 use pesp_runs::{Fault, OnBase};
-use pesp_sharp_search::{SharpWatcher, resume_sharp};
+use pesp_sharp_search::{SharpWatcher, Sharpener, resume_sharp};
 use pesp_stream::Sink;
 use std::alloc::Global;
 
 /// A search that goes on from a certificate, with a front or without, by at most so many splits of open leaves, which marked walks
-/// sharpen, while a finder looks for times, as long as the watcher lets it, and writes the certificate that comes of it.
+/// sharpen, while a sharpener proposes and looks for times, as long as the watcher lets it, and writes the certificate that comes of it.
 ///
 /// What is written is the text of a certificate that is valid for the instance with its marked walks, so its answer is true. Its
 /// bound isn't below that of the certificate read, and its cost isn't above it; none counts as above every number. Its tree has at
@@ -26,17 +25,17 @@ use std::alloc::Global;
 #[derive(Drop)]
 pub struct ResumeSharp<F, T> {
     pub steps: u32,
-    pub finder: F,
+    pub sharpener: F,
     pub watcher: T,
 }
 
 /// Goes on from a certificate by marked walks, and writes what comes of it.
-pub(crate) fn write_sharply<F: TimesFinder, T: SharpWatcher, W: Sink>(
+pub(crate) fn write_sharply<F: Sharpener, T: SharpWatcher, W: Sink>(
     alloc: Global,
     instance: &Instance,
     base: Fronted,
     steps: u32,
-    finder: &mut F,
+    sharpener: &mut F,
     watcher: &mut T,
     writer: &mut W,
 ) -> Result<(), Fault>
@@ -53,13 +52,13 @@ pub(crate) fn write_sharply<F: TimesFinder, T: SharpWatcher, W: Sink>(
         (W.calls writer.old) (W.calls writer.new))))) }
     ensures silent { IfErr result (λ fault. fault ≢ Fault.Write → writer.new ≡ writer.old) }
 {
-    let fronted = resume_sharp(alloc, instance, base, steps, finder, watcher)?;
+    let fronted = resume_sharp(alloc, instance, base, steps, sharpener, watcher)?;
     vouch(instance, &fronted);
     print_fronted(&fronted, writer)?;
     Ok(())
 }
 
-impl<F: TimesFinder, T: SharpWatcher> OnBase for ResumeSharp<F, T> {
+impl<F: Sharpener, T: SharpWatcher> OnBase for ResumeSharp<F, T> {
     ghost use Rattle.std.specs.Prelude.{⊤};
     ghost use Rattle.pesp_runs.specs.Causes.{OutCause};
     ghost use Rattle.pesp_tasks.specs.SharpSolving.{WritesSharpResumed};
@@ -81,9 +80,9 @@ impl<F: TimesFinder, T: SharpWatcher> OnBase for ResumeSharp<F, T> {
     ) -> Result<(), Fault> {
         let ResumeSharp {
             steps,
-            finder,
+            sharpener,
             watcher,
         } = self;
-        write_sharply(alloc, instance, base, *steps, finder, watcher, writer)
+        write_sharply(alloc, instance, base, *steps, sharpener, watcher, writer)
     }
 }

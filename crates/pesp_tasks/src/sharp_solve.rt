@@ -2,14 +2,13 @@
 
 use crate::fronted::vouch;
 use pesp_cert::print_fronted;
-use pesp_finder::TimesFinder;
 use pesp_problem::Instance;
 use pesp_runs::{Fault, Search};
-use pesp_sharp_search::{SharpObserver, solve_sharp};
+use pesp_sharp_search::{SharpObserver, Sharpener, solve_sharp};
 use pesp_stream::Sink;
 use std::alloc::Global;
 
-/// A search by at most so many splits of a leaf, with leaves that marked walks sharpen, while a finder looks for times and an observer
+/// A search by at most so many splits of a leaf, with leaves that marked walks sharpen, while a sharpener proposes and looks for times and an observer
 /// looks on, which writes a certificate of what was found, with a front where it has one.
 ///
 /// What is written is the text of a certificate that is valid for the instance with its marked walks, so its answer is true. Its
@@ -19,11 +18,11 @@ use std::alloc::Global;
 #[derive(Drop)]
 pub struct SolveSharp<F, O> {
     pub steps: u32,
-    pub finder: F,
+    pub sharpener: F,
     pub observer: O,
 }
 
-impl<F: TimesFinder, O: SharpObserver> Search for SolveSharp<F, O> {
+impl<F: Sharpener, O: SharpObserver> Search for SolveSharp<F, O> {
     ghost use Rattle.std.specs.Prelude.{◌≤◌};
     ghost use Rattle.pesp_problem.specs.declared.limits.TheConstants.{MOST_STEPS};
     ghost use Rattle.pesp_tasks.specs.Solving.{SolutionStops};
@@ -45,10 +44,10 @@ impl<F: TimesFinder, O: SharpObserver> Search for SolveSharp<F, O> {
     ) -> Result<(), Fault> {
         let SolveSharp {
             steps,
-            finder,
+            sharpener,
             observer,
         } = self;
-        let found = solve_sharp(alloc, instance, times, *steps, finder, observer)?;
+        let found = solve_sharp(alloc, instance, times, *steps, sharpener, observer)?;
         vouch(instance, &found.fronted);
         print_fronted(&found.fronted, writer)?;
         Ok(())

@@ -2,25 +2,24 @@
 
 use crate::fronted::vouch;
 use pesp_cert::{Fronted, print_fronted};
-use pesp_finder::TimesFinder;
 use pesp_problem::Instance;
 use pesp_runs::{Fault, OnBase};
-use pesp_sharp_search::{Unwatched, work_sharp};
+use pesp_sharp_search::{Sharpener, Unwatched, work_sharp};
 use pesp_stream::Sink;
 use std::alloc::Global;
 
 /// Work on the open leaves of these numbers, which rise, of a certificate with a front or without, by at most so many splits in all of
-/// leaves below the bound, where one is named, while a finder looks for times; the certificate that comes of it is written. `NoJob`
+/// leaves below the bound, where one is named, while a sharpener proposes and looks for times; the certificate that comes of it is written. `NoJob`
 /// where no more leaves than one of the numbers are open.
 #[derive(Drop)]
 pub struct WorkSharp<'a, F> {
     pub steps: u32,
     pub until: Option<u64>,
     pub jobs: &'a [u64],
-    pub finder: F,
+    pub sharpener: F,
 }
 
-impl<F: TimesFinder> OnBase for WorkSharp<'_, F> {
+impl<F: Sharpener> OnBase for WorkSharp<'_, F> {
     ghost use Rattle.std.specs.Prelude.{◌⊎◌, ⊤};
     ghost use Rattle.pesp_runs.specs.Causes.{OutCause};
     ghost use Rattle.pesp_tasks.specs.SharpOutside.{SharpJobCause, WritesSharpWork};
@@ -44,10 +43,12 @@ impl<F: TimesFinder> OnBase for WorkSharp<'_, F> {
             steps,
             until,
             jobs,
-            finder,
+            sharpener,
         } = self;
         let watcher = &mut Unwatched;
-        match work_sharp(alloc, instance, base, jobs, *steps, *until, finder, watcher)? {
+        match work_sharp(
+            alloc, instance, base, jobs, *steps, *until, sharpener, watcher,
+        )? {
             Some(fronted) => {
                 vouch(instance, &fronted);
                 print_fronted(&fronted, writer)?;

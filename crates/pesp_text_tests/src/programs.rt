@@ -7,6 +7,8 @@ use crate::given::{device_of, text_of};
 use crate::pictures::{tell_bars, tell_shapes, tell_texts};
 use pesp_cases::split_word;
 use pesp_cli::status_of_words;
+use pesp_sharp_proposals::TreeSharpener;
+use pesp_times::TimesSearch;
 use std::alloc::Global;
 
 /// What is told of the end of a command line.
@@ -62,7 +64,8 @@ fn tell_pages(alloc: Global, status: u8, written: &[u8], told: &[u8]) -> Option<
 fn run(alloc: Global, lines: &[&str], input: &[u8], device: Device, command: &str) -> Option<End> {
     let words = words_with_name(alloc, command)?;
     let desk = Desk::new(alloc, lines, input, device)?;
-    let status = status_of_words(&desk, &words);
+    let sharpener = TreeSharpener::new(TimesSearch::new(alloc));
+    let status = status_of_words(&desk, &words, sharpener);
     Some(End {
         status,
         pages: desk.pages(),

@@ -15,7 +15,7 @@ const NEAR: i64 = UNIT / 1000;
 const NEARLY_WHOLE: i64 = UNIT / 8192;
 
 /// How many cuts are tried.
-const MOST_TRIED: usize = 8;
+const MOST_TRIED: usize = 4;
 
 /// A cut of the offsets that are left to a cycle: by what fraction, in 1/65536, the offset at the point is above the lower
 /// part, how many offsets there are beyond the least one, and how well it is thought of.

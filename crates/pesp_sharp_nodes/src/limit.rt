@@ -3,7 +3,10 @@
 /// How many units of a slack and of a fraction make up one.
 pub const UNIT: i64 = 1 << 16;
 
-/// What closes a leaf: a cost, and the same in 1/2^20.
+/// By how much less than a cost a value is enough that shows it, in 1/2^20: half of a unit is left to what rounding loses.
+const ENOUGH: i128 = 1 << 19;
+
+/// What closes a leaf: a cost, and a value in 1/2^20 that is enough to show it.
 #[derive(Clone, Copy)]
 pub struct Limit {
     pub cost: u64,
@@ -15,7 +18,7 @@ impl Limit {
     pub(crate) fn at(cost: u64) -> Limit {
         Limit {
             cost,
-            value: i128::from(cost).wrapping_mul(1 << 20),
+            value: i128::from(cost).wrapping_mul(1 << 20).wrapping_sub(ENOUGH),
         }
     }
 }

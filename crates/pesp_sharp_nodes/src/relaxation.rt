@@ -8,7 +8,7 @@ use pesp_dual::{Multiplier, Program};
 use std::alloc::{AllocError, Global};
 
 /// How many steps a call of the program has at a node.
-const STEPS: u32 = 150;
+const STEPS: u32 = 75;
 
 /// How many such calls there are at most.
 const CALLS: u32 = 10;
@@ -195,13 +195,29 @@ impl Relaxation {
         }
     }
 
-    /// Takes steps until the slacks cost what is shown but for 1/64, or the limit is reached.
-    pub fn solve_out(&mut self, limit: Limit) {
+    /// Sets the weight of the two sides.
+    fn set_balance(&mut self, alloc: Global, balance: i64) -> Result<(), AllocError> {
+        let mut point = self.program.point(alloc)?;
+        point.balance = balance;
+        self.program.set_point(&point);
+        Ok(())
+    }
+
+    /// Takes steps until the slacks cost what is shown but for 1/64, or the limit is reached. Each call begins with this balance
+    /// of the two sides: near the best multipliers steps are too short to measure it by, and it runs away.
+    pub(crate) fn solve_out(
+        &mut self,
+        alloc: Global,
+        balance: i64,
+        limit: Limit,
+    ) -> Result<(), AllocError> {
         for _ in 0..MORE_CALLS {
+            self.set_balance(alloc, balance)?;
             let value = self.program.run(MORE_STEPS, limit.value);
             if self.is_done(value, limit, true) {
-                return;
+                return Ok(());
             }
         }
+        Ok(())
     }
 }

@@ -6,7 +6,7 @@ use crate::node::Node;
 use crate::pool::Pool;
 use crate::relaxation::{NO_MULTIPLIER, Origin, Relaxation, filled};
 use crate::setting::Setting;
-use pesp_dual::Multiplier;
+use pesp_dual::{Multiplier, Program};
 use pesp_forest::Frame;
 use pesp_inequalities::{Inequality, Pass, Seen, Separator};
 use pesp_network::Network;
@@ -19,7 +19,7 @@ const ROUNDS: u32 = 2;
 const EACH: usize = 1;
 
 /// How many inequalities each round takes in at most.
-const MOST: usize = 100;
+const MOST: usize = 50;
 
 /// A multiplier that is told by a scale.
 fn multiplier_of(told: i64, scale: u32) -> Multiplier {
@@ -208,6 +208,21 @@ impl Sharpener {
         relaxation.settle(limit);
         let outcome = self.sharpen(&mut relaxation, limit);
         filled(relaxation, outcome)
+    }
+
+    /// The balance of the two sides that programs begin with.
+    fn first_balance(&self) -> Result<i64, AllocError> {
+        let rows = self.setting.frame.rows();
+        let program = Program::new(self.alloc, rows, self.setting.scale)?;
+        let point = program.point(self.alloc);
+        drop(program);
+        Ok(point?.balance)
+    }
+
+    /// Takes steps over a program until little is left to be gained, or the limit is reached.
+    pub fn solve_out(&self, relaxation: &mut Relaxation, limit: Limit) -> Result<(), AllocError> {
+        let balance = self.first_balance()?;
+        relaxation.solve_out(self.alloc, balance, limit)
     }
 
     /// The inequalities of a program that nothing keeps go.

@@ -4,7 +4,7 @@ use pesp_cert::{Fronted, Marks};
 use pesp_network::{NetRow, Network};
 
 /// The least scale of leaves that name a marked walk, where weights allow it.
-const LEAST_SCALE: u32 = 65_536;
+const LEAST_SCALE: u32 = 524_288;
 
 /// The greatest scale of a text.
 const MOST_SCALE: u32 = 1_000_000;

@@ -211,14 +211,13 @@ impl Sharpening {
         Ok(true)
     }
 
-    /// Leaves go on by primal-dual steps, and multipliers are told as at first.
+    /// Leaves go on by primal-dual steps.
     fn leave_shared(&mut self) {
         if let Some(shared) = &self.shared {
             shared.leave(&mut self.sharpener.pool);
         }
         self.shared = None;
         self.carried = None;
-        self.sharpener.setting.scale = self.first_scale;
     }
 
     /// Cycles that are given stand before the others, and no cut has gained anything.

@@ -6,7 +6,10 @@ use pesp_sharp_nodes::{Cut, Limit, NO_MULTIPLIER, Relaxation, Setting, Side, UNI
 use std::alloc::{AllocError, Global};
 
 /// How many steps a trial has in each part.
-const STEPS: u32 = 50;
+const STEPS: u32 = 30;
+
+/// After how many cuts in a row that are no better the rest isn't tried.
+const NO_BETTER: u32 = 2;
 
 /// What is added to each gain before they are multiplied, in 1/2^20.
 const LEAST_GAIN: i128 = 1 << 16;
@@ -68,11 +71,18 @@ impl Trial<'_> {
     ) -> Result<Option<Cut>, AllocError> {
         let mut best = None;
         let mut most = -1i128;
+        let mut no_better = 0u32;
         for candidate in list {
             let score = self.score(alloc, relaxation, experience, *candidate)?;
             if score > most {
                 most = score;
                 best = Some(candidate.cut);
+                no_better = 0;
+            } else {
+                no_better = no_better.saturating_add(1);
+            }
+            if no_better >= NO_BETTER {
+                break;
             }
         }
         Ok(best)

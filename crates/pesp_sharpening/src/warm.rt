@@ -11,17 +11,16 @@ use pesp_warm_nodes::{Basis, End, Shared, Shown, note};
 use std::alloc::AllocError;
 use std::mem::swap;
 
-/// Down to which depth inequalities are sought.
+/// Down to which depth inequalities are sought, and down to which where there are many rows.
 const NEAR_ROOT: u32 = 6;
+
+const NEARER_ROOT: u32 = 3;
+
+/// How many rows aren't many.
+const FEW_ROWS: usize = 1_200;
 
 /// A part of a leaf is gone on with at once within one such part of what is left to the limit.
 const WINDOW: u64 = 50;
-
-/// The scale of multipliers, where it isn't greater already.
-const FINE_SCALE: u32 = 1 << 19;
-
-/// The greatest weight for which that scale has texts.
-const MOST_WEIGHT: u64 = 100_000;
 
 /// The leaf that is split: its place, what it shows, and how many branches lead to it.
 #[derive(Clone, Copy)]
@@ -42,19 +41,6 @@ fn leaf_of(shown: Shown) -> (Leaf, u64) {
 }
 
 impl Sharpening {
-    /// Multipliers are told by a finer scale, where that has texts for them.
-    fn refine(&mut self) {
-        let setting = &mut self.sharpener.setting;
-        let is_light = setting
-            .frame
-            .rows()
-            .iter()
-            .all(|row| row.weight <= MOST_WEIGHT);
-        if is_light {
-            setting.scale = setting.scale.max(FINE_SCALE);
-        }
-    }
-
     /// How many units of a multiplier that is told make up one.
     pub fn scale(&self) -> u32 {
         self.sharpener.setting.scale
@@ -92,7 +78,6 @@ impl Sharpening {
         if !shared.suits(limit)? {
             return Ok(false);
         }
-        self.refine();
         shared.look_at_root(&mut self.sharpener, limit)?;
         self.renew_warm(shared, 0, 0, limit)?;
         let basis = shared.basis(0)?;
@@ -175,6 +160,17 @@ impl Sharpening {
         worked
     }
 
+    /// Whether inequalities are sought at a depth.
+    fn seeks_at(&self, depth: u32) -> bool {
+        let rows = self.sharpener.setting.frame.rows().len();
+        let deepest = if rows > FEW_ROWS {
+            NEARER_ROOT
+        } else {
+            NEAR_ROOT
+        };
+        depth <= deepest
+    }
+
     /// Goes to an open leaf, and solves it.
     fn enter(
         &mut self,
@@ -191,7 +187,7 @@ impl Sharpening {
             shared.enter(&mut self.sharpener, basis)?;
         }
         let end = shared.solve_out(&self.sharpener.setting, limit)?;
-        if end == End::Best && basis.depth <= NEAR_ROOT {
+        if end == End::Best && self.seeks_at(basis.depth) {
             return shared.sharpen(&mut self.sharpener, limit);
         }
         Ok(end)

@@ -86,7 +86,7 @@ impl<R: Eprint + Clock> Watcher for Watch<'_, R> {
 
     ghost has_ended = { λ w. w.ended ≡ true };
 
-    ghost was_told = { λ _ _. ⊤ };
+    ghost has_said = { λ _ _ _. ⊤ };
 
     fn goes_on(&mut self, steps_used: u32, board: &Board) -> bool {
         if let Some(milestones) = &mut self.milestones {

@@ -1,5 +1,5 @@
 -- How a search that goes on from a certificate ends, one look after the other.
-use Rattle.std.proofs.Common.{◌≡◌, ◌⊎◌, ℕ, ◌+◌, ◌<◌, ◌≤◌, List, [], ◌∷◌, length, length-append, refl, inl, inr, ap, sym, ◌∙◌, subst, arith}
+use Rattle.std.proofs.Common.{◌≡◌, ◌≢◌, ◌⊎◌, ℕ, ◌+◌, ◌<◌, ◌≤◌, Bool, true, false, List, [], ◌∷◌, length, length-append, refl, inl, inr, ap, sym, ◌∙◌, subst, arith}
 use Rattle.std.specs.Prelude.{Some, None, Result, Ok, Err, IfOk}
 use Rattle.std.proofs.lemmas.List.{length-set}
 use Rattle.pesp_truth.specs.Certificates.{Content}
@@ -217,57 +217,68 @@ certified_ends a steps stopped state done (Err x) h used ending s = tt
 
 -- ---- what the watcher is told
 
--- each number of leaves that were split so far was told
-abbrev pub AreToldTo : (ℕ → Type 0) → ℕ → Type 0
-AreToldTo told used = (n : ℕ) → 1 ≤ n → n ≤ used → told n
+-- each number of leaves that were split so far was told, and the answer was to go on
+abbrev pub AreToldTo : (ℕ → Bool → Type 0) → ℕ → Type 0
+AreToldTo said used = (n : ℕ) → 1 ≤ n → n ≤ used → said n true
 
-pub none_told : (told : ℕ → Type 0) → AreToldTo told 0
-none_told told n some few = absurd (omega (arith, some, few))
+pub none_told : (said : ℕ → Bool → Type 0) → AreToldTo said 0
+none_told said n some few = absurd (omega (arith, some, few))
 
 before_or_last : (n used more : ℕ) → more ≤ 1 → n ≤ used + more → (n ≤ used) ⊎ (n ≡ used + more)
 before_or_last n used more one few = grind arith
 
-pub told_more : (was now : ℕ → Type 0) (used more : ℕ) → more ≤ 1 → AreToldTo was used
-    → ((n : ℕ) → was n → now n) → now (used + more) → AreToldTo now (used + more)
-told_more was now used more one before kept last n some few = elim (before_or_last n used more one few) [
-  | inl early ↦ kept n (before n some early)
-  | inr same ↦ subst now (sym same) last
+pub told_more : (was now : ℕ → Bool → Type 0) (used more : ℕ) (answer : Bool) → more ≤ 1 → AreToldTo was used
+    → ((n : ℕ) (b : Bool) → was n b → now n b) → answer ≡ true → now (used + more) answer → AreToldTo now (used + more)
+told_more was now used more answer one before kept go last n some few = elim (before_or_last n used more one few) [
+  | inl early ↦ kept n true (before n some early)
+  | inr same ↦ subst (λ (m : ℕ). now m true) (sym same) (subst (now (used + more)) go last)
 ]
 
+-- where the answer is to end
+pub told_stop : (was now : ℕ → Bool → Type 0) (used more : ℕ) (answer : Bool) → more ≤ 1 → AreToldTo was used
+    → ((n : ℕ) (b : Bool) → was n b → now n b) → answer ≡ false → now (used + more) answer
+    → AreTold now (used + more) Stopped
+told_stop was now used more answer one before kept stop last =
+    (λ n some less. kept n true (before n some (omega (arith, less, one))), subst (now (used + more)) stop last)
+
 -- where the search ends by itself, the last number may be missing
-pub told_before : (told : ℕ → Type 0) (used more : ℕ) (turn : TurnsEnding) (ending : Ending) → ending_of turn ≡ Some ending
-    → more ≤ 1 → AreToldTo told used → AreTold told (used + more) ending
-told_before told used more turns.StepsUsed ending e one before = cc
-told_before told used more turns.NoneOpen ending e one before =
-    (let same : NoneOpen ≡ ending = cc in subst (AreTold told (used + more)) same
+pub told_before : (said : ℕ → Bool → Type 0) (used more : ℕ) (turn : TurnsEnding) (ending : Ending)
+    → ending_of turn ≡ Some ending → more ≤ 1 → AreToldTo said used → AreTold said (used + more) ending
+told_before said used more turns.StepsUsed ending e one before = cc
+told_before said used more turns.NoneOpen ending e one before =
+    (let same : NoneOpen ≡ ending = cc in subst (AreTold said (used + more)) same
     (λ n some less. before n some (omega (arith, less, one))))
-told_before told used more turns.NumbersSpent ending e one before =
-    (let same : Full ≡ ending = cc in subst (AreTold told (used + more)) same
+told_before said used more turns.NumbersSpent ending e one before =
+    (let same : Full ≡ ending = cc in subst (AreTold said (used + more)) same
     (λ n some less. before n some (omega (arith, less, one))))
-told_before told used more turns.TreeTooLarge ending e one before =
-    (let same : Full ≡ ending = cc in subst (AreTold told (used + more)) same
+told_before said used more turns.TreeTooLarge ending e one before =
+    (let same : Full ≡ ending = cc in subst (AreTold said (used + more)) same
     (λ n some less. before n some (omega (arith, less, one))))
-told_before told used more turns.TurnsUsed ending e one before = cc
+told_before said used more turns.TurnsUsed ending e one before = cc
 
-pub told_full : (told : ℕ → Type 0) (used : ℕ) → AreToldTo told used → AreTold told used Full
-told_full told used before = λ n some less. before n some (omega (arith, less))
+pub told_full : (said : ℕ → Bool → Type 0) (used : ℕ) → AreToldTo said used → AreTold said used Full
+told_full said used before = λ n some less. before n some (omega (arith, less))
 
--- without a split there is no number to tell
-nothing_to_tell : (told : ℕ → Type 0) (ending : Ending) → AreTold told 0 ending
-nothing_to_tell told StepsUsed = λ n some few. absurd (omega (arith, some, few))
-nothing_to_tell told NoneOpen = λ n some less. absurd (omega (arith, some, less))
-nothing_to_tell told Full = λ n some less. absurd (omega (arith, some, less))
-nothing_to_tell told Stopped = λ n some few. absurd (omega (arith, some, few))
+-- without a split there is no number to tell, where the search ends by itself
+pub nothing_to_tell : (said : ℕ → Bool → Type 0) (p : ProblemValue) (old new : State) (ending : Ending)
+    → IsEndedAs p 0 ⊥ old new 0 ending → AreTold said 0 ending
+nothing_to_tell said p old new StepsUsed h = λ n some few. absurd (omega (arith, some, few))
+nothing_to_tell said p old new NoneOpen h = λ n some less. absurd (omega (arith, some, less))
+nothing_to_tell said p old new Full h = λ n some less. absurd (omega (arith, some, less))
+nothing_to_tell said p old new Stopped h = absurd h
 
-pub nothing_told : {E : Type 0} (told : ℕ → Type 0) (r : Result Done E) → IfOk r (λ d. d.used ≡ 0)
-    → IfOk r (λ d. AreTold told d.used d.ending)
-nothing_told told (Ok d) used =
-    subst (λ (n : ℕ). AreTold told n d.ending) (sym used) (nothing_to_tell told d.ending)
-nothing_told told (Err x) used = tt
+-- without a split, where the answer is to end
+pub stopped_at_once : (said : ℕ → Bool → Type 0) (answer : Bool) → answer ≡ false → said 0 answer → AreTold said 0 Stopped
+stopped_at_once said answer stop last = (λ n some less. absurd (omega (arith, some, less)), subst (said 0) stop last)
 
-pub certified_told : {E : Type 0} (told : ℕ → Type 0) (done : Done) (r : Result Resumed E)
-    → AreTold told done.used done.ending → IfOk r (λ x. x.steps_used ≡ done.used)
-    → IfOk r (λ x. x.ending ≡ done.ending) → IfOk r (λ x. AreTold told x.steps_used x.ending)
-certified_told told done (Ok x) h used ending =
-    subst (λ (n : ℕ). AreTold told n x.ending) (sym used) (subst (AreTold told done.used) (sym ending) h)
-certified_told told done (Err x) h used ending = tt
+pub certified_told : {E : Type 0} (said : ℕ → Bool → Type 0) (done : Done) (r : Result Resumed E)
+    → AreTold said done.used done.ending → IfOk r (λ x. x.steps_used ≡ done.used)
+    → IfOk r (λ x. x.ending ≡ done.ending) → IfOk r (λ x. AreTold said x.steps_used x.ending)
+certified_told said done (Ok x) h used ending =
+    subst (λ (n : ℕ). AreTold said n x.ending) (sym used) (subst (AreTold said done.used) (sym ending) h)
+certified_told said done (Err x) h used ending = tt
+
+pub certified_heeded : {E : Type 0} {A B : Type 0} (done : Done) (r : Result Resumed E)
+    → IfOk r (λ x. x.ending ≡ done.ending) → (done.ending ≢ Stopped → A → B) → IfOk r (λ x. x.ending ≢ Stopped → A → B)
+certified_heeded done (Ok x) ending h = λ other. h (λ e. other (ending ∙ e))
+certified_heeded done (Err x) ending h = tt

@@ -1,5 +1,5 @@
 -- How a search that goes on from a certificate ends.
-use Rattle.std.specs.Prelude.{◌≡◌, ◌⊎◌, ℕ, ◌<◌, ◌≤◌, List, length, Option, Some, None}
+use Rattle.std.specs.Prelude.{◌≡◌, ◌⊎◌, ℕ, ◌<◌, ◌≤◌, Bool, true, false, List, length, Option, Some, None}
 use Rattle.pesp_problem.specs.declared.limits.TheConstants.{MOST_LINES}
 use Rattle.pesp_problem.specs.declared.cut.Cut.{Cut}
 use Rattle.pesp_problem.specs.declared.cut.Side.{Side}
@@ -38,9 +38,10 @@ IsEndedAs p steps stopped opening state used NoneOpen = IsNoneLeft p state
 IsEndedAs p steps stopped opening state used Full = IsFull p steps opening state
 IsEndedAs p steps stopped opening state used Stopped = stopped
 
--- each number of leaves that were split was told, but maybe the last one, where nothing is left to split or a limit is met
-abbrev pub AreTold : (ℕ → Type 0) → ℕ → Ending → Type 0
-AreTold told used StepsUsed = (n : ℕ) → 1 ≤ n → n ≤ used → told n
-AreTold told used NoneOpen = (n : ℕ) → 1 ≤ n → n < used → told n
-AreTold told used Full = (n : ℕ) → 1 ≤ n → n < used → told n
-AreTold told used Stopped = (n : ℕ) → 1 ≤ n → n ≤ used → told n
+-- each number of leaves that were split was told, and the answer was to go on; but maybe the last one, where nothing is
+-- left to split, a limit is met, or the answer was to end
+abbrev pub AreTold : (ℕ → Bool → Type 0) → ℕ → Ending → Type 0
+AreTold said used StepsUsed = (n : ℕ) → 1 ≤ n → n ≤ used → said n true
+AreTold said used NoneOpen = (n : ℕ) → 1 ≤ n → n < used → said n true
+AreTold said used Full = (n : ℕ) → 1 ≤ n → n < used → said n true
+AreTold said used Stopped = ((n : ℕ) → 1 ≤ n → n < used → said n true) × said used false

@@ -1,6 +1,6 @@
 //! Searches that go on from a certificate.
 
-ghost use Rattle.std.specs.Prelude.{◌≡◌, ◌≤◌, IfOk, OnOk, None};
+ghost use Rattle.std.specs.Prelude.{◌≡◌, ◌≢◌, ◌≤◌, IfOk, OnOk, None};
 ghost use Rattle.pesp_truth.specs.Certificates.{IsValid};
 ghost use Rattle.pesp_machine.specs.Certificates.{IsProblemOf};
 ghost use Rattle.pesp_turns.specs.Knowing.{IsKnown};
@@ -55,6 +55,9 @@ fn look_anew<F: TimesFinder, W: Watcher>(
     ensures ended { IfOk result (λ done. IsEndedAs search.old.board.problem 0
         (W.may_end watcher.old × W.has_ended watcher.new) search.old.board.state
         search.new.board.state 0 done.ending) }
+    ensures told { IfOk result (λ done. AreTold (W.has_said watcher.new) done.used done.ending) }
+    ensures heeded { IfOk result
+        (λ done. done.ending ≢ Ending.Stopped → W.has_ended watcher.new → W.has_ended watcher.old) }
     ensures grows { IfOk result (λ done. Grows search.old.board.problem 0
         search.old.board.state search.new.board.state) }
 {
@@ -80,7 +83,9 @@ fn go_on<F: TimesFinder, W: Watcher>(
         (λ done. IsEndedAs search.old.board.problem steps
         (W.may_end watcher.old × W.has_ended watcher.new) search.old.board.state
         search.new.board.state done.used done.ending) }
-    ensures told { IfOk result (λ done. AreTold (W.was_told watcher.new) done.used done.ending) }
+    ensures told { IfOk result (λ done. AreTold (W.has_said watcher.new) done.used done.ending) }
+    ensures heeded { IfOk result
+        (λ done. done.ending ≢ Ending.Stopped → W.has_ended watcher.new → W.has_ended watcher.old) }
 {
     if steps == 0 {
         return look_anew(alloc, search, finder, watcher);
@@ -124,7 +129,9 @@ fn resume_search<F: TimesFinder, W: Watcher>(
         (λ r. IsEndedAs search.old.board.problem steps
         (W.may_end watcher.old × W.has_ended watcher.new) search.old.board.state
         search.new.board.state r.steps_used r.ending) }
-    ensures told { IfOk result (λ r. AreTold (W.was_told watcher.new) r.steps_used r.ending) }
+    ensures told { IfOk result (λ r. AreTold (W.has_said watcher.new) r.steps_used r.ending) }
+    ensures heeded { IfOk result
+        (λ r. r.ending ≢ Ending.Stopped → W.has_ended watcher.new → W.has_ended watcher.old) }
 {
     finder.look_at(search.known.reduced.network())?;
     let done = go_on(alloc, search, steps, finder, watcher)?;
@@ -150,8 +157,9 @@ fn search_from(alloc: Global, instance: &Instance, base: &Certificate) -> Result
 /// What comes of it is a valid certificate. Its bound isn't below the base's, and its cost isn't above the base's; none counts as
 /// above every number. Its tree has as many branches more as leaves were split. It ends before all splits are used only where
 /// nothing is left to split at a leaf that is worth less than the best times, where a limit is met, or where the watcher ended
-/// it. The watcher was told each number of leaves that were split, but maybe the last one, where nothing is left to split or a
-/// limit is met. The one refusal is of memory.
+/// it. The watcher was told each number of leaves that were split, and said that the search goes on; but maybe the last one, where
+/// nothing is left to split, a limit is met or the watcher ended it. Where the watcher ended it, that is what is told. The one
+/// refusal is of memory.
 pub fn resume<F: TimesFinder, W: Watcher>(
     alloc: Global,
     instance: &Instance,
@@ -164,7 +172,9 @@ pub fn resume<F: TimesFinder, W: Watcher>(
     ensures resumed { IfOk result
         (λ r. IsResumed instance.now base.now steps
         (W.may_end watcher.old × W.has_ended watcher.new) r.steps_used r.ending r.certificate) }
-    ensures told { IfOk result (λ r. AreTold (W.was_told watcher.new) r.steps_used r.ending) }
+    ensures told { IfOk result (λ r. AreTold (W.has_said watcher.new) r.steps_used r.ending) }
+    ensures heeded { IfOk result
+        (λ r. r.ending ≢ Ending.Stopped → W.has_ended watcher.new → W.has_ended watcher.old) }
 {
     // Both keep their limits.
     instance.events();

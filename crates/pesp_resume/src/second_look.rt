@@ -1,9 +1,9 @@
 //! Open leaves are looked at anew: each gets the best pairs that are found from its own.
 
-ghost use Rattle.std.specs.Prelude.{◌≡◌, length, IfOk, IfSome};
+ghost use Rattle.std.specs.Prelude.{◌≡◌, ◌≢◌, length, IfOk, IfSome};
 ghost use Rattle.pesp_turns.specs.Growing.{Grows};
 ghost use Rattle.pesp_search_laws.specs.Turns.{splits_of};
-ghost use Rattle.pesp_resume.specs.Endings.{IsEndedAs};
+ghost use Rattle.pesp_resume.specs.Endings.{IsEndedAs, AreTold};
 ghost use Rattle.pesp_resume.specs.Looking.{IsLentTo, IsNext, IsLook};
 
 use crate::ending::Ending;
@@ -137,6 +137,9 @@ pub(crate) fn look_again<W: Watcher>(
         (λ ending. Grows board.old.problem 0 board.old.state board.new.state) }
     ensures ended { IfOk result (IsEndedAs board.old.problem 0
         (W.may_end watcher.old × W.has_ended watcher.new) board.old.state board.new.state 0) }
+    ensures told { IfOk result (AreTold (W.has_said watcher.new) 0) }
+    ensures heeded { IfOk result
+        (λ ending. ending ≢ Ending.Stopped → W.has_ended watcher.new → W.has_ended watcher.old) }
 {
     for _look in 0..MOST_LOOKS {
         if let Some(ending) = look_at_next(alloc, board)? {

@@ -1,6 +1,6 @@
 //! Open leaves are split, one after the other.
 
-ghost use Rattle.std.specs.Prelude.{◌≡◌, ◌<◌, ◌≤◌, IfOk};
+ghost use Rattle.std.specs.Prelude.{◌≡◌, ◌≢◌, ◌<◌, ◌≤◌, IfOk};
 ghost use Rattle.pesp_turns.specs.Knowing.{IsKnown};
 ghost use Rattle.pesp_turns.specs.Growing.{Grows};
 ghost use Rattle.pesp_turns.specs.Endings.{AreLentSettled, EndsAs};
@@ -71,7 +71,9 @@ pub(crate) fn split_leaves<F: TimesFinder, W: Watcher>(
         → IfOk result (λ done. IsEndedAs search.old.board.problem steps
         (W.may_end watcher.old × W.has_ended watcher.new) search.old.board.state
         search.new.board.state done.used done.ending) }
-    ensures told { IfOk result (λ done. AreTold (W.was_told watcher.new) done.used done.ending) }
+    ensures told { IfOk result (λ done. AreTold (W.has_said watcher.new) done.used done.ending) }
+    ensures heeded { IfOk result
+        (λ done. done.ending ≢ Ending.Stopped → W.has_ended watcher.new → W.has_ended watcher.old) }
 {
     let mut used = 0;
     for _look in 0..MOST_LOOKS {

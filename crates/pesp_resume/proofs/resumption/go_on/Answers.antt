@@ -1,4 +1,4 @@
-use Rattle.pesp_resume.proofs.Endings.{none_split, nothing_told}
+use Rattle.pesp_resume.proofs.Endings.{none_split}
 use Rattle.pesp_resume.proofs.resumption.go_on.Goals as goal
 
 pub returns-then-steps-eq0-clause-ends : goal.returns-then-steps-eq0-clause-ends
@@ -6,6 +6,3 @@ returns-then-steps-eq0-clause-ends g c settled =
     none_split c.args.search.now.board.problem c.args.steps _ c.args.search.now.board.state
     c.look_anew.new.search.board.state c.look_anew.result c.if-steps-eq0.true c.look_anew.ensures.none
     c.look_anew.ensures.ended
-
-pub returns-then-steps-eq0-clause-told : goal.returns-then-steps-eq0-clause-told
-returns-then-steps-eq0-clause-told g c = nothing_told _ c.look_anew.result c.look_anew.ensures.none

@@ -8,7 +8,8 @@ abbrev pub invariant-loop-look : goal.invariant-loop-look
 invariant-loop-look g l = record {
   known : IsKnown l.search.board.problem l.search.known;
   watch : g.W.Watcher.may_end l.watcher → g.W.Watcher.may_end l.fn.watcher;
-  told : AreToldTo (g.W.Watcher.was_told l.watcher) l.used;
+  heeded : g.W.Watcher.has_ended l.watcher → g.W.Watcher.has_ended l.fn.watcher;
+  told : AreToldTo (g.W.Watcher.has_said l.watcher) l.used;
   same : l.search.known ≡ l.fn.search.known;
   looks : AreLooks l.fn.search.board.problem l.search.board.problem l.fn.search.known.reduced l._look
       l.fn.search.board.state l.search.board.state;

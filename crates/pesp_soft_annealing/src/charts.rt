@@ -12,11 +12,11 @@ const LENGTH: usize = 128;
 #[derive(Drop)]
 pub(crate) struct Charts {
     period: u32,
-    charts: Vec<[i16; LENGTH]>,
+    charts: Vec<[u16; LENGTH]>,
 }
 
 /// Writes what the slacks of a row cost into the first places of its chart.
-fn draw(chart: &mut [i16], period: u32, row: &Activity, tent: &Tent, scale: &Scale) {
+fn draw(chart: &mut [u16], period: u32, row: &Activity, tent: &Tent, scale: &Scale) {
     let mut slack = 0u32;
     for slot in chart.iter_mut().take(period as usize) {
         *slot = scale.units(tent.cost(period, row, slack));
@@ -25,7 +25,7 @@ fn draw(chart: &mut [i16], period: u32, row: &Activity, tent: &Tent, scale: &Sca
 }
 
 /// Writes the first costs again into the other places.
-fn repeat(chart: &mut [i16], period: usize) -> Option<()> {
+fn repeat(chart: &mut [u16], period: usize) -> Option<()> {
     for place in period..LENGTH {
         let cost = chart.get(place.wrapping_sub(period)).copied()?;
         *chart.get_mut(place)? = cost;
@@ -52,10 +52,13 @@ impl Charts {
     }
 
     /// What 64 slacks of a row cost, from one of them on.
-    pub(crate) fn from(&self, row: u32, slack: u32) -> Option<&[i16]> {
+    pub(crate) fn from(&self, row: u32, slack: u32) -> Option<&[u16; 64]> {
         let first = slack as usize;
-        self.charts
+        let costs = self
+            .charts
             .get(row as usize)?
-            .get(first..first.wrapping_add(64))
+            .get(first..first.wrapping_add(64))?;
+        let (whole, _) = costs.as_chunks::<64>();
+        whole.first()
     }
 }

@@ -3,12 +3,14 @@
 use crate::settings::MOST_CROSSINGS;
 use crate::stars::{Part, stars};
 use pesp_clusters::{Activity, Crossing};
+use pesp_search_tools::guarded::{number, set_number};
 use pesp_search_tools::{Groups, Random};
 use std::alloc::{AllocError, Global};
 
 /// The components that are shifted: each event, and each component that two others make as a forest grows, where few rows cross.
 /// `crossings` has the stars of all events in front, and then the crossings of components; `parts` tells which are whose, in the
-/// order of the visits; and `of` which are those of the component that is told apart by an event.
+/// order of the visits; and `of` which are those of the component that is told apart by an event. `marks` tells rows apart where two components are made
+/// one, by the last mark and the one behind it.
 #[derive(Drop)]
 pub(crate) struct Components {
     crossings: Vec<Crossing>,
@@ -17,6 +19,8 @@ pub(crate) struct Components {
     parts: Vec<Part>,
     of: Vec<Option<Part>>,
     groups: Groups,
+    marks: Vec<u32>,
+    last_mark: u32,
 }
 
 /// A part, unless too many rows cross.
@@ -44,6 +48,8 @@ impl Components {
             parts: Vec::new(alloc),
             of: vec![in alloc; None; events as usize]?,
             groups: Groups::apart(alloc, events)?,
+            marks: vec![in alloc; 0u32; rows.len()]?,
+            last_mark: 0,
         })
     }
 
@@ -80,27 +86,34 @@ impl Components {
         Ok(())
     }
 
-    /// Whether a crossing of a part leads out of the component.
-    fn leads_out(&mut self, rows: &[Activity], crossing: Crossing, last: u32) -> bool {
-        match rows.get(crossing.row as usize) {
-            Some(row) => self.groups.last_of(row.beyond(crossing.grows)) != Some(last),
-            None => false,
+    /// Marks the rows of a part, and those that have the mark already by the next one.
+    fn mark(&mut self, part: Part) {
+        let crossings = self
+            .crossings
+            .get(part.start as usize..part.end as usize)
+            .unwrap_or(&[]);
+        for crossing in crossings {
+            let is_marked = number(&self.marks, crossing.row) == Some(self.last_mark);
+            let mark = self.last_mark.wrapping_add(u32::from(is_marked));
+            set_number(&mut self.marks, crossing.row, mark);
         }
     }
 
-    /// Lists those of these crossings that lead out of a component.
-    fn list_out(
-        &mut self,
-        rows: &[Activity],
-        from: u32,
-        to: u32,
-        last: u32,
-    ) -> Result<(), AllocError> {
+    /// Marks the rows of two parts: those that both have, which lead from one to the other, by the mark behind that of the rest.
+    fn mark_both(&mut self, one: Part, other: Part) {
+        self.last_mark = self.last_mark.wrapping_add(2);
+        self.mark(one);
+        self.mark(other);
+    }
+
+    /// Lists those of these crossings of two parts that lead out of both.
+    fn list_out(&mut self, from: u32, to: u32) -> Result<(), AllocError> {
+        let inner = self.last_mark.wrapping_add(1);
         for place in from..to {
             let Some(crossing) = self.crossings.get(place as usize).copied() else {
                 return Ok(());
             };
-            if self.leads_out(rows, crossing, last) {
+            if number(&self.marks, crossing.row) != Some(inner) {
                 self.crossings.push(crossing)?;
             }
         }
@@ -108,25 +121,31 @@ impl Components {
     }
 
     /// Lists the crossings of a component that two parts make.
-    fn list_both(
-        &mut self,
-        rows: &[Activity],
-        one: Part,
-        other: Part,
-        last: u32,
-    ) -> Result<Part, AllocError> {
+    fn list_both(&mut self, one: Part, other: Part) -> Result<Part, AllocError> {
+        self.mark_both(one, other);
         let start = self.count();
-        self.list_out(rows, one.start, one.wide, last)?;
-        self.list_out(rows, other.start, other.wide, last)?;
+        self.list_out(one.start, one.falls)?;
+        self.list_out(other.start, other.falls)?;
+        let falls = self.count();
+        self.list_out(one.falls, one.wide)?;
+        self.list_out(other.falls, other.wide)?;
         let wide = self.count();
-        self.list_out(rows, one.wide, one.end, last)?;
-        self.list_out(rows, other.wide, other.end, last)?;
-        let end = self.count();
-        Ok(Part { start, wide, end })
+        self.list_out(one.wide, one.grows)?;
+        self.list_out(other.wide, other.grows)?;
+        let grows = self.count();
+        self.list_out(one.grows, one.end)?;
+        self.list_out(other.grows, other.end)?;
+        Ok(Part {
+            start,
+            falls,
+            wide,
+            grows,
+            end: self.count(),
+        })
     }
 
     /// Lists the crossings of the component that a row of the forest makes of two, unless there are too many.
-    fn join(&mut self, rows: &[Activity], row: &Activity) -> Result<(), AllocError> {
+    fn join(&mut self, row: &Activity) -> Result<(), AllocError> {
         let (Some(here), Some(there)) = (
             self.groups.last_of(row.tail),
             self.groups.last_of(row.head),
@@ -138,7 +157,7 @@ impl Components {
         let other = self.of.get(there as usize).copied().unwrap_or(None);
         let mut short = None;
         if let (Some(one), Some(other)) = (one, other) {
-            let part = self.list_both(rows, one, other, there)?;
+            let part = self.list_both(one, other)?;
             short = if_short(part);
             match short {
                 Some(part) => self.add(part)?,
@@ -156,7 +175,7 @@ impl Components {
         self.part()?;
         for place in forest {
             if let Some(row) = rows.get(*place as usize) {
-                self.join(rows, row)?;
+                self.join(row)?;
             }
         }
         Ok(())

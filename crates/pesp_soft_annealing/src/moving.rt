@@ -3,10 +3,10 @@
 use crate::charts::Charts;
 use crate::curve::Curve;
 use crate::scale::Scale;
-use crate::shifts::Shifts;
+use crate::shifts::{Shifts, in_units};
 use crate::tent::Tent;
 use pesp_annealing::{Choices, Heat, Steps};
-use pesp_clusters::{Activity, Crossing};
+use pesp_clusters::{Activity, Crossing, difference_within, sum_within};
 use pesp_network::Network;
 use pesp_search_tools::Random;
 use std::alloc::{AllocError, Global};
@@ -16,6 +16,7 @@ use std::alloc::{AllocError, Global};
 pub(crate) struct Moving {
     period: u32,
     rows: Vec<Activity>,
+    slacks: Vec<u32>,
     tents: Vec<Tent>,
     scale: Scale,
     charts: Charts,
@@ -46,6 +47,7 @@ impl Moving {
         let mut made = Moving {
             period,
             rows,
+            slacks: Vec::from_slice(alloc, slacks)?,
             tents,
             scale: Scale::of(1),
             charts,
@@ -53,7 +55,7 @@ impl Moving {
             random: Random::new(seed),
             choices: Choices::none(),
             curve: Curve::new(period),
-            shifts: Shifts::new(),
+            shifts: Shifts::new(period),
         };
         made.count_cost();
         Ok(made)
@@ -100,26 +102,65 @@ impl Moving {
         Some(())
     }
 
-    /// Finds what the shifts cost in a long period.
-    fn find_curve(&mut self, steps: &Steps, crossings: &[Crossing]) -> Option<()> {
+    /// Draws one of all shifts in a long period, by weight.
+    fn visit_long(&mut self, crossings: &[Crossing]) -> Option<()> {
+        let steps = Steps::draw(self.period, &mut self.random);
         let mut costs = [0i64; 64];
-        self.curve.find(steps, &self.rows, &self.tents, crossings)?;
+        self.curve.find(&steps, &self.rows, &self.tents, crossings)?;
         self.curve.write(&mut costs);
-        self.shifts.take(&costs, &self.scale);
+        let units = in_units(&costs, &self.scale);
+        let place = self.shifts.draw(units, &mut self.random)?;
+        self.make(crossings, &steps, place)
+    }
+
+    /// Shifts slacks of a short period by an amount.
+    fn shift(&mut self, crossings: &[Crossing], amount: u32) -> Option<()> {
+        for crossing in crossings {
+            let slack = self.slacks.get_mut(crossing.row as usize)?;
+            *slack = if crossing.grows {
+                sum_within(self.period, *slack, amount)
+            } else {
+                difference_within(self.period, *slack, amount)
+            };
+        }
         Some(())
     }
 
-    /// Draws one of all shifts, by weight.
-    pub(crate) fn visit_softly(&mut self, crossings: &[Crossing]) -> Option<()> {
-        let steps = Steps::draw(self.period, &mut self.random);
-        if self.period <= 64 {
-            self.shifts
-                .find(&self.charts, &self.rows, crossings, steps.count())?;
-        } else {
-            self.find_curve(&steps, crossings)?;
+    /// Draws one of all shifts, by weight. The rows between two places fall, the others grow.
+    pub(crate) fn visit_softly(
+        &mut self,
+        crossings: &[Crossing],
+        falling: (u32, u32),
+    ) -> Option<()> {
+        if self.period > 64 {
+            return self.visit_long(crossings);
         }
-        let place = self.shifts.draw(&mut self.random)?;
-        self.make(crossings, &steps, place)
+        let costs = self
+            .shifts
+            .find(&self.charts, &self.slacks, crossings, falling);
+        let place = self.shifts.draw(costs, &mut self.random)?;
+        let amount = sum_within(self.period, 0, place);
+        if amount == 0 || amount >= self.period {
+            return Some(());
+        }
+        self.shift(crossings, amount)
+    }
+
+    /// Begins soft visits: slacks of a short period stand in a list of their own for them.
+    pub(crate) fn begin_softly(&mut self) {
+        for (slack, row) in self.slacks.iter_mut().zip(self.rows.iter()) {
+            *slack = row.slack;
+        }
+    }
+
+    /// Ends soft visits.
+    pub(crate) fn end_softly(&mut self) {
+        if self.period > 64 {
+            return;
+        }
+        for (slack, row) in self.slacks.iter().zip(self.rows.iter_mut()) {
+            row.slack = *slack;
+        }
     }
 
     /// Draws one of the shifts that keep all spans, by weight, or takes the cheapest.

@@ -4,7 +4,7 @@
 const OCTAVE: u64 = 16;
 
 /// The greatest cost in units.
-pub(crate) const MOST: i16 = i16::MAX;
+pub(crate) const MOST: u16 = 32_767;
 
 /// The greatest cost that is multiplied.
 const MOST_FACTOR: u64 = 1 << 31;
@@ -29,9 +29,9 @@ impl Scale {
     }
 
     /// A cost in units.
-    pub(crate) fn units(&self, cost: u64) -> i16 {
+    pub(crate) fn units(&self, cost: u64) -> u16 {
         let shorter = cost.wrapping_shr(self.halvings).min(MOST_FACTOR);
         let scaled = shorter.wrapping_mul(self.factor).wrapping_add(1 << 23) >> 24;
-        i16::try_from(scaled).unwrap_or(MOST)
+        u16::try_from(scaled).unwrap_or(MOST).min(MOST)
     }
 }

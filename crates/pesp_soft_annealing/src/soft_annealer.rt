@@ -82,11 +82,13 @@ impl SoftAnnealer {
 
     /// Visits all components softly.
     fn sweep_softly(&mut self) {
+        self.moving.begin_softly();
         for part in self.components.parts() {
             if let Some(crossings) = self.components.of(part) {
-                self.moving.visit_softly(crossings);
+                self.moving.visit_softly(crossings, part.falling());
             }
         }
+        self.moving.end_softly();
     }
 
     /// Visits all components, with spans held.

@@ -4,17 +4,37 @@ use pesp_clusters::{Activity, Crossing};
 use pesp_search_tools::guarded::{count_one, number, set_number};
 use std::alloc::{AllocError, Global};
 
-/// Crossings in a list: the narrow rows, which some slack would break, from `start`, and the wide ones from `wide` up to `end`.
+/// Crossings in a list: the narrow rows, which some slack would break, that grow from `start` and that fall from `falls`; and the
+/// wide ones that fall from `wide` and that grow from `grows`, up to `end`.
 #[derive(Clone, Copy)]
 pub(crate) struct Part {
     pub(crate) start: u32,
+    pub(crate) falls: u32,
     pub(crate) wide: u32,
+    pub(crate) grows: u32,
     pub(crate) end: u32,
 }
 
-/// The place of an event's narrow or wide rows among those of all events.
-fn place_of(event: u32, is_wide: bool) -> u32 {
-    event.wrapping_mul(2).wrapping_add(u32::from(is_wide))
+impl Part {
+    /// The places between which rows fall, from the start.
+    pub(crate) fn falling(&self) -> (u32, u32) {
+        let from = self.falls.wrapping_sub(self.start);
+        (from, self.grows.wrapping_sub(self.start))
+    }
+}
+
+/// How many kinds of rows an event has.
+const KINDS: u32 = 4;
+
+/// The place of an event's narrow or wide rows that grow or fall among those of all events.
+fn place_of(event: u32, is_wide: bool, grows: bool) -> u32 {
+    let kind = match (is_wide, grows) {
+        (false, true) => 0,
+        (false, false) => 1,
+        (true, false) => 2,
+        (true, true) => 3,
+    };
+    event.wrapping_mul(KINDS).wrapping_add(kind)
 }
 
 /// Counts the rows at each event, narrow and wide ones apart.
@@ -22,8 +42,8 @@ fn count(rows: &[Activity], period: u32, counts: &mut [u32]) -> Option<()> {
     for row in rows {
         if row.tail != row.head {
             let is_wide = row.is_wide(period);
-            count_one(counts, place_of(row.tail, is_wide))?;
-            count_one(counts, place_of(row.head, is_wide))?;
+            count_one(counts, place_of(row.tail, is_wide, false))?;
+            count_one(counts, place_of(row.head, is_wide, true))?;
         }
     }
     Some(())
@@ -57,12 +77,12 @@ fn put_all(rows: &[Activity], period: u32, next: &mut [u32], list: &mut [Crossin
                 row: place,
                 grows: false,
             };
-            put(next, list, place_of(row.tail, is_wide), leaving)?;
+            put(next, list, place_of(row.tail, is_wide, false), leaving)?;
             let coming = Crossing {
                 row: place,
                 grows: true,
             };
-            put(next, list, place_of(row.head, is_wide), coming)?;
+            put(next, list, place_of(row.head, is_wide, true), coming)?;
         }
         place = place.wrapping_add(1);
     }
@@ -74,9 +94,17 @@ fn parts_of(alloc: Global, ends: &[u32], events: u32) -> Result<Vec<Part>, Alloc
     let mut parts = Vec::with_capacity(alloc, events as usize)?;
     let mut start = 0u32;
     for event in 0..events {
-        let wide = number(ends, place_of(event, false)).unwrap_or(start);
-        let end = number(ends, place_of(event, true)).unwrap_or(wide);
-        parts.push(Part { start, wide, end })?;
+        let falls = number(ends, place_of(event, false, true)).unwrap_or(start);
+        let wide = number(ends, place_of(event, false, false)).unwrap_or(falls);
+        let grows = number(ends, place_of(event, true, false)).unwrap_or(wide);
+        let end = number(ends, place_of(event, true, true)).unwrap_or(grows);
+        parts.push(Part {
+            start,
+            falls,
+            wide,
+            grows,
+            end,
+        })?;
         start = end;
     }
     Ok(parts)
@@ -89,7 +117,7 @@ pub(crate) fn stars(
     period: u32,
     events: u32,
 ) -> Result<(Vec<Crossing>, Vec<Part>), AllocError> {
-    let mut next = vec![in alloc; 0u32; (events as usize).saturating_mul(2)]?;
+    let mut next = vec![in alloc; 0u32; (events as usize).saturating_mul(KINDS as usize)]?;
     count(rows, period, &mut next);
     let room = lay_out(&mut next);
     let nothing = Crossing {

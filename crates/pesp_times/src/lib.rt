@@ -8,6 +8,7 @@ mod batches;
 mod grown;
 mod individuals;
 mod kinds;
+mod levels;
 mod looking;
 mod marks;
 mod merges;

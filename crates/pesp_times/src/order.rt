@@ -1,6 +1,7 @@
 //! One order of a network's events and rows, whatever order they came in.
 
 use crate::grown::grown;
+use crate::levels::{are_moved, levelled, levels_of, lowered, raised};
 use crate::marks::{mark, marks_of};
 use pesp_network::{NetRefusal, NetRow, Network};
 use pesp_problem::Memory;
@@ -21,11 +22,13 @@ const FIRST_MARK: u64 = 87;
 
 const FIRST_MARK_OF_MANY: u64 = 4;
 
-/// A network in one order, and the place that each event of the other one has there.
+/// A network in one order, the place that each event of the other one has there, and the level of the event at each place from
+/// which its times count; where there is none they count as they did.
 #[derive(Drop)]
 pub(crate) struct Ordered {
     pub(crate) network: Network,
     places: Vec<u32>,
+    levels: Vec<Option<u32>>,
 }
 
 /// The events in the order of their marks.
@@ -67,14 +70,56 @@ fn placed(row: &NetRow, places: &[u32]) -> NetRow {
     }
 }
 
-/// The rows between the places of their events, in the order of these, and of their bounds and weights.
-fn rows_of(alloc: Global, rows: &[NetRow], places: &[u32]) -> Result<Vec<NetRow>, AllocError> {
+/// The rows between the places of their events.
+fn placed_rows(alloc: Global, rows: &[NetRow], places: &[u32]) -> Result<Vec<NetRow>, AllocError> {
     let mut ordered = Vec::with_capacity(alloc, rows.len())?;
     for row in rows {
         ordered.push(placed(row, places))?;
     }
-    ordered.sort_unstable_by_key(|row| (row.tail, row.head, row.lower, row.span, row.weight));
     Ok(ordered)
+}
+
+/// A network of these rows with the period and the events of another one; None where it is none.
+fn with_rows(
+    alloc: Global,
+    network: &Network,
+    rows: Vec<NetRow>,
+) -> Result<Option<Network>, Memory> {
+    match Network::new(alloc, network.period(), network.events(), rows) {
+        Ok(made) => Ok(Some(made)),
+        Err(NetRefusal::Memory) => Err(Memory),
+        Err(_) => Ok(None),
+    }
+}
+
+/// The levels from which times are to count between these rows. It doesn't depend on their lower bounds in what order rows are
+/// looked at for it, as these depend on what events stand for those that were made one.
+fn levels_for(
+    alloc: Global,
+    network: &Network,
+    rows: &[NetRow],
+) -> Result<Vec<Option<u32>>, Memory> {
+    if !are_moved(network.period(), rows) {
+        return Ok(Vec::new(alloc));
+    }
+    let mut rows = Vec::from_slice(alloc, rows)?;
+    rows.sort_unstable_by_key(|row| (row.tail, row.head, row.span, row.weight, row.lower));
+    let Some(moved) = with_rows(alloc, network, rows)? else {
+        return Ok(Vec::new(alloc));
+    };
+    let levels = levels_of(alloc, &moved);
+    drop(moved);
+    Ok(levels?)
+}
+
+/// Lets the times of rows count from levels, and puts them into the order of their events, and of their bounds and weights.
+fn arrange(period: u32, levels: &[Option<u32>], rows: &mut [NetRow]) {
+    if !levels.is_empty() {
+        for row in rows.iter_mut() {
+            *row = levelled(period, levels, row);
+        }
+    }
+    rows.sort_unstable_by_key(|row| (row.tail, row.head, row.lower, row.span, row.weight));
 }
 
 impl Ordered {
@@ -86,11 +131,16 @@ impl Ordered {
             return Ordered::as_it_is(alloc, network);
         }
         let places = places_of(alloc, network)?;
-        let rows = rows_of(alloc, network.rows(), &places)?;
-        match Network::new(alloc, network.period(), network.events(), rows) {
-            Ok(network) => Ok(Ordered { network, places }),
-            Err(NetRefusal::Memory) => Err(Memory),
-            Err(_) => Ordered::as_it_is(alloc, network),
+        let mut rows = placed_rows(alloc, network.rows(), &places)?;
+        let levels = levels_for(alloc, network, &rows)?;
+        arrange(network.period(), &levels, &mut rows);
+        match with_rows(alloc, network, rows)? {
+            Some(network) => Ok(Ordered {
+                network,
+                places,
+                levels,
+            }),
+            None => Ordered::as_it_is(alloc, network),
         }
     }
 
@@ -99,15 +149,20 @@ impl Ordered {
         let places: Vec<u32> = (0..network.events()).collect(alloc)?;
         let forest = network.forest(alloc)?;
         let network = network.with_forest(alloc, &forest)?;
-        Ok(Ordered { network, places })
+        Ok(Ordered {
+            network,
+            places,
+            levels: Vec::new(alloc),
+        })
     }
 
     /// Times of the other network's events, by their places.
     pub(crate) fn to_places(&self, alloc: Global, times: &[u32]) -> Result<Vec<u32>, AllocError> {
         let mut placed = vec![in alloc; 0u32; times.len()]?;
+        let period = self.network.period();
         for (place, time) in self.places.iter().zip(times.iter()) {
             if let Some(slot) = placed.get_mut(*place as usize) {
-                *slot = *time;
+                *slot = lowered(period, &self.levels, *place, *time);
             }
         }
         Ok(placed)
@@ -116,8 +171,10 @@ impl Ordered {
     /// Times by their places, for the other network's events.
     pub(crate) fn from_places(&self, alloc: Global, times: &[u32]) -> Result<Vec<u32>, AllocError> {
         let mut own = Vec::with_capacity(alloc, self.places.len())?;
+        let period = self.network.period();
         for place in &self.places {
-            own.push(number(times, *place).unwrap_or(0))?;
+            let time = number(times, *place).unwrap_or(0);
+            own.push(raised(period, &self.levels, *place, time))?;
         }
         Ok(own)
     }

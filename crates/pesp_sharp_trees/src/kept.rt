@@ -24,7 +24,7 @@ pub struct Kept<'a> {
 /// The marked walks of a front.
 fn marked_of(base: &Fronted) -> &[MarkedWalk] {
     match &base.front {
-        Some(marks) => marks.walks(),
+        Some(front) => front.marks().walks(),
         None => &[],
     }
 }

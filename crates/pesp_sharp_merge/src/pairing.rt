@@ -6,7 +6,7 @@ use crate::fronts::{joined_cycles, joined_walks, walks_of};
 use crate::lines::Retelling;
 use crate::names::{Named, Numbering};
 use crate::runs::{Run, Trees};
-use pesp_cert::{Certificate, Front, Fronted, Marks};
+use pesp_cert::{Certificate, Fronted, Marks};
 use pesp_problem::Memory;
 use pesp_truth::{Answer, TreeLine};
 use std::alloc::Global;
@@ -37,7 +37,7 @@ impl<'a> Shown<'a> {
     }
 
     /// The front.
-    pub(crate) fn front(&self) -> &'a Option<Front> {
+    pub(crate) fn front(&self) -> &'a Option<Marks> {
         let fronted = self.fronted;
         &fronted.front
     }
@@ -181,7 +181,7 @@ impl Pairing<'_> {
         };
         match self.marks(alloc, numbering, factors) {
             Ok(Some(marks)) => Ok(Some(Fronted {
-                front: with_walks(alloc, marks),
+                front: with_walks(marks),
                 certificate,
             })),
             Ok(None) => {
@@ -218,10 +218,10 @@ impl Pairing<'_> {
 }
 
 /// A front, where it has a walk.
-fn with_walks(alloc: Global, marks: Marks) -> Option<Front> {
+fn with_walks(marks: Marks) -> Option<Marks> {
     if marks.walks().is_empty() {
         None
     } else {
-        Some(Front::of_marks(alloc, marks))
+        Some(marks)
     }
 }

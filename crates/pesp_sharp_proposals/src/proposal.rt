@@ -2,7 +2,7 @@
 
 use crate::best::{Best, cost_of};
 use crate::search::SharpSearch;
-use pesp_cert::{Certificate, Front, Fronted, Marks, NotMarks};
+use pesp_cert::{Certificate, Fronted, Marks};
 use pesp_judges::least_of;
 use pesp_problem::{Instance, Memory, Walk};
 use pesp_sharp_trees::{
@@ -179,7 +179,7 @@ impl<'a> Parts<'a> {
         };
         match self.front(alloc, &kept) {
             Ok(Some(marks)) => Ok(Some(Fronted {
-                front: with_walks(alloc, marks),
+                front: with_walks(marks),
                 certificate,
             })),
             Ok(None) => {
@@ -195,11 +195,11 @@ impl<'a> Parts<'a> {
 }
 
 /// A front, where it has a walk.
-fn with_walks(alloc: Global, marks: Marks) -> Option<Front> {
+fn with_walks(marks: Marks) -> Option<Marks> {
     if marks.walks().is_empty() {
         None
     } else {
-        Some(Front::of_marks(alloc, marks))
+        Some(marks)
     }
 }
 
@@ -217,20 +217,16 @@ fn with_times(
     Ok(Certificate::new(old.version(), old.period(), answer, times, cycles, tree).ok())
 }
 
-/// A copy of a front, without its lemmas; None where there is none.
-fn copied_front(alloc: Global, front: &Option<Front>) -> Result<Option<Front>, Memory> {
-    let Some(front) = front else {
+/// A copy of a front; None where there is none.
+fn copied_front(alloc: Global, front: &Option<Marks>) -> Result<Option<Marks>, Memory> {
+    let Some(marks) = front else {
         return Ok(None);
     };
-    let marks = front.marks();
     let mut walks = Vec::with_capacity(alloc, marks.walks().len())?;
     for walk in marks.walks() {
         walks.push(copied_marked(alloc, walk)?)?;
     }
-    match Marks::new(marks.scale(), walks) {
-        Ok(marks) => Ok(Some(Front::of_marks(alloc, marks))),
-        Err(NotMarks) => Ok(None),
-    }
+    Ok(Marks::new(marks.scale(), walks).ok())
 }
 
 /// An answer with the best timetable in the place of its own; None where that isn't cheaper.

@@ -24,7 +24,7 @@ pub struct Kept<'a> {
 /// The marked walks of a front.
 fn marked_of(base: &Fronted) -> &[MarkedWalk] {
     match &base.front {
-        Some(front) => front.marks().walks(),
+        Some(marks) => marks.walks(),
         None => &[],
     }
 }

@@ -1,11 +1,15 @@
 -- Lists that have all numbers from 1 up to some number.
-use Rattle.std.proofs.Common.{◌≡◌, ℕ, ◌+◌, ◌≤◌, ◌<◌, ◌⊎◌, inl, inr, ◌-◌, List, [], ◌∷◌, ◌++◌, length, get_or, refl, subst, sym, ap, ◌∙◌, arith}
-use Rattle.std.specs.Prelude.{Contains, All, slice_index}
+use Rattle.std.proofs.Common.{◌≡◌, ℕ, Bool, true, eqb, nat_cmp, Ok, Err, ◌+◌, ◌≤◌, ◌<◌, ◌⊎◌, inl, inr, ◌-◌, List, [], ◌∷◌, ◌++◌, length, get_or, refl, subst, sym, ap, ◌∙◌, arith}
+use Rattle.std.specs.Prelude.{◌↔◌, Result, Contains, All, slice_index, is_ok}
+use Rattle.std.specs.List.{IsAnyAnswer}
 use Rattle.std.proofs.lemmas.Bool.{cases_lt}
 use Rattle.std.proofs.lemmas.Grind.{common_steps}
 use Rattle.std.proofs.lemmas.List.{get_or_push, get_or_default, get_or-append_right, length_push}
-use Rattle.std.proofs.lemmas.List.Elements.{Contains-append_left, All-from_get_or, All-nil, All-push, All-weaker, All-get_or}
-use Rattle.std.specs.List.Sorted.{IsStrictlyIncreasing}
+use Rattle.std.proofs.lemmas.List.Elements.{Contains-append_left, Decides-contains, contains_decides, All-from_get_or, All-nil, All-push, All-weaker, All-get_or}
+use Rattle.std.proofs.lemmas.List.Kept.{AllPairs-from_increasing}
+use Rattle.std.proofs.lemmas.List.Sorted.{searched}
+use Rattle.std.proofs.lemmas.Bool.Decides.{Decides-eqb}
+use Rattle.std.specs.List.Sorted.{IsStrictlyIncreasing, IsBinarySearchResult}
 use Rattle.pesp_problem.specs.Walks.{Names}
 use Rattle.pesp_problem.proofs.Integers.{lt-or-same}
 use Rattle.pesp_conflict.specs.Findings.{AreAll}
@@ -107,3 +111,27 @@ more_at P xs n e h inside p i d l =
       | inl before ↦ h i d before
       | inr same ↦ subst P (get_or_default xs n e d inside ∙ ap (λ (k : ℕ). get_or xs k d) (sym same)) p
     ]
+
+-- ---- numbers that are found
+
+never_falls : (xs : List ℕ) → IsStrictlyIncreasing xs → (i j : ℕ) → i ≤ j → j < length xs → get_or xs i 0 ≤ get_or xs j 0
+never_falls xs rising i j le l = elim (cases_lt i j) [
+  | inl before ↦ (let below = AllPairs-from_increasing xs rising i j 0 before l in omega (arith, below))
+  | inr behind ↦ (let same : i ≡ j = omega (arith, le, behind) in subst (λ (k : ℕ). get_or xs i 0 ≤ get_or xs k 0) same (omega arith))
+]
+
+-- a search among numbers that rise finds each that is there
+pub found_where_rising : (xs : List ℕ) (x : ℕ) (r : Result ℕ ℕ) → IsBinarySearchResult (λ y. nat_cmp y x) xs r
+    → IsStrictlyIncreasing xs → Contains xs x → is_ok r ≡ true
+found_where_rising xs x (Ok i) h rising c = refl
+found_where_rising xs x (Err i) h rising c =
+    let parted = searched xs x (Err i) h (never_falls xs rising) in
+    let here = get_or_default xs c.0 0 x c.1 in
+    let is = c.2 in
+    elim (cases_lt c.0 i) [
+      | inl before ↦ absurd (let low = parted.1 c.0 before in omega (arith, low, here, is))
+      | inr behind ↦ absurd (let high = parted.2 c.0 behind c.1 in omega (arith, high, here, is))
+    ]
+
+pub is_there : (xs : List ℕ) (x : ℕ) (r : Bool) → IsAnyAnswer (λ y b. eqb y x ≡ b) xs r → (r ≡ true) ↔ Contains xs x
+is_there xs x r h = Decides-contains xs x r (contains_decides eqb Decides-eqb xs x r h)

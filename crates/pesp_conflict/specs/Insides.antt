@@ -1,5 +1,6 @@
 -- What is known while rows are left out.
-use Rattle.std.specs.Prelude.{◌≡◌, ⊤, ℕ, ◌<◌, List, All, Contains, true, None}
+use Rattle.std.specs.Prelude.{◌≡◌, ⊤, ℕ, ◌<◌, List, All, Contains, filter, eqb, not, true, None}
+use Rattle.std.specs.List.{list_any}
 use Rattle.pesp_problem.specs.Timetables.{Pesp, IsTimetable}
 use Rattle.pesp_truth.specs.declared.answer.Answer.TheVariants.{Bounded}
 use Rattle.pesp_truth.specs.Certificates.{Content, IsValid}
@@ -51,3 +52,7 @@ abbrev pub IsFirst : Pesp → ℕ → Decision → Type 0
 IsFirst p steps (decisions.Conflict rows) = IsConflict p rows.items
 IsFirst p steps decisions.Timetable = (times : List ℕ) × IsTimetable p times
 IsFirst p steps decisions.Undecided = IsUndecided p steps
+
+-- the listed numbers that aren't among some others
+abbrev pub rest_of : List ℕ → List ℕ → List ℕ
+rest_of listed others = filter (λ row. not (list_any (λ other. eqb other row) others)) listed

@@ -1,6 +1,6 @@
 //! What a certificate says of listed rows.
 
-ghost use Rattle.std.specs.Prelude.{◌≡◌, ◌≤◌, length, IfOk, IfSome, IsTrue};
+ghost use Rattle.std.specs.Prelude.{◌≡◌, ◌↔◌, ◌≤◌, length, IfOk, IfSome, IsTrue};
 ghost use Rattle.pesp_problem.specs.declared.limits.TheConstants.{MOST_ROWS};
 ghost use Rattle.pesp_problem.specs.Timetables.{Pesp};
 ghost use Rattle.pesp_truth.specs.declared.answer.Answer.TheVariants.{Infeasible};
@@ -75,7 +75,7 @@ pub fn told_by(
 
 /// Whether the numbers rise, and name rows of the instance.
 pub fn are_fit(instance: &Instance, listed: &[u32]) -> bool
-    ensures { IsTrue result → AreFit instance.now listed.now }
+    ensures { IsTrue result ↔ AreFit instance.now listed.now }
 {
     are_rising(listed) && are_named(listed, instance.rows().len())
 }

@@ -1,6 +1,6 @@
 //! What is known of a conflict while rows are left out.
 
-ghost use Rattle.std.specs.Prelude.{◌≡◌, All, Contains, IsTrue, OnOk};
+ghost use Rattle.std.specs.Prelude.{◌≡◌, ◌↔◌, ◌++◌, All, Contains, IsTrue, OnOk};
 ghost use Rattle.pesp_problem.specs.Timetables.{Pesp};
 ghost use Rattle.pesp_conflict.specs.Findings.{IsConflict};
 ghost use Rattle.pesp_conflict.specs.Insides.{IsKnown, IsShown, IsTrial};
@@ -48,7 +48,8 @@ pub fn take(known: &mut Known, trial: Trial) -> Result<(), AllocError>
 
 /// The group needs no further trial.
 pub fn mark(known: &mut Known, group: &[u32]) -> Result<(), AllocError>
-    ensures { (p : Pesp) → IsKnown p known.old → OnOk result (IsKnown p known.new) }
+    ensures known { (p : Pesp) → IsKnown p known.old → OnOk result (IsKnown p known.new) }
+    ensures tried { OnOk result (known.new.tried.items ≡ known.old.tried.items ++ group.now) }
 {
     for row in group {
         known.tried.push(*row)?;
@@ -58,7 +59,9 @@ pub fn mark(known: &mut Known, group: &[u32]) -> Result<(), AllocError>
 
 /// The conflict, once no further trial is made.
 pub fn conflict_of(known: Known) -> Conflict
-    ensures { (p : Pesp) → IsKnown p known → IsShown p result }
+    ensures shown { (p : Pesp) → IsKnown p known → IsShown p result }
+    ensures rows { result.rows ≡ known.listed }
+    ensures needed { IsTrue result.each_needed ↔ All (Contains known.needed.items) known.listed.items }
 {
     let each_needed = are_found(&known.needed, &known.listed);
     let Known { listed, .. } = known;

@@ -5,12 +5,14 @@ ghost use Rattle.std.specs.List.Sorted.{IsStrictlyIncreasing};
 ghost use Rattle.pesp_problem.specs.Walks.{Names};
 ghost use Rattle.pesp_truth.specs.Conflicts as spec;
 ghost use Rattle.pesp_conflict.specs.Findings.{AreAll};
+ghost use Rattle.pesp_conflict.specs.Insides.{rest_of};
 
 use std::alloc::{AllocError, Global};
 
 /// Whether the number is found in the list, which should rise.
 pub fn is_listed(listed: &[u32], row: u32) -> bool
-    ensures { IsTrue result → Contains listed.now row }
+    ensures only { IsTrue result → Contains listed.now row }
+    ensures found { IsStrictlyIncreasing listed.now → Contains listed.now row → IsTrue result }
 {
     listed.binary_search(&row).is_ok()
 }
@@ -36,7 +38,8 @@ pub fn are_named(rows: &[u32], count: usize) -> bool
 
 /// Whether each number of some is in the list.
 pub fn are_among(listed: &[u32], some: &[u32]) -> bool
-    ensures { IsTrue result → All (Contains listed.now) some.now }
+    ensures only { IsTrue result → All (Contains listed.now) some.now }
+    ensures found { IsStrictlyIncreasing listed.now → All (Contains listed.now) some.now → IsTrue result }
 {
     for row in some {
         if !is_listed(listed, *row) {
@@ -48,19 +51,14 @@ pub fn are_among(listed: &[u32], some: &[u32]) -> bool
 
 /// Whether the number is found among numbers in any order.
 fn is_found(rows: &[u32], row: u32) -> bool
-    ensures { IsTrue result → Contains rows.now row }
+    ensures { IsTrue result ↔ Contains rows.now row }
 {
-    for other in rows {
-        if *other == row {
-            return true;
-        }
-    }
-    false
+    rows.contains(&row)
 }
 
 /// Whether each number of some is found among numbers in any order.
 pub fn are_found(rows: &[u32], some: &[u32]) -> bool
-    ensures { IsTrue result → All (Contains rows.now) some.now }
+    ensures { IsTrue result ↔ All (Contains rows.now) some.now }
 {
     for row in some {
         if !is_found(rows, *row) {
@@ -81,7 +79,9 @@ pub fn has_others(listed: &[u32], row: u32, rest: &[u32]) -> bool
 
 /// Whether the numbers of so many rows are all in the list.
 pub fn is_whole(listed: &[u32], count: u32) -> bool
-    ensures { IsTrue result → (row : ℕ) → Names count row → Contains listed.now row }
+    ensures only { IsTrue result → (row : ℕ) → Names count row → Contains listed.now row }
+    ensures found { IsStrictlyIncreasing listed.now → ((row : ℕ) → Names count row → Contains listed.now row)
+        → IsTrue result }
 {
     for place in 0..count {
         if !is_listed(listed, place + 1) {
@@ -115,7 +115,9 @@ pub fn chosen(alloc: Global, listed: &[u32], places: &[u32]) -> Result<Vec<u32>,
 }
 
 /// The listed numbers that aren't among some others.
-pub fn without(alloc: Global, listed: &[u32], others: &[u32]) -> Result<Vec<u32>, AllocError> {
+pub fn without(alloc: Global, listed: &[u32], others: &[u32]) -> Result<Vec<u32>, AllocError>
+    ensures { IfOk result (λ rest. rest.items ≡ rest_of listed.now others.now) }
+{
     let mut rest = Vec::new(alloc);
     for row in listed {
         if !others.contains(row) {

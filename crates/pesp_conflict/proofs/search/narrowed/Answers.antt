@@ -7,7 +7,7 @@ pub sift_all-requires-clause-known : goal.sift_all-requires-clause-known
 sift_all-requires-clause-known g c = c.known_of-known.ensures c.args.instance.now c.requires.conflict
 
 pub returns-clause-shown : goal.returns-clause-shown
-returns-clause-shown g c = c.conflict_of.ensures c.args.instance.now c.in_ok-sift_all.ensures.known
+returns-clause-shown g c = c.conflict_of.ensures.shown c.args.instance.now c.in_ok-sift_all.ensures.known
 
 pub returns-in_err-sift_all-clause-refused : goal.returns-in_err-sift_all-clause-refused
 returns-in_err-sift_all-clause-refused g c =

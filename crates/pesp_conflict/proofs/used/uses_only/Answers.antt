@@ -4,5 +4,5 @@ use Rattle.pesp_conflict.proofs.used.uses_only.Goals as goal
 
 pub loop-line-preserved : goal.loop-line-preserved
 loop-line-preserved c =
-    let listed = c.line_is_listed.ensures c.args.rows c.is_whole-whole.ensures c.if-not-line_is_listed.false in
+    let listed = c.line_is_listed.ensures c.args.rows c.is_whole-whole.ensures.only c.if-not-line_is_listed.false in
     grind (arith, common_steps)

@@ -32,6 +32,13 @@ fn write(
     }
 }
 
+/// Writes 0 everywhere.
+fn clear(table: &mut [u64]) {
+    for entry in table.iter_mut() {
+        *entry = 0;
+    }
+}
+
 impl Node {
     /// Tables of no shifts.
     pub(crate) fn empty() -> Node {
@@ -57,9 +64,9 @@ impl Node {
         count: u32,
         heat: Option<Heat>,
     ) -> Option<()> {
-        self.pairs = [0; 128];
         let start = 64u32.checked_sub(count)?;
         let (low, high) = self.pairs.split_at_mut(64);
+        clear(high);
         self.ahead = write(choices, choices.least(), heat, HALVINGS, high);
         self.behind = self.ahead.wrapping_shl(start);
         for (behind, ahead) in low.iter_mut().skip(start as usize).zip(high.iter()) {

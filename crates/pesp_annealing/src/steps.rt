@@ -166,8 +166,17 @@ impl Steps {
         before | !below(divided_up(rest, self.doublings))
     }
 
-    /// The shifts under which a row's slack is within its span.
+    /// The shifts under which a row's slack is within its span: all of them where no slack would break it.
     pub(crate) fn allowed(&self, row: &Activity, grows: bool) -> u64 {
+        if row.is_wide(self.period) {
+            below(self.count)
+        } else {
+            self.allowed_narrow(row, grows)
+        }
+    }
+
+    /// The same for a row that some slack would break.
+    fn allowed_narrow(&self, row: &Activity, grows: bool) -> u64 {
         if self.are_all() {
             let set = below(row.span.wrapping_add(1));
             let by = if grows {

@@ -15,22 +15,26 @@ pub(crate) struct Charts {
     charts: Vec<[u16; LENGTH]>,
 }
 
-/// Writes what the slacks of a row cost into the first places of its chart.
-fn draw(chart: &mut [u16], period: u32, row: &Activity, tent: &Tent, scale: &Scale) {
-    let mut slack = 0u32;
-    for slot in chart.iter_mut().take(period as usize) {
-        *slot = scale.units(tent.cost(period, row, slack));
-        slack = slack.wrapping_add(1);
+/// Writes costs in units into the first places of a chart.
+fn draw(chart: &mut [u16], costs: &[u64; 64], scale: &Scale) {
+    for (slot, cost) in chart.iter_mut().zip(costs.iter()) {
+        *slot = scale.units(*cost);
+    }
+}
+
+/// Writes as many costs as there are places.
+fn copy(places: &mut [u16], costs: &[u16]) {
+    for (slot, cost) in places.iter_mut().zip(costs.iter()) {
+        *slot = *cost;
     }
 }
 
 /// Writes the first costs again into the other places.
-fn repeat(chart: &mut [u16], period: usize) -> Option<()> {
-    for place in period..LENGTH {
-        let cost = chart.get(place.wrapping_sub(period)).copied()?;
-        *chart.get_mut(place)? = cost;
+fn repeat(chart: &mut [u16; LENGTH], period: usize) {
+    let (costs, rest) = chart.split_at_mut(period.min(LENGTH));
+    for places in rest.chunks_mut(period.max(1)) {
+        copy(places, costs);
     }
-    Some(())
 }
 
 impl Charts {
@@ -46,7 +50,9 @@ impl Charts {
     /// Draws the chart of a row.
     pub(crate) fn set(&mut self, place: u32, row: &Activity, tent: &Tent, scale: &Scale) {
         if let Some(chart) = self.charts.get_mut(place as usize) {
-            draw(chart, self.period, row, tent, scale);
+            let mut costs = [0u64; 64];
+            tent.write(self.period, row, &mut costs);
+            draw(chart, &costs, scale);
             repeat(chart, self.period as usize);
         }
     }

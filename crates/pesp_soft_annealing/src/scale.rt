@@ -31,7 +31,8 @@ impl Scale {
     /// A cost in units.
     pub(crate) fn units(&self, cost: u64) -> u16 {
         let shorter = cost.wrapping_shr(self.halvings).min(MOST_FACTOR);
-        let scaled = shorter.wrapping_mul(self.factor).wrapping_add(1 << 23) >> 24;
+        let product = (shorter & 0xffff_ffff).wrapping_mul(self.factor & 0xffff_ffff);
+        let scaled = product.wrapping_add(1 << 23) >> 24;
         u16::try_from(scaled).unwrap_or(MOST).min(MOST)
     }
 }

@@ -1,31 +1,23 @@
 //! How a line and a slack come into a basis together.
 
-use crate::fixed::{ONE, by_whole, is_nothing, over, times};
-use crate::inverse::{make_zeros, push_column, take_outer};
+use crate::fixed::{ONE, by_whole, is_nothing, over, times, whole};
+use crate::inverse::{make_zeros, set_at, take_outer, write_column};
 use crate::members::Member;
 use crate::simplex::Simplex;
-use std::alloc::{AllocError, Global};
+use crate::updates::change_column;
+use std::alloc::AllocError;
 
-/// The listed numbers times a factor as a row of so many, with one number more behind them.
-fn new_row(
-    alloc: Global,
-    count: usize,
-    list: &[(u32, i64)],
-    factor: i64,
-    last: i64,
-) -> Result<Vec<i64>, AllocError> {
-    let mut row = vec![in alloc; 0i64; count]?;
+/// Writes the listed numbers times a factor into a row that was 0.
+fn write_row(row: &mut [i64], list: &[(u32, i64)], factor: i64) {
     for (place, number) in list {
         if let Some(slot) = row.get_mut(*place as usize) {
             *slot = times(*number, factor);
         }
     }
-    row.push(last)?;
-    Ok(row)
 }
 
 /// Negates numbers and multiplies them by a factor.
-fn turn(numbers: &mut [i64], factor: i64) {
+pub(crate) fn turn(numbers: &mut [i64], factor: i64) {
     for number in numbers.iter_mut() {
         if !is_nothing(*number) {
             *number = times(*number, factor.wrapping_neg());
@@ -44,9 +36,8 @@ fn add_column(numbers: &mut [i64], rows: &[Vec<i64>], place: u32, factor: i32) {
 }
 
 impl Simplex {
-    /// The coefficients of a slack by basic slack, into `factors`.
-    pub(crate) fn read_slack(&mut self, number: u32) -> Result<(), AllocError> {
-        make_zeros(&mut self.factors, self.state.basic.len())?;
+    /// Adds up the columns of the inverse of the tight lines of a slack, which are listed.
+    fn add_columns(&mut self, number: u32) -> Result<(), AllocError> {
         let Some(column) = self.columns.get(number as usize) else {
             return Ok(());
         };
@@ -54,16 +45,33 @@ impl Simplex {
             if let Some(sum) = self.state.sums.get(entry.line as usize)
                 && let Some(place) = sum.place
             {
-                let rows = &self.state.inverse;
+                let rows = &self.inverse;
                 add_column(&mut self.factors, rows, place, entry.coefficient);
                 self.work = self.work.wrapping_add(rows.len() as u64);
+                let coefficient = whole(i64::from(entry.coefficient));
+                self.others.push((place, coefficient))?;
             }
         }
         Ok(())
     }
 
-    /// A line becomes tight and a slack basic. The weights of the line are listed, those of the slack are in `factors`, and the
-    /// line has this coefficient of the slack.
+    /// The coefficients of a slack by basic slack, into `factors`.
+    pub(crate) fn read_slack(&mut self, number: u32) -> Result<(), AllocError> {
+        make_zeros(&mut self.factors, self.state.basic.len())?;
+        self.others.clear();
+        self.add_columns(number)?;
+        self.change_factors();
+        Ok(())
+    }
+
+    /// What changes of the inverse take from the factors.
+    pub(crate) fn change_factors(&mut self) {
+        let work = change_column(&self.state.updates, &self.others, &mut self.factors);
+        self.work = self.work.wrapping_add(work);
+    }
+
+    /// A line becomes tight and a slack basic, for which there is room in the inverse. The weights of the line are listed, those
+    /// of the slack are in `factors`, and the line has this coefficient of the slack.
     pub(crate) fn border(
         &mut self,
         line: u32,
@@ -74,18 +82,14 @@ impl Simplex {
         let place = u32::try_from(count).unwrap_or(u32::MAX);
         let inverse = over(ONE, coefficient);
         turn(&mut self.factors, inverse);
-        let rows = &mut self.state.inverse;
-        let work = take_outer(rows, &self.factors, &self.listed, None);
+        let rows = &mut self.inverse;
+        let work = take_outer(rows, &self.factors, &self.listed);
         self.work = self.work.wrapping_add(work);
-        push_column(rows, &self.factors)?;
-        let row = new_row(
-            self.alloc,
-            count,
-            &self.listed,
-            inverse.wrapping_neg(),
-            inverse,
-        )?;
-        self.state.inverse.push(row)?;
+        write_column(rows, count, &self.factors);
+        if let Some(row) = rows.get_mut(count) {
+            write_row(row, &self.listed, inverse.wrapping_neg());
+            set_at(row, place, inverse);
+        }
         self.state.basic.push(slack)?;
         self.state.tight.push(line)?;
         self.state.set_place(Member::Slack(slack), Some(place));

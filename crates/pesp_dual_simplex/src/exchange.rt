@@ -1,9 +1,12 @@
-//! The four cases of an exchange: what the inverse becomes, each time by one outer product.
+//! The four cases of an exchange: how the inverse changes, each time by a column times a row.
 
+use crate::bordering::turn;
 use crate::fixed::{ONE, over};
-use crate::inverse::{drop_column, list_numbers, read_column, scale_all, take_outer, write_column};
+use crate::inverse::{read_column, scale_all, set_at};
 use crate::members::{Entering, Leaving, Member};
 use crate::simplex::Simplex;
+use crate::state::VACANT;
+use crate::updates::Update;
 use std::alloc::AllocError;
 
 /// The number at a place; 0 where there is none.
@@ -11,29 +14,51 @@ fn number_at(numbers: &[i64], place: u32) -> i64 {
     numbers.get(place as usize).copied().unwrap_or(0)
 }
 
-/// Takes out the number at a place; the last one takes its place, and is returned where it has moved.
-fn take_out(numbers: &mut Vec<u32>, place: u32) -> Option<u32> {
-    let last = numbers.pop()?;
-    *numbers.get_mut(place as usize)? = last;
-    Some(last)
+/// Takes 1 away from the number at a place.
+fn take_one(numbers: &mut [i64], place: u32) {
+    let less = number_at(numbers, place).wrapping_sub(ONE);
+    set_at(numbers, place, less);
 }
 
-/// Takes out the row at a place; the last one takes its place.
-fn take_row(rows: &mut Vec<Vec<i64>>, place: u32) {
-    let Some(last) = rows.pop() else {
-        return;
-    };
-    if let Some(slot) = rows.get_mut(place as usize) {
-        *slot = last;
+/// What stands at a place.
+fn put_at(list: &mut [u32], place: u32, number: u32) {
+    if let Some(slot) = list.get_mut(place as usize) {
+        *slot = number;
     }
 }
 
 impl Simplex {
-    /// Takes the listed numbers times the factors away from all rows but one.
-    fn take_all(&mut self, spared: Option<u32>) {
-        let rows = &mut self.state.inverse;
-        let work = take_outer(rows, &self.factors, &self.listed, spared);
-        self.work = self.work.wrapping_add(work);
+    /// The column of the inverse of a tight line, into `factors`.
+    pub(crate) fn read_line(&mut self, place: u32) -> Result<(), AllocError> {
+        read_column(&self.inverse, place, &mut self.factors)?;
+        self.factors.resize(self.state.basic.len(), 0)?;
+        self.others.clear();
+        self.others.push((place, ONE))?;
+        self.change_factors();
+        Ok(())
+    }
+
+    /// Puts the factors times the weights among the changes of the inverse.
+    fn put_update(&mut self) -> Result<(), AllocError> {
+        let update = Update::of(self.alloc, &self.factors, &self.weights)?;
+        self.work = self.work.wrapping_add(update.size());
+        self.state.updates.push(update)?;
+        Ok(())
+    }
+
+    /// A line becomes tight, and a slack of which it has this coefficient basic.
+    fn grow(&mut self, line: u32, slack: u32, coefficient: i64) -> Result<(), AllocError> {
+        let place = u32::try_from(self.state.basic.len()).unwrap_or(VACANT);
+        let inverse = over(ONE, coefficient);
+        turn(&mut self.factors, inverse);
+        self.factors.push(inverse)?;
+        self.weights.push(-ONE)?;
+        self.put_update()?;
+        self.state.basic.push(slack)?;
+        self.state.tight.push(line)?;
+        self.state.set_place(Member::Slack(slack), Some(place));
+        self.state.set_place(Member::Line(line), Some(place));
+        Ok(())
     }
 
     /// A line becomes tight in the place of another one.
@@ -42,19 +67,12 @@ impl Simplex {
             return Ok(());
         };
         let inverse = over(ONE, number_at(&self.weights, place));
-        read_column(&self.state.inverse, place, &mut self.factors)?;
         scale_all(&mut self.factors, inverse);
-        if let Some(slot) = self.weights.get_mut(place as usize) {
-            *slot = 0;
-        }
-        list_numbers(&mut self.weights, &mut self.listed)?;
-        self.take_all(None);
-        write_column(&mut self.state.inverse, place, &self.factors);
+        take_one(&mut self.weights, place);
+        self.put_update()?;
         self.state.set_place(Member::Line(other), None);
         self.state.set_place(Member::Line(line), Some(place));
-        if let Some(slot) = self.state.tight.get_mut(place as usize) {
-            *slot = line;
-        }
+        put_at(&mut self.state.tight, place, line);
         Ok(())
     }
 
@@ -63,22 +81,17 @@ impl Simplex {
         let Some(place) = self.state.place_of(Member::Slack(other)) else {
             return Ok(());
         };
-        self.read_slack(slack)?;
         let inverse = over(ONE, number_at(&self.factors, place));
-        if let Some(row) = self.state.inverse.get_mut(place as usize) {
-            scale_all(row, inverse);
-            list_numbers(row, &mut self.listed)?;
-        }
-        self.take_all(Some(place));
+        scale_all(&mut self.weights, inverse);
+        take_one(&mut self.factors, place);
+        self.put_update()?;
         self.state.set_place(Member::Slack(other), None);
         self.state.set_place(Member::Slack(slack), Some(place));
-        if let Some(slot) = self.state.basic.get_mut(place as usize) {
-            *slot = slack;
-        }
+        put_at(&mut self.state.basic, place, slack);
         Ok(())
     }
 
-    /// A line is tight no longer, nor a slack basic.
+    /// A line is tight no longer, nor a slack basic. Their places stay vacant for now.
     fn shrink(&mut self, slack: u32, line: u32) -> Result<(), AllocError> {
         let (Some(row), Some(column)) = (
             self.state.place_of(Member::Slack(slack)),
@@ -86,35 +99,18 @@ impl Simplex {
         ) else {
             return Ok(());
         };
-        read_column(&self.state.inverse, column, &mut self.factors)?;
         let inverse = over(ONE, number_at(&self.factors, row));
         scale_all(&mut self.factors, inverse);
-        if let Some(numbers) = self.state.inverse.get_mut(row as usize) {
-            if let Some(slot) = numbers.get_mut(column as usize) {
-                *slot = 0;
-            }
-            list_numbers(numbers, &mut self.listed)?;
-        }
-        self.take_all(Some(row));
-        take_row(&mut self.state.inverse, row);
-        drop_column(&mut self.state.inverse, column);
-        self.take_places(slack, row, line, column);
+        set_at(&mut self.factors, row, ONE);
+        self.put_update()?;
+        self.state.set_place(Member::Slack(slack), None);
+        self.state.set_place(Member::Line(line), None);
+        put_at(&mut self.state.basic, row, VACANT);
+        put_at(&mut self.state.tight, column, VACANT);
         Ok(())
     }
 
-    /// A slack and a line have no place any longer; the last ones take theirs.
-    fn take_places(&mut self, slack: u32, row: u32, line: u32, column: u32) {
-        self.state.set_place(Member::Slack(slack), None);
-        self.state.set_place(Member::Line(line), None);
-        if let Some(moved) = take_out(&mut self.state.basic, row) {
-            self.state.set_place(Member::Slack(moved), Some(row));
-        }
-        if let Some(moved) = take_out(&mut self.state.tight, column) {
-            self.state.set_place(Member::Line(moved), Some(column));
-        }
-    }
-
-    /// What leaves and what enters change places.
+    /// What leaves and what enters, whose column is in `factors`, change places.
     pub(crate) fn exchange(
         &mut self,
         leaving: Leaving,
@@ -125,8 +121,7 @@ impl Simplex {
         match (leaving.member, entering.member) {
             (Member::Line(line), Member::Slack(slack)) => {
                 let coefficient = self.alpha.get(slack);
-                self.read_slack(slack)?;
-                self.border(line, slack, coefficient)
+                self.grow(line, slack, coefficient)
             }
             (Member::Line(line), Member::Line(other)) => self.change_lines(line, other),
             (Member::Slack(other), Member::Slack(slack)) => self.change_slacks(slack, other),

@@ -1,7 +1,7 @@
 //! Sums and products over the rows of an inverse.
 
 use crate::fixed::{is_nothing, times};
-use std::alloc::AllocError;
+use std::alloc::{AllocError, Global};
 
 /// Adds a row times a whole factor to numbers.
 pub(crate) fn add_row(numbers: &mut [i64], row: &[i64], factor: i32) {
@@ -35,8 +35,21 @@ pub(crate) fn list_numbers(
     Ok(())
 }
 
+/// The numbers that don't count as 0, with their places.
+pub(crate) fn list_all(alloc: Global, numbers: &[i64]) -> Result<Vec<(u32, i64)>, AllocError> {
+    let mut list = Vec::new(alloc);
+    let mut place = 0u32;
+    for number in numbers {
+        if !is_nothing(*number) {
+            list.push((place, *number))?;
+        }
+        place = place.wrapping_add(1);
+    }
+    Ok(list)
+}
+
 /// The sum of a row's numbers times those that are listed.
-fn product_of(row: &[i64], list: &[(u32, i64)]) -> i64 {
+pub(crate) fn product_of(row: &[i64], list: &[(u32, i64)]) -> i64 {
     let mut sum = 0i128;
     for (place, number) in list {
         let value = row.get(*place as usize).copied().unwrap_or(0);
@@ -61,7 +74,7 @@ pub(crate) fn products(
 }
 
 /// Takes the listed numbers times a factor away from a row.
-fn take_from(row: &mut [i64], list: &[(u32, i64)], factor: i64) {
+pub(crate) fn take_from(row: &mut [i64], list: &[(u32, i64)], factor: i64) {
     for (place, number) in list {
         if let Some(value) = row.get_mut(*place as usize) {
             *value = value.wrapping_sub(times(factor, *number));
@@ -69,21 +82,14 @@ fn take_from(row: &mut [i64], list: &[(u32, i64)], factor: i64) {
     }
 }
 
-/// Takes the listed numbers times a factor for each row away from all rows but one; how many numbers that were.
-pub(crate) fn take_outer(
-    rows: &mut [Vec<i64>],
-    factors: &[i64],
-    list: &[(u32, i64)],
-    spared: Option<u32>,
-) -> u64 {
+/// Takes the listed numbers times a factor for each row away from all rows; how many numbers that were.
+pub(crate) fn take_outer(rows: &mut [Vec<i64>], factors: &[i64], list: &[(u32, i64)]) -> u64 {
     let mut count = 0u64;
-    let mut place = 0u32;
     for (row, factor) in rows.iter_mut().zip(factors.iter()) {
-        if !is_nothing(*factor) && spared != Some(place) {
+        if !is_nothing(*factor) {
             take_from(row, list, *factor);
             count = count.wrapping_add(list.len() as u64);
         }
-        place = place.wrapping_add(1);
     }
     count
 }
@@ -101,21 +107,38 @@ pub(crate) fn read_column(
     Ok(())
 }
 
-/// Writes a column.
-pub(crate) fn write_column(rows: &mut [Vec<i64>], place: u32, numbers: &[i64]) {
-    for (row, number) in rows.iter_mut().zip(numbers.iter()) {
-        if let Some(value) = row.get_mut(place as usize) {
-            *value = *number;
-        }
+/// Rows have no number.
+pub(crate) fn clear_rows(rows: &mut [Vec<i64>]) {
+    for row in rows.iter_mut() {
+        row.clear();
     }
 }
 
-/// Puts a column behind the others.
-pub(crate) fn push_column(rows: &mut [Vec<i64>], numbers: &[i64]) -> Result<(), AllocError> {
-    for (row, number) in rows.iter_mut().zip(numbers.iter()) {
-        row.push(*number)?;
+/// Makes rows so many, each of so many numbers; what is new is 0.
+pub(crate) fn widen(
+    alloc: Global,
+    rows: &mut Vec<Vec<i64>>,
+    count: usize,
+) -> Result<(), AllocError> {
+    rows.truncate(count);
+    for row in rows.iter_mut() {
+        row.resize(count, 0)?;
+    }
+    for _ in rows.len()..count {
+        rows.push(vec![in alloc; 0i64; count]?)?;
     }
     Ok(())
+}
+
+/// Writes a column where it was 0.
+pub(crate) fn write_column(rows: &mut [Vec<i64>], place: usize, numbers: &[i64]) {
+    for (row, number) in rows.iter_mut().zip(numbers.iter()) {
+        if *number != 0
+            && let Some(slot) = row.get_mut(place)
+        {
+            *slot = *number;
+        }
+    }
 }
 
 /// Takes a column out; the last one takes its place.
@@ -126,6 +149,13 @@ pub(crate) fn drop_column(rows: &mut [Vec<i64>], place: u32) {
         {
             *value = last;
         }
+    }
+}
+
+/// Sets the number at a place.
+pub(crate) fn set_at(numbers: &mut [i64], place: u32, number: i64) {
+    if let Some(slot) = numbers.get_mut(place as usize) {
+        *slot = number;
     }
 }
 

@@ -16,11 +16,13 @@ mod pricing;
 mod ratios;
 mod rebuilding;
 mod refreshing;
+mod saving;
 mod simplex;
 mod solving;
 mod sparse;
 mod state;
 mod tableau;
+mod updates;
 
 pub use fixed::{MOST, ONE, rounded, whole};
 pub use names::Names;

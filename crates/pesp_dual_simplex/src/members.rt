@@ -1,5 +1,7 @@
 //! What leaves and what enters a basis.
 
+use crate::fixed::over;
+
 /// A slack, or a line, by its number from 0.
 #[derive(Clone, Copy, PartialEq, Eq)]
 pub(crate) enum Member {
@@ -14,12 +16,19 @@ pub(crate) struct Leaving {
     pub(crate) missing: i64,
 }
 
-/// What may enter: at which ratio, and the amount of its coefficient.
+/// What may enter: its price, and the amount of its coefficient.
 #[derive(Clone, Copy)]
 pub(crate) struct Candidate {
     pub(crate) member: Member,
-    pub(crate) ratio: i64,
+    pub(crate) price: i64,
     pub(crate) size: i64,
+}
+
+/// A candidate with its ratio.
+#[derive(Clone, Copy)]
+pub(crate) struct First {
+    pub(crate) candidate: Candidate,
+    pub(crate) ratio: i64,
 }
 
 /// What enters, at which ratio, how many candidates before it go to their other end, and what the value gains.
@@ -43,8 +52,31 @@ impl Leaving {
 }
 
 impl Candidate {
-    /// Whether it comes before another one.
-    pub(crate) fn is_before(&self, other: &Candidate) -> bool {
-        self.ratio < other.ratio || (self.ratio == other.ratio && self.size > other.size)
+    /// It with its ratio.
+    pub(crate) fn with_ratio(&self) -> First {
+        First {
+            candidate: *self,
+            ratio: over(self.price, self.size),
+        }
+    }
+}
+
+impl First {
+    /// Whether a candidate's ratio is above this one, which needs no division.
+    fn is_below(&self, other: &Candidate) -> bool {
+        let price = i128::from(other.price) << 36;
+        let ratio = i128::from(self.ratio).wrapping_add(1);
+        price >= ratio.wrapping_mul(i128::from(other.size))
+    }
+
+    /// A candidate that comes before it: of a lesser ratio, or of the same one and a greater coefficient.
+    pub(crate) fn before(&self, other: &Candidate) -> Option<First> {
+        if self.is_below(other) {
+            return None;
+        }
+        let first = other.with_ratio();
+        let is_less = first.ratio < self.ratio;
+        let is_greater = first.ratio == self.ratio && other.size > self.candidate.size;
+        (is_less || is_greater).then_some(first)
     }
 }

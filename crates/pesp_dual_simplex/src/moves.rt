@@ -1,9 +1,10 @@
 //! How multipliers and slacks move at an exchange.
 
-use crate::fixed::{by_whole, over, times};
+use crate::fixed::{ONE, by_whole, is_nothing, over, times};
 use crate::inverse::{list_numbers, make_zeros, products};
 use crate::members::{Entering, Leaving, Member};
 use crate::simplex::Simplex;
+use crate::state::VACANT;
 use std::alloc::AllocError;
 
 impl Simplex {
@@ -110,20 +111,59 @@ impl Simplex {
         Ok(times(self.coefficient_of(member), step))
     }
 
-    /// Moves the basic slacks so that tight lines stay tight.
-    fn move_basic(&mut self) -> Result<(), AllocError> {
+    /// The inverse times the numbers, into `factors`.
+    pub(crate) fn multiply(&mut self) -> Result<(), AllocError> {
         list_numbers(&mut self.numbers, &mut self.others)?;
-        products(&self.state.inverse, &self.others, &mut self.factors)?;
-        let rows = self.state.inverse.len() as u64;
+        products(&self.inverse, &self.others, &mut self.factors)?;
+        self.factors.resize(self.state.basic.len(), 0)?;
+        let rows = self.inverse.len() as u64;
         self.work = self
             .work
             .wrapping_add(rows.wrapping_mul(self.others.len() as u64));
-        for (number, step) in self.state.basic.iter().zip(self.factors.iter()) {
-            if *step != 0 {
-                self.moves.add(*number, *step)?;
+        self.change_factors();
+        Ok(())
+    }
+
+    /// Moves the basic slacks by a step times the factors.
+    fn move_basic(&mut self, step: i64) -> Result<(), AllocError> {
+        for (number, factor) in self.state.basic.iter().zip(self.factors.iter()) {
+            let part = times(step, *factor);
+            if !is_nothing(part) {
+                self.moves.add(*number, part)?;
             }
         }
         Ok(())
+    }
+
+    /// Candidates go to their other end, and basic slacks move so that tight lines stay tight; what that adds to what leaves.
+    fn flip_all(&mut self, count: usize) -> Result<i64, AllocError> {
+        if count == 0 {
+            return Ok(0);
+        }
+        make_zeros(&mut self.numbers, self.state.tight.len())?;
+        let mut sum = 0i64;
+        for at in 0..count {
+            sum = sum.wrapping_add(self.flip(at)?);
+        }
+        self.multiply()?;
+        self.move_basic(ONE)?;
+        Ok(sum)
+    }
+
+    /// What enters moves, and the basic slacks so that tight lines stay tight; its column is in `factors` then.
+    fn move_entering(&mut self, member: Member, step: i64) -> Result<(), AllocError> {
+        match member {
+            Member::Slack(number) => {
+                self.read_slack(number)?;
+                self.moves.add(number, step)?;
+                self.move_basic(step.wrapping_neg())
+            }
+            Member::Line(_) => {
+                let place = self.state.place_of(member);
+                self.read_line(place.unwrap_or(VACANT))?;
+                self.move_basic(step)
+            }
+        }
     }
 
     /// A slack moves, and all sums that it is in.
@@ -153,21 +193,17 @@ impl Simplex {
         self.moves.clear();
     }
 
-    /// Slacks move: those that go to their other end, what enters, and the basic ones.
+    /// Slacks move: those that go to their other end, what enters, whose column is in `factors` then, and the basic ones.
     pub(crate) fn move_slacks(
         &mut self,
         leaving: Leaving,
         entering: Entering,
     ) -> Result<(), AllocError> {
-        make_zeros(&mut self.numbers, self.state.tight.len())?;
         self.moves.clear();
-        let mut need = leaving.missing;
-        for at in 0..entering.flips {
-            need = need.wrapping_sub(self.flip(at)?);
-        }
+        let flipped = self.flip_all(entering.flips)?;
+        let need = leaving.missing.wrapping_sub(flipped);
         let step = over(need, self.coefficient_of(entering.member));
-        self.push_member(entering.member, step)?;
-        self.move_basic()?;
+        self.move_entering(entering.member, step)?;
         self.move_listed();
         Ok(())
     }

@@ -1,6 +1,7 @@
 //! Bases by names.
 
 use crate::simplex::Simplex;
+use crate::state::VACANT;
 use std::alloc::{AllocError, Global};
 
 /// A basis: the basic slacks, the tight lines, each with whether it is at its greatest value, and the slacks at their span.
@@ -35,16 +36,25 @@ impl Simplex {
         Ok(())
     }
 
+    /// The slacks that are basic.
+    fn list_basic(&self, basic: &mut Vec<u32>) -> Result<(), AllocError> {
+        basic.clear();
+        for number in &self.state.basic {
+            if *number != VACANT {
+                basic.push(*number)?;
+            }
+        }
+        Ok(())
+    }
+
     /// Writes down the basis.
     pub fn name(&self, names: &mut Names) -> Result<(), AllocError> {
-        names.basic.clear();
-        names.basic.extend_from_slice(&self.state.basic)?;
+        self.list_basic(&mut names.basic)?;
         names.tight.clear();
         for number in &self.state.tight {
-            let sum = self.state.sums.get(*number as usize);
-            names
-                .tight
-                .push((*number, sum.is_some_and(|sum| sum.is_up)))?;
+            if let Some(sum) = self.state.sums.get(*number as usize) {
+                names.tight.push((*number, sum.is_up))?;
+            }
         }
         names.up.clear();
         self.list_up(&mut names.up)

@@ -1,7 +1,7 @@
 //! The ratio test, in which slacks and lines may go to their other end.
 
-use crate::fixed::{MOST, amount, over, times};
-use crate::members::{Candidate, Entering, Leaving, Member};
+use crate::fixed::{MOST, amount, times};
+use crate::members::{Candidate, Entering, First, Leaving, Member};
 use crate::simplex::Simplex;
 use std::alloc::AllocError;
 
@@ -16,15 +16,18 @@ const ENDLESS: i64 = MOST / 2;
 
 /// What may enter: with its price, and how its coefficient counts towards what is missing.
 fn candidate(member: Member, price: i64, rise: i64, is_up: bool) -> Option<Candidate> {
-    let helps = if is_up {
-        rise < -LEAST_COEFFICIENT
+    let (size, price) = if is_up {
+        (rise.wrapping_neg(), price.wrapping_neg())
     } else {
-        rise > LEAST_COEFFICIENT
+        (rise, price)
     };
-    helps.then_some(Candidate {
+    if size <= LEAST_COEFFICIENT {
+        return None;
+    }
+    Some(Candidate {
         member,
-        ratio: over(price, rise).max(0),
-        size: amount(rise),
+        price: price.max(0),
+        size,
     })
 }
 
@@ -86,12 +89,12 @@ impl Simplex {
     }
 
     /// Puts the first of the candidates from a place on there.
-    fn put_first(&mut self, place: usize) -> Option<Candidate> {
+    fn put_first(&mut self, place: usize) -> Option<First> {
         let mut at = place;
-        let mut first = self.candidates.get(place).copied()?;
+        let mut first = self.candidates.get(place).copied()?.with_ratio();
         for (other, candidate) in self.candidates.iter().enumerate().skip(place) {
-            if candidate.is_before(&first) {
-                first = *candidate;
+            if let Some(better) = first.before(candidate) {
+                first = better;
                 at = other;
             }
         }
@@ -108,11 +111,8 @@ impl Simplex {
         let mut gain = 0i64;
         let mut last = 0i64;
         for flips in 0..self.candidates.len() {
-            let Candidate {
-                member,
-                ratio,
-                size,
-            } = self.put_first(flips)?;
+            let First { candidate, ratio } = self.put_first(flips)?;
+            let Candidate { member, size, .. } = candidate;
             gain = gain.wrapping_add(times(left, ratio.wrapping_sub(last)));
             last = ratio;
             let range = self.range_of(member);

@@ -1,6 +1,7 @@
 //! The inverse of a basis anew, line by line.
 
 use crate::fixed::amount;
+use crate::inverse::{clear_rows, widen};
 use crate::members::Member;
 use crate::order::Beside;
 use crate::simplex::Simplex;
@@ -62,9 +63,8 @@ impl Simplex {
         Some(best?.slack)
     }
 
-    /// A line that was weighed and a slack come in.
-    fn bring(&mut self, beside: Beside) -> Result<(), AllocError> {
-        let coefficient = self.alpha.get(beside.slack);
+    /// A line that was weighed and a slack come in, of which it has this coefficient.
+    fn bring(&mut self, beside: Beside, coefficient: i64) -> Result<(), AllocError> {
         if amount(coefficient) < LEAST_PIVOT {
             return Ok(());
         }
@@ -80,7 +80,8 @@ impl Simplex {
             return Ok(());
         };
         let beside = Beside { line, slack };
-        self.bring(beside)?;
+        let coefficient = self.alpha.get(slack);
+        self.bring(beside, coefficient)?;
         self.order.take(&self.columns, &self.lines, beside)
     }
 
@@ -101,8 +102,9 @@ impl Simplex {
             let Some(beside) = self.order.last.pop() else {
                 return Ok(());
             };
-            self.weigh(Member::Line(beside.line))?;
-            self.bring(beside)?;
+            self.weigh_tight(Member::Line(beside.line))?;
+            let coefficient = self.coefficient_beside(beside.slack);
+            self.bring(beside, coefficient)?;
         }
         Ok(())
     }
@@ -115,7 +117,7 @@ impl Simplex {
         for sum in self.state.sums.iter_mut() {
             sum.place = None;
         }
-        self.state.inverse.clear();
+        self.forget_changes();
     }
 
     /// Slacks that should be basic and aren't stay at 0.
@@ -137,7 +139,7 @@ impl Simplex {
         self.state.tight.clear();
         self.clear_places();
         self.state.since = 0;
-        let brought = self.bring_all();
+        let brought = self.bring_all(basic.len());
         self.lower(&basic);
         drop(basic);
         brought?;
@@ -148,15 +150,19 @@ impl Simplex {
         Ok(())
     }
 
-    /// All come in.
-    fn bring_all(&mut self) -> Result<(), AllocError> {
+    /// All come in, so many at most.
+    fn bring_all(&mut self, most: usize) -> Result<(), AllocError> {
+        clear_rows(&mut self.inverse);
+        widen(self.alloc, &mut self.inverse, most)?;
         self.bring_first()?;
-        self.bring_last()
+        self.bring_last()?;
+        widen(self.alloc, &mut self.inverse, self.state.basic.len())
     }
 
     /// Nothing is tight, and all multipliers are 0.
     pub fn reset(&mut self) -> Result<(), AllocError> {
         self.clear_places();
+        self.inverse.clear();
         self.state.basic.clear();
         self.state.tight.clear();
         self.state.since = 0;

@@ -1,8 +1,9 @@
 //! Multipliers, reduced costs, slacks and sums by the inverse.
 
 use crate::fixed::{ONE, by_whole, times};
-use crate::inverse::{list_numbers, make_zeros, products};
+use crate::inverse::make_zeros;
 use crate::simplex::{Simplex, sum_along};
+use crate::updates::change_row;
 use std::alloc::AllocError;
 
 /// A price that counts as 0.
@@ -24,9 +25,22 @@ impl Simplex {
     /// The multipliers of tight lines, into `numbers`.
     fn sum_costs(&mut self) -> Result<(), AllocError> {
         make_zeros(&mut self.numbers, self.state.tight.len())?;
-        for (row, number) in self.state.inverse.iter().zip(self.state.basic.iter()) {
+        self.list_costs()?;
+        for (row, (_, cost)) in self.inverse.iter().zip(self.others.iter()) {
+            add_times(&mut self.numbers, row, *cost);
+        }
+        change_row(&self.state.updates, &self.others, &mut self.numbers);
+        Ok(())
+    }
+
+    /// Lists what the basic slacks cost.
+    fn list_costs(&mut self) -> Result<(), AllocError> {
+        self.others.clear();
+        let mut place = 0u32;
+        for number in &self.state.basic {
             let cost = self.columns.get(*number as usize).map_or(0, |it| it.cost);
-            add_times(&mut self.numbers, row, cost);
+            self.others.push((place, cost))?;
+            place = place.wrapping_add(1);
         }
         Ok(())
     }
@@ -137,8 +151,7 @@ impl Simplex {
     /// The values of basic slacks.
     fn set_basic(&mut self) -> Result<(), AllocError> {
         self.read_needs()?;
-        list_numbers(&mut self.numbers, &mut self.others)?;
-        products(&self.state.inverse, &self.others, &mut self.factors)?;
+        self.multiply()?;
         for (number, value) in self.state.basic.iter().zip(self.factors.iter()) {
             if let Some(slack) = self.state.slacks.get_mut(*number as usize) {
                 slack.value = *value;
@@ -179,7 +192,7 @@ impl Simplex {
         self.set_basic()?;
         self.set_sums();
         self.set_value();
-        let rows = self.state.inverse.len() as u64;
+        let rows = self.inverse.len() as u64;
         self.work = self
             .work
             .wrapping_add(rows.wrapping_mul(rows).wrapping_mul(2));

@@ -11,13 +11,15 @@ use pesp_network::NetRow;
 use std::alloc::{AllocError, Global};
 use std::mem::swap;
 
-/// The least weighted slack of rows, under lines; where the simplex stands; and what an exchange works with: what leaves by
+/// The least weighted slack of rows, under lines; the inverse of the coefficients of basic slacks in tight lines, by slack, but
+/// for the changes that are still to be made; where the simplex stands; and what an exchange works with: what leaves by
 /// tight line and by slack at an end, how far slacks move, the numbers of a column, and what may enter.
 #[derive(Drop)]
 pub struct Simplex {
     pub(crate) alloc: Global,
     pub(crate) columns: Vec<Column>,
     pub(crate) lines: Vec<Line>,
+    pub(crate) inverse: Vec<Vec<i64>>,
     pub(crate) state: State,
     pub(crate) weights: Vec<i64>,
     pub(crate) listed: Vec<(u32, i64)>,
@@ -66,6 +68,7 @@ impl Simplex {
             alloc,
             columns,
             lines: Vec::new(alloc),
+            inverse: Vec::new(alloc),
             state: State::new(alloc),
             weights: Vec::new(alloc),
             listed: Vec::new(alloc),
@@ -153,10 +156,10 @@ impl Simplex {
     /// How many numbers of the inverse aren't 0, in 1/1024 of all.
     pub fn density(&self) -> u64 {
         let mut count = 0u64;
-        for row in &self.state.inverse {
+        for row in &self.inverse {
             count = count.wrapping_add(count_of(row));
         }
-        let rows = self.state.inverse.len() as u64;
+        let rows = self.inverse.len() as u64;
         count.wrapping_mul(1024) / rows.wrapping_mul(rows).max(1)
     }
 
@@ -286,20 +289,6 @@ impl Simplex {
             if let Some(Some(number)) = numbers.get(*tight as usize).copied() {
                 *tight = number;
             }
-        }
-    }
-
-    /// Copies where the simplex stands.
-    pub fn save(&self, into: &mut State) -> Result<(), AllocError> {
-        into.copy(self.alloc, &self.state)
-    }
-
-    /// Goes back to where it stood; nothing is tight where the lines aren't those of then.
-    pub fn load(&mut self, from: &State) -> Result<(), AllocError> {
-        if from.sums.len() == self.lines.len() {
-            self.state.copy(self.alloc, from)
-        } else {
-            self.reset()
         }
     }
 }

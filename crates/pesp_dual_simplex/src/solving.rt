@@ -7,6 +7,13 @@ use std::alloc::AllocError;
 /// After how many exchanges the inverse is built anew.
 const REBUILT_AFTER: u32 = 600;
 
+/// After how many exchanges it is still trusted where it shows that nothing is within all lines, which is looked at again in
+/// whole numbers.
+const TRUSTED_FOR: u32 = 150;
+
+/// How many changes of the inverse are still to be made at most.
+const MOST_UPDATES: usize = 64;
+
 /// How a call came to its end: nothing is outside its range; the value has reached what was asked for; nothing is within all
 /// lines, which `ray` shows; or all exchanges were made.
 #[derive(Clone, Copy, PartialEq, Eq)]
@@ -86,12 +93,14 @@ impl Simplex {
             }
             if self.state.since >= REBUILT_AFTER {
                 self.rebuild()?;
+            } else {
+                self.settle(MOST_UPDATES)?;
             }
             match self.turn()? {
                 Turn::Best => return Ok(End::Best),
                 Turn::Made => {}
                 Turn::Stuck(leaving) => {
-                    if was_stuck || self.state.since == 0 {
+                    if was_stuck || self.state.since <= TRUSTED_FOR {
                         self.keep_ray(leaving)?;
                         return Ok(End::Ray);
                     }

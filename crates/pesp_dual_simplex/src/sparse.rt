@@ -1,5 +1,6 @@
 //! Lists of numbers of which few are not 0.
 
+use crate::state::Slack;
 use std::alloc::{AllocError, Global};
 
 /// Numbers by place, 0 but at the places that are listed.
@@ -33,6 +34,33 @@ impl Sparse {
             self.places.push(place)?;
         }
         Ok(())
+    }
+
+    /// Adds to a number that is listed later.
+    pub(crate) fn gather(&mut self, place: u32, number: i64) {
+        if let Some(value) = self.values.get_mut(place as usize) {
+            *value = value.wrapping_add(number);
+        }
+    }
+
+    /// Lists the numbers of slacks that aren't basic; the others become 0.
+    pub(crate) fn list(&mut self, slacks: &[Slack]) -> Result<(), AllocError> {
+        self.places.clear();
+        let mut place = 0u32;
+        for (value, slack) in self.values.iter_mut().zip(slacks.iter()) {
+            *value = if slack.place.is_some() { 0 } else { *value };
+            if *value != 0 {
+                self.places.push(place)?;
+            }
+            place = place.wrapping_add(1);
+        }
+        Ok(())
+    }
+
+    /// All numbers are 0, listed or not.
+    pub(crate) fn wipe(&mut self) {
+        self.values.fill(0);
+        self.places.clear();
     }
 
     /// A number.

@@ -1,6 +1,7 @@
 //! Where a simplex stands.
 
 use crate::members::Member;
+use crate::updates::Update;
 use std::alloc::{AllocError, Global};
 
 /// A slack: its value, its reduced cost, its place among the basic ones, and otherwise whether it is at its span.
@@ -21,17 +22,22 @@ pub(crate) struct Sum {
     pub(crate) is_up: bool,
 }
 
-/// Where a simplex stands: the basic slacks and the tight lines, which are as many; the inverse of the coefficients of the ones
-/// in the others, by basic slack; all slacks and lines; the value; and how many exchanges were made since the inverse was built.
+/// What stands at a place that no slack or line has any longer.
+pub(crate) const VACANT: u32 = u32::MAX;
+
+/// Where a simplex stands: the basic slacks and the tight lines, by place; all slacks and lines; the value; how many exchanges
+/// were made since the inverse was built; and of which inverse it is, with how many changes of that and which further ones.
 #[derive(Drop)]
 pub struct State {
     pub(crate) basic: Vec<u32>,
     pub(crate) tight: Vec<u32>,
-    pub(crate) inverse: Vec<Vec<i64>>,
     pub(crate) slacks: Vec<Slack>,
     pub(crate) sums: Vec<Sum>,
     pub(crate) value: i64,
     pub(crate) since: u32,
+    pub(crate) inverse: u64,
+    pub(crate) kept: usize,
+    pub(crate) updates: Vec<Update>,
 }
 
 /// A slack at 0.
@@ -42,47 +48,35 @@ pub(crate) const NO_SLACK: Slack = Slack {
     is_up: false,
 };
 
-/// Copies rows into others, in their place.
-fn copy_rows(alloc: Global, into: &mut Vec<Vec<i64>>, rows: &[Vec<i64>]) -> Result<(), AllocError> {
-    into.truncate(rows.len());
-    for (slot, row) in into.iter_mut().zip(rows.iter()) {
-        slot.clear();
-        slot.extend_from_slice(row)?;
-    }
-    let left = rows.get(into.len()..).unwrap_or(&[]);
-    for row in left {
-        into.push(Vec::from_slice(alloc, row)?)?;
-    }
-    Ok(())
-}
-
 impl State {
     /// Where nothing is.
     pub fn new(alloc: Global) -> State {
         State {
             basic: Vec::new(alloc),
             tight: Vec::new(alloc),
-            inverse: Vec::new(alloc),
             slacks: Vec::new(alloc),
             sums: Vec::new(alloc),
             value: 0,
             since: 0,
+            inverse: 0,
+            kept: 0,
+            updates: Vec::new(alloc),
         }
     }
 
-    /// Copies another one into its place.
-    pub fn copy(&mut self, alloc: Global, other: &State) -> Result<(), AllocError> {
+    /// Copies another one into its place, but for changes of the inverse.
+    pub(crate) fn copy(&mut self, other: &State) -> Result<(), AllocError> {
         self.basic.clear();
         self.basic.extend_from_slice(&other.basic)?;
         self.tight.clear();
         self.tight.extend_from_slice(&other.tight)?;
-        copy_rows(alloc, &mut self.inverse, &other.inverse)?;
         self.slacks.clear();
         self.slacks.extend_from_slice(&other.slacks)?;
         self.sums.clear();
         self.sums.extend_from_slice(&other.sums)?;
         self.value = other.value;
         self.since = other.since;
+        self.inverse = other.inverse;
         Ok(())
     }
 

@@ -1,22 +1,26 @@
 //! The row of the tableau of what leaves.
 
-use crate::fixed::{by_whole, whole};
+use crate::fixed::{ONE, by_whole, whole};
 use crate::inverse::{add_row, list_numbers, make_zeros};
 use crate::members::Member;
 use crate::simplex::Simplex;
+use crate::updates::change_row;
 use pesp_dual::Term;
 use std::alloc::AllocError;
 
 impl Simplex {
-    /// Adds a coefficient: the row of the inverse of a basic slack, or the slack itself.
+    /// Adds a coefficient: the row of the inverse of a basic slack, which is listed, or the slack itself.
     fn add_term(&mut self, term: Term) -> Result<(), AllocError> {
         let Some(slack) = self.state.slacks.get(term.row as usize) else {
             return Ok(());
         };
+        let number = whole(i64::from(term.coefficient));
         let Some(place) = slack.place else {
-            return self.alpha.add(term.row, whole(i64::from(term.coefficient)));
+            self.alpha.gather(term.row, number);
+            return Ok(());
         };
-        if let Some(row) = self.state.inverse.get(place as usize) {
+        self.others.push((place, number))?;
+        if let Some(row) = self.inverse.get(place as usize) {
             add_row(&mut self.weights, row, term.coefficient);
             self.work = self.work.wrapping_add(row.len() as u64);
         }
@@ -35,52 +39,79 @@ impl Simplex {
         Ok(())
     }
 
-    /// The weights of a basic slack: its row of the inverse.
-    fn weigh_slack(&mut self, number: u32) {
-        if let Some(place) = self.state.place_of(Member::Slack(number))
-            && let Some(row) = self.state.inverse.get(place as usize)
-        {
-            add_row(&mut self.weights, row, 1);
-        }
-    }
-
-    /// Takes a tight line times a weight away from the slacks at an end.
-    fn take_line(&mut self, number: u32, weight: i64) -> Result<(), AllocError> {
-        let Some(line) = self.lines.get(number as usize) else {
+    /// The weights of a basic slack: its row of the inverse, which is listed.
+    fn weigh_slack(&mut self, number: u32) -> Result<(), AllocError> {
+        let Some(place) = self.state.place_of(Member::Slack(number)) else {
             return Ok(());
         };
-        for term in &line.terms {
-            let slack = self.state.slacks.get(term.row as usize);
-            if slack.is_some_and(|slack| slack.place.is_none()) {
-                let part = by_whole(weight, term.coefficient);
-                self.alpha.add(term.row, part.wrapping_neg())?;
-            }
+        if let Some(row) = self.inverse.get(place as usize) {
+            add_row(&mut self.weights, row, 1);
         }
-        self.work = self.work.wrapping_add(line.terms.len() as u64);
+        self.others.push((place, ONE))?;
         Ok(())
     }
 
+    /// What changes of the inverse take from the weights.
+    fn change_weights(&mut self) {
+        let work = change_row(&self.state.updates, &self.others, &mut self.weights);
+        self.work = self.work.wrapping_add(work);
+    }
+
+    /// Takes a tight line times a weight away from slacks.
+    fn take_line(&mut self, number: u32, weight: i64) {
+        let Some(line) = self.lines.get(number as usize) else {
+            return;
+        };
+        for term in &line.terms {
+            let part = by_whole(weight, term.coefficient);
+            self.alpha.gather(term.row, part.wrapping_neg());
+        }
+        self.work = self.work.wrapping_add(line.terms.len() as u64);
+    }
+
     /// Takes all tight lines with their weights away.
-    fn take_lines(&mut self) -> Result<(), AllocError> {
+    fn take_lines(&mut self) {
         for at in 0..self.listed.len() {
             if let Some((place, weight)) = self.listed.get(at).copied()
                 && let Some(number) = self.state.tight.get(place as usize).copied()
             {
-                self.take_line(number, weight)?;
+                self.take_line(number, weight);
             }
         }
-        Ok(())
     }
 
     /// The row of the tableau of what leaves: by tight line and by slack at an end.
     pub(crate) fn weigh(&mut self, member: Member) -> Result<(), AllocError> {
+        self.weigh_tight(member)?;
+        self.take_lines();
+        self.alpha.list(&self.state.slacks)
+    }
+
+    /// The row of what leaves by tight line alone.
+    pub(crate) fn weigh_tight(&mut self, member: Member) -> Result<(), AllocError> {
         make_zeros(&mut self.weights, self.state.tight.len())?;
-        self.alpha.clear();
+        self.alpha.wipe();
+        self.others.clear();
         match member {
-            Member::Slack(number) => self.weigh_slack(number),
+            Member::Slack(number) => self.weigh_slack(number)?,
             Member::Line(number) => self.weigh_line(number)?,
         }
-        list_numbers(&mut self.weights, &mut self.listed)?;
-        self.take_lines()
+        self.change_weights();
+        list_numbers(&mut self.weights, &mut self.listed)
+    }
+
+    /// The coefficient of a slack in the row of what was weighed by tight line alone.
+    pub(crate) fn coefficient_beside(&self, slack: u32) -> i64 {
+        let mut sum = self.alpha.get(slack);
+        let Some(column) = self.columns.get(slack as usize) else {
+            return sum;
+        };
+        for entry in &column.entries {
+            if let Some(place) = self.state.place_of(Member::Line(entry.line)) {
+                let weight = self.weights.get(place as usize).copied().unwrap_or(0);
+                sum = sum.wrapping_sub(by_whole(weight, entry.coefficient));
+            }
+        }
+        sum
     }
 }

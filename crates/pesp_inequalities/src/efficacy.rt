@@ -101,17 +101,34 @@ impl Judge {
         violation
     }
 
-    /// The square of violation by norm of the coefficients, in a unit that depends on the period alone; 0 where an inequality
-    /// isn't violated.
-    pub(crate) fn efficacy(self, sums: &Sums) -> u64 {
+    /// The square of violation, in a unit that depends on the period alone; 0 where an inequality isn't violated.
+    fn square(self, sums: &Sums) -> u64 {
         let violation = self.violation(sums).unsigned_abs();
-        if violation == 0 {
-            return 0;
-        }
         let short = violation.wrapping_shr(self.shift);
+        short.wrapping_mul(short)
+    }
+
+    /// The square of the coefficients' norm.
+    fn norm(self, sums: &Sums) -> u64 {
         let rate = self.period.wrapping_sub(sums.rest);
         let rising = sums.rising.norm(rate);
         let norm = rising.wrapping_add(sums.falling.norm(sums.rest));
-        short.wrapping_mul(short) / norm.unsigned_abs().max(1)
+        norm.unsigned_abs().max(1)
+    }
+
+    /// The square of violation by norm of the coefficients, in a unit that depends on the period alone; 0 where an inequality
+    /// isn't violated.
+    pub(crate) fn efficacy(self, sums: &Sums) -> u64 {
+        self.square(sums) / self.norm(sums).max(1)
+    }
+
+    /// Whether the efficacy is above another one, which needs no division.
+    pub(crate) fn exceeds(self, sums: &Sums, efficacy: u64) -> bool {
+        let square = self.square(sums);
+        if square == 0 {
+            return false;
+        }
+        let next = u128::from(efficacy).wrapping_add(1);
+        u128::from(square) >= next.wrapping_mul(u128::from(self.norm(sums)))
     }
 }

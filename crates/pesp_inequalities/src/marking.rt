@@ -118,6 +118,15 @@ impl Ends {
             Ends::Falling => step.rises,
         }
     }
+
+    /// How far the slack of a step is from its end.
+    fn distance(self, step: &Step) -> i64 {
+        if self.turns(step) {
+            step.opposite
+        } else {
+            step.distance
+        }
+    }
 }
 
 impl Marking {
@@ -172,6 +181,18 @@ impl Marking {
         Ok(true)
     }
 
+    /// Whether the inequality with all slacks measured from these ends may be violated.
+    pub(crate) fn is_near(&self, judge: Judge, ends: Ends) -> bool {
+        let mut distance = 0i64;
+        for step in &self.steps {
+            distance = distance.wrapping_add(ends.distance(step));
+            if distance >= judge.bound() {
+                return false;
+            }
+        }
+        true
+    }
+
     /// Measures all slacks from these ends.
     pub(crate) fn turn_to(&mut self, judge: Judge, ends: Ends) {
         let mut sums = self.sums;
@@ -190,9 +211,9 @@ impl Marking {
         let mut best = self.efficacy(judge);
         let mut found = None;
         for (place, step) in self.steps.iter().enumerate() {
-            let efficacy = judge.efficacy(&step.flipped_in(self.sums, judge.period()));
-            if efficacy > best {
-                best = efficacy;
+            let sums = step.flipped_in(self.sums, judge.period());
+            if judge.exceeds(&sums, best) {
+                best = judge.efficacy(&sums);
                 found = Some(place);
             }
         }

@@ -62,8 +62,11 @@ impl Separator {
         self.offers.put(efficacy, self.marking.passes())
     }
 
-    /// Notes the inequality of the walk with its slacks measured from these ends.
+    /// Notes the inequality of the walk with its slacks measured from these ends, where it may be violated.
     fn offer_from(&mut self, ends: Ends) -> Result<(), AllocError> {
+        if !self.marking.is_near(self.judge, ends) {
+            return Ok(());
+        }
         self.marking.turn_to(self.judge, ends);
         self.offer()
     }

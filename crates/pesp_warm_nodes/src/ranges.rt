@@ -112,7 +112,7 @@ impl Shared {
     /// Goes to the node at which it stood before.
     pub fn enter_carried(&mut self, setting: &Setting, basis: &Basis) -> Result<(), AllocError> {
         self.place(setting, basis)?;
-        self.simplex.load(&self.carried)
+        self.simplex.load(&mut self.carried)
     }
 
     /// Goes to a part of a node; the range that its cycle had.
@@ -145,7 +145,7 @@ impl Shared {
     ) -> Result<(), AllocError> {
         self.narrowed.pop();
         self.set_offsets(setting, cut.cycle, old)?;
-        self.simplex.load(&self.here)
+        self.simplex.load(&mut self.here)
     }
 
     /// Puts in the line of a cycle that is cut then.
@@ -161,6 +161,6 @@ impl Shared {
 
     /// Keeps the part as it stands, since it is the next node.
     pub fn carry(&mut self) -> Result<(), AllocError> {
-        self.simplex.save(&mut self.carried)
+        self.simplex.hand_over(&self.here, &mut self.carried)
     }
 }

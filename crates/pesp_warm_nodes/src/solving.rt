@@ -62,6 +62,7 @@ impl Shared {
     pub fn suits(&mut self, limit: Limit) -> Result<bool, AllocError> {
         for _ in 0..MOST_LOOKS {
             let end = self.solve(limit, FIRST_EXCHANGES)?;
+            self.simplex.settle(1)?;
             if self.simplex.density() > SPARSE {
                 return Ok(false);
             }

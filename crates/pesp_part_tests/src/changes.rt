@@ -68,7 +68,11 @@ fn lend(alloc: Global, board: &mut Board, lent: &mut Vec<Lent>) -> Option<String
     ensures { board.new.problem ≡ board.old.problem }
 {
     match board.lend(alloc) {
-        Ok(Some(job)) => keep_job(alloc, &job, lent),
+        Ok(Some(job)) => {
+            let told = keep_job(alloc, &job, lent);
+            drop(job);
+            told
+        }
         Ok(None) => String::from_str(alloc, "none").ok(),
         Err(refusal) => format!(in alloc; "{refusal:?}").ok(),
     }
@@ -105,7 +109,11 @@ fn lend_all(alloc: Global, board: &mut Board, lent: &mut Vec<Lent>) -> Option<St
     ensures { board.new.problem ≡ board.old.problem }
 {
     match board.lend_all(alloc) {
-        Ok(jobs) => keep_jobs(alloc, &jobs, lent),
+        Ok(jobs) => {
+            let told = keep_jobs(alloc, &jobs, lent);
+            drop(jobs);
+            told
+        }
         Err(refusal) => format!(in alloc; "{refusal:?}").ok(),
     }
 }

@@ -68,11 +68,7 @@ fn lend(alloc: Global, board: &mut Board, lent: &mut Vec<Lent>) -> Option<String
     ensures { board.new.problem ≡ board.old.problem }
 {
     match board.lend(alloc) {
-        Ok(Some(job)) => {
-            let told = keep_job(alloc, &job, lent);
-            drop(job);
-            told
-        }
+        Ok(Some(job)) => keep_job(alloc, &job, lent),
         Ok(None) => String::from_str(alloc, "none").ok(),
         Err(refusal) => format!(in alloc; "{refusal:?}").ok(),
     }
@@ -109,11 +105,7 @@ fn lend_all(alloc: Global, board: &mut Board, lent: &mut Vec<Lent>) -> Option<St
     ensures { board.new.problem ≡ board.old.problem }
 {
     match board.lend_all(alloc) {
-        Ok(jobs) => {
-            let told = keep_jobs(alloc, &jobs, lent);
-            drop(jobs);
-            told
-        }
+        Ok(jobs) => keep_jobs(alloc, &jobs, lent),
         Err(refusal) => format!(in alloc; "{refusal:?}").ok(),
     }
 }

@@ -4,19 +4,11 @@ use pesp_cert::{Certificate, parse, print};
 use pesp_stream::Counted;
 use std::alloc::Global;
 
-/// Parses a certificate: how many lines its tree has.
-fn parse_once(alloc: Global, text: &[u8]) -> Option<u64> {
-    let certificate = parse(alloc, text).ok()?;
-    let lines = certificate.tree().len() as u64;
-    drop(certificate);
-    Some(lines)
-}
-
 /// Parses a certificate so many times: how many lines its tree has.
 pub(crate) fn parse_again(alloc: Global, text: &[u8], times: u32) -> Option<u64> {
     let mut lines = 0;
     for _ in 0..times {
-        lines = parse_once(alloc, text)?;
+        lines = parse(alloc, text).ok()?.tree().len() as u64;
     }
     Some(lines)
 }
@@ -38,8 +30,5 @@ fn print_often(alloc: Global, certificate: &Certificate, times: u32) -> Option<u
 
 /// Parses a certificate and prints it so many times: how many bytes it has.
 pub(crate) fn print_again(alloc: Global, text: &[u8], times: u32) -> Option<u64> {
-    let certificate = parse(alloc, text).ok()?;
-    let bytes = print_often(alloc, &certificate, times);
-    drop(certificate);
-    bytes
+    print_often(alloc, &parse(alloc, text).ok()?, times)
 }

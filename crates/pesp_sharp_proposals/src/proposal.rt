@@ -4,7 +4,6 @@ use crate::best::{Best, cost_of};
 use crate::search::SharpSearch;
 use pesp_cert::{Certificate, Fronted, Marks};
 use pesp_judges::least_of;
-use pesp_nets::MarkedWalk;
 use pesp_problem::{Instance, Memory, Walk};
 use pesp_sharp_trees::{
     Kept, Left, Numbers, copied_lines, copied_marked, copied_walks, lifted_of, lines_of, marked_of,
@@ -82,17 +81,6 @@ fn add_walks(walks: &mut Vec<Walk>, more: Vec<Walk>) -> Result<(), Memory> {
     Ok(())
 }
 
-/// Walks, and others behind them.
-fn joined(mut walks: Vec<Walk>, more: Vec<Walk>) -> Result<Vec<Walk>, Memory> {
-    match add_walks(&mut walks, more) {
-        Ok(()) => Ok(walks),
-        Err(refused) => {
-            drop(walks);
-            Err(refused)
-        }
-    }
-}
-
 impl<'a> Parts<'a> {
     /// The cycles of the instance: those of the base, and behind them the others that the tree names, lifted; None where these
     /// would pass a limit.
@@ -105,13 +93,9 @@ impl<'a> Parts<'a> {
         let Some(lifted) = lifted_of(alloc, self.left.reduced, own)? else {
             return Ok(None);
         };
-        match copied_walks(alloc, given) {
-            Ok(cycles) => Ok(Some(joined(cycles, lifted)?)),
-            Err(refused) => {
-                drop(lifted);
-                Err(refused)
-            }
-        }
+        let mut cycles = copied_walks(alloc, given)?;
+        add_walks(&mut cycles, lifted)?;
+        Ok(Some(cycles))
     }
 
     /// The lines of a base that are kept.
@@ -150,23 +134,6 @@ impl<'a> Parts<'a> {
         }
     }
 
-    /// The lines of the tree, for these cycles, and the times of the best timetable.
-    fn tree_and_times(
-        &self,
-        alloc: Global,
-        cycles: &[Walk],
-        kept: &Option<Kept<'a>>,
-    ) -> Result<(Vec<TreeLine>, Vec<(i64, u32)>), Memory> {
-        let times = labelled(alloc, self.left.instance, self.best)?;
-        match self.tree(alloc, cycles, kept) {
-            Ok(tree) => Ok((tree, times)),
-            Err(refused) => {
-                drop(times);
-                Err(refused)
-            }
-        }
-    }
-
     /// The certificate behind the front; None where it would pass a limit.
     fn certificate(
         &self,
@@ -175,11 +142,12 @@ impl<'a> Parts<'a> {
     ) -> Result<Option<Certificate>, Memory> {
         let answer = answer_of(self.sharpened, self.best);
         let period = self.left.instance.period();
+        let times = labelled(alloc, self.left.instance, self.best)?;
         let Some(cycles) = self.cycles(alloc)? else {
             return Ok(None);
         };
-        match self.tree_and_times(alloc, &cycles, kept) {
-            Ok((tree, times)) => {
+        match self.tree(alloc, &cycles, kept) {
+            Ok(tree) => {
                 Ok(Certificate::new(self.version(), period, answer, times, cycles, tree).ok())
             }
             Err(refused) => {
@@ -189,46 +157,27 @@ impl<'a> Parts<'a> {
         }
     }
 
-    /// Adds to the front what leaves have to have for their scale, and the marked walks of kept lines.
-    fn add_others(
-        &self,
-        alloc: Global,
-        kept: &Option<Kept<'a>>,
-        walks: &mut Vec<MarkedWalk>,
-    ) -> Result<(), Memory> {
-        if some_wants_scale(&self.sharpened.lines) {
-            walks.push(scale_walk(alloc)?)?;
-        }
-        match kept {
-            Some(kept) => kept.add_walks(alloc, walks),
-            None => Ok(()),
-        }
-    }
-
     /// The front; None where it would pass a limit.
     fn front(&self, alloc: Global, kept: &Option<Kept<'a>>) -> Result<Option<Marks>, Memory> {
         let Some(mut walks) = marked_of(alloc, self.left.reduced, &self.sharpened.walks)? else {
             return Ok(None);
         };
-        match self.add_others(alloc, kept, &mut walks) {
-            Ok(()) => Ok(Marks::new(self.scale, walks).ok()),
-            Err(refused) => {
-                drop(walks);
-                Err(refused)
-            }
+        if some_wants_scale(&self.sharpened.lines) {
+            walks.push(scale_walk(alloc)?)?;
         }
+        if let Some(kept) = kept {
+            kept.add_walks(alloc, &mut walks)?;
+        }
+        Ok(Marks::new(self.scale, walks).ok())
     }
 
-    /// What was found beside the best timetable, with the lines of a base that are kept.
-    fn fronted_with(
-        &self,
-        alloc: Global,
-        kept: &Option<Kept<'a>>,
-    ) -> Result<Option<Fronted>, Memory> {
-        let Some(certificate) = self.certificate(alloc, kept)? else {
+    /// What was found beside the best timetable, as a certificate with a front; None where a part would pass a limit.
+    fn fronted(&self, alloc: Global) -> Result<Option<Fronted>, Memory> {
+        let kept = self.kept(alloc)?;
+        let Some(certificate) = self.certificate(alloc, &kept)? else {
             return Ok(None);
         };
-        match self.front(alloc, kept) {
+        match self.front(alloc, &kept) {
             Ok(Some(marks)) => Ok(Some(Fronted {
                 front: with_walks(marks),
                 certificate,
@@ -243,35 +192,14 @@ impl<'a> Parts<'a> {
             }
         }
     }
-
-    /// What was found beside the best timetable, as a certificate with a front; None where a part would pass a limit.
-    fn fronted(&self, alloc: Global) -> Result<Option<Fronted>, Memory> {
-        let kept = self.kept(alloc)?;
-        let fronted = self.fronted_with(alloc, &kept);
-        drop(kept);
-        fronted
-    }
 }
 
 /// A front, where it has a walk.
 fn with_walks(marks: Marks) -> Option<Marks> {
     if marks.walks().is_empty() {
-        drop(marks);
         None
     } else {
         Some(marks)
-    }
-}
-
-/// Copies of the lines of a certificate's tree and of its cycles.
-fn copied_parts(alloc: Global, old: &Certificate) -> Result<(Vec<TreeLine>, Vec<Walk>), Memory> {
-    let cycles = copied_walks(alloc, old.cycles())?;
-    match copied_lines(alloc, old.tree()) {
-        Ok(tree) => Ok((tree, cycles)),
-        Err(refused) => {
-            drop(cycles);
-            Err(refused)
-        }
     }
 }
 
@@ -283,36 +211,22 @@ fn with_times(
     best: &Option<Best>,
 ) -> Result<Option<Certificate>, Memory> {
     let times = labelled(alloc, instance, best)?;
-    match copied_parts(alloc, old) {
-        Ok((tree, cycles)) => {
-            let answer = answer_beside(least_of(old.answer()), best);
-            Ok(Certificate::new(old.version(), old.period(), answer, times, cycles, tree).ok())
-        }
-        Err(refused) => {
-            drop(times);
-            Err(refused)
-        }
-    }
-}
-
-/// Copies of marked walks.
-fn copied_marks(alloc: Global, walks: &[MarkedWalk]) -> Result<Vec<MarkedWalk>, Memory> {
-    let mut copies = Vec::with_capacity(alloc, walks.len())?;
-    for walk in walks {
-        copies.push(copied_marked(alloc, walk)?)?;
-    }
-    Ok(copies)
+    let cycles = copied_walks(alloc, old.cycles())?;
+    let tree = copied_lines(alloc, old.tree())?;
+    let answer = answer_beside(least_of(old.answer()), best);
+    Ok(Certificate::new(old.version(), old.period(), answer, times, cycles, tree).ok())
 }
 
 /// A copy of a front; None where there is none.
 fn copied_front(alloc: Global, front: &Option<Marks>) -> Result<Option<Marks>, Memory> {
-    match front {
-        Some(marks) => {
-            let walks = copied_marks(alloc, marks.walks())?;
-            Ok(Marks::new(marks.scale(), walks).ok())
-        }
-        None => Ok(None),
+    let Some(marks) = front else {
+        return Ok(None);
+    };
+    let mut walks = Vec::with_capacity(alloc, marks.walks().len())?;
+    for walk in marks.walks() {
+        walks.push(copied_marked(alloc, walk)?)?;
     }
+    Ok(Marks::new(marks.scale(), walks).ok())
 }
 
 /// An answer with the best timetable in the place of its own; None where that isn't cheaper.

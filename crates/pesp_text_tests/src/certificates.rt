@@ -20,11 +20,7 @@ pub(crate) fn ask_certificate(alloc: Global, lines: &[&str], rest: &str) -> Opti
 
 fn ask_parsed(alloc: Global, text: &[u8], rest: &str) -> Option<String> {
     match parse(alloc, text) {
-        Ok(certificate) => {
-            let told = answer(alloc, &certificate, text, rest);
-            drop(certificate);
-            told
-        }
+        Ok(certificate) => answer(alloc, &certificate, text, rest),
         Err(refusal) => format!(in alloc; "{refusal:?}").ok(),
     }
 }
@@ -86,27 +82,16 @@ fn one_time(alloc: Global) -> Option<Vec<(i64, u32)>> {
 
 /// A certificate at period 10 of no timetable, with one time, one cycle and so many gap leaves, where there is one.
 fn made_of(alloc: Global, count: u32) -> Option<Option<Certificate>> {
+    let times = one_time(alloc)?;
+    let cycles = one_cycle(alloc)?;
     let tree = gaps(alloc, count)?;
-    match (one_time(alloc), one_cycle(alloc)) {
-        (Some(times), Some(cycles)) => {
-            Some(Certificate::new(1, 10, Answer::Infeasible, times, cycles, tree).ok())
-        }
-        refused => {
-            drop(refused);
-            drop(tree);
-            None
-        }
-    }
+    Some(Certificate::new(1, 10, Answer::Infeasible, times, cycles, tree).ok())
 }
 
 /// What a certificate with so many gap leaves is, or `none` where there is none.
 pub(crate) fn make_certificate(alloc: Global, rest: &str) -> Option<String> {
     match made_of(alloc, rest.parse().ok()?)? {
-        Some(certificate) => {
-            let told = spell_parts(alloc, &certificate);
-            drop(certificate);
-            told
-        }
+        Some(certificate) => spell_parts(alloc, &certificate),
         None => String::from_str(alloc, "none").ok(),
     }
 }

@@ -340,11 +340,7 @@ fn tell_error(alloc: Global, error: &Error) -> Option<String> {
 fn tell_words(alloc: Global, words: &[String]) -> Option<String> {
     match request_of(alloc, words) {
         Ok(request) => tell_request(alloc, request),
-        Err(error) => {
-            let told = tell_error(alloc, &error);
-            drop(error);
-            told
-        }
+        Err(error) => tell_error(alloc, &error),
     }
 }
 

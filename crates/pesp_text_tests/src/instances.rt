@@ -20,11 +20,7 @@ pub(crate) fn ask_instance(alloc: Global, lines: &[&str]) -> Option<String> {
 
 fn tell_read(alloc: Global, text: &[u8], period: u32) -> Option<String> {
     match read_instance(alloc, text, period) {
-        Ok(instance) => {
-            let told = spell_instance(alloc, &instance);
-            drop(instance);
-            told
-        }
+        Ok(instance) => spell_instance(alloc, &instance),
         Err(refusal) => format!(in alloc; "{refusal:?}").ok(),
     }
 }
@@ -77,10 +73,7 @@ fn spell_score(alloc: Global, score: Score) -> Option<String> {
 
 /// What the times of the instance are worth.
 fn score_of(alloc: Global, lines: &[&str], times: &[u32]) -> Option<Score> {
-    let instance = instance_of(alloc, lines)?;
-    let score = score(&instance, times);
-    drop(instance);
-    Some(score)
+    Some(score(&instance_of(alloc, lines)?, times))
 }
 
 /// What times are worth.

@@ -62,14 +62,10 @@ fn tell_pages(alloc: Global, status: u8, written: &[u8], told: &[u8]) -> Option<
 
 /// How a command line ends over a standard input.
 fn run(alloc: Global, lines: &[&str], input: &[u8], device: Device, command: &str) -> Option<End> {
+    let words = words_with_name(alloc, command)?;
     let desk = Desk::new(alloc, lines, input, device)?;
-    let Some(words) = words_with_name(alloc, command) else {
-        drop(desk);
-        return None;
-    };
     let sharpener = TreeSharpener::new(TimesSearch::new(alloc));
     let status = status_of_words(&desk, &words, sharpener);
-    drop(words);
     Some(End {
         status,
         pages: desk.pages(),

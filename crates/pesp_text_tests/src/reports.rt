@@ -19,10 +19,7 @@ fn tell_times(alloc: Global, instance: &Instance, text: &[u8]) -> Option<String>
 }
 
 fn read_given(alloc: Global, lines: &[&str], text: &[u8]) -> Option<String> {
-    let instance = instance_of(alloc, lines)?;
-    let told = tell_times(alloc, &instance, text);
-    drop(instance);
-    told
+    tell_times(alloc, &instance_of(alloc, lines)?, text)
 }
 
 /// The times that are read, or why their text is refused.
@@ -62,10 +59,7 @@ fn tell_report(
 }
 
 fn report_given(alloc: Global, lines: &[&str], times: &[u32], device: Device) -> Option<String> {
-    let instance = instance_of(alloc, lines)?;
-    let told = tell_report(alloc, &instance, times, device);
-    drop(instance);
-    told
+    tell_report(alloc, &instance_of(alloc, lines)?, times, device)
 }
 
 /// The report of times, or why there is none and what was written before.

@@ -8,11 +8,7 @@ use std::alloc::Global;
 pub(crate) fn ask_works(alloc: Global, lines: &[&str]) -> Option<String> {
     let text = text_of(alloc, lines, "input")?;
     match parse_works(alloc, &text) {
-        Ok(works) => {
-            let told = tell_works(alloc, &works);
-            drop(works);
-            told
-        }
+        Ok(works) => tell_works(alloc, &works),
         Err(refusal) => format!(in alloc; "{refusal:?}").ok(),
     }
 }

@@ -81,24 +81,6 @@ impl Search {
         found
     }
 
-    /// Takes what is found over the network of a ball if it isn't dearer.
-    fn solve_ball(
-        &mut self,
-        network: &Network,
-        found: &mut Found,
-        ball: &Contraction,
-        rounds: u32,
-    ) -> Result<(), Memory> {
-        let Some(solved) = self.solved(&ball.network, rounds)? else {
-            return Ok(());
-        };
-        if solved.cost <= ball.cost {
-            ball.put_into(&mut found.slacks, &solved.slacks);
-            found.cost = cost_of(network, &found.slacks);
-        }
-        Ok(())
-    }
-
     /// Frees a ball, and takes what is found if it isn't dearer.
     pub(crate) fn try_ball(
         &mut self,
@@ -109,13 +91,17 @@ impl Search {
         let Some(clusters) = self.ball(found)? else {
             return Ok(());
         };
-        let made = Contraction::new(self.alloc, network, &found.slacks, &clusters);
-        drop(clusters);
-        let Some(ball) = made? else {
+        let made = Contraction::new(self.alloc, network, &found.slacks, &clusters)?;
+        let Some(contraction) = made else {
             return Ok(());
         };
-        let done = self.solve_ball(network, found, &ball, rounds);
-        drop(ball);
-        done
+        let Some(solved) = self.solved(&contraction.network, rounds)? else {
+            return Ok(());
+        };
+        if solved.cost <= contraction.cost {
+            contraction.put_into(&mut found.slacks, &solved.slacks);
+            found.cost = cost_of(network, &found.slacks);
+        }
+        Ok(())
     }
 }

@@ -16,7 +16,7 @@ const FIRST_STEPS: u32 = 128;
 const MOST_DOUBLED: u32 = 12;
 
 /// How a batch ended: with all fours, with one that costs what the cheapest timetable of before does, or as none would win.
-#[derive(Clone, Copy)]
+#[derive(Clone, Copy, PartialEq, Eq)]
 enum Ended {
     Whole,
     Same,
@@ -75,8 +75,7 @@ impl Search {
     ) -> Result<(), Memory> {
         self.pieces.begin(work, soft);
         self.pieces.piece = if self.is_worth_a_batch() {
-            let met = replace(&mut self.waiting, Vec::new(self.alloc));
-            drop(replace(&mut self.pieces.met, met));
+            self.pieces.met = replace(&mut self.waiting, Vec::new(self.alloc));
             self.next_met(network)?
         } else {
             self.end_batch(network, Ended::Worthless)?
@@ -123,36 +122,22 @@ impl Search {
 
     /// Merges the four.
     pub(crate) fn merge_four(&mut self, network: &Network) -> Result<Piece, Memory> {
-        let mut pool = replace(&mut self.pieces.four, Vec::new(self.alloc));
-        let next = self.merge_pool(network, &mut pool);
-        drop(pool);
-        next
-    }
-
-    /// Merges a pool with the best of before.
-    fn merge_with_best(
-        &mut self,
-        network: &Network,
-        pool: &mut Vec<Found>,
-    ) -> Result<Piece, Memory> {
-        self.add_best(pool)?;
-        self.pieces.is_joined = true;
+        let pool = replace(&mut self.pieces.four, Vec::new(self.alloc));
         self.merge_pool(network, pool)
     }
 
     /// Merges what all fours led to, with the best of before.
     pub(crate) fn merge_fours(&mut self, network: &Network) -> Result<Piece, Memory> {
         let mut pool = replace(&mut self.pieces.tops, Vec::new(self.alloc));
-        let next = self.merge_with_best(network, &mut pool);
-        drop(pool);
-        next
+        self.add_best(&mut pool)?;
+        self.pieces.is_joined = true;
+        self.merge_pool(network, pool)
     }
 
     /// Merges a pool.
-    fn merge_pool(&mut self, network: &Network, pool: &mut Vec<Found>) -> Result<Piece, Memory> {
+    fn merge_pool(&mut self, network: &Network, pool: Vec<Found>) -> Result<Piece, Memory> {
         let rounds = self.pieces.work.rounds;
-        let found = self.merged(network, pool, rounds)?;
-        drop(replace(&mut self.pieces.found, found));
+        self.pieces.found = self.merged(network, pool, rounds)?;
         self.pieces.freed = 0;
         self.pieces.quiet = 0;
         if self.pieces.found.is_some() {
@@ -166,18 +151,12 @@ impl Search {
     pub(crate) fn end_merge(&mut self, network: &Network) -> Result<Piece, Memory> {
         let found = self.pieces.found.take();
         if self.pieces.is_joined {
-            drop(found);
             return self.end_batch(network, Ended::Whole);
         }
         self.pieces.fours = self.pieces.fours.saturating_add(1);
-        match found {
-            Some(found) => self.end_four(network, found),
-            None => self.next_four(network),
-        }
-    }
-
-    /// What comes behind a four that led to this timetable.
-    fn end_four(&mut self, network: &Network, found: Found) -> Result<Piece, Memory> {
+        let Some(found) = found else {
+            return self.next_four(network);
+        };
         let is_same = self.pieces.before == Some(found.cost);
         self.pieces.tops.push(found)?;
         if is_same && network.rows().len() > MAY_END_EARLY {
@@ -194,7 +173,7 @@ impl Search {
         let Some(effort) = self.pieces.soft else {
             return Ok(Piece::Nothing);
         };
-        if !matches!(ended, Ended::Same) {
+        if ended != Ended::Same {
             return self.begin_rounds(network);
         }
         self.rest_long();

@@ -8,7 +8,7 @@ use pesp_network::Network;
 use pesp_problem::Memory;
 use pesp_propagate::{dive, dive_to};
 use pesp_timetables::{Found, Keys, Relaxation, slacks_of};
-use std::mem::replace;
+use std::mem;
 
 /// How many tries a dive to the root's prices has.
 const TRIES_NEAR: u32 = 50;
@@ -23,16 +23,15 @@ fn dives_for(rows: usize) -> u32 {
     if rows <= FEW { 3 } else { 1 }
 }
 
-/// Keeps the cheaper of two annealers; the first of two that cost the same.
-fn keep_cheaper(best: &mut Option<Annealer>, other: Annealer) {
-    let stays = match best {
-        Some(best) => best.cost() <= other.cost(),
-        None => false,
+/// The cheaper of two annealers.
+fn cheaper(one: Option<Annealer>, other: Annealer) -> Annealer {
+    let Some(one) = one else {
+        return other;
     };
-    if stays {
-        drop(other);
+    if one.cost() <= other.cost() {
+        one
     } else {
-        drop(replace(best, Some(other)));
+        other
     }
 }
 
@@ -53,13 +52,8 @@ impl Search {
         let Some(mut annealer) = Annealer::new(self.alloc, network, slacks, seed)? else {
             return Ok(None);
         };
-        match annealer.descend(network, rounds) {
-            Ok(()) => Ok(Some(annealer)),
-            Err(refused) => {
-                drop(annealer);
-                Err(refused)
-            }
-        }
+        annealer.descend(network, rounds)?;
+        Ok(Some(annealer))
     }
 
     /// An annealer from these times, after greedy rounds.
@@ -73,10 +67,10 @@ impl Search {
         let slacks = Vec::from_slice(self.alloc, annealer.slacks())?;
         let found = Found::of_slacks(network, slacks);
         if network.rows().len() > FEW {
-            self.noted(network, found)
-        } else {
-            self.reoptimised(network, found)
+            self.note(network, &found)?;
+            return Ok(found);
         }
+        self.reoptimised(network, found)
     }
 
     /// The mean cost of a row of the first individual; that of an annealer.
@@ -113,21 +107,6 @@ impl Search {
         }
     }
 
-    /// Dives some times into a relaxation, and keeps the best.
-    fn dive_some_times(
-        &mut self,
-        network: &Network,
-        relaxation: &mut Relaxation,
-        best: &mut Option<Annealer>,
-    ) -> Result<(), Memory> {
-        for _ in 0..dives_for(network.rows().len()) {
-            if let Some(annealer) = self.dived(network, relaxation)? {
-                keep_cheaper(best, annealer);
-            }
-        }
-        Ok(())
-    }
-
     /// The best of some dives of a relaxation.
     fn best_dived(
         &mut self,
@@ -135,27 +114,22 @@ impl Search {
         relaxation: &mut Relaxation,
     ) -> Result<Option<Annealer>, Memory> {
         let mut best = None;
-        match self.dive_some_times(network, relaxation, &mut best) {
-            Ok(()) => Ok(best),
-            Err(refused) => {
-                drop(best);
-                Err(refused)
+        for _ in 0..dives_for(network.rows().len()) {
+            if let Some(annealer) = self.dived(network, relaxation)? {
+                best = Some(cheaper(best, annealer));
             }
         }
+        Ok(best)
     }
 
     /// The relaxation of the root, which is made once and to be put back; None where there is none.
     fn take_root(&mut self, network: &Network) -> Result<Option<Relaxation>, Memory> {
-        if let Known::NotYet = self.root {
-            let made = Relaxation::new(self.alloc, network, Keys::Plain, &mut self.random)?;
-            return Ok(made);
+        match mem::replace(&mut self.root, Known::NotYet) {
+            Known::Sought(found) => Ok(found),
+            Known::NotYet => {
+                Ok(Relaxation::new(self.alloc, network, Keys::Plain, &mut self.random)?)
+            }
         }
-        Ok(self.root.take())
-    }
-
-    /// Puts back the relaxation of the root.
-    fn put_root(&mut self, root: Option<Relaxation>) {
-        drop(replace(&mut self.root, Known::Sought(root)));
     }
 
     /// An annealer from times near the prices of a root, after greedy rounds.
@@ -169,55 +143,52 @@ impl Search {
     /// The best of some dives of the root's relaxation, or an annealer from times near its prices.
     fn by_root(&mut self, network: &Network, start: Start) -> Result<Option<Annealer>, Memory> {
         let Some(mut root) = self.take_root(network)? else {
-            self.put_root(None);
+            self.root = Known::Sought(None);
             return Ok(None);
         };
         let found = if start == Start::Relaxed {
-            self.best_dived(network, &mut root)
+            self.best_dived(network, &mut root)?
         } else {
-            self.near(network, &root)
+            self.near(network, &root)?
         };
-        self.put_root(Some(root));
-        found
+        self.root = Known::Sought(Some(root));
+        Ok(found)
     }
 
     /// The best of some dives of the relaxation over a forest that is drawn.
     fn elsewhere(&mut self, network: &Network) -> Result<Option<Annealer>, Memory> {
-        let made = Relaxation::new(self.alloc, network, Keys::Drawn, &mut self.random)?;
-        let Some(mut relaxation) = made else {
-            return Ok(None);
-        };
-        let found = self.best_dived(network, &mut relaxation);
-        drop(relaxation);
-        found
+        match Relaxation::new(self.alloc, network, Keys::Drawn, &mut self.random)? {
+            Some(mut relaxation) => self.best_dived(network, &mut relaxation),
+            None => Ok(None),
+        }
     }
 
     /// A low anneal behind a dive that knew prices.
     fn warmed(
         &mut self,
         network: &Network,
-        annealer: &mut Annealer,
+        mut annealer: Annealer,
         rounds: u32,
     ) -> Result<Found, Memory> {
-        let mean = self.mean_of(network, annealer);
+        let mean = self.mean_of(network, &annealer);
         annealer.anneal(network, rounds, mean.saturating_mul(2))?;
-        self.found_by(network, annealer)
+        self.found_by(network, &annealer)
     }
 
     /// A hot anneal and a low one behind a dive that knew no prices; the low one alone where there are many rows.
     fn melted(
         &mut self,
         network: &Network,
-        annealer: &mut Annealer,
+        mut annealer: Annealer,
         rounds: u32,
     ) -> Result<Found, Memory> {
         if network.rows().len() > MOST_DIVED {
             return self.warmed(network, annealer, rounds);
         }
-        let mean = self.mean_of(network, annealer);
+        let mean = self.mean_of(network, &annealer);
         annealer.anneal(network, rounds, mean.saturating_mul(32))?;
         annealer.anneal(network, rounds / 2, mean.saturating_mul(2))?;
-        self.found_by(network, annealer)
+        self.found_by(network, &annealer)
     }
 
     /// Where an individual of a kind begins, after greedy rounds.
@@ -232,30 +203,6 @@ impl Search {
         }
     }
 
-    /// An annealer from the times of the plain dive, after greedy rounds.
-    fn plainly_started(&mut self, network: &Network) -> Result<Option<Annealer>, Memory> {
-        match self.plain_times(network)? {
-            Some(times) => self.started(network, &times),
-            None => Ok(None),
-        }
-    }
-
-    /// A new individual of the plain dive.
-    fn plain_individual(
-        &mut self,
-        network: &Network,
-        rounds: u32,
-    ) -> Result<Option<Found>, Memory> {
-        let Some(mut annealer) = self.plainly_started(network)? else {
-            return Ok(None);
-        };
-        let melted = self.melted(network, &mut annealer, rounds);
-        drop(annealer);
-        let found = melted?;
-        self.kinds.note(Start::Plain, found.cost);
-        Ok(Some(found))
-    }
-
     /// A new individual of a kind, with anneals of so many rounds; one of a plain dive where that kind finds none.
     pub(crate) fn individual(
         &mut self,
@@ -263,13 +210,19 @@ impl Search {
         start: Start,
         rounds: u32,
     ) -> Result<Option<Found>, Memory> {
-        let Some(mut annealer) = self.begun(network, start)? else {
-            return self.plain_individual(network, rounds);
+        if let Some(annealer) = self.begun(network, start)? {
+            let found = self.warmed(network, annealer, rounds)?;
+            self.kinds.note(start, found.cost);
+            return Ok(Some(found));
+        }
+        let Some(times) = self.plain_times(network)? else {
+            return Ok(None);
         };
-        let warmed = self.warmed(network, &mut annealer, rounds);
-        drop(annealer);
-        let found = warmed?;
-        self.kinds.note(start, found.cost);
+        let Some(annealer) = self.started(network, &times)? else {
+            return Ok(None);
+        };
+        let found = self.melted(network, annealer, rounds)?;
+        self.kinds.note(Start::Plain, found.cost);
         Ok(Some(found))
     }
 
@@ -280,11 +233,9 @@ impl Search {
         met: Found,
         rounds: u32,
     ) -> Result<Option<Found>, Memory> {
-        let Some(mut annealer) = self.descended(network, met.slacks, GREEDY)? else {
-            return Ok(None);
-        };
-        let warmed = self.warmed(network, &mut annealer, rounds);
-        drop(annealer);
-        Ok(Some(warmed?))
+        match self.descended(network, met.slacks, GREEDY)? {
+            Some(annealer) => Ok(Some(self.warmed(network, annealer, rounds)?)),
+            None => Ok(None),
+        }
     }
 }

@@ -5,10 +5,14 @@
 
 mod balls;
 mod batches;
+mod grown;
 mod individuals;
 mod kinds;
+mod levels;
 mod looking;
+mod marks;
 mod merges;
+mod order;
 mod pieces;
 mod search;
 mod times_search;

@@ -1,9 +1,9 @@
 //! The search for timetables of one network, by a copy of it.
 
+use crate::order::Ordered;
 use crate::search::Search;
 use pesp_finder::Effort;
 use pesp_network::Network;
-use pesp_order::Ordered;
 use pesp_problem::Memory;
 use std::alloc::Global;
 
@@ -61,7 +61,7 @@ impl Looking {
     /// Takes times that were met elsewhere.
     pub(crate) fn take(&mut self, times: Vec<u32>) -> Result<(), Memory> {
         let placed = self.ordered.to_places(self.alloc, &times)?;
-        self.search.take(&self.ordered.network, &placed)
+        self.search.take(&self.ordered.network, placed)
     }
 
     /// The cheapest times that were found.

@@ -24,6 +24,24 @@ impl Search {
         self.mean.saturating_mul(2).max(1)
     }
 
+    /// Anneals timetables of the pool between clusters.
+    fn anneal_pool(
+        &mut self,
+        merge: &mut Merge,
+        pool: &[Found],
+        rounds: u32,
+    ) -> Result<(), Memory> {
+        for found in pool.iter().take(TRIES) {
+            let slacks = merge.contraction.taken_from(self.alloc, &found.slacks)?;
+            let network = &merge.contraction.network;
+            if let Some(mut annealer) = self.descended(network, slacks, 0)? {
+                annealer.anneal(network, rounds, self.heat())?;
+                merge.note(annealer.cost(), annealer.slacks());
+            }
+        }
+        Ok(())
+    }
+
     /// Anneals, and notes what is found.
     fn anneal_between(
         &mut self,
@@ -33,31 +51,6 @@ impl Search {
     ) -> Result<(), Memory> {
         annealer.anneal(&merge.contraction.network, rounds, self.heat())?;
         merge.note(annealer.cost(), annealer.slacks());
-        Ok(())
-    }
-
-    /// Anneals a timetable between clusters.
-    fn anneal_one(&mut self, merge: &mut Merge, found: &Found, rounds: u32) -> Result<(), Memory> {
-        let slacks = merge.contraction.taken_from(self.alloc, &found.slacks)?;
-        let begun = self.descended(&merge.contraction.network, slacks, 0)?;
-        let Some(mut annealer) = begun else {
-            return Ok(());
-        };
-        let done = self.anneal_between(merge, &mut annealer, rounds);
-        drop(annealer);
-        done
-    }
-
-    /// Anneals timetables of the pool between clusters.
-    fn anneal_pool(
-        &mut self,
-        merge: &mut Merge,
-        pool: &[Found],
-        rounds: u32,
-    ) -> Result<(), Memory> {
-        for found in pool.iter().take(TRIES) {
-            self.anneal_one(merge, found, rounds)?;
-        }
         Ok(())
     }
 
@@ -91,49 +84,30 @@ impl Search {
         done
     }
 
-    /// Searches between the clusters of a pool, and puts what is found into its first timetable.
-    fn search_between(
-        &mut self,
-        network: &Network,
-        merge: &mut Merge,
-        pool: &mut [Found],
-        rounds: u32,
-    ) -> Result<(), Memory> {
-        self.anneal_pool(merge, pool, rounds)?;
-        if merge.contraction.network.rows().len() <= MOST_DIVED {
-            self.dive_between(merge, rounds)?;
-        }
-        if let Some(first) = pool.first_mut() {
-            merge.put_into(network, first);
-        }
-        Ok(())
-    }
-
-    /// Searches between the clusters of a pool, where it can be merged.
-    fn merge(&mut self, network: &Network, pool: &mut [Found], rounds: u32) -> Result<(), Memory> {
-        let Some(mut merge) = Merge::of(self.alloc, network, pool)? else {
-            return Ok(());
-        };
-        let done = self.search_between(network, &mut merge, pool, rounds);
-        drop(merge);
-        done
-    }
-
     /// The cheapest timetable of a pool, or a cheaper one that agrees with all of it where they agree.
     pub(crate) fn merged(
         &mut self,
         network: &Network,
-        pool: &mut Vec<Found>,
+        mut pool: Vec<Found>,
         rounds: u32,
     ) -> Result<Option<Found>, Memory> {
         pool.sort_unstable_by_key(|found| found.cost);
-        let near = count_near(network.rows().len(), pool);
-        pool.truncate(near);
-        self.merge(network, pool, rounds)?;
-        pool.truncate(1);
-        match pool.pop() {
-            Some(best) => Ok(Some(self.noted(network, best)?)),
-            None => Ok(None),
+        pool.truncate(count_near(network.rows().len(), &pool));
+        let opened = Merge::of(self.alloc, network, &pool)?;
+        if let Some(mut merge) = opened {
+            self.anneal_pool(&mut merge, &pool, rounds)?;
+            if merge.contraction.network.rows().len() <= MOST_DIVED {
+                self.dive_between(&mut merge, rounds)?;
+            }
+            if let Some(first) = pool.first_mut() {
+                merge.put_into(network, first);
+            }
         }
+        pool.truncate(1);
+        let Some(best) = pool.pop() else {
+            return Ok(None);
+        };
+        self.note(network, &best)?;
+        Ok(Some(best))
     }
 }

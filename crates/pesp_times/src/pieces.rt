@@ -8,7 +8,6 @@ use pesp_problem::Memory;
 use pesp_soft_times::SoftEffort;
 use pesp_timetables::{Found, MOST_REOPTIMISED};
 use std::alloc::Global;
-use std::mem::replace;
 
 /// How many pieces a batch has at most.
 const MOST_PIECES: u32 = 1_000_000;
@@ -134,22 +133,15 @@ impl Pieces {
 }
 
 impl Search {
-    /// Adopts a timetable that was met elsewhere, if it is near the cheapest one.
-    fn adopt(&mut self, network: &Network, met: Found) -> Result<(), Memory> {
-        if !self.is_near_best(network, &met) {
-            drop(met);
-            return Ok(());
-        }
-        if let Some(found) = self.adopted(network, met, self.pieces.work.rounds)? {
-            self.pieces.tops.push(found)?;
-        }
-        Ok(())
-    }
-
-    /// Takes up a timetable that was met elsewhere.
+    /// Takes up a timetable that was met elsewhere and is near the cheapest one, annealed.
     fn take_up(&mut self, network: &Network) -> Result<Piece, Memory> {
-        if let Some(met) = self.pieces.met.pop() {
-            self.adopt(network, met)?;
+        if let Some(met) = self.pieces.met.pop()
+            && self.is_near_best(network, &met)
+        {
+            let rounds = self.pieces.work.rounds;
+            if let Some(found) = self.adopted(network, met, rounds)? {
+                self.pieces.tops.push(found)?;
+            }
         }
         self.next_met(network)
     }
@@ -169,25 +161,19 @@ impl Search {
         })
     }
 
-    /// Frees a ball of a timetable, which is noted behind the last ball.
-    fn free_ball_of(&mut self, network: &Network, found: &mut Found) -> Result<Piece, Memory> {
-        let before = found.cost;
-        self.try_ball(network, found, self.pieces.work.rounds.min(30))?;
-        let next = self.pieces.count_ball(found.cost < before);
-        if let Piece::Polish = next {
-            self.note(network, found)?;
-        }
-        Ok(next)
-    }
-
     /// Frees a ball of what a merge led to.
     fn free_ball(&mut self, network: &Network) -> Result<Piece, Memory> {
         let Some(mut found) = self.pieces.found.take() else {
             return Ok(Piece::Polish);
         };
-        let next = self.free_ball_of(network, &mut found);
-        drop(replace(&mut self.pieces.found, Some(found)));
-        next
+        let before = found.cost;
+        self.try_ball(network, &mut found, self.pieces.work.rounds.min(30))?;
+        let next = self.pieces.count_ball(found.cost < before);
+        if let Piece::Polish = next {
+            self.note(network, &found)?;
+        }
+        self.pieces.found = Some(found);
+        Ok(next)
     }
 
     /// Finds the best slacks under the offsets of what a merge led to, unless there are very many rows.
@@ -195,8 +181,7 @@ impl Search {
         if network.rows().len() <= MOST_REOPTIMISED
             && let Some(found) = self.pieces.found.take()
         {
-            let better = self.reoptimised(network, found)?;
-            drop(replace(&mut self.pieces.found, Some(better)));
+            self.pieces.found = Some(self.reoptimised(network, found)?);
         }
         self.end_merge(network)
     }
@@ -230,33 +215,25 @@ impl Search {
         self.pieces.looked_at.saturating_add(visits)
     }
 
-    /// Begins the search in which spans may be broken.
-    fn begin_group(&mut self, network: &Network, effort: &SoftEffort) -> Result<Piece, Memory> {
-        self.begin_softly(network, effort)?;
-        Ok(Piece::Group)
-    }
-
-    /// Makes a piece; what comes behind it.
-    fn make(&mut self, network: &Network, piece: Piece) -> Result<Piece, Memory> {
-        match piece {
-            Piece::Met => self.take_up(network),
-            Piece::Softly(effort) => self.begin_group(network, &effort),
-            Piece::Group => self.anneal_group(network),
-            Piece::Individual(place) => self.make_individual(network, place),
-            Piece::Merge => self.merge_four(network),
-            Piece::Join => self.merge_fours(network),
-            Piece::Ball => self.free_ball(network),
-            Piece::Polish => self.polish(network),
-            Piece::Round => self.anneal_round(network),
-            Piece::Nothing => Ok(Piece::Nothing),
-        }
-    }
-
     /// Makes what comes next of the batch.
     fn make_next(&mut self, network: &Network) -> Result<(), Memory> {
         let work = self.pieces.work_of_piece(network.rows().len());
         self.pieces.looked_at = self.pieces.looked_at.saturating_add(work);
-        self.pieces.piece = self.make(network, self.pieces.piece)?;
+        self.pieces.piece = match self.pieces.piece {
+            Piece::Met => self.take_up(network)?,
+            Piece::Softly(effort) => {
+                self.begin_softly(network, &effort)?;
+                Piece::Group
+            }
+            Piece::Group => self.anneal_group(network)?,
+            Piece::Individual(place) => self.make_individual(network, place)?,
+            Piece::Merge => self.merge_four(network)?,
+            Piece::Join => self.merge_fours(network)?,
+            Piece::Ball => self.free_ball(network)?,
+            Piece::Polish => self.polish(network)?,
+            Piece::Round => self.anneal_round(network)?,
+            Piece::Nothing => Piece::Nothing,
+        };
         Ok(())
     }
 

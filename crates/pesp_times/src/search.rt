@@ -11,7 +11,7 @@ use pesp_search_tools::Random;
 use pesp_soft_times::{SoftEffort, SoftSearch};
 use pesp_timetables::{Cheapest, Found, Relaxation, cheaper, reoptimised, slacks_of};
 use std::alloc::Global;
-use std::mem::{replace, swap};
+use std::mem::swap;
 
 /// How many batches, and how many reheats after steps, are left out where the first batch ended early.
 const LONG_REST: u32 = 3;
@@ -27,16 +27,6 @@ const MOST_WAITING: usize = 3;
 pub(crate) enum Known<T> {
     NotYet,
     Sought(Option<T>),
-}
-
-impl<T: Drop> Known<T> {
-    /// Takes out what was found. It is as if it had never been sought.
-    pub(crate) fn take(&mut self) -> Option<T> {
-        match replace(self, Known::NotYet) {
-            Known::Sought(found) => found,
-            Known::NotYet => None,
-        }
-    }
 }
 
 /// The search for timetables of one network: the cheapest of all batches, what later batches go on from, and the search in which
@@ -114,26 +104,14 @@ fn cheaper_times<'a>(
 impl Search {
     /// A search that has found nothing yet.
     pub(crate) fn new(alloc: Global, network: &Network) -> Result<Search, Memory> {
-        let kinds = Kinds::new(alloc)?;
-        match Frame::new(alloc, network) {
-            Ok(frame) => Ok(Search::over(alloc, frame, kinds)),
-            Err(_) => {
-                drop(kinds);
-                Err(Memory)
-            }
-        }
-    }
-
-    /// A search over a frame that has found nothing yet.
-    fn over(alloc: Global, frame: Frame, kinds: Kinds) -> Search {
-        Search {
+        Ok(Search {
             alloc,
-            frame,
+            frame: Frame::new(alloc, network)?,
             random: Random::new(1),
             root: Known::NotYet,
             plain: Known::NotYet,
             mean: 0,
-            kinds,
+            kinds: Kinds::new(alloc)?,
             waiting: Vec::new(alloc),
             pieces: Pieces::new(alloc),
             effort: Effort::Whole,
@@ -142,7 +120,7 @@ impl Search {
             apart: Cheapest::none(),
             hard: Cheapest::none(),
             soft: SoftSearch::new(alloc),
-        }
+        })
     }
 
     /// So much is done before the first step.
@@ -158,22 +136,16 @@ impl Search {
         }
     }
 
-    /// Notes what a short search finds by a plain dive, and takes over the times of that.
-    fn take_short(&mut self, network: &Network, short: &mut Search) -> Result<(), Memory> {
+    /// One timetable of a plain dive, annealed a little, of which the first batch knows nothing.
+    fn begin_short(&mut self, network: &Network) -> Result<(), Memory> {
+        let mut short = Search::new(self.alloc, network)?;
         let found = short.individual(network, Start::Plain, SHORT_ROUNDS);
         swap(&mut self.plain, &mut short.plain);
+        drop(short);
         match found? {
             Some(found) => self.apart.note(self.alloc, network, &found),
             None => Ok(()),
         }
-    }
-
-    /// One timetable of a plain dive, annealed a little, of which the first batch knows nothing.
-    fn begin_short(&mut self, network: &Network) -> Result<(), Memory> {
-        let mut short = Search::new(self.alloc, network)?;
-        let done = self.take_short(network, &mut short);
-        drop(short);
-        done
     }
 
     /// The first batch.
@@ -289,37 +261,22 @@ impl Search {
         Ok(())
     }
 
-    /// Keeps a timetable that was met elsewhere if it is the cheapest, apart from batches where the first one isn't over.
-    fn note_met(&mut self, network: &Network, found: &Found) -> Result<(), Memory> {
-        if self.owes_first() {
-            self.apart.note(self.alloc, network, found)
-        } else {
-            self.note(network, found)
+    /// Takes times that were met elsewhere as an individual of the next batch; does nothing where they are no timetable.
+    pub(crate) fn take(&mut self, network: &Network, times: Vec<u32>) -> Result<(), Memory> {
+        if !network.is_timetable(&times) {
+            return Ok(());
         }
-    }
-
-    /// Lets a timetable wait for the next batch, if it is one of the cheapest that do.
-    fn let_wait(&mut self, found: Found) -> Result<(), Memory> {
+        let slacks = slacks_of(self.alloc, network, &times)?;
+        let found = Found::of_slacks(network, slacks);
+        if self.owes_first() {
+            self.apart.note(self.alloc, network, &found)?;
+        } else {
+            self.note(network, &found)?;
+        }
         self.waiting.push(found)?;
         self.waiting.sort_unstable_by_key(|found| found.cost);
         self.waiting.truncate(MOST_WAITING);
         Ok(())
-    }
-
-    /// Takes times that were met elsewhere as an individual of the next batch; does nothing where they are no timetable.
-    pub(crate) fn take(&mut self, network: &Network, times: &[u32]) -> Result<(), Memory> {
-        if !network.is_timetable(times) {
-            return Ok(());
-        }
-        let slacks = slacks_of(self.alloc, network, times)?;
-        let found = Found::of_slacks(network, slacks);
-        match self.note_met(network, &found) {
-            Ok(()) => self.let_wait(found),
-            Err(refused) => {
-                drop(found);
-                Err(refused)
-            }
-        }
     }
 
     /// The cheapest times that were found, and their cost over the network's rows.
@@ -338,25 +295,11 @@ impl Search {
         self.hard.note(self.alloc, network, found)
     }
 
-    /// A timetable, kept where it is the cheapest of all batches.
-    pub(crate) fn noted(&mut self, network: &Network, found: Found) -> Result<Found, Memory> {
-        match self.note(network, &found) {
-            Ok(()) => Ok(found),
-            Err(refused) => {
-                drop(found);
-                Err(refused)
-            }
-        }
-    }
-
     /// The cheapest timetable with the offsets of another, kept where it is the cheapest of all batches.
     pub(crate) fn reoptimised(&mut self, network: &Network, found: Found) -> Result<Found, Memory> {
-        match reoptimised(self.alloc, network, &found.slacks) {
-            Ok(better) => self.noted(network, cheaper(found, better)),
-            Err(refused) => {
-                drop(found);
-                Err(refused)
-            }
-        }
+        let better = reoptimised(self.alloc, network, &found.slacks)?;
+        let best = cheaper(found, better);
+        self.note(network, &best)?;
+        Ok(best)
     }
 }

@@ -25,8 +25,8 @@ const FIRST_MARK_OF_MANY: u64 = 4;
 /// A network in one order, the place that each event of the other one has there, and the level of the event at each place from
 /// which its times count; where there is none they count as they did.
 #[derive(Drop)]
-pub struct Ordered {
-    pub network: Network,
+pub(crate) struct Ordered {
+    pub(crate) network: Network,
     places: Vec<u32>,
     levels: Vec<Option<u32>>,
 }
@@ -38,30 +38,20 @@ fn by_marks(alloc: Global, events: u32, marks: &[u64]) -> Result<Vec<u32>, Alloc
     Ok(order)
 }
 
-/// The events in an order that grows from the first ones by their marks.
-fn grown_by(alloc: Global, network: &Network, marks: &[u64]) -> Result<Vec<u32>, AllocError> {
-    let starts = by_marks(alloc, network.events(), marks)?;
-    let order = grown(alloc, network, marks, &starts);
-    drop(starts);
-    order
-}
-
 /// The events in one order.
 fn order_of(alloc: Global, network: &Network) -> Result<Vec<u32>, AllocError> {
-    let few = network.rows().len() <= MOST_BY_MARKS;
-    let first = if few { FIRST_MARK } else { FIRST_MARK_OF_MANY };
-    let marks = marks_of(alloc, network, first)?;
-    let order = if few {
-        by_marks(alloc, network.events(), &marks)
-    } else {
-        grown_by(alloc, network, &marks)
-    };
-    drop(marks);
-    order
+    if network.rows().len() <= MOST_BY_MARKS {
+        let marks = marks_of(alloc, network, FIRST_MARK)?;
+        return by_marks(alloc, network.events(), &marks);
+    }
+    let marks = marks_of(alloc, network, FIRST_MARK_OF_MANY)?;
+    let starts = by_marks(alloc, network.events(), &marks)?;
+    grown(alloc, network, &marks, &starts)
 }
 
-/// The places of the events in an order.
-fn places_in(alloc: Global, order: &[u32]) -> Result<Vec<u32>, AllocError> {
+/// The places of the events in one order.
+fn places_of(alloc: Global, network: &Network) -> Result<Vec<u32>, AllocError> {
+    let order = order_of(alloc, network)?;
     let mut places = vec![in alloc; 0u32; order.len()]?;
     for (place, event) in order.iter().enumerate() {
         if let Some(slot) = places.get_mut(*event as usize) {
@@ -69,14 +59,6 @@ fn places_in(alloc: Global, order: &[u32]) -> Result<Vec<u32>, AllocError> {
         }
     }
     Ok(places)
-}
-
-/// The places of the events in one order.
-fn places_of(alloc: Global, network: &Network) -> Result<Vec<u32>, AllocError> {
-    let order = order_of(alloc, network)?;
-    let places = places_in(alloc, &order);
-    drop(order);
-    places
 }
 
 /// A row between the places of its events.
@@ -140,97 +122,42 @@ fn arrange(period: u32, levels: &[Option<u32>], rows: &mut [NetRow]) {
     rows.sort_unstable_by_key(|row| (row.tail, row.head, row.lower, row.span, row.weight));
 }
 
-/// The rows between the places of their events, in their order, and the levels from which their times count.
-fn arranged(
-    alloc: Global,
-    network: &Network,
-    places: &[u32],
-) -> Result<(Vec<NetRow>, Vec<Option<u32>>), Memory> {
-    let mut rows = placed_rows(alloc, network.rows(), places)?;
-    match levels_for(alloc, network, &rows) {
-        Ok(levels) => {
-            arrange(network.period(), &levels, &mut rows);
-            Ok((rows, levels))
-        }
-        Err(refused) => {
-            drop(rows);
-            Err(refused)
-        }
-    }
-}
-
-/// The network between the places of its events, and the levels from which its times count; None where it is none.
-fn placed_network(
-    alloc: Global,
-    network: &Network,
-    places: &[u32],
-) -> Result<Option<(Network, Vec<Option<u32>>)>, Memory> {
-    let (rows, levels) = arranged(alloc, network, places)?;
-    match with_rows(alloc, network, rows) {
-        Ok(Some(made)) => Ok(Some((made, levels))),
-        Ok(None) => {
-            drop(levels);
-            Ok(None)
-        }
-        Err(refused) => {
-            drop(levels);
-            Err(refused)
-        }
-    }
-}
-
-/// The same network once more.
-fn copy_of(alloc: Global, network: &Network) -> Result<Network, Memory> {
-    let forest = network.forest(alloc)?;
-    let copy = network.with_forest(alloc, &forest);
-    drop(forest);
-    copy
-}
-
 impl Ordered {
     /// The network in one order, or, where it has few rows or many, in its own. Events that look the same, however far one looks,
     /// stand as they came.
-    pub fn of(alloc: Global, network: &Network) -> Result<Ordered, Memory> {
+    pub(crate) fn of(alloc: Global, network: &Network) -> Result<Ordered, Memory> {
         let count = network.rows().len();
         if count < FEWEST_ORDERED || count > MOST_ORDERED {
             return Ordered::as_it_is(alloc, network);
         }
         let places = places_of(alloc, network)?;
-        match placed_network(alloc, network, &places) {
-            Ok(Some((network, levels))) => Ok(Ordered {
+        let mut rows = placed_rows(alloc, network.rows(), &places)?;
+        let levels = levels_for(alloc, network, &rows)?;
+        arrange(network.period(), &levels, &mut rows);
+        match with_rows(alloc, network, rows)? {
+            Some(network) => Ok(Ordered {
                 network,
                 places,
                 levels,
             }),
-            Ok(None) => {
-                drop(places);
-                Ordered::as_it_is(alloc, network)
-            }
-            Err(refused) => {
-                drop(places);
-                Err(refused)
-            }
+            None => Ordered::as_it_is(alloc, network),
         }
     }
 
     /// The network in its own order.
     fn as_it_is(alloc: Global, network: &Network) -> Result<Ordered, Memory> {
         let places: Vec<u32> = (0..network.events()).collect(alloc)?;
-        match copy_of(alloc, network) {
-            Ok(network) => Ok(Ordered {
-                network,
-                places,
-                levels: Vec::new(alloc),
-            }),
-            Err(refused) => {
-                drop(places);
-                Err(refused)
-            }
-        }
+        let forest = network.forest(alloc)?;
+        let network = network.with_forest(alloc, &forest)?;
+        Ok(Ordered {
+            network,
+            places,
+            levels: Vec::new(alloc),
+        })
     }
 
     /// Times of the other network's events, by their places.
-    pub fn to_places(&self, alloc: Global, times: &[u32]) -> Result<Vec<u32>, AllocError> {
+    pub(crate) fn to_places(&self, alloc: Global, times: &[u32]) -> Result<Vec<u32>, AllocError> {
         let mut placed = vec![in alloc; 0u32; times.len()]?;
         let period = self.network.period();
         for (place, time) in self.places.iter().zip(times.iter()) {
@@ -242,7 +169,7 @@ impl Ordered {
     }
 
     /// Times by their places, for the other network's events.
-    pub fn from_places(&self, alloc: Global, times: &[u32]) -> Result<Vec<u32>, AllocError> {
+    pub(crate) fn from_places(&self, alloc: Global, times: &[u32]) -> Result<Vec<u32>, AllocError> {
         let mut own = Vec::with_capacity(alloc, self.places.len())?;
         let period = self.network.period();
         for place in &self.places {

@@ -60,20 +60,12 @@ struct Spread<'a> {
 }
 
 impl Spread<'_> {
-    /// Notes the level of an event, where it has none; whether it had none.
-    fn note(&mut self, event: u32, level: u32) -> bool {
-        match self.levels.get_mut(event as usize) {
-            Some(slot) if slot.is_none() => {
-                *slot = Some(level);
-                true
-            }
-            _ => false,
-        }
-    }
-
     /// Gives an event a level, where it has none.
     fn set(&mut self, event: u32, level: u32) -> Result<(), AllocError> {
-        if self.note(event, level) {
+        if let Some(slot) = self.levels.get_mut(event as usize)
+            && slot.is_none()
+        {
+            *slot = Some(level);
             self.reached.push(event)?;
         }
         Ok(())
@@ -113,27 +105,6 @@ impl Spread<'_> {
         }
         Ok(())
     }
-
-    /// Gives levels to so many events, the first ones, and to all that rows lead to from there.
-    fn spread(&mut self, events: usize) -> Result<(), AllocError> {
-        for event in 0..events {
-            let first = self.reached.len();
-            self.set(u32::try_from(event).unwrap_or(0), 0)?;
-            self.spread_from(first)?;
-        }
-        Ok(())
-    }
-
-    /// The levels that were given.
-    fn into_levels(self) -> Vec<Option<u32>> {
-        let Spread {
-            frame: _,
-            levels,
-            reached,
-        } = self;
-        drop(reached);
-        levels
-    }
 }
 
 /// The levels of all events over a frame.
@@ -144,13 +115,12 @@ fn spread_over(alloc: Global, frame: &Frame) -> Result<Vec<Option<u32>>, AllocEr
         levels: vec![in alloc; None; events]?,
         reached: Vec::new(alloc),
     };
-    match spread.spread(events) {
-        Ok(()) => Ok(spread.into_levels()),
-        Err(refused) => {
-            drop(spread);
-            Err(refused)
-        }
+    for event in 0..events {
+        let first = spread.reached.len();
+        spread.set(u32::try_from(event).unwrap_or(0), 0)?;
+        spread.spread_from(first)?;
     }
+    Ok(spread.levels)
 }
 
 /// Levels of the events of a network, at which equal times give the rows of a spanning forest their greatest durations. It grows

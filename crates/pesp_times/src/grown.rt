@@ -5,7 +5,6 @@ use pesp_forest::{Frame, Link};
 use pesp_network::Network;
 use std::alloc::{AllocError, Global};
 use std::collections::BinaryHeap;
-use std::mem::replace;
 
 /// A step to an event: what is left of the greatest span, the weight, what is left of the greatest mark and of the greatest event.
 /// So of steps the greatest goes along the least span, and of these along the greatest weight.
@@ -29,16 +28,16 @@ impl Growth<'_> {
         Some((!row.span, row.weight, !mark(self.marks, other), !other))
     }
 
-    /// Notes that an event is in it; whether it is new.
-    fn note(&mut self, event: u32) -> bool {
-        match self.is_in.get_mut(event as usize) {
-            Some(is_in) => !replace(is_in, true),
-            None => false,
+    /// Puts an event behind the others, where it isn't among them.
+    fn put(&mut self, event: u32) -> Result<(), AllocError> {
+        let Some(is_in) = self.is_in.get_mut(event as usize) else {
+            return Ok(());
+        };
+        if *is_in {
+            return Ok(());
         }
-    }
-
-    /// Adds the steps from an event.
-    fn add_steps(&mut self, event: u32) -> Result<(), AllocError> {
+        *is_in = true;
+        self.order.push(event)?;
         let frame = self.frame;
         for link in frame.star(event) {
             if let Some(step) = self.step_along(*link) {
@@ -46,15 +45,6 @@ impl Growth<'_> {
             }
         }
         Ok(())
-    }
-
-    /// Puts an event behind the others, where it isn't among them.
-    fn put(&mut self, event: u32) -> Result<(), AllocError> {
-        if !self.note(event) {
-            return Ok(());
-        }
-        self.order.push(event)?;
-        self.add_steps(event)
     }
 
     /// Puts in an event, and all that rows lead to from there (Prim 1957).
@@ -69,28 +59,6 @@ impl Growth<'_> {
         }
         Ok(())
     }
-
-    /// Puts in each of these events, and all that rows lead to from there.
-    fn grow(&mut self, starts: &[u32]) -> Result<(), AllocError> {
-        for event in starts {
-            self.grow_from(*event)?;
-        }
-        Ok(())
-    }
-
-    /// The order that has grown.
-    fn into_order(self) -> Vec<u32> {
-        let Growth {
-            frame: _,
-            marks: _,
-            steps,
-            is_in,
-            order,
-        } = self;
-        drop(steps);
-        drop(is_in);
-        order
-    }
 }
 
 /// The events in an order that grows over the rows, from the first of those at which it starts that isn't in it.
@@ -100,21 +68,17 @@ fn grown_over(
     marks: &[u64],
     starts: &[u32],
 ) -> Result<Vec<u32>, AllocError> {
-    let is_in = vec![in alloc; false; frame.events()]?;
     let mut growth = Growth {
         frame,
         marks,
         steps: BinaryHeap::new(alloc),
-        is_in,
+        is_in: vec![in alloc; false; frame.events()]?,
         order: Vec::new(alloc),
     };
-    match growth.grow(starts) {
-        Ok(()) => Ok(growth.into_order()),
-        Err(refused) => {
-            drop(growth);
-            Err(refused)
-        }
+    for event in starts {
+        growth.grow_from(*event)?;
     }
+    Ok(growth.order)
 }
 
 /// The events in an order that grows over the rows of a network, by narrow ones first, so that those of a train stand behind each

@@ -2,7 +2,6 @@
 
 use crate::fixed::{ONE, by_whole, is_nothing, over, times, whole};
 use crate::inverse::{make_zeros, set_at, take_outer, write_column};
-use crate::members::Member;
 use crate::simplex::Simplex;
 use crate::updates::change_column;
 use std::alloc::AllocError;
@@ -90,10 +89,7 @@ impl Simplex {
             write_row(row, &self.listed, inverse.wrapping_neg());
             set_at(row, place, inverse);
         }
-        self.state.basic.push(slack)?;
-        self.state.tight.push(line)?;
-        self.state.set_place(Member::Slack(slack), Some(place));
-        self.state.set_place(Member::Line(line), Some(place));
-        Ok(())
+        self.state.push_slack(slack)?;
+        self.state.push_line(line)
     }
 }

@@ -1,30 +1,17 @@
-//! The four cases of an exchange: how the inverse changes, each time by a column times a row.
+//! The four cases of an exchange: how the inverse changes, each time by a column times a row. What comes in has a new place, and
+//! what goes leaves its own vacant, so that nothing is lost by rounding.
 
 use crate::bordering::turn;
 use crate::fixed::{ONE, over};
 use crate::inverse::{read_column, scale_all, set_at};
 use crate::members::{Entering, Leaving, Member};
 use crate::simplex::Simplex;
-use crate::state::VACANT;
 use crate::updates::Update;
 use std::alloc::AllocError;
 
 /// The number at a place; 0 where there is none.
 fn number_at(numbers: &[i64], place: u32) -> i64 {
     numbers.get(place as usize).copied().unwrap_or(0)
-}
-
-/// Takes 1 away from the number at a place.
-fn take_one(numbers: &mut [i64], place: u32) {
-    let less = number_at(numbers, place).wrapping_sub(ONE);
-    set_at(numbers, place, less);
-}
-
-/// What stands at a place.
-fn put_at(list: &mut [u32], place: u32, number: u32) {
-    if let Some(slot) = list.get_mut(place as usize) {
-        *slot = number;
-    }
 }
 
 impl Simplex {
@@ -48,65 +35,52 @@ impl Simplex {
 
     /// A line becomes tight, and a slack of which it has this coefficient basic.
     fn grow(&mut self, line: u32, slack: u32, coefficient: i64) -> Result<(), AllocError> {
-        let place = u32::try_from(self.state.basic.len()).unwrap_or(VACANT);
         let inverse = over(ONE, coefficient);
         turn(&mut self.factors, inverse);
         self.factors.push(inverse)?;
         self.weights.push(-ONE)?;
         self.put_update()?;
-        self.state.basic.push(slack)?;
-        self.state.tight.push(line)?;
-        self.state.set_place(Member::Slack(slack), Some(place));
-        self.state.set_place(Member::Line(line), Some(place));
-        Ok(())
+        self.state.push_slack(slack)?;
+        self.state.push_line(line)
     }
 
-    /// A line becomes tight in the place of another one.
+    /// A line becomes tight, and another one no longer is.
     fn change_lines(&mut self, line: u32, other: u32) -> Result<(), AllocError> {
         let Some(place) = self.state.place_of(Member::Line(other)) else {
             return Ok(());
         };
         let inverse = over(ONE, number_at(&self.weights, place));
         scale_all(&mut self.factors, inverse);
-        take_one(&mut self.weights, place);
+        self.weights.push(-ONE)?;
         self.put_update()?;
-        self.state.set_place(Member::Line(other), None);
-        self.state.set_place(Member::Line(line), Some(place));
-        put_at(&mut self.state.tight, place, line);
-        Ok(())
+        self.state.vacate(Member::Line(other));
+        self.state.push_line(line)
     }
 
-    /// A slack becomes basic in the place of another one.
+    /// A slack becomes basic, and another one no longer is.
     fn change_slacks(&mut self, slack: u32, other: u32) -> Result<(), AllocError> {
         let Some(place) = self.state.place_of(Member::Slack(other)) else {
             return Ok(());
         };
         let inverse = over(ONE, number_at(&self.factors, place));
         scale_all(&mut self.weights, inverse);
-        take_one(&mut self.factors, place);
+        self.factors.push(-ONE)?;
         self.put_update()?;
-        self.state.set_place(Member::Slack(other), None);
-        self.state.set_place(Member::Slack(slack), Some(place));
-        put_at(&mut self.state.basic, place, slack);
-        Ok(())
+        self.state.vacate(Member::Slack(other));
+        self.state.push_slack(slack)
     }
 
-    /// A line is tight no longer, nor a slack basic. Their places stay vacant for now.
+    /// A line is tight no longer, nor a slack basic.
     fn shrink(&mut self, slack: u32, line: u32) -> Result<(), AllocError> {
-        let (Some(row), Some(column)) = (
-            self.state.place_of(Member::Slack(slack)),
-            self.state.place_of(Member::Line(line)),
-        ) else {
+        let Some(row) = self.state.place_of(Member::Slack(slack)) else {
             return Ok(());
         };
         let inverse = over(ONE, number_at(&self.factors, row));
         scale_all(&mut self.factors, inverse);
         set_at(&mut self.factors, row, ONE);
         self.put_update()?;
-        self.state.set_place(Member::Slack(slack), None);
-        self.state.set_place(Member::Line(line), None);
-        put_at(&mut self.state.basic, row, VACANT);
-        put_at(&mut self.state.tight, column, VACANT);
+        self.state.vacate(Member::Slack(slack));
+        self.state.vacate(Member::Line(line));
         Ok(())
     }
 

@@ -119,13 +119,14 @@ pub(crate) fn widen(
     alloc: Global,
     rows: &mut Vec<Vec<i64>>,
     count: usize,
+    width: usize,
 ) -> Result<(), AllocError> {
     rows.truncate(count);
     for row in rows.iter_mut() {
-        row.resize(count, 0)?;
+        row.resize(width, 0)?;
     }
     for _ in rows.len()..count {
-        rows.push(vec![in alloc; 0i64; count]?)?;
+        rows.push(vec![in alloc; 0i64; width]?)?;
     }
     Ok(())
 }

@@ -153,10 +153,11 @@ impl Simplex {
     /// All come in, so many at most.
     fn bring_all(&mut self, most: usize) -> Result<(), AllocError> {
         clear_rows(&mut self.inverse);
-        widen(self.alloc, &mut self.inverse, most)?;
+        widen(self.alloc, &mut self.inverse, most, most)?;
         self.bring_first()?;
         self.bring_last()?;
-        widen(self.alloc, &mut self.inverse, self.state.basic.len())
+        let count = self.state.basic.len();
+        widen(self.alloc, &mut self.inverse, count, count)
     }
 
     /// Nothing is tight, and all multipliers are 0.

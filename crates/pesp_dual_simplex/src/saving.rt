@@ -65,7 +65,8 @@ impl Simplex {
         if self.state.updates.len() < least {
             return Ok(());
         }
-        widen(self.alloc, &mut self.inverse, self.state.basic.len())?;
+        let rows = self.state.basic.len();
+        widen(self.alloc, &mut self.inverse, rows, self.state.tight.len())?;
         make_changes(&self.state.updates, &mut self.inverse);
         self.forget_changes();
         self.close_rows();
@@ -82,7 +83,7 @@ impl Simplex {
         Ok(())
     }
 
-    /// Copies where the simplex stands, and hands over the changes since an earlier state, to which it goes back then.
+    /// Copies where the simplex stands, and hands over its changes since an earlier state. It goes back to that one next.
     pub fn hand_over(&mut self, earlier: &State, into: &mut State) -> Result<(), AllocError> {
         into.copy(&self.state)?;
         into.updates.clear();
@@ -106,8 +107,8 @@ impl Simplex {
         Ok(())
     }
 
-    /// Goes back to where it stood. Nothing is tight where the lines aren't those of then. Where the inverse is another one it is
-    /// built anew, and the state is of that one from then on.
+    /// Goes back to where it stood. Nothing is tight where the lines aren't those of then. Another inverse is built anew, and the
+    /// state is of that one from then on.
     pub fn load(&mut self, from: &mut State) -> Result<(), AllocError> {
         if from.sums.len() != self.lines.len() {
             return self.reset();

@@ -7,8 +7,7 @@ use std::alloc::AllocError;
 /// After how many exchanges the inverse is built anew.
 const REBUILT_AFTER: u32 = 600;
 
-/// After how many exchanges it is still trusted where it shows that nothing is within all lines, which is looked at again in
-/// whole numbers.
+/// Up to how many exchanges it is trusted where nothing is within all lines. That is looked at again in whole numbers.
 const TRUSTED_FOR: u32 = 150;
 
 /// How many changes of the inverse are still to be made at most.

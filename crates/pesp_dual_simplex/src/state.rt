@@ -25,8 +25,9 @@ pub(crate) struct Sum {
 /// What stands at a place that no slack or line has any longer.
 pub(crate) const VACANT: u32 = u32::MAX;
 
-/// Where a simplex stands: the basic slacks and the tight lines, by place; all slacks and lines; the value; how many exchanges
-/// were made since the inverse was built; and of which inverse it is, with how many changes of that and which further ones.
+/// Where a simplex stands: the basic slacks and the tight lines, by place; all slacks and lines; the value; and how many
+/// exchanges were made since the inverse was built. It is of the inverse of this number, with so many of its changes, and with
+/// these behind them.
 #[derive(Drop)]
 pub struct State {
     pub(crate) basic: Vec<u32>,
@@ -93,6 +94,33 @@ impl State {
         match member {
             Member::Slack(number) => self.slacks.get_mut(number as usize)?.place = place,
             Member::Line(number) => self.sums.get_mut(number as usize)?.place = place,
+        }
+        Some(())
+    }
+
+    /// A slack is basic, at a new place.
+    pub(crate) fn push_slack(&mut self, slack: u32) -> Result<(), AllocError> {
+        let place = u32::try_from(self.basic.len()).unwrap_or(VACANT);
+        self.basic.push(slack)?;
+        self.set_place(Member::Slack(slack), Some(place));
+        Ok(())
+    }
+
+    /// A line is tight, at a new place.
+    pub(crate) fn push_line(&mut self, line: u32) -> Result<(), AllocError> {
+        let place = u32::try_from(self.tight.len()).unwrap_or(VACANT);
+        self.tight.push(line)?;
+        self.set_place(Member::Line(line), Some(place));
+        Ok(())
+    }
+
+    /// The place of a slack or of a line is vacant.
+    pub(crate) fn vacate(&mut self, member: Member) -> Option<()> {
+        let place = self.place_of(member)?;
+        self.set_place(member, None);
+        match member {
+            Member::Slack(_) => *self.basic.get_mut(place as usize)? = VACANT,
+            Member::Line(_) => *self.tight.get_mut(place as usize)? = VACANT,
         }
         Some(())
     }

@@ -23,7 +23,6 @@ const MOST_PASSES: usize = 4_000_000;
 #[derive(Drop)]
 pub struct Separator {
     alloc: Global,
-    frame: Frame,
     judge: Judge,
     random: Random,
     keys: Vec<i64>,
@@ -35,25 +34,19 @@ pub struct Separator {
 }
 
 impl Separator {
-    /// A separator for a network; the seed is that of the numbers by which forests are drawn.
-    pub fn new(alloc: Global, frame: Frame, seed: u64) -> Result<Separator, AllocError> {
+    /// A separator for a network's rows; the seed is that of the numbers by which forests are drawn.
+    pub fn new(alloc: Global, frame: &Frame, seed: u64) -> Result<Separator, AllocError> {
         Ok(Separator {
             alloc,
             judge: Judge::new(frame.period()),
             random: Random::new(seed),
             keys: vec![in alloc; 0i64; frame.rows().len()]?,
-            spanning: Spanning::new(alloc, &frame)?,
+            spanning: Spanning::new(alloc, frame)?,
             way: Way::new(alloc),
             marking: Marking::new(alloc),
             offers: Finds::new(alloc),
             finds: Finds::new(alloc),
-            frame,
         })
-    }
-
-    /// The network's rows.
-    pub fn frame(&self) -> &Frame {
-        &self.frame
     }
 
     /// Notes the walk's inequality as it is flipped now, where it is violated.
@@ -84,9 +77,14 @@ impl Separator {
     }
 
     /// Looks at the walk: the best so many of its inequalities are found.
-    fn look_at_walk(&mut self, slacks: &[i64], each: usize) -> Result<(), AllocError> {
+    fn look_at_walk(
+        &mut self,
+        frame: &Frame,
+        slacks: &[i64],
+        each: usize,
+    ) -> Result<(), AllocError> {
         let walk = self.way.passes();
-        if !self.marking.load(&self.frame, self.judge, slacks, walk)? {
+        if !self.marking.load(frame, self.judge, slacks, walk)? {
             return Ok(());
         }
         self.offers.clear();
@@ -97,12 +95,18 @@ impl Separator {
     }
 
     /// Looks at the walk that a row closes, unless it is in the forest; how many passes it has.
-    fn look_at_row(&mut self, slacks: &[i64], row: u32, each: usize) -> Result<usize, AllocError> {
+    fn look_at_row(
+        &mut self,
+        frame: &Frame,
+        slacks: &[i64],
+        row: u32,
+        each: usize,
+    ) -> Result<usize, AllocError> {
         if self.spanning.has(row) {
             return Ok(0);
         }
-        if self.way.close(&self.frame, self.spanning.tree(), row)? {
-            self.look_at_walk(slacks, each)?;
+        if self.way.close(frame, self.spanning.tree(), row)? {
+            self.look_at_walk(frame, slacks, each)?;
         }
         Ok(self.way.passes().len())
     }
@@ -110,16 +114,17 @@ impl Separator {
     /// Looks along the forest of a rule.
     fn look_along(
         &mut self,
+        frame: &Frame,
         slacks: &[i64],
         rule: &KeyRule,
         each: usize,
     ) -> Result<(), AllocError> {
-        rule.give(&mut self.keys, &self.frame, slacks, &mut self.random);
-        self.spanning.draw(&self.frame, &self.keys);
+        rule.give(&mut self.keys, frame, slacks, &mut self.random);
+        self.spanning.draw(frame, &self.keys);
         let mut left = MOST_PASSES;
         for place in 0..self.keys.len() {
             let row = u32::try_from(place).unwrap_or(u32::MAX);
-            left = left.saturating_sub(self.look_at_row(slacks, row, each)?);
+            left = left.saturating_sub(self.look_at_row(frame, slacks, row, each)?);
             if left == 0 {
                 break;
             }
@@ -128,14 +133,19 @@ impl Separator {
     }
 
     /// The first so many new ones of the inequalities that were found.
-    fn choose(&self, most: usize, seen: &mut Seen) -> Result<Vec<Inequality>, AllocError> {
+    fn choose(
+        &self,
+        frame: &Frame,
+        most: usize,
+        seen: &mut Seen,
+    ) -> Result<Vec<Inequality>, AllocError> {
         let mut chosen = Vec::new(self.alloc);
         for find in self.finds.list() {
             if chosen.len() >= most {
                 break;
             }
             let passes = Vec::from_slice(self.alloc, self.finds.passes(find))?;
-            if let Some(inequality) = Inequality::of(self.alloc, &self.frame, passes)? {
+            if let Some(inequality) = Inequality::of(self.alloc, frame, passes)? {
                 if seen.insert(inequality.key())? {
                     chosen.push(inequality)?;
                 }
@@ -144,11 +154,12 @@ impl Separator {
         Ok(chosen)
     }
 
-    /// The most violated new inequalities at slacks in 1/65536, the most violated first: along the fundamental cycles of six
+    /// The most violated new inequalities of the rows that it was made for, at slacks in 1/65536, the most violated first: along the fundamental cycles of six
     /// forests, and of the forest of small spans where `wide`; at most `each` a cycle, and at most `most` in all. New is one
     /// whose key isn't in `seen`, into which it is put.
     pub fn look(
         &mut self,
+        frame: &Frame,
         slacks: &[i64],
         wide: bool,
         each: usize,
@@ -157,12 +168,12 @@ impl Separator {
     ) -> Result<Vec<Inequality>, AllocError> {
         self.finds.clear();
         for rule in &RULES {
-            self.look_along(slacks, rule, each)?;
+            self.look_along(frame, slacks, rule, each)?;
         }
         if wide {
-            self.look_along(slacks, &BY_SPAN, each)?;
+            self.look_along(frame, slacks, &BY_SPAN, each)?;
         }
         self.finds.sort();
-        self.choose(most, seen)
+        self.choose(frame, most, seen)
     }
 }

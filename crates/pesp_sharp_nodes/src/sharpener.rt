@@ -7,7 +7,6 @@ use crate::pool::Pool;
 use crate::relaxation::{NO_MULTIPLIER, Origin, Relaxation, filled};
 use crate::setting::Setting;
 use pesp_dual::{Multiplier, Program};
-use pesp_forest::Frame;
 use pesp_inequalities::{Inequality, Pass, Seen, Separator};
 use pesp_network::Network;
 use std::alloc::{AllocError, Global};
@@ -50,13 +49,19 @@ impl Sharpener {
         seed: u64,
         scale: u32,
     ) -> Result<Sharpener, AllocError> {
-        let frame = Frame::new(alloc, network)?;
-        Ok(Sharpener {
-            alloc,
-            setting: Setting::new(alloc, network, scale)?,
-            pool: Pool::new(alloc),
-            separator: Separator::new(alloc, frame, seed)?,
-        })
+        let setting = Setting::new(alloc, network, scale)?;
+        match Separator::new(alloc, &setting.frame, seed) {
+            Ok(separator) => Ok(Sharpener {
+                alloc,
+                setting,
+                pool: Pool::new(alloc),
+                separator,
+            }),
+            Err(refused) => {
+                drop(setting);
+                Err(refused)
+            }
+        }
     }
 
     /// Takes in inequalities that the slacks violate; whether there are any.
@@ -69,7 +74,10 @@ impl Sharpener {
         most: usize,
     ) -> Result<bool, AllocError> {
         let slacks = relaxation.program.slacks();
-        let found = self.separator.look(slacks, is_wide, each, most, seen)?;
+        let frame = &self.setting.frame;
+        let found = self
+            .separator
+            .look(frame, slacks, is_wide, each, most, seen)?;
         let is_new = !found.is_empty();
         for inequality in found {
             let number = self.pool.put(self.alloc, inequality)?;
@@ -86,7 +94,8 @@ impl Sharpener {
         most: usize,
         seen: &mut Seen,
     ) -> Result<Vec<u32>, AllocError> {
-        let found = self.separator.look(slacks, false, EACH, most, seen)?;
+        let frame = &self.setting.frame;
+        let found = self.separator.look(frame, slacks, false, EACH, most, seen)?;
         let mut numbers = Vec::new(self.alloc);
         for inequality in found {
             numbers.push(self.pool.put(self.alloc, inequality)?)?;

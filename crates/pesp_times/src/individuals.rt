@@ -13,14 +13,28 @@ use std::mem;
 /// How many tries a dive to the root's prices has.
 const TRIES_NEAR: u32 = 50;
 
+/// Up to how many rows an individual has several dives, however many events there are.
+const MOST_DIVED_OFTEN: usize = 400;
+
 /// How many tries a plain dive has on a network of so many rows.
 fn tries_for(rows: usize) -> u32 {
     if rows > 20_000 { 1 } else { 100 }
 }
 
+/// Whether there are more than three activities for two events: then a dive has many offsets to fix.
+fn is_dense(network: &Network) -> bool {
+    let events = network.events() as usize;
+    network.rows().len().saturating_mul(2) > events.saturating_mul(3)
+}
+
 /// How many dives of the relaxation an individual has, of which the best is annealed.
-fn dives_for(rows: usize) -> u32 {
-    if rows <= FEW { 3 } else { 1 }
+fn dives_for(network: &Network) -> u32 {
+    let rows = network.rows().len();
+    if rows <= MOST_DIVED_OFTEN || (rows <= FEW && !is_dense(network)) {
+        3
+    } else {
+        1
+    }
 }
 
 /// The cheaper of two annealers.
@@ -114,7 +128,7 @@ impl Search {
         relaxation: &mut Relaxation,
     ) -> Result<Option<Annealer>, Memory> {
         let mut best = None;
-        for _ in 0..dives_for(network.rows().len()) {
+        for _ in 0..dives_for(network) {
             if let Some(annealer) = self.dived(network, relaxation)? {
                 best = Some(cheaper(best, annealer));
             }

@@ -8,7 +8,8 @@ use crate::tree::Knot;
 use pesp_inequalities::Pass;
 use pesp_offset_cuts::Experience;
 use pesp_problem::Memory;
-use pesp_sharp_nodes::{Branch, Cut, Limit, Node, Range, Side};
+use pesp_sharp_nodes::{Branch, Cut, Limit, Node, Range, Relaxation, Side};
+use pesp_warm_nodes::Basis;
 use std::alloc::{AllocError, Global};
 use std::mem::swap;
 
@@ -102,6 +103,24 @@ impl Sharpening {
         Ok(ranges)
     }
 
+    /// What a leaf that is given goes on from, which has so many multipliers.
+    fn start_of(
+        &mut self,
+        given: Given<'_>,
+        relaxation: &Relaxation,
+        ranges: &[Range],
+        path: &[Branch],
+        count: usize,
+    ) -> Result<Start, AllocError> {
+        if self.shared.is_some() {
+            let basis = Basis::given(self.alloc, ranges, path, count)?;
+            return Ok(Start::Exchanges(basis));
+        }
+        let node = Node::cold(self.alloc, relaxation, given.common)?;
+        node.keep_in(&mut self.sharpener.pool);
+        Ok(Start::Steps(node))
+    }
+
     /// A bound leaf that is given; it is open where what it shows doesn't reach the limit.
     fn take_leaf(&mut self, given: Given<'_>, place: u32, leaf: &Leaf) -> Result<Knot, AllocError> {
         let path = given.shape.path(self.alloc, given.lines, place)?;
@@ -111,12 +130,12 @@ impl Sharpening {
         let mut relaxation = self.sharpener.told(&offsets, &walks)?;
         let bound = relaxation.bound();
         if bound < given.limit.cost {
-            let node = Node::cold(self.alloc, &relaxation, given.common)?;
-            node.keep_in(&mut self.sharpener.pool);
+            let count = leaf.pairs.len().saturating_add(walks.len());
+            let start = self.start_of(given, &relaxation, &ranges, &path, count)?;
             self.leaves.push(Open {
                 place,
                 bound,
-                start: Start::Steps(node),
+                start,
             })?;
         }
         let pairs = Vec::from_slice(self.alloc, &leaf.pairs)?;
@@ -198,6 +217,7 @@ impl Sharpening {
         self.begin_with(given)?;
         let walks = self.take_walks(&given.walks)?;
         let limit = self.sharpener.setting.limit(best);
+        self.share_all(&common, &walks, limit)?;
         self.take_lines(Given {
             lines: &given.lines,
             shape: &shape,
@@ -211,7 +231,23 @@ impl Sharpening {
         Ok(true)
     }
 
-    /// Leaves go on by primal-dual steps.
+    /// Leaves go on by exchanges over these inequalities and those of walks, where exchanges are for them.
+    fn share_all(
+        &mut self,
+        common: &[u32],
+        walks: &[Option<u32>],
+        limit: Limit,
+    ) -> Result<(), AllocError> {
+        let mut numbers = Vec::from_slice(self.alloc, common)?;
+        for walk in walks {
+            if let Some(number) = *walk {
+                numbers.push(number)?;
+            }
+        }
+        self.share_given(&numbers, limit)
+    }
+
+    /// The program that leaves shared goes.
     fn leave_shared(&mut self) {
         if let Some(shared) = &self.shared {
             shared.leave(&mut self.sharpener.pool);

@@ -68,6 +68,22 @@ impl Sharpening {
         begun
     }
 
+    /// A tree that is given goes on by exchanges over these inequalities of the pool, where they are for it.
+    pub(crate) fn share_given(&mut self, numbers: &[u32], limit: Limit) -> Result<(), AllocError> {
+        let Some(mut shared) = Shared::given(&mut self.sharpener, numbers)? else {
+            return Ok(());
+        };
+        let suits = shared.suits(limit);
+        if let Ok(true) = suits {
+            self.shared = Some(shared);
+        } else {
+            shared.leave(&mut self.sharpener.pool);
+            drop(shared);
+        }
+        suits?;
+        Ok(())
+    }
+
     /// Whether the tree is one leaf.
     fn is_leaf(&self) -> bool {
         matches!(self.tree.knots.first(), Some(Knot::Leaf { .. }))
@@ -171,6 +187,15 @@ impl Sharpening {
         depth <= deepest
     }
 
+    /// Goes to a leaf that isn't the last one's part.
+    fn enter_other(&mut self, shared: &mut Shared, basis: &Basis) -> Result<(), AllocError> {
+        if basis.is_given() {
+            shared.enter_here(&self.sharpener.setting, basis)
+        } else {
+            shared.enter(&mut self.sharpener, basis)
+        }
+    }
+
     /// Goes to an open leaf, and solves it.
     fn enter(
         &mut self,
@@ -184,7 +209,7 @@ impl Sharpening {
             shared.enter_carried(&self.sharpener.setting, basis)?;
         } else {
             shared.drop_old(&mut self.sharpener.pool)?;
-            shared.enter(&mut self.sharpener, basis)?;
+            self.enter_other(shared, basis)?;
         }
         let end = shared.solve_out(&self.sharpener.setting, limit)?;
         if end == End::Best && self.seeks_at(basis.depth) {

@@ -1,6 +1,6 @@
 //! Bases by the names of inequalities and of cycles.
 
-use pesp_sharp_nodes::{Pool, Range};
+use pesp_sharp_nodes::{Branch, Pool, Range};
 use std::alloc::{AllocError, Global};
 
 /// What a line of the program is: an inequality of the pool, or the offset of a cycle.
@@ -18,15 +18,36 @@ pub(crate) struct Narrowed {
 }
 
 /// What an open leaf goes on from: the basic slacks, the tight lines, each with whether it is at its greatest value, the slacks at
-/// their span, the cycles whose offsets are bounded, and how many branches lead to it.
+/// their span, the cycles whose offsets are bounded, and how many branches lead to it. A leaf that was given has no names yet, but
+/// a number of multipliers: it goes on from wherever the program stands, since each basis is dual feasible at each node.
 #[derive(Drop)]
 pub struct Basis {
     pub(crate) basic: Vec<u32>,
     pub(crate) tight: Vec<(Name, bool)>,
     pub(crate) up: Vec<u32>,
     pub(crate) narrowed: Vec<Narrowed>,
+    given: Option<usize>,
     pub depth: u32,
     pub is_solved_out: bool,
+}
+
+/// The cycles of branches, each once, with the offsets that are left to them.
+fn narrowed_by(
+    alloc: Global,
+    ranges: &[Range],
+    path: &[Branch],
+) -> Result<Vec<Narrowed>, AllocError> {
+    let mut narrowed: Vec<Narrowed> = Vec::new(alloc);
+    for branch in path {
+        let cycle = branch.cycle;
+        let is_there = narrowed.iter().any(|it| it.cycle == cycle);
+        if let Some(range) = ranges.get(cycle as usize).copied()
+            && !is_there
+        {
+            narrowed.push(Narrowed { cycle, range })?;
+        }
+    }
+    Ok(narrowed)
 }
 
 impl Basis {
@@ -37,14 +58,35 @@ impl Basis {
             tight: Vec::new(alloc),
             up: Vec::new(alloc),
             narrowed: Vec::new(alloc),
+            given: None,
             depth: 0,
             is_solved_out: false,
         }
     }
 
-    /// How many lines are tight.
+    /// What a leaf goes on from that was given with so many multipliers, below these branches, where offsets have these ranges.
+    pub fn given(
+        alloc: Global,
+        ranges: &[Range],
+        path: &[Branch],
+        multipliers: usize,
+    ) -> Result<Basis, AllocError> {
+        let narrowed = narrowed_by(alloc, ranges, path)?;
+        let mut basis = Basis::new(alloc);
+        basis.narrowed = narrowed;
+        basis.given = Some(multipliers);
+        basis.depth = u32::try_from(path.len()).unwrap_or(u32::MAX);
+        Ok(basis)
+    }
+
+    /// Whether the leaf was given, and has no names yet.
+    pub fn is_given(&self) -> bool {
+        self.given.is_some()
+    }
+
+    /// How many lines are tight, or how many multipliers a leaf has that was given.
     pub fn count(&self) -> usize {
-        self.tight.len()
+        self.given.unwrap_or(self.tight.len())
     }
 
     /// The inequalities of the pool that are tight.

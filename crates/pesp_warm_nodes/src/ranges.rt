@@ -109,6 +109,12 @@ impl Shared {
         self.simplex.take_names(&self.basis)
     }
 
+    /// Goes to a node that has no names, with the basis as it stands.
+    pub fn enter_here(&mut self, setting: &Setting, basis: &Basis) -> Result<(), AllocError> {
+        self.place(setting, basis)?;
+        self.simplex.refresh()
+    }
+
     /// Goes to the node at which it stood before.
     pub fn enter_carried(&mut self, setting: &Setting, basis: &Basis) -> Result<(), AllocError> {
         self.place(setting, basis)?;

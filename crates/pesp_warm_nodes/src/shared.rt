@@ -18,6 +18,9 @@ const MOST_PERIOD: i64 = 512;
 /// How many inequalities count as too many for an inverse.
 const MOST_TIGHT: usize = 1_500;
 
+/// How many given inequalities count as too many for a program.
+const MOST_GIVEN: usize = 20_000;
+
 /// By how much an inequality may be passed and still count as tight, in 1/65536.
 const TIGHT: i64 = 1 << 12;
 
@@ -99,6 +102,28 @@ impl Shared {
             return Err(AllocError);
         }
         Ok(Some(shared))
+    }
+
+    /// The program of inequalities of the pool, for a tree that is given; None where a dual simplex isn't for it.
+    pub fn given(sharpener: &mut Sharpener, numbers: &[u32]) -> Result<Option<Shared>, AllocError> {
+        if !is_fit(&sharpener.setting) || numbers.len() > MOST_GIVEN {
+            return Ok(None);
+        }
+        let mut shared = Shared::empty(sharpener.alloc, &sharpener.setting)?;
+        let taken = shared.add_all(&mut sharpener.pool, numbers);
+        if taken.is_err() {
+            drop(shared);
+            return Err(AllocError);
+        }
+        Ok(Some(shared))
+    }
+
+    /// Takes in inequalities of the pool.
+    fn add_all(&mut self, pool: &mut Pool, numbers: &[u32]) -> Result<(), AllocError> {
+        for number in numbers {
+            self.add_pooled(pool, *number)?;
+        }
+        Ok(())
     }
 
     /// The program without a line.

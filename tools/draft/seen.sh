@@ -1,1 +1,0 @@
-cd ROOM/w/$1; tools/unproved pesp_text_tests unproved > build.log 2>&1; echo built $? >> build.log; out/unproved/pesp_text_tests < crates/pesp_text_tests/stdin > got.txt 2>/dev/null; diff got.txt crates/pesp_text_tests/stdout > diff.txt; echo "W$1 diff lines $(grep -c '^[<>]' diff.txt)" >> ROOM/w/seen.txt

@@ -13,7 +13,7 @@ mod marked;
 mod scales;
 
 pub use base::given_of;
-pub use copies::{copied_lemmas, copied_lines, copied_marks, copied_walks};
+pub use copies::{copied_lines, copied_marked, copied_walks};
 pub use kept::Kept;
 pub use left::Left;
 pub use lifted::{lifted_of, offset_shifts};

@@ -1,6 +1,7 @@
 //! How much work anneals have in which spans may be broken.
 
 use crate::plans::Prices;
+use pesp_network::Network;
 
 /// Up to how many rows there is no search in which spans may be broken: batches find the best there.
 const FEWEST_SOFT: usize = 120;
@@ -32,9 +33,16 @@ pub struct SoftEffort {
     pub(crate) quiet: u32,
 }
 
+/// Whether there are more than three activities for two events: then there are many offsets to find.
+pub fn is_dense(network: &Network) -> bool {
+    let events = network.events() as usize;
+    network.rows().len().saturating_mul(2) > events.saturating_mul(3)
+}
+
 impl SoftEffort {
     /// The work before the first step; None where there is none.
-    pub fn first(rows: usize) -> Option<SoftEffort> {
+    pub fn first(network: &Network) -> Option<SoftEffort> {
+        let rows = network.rows().len();
         if rows <= FEWEST_SOFT {
             return None;
         }
@@ -42,6 +50,7 @@ impl SoftEffort {
             0..=400 => (8, 4, 200, 300, 150, 2),
             401..=700 => (2, 4, 250, 300, 200, 1),
             701..=2_500 => (1, 3, 3_000, 400, 500, 2),
+            2_501..=8_000 if is_dense(network) => (1, 1, 6_000, 600, 500, 1),
             2_501..=8_000 => (1, 1, 1_500, 1_000, 500, 1),
             8_001..=30_000 => (1, 1, 600, 600, 300, 1),
             _ => (1, 1, 200, 200, 100, 0),

@@ -7,5 +7,5 @@ mod effort;
 mod plans;
 mod soft_search;
 
-pub use effort::SoftEffort;
+pub use effort::{SoftEffort, is_dense};
 pub use soft_search::SoftSearch;

@@ -2,7 +2,7 @@
 
 use crate::pieces::Piece;
 use crate::search::Search;
-use crate::work::{FEW, MAY_END_EARLY, Work, is_close, is_near};
+use crate::work::{FEW, MAY_END_EARLY, Work, is_close, is_near, may_join};
 use pesp_network::Network;
 use pesp_problem::Memory;
 use pesp_soft_times::SoftEffort;
@@ -27,6 +27,14 @@ impl Search {
     /// Whether a batch that has begun is worth more of its pieces. With many rows most is won behind the last four.
     fn is_worth_more(&self, network: &Network) -> bool {
         network.rows().len() > FEW || self.is_worth_a_batch()
+    }
+
+    /// Whether what a merge led to is worth balls.
+    fn is_worth_balls(&self, network: &Network) -> bool {
+        match (&self.pieces.found, self.least_softly()) {
+            (Some(found), Some(soft)) => may_join(network.rows().len(), found.cost, soft),
+            (found, _) => found.is_some(),
+        }
     }
 
     /// Whether a timetable is near the cheapest one, or there is none.
@@ -58,7 +66,7 @@ impl Search {
         let number = self.pieces.batches;
         self.pieces.batches = number.saturating_add(1);
         if number == 0 {
-            return self.begin_batch(network, Work::first(rows), SoftEffort::first(rows));
+            return self.begin_batch(network, Work::first(rows), SoftEffort::first(network));
         }
         let steps = FIRST_STEPS << number.min(MOST_DOUBLED);
         let soft = Some(SoftEffort::after(rows, steps));
@@ -140,7 +148,7 @@ impl Search {
         self.pieces.found = self.merged(network, pool, rounds)?;
         self.pieces.freed = 0;
         self.pieces.quiet = 0;
-        if self.pieces.found.is_some() {
+        if self.is_worth_balls(network) {
             Ok(Piece::Ball)
         } else {
             self.end_merge(network)

@@ -7,6 +7,7 @@ use pesp_annealing::Annealer;
 use pesp_network::Network;
 use pesp_problem::Memory;
 use pesp_propagate::{dive, dive_to};
+use pesp_soft_times::is_dense;
 use pesp_timetables::{Found, Keys, Relaxation, slacks_of};
 use std::mem;
 
@@ -21,13 +22,8 @@ fn tries_for(rows: usize) -> u32 {
     if rows > 20_000 { 1 } else { 100 }
 }
 
-/// Whether there are more than three activities for two events: then a dive has many offsets to fix.
-fn is_dense(network: &Network) -> bool {
-    let events = network.events() as usize;
-    network.rows().len().saturating_mul(2) > events.saturating_mul(3)
-}
-
-/// How many dives of the relaxation an individual has, of which the best is annealed.
+/// How many dives of the relaxation an individual has, of which the best is annealed. In a dense network a dive has many offsets to
+/// fix.
 fn dives_for(network: &Network) -> u32 {
     let rows = network.rows().len();
     if rows <= MOST_DIVED_OFTEN || (rows <= FEW && !is_dense(network)) {

@@ -7,8 +7,8 @@ use pesp_network::Network;
 use pesp_problem::Memory;
 use std::alloc::Global;
 
-/// The search for timetables of one network. It goes by a copy of it; where there are neither few rows nor many, events and rows
-/// have one order there, so that what it finds doesn't depend on theirs.
+/// The search for timetables of one network. It goes by a copy of it; where there are not few rows, events and rows have one order
+/// there, so that what it finds doesn't depend on theirs.
 #[derive(Drop)]
 pub(crate) struct Looking {
     alloc: Global,

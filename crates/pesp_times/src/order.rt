@@ -14,9 +14,6 @@ const FEWEST_ORDERED: usize = 121;
 /// Up to how many rows events stand in the order of their marks. With more, those that belong together stand near each other.
 const MOST_BY_MARKS: usize = 700;
 
-/// Up to how many rows a network comes in one order. With more the order of the lines stays: it says what belongs together.
-const MOST_ORDERED: usize = 2_500;
-
 /// The marks that all events begin with where they stand in the order of their marks, and elsewhere.
 const FIRST_MARK: u64 = 87;
 
@@ -123,11 +120,10 @@ fn arrange(period: u32, levels: &[Option<u32>], rows: &mut [NetRow]) {
 }
 
 impl Ordered {
-    /// The network in one order, or, where it has few rows or many, in its own. Events that look the same, however far one looks,
-    /// stand as they came.
+    /// The network in one order, or, where it has few rows, in its own. Events that look the same, however far one looks, stand as
+    /// they came.
     pub(crate) fn of(alloc: Global, network: &Network) -> Result<Ordered, Memory> {
-        let count = network.rows().len();
-        if count < FEWEST_ORDERED || count > MOST_ORDERED {
+        if network.rows().len() < FEWEST_ORDERED {
             return Ordered::as_it_is(alloc, network);
         }
         let places = places_of(alloc, network)?;

@@ -82,6 +82,12 @@ pub(crate) fn may_win(hard: u64, soft: u64) -> bool {
     hard <= soft.saturating_add(soft / 32)
 }
 
+/// Whether a timetable of the batch may join the other search, by their costs. Balls behind a dearer one take long where there are
+/// many rows.
+pub(crate) fn may_join(rows: usize, hard: u64, soft: u64) -> bool {
+    rows <= FEW || rows > MOST_DIVED || hard <= soft.saturating_add(soft / 16)
+}
+
 /// Whether more fours pay, by what the cheapest of the batch and that of the other search cost.
 pub(crate) fn is_close(hard: u64, soft: u64) -> bool {
     hard <= soft.saturating_add(soft / 48)

@@ -1,0 +1,50 @@
+//! Divisions of the rows, each of larger regions than the one before: each region is inside one of the next division.
+
+use crate::division::Division;
+use crate::multiplied::Multiplied;
+use crate::partition::{Joined, partition};
+use pesp_network::Network;
+use std::alloc::{AllocError, Global};
+
+/// How many divisions there are at most.
+const MOST_LEVELS: u32 = 8;
+
+/// Each event by itself.
+fn alone(alloc: Global, events: u32) -> Result<Vec<u32>, AllocError> {
+    let mut labels = Vec::with_capacity(alloc, events as usize)?;
+    for event in 0..events {
+        labels.push(event)?;
+    }
+    Ok(labels)
+}
+
+/// Divisions whose regions have at most so many events, twice as many, and so on. The last one has one region, or regions of the
+/// most events that are asked for.
+pub(crate) fn divisions_of(
+    alloc: Global,
+    network: &Network,
+    inequalities: &[Multiplied],
+    least: u32,
+    most: u32,
+) -> Result<Vec<Division>, AllocError> {
+    let mut divisions = Vec::new(alloc);
+    let mut labels = alone(alloc, network.events())?;
+    let mut size = least.min(most).max(1);
+    for _ in 0..MOST_LEVELS {
+        let joined = Joined {
+            labels: &labels,
+            rows: network.rows(),
+            inequalities,
+            most: size,
+        };
+        labels = partition(alloc, joined)?;
+        let division = Division::of(alloc, &labels, network.rows())?;
+        let count = division.count();
+        divisions.push(division)?;
+        if count < 2 || size >= most {
+            break;
+        }
+        size = size.saturating_mul(2).min(most);
+    }
+    Ok(divisions)
+}

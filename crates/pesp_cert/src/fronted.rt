@@ -1,13 +1,13 @@
 //! A certificate with its front.
 
 use crate::certificate::Certificate;
-use crate::front::Front;
+use pesp_truth::Marks;
 use std::marker::Model;
 
 /// A certificate, and the front of its text where it has one.
 #[derive(Drop)]
 pub struct Fronted {
-    pub front: Option<Front>,
+    pub front: Option<Marks>,
     pub certificate: Certificate,
 }
 

@@ -6,8 +6,6 @@ pub enum Kind {
     Front,
     Scale,
     Walk,
-    Lemma,
-    Least,
     Version,
     Period,
     Answer,

@@ -1,6 +1,6 @@
 //! The columns and the lines of a program.
 
-use crate::fixed::{MOST, norm_of, parts, whole};
+use crate::fixed::{MOST, norm_of, whole};
 use pesp_dual::Term;
 use pesp_network::NetRow;
 use std::alloc::{AllocError, Global};
@@ -30,11 +30,10 @@ pub(crate) struct Line {
 }
 
 impl Column {
-    /// The column of a row's slack, whose weight is in units of which so many make up one.
-    pub(crate) fn of(alloc: Global, row: &NetRow, unit: u32) -> Column {
-        let weight = i64::try_from(row.weight).unwrap_or(0);
+    /// The column of a row's slack.
+    pub(crate) fn of(alloc: Global, row: &NetRow) -> Column {
         Column {
-            cost: parts(weight, i64::from(unit)),
+            cost: whole(i64::try_from(row.weight).unwrap_or(0)),
             span: whole(i64::from(row.span)),
             entries: Vec::new(alloc),
         }

@@ -5,6 +5,5 @@ pub mod Lines
 pub mod Shown
 pub mod Plain
 pub mod Certificates
-pub mod Fronts
 pub mod Worked
 pub mod Small

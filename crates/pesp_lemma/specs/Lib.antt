@@ -4,4 +4,3 @@ pub mod Leaves
 pub mod Trees
 pub mod Shown
 pub mod Certificates
-pub mod Fronts

@@ -1,4 +1,2 @@
 pub mod Adding
 pub mod Kept
-pub mod Worth
-pub mod Reaching

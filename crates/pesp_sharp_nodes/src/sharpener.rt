@@ -42,16 +42,14 @@ pub struct Sharpener {
 }
 
 impl Sharpener {
-    /// No inequality is found yet; the seed decides which forests are drawn, multipliers are told by the scale, and weights are
-    /// in units of which so many make up one.
+    /// No inequality is found yet; the seed decides which forests are drawn, and multipliers are told by the scale.
     pub fn new(
         alloc: Global,
         network: &Network,
         seed: u64,
         scale: u32,
-        unit: u32,
     ) -> Result<Sharpener, AllocError> {
-        let setting = Setting::new(alloc, network, scale, unit)?;
+        let setting = Setting::new(alloc, network, scale)?;
         match Separator::new(alloc, &setting.frame, seed) {
             Ok(separator) => Ok(Sharpener {
                 alloc,

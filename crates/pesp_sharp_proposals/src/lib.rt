@@ -3,7 +3,6 @@
 #![tactic(auto)]
 
 mod best;
-mod bounding;
 mod proposal;
 mod proposing;
 mod search;

@@ -1,17 +1,14 @@
 //! The certificates that a search proposes. They are judged by others.
 
 use crate::best::{Best, cost_of};
-use crate::bounding::Bounding;
 use crate::search::SharpSearch;
-use pesp_cert::{Certificate, Front, Fronted, Marks, ShownLemma};
+use pesp_cert::{Certificate, Fronted, Marks};
 use pesp_judges::least_of;
 use pesp_problem::{Instance, Memory, Walk};
 use pesp_sharp_trees::{
-    Kept, Left, Numbers, copied_lemmas, copied_lines, copied_marks, copied_walks, crossing_walks,
-    lifted_of, lines_of, marked_of, offset_shifts, region_leaf, region_lemmas, scale_walk,
-    some_wants_scale,
+    Kept, Left, Numbers, copied_lines, copied_marked, copied_walks, lifted_of, lines_of, marked_of,
+    offset_shifts, scale_walk, some_wants_scale,
 };
-use pesp_regions::ToldRegions;
 use pesp_sharpener::Proposals;
 use pesp_sharpening::{Line, Sharpened};
 use pesp_truth::{Answer, TreeLine};
@@ -160,8 +157,8 @@ impl<'a> Parts<'a> {
         }
     }
 
-    /// The scale and the marked walks; None where they would pass a limit.
-    fn marks(&self, alloc: Global, kept: &Option<Kept<'a>>) -> Result<Option<Marks>, Memory> {
+    /// The front; None where it would pass a limit.
+    fn front(&self, alloc: Global, kept: &Option<Kept<'a>>) -> Result<Option<Marks>, Memory> {
         let Some(mut walks) = marked_of(alloc, self.left.reduced, &self.sharpened.walks)? else {
             return Ok(None);
         };
@@ -174,20 +171,6 @@ impl<'a> Parts<'a> {
         Ok(Marks::new(self.scale, walks).ok())
     }
 
-    /// The front; None where it would pass a limit.
-    fn front(&self, alloc: Global, kept: &Option<Kept<'a>>) -> Result<Option<Front>, Memory> {
-        let Some(marks) = self.marks(alloc, kept)? else {
-            return Ok(None);
-        };
-        match lemmas_of(alloc, kept) {
-            Ok(lemmas) => Ok(Front::new(marks, lemmas).ok()),
-            Err(refused) => {
-                drop(marks);
-                Err(refused)
-            }
-        }
-    }
-
     /// What was found beside the best timetable, as a certificate with a front; None where a part would pass a limit.
     fn fronted(&self, alloc: Global) -> Result<Option<Fronted>, Memory> {
         let kept = self.kept(alloc)?;
@@ -195,8 +178,8 @@ impl<'a> Parts<'a> {
             return Ok(None);
         };
         match self.front(alloc, &kept) {
-            Ok(Some(front)) => Ok(Some(Fronted {
-                front: some_front(front),
+            Ok(Some(marks)) => Ok(Some(Fronted {
+                front: with_walks(marks),
                 certificate,
             })),
             Ok(None) => {
@@ -211,21 +194,12 @@ impl<'a> Parts<'a> {
     }
 }
 
-/// The lemmas of a base, where lines that are kept name one.
-fn lemmas_of(alloc: Global, kept: &Option<Kept<'_>>) -> Result<Vec<ShownLemma>, Memory> {
-    match kept {
-        Some(kept) => kept.lemmas(alloc),
-        None => Ok(Vec::new(alloc)),
-    }
-}
-
-/// A front, where it has a walk or a lemma.
-fn some_front(front: Front) -> Option<Front> {
-    if front.marks().walks().is_empty() && front.lemmas().is_empty() {
-        drop(front);
+/// A front, where it has a walk.
+fn with_walks(marks: Marks) -> Option<Marks> {
+    if marks.walks().is_empty() {
         None
     } else {
-        Some(front)
+        Some(marks)
     }
 }
 
@@ -244,22 +218,15 @@ fn with_times(
 }
 
 /// A copy of a front; None where there is none.
-fn copied_front(alloc: Global, front: &Option<Front>) -> Result<Option<Front>, Memory> {
-    let Some(front) = front else {
+fn copied_front(alloc: Global, front: &Option<Marks>) -> Result<Option<Marks>, Memory> {
+    let Some(marks) = front else {
         return Ok(None);
     };
-    let marks = front.marks();
-    let walks = copied_marks(alloc, marks.walks())?;
-    let Ok(marks) = Marks::new(marks.scale(), walks) else {
-        return Ok(None);
-    };
-    match copied_lemmas(alloc, front.lemmas()) {
-        Ok(lemmas) => Ok(Front::new(marks, lemmas).ok()),
-        Err(refused) => {
-            drop(marks);
-            Err(refused)
-        }
+    let mut walks = Vec::with_capacity(alloc, marks.walks().len())?;
+    for walk in marks.walks() {
+        walks.push(copied_marked(alloc, walk)?)?;
     }
+    Ok(Marks::new(marks.scale(), walks).ok())
 }
 
 /// An answer with the best timetable in the place of its own; None where that isn't cheaper.
@@ -285,80 +252,13 @@ fn timed_of(
     }
 }
 
-/// The front of regions, with the walks that cross them; None where it would pass a limit.
-fn region_front(
+/// What a search proposes that began with a certificate, in the place of an answer.
+pub(crate) fn proposals_of(
     left: Left<'_>,
-    told: &ToldRegions,
-    root: &Sharpened,
-) -> Result<Option<Front>, Memory> {
-    let Some(walks) = crossing_walks(left, told, &root.walks)? else {
-        return Ok(None);
-    };
-    let Ok(marks) = Marks::new(told.scale, walks) else {
-        return Ok(None);
-    };
-    match region_lemmas(left, told) {
-        Ok(Some(lemmas)) => Ok(Front::new(marks, lemmas).ok()),
-        Ok(None) => {
-            drop(marks);
-            Ok(None)
-        }
-        Err(refused) => {
-            drop(marks);
-            Err(refused)
-        }
-    }
-}
-
-/// The certificate of regions behind its front: one leaf that names them all.
-fn region_certificate(
-    left: Left<'_>,
-    told: &ToldRegions,
-    best: &Option<Best>,
-) -> Result<Option<Certificate>, Memory> {
-    let alloc = left.alloc;
-    let answer = answer_beside(Some(told.bound.min(MOST_BOUND)), best);
-    let times = labelled(alloc, left.instance, best)?;
-    let mut tree = Vec::new(alloc);
-    tree.push(region_leaf(alloc, told)?)?;
-    let cycles = Vec::new(alloc);
-    let period = left.instance.period();
-    Ok(Certificate::new(1, period, answer, times, cycles, tree).ok())
-}
-
-/// What regions show beside the best timetable, as a certificate with a front; None where a part would pass a limit.
-fn region_fronted(
-    left: Left<'_>,
-    bounding: &Bounding,
-    best: &Option<Best>,
-) -> Result<Option<Fronted>, Memory> {
-    let told = bounding.regions.told()?;
-    let Some(certificate) = region_certificate(left, &told, best)? else {
-        return Ok(None);
-    };
-    match region_front(left, &told, &bounding.root) {
-        Ok(Some(front)) => Ok(Some(Fronted {
-            front: some_front(front),
-            certificate,
-        })),
-        Ok(None) => {
-            drop(certificate);
-            Ok(None)
-        }
-        Err(refused) => {
-            drop(certificate);
-            Err(refused)
-        }
-    }
-}
-
-/// What the tree shows, as a certificate; what regions show, where they show more.
-fn sharp_of(left: Left<'_>, search: &SharpSearch, base: &Fronted) -> Result<Option<Fronted>, Memory> {
-    if let Some(bounding) = &search.bounding
-        && bounding.bound > search.sharpening.bound()
-    {
-        return region_fronted(left, bounding, &search.best);
-    }
+    search: &SharpSearch,
+    base: &Fronted,
+    old: &Fronted,
+) -> Result<Proposals, Memory> {
     let sharpened = search.sharpening.sharpened()?;
     let parts = Parts {
         left,
@@ -369,17 +269,7 @@ fn sharp_of(left: Left<'_>, search: &SharpSearch, base: &Fronted) -> Result<Opti
     };
     let sharp = parts.fronted(left.alloc);
     drop(sharpened);
-    sharp
-}
-
-/// What a search proposes that began with a certificate, in the place of an answer.
-pub(crate) fn proposals_of(
-    left: Left<'_>,
-    search: &SharpSearch,
-    base: &Fronted,
-    old: &Fronted,
-) -> Result<Proposals, Memory> {
-    let sharp = sharp_of(left, search, base)?;
+    let sharp = sharp?;
     match timed_of(left.alloc, left.instance, old, &search.best) {
         Ok(timed) => Ok(Proposals { sharp, timed }),
         Err(refused) => {

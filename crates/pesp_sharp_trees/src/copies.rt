@@ -1,6 +1,5 @@
 //! Copies of a certificate's parts.
 
-use pesp_cert::ShownLemma;
 use pesp_nets::MarkedWalk;
 use pesp_problem::{Memory, Pairs, Walk};
 use pesp_truth::TreeLine;
@@ -47,38 +46,4 @@ pub fn copied_walks(alloc: Global, walks: &[Walk]) -> Result<Vec<Walk>, Memory> 
 /// A copy of a marked walk.
 pub fn copied_marked(alloc: Global, walk: &MarkedWalk) -> Result<MarkedWalk, Memory> {
     Ok(MarkedWalk::new(Vec::from_slice(alloc, walk.rows())?))
-}
-
-/// Copies of marked walks.
-pub fn copied_marks(alloc: Global, walks: &[MarkedWalk]) -> Result<Vec<MarkedWalk>, Memory> {
-    let mut copies = Vec::with_capacity(alloc, walks.len())?;
-    for walk in walks {
-        copies.push(copied_marked(alloc, walk)?)?;
-    }
-    Ok(copies)
-}
-
-/// A copy of a lemma with what shows it.
-fn copied_lemma(alloc: Global, lemma: &ShownLemma) -> Result<ShownLemma, Memory> {
-    let weights = Vec::from_slice(alloc, &lemma.weights)?;
-    let walks = copied_marks(alloc, &lemma.walks)?;
-    let cycles = copied_walks(alloc, &lemma.cycles)?;
-    let tree = copied_lines(alloc, &lemma.tree)?;
-    Ok(ShownLemma {
-        weights,
-        least: lemma.least,
-        scale: lemma.scale,
-        walks,
-        cycles,
-        tree,
-    })
-}
-
-/// Copies of lemmas.
-pub fn copied_lemmas(alloc: Global, lemmas: &[ShownLemma]) -> Result<Vec<ShownLemma>, Memory> {
-    let mut copies = Vec::with_capacity(alloc, lemmas.len())?;
-    for lemma in lemmas {
-        copies.push(copied_lemma(alloc, lemma)?)?;
-    }
-    Ok(copies)
 }

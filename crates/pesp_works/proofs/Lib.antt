@@ -1,4 +1,3 @@
-pub mod Added
 pub mod Steps
 pub mod Jobs
 pub mod Founds

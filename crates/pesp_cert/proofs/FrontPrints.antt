@@ -2,19 +2,24 @@
 use Rattle.std.proofs.Common.{◌≡◌, ℕ, Bool, true, false, List, [], ◌∷◌, ◌++◌, Option, Some, None, refl, sym, ap, ◌∙◌, append_assoc}
 use Rattle.std.specs.Prelude.{map, codes, decimal}
 use Rattle.std.specs.List.{flat_map}
+use Rattle.std.specs.Fmt.{signed_decimal}
 use Rattle.std.proofs.lemmas.List.{append-nil}
 use Rattle.std.proofs.lemmas.List.Concat.{flat_map-cons, flat_map-append}
 use Rattle.pesp_text.specs.Words.{spaced}
 use Rattle.pesp_nets.specs.declared.marked.MarkedRow.{MarkedRow}
 use Rattle.pesp_truth.specs.Marks.{Marks}
+use Rattle.pesp_lemma.specs.Shown.{LemmaProof}
+use Rattle.pesp_lemma.specs.Fronts.{Front as FrontOf}
 use Rattle.pesp_truth.specs.Certificates.{Content}
 use Rattle.pesp_cert_lines.specs.Marked.{marked_words}
 use Rattle.pesp_cert_lines.specs.declared.item.Item.{Item}
-use Rattle.pesp_cert_lines.specs.declared.item.Item.TheVariants.{Front, Scale, Walk}
+use Rattle.pesp_cert_lines.specs.declared.item.Item.TheVariants.{Front, Scale, Walk, Lemma, Least, Cycle}
 use Rattle.pesp_cert_lines.specs.Items.{item_line}
-use Rattle.pesp_cert.specs.Texts.{text_of, front_items, own_items, spelling}
+use Rattle.pesp_cert.specs.Texts.{text_of, tree_item, marks_items, lemma_items, front_items, own_items, spelling}
 use Rattle.pesp_cert.specs.Fronted.{front_text}
-use Rattle.pesp_cert.specs.FrontPrint.{row_text, rows_text, walk_text}
+use Rattle.pesp_cert.specs.FrontPrint.{row_text, rows_text, walk_text, marks_text, lemma_text}
+use Rattle.pesp_cert.specs.Print.{pairs_text, cycle_line, tree_line}
+use Rattle.pesp_cert.proofs.PrintLaws.{pairs_are, cycle_is, tree_is, mapped}
 
 rows_are : (walk : List MarkedRow) → spaced (marked_words walk) ≡ rows_text walk
 rows_are [] = refl
@@ -39,23 +44,55 @@ walks_are (walk ∷ walks) = flat_map-cons walk_text walk walks
     ∙ ap (λ (t : List ℕ). t ++ flat_map walk_text walks) (walk_is walk)
     ∙ ap (λ (t : List ℕ). item_line (Walk walk) ++ t) (walks_are walks) ∙ sym (flat_map-cons item_line (Walk walk) (map Walk walks))
 
-shape : (h s d w : List ℕ) → ((h ++ (10 ∷ [])) ++ (s ++ (32 ∷ []))) ++ (d ++ (10 ∷ [])) ++ w
-    ≡ (h ++ (10 ∷ [])) ++ (((s ++ ((32 ∷ d) ++ [])) ++ (10 ∷ [])) ++ w)
-shape h s d w = simp (append_assoc, append-nil)
+one_shape : (s d w : List ℕ) → ((s ++ (32 ∷ [])) ++ (d ++ (10 ∷ []))) ++ w ≡ ((s ++ ((32 ∷ d) ++ [])) ++ (10 ∷ [])) ++ w
+one_shape s d w = simp (append_assoc, append-nil)
 
-lines_are : (scale : ℕ) (items : List Item) → text_of (Front ∷ Scale scale ∷ items)
-    ≡ item_line Front ++ (item_line (Scale scale) ++ text_of items)
-lines_are scale items = flat_map-cons item_line Front (Scale scale ∷ items)
-    ∙ ap (λ (t : List ℕ). item_line Front ++ t) (flat_map-cons item_line (Scale scale) items)
+-- the lines of a scale and of marked walks
+marks_are : (m : Marks) → marks_text m ≡ text_of (marks_items m)
+marks_are m = one_shape (codes "scale") (decimal m.scale) (flat_map walk_text m.walks)
+    ∙ ap (λ (w : List ℕ). item_line (Scale m.scale) ++ w) (walks_are m.walks)
+    ∙ sym (flat_map-cons item_line (Scale m.scale) (map Walk m.walks))
 
-pub front_is : (m : Marks) → (codes "pesp-certificate 3\nscale " ++ (decimal m.scale ++ codes "\n"))
-    ++ flat_map walk_text m.walks ≡ front_text (Some m)
-front_is m = append_assoc (codes "pesp-certificate 3\nscale ") (decimal m.scale ++ codes "\n")
-    (flat_map walk_text m.walks) ∙ shape (codes "pesp-certificate 3") (codes "scale") (decimal m.scale)
-    (flat_map walk_text m.walks) ∙ ap (λ (w : List ℕ). (codes "pesp-certificate 3" ++ 10 ∷ [])
-    ++ (((codes "scale" ++ ((32 ∷ decimal m.scale) ++ [])) ++ (10 ∷ [])) ++ w)) (walks_are m.walks)
-    ∙ sym (lines_are m.scale (map Walk m.walks))
+lemma_shape : (l p s d m c t : List ℕ) → ((((l ++ p) ++ ((10 ∷ (s ++ (32 ∷ []))) ++ (d ++ (10 ∷ [])))) ++ m) ++ c) ++ t
+    ≡ ((l ++ p) ++ (10 ∷ [])) ++ (((s ++ ((32 ∷ d) ++ [])) ++ (10 ∷ [])) ++ ((m ++ c) ++ t))
+lemma_shape l p s d m c t = simp (append_assoc, append-nil)
+
+-- the lines of a lemma
+lemma_is : (s : LemmaProof) → lemma_text s ≡ text_of (lemma_items s)
+lemma_is s =
+    let ms : List Item = marks_items s.marks in
+    let cs : List Item = map Cycle s.cycles in
+    let ts : List Item = map tree_item s.tree in
+    let rest : text_of ((ms ++ cs) ++ ts) ≡ (marks_text s.marks ++ flat_map cycle_line s.cycles) ++ flat_map tree_line s.tree =
+    flat_map-append item_line (ms ++ cs) ts
+    ∙ ap (λ (w : List ℕ). w ++ text_of ts) (flat_map-append item_line ms cs
+    ∙ ap (λ (w : List ℕ). w ++ text_of cs) (sym (marks_are s.marks))
+    ∙ ap (λ (w : List ℕ). marks_text s.marks ++ w) (mapped Cycle cycle_line cycle_is s.cycles))
+    ∙ ap (λ (w : List ℕ). (marks_text s.marks ++ flat_map cycle_line s.cycles) ++ w) (mapped tree_item tree_line tree_is s.tree) in
+    let all : text_of (lemma_items s) ≡ item_line (Lemma s.fact.weights) ++ (item_line (Least s.fact.least)
+    ++ ((marks_text s.marks ++ flat_map cycle_line s.cycles) ++ flat_map tree_line s.tree)) =
+    flat_map-cons item_line (Lemma s.fact.weights) (Least s.fact.least ∷ (ms ++ cs) ++ ts)
+    ∙ ap (λ (t : List ℕ). item_line (Lemma s.fact.weights) ++ t) (flat_map-cons item_line (Least s.fact.least) ((ms ++ cs) ++ ts)
+    ∙ ap (λ (t : List ℕ). item_line (Least s.fact.least) ++ t) rest) in
+    lemma_shape (codes "lemma") (pairs_text s.fact.weights) (codes "least") (signed_decimal s.fact.least) (marks_text s.marks)
+    (flat_map cycle_line s.cycles) (flat_map tree_line s.tree)
+    ∙ sym (all ∙ ap (λ (p : List ℕ). ((codes "lemma" ++ p) ++ (10 ∷ [])) ++ (item_line (Least s.fact.least)
+    ++ ((marks_text s.marks ++ flat_map cycle_line s.cycles) ++ flat_map tree_line s.tree))) (pairs_are s.fact.weights))
+
+lemmas_are : (ss : List LemmaProof) → flat_map lemma_text ss ≡ text_of (flat_map lemma_items ss)
+lemmas_are [] = refl
+lemmas_are (s ∷ ss) = flat_map-cons lemma_text s ss ∙ ap (λ (t : List ℕ). t ++ flat_map lemma_text ss) (lemma_is s)
+    ∙ ap (λ (t : List ℕ). text_of (lemma_items s) ++ t) (lemmas_are ss)
+    ∙ sym (ap text_of (flat_map-cons lemma_items s ss) ∙ flat_map-append item_line (lemma_items s) (flat_map lemma_items ss))
+
+pub front_is : (f : FrontOf) → (codes "pesp-certificate 3\n" ++ marks_text f.marks) ++ flat_map lemma_text f.lemmas ≡ front_text (Some f)
+front_is f =
+    append_assoc (codes "pesp-certificate 3\n") (marks_text f.marks) (flat_map lemma_text f.lemmas)
+    ∙ ap (λ (t : List ℕ). item_line Front ++ t) (ap (λ (t : List ℕ). t ++ flat_map lemma_text f.lemmas) (marks_are f.marks)
+    ∙ ap (λ (t : List ℕ). text_of (marks_items f.marks) ++ t) (lemmas_are f.lemmas)
+    ∙ sym (flat_map-append item_line (marks_items f.marks) (flat_map lemma_items f.lemmas)))
+    ∙ sym (flat_map-cons item_line Front (marks_items f.marks ++ flat_map lemma_items f.lemmas))
 
 -- the front's text and the content's are that of both
-pub whole_is : (front : Option Marks) (c : Content) → front_text front ++ spelling None c ≡ spelling front c
+pub whole_is : (front : Option FrontOf) (c : Content) → front_text front ++ spelling None c ≡ spelling front c
 whole_is front c = sym (flat_map-append item_line (front_items front) (own_items c))

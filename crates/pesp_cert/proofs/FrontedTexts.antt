@@ -1,9 +1,9 @@
 -- What a reader answers of the texts of certificates with their fronts.
-use Rattle.std.proofs.Common.{◌≡◌, ℕ, List, Option, Result, Ok, Err, refl, ap, inl, inr}
+use Rattle.std.proofs.Common.{◌≡◌, ℕ, true, List, Option, Result, Ok, Err, refl, ap, inl, inr}
 use Rattle.std.specs.Prelude.{◌⊎◌, IfSome, IsOkAnd}
 use Rattle.pesp_truth.specs.Certificates.{Content}
-use Rattle.pesp_truth.specs.FrontLimits.{KeepsLimits}
-use Rattle.pesp_truth.specs.Marks.{Marks}
+use Rattle.pesp_cert.specs.Limits.{front_keeps_limits}
+use Rattle.pesp_lemma.specs.Fronts.{Front}
 use Rattle.pesp_cert_lines.specs.declared.versions.Versions.TheVariants.{All}
 use Rattle.pesp_cert.specs.declared.refusal.CertRefusal.{CertRefusal}
 use Rattle.pesp_cert.specs.declared.refusal.CertRefusal.TheVariants as refusals
@@ -12,10 +12,10 @@ use Rattle.pesp_cert.specs.Refusals.{IsTextOf, ReadsWhole}
 use Rattle.pesp_cert.specs.Fronted.{Fronted, ReadsFrontedTexts}
 use Rattle.pesp_cert.proofs.FrontRuns.{fronts_iff}
 
-pub limits_said : (text : List ℕ) (front : Option Marks) (c : Content) → IsTextOf front text c → IfSome front KeepsLimits
+pub limits_said : (text : List ℕ) (front : Option Front) (c : Content) → IsTextOf front text c → IfSome front (λ f. front_keeps_limits f ≡ true)
 limits_said text front c h = ((fronts_iff front c).1 h.has_text).0
 
-both : (f g : Option Marks) (x y : Content) → f ≡ g → x ≡ y
+both : (f g : Option Front) (x y : Content) → f ≡ g → x ≡ y
     → ◌≡◌ {A = Fronted} (record { front = f; content = x }) (record { front = g; content = y })
 both f g x y e k = cc
 

@@ -1,14 +1,18 @@
 -- What the test of the limits says.
 use Rattle.std.proofs.Common.{◌≡◌, ℕ, ◌≤◌, true, ◌&&◌, arith}
-use Rattle.std.specs.Prelude.{nat_le, length}
+use Rattle.std.specs.Prelude.{nat_le, length, false, IfSome, List}
 use Rattle.std.specs.List.{list_all}
 use Rattle.std.proofs.lemmas.Bool.Decides.{nat_tests}
 use Rattle.pesp_truth.specs.Trees.{are_trees}
 use Rattle.pesp_truth.specs.Certificates.{Content, lines_of}
-use Rattle.pesp_cert_lines.proofs.Tests.{and_left, and_right}
-use Rattle.pesp_cert.specs.Limits.{is_period, has_costs, is_time, are_times, total_rows, is_cycle, are_cycles, total_pairs, is_line, are_lines, has_line, has_lines, keeps_limits, KeepsLimits}
+use Rattle.pesp_truth.specs.Marks.{Marks}
+use Rattle.pesp_lemma.specs.Shown.{LemmaProof}
+use Rattle.pesp_cert_lines.proofs.Tests.{and_left, and_right, and_both}
+use Rattle.pesp_cert.specs.Limits.{is_period, has_costs, is_time, are_times, total_rows, is_cycle, are_cycles, total_pairs, is_line, are_lines, has_line, has_lines, are_lemmas, front_keeps_limits, keeps_limits, KeepsLimits}
+use Rattle.pesp_truth.specs.FrontLimits.{keeps_limits as marks_keep_limits}
+use Rattle.pesp_cert.specs.Drafts.{FrontValue, front_said}
 
-le_of : (m n : ℕ) → nat_le m n ≡ true → m ≤ n
+pub le_of : (m n : ℕ) → nat_le m n ≡ true → m ≤ n
 le_of m n h = grind (arith, nat_tests, h)
 
 pub limits_of : (c : Content) → keeps_limits c ≡ true → KeepsLimits c
@@ -52,3 +56,19 @@ limits_of c whole =
           && list_all is_line c.tree) (are_trees 1 (lines_of c)) tree;
       known = and_right (nat_le 1 c.version && nat_le c.version 2) (list_all (has_line c.version) c.tree) version;
     }
+
+-- the marks of a front that keeps its limits
+pub front_marks : (d : FrontValue) → IfSome (front_said d) (λ f. front_keeps_limits f ≡ true) → d.begun ≡ true
+    → marks_keep_limits (record { scale = d.scale; walks = d.walks }) ≡ true
+unfolding front_keeps_limits
+front_marks d h b = and_left (marks_keep_limits (record { scale = d.scale; walks = d.walks })) (are_lemmas d.lemmas) (rw b at h)
+
+-- a front of marks that keep their limits keeps its own exactly where its lemmas do
+module _ (m : Marks) (lemmas : List LemmaProof) where
+  pub front_kept : marks_keep_limits m ≡ true → are_lemmas lemmas ≡ true → front_keeps_limits (record { marks = m; lemmas = lemmas }) ≡ true
+  unfolding front_keeps_limits
+  front_kept a b = and_both (marks_keep_limits m) (are_lemmas lemmas) a b
+
+  pub no_front_kept : are_lemmas lemmas ≡ false → front_keeps_limits (record { marks = m; lemmas = lemmas }) ≡ true → ⊥
+  unfolding front_keeps_limits
+  no_front_kept none h = let all = and_right (marks_keep_limits m) (are_lemmas lemmas) h in absurd cc

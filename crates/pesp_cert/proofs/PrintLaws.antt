@@ -36,7 +36,7 @@ pair_shape a b r = simp append_assoc
 whole_shape : (h p a t c r e : List ℕ) → h ++ (p ++ (a ++ (((t ++ c) ++ r) ++ e))) ≡ (((((h ++ p) ++ a) ++ t) ++ c) ++ r) ++ e
 whole_shape h p a t c r e = simp append_assoc
 
-pairs_are : (ps : List Pair) → spaced (pair_words ps) ≡ pairs_text ps
+pub pairs_are : (ps : List Pair) → spaced (pair_words ps) ≡ pairs_text ps
 pairs_are [] = refl
 pairs_are (p ∷ ps) = pair_shape (decimal p.cycle) (signed_decimal p.mult) (spaced (pair_words ps))
     ∙ ap (λ (t : List ℕ). pair_text p ++ t) (pairs_are ps) ∙ sym (flat_map-cons pair_text p ps)
@@ -66,7 +66,7 @@ answer_is (answers.Bounded least (Some c)) = two_words (codes "answer open") (de
 pub time_is : (t : ℤ × ℕ) → item_line (time_item t) ≡ time_line t
 time_is t = two_words (codes "time") (signed_decimal t.0) (decimal t.1)
 
-cycle_is : (rs : List SignedRow) → item_line (Cycle rs) ≡ cycle_line rs
+pub cycle_is : (rs : List SignedRow) → item_line (Cycle rs) ≡ cycle_line rs
 cycle_is rs = ap (λ (t : List ℕ). (codes "cycle" ++ t) ++ 10 ∷ []) (rows_are rs)
 
 pub tree_is : (line : TreeLine) → item_line (tree_item line) ≡ tree_line line

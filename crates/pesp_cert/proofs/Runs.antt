@@ -1,4 +1,4 @@
--- A content keeps the limits exactly where its items are a run.
+-- A content keeps the limits exactly where its items are a run. Cycles and trees are those of lemmas too.
 use Rattle.std.proofs.Common.{◌≡◌, ℕ, zero, suc, ◌+◌, ◌-◌, ◌<◌, ◌≤◌, Bool, true, false, cond, ◌&&◌, List, [], ◌∷◌, ◌++◌, length, refl, sym, ◌∙◌, arith, append_assoc}
 use Rattle.std.specs.Prelude.{◌↔◌, nat_le, map, ℤ, ◌==◌, Some, None}
 use Rattle.std.specs.List.{list_all}
@@ -11,7 +11,7 @@ use Rattle.pesp_truth.specs.declared.answer.Answer.TheVariants as answers
 use Rattle.pesp_truth.specs.declared.tree.TreeLine.{TreeLine}
 use Rattle.pesp_truth.specs.declared.tree.TreeLine.TheVariants as lines
 use Rattle.pesp_truth.specs.Trees.{Line, are_trees}
-use Rattle.pesp_truth.specs.Certificates.{Content, line_of, lines_of}
+use Rattle.pesp_truth.specs.Certificates.{Content, line_of}
 use Rattle.pesp_cert_lines.specs.declared.kind.Kind.{Kind}
 use Rattle.pesp_cert_lines.specs.declared.kind.Kind.TheVariants as kinds
 use Rattle.pesp_cert_lines.specs.declared.item.Item.{Item}
@@ -24,7 +24,7 @@ use Rattle.pesp_cert_lines.specs.declared.versions.Versions.TheVariants.{All}
 use Rattle.pesp_cert_lines.specs.Rows.{rows_are_named}
 use Rattle.pesp_cert_lines.specs.Pairs.{rise_from, all_within}
 use Rattle.pesp_cert_lines.specs.Items.{IsProper, HasProperCosts, is_item_within}
-use Rattle.pesp_cert_lines.specs.Counts.{after, after_tree, allows, may_follow, has_kind, is_end_kind, keeps_counts, kind_in, CanStand}
+use Rattle.pesp_cert_lines.specs.Counts.{beginning, after, after_tree, allows, may_follow, may_end, has_kind, keeps_counts, kind_in, CanStand}
 use Rattle.pesp_cert_lines.proofs.Tests.{and_left, and_right, and_both}
 use Rattle.pesp_cert.specs.Limits.{has_costs, is_period, is_time, are_times, is_cycle, total_rows, are_cycles, is_line, is_branch, pairs_in, total_pairs, are_lines, has_line, has_lines, keeps_limits, KeepsLimits}
 use Rattle.pesp_cert.specs.Texts.{is_end, IsRun, HasText, own_items, time_item, tree_item}
@@ -85,17 +85,20 @@ proper_line lines.Propagated h w = w
 
 -- ---- the tree
 
--- what doesn't change behind the certificate's own first line
-record Base : Type 0 where
-  versions : Versions
-  version : ℕ
-  walks : ℕ
-  marked : ℕ
-  few_walks : walks ≤ 100000
-  few_marked : marked ≤ 10000000
+-- what doesn't change behind the marked walks of a lemma, or behind the certificate's own first line
+pub record Base : Type 0 where
+  pub versions : Versions
+  pub version : ℕ
+  pub walks : ℕ
+  pub marked : ℕ
+  pub lemmas : ℕ
+  pub shows : Bool
+  pub few_walks : walks ≤ 100000
+  pub few_marked : marked ≤ 10000000
+  pub few_lemmas : lemmas ≤ 100000
 
 -- behind the other lines, with so many trees to come
-abbrev in_tree : (v : Base) (place : Place) (needs times cycles rows lines pairs : ℕ) → Progress
+abbrev pub in_tree : (v : Base) (place : Place) (needs times cycles rows lines pairs : ℕ) → Progress
 in_tree v place needs times cycles rows lines pairs =
     record {
       versions = v.versions;
@@ -109,6 +112,8 @@ in_tree v place needs times cycles rows lines pairs =
       pairs = pairs;
       walks = v.walks;
       marked = v.marked;
+      lemmas = v.lemmas;
+      shows = v.shows;
     }
 
 abbrev parts_in : TreeLine → ℕ
@@ -131,38 +136,54 @@ line_goes (lines.Gap cycle) = refl
 line_goes lines.Propagated = refl
 
 -- each kind of line may follow where one may
-line_follows : (place : Place) (line : TreeLine) → may_follow place kinds.Gap ≡ true → may_follow place (kind_in (tree_item line)) ≡ true
-line_follows places.Front line h = absurd cc
-line_follows places.Marked line h = absurd cc
-line_follows places.Walks line h = absurd cc
-line_follows places.Header line h = absurd cc
-line_follows places.Period line h = absurd cc
-line_follows places.Times (lines.Slack row k) h = refl
-line_follows places.Times (lines.Offset cycle k) h = refl
-line_follows places.Times (lines.Bound ps) h = refl
-line_follows places.Times (lines.Nothing ps) h = refl
-line_follows places.Times (lines.Gap cycle) h = refl
-line_follows places.Times lines.Propagated h = refl
-line_follows places.Cycles (lines.Slack row k) h = refl
-line_follows places.Cycles (lines.Offset cycle k) h = refl
-line_follows places.Cycles (lines.Bound ps) h = refl
-line_follows places.Cycles (lines.Nothing ps) h = refl
-line_follows places.Cycles (lines.Gap cycle) h = refl
-line_follows places.Cycles lines.Propagated h = refl
-line_follows places.Tree (lines.Slack row k) h = refl
-line_follows places.Tree (lines.Offset cycle k) h = refl
-line_follows places.Tree (lines.Bound ps) h = refl
-line_follows places.Tree (lines.Nothing ps) h = refl
-line_follows places.Tree (lines.Gap cycle) h = refl
-line_follows places.Tree lines.Propagated h = refl
+line_follows : (place : Place) (shows : Bool) (line : TreeLine) → may_follow place shows kinds.Gap ≡ true
+    → may_follow place shows (kind_in (tree_item line)) ≡ true
+line_follows places.Front shows line h = absurd cc
+line_follows places.Marked shows line h = absurd cc
+line_follows places.Lemma shows line h = absurd cc
+line_follows places.Least shows line h = absurd cc
+line_follows places.Header shows line h = absurd cc
+line_follows places.Period shows line h = absurd cc
+line_follows places.Walks false line h = absurd cc
+line_follows places.Walks true (lines.Slack row k) h = refl
+line_follows places.Walks true (lines.Offset cycle k) h = refl
+line_follows places.Walks true (lines.Bound ps) h = refl
+line_follows places.Walks true (lines.Nothing ps) h = refl
+line_follows places.Walks true (lines.Gap cycle) h = refl
+line_follows places.Walks true lines.Propagated h = refl
+line_follows places.Times shows (lines.Slack row k) h = refl
+line_follows places.Times shows (lines.Offset cycle k) h = refl
+line_follows places.Times shows (lines.Bound ps) h = refl
+line_follows places.Times shows (lines.Nothing ps) h = refl
+line_follows places.Times shows (lines.Gap cycle) h = refl
+line_follows places.Times shows lines.Propagated h = refl
+line_follows places.Cycles shows (lines.Slack row k) h = refl
+line_follows places.Cycles shows (lines.Offset cycle k) h = refl
+line_follows places.Cycles shows (lines.Bound ps) h = refl
+line_follows places.Cycles shows (lines.Nothing ps) h = refl
+line_follows places.Cycles shows (lines.Gap cycle) h = refl
+line_follows places.Cycles shows lines.Propagated h = refl
+line_follows places.Tree shows (lines.Slack row k) h = refl
+line_follows places.Tree shows (lines.Offset cycle k) h = refl
+line_follows places.Tree shows (lines.Bound ps) h = refl
+line_follows places.Tree shows (lines.Nothing ps) h = refl
+line_follows places.Tree shows (lines.Gap cycle) h = refl
+line_follows places.Tree shows lines.Propagated h = refl
 
-not_end : (line : TreeLine) → is_end_kind (kind_in (tree_item line)) ≡ false
-not_end (lines.Slack row k) = refl
-not_end (lines.Offset cycle k) = refl
-not_end (lines.Bound ps) = refl
-not_end (lines.Nothing ps) = refl
-not_end (lines.Gap cycle) = refl
-not_end lines.Propagated = refl
+-- a line of the tree may not stand behind a whole one
+not_end : (shows : Bool) (line : TreeLine) → may_end shows (kind_in (tree_item line)) ≡ false
+not_end true (lines.Slack row k) = refl
+not_end true (lines.Offset cycle k) = refl
+not_end true (lines.Bound ps) = refl
+not_end true (lines.Nothing ps) = refl
+not_end true (lines.Gap cycle) = refl
+not_end true lines.Propagated = refl
+not_end false (lines.Slack row k) = refl
+not_end false (lines.Offset cycle k) = refl
+not_end false (lines.Bound ps) = refl
+not_end false (lines.Nothing ps) = refl
+not_end false (lines.Gap cycle) = refl
+not_end false lines.Propagated = refl
 
 -- what a line of a tree needs behind it
 trees_step : (n : ℕ) (line : TreeLine) (ls : List Line) → are_trees (suc n) (line_of line ∷ ls) ≡ are_trees (suc n + parts_in line - 1) ls
@@ -176,15 +197,15 @@ trees_step n lines.Propagated ls = let e : suc n + 0 - 1 ≡ n = omega arith in 
 counts_fit : (v : Base) (place : Place) (needs times cycles rows lines pairs : ℕ) → times ≤ 100000 → cycles ≤ 100000
     → rows ≤ 10000000 → lines ≤ 1000000 → pairs ≤ 20000000
     → keeps_counts (in_tree v place needs times cycles rows lines pairs) ≡ true
-counts_fit v place needs times cycles rows lines pairs a b c d e = grind (arith, nat_tests, a, b, c, d, e, v.few_walks, v.few_marked)
+counts_fit v place needs times cycles rows lines pairs a b c d e = grind (arith, nat_tests, a, b, c, d, e, v.few_walks, v.few_marked, v.few_lemmas)
 
 -- what the counts keep to
-record Fit (times cycles rows lines pairs : ℕ) : Type 0 where
-  few_times : times ≤ 100000
-  few_cycles : cycles ≤ 100000
-  few_rows : rows ≤ 10000000
-  few_lines : lines ≤ 1000000
-  few_pairs : pairs ≤ 20000000
+pub record Fit (times cycles rows lines pairs : ℕ) : Type 0 where
+  pub few_times : times ≤ 100000
+  pub few_cycles : cycles ≤ 100000
+  pub few_rows : rows ≤ 10000000
+  pub few_lines : lines ≤ 1000000
+  pub few_pairs : pairs ≤ 20000000
 
 fit_counts : (v : Base) (place : Place) (needs times cycles rows lines pairs : ℕ)
     → keeps_counts (in_tree v place needs times cycles rows lines pairs) ≡ true → Fit times cycles rows lines pairs
@@ -201,8 +222,12 @@ none_needed : (n : ℕ) → are_trees n [] ≡ true → n ≡ 0
 none_needed zero h = refl
 none_needed (suc n) h = absurd cc
 
--- the kinds of the lines that a version has
-line_known : (w : Versions) (v : ℕ) (line : TreeLine) → has_kind w v (kind_in (tree_item line)) ≡ has_line v line
+-- whether a line may stand in such a tree
+abbrev pub knows : Base → TreeLine → Bool
+knows v line = has_kind v.versions v.version v.shows (kind_in (tree_item line))
+
+-- the certificate's own tree has the lines that its version has, and that of a lemma has all
+line_known : (w : Versions) (v : ℕ) (line : TreeLine) → has_kind w v false (kind_in (tree_item line)) ≡ has_line v line
 line_known w v (lines.Slack row k) = refl
 line_known w v (lines.Offset cycle k) = refl
 line_known w v (lines.Bound ps) = refl
@@ -210,37 +235,48 @@ line_known w v (lines.Nothing ps) = refl
 line_known w v (lines.Gap cycle) = refl
 line_known w v lines.Propagated = refl
 
-allows_next : (p : Progress) (k : Kind) → 0 < p.needs → may_follow p.place k ≡ true → has_kind p.versions p.version k ≡ true → allows p k ≡ true
-allows_next p k some h known = rw (ne_eqb p.needs 0 (omega arith)) (and_both (may_follow p.place k) (has_kind p.versions p.version k) h known)
+lines_known : (w : Versions) (v : ℕ) (ls : List TreeLine)
+    → list_all (λ line. has_kind w v false (kind_in (tree_item line))) ls ≡ list_all (has_line v) ls
+lines_known w v [] = refl
+lines_known w v (line ∷ ls) = rw (line_known w v line, lines_known w v ls) refl
 
-known_next : (p : Progress) (k : Kind) → 0 < p.needs → allows p k ≡ true → has_kind p.versions p.version k ≡ true
-known_next p k some h = and_right (may_follow p.place k) (has_kind p.versions p.version k) (rw (ne_eqb p.needs 0 (omega arith)) at h)
+pub shown_known : (w : Versions) (v : ℕ) (ls : List TreeLine)
+    → list_all (λ line. has_kind w v true (kind_in (tree_item line))) ls ≡ true
+shown_known w v [] = refl
+shown_known w v (lines.Slack row k ∷ ls) = shown_known w v ls
+shown_known w v (lines.Offset cycle k ∷ ls) = shown_known w v ls
+shown_known w v (lines.Bound ps ∷ ls) = shown_known w v ls
+shown_known w v (lines.Nothing ps ∷ ls) = shown_known w v ls
+shown_known w v (lines.Gap cycle ∷ ls) = shown_known w v ls
+shown_known w v (lines.Propagated ∷ ls) = shown_known w v ls
 
-allows_line : (b : Bool) (w : Versions) (v : ℕ) (place : Place) (line : TreeLine)
-    → cond b (is_end_kind (kind_in (tree_item line)))
-    (may_follow place (kind_in (tree_item line)) && has_kind w v (kind_in (tree_item line))) ≡ true → b ≡ false
-allows_line true w v place line h = let bad : false ≡ true = sym (not_end line) ∙ h in cc
-allows_line false w v place line h = refl
+allows_next : (p : Progress) (k : Kind) → 0 < p.needs → may_follow p.place p.shows k ≡ true
+    → has_kind p.versions p.version p.shows k ≡ true → allows p k ≡ true
+allows_next p k some h known = rw (ne_eqb p.needs 0 (omega arith)) (and_both (may_follow p.place p.shows k)
+    (has_kind p.versions p.version p.shows k) h known)
 
-tree_gives : (v : Base) (ls : List TreeLine) (place : Place) (needs times cycles rows lines pairs : ℕ)
-    → may_follow place kinds.Gap ≡ true → are_trees needs (map line_of ls) ≡ true → list_all is_line ls ≡ true
-    → list_all (has_line v.version) ls ≡ true
-    → Fit times cycles rows (lines + length ls) (pairs + total_pairs ls)
-    → IsRun (in_tree v place needs times cycles rows lines pairs) (map tree_item ls ++ End ∷ [])
-tree_gives v [] place needs times cycles rows lines pairs follows whole each known fit =
+known_next : (p : Progress) (k : Kind) → 0 < p.needs → allows p k ≡ true → has_kind p.versions p.version p.shows k ≡ true
+known_next p k some h = and_right (may_follow p.place p.shows k) (has_kind p.versions p.version p.shows k)
+    (rw (ne_eqb p.needs 0 (omega arith)) at h)
+
+allows_line : (b : Bool) (w : Versions) (v : ℕ) (place : Place) (shows : Bool) (line : TreeLine)
+    → cond b (may_end shows (kind_in (tree_item line)))
+    (may_follow place shows (kind_in (tree_item line)) && has_kind w v shows (kind_in (tree_item line))) ≡ true → b ≡ false
+allows_line true w v place shows line h = let bad : false ≡ true = sym (not_end shows line) ∙ h in cc
+allows_line false w v place shows line h = refl
+
+pub tree_gives : (v : Base) (ls : List TreeLine) (place : Place) (needs times cycles rows lines pairs : ℕ) (more : List Item)
+    → may_follow place v.shows kinds.Gap ≡ true → are_trees needs (map line_of ls) ≡ true → list_all is_line ls ≡ true
+    → list_all (knows v) ls ≡ true → Fit times cycles rows (lines + length ls) (pairs + total_pairs ls)
+    → ((last : Place) → IsRun (in_tree v last 0 times cycles rows (lines + length ls) (pairs + total_pairs ls)) more)
+    → IsRun (in_tree v place needs times cycles rows lines pairs) (map tree_item ls ++ more)
+tree_gives v [] place needs times cycles rows lines pairs more follows whole each known fit others =
     let none : needs ≡ 0 = none_needed needs whole in
-    rw none (
-      record {
-        allowed = refl;
-        proper = tt;
-        within = refl;
-        counts = counts_fit v place 0 times cycles rows lines pairs fit.few_times fit.few_cycles fit.few_rows
-            (omega (arith, fit.few_lines)) (omega (arith, fit.few_pairs));
-      },
-      refl,
-    )
-tree_gives v (line ∷ ls) place zero times cycles rows lines pairs follows whole each known fit = absurd cc
-tree_gives v (line ∷ ls) place (suc n) times cycles rows lines pairs follows whole each known fit =
+    let l : lines + 0 ≡ lines = omega arith in
+    let p : pairs + 0 ≡ pairs = omega arith in
+    rw none (rw (l, p) at (others place))
+tree_gives v (line ∷ ls) place zero times cycles rows lines pairs more follows whole each known fit others = absurd cc
+tree_gives v (line ∷ ls) place (suc n) times cycles rows lines pairs more follows whole each known fit others =
     let p : Progress = in_tree v place (suc n) times cycles rows lines pairs in
     let one = and_left (is_line line) (list_all is_line ls) each in
     let total : total_pairs (line ∷ ls) ≡ pairs_in line + total_pairs ls = sum_by-cons pairs_in line ls in
@@ -254,44 +290,67 @@ tree_gives v (line ∷ ls) place (suc n) times cycles rows lines pairs follows w
       few_lines = omega (arith, fit.few_lines);
       few_pairs = omega (arith, fit.few_pairs, total);
     } in
+    let l : lines + length (line ∷ ls) ≡ lines + 1 + length ls = omega arith in
+    let t : pairs + total_pairs (line ∷ ls) ≡ pairs + pairs_in line + total_pairs ls = omega (arith, total) in
     let run = tree_gives v ls places.Tree (suc n + parts_in line - 1) times cycles rows (lines + 1)
-    (pairs + pairs_in line) refl (sym (trees_step n line (map line_of ls)) ∙ whole)
+    (pairs + pairs_in line) more refl (sym (trees_step n line (map line_of ls)) ∙ whole)
     (and_right (is_line line) (list_all is_line ls) each)
-    (and_right (has_line v.version line) (list_all (has_line v.version) ls) known) later in
+    (and_right (knows v line) (list_all (knows v) ls) known) later (λ last. rw (l, t) at (others last)) in
     let can : CanStand p (tree_item line) = record {
-      allowed = allows_next p (kind_in (tree_item line)) (omega arith) (line_follows place line follows)
-          (line_known v.versions v.version line ∙ and_left (has_line v.version line) (list_all (has_line v.version) ls) known);
+      allowed = allows_next p (kind_in (tree_item line)) (omega arith) (line_follows place v.shows line follows)
+          (and_left (knows v line) (list_all (knows v) ls) known);
       proper = line_proper line one;
       within = line_within line one;
       counts = rw (after_line p line) (counts_fit v places.Tree (suc n + parts_in line - 1) times cycles rows
           (lines + 1) (pairs + pairs_in line) fit.few_times fit.few_cycles fit.few_rows few few_pairs);
     } in
-    run_onto p (tree_item line) (map tree_item ls ++ End ∷ []) can (line_goes line) (rw (after_line p line) run)
+    run_onto p (tree_item line) (map tree_item ls ++ more) can (line_goes line) (rw (after_line p line) run)
 
--- what a run of lines says of them
-record IsTree (v : Base) (ls : List TreeLine) (needs times cycles rows lines pairs : ℕ) : Type 0 where
-  whole : are_trees needs (map line_of ls) ≡ true
-  each : list_all is_line ls ≡ true
-  known : list_all (has_line v.version) ls ≡ true
-  fit : Fit times cycles rows (lines + length ls) (pairs + total_pairs ls)
+-- what a run of lines says of them, and the run behind them
+pub record IsTree (v : Base) (ls : List TreeLine) (needs times cycles rows lines pairs : ℕ) (more : List Item) : Type 0 where
+  pub whole : are_trees needs (map line_of ls) ≡ true
+  pub each : list_all is_line ls ≡ true
+  pub known : list_all (knows v) ls ≡ true
+  pub fit : Fit times cycles rows (lines + length ls) (pairs + total_pairs ls)
+  pub last : Place
+  pub others : IsRun (in_tree v last 0 times cycles rows (lines + length ls) (pairs + total_pairs ls)) more
 
-end_needs : (b : Bool) (place : Place) → cond b true (may_follow place kinds.End && true) ≡ true → b ≡ true
-end_needs true place h = refl
-end_needs false places.Front h = absurd cc
-end_needs false places.Marked h = absurd cc
-end_needs false places.Walks h = absurd cc
-end_needs false places.Header h = absurd cc
-end_needs false places.Period h = absurd cc
-end_needs false places.Times h = absurd cc
-end_needs false places.Cycles h = absurd cc
-end_needs false places.Tree h = absurd cc
+-- what stands behind a tree stands there once it is whole
+abbrev pub ends_tree : Kind → Bool
+ends_tree kinds.End = true
+ends_tree kinds.Lemma = true
+ends_tree kinds.Version = true
+ends_tree _ = false
 
-tree_takes : (v : Base) (ls : List TreeLine) (place : Place) (needs times cycles rows lines pairs : ℕ)
-    → IsRun (in_tree v place needs times cycles rows lines pairs) (map tree_item ls ++ End ∷ [])
-    → IsTree v ls needs times cycles rows lines pairs
-tree_takes v [] place needs times cycles rows lines pairs run =
-    let none : needs ≡ 0 = eqb-true needs 0 (end_needs (needs == 0) place run.0.allowed) in
-    let fit = fit_counts v place needs times cycles rows lines pairs run.0.counts in
+needs_none : (b known shows : Bool) (place : Place) (k : Kind) → may_follow place shows kinds.Gap ≡ true → ends_tree k ≡ true
+    → cond b (may_end shows k) (may_follow place shows k && known) ≡ true → b ≡ true
+needs_none true known shows place k f e h = refl
+needs_none false known shows places.Front k f e h = absurd cc
+needs_none false known shows places.Marked k f e h = absurd cc
+needs_none false known false places.Walks k f e h = absurd cc
+needs_none false known true places.Walks kinds.End f e h = absurd cc
+needs_none false known true places.Walks k f e h = absurd cc
+needs_none false known shows places.Lemma k f e h = absurd cc
+needs_none false known shows places.Least k f e h = absurd cc
+needs_none false known shows places.Header k f e h = absurd cc
+needs_none false known shows places.Period k f e h = absurd cc
+needs_none false known shows places.Times kinds.End f e h = absurd cc
+needs_none false known shows places.Times k f e h = absurd cc
+needs_none false known shows places.Cycles kinds.End f e h = absurd cc
+needs_none false known shows places.Cycles k f e h = absurd cc
+needs_none false known shows places.Tree kinds.End f e h = absurd cc
+needs_none false known shows places.Tree k f e h = absurd cc
+
+pub tree_takes : (v : Base) (ls : List TreeLine) (place : Place) (needs times cycles rows lines pairs : ℕ) (item : Item) (more : List Item)
+    → may_follow place v.shows kinds.Gap ≡ true → ends_tree (kind_in item) ≡ true → Fit times cycles rows lines pairs
+    → IsRun (in_tree v place needs times cycles rows lines pairs) (map tree_item ls ++ item ∷ more)
+    → IsTree v ls needs times cycles rows lines pairs (item ∷ more)
+tree_takes v [] place needs times cycles rows lines pairs item more follows ends fit run =
+    let can = run_first (in_tree v place needs times cycles rows lines pairs) item more run in
+    let none : needs ≡ 0 = eqb-true needs 0 (needs_none (needs == 0) (has_kind v.versions v.version v.shows (kind_in item)) v.shows place
+    (kind_in item) follows ends can.allowed) in
+    let l : lines ≡ lines + 0 = omega arith in
+    let p : pairs ≡ pairs + 0 = omega arith in
     record {
       whole = rw none refl;
       each = refl;
@@ -303,23 +362,32 @@ tree_takes v [] place needs times cycles rows lines pairs run =
         few_lines = omega (arith, fit.few_lines);
         few_pairs = omega (arith, fit.few_pairs);
       };
+      last = place;
+      others = at_sums needs 0 lines (lines + 0) pairs (pairs + 0) none l p run;
     }
-tree_takes v (line ∷ ls) place zero times cycles rows lines pairs run =
-    let can = run_first (in_tree v place zero times cycles rows lines pairs) (tree_item line) (map tree_item ls ++ End ∷ []) run in
-    let bad : true ≡ false = allows_line true v.versions v.version place line can.allowed in
+  where
+    at_sums : (a b c d e f : ℕ) → a ≡ b → c ≡ d → e ≡ f → IsRun (in_tree v place a times cycles rows c e) (item ∷ more)
+        → IsRun (in_tree v place b times cycles rows d f) (item ∷ more)
+    at_sums a b c d e f x y z h = rw (← x, ← y, ← z) h
+tree_takes v (line ∷ ls) place zero times cycles rows lines pairs item more follows ends fit run =
+    let can = run_first (in_tree v place zero times cycles rows lines pairs) (tree_item line) (map tree_item ls ++ item ∷ more) run in
+    let bad : true ≡ false = allows_line true v.versions v.version place v.shows line can.allowed in
     absurd cc
-tree_takes v (line ∷ ls) place (suc n) times cycles rows lines pairs run =
+tree_takes v (line ∷ ls) place (suc n) times cycles rows lines pairs item more follows ends fit run =
     let p : Progress = in_tree v place (suc n) times cycles rows lines pairs in
-    let can = run_first p (tree_item line) (map tree_item ls ++ End ∷ []) run in
-    let rest = run_rest p (tree_item line) (map tree_item ls ++ End ∷ []) (line_goes line) run in
+    let can = run_first p (tree_item line) (map tree_item ls ++ item ∷ more) run in
+    let rest = run_rest p (tree_item line) (map tree_item ls ++ item ∷ more) (line_goes line) run in
+    let fits = fit_counts v places.Tree (suc n + parts_in line - 1) times cycles rows (lines + 1) (pairs + pairs_in line)
+    (rw (after_line p line) at can.counts) in
     let later = tree_takes v ls places.Tree (suc n + parts_in line - 1) times cycles rows (lines + 1)
-    (pairs + pairs_in line) (rw (after_line p line) at rest) in
+    (pairs + pairs_in line) item more refl ends fits (rw (after_line p line) at rest) in
     let total : total_pairs (line ∷ ls) ≡ pairs_in line + total_pairs ls = sum_by-cons pairs_in line ls in
+    let l : lines + length (line ∷ ls) ≡ lines + 1 + length ls = omega arith in
+    let t : pairs + total_pairs (line ∷ ls) ≡ pairs + pairs_in line + total_pairs ls = omega (arith, total) in
     record {
       whole = trees_step n line (map line_of ls) ∙ later.whole;
       each = and_both (is_line line) (list_all is_line ls) (proper_line line can.proper can.within) later.each;
-      known = and_both (has_line v.version line) (list_all (has_line v.version) ls)
-          (sym (line_known v.versions v.version line) ∙ known_next p (kind_in (tree_item line)) (omega arith) can.allowed) later.known;
+      known = and_both (knows v line) (list_all (knows v) ls) (known_next p (kind_in (tree_item line)) (omega arith) can.allowed) later.known;
       fit = record {
         few_times = later.fit.few_times;
         few_cycles = later.fit.few_cycles;
@@ -327,12 +395,14 @@ tree_takes v (line ∷ ls) place (suc n) times cycles rows lines pairs run =
         few_lines = omega (arith, later.fit.few_lines);
         few_pairs = omega (arith, later.fit.few_pairs, total);
       };
+      last = later.last;
+      others = rw (l, t) later.others;
     }
 
 -- ---- the cycles
 
 -- behind the answer, times and cycles
-abbrev in_cycles : (v : Base) (place : Place) (times cycles rows : ℕ) → Progress
+abbrev pub in_cycles : (v : Base) (place : Place) (times cycles rows : ℕ) → Progress
 in_cycles v place times cycles rows = in_tree v place 1 times cycles rows 0 0
 
 some_rows : (rows : List SignedRow) → is_cycle rows ≡ true → 0 < length rows
@@ -342,10 +412,10 @@ rows_some : (rows : List SignedRow) → 0 < length rows → rows_are_named rows 
 rows_some rows h k = let some : nat_le 1 (length rows) ≡ true = grind (arith, nat_tests, h) in
     and_both (nat_le 1 (length rows)) (rows_are_named rows) some k
 
-cycles_give : (v : Base) (cs : List (List SignedRow)) (place : Place) (times cycles rows : ℕ) (more : List Item)
-    → may_follow place kinds.Cycle ≡ true → list_all is_cycle cs ≡ true
+pub cycles_give : (v : Base) (cs : List (List SignedRow)) (place : Place) (times cycles rows : ℕ) (more : List Item)
+    → may_follow place v.shows kinds.Cycle ≡ true → list_all is_cycle cs ≡ true
     → times ≤ 100000 → cycles + length cs ≤ 100000 → rows + total_rows cs ≤ 10000000
-    → ((last : Place) → may_follow last kinds.Cycle ≡ true
+    → ((last : Place) → may_follow last v.shows kinds.Cycle ≡ true
     → IsRun (in_cycles v last times (cycles + length cs) (rows + total_rows cs)) more)
     → IsRun (in_cycles v place times cycles rows) (map Cycle cs ++ more)
 cycles_give v [] place times cycles rows more follows each few_times few_cycles few_rows others =
@@ -364,7 +434,7 @@ cycles_give v (w ∷ cs) place times cycles rows more follows each few_times few
     (and_right (is_cycle w) (list_all is_cycle cs) each) few_times (omega (arith, few_cycles))
     (omega (arith, few_rows, total)) (λ last f. rw (c, r) at (others last f)) in
     let can : CanStand p (Cycle w) = record {
-      allowed = and_both (may_follow place kinds.Cycle) true follows refl;
+      allowed = and_both (may_follow place v.shows kinds.Cycle) true follows refl;
       proper = some_rows w one;
       within = and_right (nat_le 1 (length w)) (rows_are_named w) one;
       counts = counts_fit v places.Cycles 1 times (cycles + 1) (rows + length w) 0 0 few_times few_c few_r (omega arith) (omega arith);
@@ -372,28 +442,48 @@ cycles_give v (w ∷ cs) place times cycles rows more follows each few_times few
     run_onto p (Cycle w) (map Cycle cs ++ more) can refl run
 
 -- what a run of cycles says of them, and the run behind it
-abbrev AreCycles : Base → List (List SignedRow) → (times cycles rows : ℕ) → List Item → Type 0
-AreCycles v cs times cycles rows more = (list_all is_cycle cs ≡ true)
-    × ((last : Place) × IsRun (in_cycles v last times (cycles + length cs) (rows + total_rows cs)) more)
+pub record AreCycles (v : Base) (cs : List (List SignedRow)) (times cycles rows : ℕ) (more : List Item) : Type 0 where
+  pub each : list_all is_cycle cs ≡ true
+  pub few_cycles : cycles + length cs ≤ 100000
+  pub few_rows : rows + total_rows cs ≤ 10000000
+  pub last : Place
+  pub follows : may_follow last v.shows kinds.Cycle ≡ true
+  pub others : IsRun (in_cycles v last times (cycles + length cs) (rows + total_rows cs)) more
 
-cycles_take : (v : Base) (cs : List (List SignedRow)) (place : Place) (times cycles rows : ℕ) (more : List Item)
+pub cycles_take : (v : Base) (cs : List (List SignedRow)) (place : Place) (times cycles rows : ℕ) (more : List Item)
+    → may_follow place v.shows kinds.Cycle ≡ true → cycles ≤ 100000 → rows ≤ 10000000
     → IsRun (in_cycles v place times cycles rows) (map Cycle cs ++ more) → AreCycles v cs times cycles rows more
-cycles_take v [] place times cycles rows more run =
+cycles_take v [] place times cycles rows more follows few_c few_r run =
     let c : cycles ≡ cycles + 0 = omega arith in
     let r : rows ≡ rows + 0 = omega arith in
-    (refl, (place, at_sums cycles (cycles + 0) rows (rows + 0) c r run))
+    record {
+      each = refl;
+      few_cycles = omega (arith, few_c);
+      few_rows = omega (arith, few_r);
+      last = place;
+      follows = follows;
+      others = at_sums cycles (cycles + 0) rows (rows + 0) c r run;
+    }
   where
     at_sums : (a b c d : ℕ) → a ≡ b → c ≡ d → IsRun (in_cycles v place times a c) more → IsRun (in_cycles v place times b d) more
     at_sums a b c d e f h = rw (← e, ← f) h
-cycles_take v (w ∷ cs) place times cycles rows more run =
+cycles_take v (w ∷ cs) place times cycles rows more follows few_c few_r run =
     let p : Progress = in_cycles v place times cycles rows in
     let can = run_first p (Cycle w) (map Cycle cs ++ more) run in
     let rest = run_rest p (Cycle w) (map Cycle cs ++ more) refl run in
-    let later = cycles_take v cs places.Cycles times (cycles + 1) (rows + length w) more rest in
+    let fit = fit_counts v places.Cycles 1 times (cycles + 1) (rows + length w) 0 0 can.counts in
+    let later = cycles_take v cs places.Cycles times (cycles + 1) (rows + length w) more refl fit.few_cycles fit.few_rows rest in
     let total : total_rows (w ∷ cs) ≡ length w + total_rows cs = sum_by-cons (λ (rs : List SignedRow). length rs) w cs in
     let c : cycles + length (w ∷ cs) ≡ cycles + 1 + length cs = omega arith in
     let r : rows + total_rows (w ∷ cs) ≡ rows + length w + total_rows cs = omega (arith, total) in
-    (and_both (is_cycle w) (list_all is_cycle cs) (rows_some w can.proper can.within) later.0, (later.1.0, rw (c, r) later.1.1))
+    record {
+      each = and_both (is_cycle w) (list_all is_cycle cs) (rows_some w can.proper can.within) later.each;
+      few_cycles = omega (arith, later.few_cycles);
+      few_rows = omega (arith, later.few_rows, total);
+      last = later.last;
+      follows = later.follows;
+      others = rw (c, r) later.others;
+    }
 
 -- ---- the times
 
@@ -416,78 +506,90 @@ times_give v (t ∷ ts) times more each few run =
     } in
     run_onto (in_times v times) (time_item t) (map time_item ts ++ more) can refl later
 
-times_take : (v : Base) (ts : List (ℤ × ℕ)) (times : ℕ) (more : List Item)
-    → IsRun (in_times v times) (map time_item ts ++ more)
-    → (list_all is_time ts ≡ true) × IsRun (in_times v (times + length ts)) more
-times_take v [] times more run = let t : times + 0 ≡ times = omega arith in (refl, rw t run)
-times_take v (t ∷ ts) times more run =
+-- what a run of times says of them, and the run behind it
+record AreTimes (v : Base) (ts : List (ℤ × ℕ)) (times : ℕ) (more : List Item) : Type 0 where
+  each : list_all is_time ts ≡ true
+  few : times + length ts ≤ 100000
+  others : IsRun (in_times v (times + length ts)) more
+
+times_take : (v : Base) (ts : List (ℤ × ℕ)) (times : ℕ) (more : List Item) → times ≤ 100000
+    → IsRun (in_times v times) (map time_item ts ++ more) → AreTimes v ts times more
+times_take v [] times more few run =
+    let t : times + 0 ≡ times = omega arith in
+    record { each = refl; few = omega (arith, few); others = rw t run }
+times_take v (t ∷ ts) times more few run =
     let can = run_first (in_times v times) (time_item t) (map time_item ts ++ more) run in
     let rest = run_rest (in_times v times) (time_item t) (map time_item ts ++ more) refl run in
-    let later = times_take v ts (times + 1) more rest in
+    let fit = fit_counts v places.Times 1 (times + 1) 0 0 0 0 can.counts in
+    let later = times_take v ts (times + 1) more fit.few_times rest in
     let n : times + length (t ∷ ts) ≡ times + 1 + length ts = omega arith in
-    (and_both (is_time t) (list_all is_time ts) can.within later.0, rw n later.1)
+    record {
+      each = and_both (is_time t) (list_all is_time ts) can.within later.each;
+      few = omega (arith, later.few);
+      others = rw n later.others;
+    }
 
 -- ---- a whole content
 
-tree_where_cycle : (place : Place) → may_follow place kinds.Cycle ≡ true → may_follow place kinds.Gap ≡ true
-tree_where_cycle places.Front h = h
-tree_where_cycle places.Marked h = h
-tree_where_cycle places.Walks h = h
-tree_where_cycle places.Header h = h
-tree_where_cycle places.Period h = h
-tree_where_cycle places.Times h = refl
-tree_where_cycle places.Cycles h = refl
-tree_where_cycle places.Tree h = refl
+pub tree_where_cycle : (place : Place) (shows : Bool) → may_follow place shows kinds.Cycle ≡ true → may_follow place shows kinds.Gap ≡ true
+tree_where_cycle places.Front shows h = absurd cc
+tree_where_cycle places.Marked shows h = absurd cc
+tree_where_cycle places.Walks true h = refl
+tree_where_cycle places.Walks false h = absurd cc
+tree_where_cycle places.Lemma shows h = absurd cc
+tree_where_cycle places.Least shows h = absurd cc
+tree_where_cycle places.Header shows h = absurd cc
+tree_where_cycle places.Period shows h = absurd cc
+tree_where_cycle places.Times shows h = refl
+tree_where_cycle places.Cycles shows h = refl
+tree_where_cycle places.Tree shows h = absurd cc
 
 pub items_shape : {A : Type 0} (t c l e : List A) → ((t ++ c) ++ l) ++ e ≡ t ++ (c ++ (l ++ e))
 items_shape t c l e = append_assoc (t ++ c) l e ∙ append_assoc t c (l ++ e)
 
--- before the certificate's own first line, behind so many marked walks with so many marked rows
-abbrev pub start : (versions : Versions) (place : Place) (walks marked : ℕ) → Progress
-start versions place walks marked =
-    record {
-      versions = versions;
-      place = place;
-      version = 0;
-      needs = 1;
-      times = 0;
-      cycles = 0;
-      rows = 0;
-      lines = 0;
-      pairs = 0;
-      walks = walks;
-      marked = marked;
-    }
-
-abbrev base : (versions : Versions) (version walks marked : ℕ) → walks ≤ 100000 → marked ≤ 10000000 → Base
-base versions version walks marked few_w few_m =
+-- behind the certificate's own first line
+abbrev base : (versions : Versions) (version : ℕ) → Base
+base versions version =
     record {
       versions = versions;
       version = version;
-      walks = walks;
-      marked = marked;
-      few_walks = few_w;
-      few_marked = few_m;
+      walks = 0;
+      marked = 0;
+      lemmas = 0;
+      shows = false;
+      few_walks = omega arith;
+      few_marked = omega arith;
+      few_lemmas = omega arith;
     }
 
-pub own_give : (versions : Versions) (place : Place) (walks marked : ℕ) (c : Content) → walks ≤ 100000 → marked ≤ 10000000
-    → may_follow place kinds.Version ≡ true → KeepsLimits c → IsRun (start versions place walks marked) (own_items c)
-own_give versions place walks marked c few_w few_m follows k =
-    let v : Base = base versions c.version walks marked few_w few_m in
+pub own_give : (p : Progress) (c : Content) → allows p kinds.Version ≡ true → KeepsLimits c → IsRun p (own_items c)
+own_give p c allowed k =
+    let v : Base = base p.versions c.version in
     let tree : List Item = map tree_item c.tree ++ End ∷ [] in
     let others : List Item = ((map time_item c.times ++ map Cycle c.cycles) ++ map tree_item c.tree) ++ End ∷ [] in
-    let behind : (last : Place) → may_follow last kinds.Cycle ≡ true
-    → IsRun (in_cycles v last (0 + length c.times) (0 + length c.cycles) (0 + total_rows c.cycles))
-    tree = λ last f.
-    tree_gives v c.tree last 1 (0 + length c.times) (0 + length c.cycles) (0 + total_rows c.cycles) 0 0
-    (tree_where_cycle last f) k.whole k.each_line k.known
-    (record {
+    let fit : Fit (0 + length c.times) (0 + length c.cycles) (0 + total_rows c.cycles) (0 + length c.tree) (0 + total_pairs c.tree) =
+    record {
       few_times = omega (arith, k.times);
       few_cycles = omega (arith, k.cycles);
       few_rows = omega (arith, k.rows);
       few_lines = omega (arith, k.lines);
       few_pairs = omega (arith, k.pairs);
-    }) in
+    } in
+    let ended : (last : Place) → IsRun (in_tree v last 0 (0 + length c.times) (0 + length c.cycles) (0 + total_rows c.cycles)
+    (0 + length c.tree) (0 + total_pairs c.tree)) (End ∷ []) = λ last. (
+      record {
+        allowed = refl;
+        proper = tt;
+        within = refl;
+        counts = counts_fit v last 0 (0 + length c.times) (0 + length c.cycles) (0 + total_rows c.cycles) (0 + length c.tree)
+            (0 + total_pairs c.tree) fit.few_times fit.few_cycles fit.few_rows fit.few_lines fit.few_pairs;
+      },
+      refl,
+    ) in
+    let behind : (last : Place) → may_follow last false kinds.Cycle ≡ true
+    → IsRun (in_cycles v last (0 + length c.times) (0 + length c.cycles) (0 + total_rows c.cycles)) tree = λ last f.
+    tree_gives v c.tree last 1 (0 + length c.times) (0 + length c.cycles) (0 + total_rows c.cycles) 0 0 (End ∷ [])
+    (tree_where_cycle last false f) k.whole k.each_line (lines_known p.versions c.version c.tree ∙ k.known) fit ended in
     let cycles = cycles_give v c.cycles places.Times (0 + length c.times) 0 0 tree refl k.each_cycle
     (omega (arith, k.times)) (omega (arith, k.cycles)) (omega (arith, k.rows)) behind in
     let times = times_give v c.times 0 (map Cycle c.cycles ++ tree) k.each_time (omega (arith, k.times)) cycles in
@@ -503,9 +605,9 @@ own_give versions place walks marked c few_w few_m follows k =
     let version : (nat_le 1 c.version && nat_le c.version 2) ≡ true = grind (arith, nat_tests, k.version) in
     let period = run_onto (in_tree v places.Header 1 0 0 0 0 0) (Period c.period) (Says c.answer ∷ others)
     (record { allowed = refl; proper = tt; within = within; counts = fits places.Period }) refl answer in
-    run_onto (start versions place walks marked) (Version c.version) (Period c.period ∷ Says c.answer ∷ others)
+    run_onto p (Version c.version) (Period c.period ∷ Says c.answer ∷ others)
     (record {
-      allowed = and_both (may_follow place kinds.Version) true follows refl;
+      allowed = allowed;
       proper = tt;
       within = version;
       counts = fits places.Header;
@@ -514,16 +616,30 @@ own_give versions place walks marked c few_w few_m follows k =
 le_test : (m n : ℕ) → m ≤ n → nat_le m n ≡ true
 le_test m n h = grind (arith, nat_tests, h)
 
-pub own_take : (versions : Versions) (place : Place) (walks marked : ℕ) (c : Content) → walks ≤ 100000 → marked ≤ 10000000
-    → IsRun (start versions place walks marked) (own_items c) → keeps_limits c ≡ true
+pub cycles_test : (cs : List (List SignedRow)) → length cs ≤ 100000 → total_rows cs ≤ 10000000 → list_all is_cycle cs ≡ true
+    → are_cycles cs ≡ true
+cycles_test cs few rows each =
+    let k1 = and_both (nat_le (length cs) 100000) (nat_le (total_rows cs) 10000000)
+    (le_test (length cs) 100000 few) (le_test (total_rows cs) 10000000 rows) in
+    and_both (nat_le (length cs) 100000 && nat_le (total_rows cs) 10000000) (list_all is_cycle cs) k1 each
+
+pub lines_test : (ls : List TreeLine) → length ls ≤ 1000000 → total_pairs ls ≤ 20000000 → list_all is_line ls ≡ true
+    → are_trees 1 (map line_of ls) ≡ true → are_lines ls ≡ true
+lines_test ls few pairs each whole =
+    let l1 = and_both (nat_le (length ls) 1000000) (nat_le (total_pairs ls) 20000000)
+    (le_test (length ls) 1000000 few) (le_test (total_pairs ls) 20000000 pairs) in
+    let l2 = and_both (nat_le (length ls) 1000000 && nat_le (total_pairs ls) 20000000) (list_all is_line ls) l1 each in
+    and_both (nat_le (length ls) 1000000 && nat_le (total_pairs ls) 20000000 && list_all is_line ls)
+    (are_trees 1 (map line_of ls)) l2 whole
+
+pub own_take : (p : Progress) (c : Content) → IsRun p (own_items c) → keeps_limits c ≡ true
 unfolding keeps_limits
-own_take versions place walks marked c few_w few_m run =
-    let v : Base = base versions c.version walks marked few_w few_m in
+own_take p c run =
+    let v : Base = base p.versions c.version in
     let tree : List Item = map tree_item c.tree ++ End ∷ [] in
     let others : List Item = ((map time_item c.times ++ map Cycle c.cycles) ++ map tree_item c.tree) ++ End ∷ [] in
-    let version = run_first (start versions place walks marked) (Version c.version) (Period c.period ∷ Says c.answer ∷ others) run in
-    let behind_version = run_rest (start versions place walks marked) (Version c.version)
-    (Period c.period ∷ Says c.answer ∷ others) refl run in
+    let version = run_first p (Version c.version) (Period c.period ∷ Says c.answer ∷ others) run in
+    let behind_version = run_rest p (Version c.version) (Period c.period ∷ Says c.answer ∷ others) refl run in
     let period = run_first (in_tree v places.Header 1 0 0 0 0 0) (Period c.period) (Says c.answer ∷ others) behind_version in
     let behind_period = run_rest (in_tree v places.Header 1 0 0 0 0 0) (Period c.period)
     (Says c.answer ∷ others) refl behind_version in
@@ -532,38 +648,37 @@ own_take versions place walks marked c few_w few_m run =
     let shaped : IsRun (in_times v 0) (map time_item c.times ++ (map Cycle c.cycles ++ tree)) =
     rw (items_shape (map time_item c.times) (map Cycle c.cycles) (map tree_item c.tree) (End ∷ [])) at
     behind_answer in
-    let times = times_take v c.times 0 (map Cycle c.cycles ++ tree) shaped in
-    let cycles = cycles_take v c.cycles places.Times (0 + length c.times) 0 0 tree times.1 in
-    let lines = tree_takes v c.tree cycles.1.0 1 (0 + length c.times) (0 + length c.cycles)
-    (0 + total_rows c.cycles) 0 0 cycles.1.1 in
+    let times = times_take v c.times 0 (map Cycle c.cycles ++ tree) (omega arith) shaped in
+    let cycles = cycles_take v c.cycles places.Times (0 + length c.times) 0 0 tree refl (omega arith) (omega arith) times.others in
+    let fit : Fit (0 + length c.times) (0 + length c.cycles) (0 + total_rows c.cycles) 0 0 =
+    record {
+      few_times = times.few;
+      few_cycles = cycles.few_cycles;
+      few_rows = cycles.few_rows;
+      few_lines = omega arith;
+      few_pairs = omega arith;
+    } in
+    let lines = tree_takes v c.tree cycles.last 1 (0 + length c.times) (0 + length c.cycles)
+    (0 + total_rows c.cycles) 0 0 End [] (tree_where_cycle cycles.last false cycles.follows) refl fit cycles.others in
     let t : are_times c.times ≡ true = and_both (nat_le (length c.times) 100000) (list_all is_time c.times)
-    (le_test (length c.times) 100000 (omega (arith, lines.fit.few_times))) times.0 in
-    let k1 = and_both (nat_le (length c.cycles) 100000) (nat_le (total_rows c.cycles) 10000000)
-    (le_test (length c.cycles) 100000 (omega (arith, lines.fit.few_cycles)))
-    (le_test (total_rows c.cycles) 10000000 (omega (arith, lines.fit.few_rows))) in
-    let k : are_cycles c.cycles ≡ true = and_both
-    (nat_le (length c.cycles) 100000 && nat_le (total_rows c.cycles) 10000000)
-    (list_all is_cycle c.cycles) k1 cycles.0 in
-    let l1 = and_both (nat_le (length c.tree) 1000000) (nat_le (total_pairs c.tree) 20000000)
-    (le_test (length c.tree) 1000000 (omega (arith, lines.fit.few_lines)))
-    (le_test (total_pairs c.tree) 20000000 (omega (arith, lines.fit.few_pairs))) in
-    let l2 = and_both (nat_le (length c.tree) 1000000 && nat_le (total_pairs c.tree) 20000000) (list_all is_line c.tree) l1 lines.each in
-    let l : are_lines c.tree ≡ true = and_both
-    (nat_le (length c.tree) 1000000 && nat_le (total_pairs c.tree) 20000000 && list_all is_line c.tree)
-    (are_trees 1 (lines_of c)) l2 lines.whole in
+    (le_test (length c.times) 100000 (omega (arith, times.few))) times.each in
+    let k : are_cycles c.cycles ≡ true = cycles_test c.cycles (omega (arith, cycles.few_cycles)) (omega (arith, cycles.few_rows)) cycles.each in
+    let l : are_lines c.tree ≡ true = lines_test c.tree (omega (arith, lines.fit.few_lines)) (omega (arith, lines.fit.few_pairs))
+    lines.each lines.whole in
     let a = and_both (is_period c.period) (has_costs c.answer) period.within (proper_costs c.answer answer.proper) in
     let at = and_both (is_period c.period && has_costs c.answer) (are_times c.times) a t in
     let atc = and_both (is_period c.period && has_costs c.answer && are_times c.times) (are_cycles c.cycles) at k in
     let atcl = and_both (is_period c.period && has_costs c.answer && are_times c.times && are_cycles c.cycles) (are_lines c.tree) atc l in
-    let known = and_both (nat_le 1 c.version && nat_le c.version 2) (list_all (has_line c.version) c.tree) version.within lines.known in
+    let known = and_both (nat_le 1 c.version && nat_le c.version 2) (list_all (has_line c.version) c.tree) version.within
+    (sym (lines_known p.versions c.version c.tree) ∙ lines.known) in
     and_both (is_period c.period && has_costs c.answer && are_times c.times && are_cycles c.cycles
     && are_lines c.tree) (has_lines c.version c.tree) atcl known
 
 pub limits_give : (c : Content) → KeepsLimits c → HasText None c
-limits_give c k = record { run = own_give All places.Front 0 0 c (omega arith) (omega arith) refl k }
+limits_give c k = record { run = own_give (beginning All) c refl k }
 
 pub text_keeps_limits : (c : Content) → HasText None c → keeps_limits c ≡ true
-text_keeps_limits c h = own_take All places.Front 0 0 c (omega arith) (omega arith) h.run
+text_keeps_limits c h = own_take (beginning All) c h.run
 
 pub no_text : (c : Content) → keeps_limits c ≡ false → HasText None c → ⊥
 no_text c h text = let bad : true ≡ false = sym (text_keeps_limits c text) ∙ h in cc

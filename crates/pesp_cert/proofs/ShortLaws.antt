@@ -13,7 +13,7 @@ use Rattle.pesp_text.specs.Number.{NATURALS}
 use Rattle.pesp_text.specs.Words.{spaced, line_of_words}
 use Rattle.pesp_cert_lines.specs.Pairs.{pair_words, is_pair_within, all_within, follows, rise_from}
 use Rattle.pesp_cert_lines.specs.declared.item.Item.{Item}
-use Rattle.pesp_cert_lines.specs.declared.item.Item.TheVariants.{Front, Scale, Walk, Version, Period, Answer as Says, Time, Cycle, Slack, Offset, Bound, Nothing, Gap, Propagated, End}
+use Rattle.pesp_cert_lines.specs.declared.item.Item.TheVariants.{Front, Scale, Walk, Lemma, Least, Version, Period, Answer as Says, Time, Cycle, Slack, Offset, Bound, Nothing, Gap, Propagated, End}
 use Rattle.pesp_cert_lines.specs.Rows.{is_name, rows_are_named, row_word, row_words}
 use Rattle.pesp_nets.specs.declared.marked.MarkedRow.{MarkedRow}
 use Rattle.pesp_cert_lines.specs.Marked.{star, marked_word, marked_words, are_named}
@@ -132,6 +132,9 @@ can_short p (Scale n) can = one_short (codes "scale") (decimal n) (omega arith) 
 can_short p (Walk rs) can =
     let few : length rs ≤ 10000000 = grind (arith, nat_tests, can.counts) in
     list_short (codes "walk") (spaced (marked_words rs)) (omega arith) (omega (arith, marked_len rs can.within, few))
+can_short p (Lemma ps) can = list_short (codes "lemma") (spaced (pair_words ps)) (omega arith)
+    (omega (arith, leaf_short ps can.proper can.within))
+can_short p (Least n) can = one_short (codes "least") (signed_decimal n) (omega arith) (int100 n can.proper)
 can_short p (Version n) can = one_short (codes "pesp-certificate") (decimal n) (omega arith)
     (nat100 n (grind (arith, nat_tests, can.within)))
 can_short p (Period n) can = one_short (codes "period") (decimal n) (omega arith) (nat100 n (grind (arith, nat_tests, can.within)))

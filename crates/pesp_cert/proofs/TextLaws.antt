@@ -12,7 +12,7 @@ use Rattle.pesp_cert.specs.declared.refusal.CertRefusal.TheVariants as refusals
 use Rattle.pesp_cert_lines.specs.declared.progress.Progress.{Progress}
 use Rattle.pesp_cert_lines.specs.declared.versions.Versions.{Versions}
 use Rattle.pesp_cert_lines.specs.declared.versions.Versions.TheVariants as readers
-use Rattle.pesp_truth.specs.Marks.{Marks}
+use Rattle.pesp_lemma.specs.Fronts.{Front}
 use Rattle.pesp_text.specs.Words.{is_byte, pieces, spaced, line_of_words}
 use Rattle.pesp_cert_lines.specs.declared.item.Item.{Item}
 use Rattle.pesp_cert_lines.specs.Items.{item_words, item_line}
@@ -229,7 +229,7 @@ none_begins a b more run_a run_b same =
 
 -- what is read whole is some content's text
 pub text_found_of : (versions : Versions) (text : List ℕ) (items : List Item) → items_of_text versions text ≡ Ok items
-    → (front : Option Marks) × (c : Content) × (items ≡ items_of front c) × IsTextOf front text c × (takes versions front ≡ true)
+    → (front : Option Front) × (c : Content) × (items ≡ items_of front c) × IsTextOf front text c × (takes versions front ≡ true)
 text_found_of versions text items h =
     let t = text_found versions text items h in
     let c = run_content versions items t.1 in
@@ -242,7 +242,7 @@ text_found_of versions text items h =
       c.3,
     )
 
-pub text_read_of : (versions : Versions) (front : Option Marks) (text : List ℕ) (c : Content) → IsTextOf front text c
+pub text_read_of : (versions : Versions) (front : Option Front) (text : List ℕ) (c : Content) → IsTextOf front text c
     → takes versions front ≡ true → items_of_text versions text ≡ Ok (items_of front c)
 text_read_of versions front text c is taken =
     ap (items_of_text versions) (is.spelt ∙ sym (append-nil (spelling front c)))
@@ -252,7 +252,7 @@ pub none_begins_another : NoneBeginsAnother
 none_begins_another f g a b more text_a text_b same =
     let t = none_begins (items_of f a) (items_of g b) more text_a.run text_b.run same in (
       sym (front_said-items_of f a) ∙ ap (λ (is : List Item). front_said (all_noted no_front is)) t.0 ∙ front_said-items_of g b,
-      sym (all_added-items_of f a) ∙ ap (all_added blank) t.0 ∙ all_added-items_of g b,
+      sym (all_added-items_of f a) ∙ ap (all_added no_front blank) t.0 ∙ all_added-items_of g b,
       t.1,
     )
 
@@ -265,23 +265,23 @@ pub reads_whole : (versions : Versions) (text : List ℕ) (f : FrontValue) (d : 
 reads_whole versions text f d r =
     let t = text_found_of versions text r.0 r.1 in
     let front : front_said f ≡ t.0 = ap front_said (r.2 ∙ ap (all_noted no_front) t.2) ∙ front_said-items_of t.0 t.1 in
-    let same : d ≡ t.1 = r.3 ∙ ap (all_added blank) t.2 ∙ all_added-items_of t.0 t.1 in
+    let same : d ≡ t.1 = r.3 ∙ ap (all_added no_front blank) t.2 ∙ all_added-items_of t.0 t.1 in
     rw (front, same) (t.3, t.4)
 
 -- the content of a text whose front is taken is read
-pub whole_reads : (versions : Versions) (text : List ℕ) (f : FrontValue) (d : Content) (front : Option Marks) (c : Content)
+pub whole_reads : (versions : Versions) (text : List ℕ) (f : FrontValue) (d : Content) (front : Option Front) (c : Content)
     → ReadsItems (Ok (f, d)) (items_of_text versions text) → IsTextOf front text c → takes versions front ≡ true
     → (front_said f ≡ front) × (d ≡ c)
 whole_reads versions text f d front c r is taken =
     let items : r.0 ≡ items_of front c =
     (let e : Ok r.0 ≡ Ok (items_of front c) = sym r.1 ∙ text_read_of versions front text c is taken in cc) in (
       ap front_said (r.2 ∙ ap (all_noted no_front) items) ∙ front_said-items_of front c,
-      r.3 ∙ ap (all_added blank) items ∙ all_added-items_of front c,
+      r.3 ∙ ap (all_added no_front blank) items ∙ all_added-items_of front c,
     )
 
-plain_is : (front : Option Marks) → takes readers.Plain front ≡ true → None ≡ front
+plain_is : (front : Option Front) → takes readers.Plain front ≡ true → None ≡ front
 plain_is None h = refl
-plain_is (Some marks) h = absurd cc
+plain_is (Some f) h = absurd cc
 
 -- what a reader of these versions answers
 pub reads_text : (versions : Versions) (text : List ℕ) (f : FrontValue) (d : Content)
@@ -294,7 +294,7 @@ reads_none versions text e (inl memory) front c is taken = inr (ap Err memory)
 reads_none versions text e (inr first) front c is taken =
     let bad : Err e ≡ Ok (items_of front c) = sym first ∙ text_read_of versions front text c is taken in absurd cc
 
-pub whole_keeps : (front : Option Marks) (text : List ℕ) (c : Content) → IsTextOf front text c → keeps_limits c ≡ true
+pub whole_keeps : (front : Option Front) (text : List ℕ) (c : Content) → IsTextOf front text c → keeps_limits c ≡ true
 whole_keeps front text c is = text_keeps_limits c (limits_give c ((fronts_iff front c).1 is.has_text).1)
 
 -- without a front
@@ -329,10 +329,10 @@ pub plain_found_of : (text : List ℕ) (items : List Item) → items_of_text rea
     → (c : Content) × (items ≡ items_of None c) × IsTextOf None text c
 plain_found_of text items h = let t = text_found_of readers.Plain text items h in go t.0 t.1 t.2 t.3 t.4
   where
-    go : (front : Option Marks) (c : Content) → items ≡ items_of front c → IsTextOf front text c → takes readers.Plain front ≡ true
+    go : (front : Option Front) (c : Content) → items ≡ items_of front c → IsTextOf front text c → takes readers.Plain front ≡ true
         → (c : Content) × (items ≡ items_of None c) × IsTextOf None text c
     go None c same is taken = (c, same, is)
-    go (Some marks) c same is taken = absurd cc
+    go (Some f) c same is taken = absurd cc
 
 pub plain_read_of : (text : List ℕ) (c : Content) → IsTextOf None text c → items_of_text readers.Plain text ≡ Ok (items_of None c)
 plain_read_of text c is = text_read_of readers.Plain None text c is refl

@@ -1,11 +1,12 @@
 -- The loop over the lines of a text.
-use Rattle.std.proofs.Common.{◌≡◌, ℕ, ◌+◌, ◌<◌, ◌≤◌, true, false, cond, List, [], ◌∷◌, ◌++◌, length, Result, Ok, Err, refl, sym, ap, ◌∙◌, arith, inr, append_assoc}
+use Rattle.std.proofs.Common.{◌≡◌, ℕ, ◌+◌, ◌<◌, ◌≤◌, true, false, cond, List, [], ◌∷◌, ◌++◌, length, Option, Some, None, Result, Ok, Err, refl, sym, ap, ◌∙◌, arith, inr, append_assoc}
 use Rattle.std.specs.Prelude.{◌==◌}
 use Rattle.pesp_truth.specs.Certificates.{Content}
+use Rattle.pesp_lemma.specs.Shown.{LemmaProof}
 use Rattle.pesp_text.specs.Words.{pieces}
 use Rattle.pesp_cert_lines.specs.declared.fault.LineFault.{LineFault}
 use Rattle.pesp_cert_lines.specs.declared.item.Item.{Item}
-use Rattle.pesp_cert_lines.specs.declared.item.Item.TheVariants.{Front, Scale, Walk, Version, Period, Answer as Says, Time, Cycle, Slack, Offset, Bound, Nothing, Gap, Propagated, End}
+use Rattle.pesp_cert_lines.specs.declared.item.Item.TheVariants.{End}
 use Rattle.pesp_cert_lines.specs.declared.progress.Progress.{Progress}
 use Rattle.pesp_cert_lines.specs.declared.versions.Versions.{Versions}
 use Rattle.pesp_cert_lines.specs.Counts.{beginning, after, IsKept}
@@ -13,7 +14,7 @@ use Rattle.pesp_cert_lines.specs.Lines.{line_at, LONGEST}
 use Rattle.pesp_cert.specs.declared.refusal.CertRefusal.{CertRefusal}
 use Rattle.pesp_cert.specs.declared.refusal.CertRefusal.TheVariants as refusals
 use Rattle.pesp_cert.specs.Texts.{is_end}
-use Rattle.pesp_cert.specs.Drafts.{blank, added, all_added, FrontValue, no_front, noted, all_noted, ReadsItems}
+use Rattle.pesp_cert.specs.Drafts.{blank, added_behind, all_added, FrontValue, no_front, noted_at, noted, all_noted, ReadsItems}
 use Rattle.pesp_cert.specs.Refusals.{items_from, items_of_text, refusal_at, is_nothing, onto}
 use Rattle.pesp_cert.proofs.DraftLaws.{all_added-append, all_noted-append}
 use Rattle.pesp_cert.proofs.TextSteps.{nonempty, nothing_more, at_long, at_last, at_fault, at_end, at_item}
@@ -28,7 +29,7 @@ pub record IsReadTo (vs : Versions) (all rest : List ℕ) (n : ℕ) (p : Progres
   pub items : List Item
   pub same : behind items (items_from n p (pieces 10 rest)) ≡ items_of_text vs all
   pub fronts : front ≡ all_noted no_front items
-  pub made : draft ≡ all_added blank items
+  pub made : draft ≡ all_added no_front blank items
   pub kept : IsKept p
   pub long : n + length rest ≤ length all + 1
   pub more : 1 ≤ n
@@ -77,23 +78,6 @@ read_fault vs all rest line more n p front draft f so_far cut short h =
     let some = nonempty more in
     read_err vs all rest n p front draft (refusal_at n f) so_far (rw (cut, some.2) (at_fault n p line some.0 some.1 f short h))
 
-pub end_adds : (c : Content) (item : Item) → is_end item ≡ true → added c item ≡ c
-end_adds c Front h = absurd cc
-end_adds c (Scale n) h = absurd cc
-end_adds c (Walk walk) h = absurd cc
-end_adds c (Version n) h = absurd cc
-end_adds c (Period n) h = absurd cc
-end_adds c (Says a) h = absurd cc
-end_adds c (Time l t) h = absurd cc
-end_adds c (Cycle rs) h = absurd cc
-end_adds c (Slack row k) h = absurd cc
-end_adds c (Offset cycle k) h = absurd cc
-end_adds c (Bound ps) h = absurd cc
-end_adds c (Nothing ps) h = absurd cc
-end_adds c (Gap cycle) h = absurd cc
-end_adds c Propagated h = absurd cc
-end_adds c End h = refl
-
 -- the piece behind the end decides
 at_the_end : (rest line more : List ℕ) (n : ℕ) (p : Progress) (item : Item)
     → pieces 10 rest ≡ line ∷ pieces 10 more → length line ≤ LONGEST → line_at p line ≡ Ok item → is_end item ≡ true
@@ -103,22 +87,21 @@ at_the_end rest line more n p item cut short h e =
     let test : is_nothing (some.0 ∷ some.1) ≡ (length more == 0) = ap is_nothing (sym some.2) ∙ nothing_more more in
     rw (cut, some.2, ← test) (at_end n p line some.0 some.1 item short h e)
 
-end_notes : (f : FrontValue) (item : Item) → is_end item ≡ true → noted f item ≡ f
-end_notes f Front h = absurd cc
-end_notes f (Scale n) h = absurd cc
-end_notes f (Walk walk) h = absurd cc
-end_notes f (Version n) h = refl
-end_notes f (Period n) h = refl
-end_notes f (Says a) h = refl
-end_notes f (Time l t) h = refl
-end_notes f (Cycle rs) h = refl
-end_notes f (Slack row k) h = refl
-end_notes f (Offset cycle k) h = refl
-end_notes f (Bound ps) h = refl
-end_notes f (Nothing ps) h = refl
-end_notes f (Gap cycle) h = refl
-end_notes f Propagated h = refl
-end_notes f End h = refl
+-- the end says nothing more
+end_says : (item : Item) → is_end item ≡ true → End ≡ item
+end_says End h = refl
+end_says item h = absurd cc
+
+end_notes : (f : FrontValue) → noted f End ≡ f
+end_notes f = go f.shown refl
+  where
+    go : (shown : Option LemmaProof) → f.shown ≡ shown → noted f End ≡ f
+    go None e = ap (λ (o : Option LemmaProof). noted_at f o End) e
+    go (Some s) e = ap (λ (o : Option LemmaProof). noted_at f o End) e ∙ ap (λ (o : Option LemmaProof). record f { shown = o }) (sym e)
+
+end_adds : (shown : Option LemmaProof) (c : Content) → added_behind shown c End ≡ c
+end_adds None c = refl
+end_adds (Some s) c = refl
 
 pub read_end : (vs : Versions) (all rest line more : List ℕ) (n : ℕ) (p : Progress) (front : FrontValue) (draft : Content) (item : Item)
     → IsReadTo vs all rest n p front draft → pieces 10 rest ≡ line ∷ pieces 10 more → length line ≤ LONGEST
@@ -129,9 +112,10 @@ read_end vs all rest line more n p front draft item so_far cut short h e none =
       so_far.items ++ item ∷ [],
       sym (read_as vs all rest n p front draft (Ok (item ∷ [])) so_far last),
       so_far.fronts
-          ∙ sym (all_noted-append no_front so_far.items (item ∷ []) ∙ end_notes (all_noted no_front so_far.items) item e),
+          ∙ sym (all_noted-append no_front so_far.items (item ∷ []) ∙ rw (← end_says item e) (end_notes (all_noted no_front so_far.items))),
       so_far.made
-          ∙ sym (all_added-append blank so_far.items (item ∷ []) ∙ end_adds (all_added blank so_far.items) item e),
+          ∙ sym (all_added-append no_front blank so_far.items (item ∷ [])
+          ∙ rw (← end_says item e) (end_adds (noted (all_noted no_front so_far.items) End).shown (all_added no_front blank so_far.items))),
     )
 
 pub read_trailing : (vs : Versions) (all rest line more : List ℕ) (n : ℕ) (p : Progress) (front : FrontValue) (draft : Content) (item : Item)
@@ -149,7 +133,7 @@ behind_onto items item (Err e) = refl
 pub read_more : (vs : Versions) (all rest line more : List ℕ) (n : ℕ) (p q : Progress) (front after_front : FrontValue) (draft next : Content) (item : Item)
     → IsReadTo vs all rest n p front draft → pieces 10 rest ≡ line ∷ pieces 10 more → length more < length rest
     → length line ≤ LONGEST → line_at p line ≡ Ok item → is_end item ≡ false
-    → q ≡ after p item → IsKept q → after_front ≡ noted front item → next ≡ added draft item
+    → q ≡ after p item → IsKept q → after_front ≡ noted front item → next ≡ added_behind after_front.shown draft item
     → IsReadTo vs all more (n + 1) q after_front next
 read_more vs all rest line more n p q front after_front draft next item so_far cut shorter short h e goes kept notes is =
     let some = nonempty more in
@@ -160,7 +144,9 @@ read_more vs all rest line more n p q front after_front draft next item so_far c
       same = rw goes (behind_onto so_far.items item (items_from (n + 1) (after p item) (pieces 10 more))
           ∙ read_as vs all rest n p front draft (onto item (items_from (n + 1) (after p item) (pieces 10 more))) so_far one);
       fronts = notes ∙ ap (λ (f : FrontValue). noted f item) so_far.fronts ∙ sym (all_noted-append no_front so_far.items (item ∷ []));
-      made = is ∙ ap (λ (c : Content). added c item) so_far.made ∙ sym (all_added-append blank so_far.items (item ∷ []));
+      made = is ∙ ap (λ (f : FrontValue). added_behind f.shown draft item) (notes ∙ ap (λ (f : FrontValue). noted f item) so_far.fronts)
+          ∙ ap (λ (c : Content). added_behind (noted (all_noted no_front so_far.items) item).shown c item) so_far.made
+          ∙ sym (all_added-append no_front blank so_far.items (item ∷ []));
       kept = kept;
       long = omega (arith, so_far.long);
       more = omega (arith, so_far.more);

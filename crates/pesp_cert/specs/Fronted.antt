@@ -1,19 +1,19 @@
 -- Certificates with their fronts, and their texts.
 use Rattle.std.specs.Prelude.{◌≡◌, ◌⊎◌, ℕ, List, Option, Result, Ok, Err}
 use Rattle.pesp_truth.specs.Certificates.{Content}
-use Rattle.pesp_truth.specs.Marks.{Marks}
+use Rattle.pesp_lemma.specs.Fronts.{Front}
 use Rattle.pesp_cert.specs.declared.refusal.CertRefusal.{CertRefusal}
 use Rattle.pesp_cert.specs.declared.refusal.CertRefusal.TheVariants as refusals
 use Rattle.pesp_cert.specs.Texts.{text_of, front_items, spelling}
 use Rattle.pesp_cert.specs.Refusals.{IsTextOf}
 
--- version 3, the scale, and a line for each marked walk; nothing where there is no front
-abbrev pub front_text : Option Marks → List ℕ
+-- version 3, the scale, a line for each marked walk, and the lemmas; nothing where there is no front
+abbrev pub front_text : Option Front → List ℕ
 front_text front = text_of (front_items front)
 
 -- a certificate with its front, where it has one
 pub record Fronted : Type 0 where
-  pub front : Option Marks
+  pub front : Option Front
   pub content : Content
 
 -- the one text of both

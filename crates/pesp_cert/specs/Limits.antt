@@ -8,8 +8,12 @@ use Rattle.pesp_truth.specs.declared.answer.Answer.{Answer}
 use Rattle.pesp_truth.specs.declared.answer.Answer.TheVariants.{Optimal, Infeasible, Bounded}
 use Rattle.pesp_truth.specs.declared.tree.TreeLine.{TreeLine}
 use Rattle.pesp_truth.specs.declared.tree.TreeLine.TheVariants.{Slack, Offset, Bound, Nothing, Gap, Propagated}
+use Rattle.pesp_truth.specs.FrontLimits.{keeps_limits as marks_keep_limits}
 use Rattle.pesp_truth.specs.Trees.{are_trees}
 use Rattle.pesp_truth.specs.Certificates.{Content, line_of, lines_of}
+use Rattle.pesp_lemma.specs.Lemmas.{Lemma}
+use Rattle.pesp_lemma.specs.Shown.{LemmaProof}
+use Rattle.pesp_lemma.specs.Fronts.{Front}
 use Rattle.pesp_text.specs.Number.{NATURALS}
 use Rattle.pesp_cert_lines.specs.Rows.{is_name, rows_are_named}
 use Rattle.pesp_cert_lines.specs.Pairs.{rise_from, all_within}
@@ -104,3 +108,20 @@ pub record KeepsLimits (c : Content) : Type 0 where
   pub each_line : list_all is_line c.tree ≡ true
   pub whole : are_trees 1 (lines_of c) ≡ true
   pub known : list_all (has_line c.version) c.tree ≡ true
+
+-- ---- the front
+
+-- rows that rise, with weights other than 0, and a least sum of at most 18 digits
+abbrev pub is_lemma : Lemma → Bool
+is_lemma fact = are_pairs fact.weights && nat_lt (nat_abs fact.least) NATURALS
+
+-- what a lemma and what shows it may hold
+unfoldable pub is_shown_lemma : LemmaProof → Bool
+is_shown_lemma s = is_lemma s.fact && marks_keep_limits s.marks && are_cycles s.cycles && are_lines s.tree
+
+abbrev pub are_lemmas : List LemmaProof → Bool
+are_lemmas lemmas = nat_le (length lemmas) MOST_CYCLES && list_all is_shown_lemma lemmas
+
+-- what a front may hold
+unfoldable pub front_keeps_limits : Front → Bool
+front_keeps_limits f = marks_keep_limits f.marks && are_lemmas f.lemmas

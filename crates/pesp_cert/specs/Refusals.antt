@@ -8,7 +8,7 @@ use Rattle.pesp_cert_lines.specs.declared.item.Item.{Item}
 use Rattle.pesp_cert_lines.specs.declared.progress.Progress.{Progress}
 use Rattle.pesp_cert_lines.specs.declared.versions.Versions.{Versions}
 use Rattle.pesp_cert_lines.specs.Counts.{after, beginning}
-use Rattle.pesp_truth.specs.Marks.{Marks}
+use Rattle.pesp_lemma.specs.Fronts.{Front}
 use Rattle.pesp_cert_lines.specs.Lines.{line_at, LONGEST}
 use Rattle.pesp_cert.specs.declared.refusal.CertRefusal.{CertRefusal}
 use Rattle.pesp_cert.specs.declared.refusal.CertRefusal.TheVariants as refusals
@@ -52,7 +52,7 @@ items_of_text versions text = items_from 1 (beginning versions) (pieces 10 text)
 -- ---- what a reader of a text answers
 
 -- the text is this content's behind this front
-pub record IsTextOf (front : Option Marks) (text : List ℕ) (c : Content) : Type 0 where
+pub record IsTextOf (front : Option Front) (text : List ℕ) (c : Content) : Type 0 where
   pub has_text : HasText front c
   pub spelt : text ≡ spelling front c
 
@@ -62,7 +62,7 @@ ReadsTexts text r = (c : Content) → IsTextOf None text c → (r ≡ Ok c) ⊎ 
 
 -- where the text is that of a front, which is taken, and a content, those are read, unless a growth was refused
 abbrev pub ReadsWhole : Versions → List ℕ → Result (FrontValue × Content) CertRefusal → Type 0
-ReadsWhole versions text r = (front : Option Marks) (c : Content) → IsTextOf front text c → takes versions front ≡ true
+ReadsWhole versions text r = (front : Option Front) (c : Content) → IsTextOf front text c → takes versions front ≡ true
     → IsOkAnd r (λ p. (front_said p.0 ≡ front) × (p.1 ≡ c)) ⊎ (r ≡ Err refusals.Memory)
 
 -- the refusal is the text's first fault, unless a growth was refused

@@ -5,11 +5,13 @@ use Rattle.pesp_truth.specs.declared.tree.TreeLine.{TreeLine}
 use Rattle.pesp_truth.specs.declared.tree.TreeLine.TheVariants as lines
 use Rattle.pesp_truth.specs.Certificates.{Content}
 use Rattle.pesp_cert_lines.specs.declared.item.Item.{Item}
-use Rattle.pesp_cert_lines.specs.declared.item.Item.TheVariants.{Front, Scale, Walk, Version, Period, Answer as Says, Time, Cycle, Slack, Offset, Bound, Nothing, Gap, Propagated, End}
+use Rattle.pesp_cert_lines.specs.declared.item.Item.TheVariants.{Front, Scale, Walk, Lemma, Least, Version, Period, Answer as Says, Time, Cycle, Slack, Offset, Bound, Nothing, Gap, Propagated, End}
 use Rattle.pesp_cert_lines.specs.declared.progress.Progress.{Progress}
 use Rattle.pesp_cert_lines.specs.declared.versions.Versions.{Versions}
 use Rattle.pesp_cert_lines.specs.declared.versions.Versions.TheVariants.{Plain, All}
 use Rattle.pesp_truth.specs.Marks.{Marks}
+use Rattle.pesp_lemma.specs.Shown.{LemmaProof}
+use Rattle.pesp_lemma.specs.Fronts.{Front as FrontOf}
 use Rattle.pesp_cert_lines.specs.Items.{item_line}
 use Rattle.pesp_cert_lines.specs.Counts.{after, beginning, CanStand}
 
@@ -43,30 +45,38 @@ abbrev pub own_items : Content → List Item
 own_items c = Version c.version ∷ Period c.period ∷ Says c.answer ∷ map time_item c.times ++ map Cycle c.cycles
     ++ map tree_item c.tree ++ End ∷ []
 
--- version 3, the scale and the marked walks; nothing where there is no front
-abbrev pub front_items : Option Marks → List Item
+-- a scale and marked walks
+abbrev pub marks_items : Marks → List Item
+marks_items marks = Scale marks.scale ∷ map Walk marks.walks
+
+-- the rows of a lemma, its least sum, and what shows it: marked walks, cycles and a tree of its own
+abbrev pub lemma_items : LemmaProof → List Item
+lemma_items s = Lemma s.fact.weights ∷ Least s.fact.least ∷ marks_items s.marks ++ map Cycle s.cycles ++ map tree_item s.tree
+
+-- version 3, the scale, the marked walks and the lemmas; nothing where there is no front
+abbrev pub front_items : Option FrontOf → List Item
 front_items None = []
-front_items (Some marks) = Front ∷ Scale marks.scale ∷ map Walk marks.walks
+front_items (Some f) = Front ∷ marks_items f.marks ++ flat_map lemma_items f.lemmas
 
 -- the front, and behind it the certificate's own lines
-abbrev pub items_of : Option Marks → Content → List Item
+abbrev pub items_of : Option FrontOf → Content → List Item
 items_of front c = front_items front ++ own_items c
 
 -- the one text of a certificate
-abbrev pub spelling : Option Marks → Content → List ℕ
+abbrev pub spelling : Option FrontOf → Content → List ℕ
 spelling front c = text_of (items_of front c)
 
 -- what has a text
-pub record HasText (front : Option Marks) (c : Content) : Type 0 where
+pub record HasText (front : Option FrontOf) (c : Content) : Type 0 where
   pub run : IsRun (beginning All) (items_of front c)
 
 -- whether texts with this front are read where these versions are taken
-abbrev pub takes : Versions → Option Marks → Bool
+abbrev pub takes : Versions → Option FrontOf → Bool
 takes Plain None = true
-takes Plain (Some marks) = false
+takes Plain (Some f) = false
 takes All front = true
 
 -- no text begins another, and each has one meaning
 abbrev pub NoneBeginsAnother : Type 0
-NoneBeginsAnother = (f g : Option Marks) (a b : Content) (more : List ℕ) → HasText f a → HasText g b
+NoneBeginsAnother = (f g : Option FrontOf) (a b : Content) (more : List ℕ) → HasText f a → HasText g b
     → spelling f a ++ more ≡ spelling g b → (f ≡ g) × (a ≡ b) × (more ≡ [])

@@ -1,10 +1,12 @@
 //! The parts of a text while it is read.
 
-ghost use Rattle.std.specs.Prelude.{◌≡◌, IfOk, OnOk};
-ghost use Rattle.pesp_cert.specs.Drafts.{blank, added};
+ghost use Rattle.std.specs.Prelude.{◌≡◌, OnOk};
+ghost use Rattle.pesp_cert.specs.Drafts.{blank, added, added_behind};
 
-use pesp_cert_lines::{Item, LinePairs, SignedRows};
-use pesp_problem::{Memory, Pairs, Walk};
+use crate::front_draft::FrontDraft;
+use crate::shown_lemma::{pairs_of, walk_of};
+use pesp_cert_lines::Item;
+use pesp_problem::{Memory, Walk};
 use pesp_truth::{Answer, TreeLine};
 use std::alloc::Global;
 use std::marker::Model;
@@ -36,22 +38,6 @@ impl Model for Draft {
     } };
 }
 
-/// The walk along these rows.
-fn walk_of(alloc: Global, rows: SignedRows<'_>) -> Result<Walk, Memory>
-    ensures { IfOk result (λ walk. walk ≡ rows.entry) }
-{
-    let rows = rows.collect(alloc)?;
-    Ok(Walk::new(rows))
-}
-
-/// The list of these pairs.
-fn pairs_of(alloc: Global, pairs: LinePairs<'_>) -> Result<Pairs, Memory>
-    ensures { IfOk result (λ list. list ≡ pairs.entry) }
-{
-    let pairs = pairs.collect(alloc)?;
-    Ok(Pairs::new(pairs))
-}
-
 impl Draft {
     /// Nothing was said so far.
     pub fn new(alloc: Global) -> Draft
@@ -72,7 +58,7 @@ impl Draft {
         ensures { OnOk result (self.new ≡ added self.old item.entry) }
     {
         match item {
-            Item::Front | Item::Scale(_) | Item::Walk(_) => {}
+            Item::Front | Item::Scale(_) | Item::Walk(_) | Item::Lemma(_) | Item::Least(_) => {}
             Item::Version(version) => self.version = version,
             Item::Period(period) => self.period = period,
             Item::Answer(answer) => self.answer = answer,
@@ -87,5 +73,20 @@ impl Draft {
             Item::End => {}
         }
         Ok(())
+    }
+
+    /// Adds what the next line says, where it is none that shows a lemma of the front.
+    pub(crate) fn add_behind(
+        &mut self,
+        alloc: Global,
+        front: &FrontDraft,
+        item: Item<'_>,
+    ) -> Result<(), Memory>
+        ensures { OnOk result (self.new ≡ added_behind front.now.shown self.old item.entry) }
+    {
+        if front.shows_lemma() {
+            return Ok(());
+        }
+        self.add(alloc, item)
     }
 }

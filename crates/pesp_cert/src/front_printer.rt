@@ -1,20 +1,23 @@
 //! Printing a certificate with its front.
 
-ghost use Rattle.std.specs.Prelude.{◌≡◌, ◌^◌, OnOk, OnErr, Some};
+ghost use Rattle.std.specs.Prelude.{◌≡◌, ◌^◌, ◌++◌, codes, OnOk, OnErr, Some};
 ghost use Rattle.std.specs.List.{flat_map};
+ghost use Rattle.std.specs.Fmt.{signed_decimal};
 ghost use Rattle.pesp_stream.specs.Counts.{FewerThan, HasWorked, DeviceFailed};
-ghost use Rattle.pesp_stream.specs.Printing.{Sending, Sends};
+ghost use Rattle.pesp_stream.specs.Printing.{Sends};
 ghost use Rattle.pesp_stream.specs.Writing.{Writes};
-ghost use Rattle.pesp_cert.specs.FrontPrint.{row_text, rows_text, walk_text};
+ghost use Rattle.pesp_cert.specs.FrontPrint.{row_text, rows_text, walk_text, marks_text, lemma_text};
+ghost use Rattle.pesp_cert.specs.Print.{pairs_text, cycle_line, tree_line};
 ghost use Rattle.pesp_cert.specs.Fronted.{fronted_text, front_text};
 ghost use Rattle.pesp_cert_lines.specs.Marked.{star};
 
+use crate::front::Front;
 use crate::fronted::Fronted;
-use crate::number::Number;
-use crate::printer::sign_text;
+use crate::number::{Number, Whole};
+use crate::printer::{print_cycles, print_pairs, print_tree, sign_text};
+use crate::shown_lemma::ShownLemma;
 use pesp_nets::{MarkedRow, MarkedWalk};
 use pesp_stream::{Output, Printed, Sink, WriteFault, print_to};
-use pesp_truth::Marks;
 
 /// The mark of a flipped row.
 fn star_text(flipped: bool) -> &'static str
@@ -60,18 +63,86 @@ fn print_walks<O: Output>(walks: &[MarkedWalk], out: &mut O)
     }
 }
 
-fn print_marks<O: Output>(marks: &Marks, out: &mut O)
-    ensures { Sends (O.sending out.old) (O.sending out.new) (front_text (Some marks.now)) }
+/// The lines of a scale and of marked walks.
+fn print_marks<O: Output>(scale: u32, walks: &[MarkedWalk], out: &mut O)
+    ensures { Sends (O.sending out.old) (O.sending out.new)
+        (marks_text (record { scale = scale; walks = walks.now })) }
 {
-    ("pesp-certificate 3\nscale ", Number(marks.scale()), "\n").print(out);
-    print_walks(marks.walks(), out);
+    ("scale ", Number(scale), "\n").print(out);
+    print_walks(walks, out);
 }
 
-fn print_front<O: Output>(front: &Option<Marks>, out: &mut O)
+/// The line of a lemma's rows.
+fn print_lemma_rows<O: Output>(lemma: &ShownLemma, out: &mut O)
+    ensures { Sends (O.sending out.old) (O.sending out.new)
+        (codes "lemma" ++ pairs_text lemma.now.fact.weights) }
+{
+    out.put(b"lemma");
+    print_pairs(&lemma.weights, out);
+}
+
+/// The end of the line of a lemma's rows, and the line of its least sum.
+fn print_lemma_least<O: Output>(lemma: &ShownLemma, out: &mut O)
+    ensures { Sends (O.sending out.old) (O.sending out.new)
+        (codes "\nleast " ++ (signed_decimal lemma.now.fact.least ++ codes "\n")) }
+{
+    ("\nleast ", Whole(&lemma.least), "\n").print(out);
+}
+
+/// The lines of a lemma's scale and marked walks.
+fn print_lemma_marks<O: Output>(lemma: &ShownLemma, out: &mut O)
+    ensures { Sends (O.sending out.old) (O.sending out.new) (marks_text lemma.now.marks) }
+{
+    print_marks(lemma.scale, &lemma.walks, out);
+}
+
+/// The lines of a lemma's cycles.
+fn print_lemma_cycles<O: Output>(lemma: &ShownLemma, out: &mut O)
+    ensures { Sends (O.sending out.old) (O.sending out.new) (flat_map cycle_line lemma.now.cycles) }
+{
+    print_cycles(&lemma.cycles, out);
+}
+
+/// The lines of a lemma's tree.
+fn print_lemma_tree<O: Output>(lemma: &ShownLemma, out: &mut O)
+    ensures { Sends (O.sending out.old) (O.sending out.new) (flat_map tree_line lemma.now.tree) }
+{
+    print_tree(&lemma.tree, out);
+}
+
+fn print_lemma<O: Output>(lemma: &ShownLemma, out: &mut O)
+    ensures { Sends (O.sending out.old) (O.sending out.new) (lemma_text lemma.now) }
+{
+    print_lemma_rows(lemma, out);
+    print_lemma_least(lemma, out);
+    print_lemma_marks(lemma, out);
+    print_lemma_cycles(lemma, out);
+    print_lemma_tree(lemma, out);
+}
+
+#[tactic(auto, using(pesp_stream::proofs::Printing::sends_nothing, pesp_stream::proofs::Printing::sends_next, pesp_stream::proofs::Printing::sends_all))]
+fn print_lemmas<O: Output>(lemmas: &[ShownLemma], out: &mut O)
+    ensures { Sends (O.sending out.old) (O.sending out.new) (flat_map lemma_text lemmas.now) }
+{
+    for lemma in lemmas {
+        print_lemma(lemma, out);
+    }
+}
+
+fn print_some_front<O: Output>(front: &Front, out: &mut O)
+    ensures { Sends (O.sending out.old) (O.sending out.new) (front_text (Some front.now)) }
+{
+    let marks = front.marks();
+    out.put(b"pesp-certificate 3\n");
+    print_marks(marks.scale(), marks.walks(), out);
+    print_lemmas(front.lemmas(), out);
+}
+
+fn print_front<O: Output>(front: &Option<Front>, out: &mut O)
     ensures { Sends (O.sending out.old) (O.sending out.new) (front_text front.now) }
 {
-    if let Some(marks) = front {
-        print_marks(marks, out);
+    if let Some(front) = front {
+        print_some_front(front, out);
     }
 }
 

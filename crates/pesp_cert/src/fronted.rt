@@ -1,13 +1,13 @@
 //! A certificate with its front.
 
 use crate::certificate::Certificate;
-use pesp_truth::Marks;
+use crate::front::Front;
 use std::marker::Model;
 
 /// A certificate, and the front of its text where it has one.
 #[derive(Drop)]
 pub struct Fronted {
-    pub front: Option<Marks>,
+    pub front: Option<Front>,
     pub certificate: Certificate,
 }
 

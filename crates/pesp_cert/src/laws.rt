@@ -5,9 +5,8 @@ ghost use Rattle.std.specs.Prelude.{◌≡◌, ◌↔◌, ◌<◌, true, ℕ, Li
 ghost use Rattle.pesp_truth.specs.Certificates.{Content};
 ghost use Rattle.pesp_cert_lines.specs.declared.item.Item.{Item};
 ghost use Rattle.pesp_cert_lines.specs.declared.versions.Versions.{Versions};
-ghost use Rattle.pesp_truth.specs.Marks.{Marks};
-ghost use Rattle.pesp_truth.specs.FrontLimits.{KeepsLimits as FrontKeepsLimits};
-ghost use Rattle.pesp_cert.specs.Limits.{KeepsLimits};
+ghost use Rattle.pesp_lemma.specs.Fronts.{Front};
+ghost use Rattle.pesp_cert.specs.Limits.{KeepsLimits, front_keeps_limits};
 ghost use Rattle.pesp_cert.specs.Refusals.{IsTextOf, items_of_text};
 ghost use Rattle.pesp_cert.specs.Texts.{HasText, NoneBeginsAnother, items_of, spelling, takes};
 
@@ -23,8 +22,8 @@ pub fn limits_are_those_of_texts()
 
 /// The same behind a front: front and certificate keep their limits, each for itself.
 pub fn limits_of_fronts_are_those_of_texts()
-    ensures { (front : Option Marks) (c : Content)
-        → (IfSome front FrontKeepsLimits × KeepsLimits c) ↔ HasText front c }
+    ensures { (front : Option Front) (c : Content)
+        → (IfSome front (λ f. front_keeps_limits f ≡ true) × KeepsLimits c) ↔ HasText front c }
 {}
 
 /// Every text is shorter than 1,073,741,824 bytes, so a program that reads so many of a certificate reads all of it.
@@ -36,9 +35,9 @@ pub fn texts_are_short()
 #[tactic(auto, using(crate::proofs::TextLaws::text_found_of, crate::proofs::TextLaws::text_read_of))]
 pub fn items_are_those_of_texts()
     ensures found { (versions : Versions) (text : List ℕ) (items : List Item)
-        → items_of_text versions text ≡ Ok items → (front : Option Marks) × (c : Content)
+        → items_of_text versions text ≡ Ok items → (front : Option Front) × (c : Content)
         × (items ≡ items_of front c) × IsTextOf front text c × (takes versions front ≡ true) }
-    ensures read { (versions : Versions) (front : Option Marks) (text : List ℕ) (c : Content)
+    ensures read { (versions : Versions) (front : Option Front) (text : List ℕ) (c : Content)
         → IsTextOf front text c → takes versions front ≡ true
         → items_of_text versions text ≡ Ok (items_of front c) }
 {}

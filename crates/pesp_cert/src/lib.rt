@@ -3,7 +3,9 @@
 
 mod certificate;
 mod draft;
+mod front;
 mod front_draft;
+mod front_limits;
 mod front_printer;
 mod fronted;
 pub mod laws;
@@ -12,9 +14,11 @@ mod number;
 mod printer;
 mod reader;
 mod refusal;
+mod shown_lemma;
 
 pub use certificate::{Certificate, NotACertificate};
 pub use draft::Draft;
+pub use front::{Front, NotAFront};
 pub use front_draft::FrontDraft;
 pub use front_printer::print_fronted;
 pub use fronted::Fronted;
@@ -25,3 +29,4 @@ pub use pesp_truth::{Answer, Marks, NotMarks, TreeLine};
 pub use printer::{print, print_times, print_tree};
 pub use reader::{parse, parse_fronted, parse_text};
 pub use refusal::{CertRefusal, refusal_at};
+pub use shown_lemma::ShownLemma;

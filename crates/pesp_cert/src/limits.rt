@@ -94,7 +94,7 @@ fn has_few_rows(cycles: &[Walk]) -> bool
     true
 }
 
-fn are_cycles(cycles: &[Walk]) -> bool
+pub(crate) fn are_cycles(cycles: &[Walk]) -> bool
     ensures { result ≡ are_cycles cycles.now }
 {
     cycles.len() <= MOST_CYCLES && has_few_rows(cycles) && each_is_cycle(cycles)
@@ -135,7 +135,7 @@ fn each_is_within(pairs: &[Pair]) -> bool
     pairs.iter().all(|pair| is_pair_within(pair))
 }
 
-fn are_pairs(pairs: &[Pair]) -> bool
+pub(crate) fn are_pairs(pairs: &[Pair]) -> bool
     ensures { result ≡ are_pairs pairs.now }
 {
     rise(pairs) && each_is_within(pairs)
@@ -209,7 +209,7 @@ fn each_is_line(lines: &[TreeLine]) -> bool
     lines.iter().all(|line| is_line(line))
 }
 
-fn are_lines(lines: &[TreeLine]) -> bool
+pub(crate) fn are_lines(lines: &[TreeLine]) -> bool
     ensures { result ≡ are_lines lines.now }
 {
     lines.len() <= MOST_LINES && has_few_pairs(lines) && each_is_line(lines) && are_one_tree(lines)

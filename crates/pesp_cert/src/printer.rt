@@ -3,7 +3,7 @@
 ghost use Rattle.std.specs.Prelude.{◌≡◌, ◌<◌, ◌+◌, ◌^◌, ◌++◌, codes, None, OnOk, OnErr, if◌then◌else◌};
 ghost use Rattle.std.specs.List.{flat_map};
 ghost use Rattle.pesp_stream.specs.Counts.{FewerThan, HasWorked, DeviceFailed};
-ghost use Rattle.pesp_stream.specs.Printing.{Sending, Sends};
+ghost use Rattle.pesp_stream.specs.Printing.{Sends};
 ghost use Rattle.pesp_stream.specs.Writing.{Writes};
 ghost use Rattle.pesp_cert.specs.Print.{head_lines, time_line, pair_text, pairs_text, row_text, rows_text, cycle_line, tree_line, cost_text, answer_line};
 ghost use Rattle.pesp_cert.specs.Texts.{HasText, spelling};
@@ -36,7 +36,7 @@ fn print_pair<O: Output>(pair: &Pair, out: &mut O)
 }
 
 #[tactic(auto, using(pesp_stream::proofs::Printing::sends_nothing, pesp_stream::proofs::Printing::sends_next, pesp_stream::proofs::Printing::sends_all))]
-fn print_pairs<O: Output>(pairs: &[Pair], out: &mut O)
+pub(crate) fn print_pairs<O: Output>(pairs: &[Pair], out: &mut O)
     ensures { Sends (O.sending out.old) (O.sending out.new) (pairs_text pairs.now) }
 {
     for pair in pairs {
@@ -91,7 +91,7 @@ fn print_cycle<O: Output>(walk: &Walk, out: &mut O)
 }
 
 #[tactic(auto, using(pesp_stream::proofs::Printing::sends_nothing, pesp_stream::proofs::Printing::sends_next, pesp_stream::proofs::Printing::sends_all))]
-fn print_cycles<O: Output>(cycles: &[Walk], out: &mut O)
+pub(crate) fn print_cycles<O: Output>(cycles: &[Walk], out: &mut O)
     ensures { Sends (O.sending out.old) (O.sending out.new) (flat_map cycle_line cycles.now) }
 {
     for walk in cycles {

@@ -1,15 +1,16 @@
 //! Reading a certificate's text.
 
 ghost use Rattle.std.specs.Prelude.{◌≡◌, true, None, IfOk, IfErr, IfSome};
-ghost use Rattle.pesp_truth.specs.FrontLimits.{KeepsLimits};
 ghost use Rattle.pesp_cert_lines.specs.declared.versions.Versions.TheVariants.{All, Plain};
 ghost use Rattle.pesp_cert.specs.Texts.{is_end, takes};
+ghost use Rattle.pesp_cert.specs.Limits.{front_keeps_limits};
 ghost use Rattle.pesp_cert.specs.Drafts.{front_said, ReadsItems};
 ghost use Rattle.pesp_cert.specs.Fronted.{IsFrontedText, ReadsFrontedTexts};
 ghost use Rattle.pesp_cert.specs.Refusals.{items_of_text, IsTextOf, ReadsTexts, ReadsWhole, RefusesFirst};
 
 use crate::certificate::Certificate;
 use crate::draft::Draft;
+use crate::front::Front;
 use crate::front_draft::FrontDraft;
 use crate::fronted::Fronted;
 use crate::refusal::{CertRefusal, refusal_at};
@@ -57,7 +58,7 @@ fn read_text(
             return Err(CertRefusal::Trailing { n: n + 1 });
         }
         front.note(alloc, &item)?;
-        draft.add(alloc, item)?;
+        draft.add_behind(alloc, &front, item)?;
         rest = more;
         n += 1;
     }
@@ -97,19 +98,23 @@ pub fn parse(alloc: Global, text: &[u8]) -> Result<Certificate, CertRefusal>
 }
 
 /// The front that the lines of a text said.
-fn front_of(draft: FrontDraft) -> Option<Marks>
-    requires { IfSome (front_said draft) KeepsLimits }
+fn front_of(draft: FrontDraft) -> Option<Front>
+    requires { IfSome (front_said draft) (λ f. front_keeps_limits f ≡ true) }
     ensures { result ≡ front_said draft }
 {
     let FrontDraft {
         begun,
         scale,
         walks,
+        lemmas,
+        shown,
     } = draft;
+    drop(shown);
     if begun {
-        Some(Marks::of(scale, walks))
+        Some(Front::of(Marks::of(scale, walks), lemmas))
     } else {
         drop(walks);
+        drop(lemmas);
         None
     }
 }

@@ -5,7 +5,7 @@ use Rattle.pesp_problem.specs.declared.row.SignedRow.{SignedRow}
 use Rattle.pesp_problem.specs.declared.pair.Pair.{Pair}
 use Rattle.pesp_text.specs.Words.{words_of}
 use Rattle.pesp_cert_lines.specs.declared.item.Item.{Item}
-use Rattle.pesp_cert_lines.specs.declared.item.Item.TheVariants.{Front, Scale, Walk, Version, Period, Answer as Says, Time, Cycle, Slack, Offset, Bound, Nothing, Gap, Propagated, End}
+use Rattle.pesp_cert_lines.specs.declared.item.Item.TheVariants.{Front, Scale, Walk, Lemma, Least, Version, Period, Answer as Says, Time, Cycle, Slack, Offset, Bound, Nothing, Gap, Propagated, End}
 use Rattle.pesp_cert_lines.specs.declared.progress.Progress.{Progress}
 use Rattle.pesp_cert_lines.specs.Rows.{rows_of, rows_are_named, row_words}
 use Rattle.pesp_cert_lines.specs.Pairs.{pairs_from, all_within, pair_words}
@@ -42,49 +42,23 @@ pub record IsLent (said : LentItem) (line : List ℕ) (item : Item) : Type 0 whe
 
 cycle_lent : (said : LentItem) (line : List ℕ) (xs : List SignedRow) → listed said ≡ Cycle []
     → rows_of (drop 1 (words_of line)) ≡ Some xs → rows_are_named xs ≡ true → IsLent said line (Cycle xs)
-cycle_lent (lent.Period n) line xs h read good = absurd cc
-cycle_lent (lent.Version n) line xs h read good = absurd cc
-cycle_lent (lent.Answer a) line xs h read good = absurd cc
-cycle_lent (lent.Time l t) line xs h read good = absurd cc
 cycle_lent (lent.Cycle r) line xs h read good = record { says = rw read refl; spelt = rw read good }
-cycle_lent (lent.Slack row k) line xs h read good = absurd cc
-cycle_lent (lent.Offset cycle k) line xs h read good = absurd cc
-cycle_lent (lent.Bound ps) line xs h read good = absurd cc
-cycle_lent (lent.Nothing ps) line xs h read good = absurd cc
-cycle_lent (lent.Gap cycle) line xs h read good = absurd cc
-cycle_lent lent.Propagated line xs h read good = absurd cc
+cycle_lent said line xs h read good = absurd cc
 
 bound_lent : (said : LentItem) (line : List ℕ) (xs : List Pair) → listed said ≡ Bound []
     → pairs_from 0 (drop 1 (words_of line)) ≡ Some xs → all_within xs ≡ true → IsLent said line (Bound xs)
-bound_lent (lent.Period n) line xs h read good = absurd cc
-bound_lent (lent.Version n) line xs h read good = absurd cc
-bound_lent (lent.Answer a) line xs h read good = absurd cc
-bound_lent (lent.Time l t) line xs h read good = absurd cc
-bound_lent (lent.Cycle r) line xs h read good = absurd cc
-bound_lent (lent.Slack row k) line xs h read good = absurd cc
-bound_lent (lent.Offset cycle k) line xs h read good = absurd cc
 bound_lent (lent.Bound ps) line xs h read good = record { says = rw read refl; spelt = rw read good }
-bound_lent (lent.Nothing ps) line xs h read good = absurd cc
-bound_lent (lent.Gap cycle) line xs h read good = absurd cc
-bound_lent lent.Propagated line xs h read good = absurd cc
+bound_lent said line xs h read good = absurd cc
 
 nothing_lent : (said : LentItem) (line : List ℕ) (xs : List Pair) → listed said ≡ Nothing []
     → pairs_from 0 (drop 1 (words_of line)) ≡ Some xs → all_within xs ≡ true → IsLent said line (Nothing xs)
-nothing_lent (lent.Period n) line xs h read good = absurd cc
-nothing_lent (lent.Version n) line xs h read good = absurd cc
-nothing_lent (lent.Answer a) line xs h read good = absurd cc
-nothing_lent (lent.Time l t) line xs h read good = absurd cc
-nothing_lent (lent.Cycle r) line xs h read good = absurd cc
-nothing_lent (lent.Slack row k) line xs h read good = absurd cc
-nothing_lent (lent.Offset cycle k) line xs h read good = absurd cc
-nothing_lent (lent.Bound ps) line xs h read good = absurd cc
 nothing_lent (lent.Nothing ps) line xs h read good = record { says = rw read refl; spelt = rw read good }
-nothing_lent (lent.Gap cycle) line xs h read good = absurd cc
-nothing_lent lent.Propagated line xs h read good = absurd cc
+nothing_lent said line xs h read good = absurd cc
 
 -- it has a list
 abbrev has_list : Item → Bool
 has_list (Walk walk) = true
+has_list (Lemma ps) = true
 has_list (Cycle rows) = true
 has_list (Bound ps) = true
 has_list (Nothing ps) = true
@@ -108,6 +82,8 @@ lent_back : (p : Progress) (said : LentItem) (line : List ℕ) (item : Item) →
 lent_back p said line Front s e plain h = absurd cc
 lent_back p said line (Scale n) s e plain h = absurd cc
 lent_back p said line (Walk walk) s e plain h = absurd cc
+lent_back p said line (Lemma ps) s e plain h = absurd cc
+lent_back p said line (Least n) s e plain h = absurd cc
 lent_back p said line (Period n) s e plain h = plain_lent said line (Period n) refl h
 lent_back p said line (Version n) s e plain h = plain_lent said line (Version n) refl h
 lent_back p said line (Says a) s e plain h = plain_lent said line (Says a) refl h
@@ -133,6 +109,8 @@ bare_list : (item : Item) → has_list (bare item) ≡ has_list item
 bare_list Front = refl
 bare_list (Scale n) = refl
 bare_list (Walk walk) = refl
+bare_list (Lemma ps) = refl
+bare_list (Least n) = refl
 bare_list (Version n) = refl
 bare_list (Period n) = refl
 bare_list (Says a) = refl
@@ -150,6 +128,8 @@ bare_front : (item : Item) → in_front (bare item) ≡ in_front item
 bare_front Front = refl
 bare_front (Scale n) = refl
 bare_front (Walk walk) = refl
+bare_front (Lemma ps) = refl
+bare_front (Least n) = refl
 bare_front (Version n) = refl
 bare_front (Period n) = refl
 bare_front (Says a) = refl
@@ -167,6 +147,8 @@ bare_is : (item : Item) → has_list item ≡ false → bare item ≡ item
 bare_is Front h = refl
 bare_is (Scale n) h = refl
 bare_is (Walk walk) h = absurd cc
+bare_is (Lemma ps) h = absurd cc
+bare_is (Least n) h = refl
 bare_is (Version n) h = refl
 bare_is (Period n) h = refl
 bare_is (Says a) h = refl
@@ -198,6 +180,8 @@ own_of : (said : TextLine) (item : Item) → in_front item ≡ false → line_sa
 own_of texts.Front item h e = let bad : true ≡ in_front item = ap in_front e ∙ bare_front item in absurd cc
 own_of (texts.Scale n) item h e = let bad : true ≡ in_front item = ap in_front e ∙ bare_front item in absurd cc
 own_of (texts.Walk walk) item h e = let bad : true ≡ in_front item = ap in_front e ∙ bare_front item in absurd cc
+own_of (texts.Lemma ps) item h e = let bad : true ≡ in_front item = ap in_front e ∙ bare_front item in absurd cc
+own_of (texts.Least n) item h e = let bad : true ≡ in_front item = ap in_front e ∙ bare_front item in absurd cc
 own_of (texts.Own own) item h e = refl
 
 -- what is kept of a line says its item
@@ -207,24 +191,19 @@ record IsKeptLine (said : TextLine) (line : List ℕ) (item : Item) : Type 0 whe
 
 walk_kept : (p : Progress) (walk : MarkedRows) (line : List ℕ) (item : Item) → SpellsItem p line item
     → Walk (marked_in walk) ≡ bare item → IsKeptLine (texts.Walk walk) line item
-walk_kept p walk line Front s h = absurd cc
-walk_kept p walk line (Scale n) s h = absurd cc
 walk_kept p walk line (Walk rows) s h =
     let read : marked_of (drop 1 (words_of line)) ≡ Some rows =
     ap marked_of (behind p (Walk rows) line (codes "walk") (marked_words rows) s refl) ∙ marked_words_read rows s.1.within in
     record { says = rw read refl; spelt = rw read s.1.within }
-walk_kept p walk line (Version n) s h = absurd cc
-walk_kept p walk line (Period n) s h = absurd cc
-walk_kept p walk line (Says a) s h = absurd cc
-walk_kept p walk line (Time l t) s h = absurd cc
-walk_kept p walk line (Cycle rows) s h = absurd cc
-walk_kept p walk line (Slack row k) s h = absurd cc
-walk_kept p walk line (Offset cycle k) s h = absurd cc
-walk_kept p walk line (Bound ps) s h = absurd cc
-walk_kept p walk line (Nothing ps) s h = absurd cc
-walk_kept p walk line (Gap cycle) s h = absurd cc
-walk_kept p walk line Propagated s h = absurd cc
-walk_kept p walk line End s h = absurd cc
+walk_kept p walk line item s h = absurd cc
+
+lemma_kept : (p : Progress) (pairs : LinePairs) (line : List ℕ) (item : Item) → SpellsItem p line item
+    → Lemma (pairs_in pairs) ≡ bare item → IsKeptLine (texts.Lemma pairs) line item
+lemma_kept p pairs line (Lemma ps) s h =
+    let read : pairs_from 0 (drop 1 (words_of line)) ≡ Some ps =
+    ap (pairs_from 0) (behind p (Lemma ps) line (codes "lemma") (pair_words ps) s refl) ∙ pairs_read 0 ps s.1.proper s.1.within in
+    record { says = rw read refl; spelt = rw read s.1.within }
+lemma_kept p pairs line item s h = absurd cc
 
 line_kept : (p : Progress) (said : TextLine) (line : List ℕ) (item : Item) → SpellsItem p line item
     → is_end item ≡ false → line_said said ≡ bare item → IsKeptLine said line item
@@ -235,6 +214,10 @@ line_kept p (texts.Scale n) line item s e h =
     let plain : has_list item ≡ false = sym (bare_list item) ∙ ap has_list (sym h) in
     record { says = h ∙ bare_is item plain; spelt = tt }
 line_kept p (texts.Walk walk) line item s e h = walk_kept p walk line item s h
+line_kept p (texts.Lemma pairs) line item s e h = lemma_kept p pairs line item s h
+line_kept p (texts.Least n) line item s e h =
+    let plain : has_list item ≡ false = sym (bare_list item) ∙ ap has_list (sym h) in
+    record { says = h ∙ bare_is item plain; spelt = tt }
 line_kept p (texts.Own own) line item s e h =
     let plain : in_front item ≡ false = sym (bare_front item) ∙ ap in_front (sym h) ∙ own_item own in
     let kept = lent_back p own line item s e plain h in

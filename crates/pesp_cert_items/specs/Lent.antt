@@ -17,7 +17,7 @@ use Rattle.pesp_cert_items.specs.declared.marked.MarkedRows.{MarkedRows}
 use Rattle.pesp_cert_items.specs.declared.item.Item.{Item as LentItem}
 use Rattle.pesp_cert_items.specs.declared.item.Item.TheVariants as lent
 use Rattle.pesp_cert_items.specs.declared.text_line.TextLine.{TextLine}
-use Rattle.pesp_cert_items.specs.declared.text_line.TextLine.TheVariants.{Front, Scale, Walk, Own}
+use Rattle.pesp_cert_items.specs.declared.text_line.TextLine.TheVariants.{Front, Scale, Walk, Lemma, Least, Own}
 
 -- the rows that are left in the line
 abbrev pub rows_in : SignedRows → List SignedRow
@@ -48,6 +48,7 @@ listed lent.Propagated = items.Propagated
 -- the item without the elements of its list
 abbrev pub bare : Item → Item
 bare (items.Walk walk) = items.Walk []
+bare (items.Lemma pairs) = items.Lemma []
 bare (items.Cycle rows) = items.Cycle []
 bare (items.Bound pairs) = items.Bound []
 bare (items.Nothing pairs) = items.Nothing []
@@ -80,6 +81,8 @@ abbrev pub line_said : TextLine → Item
 line_said Front = items.Front
 line_said (Scale n) = items.Scale n
 line_said (Walk walk) = items.Walk (marked_in walk)
+line_said (Lemma pairs) = items.Lemma (pairs_in pairs)
+line_said (Least n) = items.Least n
 line_said (Own item) = listed item
 
 -- it is no line of a front
@@ -92,11 +95,14 @@ abbrev pub line_back : TextLine → List ℕ → Item
 line_back Front line = items.Front
 line_back (Scale n) line = items.Scale n
 line_back (Walk walk) line = items.Walk (marked_left (marked_of (drop 1 (words_of line))))
+line_back (Lemma pairs) line = items.Lemma (pairs_left (pairs_from 0 (drop 1 (words_of line))))
+line_back (Least n) line = items.Least n
 line_back (Own item) line = read_back item line
 
 -- these words spell its list
 abbrev pub IsLineSpelt : TextLine → List ℕ → Type 0
 IsLineSpelt (Walk walk) line = marked_are_good (marked_of (drop 1 (words_of line))) ≡ true
+IsLineSpelt (Lemma pairs) line = pairs_are_good (pairs_from 0 (drop 1 (words_of line))) ≡ true
 IsLineSpelt (Own item) line = IsSpelt item line
 IsLineSpelt said line = Unit {0}
 

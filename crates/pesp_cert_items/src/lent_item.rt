@@ -37,7 +37,12 @@ fn bare_item(item: &LineItem<'_>) -> Item<'static>
         LineItem::Nothing(_) => Item::Nothing(LinePairs::new(None)),
         LineItem::Gap(cycle) => Item::Gap(*cycle),
         LineItem::Propagated => Item::Propagated,
-        LineItem::Front | LineItem::Scale(_) | LineItem::Walk(_) | LineItem::End => unreachable!(),
+        LineItem::Front
+        | LineItem::Scale(_)
+        | LineItem::Walk(_)
+        | LineItem::Lemma(_)
+        | LineItem::Least(_)
+        | LineItem::End => unreachable!(),
     }
 }
 
@@ -51,6 +56,8 @@ pub(crate) fn bare_line(item: &LineItem<'_>) -> Option<TextLine<'static>>
         LineItem::Front => Some(TextLine::Front),
         LineItem::Scale(scale) => Some(TextLine::Scale(*scale)),
         LineItem::Walk(_) => Some(TextLine::Walk(MarkedRows::new(None))),
+        LineItem::Lemma(_) => Some(TextLine::Lemma(LinePairs::new(None))),
+        LineItem::Least(least) => Some(TextLine::Least(*least)),
         own => Some(TextLine::Own(bare_item(own))),
     }
 }
@@ -85,6 +92,8 @@ pub(crate) fn line_in<'a>(said: &TextLine<'static>, line: &'a [u8]) -> TextLine<
         TextLine::Front => TextLine::Front,
         TextLine::Scale(scale) => TextLine::Scale(*scale),
         TextLine::Walk(_) => TextLine::Walk(MarkedRows::new(behind_first(line))),
+        TextLine::Lemma(_) => TextLine::Lemma(LinePairs::new(behind_first(line))),
+        TextLine::Least(least) => TextLine::Least(*least),
         TextLine::Own(item) => TextLine::Own(item_in(item, line)),
     }
 }
@@ -97,6 +106,10 @@ pub(crate) fn own_in<'a>(said: &TextLine<'static>, line: &'a [u8]) -> Item<'a>
 {
     match said {
         TextLine::Own(item) => item_in(item, line),
-        TextLine::Front | TextLine::Scale(_) | TextLine::Walk(_) => unreachable!(),
+        TextLine::Front
+        | TextLine::Scale(_)
+        | TextLine::Walk(_)
+        | TextLine::Lemma(_)
+        | TextLine::Least(_) => unreachable!(),
     }
 }

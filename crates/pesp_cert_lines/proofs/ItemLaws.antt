@@ -20,7 +20,7 @@ use Rattle.pesp_cert_lines.specs.Marked.{marked_of, marked_words}
 use Rattle.pesp_cert_lines.specs.Pairs.{pairs_from, pair_words}
 use Rattle.pesp_nets.specs.declared.marked.MarkedRow.{MarkedRow}
 use Rattle.pesp_cert_lines.specs.declared.item.Item.{Item}
-use Rattle.pesp_cert_lines.specs.declared.item.Item.TheVariants.{Front, Scale, Walk, Version, Period, Answer as Says, Time, Cycle, Slack, Offset, Bound, Nothing, Gap, Propagated, End}
+use Rattle.pesp_cert_lines.specs.declared.item.Item.TheVariants.{Front, Scale, Walk, Lemma, Least, Version, Period, Answer as Says, Time, Cycle, Slack, Offset, Bound, Nothing, Gap, Propagated, End}
 use Rattle.pesp_cert_lines.specs.Items.{is_item_within, item_of, is_form, item_words, one, two, spelt_cost, cost_word, answer_of, answer_words, optimal_of, open_of, is_answer_form, IsProper, HasProperCosts}
 use Rattle.pesp_cert_lines.specs.Counts.{kind_in}
 use Rattle.pesp_text.proofs.Digits.{natural_spells, natural_read, whole_spells, whole_read, decimal_digits}
@@ -149,6 +149,13 @@ nat_word w n h = (natural_spells w n h).1
 int_word : (w : List ℕ) (z : ℤ) → whole_of w ≡ Some z → w ≡ signed_decimal z
 int_word w z h = (whole_spells w z h).1
 
+-- one word that spells a whole number
+one_whole : (ws : List (List ℕ)) (z : ℤ) → (length ws == 1) ≡ true → one whole_of ws ≡ Some z
+    → (ws ≡ signed_decimal z ∷ []) × (nat_abs z < NATURALS)
+one_whole [] z e h = absurd cc
+one_whole (w ∷ []) z e h = let s = whole_spells w z h in (joined w (signed_decimal z) [] [] s.1 refl, s.0)
+one_whole (v ∷ w ∷ ws) z e h = absurd (omega (arith, eqb-true (length (v ∷ w ∷ ws)) 1 e))
+
 at_item : (k : Kind) (ws : List (List ℕ)) (x y : Item) → x ≡ y → IsSpelt k ws x → IsSpelt k ws y
 at_item k ws x y e h = rw (← e) h
 
@@ -177,6 +184,16 @@ item_spells kinds.Walk ws item f h =
     some_rows : (rs : List MarkedRow) → length (marked_words rs) ≡ length ws → 1 ≤ length ws → 0 < length rs
     some_rows [] e h = omega (arith, e)
     some_rows (r ∷ rs) e h = omega arith
+item_spells kinds.Lemma ws item f h =
+    let m = option_map_some Lemma (pairs_from 0 ws) item h in
+    let s = pairs_spell 0 ws m.0 m.1 in
+    at_item kinds.Lemma ws (Lemma m.0) item m.2
+    (record { words = ap (λ (vs : List (List ℕ)). codes "lemma" ∷ vs) s.0; kind = refl; proper = s.1 })
+item_spells kinds.Least ws item f h =
+    let m = option_map_some Least (one whole_of ws) item h in
+    let s = one_whole ws m.0 f m.1 in
+    at_item kinds.Least ws (Least m.0) item m.2
+    (record { words = ap (λ (vs : List (List ℕ)). codes "least" ∷ vs) s.0; kind = refl; proper = s.1 })
 item_spells kinds.Version ws item f h =
     let m = option_map_some Version (one natural_of ws) item h in
     at_item kinds.Version ws (Version m.0) item m.2
@@ -299,6 +316,14 @@ item_read (Walk rs) word proper within = (
     some_words : (rs : List MarkedRow) → 0 < length rs → nat_le 1 (length (marked_words rs)) ≡ true
     some_words [] h = absurd (omega arith)
     some_words (r ∷ rs) h = grind (arith, nat_tests)
+item_read (Lemma ps) word proper within = (
+  pair_words ps,
+  record { words = refl; form = pair_count ps; says = rw (pairs_read 0 ps proper within) refl },
+)
+item_read (Least n) word proper within = (
+  signed_decimal n ∷ [],
+  record { words = refl; form = refl; says = rw (int_read n proper) refl },
+)
 item_read (Version n) word proper within = (
   decimal n ∷ [],
   record { words = refl; form = refl; says = rw (nat_read n (grind (arith, nat_tests, within))) refl },

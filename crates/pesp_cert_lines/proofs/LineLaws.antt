@@ -28,9 +28,9 @@ use Rattle.pesp_cert_lines.specs.Marked.{are_named, star, marked_word, marked_wo
 use Rattle.pesp_cert_lines.specs.Pairs.{pair_words, is_pair_within, all_within}
 use Rattle.pesp_nets.specs.declared.marked.MarkedRow.{MarkedRow}
 use Rattle.pesp_cert_lines.specs.declared.item.Item.{Item}
-use Rattle.pesp_cert_lines.specs.declared.item.Item.TheVariants.{Front, Scale, Walk, Version, Period, Answer as Says, Time, Cycle, Slack, Offset, Bound, Nothing, Gap, Propagated, End}
+use Rattle.pesp_cert_lines.specs.declared.item.Item.TheVariants.{Front, Scale, Walk, Lemma, Least, Version, Period, Answer as Says, Time, Cycle, Slack, Offset, Bound, Nothing, Gap, Propagated, End}
 use Rattle.pesp_cert_lines.specs.Items.{is_item_within, checked, item_of, is_form, item_words, cost_word, kind_of, IsProper}
-use Rattle.pesp_cert_lines.specs.Counts.{allows, may_follow, is_behind_front, after, keeps_counts, kind_in, CanStand}
+use Rattle.pesp_cert_lines.specs.Counts.{allows, may_follow, may_end, is_behind_front, after, keeps_counts, kind_in, CanStand}
 use Rattle.pesp_cert_lines.specs.Lines.{line_at, line_judged, begins_front, is_cut, as_line, words_judged, kind_judged, counted, ReadsLine}
 use Rattle.pesp_text.proofs.Digits.{decimal_digits, decimal_some}
 use Rattle.pesp_cert_lines.proofs.Tests.{cases, and_left, and_right, and_both}
@@ -125,6 +125,8 @@ pub item_plain : (item : Item) → IsProper item → is_item_within item ≡ tru
 item_plain Front proper within = refl
 item_plain (Scale n) proper within = and_both _ _ (plain_nat n (grind (arith, nat_tests, within))) refl
 item_plain (Walk walk) proper within = plain_walk walk within
+item_plain (Lemma ps) proper within = plain_pairs ps within
+item_plain (Least n) proper within = and_both _ _ (plain_int n proper) refl
 item_plain (Version n) proper within = and_both _ _ (plain_nat n (grind (arith, nat_tests, within))) refl
 item_plain (Period n) proper within = and_both _ _ (plain_nat n (grind (arith, nat_tests, within))) refl
 item_plain (Says (answers.Optimal c)) proper within = and_both _ _ (plain_nat c proper) refl
@@ -212,10 +214,10 @@ kind_ok p ws None item h = absurd cc
 kind_ok p ws (Some k) item h = go (allows p k && is_form k ws) refl h
   where
     go : (b : Bool) → (allows p k && is_form k ws) ≡ b
-        → cond b (as_line (is_behind_front p.place k) (checked (item_of k ws))) (Err faults.Line) ≡ Ok item
+        → cond b (as_line (is_behind_front p.place p.shows k) (checked (item_of k ws))) (Err faults.Line) ≡ Ok item
         → (j : Kind) × (Some k ≡ Some j) × (allows p j ≡ true) × (is_form j ws ≡ true)
         × (checked (item_of j ws) ≡ Ok item)
-    go true e h = (k, refl, and_left (allows p k) (is_form k ws) e, and_right (allows p k) (is_form k ws) e, lined_ok (is_behind_front p.place k) (checked (item_of k ws)) item h)
+    go true e h = (k, refl, and_left (allows p k) (is_form k ws) e, and_right (allows p k) (is_form k ws) e, lined_ok (is_behind_front p.place p.shows k) (checked (item_of k ws)) item h)
     go false e h = absurd cc
 
 counted_ok : (p : Progress) (r : Result Item LineFault) (item : Item) → counted p r ≡ Ok item
@@ -291,24 +293,30 @@ plain_words_have_no_empty (w ∷ ws) h =
     is_some (b ∷ bs) h = grind (arith, nat_tests)
 
 only_end : (p : Progress) (k : Kind) → kinds.End ≡ k → allows p k ≡ true → (p.needs == 0) ≡ true
-only_end p k e h = go (p.needs == 0) p.place (rw (← e) at h)
+only_end p k e h = go (p.needs == 0) p.place p.shows (rw (← e) at h)
   where
-    go : (b : Bool) (place : Place) → cond b true (may_follow place kinds.End && true) ≡ true → b ≡ true
-    go true place h = refl
-    go false places.Front h = absurd cc
-    go false places.Marked h = absurd cc
-    go false places.Walks h = absurd cc
-    go false places.Header h = absurd cc
-    go false places.Period h = absurd cc
-    go false places.Times h = absurd cc
-    go false places.Cycles h = absurd cc
-    go false places.Tree h = absurd cc
+    go : (b : Bool) (place : Place) (shows : Bool)
+        → cond b (may_end shows kinds.End) (may_follow place shows kinds.End && true) ≡ true → b ≡ true
+    go true place shows h = refl
+    go false places.Front shows h = absurd cc
+    go false places.Marked shows h = absurd cc
+    go false places.Walks true h = absurd cc
+    go false places.Walks false h = absurd cc
+    go false places.Lemma shows h = absurd cc
+    go false places.Least shows h = absurd cc
+    go false places.Header shows h = absurd cc
+    go false places.Period shows h = absurd cc
+    go false places.Times shows h = absurd cc
+    go false places.Cycles shows h = absurd cc
+    go false places.Tree shows h = absurd cc
 
 -- the item's line is known by its first word, or as a whole
 worded : (item : Item) → (has_word item ≡ true) ⊎ (Front ≡ item)
 worded Front = inr refl
 worded (Scale n) = inl refl
 worded (Walk walk) = inl refl
+worded (Lemma ps) = inl refl
+worded (Least n) = inl refl
 worded (Version n) = inl refl
 worded (Period n) = inl refl
 worded (Says a) = inl refl
@@ -396,7 +404,7 @@ word_read p item word can =
     let judged : words_judged p (words_of line)
     ≡ Ok item = ap (words_judged p) (words_of-item item can.proper can.within ∙ r.1.words)
     ∙ rw (plain, kind_read (kind_in item) word, can.allowed, r.1.form, r.1.says, can.within)
-    (ok_lined (is_behind_front p.place (kind_in item)) item) in
+    (ok_lined (is_behind_front p.place p.shows (kind_in item)) item) in
     rw (goes, begins, judged, can.counts) refl
   where
     and_false : (b : Bool) → (b && false) ≡ false

@@ -144,6 +144,8 @@ abbrev pub kind_word : Kind → List ℕ
 kind_word kinds.Front = []
 kind_word kinds.Scale = codes "scale"
 kind_word kinds.Walk = codes "walk"
+kind_word kinds.Lemma = codes "lemma"
+kind_word kinds.Least = codes "least"
 kind_word kinds.Version = codes "pesp-certificate"
 kind_word kinds.Period = codes "period"
 kind_word kinds.Answer = codes "answer"
@@ -212,7 +214,15 @@ kind_spells w j h0 =
                                                                               | inr h13 ↦
                                                                                   elim (kind_step w (codes "scale") kinds.Scale j _ h13) [
                                                                                     | inl e ↦ as_kind w kinds.Scale j e.0 e.1
-                                                                                    | inr h14 ↦ absurd cc
+                                                                                    | inr h14 ↦
+                                                                                        elim (kind_step w (codes "lemma") kinds.Lemma j _ h14) [
+                                                                                          | inl e ↦ as_kind w kinds.Lemma j e.0 e.1
+                                                                                          | inr h15 ↦
+                                                                                              elim (kind_step w (codes "least") kinds.Least j _ h15) [
+                                                                                                | inl e ↦ as_kind w kinds.Least j e.0 e.1
+                                                                                                | inr h16 ↦ absurd cc
+                                                                                              ]
+                                                                                        ]
                                                                                   ]
                                                                             ]
                                                                       ]
@@ -238,6 +248,8 @@ unfolding kind_of
 kind_read kinds.Front h = absurd cc
 kind_read kinds.Scale h = refl
 kind_read kinds.Walk h = refl
+kind_read kinds.Lemma h = refl
+kind_read kinds.Least h = refl
 kind_read kinds.Version h = refl
 kind_read kinds.Period h = refl
 kind_read kinds.Answer h = refl

@@ -4,7 +4,7 @@ use Rattle.pesp_problem.specs.declared.limits.TheConstants.{MOST_CYCLES, MOST_EV
 use Rattle.pesp_cert_lines.specs.declared.kind.Kind.{Kind}
 use Rattle.pesp_cert_lines.specs.declared.kind.Kind.TheVariants as kinds
 use Rattle.pesp_cert_lines.specs.declared.item.Item.{Item}
-use Rattle.pesp_cert_lines.specs.declared.item.Item.TheVariants.{Front, Scale, Walk, Version, Period, Answer as Says, Time, Cycle, Slack, Offset, Bound, Nothing, Gap, Propagated, End}
+use Rattle.pesp_cert_lines.specs.declared.item.Item.TheVariants.{Front, Scale, Walk, Lemma, Least, Version, Period, Answer as Says, Time, Cycle, Slack, Offset, Bound, Nothing, Gap, Propagated, End}
 use Rattle.pesp_cert_lines.specs.declared.progress.Place.{Place}
 use Rattle.pesp_cert_lines.specs.declared.progress.Place.TheVariants as places
 use Rattle.pesp_cert_lines.specs.declared.progress.Progress.{Progress}
@@ -50,6 +50,14 @@ abbrev pub is_walk_kind : Kind → Bool
 is_walk_kind kinds.Walk = true
 is_walk_kind _ = false
 
+abbrev pub is_lemma_kind : Kind → Bool
+is_lemma_kind kinds.Lemma = true
+is_lemma_kind _ = false
+
+abbrev pub is_least_kind : Kind → Bool
+is_least_kind kinds.Least = true
+is_least_kind _ = false
+
 abbrev pub is_version_kind : Kind → Bool
 is_version_kind kinds.Version = true
 is_version_kind _ = false
@@ -66,40 +74,51 @@ abbrev pub is_end_kind : Kind → Bool
 is_end_kind kinds.End = true
 is_end_kind _ = false
 
--- whether a line of this kind may stand next, while the tree isn't whole
-abbrev pub may_follow : Place → Kind → Bool
-may_follow places.Front k = is_version_kind k || is_front_kind k
-may_follow places.Marked k = is_scale_kind k
-may_follow places.Walks k = is_walk_kind k || is_version_kind k
-may_follow places.Header k = is_period_kind k
-may_follow places.Period k = is_answer_kind k
-may_follow places.Times k = is_time_kind k || is_cycle_kind k || is_tree_kind k
-may_follow places.Cycles k = is_cycle_kind k || is_tree_kind k
-may_follow places.Tree k = is_tree_kind k
+-- whether a line of this kind may stand behind a scale or a marked walk: of the front, or of a lemma that is shown
+abbrev pub may_follow_walks : Bool → Kind → Bool
+may_follow_walks shows k = is_walk_kind k || (if shows then is_cycle_kind k || is_tree_kind k else is_lemma_kind k || is_version_kind k)
 
--- behind a line of a front
-abbrev pub is_in_front : Place → Bool
-is_in_front places.Marked = true
-is_in_front places.Walks = true
-is_in_front _ = false
+-- whether a line of this kind may stand next, while the tree isn't whole
+abbrev pub may_follow : Place → Bool → Kind → Bool
+may_follow places.Front shows k = is_version_kind k || is_front_kind k
+may_follow places.Marked shows k = is_scale_kind k
+may_follow places.Walks shows k = may_follow_walks shows k
+may_follow places.Lemma shows k = is_least_kind k
+may_follow places.Least shows k = is_scale_kind k
+may_follow places.Header shows k = is_period_kind k
+may_follow places.Period shows k = is_answer_kind k
+may_follow places.Times shows k = is_time_kind k || is_cycle_kind k || is_tree_kind k
+may_follow places.Cycles shows k = is_cycle_kind k || is_tree_kind k
+may_follow places.Tree shows k = is_tree_kind k
+
+-- behind a whole tree: the next lemma or the certificate's own first line where it is a lemma's, else `end`
+abbrev pub may_end : Bool → Kind → Bool
+may_end shows k = if shows then is_lemma_kind k || is_version_kind k else is_end_kind k
+
+-- behind a line of a front, or of a lemma
+abbrev pub is_in_front : Place → Bool → Bool
+is_in_front places.Marked shows = true
+is_in_front places.Walks shows = true
+is_in_front places.Lemma shows = true
+is_in_front places.Least shows = true
+is_in_front _ shows = shows
 
 abbrev pub is_walks_place : Place → Bool
 is_walks_place places.Walks = true
 is_walks_place _ = false
 
 -- the certificate's own first line, behind a front
-abbrev pub is_behind_front : Place → Kind → Bool
-is_behind_front place k = is_walks_place place && is_version_kind k
+abbrev pub is_behind_front : Place → Bool → Kind → Bool
+is_behind_front place shows k = (shows || is_walks_place place) && is_version_kind k
 
--- whether texts of this version have lines of this kind, where these versions are taken
-abbrev pub has_kind : Versions → ℕ → Kind → Bool
-has_kind versions version kinds.Propagated = nat_le 2 version
-has_kind versions version kinds.Front = takes_fronts versions
-has_kind versions version _ = true
+-- whether texts of this version have lines of this kind, where these versions are taken; lemmas are shown by lines of all kinds
+abbrev pub has_kind : Versions → ℕ → Bool → Kind → Bool
+has_kind versions version shows kinds.Propagated = shows || nat_le 2 version
+has_kind versions version shows kinds.Front = takes_fronts versions
+has_kind versions version shows _ = true
 
--- where it is, only `end` may
 abbrev pub allows : Progress → Kind → Bool
-allows p k = if p.needs == 0 then is_end_kind k else may_follow p.place k && has_kind p.versions p.version k
+allows p k = if p.needs == 0 then may_end p.shows k else may_follow p.place p.shows k && has_kind p.versions p.version p.shows k
 
 -- ---- the counts
 
@@ -117,17 +136,22 @@ beginning versions = record {
   pairs = 0;
   walks = 0;
   marked = 0;
+  lemmas = 0;
+  shows = false;
 }
 
 -- behind a line of the tree that asks for so many trees in place of the one that it is, and has so many pairs
 abbrev pub after_tree : Progress → ℕ → ℕ → Progress
 after_tree p parts pairs = record p { place = places.Tree; needs = (p.needs + parts) - 1; lines = p.lines + 1; pairs = p.pairs + pairs }
 
+-- what shows a lemma is counted from its first line on, and the certificate's own lines from theirs
 abbrev pub after : Progress → Item → Progress
 after p Front = record p { place = places.Marked }
 after p (Scale n) = record p { place = places.Walks }
 after p (Walk walk) = record p { place = places.Walks; walks = p.walks + 1; marked = p.marked + length walk }
-after p (Version n) = record p { place = places.Header; version = n }
+after p (Lemma ps) = record (beginning p.versions) { place = places.Lemma; lemmas = p.lemmas + 1; shows = true }
+after p (Least n) = record p { place = places.Least }
+after p (Version n) = record (beginning p.versions) { place = places.Header; version = n }
 after p (Period n) = record p { place = places.Period }
 after p (Says a) = record p { place = places.Times }
 after p (Time label time) = record p { times = p.times + 1 }
@@ -144,7 +168,7 @@ after p End = p
 abbrev pub keeps_counts : Progress → Bool
 keeps_counts p = nat_le p.times MOST_EVENTS && nat_le p.cycles MOST_CYCLES && nat_le p.rows MOST_SIGNED_ROWS
     && nat_le p.lines MOST_LINES && nat_le p.pairs MOST_PAIRS
-    && nat_le p.walks MOST_CYCLES && nat_le p.marked MOST_SIGNED_ROWS
+    && nat_le p.walks MOST_CYCLES && nat_le p.marked MOST_SIGNED_ROWS && nat_le p.lemmas MOST_CYCLES
 
 abbrev pub counted_after : Progress → Item → Option Progress
 counted_after p item = if keeps_counts (after p item) then Some (after p item) else None
@@ -158,6 +182,7 @@ pub record IsKept (p : Progress) : Type 0 where
   pub pairs : p.pairs ≤ MOST_PAIRS
   pub walks : p.walks ≤ MOST_CYCLES
   pub marked : p.marked ≤ MOST_SIGNED_ROWS
+  pub lemmas : p.lemmas ≤ MOST_CYCLES
   pub needs : p.needs ≤ p.lines + 1
 
 -- ---- what may stand next
@@ -166,6 +191,8 @@ abbrev pub kind_in : Item → Kind
 kind_in Front = kinds.Front
 kind_in (Scale n) = kinds.Scale
 kind_in (Walk walk) = kinds.Walk
+kind_in (Lemma ps) = kinds.Lemma
+kind_in (Least n) = kinds.Least
 kind_in (Version n) = kinds.Version
 kind_in (Period n) = kinds.Period
 kind_in (Says a) = kinds.Answer

@@ -11,7 +11,7 @@ use Rattle.pesp_text.specs.Words.{line_of_words}
 use Rattle.pesp_cert_lines.specs.declared.kind.Kind.{Kind}
 use Rattle.pesp_cert_lines.specs.declared.kind.Kind.TheVariants as kinds
 use Rattle.pesp_cert_lines.specs.declared.item.Item.{Item}
-use Rattle.pesp_cert_lines.specs.declared.item.Item.TheVariants.{Front, Scale, Walk, Version, Period, Answer as Says, Time, Cycle, Slack, Offset, Bound, Nothing, Gap, Propagated, End}
+use Rattle.pesp_cert_lines.specs.declared.item.Item.TheVariants.{Front, Scale, Walk, Lemma, Least, Version, Period, Answer as Says, Time, Cycle, Slack, Offset, Bound, Nothing, Gap, Propagated, End}
 use Rattle.pesp_cert_lines.specs.declared.fault.LineFault.{LineFault}
 use Rattle.pesp_cert_lines.specs.declared.fault.LineFault.TheVariants as faults
 use Rattle.pesp_cert_lines.specs.Rows.{is_name, rows_are_named, row_words, rows_of, both}
@@ -33,6 +33,8 @@ abbrev pub item_words : Item → List (List ℕ)
 item_words Front = codes "pesp-certificate" ∷ codes "3" ∷ []
 item_words (Scale n) = codes "scale" ∷ decimal n ∷ []
 item_words (Walk walk) = codes "walk" ∷ marked_words walk
+item_words (Lemma ps) = codes "lemma" ∷ pair_words ps
+item_words (Least n) = codes "least" ∷ signed_decimal n ∷ []
 item_words (Version n) = codes "pesp-certificate" ∷ decimal n ∷ []
 item_words (Period n) = codes "period" ∷ decimal n ∷ []
 item_words (Says a) = codes "answer" ∷ answer_words a
@@ -61,6 +63,8 @@ HasProperCosts (answers.Bounded least cost) = (least < NATURALS) × IfSome cost 
 abbrev pub IsProper : Item → Type 0
 IsProper (Says a) = HasProperCosts a
 IsProper (Walk walk) = 0 < length walk
+IsProper (Lemma ps) = rise_from 0 ps ≡ true
+IsProper (Least n) = nat_abs n < NATURALS
 IsProper (Cycle rows) = 0 < length rows
 IsProper (Bound ps) = rise_from 0 ps ≡ true
 IsProper (Nothing ps) = rise_from 0 ps ≡ true
@@ -71,6 +75,8 @@ abbrev pub is_item_within : Item → Bool
 is_item_within Front = true
 is_item_within (Scale n) = nat_le 1 n && nat_le n MOST_SCALE
 is_item_within (Walk walk) = are_named walk
+is_item_within (Lemma ps) = all_within ps
+is_item_within (Least n) = true
 is_item_within (Version n) = nat_le 1 n && nat_le n 2
 is_item_within (Period n) = nat_le 1 n && nat_le n MOST_PERIOD
 is_item_within (Says a) = true
@@ -101,7 +107,9 @@ kind_of w = if bytes_eq w (codes "s") then Some kinds.Slack else
     if bytes_eq w (codes "pesp-certificate") then Some kinds.Version else
     if bytes_eq w (codes "end") then Some kinds.End else
     if bytes_eq w (codes "walk") then Some kinds.Walk else
-    if bytes_eq w (codes "scale") then Some kinds.Scale else None
+    if bytes_eq w (codes "scale") then Some kinds.Scale else
+    if bytes_eq w (codes "lemma") then Some kinds.Lemma else
+    if bytes_eq w (codes "least") then Some kinds.Least else None
 
 -- whether so many words may stand behind `answer`, by the first of them
 unfoldable pub is_answer_form : List (List ℕ) → Bool
@@ -115,6 +123,8 @@ abbrev pub is_form : Kind → List (List ℕ) → Bool
 is_form kinds.Front ws = false
 is_form kinds.Scale ws = length ws == 1
 is_form kinds.Walk ws = nat_le 1 (length ws)
+is_form kinds.Lemma ws = length ws % 2 == 0
+is_form kinds.Least ws = length ws == 1
 is_form kinds.Version ws = length ws == 1
 is_form kinds.Period ws = length ws == 1
 is_form kinds.Answer ws = is_answer_form ws
@@ -160,6 +170,8 @@ unfoldable pub item_of : Kind → List (List ℕ) → Option Item
 item_of kinds.Front ws = None
 item_of kinds.Scale ws = option_map Scale (one natural_of ws)
 item_of kinds.Walk ws = option_map Walk (marked_of ws)
+item_of kinds.Lemma ws = option_map Lemma (pairs_from 0 ws)
+item_of kinds.Least ws = option_map Least (one whole_of ws)
 item_of kinds.Version ws = option_map Version (one natural_of ws)
 item_of kinds.Period ws = option_map Period (one natural_of ws)
 item_of kinds.Answer ws = option_map Says (answer_of ws)

@@ -24,7 +24,7 @@ as_line false r = r
 
 abbrev pub kind_judged : Progress → List (List ℕ) → Option Kind → Result Item LineFault
 kind_judged p ws None = Err faults.Line
-kind_judged p ws (Some k) = if allows p k && is_form k ws then as_line (is_behind_front p.place k) (checked (item_of k ws)) else Err faults.Line
+kind_judged p ws (Some k) = if allows p k && is_form k ws then as_line (is_behind_front p.place p.shows k) (checked (item_of k ws)) else Err faults.Line
 
 -- the first fault of the form, then of the numbers
 abbrev pub words_judged : Progress → List (List ℕ) → Result Item LineFault
@@ -42,7 +42,7 @@ begins_front p line = allows p kinds.Front && bytes_eq line (codes "pesp-certifi
 
 -- the end of a certificate whose tree isn't whole
 abbrev pub is_cut : Progress → List ℕ → Bool
-is_cut p line = bytes_eq line (codes "end") && not (p.needs == 0) && not (is_in_front p.place)
+is_cut p line = bytes_eq line (codes "end") && not (p.needs == 0) && not (is_in_front p.place p.shows)
 
 -- what a line says at its place without the counts, or its first fault
 abbrev pub line_judged : Progress → List ℕ → Result Item LineFault

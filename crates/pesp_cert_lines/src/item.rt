@@ -7,7 +7,8 @@ use pesp_truth::Answer;
 
 /// What one line says. The lists are read from the line itself.
 ///
-/// `Front` is the first line of version 3; `Scale` and `Walk` are the lines of its front. `Version` is the first line's of what
+/// `Front` is the first line of version 3; `Scale` and `Walk` are the lines of its front. `Lemma` has the rows of a lemma with
+/// their weights, and `Least` what its sum is at least; the lines behind them show it. `Version` is the first line's of what
 /// stands behind it, or of the text. `Time` has an event's label and its time. `Slack` and `Offset` are branches of the tree,
 /// with the part of 'at most `k`' first; `Bound`, `Nothing`, `Gap` and `Propagated` are its leaves.
 #[derive(Drop)]
@@ -15,6 +16,8 @@ pub enum Item<'a> {
     Front,
     Scale(u32),
     Walk(MarkedRows<'a>),
+    Lemma(LinePairs<'a>),
+    Least(i64),
     Version(u32),
     Period(u32),
     Answer(Answer),

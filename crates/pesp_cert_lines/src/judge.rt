@@ -40,6 +40,28 @@ fn walk(words: Words<'_>) -> Result<Item<'_>, LineFault>
 }
 
 #[tactic(auto, unfolding(crate::specs::Items::item_of))]
+fn lemma(words: Words<'_>) -> Result<Item<'_>, LineFault>
+    requires { length words ≤ MOST_WORDS }
+    ensures { result ≡ checked (item_of Kind.Lemma words.entry) }
+{
+    let pairs = judge_pairs(words)?;
+    Ok(Item::Lemma(pairs))
+}
+
+#[tactic(auto, unfolding(crate::specs::Items::item_of))]
+fn least(mut words: Words<'_>) -> Result<Item<'static>, LineFault>
+    ensures { result ≡ checked (item_of Kind.Least words.entry) }
+{
+    let Some(word) = words.next() else {
+        return Err(LineFault::Number);
+    };
+    match whole(word) {
+        None => Err(LineFault::Number),
+        Some(least) => Ok(Item::Least(least)),
+    }
+}
+
+#[tactic(auto, unfolding(crate::specs::Items::item_of))]
 fn version(mut words: Words<'_>) -> Result<Item<'static>, LineFault>
     ensures { result ≡ checked (item_of Kind.Version words.entry) }
 {
@@ -243,6 +265,8 @@ pub(crate) fn judge_numbers(kind: Kind, words: Words<'_>) -> Result<Item<'_>, Li
         Kind::Front => Err(LineFault::Number),
         Kind::Scale => scale(words),
         Kind::Walk => walk(words),
+        Kind::Lemma => lemma(words),
+        Kind::Least => least(words),
         Kind::Version => version(words),
         Kind::Period => period(words),
         Kind::Answer => answer(words),

@@ -6,6 +6,8 @@ pub enum Kind {
     Front,
     Scale,
     Walk,
+    Lemma,
+    Least,
     Version,
     Period,
     Answer,

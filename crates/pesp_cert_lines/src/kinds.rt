@@ -39,6 +39,10 @@ pub(crate) fn kind_of(word: &[u8]) -> Option<Kind>
         Some(Kind::Walk)
     } else if is_word(word, "scale") {
         Some(Kind::Scale)
+    } else if is_word(word, "lemma") {
+        Some(Kind::Lemma)
+    } else if is_word(word, "least") {
+        Some(Kind::Least)
     } else {
         None
     }

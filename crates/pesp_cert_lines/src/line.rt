@@ -41,11 +41,11 @@ fn is_form(kind: Kind, words: Words<'_>, number: usize) -> bool
 {
     match kind {
         Kind::Front => false,
-        Kind::Scale | Kind::Version | Kind::Period | Kind::Gap => number == 1,
+        Kind::Scale | Kind::Least | Kind::Version | Kind::Period | Kind::Gap => number == 1,
         Kind::Answer => is_answer_form(words, number),
         Kind::Time | Kind::Slack | Kind::Offset => number == 2,
         Kind::Cycle | Kind::Walk => number >= 1,
-        Kind::Bound | Kind::Nothing => number % 2 == 0,
+        Kind::Lemma | Kind::Bound | Kind::Nothing => number % 2 == 0,
         Kind::Propagated | Kind::End => number == 0,
     }
 }
@@ -77,7 +77,7 @@ fn judge_words<'a>(progress: &Progress, line: &'a [u8]) -> Result<Item<'a>, Line
     };
     if allows(progress, kind) && is_form(kind, words.again(), number - 1) {
         as_line(
-            is_behind_front(progress.place, kind),
+            is_behind_front(progress.place, progress.shows, kind),
             judge_numbers(kind, words),
         )
     } else {
@@ -96,7 +96,7 @@ fn begins_front(progress: &Progress, line: &[u8]) -> bool
 fn is_cut(progress: &Progress, line: &[u8]) -> bool
     ensures { result ≡ is_cut progress.now line.now }
 {
-    is_word(line, "end") && progress.needs != 0 && !is_in_front(progress.place)
+    is_word(line, "end") && progress.needs != 0 && !is_in_front(progress.place, progress.shows)
 }
 
 /// What a line says at its place without the counts, or its first fault.

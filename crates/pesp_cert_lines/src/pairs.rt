@@ -34,6 +34,17 @@ impl<'a> Model for LinePairs<'a> {
 }
 
 impl<'a> LinePairs<'a> {
+    /// The same pairs again.
+    pub fn again(&self) -> LinePairs<'a>
+        ensures { result ≡ self.now }
+    {
+        LinePairs {
+            words: self.words.again(),
+            least: self.least,
+            count: self.count,
+        }
+    }
+
     /// How many pairs are left.
     pub fn left(&self) -> u64
         ensures count { result ≡ length self.now }

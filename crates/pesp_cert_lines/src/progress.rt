@@ -1,7 +1,7 @@
 //! How far a text has come.
 
 ghost use Rattle.std.specs.Prelude.{◌≡◌, ◌≤◌};
-ghost use Rattle.pesp_cert_lines.specs.Counts.{after, after_tree, counted_after, keeps_counts, IsKept, beginning, may_follow, has_kind, allows, is_in_front, is_behind_front};
+ghost use Rattle.pesp_cert_lines.specs.Counts.{after, after_tree, counted_after, keeps_counts, IsKept, beginning, may_follow, may_follow_walks, may_end, has_kind, allows, is_in_front, is_behind_front};
 
 use crate::item::Item;
 use crate::kind::Kind;
@@ -18,6 +18,10 @@ pub enum Place {
     Marked,
     /// Behind the scale, or a marked walk.
     Walks,
+    /// Behind the rows of a lemma.
+    Lemma,
+    /// Behind what a lemma's sum is at least.
+    Least,
     /// Behind the certificate's own first line.
     Header,
     /// Behind the period.
@@ -31,7 +35,8 @@ pub enum Place {
 }
 
 /// How far a text has come: which versions are taken, the version that the certificate's own first line says, 0 before it, how
-/// many trees are still to come, and how many lines, signed rows, pairs, marked walks and marked rows came.
+/// many trees are still to come, how many lines, signed rows, pairs, marked walks, marked rows and lemmas came, and whether the
+/// lines show a lemma. What shows a lemma is counted from its first line on, and the certificate's own lines from theirs.
 #[derive(Clone, Copy)]
 pub struct Progress {
     pub versions: Versions,
@@ -45,6 +50,8 @@ pub struct Progress {
     pub pairs: u64,
     pub walks: u64,
     pub marked: u64,
+    pub lemmas: u64,
+    pub shows: bool,
 }
 
 impl Progress {
@@ -68,6 +75,8 @@ impl Progress {
             pairs: 0,
             walks: 0,
             marked: 0,
+            lemmas: 0,
+            shows: false,
         }
     }
 }
@@ -83,6 +92,7 @@ fn keeps_counts(progress: &Progress) -> bool
         && progress.pairs <= MOST_PAIRS as u64
         && progress.walks <= MOST_CYCLES as u64
         && progress.marked <= MOST_SIGNED_ROWS as u64
+        && progress.lemmas <= MOST_CYCLES as u64
 }
 
 /// How far the text has come with a line of the tree that asks for `parts` trees and has so many pairs.
@@ -120,10 +130,20 @@ fn after(progress: &Progress, item: &Item<'_>) -> Progress
             marked: progress.marked + rows.left(),
             ..*progress
         },
+        Item::Lemma(_) => Progress {
+            place: Place::Lemma,
+            lemmas: progress.lemmas + 1,
+            shows: true,
+            ..Progress::new(progress.versions)
+        },
+        Item::Least(_) => Progress {
+            place: Place::Least,
+            ..*progress
+        },
         Item::Version(version) => Progress {
             place: Place::Header,
             version: *version,
-            ..*progress
+            ..Progress::new(progress.versions)
         },
         Item::Period(_) => Progress {
             place: Place::Period,
@@ -163,14 +183,34 @@ pub(crate) fn counted(progress: &Progress, item: &Item<'_>) -> Option<Progress>
     }
 }
 
+/// Whether a line of this kind may stand behind a scale or a marked walk: of the front, or of a lemma that is shown.
+fn may_follow_walks(shows: bool, kind: Kind) -> bool
+    ensures { result ≡ may_follow_walks shows kind }
+{
+    match kind {
+        Kind::Walk => true,
+        Kind::Lemma | Kind::Version => !shows,
+        Kind::Cycle
+        | Kind::Slack
+        | Kind::Offset
+        | Kind::Bound
+        | Kind::Nothing
+        | Kind::Gap
+        | Kind::Propagated => shows,
+        _ => false,
+    }
+}
+
 /// Whether a line of this kind may stand next, while the tree is not complete.
-fn may_follow(place: Place, kind: Kind) -> bool
-    ensures { result ≡ may_follow place kind }
+fn may_follow(place: Place, shows: bool, kind: Kind) -> bool
+    ensures { result ≡ may_follow place shows kind }
 {
     match place {
         Place::Front => matches!(kind, Kind::Version | Kind::Front),
         Place::Marked => matches!(kind, Kind::Scale),
-        Place::Walks => matches!(kind, Kind::Walk | Kind::Version),
+        Place::Walks => may_follow_walks(shows, kind),
+        Place::Lemma => matches!(kind, Kind::Least),
+        Place::Least => matches!(kind, Kind::Scale),
         Place::Header => matches!(kind, Kind::Period),
         Place::Period => matches!(kind, Kind::Answer),
         Place::Times => matches!(
@@ -202,28 +242,43 @@ fn may_follow(place: Place, kind: Kind) -> bool
 }
 
 /// Whether texts of this version have lines of this kind, where these versions are taken.
-fn has_kind(versions: Versions, version: u32, kind: Kind) -> bool
-    ensures { result ≡ has_kind versions version kind }
+fn has_kind(versions: Versions, version: u32, shows: bool, kind: Kind) -> bool
+    ensures { result ≡ has_kind versions version shows kind }
 {
     match kind {
-        Kind::Propagated => version >= 2,
+        Kind::Propagated => shows || version >= 2,
         Kind::Front => takes_fronts(versions),
         _ => true,
     }
 }
 
-/// Whether this is behind a line of a front.
-pub(crate) fn is_in_front(place: Place) -> bool
-    ensures { result ≡ is_in_front place }
+/// Whether this is behind a line of a front, or of a lemma.
+pub(crate) fn is_in_front(place: Place, shows: bool) -> bool
+    ensures { result ≡ is_in_front place shows }
 {
-    matches!(place, Place::Marked | Place::Walks)
+    match place {
+        Place::Marked | Place::Walks | Place::Lemma | Place::Least => true,
+        _ => shows,
+    }
 }
 
 /// Whether the certificate's own first line stands here, behind a front.
-pub(crate) fn is_behind_front(place: Place, kind: Kind) -> bool
-    ensures { result ≡ is_behind_front place kind }
+pub(crate) fn is_behind_front(place: Place, shows: bool, kind: Kind) -> bool
+    ensures { result ≡ is_behind_front place shows kind }
 {
-    matches!(place, Place::Walks) && matches!(kind, Kind::Version)
+    (shows || matches!(place, Place::Walks)) && matches!(kind, Kind::Version)
+}
+
+/// Whether a line of this kind may stand behind a whole tree: the next lemma or the certificate's own first line where it is a
+/// lemma's, else `end`.
+fn may_end(shows: bool, kind: Kind) -> bool
+    ensures { result ≡ may_end shows kind }
+{
+    match kind {
+        Kind::End => !shows,
+        Kind::Lemma | Kind::Version => shows,
+        _ => false,
+    }
 }
 
 /// Whether a line of this kind may stand next.
@@ -231,8 +286,9 @@ pub(crate) fn allows(progress: &Progress, kind: Kind) -> bool
     ensures { result ≡ allows progress.now kind }
 {
     if progress.needs == 0 {
-        matches!(kind, Kind::End)
+        may_end(progress.shows, kind)
     } else {
-        may_follow(progress.place, kind) && has_kind(progress.versions, progress.version, kind)
+        may_follow(progress.place, progress.shows, kind)
+            && has_kind(progress.versions, progress.version, progress.shows, kind)
     }
 }

@@ -35,6 +35,16 @@ impl<'a> Model for SignedRows<'a> {
 }
 
 impl<'a> SignedRows<'a> {
+    /// The same rows again.
+    pub fn again(&self) -> SignedRows<'a>
+        ensures { result ≡ self.now }
+    {
+        SignedRows {
+            words: self.words.again(),
+            count: self.count,
+        }
+    }
+
     /// How many rows are left.
     pub fn left(&self) -> u64
         ensures count { result ≡ length self.now }

@@ -1,6 +1,6 @@
 -- The cycles as they come.
 use Rattle.std.specs.Prelude.{Option}
-use Rattle.std.proofs.Common.{◌≡◌, inl, inr, ℕ, ◌+◌, arith, false, List, [], ◌∷◌, ◌++◌, length, get_or, refl, sym, ap, subst, ◌∙◌}
+use Rattle.std.proofs.Common.{◌≡◌, inl, inr, ℕ, ◌+◌, arith, false, List, [], ◌∷◌, ◌++◌, length, get_or, refl, sym, ap, subst, ◌∙◌, Some, None}
 use Rattle.std.specs.List.{list_all}
 use Rattle.std.proofs.lemmas.List.{get_or_default, length-take}
 use Rattle.pesp_problem.specs.declared.row.SignedRow.{SignedRow}
@@ -8,29 +8,35 @@ use Rattle.pesp_problem.specs.Timetables.{Pesp}
 use Rattle.pesp_problem.specs.Arcs.{arcs_of}
 use Rattle.pesp_problem.specs.Walks.{IsWalk}
 use Rattle.pesp_problem.specs.Nodes.{cycle_at}
-use Rattle.pesp_truth.specs.Marks.{Marks}
+use Rattle.pesp_lemma.specs.Fronts.{Front as FrontOf}
 use Rattle.pesp_truth.specs.Certificates.{Content}
 use Rattle.pesp_cert_lines.specs.declared.item.Item.{Item}
 use Rattle.pesp_cert_lines.specs.declared.item.Item.TheVariants.{Cycle}
-use Rattle.pesp_cert_lines.proofs.Tests.{and_right}
 use Rattle.pesp_nets.specs.declared.nets.NetCount.{NetCount}
 use Rattle.pesp_judges.specs.declared.refusal.Refusal.{Refusal}
 use Rattle.pesp_nets.specs.Nets.{AreNetCounts}
-use Rattle.pesp_judges.specs.Faults.{IsWalkFault, behind_front, line_before_cycles}
-use Rattle.pesp_check.specs.Items.{is_later}
+use Rattle.pesp_judges.specs.Faults.{IsWalkFault}
+use Rattle.pesp_check.specs.Items.{says_no_answer}
 use Rattle.pesp_check.specs.declared.stage.Stage.{Stage}
 use Rattle.pesp_check.specs.declared.stage.Stage.TheVariants as stages
-use Rattle.pesp_check.specs.Judging.{Kept, is_front, tree_from, IsShown, CyclesTo, JudgedAt}
+use Rattle.pesp_check.specs.Judging.{Kept, is_front, own_line, tree_from, IsShown, FrontCame, CyclesTo, JudgedAt}
 use Rattle.pesp_judges.proofs.Closing.{walk_fault, walks_more}
 use Rattle.pesp_judges.proofs.Tables.{nets_more}
-use Rattle.pesp_check.proofs.Fronts.{behind_adds}
-use Rattle.pesp_check.proofs.Lists.{IsNext, next_of, cycle_in_tree, all_cycles}
+use Rattle.pesp_check.proofs.Behind.{own_adds, cycle_refused}
+use Rattle.pesp_check.proofs.Fronts.{came_still, shown_of}
+use Rattle.pesp_check.proofs.Passed.{passed, all_cycles}
+use Rattle.pesp_check.proofs.Lists.{IsNext, next_of, cycle_in_tree}
 
 -- the same is shown while the answer stays
 pub shown_still : (p : Pesp) (c : Content) (old new : Kept) → new.answer ≡ old.answer → IsShown p c old → IsShown p c new
 shown_still p c old new e s = record { period = s.period; answer = e ∙ s.answer; shows = s.shows }
 
-module _ (p : Pesp) (front : Option Marks) (c : Content) (rows : List SignedRow) (rest : List Item) (kept : Kept) (stage : Stage)
+-- no lemma is coming
+pub none_coming : (p : Pesp) (front : Option FrontOf) (kept : Kept) → FrontCame p front kept → kept.lemma ≡ None
+none_coming p None kept h = h.2
+none_coming p (Some f) kept h = h.0
+
+module _ (p : Pesp) (front : Option FrontOf) (c : Content) (rows : List SignedRow) (rest : List Item) (kept : Kept) (stage : Stage)
     (is : stage ≡ stages.Cycles) (before : JudgedAt stage p front c (Cycle rows ∷ rest) kept) where
   abbrev so_far : JudgedAt stages.Cycles p front c (Cycle rows ∷ rest) kept
   so_far = subst (λ (s : Stage). JudgedAt s p front c (Cycle rows ∷ rest) kept) is before
@@ -67,53 +73,36 @@ module _ (p : Pesp) (front : Option Marks) (c : Content) (rows : List SignedRow)
         k + 1,
         record {
           shown = shown_still p c kept new refl cycles.shown;
-          front_is = cycles.front_is;
+          front_came = came_still p front kept new refl refl refl cycles.front_came;
           within = omega (arith, next.1.within);
           nets = nets_more (length p.rows) c.cycles kept.table k rows counts next.1.within read cycles.nets nets;
           walks = walks_more (arcs_of p) c.cycles k rows at cycles.walks walk;
-          line = ap (λ n. n + 1) cycles.line ∙ behind_adds front (3 + length c.times + k) 1 ∙ ap (behind_front front) (omega arith);
+          line = ap (λ n. n + 1) cycles.line ∙ own_adds front (3 + length c.times + k) 1 ∙ ap (own_line front) (omega arith);
           left = next.1.left;
         },
       ))
 
   pub walk_refused : (refusal : Refusal) (number line : ℕ) (kept' : Kept) → number ≡ length kept.table + 1
-      → line ≡ kept.line + 1 → kept'.answer ≡ kept.answer → IsWalkFault (arcs_of p) rows number line refusal
+      → line ≡ kept.line + 1 → kept'.answer ≡ kept.answer → kept'.lemma ≡ kept.lemma → IsWalkFault (arcs_of p) rows number line refusal
       → JudgedAt (stages.Refused refusal) p front c rest kept'
-  walk_refused refusal number line kept' e f a fault =
+  walk_refused refusal number line kept' e f a gone fault =
       let n : number ≡ k + 1 = omega (arith, e, cycles.nets.long, length-take k c.cycles, next.1.within) in
-      let at : line ≡ behind_front front (3 + length c.times + k + 1) =
-      f ∙ ap (λ n. n + 1) cycles.line ∙ behind_adds front (3 + length c.times + k) 1 in
-      let l : line ≡ line_before_cycles front c + (k + 1) =
-      at ∙ ap (behind_front front) (omega arith) ∙ sym (behind_adds front (3 + length c.times) (k + 1)) in
+      let before = own_line front (3 + length c.times) in
+      let l : line ≡ before + (k + 1) =
+      f ∙ ap (λ n. n + 1) cycles.line ∙ own_adds front (3 + length c.times + k) 1 ∙ ap (own_line front) (omega arith)
+      ∙ sym (own_adds front (3 + length c.times) (k + 1)) in
       record {
-        answer = a ∙ cycles.shown.answer;
-        later = ap (list_all is_later) next.1.left ∙ all_cycles c (k + 1);
-        first = inr (
-          cycles.shown.period,
-          inr (inl (
-            cycles.shown.shows,
-            walk_fault (arcs_of p) c.cycles
-                (line_before_cycles front c) k rows rows next.1.within read refl cycles.walks refusal number line n l
-                fault,
-          )),
-        );
+        none = gone ∙ none_coming p front kept cycles.front_came;
+        answer = inl (a ∙ cycles.shown.answer, ap (list_all says_no_answer) next.1.left ∙ all_cycles c (k + 1));
+        first = cycle_refused p c refusal front (shown_of p front kept cycles.front_came) cycles.shown.period cycles.shown.shows
+            (walk_fault (arcs_of p) c.cycles before k rows rows next.1.within read refl cycles.walks refusal number line n l fault);
       }
 
--- an item behind a refusal
-pub passed : (p : Pesp) (front : Option Marks) (c : Content) (refusal : Refusal) (item : Item) (rest : List Item) (kept kept' : Kept)
-    → kept'.answer ≡ kept.answer → JudgedAt (stages.Refused refusal) p front c (item ∷ rest) kept
-    → JudgedAt (stages.Refused refusal) p front c rest kept'
-passed p front c refusal item rest kept kept' e h = record {
-  answer = e ∙ h.answer;
-  later = and_right (is_later item) (list_all is_later rest) h.later;
-  first = h.first;
-}
-
 -- a cycle where none may come any more
-pub cycle_passed : (stage : Stage) (p : Pesp) (front : Option Marks) (c : Content) (rows : List SignedRow) (rest : List Item)
-    (kept kept' : Kept) → is_front stage ≡ false → (stage ≡ stages.Cycles → ⊥) → kept'.answer ≡ kept.answer
+pub cycle_passed : (stage : Stage) (p : Pesp) (front : Option FrontOf) (c : Content) (rows : List SignedRow) (rest : List Item)
+    (kept kept' : Kept) → is_front stage ≡ false → (stage ≡ stages.Cycles → ⊥) → kept'.answer ≡ kept.answer → kept'.lemma ≡ kept.lemma
     → JudgedAt stage p front c (Cycle rows ∷ rest) kept → JudgedAt stage p front c rest kept'
-cycle_passed stages.Front p front c rows rest kept kept' f n e h = absurd cc
-cycle_passed stages.Cycles p front c rows rest kept kept' f n e h = absurd (n refl)
-cycle_passed stages.Tree p front c rows rest kept kept' f n e h = absurd (cycle_in_tree c h.0 rows rest h.2.left)
-cycle_passed (stages.Refused r) p front c rows rest kept kept' f n e h = passed p front c r (Cycle rows) rest kept kept' e h
+cycle_passed stages.Front p front c rows rest kept kept' f n e l h = absurd cc
+cycle_passed stages.Cycles p front c rows rest kept kept' f n e l h = absurd (n refl)
+cycle_passed stages.Tree p front c rows rest kept kept' f n e l h = absurd (cycle_in_tree c h.0 rows rest h.2.left)
+cycle_passed (stages.Refused r) p front c rows rest kept kept' f n e l h = passed p front c r (Cycle rows) rest kept kept' refl e l h

@@ -7,3 +7,11 @@ pub mod Items
 pub mod Texts
 pub mod Inner
 pub mod Shown
+pub mod Lemmas
+pub mod LemmaItems
+pub mod LemmaSteps
+pub mod Passed
+pub mod Behind
+pub mod LemmaCheck
+pub mod Valid
+pub mod OwnWeights

@@ -1,50 +1,79 @@
 -- The lines of the tree as they come, and the end.
-use Rattle.std.proofs.Common.{◌≡◌, ◌≢◌, ◌⊎◌, inl, inr, ℕ, ◌+◌, ◌≤◌, arith, true, false, List, [], ◌∷◌, length, get_or, map, refl, sym, ap, subst, ◌∙◌, Option, Some, None}
+use Rattle.std.proofs.Common.{◌≡◌, ◌≢◌, ◌⊎◌, inl, inr, ℕ, ◌+◌, ◌<◌, ◌≤◌, arith, true, false, List, [], ◌∷◌, length, get_or, map, refl, sym, ap, subst, ◌∙◌, Option, Some, None}
+use Rattle.std.specs.Prelude.{All, IfSome, MatchOption, min, nat_lt}
+use Rattle.std.proofs.lemmas.Bool.Decides.{nat_tests}
 use Rattle.std.specs.List.{list_all}
 use Rattle.std.proofs.lemmas.List.{take_all}
 use Rattle.pesp_problem.specs.declared.row.SignedRow.{SignedRow}
 use Rattle.pesp_problem.specs.Timetables.{Pesp}
 use Rattle.pesp_problem.specs.Arcs.{arcs_of, net_of}
+use Rattle.pesp_problem.specs.Walks.{IsWalk}
 use Rattle.pesp_problem.specs.Nodes.{Node, root}
 use Rattle.pesp_nets.specs.Marked.{IsMarkedWalk}
-use Rattle.pesp_truth.specs.Marks.{Marks}
+use Rattle.pesp_truth.specs.Marks.{Marks, AreMarks}
 use Rattle.pesp_truth.specs.FrontLimits.{KeepsLimits as FrontKeepsLimits}
+use Rattle.pesp_truth.proofs.FrontLimits.{limits_of}
 use Rattle.pesp_truth.specs.declared.tree.TreeLine.{TreeLine}
 use Rattle.pesp_truth.specs.Trees.{are_trees}
-use Rattle.pesp_truth.specs.Certificates.{Content, IsValid, line_of, lines_of, least_of}
+use Rattle.pesp_truth.specs.Certificates.{Content, line_of, lines_of, least_of}
+use Rattle.pesp_lemma.specs.Lemmas.{Lemma as Fact}
+use Rattle.pesp_lemma.specs.Trees.{Goal, cost_goal}
+use Rattle.pesp_lemma.specs.Shown.{LemmaProof, lemmas_of}
+use Rattle.pesp_lemma.specs.Fronts.{Front as FrontOf, IsValidBehind}
 use Rattle.pesp_cert_lines.specs.declared.item.Item.{Item}
 use Rattle.pesp_cert_lines.specs.declared.item.Item.TheVariants.{Cycle, End}
-use Rattle.std.specs.Prelude.{All, IfSome, min}
 use Rattle.pesp_cert.specs.Texts.{HasText, tree_item}
-use Rattle.pesp_cert.specs.Drafts.{FrontValue, front_said}
+use Rattle.pesp_truth.specs.declared.answer.Answer.{Answer}
+use Rattle.pesp_truth.specs.declared.answer.Answer.TheVariants.{Optimal, Infeasible, Bounded}
+use Rattle.pesp_cert_lines.proofs.Tests.{and_left}
+use Rattle.pesp_cert.specs.Limits.{is_cost, has_costs}
 use Rattle.pesp_cert.proofs.FrontRuns.{fronts_iff}
 use Rattle.pesp_judges.specs.declared.refusal.Refusal.{Refusal}
 use Rattle.pesp_nets.specs.Nets.{AreNets}
 use Rattle.pesp_judges.specs.Pending.{Standing}
-use Rattle.pesp_judges.specs.Faults.{IsMarksFault, behind_front, first_tree_line}
+use Rattle.pesp_judges.specs.Faults.{IsMarksFault}
 use Rattle.pesp_judges.specs.Lines.{after, IsSoundLine, IsLineFault, IsLineVerdict, AreJudged}
-use Rattle.pesp_check.specs.Items.{is_later, is_line, begins_tree}
+use Rattle.pesp_lemma_judges.specs.Lines.{IsLineVerdictFrom, AreJudgedFrom}
+use Rattle.pesp_lemma_judges.specs.Faults.{IsFirstFaultBehind}
+use Rattle.pesp_check.specs.Costs.{facts_said}
+use Rattle.pesp_check.specs.Items.{says_no_answer, is_line, begins_tree}
 use Rattle.pesp_check.specs.declared.stage.Stage.{Stage}
 use Rattle.pesp_check.specs.declared.stage.Stage.TheVariants as stages
-use Rattle.pesp_check.specs.Judging.{Kept, is_before_tree, tree_from, cycles_from, CyclesTo, TreeTo, JudgedAt}
+use Rattle.pesp_check.specs.Judging.{Kept, MarksSaid, marks_said, is_before_tree, own_line, tree_from, cycles_from, lemmas_from, line_before, AreJudgedBehind, FrontCame, FrontTo, CyclesTo, TreeTo, JudgedAt}
 use Rattle.pesp_judges.proofs.Closing.{all_walks}
 use Rattle.pesp_judges.proofs.Judged.{judged_none, open_there, whole_more, judged_more, fault_here, judged_all}
-use Rattle.pesp_judges.proofs.Faults.{later_tree_fault, valid_is}
-use Rattle.pesp_check.proofs.Lists.{IsNext, next_of, line_not_end, same_line, all_tree, tree_ended, cycles_ended}
-use Rattle.pesp_check.proofs.Inner.{are_marks}
-use Rattle.pesp_check.proofs.Fronts.{behind_adds, front_done}
-use Rattle.pesp_check.proofs.Cycles.{shown_still, passed}
+use Rattle.pesp_lemma_judges.proofs.Judged.{judged_none as from_none, judged_more as from_more, fault_here as from_fault, judged_all as from_all}
+use Rattle.pesp_check.proofs.Lists.{IsNext, next_of, line_not_end, same_line, tree_ended, cycles_ended}
+use Rattle.pesp_check.proofs.Limits.{marks_keep}
+use Rattle.pesp_check.proofs.Passed.{passed, all_tree, line_no, answered}
+use Rattle.pesp_check.proofs.Behind.{HasNoLemmas, marks_in, own_adds, marks_refused as behind_marks_refused, judged_none_of, to_plain, to_lemmas, plain_refused, from_refused, plain_valid, from_valid}
+use Rattle.pesp_check.proofs.LemmaItems.{no_other}
+use Rattle.pesp_check.proofs.LemmaSteps.{part_begins}
+use Rattle.pesp_check.proofs.Fronts.{front_done, shown_of}
+use Rattle.pesp_check.proofs.Cycles.{shown_still, none_coming}
 
 -- ---- what has a text
 
-pub keeps_front : (front : Option Marks) (c : Content) → HasText front c → IfSome front FrontKeepsLimits
-keeps_front front c has = ((fronts_iff front c).1 has).0
+pub keeps_front : (front : Option FrontOf) (c : Content) → HasText front c → IfSome (marks_in front) FrontKeepsLimits
+keeps_front None c has = tt
+keeps_front (Some f) c has = limits_of f.marks (marks_keep f ((fronts_iff (Some f) c).1 has).0)
 
-pub whole_text : (front : Option Marks) (c : Content) → HasText front c → are_trees 1 (lines_of c) ≡ true
+pub whole_text : (front : Option FrontOf) (c : Content) → HasText front c → are_trees 1 (lines_of c) ≡ true
 whole_text front c has = ((fronts_iff front c).1 has).1.whole
 
-few_cycles : (front : Option Marks) (c : Content) → HasText front c → length c.cycles ≤ 100000
+pub few_cycles : (front : Option FrontOf) (c : Content) → HasText front c → length c.cycles ≤ 100000
 few_cycles front c has = ((fronts_iff front c).1 has).1.cycles
+
+few_of : (a b : ℕ) → nat_lt a b ≡ true → a < b
+few_of a b e = grind (arith, nat_tests, e)
+
+pub few_least : (front : Option FrontOf) (c : Content) → HasText front c → IfSome (least_of c.answer) (λ l. l < 1000000000000000000)
+few_least front c has = go c.answer (((fronts_iff front c).1 has).1.answer)
+  where
+    go : (a : Answer) → has_costs a ≡ true → IfSome (least_of a) (λ l. l < 1000000000000000000)
+    go (Optimal n) h = few_of n 1000000000000000000 h
+    go Infeasible h = tt
+    go (Bounded n cost) h = few_of n 1000000000000000000 (and_left (nat_lt n 1000000000000000000) (is_cost cost) h)
 
 -- ---- all cycles came
 
@@ -59,15 +88,32 @@ cycles_done c k (item ∷ rest) b e = elim (next_of Cycle c.cycles k (tree_from 
   | inr n ↦ record { all = n.0; left = n.1 }
 ]
 
--- the front that was made is that of the text
-pub made_is : (front made : Option Marks) (draft : FrontValue) → IfSome front FrontKeepsLimits → front_said draft ≡ front
-    → (IfSome (front_said draft) FrontKeepsLimits → made ≡ front_said draft) → made ≡ front
+-- what was said of the front
+said_is : (p : Pesp) (front : Option FrontOf) (kept : Kept) → FrontCame p front kept → marks_said kept.draft ≡ marks_in front
+said_is p None kept h = h.0
+said_is p (Some f) kept h = h.1.said
+
+facts_are : (p : Pesp) (front : Option FrontOf) (kept : Kept) → FrontCame p front kept → kept.facts ≡ facts_said front
+facts_are p None kept h = h.1
+facts_are p (Some f) kept h = h.1.facts ∙ ap lemmas_of (take_all (length f.lemmas) f.lemmas (omega arith))
+
+-- the marks that were made are those of the text
+pub made_is : (front made : Option Marks) (draft : MarksSaid) → IfSome front FrontKeepsLimits → marks_said draft ≡ front
+    → (IfSome (marks_said draft) FrontKeepsLimits → made ≡ marks_said draft) → made ≡ front
 made_is front made draft keeps said is = is (subst (λ f. IfSome f FrontKeepsLimits) (sym said) keeps) ∙ said
 
--- what came where the tree begins, with the front that was made
-module _ (stage : Stage) (p : Pesp) (front : Option Marks) (c : Content) (rest : List Item) (kept : Kept) (made : Option Marks)
+if_in : (front : Option FrontOf) (P : Marks → Type 0) → IfSome (marks_in front) P → IfSome front (λ f. P f.marks)
+if_in None P h = h
+if_in (Some f) P h = h
+
+in_if : (front : Option FrontOf) (P : Marks → Type 0) → IfSome front (λ f. P f.marks) → IfSome (marks_in front) P
+in_if None P h = h
+in_if (Some f) P h = h
+
+-- what came where the tree begins, with the marks that were made
+module _ (stage : Stage) (p : Pesp) (front : Option FrontOf) (c : Content) (rest : List Item) (kept : Kept) (made : Option Marks)
     (is : stage ≡ stages.Cycles) (has : HasText front c) (b : begins_tree rest ≡ true)
-    (limits : IfSome (front_said kept.draft) FrontKeepsLimits → made ≡ front_said kept.draft)
+    (limits : IfSome (marks_said kept.draft) FrontKeepsLimits → made ≡ marks_said kept.draft)
     (before : JudgedAt stage p front c rest kept) where
   to_cycles : JudgedAt stages.Cycles p front c rest kept
   to_cycles = subst (λ (s : Stage). JudgedAt s p front c rest kept) is before
@@ -78,12 +124,28 @@ module _ (stage : Stage) (p : Pesp) (front : Option Marks) (c : Content) (rest :
   done : AreDone c rest to_cycles.0
   done = cycles_done c to_cycles.0 rest b cycles.left
 
-  same : made ≡ front
-  same = made_is front made kept.draft (keeps_front front c has) cycles.front_is limits
+  same : made ≡ marks_in front
+  same = made_is (marks_in front) made kept.draft (keeps_front front c has) (said_is p front kept cycles.front_came) limits
 
   nets : AreNets (length p.rows) c.cycles kept.table
   nets = subst (λ (ws : List (List SignedRow)). AreNets (length p.rows) ws kept.table)
       (take_all to_cycles.0 c.cycles done.all) cycles.nets
+
+  walks : All (IsWalk (arcs_of p)) c.cycles
+  walks = all_walks (arcs_of p) c.cycles to_cycles.0 done.all cycles.walks
+
+  -- no line of the tree was judged so far
+  at_root : AreJudgedBehind p front c (root (net_of p) c.cycles ∷ []) 0
+  at_root =
+      let n = net_of p in
+      let first = own_line front (4 + length c.times + length c.cycles) in
+      judged_none_of p c front (judged_none (marks_in front) n c.cycles (least_of c.answer) c.tree (root n c.cycles) first)
+      (for_each front (λ f. from_none f.marks (lemmas_of f.lemmas) n c.cycles (cost_goal n (least_of c.answer)) c.tree (root n c.cycles)
+      (own_line (Some f) (4 + length c.times + length c.cycles))))
+    where
+      for_each : {P : FrontOf → Type 0} (g : Option FrontOf) → ((f : FrontOf) → P f) → IfSome g P
+      for_each None h = tt
+      for_each (Some f) h = h f
 
   pub cycles_end : (standing : Standing) (node : Node) (kept' : Kept)
       → kept' ≡ record kept { draft = kept'.draft; front = made; walk = Some standing }
@@ -92,53 +154,63 @@ module _ (stage : Stage) (p : Pesp) (front : Option Marks) (c : Content) (rest :
       → standing.nodes ≡ node ∷ [] → JudgedAt stages.Tree p front c rest kept'
   cycles_end standing node kept' e closed roots nodes =
       let at : standing.nodes ≡ root (net_of p) c.cycles ∷ [] = nodes ∙ ap (λ (n : Node). n ∷ []) (roots c.cycles nets) in
-      let P : List Node → Type 0 = λ ns. AreJudged front (net_of p) c.cycles (least_of c.answer) c.tree
-      (root (net_of p) c.cycles) (first_tree_line front c) ns 0 in
+      let P : List Node → Type 0 = λ ns. AreJudgedBehind p front c ns 0 in
       let Q : List Node → Type 0 = λ ns. are_trees (length ns) (lines_of c) ≡ true in
       let new : Kept = record kept { draft = kept'.draft; front = made; walk = Some standing } in
       let all : to_cycles.0 ≡ length c.cycles = omega (arith, cycles.within, done.all) in
       let R : Kept → Type 0 = λ k. JudgedAt stages.Tree p front c rest k in
+      let C : Marks → Type 0 = λ marks. All (IsMarkedWalk (arcs_of p)) marks.walks in
       subst R (sym e) (
         0,
         standing,
         record {
+          gone = none_coming p front kept cycles.front_came;
           shown = shown_still p c kept new refl cycles.shown;
           front_is = same;
-          walks = all_walks (arcs_of p) c.cycles to_cycles.0 done.all cycles.walks;
+          facts = facts_are p front kept cycles.front_came;
+          lemmas = shown_of p front kept cycles.front_came;
+          walks = walks;
           nets = nets;
-          closed = subst (λ f. IfSome f (λ marks. All (IsMarkedWalk (arcs_of p)) marks.walks)) same closed;
+          closed = if_in front C (subst (λ g. IfSome g C) same closed);
           walk = refl;
           whole = subst Q (sym at) (whole_text front c has);
-          judged = subst P (sym at) (judged_none front (net_of p) c.cycles (least_of c.answer) c.tree
-              (root (net_of p) c.cycles) (first_tree_line front c));
-          line = cycles.line ∙ ap (λ k. behind_front front (3 + length c.times + k)) all ∙ ap (behind_front front) (omega arith);
+          judged = subst P (sym at) at_root;
+          line = cycles.line ∙ ap (λ k. own_line front (3 + length c.times + k)) all ∙ ap (own_line front) (omega arith);
           left = done.left;
         },
       )
 
   pub marks_refused : (refusal : Refusal) (number : ℕ) (kept' : Kept) → number ≡ min (length kept.table) 100000
-      → kept'.answer ≡ kept.answer → IsMarksFault made (arcs_of p) number refusal
+      → kept'.answer ≡ kept.answer → kept'.lemma ≡ kept.lemma → IsMarksFault made (arcs_of p) number refusal
       → JudgedAt (stages.Refused refusal) p front c rest kept'
-  marks_refused refusal number kept' e a fault =
+  marks_refused refusal number kept' e a gone fault =
       let all : number ≡ length c.cycles = omega (arith, e, nets.long, few_cycles front c has) in
       let P : Option Marks → Type 0 = λ f. IsMarksFault f (arcs_of p) number refusal in
-      let Q : ℕ → Type 0 = λ n. IsMarksFault front (arcs_of p) n refusal in
+      let Q : ℕ → Type 0 = λ n. IsMarksFault (marks_in front) (arcs_of p) n refusal in
       record {
-        answer = a ∙ cycles.shown.answer;
-        later = ap (list_all is_later) done.left ∙ all_tree c 0;
-        first = inr (
-          cycles.shown.period,
-          inr (inr (inl (
-            cycles.shown.shows,
-            all_walks (arcs_of p) c.cycles to_cycles.0 done.all cycles.walks,
-            subst Q all (subst P same fault),
-          ))),
-        );
+        none = gone ∙ none_coming p front kept cycles.front_came;
+        answer = inl (a ∙ cycles.shown.answer, ap (list_all says_no_answer) done.left ∙ all_tree c 0);
+        first = behind_marks_refused p c refusal front (shown_of p front kept cycles.front_came) cycles.shown.period cycles.shown.shows walks
+            (subst Q all (subst P same fault));
       }
 
 -- ---- one line
 
-module _ (p : Pesp) (front : Option Marks) (c : Content) (line : TreeLine) (rest : List Item) (kept : Kept) (stage : Stage)
+-- lemmas that are none
+no_lemmas : (front : Option FrontOf) → facts_said front ≡ [] → HasNoLemmas front
+no_lemmas None e = tt
+no_lemmas (Some f) e = go f.lemmas e
+  where
+    go : (ss : List LemmaProof) → lemmas_of ss ≡ [] → ss ≡ []
+    go [] e = refl
+    go (s ∷ ss) e = absurd cc
+
+-- or some
+pub some_front : (front : Option FrontOf) → (facts_said front ≡ [] → ⊥) → (f : FrontOf) × (front ≡ Some f) × (f.lemmas ≡ [] → ⊥)
+some_front None some = absurd (some refl)
+some_front (Some f) some = (f, refl, λ e. some (ap lemmas_of e))
+
+module _ (p : Pesp) (front : Option FrontOf) (c : Content) (line : TreeLine) (rest : List Item) (kept : Kept) (stage : Stage)
     (is : stage ≡ stages.Tree) (before : JudgedAt stage p front c (tree_item line ∷ rest) kept) where
   abbrev so_far : JudgedAt stages.Tree p front c (tree_item line ∷ rest) kept
   so_far = subst (λ (s : Stage). JudgedAt s p front c (tree_item line ∷ rest) kept) is before
@@ -170,86 +242,191 @@ module _ (p : Pesp) (front : Option Marks) (c : Content) (line : TreeLine) (rest
   pub nets_are : AreNets (length p.rows) c.cycles kept.table
   nets_are = tree.nets
 
-  pub front_is : kept.front ≡ front
+  pub front_is : kept.front ≡ marks_in front
   front_is = tree.front_is
+
+  pub facts_is : kept.facts ≡ facts_said front
+  facts_is = tree.facts
 
   pub answer_is : kept.answer ≡ c.answer
   answer_is = tree.shown.answer
 
-  -- what is said at the node where the walk stands is said for the certificate's answer
-  pub line_found : (walk walk' : Standing) (least : Option ℕ) (at : ℕ) (found : Option Refusal)
-      → kept.walk ≡ Some walk → least ≡ least_of kept.answer
-      → IsLineVerdict kept.front (net_of p) c.cycles least (line_of line) walk.nodes walk'.nodes at found
-      → IsLineVerdict front (net_of p) c.cycles (least_of c.answer) (line_of line) standing.nodes walk'.nodes at found
-  line_found walk walk' least at found e l v =
-      let same : Some standing ≡ Some walk = sym stands ∙ e in
-      let s : standing ≡ walk = cc in
-      let F : Option Marks → Type 0 = λ f. IsLineVerdict f (net_of p) c.cycles least (line_of line) walk.nodes walk'.nodes at found in
-      let P : Standing → Type 0 = λ st. IsLineVerdict front (net_of p) c.cycles (least_of c.answer)
-      (line_of line) st.nodes walk'.nodes at found in
-      let Q : Option ℕ → Type 0 = λ m. IsLineVerdict front (net_of p) c.cycles m (line_of line) walk.nodes walk'.nodes at found in
-      subst P (sym s) (subst Q (l ∙ ap least_of answer_is) (subst F front_is v))
+  pub standing_is : (walk : Standing) → kept.walk ≡ Some walk → standing ≡ walk
+  standing_is walk e = let same : Some standing ≡ Some walk = sym stands ∙ e in cc
 
   pub never_done : (walk : Standing) → kept.walk ≡ Some walk → walk.nodes ≡ [] → ⊥
-  never_done walk e none =
-      let same : Some standing ≡ Some walk = sym stands ∙ e in
-      let s : standing ≡ walk = cc in
-      is_open (ap (λ (st : Standing). st.nodes) s ∙ none)
+  never_done walk e none = is_open (ap (λ (st : Standing). st.nodes) (standing_is walk e) ∙ none)
 
   pub never_gone : kept.walk ≡ None → ⊥
   never_gone e = let same : Some standing ≡ None = sym stands ∙ e in absurd cc
 
-  pub line_taken : (standing' : Standing) (kept' : Kept)
-      → kept' ≡ record kept { line = kept.line + 1; walk = Some standing' }
-      → IsSoundLine front (net_of p) c.cycles (least_of c.answer) (line_of line) standing.nodes
-      → standing'.nodes ≡ after (line_of line) standing.nodes
+  -- what is kept behind a line that is sound
+  taken : (standing' : Standing) (kept' : Kept) → kept' ≡ record kept { line = kept.line + 1; walk = Some standing' }
+      → standing'.nodes ≡ after (line_of line) standing.nodes → AreJudgedBehind p front c standing'.nodes (k + 1)
       → JudgedAt stage p front c rest kept'
-  line_taken standing' kept' e sound nodes =
+  taken standing' kept' e nodes judged =
       let P : Kept → Type 0 = JudgedAt stages.Tree p front c rest in
       let Q : Stage → Type 0 = λ s. JudgedAt s p front c rest kept' in
       subst Q (sym is) (subst P (sym e) (
         k + 1,
         standing',
         record {
+          gone = tree.gone;
           shown = shown_still p c kept (record kept { line = kept.line + 1; walk = Some standing' }) refl tree.shown;
           front_is = tree.front_is;
+          facts = tree.facts;
+          lemmas = tree.lemmas;
           walks = tree.walks;
           nets = tree.nets;
           closed = tree.closed;
           walk = refl;
           whole = whole_more c.tree k line next.1.within read standing.nodes standing'.nodes nodes tree.whole;
-          judged = judged_more c.tree k line next.1.within read front (net_of p) c.cycles (least_of c.answer)
-              (root (net_of p) c.cycles) (first_tree_line front c) standing.nodes tree.judged standing'.nodes sound nodes;
-          line = ap (λ n. n + 1) tree.line ∙ behind_adds front (3 + length c.times + length c.cycles + k) 1
-              ∙ ap (behind_front front) (omega arith);
+          judged = judged;
+          line = ap (λ n. n + 1) tree.line ∙ own_adds front (3 + length c.times + length c.cycles + k) 1
+              ∙ ap (own_line front) (omega arith);
           left = next.1.left;
         },
       ))
 
-  pub line_refused : (refusal : Refusal) (at : ℕ) (kept' : Kept) → at ≡ kept.line + 1 → kept'.answer ≡ kept.answer
-      → are_trees 1 (lines_of c) ≡ true → IsLineFault front (net_of p) c.cycles (least_of c.answer)
-      (line_of line) standing.nodes at refusal
-      → JudgedAt (stages.Refused refusal) p front c rest kept'
-  line_refused refusal at kept' e a whole fault =
-      let number : at ≡ first_tree_line front c + k =
-      e ∙ ap (λ n. n + 1) tree.line ∙ behind_adds front (3 + length c.times + length c.cycles + k) 1
-      ∙ ap (behind_front front) (omega arith) ∙ sym (behind_adds front (4 + length c.times + length c.cycles) k) in
-      let faults = fault_here c.tree k line next.1.within read front (net_of p) c.cycles (least_of c.answer)
-      (root (net_of p) c.cycles) (first_tree_line front c) standing.nodes tree.judged at refusal number fault in
-      record {
-        answer = a ∙ tree.shown.answer;
-        later = ap (list_all is_later) next.1.left ∙ all_tree c (k + 1);
-        first = inr (tree.shown.period, later_tree_fault front p c refusal whole tree.shown.shows tree.walks tree.closed faults);
-      }
+  number_is : (at : ℕ) → at ≡ kept.line + 1 → at ≡ own_line front (4 + length c.times + length c.cycles) + k
+  number_is at e =
+      e ∙ ap (λ n. n + 1) tree.line ∙ own_adds front (3 + length c.times + length c.cycles + k) 1
+      ∙ ap (own_line front) (omega arith) ∙ sym (own_adds front (4 + length c.times + length c.cycles) k)
+
+  refused : (refusal : Refusal) (kept' : Kept) → kept'.answer ≡ kept.answer → kept'.lemma ≡ kept.lemma
+      → IsFirstFaultBehind front p c refusal → JudgedAt (stages.Refused refusal) p front c rest kept'
+  refused refusal kept' a gone first = record {
+    none = gone ∙ tree.gone;
+    answer = inl (a ∙ tree.shown.answer, ap (list_all says_no_answer) next.1.left ∙ all_tree c (k + 1));
+    first = first;
+  }
+
+  -- ---- without lemmas
+
+  module _ (plain : kept.facts ≡ []) where
+    none : HasNoLemmas front
+    none = no_lemmas front (sym tree.facts ∙ plain)
+
+    judged : AreJudged (marks_in front) (net_of p) c.cycles (least_of c.answer) c.tree (root (net_of p) c.cycles)
+        (own_line front (4 + length c.times + length c.cycles)) standing.nodes k
+    judged = (to_plain p c front standing.nodes k none).0 tree.judged
+
+    -- what is said at the node where the walk stands is said for the certificate's answer
+    pub line_found : (walk walk' : Standing) (least : Option ℕ) (at : ℕ) (found : Option Refusal)
+        → kept.walk ≡ Some walk → least ≡ least_of kept.answer
+        → IsLineVerdict kept.front (net_of p) c.cycles least (line_of line) walk.nodes walk'.nodes at found
+        → IsLineVerdict (marks_in front) (net_of p) c.cycles (least_of c.answer) (line_of line) standing.nodes walk'.nodes at found
+    line_found walk walk' least at found e l v =
+        let F : Option Marks → Type 0 = λ f. IsLineVerdict f (net_of p) c.cycles least (line_of line) walk.nodes walk'.nodes at found in
+        let P : Standing → Type 0 = λ st. IsLineVerdict (marks_in front) (net_of p) c.cycles (least_of c.answer)
+        (line_of line) st.nodes walk'.nodes at found in
+        let Q : Option ℕ → Type 0 = λ m. IsLineVerdict (marks_in front) (net_of p) c.cycles m (line_of line) walk.nodes walk'.nodes at found in
+        subst P (sym (standing_is walk e)) (subst Q (l ∙ ap least_of answer_is) (subst F front_is v))
+
+    pub line_taken : (standing' : Standing) (kept' : Kept)
+        → kept' ≡ record kept { line = kept.line + 1; walk = Some standing' }
+        → IsSoundLine (marks_in front) (net_of p) c.cycles (least_of c.answer) (line_of line) standing.nodes
+        → standing'.nodes ≡ after (line_of line) standing.nodes
+        → JudgedAt stage p front c rest kept'
+    line_taken standing' kept' e sound nodes = taken standing' kept' e nodes
+        ((to_plain p c front standing'.nodes (k + 1) none).1
+        (judged_more c.tree k line next.1.within read (marks_in front) (net_of p) c.cycles (least_of c.answer) (root (net_of p) c.cycles)
+        (own_line front (4 + length c.times + length c.cycles)) standing.nodes judged standing'.nodes sound nodes))
+
+    pub line_refused : (refusal : Refusal) (at : ℕ) (kept' : Kept) → at ≡ kept.line + 1 → kept'.answer ≡ kept.answer
+        → kept'.lemma ≡ kept.lemma → are_trees 1 (lines_of c) ≡ true
+        → IsLineFault (marks_in front) (net_of p) c.cycles (least_of c.answer) (line_of line) standing.nodes at refusal
+        → JudgedAt (stages.Refused refusal) p front c rest kept'
+    line_refused refusal at kept' e a gone whole fault = refused refusal kept' a gone
+        (plain_refused p c whole tree.shown.period tree.shown.shows tree.walks front refusal none tree.closed
+        (fault_here c.tree k line next.1.within read (marks_in front) (net_of p) c.cycles (least_of c.answer) (root (net_of p) c.cycles)
+        (own_line front (4 + length c.times + length c.cycles)) standing.nodes judged at refusal (number_is at e) fault))
+
+-- ---- one line of a tree that may name lemmas
+
+module _ (p : Pesp) (f : FrontOf) (c : Content) (line : TreeLine) (rest : List Item) (kept : Kept) (stage : Stage)
+    (is : stage ≡ stages.Tree) (before : JudgedAt stage p (Some f) c (tree_item line ∷ rest) kept) (some : f.lemmas ≡ [] → ⊥) where
+  abbrev goal : Goal
+  goal = cost_goal (net_of p) (least_of c.answer)
+
+  abbrev first : ℕ
+  first = own_line (Some f) (4 + length c.times + length c.cycles)
+
+  abbrev place : ℕ
+  place = k p (Some f) c line rest kept stage is before
+
+  abbrev nodes_there : List Node
+  nodes_there = (standing p (Some f) c line rest kept stage is before).nodes
+
+  abbrev came : TreeTo p (Some f) c (tree_item line ∷ rest) kept place (standing p (Some f) c line rest kept stage is before)
+  came = tree p (Some f) c line rest kept stage is before
+
+  judged_from : AreJudgedFrom f.marks (lemmas_of f.lemmas) (net_of p) c.cycles goal c.tree (root (net_of p) c.cycles) first nodes_there place
+  judged_from = (to_lemmas p c f f.lemmas nodes_there place some).0 came.judged
+
+  pub marks_is : (marks : Marks) → kept.front ≡ Some marks → marks ≡ f.marks
+  marks_is marks e = let same : Some marks ≡ Some f.marks = sym e ∙ came.front_is in cc
+
+  pub line_told : (walk walk' : Standing) (marks : Marks) (facts : List Fact) (at : ℕ) (found : Option Refusal) (taken' refused' : Kept)
+      → kept.walk ≡ Some walk → kept.front ≡ Some marks → facts ≡ kept.facts → at ≡ kept.line + 1 → are_trees 1 (lines_of c) ≡ true
+      → taken' ≡ record kept { line = kept.line + 1; walk = Some walk' } → refused'.answer ≡ kept.answer → refused'.lemma ≡ kept.lemma
+      → IsLineVerdictFrom marks facts (net_of p) c.cycles goal (line_of line) walk.nodes walk'.nodes at found
+      → MatchOption found (JudgedAt stage p (Some f) c rest taken') (λ refusal. JudgedAt (stages.Refused refusal) p (Some f) c rest refused')
+  line_told walk walk' marks facts at found taken' refused' w m fs e whole new a gone v =
+      let n = net_of p in
+      let N : Standing → Type 0 = λ st. IsLineVerdictFrom f.marks (lemmas_of f.lemmas) n c.cycles goal (line_of line) st.nodes walk'.nodes at found in
+      let F : List Fact → Type 0 = λ gs. IsLineVerdictFrom f.marks gs n c.cycles goal (line_of line) walk.nodes walk'.nodes at found in
+      let M : Marks → Type 0 = λ ms. IsLineVerdictFrom ms facts n c.cycles goal (line_of line) walk.nodes walk'.nodes at found in
+      let there = subst N (sym (standing_is p (Some f) c line rest kept stage is before walk w)) (subst F (fs ∙ came.facts) (subst M (marks_is marks m) v)) in
+      match found there
+    where
+      nextline : (x : TreeLine) × IsNext tree_item c.tree place (End ∷ []) (tree_item line) rest x
+      nextline = next p (Some f) c line rest kept stage is before
+
+      reads : line ≡ get_or c.tree place line
+      reads = read p (Some f) c line rest kept stage is before
+
+      match : (o : Option Refusal)
+          → IsLineVerdictFrom f.marks (lemmas_of f.lemmas) (net_of p) c.cycles goal (line_of line) nodes_there walk'.nodes at o
+          → MatchOption o (JudgedAt stage p (Some f) c rest taken') (λ refusal. JudgedAt (stages.Refused refusal) p (Some f) c rest refused')
+      match None h = taken p (Some f) c line rest kept stage is before walk' taken' new h.1
+          ((to_lemmas p c f f.lemmas walk'.nodes (place + 1) some).1
+          (from_more c.tree place line nextline.1.within reads f.marks (lemmas_of f.lemmas) (net_of p) c.cycles goal (root (net_of p) c.cycles) first
+          nodes_there judged_from walk'.nodes h.0 h.1))
+      match (Some refusal) h = refused p (Some f) c line rest kept stage is before refusal refused' a gone
+          (from_refused p c whole came.shown.period came.shown.shows came.walks f refusal some came.lemmas came.closed
+          (from_fault c.tree place line nextline.1.within reads f.marks (lemmas_of f.lemmas) (net_of p) c.cycles goal (root (net_of p) c.cycles) first
+          nodes_there judged_from at refusal (number_is p (Some f) c line rest kept stage is before at e) h))
+
+-- behind a front whose lemmas were shown
+pub told_behind : (p : Pesp) (front : Option FrontOf) (c : Content) (line : TreeLine) (rest : List Item) (kept : Kept) (stage : Stage)
+    → stage ≡ stages.Tree → (kept.facts ≡ [] → ⊥) → JudgedAt stage p front c (tree_item line ∷ rest) kept
+    → (walk walk' : Standing) (marks : Marks) (facts : List Fact) (at : ℕ) (found : Option Refusal) (taken' refused' : Kept)
+    → kept.walk ≡ Some walk → kept.front ≡ Some marks → facts ≡ kept.facts → at ≡ kept.line + 1 → are_trees 1 (lines_of c) ≡ true
+    → taken' ≡ record kept { line = kept.line + 1; walk = Some walk' } → refused'.answer ≡ kept.answer → refused'.lemma ≡ kept.lemma
+    → IsLineVerdictFrom marks facts (net_of p) c.cycles (cost_goal (net_of p) (least_of c.answer)) (line_of line) walk.nodes walk'.nodes at found
+    → MatchOption found (JudgedAt stage p front c rest taken') (λ refusal. JudgedAt (stages.Refused refusal) p front c rest refused')
+told_behind p None c line rest kept stage is some before walk walk' marks facts at found taken' refused' w m fs e whole new a gone v =
+    absurd (some (facts_is p None c line rest kept stage is before))
+told_behind p (Some f) c line rest kept stage is some before walk walk' marks facts at found taken' refused' w m fs e whole new a gone v =
+    line_told p f c line rest kept stage is before (λ none. some (facts_is p (Some f) c line rest kept stage is before ∙ ap lemmas_of none))
+    walk walk' marks facts at found taken' refused' w m fs e whole new a gone v
+
+-- there is a front
+pub never_bare_behind : (p : Pesp) (front : Option FrontOf) (c : Content) (line : TreeLine) (rest : List Item) (kept : Kept) (stage : Stage)
+    → stage ≡ stages.Tree → (kept.facts ≡ [] → ⊥) → JudgedAt stage p front c (tree_item line ∷ rest) kept → kept.front ≡ None → ⊥
+never_bare_behind p None c line rest kept stage is some before e = some (facts_is p None c line rest kept stage is before)
+never_bare_behind p (Some f) c line rest kept stage is some before e =
+    let same : Some f.marks ≡ None = sym (front_is p (Some f) c line rest kept stage is before) ∙ e in cc
 
 -- a line of the tree behind a refusal
-pub line_passed : (stage : Stage) (p : Pesp) (front : Option Marks) (c : Content) (line : TreeLine) (rest : List Item) (kept kept' : Kept)
-    → is_before_tree stage ≡ false → (stage ≡ stages.Tree → ⊥) → kept'.answer ≡ kept.answer
+pub line_passed : (stage : Stage) (p : Pesp) (front : Option FrontOf) (c : Content) (line : TreeLine) (rest : List Item) (kept kept' : Kept)
+    → is_before_tree stage ≡ false → (stage ≡ stages.Tree → ⊥) → kept'.answer ≡ kept.answer → kept'.lemma ≡ kept.lemma
     → JudgedAt stage p front c (tree_item line ∷ rest) kept → JudgedAt stage p front c rest kept'
-line_passed stages.Front p front c line rest kept kept' b n e h = absurd cc
-line_passed stages.Cycles p front c line rest kept kept' b n e h = absurd cc
-line_passed stages.Tree p front c line rest kept kept' b n e h = absurd (n refl)
-line_passed (stages.Refused r) p front c line rest kept kept' b n e h = passed p front c r (tree_item line) rest kept kept' e h
+line_passed stages.Front p front c line rest kept kept' b n e l h = absurd cc
+line_passed stages.Cycles p front c line rest kept kept' b n e l h = absurd cc
+line_passed stages.Tree p front c line rest kept kept' b n e l h = absurd (n refl)
+line_passed (stages.Refused r) p front c line rest kept kept' b n e l h = passed p front c r (tree_item line) rest kept kept' (line_no line) e l h
 
 -- ---- the end
 
@@ -260,32 +437,62 @@ no_tree c Q whole none = go c.tree whole none
     go [] w l = absurd cc
     go (x ∷ xs) w l = absurd (omega arith)
 
-front_open : (stage : Stage) (p : Pesp) (front : Option Marks) (c : Content) (kept : Kept) (Q : Type 0) → is_before_tree stage ≡ true
+-- no lemma is coming there
+end_alone : (p : Pesp) (front : Option FrontOf) (c : Content) (kept : Kept) → FrontTo p front c (End ∷ []) kept → kept.lemma ≡ None
+end_alone p front c kept (inl (times, inl h)) = h.3
+end_alone p front c kept (inl (times, inr (inl h))) = h.5
+end_alone p front c kept (inl (times, inr (inr (inl h)))) = h.4
+end_alone p front c kept (inl (times, inr (inr (inr (inl h))))) =
+    let l = h.3 in
+    absurd (no_other p _ l.lemma (line_before h.0 h.1 + 1) l.kept_lemma kept.line [] (lemmas_from h.0 c (h.1 + 1)) (part_begins h.0 c (h.1 + 1))
+    End refl (λ e. cc) (λ e. cc) l.came)
+end_alone p front c kept (inl (times, inr (inr (inr (inr h))))) = h.3.none
+end_alone p front c kept (inr (came, head)) = none_coming p front kept came
+
+front_open : (stage : Stage) (p : Pesp) (front : Option FrontOf) (c : Content) (kept : Kept) (Q : Type 0) → is_before_tree stage ≡ true
     → are_trees 1 (lines_of c) ≡ true → JudgedAt stage p front c (End ∷ []) kept → Q
 front_open stages.Front p front c kept Q b whole h =
-    let done = front_done front c (End ∷ []) kept refl h.1 in no_tree c Q whole (cycles_ended c 0 done.left)
+    let done = front_done p front c (End ∷ []) kept refl (end_alone p front c kept h.1) h.1 in no_tree c Q whole (cycles_ended c 0 done.left)
 front_open stages.Cycles p front c kept Q b whole h = no_tree c Q whole (cycles_ended c h.0 h.1.left)
 front_open stages.Tree p front c kept Q b whole h = absurd cc
 front_open (stages.Refused r) p front c kept Q b whole h = absurd cc
 
-pub end_answer : (stage : Stage) (p : Pesp) (front : Option Marks) (c : Content) (kept : Kept) → are_trees 1 (lines_of c) ≡ true
+pub end_answer : (stage : Stage) (p : Pesp) (front : Option FrontOf) (c : Content) (kept : Kept) → are_trees 1 (lines_of c) ≡ true
     → JudgedAt stage p front c (End ∷ []) kept → kept.answer ≡ c.answer
 end_answer stages.Front p front c kept whole h = front_open stages.Front p front c kept (kept.answer ≡ c.answer) refl whole h
 end_answer stages.Cycles p front c kept whole h = h.1.shown.answer
 end_answer stages.Tree p front c kept whole h = h.2.shown.answer
-end_answer (stages.Refused r) p front c kept whole h = h.answer
+end_answer (stages.Refused r) p front c kept whole h = answered c kept.answer h.answer
 
-pub end_valid : (stage : Stage) (p : Pesp) (front : Option Marks) (c : Content) (kept : Kept)
+tree_valid : (p : Pesp) (front : Option FrontOf) (c : Content) (kept : Kept) (k : ℕ) (standing : Standing) → HasText front c
+    → TreeTo p front c (End ∷ []) kept k standing → IsValidBehind front p c
+tree_valid p None c kept k standing has t =
+    plain_valid p c (whole_text None c has) t.shown.period t.shown.shows t.walks None tt tt
+    (judged_all None (net_of p) c.cycles (least_of c.answer) c.tree (root (net_of p) c.cycles)
+    (own_line None (4 + length c.times + length c.cycles)) standing.nodes k (tree_ended c k t.left) t.whole t.judged)
+tree_valid p (Some f) c kept k standing has t = go f.lemmas refl
+  where
+    marks : AreMarks (arcs_of p) f.marks
+    marks = record { scale = (keeps_front (Some f) c has).scale.0; walks = t.closed }
+
+    go : (ss : List LemmaProof) → ss ≡ f.lemmas → IsValidBehind (Some f) p c
+    go [] e = plain_valid p c (whole_text (Some f) c has) t.shown.period t.shown.shows t.walks (Some f) (sym e) marks
+        (judged_all (Some f.marks) (net_of p) c.cycles (least_of c.answer) c.tree (root (net_of p) c.cycles)
+        (own_line (Some f) (4 + length c.times + length c.cycles)) standing.nodes k (tree_ended c k t.left) t.whole
+        ((to_plain p c (Some f) standing.nodes k (sym e)).0 t.judged))
+    go (s ∷ ss) e = from_valid p c (whole_text (Some f) c has) t.shown.period t.shown.shows t.walks f t.lemmas marks
+        (from_all f.marks (lemmas_of f.lemmas) (net_of p) c.cycles (cost_goal (net_of p) (least_of c.answer)) c.tree (root (net_of p) c.cycles)
+        (own_line (Some f) (4 + length c.times + length c.cycles)) standing.nodes k (tree_ended c k t.left) t.whole
+        ((to_lemmas p c f f.lemmas standing.nodes k (λ none. let bad : s ∷ ss ≡ [] = e ∙ none in cc)).0 t.judged))
+
+pub end_valid : (stage : Stage) (p : Pesp) (front : Option FrontOf) (c : Content) (kept : Kept)
     → (stage ≡ stages.Front) ⊎ ((stage ≡ stages.Cycles) ⊎ (stage ≡ stages.Tree)) → HasText front c
-    → JudgedAt stage p front c (End ∷ []) kept → IsValid front p c
-end_valid stages.Front p front c kept is has h = front_open stages.Front p front c kept (IsValid front p c) refl (whole_text front c has) h
-end_valid stages.Cycles p front c kept is has h = front_open stages.Cycles p front c kept (IsValid front p c) refl (whole_text front c has) h
-end_valid stages.Tree p front c kept is has h =
-    let t = h.2 in
-    let done = tree_ended c h.0 t.left in
-    valid_is front p c t.shown.period t.shown.shows t.walks (are_marks front (arcs_of p) (keeps_front front c has) t.closed)
-    (judged_all front (net_of p) c.cycles (least_of c.answer) c.tree (root (net_of p) c.cycles)
-    (first_tree_line front c) h.1.nodes h.0 done t.whole t.judged)
+    → JudgedAt stage p front c (End ∷ []) kept → IsValidBehind front p c
+end_valid stages.Front p front c kept is has h =
+    front_open stages.Front p front c kept (IsValidBehind front p c) refl (whole_text front c has) h
+end_valid stages.Cycles p front c kept is has h =
+    front_open stages.Cycles p front c kept (IsValidBehind front p c) refl (whole_text front c has) h
+end_valid stages.Tree p front c kept is has h = tree_valid p front c kept h.0 h.1 has h.2
 end_valid (stages.Refused r) p front c kept (inl e) has h = absurd cc
 end_valid (stages.Refused r) p front c kept (inr (inl e)) has h = absurd cc
 end_valid (stages.Refused r) p front c kept (inr (inr e)) has h = absurd cc

@@ -1,6 +1,5 @@
 -- The next of the items that are left.
 use Rattle.std.proofs.Common.{◌≡◌, ◌⊎◌, inl, inr, ℕ, ◌+◌, ◌<◌, ◌≤◌, arith, true, List, [], ◌∷◌, ◌++◌, length, get_or, map, drop, refl, sym, ap, ◌∙◌}
-use Rattle.std.specs.List.{list_all}
 use Rattle.std.proofs.lemmas.Bool.{cases_lt}
 use Rattle.std.proofs.lemmas.List.{drop_all, drop_more, get_or_default}
 use Rattle.pesp_problem.specs.declared.row.SignedRow.{SignedRow}
@@ -16,6 +15,9 @@ use Rattle.pesp_judges.specs.declared.leaf_line.LeafLine.TheVariants.{Bound as B
 use Rattle.pesp_judges.specs.declared.tree.SaidLine.{SaidLine}
 use Rattle.pesp_judges.specs.declared.tree.SaidLine.TheVariants.{Branch, Leaf, Propagated as PropagatedLine}
 use Rattle.pesp_judges.specs.SaidLines.{line_said}
+use Rattle.std.specs.Prelude.{Option, Some, None, is_some, option_map, false}
+use Rattle.pesp_lemma_judges.specs.declared.lemma_judge.LemmaJudge.{LemmaJudge}
+use Rattle.pesp_lemma_judges.specs.Showing.{kept as kept_lemma}
 use Rattle.pesp_check.specs.Items.{is_later, is_line}
 use Rattle.pesp_check.specs.Said.{tree_line}
 use Rattle.pesp_check.specs.Judging.{tree_from, cycles_from}
@@ -102,20 +104,6 @@ cycles_later c k item rest e = elim (next_of Cycle c.cycles k (tree_from c 0) it
   | inr n ↦ tree_later c 0 item rest n.1
 ]
 
-all_lines : (ls : List TreeLine) → list_all is_later (map tree_item ls ++ End ∷ []) ≡ true
-all_lines [] = refl
-all_lines (l ∷ ls) = rw (line_is_later l, all_lines ls) refl
-
-pub all_tree : (c : Content) (k : ℕ) → list_all is_later (tree_from c k) ≡ true
-all_tree c k = all_lines (drop k c.tree)
-
-all_cycles_and : (cs : List (List SignedRow)) (ys : List Item) → list_all is_later ys ≡ true → list_all is_later (map Cycle cs ++ ys) ≡ true
-all_cycles_and [] ys h = h
-all_cycles_and (c ∷ cs) ys h = rw (all_cycles_and cs ys h) refl
-
-pub all_cycles : (c : Content) (k : ℕ) → list_all is_later (cycles_from c k) ≡ true
-all_cycles c k = all_cycles_and (drop k c.cycles) (tree_from c 0) (all_tree c 0)
-
 -- no cycle and no end is a line of the tree
 pub cycle_in_tree : (c : Content) (k : ℕ) (rows : List SignedRow) (rest : List Item) → Cycle rows ∷ rest ≡ tree_from c k → ⊥
 cycle_in_tree c k rows rest e = elim (next_of tree_item c.tree k (End ∷ []) (Cycle rows) rest e) [
@@ -144,3 +132,8 @@ cycles_ended c k e = elim (next_of Cycle c.cycles k (tree_from c 0) End [] e) [
   | inl n ↦ let bad : End ≡ Cycle n.0 = n.1.item_is in absurd cc
   | inr n ↦ tree_ended c 0 n.1
 ]
+
+-- where no lemma is shown, none is kept
+pub no_lemma : (o : Option LemmaJudge) → is_some o ≡ false → option_map kept_lemma o ≡ None
+no_lemma None e = refl
+no_lemma (Some l) e = absurd cc

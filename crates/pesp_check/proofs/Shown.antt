@@ -1,6 +1,6 @@
 -- What the lines of a sound tree show, line by line.
-use Rattle.std.proofs.Common.{◌≡◌, ◌≢◌, ℕ, ◌+◌, ◌<◌, ◌≤◌, arith, ap, sym, subst, ◌∙◌, refl, List, [], ◌∷◌, ◌++◌, length, get_or, drop, map, append_assoc, append-nil, Option, Some, None, true}
-use Rattle.std.specs.Prelude.{ℤ, pos, negsuc, min, ◌<ℤ◌, ◌≤ℤ◌, option_map}
+use Rattle.std.proofs.Common.{◌≡◌, ◌≢◌, inl, inr, ℕ, ◌+◌, ◌<◌, ◌≤◌, arith, ap, sym, subst, ◌∙◌, refl, List, [], ◌∷◌, ◌++◌, length, get_or, drop, map, append_assoc, append-nil, Option}
+use Rattle.std.specs.Prelude.{ℤ, pos, negsuc, ◌+ℤ◌, ◌<ℤ◌, ◌≤ℤ◌, option_map}
 use Rattle.std.proofs.lemmas.Int.{ints, clamps}
 use Rattle.std.proofs.lemmas.List.{drop_all}
 use Rattle.pesp_problem.specs.declared.row.SignedRow.{SignedRow}
@@ -9,17 +9,19 @@ use Rattle.pesp_problem.specs.declared.cut.Cut.{Cut}
 use Rattle.pesp_problem.specs.declared.cut.Cut.TheVariants.{Slack, Offset}
 use Rattle.pesp_problem.specs.Timetables.{Pesp}
 use Rattle.pesp_problem.specs.Sums.{ceil_div}
-use Rattle.pesp_problem.specs.Arcs.{Net, net_of}
+use Rattle.pesp_problem.proofs.Integers.{mul-le, mul-add, le-cases, le-ceil_div, ceil_div-le}
+use Rattle.pesp_problem.specs.Arcs.{Net, arc_at, net_of}
 use Rattle.pesp_problem.specs.Walks.{Names}
 use Rattle.pesp_problem.specs.Nodes.{Node}
 use Rattle.pesp_truth.specs.declared.tree.TreeLine.{TreeLine}
-use Rattle.pesp_truth.specs.Trees.{Line, EndLine, CutLine, Leaf, Bound, Shut, CutExists, IsSoundLeaf, AreSound}
+use Rattle.pesp_truth.specs.Trees.{Line, EndLine, CutLine, Leaf, Bound, Shut, CutExists}
 use Rattle.pesp_truth.specs.Certificates.{line_of}
 use Rattle.pesp_judges.specs.Lines.{after, CutIsNamed}
 use Rattle.pesp_leaves.proofs.Arcs.{arcs_long}
 use Rattle.pesp_judges.proofs.Judged.{next_line}
-use Rattle.pesp_nets.specs.Sharp.{sharp_value, sharp_cost}
-use Rattle.pesp_truth.specs.Marks.{Marks, AreNamed, uses_walks, scale_of, multipliers}
+use Rattle.pesp_truth.specs.Marks.{Marks, AreNamed, uses_walks, scale_of}
+use Rattle.pesp_lemma.specs.Lemmas.{Lemma}
+use Rattle.pesp_lemma.specs.Trees.{Goal, value_by, IsSoundLeafFrom, AreSoundFrom}
 use Rattle.pesp_check.specs.Costs.{told, shown_at, line_shows, shown_in, LeafIsNamed, LineIsNamed}
 
 -- ---- a cost as it is told
@@ -35,95 +37,116 @@ told_above (negsuc n) h = absurd (omega (arith, ints, h))
 pub told_between : (z : ℤ) (n : ℕ) → z ≡ pos n → n ≤ 999999999999999999 → n ≡ told z
 told_between z n is most = rw is (omega (arith, clamps, most))
 
+told_low : (z : ℤ) → z ≤ℤ pos 0 → 0 ≡ told z
+told_low (pos n) h = let none : n ≤ 0 = omega (arith, ints, h) in omega (arith, clamps, none)
+told_low (negsuc n) h = refl
+
+-- of a value by a scale no more than this is told
+pub told_large : (z : ℤ) (d : ℕ) → 0 < d → d ≤ 1000000 → pos 1000000000000000000000000 <ℤ z → 999999999999999999 ≡ told (ceil_div z d)
+told_large z d some few large = told_above (ceil_div z d) (elim (le-cases (pos 1000000000000000000) (ceil_div z d)) [
+  | inl m ↦ omega (arith, ints, m)
+  | inr m ↦ absurd (omega (
+    arith,
+    ints,
+    large,
+    few,
+    le-ceil_div z d some,
+    mul-le d (ceil_div z d +ℤ pos 1) (pos 1000000000000000000) m,
+    mul-add (pos d) (ceil_div z d) (pos 1),
+  ))
+])
+
+-- nor less than this
+pub told_negative : (z : ℤ) (d : ℕ) → 0 < d → z <ℤ pos 0 → 0 ≡ told (ceil_div z d)
+told_negative z d some low = told_low (ceil_div z d) (ceil_div-le z d (pos 0) some (omega (arith, ints, low)))
+
 -- ---- a leaf
 
--- what a value shows by the scale of its leaf
-pub value_shows : (n : Net) (table : List (List SignedRow)) (marks : Marks) (pairs : List Pair) (node : Node)
-    (cycles scale : ℕ) (value : ℤ) → cycles ≡ length table → scale ≡ scale_of marks (uses_walks cycles pairs)
-    → ◌≡◌ {A = Option ℤ} (Some value) (sharp_value n table node (multipliers (length table) marks pairs) true)
-    → ◌≡◌ {A = Option ℕ} (Some (told (ceil_div value scale))) (shown_at n table marks (Bound pairs) node)
-value_shows n table marks pairs node cycles scale value long is v =
-    let there : scale ≡ (multipliers (length table) marks pairs).scale =
-    is ∙ ap (λ (k : ℕ). scale_of marks (uses_walks k pairs)) long in
-    ap (λ (d : ℕ). Some (told (ceil_div value d))) there
-    ∙ ap (λ (o : Option ℤ). option_map told (option_map (λ z. ceil_div z (multipliers (length table) marks pairs).scale) o)) v
+-- the weights of the rows, as the cost counts them
+abbrev pub own_of : Net → ℕ → ℤ
+own_of n i = pos (arc_at n.arcs i).weight
 
-pub none_shows : (n : Net) (table : List (List SignedRow)) (marks : Marks) (pairs : List Pair) (node : Node)
-    → ◌≡◌ {A = Option ℤ} None (sharp_value n table node (multipliers (length table) marks pairs) true)
-    → ◌≡◌ {A = Option ℕ} None (shown_at n table marks (Bound pairs) node)
-none_shows n table marks pairs node v =
-    ap (λ (o : Option ℤ). option_map told (option_map (λ z. ceil_div z (multipliers (length table) marks pairs).scale) o)) v
+-- what a value shows by the scale of its leaf
+pub value_shows : (n : Net) (table : List (List SignedRow)) (marks : Marks) (facts : List Lemma) (pairs : List Pair) (node : Node)
+    (cycles scale : ℕ) (value : Option ℤ) → cycles ≡ length table → scale ≡ scale_of marks (uses_walks cycles pairs)
+    → value ≡ value_by marks facts n table node pairs (own_of n)
+    → option_map told (option_map (λ v. ceil_div v scale) value) ≡ shown_at n table marks facts (Bound pairs) node
+value_shows n table marks facts pairs node cycles scale value long is v =
+    let there : scale ≡ scale_of marks (uses_walks (length table) pairs) =
+    is ∙ ap (λ (k : ℕ). scale_of marks (uses_walks k pairs)) long in
+    ap (λ (d : ℕ). option_map told (option_map (λ z. ceil_div z d) value)) there
+    ∙ ap (λ (o : Option ℤ). option_map told (option_map (λ z. ceil_div z (scale_of marks (uses_walks (length table) pairs))) o)) v
 
 -- ---- lines
 
-module _ (p : Pesp) (table : List (List SignedRow)) (marks : Marks) (least : Option ℕ) where
+module _ (p : Pesp) (table : List (List SignedRow)) (marks : Marks) (facts : List Lemma) (goal : Goal) where
   cut_named : (cut : Cut) (cycles : ℕ) → cycles ≡ length table → CutExists (net_of p) table cut → CutIsNamed (length p.rows) cycles cut
   cut_named (Slack row k) cycles long exists = subst (λ (m : ℕ). Names m row) (arcs_long p) exists
   cut_named (Offset cycle k) cycles long exists = subst (λ (m : ℕ). Names m cycle) (sym long) exists
 
   leaf_named : (leaf : Leaf) (node : Node) (cycles : ℕ) → cycles ≡ length table
-      → IsSoundLeaf (Some marks) (net_of p) table least leaf node → LeafIsNamed cycles (length marks.walks) leaf
-  leaf_named (Bound pairs) node cycles long s = subst (λ (m : ℕ). AreNamed m (length marks.walks) pairs) (sym long) s.0
+      → IsSoundLeafFrom marks facts (net_of p) table goal leaf node → LeafIsNamed cycles (length marks.walks + length facts) leaf
+  leaf_named (Bound pairs) node cycles long s = subst (λ (m : ℕ). AreNamed m (length marks.walks + length facts) pairs) (sym long) s.0
   leaf_named (Shut reason) node cycles long s = tt
 
   line_named : (line : Line) (lines : List Line) (nodes : List Node) (cycles : ℕ) → cycles ≡ length table
-      → AreSound (Some marks) (net_of p) table least (line ∷ lines) nodes
-      → LineIsNamed (length p.rows) cycles (length marks.walks) line
+      → AreSoundFrom marks facts (net_of p) table goal (line ∷ lines) nodes
+      → LineIsNamed (length p.rows) cycles (length marks.walks + length facts) line
   line_named line lines [] cycles long s = absurd s
   line_named (EndLine leaf) lines (node ∷ nodes) cycles long s = leaf_named leaf node cycles long s.0
   line_named (CutLine cut) lines (node ∷ nodes) cycles long s = cut_named cut cycles long s.0
 
   line_waits : (line : Line) (lines : List Line) (nodes : List Node)
-      → AreSound (Some marks) (net_of p) table least (line ∷ lines) nodes → nodes ≢ []
+      → AreSoundFrom marks facts (net_of p) table goal (line ∷ lines) nodes → nodes ≢ []
   line_waits line lines [] s = absurd s
   line_waits line lines (node ∷ nodes) s = λ f. cc
 
   sound_after : (line : Line) (lines : List Line) (nodes : List Node)
-      → AreSound (Some marks) (net_of p) table least (line ∷ lines) nodes
-      → AreSound (Some marks) (net_of p) table least lines (after line nodes)
+      → AreSoundFrom marks facts (net_of p) table goal (line ∷ lines) nodes
+      → AreSoundFrom marks facts (net_of p) table goal lines (after line nodes)
   sound_after line lines [] s = absurd s
   sound_after (EndLine leaf) lines (node ∷ nodes) s = s.1
   sound_after (CutLine cut) lines (node ∷ nodes) s = s.1
 
   -- what is left of lines, and the nodes that wait for them; what was shown before
   pub record AreShown (lines : List TreeLine) (nodes : List Node) (k : ℕ) (now : List Node) (shown : List (Option ℕ)) : Type 0 where
-    pub sound : AreSound (Some marks) (net_of p) table least (map line_of (drop k lines)) now
-    pub all : shown ++ shown_in (net_of p) table marks (map line_of (drop k lines)) now
-        ≡ shown_in (net_of p) table marks (map line_of lines) nodes
+    pub sound : AreSoundFrom marks facts (net_of p) table goal (map line_of (drop k lines)) now
+    pub all : shown ++ shown_in (net_of p) table marks facts (map line_of (drop k lines)) now
+        ≡ shown_in (net_of p) table marks facts (map line_of lines) nodes
 
   pub none_shown : (lines : List TreeLine) (nodes : List Node)
-      → AreSound (Some marks) (net_of p) table least (map line_of lines) nodes → AreShown lines nodes 0 nodes []
+      → AreSoundFrom marks facts (net_of p) table goal (map line_of lines) nodes → AreShown lines nodes 0 nodes []
   none_shown lines nodes s = record { sound = s; all = refl }
 
   module _ (lines : List TreeLine) (nodes : List Node) (k : ℕ) (now : List Node) (shown : List (Option ℕ))
       (h : AreShown lines nodes k now shown) where
-    pub all_shown : length lines ≤ k → shown ≡ shown_in (net_of p) table marks (map line_of lines) nodes
+    pub all_shown : length lines ≤ k → shown ≡ shown_in (net_of p) table marks facts (map line_of lines) nodes
     all_shown done =
         let none : map line_of (drop k lines) ≡ [] = ap (map line_of) (drop_all k lines done) in
-        let P : List Line → Type 0 = λ ls. shown ++ shown_in (net_of p) table marks ls now
-        ≡ shown_in (net_of p) table marks (map line_of lines) nodes in
+        let P : List Line → Type 0 = λ ls. shown ++ shown_in (net_of p) table marks facts ls now
+        ≡ shown_in (net_of p) table marks facts (map line_of lines) nodes in
         sym (append-nil shown) ∙ subst P none h.all
 
     module _ (line : TreeLine) (within : k < length lines) (is : line ≡ get_or lines k line) where
-      here : AreSound (Some marks) (net_of p) table least (line_of line ∷ map line_of (drop (k + 1) lines)) now
-      here = let P : List Line → Type 0 = λ ls. AreSound (Some marks) (net_of p) table least ls now in
+      here : AreSoundFrom marks facts (net_of p) table goal (line_of line ∷ map line_of (drop (k + 1) lines)) now
+      here = let P : List Line → Type 0 = λ ls. AreSoundFrom marks facts (net_of p) table goal ls now in
           subst P (next_line lines k line within is) h.sound
 
-      pub next_named : (cycles : ℕ) → cycles ≡ length table → LineIsNamed (length p.rows) cycles (length marks.walks) (line_of line)
+      pub next_named : (cycles : ℕ) → cycles ≡ length table → LineIsNamed (length p.rows) cycles (length marks.walks + length facts) (line_of line)
       next_named cycles long = line_named (line_of line) (map line_of (drop (k + 1) lines)) now cycles long here
 
       pub next_waits : now ≢ []
       next_waits = line_waits (line_of line) (map line_of (drop (k + 1) lines)) now here
 
       pub one_shown : (after' : List Node) (new : List (Option ℕ)) (value : Option ℕ) (node : Node) (rest : List Node)
-          → now ≡ node ∷ rest → value ≡ line_shows (net_of p) table marks (line_of line) node
+          → now ≡ node ∷ rest → value ≡ line_shows (net_of p) table marks facts (line_of line) node
           → after' ≡ after (line_of line) now → new ≡ shown ++ value ∷ [] → AreShown lines nodes (k + 1) after' new
       one_shown after' new value node rest waits v a more = record {
         sound = (let Q : List Node → Type 0 = λ ns.
-            AreSound (Some marks) (net_of p) table least (map line_of (drop (k + 1) lines)) ns in
+            AreSoundFrom marks facts (net_of p) table goal (map line_of (drop (k + 1) lines)) ns in
             subst Q (sym a) (sound_after (line_of line) (map line_of (drop (k + 1) lines)) now here));
         all = (let left = map line_of (drop (k + 1) lines) in
-            let S : List Line → List Node → List (Option ℕ) = λ ls ns. shown_in (net_of p) table marks ls ns in
+            let S : List Line → List Node → List (Option ℕ) = λ ls ns. shown_in (net_of p) table marks facts ls ns in
             let first : S (map line_of (drop k lines)) now ≡ value ∷ S left after' =
             ap (λ (ls : List Line). S ls now) (next_line lines k line within is)
             ∙ ap (λ (ns : List Node). S (line_of line ∷ left) ns) waits

@@ -6,8 +6,8 @@ use Rattle.pesp_stream.specs.Counts.{Calls, Worked, Failed}
 use Rattle.pesp_problem.specs.Timetables.{Pesp}
 use Rattle.pesp_truth.specs.declared.answer.Answer.{Answer}
 use Rattle.pesp_truth.specs.Truth.{IsTrueAnswer}
-use Rattle.pesp_truth.specs.Marks.{Marks}
-use Rattle.pesp_truth.specs.Certificates.{Content, IsValid, shown_times}
+use Rattle.pesp_lemma.specs.Fronts.{Front as FrontOf, IsValidBehind}
+use Rattle.pesp_truth.specs.Certificates.{Content, shown_times}
 use Rattle.pesp_cert_lines.specs.declared.item.Item.{Item}
 use Rattle.pesp_cert_lines.specs.declared.item.Item.TheVariants.{Version, Period, Answer as Says, Cycle, End}
 use Rattle.pesp_cert.specs.declared.refusal.CertRefusal.{CertRefusal}
@@ -23,8 +23,8 @@ use Rattle.pesp_cert_items.specs.Texts.{RefusesText}
 use Rattle.pesp_cert_items.proofs.Running.{Runs, runs_none, runs_more, runs_all, runs_refused}
 use Rattle.pesp_cert_items.proofs.Telling.{at_first, ran_text, refused_text}
 use Rattle.pesp_judges.specs.declared.refusal.Verdict.{Verdict}
-use Rattle.pesp_judges.specs.Faults.{IsVerdict}
-use Rattle.pesp_judges.proofs.Faults.{accepts_valid}
+use Rattle.pesp_lemma_judges.specs.Faults.{IsVerdictBehind}
+use Rattle.pesp_lemma_judges.proofs.Faults.{accepts_behind}
 use Rattle.pesp_check.specs.declared.stage.Stage.{Stage}
 use Rattle.pesp_check.specs.declared.fault.CheckFault.TheVariants.{Read}
 use Rattle.pesp_check.specs.CheckFaults.{fault_of}
@@ -35,12 +35,12 @@ use Rattle.pesp_check.specs.Judging.{Kept, JudgedAt, items_left}
 pub record IsCheckedTo (p : Pesp) (old now : Reading) (stage : Stage) (kept : Kept) : Type 0 where
   pub so_far : List Item
   pub runs : Runs old now so_far
-  pub judged : (front : Option Marks) (c : Content) (rest : List Item) → HasText front c → items_left front c ≡ so_far ++ rest
+  pub judged : (front : Option FrontOf) (c : Content) (rest : List Item) → HasText front c → items_left front c ≡ so_far ++ rest
       → JudgedAt stage p front c rest kept
   pub going : is_open now.stage ≡ true
 
 pub checked_none : (p : Pesp) (r : Reading) (stage : Stage) (kept : Kept) → is_open r.stage ≡ true
-    → ((front : Option Marks) (c : Content) → JudgedAt stage p front c (items_left front c) kept) → IsCheckedTo p r r stage kept
+    → ((front : Option FrontOf) (c : Content) → JudgedAt stage p front c (items_left front c) kept) → IsCheckedTo p r r stage kept
 checked_none p r stage kept o h = record {
   so_far = [];
   runs = runs_none r;
@@ -50,7 +50,7 @@ checked_none p r stage kept o h = record {
 
 pub checked_more : (p : Pesp) (a b c : Reading) (stage stage' : Stage) (kept kept' : Kept) (item : Item)
     → IsCheckedTo p a b stage kept → Gives b c (Ok (Some item))
-    → ((front : Option Marks) (c : Content) (rest : List Item) → HasText front c → JudgedAt stage p front c (item ∷ rest) kept
+    → ((front : Option FrontOf) (c : Content) (rest : List Item) → HasText front c → JudgedAt stage p front c (item ∷ rest) kept
     → JudgedAt stage' p front c rest kept') → IsCheckedTo p a c stage' kept'
 checked_more p a b c stage stage' kept kept' item h g step = record {
   so_far = h.so_far ++ item ∷ [];
@@ -62,16 +62,16 @@ checked_more p a b c stage stage' kept kept' item h g step = record {
 
 -- ---- the end
 
-all_left : (front : Option Marks) (c : Content) → items_of front c ≡ items_left front c
+all_left : (front : Option FrontOf) (c : Content) → items_of front c ≡ items_left front c
 all_left front c = ap (λ is. front_items front ++ Version c.version ∷ Period c.period ∷ Says c.answer ∷ is)
     (items_shape (map time_item c.times) (map Cycle c.cycles) (map tree_item c.tree) (End ∷ []))
 
 pub checked_all : (versions : Versions) (p : Pesp) (told : Option (List ℕ)) (b c : Reading) (stage : Stage) (kept : Kept)
     (verdict : Verdict) (answer : Answer) → IsCheckedTo p (at_first versions told 1073741824) b stage kept
     → Gives b c (Ok None)
-    → ((front : Option Marks) (c : Content) → HasText front c → JudgedAt stage p front c (End ∷ []) kept → IsVerdict front p c verdict)
-    → ((front : Option Marks) (c : Content) → HasText front c → JudgedAt stage p front c (End ∷ []) kept → answer ≡ c.answer)
-    → ((front : Option Marks) (c : Content) → IsValid front p c → IsTrueAnswer p c.answer (shown_times c))
+    → ((front : Option FrontOf) (c : Content) → HasText front c → JudgedAt stage p front c (End ∷ []) kept → IsVerdictBehind front p c verdict)
+    → ((front : Option FrontOf) (c : Content) → HasText front c → JudgedAt stage p front c (End ∷ []) kept → answer ≡ c.answer)
+    → ((front : Option FrontOf) (c : Content) → IsValidBehind front p c → IsTrueAnswer p c.answer (shown_times c))
     → ChecksText versions told c.told p verdict answer
 checked_all versions p told b c stage kept verdict answer h g says is true_then =
     let ran = runs_all (at_first versions told 1073741824) b c h.so_far h.runs g.1 in
@@ -92,9 +92,9 @@ checked_all versions p told b c stage kept verdict answer h g says is true_then 
       spelt = found.3;
       answer_is = same;
       said = said;
-      exactly = accepts_valid front p content verdict said;
+      exactly = accepts_behind front p content verdict said;
       truth = λ e. subst (λ (a : Answer). IsTrueAnswer p a (shown_times content)) (sym same)
-          (true_then front content ((accepts_valid front p content verdict said).0 e));
+          (true_then front content ((accepts_behind front p content verdict said).0 e));
     }
 
 -- ---- a fault

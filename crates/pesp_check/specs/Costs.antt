@@ -1,14 +1,17 @@
--- What the lines of a tree show whose leaves may name marked walks, each at the first of the nodes that wait.
-use Rattle.std.specs.Prelude.{ℕ, List, [], ◌∷◌, ℤ, pos, negsuc, min, Option, Some, None, option_map, length}
+-- What the lines of a tree show whose leaves may name marked walks and lemmas, each at the first of the nodes that wait.
+use Rattle.std.specs.Prelude.{ℕ, List, [], ◌∷◌, ℤ, pos, negsuc, min, Option, Some, None, option_map}
 use Rattle.pesp_problem.specs.declared.row.SignedRow.{SignedRow}
 use Rattle.pesp_problem.specs.Timetables.{Pesp}
-use Rattle.pesp_problem.specs.Arcs.{Net, net_of}
+use Rattle.pesp_problem.specs.Arcs.{Net, arc_at, net_of}
 use Rattle.pesp_problem.specs.Nodes.{Node, root}
 use Rattle.pesp_truth.specs.Trees.{Leaf, Bound, Shut, Line, EndLine, CutLine}
 use Rattle.pesp_truth.specs.Certificates.{lines_of}
 use Rattle.pesp_judges.specs.Lines.{after, CutIsNamed}
-use Rattle.pesp_nets.specs.Sharp.{sharp_cost}
-use Rattle.pesp_truth.specs.Marks.{Marks, AreNamed, multipliers}
+use Rattle.pesp_truth.specs.Marks.{Marks, AreNamed}
+use Rattle.pesp_lemma.specs.Lemmas.{Lemma}
+use Rattle.pesp_lemma.specs.Trees.{bound_by}
+use Rattle.pesp_lemma.specs.Shown.{lemmas_of}
+use Rattle.pesp_lemma.specs.Fronts.{Front}
 use Rattle.pesp_cert.specs.Fronted.{Fronted}
 
 -- a cost as it is told: 0 where it is below that, and at most 999999999999999999
@@ -17,33 +20,39 @@ told (pos n) = min n 999999999999999999
 told (negsuc n) = 0
 
 -- what a leaf shows at a node: a bound leaf its value by its scale, rounded up to a whole cost; none every other leaf
-abbrev pub shown_at : Net → List (List SignedRow) → Marks → Leaf → Node → Option ℕ
-shown_at n table marks (Bound pairs) node = option_map told (sharp_cost n table node (multipliers (length table) marks pairs))
-shown_at n table marks (Shut reason) node = None
+abbrev pub shown_at : Net → List (List SignedRow) → Marks → List Lemma → Leaf → Node → Option ℕ
+shown_at n table marks facts (Bound pairs) node =
+    option_map told (bound_by marks facts n table node pairs (λ i. pos (arc_at n.arcs i).weight))
+shown_at n table marks facts (Shut reason) node = None
 
 -- a branch shows nothing
-abbrev pub line_shows : Net → List (List SignedRow) → Marks → Line → Node → Option ℕ
-line_shows n table marks (EndLine leaf) node = shown_at n table marks leaf node
-line_shows n table marks (CutLine cut) node = None
+abbrev pub line_shows : Net → List (List SignedRow) → Marks → List Lemma → Line → Node → Option ℕ
+line_shows n table marks facts (EndLine leaf) node = shown_at n table marks facts leaf node
+line_shows n table marks facts (CutLine cut) node = None
 
 -- what lines show
-abbrev pub shown_in : Net → List (List SignedRow) → Marks → List Line → List Node → List (Option ℕ)
-shown_in n table marks [] nodes = []
-shown_in n table marks (line ∷ lines) [] = []
-shown_in n table marks (line ∷ lines) (node ∷ nodes) =
-    line_shows n table marks line node ∷ shown_in n table marks lines (after line (node ∷ nodes))
+abbrev pub shown_in : Net → List (List SignedRow) → Marks → List Lemma → List Line → List Node → List (Option ℕ)
+shown_in n table marks facts [] nodes = []
+shown_in n table marks facts (line ∷ lines) [] = []
+shown_in n table marks facts (line ∷ lines) (node ∷ nodes) =
+    line_shows n table marks facts line node ∷ shown_in n table marks facts lines (after line (node ∷ nodes))
 
 -- without a front no walk is marked
 abbrev pub no_marks : Marks
 no_marks = record { scale = 1; walks = [] }
 
-abbrev pub marks_of : Option Marks → Marks
+abbrev pub marks_of : Option Front → Marks
 marks_of None = no_marks
-marks_of (Some marks) = marks
+marks_of (Some f) = f.marks
+
+-- nor is there a lemma
+abbrev pub facts_said : Option Front → List Lemma
+facts_said None = []
+facts_said (Some f) = lemmas_of f.lemmas
 
 -- what the lines of a certificate show
 abbrev pub shown_of : Pesp → Fronted → List (Option ℕ)
-shown_of p c = shown_in (net_of p) c.content.cycles (marks_of c.front) (lines_of c.content) (root (net_of p) c.content.cycles ∷ [])
+shown_of p c = shown_in (net_of p) c.content.cycles (marks_of c.front) (facts_said c.front) (lines_of c.content) (root (net_of p) c.content.cycles ∷ [])
 
 -- ---- what lines name
 

@@ -1,6 +1,8 @@
 -- A judge as what it keeps.
 use Rattle.pesp_check.specs.declared.judge.Judge.{Judge}
+use Rattle.std.specs.Prelude.{option_map}
+use Rattle.pesp_lemma_judges.specs.Showing.{kept as kept_lemma}
 use Rattle.pesp_check.specs.Judging.{Kept}
 
 abbrev pub kept : Judge → Kept
-kept j = record { line = j.line; draft = j.draft; front = j.front; period = j.period; answer = j.answer; times = j.times.items; table = j.table.items; walk = j.walk }
+kept j = record { line = j.line; draft = j.draft; facts = j.facts.items; lemma = option_map kept_lemma j.lemma; front = j.front; period = j.period; answer = j.answer; times = j.times.items; table = j.table.items; walk = j.walk }

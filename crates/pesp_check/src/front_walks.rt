@@ -6,49 +6,78 @@ ghost use Rattle.pesp_problem.specs.Arcs as instances;
 ghost use Rattle.pesp_nets.specs.Nets.{AreZeros};
 ghost use Rattle.pesp_nets.specs.Marked.{IsMarkedWalk};
 ghost use Rattle.pesp_truth.specs.FrontLimits.{KeepsLimits};
-ghost use Rattle.pesp_cert.specs.Drafts.{front_said, noted};
+ghost use Rattle.pesp_check.specs.Judging.{no_marks, marks_noted, marks_said};
 ghost use Rattle.pesp_cert_items.specs.Lent.{marked_in, line_said};
 ghost use Rattle.pesp_judges.specs.Faults.{IsMarksFault};
 
-use pesp_cert::FrontDraft;
 use pesp_cert_items::{MarkedRows, TextLine};
 use pesp_judges::{Refusal, judge_walks};
 use pesp_nets::{MarkedWalk, Rates, no_rates};
 use pesp_problem::{Arc, Instance, Memory};
 use pesp_truth::Marks;
 use std::alloc::{AllocError, Global};
+use std::marker::Model;
 
 /// The marked walk along the rows of a line.
-fn walk_of(alloc: Global, rows: MarkedRows<'_>) -> Result<MarkedWalk, Memory>
+pub(crate) fn walk_of(alloc: Global, rows: MarkedRows<'_>) -> Result<MarkedWalk, Memory>
     ensures { IfOk result (λ walk. walk ≡ marked_in rows.entry) }
 {
     let rows = rows.collect(alloc)?;
     Ok(MarkedWalk::new(rows))
 }
 
-/// Notes what a line says of a front.
+/// What the lines of a front said of its own scale and walks so far: whether one began, its scale, and its marked walks.
+#[derive(Drop)]
+pub(crate) struct MarksDraft {
+    pub begun: bool,
+    pub scale: u32,
+    pub walks: Vec<MarkedWalk>,
+}
+
+impl Model for MarksDraft {
+    ghost use Rattle.pesp_check.specs.Judging.{MarksSaid};
+
+    ghost Value = { MarksSaid };
+
+    ghost view = { λ d. record { begun = d.begun; scale = d.scale; walks = d.walks.items } };
+}
+
+impl MarksDraft {
+    /// No front began so far.
+    pub(crate) fn new(alloc: Global) -> MarksDraft
+        ensures { result ≡ no_marks }
+    {
+        MarksDraft {
+            begun: false,
+            scale: 0,
+            walks: Vec::new(alloc),
+        }
+    }
+}
+
+/// Notes what a line says of a front's own scale and walks.
 #[tactic(auto, using(crate::proofs::Fronts::own_noted))]
 pub(crate) fn note_line(
     alloc: Global,
-    draft: &mut FrontDraft,
+    draft: &mut MarksDraft,
     line: &TextLine<'_>,
 ) -> Result<(), Memory>
-    ensures { OnOk result (draft.new ≡ noted draft.old (line_said line.now)) }
+    ensures { OnOk result (draft.new ≡ marks_noted draft.old (line_said line.now)) }
 {
     match line {
         TextLine::Front => draft.begun = true,
         TextLine::Scale(scale) => draft.scale = *scale,
         TextLine::Walk(rows) => draft.walks.push(walk_of(alloc, *rows)?)?,
-        TextLine::Own(_) => {}
+        TextLine::Lemma(_) | TextLine::Least(_) | TextLine::Own(_) => {}
     }
     Ok(())
 }
 
-/// The front that lines said, where one began and keeps its limits, as that of each text does.
-pub(crate) fn front_of(draft: FrontDraft) -> Option<Marks>
-    ensures { IfSome (front_said draft) KeepsLimits → result ≡ front_said draft }
+/// The marks that lines said, where a front began and they keep their limits, as those of each text do.
+pub(crate) fn front_of(draft: MarksDraft) -> Option<Marks>
+    ensures { IfSome (marks_said draft) KeepsLimits → result ≡ marks_said draft }
 {
-    let FrontDraft {
+    let MarksDraft {
         begun,
         scale,
         walks,
@@ -108,6 +137,6 @@ pub(crate) fn walks_fault(
 {
     match front {
         None => Ok(None),
-        Some(marks) => judge_walks(alloc, instance, cycles, marks, working),
+        Some(marks) => judge_walks(alloc, instance, cycles, 2, marks, working),
     }
 }

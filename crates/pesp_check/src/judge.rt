@@ -1,47 +1,57 @@
 //! The judge of a text's lines, one after another.
 
-ghost use Rattle.std.specs.Prelude.{◌≡◌, ℕ, ◌+◌, ◌<◌, ◌≤◌, ◌^◌, List, ◌∷◌, ◌++◌, [], true, false, length, map, All, Option, IfOk, OnOk, MatchOption};
+ghost use Rattle.std.specs.Prelude.{◌≡◌, ◌≢◌, ℕ, ◌<◌, ◌≤◌, ◌+◌, ◌^◌, List, ◌∷◌, [], pos, true, false, length, map, All, Option, IfOk, OnOk, MatchOption};
 ghost use Rattle.std.specs.Option.{ForSome, is_some};
 ghost use Rattle.pesp_problem.specs.declared.limits.TheConstants.{MOST_SIGNED_ROWS};
-ghost use Rattle.pesp_problem.specs.Arcs.{arcs_of};
+ghost use Rattle.pesp_problem.specs.Arcs.{arc_at, arcs_of};
 ghost use Rattle.pesp_problem.specs.Walks.{RowExists};
-ghost use Rattle.pesp_truth.specs.Marks.{Marks};
+ghost use Rattle.pesp_lemma.specs.Fronts.{Front};
 ghost use Rattle.pesp_truth.specs.Certificates.{Content, ShowsAnswer};
 ghost use Rattle.pesp_cert_lines.specs.declared.item.Item.{Item as LineItem};
 ghost use Rattle.pesp_cert_lines.specs.declared.item.Item.TheVariants as items;
 ghost use Rattle.pesp_cert.specs.Texts.{HasText, tree_item};
-ghost use Rattle.pesp_cert_items.specs.Lent.{is_own, line_said, listed, rows_in};
+ghost use Rattle.pesp_cert_items.specs.Lent.{line_said, listed, pairs_in, rows_in};
 ghost use Rattle.pesp_nets.specs.Nets.{AreZeros, AreSmallCounts};
+ghost use Rattle.pesp_nets.specs.Terms.{number_at};
+ghost use Rattle.pesp_lemma.specs.Limits.{keeps_limits};
+ghost use Rattle.pesp_lemma_leaves.specs.Taken.{HaveRows, AreSmallWeights};
 ghost use Rattle.pesp_judges.specs.SaidLines.{KeepsSaidLimits};
-ghost use Rattle.pesp_judges.specs.Faults.{IsVerdict};
+ghost use Rattle.pesp_lemma_judges.specs.Faults.{IsVerdictBehind};
 ghost use Rattle.pesp_check.specs.Said.{pairs_of, tree_line};
-ghost use Rattle.pesp_check.specs.Items.{KeepsItemLimits, begins_later, begins_tree, is_line};
+ghost use Rattle.pesp_check.specs.Items.{KeepsItemLimits, begins_later, begins_tree, ends_lemma, is_mark};
 ghost use Rattle.pesp_check.specs.declared.stage.Stage.TheVariants as stages;
 ghost use Rattle.pesp_check.specs.Judging.{JudgedAt, items_left, IsFrontFault, is_front, is_before_tree};
 
 use crate::elements::{PairsLeft, RowsLeft};
-use crate::front_walks::{front_arcs, front_of, front_rates, note_line, walks_fault};
+use crate::front_walks::{MarksDraft, front_arcs, front_of, front_rates, note_line, walks_fault};
+use crate::lemma_lines::{add_fact, ends_lemma, fact_in, show_line};
+use crate::own_goal::{own_weights, said_least};
+use crate::said_line::said_line;
 use crate::stage::Stage;
-use pesp_cert::FrontDraft;
-use pesp_cert_items::{Item, SignedRows, TextLine};
+use pesp_cert_items::{Item, LinePairs, SignedRows, TextLine};
 use pesp_judges::{
-    Checker, LeafLine, Nets, NodeWalk, Refusal, SaidLine, Verdict, judge_answer, judge_cycle,
-    least_of, root, take_line,
+    Checker, Nets, NodeWalk, Refusal, SaidLine, Verdict, judge_answer, judge_cycle, least_of, root,
+    take_line, zeros,
 };
+use pesp_lemma::Lemma;
+use pesp_lemma_judges::{LemmaJudge, Shown, add_nets, take_line as take_line_from};
 use pesp_nets::Rates;
-use pesp_problem::{Arc, Cut, Instance, MOST_CYCLES, Memory};
+use pesp_problem::{Arc, Instance, MOST_CYCLES, Memory};
 use pesp_truth::{Answer, Marks};
 use std::alloc::{AllocError, Global};
 use std::mem::replace;
 
-/// What is kept of a text while its lines come: the number of the last line, what the lines of a front said, the period, the
-/// answer, the times and the net counts of the cycles; for the tree the front, what leaves that name its marked walks ask for,
-/// and the present node with the way to it. The list of places is kept for all cycles.
+/// What is kept of a text while its lines come: the number of the last line, what the lines of a front said, of its lemmas those
+/// that were shown and the one that is being shown, the period, the answer, the times and the net counts of the cycles; for the
+/// tree the front, what leaves that name its marked walks and lemmas ask for, and the present node with the way to it. The list
+/// of places is kept for all cycles.
 #[derive(Drop)]
 pub struct Judge<'a> {
     instance: &'a Instance,
     line: u64,
-    draft: FrontDraft,
+    draft: MarksDraft,
+    lemma: Option<LemmaJudge<'a>>,
+    facts: Vec<Lemma>,
     front: Option<Marks>,
     period: u32,
     answer: Answer,
@@ -50,6 +60,8 @@ pub struct Judge<'a> {
     places: Vec<u32>,
     arcs: Vec<Arc>,
     rates: Vec<Rates>,
+    own: Vec<i64>,
+    taken: Vec<i128>,
     walk: Option<NodeWalk<'a>>,
     stage: Stage,
     ghost small: { All (AreSmallCounts (length instance.now.rows)) table.items },
@@ -62,6 +74,14 @@ pub struct Judge<'a> {
         (λ marks. All (λ path. All (λ s. RowExists arcs.items s.signed) path) marks.walks) },
     ghost wide: { is_some walk ≡ true
         → ForSome front (λ _. length rates.items ≡ length instance.now.rows) },
+    ghost named: { HaveRows (length instance.now.rows) facts.items },
+    ghost apart: { is_front stage ≡ false → is_some lemma ≡ false },
+    ghost shown: { ForSome lemma (λ l. l.instance.now ≡ instance.now) },
+    ghost long: { is_some walk ≡ true → length own.items ≡ length instance.now.rows },
+    ghost light: { is_some walk ≡ true → AreSmallWeights own.items },
+    ghost weighed: { is_some walk ≡ true → (i : ℕ) → i < length own.items
+        → number_at own.items i ≡ pos (arc_at (arcs_of instance.now) i).weight },
+    ghost much: { is_some walk ≡ true → length taken.items ≡ length instance.now.rows },
 }
 
 /// What is wrong with a period, or with an answer and the times that are shown with it.
@@ -84,35 +104,6 @@ fn front_fault(
     judge_answer(alloc, instance, answer, times)
 }
 
-/// Adds the net counts of one more cycle.
-fn add_nets(table: &mut Vec<Nets>, nets: Nets) -> Result<(), AllocError>
-    ensures small { (rows : ℕ) → All (AreSmallCounts rows) table.old.items
-        → AreSmallCounts rows nets → All (AreSmallCounts rows) table.new.items }
-    ensures long { length table.new.items ≤ length table.old.items + 1 }
-    ensures items { OnOk result (table.new.items ≡ table.old.items ++ nets ∷ []) }
-{
-    table.push(nets)?;
-    Ok(())
-}
-
-/// A line of the tree, as the checker takes it.
-fn said_line(item: Item<'_>) -> SaidLine<PairsLeft<'_>>
-    requires line { is_line (listed item) ≡ true }
-    ensures same { listed item.entry ≡ tree_item (tree_line pairs_of result) }
-    ensures limits { KeepsItemLimits (listed item.entry) → KeepsSaidLimits pairs_of result }
-{
-    match item {
-        Item::Slack { row, k } => SaidLine::Branch(Cut::Slack { row, k }),
-        Item::Offset { cycle, k } => SaidLine::Branch(Cut::Offset { cycle, k }),
-        Item::Bound(pairs) => SaidLine::Leaf(LeafLine::Bound(PairsLeft(pairs))),
-        Item::Nothing(pairs) => SaidLine::Leaf(LeafLine::Nothing(PairsLeft(pairs))),
-        Item::Gap(cycle) => SaidLine::Leaf(LeafLine::Gap(cycle)),
-        Item::Propagated => SaidLine::Propagated,
-        Item::Version(_) | Item::Period(_) | Item::Answer(_) | Item::Time(_, _) | Item::Cycle(_) =>
-            unreachable!(),
-    }
-}
-
 impl<'a> Judge<'a> {
     ghost use Rattle.pesp_check.specs.Views.{kept};
 
@@ -120,13 +111,15 @@ impl<'a> Judge<'a> {
     pub fn new(alloc: Global, instance: &'a Instance) -> Judge<'a>
         ensures instance { result.instance.now ≡ instance.now }
         ensures line { result.line ≡ 0 }
-        ensures judged { (front : Option Marks) (c : Content)
+        ensures judged { (front : Option Front) (c : Content)
             → JudgedAt result.stage instance.now front c (items_left front c) (kept result) }
     {
         Judge {
             instance,
             line: 0,
-            draft: FrontDraft::new(alloc),
+            draft: MarksDraft::new(alloc),
+            lemma: None,
+            facts: Vec::new(alloc),
             front: None,
             period: 0,
             answer: Answer::Infeasible,
@@ -135,6 +128,8 @@ impl<'a> Judge<'a> {
             places: Vec::new(alloc),
             arcs: Vec::new(alloc),
             rates: Vec::new(alloc),
+            own: Vec::new(alloc),
+            taken: Vec::new(alloc),
             walk: None,
             stage: Stage::Front,
         }
@@ -142,11 +137,12 @@ impl<'a> Judge<'a> {
 
     /// All times came: judges the period, the answer and the times, where they are not judged yet.
     fn end_front(&mut self, alloc: Global) -> Result<(), Memory>
+        requires none { is_some self.old.lemma ≡ false }
         ensures instance { self.new.instance.now ≡ self.old.instance.now }
         ensures line { self.new.line ≡ self.old.line }
         ensures past { OnOk result (is_front self.new.stage ≡ false) }
         ensures judged { OnOk result
-            ((front : Option Marks) (c : Content) (rest : List LineItem) → begins_later rest ≡ true
+            ((front : Option Front) (c : Content) (rest : List LineItem) → begins_later rest ≡ true
             → JudgedAt self.old.stage self.old.instance.now front c rest (kept self.old)
             → JudgedAt self.new.stage self.old.instance.now front c rest (kept self.new)) }
     {
@@ -172,12 +168,12 @@ impl<'a> Judge<'a> {
         ensures line { self.new.line ≡ self.old.line }
         ensures zeros { OnOk result (AreZeros working.new) }
         ensures past { OnOk result (is_before_tree self.new.stage ≡ false) }
-        ensures judged { OnOk result ((front : Option Marks) (c : Content) (rest : List LineItem)
+        ensures judged { OnOk result ((front : Option Front) (c : Content) (rest : List LineItem)
             → HasText front c → begins_tree rest ≡ true
             → JudgedAt self.old.stage self.old.instance.now front c rest (kept self.old)
             → JudgedAt self.new.stage self.old.instance.now front c rest (kept self.new)) }
     {
-        let draft = replace(&mut self.draft, FrontDraft::new(alloc));
+        let draft = replace(&mut self.draft, MarksDraft::new(alloc));
         self.front = front_of(draft);
         // A text has no more cycles.
         let cycles = self.table.len().min(MOST_CYCLES);
@@ -188,6 +184,8 @@ impl<'a> Judge<'a> {
         }
         self.arcs = front_arcs(alloc, self.instance, &self.front)?;
         self.rates = front_rates(alloc, self.instance.rows().len(), &self.front)?;
+        self.own = own_weights(alloc, self.instance)?;
+        self.taken = zeros(alloc, self.instance.rows().len())?;
         let ranges = root(alloc, self.instance, &self.table)?;
         self.walk = Some(NodeWalk::new(alloc, self.instance, ranges));
         self.stage = Stage::Tree;
@@ -204,7 +202,7 @@ impl<'a> Judge<'a> {
         ensures line { self.new.line ≡ self.old.line }
         ensures zeros { OnOk result (AreZeros working.new) }
         ensures past { OnOk result (is_before_tree self.new.stage ≡ false) }
-        ensures judged { OnOk result ((front : Option Marks) (c : Content) (rest : List LineItem)
+        ensures judged { OnOk result ((front : Option Front) (c : Content) (rest : List LineItem)
             → HasText front c → begins_tree rest ≡ true
             → JudgedAt self.old.stage self.old.instance.now front c rest (kept self.old)
             → JudgedAt self.new.stage self.old.instance.now front c rest (kept self.new)) }
@@ -230,7 +228,7 @@ impl<'a> Judge<'a> {
         ensures instance { self.new.instance.now ≡ self.old.instance.now }
         ensures line { OnOk result (self.new.line ≡ self.old.line + 1) }
         ensures zeros { OnOk result (AreZeros working.new) }
-        ensures judged { OnOk result ((front : Option Marks) (c : Content) (rest : List LineItem)
+        ensures judged { OnOk result ((front : Option Front) (c : Content) (rest : List LineItem)
             → JudgedAt self.old.stage self.old.instance.now front c
             (items.Cycle (rows_in rows.entry) ∷ rest) (kept self.old)
             → JudgedAt self.new.stage self.old.instance.now front c rest (kept self.new)) }
@@ -259,13 +257,14 @@ impl<'a> Judge<'a> {
         working: &mut [i128],
     ) -> Result<(), Memory>
         requires short { length (rows_in rows) ≤ MOST_SIGNED_ROWS }
+        requires none { is_some self.old.lemma ≡ false }
         requires few { self.old.line < 2 ^ 31 }
         requires long { length working.old ≡ length self.old.instance.now.rows }
         requires zeros { AreZeros working.old }
         ensures instance { self.new.instance.now ≡ self.old.instance.now }
         ensures line { OnOk result (self.new.line ≡ self.old.line + 1) }
         ensures zeros { OnOk result (AreZeros working.new) }
-        ensures judged { OnOk result ((front : Option Marks) (c : Content) (rest : List LineItem)
+        ensures judged { OnOk result ((front : Option Front) (c : Content) (rest : List LineItem)
             → JudgedAt self.old.stage self.old.instance.now front c
             (items.Cycle (rows_in rows.entry) ∷ rest) (kept self.old)
             → JudgedAt self.new.stage self.old.instance.now front c rest (kept self.new)) }
@@ -278,7 +277,7 @@ impl<'a> Judge<'a> {
         Ok(())
     }
 
-    /// Judges a line of the tree at the first of the nodes that wait.
+    /// Judges a line of the tree at the first of the nodes that wait, where there are no lemmas.
     fn judge_line(
         &mut self,
         alloc: Global,
@@ -286,6 +285,7 @@ impl<'a> Judge<'a> {
         working: &mut [i128],
     ) -> Result<(), Memory>
         requires stage { self.old.stage ≡ stages.Tree }
+        requires plain { self.old.facts.items ≡ [] }
         requires limits { KeepsSaidLimits pairs_of said }
         requires few { self.old.line < 2 ^ 31 }
         requires long { length working.old ≡ length self.old.instance.now.rows }
@@ -294,7 +294,7 @@ impl<'a> Judge<'a> {
         ensures line { OnOk result (self.new.line ≡ self.old.line + 1) }
         ensures zeros { OnOk result (AreZeros working.new) }
         ensures judged { OnOk result
-            ((front : Option Marks) (c : Content) (rest : List LineItem) → HasText front c
+            ((front : Option Front) (c : Content) (rest : List LineItem) → HasText front c
             → JudgedAt self.old.stage self.old.instance.now front c
             (tree_item (tree_line pairs_of said.entry) ∷ rest) (kept self.old)
             → JudgedAt self.new.stage self.old.instance.now front c rest (kept self.new)) }
@@ -324,13 +324,15 @@ impl<'a> Judge<'a> {
         Ok(())
     }
 
-    /// Takes a line of the tree.
-    fn take_line(
+    /// Judges a line of the tree at the first of the nodes that wait. It may name lemmas.
+    fn judge_line_from(
         &mut self,
         alloc: Global,
         said: SaidLine<PairsLeft<'_>>,
         working: &mut [i128],
     ) -> Result<(), Memory>
+        requires stage { self.old.stage ≡ stages.Tree }
+        requires some { self.old.facts.items ≢ [] }
         requires limits { KeepsSaidLimits pairs_of said }
         requires few { self.old.line < 2 ^ 31 }
         requires long { length working.old ≡ length self.old.instance.now.rows }
@@ -339,7 +341,68 @@ impl<'a> Judge<'a> {
         ensures line { OnOk result (self.new.line ≡ self.old.line + 1) }
         ensures zeros { OnOk result (AreZeros working.new) }
         ensures judged { OnOk result
-            ((front : Option Marks) (c : Content) (rest : List LineItem) → HasText front c
+            ((front : Option Front) (c : Content) (rest : List LineItem) → HasText front c
+            → JudgedAt self.old.stage self.old.instance.now front c
+            (tree_item (tree_line pairs_of said.entry) ∷ rest) (kept self.old)
+            → JudgedAt self.new.stage self.old.instance.now front c rest (kept self.new)) }
+    {
+        let least = said_least(least_of(self.answer));
+        self.line += 1;
+        // A text has no more cycles.
+        if self.table.len() > MOST_CYCLES {
+            return Ok(());
+        }
+        let Some(walk) = &mut self.walk else {
+            return Ok(());
+        };
+        let Some(marks) = &self.front else {
+            return Ok(());
+        };
+        if walk.is_done() {
+            return Ok(());
+        }
+        let checker = Checker::new(self.instance, &self.table, &self.front, &self.arcs, None);
+        let shown = Shown {
+            marks,
+            facts: &self.facts,
+            weights: &self.own,
+            least,
+        };
+        let found = take_line_from(
+            alloc,
+            &checker,
+            &shown,
+            walk,
+            said,
+            self.line,
+            working,
+            &mut self.taken,
+            &mut self.rates,
+        )?;
+        if let Some(refusal) = found {
+            self.stage = Stage::Refused(refusal);
+            return Ok(());
+        }
+        Ok(())
+    }
+
+    /// Takes a line of the tree.
+    fn take_line(
+        &mut self,
+        alloc: Global,
+        said: SaidLine<PairsLeft<'_>>,
+        working: &mut [i128],
+    ) -> Result<(), Memory>
+        requires limits { KeepsSaidLimits pairs_of said }
+        requires none { is_some self.old.lemma ≡ false }
+        requires few { self.old.line < 2 ^ 31 }
+        requires long { length working.old ≡ length self.old.instance.now.rows }
+        requires zeros { AreZeros working.old }
+        ensures instance { self.new.instance.now ≡ self.old.instance.now }
+        ensures line { OnOk result (self.new.line ≡ self.old.line + 1) }
+        ensures zeros { OnOk result (AreZeros working.new) }
+        ensures judged { OnOk result
+            ((front : Option Front) (c : Content) (rest : List LineItem) → HasText front c
             → JudgedAt self.old.stage self.old.instance.now front c
             (tree_item (tree_line pairs_of said.entry) ∷ rest) (kept self.old)
             → JudgedAt self.new.stage self.old.instance.now front c rest (kept self.new)) }
@@ -347,19 +410,23 @@ impl<'a> Judge<'a> {
         self.end_front(alloc)?;
         self.end_cycles(alloc, working)?;
         if self.stage == Stage::Tree {
-            return self.judge_line(alloc, said, working);
+            if self.facts.is_empty() {
+                return self.judge_line(alloc, said, working);
+            }
+            return self.judge_line_from(alloc, said, working);
         }
         self.line += 1;
         Ok(())
     }
 
-    /// Takes a line of a front, whose marked walks are judged when all cycles came.
+    /// Takes a line of the front itself, whose marked walks are judged when all cycles came.
     fn take_mark(&mut self, alloc: Global, line: TextLine<'_>) -> Result<(), Memory>
-        requires front { is_own line ≡ false }
+        requires mark { is_mark line ≡ true }
+        requires none { is_some self.old.lemma ≡ false }
         requires few { self.old.line < 2 ^ 31 }
         ensures instance { self.new.instance.now ≡ self.old.instance.now }
         ensures line { OnOk result (self.new.line ≡ self.old.line + 1) }
-        ensures judged { OnOk result ((front : Option Marks) (c : Content) (rest : List LineItem)
+        ensures judged { OnOk result ((front : Option Front) (c : Content) (rest : List LineItem)
             → JudgedAt self.old.stage self.old.instance.now front c (line_said line.entry ∷ rest)
             (kept self.old)
             → JudgedAt self.new.stage self.old.instance.now front c rest (kept self.new)) }
@@ -369,7 +436,7 @@ impl<'a> Judge<'a> {
         Ok(())
     }
 
-    /// Takes a line that is none of a front.
+    /// Takes a line that is none of a front, where no lemma is being shown.
     fn take_item(
         &mut self,
         alloc: Global,
@@ -377,6 +444,7 @@ impl<'a> Judge<'a> {
         working: &mut [i128],
     ) -> Result<(), Memory>
         requires limits { KeepsItemLimits (listed item) }
+        requires none { is_some self.old.lemma ≡ false }
         requires few { self.old.line < 2 ^ 31 }
         requires long { length working.old ≡ length self.old.instance.now.rows }
         requires zeros { AreZeros working.old }
@@ -384,7 +452,7 @@ impl<'a> Judge<'a> {
         ensures line { OnOk result (self.new.line ≡ self.old.line + 1) }
         ensures zeros { OnOk result (AreZeros working.new) }
         ensures judged { OnOk result
-            ((front : Option Marks) (c : Content) (rest : List LineItem) → HasText front c
+            ((front : Option Front) (c : Content) (rest : List LineItem) → HasText front c
             → JudgedAt self.old.stage self.old.instance.now front c (listed item.entry ∷ rest)
             (kept self.old)
             → JudgedAt self.new.stage self.old.instance.now front c rest (kept self.new)) }
@@ -414,6 +482,122 @@ impl<'a> Judge<'a> {
         }
     }
 
+    /// The lemma that is being shown is whole, where the next line stands behind it: the trees behind it may name it.
+    fn end_lemma(&mut self, next: &TextLine<'_>) -> Result<(), Memory>
+        ensures instance { self.new.instance.now ≡ self.old.instance.now }
+        ensures line { self.new.line ≡ self.old.line }
+        ensures none { OnOk result (ends_lemma (line_said next.now) ≡ true → is_some self.new.lemma ≡ false) }
+        ensures judged { OnOk result
+            ((front : Option Front) (c : Content) (rest : List LineItem) → HasText front c
+            → JudgedAt self.old.stage self.old.instance.now front c (line_said next.now ∷ rest)
+            (kept self.old)
+            → JudgedAt self.new.stage self.old.instance.now front c (line_said next.now ∷ rest)
+            (kept self.new)) }
+    {
+        if !ends_lemma(next) {
+            return Ok(());
+        }
+        let Some(lemma) = self.lemma.take() else {
+            return Ok(());
+        };
+        add_fact(&mut self.facts, lemma.into_lemma())?;
+        Ok(())
+    }
+
+    /// Takes the rows of a lemma, with their weights.
+    fn begin_lemma(&mut self, alloc: Global, pairs: LinePairs<'_>) -> Result<(), Memory>
+        requires limits { keeps_limits (pairs_in pairs) ≡ true }
+        requires none { is_some self.old.lemma ≡ false }
+        requires few { self.old.line < 2 ^ 31 }
+        ensures instance { self.new.instance.now ≡ self.old.instance.now }
+        ensures line { OnOk result (self.new.line ≡ self.old.line + 1) }
+        ensures judged { OnOk result ((front : Option Front) (c : Content) (rest : List LineItem)
+            → JudgedAt self.old.stage self.old.instance.now front c
+            (items.Lemma (pairs_in pairs.entry) ∷ rest) (kept self.old)
+            → JudgedAt self.new.stage self.old.instance.now front c rest (kept self.new)) }
+    {
+        self.line += 1;
+        if self.stage != Stage::Front {
+            return Ok(());
+        }
+        let fact = fact_in(alloc, pairs)?;
+        let lemma = match LemmaJudge::new(alloc, self.instance, fact, self.line) {
+            Ok(lemma) => lemma,
+            Err(refusal) => {
+                self.stage = Stage::Refused(refusal);
+                return Ok(());
+            }
+        };
+        self.lemma = Some(lemma);
+        Ok(())
+    }
+
+    /// Takes a line of the lemma that is being shown.
+    fn show(
+        &mut self,
+        alloc: Global,
+        line: TextLine<'_>,
+        working: &mut [i128],
+    ) -> Result<(), Memory>
+        requires limits { KeepsItemLimits (line_said line) }
+        requires goes_on { ends_lemma (line_said line) ≡ false }
+        requires some { is_some self.old.lemma ≡ true }
+        requires few { self.old.line < 2 ^ 31 }
+        requires long { length working.old ≡ length self.old.instance.now.rows }
+        requires zeros { AreZeros working.old }
+        ensures instance { self.new.instance.now ≡ self.old.instance.now }
+        ensures line { OnOk result (self.new.line ≡ self.old.line + 1) }
+        ensures zeros { OnOk result (AreZeros working.new) }
+        ensures judged { OnOk result
+            ((front : Option Front) (c : Content) (rest : List LineItem) → HasText front c
+            → JudgedAt self.old.stage self.old.instance.now front c (line_said line.entry ∷ rest)
+            (kept self.old)
+            → JudgedAt self.new.stage self.old.instance.now front c rest (kept self.new)) }
+    {
+        self.line += 1;
+        let Some(lemma) = &mut self.lemma else {
+            return Ok(());
+        };
+        let found = show_line(alloc, lemma, &self.facts, line, self.line, working)?;
+        if let Some(refusal) = found {
+            self.lemma = None;
+            self.stage = Stage::Refused(refusal);
+            return Ok(());
+        }
+        Ok(())
+    }
+
+    /// Takes a line, where no lemma is being shown.
+    fn take_next(
+        &mut self,
+        alloc: Global,
+        line: TextLine<'_>,
+        working: &mut [i128],
+    ) -> Result<(), Memory>
+        requires limits { KeepsItemLimits (line_said line) }
+        requires none { is_some self.old.lemma ≡ false }
+        requires few { self.old.line < 2 ^ 31 }
+        requires long { length working.old ≡ length self.old.instance.now.rows }
+        requires zeros { AreZeros working.old }
+        ensures instance { self.new.instance.now ≡ self.old.instance.now }
+        ensures line { OnOk result (self.new.line ≡ self.old.line + 1) }
+        ensures zeros { OnOk result (AreZeros working.new) }
+        ensures judged { OnOk result
+            ((front : Option Front) (c : Content) (rest : List LineItem) → HasText front c
+            → JudgedAt self.old.stage self.old.instance.now front c (line_said line.entry ∷ rest)
+            (kept self.old)
+            → JudgedAt self.new.stage self.old.instance.now front c rest (kept self.new)) }
+    {
+        match line {
+            TextLine::Own(item) => self.take_item(alloc, item, working),
+            TextLine::Lemma(pairs) => self.begin_lemma(alloc, pairs),
+            TextLine::Front => self.take_mark(alloc, TextLine::Front),
+            TextLine::Scale(scale) => self.take_mark(alloc, TextLine::Scale(scale)),
+            TextLine::Walk(rows) => self.take_mark(alloc, TextLine::Walk(rows)),
+            TextLine::Least(least) => self.take_mark(alloc, TextLine::Least(least)),
+        }
+    }
+
     /// Takes the next line. The working numbers, one a row, are 0 before and after.
     pub fn take(
         &mut self,
@@ -429,20 +613,21 @@ impl<'a> Judge<'a> {
         ensures line { OnOk result (self.new.line ≡ self.old.line + 1) }
         ensures zeros { OnOk result (AreZeros working.new) }
         ensures judged { OnOk result
-            ((front : Option Marks) (c : Content) (rest : List LineItem) → HasText front c
+            ((front : Option Front) (c : Content) (rest : List LineItem) → HasText front c
             → JudgedAt self.old.stage self.old.instance.now front c (line_said line.entry ∷ rest)
             (kept self.old)
             → JudgedAt self.new.stage self.old.instance.now front c rest (kept self.new)) }
     {
-        match line {
-            TextLine::Own(item) => self.take_item(alloc, item, working),
-            mark => self.take_mark(alloc, mark),
+        self.end_lemma(&line)?;
+        if self.lemma.is_some() {
+            return self.show(alloc, line, working);
         }
+        self.take_next(alloc, line, working)
     }
 
     /// The answer of the text.
     pub fn answer(&self) -> Answer
-        ensures { (front : Option Marks) (c : Content) → HasText front c
+        ensures { (front : Option Front) (c : Content) → HasText front c
             → JudgedAt self.now.stage self.now.instance.now front c (items.End ∷ []) (kept self.now)
             → result ≡ c.answer }
     {
@@ -451,9 +636,9 @@ impl<'a> Judge<'a> {
 
     /// What the checker says of the text, where all its items came.
     pub fn verdict(&self) -> Verdict
-        ensures { (front : Option Marks) (c : Content) → HasText front c
+        ensures { (front : Option Front) (c : Content) → HasText front c
             → JudgedAt self.now.stage self.now.instance.now front c (items.End ∷ []) (kept self.now)
-            → IsVerdict front self.now.instance.now c result }
+            → IsVerdictBehind front self.now.instance.now c result }
     {
         match self.stage {
             Stage::Refused(refusal) => Verdict::Refused(refusal),

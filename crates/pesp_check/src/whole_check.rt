@@ -1,6 +1,6 @@
 //! The check of a certificate as a whole, without a front and behind one.
 
-ghost use Rattle.std.specs.Prelude.{◌≡◌, ◌↔◌, ◌+◌, ◌^◌, ◌<◌, ◌≤◌, [], ◌∷◌, length, All, None, Ok, IfOk, IfSome, MatchOption};
+ghost use Rattle.std.specs.Prelude.{◌≡◌, ◌≢◌, ◌↔◌, ◌+◌, ◌^◌, ◌<◌, ◌≤◌, [], ◌∷◌, length, All, None, Some, Ok, IfOk, IfSome, MatchOption};
 ghost use Rattle.pesp_problem.specs.Arcs as instances;
 ghost use Rattle.pesp_problem.specs.Arcs.{net_of};
 ghost use Rattle.pesp_problem.specs.Limits.{KeepsLimits};
@@ -13,15 +13,19 @@ ghost use Rattle.pesp_truth.specs.Truth.{IsTrueAnswer};
 ghost use Rattle.pesp_truth.specs.Certificates.{IsValid, lines_of, shown_times};
 ghost use Rattle.pesp_truth.specs.Certificates as spec;
 ghost use Rattle.pesp_judges.specs.Faults as faults;
-ghost use Rattle.pesp_judges.specs.Faults.{IsVerdict, IsFirstFault, IsMarksFault, first_tree_line};
+ghost use Rattle.pesp_judges.specs.Faults.{IsVerdict, IsFirstFault, first_tree_line};
 ghost use Rattle.pesp_judges.specs.Lines.{IsLinesFault};
+ghost use Rattle.pesp_lemma.specs.Fronts.{IsValidBehind};
+ghost use Rattle.pesp_lemma_judges.specs.Faults.{IsVerdictBehind};
 ghost use Rattle.pesp_check.specs.Inner.{IsInnerFault};
 
 use crate::front_walks::{front_arcs, front_rates, walks_fault};
-use pesp_cert::{Certificate, Fronted};
+use crate::lemma_check::{fault_behind, marks_of};
+use pesp_cert::{Certificate, Front, Fronted};
 use pesp_judges::{
     Checker, Nets, Refusal, Verdict, judge_answer, judge_cycles, judge_tree, least_of, zeros,
 };
+use pesp_lemma::laws::valid_behind_is_true;
 use pesp_problem::{Instance, Memory};
 use pesp_truth::Marks;
 use pesp_truth::laws::valid_is_true;
@@ -149,6 +153,74 @@ fn check_behind(
     }
 }
 
+/// Judges a certificate behind a front with lemmas.
+fn check_from(
+    alloc: Global,
+    instance: &Instance,
+    front: &Front,
+    marks: &Option<Marks>,
+    certificate: &Certificate,
+) -> Result<Verdict, Memory>
+    requires marks { marks.now ≡ Some front.now.marks }
+    requires some { front.now.lemmas ≢ [] }
+    ensures { IfOk result
+        (λ verdict. IsVerdictBehind (Some front.now) instance.now certificate.now verdict) }
+{
+    let found = fault_behind(alloc, instance, front, marks, certificate)?;
+    let Some(refusal) = found else {
+        return Ok(Verdict::Accepted);
+    };
+    Ok(Verdict::Refused(refusal))
+}
+
+/// Judges a certificate behind a front without lemmas, as ever.
+fn check_plain(
+    alloc: Global,
+    instance: &Instance,
+    front: &Front,
+    marks: &Option<Marks>,
+    certificate: &Certificate,
+) -> Result<Verdict, Memory>
+    requires marks { marks.now ≡ Some front.now.marks }
+    requires none { front.now.lemmas ≡ [] }
+    ensures { IfOk result
+        (λ verdict. IsVerdictBehind (Some front.now) instance.now certificate.now verdict) }
+{
+    let verdict = check_behind(alloc, instance, marks, certificate)?;
+    Ok(verdict)
+}
+
+/// Judges a certificate behind a front.
+fn check_front(
+    alloc: Global,
+    instance: &Instance,
+    front: &Front,
+    marks: &Option<Marks>,
+    certificate: &Certificate,
+) -> Result<Verdict, Memory>
+    requires { marks.now ≡ Some front.now.marks }
+    ensures { IfOk result
+        (λ verdict. IsVerdictBehind (Some front.now) instance.now certificate.now verdict) }
+{
+    if front.lemmas().is_empty() {
+        return check_plain(alloc, instance, front, marks, certificate);
+    }
+    check_from(alloc, instance, front, marks, certificate)
+}
+
+/// Judges a certificate with its front, where it has one.
+fn verdict_of(alloc: Global, instance: &Instance, certificate: &Fronted) -> Result<Verdict, Memory>
+    ensures { IfOk result
+        (λ verdict. IsVerdictBehind certificate.now.front instance.now certificate.now.content verdict) }
+{
+    let marks = marks_of(alloc, &certificate.front)?;
+    let own = &certificate.certificate;
+    match &certificate.front {
+        None => check_behind(alloc, instance, &marks, own),
+        Some(front) => check_front(alloc, instance, front, &marks, own),
+    }
+}
+
 /// Judges a certificate without a front, as `check_sharp` does.
 pub fn check(
     alloc: Global,
@@ -169,7 +241,8 @@ pub fn check(
 /// instance, and then its answer is true of the instance's own activities; else `Refused` with the first thing that is wrong.
 /// `Memory` only where a growth was refused.
 ///
-/// It looks at the period, the shape of the answer, the shown times, then at the cycles in order, then at the marked walks in
+/// It looks at the lemmas of the front in order, of each at its rows, its cycles, its marked walks and its tree, then at the
+/// period, the shape of the answer, the shown times, then at the cycles in order, then at the marked walks in
 /// order, then at the lines of the tree in order. Lines are those of the text with its front, and a marked walk that isn't
 /// closed is told as `OpenWalk` by its number, which goes on from the cycles'. A leaf's work depends on the rows that its
 /// cycles and walks pass; one that names marked walks takes that of all rows once, and so does one closed by propagation. A
@@ -180,17 +253,15 @@ pub fn check_sharp(
     certificate: &Fronted,
 ) -> Result<Verdict, Memory>
     ensures verdict { IfOk result
-        (λ verdict. IsVerdict certificate.now.front instance.now certificate.now.content verdict) }
+        (λ verdict. IsVerdictBehind certificate.now.front instance.now certificate.now.content verdict) }
     ensures exactly { IfOk result (λ verdict. (verdict ≡ Verdict.Accepted)
-        ↔ IsValid certificate.now.front instance.now certificate.now.content) }
+        ↔ IsValidBehind certificate.now.front instance.now certificate.now.content) }
     ensures truth { result ≡ Ok Verdict.Accepted
         → IsTrueAnswer instance.now certificate.now.content.answer
         (shown_times certificate.now.content) }
 {
-    check_behind(
-        alloc,
-        instance,
-        &certificate.front,
-        &certificate.certificate,
-    )
+    valid_behind_is_true();
+    instance.period();
+    let verdict = verdict_of(alloc, instance, certificate)?;
+    Ok(verdict)
 }

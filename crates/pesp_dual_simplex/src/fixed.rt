@@ -43,6 +43,12 @@ pub fn whole(number: i64) -> i64 {
     within(i128::from(number) << 36)
 }
 
+/// A number of units of which so many make up one; 0 where there are none.
+pub fn parts(number: i64, unit: i64) -> i64 {
+    let scaled = i128::from(number) << 36;
+    within(scaled.checked_div(i128::from(unit)).unwrap_or(0))
+}
+
 /// A number in units of which so many make up one, rounded.
 pub fn rounded(number: i64, scale: i64) -> i64 {
     let product = i128::from(number).wrapping_mul(i128::from(scale));

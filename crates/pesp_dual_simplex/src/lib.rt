@@ -24,7 +24,7 @@ mod state;
 mod tableau;
 mod updates;
 
-pub use fixed::{MOST, ONE, rounded, whole};
+pub use fixed::{MOST, ONE, parts, rounded, whole};
 pub use names::Names;
 pub use simplex::Simplex;
 pub use solving::End;

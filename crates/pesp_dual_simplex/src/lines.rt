@@ -1,6 +1,6 @@
 //! The columns and the lines of a program.
 
-use crate::fixed::{MOST, norm_of, whole};
+use crate::fixed::{MOST, norm_of, parts, whole};
 use pesp_dual::Term;
 use pesp_network::NetRow;
 use std::alloc::{AllocError, Global};
@@ -30,10 +30,11 @@ pub(crate) struct Line {
 }
 
 impl Column {
-    /// The column of a row's slack.
-    pub(crate) fn of(alloc: Global, row: &NetRow) -> Column {
+    /// The column of a row's slack, whose weight is in units of which so many make up one.
+    pub(crate) fn of(alloc: Global, row: &NetRow, unit: u32) -> Column {
+        let weight = i64::try_from(row.weight).unwrap_or(0);
         Column {
-            cost: whole(i64::try_from(row.weight).unwrap_or(0)),
+            cost: parts(weight, i64::from(unit)),
             span: whole(i64::from(row.span)),
             entries: Vec::new(alloc),
         }

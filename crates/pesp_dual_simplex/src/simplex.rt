@@ -58,11 +58,11 @@ fn count_of(numbers: &[i64]) -> u64 {
 }
 
 impl Simplex {
-    /// The program of these rows without a line, with all slacks 0.
-    pub fn new(alloc: Global, rows: &[NetRow]) -> Result<Simplex, AllocError> {
+    /// The program of these rows without a line, with all slacks 0; weights are in units of which so many make up one.
+    pub fn new(alloc: Global, rows: &[NetRow], unit: u32) -> Result<Simplex, AllocError> {
         let mut columns = Vec::with_capacity(alloc, rows.len())?;
         for row in rows {
-            columns.push(Column::of(alloc, row))?;
+            columns.push(Column::of(alloc, row, unit))?;
         }
         let mut simplex = Simplex {
             alloc,

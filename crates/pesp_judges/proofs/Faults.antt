@@ -125,7 +125,7 @@ pub cycle_fault : (arcs : List Arc) (cycles : List (List SignedRow)) (line : ℕ
     → All (IsWalk arcs) cycles → IsCycleFault arcs cycles line refusal → ⊥
 cycle_fault arcs cycles line refusal h f = let first = f.1 in first.open_ends (h (f.0 - 1) [] (omega (arith, first.exists)))
 
-reason_fault : (front : Option Marks) (n : Net) (table : List (List SignedRow)) (reason : Reason) (node : Node) (at : ℕ)
+pub reason_fault : (front : Option Marks) (n : Net) (table : List (List SignedRow)) (reason : Reason) (node : Node) (at : ℕ)
     (refusal : Refusal) → IsShut front n table reason node → IsReasonFault front n table reason node at refusal → ⊥
 reason_fault front n table (ByPairs pairs) node at refusal h (inl f) = f.1 h.0
 reason_fault front n table (ByPairs pairs) node at refusal h (inr f) = f.2 h.1
@@ -155,9 +155,9 @@ tree_fault front n table least (Branch cut low high) node at refusal h (inr (inl
 tree_fault front n table least (Branch cut low high) node at refusal h (inr (inr f)) =
     tree_fault front n table least high (high_part node cut) (at + 1 + length (preorder low)) refusal h.2 f.2
 
-mark_fault : (arcs : List Arc) (cycles : ℕ) (walks : List (List MarkedRow)) (refusal : Refusal)
-    → All (IsMarkedWalk arcs) walks → IsMarkFault arcs cycles walks refusal → ⊥
-mark_fault arcs cycles walks refusal closed f =
+pub mark_fault : (arcs : List Arc) (cycles line : ℕ) (walks : List (List MarkedRow)) (refusal : Refusal)
+    → All (IsMarkedWalk arcs) walks → IsMarkFault arcs cycles line walks refusal → ⊥
+mark_fault arcs cycles line walks refusal closed f =
     let first = f.1 in
     let all : All (IsWalk arcs) (map signed_rows walks) = All-map (IsWalk arcs) signed_rows walks closed in
     first.open_ends (all (f.0 - 1) [] (omega (arith, first.exists)))
@@ -165,7 +165,7 @@ mark_fault arcs cycles walks refusal closed f =
 front_fault : (front : Option Marks) (arcs : List Arc) (cycles : ℕ) (refusal : Refusal)
     → IfSome front (AreMarks arcs) → IsMarksFault front arcs cycles refusal → ⊥
 front_fault None arcs cycles refusal are f = f
-front_fault (Some marks) arcs cycles refusal are f = mark_fault arcs cycles marks.walks refusal are.walks f
+front_fault (Some marks) arcs cycles refusal are f = mark_fault arcs cycles 2 marks.walks refusal are.walks f
 
 later_fault : (front : Option Marks) (p : Pesp) (content : Content) (refusal : Refusal) → IsValid front p content → IsLaterFault front p content refusal → ⊥
 later_fault front p content refusal h (inl f) = answer_fault p content.answer (shown_labels content) (shown_times content) refusal h.answer f

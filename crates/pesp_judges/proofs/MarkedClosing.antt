@@ -37,14 +37,14 @@ module _ (arcs : List Arc) (walks : List (List MarkedRow)) (k : ℕ) (walk : Lis
   closed_more before w = walks_more arcs (map signed_rows walks) k (signed_rows walk) walk_is before w
 
   -- it isn't closed
-  pub mark_fault : (cycles number at : ℕ) (refusal : Refusal)
+  pub mark_fault : (cycles line number at : ℕ) (refusal : Refusal)
       → ((c : ℕ) → c < k → IsWalk arcs (cycle_at (map signed_rows walks) c)) → number ≡ cycles + (k + 1)
-      → at ≡ 2 + (k + 1) → IsWalkFault arcs (signed_rows walk) number at refusal
-      → IsMarkFault arcs cycles walks refusal
-  mark_fault cycles number at refusal before e e' (never, inl (f, rows)) =
+      → at ≡ line + (k + 1) → IsWalkFault arcs (signed_rows walk) number at refusal
+      → IsMarkFault arcs cycles line walks refusal
+  mark_fault cycles line number at refusal before e e' (never, inl (f, rows)) =
       let P : List SignedRow → Type 0 = AreRows arcs in
       (k + 1, first before never, inl (f ∙ ap NoSuch e', λ r. rows (subst P (sym (walk_is ∙ here)) r)))
-  mark_fault cycles number at refusal before e e' (never, inr (f, rows)) =
+  mark_fault cycles line number at refusal before e e' (never, inr (f, rows)) =
       let P : List SignedRow → Type 0 = AreRows arcs in
       (k + 1, first before never, inr (f ∙ ap OpenWalk e, subst P (walk_is ∙ here) rows))
 

@@ -99,18 +99,18 @@ IsTreeFault front n table least (Branch cut low high) node line refusal =
 
 -- ---- the marked walks of a front
 
--- the first marked walk that isn't closed: a row of it doesn't exist, or its ends don't meet. Walk 1 stands in line 3,
--- and its number is the one after the last cycle's
-abbrev pub IsMarkFault : List Arc → ℕ → List (List MarkedRow) → Refusal → Type 0
-IsMarkFault arcs cycles walks refusal =
+-- the first marked walk that isn't closed: a row of it doesn't exist, or its ends don't meet. Walk 1 stands in the line after
+-- `line`, and its number is the one after the last cycle's
+abbrev pub IsMarkFault : List Arc → ℕ → ℕ → List (List MarkedRow) → Refusal → Type 0
+IsMarkFault arcs cycles line walks refusal =
     (number : ℕ) × IsFirstOpen arcs (map signed_rows walks) number
-    × (((refusal ≡ NoSuch (2 + number)) × (AreRows arcs (cycle_at (map signed_rows walks) (number - 1)) → ⊥))
+    × (((refusal ≡ NoSuch (line + number)) × (AreRows arcs (cycle_at (map signed_rows walks) (number - 1)) → ⊥))
     ⊎ ((refusal ≡ OpenWalk (cycles + number)) × AreRows arcs (cycle_at (map signed_rows walks) (number - 1))))
 
--- the same of a front, where there is one
+-- the same of a front, where there is one: its first walk stands in line 3
 abbrev pub IsMarksFault : Option Marks → List Arc → ℕ → Refusal → Type 0
 IsMarksFault None arcs cycles refusal = ⊥
-IsMarksFault (Some marks) arcs cycles refusal = IsMarkFault arcs cycles marks.walks refusal
+IsMarksFault (Some marks) arcs cycles refusal = IsMarkFault arcs cycles 2 marks.walks refusal
 
 -- ---- the certificate
 

@@ -123,7 +123,7 @@ fn judge_nothing<P: Elements<Pair>>(
 }
 
 /// What is wrong with a leaf that should name a cycle with no offset left.
-fn judge_gap(checker: &Checker<'_>, ranges: &Ranges, cycle: u32, line: u64) -> Option<Refusal>
+pub fn judge_gap(checker: &Checker<'_>, ranges: &Ranges, cycle: u32, line: u64) -> Option<Refusal>
     requires ranges { AreRanges checker.now.instance.now ranges.now }
     requires cycles { length ranges.now.offsets.items ≡ length checker.now.table.now }
     ensures { (walks : List (List SignedRow))

@@ -18,13 +18,13 @@ mod whole_tree;
 
 pub use answer::{judge_answer, least_of};
 pub use leaf_judge::judge_leaf;
-pub use leaf_line::{LeafLine, names};
+pub use leaf_line::{LeafLine, is_positive, judge_gap, names};
 pub use marked_walks::judge_walks;
 pub use node_walk::NodeWalk;
 pub use pesp_leaves::{Checker, Elements, Ranges, uses_walks, value_by_scale, zeros};
 pub use pesp_nets::Nets;
 pub use refusal::{Refusal, Verdict};
 pub use table::root;
-pub use tree::{SaidLine, take_line};
+pub use tree::{SaidLine, take_branch, take_line, take_propagated};
 pub use walks::{judge_cycle, judge_cycles};
 pub use whole_tree::{judge_tree, said_by};

@@ -1,6 +1,6 @@
 //! Whether the marked walks are closed.
 
-ghost use Rattle.std.specs.Prelude.{[], ◌∷◌, ◌≡◌, ◌≤◌, length, All, IfOk, OnOk, MatchOption};
+ghost use Rattle.std.specs.Prelude.{[], ◌∷◌, ◌≡◌, ◌<◌, ◌≤◌, ◌^◌, length, All, IfOk, OnOk, MatchOption};
 ghost use Rattle.pesp_problem.specs.declared.limits.TheConstants.{MOST_CYCLES};
 ghost use Rattle.pesp_problem.specs.Arcs.{arcs_of};
 ghost use Rattle.pesp_nets.specs.Nets.{AreZeros};
@@ -30,30 +30,32 @@ impl<'a> Elements<SignedRow> for UnmarkedRows<'a> {
     }
 }
 
-/// The first of the marked walks that isn't closed, and why. They are numbered on from the cycles, and the first stands in
-/// line 3. The working numbers, one a row, are 0 before and after.
+/// The first of the marked walks that isn't closed, and why. They are numbered on from the cycles, and the first stands in the
+/// line after `line`. The working numbers, one a row, are 0 before and after.
 pub fn judge_walks(
     alloc: Global,
     instance: &Instance,
     cycles: usize,
+    line: u64,
     marks: &Marks,
     working: &mut [i128],
 ) -> Result<Option<Refusal>, AllocError>
     requires few { cycles ≤ MOST_CYCLES }
+    requires line { line < 2 ^ 62 }
     requires long { length working.old ≡ length instance.now.rows }
     requires zeros { AreZeros working.old }
     ensures verdict { IfOk result (λ found. MatchOption found
         (All (IsMarkedWalk (arcs_of instance.now)) marks.now.walks)
-        (λ refusal. IsMarkFault (arcs_of instance.now) cycles marks.now.walks refusal)) }
+        (λ refusal. IsMarkFault (arcs_of instance.now) cycles line marks.now.walks refusal)) }
     ensures zeros { OnOk result (AreZeros working.new) }
 {
     let walks = marks.walks();
     let mut places = Vec::new(alloc);
     for (place, walk) in walks.iter().enumerate() {
         let number = (cycles + place) as u32 + 1;
-        let line = place as u64 + 3;
+        let at = line + place as u64 + 1;
         let rows = UnmarkedRows(walk.rows());
-        match judge_cycle(alloc, instance, rows, number, line, &mut places, working)? {
+        match judge_cycle(alloc, instance, rows, number, at, &mut places, working)? {
             Ok(_nets) => {}
             Err(refusal) => return Ok(Some(refusal)),
         }

@@ -38,7 +38,7 @@ fn cut_exists(instance: &Instance, cycles: usize, cut: Cut) -> bool
 }
 
 /// Takes a branch: it is judged at the first of the nodes that wait, and its two parts wait in place of it then.
-fn take_branch(
+pub fn take_branch(
     checker: &Checker<'_>,
     walk: &mut NodeWalk<'_>,
     cut: Cut,
@@ -98,7 +98,7 @@ fn take_leaf<P: Elements<Pair>>(
 
 /// Takes a leaf that propagation closes: it is judged at the first of the nodes that wait, and the next one is the first
 /// then.
-fn take_propagated(
+pub fn take_propagated(
     alloc: Global,
     walk: &mut NodeWalk<'_>,
     line: u64,

@@ -15,9 +15,11 @@ mod ranges;
 mod rows;
 mod values;
 
-pub use checker::Checker;
+pub use checker::{Checker, arcs_behind};
+pub use cycle_pairs::CyclePairs;
 pub use elements::Elements;
 pub use flows::add_flows;
+pub use gains::add_walks;
 pub use leaf::{leaf_value, offset_sum, offsets_left};
 pub use nets::{count_row, take_nets, zeros};
 pub use offsets::{duration_sums, odijk_range};

@@ -5,5 +5,6 @@ pub mod Lines
 pub mod Shown
 pub mod Plain
 pub mod Certificates
+pub mod Fronts
 pub mod Worked
 pub mod Small

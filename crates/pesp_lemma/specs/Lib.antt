@@ -4,3 +4,4 @@ pub mod Leaves
 pub mod Trees
 pub mod Shown
 pub mod Certificates
+pub mod Fronts

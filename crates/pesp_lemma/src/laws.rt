@@ -18,6 +18,7 @@ ghost use Rattle.pesp_lemma.specs.Leaves.{LemmaMultiple, taken, lemma_excess, le
 ghost use Rattle.pesp_lemma.specs.Trees.{Goal, cost_goal, IsReachedBy, IsSoundFrom, AreSoundFrom};
 ghost use Rattle.pesp_lemma.specs.Shown.{LemmaProof, AreShownFrom, lemmas_of};
 ghost use Rattle.pesp_lemma.specs.Certificates.{IsValidFrom};
+ghost use Rattle.pesp_lemma.specs.Fronts.{Front, IsValidBehind};
 
 /// A lemma's sum is that over its own pairs, where their rows exist.
 pub fn lemma_sums_by_rows()
@@ -100,6 +101,12 @@ pub fn valid_from_is_true()
     ensures { (lemmas : List LemmaProof) (marks : Marks) (p : Pesp) (content : Content)
         → 0 < p.period → IsValidFrom lemmas marks p content
         → IsTrueAnswer p content.answer (shown_times content) }
+{}
+
+/// The answer of a certificate that is valid behind its front, or without one, is true.
+pub fn valid_behind_is_true()
+    ensures { (front : Option Front) (p : Pesp) (content : Content) → 0 < p.period
+        → IsValidBehind front p content → IsTrueAnswer p content.answer (shown_times content) }
 {}
 
 /// Without lemmas a tree is sound, and a certificate valid, exactly where it is with marked walks alone.

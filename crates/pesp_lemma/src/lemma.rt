@@ -57,6 +57,14 @@ impl Lemma {
         Ok(Lemma { weights, least })
     }
 
+    /// The lemma with the same rows and weights and another least sum.
+    pub fn with_least(self, least: i64) -> Lemma
+        ensures { result ≡ record { weights = self.weights; least = least } }
+    {
+        let Lemma { weights, .. } = self;
+        Lemma { weights, least }
+    }
+
     /// The rows with their weights, in order.
     pub fn weights(&self) -> &[Pair]
         ensures value { result.now ≡ self.now.weights }

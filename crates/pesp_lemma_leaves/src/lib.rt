@@ -2,7 +2,11 @@
 #![tactic(auto)]
 
 mod lemmas;
+mod reached;
 mod rows;
+mod values;
 
 pub use lemmas::add_lemmas;
+pub use reached::reaches;
 pub use rows::rows_sum;
+pub use values::value_from;

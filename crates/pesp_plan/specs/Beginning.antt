@@ -1,5 +1,5 @@
 -- What runs read that begin with old times, and why they stop.
-use Rattle.std.specs.Prelude.{◌≡◌, ◌⊎◌, ℕ, List, [], Option, Some, None, Ok, Err}
+use Rattle.std.specs.Prelude.{◌≡◌, ◌≢◌, ◌⊎◌, ℕ, List, [], Option, Some, None, Ok, Err}
 use Rattle.std.specs.Global.{Vec}
 use Rattle.pesp_problem.specs.Timetables.{Pesp, IsTimetable}
 use Rattle.pesp_report.specs.TimesText.{times_of}
@@ -13,8 +13,6 @@ use Rattle.pesp_runs.specs.Causes.{InstanceCause}
 use Rattle.pesp_runs.specs.declared.fault.Fault.{Fault}
 use Rattle.pesp_runs.specs.declared.fault.Fault.TheVariants.{Times, Certificate, Base, Memory, Read}
 use Rattle.pesp_judges.specs.declared.refusal.Refusal.TheVariants.{OtherPeriod}
-use Rattle.pesp_judges.specs.declared.refusal.Verdict.TheVariants.{Refused}
-use Rattle.pesp_judges.specs.Faults.{IsVerdict}
 use Rattle.pesp_runs.specs.Bases.{IsSharpBase}
 
 -- what a text gives to begin with: a timetable or no times; the times that it tells the events in order where they are a
@@ -83,7 +81,7 @@ FromStanding OfBase OfTimes told left told_base left_base period =
 abbrev pub StandingCause : Fault → Device → Pesp → Type 0
 StandingCause (Certificate refusal) reader p = ReadsNext reader.old reader.new (λ text. items_of_text All text ≡ Err refusal)
 StandingCause (Base OtherPeriod) reader p =
-    ReadsNext reader.old reader.new (λ text. IsOf text (λ base. IsVerdict base.front p base.content (Refused OtherPeriod)))
+    ReadsNext reader.old reader.new (λ text. IsOf text (λ base. base.content.period ≢ p.period))
 StandingCause (Times refusal) reader p = ReadsNext reader.old reader.new (λ text. entries_of p.period text ≡ Err refusal)
 StandingCause Memory reader p = Unit {0}
 StandingCause Read reader p = HasFailed reader

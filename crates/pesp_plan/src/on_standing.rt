@@ -1,6 +1,6 @@
 //! The run of a plan that goes on from what stands where it is kept.
 
-ghost use Rattle.std.specs.Prelude.{◌≡◌, ◌≢◌, ◌<◌, ◌^◌, None, OnOk, IfErr, ⊤};
+ghost use Rattle.std.specs.Prelude.{◌≡◌, ◌≢◌, ◌<◌, ◌^◌, ◌↔◌, None, IsTrue, OnOk, IfErr, ⊤};
 ghost use Rattle.std.specs.Io.KnownBytes.{Appends};
 ghost use Rattle.pesp_stream.specs.Counts.{FewerThan};
 ghost use Rattle.pesp_check_run.specs.Devices.{over};
@@ -15,10 +15,19 @@ use crate::{KeptPlan, Overseer, Shelf};
 use pesp_cert::{Fronted, parse_fronted};
 use pesp_check::check_sharp;
 use pesp_judges::{Refusal, Verdict};
+use pesp_problem::Instance;
 use pesp_runs::{Fault, MOST_TEXT, OnBase, Search, read_whole_instance};
 use pesp_sharp_search::Sharpener;
 use pesp_stream::{Sink, Source, read_all};
 use std::alloc::Global;
+
+/// Whether a certificate is of another period than an instance. Its lemmas may be judged before its period, and a check then tells
+/// what is wrong with these.
+fn has_other_period(instance: &Instance, base: &Fronted) -> bool
+    ensures { IsTrue result ↔ base.now.content.period ≢ instance.now.period }
+{
+    base.certificate.period() != instance.period()
+}
 
 /// Reads an instance and then the certificate that stands where a plan is kept, and makes the plan. It goes on from the certificate
 /// where that is valid for the instance. One of other activities gives the times to begin with, as `run_from_old` takes them, and a
@@ -61,12 +70,12 @@ pub fn run_on_standing<
     let instance = read_whole_instance(alloc, instance_reader, period)?;
     let text = read_all(alloc, base_reader, MOST_TEXT)?;
     let base = parse_fronted(alloc, &text)?;
+    if has_other_period(&instance, &base) {
+        drop(base);
+        return Err(Fault::Base(Refusal::OtherPeriod));
+    }
     match check_sharp(alloc, &instance, &base) {
         Ok(Verdict::Accepted) => OnBase::write(plan, alloc, &instance, base, writer),
-        Ok(Verdict::Refused(Refusal::OtherPeriod)) => {
-            drop(base);
-            Err(Fault::Base(Refusal::OtherPeriod))
-        }
         Ok(Verdict::Refused(_)) => {
             drop(base);
             listener.finds_others();

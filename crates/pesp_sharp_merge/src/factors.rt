@@ -1,6 +1,6 @@
 //! The scale in which the leaves of two certificates can be told exactly.
 
-use pesp_cert::Marks;
+use pesp_cert::Front;
 
 /// A scale, and by what the multipliers of leaves that name a marked walk grow.
 #[derive(Clone, Copy)]
@@ -11,9 +11,9 @@ pub(crate) struct Factors {
 }
 
 /// The scale of a front, 1 where there is none.
-fn scale_of(front: &Option<Marks>) -> u32 {
+fn scale_of(front: &Option<Front>) -> u32 {
     match front {
-        Some(marks) => marks.scale().max(1),
+        Some(front) => front.marks().scale().max(1),
         None => 1,
     }
 }
@@ -31,7 +31,7 @@ fn common_divisor(a: u32, b: u32) -> u32 {
 }
 
 /// The least common multiple of the scales of two fronts.
-pub(crate) fn factors_of(own: &Option<Marks>, other: &Option<Marks>) -> Factors {
+pub(crate) fn factors_of(own: &Option<Front>, other: &Option<Front>) -> Factors {
     let (own, other) = (scale_of(own), scale_of(other));
     let divisor = common_divisor(own, other);
     let grown = other.checked_div(divisor).unwrap_or(1);

@@ -1,15 +1,15 @@
 //! The cycles and the marked walks of the certificate that comes of two.
 
 use crate::names::Numbering;
-use pesp_cert::Marks;
+use pesp_cert::Front;
 use pesp_nets::MarkedWalk;
 use pesp_problem::{Memory, Walk};
 use std::alloc::Global;
 
 /// The marked walks of a front.
-pub(crate) fn walks_of(front: &Option<Marks>) -> &[MarkedWalk] {
+pub(crate) fn walks_of(front: &Option<Front>) -> &[MarkedWalk] {
     match front {
-        Some(marks) => marks.walks(),
+        Some(front) => front.marks().walks(),
         None => &[],
     }
 }

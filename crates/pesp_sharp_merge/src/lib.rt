@@ -7,6 +7,7 @@ mod codes;
 mod common;
 mod factors;
 mod fronts;
+mod lemmas;
 mod lines;
 mod merged;
 mod names;

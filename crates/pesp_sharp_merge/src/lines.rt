@@ -4,11 +4,13 @@ use pesp_problem::{Memory, Pair, Pairs};
 use pesp_truth::TreeLine;
 use std::alloc::Global;
 
-/// How the lines of a certificate are told again: how many cycles it has, the new number of each cycle and each marked walk, and by
-/// what the multipliers of leaves that name a marked walk grow.
+/// How the lines of a tree are told again: how many cycles it has; that the first so many numbers stay, and what the new numbers of
+/// the others are, behind so many; and by what the multipliers of leaves grow that name more than cycles.
 #[derive(Clone, Copy)]
 pub(crate) struct Retelling<'a> {
     pub(crate) cycles: usize,
+    pub(crate) first: u32,
+    pub(crate) behind: u32,
     pub(crate) numbers: &'a [u32],
     pub(crate) factor: i64,
 }
@@ -16,8 +18,12 @@ pub(crate) struct Retelling<'a> {
 impl Retelling<'_> {
     /// The new number.
     fn number(&self, number: u32) -> Option<u32> {
-        let place = (number as usize).checked_sub(1)?;
-        self.numbers.get(place).copied()
+        if number <= self.first {
+            return Some(number);
+        }
+        let place = number.wrapping_sub(self.first).wrapping_sub(1);
+        let told = self.numbers.get(place as usize).copied()?;
+        told.checked_add(self.behind)
     }
 
     /// A pair whose multiplier grows.
@@ -30,8 +36,8 @@ impl Retelling<'_> {
 
     /// The pairs in the order of their new numbers; None where one has no number or too great a multiplier.
     fn pairs(&self, alloc: Global, pairs: &[Pair]) -> Result<Option<Pairs>, Memory> {
-        let names_walk = pairs.iter().any(|pair| pair.cycle as usize > self.cycles);
-        let factor = if names_walk { self.factor } else { 1 };
+        let has_scale = pairs.iter().any(|pair| pair.cycle as usize > self.cycles);
+        let factor = if has_scale { self.factor } else { 1 };
         let mut told = Vec::with_capacity(alloc, pairs.len())?;
         for pair in pairs {
             match self.pair(pair, factor) {

@@ -4,6 +4,8 @@ use crate::answers::lesser;
 use crate::codes::{codes_of_marks, codes_of_walks};
 use crate::common::matched;
 use crate::fronts::walks_of;
+use crate::lemmas::{common_lemmas, lemmas_of};
+use crate::names::Common;
 use crate::pairing::{Pairing, Shown};
 use crate::runs::{Run, Trees};
 use crate::shape::Shape;
@@ -41,6 +43,17 @@ fn common_walks(
     matched(alloc, &ours, &theirs)
 }
 
+/// What comes of both, once their trees were walked through, where they share these marked walks and lemmas.
+fn paired(alloc: Global, pairing: Pairing<'_>) -> Result<Merged, Memory> {
+    if pairing.is_nothing_new() {
+        return Ok(Merged::NothingNew);
+    }
+    match pairing.fronted(alloc)? {
+        Some(fronted) => Ok(Merged::Better(fronted)),
+        None => Ok(Merged::TooLarge),
+    }
+}
+
 /// What comes of both, once their trees were walked through.
 fn joined(
     alloc: Global,
@@ -50,21 +63,22 @@ fn joined(
     runs: &[Run],
 ) -> Result<Merged, Memory> {
     let walks = common_walks(alloc, own, other)?;
-    let pairing = Pairing {
-        own,
-        other,
-        trees,
-        runs,
+    let lemmas = common_lemmas(alloc, lemmas_of(own.front()), lemmas_of(other.front()))?;
+    let common = Common {
         cycles: trees.cycles,
         walks: &walks,
+        lemmas: &lemmas,
     };
-    if pairing.is_nothing_new() {
-        return Ok(Merged::NothingNew);
-    }
-    match pairing.fronted(alloc)? {
-        Some(fronted) => Ok(Merged::Better(fronted)),
-        None => Ok(Merged::TooLarge),
-    }
+    paired(
+        alloc,
+        Pairing {
+            own,
+            other,
+            trees,
+            runs,
+            common,
+        },
+    )
 }
 
 /// What comes of both, where the trees have these shapes and the certificates share these cycles.
@@ -103,7 +117,8 @@ fn shaped(
 
 /// Two certificates of one instance as one. Where both have the same branch both of its parts are walked through; elsewhere the
 /// subtree is taken that shows more, or as much where it goes on from an open leaf. Cycles and marked walks are the same where they
-/// pass the same rows; those that are new are put behind the others. Leaves keep what they show: where the scales differ, their
+/// pass the same rows, and lemmas where they stand at the same place and say the same; those that are new are put behind the others.
+/// Leaves keep what they show: where the scales differ, their
 /// multipliers are told by a multiple of both. The times are the cheaper ones.
 pub fn merge(alloc: Global, own: Shown<'_>, other: Shown<'_>) -> Result<Merged, Memory> {
     let shape = Shape::of(alloc, own.certificate().tree(), own.costs)?;

@@ -3,10 +3,11 @@
 use crate::answers::{answer_of, copied_times, cost_of, lesser};
 use crate::factors::{Factors, factors_of};
 use crate::fronts::{joined_cycles, joined_walks, walks_of};
+use crate::lemmas::{joined_lemmas, lemmas_of};
 use crate::lines::Retelling;
-use crate::names::{Named, Numbering};
+use crate::names::{Common, Named, Numbering};
 use crate::runs::{Run, Trees};
-use pesp_cert::{Certificate, Fronted, Marks};
+use pesp_cert::{Certificate, Front, Fronted, Marks, ShownLemma};
 use pesp_problem::Memory;
 use pesp_truth::{Answer, TreeLine};
 use std::alloc::Global;
@@ -25,8 +26,7 @@ pub(crate) struct Pairing<'a> {
     pub(crate) other: Shown<'a>,
     pub(crate) trees: Trees<'a>,
     pub(crate) runs: &'a [Run],
-    pub(crate) cycles: &'a [Option<u32>],
-    pub(crate) walks: &'a [Option<u32>],
+    pub(crate) common: Common<'a>,
 }
 
 impl<'a> Shown<'a> {
@@ -37,7 +37,7 @@ impl<'a> Shown<'a> {
     }
 
     /// The front.
-    pub(crate) fn front(&self) -> &'a Option<Marks> {
+    pub(crate) fn front(&self) -> &'a Option<Front> {
         let fronted = self.fronted;
         &fronted.front
     }
@@ -49,12 +49,13 @@ impl<'a> Shown<'a> {
 }
 
 impl Pairing<'_> {
-    /// Which of a certificate's cycles and walks the lines name that are taken from it.
+    /// What of a certificate's the lines name that are taken from it.
     fn named(&self, alloc: Global, of_other: bool) -> Result<Named, Memory> {
         let from = if of_other { self.other } else { self.own };
         let cycles = from.certificate().cycles().len();
         let walks = walks_of(from.front()).len();
-        let mut named = Named::none(alloc, cycles, walks)?;
+        let lemmas = lemmas_of(from.front()).len();
+        let mut named = Named::none(alloc, cycles, walks, lemmas)?;
         for run in self.runs {
             if run.is_other == of_other {
                 named.mark_lines(self.trees.lines(run));
@@ -68,7 +69,7 @@ impl Pairing<'_> {
         let mut own = self.named(alloc, false)?;
         match self.named(alloc, true) {
             Ok(other) => {
-                let numbering = Numbering::of(alloc, &mut own, &other, self.cycles, self.walks);
+                let numbering = Numbering::of(alloc, &mut own, &other, self.common);
                 drop(own);
                 drop(other);
                 numbering
@@ -106,11 +107,15 @@ impl Pairing<'_> {
     ) -> Result<Option<Vec<TreeLine>>, Memory> {
         let own = Retelling {
             cycles: self.own.certificate().cycles().len(),
+            first: 0,
+            behind: 0,
             numbers: &numbering.own,
             factor: factors.own,
         };
         let other = Retelling {
             cycles: self.other.certificate().cycles().len(),
+            first: 0,
+            behind: 0,
             numbers: &numbering.other,
             factor: factors.other,
         };
@@ -160,7 +165,7 @@ impl Pairing<'_> {
         Ok(Certificate::new(version, own.period(), self.answer(), times, cycles, tree).ok())
     }
 
-    /// The front; None where it would pass a limit.
+    /// The scale and the marked walks; None where they would pass a limit.
     fn marks(
         &self,
         alloc: Global,
@@ -173,15 +178,49 @@ impl Pairing<'_> {
         Ok(Marks::new(factors.scale, walks).ok())
     }
 
+    /// The lemmas; None where one can't be told.
+    fn lemmas(
+        &self,
+        alloc: Global,
+        numbering: &Numbering,
+    ) -> Result<Option<Vec<ShownLemma>>, Memory> {
+        let own = lemmas_of(self.own.front());
+        let other = lemmas_of(self.other.front());
+        joined_lemmas(alloc, own, other, numbering)
+    }
+
+    /// The front; None where it would pass a limit.
+    fn front(
+        &self,
+        alloc: Global,
+        numbering: &Numbering,
+        factors: Factors,
+    ) -> Result<Option<Front>, Memory> {
+        let Some(marks) = self.marks(alloc, numbering, factors)? else {
+            return Ok(None);
+        };
+        match self.lemmas(alloc, numbering) {
+            Ok(Some(lemmas)) => Ok(Front::new(marks, lemmas).ok()),
+            Ok(None) => {
+                drop(marks);
+                Ok(None)
+            }
+            Err(refused) => {
+                drop(marks);
+                Err(refused)
+            }
+        }
+    }
+
     /// The certificate by these numbers, with its front.
     fn numbered(&self, alloc: Global, numbering: &Numbering) -> Result<Option<Fronted>, Memory> {
         let factors = factors_of(self.own.front(), self.other.front());
         let Some(certificate) = self.certificate(alloc, numbering, factors)? else {
             return Ok(None);
         };
-        match self.marks(alloc, numbering, factors) {
-            Ok(Some(marks)) => Ok(Some(Fronted {
-                front: with_walks(marks),
+        match self.front(alloc, numbering, factors) {
+            Ok(Some(front)) => Ok(Some(Fronted {
+                front: some_front(front),
                 certificate,
             })),
             Ok(None) => {
@@ -195,7 +234,7 @@ impl Pairing<'_> {
         }
     }
 
-    /// The certificate with its front, where it has a walk; None where a part would pass a limit.
+    /// The certificate with its front, where it has a walk or a lemma; None where a part would pass a limit.
     pub(crate) fn fronted(&self, alloc: Global) -> Result<Option<Fronted>, Memory> {
         let numbering = self.numbering(alloc)?;
         let fronted = self.numbered(alloc, &numbering);
@@ -217,11 +256,12 @@ impl Pairing<'_> {
     }
 }
 
-/// A front, where it has a walk.
-fn with_walks(marks: Marks) -> Option<Marks> {
-    if marks.walks().is_empty() {
+/// A front, where it has a walk or a lemma.
+fn some_front(front: Front) -> Option<Front> {
+    if front.marks().walks().is_empty() && front.lemmas().is_empty() {
+        drop(front);
         None
     } else {
-        Some(marks)
+        Some(front)
     }
 }

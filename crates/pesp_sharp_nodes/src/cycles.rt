@@ -16,7 +16,7 @@ pub struct Range {
 }
 
 /// A cycle: the rows that it passes, the sum of their lower bounds along it, in the instance's unit of time, the offsets that
-/// slacks leave it (Odijk 1996), and the weight of its row outside the forest.
+/// slacks leave it (Odijk 1996), and the whole weight of its row outside the forest.
 #[derive(Drop)]
 pub struct Cycle {
     pub passes: Vec<Pass>,
@@ -33,10 +33,12 @@ struct Sums {
     lower: i64,
 }
 
-/// The key by which a row is taken into the forest: the less, the smaller its span and the greater its weight.
-fn key_of(row: &NetRow) -> i64 {
-    let span = u64::from(row.span) << 20;
-    i64::try_from(span / row.weight.saturating_add(1)).unwrap_or(i64::MAX)
+/// The key by which a row is taken into the forest: the less, the smaller its span and the greater its weight, which is in
+/// units of which so many make up one.
+fn key_of(row: &NetRow, unit: u32) -> i64 {
+    let span = (u128::from(row.span) << 20).saturating_mul(u128::from(unit));
+    let weight = u128::from(row.weight).saturating_add(u128::from(unit));
+    i64::try_from(span.checked_div(weight).unwrap_or(0)).unwrap_or(i64::MAX)
 }
 
 impl Range {
@@ -105,11 +107,11 @@ impl Sums {
 
 impl Cycle {
     /// The cycle that passes these rows, the one outside the forest first; None where one isn't there.
-    fn of(frame: &Frame, passes: Vec<Pass>) -> Option<Cycle> {
+    fn of(frame: &Frame, passes: Vec<Pass>, unit: u32) -> Option<Cycle> {
         let sums = Sums::along(frame, &passes)?;
         let range = sums.range(i64::from(frame.period()))?;
         let first = passes.first()?.row;
-        let weight = frame.row(first)?.weight;
+        let weight = frame.row(first)?.weight.checked_div(u64::from(unit))?;
         Some(Cycle {
             passes,
             range,
@@ -119,8 +121,8 @@ impl Cycle {
     }
 
     /// A cycle that is given by the rows that it passes; one of one offset that passes none, where one isn't there.
-    pub(crate) fn given(alloc: Global, frame: &Frame, passes: Vec<Pass>) -> Cycle {
-        Cycle::of(frame, passes).unwrap_or(Cycle {
+    pub(crate) fn given(alloc: Global, frame: &Frame, passes: Vec<Pass>, unit: u32) -> Cycle {
+        Cycle::of(frame, passes, unit).unwrap_or(Cycle {
             passes: Vec::new(alloc),
             range: Range { least: 0, most: 0 },
             weight: 0,
@@ -162,12 +164,21 @@ impl Cycle {
     }
 }
 
+/// The keys of all rows.
+fn keys_of(alloc: Global, frame: &Frame, unit: u32) -> Result<Vec<i64>, AllocError> {
+    let mut keys = Vec::with_capacity(alloc, frame.rows().len())?;
+    for row in frame.rows() {
+        keys.push(key_of(row, unit))?;
+    }
+    Ok(keys)
+}
+
 /// The cycles of the forest of rows of small span and great weight.
-pub(crate) fn cycles_of(alloc: Global, frame: &Frame) -> Result<Vec<Cycle>, AllocError> {
-    let keys: Vec<i64> = frame.rows().iter().map(key_of).collect(alloc)?;
+pub(crate) fn cycles_of(alloc: Global, frame: &Frame, unit: u32) -> Result<Vec<Cycle>, AllocError> {
+    let keys = keys_of(alloc, frame, unit)?;
     let mut cycles = Vec::new(alloc);
     for passes in walks_by(alloc, frame, &keys)? {
-        if let Some(cycle) = Cycle::of(frame, passes) {
+        if let Some(cycle) = Cycle::of(frame, passes, unit) {
             cycles.push(cycle)?;
         }
     }

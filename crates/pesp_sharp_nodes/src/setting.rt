@@ -8,14 +8,15 @@ use pesp_network::{NetRow, Network};
 use std::alloc::{AllocError, Global};
 use std::mem::swap;
 
-/// A network, the cycles whose offsets are branched on, what the greatest slacks of all rows cost, and how many units of a
-/// multiplier that is told make up one.
+/// A network, the cycles whose offsets are branched on, what the greatest slacks of all rows cost, how many units of a
+/// multiplier that is told make up one, and how many of a weight and of a cost.
 #[derive(Drop)]
 pub struct Setting {
     pub frame: Frame,
     pub cycles: Vec<Cycle>,
     pub dearest: u64,
     pub scale: u32,
+    pub unit: u32,
 }
 
 /// What the greatest slacks of all rows cost.
@@ -28,16 +29,22 @@ fn dearest_of(rows: &[NetRow]) -> u64 {
 }
 
 impl Setting {
-    /// The setting of a network, with multipliers that are told by a scale.
-    pub fn new(alloc: Global, network: &Network, scale: u32) -> Result<Setting, AllocError> {
+    /// The setting of a network, with multipliers that are told by a scale, and weights in units of which so many make up one.
+    pub fn new(
+        alloc: Global,
+        network: &Network,
+        scale: u32,
+        unit: u32,
+    ) -> Result<Setting, AllocError> {
         let frame = Frame::new(alloc, network)?;
-        let cycles = cycles_of(alloc, &frame)?;
+        let cycles = cycles_of(alloc, &frame, unit)?;
         let dearest = dearest_of(frame.rows());
         Ok(Setting {
             frame,
             cycles,
             dearest,
             scale,
+            unit,
         })
     }
 
@@ -47,7 +54,8 @@ impl Setting {
         let mut cycles = Vec::with_capacity(alloc, lists.len())?;
         for passes in lists {
             let passes = Vec::from_slice(alloc, passes)?;
-            cycles.push(Cycle::given(alloc, &self.frame, passes))?;
+            let cycle = Cycle::given(alloc, &self.frame, passes, self.unit);
+            cycles.push(cycle)?;
         }
         let mut own = Vec::new(alloc);
         swap(&mut own, &mut self.cycles);
@@ -58,6 +66,11 @@ impl Setting {
         }
         self.cycles = cycles;
         Ok(())
+    }
+
+    /// How many units of a whole multiplier make up one.
+    pub fn fine_scale(&self) -> i64 {
+        i64::from(self.scale).saturating_mul(i64::from(self.unit))
     }
 
     /// The period.

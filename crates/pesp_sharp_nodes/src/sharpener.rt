@@ -42,14 +42,16 @@ pub struct Sharpener {
 }
 
 impl Sharpener {
-    /// No inequality is found yet; the seed decides which forests are drawn, and multipliers are told by the scale.
+    /// No inequality is found yet; the seed decides which forests are drawn, multipliers are told by the scale, and weights are
+    /// in units of which so many make up one.
     pub fn new(
         alloc: Global,
         network: &Network,
         seed: u64,
         scale: u32,
+        unit: u32,
     ) -> Result<Sharpener, AllocError> {
-        let setting = Setting::new(alloc, network, scale)?;
+        let setting = Setting::new(alloc, network, scale, unit)?;
         match Separator::new(alloc, &setting.frame, seed) {
             Ok(separator) => Ok(Sharpener {
                 alloc,

@@ -3,6 +3,7 @@
 #![tactic(auto)]
 
 mod best;
+mod bounding;
 mod proposal;
 mod proposing;
 mod search;

@@ -1,13 +1,16 @@
 //! The certificates that a search proposes. They are judged by others.
 
 use crate::best::{Best, cost_of};
+use crate::bounding::Bounding;
 use crate::search::SharpSearch;
-use pesp_cert::{Certificate, Fronted, Marks};
+use pesp_cert::{Certificate, Front, Fronted, Marks, ShownLemma};
 use pesp_judges::least_of;
 use pesp_problem::{Instance, Memory, Walk};
+use pesp_regions::ToldRegions;
 use pesp_sharp_trees::{
-    Kept, Left, Numbers, copied_lines, copied_marked, copied_walks, lifted_of, lines_of, marked_of,
-    offset_shifts, scale_walk, some_wants_scale,
+    Kept, Left, Numbers, copied_lemmas, copied_lines, copied_marks, copied_walks, crossing_walks,
+    lemmas_of_regions, lifted_of, lines_of, marked_of, offset_shifts, region_leaf, scale_walk,
+    some_wants_scale,
 };
 use pesp_sharpener::Proposals;
 use pesp_sharpening::{Line, Sharpened};
@@ -157,8 +160,8 @@ impl<'a> Parts<'a> {
         }
     }
 
-    /// The front; None where it would pass a limit.
-    fn front(&self, alloc: Global, kept: &Option<Kept<'a>>) -> Result<Option<Marks>, Memory> {
+    /// The scale and the marked walks; None where they would pass a limit.
+    fn marks(&self, alloc: Global, kept: &Option<Kept<'a>>) -> Result<Option<Marks>, Memory> {
         let Some(mut walks) = marked_of(alloc, self.left.reduced, &self.sharpened.walks)? else {
             return Ok(None);
         };
@@ -171,6 +174,20 @@ impl<'a> Parts<'a> {
         Ok(Marks::new(self.scale, walks).ok())
     }
 
+    /// The front; None where it would pass a limit.
+    fn front(&self, alloc: Global, kept: &Option<Kept<'a>>) -> Result<Option<Front>, Memory> {
+        let Some(marks) = self.marks(alloc, kept)? else {
+            return Ok(None);
+        };
+        match lemmas_of(alloc, kept) {
+            Ok(lemmas) => Ok(Front::new(marks, lemmas).ok()),
+            Err(refused) => {
+                drop(marks);
+                Err(refused)
+            }
+        }
+    }
+
     /// What was found beside the best timetable, as a certificate with a front; None where a part would pass a limit.
     fn fronted(&self, alloc: Global) -> Result<Option<Fronted>, Memory> {
         let kept = self.kept(alloc)?;
@@ -178,8 +195,8 @@ impl<'a> Parts<'a> {
             return Ok(None);
         };
         match self.front(alloc, &kept) {
-            Ok(Some(marks)) => Ok(Some(Fronted {
-                front: with_walks(marks),
+            Ok(Some(front)) => Ok(Some(Fronted {
+                front: some_front(front),
                 certificate,
             })),
             Ok(None) => {
@@ -194,12 +211,21 @@ impl<'a> Parts<'a> {
     }
 }
 
-/// A front, where it has a walk.
-fn with_walks(marks: Marks) -> Option<Marks> {
-    if marks.walks().is_empty() {
+/// The lemmas of a base, where lines that are kept name one.
+fn lemmas_of(alloc: Global, kept: &Option<Kept<'_>>) -> Result<Vec<ShownLemma>, Memory> {
+    match kept {
+        Some(kept) => kept.lemmas(alloc),
+        None => Ok(Vec::new(alloc)),
+    }
+}
+
+/// A front, where it has a walk or a lemma.
+fn some_front(front: Front) -> Option<Front> {
+    if front.marks().walks().is_empty() && front.lemmas().is_empty() {
+        drop(front);
         None
     } else {
-        Some(marks)
+        Some(front)
     }
 }
 
@@ -218,15 +244,22 @@ fn with_times(
 }
 
 /// A copy of a front; None where there is none.
-fn copied_front(alloc: Global, front: &Option<Marks>) -> Result<Option<Marks>, Memory> {
-    let Some(marks) = front else {
+fn copied_front(alloc: Global, front: &Option<Front>) -> Result<Option<Front>, Memory> {
+    let Some(front) = front else {
         return Ok(None);
     };
-    let mut walks = Vec::with_capacity(alloc, marks.walks().len())?;
-    for walk in marks.walks() {
-        walks.push(copied_marked(alloc, walk)?)?;
+    let marks = front.marks();
+    let walks = copied_marks(alloc, marks.walks())?;
+    let Ok(marks) = Marks::new(marks.scale(), walks) else {
+        return Ok(None);
+    };
+    match copied_lemmas(alloc, front.lemmas()) {
+        Ok(lemmas) => Ok(Front::new(marks, lemmas).ok()),
+        Err(refused) => {
+            drop(marks);
+            Err(refused)
+        }
     }
-    Ok(Marks::new(marks.scale(), walks).ok())
 }
 
 /// An answer with the best timetable in the place of its own; None where that isn't cheaper.
@@ -252,13 +285,92 @@ fn timed_of(
     }
 }
 
-/// What a search proposes that began with a certificate, in the place of an answer.
-pub(crate) fn proposals_of(
+/// The front of regions, with the walks that cross them; None where it would pass a limit.
+fn region_front(
+    left: Left<'_>,
+    told: &ToldRegions,
+    root: &Sharpened,
+) -> Result<Option<Front>, Memory> {
+    let Some(walks) = crossing_walks(left, told, &root.walks)? else {
+        return Ok(None);
+    };
+    let Ok(marks) = Marks::new(told.scale, walks) else {
+        return Ok(None);
+    };
+    match lemmas_of_regions(left, told) {
+        Ok(Some(lemmas)) => Ok(Front::new(marks, lemmas).ok()),
+        Ok(None) => {
+            drop(marks);
+            Ok(None)
+        }
+        Err(refused) => {
+            drop(marks);
+            Err(refused)
+        }
+    }
+}
+
+/// The certificate of regions behind its front: one leaf that names them all.
+fn region_certificate(
+    left: Left<'_>,
+    told: &ToldRegions,
+    best: &Option<Best>,
+) -> Result<Option<Certificate>, Memory> {
+    let alloc = left.alloc;
+    let answer = answer_beside(Some(told.bound.min(MOST_BOUND)), best);
+    let times = labelled(alloc, left.instance, best)?;
+    let leaf = region_leaf(alloc, told)?;
+    let mut tree = Vec::new(alloc);
+    tree.push(leaf)?;
+    let cycles = Vec::new(alloc);
+    let period = left.instance.period();
+    Ok(Certificate::new(1, period, answer, times, cycles, tree).ok())
+}
+
+/// What is told of regions beside the best timetable, as a certificate with a front; None where a part would pass a limit.
+fn told_fronted(
+    left: Left<'_>,
+    told: &ToldRegions,
+    root: &Sharpened,
+    best: &Option<Best>,
+) -> Result<Option<Fronted>, Memory> {
+    let Some(certificate) = region_certificate(left, told, best)? else {
+        return Ok(None);
+    };
+    match region_front(left, told, root) {
+        Ok(Some(front)) => Ok(Some(Fronted {
+            front: some_front(front),
+            certificate,
+        })),
+        Ok(None) => {
+            drop(certificate);
+            Ok(None)
+        }
+        Err(refused) => {
+            drop(certificate);
+            Err(refused)
+        }
+    }
+}
+
+/// What regions show beside the best timetable, as a certificate with a front; None where a part would pass a limit.
+fn region_fronted(
+    left: Left<'_>,
+    bounding: &Bounding,
+    best: &Option<Best>,
+) -> Result<Option<Fronted>, Memory> {
+    let told = bounding.regions.told()?;
+    let fronted = told_fronted(left, &told, &bounding.root, best);
+    drop(told);
+    fronted
+}
+
+/// What the tree shows beside the best timetable, as a certificate with a front; None where a part would pass a limit.
+fn tree_fronted(
     left: Left<'_>,
     search: &SharpSearch,
     base: &Fronted,
-    old: &Fronted,
-) -> Result<Proposals, Memory> {
+) -> Result<Option<Fronted>, Memory> {
     let sharpened = search.sharpening.sharpened()?;
     let parts = Parts {
         left,
@@ -269,7 +381,31 @@ pub(crate) fn proposals_of(
     };
     let sharp = parts.fronted(left.alloc);
     drop(sharpened);
-    let sharp = sharp?;
+    sharp
+}
+
+/// What the tree shows, as a certificate; what regions show, where they show more.
+fn sharp_of(
+    left: Left<'_>,
+    search: &SharpSearch,
+    base: &Fronted,
+) -> Result<Option<Fronted>, Memory> {
+    match &search.bounding {
+        Some(bounding) if bounding.bound > search.sharpening.bound() => {
+            region_fronted(left, bounding, &search.best)
+        }
+        _ => tree_fronted(left, search, base),
+    }
+}
+
+/// What a search proposes that began with a certificate, in the place of an answer.
+pub(crate) fn proposals_of(
+    left: Left<'_>,
+    search: &SharpSearch,
+    base: &Fronted,
+    old: &Fronted,
+) -> Result<Proposals, Memory> {
+    let sharp = sharp_of(left, search, base)?;
     match timed_of(left.alloc, left.instance, old, &search.best) {
         Ok(timed) => Ok(Proposals { sharp, timed }),
         Err(refused) => {

@@ -3,6 +3,7 @@
 ghost use Rattle.std.specs.Prelude.{◌≡◌};
 
 use crate::best::{Best, cost_of, offer, shown_by};
+use crate::bounding::Bounding;
 use crate::turns::{Turn, Turns};
 use pesp_cert::{Certificate, Fronted};
 use pesp_finder::{Effort, TimesFinder};
@@ -13,6 +14,7 @@ use pesp_sharpener::{Pace, SharpWatcher, Standing};
 use pesp_sharpening::{Sharpening, Step};
 use pesp_simplex::{Improved, SimplexRefusal, improve};
 use pesp_truth::Answer;
+use std::mem::replace;
 
 /// After how many steps times are looked for again, for the first time; then after twice as many, and so on.
 const FIRST_BATCH_AFTER: u32 = 128;
@@ -50,6 +52,8 @@ pub(crate) struct Chosen {
 pub(crate) struct SharpSearch {
     pub(crate) sharpening: Sharpening,
     pub(crate) best: Option<Best>,
+    /// Regions beside the tree, where there are some.
+    pub(crate) bounding: Option<Bounding>,
     pub(crate) has_taken_up: bool,
     pub(crate) next: Next,
     pub(crate) chosen: Option<Chosen>,
@@ -86,6 +90,14 @@ fn lowered(left: Left<'_>, times: &[u32]) -> Result<Option<Vec<u32>>, Memory>
     }
 }
 
+/// Whether a certificate is one leaf behind lemmas, which can't be split.
+fn is_leaf_of_lemmas(base: &Fronted) -> bool {
+    match &base.front {
+        Some(front) => !front.lemmas().is_empty() && base.certificate.tree().len() == 1,
+        None => false,
+    }
+}
+
 impl SharpSearch {
     /// A search by this scale, and what it does first. It knows no timetable.
     pub(crate) fn new(
@@ -98,6 +110,7 @@ impl SharpSearch {
         Ok(SharpSearch {
             sharpening,
             best: None,
+            bounding: None,
             has_taken_up: false,
             next,
             chosen: None,
@@ -157,18 +170,27 @@ impl SharpSearch {
         }
     }
 
+    /// What the tree or the regions show.
+    pub(crate) fn bound(&self) -> u64 {
+        let tree = self.sharpening.bound();
+        match &self.bounding {
+            Some(bounding) => tree.max(bounding.bound),
+            None => tree,
+        }
+    }
+
     /// How far the search is.
     pub(crate) fn standing(&self) -> Standing {
         Standing {
             steps_used: self.used,
-            bound: self.sharpening.bound(),
+            bound: self.bound(),
             cost: self.cost(),
         }
     }
 
     /// Whether more is known than an answer tells: a greater bound, or a cheaper timetable.
     pub(crate) fn exceeds(&self, answer: Answer) -> bool {
-        let bound = self.sharpening.bound();
+        let bound = self.bound();
         let is_sharper = least_of(answer).is_some_and(|least| bound > least);
         match self.cost() {
             Some(cost) => is_sharper || cost < cost_of(answer),
@@ -184,7 +206,16 @@ impl SharpSearch {
         finder: &mut F,
     ) -> Result<(), Memory> {
         offer(left, &times, &mut self.best)?;
+        self.offer_regions(&times)?;
         finder.take(times)
+    }
+
+    /// Tells regions of times that are a timetable of what is left.
+    fn offer_regions(&mut self, times: &[u32]) -> Result<(), Memory> {
+        match &mut self.bounding {
+            Some(bounding) => bounding.regions.offer(times),
+            None => Ok(()),
+        }
     }
 
     /// Takes up the times that the tree met with, where they are a timetable of what is left, made cheaper.
@@ -200,10 +231,11 @@ impl SharpSearch {
 
     /// Takes up the best times that a finder has.
     fn take_best<F: TimesFinder>(&mut self, left: Left<'_>, finder: &F) -> Result<(), Memory> {
-        match finder.best()? {
-            Some(times) => offer(left, &times, &mut self.best),
-            None => Ok(()),
-        }
+        let Some(times) = finder.best()? else {
+            return Ok(());
+        };
+        offer(left, &times, &mut self.best)?;
+        self.offer_regions(&times)
     }
 
     /// Makes what is left of the first batch.
@@ -255,7 +287,7 @@ impl SharpSearch {
         let Pace::Steps { .. } = self.pace else {
             return Ok(());
         };
-        if self.sharpening.bound() >= self.cost().unwrap_or(u64::MAX) {
+        if self.is_shown() {
             return Ok(());
         }
         self.end_first(left, finder)
@@ -272,14 +304,72 @@ impl SharpSearch {
         self.take_met(left, finder)
     }
 
-    /// Splits the open leaf of least bound, where there is one below the best cost; or finds the slacks of that leaf, where it
-    /// was taken up.
+    /// Parts what is left into regions, by the root, unless that shows enough; and tells them of the best times that a finder has.
+    fn begin_regions<F: TimesFinder>(&mut self, left: Left<'_>, finder: &F) -> Result<(), Memory> {
+        if self.is_shown() {
+            return Ok(());
+        }
+        let bounding = Bounding::of(left, &self.sharpening)?;
+        if bounding.is_none() {
+            return Ok(());
+        }
+        drop(replace(&mut self.bounding, bounding));
+        match finder.best()? {
+            Some(times) => self.offer_regions(&times),
+            None => Ok(()),
+        }
+    }
+
+    /// Looks at the root, and parts what is left into regions.
+    fn begin_anew<F: TimesFinder>(&mut self, left: Left<'_>, finder: &mut F) -> Result<(), Memory> {
+        self.look_at_root(left, finder)?;
+        self.begin_regions(left, finder)
+    }
+
+    /// Makes a step in a region, where it is the regions' turn; None where it isn't, or nothing is left to be done in them.
+    fn step_in_region(&mut self) -> Result<Option<Step>, Memory> {
+        let (bound, work) = (self.sharpening.bound(), self.sharpening.work());
+        let Some(bounding) = &mut self.bounding else {
+            return Ok(None);
+        };
+        if !bounding.is_next(bound, work) {
+            return Ok(None);
+        }
+        match bounding.step()? {
+            Step::Over => Ok(None),
+            step => Ok(Some(step)),
+        }
+    }
+
+    /// Whether the bound that is shown reaches the cost of the best timetable.
+    fn is_shown(&self) -> bool {
+        self.bound() >= self.cost().unwrap_or(u64::MAX)
+    }
+
+    /// Makes a step in a region where it is their turn; else splits the open leaf of least bound, where there is one below the best
+    /// cost, or finds the slacks of that leaf, where it was taken up.
     fn step<F: TimesFinder>(&mut self, left: Left<'_>, finder: &mut F) -> Result<Step, Memory> {
+        if self.bounding.is_some() && self.is_shown() {
+            return Ok(Step::Over);
+        }
+        if let Some(step) = self.step_in_region()? {
+            return self.counted(left, step, finder);
+        }
         let limit = self.limit();
         let step = self.sharpening.step(limit)?;
         if step != Step::Over {
             self.take_met(left, finder)?;
         }
+        self.counted(left, step, finder)
+    }
+
+    /// Counts a step that was made, and looks for times where that is due.
+    fn counted<F: TimesFinder>(
+        &mut self,
+        left: Left<'_>,
+        step: Step,
+        finder: &mut F,
+    ) -> Result<Step, Memory> {
         if step == Step::Made {
             self.used = self.used.saturating_add(1);
             self.look_for_times(left, finder)?;
@@ -290,7 +380,7 @@ impl SharpSearch {
     /// What lies between the bound and the cost of the best timetable; None where there is none.
     fn gap(&self) -> Option<u64> {
         let cost = self.cost()?;
-        Some(cost.saturating_sub(self.sharpening.bound()))
+        Some(cost.saturating_sub(self.bound()))
     }
 
     /// Whose turn it is: an anneal that has begun is ended first.
@@ -305,9 +395,18 @@ impl SharpSearch {
     /// All work so far of the one whose turn it is, in numbers that were looked at.
     fn work_of<F: TimesFinder>(&self, turn: Turn, finder: &F) -> u64 {
         match turn {
-            Turn::Tree => self.sharpening.work(),
+            Turn::Tree => self.bounding_work(),
             Turn::Times => finder.work(),
         }
+    }
+
+    /// The work of the tree and of regions.
+    fn bounding_work(&self) -> u64 {
+        let regions = match &self.bounding {
+            Some(bounding) => bounding.regions.work(),
+            None => 0,
+        };
+        self.sharpening.work().saturating_add(regions)
     }
 
     /// Takes the next turn, and notes its work and what is left of the gap.
@@ -364,7 +463,7 @@ impl SharpSearch {
     }
 
     /// Begins with a certificate. Where it has no marked walks the root is sharpened first, so that its leaves get the
-    /// inequalities of that.
+    /// inequalities of that. One that is a leaf behind lemmas is begun anew, unless leaves were chosen.
     fn begin_at<F: TimesFinder>(
         &mut self,
         left: Left<'_>,
@@ -372,6 +471,9 @@ impl SharpSearch {
         finder: &mut F,
     ) -> Result<(), Memory> {
         self.take_best(left, finder)?;
+        if self.chosen.is_none() && is_leaf_of_lemmas(base) {
+            return self.begin_anew(left, finder);
+        }
         if base.front.is_none() {
             self.look_at_root(left, finder)?;
             if self.passes_over(base) {
@@ -425,7 +527,7 @@ impl SharpSearch {
         watcher: &mut W,
     ) -> Result<(), Memory> {
         match self.next {
-            Next::Root => self.look_at_root(left, finder)?,
+            Next::Root => self.begin_anew(left, finder)?,
             Next::Base => self.begin_at(left, base, finder)?,
             Next::Leaves => {}
             Next::Nothing => return Ok(()),

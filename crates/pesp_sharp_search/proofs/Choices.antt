@@ -5,8 +5,8 @@ use Rattle.pesp_problem.specs.Timetables.{Pesp, cost}
 use Rattle.pesp_problem.specs.Arcs.{Net, net_of}
 use Rattle.pesp_problem.specs.Nodes.{root}
 use Rattle.pesp_truth.specs.declared.answer.Answer.{Answer}
-use Rattle.pesp_truth.specs.Certificates.{Content, lines_of, least_of, cost_of, IsValid}
-use Rattle.pesp_truth.specs.Marks.{Marks}
+use Rattle.pesp_truth.specs.Certificates.{Content, lines_of, least_of, cost_of}
+use Rattle.pesp_lemma.specs.Fronts.{IsValidBehind, Front as FrontOf}
 use Rattle.pesp_machine.specs.States.{IsAtMost}
 use Rattle.pesp_cert.specs.Fronted.{Fronted}
 use Rattle.pesp_search_laws.specs.Rooms.{branch_lines, room}
@@ -26,8 +26,8 @@ pub no_worse_itself : (answer : Answer) → IsNoWorse answer answer
 no_worse_itself answer = (at_most_itself (least_of answer), at_most_itself (cost_of answer))
 
 -- without a front it is valid as a plain one is
-pub plain_valid : (p : Pesp) (c : Fronted) → IsPlain p c → IsValid c.front p c.content
-plain_valid p c plain = subst (λ (front : Option Marks). IsValid front p c.content) (sym plain.0) plain.1.valid
+pub plain_valid : (p : Pesp) (c : Fronted) → IsPlain p c → IsValidBehind c.front p c.content
+plain_valid p c plain = subst (λ (front : Option FrontOf). IsValidBehind front p c.content) (sym plain.0) plain.1.valid
 
 -- a plain answer may stand in its own place
 pub plain_stands : (p : Pesp) (c : Fronted) (steps : ℕ) → IsPlain p c → MayStand p c.content.answer steps c
@@ -65,7 +65,7 @@ stands_longer p answer most more c longer stands =
     record { valid = stands.valid; few = omega (arith, few, longer); no_worse = stands.no_worse }
 
 -- a base stands in its own place
-pub base_stands : (p : Pesp) (base : Fronted) (steps : ℕ) → IsValid base.front p base.content → IsSharpResumed p base steps base
+pub base_stands : (p : Pesp) (base : Fronted) (steps : ℕ) → IsValidBehind base.front p base.content → IsSharpResumed p base steps base
 base_stands p base steps valid = record {
   valid = valid;
   few = omega arith;
@@ -78,7 +78,7 @@ plain_whole p c steps plain =
     (plain_stands p c steps plain, subst (HasBranches (net_of p) c.content) (sym plain.1.branches.lines) plain.1.branches)
 
 -- a certificate that tells what its tree shows is told again as it is
-pub told_itself : (p : Pesp) (c : Fronted) → IsValid c.front p c.content → TellsLeast p c → IsRetold p c c
+pub told_itself : (p : Pesp) (c : Fronted) → IsValidBehind c.front p c.content → TellsLeast p c → IsRetold p c c
 told_itself p c valid told = record {
   valid = valid;
   told = told;

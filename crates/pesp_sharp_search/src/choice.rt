@@ -1,7 +1,8 @@
 //! The choice between a plain answer and what is proposed in its place.
 
 ghost use Rattle.std.specs.Prelude.{◌≡◌, ◌↔◌, ℕ, List, IsTrue, IfOk, IfSome, None};
-ghost use Rattle.pesp_truth.specs.Certificates.{lines_of, IsValid};
+ghost use Rattle.pesp_truth.specs.Certificates.{lines_of};
+ghost use Rattle.pesp_lemma.specs.Fronts.{IsValidBehind};
 ghost use Rattle.pesp_search_laws.specs.Rooms.{branch_lines};
 ghost use Rattle.pesp_search.specs.Solving.{CostsNoMore};
 ghost use Rattle.pesp_told.specs.Told.{IsRetold};
@@ -34,7 +35,7 @@ pub(crate) fn branches_of(certificate: &Certificate) -> u32
 
 /// Whether the checker accepts a certificate.
 fn is_accepted(alloc: Global, instance: &Instance, fronted: &Fronted) -> Result<bool, Memory>
-    ensures { IfOk result (λ accepted. IsTrue accepted ↔ IsValid fronted.now.front instance.now fronted.now.content) }
+    ensures { IfOk result (λ accepted. IsTrue accepted ↔ IsValidBehind fronted.now.front instance.now fronted.now.content) }
 {
     match check_sharp(alloc, instance, fronted)? {
         Verdict::Accepted => Ok(true),
@@ -155,7 +156,7 @@ fn chosen(
 
 /// A valid certificate with the answer that its tree shows beside its times.
 fn told_in_full(alloc: Global, instance: &Instance, found: Fronted) -> Result<Fronted, Memory>
-    requires { IsValid found.front instance.now found.content }
+    requires { IsValidBehind found.front instance.now found.content }
     ensures { IfOk result (IsRetold instance.now found) }
 {
     match retold(alloc, instance, &found) {

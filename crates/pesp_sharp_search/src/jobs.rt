@@ -1,7 +1,8 @@
 //! The open leaves of a certificate, as jobs.
 
 ghost use Rattle.std.specs.Prelude.{◌≡◌, ◌++◌, ◌∷◌, [], length, map, OnOk, IfOk, MatchOption, IsTrue, IsSomeAnd, ◌↔◌, true};
-ghost use Rattle.pesp_truth.specs.Certificates.{line_of, IsValid};
+ghost use Rattle.pesp_truth.specs.Certificates.{line_of};
+ghost use Rattle.pesp_lemma.specs.Fronts.{IsValidBehind};
 ghost use Rattle.pesp_sharp_search.specs.Jobs as spec;
 ghost use Rattle.pesp_sharp_search.specs.Jobs.{job_at, jobs_in, told_job, count_open, AreSharpJobs};
 
@@ -130,7 +131,7 @@ pub fn sharp_jobs(
     instance: &Instance,
     base: &Fronted,
 ) -> Result<Vec<OpenJob>, Memory>
-    requires { IsValid base.now.front instance.now base.now.content }
+    requires { IsValidBehind base.now.front instance.now base.now.content }
     ensures { IfOk result (λ opens. AreSharpJobs instance.now base.now opens.items) }
 {
     let shown = costs_shown(alloc, instance, base)?;

@@ -1,7 +1,7 @@
 //! Open leaves that stay as they are where others are worked on.
 
 ghost use Rattle.std.specs.Prelude.{◌≡◌, ◌<◌, ℕ, List, Option, length, map, IfOk, IfSome, IsTrue};
-ghost use Rattle.pesp_truth.specs.Certificates.{IsValid};
+ghost use Rattle.pesp_lemma.specs.Fronts.{IsValidBehind};
 ghost use Rattle.pesp_search_laws.specs.Turns.{IsOpenAnswer};
 ghost use Rattle.pesp_sharp_search.specs.Jobs.{told_job};
 ghost use Rattle.pesp_sharp_search.specs.Keeping.{MayBeWorkedOn, IsAmong, KeepsLeaf, KeepLeaves, KeepsOthers};
@@ -136,8 +136,8 @@ pub(crate) fn keeps_others(
     jobs: &[u64],
     until: Option<u64>,
 ) -> Result<bool, Memory>
-    requires base { IsValid base.now.front instance.now base.now.content }
-    requires found { IsValid found.now.front instance.now found.now.content }
+    requires base { IsValidBehind base.now.front instance.now base.now.content }
+    requires found { IsValidBehind found.now.front instance.now found.now.content }
     ensures { IfOk result
         (λ keeps. IsTrue keeps → KeepsOthers instance.now base.now jobs.now until found.now) }
 {

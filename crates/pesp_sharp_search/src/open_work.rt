@@ -1,7 +1,7 @@
 //! Work on open leaves of a certificate.
 
 ghost use Rattle.std.specs.Prelude.{◌≡◌, ◌<◌, ◌↔◌, ◌⊎◌, All, IfOk, IfSome, IsTrue, MatchOption, Some};
-ghost use Rattle.pesp_truth.specs.Certificates.{IsValid};
+ghost use Rattle.pesp_lemma.specs.Fronts.{IsValidBehind};
 ghost use Rattle.pesp_sharp_search.specs.Jobs.{AreJobsOf};
 ghost use Rattle.pesp_sharp_search.specs.Keeping.{IsSharpWorked, KeepsOthers};
 
@@ -55,8 +55,8 @@ fn worked(
     jobs: &[u64],
     until: Option<u64>,
 ) -> Result<Fronted, Memory>
-    requires base { IsValid base.front instance.now base.content }
-    requires found { IfSome found (λ c. IsValid c.front instance.now c.content) }
+    requires base { IsValidBehind base.front instance.now base.content }
+    requires found { IfSome found (λ c. IsValidBehind c.front instance.now c.content) }
     ensures { IfOk result (λ c. ((c ≡ base) ⊎ (found ≡ Some c)) × KeepsOthers instance.now base jobs.now until c) }
 {
     let Some(found) = found else {
@@ -95,7 +95,7 @@ pub fn work_sharp<F: Sharpener, W: SharpWatcher>(
     sharpener: &mut F,
     watcher: &mut W,
 ) -> Result<Option<Fronted>, Memory>
-    requires { IsValid base.front instance.now base.content }
+    requires { IsValidBehind base.front instance.now base.content }
     ensures { IfOk result (λ found. MatchOption found
         (AreJobsOf instance.now base jobs.now → ⊥)
         (λ c. AreJobsOf instance.now base jobs.now × IsSharpWorked instance.now base jobs.now steps until c)) }

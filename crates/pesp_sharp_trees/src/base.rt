@@ -238,7 +238,7 @@ fn walks_of(
     base: &Fronted,
 ) -> Result<Vec<Option<Vec<Pass>>>, Memory> {
     match &base.front {
-        Some(marks) => lowering.walks(alloc, marks.walks()),
+        Some(front) => lowering.walks(alloc, front.marks().walks()),
         None => Ok(Vec::new(alloc)),
     }
 }

@@ -1,8 +1,8 @@
 //! Lines of a base that are kept as they are, by the numbers of the new certificate.
 
-use crate::copies::copied_marked;
+use crate::copies::{copied_lemmas, copied_marked};
 use crate::scales::growth_of;
-use pesp_cert::Fronted;
+use pesp_cert::{Fronted, ShownLemma};
 use pesp_nets::MarkedWalk;
 use pesp_network::Network;
 use pesp_problem::{Memory, Pair, Pairs};
@@ -11,20 +11,32 @@ use pesp_truth::TreeLine;
 use std::alloc::Global;
 
 /// The lines of a base of which some are kept: how many cycles the base has, for each of its marked walks its place among those
-/// that kept lines name, how many these are, and by what the multipliers grow of leaves that name one.
+/// that kept lines name, how many these are, its lemmas, whether kept lines name one, and by what the multipliers grow of leaves
+/// that name a marked walk or a lemma.
 #[derive(Drop)]
 pub struct Kept<'a> {
     tree: &'a [TreeLine],
     marked: &'a [MarkedWalk],
+    lemmas: &'a [ShownLemma],
     cycles: u32,
     ranks: Vec<Option<u32>>,
+    walks: u32,
+    name_lemmas: bool,
     factor: i64,
 }
 
 /// The marked walks of a front.
 fn marked_of(base: &Fronted) -> &[MarkedWalk] {
     match &base.front {
-        Some(marks) => marks.walks(),
+        Some(front) => front.marks().walks(),
+        None => &[],
+    }
+}
+
+/// The lemmas of a front.
+fn lemmas_of(base: &Fronted) -> &[ShownLemma] {
+    match &base.front {
+        Some(front) => front.lemmas(),
         None => &[],
     }
 }
@@ -37,7 +49,7 @@ fn pairs_of(line: &TreeLine) -> &[Pair] {
     }
 }
 
-/// Whether pairs name a marked walk.
+/// Whether pairs name a marked walk or a lemma.
 pub(crate) fn name_walk(cycles: u32, pairs: &[Pair]) -> bool {
     for pair in pairs {
         if pair.cycle > cycles {
@@ -47,7 +59,7 @@ pub(crate) fn name_walk(cycles: u32, pairs: &[Pair]) -> bool {
     false
 }
 
-/// The place of a marked walk that a pair names.
+/// The place of what a pair names among the marked walks and the lemmas behind them.
 fn marked_place(cycles: u32, pair: &Pair) -> Option<usize> {
     let behind = pair.cycle.checked_sub(cycles)?;
     Some(behind.checked_sub(1)? as usize)
@@ -62,6 +74,23 @@ fn mark(cycles: u32, line: &TreeLine, named: &mut [bool]) {
             *slot = true;
         }
     }
+}
+
+/// How many are marked.
+fn count_marked(named: &[bool]) -> u32 {
+    let mut count = 0u32;
+    for is_named in named {
+        if *is_named {
+            count = count.wrapping_add(1);
+        }
+    }
+    count
+}
+
+/// Whether one is marked behind the first so many.
+fn marks_behind(named: &[bool], first: usize) -> bool {
+    let behind = named.get(first..).unwrap_or(&[]);
+    count_marked(behind) > 0
 }
 
 /// The places among those that are marked.
@@ -88,19 +117,26 @@ impl<'a> Kept<'a> {
         lines: &[Line],
     ) -> Result<Kept<'a>, Memory> {
         let marked = marked_of(base);
+        let lemmas = lemmas_of(base);
         let cycles = u32::try_from(base.certificate.cycles().len()).unwrap_or(u32::MAX);
         let mut kept = Kept {
             tree: base.certificate.tree(),
             marked,
+            lemmas,
             cycles,
             ranks: Vec::new(alloc),
+            walks: 0,
+            name_lemmas: false,
             factor: growth_of(base, network),
         };
-        let mut named = vec![in alloc; false; marked.len()]?;
+        let mut named = vec![in alloc; false; marked.len().saturating_add(lemmas.len())]?;
         for line in lines {
             kept.mark_run(line, &mut named);
         }
-        kept.ranks = ranks_of(alloc, &named)?;
+        let walks = named.get(..marked.len()).unwrap_or(&[]);
+        kept.ranks = ranks_of(alloc, walks)?;
+        kept.walks = count_marked(walks);
+        kept.name_lemmas = marks_behind(&named, marked.len());
         Ok(kept)
     }
 
@@ -116,7 +152,7 @@ impl<'a> Kept<'a> {
         }
     }
 
-    /// Marks the walks that the lines name that a line keeps.
+    /// Marks the walks and lemmas that the lines name that a line keeps.
     fn mark_run(&self, line: &Line, named: &mut [bool]) {
         for kept in self.run(line) {
             mark(self.cycles, kept, named);
@@ -133,15 +169,31 @@ impl<'a> Kept<'a> {
         Ok(())
     }
 
+    /// Copies of the lemmas, where kept lines name one; they stand behind all walks.
+    pub fn lemmas(&self, alloc: Global) -> Result<Vec<ShownLemma>, Memory> {
+        if !self.name_lemmas {
+            return Ok(Vec::new(alloc));
+        }
+        copied_lemmas(alloc, self.lemmas)
+    }
+
+    /// The place of a lemma among what is kept, where it stands at this place behind the base's cycles.
+    fn lemma_rank(&self, place: usize) -> u32 {
+        let lemma = u32::try_from(place.saturating_sub(self.ranks.len())).unwrap_or(u32::MAX);
+        self.walks.saturating_add(lemma)
+    }
+
     /// The number of what a pair names, where the marked walks that are kept stand behind so many cycles and walks.
     fn number(&self, pair: &Pair, behind: u32) -> u32 {
         let Some(place) = marked_place(self.cycles, pair) else {
             return pair.cycle;
         };
-        match self.ranks.get(place).copied() {
-            Some(Some(rank)) => behind.saturating_add(rank).saturating_add(1),
-            _ => u32::MAX,
-        }
+        let rank = match self.ranks.get(place).copied() {
+            Some(Some(rank)) => rank,
+            Some(None) => u32::MAX,
+            None => self.lemma_rank(place),
+        };
+        behind.saturating_add(rank).saturating_add(1)
     }
 
     /// Pairs by these numbers.

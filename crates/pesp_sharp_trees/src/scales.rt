@@ -48,7 +48,7 @@ fn factor_of(marks: &Marks, network: &Network) -> u32 {
 /// By what the multipliers of a base's leaves grow that name a marked walk.
 pub(crate) fn growth_of(base: &Fronted, network: &Network) -> i64 {
     match &base.front {
-        Some(marks) => i64::from(factor_of(marks, network)),
+        Some(front) => i64::from(factor_of(front.marks(), network)),
         None => 1,
     }
 }
@@ -57,7 +57,10 @@ pub(crate) fn growth_of(base: &Fronted, network: &Network) -> i64 {
 /// none.
 pub fn scale_over(base: &Fronted, network: &Network) -> u32 {
     match &base.front {
-        Some(marks) => marks.scale().saturating_mul(factor_of(marks, network)),
+        Some(front) => {
+            let marks = front.marks();
+            marks.scale().saturating_mul(factor_of(marks, network))
+        }
         None => scale_for(network),
     }
 }

@@ -177,7 +177,10 @@ impl Sharpening {
     }
 
     /// Takes in the walks that are given; their numbers in the pool.
-    fn take_walks(&mut self, walks: &[Vec<Pass>]) -> Result<Vec<Option<u32>>, AllocError> {
+    pub(crate) fn take_walks(
+        &mut self,
+        walks: &[Vec<Pass>],
+    ) -> Result<Vec<Option<u32>>, AllocError> {
         let mut numbers = Vec::with_capacity(self.alloc, walks.len())?;
         for passes in walks {
             let passes = Vec::from_slice(self.alloc, passes)?;

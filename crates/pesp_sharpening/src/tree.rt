@@ -192,6 +192,12 @@ impl Tree {
             && pool.told().saturating_add(more_walks) <= MOST_WALKS
             && pool.told_passes() <= MOST_PASSES
     }
+
+    /// How many lines, pairs and passes of walks it has in all.
+    pub(crate) fn size(&self, pool: &Pool) -> usize {
+        let pairs = self.knots.len().saturating_add(self.pairs);
+        pairs.saturating_add(pool.told_passes())
+    }
 }
 
 /// A leaf is no longer there.

@@ -68,6 +68,34 @@ impl Sharpening {
         begun
     }
 
+    /// Goes on from the root by exchanges over inequalities that were taken in, where they are for it; whether they are.
+    pub(crate) fn share_walks(
+        &mut self,
+        walks: &[Option<u32>],
+        limit: Limit,
+    ) -> Result<bool, AllocError> {
+        let mut numbers = Vec::new(self.alloc);
+        for number in walks {
+            if let Some(number) = *number {
+                numbers.push(number)?;
+            }
+        }
+        if !self.is_leaf() {
+            return Ok(false);
+        }
+        let Some(mut shared) = Shared::given(&mut self.sharpener, &numbers)? else {
+            return Ok(false);
+        };
+        let begun = self.begin_part(&mut shared, limit);
+        if let Ok(true) = begun {
+            self.shared = Some(shared);
+        } else {
+            shared.leave(&mut self.sharpener.pool);
+            drop(shared);
+        }
+        begun
+    }
+
     /// A tree that is given goes on by exchanges over these inequalities of the pool, where they are for it.
     pub(crate) fn share_given(&mut self, numbers: &[u32], limit: Limit) -> Result<(), AllocError> {
         let Some(mut shared) = Shared::given(&mut self.sharpener, numbers)? else {
@@ -94,13 +122,27 @@ impl Sharpening {
         if !shared.suits(limit)? {
             return Ok(false);
         }
+        self.begin_solved(shared, limit)?;
+        Ok(true)
+    }
+
+    /// The same of a part of an instance, whose inequalities are few at first.
+    fn begin_part(&mut self, shared: &mut Shared, limit: Limit) -> Result<bool, AllocError> {
+        if !shared.suits_in_the_end(limit)? {
+            return Ok(false);
+        }
+        self.begin_solved(shared, limit)?;
+        Ok(true)
+    }
+
+    /// Makes the root, which is solved, the leaf of the tree.
+    fn begin_solved(&mut self, shared: &mut Shared, limit: Limit) -> Result<(), AllocError> {
         shared.look_at_root(&mut self.sharpener, limit)?;
         self.renew_warm(shared, 0, 0, limit)?;
         let basis = shared.basis(0)?;
         let bound = self.bound_at(0);
         self.open_warm(0, bound, basis, limit)?;
-        self.meet_slacks(shared)?;
-        Ok(true)
+        self.meet_slacks(shared)
     }
 
     /// The bound of the leaf at a place.

@@ -1,7 +1,7 @@
 //! How far the search is: groups of individuals, a merge with the timetable of others, and rounds of reheats, one anneal after
 //! another.
 
-use crate::effort::SoftEffort;
+use crate::effort::{SoftEffort, may_merge};
 use crate::plans::{between, individual, reheat};
 use crate::soft_search::{Anneal, Annealed, SoftSearch};
 use pesp_network::Network;
@@ -197,7 +197,7 @@ impl SoftSearch {
     /// Whether another timetable costs at most a 16th more than the cheapest one.
     fn is_near(&self, other: &Found) -> bool {
         match self.cheapest.cost() {
-            Some(least) => other.cost <= least.saturating_add(least / 16),
+            Some(least) => may_merge(other.cost, least),
             None => true,
         }
     }

@@ -9,6 +9,9 @@ const FEWEST_SOFT: usize = 120;
 /// How many reheats of a timetable are merged with it.
 const REHEATS: u32 = 3;
 
+/// Up to how many rows dense networks are annealed longer, and balls are left out behind a far dearer timetable.
+pub const MANY_ROWS: usize = 8_000;
+
 /// From how many groups on all of them are made where a batch came to one cost twice.
 const MANY_GROUPS: u32 = 8;
 
@@ -33,6 +36,11 @@ pub struct SoftEffort {
     pub(crate) quiet: u32,
 }
 
+/// Whether a timetable costs at most a 16th more than the cheapest one: a dearer one isn't worth a merge with it.
+pub fn may_merge(cost: u64, least: u64) -> bool {
+    cost <= least.saturating_add(least / 16)
+}
+
 /// Whether there are more than three activities for two events: then there are many offsets to find.
 pub fn is_dense(network: &Network) -> bool {
     let events = network.events() as usize;
@@ -50,8 +58,8 @@ impl SoftEffort {
             0..=400 => (8, 4, 200, 300, 150, 2),
             401..=700 => (2, 4, 250, 300, 200, 1),
             701..=2_500 => (1, 3, 3_000, 400, 500, 2),
-            2_501..=8_000 if is_dense(network) => (1, 1, 6_000, 600, 500, 1),
-            2_501..=8_000 => (1, 1, 1_500, 1_000, 500, 1),
+            2_501..=MANY_ROWS if is_dense(network) => (1, 1, 6_000, 600, 500, 1),
+            2_501..=MANY_ROWS => (1, 1, 1_500, 1_000, 500, 1),
             8_001..=30_000 => (1, 1, 600, 600, 300, 1),
             _ => (1, 1, 200, 200, 100, 0),
         };
@@ -91,7 +99,7 @@ impl SoftEffort {
     /// The work after so many steps.
     pub fn after(rows: usize, steps: u32) -> SoftEffort {
         let between = match rows {
-            0..=8_000 => 1_000,
+            0..=MANY_ROWS => 1_000,
             8_001..=30_000 => 600,
             _ => 200,
         };

@@ -7,5 +7,5 @@ mod effort;
 mod plans;
 mod soft_search;
 
-pub use effort::{SoftEffort, is_dense};
+pub use effort::{MANY_ROWS, SoftEffort, is_dense, may_merge};
 pub use soft_search::SoftSearch;

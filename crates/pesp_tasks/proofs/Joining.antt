@@ -6,11 +6,10 @@ use Rattle.std.proofs.lemmas.List.{append_cancel_left, take-append-drop}
 use Rattle.pesp_problem.specs.Timetables.{Pesp}
 use Rattle.pesp_instance.specs.Instance.{instance_of}
 use Rattle.pesp_instance.specs.declared.refusal.ReadRefusal.{ReadRefusal}
-use Rattle.pesp_truth.specs.Certificates.{Content, IsValid}
+use Rattle.pesp_truth.specs.Certificates.{Content}
 use Rattle.pesp_cert.specs.declared.refusal.CertRefusal.{CertRefusal}
 use Rattle.pesp_cert_lines.specs.declared.versions.Versions.{Versions}
 use Rattle.pesp_cert_lines.specs.declared.versions.Versions.TheVariants.{Plain}
-use Rattle.pesp_truth.specs.Marks.{Marks}
 use Rattle.pesp_cert.specs.Texts.{spelling, HasText}
 use Rattle.pesp_cert.specs.Refusals.{IsTextOf, items_of_text}
 use Rattle.pesp_cert.proofs.TextLaws.{none_begins_another, plain_read_of}
@@ -18,6 +17,7 @@ use Rattle.pesp_cert.proofs.TextLengths.{texts_short}
 use Rattle.pesp_cert_items.specs.Texts.{RefusesText}
 use Rattle.pesp_judges.specs.declared.refusal.Verdict.{Verdict}
 use Rattle.pesp_judges.specs.declared.refusal.Verdict.TheVariants.{Accepted}
+use Rattle.pesp_lemma.specs.Fronts.{IsValidBehind, Front as FrontOf}
 use Rattle.pesp_check_run.specs.Checking.{Checks, ReadsInstance, RefusesInstance}
 use Rattle.pesp_runs.specs.Reading.{HasBase, ReadsTimetable}
 use Rattle.pesp_tasks.specs.Solving.{Solves, WritesSolution}
@@ -34,7 +34,7 @@ pub same_instance : (text : List ℕ) (period : ℕ) (p q : Pesp) → instance_o
 same_instance text period p q is also = let same : ◌≡◌ {A = Result Pesp ReadRefusal} (Ok p) (Ok q) = sym is ∙ also in cc
 
 -- a text of which the front that is read is a certificate's text is that text
-same_content : (bytes read : List ℕ) (limit : ℕ) (f g : Option Marks) (c d : Content) → HasText f c → spelling f c ≡ bytes
+same_content : (bytes read : List ℕ) (limit : ℕ) (f g : Option FrontOf) (c d : Content) → HasText f c → spelling f c ≡ bytes
     → read ≡ take limit bytes → IsTextOf g read d → (g ≡ f) × (d ≡ c)
 same_content bytes read limit f g c d text spelt is whole =
     let joined : spelling g d ++ drop limit bytes
@@ -43,15 +43,15 @@ same_content bytes read limit f g c d text spelt is whole =
     let same = none_begins_another g f d c (drop limit bytes) whole.has_text text joined in
     (same.0, same.1)
 
-accepted : (p q : Pesp) (f g : Option Marks) (c d : Content) (verdict : Verdict) → p ≡ q → (g ≡ f) × (d ≡ c) → IsValid f p c
-    → (verdict ≡ Accepted) ↔ IsValid g q d → verdict ≡ Accepted
+accepted : (p q : Pesp) (f g : Option FrontOf) (c d : Content) (verdict : Verdict) → p ≡ q → (g ≡ f) × (d ≡ c) → IsValidBehind f p c
+    → (verdict ≡ Accepted) ↔ IsValidBehind g q d → verdict ≡ Accepted
 accepted p q f g c d verdict same is valid exactly = exactly.1 (rw (← same, is.0, is.1) valid)
 
 -- a certificate that is valid for the instance of a text is accepted for it, where its text was appended
 pub accepts_written : (versions : Versions) (text before bytes : List ℕ)
     (left left_instance left_certificate old new : Option (List ℕ)) (period : ℕ)
-    (verdict : Verdict) (p : Pesp) (front : Option Marks) (c : Content) → ReadsInstance (Some text) left period p
-    → IsValid front p c → HasText front c
+    (verdict : Verdict) (p : Pesp) (front : Option FrontOf) (c : Content) → ReadsInstance (Some text) left period p
+    → IsValidBehind front p c → HasText front c
     → Appends (Some before) (Some (before ++ bytes)) (spelling front c)
     → Checks versions (Some text) left_instance (Some bytes) left_certificate period verdict (Appends old new)
     → verdict ≡ Accepted
@@ -103,7 +103,7 @@ pub accepts_what_is_gone_on_from : (text before bytes : List ℕ)
 accepts_what_is_gone_on_from text before bytes left base left_base left_instance left_certificate old new period steps verdict
     (p, read, (begun, reads, (plain, gone_on))) =
     let resumed : WritesResumed p begun.content steps ⊤ (Appends (Some before) (Some (before ++ bytes))) = subst
-    (λ (front : Option Marks). GoesOnBy front p begun steps ⊤ (Appends (Some before) (Some (before ++ bytes)))) plain gone_on in
+    (λ (front : Option FrontOf). GoesOnBy front p begun steps ⊤ (Appends (Some before) (Some (before ++ bytes)))) plain gone_on in
     accepts_written Plain text before bytes left left_instance left_certificate old new period verdict p None resumed.certificate read
     resumed.resumed.valid resumed.has_text resumed.written
 

@@ -3,8 +3,8 @@ use Rattle.std.proofs.Common.{inl, inr, ℕ, ◌≤◌, List, None, Some}
 use Rattle.std.specs.Prelude.{Option}
 use Rattle.pesp_problem.specs.Timetables.{Pesp}
 use Rattle.pesp_truth.specs.Certificates.{Content}
-use Rattle.pesp_truth.specs.Marks.{Marks}
 use Rattle.pesp_truth.proofs.Certificates.{valid_is_true}
+use Rattle.pesp_lemma.specs.Fronts.{Front as FrontOf}
 use Rattle.pesp_cert.specs.Texts.{spelling, HasText}
 use Rattle.pesp_cert.specs.Fronted.{Fronted}
 use Rattle.pesp_resume.specs.declared.ending.Ending.{Ending}
@@ -45,7 +45,7 @@ written_weaker p base steps Gets f w = record {
   written = w.written;
 }
 
-pub gone_on_weaker : {A B : Type 0} (front : Option Marks) (p : Pesp) (base : Fronted) (steps : ℕ) (Gets : List ℕ → Type 0)
+pub gone_on_weaker : {A B : Type 0} (front : Option FrontOf) (p : Pesp) (base : Fronted) (steps : ℕ) (Gets : List ℕ → Type 0)
     → (A → B) → GoesOnBy front p base steps A Gets → GoesOnBy front p base steps B Gets
 gone_on_weaker None p base steps Gets f w = written_weaker p base.content steps Gets f w
 gone_on_weaker (Some marks) p base steps Gets f w = w

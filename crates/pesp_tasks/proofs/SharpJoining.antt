@@ -5,8 +5,7 @@ use Rattle.std.specs.Io.KnownBytes.{Appends}
 use Rattle.pesp_problem.specs.Timetables.{Pesp}
 use Rattle.pesp_judges.specs.declared.refusal.Verdict.{Verdict}
 use Rattle.pesp_judges.specs.declared.refusal.Verdict.TheVariants.{Accepted}
-use Rattle.pesp_truth.specs.Certificates.{IsValid}
-use Rattle.pesp_truth.specs.Marks.{Marks}
+use Rattle.pesp_lemma.specs.Fronts.{IsValidBehind, Front as FrontOf}
 use Rattle.pesp_cert.specs.Fronted.{Fronted, IsFrontedText, fronted_text}
 use Rattle.pesp_cert_lines.specs.declared.versions.Versions.TheVariants.{All}
 use Rattle.pesp_check_run.specs.Checking.{Checks, ReadsInstance}
@@ -20,7 +19,7 @@ use Rattle.pesp_tasks.proofs.Joining.{accepts_written}
 
 -- a certificate that is valid for the instance of a text with its marked walks is accepted for it, where its text was appended
 accepts_fronted : (text before bytes : List ℕ) (left left_instance left_certificate old new : Option (List ℕ)) (period : ℕ)
-    (verdict : Verdict) (p : Pesp) (c : Fronted) → ReadsInstance (Some text) left period p → IsValid c.front p c.content
+    (verdict : Verdict) (p : Pesp) (c : Fronted) → ReadsInstance (Some text) left period p → IsValidBehind c.front p c.content
     → IsFrontedText (fronted_text c) c → Appends (Some before) (Some (before ++ bytes)) (fronted_text c)
     → Checks All (Some text) left_instance (Some bytes) left_certificate period verdict (Appends old new)
     → verdict ≡ Accepted
@@ -60,7 +59,7 @@ accepts_what_is_resumed text before bytes left base left_base left_instance left
     resumed.holds.valid resumed.has_text resumed.written
 
 -- what goes on from a base with this front is accepted
-accepts_gone_on : (front : Option Marks) (text before bytes : List ℕ)
+accepts_gone_on : (front : Option FrontOf) (text before bytes : List ℕ)
     (left left_instance left_certificate old new : Option (List ℕ)) (period steps : ℕ) (verdict : Verdict) (p : Pesp) (begun : Fronted)
     → ReadsInstance (Some text) left period p
     → GoesOnBy front p begun steps ⊤ (Appends (Some before) (Some (before ++ bytes)))

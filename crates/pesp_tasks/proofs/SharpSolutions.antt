@@ -5,7 +5,7 @@ use Rattle.pesp_problem.specs.Timetables.{Pesp}
 use Rattle.pesp_truth.specs.Truth.{IsTrueAnswer}
 use Rattle.pesp_truth.specs.Certificates.{Content, shown_times}
 use Rattle.pesp_cert.specs.Texts.{HasText}
-use Rattle.pesp_truth.specs.Marks.{Marks}
+use Rattle.pesp_lemma.specs.Fronts.{Front as FrontOf}
 use Rattle.pesp_cert.specs.Fronted.{Fronted, IsFrontedText, fronted_text}
 use Rattle.pesp_search.specs.Solving.{CostsNoMore}
 use Rattle.pesp_sharp_search.specs.Solving.{IsSharpSolved}
@@ -56,7 +56,7 @@ graft {Tells = Tells} replies lines are grafted is_true has_text gets tells = re
 }
 
 -- a certificate whose parts have a text has it
-pub has_text_of : (c : Fronted) (front : Option Marks) (content : Content)
+pub has_text_of : (c : Fronted) (front : Option FrontOf) (content : Content)
     → c ≡ record { front = front; content = content } → HasText front content → IsFrontedText (fronted_text c) c
 has_text_of c front content is has =
     let there : IsFrontedText (fronted_text (record { front = front; content = content }))

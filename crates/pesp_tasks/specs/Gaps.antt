@@ -1,10 +1,10 @@
 -- What might still be saved, and how it is told.
 use Rattle.std.specs.Prelude.{ℕ, ◌+◌, ◌-◌, ◌*◌, ◌/◌, ◌%◌, List, length, ◌++◌, codes, decimal, Option, Some, None}
-use Rattle.pesp_truth.specs.Marks.{Marks}
 use Rattle.pesp_truth.specs.Certificates.{least_of, cost_of}
 use Rattle.pesp_truth.specs.declared.answer.Answer.{Answer}
 use Rattle.pesp_truth.specs.declared.answer.Answer.TheVariants.{Optimal, Infeasible, Bounded}
 use Rattle.pesp_truth.specs.declared.tree.TreeLine.{TreeLine}
+use Rattle.pesp_lemma.specs.Fronts.{Front as FrontOf}
 use Rattle.pesp_cert.specs.Fronted.{Fronted}
 
 -- the cost less the bound, in hundredths of a per cent of the cost, rounded up
@@ -32,7 +32,7 @@ abbrev pub branches_of : List TreeLine → ℕ
 branches_of lines = length lines / 2
 
 -- the version of the text of a certificate: 3 where it has a front
-abbrev pub version_of : Option Marks → ℕ → ℕ
+abbrev pub version_of : Option FrontOf → ℕ → ℕ
 version_of None version = version
 version_of (Some marks) version = 3
 

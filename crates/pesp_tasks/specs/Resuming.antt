@@ -3,7 +3,7 @@ use Rattle.std.specs.Prelude.{ℕ, List, Option, None, Some}
 use Rattle.pesp_problem.specs.Timetables.{Pesp}
 use Rattle.pesp_truth.specs.Truth.{IsTrueAnswer}
 use Rattle.pesp_truth.specs.Certificates.{Content, shown_times}
-use Rattle.pesp_truth.specs.Marks.{Marks}
+use Rattle.pesp_lemma.specs.Fronts.{Front as FrontOf}
 use Rattle.pesp_cert.specs.Texts.{spelling, HasText}
 use Rattle.pesp_cert.specs.Fronted.{Fronted}
 use Rattle.pesp_resume.specs.declared.ending.Ending.{Ending}
@@ -24,7 +24,7 @@ pub record WritesResumed (p : Pesp) (base : Content) (steps : ℕ) (stopped : Ty
 
 -- the same of a base with this front: where it has one, what is written has one too, and a search leads to it within so many
 -- steps
-abbrev pub GoesOnBy : Option Marks → Pesp → Fronted → ℕ → Type 0 → (List ℕ → Type 0) → Type 0
+abbrev pub GoesOnBy : Option FrontOf → Pesp → Fronted → ℕ → Type 0 → (List ℕ → Type 0) → Type 0
 GoesOnBy None p base steps stopped Gets = WritesResumed p base.content steps stopped Gets
 GoesOnBy (Some marks) p base steps stopped Gets = WritesSharpResumed p base steps Gets
 

@@ -1,5 +1,7 @@
 //! How much work a batch is.
 
+use pesp_soft_times::{MANY_ROWS, may_merge};
+
 /// How many individuals, in fours, and how many fours while they are close to the search in which spans may be broken; how many
 /// fours come before that one; how many rounds an anneal has; and how many balls in turn may find nothing behind each merge.
 #[derive(Clone, Copy)]
@@ -85,7 +87,7 @@ pub(crate) fn may_win(hard: u64, soft: u64) -> bool {
 /// Whether a timetable of the batch may join the other search, by their costs. Balls behind a dearer one take long where there are
 /// many rows.
 pub(crate) fn may_join(rows: usize, hard: u64, soft: u64) -> bool {
-    rows <= FEW || rows > MOST_DIVED || hard <= soft.saturating_add(soft / 16)
+    rows <= FEW || rows > MANY_ROWS || may_merge(hard, soft)
 }
 
 /// Whether more fours pay, by what the cheapest of the batch and that of the other search cost.

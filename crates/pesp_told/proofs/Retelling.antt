@@ -1,21 +1,28 @@
 -- A certificate with the answer that its tree shows.
-use Rattle.std.proofs.Common.{◌≡◌, ℕ, ◌<◌, ◌≤◌, arith, ap, sym, ◌∙◌, refl, subst, List, [], ◌∷◌, length, Option, Some, None, Bool, true, false}
-use Rattle.std.specs.Prelude.{ℤ, pos, negsuc, min, ◌≤ℤ◌, ◌↔◌, ◌&&◌, nat_lt, if◌then◌else◌, option_map}
+use Rattle.std.proofs.Common.{◌≡◌, ℕ, ◌<◌, ◌≤◌, arith, ap, sym, ◌∙◌, refl, subst, List, [], ◌∷◌, Option, Some, None, Bool, true, false}
+use Rattle.std.specs.Prelude.{ℤ, pos, negsuc, min, ◌≤ℤ◌, ◌&&◌, nat_lt, if◌then◌else◌, option_map}
 use Rattle.std.proofs.lemmas.Int.{ints}
 use Rattle.std.proofs.lemmas.Bool.Decides.{nat_tests}
 use Rattle.pesp_problem.specs.declared.row.SignedRow.{SignedRow}
 use Rattle.pesp_problem.specs.Timetables.{Pesp}
-use Rattle.pesp_problem.specs.Arcs.{Net, net_of}
+use Rattle.pesp_problem.specs.declared.pair.Pair.{Pair}
+use Rattle.pesp_problem.specs.Arcs.{Net, arc_at, net_of}
 use Rattle.pesp_problem.specs.Nodes.{Node, root, low_part, high_part}
-use Rattle.pesp_nets.specs.Sharp.{sharp_cost}
 use Rattle.pesp_truth.specs.declared.answer.Answer.{Answer}
 use Rattle.pesp_truth.specs.declared.answer.Answer.TheVariants.{Optimal, Infeasible, Bounded}
-use Rattle.pesp_truth.specs.Marks.{Marks, multipliers}
-use Rattle.pesp_truth.specs.Trees.{Tree, Line, EndLine, CutLine, Bound, Shut, preorder, IsAtLeast, IsSound, AreSound}
-use Rattle.pesp_truth.specs.Certificates.{Content, lines_of, least_of, cost_of, ShowsTimetable, ShowsAnswer, shown_labels, shown_times, IsValid}
+use Rattle.pesp_truth.specs.Marks.{Marks}
+use Rattle.pesp_truth.specs.Trees.{Tree, Line, EndLine, CutLine, Bound, Shut, preorder}
+use Rattle.pesp_truth.specs.Certificates.{Content, lines_of, least_of, cost_of, ShowsTimetable, ShowsAnswer, shown_labels, shown_times}
+use Rattle.pesp_lemma.specs.Lemmas.{Lemma}
+use Rattle.pesp_lemma.specs.Trees.{Reaches, bound_by, cost_goal, IsSoundFrom, AreSoundFrom}
+use Rattle.pesp_lemma.specs.Shown.{lemmas_of}
+use Rattle.pesp_lemma.specs.Fronts.{IsValidBehind}
+use Rattle.pesp_lemma.specs.Certificates.{IsValidFrom}
+use Rattle.pesp_lemma.proofs.Lines.{sound_as_tree, sound_as_lines}
 use Rattle.pesp_cert.specs.Limits.{is_cost, has_costs, KeepsLimits}
 use Rattle.pesp_cert.specs.Fronted.{Fronted}
-use Rattle.pesp_check.specs.Costs.{told, shown_in, shown_of, no_marks, marks_of}
+use Rattle.pesp_check.specs.Costs.{told, shown_in, shown_of, marks_of, facts_said}
+use Rattle.pesp_check.proofs.Valid.{FrontLaw, lemmas_in, facts_are_of, valid_from, valid_behind}
 use Rattle.pesp_machine.specs.States.{IsAtMost}
 use Rattle.pesp_told.specs.Told.{least_shown, answer_of, IsRetold}
 use Rattle.pesp_told.proofs.Lesser.{IsReached, AreCosts, least_is_reached, least_within_cost, reached_by_least, least_cost}
@@ -26,7 +33,8 @@ told_reached : (v : ℤ) (m l : ℕ) → pos m ≤ℤ v → l ≤ told v → pos
 told_reached (pos n) m l a r = let few : l ≤ n = omega (arith, r) in omega (arith, ints, few)
 told_reached (negsuc n) m l a r = absurd (omega (arith, ints, a))
 
-value_reached : (value : Option ℤ) (least l : Option ℕ) → IsAtLeast value least → IsAtMost l (option_map told value) → IsAtLeast value l
+value_reached : (value : Option ℤ) (least l : Option ℕ) → Reaches value (option_map pos least) → IsAtMost l (option_map told value)
+    → Reaches value (option_map pos l)
 value_reached value None l a r = absurd a
 value_reached None (Some m) l a r = absurd a
 value_reached (Some v) (Some m) None a r = absurd r
@@ -39,7 +47,7 @@ told_above (pos n) m a c =
     omega (arith, small, few)
 told_above (negsuc n) m a c = absurd (omega (arith, ints, a))
 
-value_above : (value : Option ℤ) (least : Option ℕ) → IsAtLeast value least → is_cost least ≡ true → IsAtMost least (option_map told value)
+value_above : (value : Option ℤ) (least : Option ℕ) → Reaches value (option_map pos least) → is_cost least ≡ true → IsAtMost least (option_map told value)
 value_above value None a c = absurd a
 value_above None (Some m) a c = absurd a
 value_above (Some v) (Some m) a c = told_above v m a c
@@ -51,49 +59,45 @@ value_cost (Some (negsuc n)) = refl
 
 -- ---- lines
 
-module _ (n : Net) (table : List (List SignedRow)) (marks : Marks) (least : Option ℕ) where
-  sound_for : (l : Option ℕ) (lines : List Line) (nodes : List Node) → AreSound (Some marks) n table least lines nodes
-      → IsReached l (shown_in n table marks lines nodes) → AreSound (Some marks) n table l lines nodes
-  sound_for l [] [] s r = tt
-  sound_for l [] (node ∷ nodes) s r = absurd s
-  sound_for l (line ∷ lines) [] s r = absurd s
-  sound_for l (EndLine (Bound pairs) ∷ lines) (node ∷ nodes) s r = (
-    (s.0.0, value_reached (sharp_cost n table node (multipliers (length table) marks pairs)) least l s.0.1 r.0),
-    sound_for l lines nodes s.1 r.1,
-  )
-  sound_for l (EndLine (Shut reason) ∷ lines) (node ∷ nodes) s r = (s.0, sound_for l lines nodes s.1 r.1)
-  sound_for l (CutLine cut ∷ lines) (node ∷ nodes) s r = (
+module _ (n : Net) (table : List (List SignedRow)) (marks : Marks) (facts : List Lemma) where
+  -- the value of a leaf under the weights of the rows
+  abbrev value_at : List Pair → Node → Option ℤ
+  value_at pairs node = bound_by marks facts n table node pairs (λ i. pos (arc_at n.arcs i).weight)
+
+  abbrev AreSoundFor : Option ℕ → List Line → List Node → Type 0
+  AreSoundFor least lines nodes = AreSoundFrom marks facts n table (cost_goal n least) lines nodes
+
+  sound_for : (least l : Option ℕ) (lines : List Line) (nodes : List Node) → AreSoundFor least lines nodes
+      → IsReached l (shown_in n table marks facts lines nodes) → AreSoundFor l lines nodes
+  sound_for least l [] [] s r = tt
+  sound_for least l [] (node ∷ nodes) s r = absurd s
+  sound_for least l (line ∷ lines) [] s r = absurd s
+  sound_for least l (EndLine (Bound pairs) ∷ lines) (node ∷ nodes) s r =
+      ((s.0.0, value_reached (value_at pairs node) least l s.0.1 r.0), sound_for least l lines nodes s.1 r.1)
+  sound_for least l (EndLine (Shut reason) ∷ lines) (node ∷ nodes) s r = (s.0, sound_for least l lines nodes s.1 r.1)
+  sound_for least l (CutLine cut ∷ lines) (node ∷ nodes) s r = (
     s.0,
-    sound_for l lines (low_part node cut ∷ high_part node cut ∷ nodes) s.1 r.1,
+    sound_for least l lines (low_part node cut ∷ high_part node cut ∷ nodes) s.1 r.1,
   )
 
-  reached_before : is_cost least ≡ true → (lines : List Line) (nodes : List Node) → AreSound (Some marks) n table least lines nodes
-      → IsReached least (shown_in n table marks lines nodes)
-  reached_before c [] nodes s = tt
-  reached_before c (line ∷ lines) [] s = tt
-  reached_before c (EndLine (Bound pairs) ∷ lines) (node ∷ nodes) s = (
-    value_above (sharp_cost n table node (multipliers (length table) marks pairs)) least s.0.1 c,
-    reached_before c lines nodes s.1,
-  )
-  reached_before c (EndLine (Shut reason) ∷ lines) (node ∷ nodes) s = (tt, reached_before c lines nodes s.1)
-  reached_before c (CutLine cut ∷ lines) (node ∷ nodes) s = (
+  reached_before : (least : Option ℕ) → is_cost least ≡ true → (lines : List Line) (nodes : List Node) → AreSoundFor least lines nodes
+      → IsReached least (shown_in n table marks facts lines nodes)
+  reached_before least c [] nodes s = tt
+  reached_before least c (line ∷ lines) [] s = tt
+  reached_before least c (EndLine (Bound pairs) ∷ lines) (node ∷ nodes) s =
+      (value_above (value_at pairs node) least s.0.1 c, reached_before least c lines nodes s.1)
+  reached_before least c (EndLine (Shut reason) ∷ lines) (node ∷ nodes) s = (tt, reached_before least c lines nodes s.1)
+  reached_before least c (CutLine cut ∷ lines) (node ∷ nodes) s = (
     tt,
-    reached_before c lines (low_part node cut ∷ high_part node cut ∷ nodes) s.1,
+    reached_before least c lines (low_part node cut ∷ high_part node cut ∷ nodes) s.1,
   )
 
-shown_costs : (n : Net) (table : List (List SignedRow)) (marks : Marks) (lines : List Line) (nodes : List Node)
-    → AreCosts (shown_in n table marks lines nodes)
-shown_costs n table marks [] nodes = tt
-shown_costs n table marks (line ∷ lines) [] = tt
-shown_costs n table marks (EndLine (Bound pairs) ∷ lines) (node ∷ nodes) = (
-  value_cost (sharp_cost n table node (multipliers (length table) marks pairs)),
-  shown_costs n table marks lines nodes,
-)
-shown_costs n table marks (EndLine (Shut reason) ∷ lines) (node ∷ nodes) = (refl, shown_costs n table marks lines nodes)
-shown_costs n table marks (CutLine cut ∷ lines) (node ∷ nodes) = (
-  refl,
-  shown_costs n table marks lines (low_part node cut ∷ high_part node cut ∷ nodes),
-)
+  shown_costs : (lines : List Line) (nodes : List Node) → AreCosts (shown_in n table marks facts lines nodes)
+  shown_costs [] nodes = tt
+  shown_costs (line ∷ lines) [] = tt
+  shown_costs (EndLine (Bound pairs) ∷ lines) (node ∷ nodes) = (value_cost (value_at pairs node), shown_costs lines nodes)
+  shown_costs (EndLine (Shut reason) ∷ lines) (node ∷ nodes) = (refl, shown_costs lines nodes)
+  shown_costs (CutLine cut ∷ lines) (node ∷ nodes) = (refl, shown_costs lines (low_part node cut ∷ high_part node cut ∷ nodes))
 
 -- ---- answers
 
@@ -167,30 +171,17 @@ module _ (p : Pesp) where
 abbrev with_new : Content → Answer → Content
 with_new content answer = record content { answer = answer }
 
-abbrev pub FrontLaw : Pesp → Type 0
-FrontLaw p = (content : Content) (marks : Marks) → 0 < marks.scale → marks.walks ≡ [] → IsValid None p content ↔ IsValid (Some marks) p content
+module _ (p : Pesp) (c : Fronted) (limits : KeepsLimits c.content) (law : FrontLaw) (valid : IsValidBehind c.front p c.content) where
+  marked : IsValidFrom (lemmas_in c.front) (marks_of c.front) p c.content
+  marked = valid_from c.front p c.content law valid
 
-as_marked : (p : Pesp) (front : Option Marks) → FrontLaw p → (content : Content) → IsValid front p content ↔ IsValid (Some (marks_of front)) p content
-as_marked p None law content = law content no_marks (omega arith) refl
-as_marked p (Some marks) law content = (λ v. v, λ v. v)
-
-abbrev pub LinesLaw : Pesp → Type 0
-LinesLaw p = (front : Option Marks) (n : Net) (table : List (List SignedRow)) (least : Option ℕ) (lines : List Line) (node : Node)
-    → AreSound front n table least lines (node ∷ []) → (tree : Tree) × (preorder tree ≡ lines) × IsSound front n table least tree node
-
-abbrev pub TreeLaw : Pesp → Type 0
-TreeLaw p = (front : Option Marks) (n : Net) (table : List (List SignedRow)) (least : Option ℕ) (lines : List Line) (node : Node)
-    → (tree : Tree) × (preorder tree ≡ lines) × IsSound front n table least tree node → AreSound front n table least lines (node ∷ [])
-
-module _ (p : Pesp) (c : Fronted) (limits : KeepsLimits c.content) (fronts : FrontLaw p) (to_tree : LinesLaw p) (to_lines : TreeLaw p)
-    (valid : IsValid c.front p c.content) where
-  marked : IsValid (Some (marks_of c.front)) p c.content
-  marked = (as_marked p c.front fronts c.content).0 valid
-
-  lines : AreSound (Some (marks_of c.front)) (net_of p) c.content.cycles (least_of c.content.answer) (lines_of c.content)
+  lines : AreSoundFor (net_of p) c.content.cycles (marks_of c.front) (facts_said c.front) (least_of c.content.answer) (lines_of c.content)
       (root (net_of p) c.content.cycles ∷ [])
-  lines = to_lines (Some (marks_of c.front)) (net_of p) c.content.cycles (least_of c.content.answer) (lines_of c.content)
-      (root (net_of p) c.content.cycles) marked.tree
+  lines =
+      let P : List Lemma → Type 0 = λ facts. AreSoundFor (net_of p) c.content.cycles (marks_of c.front) facts (least_of c.content.answer)
+      (lines_of c.content) (root (net_of p) c.content.cycles ∷ []) in
+      subst P (facts_are_of c.front) (sound_as_lines (marks_of c.front) (lemmas_of (lemmas_in c.front)) (net_of p) c.content.cycles
+      (cost_goal (net_of p) (least_of c.content.answer)) (lines_of c.content) (root (net_of p) c.content.cycles) marked.tree)
 
   known : is_cost (least_of c.content.answer) ≡ true
   known = least_is_cost c.content.answer limits.answer
@@ -200,7 +191,7 @@ module _ (p : Pesp) (c : Fronted) (limits : KeepsLimits c.content) (fronts : Fro
       let own = cost_is_cost c.content.answer limits.answer in
       answer_costs (least_shown (cost_of c.content.answer) (shown_of p c)) (cost_of c.content.answer)
       (least_cost (cost_of c.content.answer) (shown_of p c) own
-      (shown_costs (net_of p) c.content.cycles (marks_of c.front) (lines_of c.content) (root (net_of p) c.content.cycles ∷ [])))
+      (shown_costs (net_of p) c.content.cycles (marks_of c.front) (facts_said c.front) (lines_of c.content) (root (net_of p) c.content.cycles ∷ [])))
       own
 
   pub retold_is : (content : Content) → content ≡ record c.content {
@@ -213,12 +204,17 @@ module _ (p : Pesp) (c : Fronted) (limits : KeepsLimits c.content) (fronts : Fro
       let new : Content = record c.content { answer = answer_of least cost } in
       let below = least_within_cost cost shown in
       let tells = told_least least cost below in
-      let sound = sound_for (net_of p) c.content.cycles (marks_of c.front) (least_of c.content.answer) least (lines_of c.content)
-      (root (net_of p) c.content.cycles ∷ []) lines (least_is_reached cost shown) in
-      let tree = to_tree (Some (marks_of c.front)) (net_of p) c.content.cycles least (lines_of c.content) (root (net_of p) c.content.cycles) sound in
+      let sound = sound_for (net_of p) c.content.cycles (marks_of c.front) (facts_said c.front) (least_of c.content.answer) least
+      (lines_of c.content) (root (net_of p) c.content.cycles ∷ []) lines (least_is_reached cost shown) in
+      let F : List Lemma → Type 0 = λ facts. AreSoundFor (net_of p) c.content.cycles (marks_of c.front) facts least (lines_of c.content)
+      (root (net_of p) c.content.cycles ∷ []) in
+      let tree = sound_as_tree (marks_of c.front) (lemmas_of (lemmas_in c.front)) (net_of p) c.content.cycles (cost_goal (net_of p) least)
+      (lines_of c.content) (root (net_of p) c.content.cycles) (subst F (sym (facts_are_of c.front)) sound) in
       let S : Option ℕ → Type 0 = λ l. (tree : Tree) × (preorder tree ≡ lines_of c.content)
-      × IsSound (Some (marks_of c.front)) (net_of p) c.content.cycles l tree (root (net_of p) c.content.cycles) in
-      let as_new : IsValid (Some (marks_of c.front)) p new = record {
+      × IsSoundFrom (marks_of c.front) (lemmas_of (lemmas_in c.front)) (net_of p) c.content.cycles (cost_goal (net_of p) l) tree
+      (root (net_of p) c.content.cycles) in
+      let as_new : IsValidFrom (lemmas_in c.front) (marks_of c.front) p new = record {
+        lemmas = marked.lemmas;
         period = marked.period;
         answer = shows_still p c.content.answer least (shown_labels c.content) (shown_times c.content) below marked.answer;
         cycles = marked.cycles;
@@ -227,11 +223,11 @@ module _ (p : Pesp) (c : Fronted) (limits : KeepsLimits c.content) (fronts : Fro
       } in
       let reached = reached_by_least (least_of c.content.answer) cost shown
       (within p c.content.answer (shown_labels c.content) (shown_times c.content) marked.answer)
-      (reached_before (net_of p) c.content.cycles (marks_of c.front) (least_of c.content.answer) known (lines_of c.content)
+      (reached_before (net_of p) c.content.cycles (marks_of c.front) (facts_said c.front) (least_of c.content.answer) known (lines_of c.content)
       (root (net_of p) c.content.cycles ∷ []) lines) in
       let R : Content → Type 0 = λ content. IsRetold p c (record { front = c.front; content = content }) in
       let there : R new = record {
-        valid = (as_marked p c.front fronts new).1 as_new;
+        valid = valid_behind c.front p new law as_new;
         told = tells.0 ∙ ap (λ (o : Option ℕ). least_shown o shown) (sym tells.1);
         same = refl;
         least = subst (IsAtMost (least_of c.content.answer)) (sym tells.0) reached;

@@ -3,7 +3,8 @@ use Rattle.std.specs.Prelude.{◌≡◌, ℕ, min, nat_lt, if◌then◌else◌, 
 use Rattle.pesp_problem.specs.Timetables.{Pesp}
 use Rattle.pesp_truth.specs.declared.answer.Answer.{Answer}
 use Rattle.pesp_truth.specs.declared.answer.Answer.TheVariants.{Optimal, Infeasible, Bounded}
-use Rattle.pesp_truth.specs.Certificates.{least_of, cost_of, IsValid}
+use Rattle.pesp_truth.specs.Certificates.{least_of, cost_of}
+use Rattle.pesp_lemma.specs.Fronts.{IsValidBehind}
 use Rattle.pesp_cert.specs.Fronted.{Fronted}
 use Rattle.pesp_check.specs.Costs.{shown_of}
 use Rattle.pesp_machine.specs.States.{IsAtMost}
@@ -32,7 +33,7 @@ answer_of (Some least) (Some cost) = if nat_lt least cost then Bounded least (So
 -- the same certificate with another answer, which is valid and tells the least that its tree shows; the cost is the same, and
 -- the bound isn't less
 pub record IsRetold (p : Pesp) (old new : Fronted) : Type 0 where
-  pub valid : IsValid new.front p new.content
+  pub valid : IsValidBehind new.front p new.content
   pub told : TellsLeast p new
   pub same : new ≡ record { front = old.front; content = record old.content { answer = new.content.answer } }
   pub least : IsAtMost (least_of old.content.answer) (least_of new.content.answer)

@@ -1,7 +1,7 @@
 //! The answer that a tree shows.
 
 ghost use Rattle.std.specs.Prelude.{◌≡◌, IfOk, MatchOption};
-ghost use Rattle.pesp_truth.specs.Certificates.{IsValid};
+ghost use Rattle.pesp_lemma.specs.Fronts.{IsValidBehind};
 ghost use Rattle.pesp_told.specs.Told as spec;
 ghost use Rattle.pesp_told.specs.Told.{TellsLeast, IsRetold};
 
@@ -12,7 +12,7 @@ use pesp_check::costs_shown;
 use pesp_judges::least_of;
 use pesp_problem::{Instance, Memory};
 use pesp_truth::Answer;
-use pesp_truth::laws::{a_front_without_walks_changes_nothing, lines_are_sound_as_tree};
+use pesp_truth::laws::a_front_without_walks_changes_nothing;
 use std::alloc::Global;
 
 /// The answer of a tree that shows so much at least, beside times of a cost.
@@ -44,12 +44,11 @@ pub fn retold(
     instance: &Instance,
     told: &Fronted,
 ) -> Result<Option<Certificate>, Memory>
-    requires { IsValid told.now.front instance.now told.now.content }
+    requires { IsValidBehind told.now.front instance.now told.now.content }
     ensures { IfOk result (λ found. MatchOption found (TellsLeast instance.now told.now)
         (λ c. IsRetold instance.now told.now (record { front = told.now.front; content = c }))) }
 {
     a_front_without_walks_changes_nothing();
-    lines_are_sound_as_tree();
     let shown = costs_shown(alloc, instance, told)?;
     let answer = told.certificate.answer();
     let cost = cost_of(answer);

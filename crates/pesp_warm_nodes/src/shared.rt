@@ -24,12 +24,13 @@ const MOST_GIVEN: usize = 20_000;
 /// By how much an inequality may be passed and still count as tight, in 1/65536.
 const TIGHT: i64 = 1 << 12;
 
-/// The simplex; what its lines are, and at which solve each was last tight; the line of each inequality of the pool, and what that is at
+/// How many units of a cost make up one; the simplex; what its lines are, and at which solve each was last tight; the line of each inequality of the pool, and what that is at
 /// least, and of each cycle, where there is one; the offsets that are left to each cycle, and the cycles of fewer than at first; the keys of
 /// inequalities; how often it was solved; and where it stood before a trial and at the leaf that is next.
 #[derive(Drop)]
 pub struct Shared {
     pub(crate) alloc: Global,
+    pub(crate) unit: u32,
     pub(crate) simplex: Simplex,
     pub(crate) names: Vec<Name>,
     pub(crate) tight_at: Vec<u64>,
@@ -48,10 +49,18 @@ pub struct Shared {
     pub(crate) weights: Vec<i128>,
 }
 
-/// Whether a setting has many rows, and numbers are long enough for it.
+/// How many rows are enough: those of a part of an instance, whose weights are in finer units, may be few.
+fn least_rows(setting: &Setting) -> usize {
+    if setting.unit > 1 { 1 } else { LEAST_ROWS }
+}
+
+/// Whether a setting has enough rows, and numbers are long enough for it.
 fn is_fit(setting: &Setting) -> bool {
     let rows = setting.frame.rows().len();
-    rows >= LEAST_ROWS && setting.dearest <= MOST_DEAREST && setting.period() <= MOST_PERIOD
+    let dearest = setting.dearest.checked_div(u64::from(setting.unit));
+    rows >= least_rows(setting)
+        && dearest.is_some_and(|dearest| dearest <= MOST_DEAREST)
+        && setting.period() <= MOST_PERIOD
 }
 
 /// Whether something comes of the inequality of a program at a place.
@@ -128,9 +137,10 @@ impl Shared {
 
     /// The program without a line.
     fn empty(alloc: Global, setting: &Setting) -> Result<Shared, AllocError> {
-        let simplex = Simplex::new(alloc, setting.frame.rows())?;
+        let simplex = Simplex::new(alloc, setting.frame.rows(), setting.unit)?;
         Ok(Shared {
             alloc,
+            unit: setting.unit,
             simplex,
             names: Vec::new(alloc),
             tight_at: Vec::new(alloc),

@@ -1,7 +1,7 @@
 //! Solves, within a limit.
 
 use crate::shared::Shared;
-use pesp_dual_simplex::{End, ONE, rounded, whole};
+use pesp_dual_simplex::{End, ONE, parts, rounded, whole};
 use pesp_sharp_nodes::{Limit, Setting};
 use std::alloc::AllocError;
 
@@ -19,18 +19,30 @@ const MOST_LOOKS: u32 = 30;
 /// The share of numbers of an inverse that aren't 0, in 1/1024, up to which it counts as sparse.
 const SPARSE: u64 = 512;
 
-/// The value at which a leaf is closed.
-fn stop_at(limit: Limit) -> i64 {
+/// By how much the value passes the limit where costs aren't whole.
+const BEYOND: i64 = ONE / 64;
+
+/// The value at which a leaf is closed, where so many units of a cost make up one.
+fn stop_at(limit: Limit, unit: u32) -> i64 {
     let cost = i64::try_from(limit.cost).unwrap_or(i64::MAX);
+    if unit > 1 {
+        return parts(cost, i64::from(unit)).saturating_add(BEYOND);
+    }
     let below = whole(cost.saturating_sub(1));
     below.saturating_add(ONE / 10 * 3)
 }
 
 impl Shared {
+    /// The value at which a leaf is closed.
+    fn stop_at(&self, limit: Limit) -> i64 {
+        stop_at(limit, self.unit)
+    }
+
     /// Makes at most so many exchanges.
     pub(crate) fn solve(&mut self, limit: Limit, most: u32) -> Result<End, AllocError> {
         self.solves = self.solves.saturating_add(1);
-        self.simplex.solve(stop_at(limit), most)
+        let stop = self.stop_at(limit);
+        self.simplex.solve(stop, most)
     }
 
     /// Whether what was found doesn't hold in whole numbers.
@@ -38,7 +50,9 @@ impl Shared {
         if end == End::Ray {
             return Ok(self.ray_value(setting)? <= 0);
         }
-        let cost = rounded(self.simplex.value(), 1).saturating_sub(2);
+        let unit = i64::from(self.unit);
+        let off = unit.saturating_mul(2);
+        let cost = rounded(self.simplex.value(), unit).saturating_sub(off);
         let shown = i64::try_from(self.cost_shown(setting)?).unwrap_or(i64::MAX);
         Ok(shown < cost)
     }
@@ -73,6 +87,15 @@ impl Shared {
         Ok(false)
     }
 
+    /// Solves the root of a part of an instance; whether exchanges are for it: it is solved by not too many, and the inverse is
+    /// sparse in the end.
+    pub fn suits_in_the_end(&mut self, limit: Limit) -> Result<bool, AllocError> {
+        let most = FIRST_EXCHANGES.saturating_mul(MOST_LOOKS);
+        let end = self.solve(limit, most)?;
+        self.simplex.settle(1)?;
+        Ok(end != End::Limit && self.simplex.density() <= SPARSE)
+    }
+
     /// Solves the node from an inverse that is built anew.
     pub fn solve_anew(&mut self, setting: &Setting, limit: Limit) -> Result<End, AllocError> {
         self.simplex.rebuild()?;
@@ -81,7 +104,7 @@ impl Shared {
 
     /// What was gained since a value, in 1/2^20; where nothing is left, all up to the limit, or as much again.
     pub fn gain_since(&self, before: i64, end: End, limit: Limit) -> i128 {
-        let stop = stop_at(limit);
+        let stop = self.stop_at(limit);
         let reached = if end == End::Ray {
             stop.min(before.saturating_mul(2))
         } else {
@@ -97,7 +120,7 @@ impl Shared {
 
     /// By how much the limit is above the value.
     pub(crate) fn left(&self, limit: Limit) -> i64 {
-        let stop = stop_at(limit).min(whole(1 << 26));
+        let stop = self.stop_at(limit).min(whole(1 << 26));
         stop.saturating_sub(self.simplex.value())
     }
 }

@@ -90,7 +90,7 @@ impl Shared {
 
     /// The multipliers of tight lines, in units of the scale.
     fn list_multipliers(&self, setting: &Setting) -> Result<Vec<(u32, i64)>, AllocError> {
-        let scale = i64::from(setting.scale);
+        let scale = setting.fine_scale();
         let mut list = Vec::new(self.alloc);
         for line in self.simplex.tight() {
             let multiplier = rounded(self.simplex.multiplier(*line), scale);
@@ -103,7 +103,7 @@ impl Shared {
 
     /// The multipliers of the last ray, in units of the scale.
     fn list_ray(&self, setting: &Setting) -> Result<Vec<(u32, i64)>, AllocError> {
-        let scale = i64::from(setting.scale);
+        let scale = setting.fine_scale();
         let mut list = Vec::new(self.alloc);
         for (line, multiplier) in self.simplex.ray() {
             let multiplier = rounded(*multiplier, scale);

@@ -22,12 +22,11 @@ use Rattle.pesp_cert_lines.proofs.LineLaws.{line_found, words_of-item}
 use Rattle.pesp_cert.specs.declared.refusal.CertRefusal.{CertRefusal}
 use Rattle.pesp_cert.specs.declared.refusal.CertRefusal.TheVariants as refusals
 use Rattle.pesp_cert.specs.Texts.{is_end, IsRun, time_item, tree_item}
-use Rattle.pesp_cert.specs.Drafts.{blank, added, all_added}
+use Rattle.pesp_cert.specs.Drafts.{blank, added}
 use Rattle.pesp_cert.specs.Refusals.{refusal_at}
-use Rattle.pesp_cert.proofs.DraftLaws.{times_added, tree_added}
+use Rattle.pesp_works.proofs.Added.{all_added, end_adds, times_added, tree_added}
 use Rattle.pesp_cert.proofs.Runs.{run_onto}
 use Rattle.pesp_cert.proofs.RunLaws.{time_run}
-use Rattle.pesp_cert.proofs.TextLoop.{end_adds}
 use Rattle.pesp_works.specs.Works.{WorkValue, HEADER, job_line, items_of, opening, spelling, spellings, HasText}
 use Rattle.pesp_works.specs.Lines.{job_at, begins_cycle, work_line_at}
 use Rattle.pesp_works.specs.Refusals.{Stage, Front, Job, Inside, made, onto, cut_front, other_front, works_from}
@@ -98,7 +97,7 @@ no_cycles (w ∷ cs) more h = let bad = and_left (is_other (Cycle w)) (list_all 
 work_run : (job : ℕ) (items : List Item) → IsRun opening items → list_all is_other items ≡ true
     → items ≡ items_of (made job (all_added blank items))
 work_run job items run others =
-    let t = time_run opening items refl refl run in
+    let t = time_run opening items refl refl refl run in
     let behind : List Item = map tree_item t.2 ++ End ∷ [] in
     let none : t.1 ≡ [] = no_cycles t.1 behind (all_right is_other (map time_item t.0) (map Cycle t.1 ++ behind) (rw t.3 at others)) in
     let shape : items ≡ map time_item t.0 ++ behind = t.3

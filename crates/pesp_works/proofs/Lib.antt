@@ -1,3 +1,4 @@
+pub mod Added
 pub mod Steps
 pub mod Jobs
 pub mod Founds

@@ -17,12 +17,11 @@ use Rattle.pesp_cert_lines.proofs.Tests.{and_left, and_right, and_both}
 use Rattle.pesp_cert_lines.proofs.LineLaws.{line_read, words_of-item}
 use Rattle.pesp_cert.specs.declared.refusal.CertRefusal.{CertRefusal}
 use Rattle.pesp_cert.specs.Texts.{IsRun, time_item, tree_item}
-use Rattle.pesp_cert.specs.Drafts.{blank, added, all_added}
-use Rattle.pesp_cert.proofs.DraftLaws.{times_added, tree_added}
+use Rattle.pesp_cert.specs.Drafts.{blank, added}
+use Rattle.pesp_works.proofs.Added.{all_added, end_adds, times_added, tree_added}
 use Rattle.pesp_cert.proofs.ShortLaws.{IsShort, run_short}
 use Rattle.pesp_cert.proofs.TextSteps.{nonempty}
 use Rattle.pesp_cert.proofs.TextLaws.{no_lf, line_cut}
-use Rattle.pesp_cert.proofs.TextLoop.{end_adds}
 use Rattle.pesp_works.specs.Works.{WorkValue, HEADER, job_line, items_of, opening, spelling, spellings, HasText}
 use Rattle.pesp_works.specs.Lines.{begins_cycle, work_line_at}
 use Rattle.pesp_works.specs.Refusals.{Front, Job, Inside, made, onto, works_from}

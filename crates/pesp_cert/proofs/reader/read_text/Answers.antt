@@ -33,11 +33,11 @@ returns-then-is_end c = read_trailing c.args.versions c.args.text.now c.loop-lin
 pub loop-line-preserved : goal.loop-line-preserved
 loop-line-preserved c =
     read_more c.args.versions c.args.text.now c.loop-line.rest.now c.split_at_byte.result.0.now c.in-Some.more.now c.loop-line.n
-    c.loop-line.progress c.take_line.new.progress c.loop-line.front c.note.new.self c.loop-line.draft c.add.new.self c.in-Ok.item
+    c.loop-line.progress c.take_line.new.progress c.loop-line.front c.note.new.self c.loop-line.draft c.add_behind.new.self c.in-Ok.item
     c.loop-line.invariant (rw c.in-Some.is at c.split_at_byte.ensures.cut)
     (rw c.in-Some.is at c.split_at_byte.ensures.shorter) c.if-line-gt100000000.false
     (sym c.in-Ok.ensures.exact) (sym c.is_end.ensures ∙ c.if-is_end.false) c.in-Ok.ensures.goes
-    c.in-Ok.ensures.kept (rw c.in_ok-note.was at c.note.ensures) (rw c.in_ok-add.was at c.add.ensures)
+    c.in-Ok.ensures.kept (rw c.in_ok-note.was at c.note.ensures) (rw c.in_ok-add_behind.was at c.add_behind.ensures)
 
 pub loop-line-init : goal.loop-line-init
 loop-line-init c = read_start c.args.versions c.args.text.now c.new-progress.result c.new-front.result c.new-draft.result

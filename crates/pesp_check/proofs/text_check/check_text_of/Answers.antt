@@ -34,7 +34,7 @@ returns-in-Ok-None-clause-ok g c =
     checked_all c.args.versions c.args.instance.now _ _ _ judge.stage
     (kept judge) c.verdict.result c.answer.result inv.checked gives (rw inv.instance at c.verdict.ensures)
     (rw inv.instance at c.answer.ensures)
-    (λ front content valid. c.valid_is_true.ensures front c.args.instance.now content (omega (arith, c.rows.ensures.limits.some_period)) valid)
+    (λ front content valid. c.valid_behind_is_true.ensures front c.args.instance.now content (omega (arith, c.rows.ensures.limits.some_period)) valid)
 
 pub returns-in-Ok-None-clause-counts : goal.returns-in-Ok-None-clause-counts
 returns-in-Ok-None-clause-counts g c =

@@ -9,7 +9,7 @@ returns-in-Err-clause-verdict c =
     let is = rw c.walks-walks.ensures.value at c.index-walks-place.is in
     let within = rw c.walks-walks.ensures.value at c.loop-place-test.true in
     mark_fault (arcs_of c.args.instance.now) c.args.marks.now.walks c.loop-place.place c.index-walks-place.result
-    within is c.args.cycles _ _ c.in-Err.refusal c.loop-place.invariant.closed (omega arith) (omega arith) fault
+    within is c.args.cycles c.args.line _ _ c.in-Err.refusal c.loop-place.invariant.closed (omega arith) (omega arith) fault
 
 pub loop-place-preserved : goal.loop-place-preserved
 loop-place-preserved c =

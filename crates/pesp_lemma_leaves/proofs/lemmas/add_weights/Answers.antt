@@ -1,7 +1,7 @@
-use Rattle.std.proofs.Common.{arith, unsigned_abs, FitsSigned, to_z, of_z, get_or, ◌≡◌, ◌≤◌, ◌<◌, ◌+◌, ◌-◌, ◌*◌, ◌^◌, ◌∙◌, ap, sym, length, refl}
+use Rattle.std.proofs.Common.{arith, unsigned_abs, to_z, of_z, get_or, ◌≡◌, ◌≤◌, ◌<◌, ◌-◌, ◌∙◌, ap, sym, length}
 use Rattle.std.specs.Prelude.{pos, ◌+ℤ◌, ◌*ℤ◌}
 use Rattle.std.specs.Int.{w64, w128}
-use Rattle.std.proofs.lemmas.Int.{ints, to_z-of_z}
+use Rattle.std.proofs.lemmas.Int.{ints}
 use Rattle.pesp_problem.specs.declared.pair.Pair.{Pair}
 use Rattle.pesp_nets.specs.Terms.{number_at}
 use Rattle.pesp_lemma_leaves.proofs.Adding.{so_far, weight_here, added_more, all_added, all_small}

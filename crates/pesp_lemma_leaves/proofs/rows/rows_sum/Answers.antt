@@ -1,6 +1,6 @@
 use Rattle.std.proofs.Common.{arith, true, false, unsigned_abs, to_z, of_z, ◌≡◌, ◌≤◌, ◌<◌, ◌*◌, ◌^◌, ◌∙◌, ap, length}
 use Rattle.std.specs.Prelude.{◌+ℤ◌, ◌-ℤ◌}
-use Rattle.std.specs.Int.{w64, w128}
+use Rattle.std.specs.Int.{w128}
 use Rattle.std.proofs.lemmas.Int.{ints}
 use Rattle.pesp_problem.specs.Arcs.{arc_at}
 use Rattle.pesp_problem.specs.Nodes.{slack_range}

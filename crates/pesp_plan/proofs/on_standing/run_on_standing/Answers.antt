@@ -16,19 +16,16 @@ returns-in-Ok-Accepted-clause-ok g c =
       },
     )) c.write.ensures.ok
 
-pub returns-in-Ok-Refused-OtherPeriod-clause-cause :
-    goal.returns-in-Ok-Refused-OtherPeriod-clause-cause
-returns-in-Ok-Refused-OtherPeriod-clause-cause g c =
+pub returns-then-has_other_period-clause-cause : goal.returns-then-has_other_period-clause-cause
+returns-then-has_other_period-clause-cause g c =
     let is_text = rw c.deref.ensures.value at c.in_ok-base.ensures.found in
-    let found = c.in-Ok-Refused-OtherPeriod in
-    let refused = rw (found.field-0-is, found.field-0-0-is) at found.ensures.verdict in
     inr (
       c.in_ok-instance.instance,
       c.in_ok-instance.ensures.ok,
       inl (record {
         text = c.in_ok-text.text.items;
         read = c.in_ok-text.ensures.ok;
-        holds = (c.in_ok-base.base, is_text, refused);
+        holds = (c.in_ok-base.base, is_text, c.has_other_period.ensures.0 c.if-has_other_period.true);
       }),
     )
 

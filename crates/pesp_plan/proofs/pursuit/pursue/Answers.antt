@@ -11,3 +11,8 @@ loop-piece-preserved g c =
           c.loop-piece.invariant.goes_on c.go_on-more.ensures.valid c.go_on-more.ensures.no_worse;
       kept = kept;
     }
+
+pub returns-in_err-keep-2-clause-no_worse : goal.returns-in_err-keep-2-clause-no_worse
+returns-in_err-keep-2-clause-no_worse g c =
+    (goes_on c.args.instance.now c.args.going.now c.loop-piece.going c.go_on-more.new.going
+    c.loop-piece.invariant.goes_on c.go_on-more.ensures.valid c.go_on-more.ensures.no_worse).no_worse

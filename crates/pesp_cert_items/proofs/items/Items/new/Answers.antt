@@ -11,5 +11,5 @@ invariant_of-result-clause-plain g c =
     let begins = c.new.ensures.begins None in
     record {
       versions = ap (λ (r : Reading). r.progress.versions) begins;
-      place = ap (λ (r : Reading). is_in_front r.progress.place) begins;
+      place = ap (λ (r : Reading). is_in_front r.progress.place r.progress.shows) begins;
     }

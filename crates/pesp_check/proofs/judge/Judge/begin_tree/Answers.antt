@@ -27,7 +27,7 @@ returns-in-Some-clause-judged c front c' rest has b before =
     let number : c.min-cycles.result ≡ min (length j.table.items) 100000 =
     (let s = j.table.ok.0 in omega (arith, c.len.ensures, c.min-cycles.ensures)) in
     marks_refused j.stage j.instance.now front c' rest (kept j) c.front_of.result is has b limits before c.in-Some.refusal
-    c.min-cycles.result _ number refl (rw c.in-Some.is at c.in_ok-found.ensures.verdict)
+    c.min-cycles.result _ number refl refl (rw c.in-Some.is at c.in_ok-found.ensures.verdict)
 
 pub invariant_of-self-2-clause-same : goal.invariant_of-self-2-clause-same
 invariant_of-self-2-clause-same c = λ _. if_for c.front_of.result _ c.in_ok-self.ensures
@@ -42,3 +42,6 @@ pub invariant_of-self-2-clause-wide : goal.invariant_of-self-2-clause-wide
 invariant_of-self-2-clause-wide c =
     λ _. if_for c.front_of.result _
     (some_then c.front_of.result (length c.in_ok-self-2.field-0.items) c.in_ok-self-2.ensures (ap length c.rows.ensures.rows))
+
+pub invariant_of-self-2-clause-named : goal.invariant_of-self-2-clause-named
+invariant_of-self-2-clause-named c = c.args.self.now.named

@@ -26,10 +26,10 @@ returns-in-Some-found-clause-judged c front c' rest has before =
     let V : Line → Type 0 = λ l. IsLineVerdict j.front
     (net_of p) c'.cycles c.least_of-least.result l c.in-Some.walk.nodes c.take_line.new.walk.nodes
     (j.line + 1) c.in_ok-found.found in
-    let verdict = line_found p front c' line rest (kept j) j.stage c.requires.stage before c.in-Some.walk
+    let verdict = line_found p front c' line rest (kept j) j.stage c.requires.stage before c.requires.plain c.in-Some.walk
     c.take_line.new.walk _ _ c.in_ok-found.found walk c.least_of-least.ensures
     (subst V (said_is pairs_of c.args.said) (told c'.cycles nets)) in
-    line_refused p front c' line rest (kept j) j.stage c.requires.stage before c.in-Some-found.refusal _ _ refl refl
+    line_refused p front c' line rest (kept j) j.stage c.requires.stage before c.requires.plain c.in-Some-found.refusal _ _ refl refl refl
     (whole_text front c' has) (rw c.in-Some-found.is at verdict)
 
 pub returns-clause-judged : goal.returns-clause-judged
@@ -45,11 +45,11 @@ returns-clause-judged c front c' rest has before =
     let V : Line → Type 0 = λ l. IsLineVerdict j.front
     (net_of p) c'.cycles c.least_of-least.result l c.in-Some.walk.nodes c.take_line.new.walk.nodes
     (j.line + 1) c.in_ok-found.found in
-    let verdict = line_found p front c' line rest (kept j) j.stage c.requires.stage before c.in-Some.walk
+    let verdict = line_found p front c' line rest (kept j) j.stage c.requires.stage before c.requires.plain c.in-Some.walk
     c.take_line.new.walk _ _ c.in_ok-found.found walk c.least_of-least.ensures
     (subst V (said_is pairs_of c.args.said) (told c'.cycles nets)) in
     let sound = of_none c.in_ok-found.found _ _ c.in_default-found.not-Some verdict in
-    line_taken p front c' line rest (kept j) j.stage c.requires.stage before c.take_line.new.walk _ refl sound.0 sound.1
+    line_taken p front c' line rest (kept j) j.stage c.requires.stage before c.requires.plain c.take_line.new.walk _ refl sound.0 sound.1
 
 pub returns-then-is_done-clause-judged : goal.returns-then-is_done-clause-judged
 returns-then-is_done-clause-judged c front c' rest has before =

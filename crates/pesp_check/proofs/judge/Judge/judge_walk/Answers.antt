@@ -13,7 +13,7 @@ returns-in-Err-clause-judged c front c' rest before =
     let fault = rw c.in-Err.is at c.in_ok-nets.ensures.verdict in
     let number : c.len.result + 1 ≡ length j.table.items + 1 = (let s = j.table.ok.0 in omega (arith, c.len.ensures)) in
     walk_refused j.instance.now front c' (rows_in c.args.rows) rest
-    (kept j) j.stage c.requires.stage before c.in-Err.refusal _ _ _ number refl refl fault
+    (kept j) j.stage c.requires.stage before c.in-Err.refusal _ _ _ number refl refl refl fault
 
 pub returns-clause-judged : goal.returns-clause-judged
 returns-clause-judged c front c' rest before =

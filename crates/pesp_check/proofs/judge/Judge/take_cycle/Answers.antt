@@ -10,4 +10,4 @@ returns-clause-judged c f c' rest before =
     let other : c.end_front.new.self.stage ≡ stages.Cycles → ⊥ = search rules in
     let front = c.in_ok-end_front.ensures in
     cycle_passed c.end_front.new.self.stage c.args.self.now.instance.now f c' (rows_in c.args.rows) rest
-    (kept c.end_front.new.self) _ front.past other refl (front.judged f c' _ refl before)
+    (kept c.end_front.new.self) _ front.past other refl refl (front.judged f c' _ refl before)

@@ -1,0 +1,96 @@
+-- The lemmas of a front, one after the other.
+use Rattle.std.proofs.Common.{◌≡◌, ◌⊎◌, inl, inr, ℕ, zero, suc, ◌+◌, ◌<◌, ◌≤◌, arith, true, List, [], ◌∷◌, ◌++◌, length, get_or, map, take, drop, sym, ap, subst, ◌∙◌, append_assoc, append-nil}
+use Rattle.std.specs.List.{flat_map, sum_by}
+use Rattle.std.proofs.lemmas.Bool.{cases_lt}
+use Rattle.std.proofs.lemmas.List.{drop_all, drop_more, get_or_default}
+use Rattle.std.proofs.lemmas.List.Sums.{sum_by-cons}
+use Rattle.pesp_problem.specs.Arcs.{Net}
+use Rattle.pesp_truth.specs.Certificates.{Content}
+use Rattle.pesp_cert_lines.specs.declared.item.Item.{Item}
+use Rattle.pesp_cert_lines.specs.declared.item.Item.TheVariants.{Scale, Walk, Lemma, Least, Version, Cycle}
+use Rattle.pesp_cert.specs.Texts.{tree_item, lemma_items}
+use Rattle.pesp_judges.specs.declared.refusal.Refusal.{Refusal}
+use Rattle.pesp_lemma.specs.Lemmas.{Lemma as Fact}
+use Rattle.pesp_lemma.specs.Shown.{LemmaProof, IsShownFrom, AreShownFrom, lemmas_of}
+use Rattle.pesp_lemma.specs.Fronts.{Front as FrontOf, lemma_lines}
+use Rattle.pesp_lemma_judges.specs.Faults.{IsLemmaFault, IsLemmasFault}
+use Rattle.pesp_check.specs.Items.{ends_lemma}
+use Rattle.pesp_check.specs.Judging.{behind, lemmas_from, lemma_walks_from}
+
+-- ---- the next one
+
+-- the next lemma is at place j, and its rows come
+pub record IsNextLemma (xs : List LemmaProof) (ys : List Item) (j : ℕ) (item : Item) (rest : List Item) (s : LemmaProof) : Type 0 where
+  pub within : j < length xs
+  pub read : s ≡ get_or xs j s
+  pub item_is : item ≡ Lemma s.fact.weights
+  pub left : rest ≡ Least s.fact.least ∷ Scale s.marks.scale ∷ lemma_walks_from s (flat_map lemma_items (drop (j + 1) xs) ++ ys) 0
+
+tail : {x y : Item} {xs ys : List Item} → x ∷ xs ≡ y ∷ ys → xs ≡ ys
+tail e = cc
+
+regroup : (w c t f y : List Item) → (((w ++ c ++ t) ++ f) ++ y) ≡ w ++ (c ++ (t ++ (f ++ y)))
+regroup w c t f y = simp append_assoc
+
+-- or all lemmas came
+pub next_lemma : (xs : List LemmaProof) (ys : List Item) (j : ℕ) (item : Item) (rest : List Item)
+    → item ∷ rest ≡ flat_map lemma_items (drop j xs) ++ ys
+    → ((s : LemmaProof) × IsNextLemma xs ys j item rest s) ⊎ ((length xs ≤ j) × (item ∷ rest ≡ ys))
+next_lemma [] ys j item rest e = inr (omega arith, e ∙ ap (λ l. flat_map lemma_items l ++ ys) (drop_all j [] (omega arith)))
+next_lemma (d ∷ ds) ys j item rest e = elim (cases_lt j (length (d ∷ ds))) [
+  | inl m ↦
+      let s = get_or (d ∷ ds) j d in
+      let more = flat_map lemma_items (drop (j + 1) (d ∷ ds)) in
+      let shown = map Walk s.marks.walks ++ map Cycle s.cycles ++ map tree_item s.tree in
+      let both : item ∷ rest ≡ Lemma s.fact.weights ∷ Least s.fact.least ∷ Scale s.marks.scale ∷ ((shown ++ more) ++ ys) =
+      e ∙ ap (λ l. flat_map lemma_items l ++ ys) (drop_more (d ∷ ds) j d m) in
+      inl (
+        s,
+        record {
+          within = m;
+          read = get_or_default (d ∷ ds) j d s m;
+          item_is = cc;
+          left = tail both ∙ ap (λ is. Least s.fact.least ∷ Scale s.marks.scale ∷ is)
+              (regroup (map Walk s.marks.walks) (map Cycle s.cycles) (map tree_item s.tree) more ys);
+        },
+      )
+  | inr m ↦ inr (m, e ∙ ap (λ l. flat_map lemma_items l ++ ys) (drop_all j (d ∷ ds) m))
+]
+
+pub lemmas_begin : (f : FrontOf) (c : Content) (j : ℕ) (item : Item) (rest : List Item) → item ∷ rest ≡ lemmas_from f c j
+    → ends_lemma item ≡ true
+lemmas_begin f c j item rest e = elim (next_lemma f.lemmas (behind c) j item rest e) [
+  | inl n ↦ ap ends_lemma n.1.item_is
+  | inr n ↦ let is : item ≡ Version c.version = (let l = n.1 in cc) in ap ends_lemma is
+]
+
+-- ---- those that are shown
+
+pub shown_more : (n : Net) (earlier : List Fact) (xs : List LemmaProof) (s : LemmaProof) → AreShownFrom n earlier xs
+    → IsShownFrom n (earlier ++ lemmas_of xs) s → AreShownFrom n earlier (xs ++ s ∷ [])
+shown_more n earlier [] s h one = let P : List Fact → Type 0 = λ fs. IsShownFrom n fs s in (subst P (append-nil earlier) one, tt)
+shown_more n earlier (x ∷ xs) s h one =
+    let P : List Fact → Type 0 = λ fs. IsShownFrom n fs s in
+    (h.0, shown_more n (earlier ++ x.fact ∷ []) xs s h.1 (subst P (sym (append_assoc earlier (x.fact ∷ []) (lemmas_of xs))) one))
+
+-- the fault of one is that of all, where those before it are shown
+pub fault_among : (n : Net) (earlier : List Fact) (xs : List LemmaProof) (j at : ℕ) (s : LemmaProof) (refusal : Refusal) → j < length xs
+    → s ≡ get_or xs j s → AreShownFrom n earlier (take j xs)
+    → IsLemmaFault n (earlier ++ lemmas_of (take j xs)) s (at + sum_by lemma_lines (take j xs)) refusal
+    → IsLemmasFault n earlier xs at refusal
+fault_among n earlier [] j at s refusal l is h f = absurd (omega arith)
+fault_among n earlier (x ∷ xs) zero at s refusal l is h f =
+    let E : List Fact → Type 0 = λ fs. IsLemmaFault n fs s at refusal in
+    let N : ℕ → Type 0 = λ i. IsLemmaFault n (earlier ++ []) s i refusal in
+    let S : LemmaProof → Type 0 = λ y. IsLemmaFault n earlier y at refusal in
+    inl (subst S is (subst E (append-nil earlier) (subst N (omega arith) f)))
+fault_among n earlier (x ∷ xs) (suc j) at s refusal l is h f =
+    let E : List Fact → Type 0 = λ fs. IsLemmaFault n fs s (at + sum_by lemma_lines (take (suc j) (x ∷ xs))) refusal in
+    let N : ℕ → Type 0 = λ i. IsLemmaFault n ((earlier ++ x.fact ∷ []) ++ lemmas_of (take j xs)) s i refusal in
+    let lines : at + sum_by lemma_lines (take (suc j) (x ∷ xs)) ≡ at + lemma_lines x + sum_by lemma_lines (take j xs) =
+    (let e = sum_by-cons lemma_lines x (take j xs) in omega (arith, e)) in
+    inr (
+      h.0,
+      fault_among n (earlier ++ x.fact ∷ []) xs j (at + lemma_lines x) s refusal (omega arith) is h.1
+          (subst N lines (subst E (sym (append_assoc earlier (x.fact ∷ []) (lemmas_of (take j xs)))) f)),
+    )

@@ -1,0 +1,24 @@
+//! Regions: parts of a network whose timetables are bounded each by itself. Inequalities that cross regions take a part of the
+//! weights of rows, by the multipliers of a root. Each region has a tree of its own over what is left of its weights. Bounds of
+//! regions add up. Nothing is promised of them but that all is found safely, and the same in each run. What is told is judged
+//! by others.
+#![tactic(auto)]
+
+mod division;
+mod joining;
+mod levels;
+mod multiplied;
+mod nested;
+mod partition;
+mod region;
+mod region_search;
+mod regions;
+mod selection;
+mod shifting;
+mod told;
+mod weights;
+
+pub use region::Region;
+pub use region_search::RegionSearch;
+pub use regions::Regions;
+pub use told::{Crossing, ToldRegion, ToldRegions};

@@ -1,0 +1,114 @@
+//! Regions beside the tree: what they show, and whose turn it is of both.
+
+use pesp_problem::Memory;
+use pesp_regions::Regions;
+use pesp_sharp_trees::Left;
+use pesp_sharpening::{Sharpened, Sharpening, Step};
+
+/// From how many rows on regions are looked at.
+const LEAST_ROWS: usize = 1_200;
+
+/// How many events the smallest and the greatest regions have at most.
+const LEAST_EVENTS: u32 = 350;
+
+const MOST_EVENTS: u32 = 1_400;
+
+/// The one that shows less has one such part of the other's work at least.
+const LEAST_PART: u64 = 8;
+
+/// Regions come first until they had such a part of the root's work.
+const FIRST_PART: u64 = 2;
+
+/// Regions stall where they gained nothing by such a part of their work before.
+const STALL_PART: u64 = 2;
+
+/// The root as it is told, the regions by its multipliers, what they show together, their work when that rose last, and the work at
+/// the root.
+#[derive(Drop)]
+pub(crate) struct Bounding {
+    pub(crate) root: Sharpened,
+    pub(crate) regions: Regions,
+    pub(crate) bound: u64,
+    gained_at: u64,
+    root_work: u64,
+}
+
+/// The regions by a root; None where there are none.
+fn regions_of(
+    left: Left<'_>,
+    sharpening: &Sharpening,
+    root: &Sharpened,
+) -> Result<Option<Regions>, Memory> {
+    let slacks = sharpening.slacks().unwrap_or(&[]);
+    Regions::new(
+        left.alloc,
+        left.network,
+        root,
+        slacks,
+        sharpening.scale(),
+        LEAST_EVENTS,
+        MOST_EVENTS,
+    )
+}
+
+impl Bounding {
+    /// The regions of a network whose root was sharpened; None where rows are few, or there are no two regions.
+    pub(crate) fn of(left: Left<'_>, sharpening: &Sharpening) -> Result<Option<Bounding>, Memory> {
+        if left.network.rows().len() < LEAST_ROWS {
+            return Ok(None);
+        }
+        let root = sharpening.sharpened()?;
+        match regions_of(left, sharpening, &root) {
+            Ok(Some(regions)) => Ok(Some(Bounding {
+                root,
+                regions,
+                bound: 0,
+                gained_at: 0,
+                root_work: sharpening.work(),
+            })),
+            Ok(None) => {
+                drop(root);
+                Ok(None)
+            }
+            Err(refused) => {
+                drop(root);
+                Err(refused)
+            }
+        }
+    }
+
+    /// Whether regions had much work since they gained last.
+    fn is_stalled(&self, own: u64) -> bool {
+        own.saturating_sub(self.gained_at) > self.gained_at / STALL_PART
+    }
+
+    /// Whether it is the regions' turn beside a tree of this bound and work. They come first. Then the one that shows more goes on,
+    /// and the other has its least part; where regions show more and stall, the tree has as much as they had.
+    pub(crate) fn is_next(&self, tree_bound: u64, tree_work: u64) -> bool {
+        let tree = tree_work.saturating_sub(self.root_work);
+        let own = self.regions.work();
+        if own < self.root_work / FIRST_PART {
+            return true;
+        }
+        if self.bound < tree_bound {
+            own.saturating_mul(LEAST_PART) < tree
+        } else if self.is_stalled(own) {
+            tree >= own
+        } else {
+            tree.saturating_mul(LEAST_PART) >= own
+        }
+    }
+
+    /// Makes a step in a region; over where nothing is left to be done.
+    pub(crate) fn step(&mut self) -> Result<Step, Memory> {
+        if !self.regions.step()? {
+            return Ok(Step::Over);
+        }
+        let bound = self.regions.bound()?;
+        if bound > self.bound {
+            self.bound = bound;
+            self.gained_at = self.regions.work();
+        }
+        Ok(Step::Made)
+    }
+}

@@ -12,7 +12,7 @@ _pesp() {
         ;;
     plan) options="--period --seconds --output --from --quiet" ;;
     solve) options="--period --steps --sharp --from --progress" ;;
-    resume) options="--period --steps --sharp --seconds --progress" ;;
+    resume) options="--period --steps --sharp --share --seconds --progress" ;;
     conflict) options="--period --steps --names" ;;
     check | split | graft) options="--period --sharp" ;;
     gap) options="--period --json" ;;
@@ -25,7 +25,7 @@ _pesp() {
     work) options="--period --steps --sharp --until" ;;
     esac
     case $before in
-    --period | --steps | --seconds | --rows | --until | --along | --fix | --lock) return ;;
+    --period | --steps | --seconds | --share | --rows | --until | --along | --fix | --lock) return ;;
     esac
     case $word in
     -*) mapfile -t COMPREPLY < <(compgen -W "$options --help" -- "$word") ;;

@@ -117,7 +117,7 @@ AnswersCertificate GapJson period instance reader writer status =
 AnswersCertificate (Resume steps seconds progress) period instance reader writer status =
     OverBase ReadsSharpBase instance.old instance.new reader.old reader.new period
     (λ p base. WritesGoneOn p base steps (IsSome seconds) (Gets writer)) × (status ≡ 0)
-AnswersCertificate (ResumeSharp steps seconds progress) period instance reader writer status =
+AnswersCertificate (ResumeSharp steps seconds progress share) period instance reader writer status =
     ResumesSharp instance.old instance.new reader.old reader.new period steps (Gets writer) × (status ≡ 0)
 AnswersCertificate Split period instance reader writer status =
     HasBase instance.old instance.new reader.old reader.new period (λ p base. WritesJobs p base (Gets writer)) × (status ≡ 0)

@@ -119,7 +119,7 @@ StopsCertificate GapJson fault period instance reader writer uncalled =
     StopsSharp fault period instance reader writer uncalled (λ p base Gets. Gets (gap_json base))
 StopsCertificate (Resume steps seconds progress) fault period instance reader writer uncalled =
     StopsSharp fault period instance reader writer uncalled (λ p base Gets. WritesGoneOn p base steps (IsSome seconds) Gets)
-StopsCertificate (ResumeSharp steps seconds progress) fault period instance reader writer uncalled =
+StopsCertificate (ResumeSharp steps seconds progress share) fault period instance reader writer uncalled =
     StopsSharp fault period instance reader writer uncalled (λ p base Gets. WritesSharpResumed p base steps Gets)
 StopsCertificate Split fault period instance reader writer uncalled =
     StopsPlain fault period instance reader writer uncalled (λ p base Gets. WritesJobs p base Gets)

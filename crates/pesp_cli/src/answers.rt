@@ -266,7 +266,7 @@ pub(crate) fn of_certificate<
     writer: &mut W,
     period: u32,
     asked: OfCertificate,
-    sharpener: F,
+    mut sharpener: F,
 ) -> Result<u8, Fault>
     requires within { CertificateWithin asked }
     requires instance_fits { FewerThan (2 ^ 62) (I.calls instance.old) }
@@ -320,7 +320,9 @@ pub(crate) fn of_certificate<
             steps,
             seconds,
             progress,
+            share,
         } => {
+            sharpener.take_share(share);
             let mut task = ResumeSharp {
                 steps,
                 sharpener,

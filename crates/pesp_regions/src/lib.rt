@@ -4,21 +4,14 @@
 //! by others.
 #![tactic(auto)]
 
-mod division;
-mod joining;
-mod levels;
-mod multiplied;
 mod nested;
-mod partition;
+mod patching;
 mod region;
 mod region_search;
 mod regions;
 mod selection;
-mod shifting;
+mod sharing;
 mod told;
-mod weights;
 
-pub use region::Region;
-pub use region_search::RegionSearch;
 pub use regions::Regions;
 pub use told::{Crossing, ToldRegion, ToldRegions};

@@ -1,11 +1,9 @@
 //! Regions of all divisions, each with the regions of the finer one that are inside it.
 
-use crate::division::Division;
-use crate::multiplied::Multiplied;
 use crate::region::{Region, Whole};
 use crate::region_search::RegionSearch;
-use crate::weights::{Units, Weights};
 use pesp_network::Network;
+use pesp_partition::{Division, Multiplied, Units, Weights};
 use pesp_problem::Memory;
 use std::alloc::{AllocError, Global};
 

@@ -1,10 +1,8 @@
 //! A region as a network of its own.
 
-use crate::division::Division;
-use crate::multiplied::Multiplied;
-use crate::weights::Weights;
 use pesp_inequalities::Pass;
 use pesp_network::{NetRow, Network};
+use pesp_partition::{Division, Multiplied, Weights};
 use pesp_problem::Memory;
 use std::alloc::{AllocError, Global};
 
@@ -13,13 +11,13 @@ use std::alloc::{AllocError, Global};
 /// whole network. The constant is to be added to costs of the network; it is the sum of weight times span of turned rows. The
 /// walks are those of the root's inequalities inside.
 #[derive(Drop)]
-pub struct Region {
-    pub rows: Vec<u32>,
-    pub turned: Vec<bool>,
-    pub network: Network,
-    pub events: Vec<u32>,
-    pub constant: i64,
-    pub walks: Vec<Vec<Pass>>,
+pub(crate) struct Region {
+    pub(crate) rows: Vec<u32>,
+    pub(crate) turned: Vec<bool>,
+    pub(crate) network: Network,
+    pub(crate) events: Vec<u32>,
+    pub(crate) constant: i64,
+    pub(crate) walks: Vec<Vec<Pass>>,
 }
 
 /// What regions are made from: the whole network, its division, the inequalities, and the weights that are left.

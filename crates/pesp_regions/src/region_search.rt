@@ -4,6 +4,7 @@ use crate::region::Region;
 use pesp_problem::Memory;
 use pesp_sharpening::{Sharpened, Sharpening, Step};
 use std::alloc::Global;
+use std::mem::replace;
 
 /// How many units of a multiplier make up one unit of a weight in a region's leaves.
 const SCALE: u32 = 8;
@@ -19,11 +20,13 @@ const HEADROOM: u64 = 8;
 
 /// A region with its tree and its root's bound, and the least known cost of its timetables.
 #[derive(Drop)]
-pub struct RegionSearch {
-    pub region: Region,
+pub(crate) struct RegionSearch {
+    pub(crate) region: Region,
     sharpening: Sharpening,
     unit: u32,
     best: Option<u64>,
+    /// The times of the least known cost, where the tree met with them and nobody has taken them yet.
+    found: Option<Vec<u32>>,
     root: u64,
     is_begun: bool,
     is_over: bool,
@@ -38,6 +41,7 @@ impl RegionSearch {
                 sharpening,
                 unit,
                 best: None,
+                found: None,
                 root: 0,
                 is_begun: false,
                 is_over: false,
@@ -49,16 +53,18 @@ impl RegionSearch {
         }
     }
 
-    /// Notes the cost of times of the region, where they are a timetable.
-    fn note(&mut self, times: &[u32]) {
+    /// Notes the cost of times of the region, where they are a timetable; whether they are the cheapest so far.
+    fn note(&mut self, times: &[u32]) -> bool {
         let network = &self.region.network;
         if !network.is_timetable(times) {
-            return;
+            return false;
         }
         let cost = network.cost_of(times);
-        if self.best.is_none_or(|best| cost < best) {
+        let is_cheaper = self.best.is_none_or(|best| cost < best);
+        if is_cheaper {
             self.best = Some(cost);
         }
+        is_cheaper
     }
 
     /// Notes the cost of times of the whole network.
@@ -75,9 +81,21 @@ impl RegionSearch {
                 return Ok(());
             };
             let times = Vec::from_slice(alloc, met)?;
-            self.note(&times);
+            if self.note(&times) {
+                self.found = Some(times);
+            }
         }
         Ok(())
+    }
+
+    /// Whether the tree met with times of the least known cost that nobody has taken.
+    pub(crate) fn has_found(&self) -> bool {
+        self.found.is_some()
+    }
+
+    /// Takes the times of the least known cost, where the tree met with them since they were taken last.
+    pub(crate) fn take_found(&mut self) -> Option<Vec<u32>> {
+        replace(&mut self.found, None)
     }
 
     /// The cost at which leaves close.
@@ -110,39 +128,29 @@ impl RegionSearch {
         self.note_met(alloc)
     }
 
-    /// Whether the root was looked at.
-    pub fn is_begun(&self) -> bool {
-        self.is_begun
+    /// Leaves the region to others.
+    pub(crate) fn leave(&mut self) {
+        self.is_over = true;
     }
 
     /// Whether nothing is left to be done.
-    pub fn is_over(&self) -> bool {
+    pub(crate) fn is_over(&self) -> bool {
         self.is_over
     }
 
     /// What no timetable of the region costs less than, in units, and no more than the least known cost.
-    pub fn bound(&self) -> u64 {
+    pub(crate) fn bound(&self) -> u64 {
         let bound = self.sharpening.bound();
         bound.min(self.best.unwrap_or(bound))
     }
 
     /// What the tree shows, in units.
-    pub fn shown(&self) -> u64 {
+    pub(crate) fn shown(&self) -> u64 {
         self.sharpening.bound()
     }
 
-    /// The bound of the root, in units.
-    pub fn root(&self) -> u64 {
-        self.root
-    }
-
-    /// The least cost that is known, in units.
-    pub fn best(&self) -> Option<u64> {
-        self.best
-    }
-
     /// How much work was done.
-    pub fn work(&self) -> u64 {
+    pub(crate) fn work(&self) -> u64 {
         self.sharpening.work()
     }
 

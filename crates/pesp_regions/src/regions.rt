@@ -1,17 +1,17 @@
 //! All regions of a network, and the bound that they show together.
 
-use crate::division::Division;
-use crate::levels::divisions_of;
-use crate::multiplied::{Multiplied, multiplied_of};
 use crate::nested::{Level, Nested, Nesting, Parted};
+use crate::patching::Patch;
 use crate::region_search::RegionSearch;
 use crate::selection::{Worth, selected, worths_of};
-use crate::shifting::shift_multipliers;
+use crate::sharing::{share_of, size_of, with_inner};
 use crate::told::{Crossing, ToldRegion, ToldRegions};
-use crate::weights::{Units, units_for};
-use pesp_forest::Frame;
 use pesp_network::Network;
+use pesp_partition::{
+    Division, Multiplied, Units, divisions_of, inequalities_of, shift_multipliers, units_for,
+};
 use pesp_problem::Memory;
+use pesp_sharpener::Share;
 use pesp_sharpening::Sharpened;
 use std::alloc::{AllocError, Global};
 
@@ -26,9 +26,6 @@ pub struct Regions {
     inequalities: Vec<Multiplied>,
     units: Units,
 }
-
-/// How many steps are made at most in a call.
-const MOST_STEPS: u32 = 10_000_000;
 
 /// No step is made where the trees of all regions have so many lines, pairs and passes of walks in all, so that a certificate of
 /// them is read whole.
@@ -143,24 +140,10 @@ fn found_of(
     found
 }
 
-/// The inequalities of a root with their multipliers.
-fn inequalities_of(
-    alloc: Global,
-    network: &Network,
-    root: &Sharpened,
-) -> Result<Vec<Multiplied>, AllocError> {
-    let frame = Frame::new(alloc, network)?;
-    let inequalities = multiplied_of(alloc, &frame, root);
-    drop(frame);
-    inequalities
-}
-
-/// The work of a region for its share, which is its rows times their root.
-fn part_of(search: &RegionSearch) -> u128 {
-    let rows = search.region.rows.len() as u128;
-    let root = rows.saturating_mul(1 << 16).isqrt();
-    let work = u128::from(search.work()).saturating_mul(1 << 40);
-    work.checked_div(rows.saturating_mul(root)).unwrap_or(work)
+/// The work of a region for its part, which is its size.
+fn part_of(region: &Nested) -> u128 {
+    let work = u128::from(region.search.work()).saturating_mul(1 << 40);
+    work.checked_div(size_of(region)).unwrap_or(work)
 }
 
 impl Regions {
@@ -215,6 +198,42 @@ impl Regions {
         }
     }
 
+    /// Leaves all regions but these, and those inside them, to others.
+    fn leave_others(&mut self, own: &[u32]) -> Result<(), AllocError> {
+        let are_own = with_inner(self.alloc, &self.nested, own)?;
+        for (region, is_own) in self.nested.iter_mut().zip(are_own.iter()) {
+            if !*is_own {
+                region.search.leave();
+            }
+        }
+        Ok(())
+    }
+
+    /// What is to be added to the bounds of these regions, where the others show what the inequalities of the root do.
+    fn outside_of_these(&self, network: &Network, own: &[u32]) -> Result<i128, Memory> {
+        let division = Division {
+            regions: self.homes(own)?,
+            sizes: Vec::new(self.alloc),
+        };
+        let parted = Parted {
+            network,
+            inequalities: &self.inequalities,
+            units: self.units,
+        };
+        let level = Level::of(self.alloc, parted, &division)?;
+        outside_of(self.alloc, parted, &Some(level))
+    }
+
+    /// Keeps the regions of a share, of those that are dealt to all shares, and leaves the others to other searches. What these have
+    /// shows what the inequalities of the root do. The network is that of the regions.
+    pub fn keep_share(&mut self, network: &Network, share: Share) -> Result<(), Memory> {
+        let own = share_of(self.alloc, &self.nested, &self.outer, share)?;
+        self.outside = self.outside_of_these(network, &own)?;
+        self.leave_others(&own)?;
+        self.outer = own;
+        Ok(())
+    }
+
     /// Notes what a timetable of the whole network costs in each region.
     pub fn offer(&mut self, times: &[u32]) -> Result<(), Memory> {
         for region in self.nested.iter_mut() {
@@ -234,12 +253,12 @@ impl Regions {
         true
     }
 
-    /// The region that is next: the one of the least work for its share.
+    /// The region that is next: the one of the least work for its part.
     fn next(&self) -> Option<usize> {
         let mut next = None;
         let mut least = 0u128;
         for (place, region) in self.nested.iter().enumerate() {
-            let part = part_of(&region.search);
+            let part = part_of(region);
             let is_open = !region.search.is_over() && self.is_ready(region);
             if is_open && (next.is_none() || part < least) {
                 next = Some(place);
@@ -272,14 +291,31 @@ impl Regions {
         Ok(true)
     }
 
-    /// Makes steps until so much work was done in all, or nothing is left to be done.
-    pub fn go_on(&mut self, work: u64) -> Result<(), Memory> {
-        for _ in 0..MOST_STEPS {
-            if self.work() >= work || !self.step()? {
-                break;
+    /// Whether a region's tree met with times that are the cheapest of the region so far, and nobody has taken them.
+    pub fn has_found(&self) -> bool {
+        self.nested.iter().any(|region| region.search.has_found())
+    }
+
+    /// The times of a timetable of the whole network, in which the cheapest times that a region's tree met with stand in the place of its
+    /// own, later by as much as is cheapest. They are taken by that. None where no tree has any, or no such times keep the rows that
+    /// lead into the region.
+    pub fn patched(
+        &mut self,
+        network: &Network,
+        times: &[u32],
+    ) -> Result<Option<Vec<u32>>, Memory> {
+        for region in self.nested.iter_mut() {
+            if let Some(own) = region.search.take_found() {
+                let patch = Patch {
+                    network,
+                    times,
+                    events: &region.search.region.events,
+                    own: &own,
+                };
+                return Ok(patch.cheapest(self.alloc)?);
             }
         }
-        Ok(())
+        Ok(None)
     }
 
     /// How much work was done.
@@ -289,21 +325,6 @@ impl Regions {
             sum = sum.saturating_add(region.search.work());
         }
         sum
-    }
-
-    /// How many regions there are.
-    pub fn count(&self) -> usize {
-        self.nested.len()
-    }
-
-    /// The search of a region.
-    pub fn search(&self, number: usize) -> Option<&RegionSearch> {
-        Some(&self.nested.get(number)?.search)
-    }
-
-    /// How many regions are inside a region.
-    pub fn inner_count(&self, number: usize) -> usize {
-        self.nested.get(number).map_or(0, |it| it.inner.len())
     }
 
     /// What no timetable costs less than, in units, by what each region is worth.
@@ -325,13 +346,8 @@ impl Regions {
         Ok(u64::try_from(bound).unwrap_or(u64::MAX))
     }
 
-    /// How many units of a cost of a region make up one.
-    pub fn unit(&self) -> u32 {
-        self.units.unit
-    }
-
     /// The numbers of the regions that show the bound.
-    pub fn selected(&self) -> Result<Vec<u32>, Memory> {
+    fn selected(&self) -> Result<Vec<u32>, Memory> {
         let worths = worths_of(self.alloc, &self.nested)?;
         Ok(selected(self.alloc, &self.nested, &worths, &self.outer)?)
     }

@@ -2,7 +2,7 @@
 use Rattle.std.specs.Prelude.{ℕ, ◌≤◌}
 use Rattle.std.specs.List.Sorted.{IsStrictlyIncreasing}
 use Rattle.pesp_problem.specs.declared.limits.TheConstants.{MOST_PERIOD, MOST_STEPS}
-use Rattle.pesp_request.specs.declared.seconds.TheConstants.{MOST_SECONDS}
+use Rattle.pesp_numbers.specs.declared.seconds.TheConstants.{MOST_SECONDS}
 use Rattle.pesp_request.specs.declared.request.OfInstance.{OfInstance}
 use Rattle.pesp_request.specs.declared.request.OfInstance.TheVariants.{Solve, SolveSharp, Plan, Conflict}
 use Rattle.pesp_request.specs.declared.request.OfCertificate.{OfCertificate}
@@ -31,7 +31,7 @@ CertificateWithin CheckSharp = Unit {0}
 CertificateWithin Gap = Unit {0}
 CertificateWithin GapJson = Unit {0}
 CertificateWithin (Resume steps seconds progress) = steps ≤ MOST_STEPS
-CertificateWithin (ResumeSharp steps seconds progress) = steps ≤ MOST_STEPS
+CertificateWithin (ResumeSharp steps seconds progress share) = steps ≤ MOST_STEPS
 CertificateWithin Split = Unit {0}
 CertificateWithin SplitSharp = Unit {0}
 

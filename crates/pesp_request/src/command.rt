@@ -8,25 +8,35 @@ use crate::options::{
     along_option, base_argument, file_argument, fix_option, from_option, graft_sharp_option,
     jobs_argument, json_option, lock_option, names_argument, names_option, optional_file,
     output_option, period_option, plan_seconds_option, progress_option, quiet_option, rows_option,
-    seconds_option, sharp_option, sharpen_option, solve_steps_option, steps_option, until_option,
-    violations_option, work_sharpen_option,
+    seconds_option, share_option, sharp_option, sharpen_option, solve_steps_option, steps_option,
+    until_option, violations_option, work_sharpen_option,
 };
 use crate::request::{
     Asked, OfCertificate, OfInstance, OfLeaves, OfTimes, OfWorks, Planning, Request,
 };
-use crate::{jobs_of, period_within, seconds_within};
 use clap::error::ErrorKind;
 use clap::{ArgMatches, Command, Error};
+use pesp_numbers::{jobs_of, period_within, rows_within, seconds_within, share_of, steps_within};
 use pesp_problem::{MOST_PERIOD, MOST_STEPS};
+use pesp_sharpener::Share;
 use std::alloc::{AllocError, Global};
 
 /// The program's version, and the versions of certificates that it writes and reads.
 const VERSION: &str =
     "0.2.0\ncertificates: versions 1, 2 and 3; solve writes version 3 with --sharp alone, and check, split, work and graft take it with --sharp alone";
 
+/// How many leaves are split where nothing is said, and where marked walks sharpen them.
+const USUAL_STEPS: u32 = 1000;
+
+const USUAL_SHARP_STEPS: u32 = 100;
+
 /// What is said of a word that names no open leaf.
 const NO_JOB: &str =
     "invalid value for '<JOB>...': neither a number from 0 to 999999 nor a range of them, as 3-17";
+
+/// What is said of a word that names no share.
+const NO_SHARE: &str =
+    "invalid value for '--share <K/N>': with --sharp alone, K from 1 to N, and N at most 10000, as 2/4";
 
 const INSTANCES: &str = "\
 An instance is one activity a line, with six fields between ';', tabs or ',':
@@ -217,6 +227,7 @@ fn resume_command<'a>(alloc: Global) -> Result<Command<'a>, AllocError> {
         "Reads a certificate from standard input, goes on with its search and writes the certificate that comes of it",
     )?
     .arg(sharpen_option(alloc))?
+    .arg(share_option(alloc))?
     .arg(solve_steps_option(alloc))?
     .arg(seconds_option(alloc))?
     .arg(progress_option(alloc))
@@ -352,27 +363,21 @@ fn period_of(matches: &ArgMatches<'_>) -> u32
 fn steps_of(matches: &ArgMatches<'_>) -> u32
     ensures { result ≤ MOST_STEPS }
 {
-    matches
-        .get_one::<u32>("steps")
-        .unwrap_or(1000)
-        .min(MOST_STEPS)
+    steps_within(matches.get_one::<u32>("steps"), USUAL_STEPS)
 }
 
 /// The steps of a search that sharpens, each of which takes longer.
 fn sharp_steps_of(matches: &ArgMatches<'_>) -> u32
     ensures { result ≤ MOST_STEPS }
 {
-    matches
-        .get_one::<u32>("steps")
-        .unwrap_or(100)
-        .min(MOST_STEPS)
+    steps_within(matches.get_one::<u32>("steps"), USUAL_SHARP_STEPS)
 }
 
 fn rows_of(matches: &ArgMatches<'_>) -> u32
     ensures least { 1 ≤ result }
     ensures most { result ≤ 1000 }
 {
-    matches.get_one::<u32>("rows").unwrap_or(100).clamp(1, 1000)
+    rows_within(matches.get_one::<u32>("rows"))
 }
 
 /// The file with the instance.
@@ -457,8 +462,8 @@ fn conflict_of<'a>(matches: &ArgMatches<'a>) -> OfInstance<'a>
     }
 }
 
-/// What the words behind `resume` ask for.
-fn resume_of(matches: &ArgMatches<'_>) -> OfCertificate
+/// What the words behind `resume` ask for, where they name this share, if any.
+fn resume_by(matches: &ArgMatches<'_>, share: Option<Share>) -> OfCertificate
     ensures { CertificateWithin result }
 {
     let seconds = matches.get_one::<u32>("seconds");
@@ -468,6 +473,7 @@ fn resume_of(matches: &ArgMatches<'_>) -> OfCertificate
             steps: sharp_steps_of(matches),
             seconds,
             progress,
+            share,
         }
     } else {
         OfCertificate::Resume {
@@ -476,6 +482,18 @@ fn resume_of(matches: &ArgMatches<'_>) -> OfCertificate
             progress,
         }
     }
+}
+
+/// What the words behind `resume` ask for; None where a word names no share, or names one without `--sharp`.
+fn resume_of<'a>(matches: &ArgMatches<'a>) -> Option<Asked<'a>>
+    ensures { IfSome result AskedWithin }
+{
+    let share = match matches.get_str("share") {
+        None => None,
+        Some(_) if !matches.get_flag("sharp") => return None,
+        Some(word) => Some(share_of(word)?),
+    };
+    Some(certificate_of(matches, resume_by(matches, share)))
 }
 
 /// What the words behind `report` ask for.
@@ -589,7 +607,7 @@ fn graft_of<'a>(matches: &ArgMatches<'a>) -> Asked<'a>
     }
 }
 
-/// What is asked by the words behind a command, other than `work`.
+/// What is asked by the words behind a command, other than `work` and `resume`.
 fn asked_by<'a>(command: &str, matches: &ArgMatches<'a>) -> Asked<'a>
     ensures { AskedWithin result }
 {
@@ -598,7 +616,6 @@ fn asked_by<'a>(command: &str, matches: &ArgMatches<'a>) -> Asked<'a>
         "conflict" => instance_of(matches, conflict_of(matches)),
         "check" => certificate_of(matches, check_of(matches)),
         "gap" => certificate_of(matches, gap_of(matches)),
-        "resume" => certificate_of(matches, resume_of(matches)),
         "split" => certificate_of(matches, split_of(matches)),
         "report" => times_of(matches, report_of(matches)),
         "timetable" => times_of(matches, timetable_of(matches)),
@@ -655,15 +672,16 @@ pub fn request_of<'a>(alloc: Global, words: &'a [String]) -> Result<Request<'a>,
     let mut command = pesp(alloc)?;
     let matches = command.try_get_matches_from_mut(words)?;
     let (name, found) = matches.subcommand().unwrap_or(("solve", &matches));
-    let asked = match name {
-        "work" => work_of(alloc, found)?,
-        _ => Some(asked_by(name, found)),
+    let (asked, wrong) = match name {
+        "work" => (work_of(alloc, found)?, NO_JOB),
+        "resume" => (resume_of(found), NO_SHARE),
+        _ => (Some(asked_by(name, found)), NO_JOB),
     };
     match asked {
         Some(asked) => Ok(Request {
             period: period_of(found),
             asked,
         }),
-        None => Err(command.error(ErrorKind::ValueValidation, NO_JOB)?),
+        None => Err(command.error(ErrorKind::ValueValidation, wrong)?),
     }
 }

@@ -55,6 +55,15 @@ pub(crate) fn seconds_option<'a>(alloc: Global) -> Arg<'a> {
     )
 }
 
+pub(crate) fn share_option<'a>(alloc: Global) -> Arg<'a> {
+    Arg::new(alloc, "share")
+        .long("share")
+        .value_name("K/N")
+        .help(
+            "With --sharp: searches one of N shares of the regions alone, and looks for no times; graft --sharp joins what comes of all",
+        )
+}
+
 pub(crate) fn plan_seconds_option<'a>(alloc: Global) -> Arg<'a> {
     number_option(alloc, "seconds", 1, 1000000)
         .default_value("60")

@@ -1,5 +1,7 @@
 //! What a command line asks for.
 
+use pesp_sharpener::Share;
+
 /// What the words of a command line ask for. The period is in the unit of the instance's durations.
 #[derive(Drop)]
 pub struct Request<'a> {
@@ -101,12 +103,13 @@ pub enum OfCertificate {
         /// Whether it is told on standard error how far the search is.
         progress: bool,
     },
-    /// The same with leaves that marked walks sharpen.
+    /// The same with leaves that marked walks sharpen; or of a share of the regions alone, where one is named.
     ResumeSharp {
         steps: u32,
         seconds: Option<u32>,
         /// Whether it is told on standard error how far the search is.
         progress: bool,
+        share: Option<Share>,
     },
     /// Its open leaves, as jobs.
     Split,

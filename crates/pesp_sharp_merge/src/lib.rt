@@ -1,5 +1,5 @@
 //! Two certificates of one instance as one: their trees are walked through together, and where they part the subtree is taken that
-//! shows more. Nothing is promised of what comes of it but that it is found safely: others judge it.
+//! shows more; or both are leaves behind lemmas, and one leaf names the lemmas of both. Nothing is promised of what comes of it but that it is found safely: others judge it.
 #![tactic(auto)]
 
 mod answers;
@@ -7,6 +7,7 @@ mod codes;
 mod common;
 mod factors;
 mod fronts;
+mod leaves;
 mod lemmas;
 mod lines;
 mod merged;
@@ -15,5 +16,6 @@ mod pairing;
 mod runs;
 mod shape;
 
+pub use leaves::merge_leaves;
 pub use merged::{Merged, merge};
 pub use pairing::Shown;

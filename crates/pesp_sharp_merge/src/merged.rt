@@ -9,7 +9,7 @@ use crate::names::Common;
 use crate::pairing::{Pairing, Shown};
 use crate::runs::{Run, Trees};
 use crate::shape::Shape;
-use pesp_cert::Fronted;
+use pesp_cert::{Certificate, Front, Fronted};
 use pesp_problem::Memory;
 use std::alloc::Global;
 
@@ -22,24 +22,24 @@ pub enum Merged {
 }
 
 /// The places of the other certificate's cycles among the first one's.
-fn common_cycles(
+pub(crate) fn common_cycles(
     alloc: Global,
-    own: Shown<'_>,
-    other: Shown<'_>,
+    own: &Certificate,
+    other: &Certificate,
 ) -> Result<Vec<Option<u32>>, Memory> {
-    let ours = codes_of_walks(alloc, own.certificate().cycles())?;
-    let theirs = codes_of_walks(alloc, other.certificate().cycles())?;
+    let ours = codes_of_walks(alloc, own.cycles())?;
+    let theirs = codes_of_walks(alloc, other.cycles())?;
     matched(alloc, &ours, &theirs)
 }
 
 /// The places of the other certificate's marked walks among the first one's.
-fn common_walks(
+pub(crate) fn common_walks(
     alloc: Global,
-    own: Shown<'_>,
-    other: Shown<'_>,
+    own: &Option<Front>,
+    other: &Option<Front>,
 ) -> Result<Vec<Option<u32>>, Memory> {
-    let ours = codes_of_marks(alloc, walks_of(own.front()))?;
-    let theirs = codes_of_marks(alloc, walks_of(other.front()))?;
+    let ours = codes_of_marks(alloc, walks_of(own))?;
+    let theirs = codes_of_marks(alloc, walks_of(other))?;
     matched(alloc, &ours, &theirs)
 }
 
@@ -62,7 +62,7 @@ fn joined(
     trees: Trees<'_>,
     runs: &[Run],
 ) -> Result<Merged, Memory> {
-    let walks = common_walks(alloc, own, other)?;
+    let walks = common_walks(alloc, own.front(), other.front())?;
     let lemmas = common_lemmas(alloc, lemmas_of(own.front()), lemmas_of(other.front()))?;
     let common = Common {
         cycles: trees.cycles,
@@ -108,7 +108,7 @@ fn shaped(
     other: Shown<'_>,
     shape: &Shape,
 ) -> Result<Merged, Memory> {
-    let cycles = common_cycles(alloc, own, other)?;
+    let cycles = common_cycles(alloc, own.certificate(), other.certificate())?;
     let others_shape = Shape::of(alloc, other.certificate().tree(), other.costs)?;
     let merged = walked(alloc, own, other, (shape, &others_shape), &cycles);
     drop(others_shape);

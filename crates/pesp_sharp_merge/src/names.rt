@@ -67,7 +67,7 @@ impl Named {
     }
 
     /// Marks what a line names.
-    fn mark_line(&mut self, line: &TreeLine) {
+    pub(crate) fn mark_line(&mut self, line: &TreeLine) {
         if let TreeLine::Offset { cycle, .. } | TreeLine::Gap(cycle) = line {
             self.mark(*cycle);
         }

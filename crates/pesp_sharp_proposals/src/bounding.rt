@@ -33,19 +33,24 @@ pub(crate) struct Bounding {
     root_work: u64,
 }
 
-/// The regions by a root; None where there are none.
+/// Whether there are so many rows that regions are looked at.
+pub(crate) fn may_have_regions(left: Left<'_>) -> bool {
+    left.network.rows().len() >= LEAST_ROWS
+}
+
+/// The regions by a root, whose multipliers are told by a scale; None where there are none.
 fn regions_of(
     left: Left<'_>,
-    sharpening: &Sharpening,
     root: &Sharpened,
+    slacks: &[i64],
+    scale: u32,
 ) -> Result<Option<Regions>, Memory> {
-    let slacks = sharpening.slacks().unwrap_or(&[]);
     Regions::new(
         left.alloc,
         left.network,
         root,
         slacks,
-        sharpening.scale(),
+        scale,
         LEAST_EVENTS,
         MOST_EVENTS,
     )
@@ -54,17 +59,30 @@ fn regions_of(
 impl Bounding {
     /// The regions of a network whose root was sharpened; None where rows are few, or there are no two regions.
     pub(crate) fn of(left: Left<'_>, sharpening: &Sharpening) -> Result<Option<Bounding>, Memory> {
-        if left.network.rows().len() < LEAST_ROWS {
+        if !may_have_regions(left) {
             return Ok(None);
         }
         let root = sharpening.sharpened()?;
-        match regions_of(left, sharpening, &root) {
+        let slacks = sharpening.slacks().unwrap_or(&[]);
+        Bounding::by_root(left, root, slacks, sharpening.scale(), sharpening.work())
+    }
+
+    /// The regions by a root, whose multipliers are told by a scale, and which took so much work, and by its slacks, in 1/65536, where
+    /// they are known; None where there are no two regions.
+    pub(crate) fn by_root(
+        left: Left<'_>,
+        root: Sharpened,
+        slacks: &[i64],
+        scale: u32,
+        root_work: u64,
+    ) -> Result<Option<Bounding>, Memory> {
+        match regions_of(left, &root, slacks, scale) {
             Ok(Some(regions)) => Ok(Some(Bounding {
                 root,
                 regions,
                 bound: 0,
                 gained_at: 0,
-                root_work: sharpening.work(),
+                root_work,
             })),
             Ok(None) => {
                 drop(root);

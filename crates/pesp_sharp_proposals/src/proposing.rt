@@ -10,7 +10,7 @@ use pesp_finder::TimesFinder;
 use pesp_problem::{Instance, Memory};
 use pesp_reduce::{Reduced, reduce};
 use pesp_sharp_trees::{Left, scale_for, scale_over};
-use pesp_sharpener::{Leaves, Pace, Proposals, SharpWatcher};
+use pesp_sharpener::{Leaves, Pace, Proposals, Share, SharpWatcher};
 use pesp_truth::Answer;
 use std::alloc::Global;
 
@@ -19,6 +19,13 @@ use std::alloc::Global;
 pub(crate) struct Proposing {
     reduced: Reduced,
     search: SharpSearch,
+}
+
+/// How a search goes on from a certificate: from some of its leaves, where these are named; or with a share of regions alone.
+#[derive(Clone, Copy)]
+pub(crate) struct Beginning<'a> {
+    pub(crate) leaves: Option<Leaves<'a>>,
+    pub(crate) share: Option<Share>,
 }
 
 /// The same leaves, to be kept.
@@ -41,28 +48,31 @@ fn from_root(left: Left<'_>, plain: &Fronted, pace: Pace) -> Result<SharpSearch,
     }
 }
 
-/// Readies a search that goes on from a certificate, or from some of its leaves.
+/// Readies a search that goes on from a certificate, or from some of its leaves; or that of a share of regions.
 fn ready_from<F: TimesFinder>(
     left: Left<'_>,
     base: &Fronted,
-    leaves: Option<Leaves<'_>>,
+    beginning: Beginning<'_>,
     search: &mut SharpSearch,
     finder: &mut F,
 ) -> Result<(), Memory>
     requires { left.reduced.now.original ≡ left.instance.now }
 {
-    if let Some(leaves) = leaves {
+    if let Some(leaves) = beginning.leaves {
         search.chosen = Some(chosen_of(left.alloc, leaves)?);
     }
     search.begin_with(left, &base.certificate)?;
-    search.begin_times(left, finder)
+    match beginning.share {
+        Some(share) => search.begin_share(left, base, share),
+        None => search.begin_times(left, finder),
+    }
 }
 
 /// A search that goes on from a certificate, or from some of its leaves.
 fn from_base<F: TimesFinder>(
     left: Left<'_>,
     base: &Fronted,
-    leaves: Option<Leaves<'_>>,
+    beginning: Beginning<'_>,
     pace: Pace,
     finder: &mut F,
 ) -> Result<SharpSearch, Memory>
@@ -70,7 +80,7 @@ fn from_base<F: TimesFinder>(
 {
     let scale = scale_over(base, left.network);
     let mut search = SharpSearch::new(left, scale, Next::Base, pace)?;
-    match ready_from(left, base, leaves, &mut search, finder) {
+    match ready_from(left, base, beginning, &mut search, finder) {
         Ok(()) => Ok(search),
         Err(refused) => {
             drop(search);
@@ -112,13 +122,14 @@ impl Proposing {
         owning(reduced, search)
     }
 
-    /// A search that goes on from a certificate, or from some of its leaves; None where its answer isn't open. From then on a finder
-    /// looks for times of what is left of the instance; it is to be handed in while this goes on.
+    /// A search that goes on from a certificate, from some of its leaves, or with a share of regions; None where its answer isn't open.
+    /// From then on a finder looks for times of what is left of the instance, unless regions alone are searched; it is to be handed in
+    /// while this goes on.
     pub(crate) fn begin_from<F: TimesFinder>(
         alloc: Global,
         instance: &Instance,
         base: &Fronted,
-        leaves: Option<Leaves<'_>>,
+        beginning: Beginning<'_>,
         pace: Pace,
         finder: &mut F,
     ) -> Result<Option<Proposing>, Memory> {
@@ -127,7 +138,7 @@ impl Proposing {
         }
         let reduced = reduce(alloc, instance)?;
         let left = Left::of(alloc, instance, &reduced);
-        let search = from_base(left, base, leaves, pace, finder);
+        let search = from_base(left, base, beginning, pace, finder);
         owning(reduced, search)
     }
 

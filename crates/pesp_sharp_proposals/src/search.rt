@@ -3,15 +3,15 @@
 ghost use Rattle.std.specs.Prelude.{◌≡◌};
 
 use crate::best::{Best, cost_of, offer, shown_by};
-use crate::bounding::Bounding;
+use crate::bounding::{Bounding, may_have_regions};
 use crate::turns::{Turn, Turns};
 use pesp_cert::{Certificate, Fronted};
 use pesp_finder::{Effort, TimesFinder};
 use pesp_judges::least_of;
 use pesp_problem::{Memory, Score, score};
 use pesp_sharp_trees::{Left, given_of};
-use pesp_sharpener::{Pace, SharpWatcher, Standing};
-use pesp_sharpening::{Sharpening, Step};
+use pesp_sharpener::{Pace, Share, SharpWatcher, Standing};
+use pesp_sharpening::{Line, Sharpened, Sharpening, Step};
 use pesp_simplex::{Improved, SimplexRefusal, improve};
 use pesp_truth::Answer;
 use std::mem::replace;
@@ -57,6 +57,8 @@ pub(crate) struct SharpSearch {
     pub(crate) has_taken_up: bool,
     pub(crate) next: Next,
     pub(crate) chosen: Option<Chosen>,
+    /// Whether regions alone are searched.
+    is_shared: bool,
     pace: Pace,
     turns: Turns,
     used: u32,
@@ -98,6 +100,29 @@ fn is_leaf_of_lemmas(base: &Fronted) -> bool {
     }
 }
 
+/// Whether a certificate is one leaf that names marked walks and no lemma.
+fn is_sharp_root(base: &Fronted) -> bool {
+    match &base.front {
+        Some(front) => front.lemmas().is_empty() && base.certificate.tree().len() == 1,
+        None => false,
+    }
+}
+
+/// The root that a certificate tells, where it tells no more.
+fn told_root(left: Left<'_>, base: &Fronted) -> Result<Option<Sharpened>, Memory> {
+    if !is_sharp_root(base) {
+        return Ok(None);
+    }
+    let root = given_of(left, base, &[])?;
+    match root.lines.first() {
+        Some(Line::Bound(_)) => Ok(Some(root)),
+        _ => {
+            drop(root);
+            Ok(None)
+        }
+    }
+}
+
 impl SharpSearch {
     /// A search by this scale, and what it does first. It knows no timetable.
     pub(crate) fn new(
@@ -114,6 +139,7 @@ impl SharpSearch {
             has_taken_up: false,
             next,
             chosen: None,
+            is_shared: false,
             pace,
             turns: Turns::new(left.network.rows().len()),
             used: 0,
@@ -150,6 +176,53 @@ impl SharpSearch {
             Some(times) => finder.take(times),
             None => Ok(()),
         }
+    }
+
+    /// Parts what is left into regions by the root that a certificate tells, or by one that is sharpened.
+    fn part_by(&mut self, left: Left<'_>, base: &Fronted) -> Result<Option<Bounding>, Memory> {
+        if !may_have_regions(left) {
+            return Ok(None);
+        }
+        if let Some(root) = told_root(left, base)? {
+            let scale = self.sharpening.scale();
+            return Bounding::by_root(left, root, &[], scale, 0);
+        }
+        let cost = self.cost();
+        self.sharpening.look_at_root(cost)?;
+        Bounding::of(left, &self.sharpening)
+    }
+
+    /// Tells regions of the best timetable.
+    fn offer_best(&mut self, left: Left<'_>) -> Result<(), Memory>
+        requires { left.reduced.now.original ≡ left.instance.now }
+    {
+        let Some(best) = &self.best else {
+            return Ok(());
+        };
+        match lowered(left, &best.times)? {
+            Some(times) => self.offer_regions(&times),
+            None => Ok(()),
+        }
+    }
+
+    /// Has a share of the regions searched alone, without a look at the tree and for times.
+    pub(crate) fn begin_share(
+        &mut self,
+        left: Left<'_>,
+        base: &Fronted,
+        share: Share,
+    ) -> Result<(), Memory>
+        requires { left.reduced.now.original ≡ left.instance.now }
+    {
+        self.is_shared = true;
+        self.next = Next::Leaves;
+        let bounding = self.part_by(left, base)?;
+        drop(replace(&mut self.bounding, bounding));
+        let Some(bounding) = &mut self.bounding else {
+            return Ok(());
+        };
+        bounding.regions.keep_share(left.network, share)?;
+        self.offer_best(left)
     }
 
     /// The cost of the best timetable so far.
@@ -282,12 +355,12 @@ impl SharpSearch {
         Ok(Step::Readied)
     }
 
-    /// Makes what is left of the first batch where a search of so many steps ends and is open.
+    /// Makes what is left of the first batch where a search of so many steps ends and is open, unless regions alone are searched.
     fn end_times<F: TimesFinder>(&mut self, left: Left<'_>, finder: &mut F) -> Result<(), Memory> {
         let Pace::Steps { .. } = self.pace else {
             return Ok(());
         };
-        if self.is_shown() {
+        if self.is_shared || self.is_shown() {
             return Ok(());
         }
         self.end_first(left, finder)
@@ -341,6 +414,53 @@ impl SharpSearch {
         }
     }
 
+    /// The best times that a finder has, with the cheapest that a region met with in the place of its own, made cheaper; None where there
+    /// are none.
+    fn patched<F: TimesFinder>(
+        &mut self,
+        left: Left<'_>,
+        finder: &F,
+    ) -> Result<Option<Vec<u32>>, Memory> {
+        let Some(bounding) = &mut self.bounding else {
+            return Ok(None);
+        };
+        if !bounding.regions.has_found() {
+            return Ok(None);
+        }
+        let Some(times) = finder.best()? else {
+            return Ok(None);
+        };
+        let patched = bounding.regions.patched(left.network, &times)?;
+        improved(left, patched.as_ref())
+    }
+
+    /// Takes up the timetable that comes of what a region met with.
+    fn take_patched<F: TimesFinder>(
+        &mut self,
+        left: Left<'_>,
+        finder: &mut F,
+    ) -> Result<(), Memory> {
+        match self.patched(left, finder)? {
+            Some(better) => self.take(left, better, finder),
+            None => Ok(()),
+        }
+    }
+
+    /// Makes a step in a region of the share; over where nothing is left to be done in these.
+    fn step_in_share(&mut self) -> Result<Step, Memory> {
+        if self.is_shown() {
+            return Ok(Step::Over);
+        }
+        let Some(bounding) = &mut self.bounding else {
+            return Ok(Step::Over);
+        };
+        let step = bounding.step()?;
+        if step == Step::Made {
+            self.used = self.used.saturating_add(1);
+        }
+        Ok(step)
+    }
+
     /// Whether the bound that is shown reaches the cost of the best timetable.
     fn is_shown(&self) -> bool {
         self.bound() >= self.cost().unwrap_or(u64::MAX)
@@ -353,6 +473,7 @@ impl SharpSearch {
             return Ok(Step::Over);
         }
         if let Some(step) = self.step_in_region()? {
+            self.take_patched(left, finder)?;
             return self.counted(left, step, finder);
         }
         let limit = self.limit();
@@ -427,9 +548,11 @@ impl SharpSearch {
         Ok(step)
     }
 
-    /// Goes on by what is next: a turn, where there is no limit or the first batch isn't over; else a step of the tree.
+    /// Goes on by what is next: a step in a region, where these alone are searched; a turn, where there is no limit or the first batch
+    /// isn't over; else a step of the tree.
     fn advance<F: TimesFinder>(&mut self, left: Left<'_>, finder: &mut F) -> Result<Step, Memory> {
         match self.pace {
+            _ if self.is_shared => self.step_in_share(),
             Pace::Steps { .. } if !finder.owes_first() => self.step(left, finder),
             _ => self.take_turn(left, finder),
         }

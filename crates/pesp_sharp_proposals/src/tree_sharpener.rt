@@ -1,12 +1,12 @@
 //! What proposes, beside what finds timetables.
 
-use crate::proposing::Proposing;
+use crate::proposing::{Beginning, Proposing};
 use pesp_cert::Fronted;
 use pesp_finder::{Effort, TimesFinder};
 use pesp_network::Network;
 use pesp_problem::{Instance, Memory};
 use pesp_reduce::Reduced;
-use pesp_sharpener::{Leaves, Pace, Proposals, SharpWatcher, Sharpener};
+use pesp_sharpener::{Leaves, Pace, Proposals, Share, SharpWatcher, Sharpener};
 use pesp_truth::Answer;
 use std::alloc::Global;
 use std::mem::replace;
@@ -15,6 +15,8 @@ use std::mem::replace;
 #[derive(Drop)]
 pub struct TreeSharpener<F> {
     finder: F,
+    /// The share of regions that is searched alone, where one is named.
+    share: Option<Share>,
     /// The search that has begun, where one has that had something to find.
     proposing: Option<Proposing>,
 }
@@ -24,6 +26,7 @@ impl<F: Drop> TreeSharpener<F> {
     pub fn new(finder: F) -> TreeSharpener<F> {
         TreeSharpener {
             finder,
+            share: None,
             proposing: None,
         }
     }
@@ -101,6 +104,10 @@ impl<F: TimesFinder> Sharpener for TreeSharpener<F> {
         Ok(())
     }
 
+    fn take_share(&mut self, share: Option<Share>) {
+        self.share = share;
+    }
+
     fn sharpen_from(
         &mut self,
         alloc: Global,
@@ -110,8 +117,12 @@ impl<F: TimesFinder> Sharpener for TreeSharpener<F> {
         pace: Pace,
     ) -> Result<(), Memory> {
         self.turn_to(None);
+        let beginning = Beginning {
+            leaves,
+            share: self.share,
+        };
         let finder = &mut self.finder;
-        let proposing = Proposing::begin_from(alloc, instance, base, leaves, pace, finder)?;
+        let proposing = Proposing::begin_from(alloc, instance, base, beginning, pace, finder)?;
         self.turn_to(proposing);
         Ok(())
     }

@@ -155,7 +155,11 @@ fn chosen(
 }
 
 /// A valid certificate with the answer that its tree shows beside its times.
-fn told_in_full(alloc: Global, instance: &Instance, found: Fronted) -> Result<Fronted, Memory>
+pub(crate) fn told_in_full(
+    alloc: Global,
+    instance: &Instance,
+    found: Fronted,
+) -> Result<Fronted, Memory>
     requires { IsValidBehind found.front instance.now found.content }
     ensures { IfOk result (IsRetold instance.now found) }
 {

@@ -1,19 +1,20 @@
 //! Works that are grafted onto a certificate whose leaves may name marked walks.
 
-ghost use Rattle.std.specs.Prelude.{◌≡◌, ◌↔◌, ◌≤◌, ◌^◌, ℕ, List, false, length, IfOk, IsTrue};
+ghost use Rattle.std.specs.Prelude.{◌≡◌, ◌↔◌, ◌≤◌, ◌^◌, ℕ, List, false, length, IfOk, IfSome, IsTrue};
 ghost use Rattle.pesp_problem.specs.Timetables.{Pesp};
 ghost use Rattle.pesp_lemma.specs.Fronts.{IsValidBehind};
 ghost use Rattle.pesp_cert.specs.Fronted.{IsFrontedText};
 ghost use Rattle.pesp_sharp_search.specs.Solving.{IsNoWorse};
 ghost use Rattle.pesp_sharp_search.specs.Grafts.{TakesSharpWork, IsSharpGrafted};
 
+use crate::choice::told_in_full;
 use crate::is_no_worse;
 use crate::joined_texts::cut_work;
 use pesp_cert::{CertRefusal, Fronted, parse_fronted};
 use pesp_check::{check_sharp, costs_shown};
 use pesp_judges::{Refusal, Verdict};
 use pesp_problem::{Instance, Memory};
-use pesp_sharp_merge::{Merged, Shown, merge};
+use pesp_sharp_merge::{Merged, Shown, merge, merge_leaves};
 use std::alloc::Global;
 
 /// What became of a work.
@@ -122,6 +123,73 @@ fn take_joined(
     }
 }
 
+/// A certificate with the answer that its tree shows, where the checker accepts it; None where it doesn't.
+fn judged(alloc: Global, instance: &Instance, found: Fronted) -> Result<Option<Fronted>, Memory>
+    ensures { IfOk result (λ told. IfSome told (λ c. IsValidBehind c.front instance.now c.content)) }
+{
+    match check_sharp(alloc, instance, &found) {
+        Ok(Verdict::Accepted) => Ok(Some(told_in_full(alloc, instance, found)?)),
+        Ok(Verdict::Refused(_)) => {
+            drop(found);
+            Ok(None)
+        }
+        Err(refused) => {
+            drop(found);
+            Err(refused)
+        }
+    }
+}
+
+/// Puts one leaf that names the lemmas of a valid certificate and of a work in the place of the first, where both are leaves behind
+/// lemmas, and it is valid and no worse than either; whether it did.
+fn take_lemmas(
+    alloc: Global,
+    instance: &Instance,
+    stood: &mut Fronted,
+    work: &Fronted,
+) -> Result<bool, Memory>
+    ensures joined { IfOk result (λ taken. IsTrue taken
+        → IsValidBehind stood.new.front instance.now stood.new.content
+        × IsNoWorse stood.old.content.answer stood.new.content.answer
+        × IsNoWorse work.now.content.answer stood.new.content.answer) }
+    ensures kept { IfOk result (λ taken. taken ≡ false → stood.new ≡ stood.old) }
+{
+    let Some(found) = merge_leaves(alloc, stood, work)? else {
+        return Ok(false);
+    };
+    let Some(both) = judged(alloc, instance, found)? else {
+        return Ok(false);
+    };
+    if shows_as_much(&both, stood) && shows_as_much(&both, work) {
+        *stood = both;
+        Ok(true)
+    } else {
+        drop(both);
+        Ok(false)
+    }
+}
+
+/// Puts what comes of a valid certificate and a work in the place of the first, by their lemmas or by their trees.
+fn take_both(
+    alloc: Global,
+    instance: &Instance,
+    stood: &mut Fronted,
+    work: &Fronted,
+) -> Result<bool, Memory>
+    requires stood { IsValidBehind stood.old.front instance.now stood.old.content }
+    requires work { IsValidBehind work.now.front instance.now work.now.content }
+    ensures joined { IfOk result (λ taken. IsTrue taken
+        → IsValidBehind stood.new.front instance.now stood.new.content
+        × IsNoWorse stood.old.content.answer stood.new.content.answer
+        × IsNoWorse work.now.content.answer stood.new.content.answer) }
+    ensures kept { IfOk result (λ taken. taken ≡ false → stood.new ≡ stood.old) }
+{
+    if take_lemmas(alloc, instance, stood, work)? {
+        return Ok(true);
+    }
+    take_joined(alloc, instance, stood, work)
+}
+
 /// Takes a valid work alone in the place of a valid certificate, where it is no worse.
 fn take_alone(stood: &mut Fronted, work: Fronted) -> SharpReply
     ensures { (p : Pesp) (text : List ℕ) → IsValidBehind work.front p work.content → IsFrontedText text work
@@ -152,7 +220,7 @@ fn take_valid(
     requires text { IsFrontedText text.now work }
     ensures { IfOk result (λ reply. TakesSharpWork instance.now stood.old text.now reply stood.new) }
 {
-    match take_joined(alloc, instance, stood, &work) {
+    match take_both(alloc, instance, stood, &work) {
         Ok(true) => {
             drop(work);
             Ok(SharpReply::Taken)

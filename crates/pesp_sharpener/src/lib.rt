@@ -5,11 +5,13 @@
 mod leaves;
 mod pace;
 mod proposals;
+mod share;
 mod sharpener;
 mod standing;
 
 pub use leaves::Leaves;
 pub use pace::Pace;
 pub use proposals::Proposals;
+pub use share::Share;
 pub use sharpener::Sharpener;
 pub use standing::{SharpWatcher, Standing, Unwatched};

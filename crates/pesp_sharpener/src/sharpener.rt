@@ -3,6 +3,7 @@
 use crate::leaves::Leaves;
 use crate::pace::Pace;
 use crate::proposals::Proposals;
+use crate::share::Share;
 use crate::standing::SharpWatcher;
 use pesp_cert::Fronted;
 use pesp_finder::TimesFinder;
@@ -24,6 +25,10 @@ pub trait Sharpener: TimesFinder {
         reduced: Reduced,
         pace: Pace,
     ) -> Result<(), Memory>;
+
+    /// From now on searches that go on from a certificate search regions alone, those of this share, and look for no times; where
+    /// none is named they search all.
+    fn take_share(&mut self, share: Option<Share>);
 
     /// From now on it searches on from a certificate, or from some of its leaves, and looks for times of what is left of the
     /// instance.

@@ -5,6 +5,7 @@ use pesp_cases::words_of;
 use pesp_request::{
     Asked, OfCertificate, OfInstance, OfLeaves, OfTimes, OfWorks, Planning, Request, request_of,
 };
+use pesp_sharpener::Share;
 use std::alloc::Global;
 
 fn add_word(alloc: Global, words: &mut Vec<String>, word: &str) -> Option<()> {
@@ -201,6 +202,15 @@ fn with_walks(told: String) -> Option<String> {
     Some(told)
 }
 
+/// The same of a share of the regions alone, where one is named.
+fn with_share(told: String, share: Option<Share>) -> Option<String> {
+    let mut told = told;
+    if let Some(Share { number, of }) = share {
+        write!(told, ", share {number} of {of}").ok()?;
+    }
+    Some(told)
+}
+
 /// What is asked of an instance.
 fn tell_of_instance(
     alloc: Global,
@@ -247,7 +257,11 @@ fn tell_of_certificate(
             steps,
             seconds,
             progress,
-        } => { with_walks(tell_resume(alloc, period, steps, seconds, progress, file)?) }
+            share,
+        } => {
+            let told = tell_resume(alloc, period, steps, seconds, progress, file)?;
+            with_share(with_walks(told)?, share)
+        }
         OfCertificate::Split => tell_file(alloc, "split", period, file),
         OfCertificate::SplitSharp => tell_file(alloc, "split with a front", period, file),
     }

@@ -2,18 +2,19 @@
 
 use pesp_forest::Frame;
 use pesp_inequalities::{Inequality, Pass};
+use pesp_network::Network;
 use pesp_sharpening::{Leaf, Line, Sharpened};
 use std::alloc::{AllocError, Global};
 
 /// An inequality of a root, by its number among the walks that are told. The multiplier is in units of the root's scale. The gain
 /// is what its weighted distances are at least. Its events are each there once.
 #[derive(Drop)]
-pub(crate) struct Multiplied {
-    pub(crate) walk: u32,
-    pub(crate) inequality: Inequality,
-    pub(crate) multiplier: i64,
-    pub(crate) gain: i64,
-    pub(crate) events: Vec<u32>,
+pub struct Multiplied {
+    pub walk: u32,
+    pub inequality: Inequality,
+    pub multiplier: i64,
+    pub gain: i64,
+    pub events: Vec<u32>,
 }
 
 /// What the weighted distances of an inequality are at least. Flipped rows add to what its terms are at least.
@@ -96,7 +97,7 @@ fn with_multiplier(
 }
 
 /// The inequalities of a root's leaf with their multipliers; none where the tree isn't one bound leaf.
-pub(crate) fn multiplied_of(
+fn multiplied_of(
     alloc: Global,
     frame: &Frame,
     root: &Sharpened,
@@ -113,9 +114,21 @@ pub(crate) fn multiplied_of(
     Ok(list)
 }
 
+/// The inequalities of the root of a network with their multipliers; none where its tree isn't one bound leaf.
+pub fn inequalities_of(
+    alloc: Global,
+    network: &Network,
+    root: &Sharpened,
+) -> Result<Vec<Multiplied>, AllocError> {
+    let frame = Frame::new(alloc, network)?;
+    let inequalities = multiplied_of(alloc, &frame, root);
+    drop(frame);
+    inequalities
+}
+
 impl Multiplied {
     /// What it adds to the bound of the root by its distances.
-    pub(crate) fn share(&self) -> u128 {
+    pub fn share(&self) -> u128 {
         let multiplier = u128::try_from(self.multiplier).unwrap_or(0);
         multiplier.saturating_mul(u128::try_from(self.gain).unwrap_or(0))
     }

@@ -10,9 +10,9 @@ const LEAST_ROWS: u32 = 40;
 /// The region of each row, and how many rows each region has. A row has none where its ends are in two parts, or its part has few
 /// rows.
 #[derive(Drop)]
-pub(crate) struct Division {
-    pub(crate) regions: Vec<Option<u32>>,
-    pub(crate) sizes: Vec<u32>,
+pub struct Division {
+    pub regions: Vec<Option<u32>>,
+    pub sizes: Vec<u32>,
 }
 
 /// The part of a row, where both of its ends are in one.
@@ -56,11 +56,7 @@ fn numbers_of(
 
 impl Division {
     /// The division of rows by the parts of events.
-    pub(crate) fn of(
-        alloc: Global,
-        labels: &[u32],
-        rows: &[NetRow],
-    ) -> Result<Division, AllocError> {
+    pub fn of(alloc: Global, labels: &[u32], rows: &[NetRow]) -> Result<Division, AllocError> {
         let counts = counts_of(alloc, labels, rows)?;
         let mut sizes = Vec::new(alloc);
         let numbers = numbers_of(alloc, &counts, &mut sizes)?;
@@ -76,17 +72,17 @@ impl Division {
     }
 
     /// The region of a row.
-    pub(crate) fn of_row(&self, row: u32) -> Option<u32> {
+    pub fn of_row(&self, row: u32) -> Option<u32> {
         self.regions.get(row as usize).copied().unwrap_or(None)
     }
 
     /// How many regions there are.
-    pub(crate) fn count(&self) -> u32 {
+    pub fn count(&self) -> u32 {
         u32::try_from(self.sizes.len()).unwrap_or(u32::MAX)
     }
 
     /// The region that has all rows of an inequality; None where it crosses.
-    pub(crate) fn home(&self, inequality: &Multiplied) -> Option<u32> {
+    pub fn home(&self, inequality: &Multiplied) -> Option<u32> {
         let mut home = None;
         for pass in &inequality.inequality.passes {
             let region = self.of_row(pass.row)?;

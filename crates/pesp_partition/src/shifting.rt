@@ -92,7 +92,7 @@ fn shift_in(
 }
 
 /// Seeks the multipliers anew from slacks in 1/65536.
-pub(crate) fn shift_multipliers(
+pub fn shift_multipliers(
     alloc: Global,
     network: &Network,
     divisions: &[Division],

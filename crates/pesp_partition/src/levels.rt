@@ -61,7 +61,7 @@ fn add_divisions(
 
 /// Divisions whose regions have at most so many events, twice as many, and so on. The last one has one region, or regions of the
 /// most events that are asked for.
-pub(crate) fn divisions_of(
+pub fn divisions_of(
     alloc: Global,
     network: &Network,
     inequalities: &[Multiplied],

@@ -1,5 +1,5 @@
 use Rattle.std.proofs.Common.{rules}
-use Rattle.pesp_request.proofs.seconds.seconds_within.Goals as goal
+use Rattle.pesp_numbers.proofs.rows.rows_within.Goals as goal
 
 pub returns-clause-least : goal.returns-clause-least
 returns-clause-least c = search rules

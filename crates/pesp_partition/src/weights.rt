@@ -10,15 +10,15 @@ const MOST_WEIGHT: i128 = 1_000_000_000;
 
 /// The units of weights. So many units make up one, and so many parts of the scale make up a unit.
 #[derive(Clone, Copy)]
-pub(crate) struct Units {
-    pub(crate) unit: u32,
-    pub(crate) factor: u32,
-    pub(crate) scale: u32,
+pub struct Units {
+    pub unit: u32,
+    pub factor: u32,
+    pub scale: u32,
 }
 
 impl Units {
     /// A multiplier of the scale in units.
-    pub(crate) fn converted(self, multiplier: i64) -> i64 {
+    pub fn converted(self, multiplier: i64) -> i64 {
         let scale = i128::from(self.scale).max(1);
         let product = i128::from(multiplier).saturating_mul(i128::from(self.unit));
         let raised = product.saturating_add(scale >> 1);
@@ -28,8 +28,8 @@ impl Units {
 
 /// The weights of rows, less what crossing inequalities take.
 #[derive(Drop)]
-pub(crate) struct Weights {
-    pub(crate) rows: Vec<i128>,
+pub struct Weights {
+    pub rows: Vec<i128>,
 }
 
 /// The amount of a weight.
@@ -62,7 +62,7 @@ fn whole_weights(alloc: Global, rows: &[NetRow], units: Units) -> Result<Vec<i12
 
 impl Weights {
     /// The weights that crossing inequalities leave, in units.
-    pub(crate) fn of(
+    pub fn of(
         alloc: Global,
         rows: &[NetRow],
         division: &Division,
@@ -113,7 +113,7 @@ fn factor_for(
 }
 
 /// Units by which no weight inside a region is too great for a network.
-pub(crate) fn units_for(
+pub fn units_for(
     alloc: Global,
     rows: &[NetRow],
     divisions: &[Division],

@@ -394,6 +394,7 @@ fn sharp_of(
         Some(bounding) if bounding.bound > search.sharpening.bound() => {
             region_fronted(left, bounding, &search.best)
         }
+        _ if search.is_shared => Ok(None),
         _ => tree_fronted(left, search, base),
     }
 }

@@ -58,7 +58,7 @@ pub(crate) struct SharpSearch {
     pub(crate) next: Next,
     pub(crate) chosen: Option<Chosen>,
     /// Whether regions alone are searched.
-    is_shared: bool,
+    pub(crate) is_shared: bool,
     pace: Pace,
     turns: Turns,
     used: u32,

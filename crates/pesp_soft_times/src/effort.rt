@@ -59,7 +59,7 @@ impl SoftEffort {
             401..=700 => (2, 4, 250, 300, 200, 1),
             701..=2_500 => (1, 3, 3_000, 400, 500, 2),
             2_501..=MANY_ROWS if is_dense(network) => (1, 1, 6_000, 600, 500, 1),
-            2_501..=MANY_ROWS => (1, 1, 1_500, 1_000, 500, 1),
+            2_501..=MANY_ROWS => (1, 1, 1_000, 600, 400, 1),
             8_001..=30_000 => (1, 1, 600, 600, 300, 1),
             _ => (1, 1, 200, 200, 100, 0),
         };
@@ -75,6 +75,16 @@ impl SoftEffort {
             again,
             quiet: 1,
         })
+    }
+
+    /// The same with two thirds of the sweeps: for a batch that others do their work beside.
+    pub fn shorter(&self) -> SoftEffort {
+        SoftEffort {
+            sweeps: self.sweeps / 3 * 2,
+            between: self.between / 3 * 2,
+            again: self.again / 3 * 2,
+            ..*self
+        }
     }
 
     /// Whether new individuals are made.

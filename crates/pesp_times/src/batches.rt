@@ -66,7 +66,8 @@ impl Search {
         let number = self.pieces.batches;
         self.pieces.batches = number.saturating_add(1);
         if number == 0 {
-            return self.begin_batch(network, Work::first(rows), SoftEffort::first(network));
+            let (work, soft) = (self.first_work(network), self.first_softly(network));
+            return self.begin_batch(network, work, soft);
         }
         let steps = FIRST_STEPS << number.min(MOST_DOUBLED);
         let soft = Some(SoftEffort::after(rows, steps));

@@ -2,7 +2,7 @@
 
 use crate::kinds::{Kinds, Start};
 use crate::pieces::Pieces;
-use crate::work::{Work, may_win};
+use crate::work::{FEW, Work, may_win};
 use pesp_finder::Effort;
 use pesp_forest::Frame;
 use pesp_network::Network;
@@ -152,6 +152,35 @@ impl Search {
     fn begin_whole(&mut self, network: &Network) -> Result<(), Memory> {
         self.begin_next(network)?;
         self.end_pieces(network)
+    }
+
+    /// Whether the first batch has less work: there are many rows, and it is made piece by piece beside the work of others.
+    fn is_lighter(&self, network: &Network) -> bool {
+        self.effort == Effort::Short && network.rows().len() > FEW
+    }
+
+    /// The work of the first batch; no timetable with spans held where it has less.
+    pub(crate) fn first_work(&self, network: &Network) -> Work {
+        let work = Work::first(network.rows().len());
+        if self.is_lighter(network) {
+            Work {
+                fours: 0,
+                close: 0,
+                ..work
+            }
+        } else {
+            work
+        }
+    }
+
+    /// That of the search in which spans may be broken.
+    pub(crate) fn first_softly(&self, network: &Network) -> Option<SoftEffort> {
+        let effort = SoftEffort::first(network)?;
+        if self.is_lighter(network) {
+            Some(effort.shorter())
+        } else {
+            Some(effort)
+        }
     }
 
     /// Whether the first batch is made piece by piece and isn't over.

@@ -4,7 +4,6 @@ use Rattle.std.specs.List.{slice_get}
 use Rattle.pesp_queue.specs.declared.entry.Entry.{Entry}
 use Rattle.pesp_queue.specs.Entries.{entry, ItemsDiffer}
 
--- the items that wait and those that are parked, each with its value
 pub record QueueValue : Type 0 where
   pub waiting : List Entry
   pub parked : List Entry

@@ -25,6 +25,7 @@ abbrev pub after : Line → Node → List Node → List Node
 after (EndLine leaf) node nodes = nodes
 after (CutLine cut) node nodes = low_part node cut ∷ high_part node cut ∷ nodes
 
+-- the nodes that wait after a line, of a list that may be empty
 abbrev pub after_first : Line → List Node → List Node
 after_first line [] = []
 after_first line (node ∷ nodes) = after line node nodes

@@ -34,6 +34,7 @@ abbrev pub part_line : Part → Line
 part_line (CutPart cut) = CutLine cut
 part_line (LeafPart part) = EndLine (leaf_of part.leaf)
 
+-- the lines of parts, in order
 abbrev pub part_lines : List Part → List Line
 part_lines parts = map part_line parts
 

@@ -23,6 +23,7 @@ abbrev pub IsShift : Net → List (List SignedRow) → Node → ℕ → ℤ × �
 IsShift n table node owner shift = ((owner ≡ 0) × (shift ≡ (pos 0, pos 0)))
     ⊎ ((0 < owner) × (offsets_left n table node (owner - 1) ≡ Some shift))
 
+-- the offsets by which the row at place i is shifted
 abbrev pub shift_at : List (ℤ × ℤ) → ℕ → ℤ × ℤ
 shift_at shifts i = slice_index_or shifts i (pos 0, pos 0)
 
@@ -37,6 +38,7 @@ rise_bound period arc slacks shift plus =
     if plus then arc.lower +ℤ pos slacks.1 -ℤ pos period *ℤ shift.0
     else pos period *ℤ shift.1 -ℤ (arc.lower +ℤ pos slacks.0)
 
+-- the most by which levels may rise along a signed row, by its slack range and its shift
 abbrev pub bound_of : Net → List (ℕ × ℕ) → List (ℤ × ℤ) → SignedRow → ℤ
 bound_of n slacks shifts s = rise_bound n.period (arc_at n.arcs (s.row - 1)) (slack_range slacks (s.row - 1))
     (shift_at shifts (s.row - 1)) s.plus
@@ -52,6 +54,7 @@ pub record IsDemand (n : Net) (slacks : List (ℕ × ℕ)) (shifts : List (ℤ �
 abbrev pub no_signed : SignedRow
 no_signed = record { row = 0; plus = false }
 
+-- the signed row at a place, from 0
 abbrev pub signed_at : List SignedRow → ℕ → SignedRow
 signed_at rows k = slice_index_or rows k no_signed
 

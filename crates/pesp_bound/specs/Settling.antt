@@ -25,6 +25,7 @@ AreWithin events most edges = (k : ℕ) → k < length edges
 abbrev pub Settles : List Edge → (ℕ → ℕ) → ℕ → Type 0
 Settles edges h k = h (edge_at edges k).finish + (edge_at edges k).gain ≤ h (edge_at edges k).start + (edge_at edges k).loss
 
+-- the levels settle each edge
 abbrev pub AreSettled : List Edge → (ℕ → ℕ) → Type 0
 AreSettled edges h = (k : ℕ) → k < length edges → Settles edges h k
 
@@ -33,10 +34,12 @@ abbrev pub IsWay : List Edge → ℕ → List ℕ → ℕ → Type 0
 IsWay edges a [] b = a ≡ b
 IsWay edges a (k ∷ way) b = (k < length edges) × ((edge_at edges k).start ≡ a) × IsWay edges (edge_at edges k).finish way b
 
+-- what the edges of a way gain in all
 abbrev pub gains : List Edge → List ℕ → ℕ
 gains edges [] = 0
 gains edges (k ∷ way) = (edge_at edges k).gain + gains edges way
 
+-- what the edges of a way lose in all
 abbrev pub losses : List Edge → List ℕ → ℕ
 losses edges [] = 0
 losses edges (k ∷ way) = (edge_at edges k).loss + losses edges way

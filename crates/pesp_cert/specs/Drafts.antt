@@ -13,9 +13,11 @@ use Rattle.pesp_cert.specs.declared.refusal.CertRefusal.TheVariants as refusals
 use Rattle.pesp_cert_lines.specs.declared.item.Item.{Item}
 use Rattle.pesp_cert_lines.specs.declared.item.Item.TheVariants.{Front, Scale, Walk, Lemma, Least, Version, Period, Answer as Says, Time, Cycle, Slack, Offset, Bound, Nothing, Gap, Propagated, End}
 
+-- a certificate of which nothing was said yet
 abbrev pub blank : Content
 blank = record { version = 0; period = 0; answer = Infeasible; times = []; cycles = []; tree = [] }
 
+-- a certificate with one line of the tree more
 abbrev pub with_line : Content → TreeLine → Content
 with_line c line = record c { tree = c.tree ++ line ∷ [] }
 
@@ -45,6 +47,7 @@ added c End = c
 abbrev pub with_rows : List Pair → LemmaProof
 with_rows ps = record { fact = record { weights = ps; least = pos 0 }; marks = record { scale = 0; walks = [] }; cycles = []; tree = [] }
 
+-- a lemma with one line of its tree more
 abbrev pub with_step : LemmaProof → TreeLine → LemmaProof
 with_step s line = record s { tree = s.tree ++ line ∷ [] }
 
@@ -72,6 +75,7 @@ pub record FrontValue : Type 0 where
   pub lemmas : List LemmaProof
   pub shown : Option LemmaProof
 
+-- a front of which nothing was said yet
 abbrev pub no_front : FrontValue
 no_front = record { begun = false; scale = 0; walks = []; lemmas = []; shown = None }
 
@@ -98,6 +102,7 @@ noted f (Lemma ps) = record f { lemmas = lemmas_with f.lemmas f.shown; shown = S
 noted f (Version n) = record f { lemmas = lemmas_with f.lemmas f.shown; shown = None }
 noted f item = noted_at f f.shown item
 
+-- what was said of the front so far, and what all these items say of it
 abbrev pub all_noted : FrontValue → List Item → FrontValue
 all_noted f [] = f
 all_noted f (item ∷ items) = all_noted (noted f item) items
@@ -113,6 +118,7 @@ abbrev pub added_behind : Option LemmaProof → Content → Item → Content
 added_behind None c item = added c item
 added_behind (Some s) c item = c
 
+-- what was said of the certificate's own parts so far, and what all these items say of them
 abbrev pub all_added : FrontValue → Content → List Item → Content
 all_added f c [] = c
 all_added f c (item ∷ items) = all_added (noted f item) (added_behind (noted f item).shown c item) items

@@ -8,12 +8,15 @@ use Rattle.pesp_nets.specs.declared.marked.MarkedRow.{MarkedRow}
 use Rattle.pesp_cert_lines.specs.Marked.{star}
 use Rattle.pesp_cert.specs.Print.{pairs_text, cycle_line, tree_line}
 
+-- a marked row behind a space: a sign, a number, and `*` where the row is flipped
 abbrev pub row_text : MarkedRow → List ℕ
 row_text s = ((if s.signed.plus then codes " +" else codes " -") ++ decimal s.signed.row) ++ star s.flipped
 
+-- the marked rows of a walk, one behind the other
 abbrev pub rows_text : List MarkedRow → List ℕ
 rows_text walk = flat_map row_text walk
 
+-- the line of a marked walk
 abbrev pub walk_text : List MarkedRow → List ℕ
 walk_text walk = (codes "walk" ++ rows_text walk) ++ codes "\n"
 

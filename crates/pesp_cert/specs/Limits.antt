@@ -23,11 +23,13 @@ abbrev pub is_cost : Option ℕ → Bool
 is_cost None = true
 is_cost (Some c) = nat_lt c NATURALS
 
+-- the bound and the cost of an answer have at most 18 digits
 abbrev pub has_costs : Answer → Bool
 has_costs (Optimal c) = nat_lt c NATURALS
 has_costs Infeasible = true
 has_costs (Bounded least cost) = nat_lt least NATURALS && is_cost cost
 
+-- a period from 1 up to its limit
 abbrev pub is_period : ℕ → Bool
 is_period period = nat_le 1 period && nat_le period MOST_PERIOD
 
@@ -35,6 +37,7 @@ is_period period = nat_le 1 period && nat_le period MOST_PERIOD
 abbrev pub is_time : ℤ × ℕ → Bool
 is_time t = nat_le (nat_abs t.0) MOST_LABEL && nat_le t.1 MOST_TIME
 
+-- there are few enough times, each within its limits
 abbrev pub are_times : List (ℤ × ℕ) → Bool
 are_times times = nat_le (length times) MOST_EVENTS && list_all is_time times
 
@@ -46,12 +49,15 @@ is_cycle rows = nat_le 1 (length rows) && rows_are_named rows
 abbrev pub total_rows : List (List SignedRow) → ℕ
 total_rows cycles = sum_by (λ rows. length rows) cycles
 
+-- there are few enough cycles and signed rows, and each cycle is within its limits
 abbrev pub are_cycles : List (List SignedRow) → Bool
 are_cycles cycles = nat_le (length cycles) MOST_CYCLES && nat_le (total_rows cycles) MOST_SIGNED_ROWS && list_all is_cycle cycles
 
+-- the numbers of pairs rise, no multiplier is 0, and all are within their limits
 abbrev pub are_pairs : List Pair → Bool
 are_pairs ps = rise_from 0 ps && all_within ps
 
+-- the numbers of a line of the tree are within their limits, and those of its pairs rise
 abbrev pub is_line : TreeLine → Bool
 is_line (Slack row k) = is_name row && nat_le k MOST_SLACK
 is_line (Offset cycle k) = is_name cycle && nat_le (nat_abs k) MOST_OFFSET
@@ -60,11 +66,13 @@ is_line (Nothing ps) = are_pairs ps
 is_line (Gap cycle) = is_name cycle
 is_line Propagated = true
 
+-- whether a line of the tree is a branch
 abbrev pub is_branch : TreeLine → Bool
 is_branch (Slack row k) = true
 is_branch (Offset cycle k) = true
 is_branch _ = false
 
+-- how many pairs a line of the tree has
 abbrev pub pairs_in : TreeLine → ℕ
 pairs_in (Bound ps) = length ps
 pairs_in (Nothing ps) = length ps
@@ -119,6 +127,7 @@ is_lemma fact = are_pairs fact.weights && nat_lt (nat_abs fact.least) NATURALS
 unfoldable pub is_shown_lemma : LemmaProof → Bool
 is_shown_lemma s = is_lemma s.fact && marks_keep_limits s.marks && are_cycles s.cycles && are_lines s.tree
 
+-- there are few enough lemmas, each within its limits
 abbrev pub are_lemmas : List LemmaProof → Bool
 are_lemmas lemmas = nat_le (length lemmas) MOST_CYCLES && list_all is_shown_lemma lemmas
 

@@ -26,10 +26,12 @@ later_refusal n faults.Limit = refusals.Limit n
 abbrev pub refusal_at : ℕ → LineFault → CertRefusal
 refusal_at n f = if n == 1 then refusals.Header else later_refusal n f
 
+-- no byte is left: there is no piece, or one that is empty
 abbrev pub is_nothing : List (List ℕ) → Bool
 is_nothing [] = true
 is_nothing (w ∷ ws) = length w == 0 && length ws == 0
 
+-- an item and those behind it, or the refusal of what stands behind it
 abbrev pub onto : Item → Result (List Item) CertRefusal → Result (List Item) CertRefusal
 onto item (Ok items) = Ok (item ∷ items)
 onto item (Err r) = Err r

@@ -19,6 +19,7 @@ use Rattle.pesp_cert_lines.specs.Counts.{after, beginning, CanStand}
 abbrev pub text_of : List Item → List ℕ
 text_of items = flat_map item_line items
 
+-- whether an item is the last line of a text
 abbrev pub is_end : Item → Bool
 is_end End = true
 is_end _ = false
@@ -29,9 +30,11 @@ IsRun p [] = ⊥
 IsRun p (item ∷ []) = CanStand p item × (is_end item ≡ true)
 IsRun p (item ∷ next ∷ more) = CanStand p item × (is_end item ≡ false) × IsRun (after p item) (next ∷ more)
 
+-- the item of an event's label and time
 abbrev pub time_item : ℤ × ℕ → Item
 time_item t = Time t.0 t.1
 
+-- the item of a line of the tree
 abbrev pub tree_item : TreeLine → Item
 tree_item (lines.Slack row k) = Slack row k
 tree_item (lines.Offset cycle k) = Offset cycle k

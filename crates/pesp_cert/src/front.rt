@@ -1,12 +1,11 @@
 //! The front of a certificate.
 
-ghost use Rattle.std.specs.Prelude.{◌≡◌, true, [], IfOk, OnErr};
+ghost use Rattle.std.specs.Prelude.{◌≡◌, true, IfOk, OnErr};
 ghost use Rattle.pesp_cert.specs.Limits.{front_keeps_limits};
 
 use crate::front_limits::are_lemmas;
 use crate::shown_lemma::ShownLemma;
 use pesp_truth::Marks;
-use std::alloc::Global;
 use std::marker::Model;
 
 /// Marked walks, and lemmas that are shown one after the other. The trees may name them: the walks are numbered on from the
@@ -57,17 +56,6 @@ impl Front {
         ensures { result ≡ record { marks = marks; lemmas = lemmas.items } }
     {
         Front { marks, lemmas }
-    }
-
-    /// A front without lemmas.
-    pub fn of_marks(alloc: Global, marks: Marks) -> Front
-        ensures { result ≡ record { marks = marks; lemmas = [] } }
-    {
-        marks.scale();
-        Front {
-            marks,
-            lemmas: Vec::new(alloc),
-        }
     }
 
     /// The scale and the marked walks of the certificate's own tree.

@@ -52,6 +52,7 @@ abbrev pub IsThere : Bool → Option (List ℕ) → ℕ → List ℕ → Type 0
 IsThere true told' left' all = (all ≡ []) × ((left' ≡ 0) ⊎ IsAtEnd told')
 IsThere false told' left' all = 0 < length all
 
+-- whether no byte stands behind the line that was read last, by the bytes that were read to tell
 pub record EndsHere (told told' : Option (List ℕ)) (left left' : ℕ) (held : List ℕ) (over : Bool) : Type 0 where
   pub got : List ℕ
   pub reads : Reads told told' left left' got

@@ -38,6 +38,7 @@ is_open stages.Going = true
 is_open stages.Ended = false
 is_open (stages.Failed fault) = false
 
+-- what a text says behind line n, by the stage; nothing more where it ended or was given up
 abbrev pub items_in : Stage → ℕ → Progress → List ℕ → Result (List Item) CertRefusal
 items_in stages.Going n p text = items_from (n + 1) p (pieces 10 text)
 items_in stages.Ended n p text = Ok []

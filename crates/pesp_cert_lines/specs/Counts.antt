@@ -21,6 +21,7 @@ takes_fronts All = true
 
 -- ---- the place
 
+-- whether a line of this kind is one of the tree
 abbrev pub is_tree_kind : Kind → Bool
 is_tree_kind kinds.Slack = true
 is_tree_kind kinds.Offset = true
@@ -30,46 +31,57 @@ is_tree_kind kinds.Gap = true
 is_tree_kind kinds.Propagated = true
 is_tree_kind _ = false
 
+-- whether it is that of a cycle
 abbrev pub is_cycle_kind : Kind → Bool
 is_cycle_kind kinds.Cycle = true
 is_cycle_kind _ = false
 
+-- whether it is that of a time
 abbrev pub is_time_kind : Kind → Bool
 is_time_kind kinds.Time = true
 is_time_kind _ = false
 
+-- whether it is the first line of a front
 abbrev pub is_front_kind : Kind → Bool
 is_front_kind kinds.Front = true
 is_front_kind _ = false
 
+-- whether it is that of a scale
 abbrev pub is_scale_kind : Kind → Bool
 is_scale_kind kinds.Scale = true
 is_scale_kind _ = false
 
+-- whether it is that of a marked walk
 abbrev pub is_walk_kind : Kind → Bool
 is_walk_kind kinds.Walk = true
 is_walk_kind _ = false
 
+-- whether it is that of a lemma's rows
 abbrev pub is_lemma_kind : Kind → Bool
 is_lemma_kind kinds.Lemma = true
 is_lemma_kind _ = false
 
+-- whether it is that of a lemma's least sum
 abbrev pub is_least_kind : Kind → Bool
 is_least_kind kinds.Least = true
 is_least_kind _ = false
 
+-- whether it is the certificate's own first line
 abbrev pub is_version_kind : Kind → Bool
 is_version_kind kinds.Version = true
 is_version_kind _ = false
 
+-- whether it is that of the period
 abbrev pub is_period_kind : Kind → Bool
 is_period_kind kinds.Period = true
 is_period_kind _ = false
 
+-- whether it is that of the answer
 abbrev pub is_answer_kind : Kind → Bool
 is_answer_kind kinds.Answer = true
 is_answer_kind _ = false
 
+-- whether it is the last line of a text
 abbrev pub is_end_kind : Kind → Bool
 is_end_kind kinds.End = true
 is_end_kind _ = false
@@ -103,6 +115,7 @@ is_in_front places.Lemma shows = true
 is_in_front places.Least shows = true
 is_in_front _ shows = shows
 
+-- the last line was a scale or a marked walk
 abbrev pub is_walks_place : Place → Bool
 is_walks_place places.Walks = true
 is_walks_place _ = false
@@ -117,6 +130,7 @@ has_kind versions version shows kinds.Propagated = shows || nat_le 2 version
 has_kind versions version shows kinds.Front = takes_fronts versions
 has_kind versions version shows _ = true
 
+-- whether a line of this kind may stand next, by what came so far and the versions that are taken
 abbrev pub allows : Progress → Kind → Bool
 allows p k = if p.needs == 0 then may_end p.shows k else may_follow p.place p.shows k && has_kind p.versions p.version p.shows k
 
@@ -170,6 +184,7 @@ keeps_counts p = nat_le p.times MOST_EVENTS && nat_le p.cycles MOST_CYCLES && na
     && nat_le p.lines MOST_LINES && nat_le p.pairs MOST_PAIRS
     && nat_le p.walks MOST_CYCLES && nat_le p.marked MOST_SIGNED_ROWS && nat_le p.lemmas MOST_CYCLES
 
+-- what came with this item, where the counts are within their limits
 abbrev pub counted_after : Progress → Item → Option Progress
 counted_after p item = if keeps_counts (after p item) then Some (after p item) else None
 
@@ -187,6 +202,7 @@ pub record IsKept (p : Progress) : Type 0 where
 
 -- ---- what may stand next
 
+-- the kind of an item's line
 abbrev pub kind_in : Item → Kind
 kind_in Front = kinds.Front
 kind_in (Scale n) = kinds.Scale

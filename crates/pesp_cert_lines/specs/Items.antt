@@ -20,15 +20,18 @@ use Rattle.pesp_cert_lines.specs.Pairs.{pair_words, pairs_from, all_within, rise
 
 -- ---- the spelling
 
+-- a cost, or `none` where there is none
 abbrev pub cost_word : Option ℕ → List ℕ
 cost_word None = codes "none"
 cost_word (Some c) = decimal c
 
+-- the words behind `answer`
 abbrev pub answer_words : Answer → List (List ℕ)
 answer_words (answers.Optimal c) = codes "optimal" ∷ decimal c ∷ []
 answer_words answers.Infeasible = codes "infeasible" ∷ []
 answer_words (answers.Bounded least cost) = codes "open" ∷ decimal least ∷ cost_word cost ∷ []
 
+-- the words of an item's line
 abbrev pub item_words : Item → List (List ℕ)
 item_words Front = codes "pesp-certificate" ∷ codes "3" ∷ []
 item_words (Scale n) = codes "scale" ∷ decimal n ∷ []
@@ -54,6 +57,7 @@ item_line item = line_of_words (item_words item) ++ 10 ∷ []
 
 -- ---- what a line can say
 
+-- the bound and the cost of an answer have at most 18 digits
 abbrev pub HasProperCosts : Answer → Type 0
 HasProperCosts (answers.Optimal c) = c < NATURALS
 HasProperCosts answers.Infeasible = Unit {0}
@@ -138,18 +142,22 @@ is_form kinds.Gap ws = length ws == 1
 is_form kinds.Propagated ws = length ws == 0
 is_form kinds.End ws = length ws == 0
 
+-- the cost that a word spells, or that there is none where it is `none`
 unfoldable pub spelt_cost : List ℕ → Option (Option ℕ)
 spelt_cost w = if bytes_eq w (codes "none") then Some None else option_map Some (natural_of w)
 
+-- the answer by the words behind `optimal`: a cost
 abbrev pub optimal_of : List (List ℕ) → Option Answer
 optimal_of [] = None
 optimal_of (c ∷ cs) = option_map answers.Optimal (natural_of c)
 
+-- the answer by the words behind `open`: a bound, and a cost or `none`
 abbrev pub open_of : List (List ℕ) → Option Answer
 open_of [] = None
 open_of (l ∷ []) = None
 open_of (l ∷ c ∷ cs) = both answers.Bounded (natural_of l) (spelt_cost c)
 
+-- the answer that the words behind `answer` spell, where they have its form
 unfoldable pub answer_of : List (List ℕ) → Option Answer
 answer_of [] = None
 answer_of (w ∷ ws) = if bytes_eq w (codes "optimal") then optimal_of ws else
@@ -160,6 +168,7 @@ abbrev pub one : {A : Type 0} → (List ℕ → Option A) → List (List ℕ) �
 one f [] = None
 one f (w ∷ ws) = f w
 
+-- the function of what the first two words say
 abbrev pub two : {A B C : Type 0} → (A → B → C) → (List ℕ → Option A) → (List ℕ → Option B) → List (List ℕ) → Option C
 two h f g [] = None
 two h f g (v ∷ []) = None

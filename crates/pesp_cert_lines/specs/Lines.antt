@@ -22,6 +22,7 @@ as_line true (Ok item) = Ok item
 as_line true (Err f) = Err faults.Line
 as_line false r = r
 
+-- what the words behind the first say, where a line of their kind may stand there and they have its form
 abbrev pub kind_judged : Progress → List (List ℕ) → Option Kind → Result Item LineFault
 kind_judged p ws None = Err faults.Line
 kind_judged p ws (Some k) = if allows p k && is_form k ws then as_line (is_behind_front p.place p.shows k) (checked (item_of k ws)) else Err faults.Line

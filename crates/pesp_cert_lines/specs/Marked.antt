@@ -9,17 +9,21 @@ use Rattle.pesp_cert_lines.specs.Rows.{is_name, row_word, spelt_row, both}
 
 -- ---- the spelling: a signed row, and `*` behind it where it is flipped
 
+-- the mark of a flipped row, nothing for a plain one
 abbrev pub star : Bool → List ℕ
 star true = 42 ∷ []
 star false = []
 
+-- the word of a marked row
 abbrev pub marked_word : MarkedRow → List ℕ
 marked_word s = row_word s.signed ++ star s.flipped
 
+-- the words of a walk, one for each marked row
 abbrev pub marked_words : List MarkedRow → List (List ℕ)
 marked_words [] = []
 marked_words (s ∷ walk) = marked_word s ∷ marked_words walk
 
+-- each row has a number that a row may have
 abbrev pub are_named : List MarkedRow → Bool
 are_named walk = list_all (λ s. is_name s.signed.row) walk
 
@@ -29,9 +33,11 @@ are_named walk = list_all (λ s. is_name s.signed.row) walk
 abbrev pub is_starred : List ℕ → Bool
 is_starred w = slice_index w (length w - 1) == 42
 
+-- a word without its last byte
 abbrev pub but_last : List ℕ → List ℕ
 but_last w = take (length w - 1) w
 
+-- a number and a sign, where they are spelt, and whether the row is flipped
 abbrev pub with_mark : Bool → Option (ℕ × Bool) → Option (ℕ × Bool × Bool)
 with_mark flipped None = None
 with_mark flipped (Some p) = Some (p.0, p.1, flipped)
@@ -40,6 +46,7 @@ with_mark flipped (Some p) = Some (p.0, p.1, flipped)
 abbrev pub marked_at : List ℕ → Option (ℕ × Bool × Bool)
 marked_at w = if is_starred w then with_mark true (spelt_row (but_last w)) else with_mark false (spelt_row w)
 
+-- the marked row of a number, a sign and a mark
 abbrev pub marked_made : ℕ × Bool × Bool → MarkedRow
 marked_made p = record { signed = record { row = p.0; plus = p.1 }; flipped = p.2 }
 
@@ -58,15 +65,18 @@ abbrev pub counted_marked : ℕ → Bool → Option (List MarkedRow) → Result 
 counted_marked n within None = Err Number
 counted_marked n within (Some walk) = if within && are_named walk then Ok (n + length walk) else Err Limit
 
+-- how many they are, behind no others
 abbrev pub count_of_marked : Option (List MarkedRow) → Result ℕ LineFault
 count_of_marked o = counted_marked 0 true o
 
 -- ---- the marked rows that are left in a line that was judged
 
+-- the marked rows that words spell, none where they spell no such rows
 abbrev pub marked_left : Option (List MarkedRow) → List MarkedRow
 marked_left None = []
 marked_left (Some walk) = walk
 
+-- whether words spell marked rows with numbers that rows may have
 abbrev pub marked_are_good : Option (List MarkedRow) → Bool
 marked_are_good None = false
 marked_are_good (Some walk) = are_named walk

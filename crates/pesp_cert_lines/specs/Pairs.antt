@@ -10,14 +10,17 @@ use Rattle.pesp_cert_lines.specs.declared.rows.TheConstants.{MOST_WORDS}
 use Rattle.pesp_cert_lines.specs.declared.fault.LineFault.{LineFault}
 use Rattle.pesp_cert_lines.specs.declared.fault.LineFault.TheVariants.{Number, Limit}
 
+-- the number and the multiplier of a pair are within their limits
 abbrev pub is_pair_within : Pair → Bool
 is_pair_within p = nat_le 1 p.cycle && nat_le p.cycle MOST_CYCLES && nat_le (nat_abs p.mult) MOST_MULTIPLIER
 
+-- so are those of each pair
 abbrev pub all_within : List Pair → Bool
 all_within ps = list_all is_pair_within ps
 
 -- ---- the spelling: the cycle's number and the multiplier, two words a pair
 
+-- the words of pairs
 abbrev pub pair_words : List Pair → List (List ℕ)
 pair_words [] = []
 pair_words (p ∷ ps) = decimal p.cycle ∷ signed_decimal p.mult ∷ pair_words ps
@@ -55,15 +58,18 @@ abbrev pub counted_pairs : ℕ → Bool → Option (List Pair) → Result ℕ Li
 counted_pairs n within None = Err Number
 counted_pairs n within (Some ps) = if within && all_within ps then Ok (n + length ps) else Err Limit
 
+-- how many they are, behind no others
 abbrev pub count_of_pairs : Option (List Pair) → Result ℕ LineFault
 count_of_pairs o = counted_pairs 0 true o
 
 -- ---- the pairs that are left in a line that was judged
 
+-- the pairs that words spell, none where they spell no pairs
 abbrev pub pairs_left : Option (List Pair) → List Pair
 pairs_left None = []
 pairs_left (Some ps) = ps
 
+-- whether words spell pairs within their limits
 abbrev pub pairs_are_good : Option (List Pair) → Bool
 pairs_are_good None = false
 pairs_are_good (Some ps) = all_within ps

@@ -12,14 +12,17 @@ use Rattle.pesp_cert_lines.specs.declared.fault.LineFault.TheVariants.{Number, L
 abbrev pub is_name : ℕ → Bool
 is_name n = nat_le 1 n && nat_le n MOST_ROWS
 
+-- each row has a number that a row may have
 abbrev pub rows_are_named : List SignedRow → Bool
 rows_are_named rs = list_all (λ r. is_name r.row) rs
 
 -- ---- the spelling: `+` or `-` and the number
 
+-- the word of a signed row
 abbrev pub row_word : SignedRow → List ℕ
 row_word r = (if r.plus then 43 else 45) ∷ decimal r.row
 
+-- the words of signed rows
 abbrev pub row_words : List SignedRow → List (List ℕ)
 row_words [] = []
 row_words (r ∷ rs) = row_word r ∷ row_words rs
@@ -32,6 +35,7 @@ both f None o = None
 both f (Some a) None = None
 both f (Some a) (Some b) = Some (f a b)
 
+-- a number, where it is spelt, with its sign
 abbrev pub signed : Bool → Option ℕ → Option (ℕ × Bool)
 signed plus None = None
 signed plus (Some n) = Some (n, plus)
@@ -41,6 +45,7 @@ unfoldable pub spelt_row : List ℕ → Option (ℕ × Bool)
 spelt_row w = if slice_index w 0 == 43 then signed true (natural_of (drop 1 w)) else
     if slice_index w 0 == 45 then signed false (natural_of (drop 1 w)) else None
 
+-- the signed row of a number and a sign
 abbrev pub row_made : ℕ × Bool → SignedRow
 row_made p = record { row = p.0; plus = p.1 }
 
@@ -59,15 +64,18 @@ abbrev pub counted_rows : ℕ → Bool → Option (List SignedRow) → Result �
 counted_rows n within None = Err Number
 counted_rows n within (Some rs) = if within && rows_are_named rs then Ok (n + length rs) else Err Limit
 
+-- how many they are, behind no others
 abbrev pub count_of_rows : Option (List SignedRow) → Result ℕ LineFault
 count_of_rows o = counted_rows 0 true o
 
 -- ---- the rows that are left in a line that was judged
 
+-- the signed rows that words spell, none where they spell no such rows
 abbrev pub rows_left : Option (List SignedRow) → List SignedRow
 rows_left None = []
 rows_left (Some rs) = rs
 
+-- whether words spell signed rows with numbers that rows may have
 abbrev pub rows_are_good : Option (List SignedRow) → Bool
 rows_are_good None = false
 rows_are_good (Some rs) = rows_are_named rs

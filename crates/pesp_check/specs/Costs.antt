@@ -41,6 +41,7 @@ shown_in n table marks facts (line ∷ lines) (node ∷ nodes) =
 abbrev pub no_marks : Marks
 no_marks = record { scale = 1; walks = [] }
 
+-- the scale and the marked walks of a front; where there is no front, no walk is marked
 abbrev pub marks_of : Option Front → Marks
 marks_of None = no_marks
 marks_of (Some f) = f.marks

@@ -10,6 +10,7 @@ use Rattle.pesp_judges.specs.declared.refusal.Refusal.{Refusal}
 use Rattle.pesp_judges.specs.Faults.{IsMarksFault, first_tree_line}
 use Rattle.pesp_judges.specs.Lines.{IsLinesFault}
 
+-- the first fault where answer and cycles are right: of a marked walk, else of the tree
 abbrev pub IsInnerFault : Option Marks → Pesp → Content → Refusal → Type 0
 IsInnerFault front p content refusal =
     IsMarksFault front (arcs_of p) (length content.cycles) refusal

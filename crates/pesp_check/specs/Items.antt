@@ -56,10 +56,12 @@ abbrev pub begins_part : List Item → Bool
 begins_part [] = false
 begins_part (item ∷ items) = ends_lemma item
 
+-- the first of the items comes behind the times
 abbrev pub begins_later : List Item → Bool
 begins_later [] = false
 begins_later (item ∷ items) = is_later item
 
+-- the first of the items is a line of the tree
 abbrev pub begins_tree : List Item → Bool
 begins_tree [] = false
 begins_tree (item ∷ items) = is_line item

@@ -39,15 +39,18 @@ pub record MarksSaid : Type 0 where
   pub scale : ℕ
   pub walks : List (List MarkedRow)
 
+-- no line of a front came
 abbrev pub no_marks : MarksSaid
 no_marks = record { begun = false; scale = 0; walks = [] }
 
+-- what was said of the scale and the walks so far, and what the next item says of them
 abbrev pub marks_noted : MarksSaid → Item → MarksSaid
 marks_noted f Front = record f { begun = true }
 marks_noted f (Scale n) = record f { scale = n }
 marks_noted f (Walk walk) = record f { walks = f.walks ++ walk ∷ [] }
 marks_noted f _ = f
 
+-- the scale and the marked walks, where a front began
 abbrev pub marks_said : MarksSaid → Option Marks
 marks_said f = if f.begun then Some (record { scale = f.scale; walks = f.walks }) else None
 
@@ -65,12 +68,14 @@ pub record Kept : Type 0 where
   pub table : List (List NetCount)
   pub walk : Option Standing
 
+-- nothing behind the times was judged, and nothing was refused
 abbrev pub is_front : Stage → Bool
 is_front stages.Front = true
 is_front stages.Cycles = false
 is_front stages.Tree = false
 is_front (stages.Refused r) = false
 
+-- nothing of the tree was judged, and nothing was refused
 abbrev pub is_before_tree : Stage → Bool
 is_before_tree stages.Front = true
 is_before_tree stages.Cycles = true
@@ -291,6 +296,7 @@ pub record RefusedTo (p : Pesp) (front : Option FrontOf) (c : Content) (rest : L
   pub answer : ((kept.answer ≡ c.answer) × (list_all says_no_answer rest ≡ true)) ⊎ AnswerIsLeft c rest
   pub first : IsFirstFaultBehind front p c refusal
 
+-- by the stage: which items came, what they showed so far, and which are left; or the first fault
 abbrev pub JudgedAt : Stage → Pesp → Option FrontOf → Content → List Item → Kept → Type 0
 JudgedAt stages.Front p front c rest kept = (kept.table ≡ []) × FrontTo p front c rest kept
 JudgedAt stages.Cycles p front c rest kept = (k : ℕ) × CyclesTo p front c rest kept k

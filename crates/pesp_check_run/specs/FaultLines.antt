@@ -16,11 +16,13 @@ abbrev pub instance_fault : ReadRefusal → VerdictFault
 instance_fault NoMemory = Memory
 instance_fault refusal = Instance refusal
 
+-- why a text has no verdict, as a fault of the checker's run
 abbrev pub check_fault : CheckFault → VerdictFault
 check_fault (Text refusal) = Certificate refusal
 check_fault CheckRead = Read
 check_fault CheckMemory = Memory
 
+-- why a text isn't read to its end, as such a fault
 abbrev pub read_fault : ReadFault → VerdictFault
 read_fault ReadMemory = Memory
 read_fault Device = Read

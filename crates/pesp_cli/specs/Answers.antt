@@ -208,6 +208,7 @@ AnswersAsked (Times file asked) period reader writer teller silent status =
 AnswersAsked (Works file base asked) period reader writer teller silent status =
     (instance base : Device) × AnswersWorks asked period instance base reader writer teller status
 
+-- what the program does for a request, and its exit status
 abbrev pub Answers : Request → Device → Device → Device → Type 0 → ℕ → Type 0
 Answers request reader writer teller silent status =
     AnswersAsked request.asked request.period reader writer teller silent status

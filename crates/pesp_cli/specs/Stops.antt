@@ -195,6 +195,7 @@ StopsAsked (Times file asked) fault period reader writer teller uncalled =
 StopsAsked (Works file base asked) fault period reader writer teller uncalled =
     OrNoFile fault ((instance base : Device) × StopsWorks asked fault period instance base reader writer teller ⊤ uncalled)
 
+-- why the program stops for a request without an answer
 abbrev pub Stops : Request → Fault → Device → Device → Device → Type 0 → Type 0
 Stops request fault reader writer teller uncalled =
     StopsAsked request.asked fault request.period reader writer teller uncalled

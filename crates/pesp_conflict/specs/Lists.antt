@@ -22,6 +22,7 @@ abbrev pub list_header : Option (ℤ → List ℕ) → List (List ℕ)
 list_header naming =
     codes "row" ∷ codes "label" ∷ codes "tail" ∷ codes "head" ∷ codes "lower" ∷ codes "upper" ∷ name_header naming
 
+-- the fields of a listed row, and the names of its two events where names are told
 abbrev pub listed_fields : Option (ℤ → List ℕ) → Listed → List (List ℕ)
 listed_fields naming l = decimal l.row ∷ signed_decimal l.label ∷ signed_decimal l.tail ∷ signed_decimal l.head
     ∷ signed_decimal l.lower ∷ signed_decimal l.upper ∷ name_fields naming l.tail l.head

@@ -35,6 +35,7 @@ count_of period range = greatest period range + 1 - range.0
 abbrev pub first_ahead : ℕ → Arc → ℕ × ℕ → ℕ
 first_ahead period arc range = (remainder period arc.lower + range.0) % period
 
+-- the first shift from the head to the tail
 abbrev pub first_back : ℕ → Arc → ℕ × ℕ → ℕ
 first_back period arc range = (2 * period - remainder period arc.lower - greatest period range) % period
 

@@ -10,9 +10,11 @@ use Rattle.pesp_domains.specs.Domains.{width_of}
 use Rattle.pesp_domains.specs.Waiting.{waits_at}
 use Rattle.pesp_domains.specs.Outcomes.{Shrinks}
 
+-- the net of these arcs and this period
 abbrev pub net_at : ℕ → List Arc → Net
 net_at t arcs = record { period = t; arcs = arcs }
 
+-- the sets that the words hold, as a family
 abbrev pub sets_at : ℕ → List ℕ → Family
 sets_at t xs = family (width_of t) xs
 
@@ -64,6 +66,7 @@ pub record Passed (t : ℕ) (arcs : List Arc) (ranges : List (ℕ × ℕ)) (line
   pub below : All (λ row. row < vec_len before.flags) after.rows.items
   pub quiet : (sum ys < sum xs) ⊎ (after.rows.items ≡ before.rows.items)
 
+-- visits of all rows of a line name an event whose set is empty, or all is well
 abbrev pub IsPass : ℕ → ℕ → List Arc → List (ℕ × ℕ) → List ℕ → List ℕ → List ℕ → Waiting → Waiting → Option ℕ → Type 0
 IsPass t events arcs ranges line xs ys before after (Some event) = IsEmptyAt t events ys event
 IsPass t events arcs ranges line xs ys before after None = Passed t arcs ranges line (length line) xs ys before after

@@ -27,6 +27,7 @@ numbers_from at field [] = Ok []
 numbers_from at field (text ∷ rest) =
     and_then (ok_or (number_of text) (NotANumber at field)) (λ n. and_then (numbers_from at (field + 1) rest) (λ ns. Ok (n ∷ ns)))
 
+-- whether a number is from the least up to the greatest
 abbrev pub is_between : ℤ → ℤ → ℤ → Bool
 is_between least greatest n = int_le least n && int_le n greatest
 
@@ -53,6 +54,7 @@ activity_from ns = record {
   weight = nat_abs (get_or ns 5 (pos 0));
 }
 
+-- an activity, or its fault where the upper bound is below the lower one
 abbrev pub in_order : ℕ → Activity → Result Activity ReadRefusal
 in_order at a = if int_lt a.upper a.lower then Err (BoundsCrossed at) else Ok a
 

@@ -18,6 +18,7 @@ line_config delimiter = record {
   terminator = term.CRLF;
 }
 
+-- whether a byte stands anywhere in a text
 abbrev pub has_byte : ℕ → List ℕ → Bool
 has_byte b text = list_any (λ c. c == b) text
 
@@ -30,10 +31,12 @@ abbrev pub lead_of : List (List ℕ) → Option ℕ
 lead_of [] = None
 lead_of (field ∷ fields) = slice_get (past_blanks field) 0
 
+-- whether there is such a byte, and it passes a test
 abbrev pub leads_with : (ℕ → Bool) → Option ℕ → Bool
 leads_with test None = false
 leads_with test (Some b) = test b
 
+-- the letters A to Z and a to z
 abbrev pub is_letter : ℕ → Bool
 is_letter b = (nat_le 65 b && nat_le b 90) || (nat_le 97 b && nat_le b 122)
 

@@ -46,6 +46,7 @@ IsLineFault front n table least line [] at refusal = ⊥
 IsLineFault front n table least (EndLine leaf) (node ∷ nodes) at refusal = IsLeafFault front n table least leaf node at refusal
 IsLineFault front n table least (CutLine cut) (node ∷ nodes) at refusal = (refusal ≡ NoSuch at) × (CutExists n table cut → ⊥)
 
+-- what the code says of a line: nothing wrong, and which nodes wait then, or what is wrong with it
 abbrev pub IsLineVerdict : Option Marks → Net → List (List SignedRow) → Option ℕ → Line → List Node → List Node → ℕ → Option Refusal → Type 0
 IsLineVerdict front n table least line nodes nodes' at found =
     MatchOption found (IsSoundLine front n table least line nodes × (nodes' ≡ after line nodes))

@@ -8,6 +8,7 @@ use Rattle.pesp_problem.specs.Nodes.{Node, slack_range}
 use Rattle.pesp_leaves.specs.declared.ranges.Ranges.{Ranges}
 use Rattle.pesp_leaves.specs.Offsets.{AreSlackRanges}
 
+-- the node of these ranges
 abbrev pub node_of : Ranges → Node
 node_of ranges = record { slacks = ranges.slacks.items; offsets = ranges.offsets.items }
 

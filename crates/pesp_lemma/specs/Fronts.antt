@@ -7,6 +7,7 @@ use Rattle.pesp_truth.specs.Certificates.{Content, IsValid}
 use Rattle.pesp_lemma.specs.Shown.{LemmaProof}
 use Rattle.pesp_lemma.specs.Certificates.{IsValidFrom}
 
+-- a scale and marked walks, and lemmas with what shows each of them
 pub record Front : Type 0 where
   pub marks : Marks
   pub lemmas : List LemmaProof

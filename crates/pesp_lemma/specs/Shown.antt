@@ -31,5 +31,6 @@ abbrev pub AreShownFrom : Net → List Lemma → List LemmaProof → Type 0
 AreShownFrom n earlier [] = Unit {0}
 AreShownFrom n earlier (s ∷ shown) = IsShownFrom n earlier s × AreShownFrom n (earlier ++ s.fact ∷ []) shown
 
+-- the lemmas without what shows them
 abbrev pub lemmas_of : List LemmaProof → List Lemma
 lemmas_of shown = map (λ s. s.fact) shown

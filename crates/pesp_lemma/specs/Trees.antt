@@ -59,6 +59,7 @@ value_by marks facts n table node pairs weights =
     lemma_value n table node (other_multipliers (length table) marks pairs)
     (of_lemmas (length table + length marks.walks) facts pairs) weights
 
+-- the value by the scale, rounded up: what these pairs show in whole numbers
 abbrev pub bound_by : Marks → List Lemma → Net → List (List SignedRow) → Node → List Pair → (ℕ → ℤ) → Option ℤ
 bound_by marks facts n table node pairs weights =
     lemma_bound n table node (other_multipliers (length table) marks pairs)

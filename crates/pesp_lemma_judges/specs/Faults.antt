@@ -62,6 +62,7 @@ abbrev pub IsFrontFault : Front → List LemmaProof → Pesp → Content → Ref
 IsFrontFault f [] p content refusal = IsFirstFault (Some f.marks) p content refusal
 IsFrontFault f (s ∷ shown) p content refusal = IsFirstFaultFrom f p content refusal
 
+-- the first thing that is wrong with a certificate, without a front or behind one
 abbrev pub IsFirstFaultBehind : Option Front → Pesp → Content → Refusal → Type 0
 IsFirstFaultBehind None p content refusal = IsFirstFault None p content refusal
 IsFirstFaultBehind (Some f) p content refusal = IsFrontFault f f.lemmas p content refusal

@@ -32,6 +32,7 @@ IsLineFaultFrom marks facts n table goal line [] at refusal = ⊥
 IsLineFaultFrom marks facts n table goal (EndLine leaf) (node ∷ nodes) at refusal = IsLeafFaultFrom marks facts n table goal leaf node at refusal
 IsLineFaultFrom marks facts n table goal (CutLine cut) (node ∷ nodes) at refusal = (refusal ≡ NoSuch at) × (CutExists n table cut → ⊥)
 
+-- what the code says of a line: nothing wrong, and which nodes wait then, or what is wrong with it
 abbrev pub IsLineVerdictFrom : Marks → List Lemma → Net → List (List SignedRow) → Goal → Line → List Node → List Node → ℕ → Option Refusal → Type 0
 IsLineVerdictFrom marks facts n table goal line nodes nodes' at found =
     MatchOption found (IsSoundLineFrom marks facts n table goal line nodes × (nodes' ≡ after line nodes))

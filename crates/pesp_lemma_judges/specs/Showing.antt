@@ -34,6 +34,7 @@ pub record KeptLemma : Type 0 where
   pub front : Option Marks
   pub walk : Option Standing
 
+-- what the judge of a lemma keeps of the lines that came
 abbrev pub kept : LemmaJudge → KeptLemma
 kept j = record { line = j.line; weights = j.fact.weights; least = j.least; scale = j.scale; walks = j.walks.items; table = j.table.items; front = j.front; walk = j.walk }
 

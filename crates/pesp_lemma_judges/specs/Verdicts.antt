@@ -35,6 +35,7 @@ IsShutVerdictFrom marks facts n table reason node at found =
     MatchOption found (IsShutFrom marks facts n table reason node)
     (λ refusal. IsShutFaultFrom marks facts n table reason node at refusal)
 
+-- what the code says of a leaf: none where it is sound, else what is wrong with it
 abbrev pub IsLeafVerdictFrom : Marks → List Lemma → Net → List (List SignedRow) → Goal → Leaf → Node → ℕ → Option Refusal → Type 0
 IsLeafVerdictFrom marks facts n table goal leaf node at found =
     MatchOption found (IsSoundLeafFrom marks facts n table goal leaf node)

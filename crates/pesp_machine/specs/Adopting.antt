@@ -66,5 +66,6 @@ LendsAll p old (Err lending.Memory) new = new ≡ old
 abbrev pub lend_of : Job → Event
 lend_of job = Lend (Ok (Some job))
 
+-- the lends of these jobs, in order
 abbrev pub lends_of : List Job → List Event
 lends_of jobs = map lend_of jobs

@@ -4,9 +4,11 @@ use Rattle.pesp_nets.specs.declared.marked.MarkedRow.{MarkedRow}
 use Rattle.pesp_nets.specs.Marked.{rate}
 use Rattle.pesp_nets.specs.declared.rates.Rates.{Rates}
 
+-- both numbers 0, as for a row that no marked walk passes
 abbrev pub none : Rates
 none = record { plain = pos 0; flipped = pos 0 }
 
+-- the numbers of the row at place i
 abbrev pub rates_at : List Rates → ℕ → Rates
 rates_at rates i = slice_index_or rates i none
 

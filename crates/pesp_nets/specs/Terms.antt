@@ -9,6 +9,7 @@ use Rattle.pesp_problem.specs.Nodes.{slack_range, weight_of}
 use Rattle.pesp_nets.specs.declared.rates.Rates.{Rates}
 use Rattle.pesp_nets.specs.Rates.{rates_at}
 
+-- the number at a place, 0 past the end
 abbrev pub number_at : List ℤ → ℕ → ℤ
 number_at numbers i = slice_index_or numbers i (pos 0)
 

@@ -9,6 +9,7 @@ use Rattle.pesp_problem.specs.Arcs.{tail_of, head_of}
 abbrev pub OPEN_END : ℕ
 OPEN_END = 18446744073709551615
 
+-- the lists of a growth as functions
 abbrev pub fns_of : Growth → Fns
 fns_of g = record {
   up = at g.up.items;
@@ -21,12 +22,15 @@ fns_of g = record {
   count = vec_len g.order;
 }
 
+-- the growth is a forest that grows depth first over these arcs
 abbrev pub GrownOver : List Arc → Growth → Type 0
 GrownOver arcs g = Grown (vec_len g.up) (length arcs) OPEN_END (tail_of arcs) (head_of arcs) (fns_of g)
 
+-- the growth goes on at this event: open are the event and those above it
 abbrev pub IsCurrent : Growth → ℕ → Type 0
 IsCurrent g u = OpenAt OPEN_END (fns_of g) u
 
+-- no event that was seen is open
 abbrev pub AllClosed : Growth → Type 0
 AllClosed g = (x : ℕ) → 0 < at g.place.items x → at g.last.items x < OPEN_END
 

@@ -20,6 +20,7 @@ Inside s x y = (s.place x ≤ s.place y) × (s.place y ≤ s.last x)
 
 -- the ends of a row were seen, in one tree
 
+-- both ends of the row k have a place, under the same root
 pub record IsMet (T H : ℕ → ℕ) (s : Fns) (k : ℕ) : Type 0 where
   pub tail_seen : 0 < s.place (T k)
   pub head_seen : 0 < s.place (H k)
@@ -96,6 +97,7 @@ pub record Closes (s t : Fns) (u : ℕ) : Type 0 where
   pub order : (i : ℕ) → t.order i ≡ s.order i
   pub count : t.count ≡ s.count
 
+-- what is known as the current event is closed, with none of its rows left to be looked at
 pub record ClosesCurrent (n m M : ℕ) (T H : ℕ → ℕ) (s t : Fns) (u : ℕ) : Type 0 where
   pub g : Grown n m M T H s
   pub current : OpenAt M s u
@@ -111,6 +113,7 @@ pub record Looks (s t : Fns) (u next : ℕ) : Type 0 where
   pub order : (i : ℕ) → t.order i ≡ s.order i
   pub count : t.count ≡ s.count
 
+-- what is known as a row is looked at, at an open event, where both of its ends were seen
 pub record LooksAt (n m M : ℕ) (T H : ℕ → ℕ) (s t : Fns) (u next : ℕ) : Type 0 where
   pub g : Grown n m M T H s
   pub met : IsMet T H s (s.left u)
@@ -118,5 +121,6 @@ pub record LooksAt (n m M : ℕ) (T H : ℕ → ℕ) (s t : Fns) (u next : ℕ) 
   pub is_open : s.last u ≡ M
   pub step : Looks s t u next
 
+-- the number at a place, from 0
 abbrev pub at : List ℕ → ℕ → ℕ
 at xs i = slice_index xs i

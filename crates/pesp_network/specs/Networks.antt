@@ -29,9 +29,11 @@ net_row_at rows i = slice_index_or rows i no_net_row
 abbrev pub arc_of_net : NetRow → Arc
 arc_of_net row = record { tail = row.tail; head = row.head; lower = row.lower; span = row.span; weight = row.weight }
 
+-- the rows without their origins, in order
 abbrev pub arcs_of_network : List NetRow → List Arc
 arcs_of_network rows = map arc_of_net rows
 
+-- a network as a net: its period and its arcs
 abbrev pub net_of_network : NetworkValue → Net
 net_of_network n = record { period = n.period; arcs = arcs_of_network n.rows }
 

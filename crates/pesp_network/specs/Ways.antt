@@ -14,6 +14,7 @@ use Rattle.pesp_problem.specs.Arcs.{tail_of, head_of}
 abbrev pub step_up : List Arc → Forest → ℕ → SignedRow
 step_up arcs g x = record { row = at g.by.items x; plus = tail_of arcs (at g.by.items x) == x }
 
+-- from the event above an event down to it
 abbrev pub step_down : List Arc → Forest → ℕ → SignedRow
 step_down arcs g x = record { row = at g.by.items x; plus = head_of arcs (at g.by.items x) == x }
 
@@ -26,6 +27,7 @@ abbrev pub up_way : List Arc → Forest → ℕ → ℕ → ℕ → List SignedR
 up_way arcs g t zero x = []
 up_way arcs g t (suc most) x = if is_under g x t then [] else step_up arcs g x ∷ up_way arcs g t most (at g.up.items x)
 
+-- the event to which at most so many such steps from x lead
 abbrev pub top : Forest → ℕ → ℕ → ℕ → ℕ
 top g t zero x = x
 top g t (suc most) x = if is_under g x t then x else top g t most (at g.up.items x)

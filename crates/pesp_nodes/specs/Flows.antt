@@ -10,6 +10,7 @@ use Rattle.pesp_nets.specs.Nets.{sum_of}
 abbrev pub count_of : List NetCount → ℕ → ℤ
 count_of counts i = sum_of (λ place count. if place == i then count else pos 0) counts
 
+-- the number at a place, 0 past the end
 abbrev pub number_at : List ℤ → ℕ → ℤ
 number_at numbers i = slice_index_or numbers i (pos 0)
 

@@ -17,6 +17,7 @@ AreArcs arcs = All (λ arc. (unsigned_abs arc.lower ≤ MOST_LOWER) × (arc.span
 abbrev pub IsOffsetEnds : ℤ × ℤ → Type 0
 IsOffsetEnds range = (neg_ℤ (pos MOST_OFFSET) ≤ℤ range.0) × (range.1 ≤ℤ pos MOST_OFFSET)
 
+-- each offset range is within these limits
 abbrev pub AreOffsetEnds : List (ℤ × ℤ) → Type 0
 AreOffsetEnds offsets = All IsOffsetEnds offsets
 

@@ -12,6 +12,7 @@ use Rattle.pesp_nodes.specs.declared.passages.Passage.{Passage}
 abbrev pub sum_over : (ℕ → ℤ → ℤ) → List Passage → ℤ
 sum_over term passages = fold (λ z e. z +ℤ term e.cycle e.count) (pos 0) passages
 
+-- the passages of the row at place i
 abbrev pub passages_at : List (List Passage) → ℕ → List Passage
 passages_at by_row i = slice_index_or by_row i []
 

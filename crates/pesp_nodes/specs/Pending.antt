@@ -16,6 +16,7 @@ abbrev pub IsChange : ℕ → ℕ → Change → Type 0
 IsChange rows cycles (SlackChange row k was) = IsCut rows cycles (Slack row k) × (was.0 ≤ MOST_PERIOD) × (was.1 ≤ MOST_PERIOD)
 IsChange rows cycles (OffsetChange cycle k was) = IsCut rows cycles (Offset cycle k) × IsOffsetEnds was
 
+-- changes that the cuts of a path can make
 abbrev pub AreChanges : ℕ → ℕ → List Branch → Type 0
 AreChanges rows cycles path = All (λ branch. IsChange rows cycles branch.change) path
 

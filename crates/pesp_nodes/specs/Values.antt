@@ -9,6 +9,7 @@ use Rattle.pesp_nets.specs.Ranges.{lesser}
 abbrev pub row_term : Arc → ℕ × ℕ → Bool → ℤ → ℤ
 row_term arc range weighted flow = lesser (weight_of weighted arc -ℤ flow) range -ℤ flow *ℤ arc.lower
 
+-- the same for the row at place i
 abbrev pub row_term_at : List Arc → List (ℕ × ℕ) → Bool → ℕ → ℤ → ℤ
 row_term_at arcs slacks weighted i flow = row_term (arc_at arcs i) (slack_range slacks i) weighted flow
 

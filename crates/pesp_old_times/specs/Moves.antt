@@ -12,6 +12,7 @@ wanted_at wanted place = slice_index_or wanted place None
 abbrev pub is_wanted : List (Option ℕ) → Row → Bool
 is_wanted wanted row = is_some (wanted_at wanted row.tail) && is_some (wanted_at wanted row.head)
 
+-- a wanted time, 0 where none is wanted
 abbrev pub or_zero : Option ℕ → ℕ
 or_zero None = 0
 or_zero (Some time) = time
@@ -37,9 +38,11 @@ abbrev pub move_of : ℕ → Option ℕ → ℕ → ℕ
 move_of period None time = 0
 move_of period (Some wanted) time = distance period wanted time
 
+-- how far the event at a place has moved from where it is wanted
 abbrev pub move_at : ℕ → List (Option ℕ) → List ℕ → ℕ → ℕ
 move_at period wanted times place = move_of period (wanted_at wanted place) (slice_index times place)
 
+-- 1 where an event has moved, else 0
 abbrev pub some_move : ℕ → ℕ
 some_move zero = 0
 some_move (suc by) = 1

@@ -32,6 +32,7 @@ entry_of_words period (first ∷ label ∷ time ∷ more ∷ rest) = None
 abbrev pub entry_of : ℕ → List ℕ → Option (ℤ × ℕ)
 entry_of period line = entry_of_words period (words_of (without_cr line))
 
+-- an entry and those that come behind it, or the refusal where there is none
 abbrev pub behind : Option (ℤ × ℕ) → TimesRefusal → Result (List (ℤ × ℕ)) TimesRefusal → Result (List (ℤ × ℕ)) TimesRefusal
 behind None refusal rest = Err refusal
 behind (Some e) refusal (Ok es) = Ok (e ∷ es)

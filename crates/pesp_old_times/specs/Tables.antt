@@ -18,6 +18,7 @@ pub record Holds (events : List ℤ) (entries : List (ℤ × ℕ)) (table : Tabl
   pub slots : (label : ℤ) → get int_eq table.slots label ≡ slot events entries label
   pub strays : table.strays ≡ count_by (is_stray events) entries
 
+-- the time that stands in a slot, none where there is no slot or it is empty
 abbrev pub flat : Option (Option ℕ) → Option ℕ
 flat None = None
 flat (Some time) = time

@@ -51,5 +51,6 @@ KeepsOn base stands Gets = StandsNoWorse stands base.content.answer × Gets []
 abbrev pub KeepsSome : Pesp → List ℕ → (List ℕ → Type 0) → Type 0
 KeepsSome p times Gets = (stands : Option Answer) × Keeps p times stands Gets
 
+-- something stands that is no worse than the base, and nothing is written
 abbrev pub KeepsSomeOn : Fronted → (List ℕ → Type 0) → Type 0
 KeepsSomeOn base Gets = (stands : Option Answer) × KeepsOn base stands Gets

@@ -22,6 +22,7 @@ arc_at arcs i = slice_index_or arcs i no_arc
 abbrev pub tail_of : List Arc → ℕ → ℕ
 tail_of arcs k = (arc_at arcs (k - 1)).tail
 
+-- the event at the head of the row of a number, from 1
 abbrev pub head_of : List Arc → ℕ → ℕ
 head_of arcs k = (arc_at arcs (k - 1)).head
 
@@ -33,6 +34,7 @@ HasEnds arc x y = ((arc.tail ≡ x) × (arc.head ≡ y)) ⊎ ((arc.head ≡ x) �
 abbrev pub span : ℕ → Row → ℕ
 span period row = min (unsigned_abs (row.upper -ℤ row.lower)) (period - 1)
 
+-- a row as an arc: its ends, its lower bound, its span and its weight
 abbrev pub arc_of : ℕ → Row → Arc
 arc_of period row = record { tail = row.tail; head = row.head; lower = row.lower; span = span period row; weight = row.weight }
 
@@ -40,6 +42,7 @@ arc_of period row = record { tail = row.tail; head = row.head; lower = row.lower
 abbrev pub arcs_of : Pesp → List Arc
 arcs_of p = map (arc_of p.period) p.rows
 
+-- an instance as a net: its period and its arcs
 abbrev pub net_of : Pesp → Net
 net_of p = record { period = p.period; arcs = arcs_of p }
 

@@ -25,6 +25,7 @@ slack_range slacks i = slice_index_or slacks i (0, 0)
 abbrev pub offset_range : List (ℤ × ℤ) → ℕ → ℤ × ℤ
 offset_range offsets c = slice_index_or offsets c (pos 0, pos 0)
 
+-- the cycle at a place, from 0
 abbrev pub cycle_at : List (List SignedRow) → ℕ → List SignedRow
 cycle_at table c = slice_index_or table c []
 
@@ -50,6 +51,7 @@ least_sum arcs slacks walk = over_arcs arcs (λ i.
     scaled (net_count walk i) ((arc_at arcs i).lower +ℤ pos (slack_range slacks i).0)
     ((arc_at arcs i).lower +ℤ pos (slack_range slacks i).1))
 
+-- the greatest sum of net count times duration that the slack ranges allow
 abbrev pub greatest_sum : List Arc → List (ℕ × ℕ) → List SignedRow → ℤ
 greatest_sum arcs slacks walk = over_arcs arcs
     (λ i. scaled (net_count walk i) ((arc_at arcs i).lower +ℤ pos (slack_range slacks i).1)
@@ -59,6 +61,7 @@ greatest_sum arcs slacks walk = over_arcs arcs
 abbrev pub odijk_range : Net → List (ℕ × ℕ) → List SignedRow → ℤ × ℤ
 odijk_range n slacks walk = (ceil_div (least_sum n.arcs slacks walk) n.period, floor_div (greatest_sum n.arcs slacks walk) n.period)
 
+-- a range, or none where its low end is above its high end
 abbrev pub range_or_none : ℤ → ℤ → Option (ℤ × ℤ)
 range_or_none low high = if int_le low high then Some (low, high) else None
 
@@ -77,6 +80,7 @@ IsOffsetLeft n table node c z =
 
 -- ---- the root and the parts of a branch
 
+-- for each row the slacks from 0 to its span
 abbrev pub root_slacks : Net → List (ℕ × ℕ)
 root_slacks n = map (λ arc. (0, arc.span)) n.arcs
 
@@ -118,6 +122,7 @@ high_part node (Offset cycle k) = record node {
       );
 }
 
+-- the part of a node on one side of a cut
 abbrev pub part : Node → Cut → Side → Node
 part node cut Low = low_part node cut
 part node cut High = high_part node cut

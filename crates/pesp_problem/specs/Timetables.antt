@@ -45,5 +45,6 @@ IsTimetable p times = AreTimes p times × All (λ row. IsSatisfied p times row) 
 abbrev pub cost : ℕ → List Row → List ℕ → ℕ
 cost period rows times = sum_by (λ row. row.weight * slack period times row) rows
 
+-- times that are a timetable of this cost
 abbrev pub IsTimetableOfCost : Pesp → List ℕ → ℕ → Type 0
 IsTimetableOfCost p times c = IsTimetable p times × (cost p.period p.rows times ≡ c)

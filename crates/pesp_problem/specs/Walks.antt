@@ -8,6 +8,7 @@ use Rattle.pesp_problem.specs.Arcs.{Net, arc_at, over_arcs}
 abbrev pub Names : ℕ → ℕ → Type 0
 Names n number = (1 ≤ number) × (number ≤ n)
 
+-- a signed row is of a row that exists
 abbrev pub RowExists : List Arc → SignedRow → Type 0
 RowExists arcs s = Names (length arcs) s.row
 
@@ -15,6 +16,7 @@ RowExists arcs s = Names (length arcs) s.row
 abbrev pub start : List Arc → SignedRow → ℕ
 start arcs s = if s.plus then (arc_at arcs (s.row - 1)).tail else (arc_at arcs (s.row - 1)).head
 
+-- the event at which a signed row ends
 abbrev pub finish : List Arc → SignedRow → ℕ
 finish arcs s = if s.plus then (arc_at arcs (s.row - 1)).head else (arc_at arcs (s.row - 1)).tail
 

@@ -40,12 +40,4 @@ impl Pairs {
     {
         &self.pairs
     }
-
-    /// The pairs given back.
-    pub fn into_vec(self) -> Vec<Pair>
-        ensures { result.items ≡ self }
-    {
-        let Pairs { pairs } = self;
-        pairs
-    }
 }

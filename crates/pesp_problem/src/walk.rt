@@ -34,12 +34,4 @@ impl Walk {
     {
         &self.rows
     }
-
-    /// The rows given back.
-    pub fn into_rows(self) -> Vec<SignedRow>
-        ensures { result.items ≡ self }
-    {
-        let Walk { rows } = self;
-        rows
-    }
 }

@@ -1,9 +1,10 @@
 -- Queues as their callers see them. But for which item waits in front, the order inside the two lists is of no promise.
-use Rattle.std.specs.Prelude.{◌≡◌, ℕ, ◌<◌, ◌≤◌, List, ◌++◌, length, map, All, Option, if◌then◌else◌, ◌==◌}
+use Rattle.std.specs.Prelude.{◌≡◌, ℕ, ◌<◌, ◌≤◌, List, ◌++◌, length, All, Option}
 use Rattle.std.specs.List.{slice_get}
 use Rattle.pesp_queue.specs.declared.entry.Entry.{Entry}
-use Rattle.pesp_queue.specs.Entries.{entry, ItemsDiffer}
+use Rattle.pesp_queue.specs.Entries.{ItemsDiffer}
 
+-- the items that wait and those that are parked, each with its value
 pub record QueueValue : Type 0 where
   pub waiting : List Entry
   pub parked : List Entry
@@ -19,10 +20,6 @@ all_of q = q.waiting ++ q.parked
 -- the item that waits in front, none where none waits
 abbrev pub front : QueueValue → Option Entry
 front q = slice_get q.waiting 0
-
--- the entries with another value for one item
-abbrev pub revalued : ℕ → ℕ → List Entry → List Entry
-revalued item value = map (λ e. if e.item == item then entry item value else e)
 
 -- no item stands in a queue twice, all have lesser numbers, none above 4294967294, and there is room for all
 pub record KeepsLimits (q : QueueValue) : Type 0 where

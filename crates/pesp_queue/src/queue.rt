@@ -1,10 +1,10 @@
 //! Queues of items by their values, some of which are parked.
 
-ghost use Rattle.std.specs.Prelude.{◌≡◌, ℕ, ◌+◌, ◌<◌, ◌≤◌, ◌++◌, ◌∷◌, [], ◌↔◌, length, take, drop, filter, nat_lt, IsTrue, IsOk, OnOk, OnErr, IfSome, IfNone, MatchOption, vec_len, vec_capacity};
+ghost use Rattle.std.specs.Prelude.{◌≡◌, ℕ, ◌+◌, ◌<◌, ◌≤◌, ◌++◌, ◌∷◌, [], length, take, drop, filter, nat_lt, IsOk, OnOk, OnErr, IfSome, IfNone, MatchOption, vec_len, vec_capacity};
 ghost use Rattle.std.specs.List.{Contains};
 ghost use Rattle.std.specs.List.Sorted.{IsPermutation};
 ghost use Rattle.pesp_queue.specs.Entries.{entry, HasItem, IsFirst, IsLeastValue};
-ghost use Rattle.pesp_queue.specs.Queues.{all_of, front, revalued, KeepsLimits, KeepsRoom};
+ghost use Rattle.pesp_queue.specs.Queues.{all_of, front, KeepsLimits, KeepsRoom};
 
 use crate::entry::Entry;
 use crate::heap::least_of;
@@ -174,14 +174,6 @@ impl Queue {
         Some(self.entries[at].value)
     }
 
-    /// Whether an item is there, waiting or parked.
-    pub fn contains(&self, item: u32) -> bool
-        ensures has { IsTrue result ↔ HasItem (all_of self.now) item }
-        ensures limits { KeepsLimits self.now }
-    {
-        find(&self.entries, &self.places, item).is_some()
-    }
-
     /// Lets a parked item wait again, and gives its value. Takes no memory.
     pub fn unpark(&mut self, item: u32) -> u64
         requires { HasItem self.old.parked item }
@@ -207,16 +199,5 @@ impl Queue {
         let value = self.entries[at].value;
         take_out(&mut self.entries, &mut self.places, at);
         value
-    }
-
-    /// Gives a parked item another value. Takes no memory.
-    pub fn set_value(&mut self, item: u32, value: u64)
-        requires { HasItem self.old.parked item }
-        ensures parked { self.new.parked ≡ revalued item value self.old.parked }
-        ensures waiting { self.new.waiting ≡ self.old.waiting }
-        ensures room { KeepsRoom self.old self.new }
-    {
-        let at = place_of(&self.entries, &self.places, self.waiting, item);
-        self.entries[at] = Entry { item, value };
     }
 }

@@ -12,6 +12,7 @@ use Rattle.pesp_reduce.specs.Rows.{is_free, flag}
 abbrev pub fate_at : List Fate → ℕ → Fate
 fate_at fates i = slice_index_or fates i Free
 
+-- whether a row with this fate is kept
 abbrev pub is_kept : Fate → Bool
 is_kept Free = false
 is_kept Contracted = false

@@ -31,6 +31,7 @@ IsKeptOrContracted fates s = (fate_at fates (s.row - 1) ≡ Kept) ⊎ (fate_at f
 abbrev pub lower_sum : List Arc → List SignedRow → ℤ
 lower_sum arcs walk = over_arcs arcs (λ i. net_count walk i *ℤ (arc_at arcs i).lower)
 
+-- the walk passes no row twice
 abbrev pub HasNoRowTwice : List SignedRow → Type 0
 HasNoRowTwice walk = IsDistinct nat_eq (map (λ s. s.row) walk)
 
@@ -44,6 +45,7 @@ is_other flags s = not (flag flags (s.row - 1))
 abbrev pub no_signed_row : SignedRow
 no_signed_row = record { row = 0; plus = false }
 
+-- the signed row at a place, from 0
 abbrev pub passed_at : List SignedRow → ℕ → SignedRow
 passed_at walk i = slice_index_or walk i no_signed_row
 

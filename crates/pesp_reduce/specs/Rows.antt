@@ -7,6 +7,7 @@ use Rattle.pesp_network.specs.declared.row.NetRow.{NetRow}
 abbrev pub IsFree : ℕ → Arc → Type 0
 IsFree period arc = (arc.span ≡ period - 1) × (arc.weight ≡ 0)
 
+-- whether a row is free and of weight 0
 abbrev pub is_free : ℕ → NetRow → Bool
 is_free period row = (row.span == period - 1) && (row.weight == 0)
 
@@ -14,6 +15,7 @@ is_free period row = (row.span == period - 1) && (row.weight == 0)
 abbrev pub loop_at : NetRow → NetRow
 loop_at row = record { tail = row.tail; head = row.tail; lower = pos 0; span = 0; weight = 0; origin = row.origin }
 
+-- the row where it takes part, else the loop at its tail
 abbrev pub part : Bool → NetRow → NetRow
 part takes row = if takes then row else loop_at row
 

@@ -13,6 +13,7 @@ lowered_time period times shifts event = ((slice_index times event + period) - s
 abbrev pub shifted : List ℕ → List ℕ → List ℕ → ℕ → ℤ
 shifted stands shifts times event = pos (slice_index times (slice_index stands event)) +ℤ pos (slice_index shifts event)
 
+-- whether a row with this fate is a bridge of what is left
 abbrev pub is_bridge : Fate → Bool
 is_bridge Free = false
 is_bridge Contracted = false

@@ -8,9 +8,11 @@ use Rattle.pesp_report.specs.declared.line.Line.{Line}
 abbrev pub named_header : List (List ℕ)
 named_header = header ++ codes "tail_name" ∷ codes "head_name" ∷ []
 
+-- the fields of a line, and behind them the names of its two events
 abbrev pub named_fields : (ℤ → List ℕ) → Line → List (List ℕ)
 named_fields name l = line_fields l ++ name l.tail ∷ name l.head ∷ []
 
+-- the fields of the total, and behind them two empty ones
 abbrev pub named_total : ℕ → ℕ → List (List ℕ)
 named_total slacks total = total_fields slacks total ++ [] ∷ [] ∷ []
 

@@ -51,6 +51,7 @@ abbrev pub name_header : Option (ℤ → List ℕ) → List (List ℕ)
 name_header None = []
 name_header (Some name) = codes "tail_name" ∷ codes "head_name" ∷ []
 
+-- the names of the two events of an activity, where names are told
 abbrev pub name_fields : Option (ℤ → List ℕ) → ℤ → ℤ → List (List ℕ)
 name_fields None tail head = []
 name_fields (Some name) tail head = name tail ∷ name head ∷ []

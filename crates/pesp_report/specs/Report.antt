@@ -37,11 +37,13 @@ abbrev pub header : List (List ℕ)
 header =
     codes "row" ∷ codes "label" ∷ codes "tail" ∷ codes "head" ∷ codes "duration" ∷ codes "slack" ∷ codes "weight" ∷ codes "weighted" ∷ []
 
+-- the fields of a line
 abbrev pub line_fields : Line → List (List ℕ)
 line_fields l =
     decimal l.row ∷ signed_decimal l.label ∷ signed_decimal l.tail ∷ signed_decimal l.head ∷ signed_decimal l.duration ∷ decimal l.slack
     ∷ decimal l.weight ∷ decimal l.weighted ∷ []
 
+-- the fields of the total: the sum of all slacks, and the cost
 abbrev pub total_fields : ℕ → ℕ → List (List ℕ)
 total_fields slacks total = codes "total" ∷ [] ∷ [] ∷ [] ∷ [] ∷ decimal slacks ∷ [] ∷ decimal total ∷ []
 

@@ -17,6 +17,7 @@ names_a_time line = starts_with nat_eq line (codes "time ")
 abbrev pub time_lines : List ℕ → List (ℕ × List ℕ)
 time_lines text = filter (λ line. names_a_time line.1) (enumerate_from 1 (lines_of_text text))
 
+-- whether a number was spelt, and it is the label of this event
 abbrev pub is_label : ℤ → Option ℤ → Bool
 is_label event None = false
 is_label event (Some label) = int_eq label event
@@ -25,6 +26,7 @@ is_label event (Some label) = int_eq label event
 abbrev pub spells_label : ℤ → List ℕ → Bool
 spells_label event word = is_label event (whole_of word)
 
+-- a time, where it is below the period
 abbrev pub below_period : ℕ → Option ℕ → Option ℕ
 below_period period None = None
 below_period period (Some time) = if nat_lt time period then Some time else None
@@ -52,6 +54,7 @@ abbrev pub time_for : ℕ → Option ℤ → List ℕ → Option ℕ
 time_for period None line = None
 time_for period (Some event) line = time_of_words period event (words_of line)
 
+-- the time that a line gives to the event at a place, where it gives one
 abbrev pub time_at : ℕ → List ℤ → ℕ → List ℕ → Option ℕ
 time_at period events place line = time_for period (slice_get events place) line
 

@@ -41,6 +41,7 @@ violations_of p times = filter_map (violation_at p times) (enumerate_from 1 p.ro
 abbrev pub short_field : Violation → List ℕ
 short_field v = if int_lt v.excess (pos v.short) then [] else decimal v.short
 
+-- by how much a row is too long, empty where it is too short by less
 abbrev pub long_field : Violation → List ℕ
 long_field v = if int_lt (pos v.short) v.excess then [] else signed_decimal v.excess
 
@@ -50,6 +51,7 @@ violation_header naming =
     codes "row" ∷ codes "label" ∷ codes "tail" ∷ codes "head" ∷ codes "duration" ∷ codes "lower" ∷ codes "upper" ∷ codes "excess" ∷ codes "short"
     ∷ codes "long" ∷ name_header naming
 
+-- the fields of a violated row, and the names of its two events where names are told
 abbrev pub violation_fields : Option (ℤ → List ℕ) → Violation → List (List ℕ)
 violation_fields naming v =
     decimal v.row ∷ signed_decimal v.label ∷ signed_decimal v.tail ∷ signed_decimal v.head

@@ -15,6 +15,7 @@ use Rattle.pesp_request.specs.declared.request.Asked.{Asked}
 use Rattle.pesp_request.specs.declared.request.Asked.TheVariants.{Instance, Certificate, Leaves, Times, Works}
 use Rattle.pesp_request.specs.declared.request.Request.{Request}
 
+-- a period from 1 up to its limit
 abbrev pub IsPeriod : ℕ → Type 0
 IsPeriod period = (1 ≤ period) × (period ≤ MOST_PERIOD)
 
@@ -25,6 +26,7 @@ InstanceWithin (SolveSharp steps from progress) = steps ≤ MOST_STEPS
 InstanceWithin (Plan asked) = (1 ≤ asked.seconds) × (asked.seconds ≤ MOST_SECONDS)
 InstanceWithin (Conflict steps names) = steps ≤ MOST_STEPS
 
+-- so are those of what is asked of a certificate
 abbrev pub CertificateWithin : OfCertificate → Type 0
 CertificateWithin Check = Unit {0}
 CertificateWithin CheckSharp = Unit {0}
@@ -35,10 +37,12 @@ CertificateWithin (ResumeSharp steps seconds progress share) = steps ≤ MOST_ST
 CertificateWithin Split = Unit {0}
 CertificateWithin SplitSharp = Unit {0}
 
+-- the steps of work on open leaves are within their limit, and the numbers of jobs rise
 abbrev pub LeavesWithin : OfLeaves → Type 0
 LeavesWithin (Work steps until jobs) = (steps ≤ MOST_STEPS) × IsStrictlyIncreasing jobs.items
 LeavesWithin (WorkSharp steps until jobs) = (steps ≤ MOST_STEPS) × IsStrictlyIncreasing jobs.items
 
+-- what is asked of times: a picture has from 1 to 1000 rows
 abbrev pub TimesWithin : OfTimes → Type 0
 TimesWithin (Report names) = Unit {0}
 TimesWithin (Violations names) = Unit {0}
@@ -48,6 +52,7 @@ TimesWithin (Timetable names json) = Unit {0}
 TimesWithin (Fix names events lines) = Unit {0}
 TimesWithin (Page names) = Unit {0}
 
+-- the numbers of what is asked are within their limits, whatever it is asked of
 abbrev pub AskedWithin : Asked → Type 0
 AskedWithin (Instance file asked) = InstanceWithin asked
 AskedWithin (Certificate file asked) = CertificateWithin asked
@@ -55,5 +60,6 @@ AskedWithin (Leaves file asked) = LeavesWithin asked
 AskedWithin (Times file asked) = TimesWithin asked
 AskedWithin (Works file base asked) = Unit {0}
 
+-- the period of a request and what is asked are within their limits
 abbrev pub IsWithinLimits : Request → Type 0
 IsWithinLimits request = IsPeriod request.period × AskedWithin request.asked

@@ -38,14 +38,17 @@ abbrev pub certificate_fault : CertRefusal → Fault
 certificate_fault CertMemory = Memory
 certificate_fault refusal = Certificate refusal
 
+-- why times are refused; memory is told as such
 abbrev pub times_fault : TimesRefusal → Fault
 times_fault TimesMemory = Memory
 times_fault refusal = Times refusal
 
+-- why names are refused; memory is told as such
 abbrev pub names_fault : NamesRefusal → Fault
 names_fault NamesMemory = Memory
 names_fault refusal = Names refusal
 
+-- why a search is refused; memory is told as such
 abbrev pub search_fault : SolveRefusal → Fault
 search_fault SearchMemory = Memory
 search_fault refusal = Search refusal
@@ -56,11 +59,13 @@ report_fault ReportMemory = Memory
 report_fault ReportWrite = Write
 report_fault refusal = Report refusal
 
+-- why violated activities aren't listed; memory and a writer's fault are told as such
 abbrev pub violations_fault : ViolationsRefusal → Fault
 violations_fault NoTimes = Report NotTimes
 violations_fault ViolationsMemory = Memory
 violations_fault ViolationsWrite = Write
 
+-- why a text isn't read to its end, as a fault
 abbrev pub read_fault : ReadFault → Fault
 read_fault ReadMemory = Memory
 read_fault Device = Read

@@ -22,6 +22,7 @@ pub record IsEntry (period : ℕ) (arcs : List Arc) (slacks : List ℕ) (e : Ent
   pub slack : e.row < length slacks
   pub limits : IsCrossing period (crossing_of arcs slacks e)
 
+-- the rows of these entries, with their slacks
 abbrev pub crossings_of : List Arc → List ℕ → List Entry → List Crossing
 crossings_of arcs slacks entries = map (crossing_of arcs slacks) entries
 
@@ -50,5 +51,6 @@ entries_of side arcs (suc i) = entries_of side arcs i ++ entry_if i (side (arc_a
 abbrev pub no_entry : Entry
 no_entry = record { row = 0; inward = false }
 
+-- the entry at a place, from 0
 abbrev pub entry_at : List Entry → ℕ → Entry
 entry_at entries k = slice_index_or entries k no_entry

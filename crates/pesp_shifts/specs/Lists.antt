@@ -14,6 +14,7 @@ pub record HaveLists (n : ℕ) (starts ends : List ℕ) (entries : List Entry) (
   pub within : (c : ℕ) → c < n → slice_index ends c ≤ slice_index starts (c + 1)
   pub items : (c k : ℕ) → c < n → k < length (lists c) → entry_at entries (slice_index starts c + k) ≡ entry_at (lists c) k
 
+-- these are the lists of n cuts
 abbrev pub Hold : ℕ → Cuts → (ℕ → List Entry) → Type 0
 Hold n cuts lists = HaveLists n cuts.starts.items cuts.ends.items cuts.entries.items lists
 

@@ -5,6 +5,7 @@ use Rattle.pesp_problem.specs.declared.arc.Arc.{Arc}
 use Rattle.pesp_problem.specs.Arcs.{arc_at, HasEnds}
 use Rattle.pesp_problem.specs.Roots.{Roots}
 
+-- the lists of a rooted forest as functions of the events
 abbrev pub roots_of : Rooted → Roots
 roots_of r = record {
   up = slice_index r.up.items;

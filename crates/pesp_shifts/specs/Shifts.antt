@@ -9,9 +9,11 @@ use Rattle.pesp_shifts.specs.declared.crossing.Crossing.{Crossing}
 abbrev pub no_crossing : Crossing
 no_crossing = record { slack = 0; span = 0; weight = 0; inward = false }
 
+-- the row at a place among those that cross, from 0
 abbrev pub crossing_at : List Crossing → ℕ → Crossing
 crossing_at rows i = slice_index_or rows i no_crossing
 
+-- the number at a place, 0 past the end
 abbrev pub number_at : List ℤ → ℕ → ℤ
 number_at xs i = slice_index_or xs i (pos 0)
 

@@ -8,6 +8,7 @@ use Rattle.pesp_support.specs.declared.rounds.Round.{Round}
 use Rattle.pesp_support.specs.declared.rounds.Round.TheVariants.{Emptied, Narrowed, Settled}
 use Rattle.pesp_support.specs.Sets.{family_at}
 
+-- the net of these arcs and this period
 abbrev pub net_at : ℕ → List Arc → Net
 net_at period arcs = record { period = period; arcs = arcs }
 
@@ -54,6 +55,7 @@ pub record Stepped (n : Net) (ranges : List (ℕ × ℕ)) (events : ℕ) (before
   pub most : sum new ≤ sum old
   pub marks : changed ≡ false → (event : ℕ) → is_marked was event ≡ false → is_marked now event ≡ false
 
+-- what a step at a row shows: that no family is supported, or what is known of the sets
 abbrev pub IsStep : Net → List (ℕ × ℕ) → ℕ → List Bool → List Bool → List Bool → ℕ → List ℕ → List ℕ → Option Bool → Type 0
 IsStep n ranges events before was now i old new None = NoFamilyIsSupported n ranges events
 IsStep n ranges events before was now i old new (Some changed) = Stepped n ranges events before was now i old new changed

@@ -50,6 +50,7 @@ last_words branches version = codes ", branches " ++ decimal branches ++ codes "
 abbrev pub gap_text : ℕ → Answer → ℕ → ℕ → List ℕ
 gap_text period answer branches version = first_words period answer ++ last_words branches version
 
+-- the line that `gap` writes of a certificate
 abbrev pub gap_line : Fronted → List ℕ
 gap_line c = gap_text c.content.period c.content.answer (branches_of c.content.tree) (version_of c.front c.content.version)
 
@@ -90,5 +91,6 @@ abbrev pub gap_object : ℕ → Answer → ℕ → ℕ → List ℕ
 gap_object period answer branches version = bound_field answer ++ cost_field branches answer ++ gap_field answer period
     ++ (codes ",\"version\":" ++ decimal version ++ codes "}\n")
 
+-- the line that `gap --json` writes of a certificate
 abbrev pub gap_json : Fronted → List ℕ
 gap_json c = gap_object c.content.period c.content.answer (branches_of c.content.tree) (version_of c.front c.content.version)

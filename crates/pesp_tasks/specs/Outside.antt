@@ -32,6 +32,7 @@ abbrev pub works_fault : CertRefusal → Fault
 works_fault CertMemory = Memory
 works_fault refusal = Works refusal
 
+-- why there is no work for a job, as a fault
 abbrev pub work_fault : WorkRefusal → Fault
 work_fault WorkMemory = Memory
 work_fault NoSuchJob = NoJob

@@ -2,6 +2,7 @@
 use Rattle.std.specs.Prelude.{ℕ, Bool, false, ◌||◌, ◌==◌, List, [], ◌∷◌, ◌++◌, Option, Some, None, length, if◌then◌else◌}
 use Rattle.std.specs.List.{slice_split}
 
+-- whether b is the byte c
 abbrev pub is_byte : ℕ → ℕ → Bool
 is_byte c b = b == c
 
@@ -23,6 +24,7 @@ abbrev pub line_of_words : List (List ℕ) → List ℕ
 line_of_words [] = []
 line_of_words (w ∷ ws) = w ++ spaced ws
 
+-- whether one of the words is empty
 abbrev pub has_empty : List (List ℕ) → Bool
 has_empty [] = false
 has_empty (w ∷ ws) = length w == 0 || has_empty ws

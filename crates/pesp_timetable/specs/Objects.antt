@@ -20,6 +20,7 @@ told_members told e clock =
     (member (codes "time") (number (decimal e.time)) (member (codes "clock") (string clock)
     (member (codes "changes") (string (changes_of told)) no_members)))))))))))
 
+-- the object of an event, its running time told as hours and minutes
 abbrev pub entry_object : List Told → Entry → Json
 entry_object tolds e = told_members (slice_get tolds e.event) e (clock_text e.running)
 
@@ -46,6 +47,7 @@ told_stop told e =
     ∷ Token.key (codes "direction") ∷ Token.string (direction_of told) ∷ Token.key (codes "stop") ∷ Token.number (decimal e.stop)
     ∷ Token.key (codes "station") ∷ Token.string (station_of told) ∷ Token.key (codes "kind") ∷ Token.string (kind_of told) ∷ []
 
+-- the last members of an event, as tokens
 abbrev pub told_time : Option Told → Entry → List ℕ → List Token
 told_time told e clock =
     Token.key (codes "event") ∷ Token.number (signed_decimal e.label) ∷ Token.key (codes "name") ∷ Token.string (name_of told)

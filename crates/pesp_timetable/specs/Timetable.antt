@@ -23,10 +23,12 @@ abbrev pub way_of : Option Told → ℕ
 way_of None = 0
 way_of (Some told) = told.step.way
 
+-- the place of an event along its way, 0 where nothing is told of it
 abbrev pub stop_of : Option Told → ℕ
 stop_of None = 0
 stop_of (Some told) = told.step.stop
 
+-- how many periods have begun since the first event of its way, 0 where nothing is told
 abbrev pub laps_of : Option Told → ℕ
 laps_of None = 0
 laps_of (Some told) = told.step.laps
@@ -36,14 +38,17 @@ abbrev pub line_of : Option Told → List ℕ
 line_of None = []
 line_of (Some told) = string_bytes told.line
 
+-- the station of an event, empty where none is told
 abbrev pub station_of : Option Told → List ℕ
 station_of None = []
 station_of (Some told) = string_bytes told.station
 
+-- the name of an event, empty where none is told
 abbrev pub name_of : Option Told → List ℕ
 name_of None = []
 name_of (Some told) = string_bytes told.name
 
+-- the changes at an event, empty where none are told
 abbrev pub changes_of : Option Told → List ℕ
 changes_of None = []
 changes_of (Some told) = string_bytes told.changes
@@ -54,16 +59,19 @@ direction_word Out = codes "out"
 direction_word Back = codes "back"
 direction_word Nowhere = []
 
+-- the direction of an event's train, empty where none is told
 abbrev pub direction_of : Option Told → List ℕ
 direction_of None = []
 direction_of (Some told) = direction_word told.step.direction
 
+-- the word for what a train does at an event
 abbrev pub kind_word : Halt → List ℕ
 kind_word Arrival = codes "arrival"
 kind_word Departure = codes "departure"
 kind_word Pass = codes "pass"
 kind_word Other = []
 
+-- what the train of an event does there, empty where nothing is told
 abbrev pub kind_of : Option Told → List ℕ
 kind_of None = []
 kind_of (Some told) = kind_word told.step.halt
@@ -95,11 +103,13 @@ timetable_header =
     codes "way" ∷ codes "line" ∷ codes "direction" ∷ codes "stop" ∷ codes "station" ∷ codes "kind" ∷ codes "event" ∷ codes "name" ∷ codes "time"
     ∷ codes "clock" ∷ codes "changes" ∷ []
 
+-- the fields of an event, by what is told of it
 abbrev pub told_fields : Option Told → Entry → List ℕ → List (List ℕ)
 told_fields told e clock =
     decimal e.way ∷ line_of told ∷ direction_of told ∷ decimal e.stop ∷ station_of told ∷ kind_of told ∷ signed_decimal e.label
     ∷ name_of told ∷ decimal e.time ∷ clock ∷ changes_of told ∷ []
 
+-- the fields of an event, its running time told as hours and minutes
 abbrev pub entry_fields : List Told → Entry → List (List ℕ)
 entry_fields tolds e = told_fields (slice_get tolds e.event) e (clock_text e.running)
 

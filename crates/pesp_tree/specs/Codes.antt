@@ -7,6 +7,7 @@ use Rattle.pesp_truth.specs.Trees.{Tree, Leaf}
 use Rattle.pesp_truth.specs.Codes.{cut_code, side_code, leaf_code, tree_code}
 use Rattle.pesp_tree.specs.WorkTrees.{WorkTreeValue}
 
+-- the code of trees under work: a tree, the paths and the leaves of its nodes, and the room
 abbrev pub work_tree_code : Coded WorkTreeValue
 work_tree_code =
     code_by (Tree × (List (List (Cut × Side)) × (List (Option Leaf) × ℕ)))

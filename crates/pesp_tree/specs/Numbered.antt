@@ -113,6 +113,7 @@ IsSide n High = n % 2 ≡ 0
 abbrev pub no_branching : Branching
 no_branching = record { node = 0; cut = Slack 0 0 }
 
+-- the node that is read there: a gap that stands nowhere
 abbrev pub no_node : Kept
 no_node = KeptLeaf (GapLeaf 0)
 

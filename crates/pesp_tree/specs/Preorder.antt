@@ -34,5 +34,6 @@ abbrev pub own_in : Kept → ℕ → List ℕ
 own_in (KeptLeaf leaf) n = n ∷ []
 own_in (Branched place) n = []
 
+-- the node of this number where it keeps a leaf, and nothing where it is a branch
 abbrev pub own_at : List Kept → ℕ → List ℕ
 own_at kept n = own_in (slice_index_or kept n no_node) n

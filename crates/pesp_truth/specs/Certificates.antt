@@ -23,6 +23,7 @@ pub record Content : Type 0 where
   pub cycles : List (List SignedRow)
   pub tree : List TreeLine
 
+-- a line of a certificate's tree, as the cut of a branch or as a leaf
 abbrev pub line_of : TreeLine → Line
 line_of (SlackLine row k) = CutLine (Slack row k)
 line_of (OffsetLine cycle k) = CutLine (Offset cycle k)
@@ -31,12 +32,15 @@ line_of (NothingLine pairs) = EndLine (Nothing pairs)
 line_of (GapLine cycle) = EndLine (Gap cycle)
 line_of PropagatedLine = EndLine (Shut ByPropagation)
 
+-- the lines of a certificate's tree, in order
 abbrev pub lines_of : Content → List Line
 lines_of content = map line_of content.tree
 
+-- the times that a certificate shows, in its order
 abbrev pub shown_times : Content → List ℕ
 shown_times content = map (λ t. t.1) content.times
 
+-- the labels of the events to which it gives them
 abbrev pub shown_labels : Content → List ℤ
 shown_labels content = map (λ t. t.0) content.times
 

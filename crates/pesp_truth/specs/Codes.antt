@@ -12,6 +12,7 @@ use Rattle.pesp_truth.specs.Trees.{Tree, Leaf, Reason, Line, Ends, Branch, Bound
 
 -- ---- trees
 
+-- the code of pairs
 abbrev pub pair_code : Coded Pair
 pair_code = code_by (ℕ × ℤ) (coded× coded_ℕ coded_ℤ) (λ p. (p.cycle, p.mult)) (λ x. record { cycle = x.0; mult = x.1 }) (λ _. refl)
 
@@ -20,62 +21,77 @@ abbrev pub cut_to : Cut → (ℕ × ℕ) ⊎ (ℕ × ℤ)
 cut_to (Slack row k) = inl (row, k)
 cut_to (Offset cycle k) = inr (cycle, k)
 
+-- the cut of such a sum
 abbrev pub cut_from : (ℕ × ℕ) ⊎ (ℕ × ℤ) → Cut
 cut_from (inl x) = Slack x.0 x.1
 cut_from (inr x) = Offset x.0 x.1
 
+-- each cut comes back from its sum
 abbrev pub cut_back : (cut : Cut) → cut_from (cut_to cut) ≡ cut
 cut_back (Slack row k) = refl
 cut_back (Offset cycle k) = refl
 
+-- the code of cuts
 abbrev pub cut_code : Coded Cut
 cut_code = code_by ((ℕ × ℕ) ⊎ (ℕ × ℤ)) (coded⊎ (coded× coded_ℕ coded_ℕ) (coded× coded_ℕ coded_ℤ)) cut_to cut_from cut_back
 
+-- a reason as a sum: pairs, a cycle, or neither
 abbrev pub reason_to : Reason → List Pair ⊎ Option ℕ
 reason_to (ByPairs pairs) = inl pairs
 reason_to (ByGap cycle) = inr (Some cycle)
 reason_to ByPropagation = inr None
 
+-- the reason of such a sum
 abbrev pub reason_from : List Pair ⊎ Option ℕ → Reason
 reason_from (inl pairs) = ByPairs pairs
 reason_from (inr (Some cycle)) = ByGap cycle
 reason_from (inr None) = ByPropagation
 
+-- each reason comes back from its sum
 abbrev pub reason_back : (reason : Reason) → reason_from (reason_to reason) ≡ reason
 reason_back (ByPairs pairs) = refl
 reason_back (ByGap cycle) = refl
 reason_back ByPropagation = refl
 
+-- the code of reasons
 abbrev pub reason_code : Coded Reason
 reason_code = code_by (List Pair ⊎ Option ℕ) (coded⊎ (coded_list pair_code) (coded_option coded_ℕ)) reason_to reason_from reason_back
 
+-- a leaf as a sum: the pairs of a bound, or a reason
 abbrev pub leaf_to : Leaf → List Pair ⊎ Reason
 leaf_to (Bound pairs) = inl pairs
 leaf_to (Shut reason) = inr reason
 
+-- the leaf of such a sum
 abbrev pub leaf_from : List Pair ⊎ Reason → Leaf
 leaf_from (inl pairs) = Bound pairs
 leaf_from (inr reason) = Shut reason
 
+-- each leaf comes back from its sum
 abbrev pub leaf_back : (leaf : Leaf) → leaf_from (leaf_to leaf) ≡ leaf
 leaf_back (Bound pairs) = refl
 leaf_back (Shut reason) = refl
 
+-- the code of leaves
 abbrev pub leaf_code : Coded Leaf
 leaf_code = code_by (List Pair ⊎ Reason) (coded⊎ (coded_list pair_code) reason_code) leaf_to leaf_from leaf_back
 
+-- a line as a sum: a leaf or a cut
 abbrev pub line_to : Line → Leaf ⊎ Cut
 line_to (EndLine leaf) = inl leaf
 line_to (CutLine cut) = inr cut
 
+-- the line of such a sum
 abbrev pub line_from : Leaf ⊎ Cut → Line
 line_from (inl leaf) = EndLine leaf
 line_from (inr cut) = CutLine cut
 
+-- each line comes back from its sum
 abbrev pub line_back : (line : Line) → line_from (line_to line) ≡ line
 line_back (EndLine leaf) = refl
 line_back (CutLine cut) = refl
 
+-- the code of lines
 abbrev pub line_code : Coded Line
 line_code = code_by (Leaf ⊎ Cut) (coded⊎ leaf_code cut_code) line_to line_from line_back
 
@@ -96,6 +112,7 @@ abbrev pub first_tree : List Tree → Tree
 first_tree [] = Ends (Gap 0)
 first_tree (tree ∷ trees) = tree
 
+-- from the lines of a tree and of what follows, that tree comes back first
 abbrev pub trees_back : (tree : Tree) (rest : List Line) → trees_of (preorder tree ++ rest) ≡ tree ∷ trees_of rest
 trees_back (Ends leaf) rest = refl
 trees_back (Branch cut low high) rest =
@@ -103,25 +120,31 @@ trees_back (Branch cut low high) rest =
     ∙ ap (join cut) (trees_back low (preorder high ++ rest))
     ∙ ap (λ trees. join cut (low ∷ trees)) (trees_back high rest)
 
+-- each tree comes back from its lines
 abbrev pub tree_back : (tree : Tree) → first_tree (trees_of (preorder tree)) ≡ tree
 tree_back tree = ap (λ lines. first_tree (trees_of lines)) (sym (append-nil (preorder tree))) ∙ ap first_tree (trees_back tree [])
 
+-- the code of trees, by their lines in preorder
 abbrev pub tree_code : Coded Tree
 tree_code = code_by (List Line) (coded_list line_code) preorder (λ lines. first_tree (trees_of lines)) tree_back
 
 -- ---- sides
 
+-- a side as a number: 0 for the low part, 1 for the high one
 abbrev pub side_to : Side → ℕ
 side_to Low = 0
 side_to High = 1
 
+-- the side of such a number
 abbrev pub side_from : ℕ → Side
 side_from zero = Low
 side_from (suc n) = High
 
+-- each side comes back from its number
 abbrev pub side_back : (side : Side) → side_from (side_to side) ≡ side
 side_back Low = refl
 side_back High = refl
 
+-- the code of sides
 abbrev pub side_code : Coded Side
 side_code = code_by ℕ coded_ℕ side_to side_from side_back

@@ -5,6 +5,7 @@ use Rattle.pesp_problem.specs.declared.limits.TheConstants.{MOST_CYCLES, MOST_RO
 use Rattle.pesp_nets.specs.declared.marked.MarkedRow.{MarkedRow}
 use Rattle.pesp_truth.specs.Marks.{Marks}
 
+-- a scale from 1 up to its limit
 abbrev pub is_scale : ℕ → Bool
 is_scale scale = nat_le 1 scale && nat_le scale MOST_SCALE
 
@@ -12,6 +13,7 @@ is_scale scale = nat_le 1 scale && nat_le scale MOST_SCALE
 abbrev pub is_row_number : ℕ → Bool
 is_row_number n = nat_le 1 n && nat_le n MOST_ROWS
 
+-- each row has a number that a row may have
 abbrev pub are_numbered : List MarkedRow → Bool
 are_numbered walk = list_all (λ s. is_row_number s.signed.row) walk
 

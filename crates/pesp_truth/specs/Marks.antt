@@ -30,6 +30,7 @@ walk_at walks c = slice_index_or walks c []
 abbrev pub IsNamed : ℕ → ℕ → Pair → Type 0
 IsNamed cycles walks pair = Names (cycles + walks) pair.cycle × (cycles < pair.cycle → pos 0 <ℤ pair.mult)
 
+-- each pair names a cycle, or a marked walk under a multiplier above 0
 abbrev pub AreNamed : ℕ → ℕ → List Pair → Type 0
 AreNamed cycles walks pairs = All (IsNamed cycles walks) pairs
 

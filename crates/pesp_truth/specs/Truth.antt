@@ -4,9 +4,11 @@ use Rattle.pesp_problem.specs.Timetables.{Pesp, IsTimetable, IsTimetableOfCost, 
 use Rattle.pesp_truth.specs.declared.answer.Answer.{Answer}
 use Rattle.pesp_truth.specs.declared.answer.Answer.TheVariants.{Optimal, Infeasible, Bounded}
 
+-- no timetable of the instance costs less than this
 abbrev pub EachTimetableCostsAtLeast : Pesp → ℕ → Type 0
 EachTimetableCostsAtLeast p least = (times : List ℕ) → IsTimetable p times → least ≤ cost p.period p.rows times
 
+-- the instance has no timetable
 abbrev pub HasNoTimetable : Pesp → Type 0
 HasNoTimetable p = (times : List ℕ) → IsTimetable p times → ⊥
 

@@ -16,6 +16,7 @@ abbrev pub cut_words : Cut → List ℕ
 cut_words (Slack row k) = codes " s " ++ decimal row ++ codes " " ++ decimal k
 cut_words (Offset cycle k) = codes " o " ++ decimal cycle ++ codes " " ++ signed_decimal k
 
+-- the word of a side, behind a space
 abbrev pub side_word : Side → List ℕ
 side_word Low = codes " low"
 side_word High = codes " high"

@@ -26,6 +26,7 @@ pub data Stage : Type 0 where
 abbrev pub made : ℕ → Content → WorkValue
 made job c = record { job = job; times = c.times; tree = c.tree }
 
+-- a work and those behind it, or the refusal of what stands behind it
 abbrev pub onto : WorkValue → Result (List WorkValue) CertRefusal → Result (List WorkValue) CertRefusal
 onto w (Ok ws) = Ok (w ∷ ws)
 onto w (Err r) = Err r

@@ -22,6 +22,7 @@ pub record WorkValue : Type 0 where
   pub times : List (ℤ × ℕ)
   pub tree : List TreeLine
 
+-- the first line of a work, without its LF
 abbrev pub HEADER : List ℕ
 HEADER = codes "pesp-work 1"
 
